@@ -1,0 +1,129 @@
+-- The block tree of a text: its blocks, level by level, and its bytes.
+use mathlib.Core.List.{List, [], _∷_, _++_, map}
+use mathlib.Core.Bool.{Bool, true, false, cond, not, _&&_, _||_}
+use Prim.Native.Nat.{ℕ, zero, suc, _+_, _-_, _*_, _/_, _^_, min}
+use lib.ListN.{length, getD, replicate}
+use lib.Dec.{ltb, leb, eqb}
+use Rattle.text.specs.Lists.{tabulate, concat, sumBelow, countBelow}
+use Rattle.format.specs.Words.{wordsBytes}
+use Rattle.text.specs.Text.{stretch, leftmost, countIn}
+use Rattle.format.specs.Settings.{Settings, blockLength, pieces}
+
+-- The blocks of one level above the last: b bytes each, at the places `starts`.
+module _ (T : List ℕ) (b : ℕ) (starts : List ℕ) where
+  unfoldable pub startOf : ℕ → ℕ
+  startOf i = getD starts i 0
+
+  -- a block that would pass the text's end is cut short there
+  unfoldable pub lengthOf : ℕ → ℕ
+  lengthOf i = min b (length T - startOf i)
+
+  -- blocks i and i + 1 follow each other in the list and in the text
+  unfoldable pub pairAt : ℕ → Bool
+  pairAt i = ltb (suc i) (length starts) && eqb (startOf (suc i)) (startOf i + b)
+
+  -- they do, and the bytes of both occur at no earlier place
+  unfoldable pub firstPairAt : ℕ → Bool
+  firstPairAt i = pairAt i && eqb (leftmost T (startOf i) (min (b + b) (length T - startOf i))) (startOf i)
+
+  -- kept (marked, in the literature): in a pair that first occurs here, or in no pair
+  unfoldable pub keptByPairs : ℕ → Bool
+  keptByPairs zero = firstPairAt 0 || not (pairAt 0)
+  keptByPairs (suc h) = (firstPairAt h || firstPairAt (suc h)) || (not (pairAt h) && not (pairAt (suc h)))
+
+-- the starts of the blocks of b bytes that len bytes from s are cut into
+unfoldable pub cut : ℕ → ℕ → ℕ → List ℕ
+cut s len b = tabulate (pieces len b) (λ j. s + j * b)
+
+-- the starts of the blocks of level l: the text cut up, and below that the kept blocks cut up
+unfoldable pub startsAt : Settings → List ℕ → ℕ → List ℕ
+startsAt S T zero = cut 0 (length T) (blockLength S 0)
+startsAt S T (suc l) =
+    let above = startsAt S T l in
+    let b = blockLength S l in
+    concat (tabulate (length above) (λ i.
+    cond (keptByPairs T b above i) (cut (startOf T b above i) (lengthOf T b above i) (blockLength S (suc l))) []))
+
+-- One level of the tree of T, whose blocks start at `starts`.
+module _ (S : Settings) (T : List ℕ) (l : ℕ) (starts : List ℕ) where
+  b : ℕ
+  b = blockLength S l
+
+  isLast : Bool
+  isLast = eqb (suc l) (S .levels)
+
+  unfoldable pub isKept : ℕ → Bool
+  unfolding b isLast
+  isKept i = isLast || keptByPairs T b starts i
+
+  -- bytes or children that block i has one level below
+  unfoldable pub width : ℕ → ℕ
+  unfolding b isLast
+  width i =
+      cond (isKept i) (cond isLast (lengthOf T b starts i) (pieces (lengthOf T b starts i) (blockLength S (suc l)))) 0
+
+  -- where the bytes of a pointing block first occur, and the number of the block that holds that place
+  unfoldable pub occurrence : ℕ → ℕ
+  unfolding b
+  occurrence i = leftmost T (startOf T b starts i) (lengthOf T b starts i)
+
+  unfoldable pub target : ℕ → ℕ
+  unfolding b
+  target i = countBelow (length starts) (λ j. leb (startOf T b starts j) (occurrence i)) - 1
+
+  -- the start of the parent of a block that starts at s; the text's on level 0
+  parentStart : ℕ → ℕ
+  parentStart s = elim l [ zero ↦ 0 | suc above ↦ s / blockLength S above * blockLength S above ]
+
+  countsOf : ℕ → ℕ → List ℕ
+  unfolding b parentStart
+  countsOf i c =
+      let s = startOf T b starts i in
+      let up = parentStart s in
+      let from = startOf T b starts (target i) in
+      countIn c (stretch T up (s - up))
+      ∷ countIn c (stretch T s (lengthOf T b starts i))
+      ∷ cond (isKept i) 0 (countIn c (stretch T from (occurrence i - from)))
+      ∷ []
+
+  -- the words of block i's record
+  unfoldable pub recordOf : ℕ → List ℕ
+  unfolding b countsOf parentStart
+  recordOf i =
+      let s = startOf T b starts i in
+      let kept : List ℕ = 0 ∷ sumBelow i width ∷ 0 ∷ [] in
+      let points : List ℕ = 1 ∷ target i ∷ (occurrence i - startOf T b starts (target i)) ∷ [] in
+      (s ∷ cond (isKept i) kept points) ++ concat (map (countsOf i) (S .counted))
+
+  unfoldable pub levelWords : List ℕ
+  levelWords = concat (tabulate (length starts) recordOf)
+
+-- the bytes of one record
+unfoldable pub recordBytes : Settings → ℕ
+recordBytes S = 16 + 12 * length (S .counted)
+
+-- the header's two words for each of a level and those below it: its block count and its offset
+unfoldable pub levelPairs : Settings → List ℕ → ℕ → ℕ → ℕ → List ℕ
+levelPairs S T zero l at = []
+levelPairs S T (suc more) l at =
+    let count = length (startsAt S T l) in
+    count ∷ at ∷ levelPairs S T more (suc l) (at + count * recordBytes S)
+
+unfoldable pub leafBytes : Settings → List ℕ → List ℕ
+leafBytes S T =
+    let last = startsAt S T (S .levels - 1) in
+    concat (map (λ s. stretch T s (min (S .leaf) (length T - s))) last)
+
+unfoldable pub header : Settings → List ℕ → List ℕ
+header S T =
+    let H = S .levels in
+    let k = length (S .counted) in
+    let leaves = 100 + sumBelow H (λ l. length (startsAt S T l)) * recordBytes S in
+    wordsBytes (1 ∷ length T ∷ S .leaf ∷ S .arity ∷ H ∷ k ∷ [])
+    ++ (S .counted ++ replicate (4 - k) 0)
+    ++ wordsBytes (levelPairs S T H 0 100 ++ replicate (16 - 2 * H) 0 ++ leaves ∷ length (leafBytes S T) ∷ [])
+
+-- the bytes of the block tree of T
+unfoldable pub treeOf : Settings → List ℕ → List ℕ
+treeOf S T =
+    header S T ++ wordsBytes (concat (tabulate (S .levels) (λ l. levelWords S T l (startsAt S T l)))) ++ leafBytes S T

@@ -1,0 +1,9 @@
+pub mod Words
+pub mod Settings
+pub mod Blocks
+pub mod Layout
+pub mod Path
+pub mod Fits
+pub mod Verdict
+pub mod Answers
+pub mod Worked

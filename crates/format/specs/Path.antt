@@ -1,0 +1,83 @@
+-- The path of a place, read off a tree's bytes alone.
+use mathlib.Core.List.{List, [], _∷_, _++_}
+use mathlib.Core.Option.{Option, none, some}
+use mathlib.Core.Bool.{Bool, true, false, cond, _&&_, _||_}
+use Prim.Native.Nat.{ℕ, zero, suc, _+_, _-_, _*_, _/_, _%_}
+use lib.Dec.{ltb, eqb}
+use Rattle.format.specs.Settings.{Settings, blockLength}
+use Rattle.format.specs.Layout as at
+
+-- a block entered, and the place in it
+pub record Visit : Type 0 where
+  pub level : ℕ
+  pub block : ℕ
+  pub place : ℕ
+
+-- the blocks entered, first to last, and the number of the leaf byte reached
+pub record Path : Type 0 where
+  pub visits : List Visit
+  pub leaf : ℕ
+
+abbrev pub visit : ℕ → ℕ → ℕ → Visit
+visit l i o = record { level = l; block = i; place = o }
+
+-- the path with visits in front
+abbrev pub entered : List Visit → Option Path → Option Path
+entered vs none = none
+entered vs (some p) = some (record { visits = vs ++ p .visits; leaf = p .leaf })
+
+-- what a test lets through
+abbrev pub provided : Bool → Option Path → Option Path
+provided true p = p
+provided false p = none
+
+module _ (t : List ℕ) where
+  -- block i of level l is in its table, and kept
+  unfoldable pub keptBlock : ℕ → ℕ → Bool
+  unfolding at.levelCount at.isKept
+  keptBlock l i = ltb i (at.levelCount t l) && at.isKept t l i
+
+  -- it is in its table, and points with a gap below the block length
+  unfoldable pub pointingBlock : ℕ → ℕ → Bool
+  unfolding at.levelCount at.isPointing at.gap at.fullLength
+  pointingBlock l i = ltb i (at.levelCount t l) && at.isPointing t l i && ltb (at.gap t l i) (at.fullLength t l)
+
+  -- where a pointing block hands place o: link at gap + o, or, if that is b or more, link + 1 at that less b
+  unfoldable pub targetBlock : ℕ → ℕ → ℕ → ℕ
+  unfolding at.link at.gap at.fullLength
+  targetBlock l i o = cond (ltb (at.gap t l i + o) (at.fullLength t l)) (at.link t l i) (at.link t l i + 1)
+
+  unfoldable pub targetPlace : ℕ → ℕ → ℕ → ℕ
+  unfolding at.gap at.fullLength
+  targetPlace l i o = cond (ltb (at.gap t l i + o) (at.fullLength t l)) (at.gap t l i + o) (at.gap t l i + o - at.fullLength t l)
+
+  -- the kept block of level l that answers for place o of block i, the place in it, and the visits that lead there
+  unfoldable pub landBlock : ℕ → ℕ → ℕ → ℕ
+  landBlock l i o = cond (keptBlock l i) i (targetBlock l i o)
+
+  unfoldable pub landPlace : ℕ → ℕ → ℕ → ℕ
+  landPlace l i o = cond (keptBlock l i) o (targetPlace l i o)
+
+  unfoldable pub landVisits : ℕ → ℕ → ℕ → List Visit
+  landVisits l i o = cond (keptBlock l i) (visit l i o ∷ []) (visit l i o ∷ visit l (targetBlock l i o) (targetPlace l i o) ∷ [])
+
+  -- there is such a block: i itself, or the target of i where i points
+  unfoldable pub lands : ℕ → ℕ → ℕ → Bool
+  lands l i o = keptBlock l i || (pointingBlock l i && keptBlock l (targetBlock l i o))
+
+  -- the path from place o of block i of level l, which has `below` levels under it; none where it leaves the tables, meets a
+  -- pointing block after a pointing one or on the last level, a kind above 1, or a gap that is not below the block length
+  unfoldable pub pathFrom : ℕ → ℕ → ℕ → ℕ → Option Path
+  unfolding at.link at.leafCount at.fullLength
+  pathFrom zero l i o =
+      provided (keptBlock l i && ltb (at.link t l i + o) (at.leafCount t))
+      (some (record { visits = visit l i o ∷ []; leaf = at.link t l i + o }))
+  pathFrom (suc below) l i o =
+      let j = landBlock l i o in
+      let p = landPlace l i o in
+      let child = at.fullLength t (l + 1) in
+      provided (lands l i o) (entered (landVisits l i o) (pathFrom below (l + 1) (at.link t l j + p / child) (p % child)))
+
+  unfoldable pub pathOf : ℕ → Option Path
+  unfolding at.settings at.fullLength
+  pathOf p = pathFrom (at.settings t .levels - 1) 0 (p / at.fullLength t 0) (p % at.fullLength t 0)

@@ -1,0 +1,21 @@
+-- What the check answers: 0 for an accepted tree, else the number of the first question that it fails.
+use mathlib.Core.List.{List}
+use mathlib.Core.Bool.{Bool, true, false}
+use Prim.Native.Nat.{ℕ}
+use Rattle.format.specs.Layout as at
+use Rattle.format.specs.Fits.{linksOk, textOf, countsTrue}
+
+-- the number of a question that fails, else what the next ones say
+abbrev pub ask : ℕ → Bool → ℕ → ℕ
+ask number true rest = rest
+ask number false rest = number
+
+-- questions 5 to 7, which every question put to a tree asks first
+unfoldable pub readable : List ℕ → ℕ
+unfolding at.longEnough at.layoutOk at.headerOk
+readable t = ask 5 (at.longEnough t) (ask 6 (at.layoutOk t) (ask 7 (at.headerOk t) 0))
+
+unfoldable pub verdict : List ℕ → ℕ
+unfolding at.longEnough at.layoutOk at.headerOk
+verdict t =
+    ask 5 (at.longEnough t) (ask 6 (at.layoutOk t) (ask 7 (at.headerOk t) (ask 8 (linksOk t) (ask 9 (countsTrue (textOf t) t) 0))))

@@ -1,0 +1,15 @@
+-- A word is four bytes, lowest first.
+use mathlib.Core.List.{List, [], _∷_, map}
+use Prim.Native.Nat.{ℕ, _+_, _*_, _/_, _%_}
+use lib.ListN.{getD}
+use Rattle.text.specs.Lists.{concat}
+
+-- the word whose lowest byte stands at i
+unfoldable pub wordAt : List ℕ → ℕ → ℕ
+wordAt t i = getD t i 0 + 256 * getD t (i + 1) 0 + 65536 * getD t (i + 2) 0 + 16777216 * getD t (i + 3) 0
+
+unfoldable pub wordBytes : ℕ → List ℕ
+wordBytes w = w % 256 ∷ w / 256 % 256 ∷ w / 65536 % 256 ∷ w / 16777216 % 256 ∷ []
+
+unfoldable pub wordsBytes : List ℕ → List ℕ
+wordsBytes ws = concat (map wordBytes ws)

@@ -1,0 +1,44 @@
+-- What is asked of a text, a list of bytes.
+use mathlib.Core.List.{List, [], _∷_}
+use mathlib.Core.Bool.{Bool, true, false, cond}
+use Prim.Native.Nat.{ℕ, zero, suc, _+_, _-_}
+use lib.ListN.{length, take, drop, getD}
+use lib.Dec.{eqb}
+use Rattle.text.specs.Lists.{sameList}
+
+-- the len bytes from place p
+unfoldable pub stretch : List ℕ → ℕ → ℕ → List ℕ
+stretch T p len = take len (drop p T)
+
+-- of the places p, p + 1, .., the first at which the len bytes at s stand; after `more` places, the place reached
+unfoldable pub firstFrom : List ℕ → ℕ → ℕ → ℕ → ℕ → ℕ
+firstFrom T s len zero p = p
+firstFrom T s len (suc more) p =
+    let later = firstFrom T s len more (p + 1) in
+    cond (sameList (stretch T p len) (stretch T s len)) p later
+
+-- the leftmost occurrence of the len bytes at s
+unfoldable pub leftmost : List ℕ → ℕ → ℕ → ℕ
+leftmost T s len = firstFrom T s len s 0
+
+-- how often c stands in xs (rank, of the first bytes of a text)
+unfoldable pub countIn : ℕ → List ℕ → ℕ
+countIn c [] = 0
+countIn c (x ∷ xs) =
+    let rest = countIn c xs in
+    cond (eqb c x) (rest + 1) rest
+
+-- the place in xs of the c that has k others before it; the length where there is none
+unfoldable pub placeIn : ℕ → ℕ → List ℕ → ℕ
+placeIn c k [] = 0
+placeIn c zero (x ∷ xs) =
+    let later = placeIn c zero xs in
+    cond (eqb c x) 0 (later + 1)
+placeIn c (suc k) (x ∷ xs) =
+    let next = placeIn c k xs in
+    let later = placeIn c (suc k) xs in
+    cond (eqb c x) (next + 1) (later + 1)
+
+-- the place of the j-th c, j from 1 (select)
+unfoldable pub placeOf : ℕ → ℕ → List ℕ → ℕ
+placeOf c j T = placeIn c (j - 1) T
