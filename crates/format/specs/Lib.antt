@@ -2,11 +2,13 @@
 pub mod Words
 pub mod WordLaws
 pub mod Settings
+pub mod PieceLaws
 pub mod Blocks
 pub mod Layout
 pub mod Path
 pub mod Fits
 pub mod Verdict
+pub mod HeaderLaws
 pub mod Said
 pub mod Building
 pub mod Reading
