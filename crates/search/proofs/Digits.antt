@@ -37,17 +37,17 @@ window-step b T p n h =
     let l : n < length (drop p T) = simp length-drop (omega arith) in
     let m : n ≤ length (drop (suc p) T) = simp length-drop (omega arith) in
     let last : take (suc n) (drop p T) ≡ take n (drop p T) ++ (getD T (p + n) 0 ∷ []) =
-        take-suc (drop p T) n 0 l ∙ ap (λ (y : ℕ). take n (drop p T) ++ (y ∷ [])) (getD-drop p T n 0) in
+    take-suc (drop p T) n 0 l ∙ ap (λ (y : ℕ). take n (drop p T) ++ (y ∷ [])) (getD-drop p T n 0) in
     let first : take (suc n) (drop p T) ≡ getD T p 0 ∷ take n (drop (suc p) T) =
-        ap (λ (z : List ℕ). take (suc n) z) (drop-cons T p 0 (omega arith)) in
+    ap (λ (z : List ℕ). take (suc n) z) (drop-cons T p 0 (omega arith)) in
     let right : digits b 0 (take (suc n) (drop p T)) ≡ digits b 0 (take n (drop p T)) * b + getD T (p + n) 0 =
-        ap (digits b 0) last ∙ digits-snoc b 0 (take n (drop p T)) (getD T (p + n) 0) in
+    ap (digits b 0) last ∙ digits-snoc b 0 (take n (drop p T)) (getD T (p + n) 0) in
     let e : 0 * b + getD T p 0 ≡ getD T p 0 + 0 = omega (arith, zero-mul b) in
     let left : digits b 0 (take (suc n) (drop p T)) ≡ b ^ n * getD T p 0 + digits b 0 (take n (drop (suc p) T)) =
-        ap (digits b 0) first
-        ∙ ap (λ (y : ℕ). digits b y (take n (drop (suc p) T))) e
-        ∙ digits-lift b (getD T p 0) 0 (take n (drop (suc p) T))
-        ∙ ap (λ (y : ℕ). b ^ y * getD T p 0 + digits b 0 (take n (drop (suc p) T))) (length-take-le n (drop (suc p) T) m) in
+    ap (digits b 0) first
+    ∙ ap (λ (y : ℕ). digits b y (take n (drop (suc p) T))) e
+    ∙ digits-lift b (getD T p 0) 0 (take n (drop (suc p) T))
+    ∙ ap (λ (y : ℕ). b ^ y * getD T p 0 + digits b 0 (take n (drop (suc p) T))) (length-take-le n (drop (suc p) T) m) in
     let s : p + 1 ≡ suc p = add-one p in
     rw s (omega arith)
 

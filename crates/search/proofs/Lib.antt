@@ -3,3 +3,5 @@ pub mod Digits
 pub mod Same
 pub mod Ahead
 pub mod Usable
+pub mod Cases
+pub mod Demands

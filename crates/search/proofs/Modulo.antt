@@ -4,8 +4,20 @@ use Prim.Native.Nat.{ℕ, zero, suc, _+_, _-_, _*_, _/_, _%_, _^_, _≤_, _<_}
 use native.Mathlib.Omega.{arith}
 use native.Mathlib.Numerals.{add-one}
 use native.Mathlib.Nat.{
-    add-mul, mul-assoc, mul-comm, suc-mul, mul-le-mul, mul-suc, add-assoc, pow-suc, pow-zero, mod-add-div, mod-add-mod, add-mod-mod, mod-lt,
-    add-mul-mod-self-left
+  add-mul,
+  mul-assoc,
+  mul-comm,
+  suc-mul,
+  mul-le-mul,
+  mul-suc,
+  add-assoc,
+  pow-suc,
+  pow-zero,
+  mod-add-div,
+  mod-add-mod,
+  add-mod-mod,
+  mod-lt,
+  add-mul-mod-self-left,
 }
 
 pub mul-mod : (a c q : ℕ) → a % q * c % q ≡ a * c % q

@@ -1,6 +1,5 @@
 // Fingerprints of bytes, and of a window that rolls over them.
 use crate::Fingerprint;
-
 ghost use mathlib.Core.Path.{_≡_};
 ghost use Prim.Native.Nat.{_+_, _-_, _*_, _%_, _^_, _≤_, _<_};
 ghost use lib.ListN.{length};

@@ -4,7 +4,6 @@ mod finger;
 mod scan;
 
 use text::TextPlace;
-
 ghost use mathlib.Core.Path.{_≡_};
 ghost use Rattle.search.specs.Occurrences.{leftmostSays, earlierSays};
 ghost use Rattle.search.specs.Fingers.{usable, usableModulus};
@@ -30,7 +29,10 @@ impl Fingerprint {
         ensures { λ r. ⌜ r ≡ usable base modulus ⌝ }
     {
         let q = usable_modulus(modulus);
-        Fingerprint { base: base % q, modulus: q }
+        Fingerprint {
+            base: base % q,
+            modulus: q,
+        }
     }
 }
 
@@ -67,5 +69,23 @@ pub fn occurs_earlier(text: &[u8], at: TextPlace, len: u32, by: Fingerprint) -> 
     match leftmost(text, at, len, by) {
         Occurrence::At(found) => found.0 < start,
         Occurrence::Outside => false,
+    }
+}
+
+// The answers of two searches that differ in base and modulus alone.
+pub struct Answers {
+    pub one: Occurrence,
+    pub other: Occurrence,
+}
+
+// The same search by two fingerprints: both give one answer.
+pub fn agree(text: &[u8], at: TextPlace, len: u32, one: Fingerprint, other: Fingerprint) -> Answers
+    ensures { λ r. ⌜ (r .one ≡ r .other) × (r .one ≡ leftmostSays (now (text .entry)) (at .0) len) ⌝ }
+{
+    let first = leftmost(text, TextPlace(at.0), len, one);
+    let second = leftmost(text, TextPlace(at.0), len, other);
+    Answers {
+        one: first,
+        other: second,
     }
 }

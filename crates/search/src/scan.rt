@@ -1,7 +1,6 @@
 // The search itself: one pass over the text up to the place.
 use crate::Fingerprint;
 use crate::finger;
-
 ghost use mathlib.Core.Path.{_≡_};
 ghost use Prim.Native.Nat.{_+_, _≤_, _<_};
 ghost use lib.ListN.{length};
@@ -38,7 +37,15 @@ pub fn same_at(text: &[u8], p: usize, q: usize, n: usize) -> bool
 
 // Whether the n bytes at `at` stand at p too. h and wanted are their fingerprints: equal ones only
 // propose, and the bytes decide.
-pub fn stands(text: &[u8], p: usize, at: usize, n: usize, h: u64, wanted: u64, by: Fingerprint) -> bool
+pub fn stands(
+    text: &[u8],
+    p: usize,
+    at: usize,
+    n: usize,
+    h: u64,
+    wanted: u64,
+    by: Fingerprint,
+) -> bool
     requires { ⌜ (p + n ≤ length (now text)) × (at + n ≤ length (now text)) ⌝ }
     requires { ⌜ h ≡ finger (by .base) (by .modulus) (stretch (now text) p n) ⌝ }
     requires { ⌜ wanted ≡ finger (by .base) (by .modulus) (stretch (now text) at n) ⌝ }

@@ -30,8 +30,8 @@ stretch-ext T U p q len h k same =
     ext-getD
     0 (stretch T p len) (stretch U q len) (length-stretch T p len h ∙ sym (length-stretch U q len k))
     (λ i l.
-        let m : i < len = rw (length-stretch T p len h) at l in
-        getD-stretch T p len i m ∙ same i m ∙ sym (getD-stretch U q len i m))
+    let m : i < len = rw (length-stretch T p len h) at l in
+    getD-stretch T p len i m ∙ same i m ∙ sym (getD-stretch U q len i m))
 
 pub stretch-at :
     (T U : List ℕ) (p q len : ℕ) → stretch T p len ≡ stretch U q len → (i : ℕ) → i < len → getD T (p + i) 0 ≡ getD U (q + i) 0
@@ -67,10 +67,10 @@ first-step f more p r true e h =
     record { low = omega arith; high = omega arith; holds = λ _. e; before = λ k a b. absurd (let z : ⊥ = omega arith in z) }
 first-step f more p r false e h =
     record {
-        low = omega (arith, h .low);
-        high = omega (arith, h .high);
-        holds = λ l. h .holds (omega arith);
-        before = λ k a b. go k b (lt-or-ge p k) a
+      low = omega (arith, h .low);
+      high = omega (arith, h .high);
+      holds = λ l. h .holds (omega arith);
+      before = λ k a b. go k b (lt-or-ge p k) a;
     }
   where
     go : (k : ℕ) → k < r → (p < k) ⊎ (k ≤ p) → p ≤ k → f k ≡ false
@@ -83,10 +83,10 @@ first-from : (T : List ℕ) (s len more p : ℕ) → First (λ q. sameList (stre
 unfolding firstFrom
 first-from T s len zero p =
     record {
-        low = omega arith;
-        high = omega arith;
-        holds = λ l. absurd (let z : ⊥ = omega arith in z);
-        before = λ k a b. absurd (let z : ⊥ = omega arith in z)
+      low = omega arith;
+      high = omega arith;
+      holds = λ l. absurd (let z : ⊥ = omega arith in z);
+      before = λ k a b. absurd (let z : ⊥ = omega arith in z);
     }
 first-from T s len (suc more) p =
     first-step

@@ -27,6 +27,6 @@ fingerprint-spec =
     (λ c. search needs)
     (λ c. search needs)
     (λ c. let l = c .before .before .before .loop in
-        (omega arith, c .push .ensures ∙ finger-push _ _ (c .before .before .before .before .before .args .s .now) (l .i) (l .h) (omega arith) (l .inv .1)))
+    (omega arith, c .push .ensures ∙ finger-push _ _ (c .before .before .before .before .before .args .s .now) (l .i) (l .h) (omega arith) (l .inv .1)))
     (λ c. let l = c .before .loop in
-        l .inv .1 ∙ ap (finger _ _) (take-all (l .i) (c .before .before .before .args .s .now) (omega arith))))
+    l .inv .1 ∙ ap (finger _ _) (take-all (l .i) (c .before .before .before .args .s .now) (omega arith))))

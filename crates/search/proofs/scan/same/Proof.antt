@@ -25,13 +25,13 @@ same-spec =
     (λ c. search needs)
     (λ c. search needs)
     (λ c. let z = c .before .before .before .before .before .before .args in
-        let l = c .before .before .before .before .loop in
-        bytes-differ (z .a .now) (z .b .now) (l .i) (omega arith) (omega arith) (c .if2 .taken) ∙ l .inv .1)
+    let l = c .before .before .before .before .loop in
+    bytes-differ (z .a .now) (z .b .now) (l .i) (omega arith) (omega arith) (c .if2 .taken) ∙ l .inv .1)
     (λ c. search needs)
     (λ c. search needs)
     (λ c. let z = c .before .before .before .before .before .before .args in
-        let l = c .before .before .before .before .loop in
-        (omega arith, bytes-agree (z .a .now) (z .b .now) (l .i) (omega arith) (omega arith) (c .if2 .left) ∙ l .inv .1))
+    let l = c .before .before .before .before .loop in
+    (omega arith, bytes-agree (z .a .now) (z .b .now) (l .i) (omega arith) (omega arith) (c .if2 .left) ∙ l .inv .1))
     (λ c. let z = c .before .before .before .args in
-        let l = c .before .loop in
-        bytes-over (z .a .now) (z .b .now) (l .i) (omega arith) (omega arith) ∙ l .inv .1))
+    let l = c .before .loop in
+    bytes-over (z .a .now) (z .b .now) (l .i) (omega arith) (omega arith) ∙ l .inv .1))

@@ -24,7 +24,7 @@ same-at-spec =
     (λ c. search needs)
     (λ c κs. search needs)
     (λ c.
-        let a = c .before .before .before .before .args in
-        let p = add-sub-cancel-left (a .p) (a .n) in
-        let q = add-sub-cancel-left (a .q) (a .n) in
-        rw (p, q) at (c .same .ensures)))
+    let a = c .before .before .before .before .args in
+    let p = add-sub-cancel-left (a .p) (a .n) in
+    let q = add-sub-cancel-left (a .q) (a .n) in
+    rw (p, q) at (c .same .ensures)))
