@@ -1,12 +1,12 @@
 -- Fingerprints of lists: one byte more, and a window moved on.
 use mathlib.Core.List.{List, [], _∷_, _++_}
 use mathlib.Core.Path.{_≡_, refl, sym, ap, _∙_}
-use Prim.Native.Nat.{ℕ, zero, suc, _+_, _-_, _*_, _%_, _^_, _≤_, _<_}
+use Prim.Native.Nat.{ℕ, suc, _+_, _-_, _*_, _%_, _^_, _≤_, _<_}
 use native.Mathlib.Omega.{arith}
 use native.Mathlib.Numerals.{add-one}
-use native.Mathlib.Nat.{zero-mod, add-mul, mul-assoc, add-assoc, mul-comm, pow-succ', pow-zero, mul-one, zero-mul, zero-add, add-zero, mod-lt}
+use native.Mathlib.Nat.{zero-mod, add-mul, mul-assoc, mul-comm, pow-succ', pow-zero, zero-mul, mod-lt}
 use lib.ListN.{length, take, drop, getD, length-drop}
-use lib.Seq.{take-suc, drop-cons, getD-drop, length-take-le, take-all}
+use lib.Seq.{take-suc, drop-cons, getD-drop, length-take-le}
 use Rattle.text.specs.Text.{stretch}
 use Rattle.search.specs.Fingers.{digits, finger}
 use Rattle.search.proofs.Modulo.{pushed, rolled}

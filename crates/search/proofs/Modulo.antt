@@ -1,24 +1,9 @@
 -- Sums and products modulo q.
-use mathlib.Core.Path.{_≡_, refl, sym, ap, _∙_}
-use Prim.Native.Nat.{ℕ, zero, suc, _+_, _-_, _*_, _/_, _%_, _^_, _≤_, _<_}
+use mathlib.Core.Path.{_≡_, sym, ap, _∙_}
+use Prim.Native.Nat.{ℕ, suc, _+_, _-_, _*_, _/_, _%_, _^_, _≤_, _<_}
 use native.Mathlib.Omega.{arith}
 use native.Mathlib.Numerals.{add-one}
-use native.Mathlib.Nat.{
-  add-mul,
-  mul-assoc,
-  mul-comm,
-  suc-mul,
-  mul-le-mul,
-  mul-suc,
-  add-assoc,
-  pow-suc,
-  pow-zero,
-  mod-add-div,
-  mod-add-mod,
-  add-mod-mod,
-  mod-lt,
-  add-mul-mod-self-left,
-}
+use native.Mathlib.Nat.{add-mul, mul-assoc, suc-mul, mul-le-mul, pow-suc, mod-add-div, mod-add-mod, add-mod-mod, mod-lt, add-mul-mod-self-left}
 
 pub mul-mod : (a c q : ℕ) → a % q * c % q ≡ a * c % q
 mul-mod a c q =

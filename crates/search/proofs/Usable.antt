@@ -1,8 +1,8 @@
 -- A usable base and modulus.
-use mathlib.Core.Path.{_≡_, refl, sym, ap, _∙_}
-use Prim.Native.Nat.{ℕ, _%_, _≤_, _<_, min, max}
+use mathlib.Core.Path.{_≡_}
+use Prim.Native.Nat.{ℕ, _%_, _≤_, _<_}
 use native.Mathlib.Omega.{arith}
-use native.Mathlib.Nat.{mod-lt, min-eq-left, min-eq-right, max-eq-left, max-eq-right}
+use native.Mathlib.Nat.{mod-lt}
 use Rattle.search.specs.declared.Fingerprint.{Fingerprint}
 use Rattle.search.specs.Fingers.{usableModulus, usable, Ready}
 

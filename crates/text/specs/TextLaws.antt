@@ -1,15 +1,15 @@
 -- Laws of the definitions of `Text`: stretches, and leftmost occurrences.
-use mathlib.Core.List.{List, [], _∷_, _++_}
+use mathlib.Core.List.{List, _++_}
 use mathlib.Core.Bool.{Bool, true, false, cond}
 use mathlib.Core.Path.{_≡_, refl, sym, ap, _∙_}
-use mathlib.Core.Logic.{_⊎_, inl, inr, ⊎-elim}
-use Prim.Native.Nat.{ℕ, zero, suc, _+_, _-_, _≤_, _<_}
+use mathlib.Core.Logic.{_⊎_, inl, inr}
+use Prim.Native.Nat.{ℕ, zero, suc, _+_, _≤_, _<_}
 use native.Mathlib.Omega.{arith}
 use native.Mathlib.Nat.{add-assoc}
-use lib.ListN.{length, take, drop, getD, length-take, length-drop}
+use lib.ListN.{length, take, drop, getD, length-drop}
 use lib.Seq.{getD-take, getD-drop, ext-getD, length-take-le, take-add, drop-drop}
 use Rattle.text.specs.Lists.{sameList}
-use Rattle.text.specs.ListLaws.{bool-cases, bool-clash, lt-or-ge, sameList-true, sameList-refl, eq-sameList}
+use Rattle.text.specs.ListLaws.{bool-clash, lt-or-ge, sameList-true, eq-sameList}
 use Rattle.text.specs.Text.{stretch, firstFrom, leftmost}
 
 -- Stretches.

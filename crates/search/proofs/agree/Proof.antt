@@ -1,3 +1,4 @@
+-- `agree` meets its contract: both answers are what the definition says.
 use mathlib.Core.Path.{sym, _∙_}
 use borrow.Author.Needs.{needs}
 use Rattle.search.proofs.agree.Statement.{statement}

@@ -1,4 +1,4 @@
-use mathlib.Core.Path.{_≡_, _∙_}
+-- `leftmost` meets its contract: it makes the fingerprint usable, and the place found fits 32 bits as it is at most the place asked for.
 use native.Mathlib.Omega.{arith}
 use borrow.Author.Needs.{needs}
 use Rattle.text.specs.TextLaws.{leftmost-le}

@@ -1,3 +1,4 @@
+-- `usable_modulus` meets its contract.
 use Rattle.search.proofs.Usable.{modulus-low, modulus-high, modulus-within}
 use Rattle.search.proofs.usable_modulus.Statement.{statement}
 use Rattle.search.proofs.usable_modulus.Tie as tie

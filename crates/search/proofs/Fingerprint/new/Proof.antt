@@ -1,8 +1,6 @@
-use mathlib.Core.Path.{_≡_, ap}
-use Prim.Native.Nat.{ℕ, _%_}
+-- `Fingerprint::new` meets its contract.
 use native.Mathlib.Omega.{arith}
 use borrow.Author.Needs.{needs}
-use Rattle.search.specs.Fingers.{usable, usableModulus}
 use Rattle.search.proofs.Usable.{modulus-positive, made}
 use Rattle.search.proofs.Fingerprint.new.Statement.{statement}
 use Rattle.search.proofs.Fingerprint.new.Tie as tie

@@ -1,3 +1,4 @@
+-- `push` meets its contract: the product of two numbers below the modulus fits.
 use native.Mathlib.Omega.{arith}
 use borrow.Author.Needs.{needs}
 use Rattle.search.proofs.Modulo.{product-fits}

@@ -1,3 +1,4 @@
+-- `roll` meets its contract: what leaves the window is within 255 times the modulus.
 use native.Mathlib.Omega.{arith}
 use borrow.Author.Needs.{needs}
 use Rattle.search.proofs.Modulo.{product-fits, top-fits}

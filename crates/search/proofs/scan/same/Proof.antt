@@ -1,7 +1,8 @@
-use Prim.Native.Nat.{ℕ, _-_, _≤_, _<_}
-use mathlib.Core.Path.{_≡_, refl, sym, ap, _∙_}
+-- `same` meets its contract. The loop's invariant: what is left is the same exactly where the whole is.
+use Prim.Native.Nat.{_-_, _≤_}
+use mathlib.Core.Path.{_≡_, refl, _∙_}
 use native.Mathlib.Omega.{arith}
-use lib.ListN.{length, take, drop}
+use lib.ListN.{length, drop}
 use borrow.Author.Needs.{needs}
 use Rattle.text.specs.Lists.{sameList}
 use Rattle.search.proofs.Same.{lengths-differ, bytes-differ, bytes-agree, bytes-over}

@@ -1,10 +1,6 @@
-use mathlib.Core.List.{List}
-use mathlib.Core.Path.{_≡_, ap, _∙_}
-use Prim.Native.Nat.{ℕ}
+-- `same_at` meets its contract: the parts that are lent are the stretches.
 use native.Mathlib.Nat.{add-sub-cancel-left}
-use lib.ListN.{take, drop}
 use borrow.Author.Needs.{needs}
-use Rattle.text.specs.Lists.{sameList}
 use Rattle.text.specs.Text.{stretch}
 use Rattle.search.proofs.scan.same_at.Statement.{statement}
 use Rattle.search.proofs.scan.same_at.Tie as tie

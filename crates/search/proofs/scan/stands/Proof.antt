@@ -1,3 +1,4 @@
+-- `stands` meets its contract: where the fingerprints differ the bytes differ, and else the bytes are compared.
 use mathlib.Core.Path.{sym}
 use borrow.Author.Needs.{needs}
 use Rattle.search.proofs.Ahead.{differ}
@@ -10,4 +11,4 @@ stands-spec =
     (tie.spec
     (λ c. let z = c .before .before in sym (differ _ _ _ _ _ _ (z .pre .1 .0) (z .pre .1 .1) (c .if1 .taken)))
     (λ c κs. search needs)
-    (λ c. search needs))
+    (λ c. c .same-at .ensures))
