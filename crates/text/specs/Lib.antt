@@ -2,3 +2,4 @@ pub mod Lists
 pub mod ListLaws
 pub mod Conjunctions
 pub mod Text
+pub mod TextLaws
