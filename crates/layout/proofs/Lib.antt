@@ -1,4 +1,7 @@
+mod Asked
 mod HeaderLaws
+mod QuestionSeven
+mod RecordLaws
 mod Rising
 mod Scan
 mod Tests

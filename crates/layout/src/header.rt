@@ -77,7 +77,12 @@ fn header_right(t: &[u8]) -> bool
         return false;
     }
     let end = 24 + k;
-    let checked = Settings::new(word::read(t, 8), word::read(t, 12), word::read(t, 16), &t[24..end]);
+    let checked = Settings::new(
+        word::read(t, 8),
+        word::read(t, 12),
+        word::read(t, 16),
+        &t[24..end],
+    );
     let Checked::Fine(settings) = checked else {
         return false;
     };

@@ -25,10 +25,15 @@ pub enum Checked {
 impl Settings {
     // of a text's length, and of the length of a level 0 block
     pub const MAX_TEXT: u32 = 1048576;
+
     pub const MAX_LEAF: u32 = 256;
+
     pub const MIN_ARITY: u32 = 2;
+
     pub const MAX_ARITY: u32 = 16;
+
     pub const MAX_LEVELS: u32 = 8;
+
     pub const MAX_COUNTED: usize = 4;
 
     // The settings, or the number of the question that refuses them: 2 for m, r and H, 3 for the counted bytes.

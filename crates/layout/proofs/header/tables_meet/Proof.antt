@@ -36,10 +36,16 @@ tables-meet-spec =
     (λ c. search needs)
     (λ c. search needs)
     (λ c. search needs)
-    (λ c. let l = c .before .before .before .before .before in let a = l .before .before .args in
-    (omega arith, (end-more (a .t .now) (l .loop .l) _ _ _ _ (l .loop .inv .1 .0) (c .before .read2 .ensures) (l .before .before .pre .2) (c .table-bytes .ensures .0),
-    (omega (arith, c .table-bytes .ensures .1, l .loop .inv .1 .1 .0),
-    scan-more (follows (a .t .now)) (l .loop .l) (l .loop .inv .1 .1 .1) (meets (a .t .now) (l .loop .l) _ _ (l .loop .inv .1 .0) (c .before .before .before .read .ensures) (c .before .before .if1 .left))))))
+    (λ c. let l = c .before .before .before .before .before in let a = l .before .before .args in (
+      omega arith,
+      (
+        end-more (a .t .now) (l .loop .l) _ _ _ _ (l .loop .inv .1 .0) (c .before .read2 .ensures) (l .before .before .pre .2) (c .table-bytes .ensures .0),
+        (
+          omega (arith, c .table-bytes .ensures .1, l .loop .inv .1 .1 .0),
+          scan-more (follows (a .t .now)) (l .loop .l) (l .loop .inv .1 .1 .1) (meets (a .t .now) (l .loop .l) _ _ (l .loop .inv .1 .0) (c .before .before .before .read .ensures) (c .before .before .if1 .left)),
+        ),
+      ),
+    ))
     (λ c κs. search needs)
     (λ c. search needs)
     (λ c. let l = c .before .before in let a = l .before .before .args in

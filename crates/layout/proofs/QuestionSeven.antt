@@ -1,0 +1,197 @@
+-- How the tests of question 7, asked one by one, make the whole.
+use mathlib.Core.List.{List, [], _∷_}
+use mathlib.Core.Bool.{Bool, true, false, cond, _&&_}
+use mathlib.Core.Path.{_≡_, refl, sym, ap, _∙_}
+use mathlib.Core.Logic.{_⊎_, inl, inr, ⊎-elim}
+use Prim.Native.Nat.{ℕ, _+_, _-_, _*_, _≤_, _<_}
+use native.Mathlib.Omega.{arith}
+use lib.ListN.{length, take, drop, length-take, length-drop}
+use lib.Seq.{take-take}
+use lib.Dec.{leb, eqb}
+use borrow.Author.Tests.{le-leb, lt-leb}
+use Rattle.text.specs.Lists.{allBelow, sumBelow}
+use Rattle.text.specs.ListLaws.{and-both}
+use Rattle.format.specs.Words.{wordAt}
+use Rattle.format.specs.Layout as at
+use Rattle.format.specs.Settings as format
+use Rattle.format.specs.HeaderLaws.{Sizes, sizes}
+use Rattle.layout.specs.declared.settings.Settings.{Settings}
+use Rattle.layout.specs.declared.settings.Checked.{Checked}
+use Rattle.layout.specs.declared.settings.Checked.the-variants.{Fine, Refused}
+use Rattle.layout.specs.Settings as given
+use Rattle.layout.specs.Header.{follows, tablesMeet, restRight, spareCounted, spareLevels, HasSettings}
+
+-- Question 7 as a chain of tests.
+abbrev chain : (a b c d e f g h i : Bool) → Bool
+chain a b c d e f g h i = a && b && c && d && e && f && g && h && i
+
+chain-first : (a b c d e f g h i : Bool) → a ≡ false → false ≡ chain a b c d e f g h i
+chain-first a b c d e f g h i p = rw p
+
+chain-sizes : (a b c d e f g h i : Bool) → b ≡ false → false ≡ chain a b c d e f g h i
+chain-sizes true b c d e f g h i p = rw p
+chain-sizes false b c d e f g h i p = refl
+
+chain-counted : (a b c d e f g h i : Bool) → c ≡ false → false ≡ chain a b c d e f g h i
+chain-counted true true c d e f g h i p = rw p
+chain-counted true false c d e f g h i p = refl
+chain-counted false b c d e f g h i p = refl
+
+chain-rest : (a b c d e f g h i r : Bool) → a ≡ true → b ≡ true → c ≡ true → r ≡ (d && e && f && (g && h) && i) → r ≡ chain a b c d e f g h i
+chain-rest a b c true true true g h i r pa pb pc q = rw (pa, pb, pc) q
+chain-rest a b c true true false g h i r pa pb pc q = rw (pa, pb, pc) q
+chain-rest a b c true false f g h i r pa pb pc q = rw (pa, pb, pc) q
+chain-rest a b c false e f g h i r pa pb pc q = rw (pa, pb, pc) q
+
+module _ (t : List ℕ) where
+  abbrev counted : Bool
+  counted = leb (at.countedCount t) 4 && format.countedOk (at.settings t .counted)
+
+  abbrev level0 : Bool
+  level0 = eqb (at.levelCount t 0) (format.pieces (at.textLength t) (at.fullLength t 0))
+
+  abbrev leaves : Bool
+  leaves = eqb (at.leafOffset t) (100 + sumBelow (at.settings t .levels) (at.levelCount t) * at.recordSize t)
+
+  -- a law of the chain, at the tests of question 7
+  abbrev at-seven : ((a b c d e f g h i : Bool) → Type 0) → Type 0
+  at-seven P =
+      P (format.lengthOk (at.textLength t)) (format.sizesOk (at.settings t)) counted (spareCounted t (at.countedCount t)) (spareLevels t (at.settings t .levels))
+      level0 (allBelow (at.settings t .levels) (follows t)) leaves (eqb (length t) (at.leafOffset t + at.leafCount t))
+
+  apply : (P : (a b c d e f g h i : Bool) → Type 0) → ((a b c d e f g h i : Bool) → P a b c d e f g h i) → at-seven P
+  apply P law = law _ _ _ _ _ _ _ _ _
+
+  header-is : at-seven (λ a b c d e f g h i. at.headerOk t ≡ chain a b c d e f g h i)
+  unfolding at.headerOk spareCounted spareLevels
+  header-is = refl
+
+  seven-length : format.lengthOk (at.textLength t) ≡ false → false ≡ at.headerOk t
+  seven-length p = apply (λ a b c d e f g h i. a ≡ false → false ≡ chain a b c d e f g h i) chain-first p ∙ sym header-is
+
+  seven-sizes : format.sizesOk (at.settings t) ≡ false → false ≡ at.headerOk t
+  seven-sizes p = apply (λ a b c d e f g h i. b ≡ false → false ≡ chain a b c d e f g h i) chain-sizes p ∙ sym header-is
+
+  seven-counted : counted ≡ false → false ≡ at.headerOk t
+  seven-counted p = apply (λ a b c d e f g h i. c ≡ false → false ≡ chain a b c d e f g h i) chain-counted p ∙ sym header-is
+
+  seven-rest : (r : Bool) → format.lengthOk (at.textLength t) ≡ true → format.sizesOk (at.settings t) ≡ true → counted ≡ true → r ≡ restRight t → r ≡ at.headerOk t
+  unfolding restRight tablesMeet
+  seven-rest r p q s e =
+      apply (λ a b c d e f g h i. a ≡ true → b ≡ true → c ≡ true → r ≡ (d && e && f && (g && h) && i) → r ≡ chain a b c d e f g h i)
+      (λ a b c d e f g h i. chain-rest a b c d e f g h i r) p q s e
+      ∙ sym header-is
+
+module _ (t : List ℕ) (n : ℕ) (n-is : n ≡ wordAt t 4) where
+  length-here : (r : Bool) → format.lengthOk n ≡ r → format.lengthOk (at.textLength t) ≡ r
+  unfolding at.textLength
+  length-here r p = rw (← n-is) p
+
+  pub header-length : format.lengthOk n ≡ false → false ≡ at.headerOk t
+  header-length p = seven-length t (length-here false p)
+
+length-fine : (n : ℕ) → 1 ≤ n → n ≤ 1048576 → format.lengthOk n ≡ true
+unfolding format.lengthOk
+length-fine n low high = and-both (le-leb 1 n low) (le-leb n 1048576 high)
+
+-- the counted bytes as the code takes them are those of the header's settings
+counted-part : (t : List ℕ) (k : ℕ) → k ≡ wordAt t 20 → k ≤ 4 → take (24 + k - 24) (drop 24 t) ≡ at.settings t .counted
+unfolding at.settings at.countedCount
+counted-part t k e h =
+    let z : 24 + k - 24 ≡ k = omega arith in
+    rw (z, ← e) (sym (take-take k 4 (drop 24 t) h))
+
+-- what the checking constructor tells
+fine-sizes : (s : Settings) (a b : Bool) (r : Settings) → Fine s ≡ cond a (cond b (Fine r) (Refused 3)) (Refused 2) → a ≡ true
+fine-sizes s true b r e = refl
+fine-sizes s false b r e = absurd (let z : _≡_ {A = ℕ} 0 1 = cc in omega arith)
+
+fine-counted : (s : Settings) (a b : Bool) (r : Settings) → Fine s ≡ cond a (cond b (Fine r) (Refused 3)) (Refused 2) → b ≡ true
+fine-counted s true true r e = refl
+fine-counted s true false r e = absurd (let z : _≡_ {A = ℕ} 0 1 = cc in omega arith)
+fine-counted s false b r e = absurd (let z : _≡_ {A = ℕ} 0 1 = cc in omega arith)
+
+fine-is : (s : Settings) (a b : Bool) (r : Settings) → Fine s ≡ cond a (cond b (Fine r) (Refused 3)) (Refused 2) → s ≡ r
+fine-is s true true r e = cc
+fine-is s true false r e = cc
+fine-is s false b r e = cc
+
+refused-is : (q : ℕ) (a b : Bool) (r : Settings) → Refused q ≡ cond a (cond b (Fine r) (Refused 3)) (Refused 2) → (a ≡ false) ⊎ (b ≡ false)
+refused-is q true true r e = absurd (let z : _≡_ {A = ℕ} 0 1 = cc in omega arith)
+refused-is q true false r e = inr refl
+refused-is q false b r e = inl refl
+
+pub header-many : (t : List ℕ) (k : ℕ) → k ≡ wordAt t 20 → 4 < k → false ≡ at.headerOk t
+unfolding at.countedCount
+header-many t k k-is h = seven-counted t (rw (← k-is, lt-leb k 4 h))
+
+-- the header's settings, checked
+module _ (t : List ℕ) (m r H k : ℕ) (m-is : m ≡ wordAt t 8) (r-is : r ≡ wordAt t 12) (H-is : H ≡ wordAt t 16) (k-is : k ≡ wordAt t 20) where
+  sizes-here : (b : Bool) → format.sizesOk (given.sizes m r H) ≡ b → format.sizesOk (at.settings t) ≡ b
+  unfolding at.settings format.sizesOk
+  sizes-here b e = rw (← m-is, ← r-is, ← H-is) e
+
+  module _ (few : k ≤ 4) where
+    counted-here : (b : Bool) → format.countedOk (take (24 + k - 24) (drop 24 t)) ≡ b → format.countedOk (at.settings t .counted) ≡ b
+    counted-here b e = rw (counted-part t k k-is few) at e
+
+    few-here : leb (at.countedCount t) 4 ≡ true
+    unfolding at.countedCount
+    few-here = rw (← k-is) (le-leb k 4 few)
+
+    both-here : (b : Bool) → format.countedOk (take (24 + k - 24) (drop 24 t)) ≡ b → (leb (at.countedCount t) 4 && format.countedOk (at.settings t .counted)) ≡ b
+    both-here b e = rw few-here (counted-here b e)
+
+    abbrev part : List ℕ
+    part = take (24 + k - 24) (drop 24 t)
+
+    abbrev sizes-fit : Bool
+    sizes-fit = format.sizesOk (given.sizes m r H)
+
+    abbrev there : Settings
+    there = record { leaf = m; arity = r; levels = H; counted = length part }
+
+    header-sizes : sizes-fit ≡ false → false ≡ at.headerOk t
+    header-sizes p = seven-sizes t (sizes-here false p)
+
+    header-counted : format.countedOk part ≡ false → false ≡ at.headerOk t
+    header-counted p = seven-counted t (both-here false p)
+
+    pub header-refused : (q : ℕ) (x : Checked) → x ≡ given.checked m r H part → x ≡ Refused q → false ≡ at.headerOk t
+    unfolding given.checked
+    header-refused q x e f = ⊎-elim header-sizes header-counted (refused-is q sizes-fit (format.countedOk part) there (sym f ∙ e))
+
+    module _ (n : ℕ) (n-is : n ≡ wordAt t 4) (low : 1 ≤ n) (high : n ≤ 1048576) (s : Settings) (x : Checked) (said : x ≡ given.checked m r H part) (is : x ≡ Fine s) where
+      fine : Fine s ≡ cond sizes-fit (cond (format.countedOk part) (Fine there) (Refused 3)) (Refused 2)
+      unfolding given.checked
+      fine = sym is ∙ said
+
+      fit : sizes-fit ≡ true
+      fit = fine-sizes s sizes-fit (format.countedOk part) there fine
+
+      pub header-rest : (y : Bool) → y ≡ restRight t → y ≡ at.headerOk t
+      header-rest y e =
+          seven-rest t y (length-here t n n-is true (length-fine n low high)) (sizes-here true fit)
+          (both-here true (fine-counted s sizes-fit (format.countedOk part) there fine)) e
+
+      pub has-settings : 100 ≤ length t → HasSettings t n s
+      has-settings long =
+          let z = sizes (given.sizes m r H) fit in
+          let size : length part ≡ k = simp (length-take, length-drop) (omega arith) in
+          rw (fine-is s sizes-fit (format.countedOk part) there fine) (record {
+            long = long;
+            n-is = n-is;
+            n-high = high;
+            leaf-is = m-is;
+            arity-is = r-is;
+            levels-is = H-is;
+            counted-is = size ∙ k-is;
+            leaf-low = z .leaf-low;
+            leaf-high = z .leaf-high;
+            arity-low = z .arity-low;
+            arity-high = z .arity-high;
+            levels-low = z .levels-low;
+            levels-high = z .levels-high;
+            block-high = z .top-high;
+            counted-high = rw size few;
+          })

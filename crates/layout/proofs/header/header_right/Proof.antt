@@ -1,0 +1,32 @@
+use borrow.Author.Needs.{needs}
+use borrow.Author.Tests.{lt-leb, le-leb}
+use mathlib.Core.Path.{_∙_, sym, ap}
+use Rattle.format.specs.Settings.{lengthOk}
+use Rattle.layout.proofs.QuestionSeven as laws
+use Rattle.layout.proofs.header.header_right.Statement.{statement}
+use Rattle.layout.proofs.header.header_right.Tie as tie
+
+pub header-right-spec : {M : Type 1} → statement M
+unfolding lengthOk
+header-right-spec =
+    tie.close
+    (tie.spec
+    (λ c κs. search needs)
+    (λ c. laws.header-length _ _ (c .before .read .ensures) (simp (lt-leb 1 _ (c .if1 .taken))))
+    (λ c. laws.header-length _ _ (c .before .before .read .ensures) (simp (le-leb 1 _ (c .before .if1 .left), lt-leb _ 1048576 (c .if2 .taken))))
+    (λ c κs. search needs)
+    (λ c. search needs)
+    (λ c. laws.header-many (c .before .before .before .before .before .before .args .t .now) _ (c .before .read2 .ensures) (c .if3 .taken))
+    (λ c. search needs)
+    (λ c κs. search needs)
+    (λ c κs. search needs)
+    (λ c κs. search needs)
+    (λ c. search needs)
+    (λ c. search needs)
+    (λ c. search needs)
+    (λ c κs. search needs)
+    (λ c. search needs)
+    (λ c. search needs)
+    (λ c. laws.header-refused (c .before .before .before .before .before .before .before .before .before .before .before .before .before .args .t .now) _ _ _ _ (c .before .before .before .before .before .before .read3 .ensures) (c .before .before .before .before .before .read4 .ensures) (c .before .before .before .before .read5 .ensures) (c .before .before .before .before .before .before .before .before .read2 .ensures) (c .before .before .before .before .before .before .before .if3 .left) _ _ (c .before .before .new .ensures) (c .enum-told .given .1))
+    (λ c κs. laws.has-settings (c .before .before .before .before .before .before .before .before .before .before .before .before .before .before .args .t .now) _ _ _ _ (c .before .before .before .before .before .before .before .read3 .ensures) (c .before .before .before .before .before .before .read4 .ensures) (c .before .before .before .before .before .read5 .ensures) (c .before .before .before .before .before .before .before .before .before .read2 .ensures) (c .before .before .before .before .before .before .before .before .if3 .left) _ (c .before .before .before .before .before .before .before .before .before .before .before .before .read .ensures) (c .before .before .before .before .before .before .before .before .before .before .before .if1 .left) (c .before .before .before .before .before .before .before .before .before .before .if2 .left) _ _ (c .before .before .before .new .ensures) (c .before .checked .given .1) (c .before .before .before .before .before .before .before .before .before .before .before .before .before .before .pre))
+    (λ c. laws.header-rest (c .before .before .before .before .before .before .before .before .before .before .before .before .before .before .before .args .t .now) _ _ _ _ (c .before .before .before .before .before .before .before .before .read3 .ensures) (c .before .before .before .before .before .before .before .read4 .ensures) (c .before .before .before .before .before .before .read5 .ensures) (c .before .before .before .before .before .before .before .before .before .before .read2 .ensures) (c .before .before .before .before .before .before .before .before .before .if3 .left) _ (c .before .before .before .before .before .before .before .before .before .before .before .before .before .read .ensures) (c .before .before .before .before .before .before .before .before .before .before .before .before .if1 .left) (c .before .before .before .before .before .before .before .before .before .before .before .if2 .left) _ _ (c .before .before .before .before .new .ensures) (c .before .before .checked .given .1) _ (c .rest-right .ensures)))
