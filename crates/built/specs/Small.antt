@@ -1,0 +1,96 @@
+-- Every number that the built tree holds is below 2^32.
+use mathlib.Core.List.{List, [], _∷_}
+use mathlib.Core.Bool.{Bool, true, false, cond}
+use Prim.Native.Nat.{ℕ, zero, suc, _+_, _*_, _≤_, _<_}
+use native.Mathlib.Omega.{arith}
+use native.Mathlib.Nat.{mul-le-mul}
+use lib.ListN.{length, drop, length-take, length-drop}
+use lib.Dec.{eqb, leb}
+use Rattle.text.specs.Lists.{sumBelow, countBelow}
+use Rattle.text.specs.Text.{stretch, countIn}
+use Rattle.format.specs.Settings.{Settings}
+use Rattle.format.specs.Blocks.{target, recordBytes}
+use Rattle.built.specs.Gather.{sumBelow-bound}
+use Rattle.built.specs.Leftmost.{leftmost-le}
+use Rattle.built.specs.Levels.{count-le}
+use Rattle.built.specs.Sizes.{Taken, bounds}
+use Rattle.built.specs.Structure.{size, count, start, bytesIn, keptAt, level-at}
+use Rattle.built.specs.Targets.{placeOf, targetOf, placeOf-is}
+use Rattle.built.specs.Leaves.{widths-le}
+use Rattle.built.specs.Pairs.{offset}
+use Rattle.built.specs.Records.{kindOf, linkOf, gapOf, beforeOf, insideOf, skipOf}
+
+countIn-le : (c : ℕ) (xs : List ℕ) → countIn c xs ≤ length xs
+unfolding countIn
+countIn-le c [] = omega arith
+countIn-le c (x ∷ xs) = go (eqb c x) (countIn-le c xs)
+  where
+    go : (y : Bool) → countIn c xs ≤ length xs → cond y (countIn c xs + 1) (countIn c xs) ≤ suc (length xs)
+    go true h = omega arith
+    go false h = omega arith
+
+stretch-le : (T : List ℕ) (p len : ℕ) → length (stretch T p len) ≤ length T
+unfolding stretch
+stretch-le T p len = rw (length-take len (drop p T), length-drop p T) (omega arith)
+
+countBelow-le : (N : ℕ) (test : ℕ → Bool) → countBelow N test ≤ N
+unfolding countBelow
+countBelow-le zero test = omega arith
+countBelow-le (suc N) test = go (test N) (countBelow-le N test)
+  where
+    go : (y : Bool) → countBelow N test ≤ N → cond y (countBelow N test + 1) (countBelow N test) ≤ suc N
+    go true h = omega arith
+    go false h = omega arith
+
+cond-le : (y : Bool) (a b n : ℕ) → a ≤ n → b ≤ n → cond y a b ≤ n
+cond-le true a b n p q = p
+cond-le false a b n p q = q
+
+module _ (S : Settings) (T : List ℕ) where
+  counted-le : (c p len : ℕ) → countIn c (stretch T p len) ≤ length T
+  counted-le c p len = omega (arith, countIn-le c (stretch T p len), stretch-le T p len)
+
+  target-le : (l i : ℕ) → targetOf S T l i ≤ count S T l
+  unfolding target
+  target-le l i = omega (arith, countBelow-le (count S T l) (λ j. leb (start S T l j) (placeOf S T l i)))
+
+  pub before-le : (l i c : ℕ) → beforeOf S T l i c ≤ length T
+  unfolding beforeOf
+  before-le l i c = counted-le c _ _
+
+  pub inside-le : (l i c : ℕ) → insideOf S T l i c ≤ length T
+  unfolding insideOf
+  inside-le l i c = counted-le c _ _
+
+  pub skip-le : (l i c : ℕ) → skipOf S T l i c ≤ length T
+  unfolding skipOf
+  skip-le l i c = cond-le (keptAt S T l i) 0 _ (length T) (omega arith) (counted-le c _ _)
+
+  pub kind-le : (l i : ℕ) → kindOf S T l i ≤ 1
+  unfolding kindOf
+  kind-le l i = cond-le (keptAt S T l i) 0 1 1 (omega arith) (omega arith)
+
+  module _ (h : Taken S T) (l : ℕ) (k : l < S .levels) where
+    pub blocks-le : count S T l ≤ length T
+    blocks-le = count-le (length T) (size S T l) (count S T l) (start S T l) (level-at S T h l k)
+
+    pub link-le : (i : ℕ) → i < count S T l → linkOf S T l i ≤ length T
+    unfolding linkOf
+    link-le i il = cond-le (keptAt S T l i) _ (targetOf S T l i) (length T) (widths-le S T h l i k (omega arith)) (omega (arith, target-le l i, blocks-le))
+
+    pub gap-le : (i : ℕ) → i < count S T l → gapOf S T l i ≤ length T
+    unfolding gapOf
+    gap-le i il = cond-le (keptAt S T l i) 0 _ (length T) (omega arith)
+        (omega (arith, placeOf-is S T l i, leftmost-le T (start S T l i) (bytesIn S T l i), level-at S T h l k .within i il))
+
+  record-bytes-le : length (S .counted) ≤ 4 → recordBytes S ≤ 64
+  unfolding recordBytes
+  record-bytes-le e = omega arith
+
+  module _ (h : Taken S T) where
+    pub offset-le : (l : ℕ) → l ≤ S .levels → offset S T l ≤ 536871012
+    unfolding offset
+    offset-le l e =
+        let all : sumBelow l (count S T) ≤ l * 1048576 = sumBelow-bound l 1048576 (count S T) (λ i il. omega (arith, blocks-le h i (omega arith), bounds S T h .text-high)) in
+        let few : sumBelow l (count S T) ≤ 8388608 = omega (arith, bounds S T h .levels-high) in
+        omega (arith, mul-le-mul few (record-bytes-le (bounds S T h .counted-high)))
