@@ -5,5 +5,7 @@ pub mod Layout
 pub mod Path
 pub mod Fits
 pub mod Verdict
+pub mod PieceLaws
+pub mod HeaderLaws
 pub mod Answers
 pub mod Worked

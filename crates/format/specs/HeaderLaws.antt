@@ -1,0 +1,217 @@
+-- What questions 5 to 7 give of a tree's header, as plain facts over the accessors of `Layout`, and what follows from them.
+use mathlib.Core.List.{List, [], _∷_}
+use mathlib.Core.Bool.{Bool, true, false, _&&_}
+use mathlib.Core.Path.{_≡_, refl}
+use Prim.Native.Nat.{ℕ, suc, _+_, _-_, _*_, _/_, _^_, _≤_, _<_}
+use native.Mathlib.Omega.{arith}
+use native.Mathlib.Nat.{pow-suc, pow-zero, mul-one, mul-assoc, mul-le-mul, mul-le-mul-left, mul-le-mul-right, pow-le-pow-right, one-le-pow, le-trans, add-mul}
+use borrow.Author.Tests.{eqb-true, leb-true}
+use lib.ListN.{length, getD, length-take, length-drop}
+use lib.Dec.{eqb, leb}
+use Rattle.text.specs.Lists.{allBelow, sumBelow}
+use Rattle.text.specs.ListLaws.{and-left, and-right, allBelow-at, sumBelow-part}
+use Rattle.text.specs.Conjunctions.{parts}
+use Rattle.format.specs.Words.{wordAt}
+use Rattle.format.specs.Settings.{Settings, blockLength, pieces, lengthOk, sizesOk, countedOk, rising}
+use Rattle.format.specs.PieceLaws.{pieces-hold}
+use Rattle.format.specs.Layout.{textLength, countedCount, settings, levelCount, levelOffset, leafOffset, leafCount, recordSize, fullLength, longEnough, layoutOk, headerOk}
+use Rattle.format.specs.Verdict.{ask, readable}
+
+-- Questions 5 to 7, one fact each.
+pub record Readable (t : List ℕ) : Type 0 where
+  pub long : 100 ≤ length t
+  pub layout : wordAt t 0 ≡ 1
+  pub text-low : 1 ≤ textLength t
+  pub text-high : textLength t ≤ 1048576
+  pub leaf-low : 1 ≤ settings t .leaf
+  pub leaf-high : settings t .leaf ≤ 256
+  pub arity-low : 2 ≤ settings t .arity
+  pub arity-high : settings t .arity ≤ 16
+  pub levels-low : 1 ≤ settings t .levels
+  pub levels-high : settings t .levels ≤ 8
+  pub top-high : settings t .leaf * settings t .arity ^ (settings t .levels - 1) ≤ 1048576
+  pub full-high : fullLength t 0 ≤ 1048576
+  pub counted-high : countedCount t ≤ 4
+  pub counted-rising : rising (settings t .counted) ≡ true
+  pub counted-size : length (settings t .counted) ≡ countedCount t
+  pub counted-unused : (x : ℕ) → countedCount t ≤ x → x < 4 → getD t (24 + x) 0 ≡ 0
+  pub count-unused : (l : ℕ) → settings t .levels ≤ l → l < 8 → levelCount t l ≡ 0
+  pub offset-unused : (l : ℕ) → settings t .levels ≤ l → l < 8 → levelOffset t l ≡ 0
+  pub level0 : levelCount t 0 ≡ pieces (textLength t) (fullLength t 0)
+  pub level-at : (l : ℕ) → l < settings t .levels → levelOffset t l ≡ 100 + sumBelow l (levelCount t) * recordSize t
+  pub leaf-at : leafOffset t ≡ 100 + sumBelow (settings t .levels) (levelCount t) * recordSize t
+  pub size : length t ≡ leafOffset t + leafCount t
+
+-- a number that is asked first passes only if its test holds
+pub ask-test : (q : ℕ) (b : Bool) (rest : ℕ) → ask (suc q) b rest ≡ 0 → b ≡ true
+ask-test q true rest h = refl
+ask-test q false rest h = absurd (let z : ⊥ = omega arith in z)
+
+pub ask-rest : (q : ℕ) (b : Bool) (rest : ℕ) → ask (suc q) b rest ≡ 0 → rest ≡ 0
+ask-rest q true rest h = h
+ask-rest q false rest h = absurd (let z : ⊥ = omega arith in z)
+
+-- the sizes' bounds, of question 2
+record Sizes (S : Settings) : Type 0 where
+  leaf-low : 1 ≤ S .leaf
+  leaf-high : S .leaf ≤ 256
+  arity-low : 2 ≤ S .arity
+  arity-high : S .arity ≤ 16
+  levels-low : 1 ≤ S .levels
+  levels-high : S .levels ≤ 8
+  top-high : S .leaf * S .arity ^ (S .levels - 1) ≤ 1048576
+
+sizes : (S : Settings) → sizesOk S ≡ true → Sizes S
+unfolding sizesOk
+sizes S h =
+    let top = leb (S .leaf * S .arity ^ (S .levels - 1)) 1048576 in
+    let a = parts (leb 1 (S .leaf)) (leb (S .leaf) 256 ∷ (leb 2 (S .arity) && leb (S .arity) 16) ∷ (leb 1 (S .levels) && leb (S .levels) 8 && top) ∷ []) h in
+    let c = parts (leb 1 (S .levels)) (leb (S .levels) 8 ∷ top ∷ []) (a .1 .1 .1 .0) in record {
+      leaf-low = leb-true _ _ (a .0);
+      leaf-high = leb-true _ _ (a .1 .0);
+      arity-low = leb-true _ _ (and-left _ (leb (S .arity) 16) (a .1 .1 .0));
+      arity-high = leb-true _ _ (and-right (leb 2 (S .arity)) _ (a .1 .1 .0));
+      levels-low = leb-true _ _ (c .0);
+      levels-high = leb-true _ _ (c .1 .0);
+      top-high = leb-true _ _ (c .1 .1 .0);
+    }
+
+-- the tests of question 7, in order
+record Header (t : List ℕ) : Type 0 where
+  text : lengthOk (textLength t) ≡ true
+  sizes : sizesOk (settings t) ≡ true
+  counted : (leb (countedCount t) 4 && countedOk (settings t .counted)) ≡ true
+  zero-bytes : (x : ℕ) → x < 4 - countedCount t → eqb (getD t (24 + countedCount t + x) 0) 0 ≡ true
+  zero-levels : (x : ℕ) → x < 8 - settings t .levels → (eqb (levelCount t (settings t .levels + x)) 0 && eqb (levelOffset t (settings t .levels + x)) 0) ≡ true
+  level0 : eqb (levelCount t 0) (pieces (textLength t) (fullLength t 0)) ≡ true
+  level-at : (l : ℕ) → l < settings t .levels → eqb (levelOffset t l) (100 + sumBelow l (levelCount t) * recordSize t) ≡ true
+  leaf-at : eqb (leafOffset t) (100 + sumBelow (settings t .levels) (levelCount t) * recordSize t) ≡ true
+  size : eqb (length t) (leafOffset t + leafCount t) ≡ true
+
+header : (t : List ℕ) → headerOk t ≡ true → Header t
+unfolding headerOk
+header t h =
+    let k = countedCount t in
+    let H = settings t .levels in
+    let bytes : ℕ → Bool = λ x. eqb (getD t (24 + k + x) 0) 0 in
+    let levels : ℕ → Bool = λ x. eqb (levelCount t (H + x)) 0 && eqb (levelOffset t (H + x)) 0 in
+    let offsets : ℕ → Bool = λ l. eqb (levelOffset t l) (100 + sumBelow l (levelCount t) * recordSize t) in
+    let a =
+    parts (lengthOk (textLength t))
+    (sizesOk (settings t) ∷ (leb k 4 && countedOk (settings t .counted)) ∷ allBelow (4 - k) bytes ∷ allBelow (8 - H) levels
+    ∷ eqb (levelCount t 0) (pieces (textLength t) (fullLength t 0)) ∷ allBelow H offsets
+    ∷ eqb (leafOffset t) (100 + sumBelow H (levelCount t) * recordSize t) ∷ eqb (length t) (leafOffset t + leafCount t) ∷ []) h in
+    let b = a .1 .1 .1 in
+    let c = b .1 .1 .1 in record {
+      text = a .0;
+      sizes = a .1 .0;
+      counted = a .1 .1 .0;
+      zero-bytes = allBelow-at (4 - k) bytes (b .0);
+      zero-levels = allBelow-at (8 - H) levels (b .1 .0);
+      level0 = b .1 .1 .0;
+      level-at = allBelow-at H offsets (c .0);
+      leaf-at = c .1 .0;
+      size = c .1 .1 .0;
+    }
+
+counted-length : (t : List ℕ) → 100 ≤ length t → countedCount t ≤ 4 → length (settings t .counted) ≡ countedCount t
+unfolding settings
+counted-length t long few = simp (length-take, length-drop) (omega arith)
+
+full-length-top : (t : List ℕ) → fullLength t 0 ≡ settings t .leaf * settings t .arity ^ (settings t .levels - 1)
+unfolding fullLength blockLength
+full-length-top t = let e : settings t .levels - 1 - 0 ≡ settings t .levels - 1 = omega arith in rw e
+
+pub readable-facts : (t : List ℕ) → readable t ≡ 0 → Readable t
+unfolding readable longEnough layoutOk lengthOk countedOk
+readable-facts t h =
+    let five = ask-test 4 (longEnough t) (ask 6 (layoutOk t) (ask 7 (headerOk t) 0)) h in
+    let after5 = ask-rest 4 (longEnough t) (ask 6 (layoutOk t) (ask 7 (headerOk t) 0)) h in
+    let six = ask-test 5 (layoutOk t) (ask 7 (headerOk t) 0) after5 in
+    let d = header t (ask-test 6 (headerOk t) 0 (ask-rest 5 (layoutOk t) (ask 7 (headerOk t) 0) after5)) in
+    let z = sizes (settings t) (d .sizes) in
+    let long : 100 ≤ length t = leb-true 100 (length t) five in
+    let k = countedCount t in
+    let few : k ≤ 4 = leb-true k 4 (and-left (leb k 4) (countedOk (settings t .counted)) (d .counted)) in
+    let H = settings t .levels in
+    let counted = and-right (leb k 4) (countedOk (settings t .counted)) (d .counted) in
+    let unused : (l : ℕ) → H ≤ l → l < 8 → (eqb (levelCount t l) 0 && eqb (levelOffset t l) 0) ≡ true =
+    λ l lo hi. (let e : H + (l - H) ≡ l = omega arith in rw e at (d .zero-levels (l - H) (omega arith))) in record {
+      long = long;
+      layout = eqb-true (wordAt t 0) 1 six;
+      text-low = leb-true 1 (textLength t) (and-left (leb 1 (textLength t)) (leb (textLength t) 1048576) (d .text));
+      text-high = leb-true (textLength t) 1048576 (and-right (leb 1 (textLength t)) (leb (textLength t) 1048576) (d .text));
+      leaf-low = z .leaf-low;
+      leaf-high = z .leaf-high;
+      arity-low = z .arity-low;
+      arity-high = z .arity-high;
+      levels-low = z .levels-low;
+      levels-high = z .levels-high;
+      top-high = z .top-high;
+      full-high = rw (full-length-top t) (z .top-high);
+      counted-high = few;
+      counted-rising = and-right (leb (length (settings t .counted)) 4) (rising (settings t .counted)) counted;
+      counted-size = counted-length t long few;
+      counted-unused = λ x lo hi. (let e : 24 + k + (x - k) ≡ 24 + x = omega arith in rw e at (eqb-true (getD t (24 + k + (x - k)) 0) 0 (d .zero-bytes (x - k) (omega arith))));
+      count-unused = λ l lo hi. eqb-true _ _ (and-left (eqb (levelCount t l) 0) (eqb (levelOffset t l) 0) (unused l lo hi));
+      offset-unused = λ l lo hi. eqb-true _ _ (and-right (eqb (levelCount t l) 0) (eqb (levelOffset t l) 0) (unused l lo hi));
+      level0 = eqb-true _ _ (d .level0);
+      level-at = λ l hl. eqb-true _ _ (d .level-at l hl);
+      leaf-at = eqb-true _ _ (d .leaf-at);
+      size = eqb-true (length t) (leafOffset t + leafCount t) (d .size);
+    }
+
+module _ (t : List ℕ) (k : Readable t) where
+  -- Block lengths.
+
+  -- a full block is as long as r full blocks of the next level
+  pub full-step : (l : ℕ) → l + 1 < settings t .levels → fullLength t l ≡ fullLength t (l + 1) * settings t .arity
+  unfolding fullLength blockLength
+  full-step l h =
+      let e : settings t .levels - 1 - l ≡ suc (settings t .levels - 1 - (l + 1)) = omega arith in
+      rw (e, pow-suc, mul-assoc)
+
+  pub full-pos : (l : ℕ) → 0 < fullLength t l
+  unfolding fullLength blockLength
+  full-pos l = mul-le-mul {n₁ = 1} {m₁ = 1} (k .leaf-low) (one-le-pow (settings t .levels - 1 - l) (settings t .arity) (omega (arith, k .arity-low)))
+
+  pub full-last : fullLength t (settings t .levels - 1) ≡ settings t .leaf
+  unfolding fullLength blockLength
+  full-last =
+      let e : settings t .levels - 1 - (settings t .levels - 1) ≡ 0 = omega arith in
+      rw (e, pow-zero, mul-one)
+
+  -- no block is longer than one of a level above
+  pub full-falls : (l j : ℕ) → l ≤ j → fullLength t j ≤ fullLength t l
+  unfolding fullLength blockLength
+  full-falls l j h = mul-le-mul-left (settings t .leaf) (pow-le-pow-right (omega (arith, k .arity-low)) (omega arith))
+
+  pub full-small : (l : ℕ) → fullLength t l ≤ 1048576
+  full-small l = le-trans (full-falls 0 l (omega arith)) (k .full-high)
+
+  -- Where things stand in the tree's bytes.
+
+  -- each word of each record lies before the leaf bytes
+  pub record-inside : (l i f : ℕ) → l < settings t .levels → i < levelCount t l → f < 4 + 3 * countedCount t
+      → levelOffset t l + i * recordSize t + 4 * f + 4 ≤ leafOffset t
+  unfolding recordSize
+  record-inside l i f hl hi hf =
+      let R = 16 + 12 * countedCount t in
+      let S = sumBelow l (levelCount t) in
+      let part = sumBelow-part (settings t .levels) (levelCount t) l hl in
+      let whole : (S + (i + 1)) * R ≤ sumBelow (settings t .levels) (levelCount t) * R = mul-le-mul-right R (omega (arith, part)) in
+      omega (arith, k .level-at l hl, k .leaf-at, add-mul S (i + 1) R, add-mul i 1 R)
+
+  pub leaf-start-inside : leafOffset t ≤ length t
+  leaf-start-inside = omega (arith, k .size)
+
+  pub word-inside : (l i f : ℕ) → l < settings t .levels → i < levelCount t l → f < 4 + 3 * countedCount t
+      → levelOffset t l + i * recordSize t + 4 * f + 4 ≤ length t
+  word-inside l i f hl hi hf = le-trans (record-inside l i f hl hi hf) leaf-start-inside
+
+  pub leaf-inside : (x : ℕ) → x < leafCount t → leafOffset t + x < length t
+  leaf-inside x h = omega (arith, k .size)
+
+  -- the block of level 0 that holds a place of the text is in the table
+  pub level0-holds : (p : ℕ) → p < textLength t → p / fullLength t 0 < levelCount t 0
+  level0-holds p h = rw (k .level0) (pieces-hold (textLength t) (fullLength t 0) p (full-pos 0) h)
