@@ -1,2 +1,4 @@
 pub mod Links
 pub mod Starts
+pub mod Landing
+pub mod Walk
