@@ -2,3 +2,4 @@ pub mod Links
 pub mod Starts
 pub mod Landing
 pub mod Walk
+pub mod Reach
