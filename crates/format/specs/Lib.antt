@@ -1,4 +1,6 @@
+-- The block tree of document 01: its definitions, in the order in which they build on each other, and their laws.
 pub mod Words
+pub mod WordLaws
 pub mod Settings
 pub mod Blocks
 pub mod Layout
@@ -7,5 +9,9 @@ pub mod Fits
 pub mod Verdict
 pub mod PieceLaws
 pub mod HeaderLaws
-pub mod Answers
+pub mod Said
+pub mod Building
+pub mod Reading
+pub mod Counting
+pub mod Finding
 pub mod Worked

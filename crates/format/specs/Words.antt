@@ -1,7 +1,7 @@
 -- A word is four bytes, lowest first.
 use mathlib.Core.List.{List, [], _∷_, map}
 use Prim.Native.Nat.{ℕ, _+_, _*_, _/_, _%_}
-use lib.ListN.{getD}
+use lib.ListN.{getD, set}
 use Rattle.text.specs.Lists.{concat}
 
 -- the word whose lowest byte stands at i
@@ -13,3 +13,8 @@ wordBytes w = w % 256 ∷ w / 256 % 256 ∷ w / 65536 % 256 ∷ w / 16777216 % 2
 
 unfoldable pub wordsBytes : List ℕ → List ℕ
 wordsBytes ws = concat (map wordBytes ws)
+
+-- t with the word w written at i
+unfoldable pub setWord : List ℕ → ℕ → ℕ → List ℕ
+setWord t i w =
+    set (set (set (set t i (w % 256)) (i + 1) (w / 256 % 256)) (i + 2) (w / 65536 % 256)) (i + 3) (w / 16777216 % 256)

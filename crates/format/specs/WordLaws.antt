@@ -1,0 +1,83 @@
+-- What is written as a word is read back, and nothing else changes.
+use mathlib.Core.List.{List, [], _∷_, _++_}
+use mathlib.Core.Path.{_≡_, refl, sym, ap, _∙_}
+use mathlib.Core.Logic.{_≢_}
+use Prim.Native.Nat.{ℕ, suc, _+_, _*_, _/_, _%_, _≤_, _<_}
+use native.Mathlib.Omega.{arith}
+use native.Mathlib.Numerals.{add-one, add-two, add-three, add-four}
+use native.Mathlib.Nat.{div-add-mod, div-div-eq-div-mul, mod-eq-of-lt}
+use lib.ListN.{length, getD, set, take, drop, length-set}
+use lib.Seq.{getD-set-same, getD-set-other, lt-length-set, sets-eq, getD-drop}
+use Rattle.format.specs.Words.{wordAt, wordBytes, setWord}
+
+-- a number below 2^32 is the sum of its four digits to base 256
+pub digits : (w : ℕ) → w < 4294967296 → w % 256 + 256 * (w / 256 % 256) + 65536 * (w / 65536 % 256) + 16777216 * (w / 16777216 % 256) ≡ w
+digits w small =
+    let top : w / 16777216 < 256 = omega arith in
+    omega (
+      arith,
+      div-add-mod w 256,
+      rw (div-div-eq-div-mul w 256 256) at (div-add-mod (w / 256) 256),
+      rw (div-div-eq-div-mul w 65536 256) at (div-add-mod (w / 65536) 256),
+      mod-eq-of-lt top,
+    )
+
+-- a word's own bytes, with anything after them, read as that word
+pub wordAt-wordBytes : (w : ℕ) (rest : List ℕ) → w < 4294967296 → wordAt (wordBytes w ++ rest) 0 ≡ w
+unfolding wordAt wordBytes
+wordAt-wordBytes w rest small = digits w small
+
+-- a word read from a part is the word at the part's place
+pub wordAt-drop : (t : List ℕ) (n i : ℕ) → wordAt (drop n t) i ≡ wordAt t (n + i)
+unfolding wordAt
+wordAt-drop t n i =
+    rw (getD-drop n t i 0, getD-drop n t (i + 1) 0, getD-drop n t (i + 2) 0, getD-drop n t (i + 3) 0, place 1, place 2, place 3)
+  where
+    place : (k : ℕ) → n + (i + k) ≡ n + i + k
+    place k = omega arith
+
+-- four bytes make a word below 2^32
+pub wordAt-lt : (t : List ℕ) (i : ℕ) → ((k : ℕ) → getD t k 0 < 256) → wordAt t i < 4294967296
+unfolding wordAt
+wordAt-lt t i byte = omega (arith, byte i, byte (i + 1), byte (i + 2), byte (i + 3))
+
+pub length-setWord : (t : List ℕ) (i w : ℕ) → length (setWord t i w) ≡ length t
+unfolding setWord
+length-setWord t i w = simp length-set
+
+pub wordAt-same : (t : List ℕ) (i w : ℕ) → i + 4 ≤ length t → w < 4294967296 → wordAt (setWord t i w) i ≡ w
+unfolding wordAt setWord
+wordAt-same t i w fits small =
+    let f0 : i < length t = omega arith in
+    let f1 : i + 1 < length t = omega arith in
+    let f2 : i + 2 < length t = omega arith in
+    let f3 : i + 3 < length t = omega arith in
+    let n01 : i ≢ i + 1 = λ e. omega arith in
+    let n02 : i ≢ i + 2 = λ e. omega arith in
+    let n03 : i ≢ i + 3 = λ e. omega arith in
+    let n12 : i + 1 ≢ i + 2 = λ e. omega arith in
+    let n13 : i + 1 ≢ i + 3 = λ e. omega arith in
+    let n23 : i + 2 ≢ i + 3 = λ e. omega arith in
+    simp (getD-set-other, getD-set-same, lt-length-set) (digits w small)
+
+pub getD-setWord-other : (t : List ℕ) (i w k : ℕ) → (i ≤ k → k < i + 4 → ⊥) → getD (setWord t i w) k 0 ≡ getD t k 0
+unfolding setWord
+getD-setWord-other t i w k out =
+    let n0 : k ≢ i = λ e. out (omega arith) (omega arith) in
+    let n1 : k ≢ i + 1 = λ e. out (omega arith) (omega arith) in
+    let n2 : k ≢ i + 2 = λ e. out (omega arith) (omega arith) in
+    let n3 : k ≢ i + 3 = λ e. out (omega arith) (omega arith) in
+    simp getD-set-other
+
+pub wordAt-other : (t : List ℕ) (i w k : ℕ) → (i < k + 4 → k < i + 4 → ⊥) → wordAt (setWord t i w) k ≡ wordAt t k
+unfolding wordAt
+wordAt-other t i w k out =
+    rw (other k (omega arith) (omega arith), other (k + 1) (omega arith) (omega arith), other (k + 2) (omega arith) (omega arith), other (k + 3) (omega arith) (omega arith))
+  where
+    other : (j : ℕ) → k ≤ j → j < k + 4 → getD (setWord t i w) j 0 ≡ getD t j 0
+    other j from to = getD-setWord-other t i w j (λ a b. out (omega arith) (omega arith))
+
+-- written in place, a word's bytes stand between what stood before and after them
+pub setWord-eq : (t : List ℕ) (i w : ℕ) → i + 4 ≤ length t → setWord t i w ≡ take i t ++ wordBytes w ++ drop (i + 4) t
+unfolding setWord wordBytes
+setWord-eq t i w fits = rw (add-one i, add-two i, add-three i) (sets-eq (w % 256 ∷ w / 256 % 256 ∷ w / 65536 % 256 ∷ w / 16777216 % 256 ∷ []) t i fits)
