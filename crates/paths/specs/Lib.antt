@@ -3,3 +3,5 @@ pub mod Starts
 pub mod Landing
 pub mod Walk
 pub mod Reach
+pub mod Fitting
+pub mod OneText

@@ -67,6 +67,10 @@ module _ (t : List ℕ) where
     pub ends : s l (at.link t l i) + at.gap t l i + len l i ≤ s l i
     pub next : b l < at.gap t l i + len l i → Follows l (at.link t l i)
 
+  pub pointing-not-kept : (l i : ℕ) → Pointing l i → at.isKept t l i ≡ false
+  unfolding at.isKept
+  pointing-not-kept l i p = rw (p .kind-is)
+
   pub record Linked : Type 0 where
     pub start0 : (i : ℕ) → i < N 0 → s 0 i ≡ i * b 0
     pub next-count : (l : ℕ) → l + 1 < H → sumBelow (N l) (widthAt t l) ≡ N (l + 1)

@@ -30,6 +30,10 @@ module _ (t : List ℕ) where
   unfolding at.blockLengthAt
   len-reach l i o h k = omega arith
 
+  pub len-end : (l i : ℕ) → s t l i ≤ at.textLength t → s t l i + len t l i ≤ at.textLength t
+  unfolding at.blockLengthAt
+  len-end l i h = omega arith
+
   -- block a of level l is kept, and block i of the next level is its child number j
   pub record Parent (l i a j : ℕ) : Type 0 where
     pub below : a < N t l

@@ -1,4 +1,5 @@
 pub mod Lists
 pub mod ListLaws
 pub mod Text
+pub mod TextLaws
 pub mod Conjunctions

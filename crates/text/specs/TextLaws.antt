@@ -1,0 +1,141 @@
+-- Laws of the definitions of `Text`: stretches, and leftmost occurrences.
+use mathlib.Core.List.{List, _++_}
+use mathlib.Core.Bool.{Bool, true, false, cond}
+use mathlib.Core.Path.{_≡_, refl, sym, ap, _∙_}
+use mathlib.Core.Logic.{_⊎_, inl, inr}
+use Prim.Native.Nat.{ℕ, zero, suc, _+_, _≤_, _<_}
+use native.Mathlib.Omega.{arith}
+use native.Mathlib.Nat.{add-assoc}
+use lib.ListN.{length, take, drop, getD, length-drop}
+use lib.Seq.{getD-take, getD-drop, ext-getD, length-take-le, take-add, drop-drop}
+use Rattle.text.specs.Lists.{sameList}
+use Rattle.text.specs.ListLaws.{bool-clash, lt-or-ge, sameList-true, eq-sameList}
+use Rattle.text.specs.Text.{stretch, firstFrom, leftmost}
+
+-- Stretches.
+
+pub length-stretch : (T : List ℕ) (p len : ℕ) → p + len ≤ length T → length (stretch T p len) ≡ len
+unfolding stretch
+length-stretch T p len h = length-take-le len (drop p T) (simp length-drop (omega arith))
+
+pub getD-stretch : (T : List ℕ) (p len i : ℕ) → i < len → getD (stretch T p len) i 0 ≡ getD T (p + i) 0
+unfolding stretch
+getD-stretch T p len i h = getD-take len (drop p T) i 0 h ∙ getD-drop p T i 0
+
+-- two stretches are equal exactly where their bytes are
+pub stretch-ext :
+    (T U : List ℕ) (p q len : ℕ) → p + len ≤ length T → q + len ≤ length U
+    → ((i : ℕ) → i < len → getD T (p + i) 0 ≡ getD U (q + i) 0) → stretch T p len ≡ stretch U q len
+stretch-ext T U p q len h k same =
+    ext-getD
+    0 (stretch T p len) (stretch U q len) (length-stretch T p len h ∙ sym (length-stretch U q len k))
+    (λ i l.
+    let m : i < len = rw (length-stretch T p len h) at l in
+    getD-stretch T p len i m ∙ same i m ∙ sym (getD-stretch U q len i m))
+
+pub stretch-at :
+    (T U : List ℕ) (p q len : ℕ) → stretch T p len ≡ stretch U q len → (i : ℕ) → i < len → getD T (p + i) 0 ≡ getD U (q + i) 0
+stretch-at T U p q len e i l =
+    sym (getD-stretch T p len i l) ∙ ap (λ (s : List ℕ). getD s i 0) e ∙ getD-stretch U q len i l
+
+-- a part of equal stretches
+pub stretch-part :
+    (T U : List ℕ) (p q len o k : ℕ) → p + len ≤ length T → q + len ≤ length U → o + k ≤ len → stretch T p len ≡ stretch U q len
+    → stretch T (p + o) k ≡ stretch U (q + o) k
+stretch-part T U p q len o k h j within e =
+    stretch-ext
+    T U (p + o) (q + o) k (omega arith) (omega arith)
+    (λ i l. rw (add-assoc p o i, add-assoc q o i) (stretch-at T U p q len e (o + i) (omega arith)))
+
+-- a stretch in two parts
+pub stretch-add : (T : List ℕ) (p a b : ℕ) → stretch T p (a + b) ≡ stretch T p a ++ stretch T (p + a) b
+unfolding stretch
+stretch-add T p a b = take-add a b (drop p T) ∙ ap (λ (s : List ℕ). take a (drop p T) ++ take b s) (drop-drop a p T)
+
+-- Leftmost occurrences.
+
+-- r is the first of the places p, p + 1, .., p + more at which f holds, p + more counting as one
+record First (f : ℕ → Bool) (more p r : ℕ) : Type 0 where
+  low : p ≤ r
+  high : r ≤ p + more
+  holds : r < p + more → f r ≡ true
+  before : (k : ℕ) → p ≤ k → k < r → f k ≡ false
+
+first-step :
+    (f : ℕ → Bool) (more p r : ℕ) (t : Bool) → f p ≡ t → First f more (p + 1) r → First f (suc more) p (cond t p r)
+first-step f more p r true e h =
+    record { low = omega arith; high = omega arith; holds = λ _. e; before = λ k a b. absurd (let z : ⊥ = omega arith in z) }
+first-step f more p r false e h =
+    record {
+      low = omega (arith, h .low);
+      high = omega (arith, h .high);
+      holds = λ l. h .holds (omega arith);
+      before = λ k a b. go k b (lt-or-ge p k) a;
+    }
+  where
+    go : (k : ℕ) → k < r → (p < k) ⊎ (k ≤ p) → p ≤ k → f k ≡ false
+    go k b (inl l) a = h .before k (omega arith) b
+    go k b (inr g) a =
+        let s : k ≡ p = omega arith in
+        ap f s ∙ e
+
+first-from : (T : List ℕ) (s len more p : ℕ) → First (λ q. sameList (stretch T q len) (stretch T s len)) more p (firstFrom T s len more p)
+unfolding firstFrom
+first-from T s len zero p =
+    record {
+      low = omega arith;
+      high = omega arith;
+      holds = λ l. absurd (let z : ⊥ = omega arith in z);
+      before = λ k a b. absurd (let z : ⊥ = omega arith in z);
+    }
+first-from T s len (suc more) p =
+    first-step
+    (λ q. sameList (stretch T q len) (stretch T s len)) more p (firstFrom T s len more (p + 1))
+    (sameList (stretch T p len) (stretch T s len)) refl (first-from T s len more (p + 1))
+
+module _ (T : List ℕ) (s len : ℕ) where
+  is-first : First (λ q. sameList (stretch T q len) (stretch T s len)) s 0 (leftmost T s len)
+  unfolding leftmost
+  is-first = first-from T s len s 0
+
+  -- the leftmost occurrence is the place or an earlier one
+  pub leftmost-le : leftmost T s len ≤ s
+  leftmost-le = omega (arith, is-first .high)
+
+  -- the same bytes stand there
+  pub leftmost-same : stretch T (leftmost T s len) len ≡ stretch T s len
+  leftmost-same = go (lt-or-ge (leftmost T s len) s)
+    where
+      go : (leftmost T s len < s) ⊎ (s ≤ leftmost T s len) → stretch T (leftmost T s len) len ≡ stretch T s len
+      go (inl l) = sameList-true _ _ (is-first .holds (omega arith))
+      go (inr g) =
+          let e : leftmost T s len ≡ s = omega (arith, leftmost-le) in
+          ap (λ (q : ℕ). stretch T q len) e
+
+  -- and at no earlier place
+  pub leftmost-least : (q : ℕ) → q < leftmost T s len → stretch T q len ≡ stretch T s len → ⊥
+  leftmost-least q l e = bool-clash _ (eq-sameList _ _ e) (is-first .before q (omega arith) l)
+
+  -- a place with the same bytes is at the leftmost one or after it
+  pub leftmost-first : (q : ℕ) → stretch T q len ≡ stretch T s len → leftmost T s len ≤ q
+  leftmost-first q e = go (lt-or-ge q (leftmost T s len))
+    where
+      go : (q < leftmost T s len) ⊎ (leftmost T s len ≤ q) → leftmost T s len ≤ q
+      go (inl l) = absurd (leftmost-least q l e)
+      go (inr g) = g
+
+  -- a place with the same bytes, and none before it with them, is the leftmost one
+  pub leftmost-unique :
+      (r : ℕ) → stretch T r len ≡ stretch T s len → ((q : ℕ) → q < r → stretch T q len ≡ stretch T s len → ⊥) → leftmost T s len ≡ r
+  leftmost-unique r e least = go (lt-or-ge (leftmost T s len) r)
+    where
+      go : (leftmost T s len < r) ⊎ (r ≤ leftmost T s len) → leftmost T s len ≡ r
+      go (inl l) = absurd (least (leftmost T s len) l leftmost-same)
+      go (inr g) = omega (arith, leftmost-first r e)
+
+-- equal stretches have one leftmost occurrence
+pub leftmost-equal : (T : List ℕ) (s q len : ℕ) → stretch T q len ≡ stretch T s len → leftmost T q len ≡ leftmost T s len
+leftmost-equal T s q len e =
+    leftmost-unique
+    T q len (leftmost T s len) (leftmost-same T s len ∙ sym e)
+    (λ k l f. leftmost-least T s len k l (f ∙ e))
