@@ -2,7 +2,7 @@
 use mathlib.Core.List.{List, [], _∷_, _++_, append-assoc}
 use mathlib.Core.Option.{Option, none, some}
 use mathlib.Core.Bool.{true, false}
-use mathlib.Core.Path.{_≡_, refl, sym, ap}
+use mathlib.Core.Path.{_≡_, refl, sym, ap, _∙_}
 use mathlib.Core.Logic.{_⊎_, inl, inr}
 use Prim.Native.Nat.{ℕ, suc, _+_, _-_, _/_, _%_, _≤_, _<_}
 use native.Mathlib.Omega.{arith}
@@ -42,21 +42,33 @@ module _ (t : List ℕ) where
   unfolding pointingBlock at.isPointing
   pointing-block l i h p = rw (lt-ltb _ _ h, eq-eqb _ 1 (p .kind-is), lt-ltb _ _ (p .gap-small))
 
+  -- on the last level a kept block's path ends at a leaf byte
+  pub from-last : (l i o : ℕ) → keptBlock t l i ≡ true → at.link t l i + o < at.leafCount t
+      → pathFrom t 0 l i o ≡ some (record { visits = visit l i o ∷ []; leaf = at.link t l i + o })
+  unfolding pathFrom
+  from-last l i o kept h = rw (kept, lt-ltb _ _ h)
+
   -- a kept block's path goes on with a child
   pub from-kept : (below l i o : ℕ) → keptBlock t l i ≡ true
       → pathFrom t (suc below) l i o ≡ entered (visit l i o ∷ []) (pathFrom t below (l + 1) (at.link t l i + o / b t (l + 1)) (o % b t (l + 1)))
   unfolding pathFrom lands landBlock landPlace landVisits
   from-kept below l i o kept = rw kept
 
-  -- a pointing block's path goes on as that of its target, with one visit more
+  -- a pointing block's path with a child of its target, and so as that of the target, with one visit more
+  pub from-points : (below l i o : ℕ) → keptBlock t l i ≡ false → pointingBlock t l i ≡ true → keptBlock t l (targetBlock t l i o) ≡ true
+      → pathFrom t (suc below) l i o ≡ entered (visit l i o ∷ visit l (targetBlock t l i o) (targetPlace t l i o) ∷ [])
+      (pathFrom t below (l + 1) (at.link t l (targetBlock t l i o) + targetPlace t l i o / b t (l + 1)) (targetPlace t l i o % b t (l + 1)))
+  unfolding pathFrom lands landBlock landPlace landVisits
+  from-points below l i o un pt kept = rw (un, pt, kept)
+
   pub from-pointing : (below l i o : ℕ) → keptBlock t l i ≡ false → pointingBlock t l i ≡ true → keptBlock t l (targetBlock t l i o) ≡ true
       → pathFrom t (suc below) l i o ≡ entered (visit l i o ∷ []) (pathFrom t (suc below) l (targetBlock t l i o) (targetPlace t l i o))
-  unfolding pathFrom lands landBlock landPlace landVisits
   from-pointing below l i o un pt kept =
       let j = targetBlock t l i o in
       let p = targetPlace t l i o in
       let rest = pathFrom t below (l + 1) (at.link t l j + p / b t (l + 1)) (p % b t (l + 1)) in
-      rw (un, pt, kept) (sym (entered-twice (visit l i o ∷ []) (visit l j p ∷ []) rest))
+      from-points below l i o un pt kept ∙ sym (entered-twice (visit l i o ∷ []) (visit l j p ∷ []) rest)
+      ∙ ap (entered (visit l i o ∷ [])) (sym (from-kept below l j p kept))
 
   -- which of the two blocks, and where in it
   pub target-first : (l i o : ℕ) → at.gap t l i + o < b t l → (targetBlock t l i o ≡ at.link t l i) × (targetPlace t l i o ≡ at.gap t l i + o)

@@ -13,8 +13,8 @@ use Rattle.format.specs.Path.{visit, targetBlock, targetPlace, pathFrom, pathOf
 use Rattle.format.specs.Fits.{leafOf, textOf, fits}
 use Rattle.paths.specs.Links.{H, N, s, len, pointing-not-kept, Linked}
 use Rattle.paths.specs.Starts.{len-inside, last-kept, leaf-below}
-use Rattle.paths.specs.Landing.{leaf-entered, kept-block, kept-not, pointing-block, from-pointing, target}
-use Rattle.paths.specs.Walk.{from-last, Carries, walk-text}
+use Rattle.paths.specs.Landing.{leaf-entered, from-last, kept-block, kept-not, pointing-block, from-pointing, target}
+use Rattle.paths.specs.Walk.{Carries, walk-text}
 use Rattle.paths.specs.Reach.{reach-leaf}
 use Rattle.paths.specs.Fitting.{fits-facts, fits-make}
 

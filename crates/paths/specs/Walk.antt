@@ -7,20 +7,13 @@ use mathlib.Core.Logic.{_⊎_, inl, inr}
 use Prim.Native.Nat.{ℕ, zero, suc, _+_, _-_, _/_, _%_, _<_}
 use native.Mathlib.Omega.{arith}
 use native.Mathlib.Nat.{div-add-mod', mod-lt}
-use borrow.Author.Tests.{lt-ltb}
 use Rattle.text.specs.ListLaws.{bool-cases}
 use Rattle.format.specs.HeaderLaws.{Readable, full-pos, level0-holds}
 use Rattle.format.specs.Layout as at
-use Rattle.format.specs.Path.{Path, Visit, visit, entered, keptBlock, targetBlock, targetPlace, pathFrom, pathOf}
+use Rattle.format.specs.Path.{Path, Visit, visit, entered, targetBlock, targetPlace, pathFrom, pathOf}
 use Rattle.paths.specs.Links.{H, N, b, s, len, Pointing, Linked}
 use Rattle.paths.specs.Starts.{len-reach, child, last-kept, leaf-below}
-use Rattle.paths.specs.Landing.{kept-block, kept-not, pointing-block, from-kept, from-pointing, target}
-
--- on the last level a kept block's path ends at a leaf byte
-pub from-last : (t : List ℕ) (l i o : ℕ) → keptBlock t l i ≡ true → at.link t l i + o < at.leafCount t
-    → pathFrom t 0 l i o ≡ some (record { visits = visit l i o ∷ []; leaf = at.link t l i + o })
-unfolding pathFrom
-from-last t l i o kept h = rw (kept, lt-ltb _ _ h)
+use Rattle.paths.specs.Landing.{kept-block, kept-not, pointing-block, from-last, from-kept, from-pointing, target}
 
 module _ (t : List ℕ) (k : Readable t) (d : Linked t) where
   -- a relation of leaf bytes to places of the text that holds at last-level blocks, and that a pointing block takes over from its occurrence
