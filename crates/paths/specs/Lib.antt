@@ -2,6 +2,7 @@ pub mod Links
 pub mod Starts
 pub mod Landing
 pub mod Visits
+pub mod Shift
 pub mod Walk
 pub mod Reach
 pub mod Fitting
