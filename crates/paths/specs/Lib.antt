@@ -7,3 +7,4 @@ pub mod Walk
 pub mod Reach
 pub mod Fitting
 pub mod OneText
+pub mod Reads

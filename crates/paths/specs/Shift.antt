@@ -18,10 +18,10 @@ use Rattle.paths.specs.Landing.{target-first, target-second}
 use Rattle.paths.specs.Visits.{Goes, ends, down, points}
 
 -- a step that stays within a block of c bytes
-step-div : (o d c : ℕ) → o % c + d < c → (o + d) / c ≡ o / c
+pub step-div : (o d c : ℕ) → o % c + d < c → (o + d) / c ≡ o / c
 step-div o d c h = let e : o + d ≡ o / c * c + (o % c + d) = omega (arith, div-add-mod' o c) in rw e (digits-div (o / c) h)
 
-step-mod : (o d c : ℕ) → o % c + d < c → (o + d) % c ≡ o % c + d
+pub step-mod : (o d c : ℕ) → o % c + d < c → (o + d) % c ≡ o % c + d
 step-mod o d c h = let e : o + d ≡ o / c * c + (o % c + d) = omega (arith, div-add-mod' o c) in rw e (digits-mod (o / c) h)
 
 module _ (t : List ℕ) where
@@ -50,7 +50,7 @@ module _ (t : List ℕ) where
   within-left (v ∷ vs) most d w h = within-left vs (min most (b t (v .level) - v .place)) d (w .1) (omega (arith, w .0))
 
   -- The first block entered is the one asked.
-  goes-first : {below l i o x : ℕ} {vs : List Visit} (d : ℕ) → Goes t below l i o vs x → Within d vs → o + d < b t l
+  pub goes-first : {below l i o x : ℕ} {vs : List Visit} (d : ℕ) → Goes t below l i o vs x → Within d vs → o + d < b t l
   goes-first d (ends kept h) w = w .0
   goes-first d (down kept g) w = w .0
   goes-first d (points un pt kept g) w = w .0
