@@ -8,3 +8,4 @@ pub mod Reach
 pub mod Fitting
 pub mod OneText
 pub mod Reads
+pub mod Demands
