@@ -22,7 +22,8 @@ use Rattle.paths.specs.Reads as reads
 
 -- Any tree that passes questions 5 to 7.
 module _ (t : List ℕ) (r : readable t ≡ 0) (p : ℕ) (q : Path) (e : pathOf t p ≡ some q) where
-  path-goes : Goes t (at.settings t .levels - 1) 0 (p / at.fullLength t 0) (p % at.fullLength t 0) (q .visits) (q .leaf)
+  -- A path goes down a level at a time: a kept block hands on to a child, a pointing block to a kept block of its level first.
+  pub path-goes : Goes t (at.settings t .levels - 1) 0 (p / at.fullLength t 0) (p % at.fullLength t 0) (q .visits) (q .leaf)
   unfolding pathOf
   path-goes = goes t (at.settings t .levels - 1) 0 (p / at.fullLength t 0) (p % at.fullLength t 0) q e
 
