@@ -52,16 +52,16 @@ ask-rest q true rest h = h
 ask-rest q false rest h = absurd (let z : ⊥ = omega arith in z)
 
 -- the sizes' bounds, of question 2
-record Sizes (S : Settings) : Type 0 where
-  leaf-low : 1 ≤ S .leaf
-  leaf-high : S .leaf ≤ maxLeaf
-  arity-low : minArity ≤ S .arity
-  arity-high : S .arity ≤ maxArity
-  levels-low : 1 ≤ S .levels
-  levels-high : S .levels ≤ maxLevels
-  top-high : S .leaf * S .arity ^ (S .levels - 1) ≤ maxText
+pub record Sizes (S : Settings) : Type 0 where
+  pub leaf-low : 1 ≤ S .leaf
+  pub leaf-high : S .leaf ≤ maxLeaf
+  pub arity-low : minArity ≤ S .arity
+  pub arity-high : S .arity ≤ maxArity
+  pub levels-low : 1 ≤ S .levels
+  pub levels-high : S .levels ≤ maxLevels
+  pub top-high : S .leaf * S .arity ^ (S .levels - 1) ≤ maxText
 
-sizes : (S : Settings) → sizesOk S ≡ true → Sizes S
+pub sizes : (S : Settings) → sizesOk S ≡ true → Sizes S
 unfolding sizesOk
 sizes S h =
     let top = leb (S .leaf * S .arity ^ (S .levels - 1)) maxText in

@@ -2,12 +2,12 @@
 pub mod Words
 pub mod WordLaws
 pub mod Settings
+pub mod PieceLaws
 pub mod Blocks
 pub mod Layout
 pub mod Path
 pub mod Fits
 pub mod Verdict
-pub mod PieceLaws
 pub mod HeaderLaws
 pub mod VerdictLaws
 pub mod Said

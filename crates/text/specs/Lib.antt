@@ -1,5 +1,5 @@
 pub mod Lists
 pub mod ListLaws
+pub mod Conjunctions
 pub mod Text
 pub mod TextLaws
-pub mod Conjunctions

@@ -1,0 +1,4 @@
+mod HeaderLaws
+mod Rising
+mod Scan
+mod Tests

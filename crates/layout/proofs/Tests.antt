@@ -1,0 +1,13 @@
+-- Tests and cases, as the code's answers state them.
+use mathlib.Core.List.{List}
+use mathlib.Core.Bool.{Bool, true, false, not, cond, _&&_}
+use mathlib.Core.Path.{_≡_, refl, sym, ap, _∙_}
+use Prim.Native.Nat.{ℕ}
+use borrow.Author.Tests.{not-true, not-false}
+
+-- a call's answer that failed, and one that held, carried to what its contract says
+pub failed : {r s : Bool} → r ≡ s → not r ≡ true → s ≡ false
+failed {r} e n = sym e ∙ not-true r n
+
+pub held : {r s : Bool} → r ≡ s → not r ≡ false → s ≡ true
+held {r} e n = sym e ∙ not-false r n

@@ -1,0 +1,32 @@
+use borrow.Author.Needs.{needs}
+use mathlib.Core.Path.{_∙_, sym}
+use native.Mathlib.Omega.{arith}
+use Rattle.layout.proofs.HeaderLaws as laws
+use Rattle.layout.proofs.Tests.{failed, held}
+use Rattle.layout.proofs.header.rest_right.Statement.{statement}
+use Rattle.layout.proofs.header.rest_right.Tie as tie
+
+pub rest-right-spec : {M : Type 1} → statement M
+rest-right-spec =
+    tie.close
+    (tie.spec
+    (λ c. search needs)
+    (λ c κs. search needs)
+    (λ c. laws.rest-counted _ _ _ (c .before .before .before .before .pre) (failed (c .before .spare-counted-zero .ensures) (c .if1 .taken)))
+    (λ c. search needs)
+    (λ c κs. search needs)
+    (λ c. laws.rest-levels _ _ _ (c .before .before .before .before .before .before .before .pre) (held (c .before .before .before .before .spare-counted-zero .ensures) (c .before .before .before .if1 .left)) (failed (c .before .spare-levels-zero .ensures) (c .if2 .taken)))
+    (λ c κs. search needs)
+    (λ c κs. search needs)
+    (λ c κs. let b = laws.block-bounds _ _ _ (c .before .before .before .before .before .before .before .before .before .pre) _ (c .block-length .ensures) in (c .before .before .before .before .before .before .before .before .before .pre .n-high, b .0, b .1))
+    (λ c. laws.rest-level0 _ _ _ (c .before .before .before .before .before .before .before .before .before .before .before .pre) (held (c .before .before .before .before .before .before .before .before .spare-counted-zero .ensures) (c .before .before .before .before .before .before .before .if1 .left)) (held (c .before .before .before .before .before .spare-levels-zero .ensures) (c .before .before .before .before .if2 .left)) _ _ (c .before .before .before .read .ensures) (c .before .before .block-length .ensures) (λ e. c .if3 .taken (e ∙ sym (c .before .pieces .ensures))))
+    (λ c. search needs)
+    (λ c κs. search needs)
+    (λ c κs. let s = laws.size-is _ _ _ (c .before .before .before .before .before .before .before .before .before .before .before .before .before .pre) _ (c .record-size .ensures) in (c .before .before .before .before .before .before .before .before .before .before .before .before .before .pre .long, c .before .before .before .before .before .before .before .before .before .before .before .before .before .pre .levels-high, s .0, s .1))
+    (λ c. laws.rest-tables _ _ _ (c .before .before .before .before .before .before .before .before .before .before .before .before .before .before .before .pre) (held (c .before .before .before .before .before .before .before .before .before .before .before .before .spare-counted-zero .ensures) (c .before .before .before .before .before .before .before .before .before .before .before .if1 .left)) (held (c .before .before .before .before .before .before .before .before .before .spare-levels-zero .ensures) (c .before .before .before .before .before .before .before .before .if2 .left)) _ _ (c .before .before .before .before .before .before .before .read .ensures) (c .before .before .before .before .before .before .block-length .ensures) (c .before .before .before .before .if3 .left ∙ c .before .before .before .before .before .pieces .ensures) (failed (c .before .tables-meet .ensures) (c .if4 .taken)))
+    (λ c κs. search needs)
+    (λ c. search needs)
+    (λ c κs. search needs)
+    (λ c. search needs)
+    (λ c. search needs)
+    (λ c. laws.rest-length _ _ _ (c .before .before .before .before .before .before .before .before .before .before .before .before .before .before .before .before .before .pre) (held (c .before .before .before .before .before .before .before .before .before .before .before .before .before .before .spare-counted-zero .ensures) (c .before .before .before .before .before .before .before .before .before .before .before .before .before .if1 .left)) (held (c .before .before .before .before .before .before .before .before .before .before .before .spare-levels-zero .ensures) (c .before .before .before .before .before .before .before .before .before .before .if2 .left)) _ _ (c .before .before .before .before .before .before .before .before .before .read .ensures) (c .before .before .before .before .before .before .before .before .block-length .ensures) (c .before .before .before .before .before .before .if3 .left ∙ c .before .before .before .before .before .before .before .pieces .ensures) (held (c .before .before .before .tables-meet .ensures) (c .before .before .if4 .left)) _ _ (c .before .read2 .ensures) (c .read3 .ensures)))

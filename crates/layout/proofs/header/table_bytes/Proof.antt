@@ -1,0 +1,16 @@
+use Prim.Native.Nat.{ℕ, _≤_, _*_, _<_}
+use mathlib.Core.Path.{refl}
+use native.Mathlib.Nat.{mul-le-mul}
+use native.Mathlib.Omega.{arith}
+use Rattle.layout.proofs.header.table_bytes.Statement.{statement}
+use Rattle.layout.proofs.header.table_bytes.Tie as tie
+
+product : (n s : ℕ) → n < 4294967296 → s ≤ 64 → n * s ≤ 274877906944
+product n s a b = let c : n ≤ 4294967296 = omega arith in mul-le-mul c b
+
+pub table-bytes-spec : {M : Type 1} → statement M
+table-bytes-spec =
+    tie.close
+    (tie.spec
+    (λ c. record { fits = omega (arith, product _ _ (c .fits .count .fits) (c .pre)) })
+    (λ c. (refl, product _ _ (c .fits .count .fits) (c .pre))))

@@ -1,0 +1,21 @@
+use borrow.Author.Needs.{needs}
+use borrow.Author.Tests.{lt-leb, le-leb}
+use mathlib.Core.Path.{sym, _∙_}
+use Rattle.format.specs.Settings.{countedOk}
+use Rattle.layout.proofs.Tests.{failed, held}
+use Rattle.layout.proofs.settings.Settings.new.Statement.{statement}
+use Rattle.layout.proofs.settings.Settings.new.Tie as tie
+use Rattle.layout.specs.Settings.{checked}
+
+pub new-spec : {M : Type 1} → statement M
+unfolding checked countedOk
+new-spec =
+    tie.close
+    (tie.spec
+    (λ c κs. search needs)
+    (λ c. simp (failed (c .before .sizes-fit .ensures) (c .if1 .taken)))
+    (λ c. simp (held (c .before .before .sizes-fit .ensures) (c .before .if1 .left), lt-leb _ 4 (c .if2 .taken)))
+    (λ c κs. search needs)
+    (λ c. let a = c .before .before .before .before in simp (held (a .sizes-fit .ensures) (c .before .before .before .if1 .left), le-leb _ 4 (c .before .before .if2 .left), failed (c .before .rises .ensures) (c .if3 .taken)))
+    (λ c. search needs)
+    (λ c. let a = c .before .before .before .before in simp (held (a .sizes-fit .ensures) (c .before .before .before .if1 .left), le-leb _ 4 (c .before .before .if2 .left), held (c .before .rises .ensures) (c .if3 .left))))

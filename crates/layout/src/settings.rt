@@ -1,0 +1,125 @@
+// The settings of a tree, with their bounds, each named once.
+ghost use mathlib.Core.Path.{_≡_};
+ghost use Prim.Native.Nat.{_+_, _*_, _^_, _-_, _≤_, _<_};
+ghost use lib.ListN.{length};
+ghost use Rattle.format.specs.Settings.{sizesOk, countedOk, rising};
+ghost use Rattle.layout.specs.Settings.{sizes, checked, Sized};
+
+// The settings that a tree is built with: of the counted bytes their number; the bytes themselves stay where they are lent.
+pub struct Settings {
+    // m, the bytes of a full block of the last level
+    pub leaf: u32,
+    // r, the children of a full block
+    pub arity: u32,
+    // H
+    pub levels: u32,
+    // k, how many bytes are counted
+    pub counted: u32,
+}
+
+pub enum Checked {
+    Fine(Settings),
+    Refused(u32),
+}
+
+impl Settings {
+    // of a text's length, and of the length of a level 0 block
+    pub const MAX_TEXT: u32 = 1048576;
+    pub const MAX_LEAF: u32 = 256;
+    pub const MIN_ARITY: u32 = 2;
+    pub const MAX_ARITY: u32 = 16;
+    pub const MAX_LEVELS: u32 = 8;
+    pub const MAX_COUNTED: usize = 4;
+
+    // The settings, or the number of the question that refuses them: 2 for m, r and H, 3 for the counted bytes.
+    pub fn new(leaf: u32, arity: u32, levels: u32, counted: &[u8]) -> Checked
+        ensures { λ r. ⌜ r ≡ checked leaf arity levels (now (counted .entry)) ⌝ }
+    {
+        if !sizes_fit(leaf, arity, levels) {
+            return Checked::Refused(2);
+        }
+        if Settings::MAX_COUNTED < counted.len() {
+            return Checked::Refused(3);
+        }
+        if !rises(counted) {
+            return Checked::Refused(3);
+        }
+        Checked::Fine(Settings {
+            leaf,
+            arity,
+            levels,
+            counted: counted.len() as u32,
+        })
+    }
+
+    // b, the bytes of a full block of a level.
+    pub fn block_length(self, level: u32) -> u32
+        requires { ⌜ Sized self level ⌝ }
+        ensures { λ r. ⌜ r ≡ self .leaf * self .arity ^ (self .levels - 1 - level) ⌝ }
+    {
+        let b = power(self.leaf, self.arity, self.levels - 1 - level);
+        b as u32
+    }
+
+    // The bytes of a record.
+    pub fn record_size(self) -> u32
+        requires { ⌜ self .counted ≤ 4 ⌝ }
+        ensures { λ r. ⌜ r ≡ 16 + 12 * self .counted ⌝ }
+    {
+        16 + 12 * self.counted
+    }
+}
+
+// leaf × arity^exponent: at most 256 × 16^7, so no product wraps.
+fn power(leaf: u32, arity: u32, exponent: u32) -> u64
+    requires { ⌜ (leaf ≤ 256) × (arity ≤ 16) × (exponent ≤ 7) ⌝ }
+    ensures { λ r. ⌜ r ≡ leaf * arity ^ exponent ⌝ }
+{
+    let mut b: u64 = leaf as u64;
+    let by: u64 = arity as u64;
+    let mut i: u32 = 0;
+    while i < exponent {
+        b = b * by;
+        i += 1;
+    }
+    b
+}
+
+// Question 2.
+fn sizes_fit(leaf: u32, arity: u32, levels: u32) -> bool
+    ensures { λ r. ⌜ r ≡ sizesOk (sizes leaf arity levels) ⌝ }
+{
+    if leaf < 1 {
+        return false;
+    }
+    if Settings::MAX_LEAF < leaf {
+        return false;
+    }
+    if arity < Settings::MIN_ARITY {
+        return false;
+    }
+    if Settings::MAX_ARITY < arity {
+        return false;
+    }
+    if levels < 1 {
+        return false;
+    }
+    if Settings::MAX_LEVELS < levels {
+        return false;
+    }
+    power(leaf, arity, levels - 1) <= Settings::MAX_TEXT as u64
+}
+
+// Each byte is above the one before.
+fn rises(s: &[u8]) -> bool
+    ensures { λ r. ⌜ r ≡ rising (now (s .entry)) ⌝ }
+{
+    let mut i: usize = 1;
+    while i < s.len() {
+        if s[i] <= s[i - 1] {
+            return false;
+        }
+        i += 1;
+    }
+    true
+}

@@ -1,0 +1,30 @@
+// A word is four bytes, lowest first.
+ghost use mathlib.Core.Path.{_≡_};
+ghost use Prim.Native.Nat.{_+_, _≤_, _<_};
+ghost use lib.ListN.{length};
+ghost use Rattle.format.specs.Words.{wordAt, setWord};
+
+fn wide(b: u8) -> u32
+    ensures { λ r. ⌜ (r ≡ b) × (r < 256) ⌝ }
+{
+    b as u32
+}
+
+// The word at a place of any lent bytes that hold its four.
+pub fn read(t: &[u8], at: usize) -> u32
+    requires { ⌜ at + 4 ≤ length (now t) ⌝ }
+    ensures { λ r. ⌜ r ≡ wordAt (now (t .entry)) at ⌝ }
+{
+    wide(t[at]) + 256 * wide(t[at + 1]) + 65536 * wide(t[at + 2]) + 16777216 * wide(t[at + 3])
+}
+
+// Writes the four bytes of a word, and nothing else.
+pub fn write(t: &mut [u8], at: usize, value: u32)
+    requires { ⌜ at + 4 ≤ length (now t) ⌝ }
+    ensures { λ _. ⌜ now (t .exit) ≡ setWord (now (t .entry)) at value ⌝ }
+{
+    t[at] = (value % 256) as u8;
+    t[at + 1] = (value / 256 % 256) as u8;
+    t[at + 2] = (value / 65536 % 256) as u8;
+    t[at + 3] = (value / 16777216 % 256) as u8;
+}

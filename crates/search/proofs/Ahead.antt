@@ -1,0 +1,42 @@
+-- The search, a place at a time.
+use mathlib.Core.List.{List}
+use mathlib.Core.Bool.{true, false}
+use mathlib.Core.Path.{_≡_, sym, ap, _∙_}
+use Prim.Native.Nat.{ℕ, suc, _+_, _-_, _≤_, _<_}
+use native.Mathlib.Omega.{arith}
+use native.Mathlib.Nat.{sub-zero}
+use Rattle.text.specs.Lists.{sameList}
+use Rattle.text.specs.ListLaws.{ne-sameList}
+use Rattle.text.specs.Text.{stretch, firstFrom, leftmost}
+use Rattle.search.specs.Fingers.{finger}
+
+-- bytes with different fingerprints differ
+pub differ : (b q : ℕ) (s t : List ℕ) (h k : ℕ) → h ≡ finger b q s → k ≡ finger b q t → (h ≡ k → ⊥) → sameList s t ≡ false
+differ b q s t h k eh ek n = ne-sameList s t (λ e. n (eh ∙ ap (finger b q) e ∙ sym ek))
+
+-- the search from place p on
+unfoldable pub ahead : List ℕ → ℕ → ℕ → ℕ → ℕ
+ahead T at n p = firstFrom T at n (at - p) p
+
+pub ahead-start : (T : List ℕ) (at n : ℕ) → ahead T at n 0 ≡ leftmost T at n
+unfolding ahead leftmost
+ahead-start T at n = rw (sub-zero at)
+
+pub ahead-hit : (T : List ℕ) (at n p : ℕ) → p < at → sameList (stretch T p n) (stretch T at n) ≡ true → ahead T at n p ≡ p
+unfolding ahead firstFrom
+ahead-hit T at n p l e =
+    let s : at - p ≡ suc (at - (p + 1)) = omega arith in
+    rw (s, firstFrom, e)
+
+pub ahead-miss :
+    (T : List ℕ) (at n p : ℕ) → p < at → sameList (stretch T p n) (stretch T at n) ≡ false → ahead T at n p ≡ ahead T at n (p + 1)
+unfolding ahead firstFrom
+ahead-miss T at n p l e =
+    let s : at - p ≡ suc (at - (p + 1)) = omega arith in
+    rw (s, firstFrom, e)
+
+pub ahead-end : (T : List ℕ) (at n p : ℕ) → at ≤ p → ahead T at n p ≡ p
+unfolding ahead firstFrom
+ahead-end T at n p l =
+    let s : at - p ≡ 0 = omega arith in
+    rw (s, firstFrom)

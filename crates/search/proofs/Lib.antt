@@ -1,0 +1,7 @@
+pub mod Modulo
+pub mod Digits
+pub mod Same
+pub mod Ahead
+pub mod Usable
+pub mod Cases
+pub mod Demands

@@ -1,0 +1,91 @@
+// The leftmost occurrence of bytes of a text, by Karp-Rabin fingerprints: equal fingerprints only
+// propose a place, and a comparison of bytes decides.
+mod finger;
+mod scan;
+
+use text::TextPlace;
+ghost use mathlib.Core.Path.{_≡_};
+ghost use Rattle.search.specs.Occurrences.{leftmostSays, earlierSays};
+ghost use Rattle.search.specs.Fingers.{usable, usableModulus};
+
+// The base and the modulus of the fingerprints.
+pub struct Fingerprint {
+    pub base: u32,
+    pub modulus: u32,
+}
+
+// Where the bytes asked for stand first, or that they pass the text's end.
+pub enum Occurrence {
+    At(TextPlace),
+    Outside,
+}
+
+impl Fingerprint {
+    // With this modulus, and any below, a step of the rolling window stays within 64 bits.
+    pub const MAX_MODULUS: u32 = 2147483647;
+
+    // Makes any two numbers usable: a modulus from 1 to MAX_MODULUS, and a base below it.
+    pub fn new(base: u32, modulus: u32) -> Fingerprint
+        ensures { λ r. ⌜ r ≡ usable base modulus ⌝ }
+    {
+        let q = usable_modulus(modulus);
+        Fingerprint {
+            base: base % q,
+            modulus: q,
+        }
+    }
+}
+
+fn usable_modulus(modulus: u32) -> u32
+    ensures { λ r. ⌜ r ≡ usableModulus modulus ⌝ }
+{
+    if modulus < 1 {
+        return 1;
+    }
+    if Fingerprint::MAX_MODULUS < modulus {
+        return Fingerprint::MAX_MODULUS;
+    }
+    modulus
+}
+
+// The leftmost occurrence of the len bytes at a place of the text.
+pub fn leftmost(text: &[u8], at: TextPlace, len: u32, by: Fingerprint) -> Occurrence
+    ensures { λ r. ⌜ r ≡ leftmostSays (now (text .entry)) (at .0) len ⌝ }
+{
+    let start = at.0 as usize;
+    let n = len as usize;
+    if text.len() < start + n {
+        return Occurrence::Outside;
+    }
+    let found = scan::scan(text, start, n, Fingerprint::new(by.base, by.modulus));
+    Occurrence::At(TextPlace(found as u32))
+}
+
+// Whether the len bytes at a place of the text lie in it and stand at an earlier place too.
+pub fn occurs_earlier(text: &[u8], at: TextPlace, len: u32, by: Fingerprint) -> bool
+    ensures { λ r. ⌜ r ≡ earlierSays (now (text .entry)) (at .0) len ⌝ }
+{
+    let start = at.0;
+    match leftmost(text, at, len, by) {
+        Occurrence::At(found) => found.0 < start,
+        Occurrence::Outside => false,
+    }
+}
+
+// The answers of two searches that differ in base and modulus alone.
+pub struct Answers {
+    pub one: Occurrence,
+    pub other: Occurrence,
+}
+
+// The same search by two fingerprints: both give one answer.
+pub fn agree(text: &[u8], at: TextPlace, len: u32, one: Fingerprint, other: Fingerprint) -> Answers
+    ensures { λ r. ⌜ (r .one ≡ r .other) × (r .one ≡ leftmostSays (now (text .entry)) (at .0) len) ⌝ }
+{
+    let first = leftmost(text, TextPlace(at.0), len, one);
+    let second = leftmost(text, TextPlace(at.0), len, other);
+    Answers {
+        one: first,
+        other: second,
+    }
+}
