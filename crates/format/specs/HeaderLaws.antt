@@ -12,7 +12,7 @@ use Rattle.text.specs.Lists.{allBelow, sumBelow}
 use Rattle.text.specs.ListLaws.{and-left, and-right, allBelow-at, sumBelow-part}
 use Rattle.text.specs.Conjunctions.{parts}
 use Rattle.format.specs.Words.{wordAt}
-use Rattle.format.specs.Settings.{Settings, blockLength, pieces, lengthOk, sizesOk, countedOk, rising}
+use Rattle.format.specs.Settings.{Settings, maxText, maxLeaf, minArity, maxArity, maxLevels, maxCounted, blockLength, pieces, lengthOk, sizesOk, countedOk, rising}
 use Rattle.format.specs.PieceLaws.{pieces-hold}
 use Rattle.format.specs.Layout.{textLength, countedCount, settings, levelCount, levelOffset, leafOffset, leafCount, recordSize, fullLength, longEnough, layoutOk, headerOk}
 use Rattle.format.specs.Verdict.{ask, readable}
@@ -22,16 +22,16 @@ pub record Readable (t : List ℕ) : Type 0 where
   pub long : 100 ≤ length t
   pub layout : wordAt t 0 ≡ 1
   pub text-low : 1 ≤ textLength t
-  pub text-high : textLength t ≤ 1048576
+  pub text-high : textLength t ≤ maxText
   pub leaf-low : 1 ≤ settings t .leaf
-  pub leaf-high : settings t .leaf ≤ 256
-  pub arity-low : 2 ≤ settings t .arity
-  pub arity-high : settings t .arity ≤ 16
+  pub leaf-high : settings t .leaf ≤ maxLeaf
+  pub arity-low : minArity ≤ settings t .arity
+  pub arity-high : settings t .arity ≤ maxArity
   pub levels-low : 1 ≤ settings t .levels
-  pub levels-high : settings t .levels ≤ 8
-  pub top-high : settings t .leaf * settings t .arity ^ (settings t .levels - 1) ≤ 1048576
-  pub full-high : fullLength t 0 ≤ 1048576
-  pub counted-high : countedCount t ≤ 4
+  pub levels-high : settings t .levels ≤ maxLevels
+  pub top-high : settings t .leaf * settings t .arity ^ (settings t .levels - 1) ≤ maxText
+  pub full-high : fullLength t 0 ≤ maxText
+  pub counted-high : countedCount t ≤ maxCounted
   pub counted-rising : rising (settings t .counted) ≡ true
   pub counted-size : length (settings t .counted) ≡ countedCount t
   pub counted-unused : (x : ℕ) → countedCount t ≤ x → x < 4 → getD t (24 + x) 0 ≡ 0
@@ -54,23 +54,23 @@ ask-rest q false rest h = absurd (let z : ⊥ = omega arith in z)
 -- the sizes' bounds, of question 2
 pub record Sizes (S : Settings) : Type 0 where
   pub leaf-low : 1 ≤ S .leaf
-  pub leaf-high : S .leaf ≤ 256
-  pub arity-low : 2 ≤ S .arity
-  pub arity-high : S .arity ≤ 16
+  pub leaf-high : S .leaf ≤ maxLeaf
+  pub arity-low : minArity ≤ S .arity
+  pub arity-high : S .arity ≤ maxArity
   pub levels-low : 1 ≤ S .levels
-  pub levels-high : S .levels ≤ 8
-  pub top-high : S .leaf * S .arity ^ (S .levels - 1) ≤ 1048576
+  pub levels-high : S .levels ≤ maxLevels
+  pub top-high : S .leaf * S .arity ^ (S .levels - 1) ≤ maxText
 
 pub sizes : (S : Settings) → sizesOk S ≡ true → Sizes S
 unfolding sizesOk
 sizes S h =
-    let top = leb (S .leaf * S .arity ^ (S .levels - 1)) 1048576 in
-    let a = parts (leb 1 (S .leaf)) (leb (S .leaf) 256 ∷ (leb 2 (S .arity) && leb (S .arity) 16) ∷ (leb 1 (S .levels) && leb (S .levels) 8 && top) ∷ []) h in
-    let c = parts (leb 1 (S .levels)) (leb (S .levels) 8 ∷ top ∷ []) (a .1 .1 .1 .0) in record {
+    let top = leb (S .leaf * S .arity ^ (S .levels - 1)) maxText in
+    let a = parts (leb 1 (S .leaf)) (leb (S .leaf) maxLeaf ∷ (leb minArity (S .arity) && leb (S .arity) maxArity) ∷ (leb 1 (S .levels) && leb (S .levels) maxLevels && top) ∷ []) h in
+    let c = parts (leb 1 (S .levels)) (leb (S .levels) maxLevels ∷ top ∷ []) (a .1 .1 .1 .0) in record {
       leaf-low = leb-true _ _ (a .0);
       leaf-high = leb-true _ _ (a .1 .0);
-      arity-low = leb-true _ _ (and-left _ (leb (S .arity) 16) (a .1 .1 .0));
-      arity-high = leb-true _ _ (and-right (leb 2 (S .arity)) _ (a .1 .1 .0));
+      arity-low = leb-true _ _ (and-left _ (leb (S .arity) maxArity) (a .1 .1 .0));
+      arity-high = leb-true _ _ (and-right (leb minArity (S .arity)) _ (a .1 .1 .0));
       levels-low = leb-true _ _ (c .0);
       levels-high = leb-true _ _ (c .1 .0);
       top-high = leb-true _ _ (c .1 .1 .0);
@@ -114,7 +114,7 @@ header t h =
       size = c .1 .1 .0;
     }
 
-counted-length : (t : List ℕ) → 100 ≤ length t → countedCount t ≤ 4 → length (settings t .counted) ≡ countedCount t
+counted-length : (t : List ℕ) → 100 ≤ length t → countedCount t ≤ maxCounted → length (settings t .counted) ≡ countedCount t
 unfolding settings
 counted-length t long few = simp (length-take, length-drop) (omega arith)
 
@@ -139,8 +139,8 @@ readable-facts t h =
     λ l lo hi. (let e : H + (l - H) ≡ l = omega arith in rw e at (d .zero-levels (l - H) (omega arith))) in record {
       long = long;
       layout = eqb-true (wordAt t 0) 1 six;
-      text-low = leb-true 1 (textLength t) (and-left (leb 1 (textLength t)) (leb (textLength t) 1048576) (d .text));
-      text-high = leb-true (textLength t) 1048576 (and-right (leb 1 (textLength t)) (leb (textLength t) 1048576) (d .text));
+      text-low = leb-true 1 (textLength t) (and-left (leb 1 (textLength t)) (leb (textLength t) maxText) (d .text));
+      text-high = leb-true (textLength t) maxText (and-right (leb 1 (textLength t)) (leb (textLength t) maxText) (d .text));
       leaf-low = z .leaf-low;
       leaf-high = z .leaf-high;
       arity-low = z .arity-low;
@@ -186,7 +186,7 @@ module _ (t : List ℕ) (k : Readable t) where
   unfolding fullLength blockLength
   full-falls l j h = mul-le-mul-left (settings t .leaf) (pow-le-pow-right (omega (arith, k .arity-low)) (omega arith))
 
-  pub full-small : (l : ℕ) → fullLength t l ≤ 1048576
+  pub full-small : (l : ℕ) → fullLength t l ≤ maxText
   full-small l = le-trans (full-falls 0 l (omega arith)) (k .full-high)
 
   -- Where things stand in the tree's bytes.

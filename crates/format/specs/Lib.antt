@@ -9,6 +9,7 @@ pub mod Path
 pub mod Fits
 pub mod Verdict
 pub mod HeaderLaws
+pub mod VerdictLaws
 pub mod Said
 pub mod Building
 pub mod Reading

@@ -3,7 +3,7 @@ use mathlib.Core.List.{List, [], _∷_, _++_}
 use mathlib.Core.Bool.{Bool, true, false, cond, not, _&&_, _||_}
 use mathlib.Core.Path.{_≡_, refl, sym, ap, _∙_}
 use mathlib.Core.Logic.{_⊎_, inl, inr}
-use Prim.Native.Nat.{ℕ, zero, suc, _+_, _≤_, _<_}
+use Prim.Native.Nat.{ℕ, zero, suc, _+_, _-_, _≤_, _<_}
 use native.Mathlib.Omega.{arith}
 use native.Mathlib.Decide.{decLt}
 use native.Mathlib.Nat.{add-suc, add-zero, suc-inj}
@@ -109,6 +109,17 @@ sumBelow-part (suc n) f i l = go (sumBelow-part n f i) (below-suc i n l)
 pub sumBelow-suc : (n : ℕ) (f : ℕ → ℕ) → sumBelow (n + 1) f ≡ sumBelow n f + f n
 unfolding sumBelow
 sumBelow-suc n f = rw (let e : n + 1 ≡ suc n = omega arith in e)
+
+-- a number below a sum lies in one of its parts
+pub sumBelow-find : (n : ℕ) (f : ℕ → ℕ) (i : ℕ) → i < sumBelow n f → (a : ℕ) × (j : ℕ) × (a < n) × (j < f a) × (i ≡ sumBelow a f + j)
+unfolding sumBelow
+sumBelow-find zero f i h = absurd (let z : ⊥ = omega arith in z)
+sumBelow-find (suc n) f i h = go (sumBelow-find n f i) (lt-or-ge i (sumBelow n f))
+  where
+    go : (i < sumBelow n f → (a : ℕ) × (j : ℕ) × (a < n) × (j < f a) × (i ≡ sumBelow a f + j)) → (i < sumBelow n f) ⊎ (sumBelow n f ≤ i)
+        → (a : ℕ) × (j : ℕ) × (a < suc n) × (j < f a) × (i ≡ sumBelow a f + j)
+    go r (inl k) = let found = r k in (found .0, found .1, omega (arith, found .2), found .3, found .4)
+    go r (inr k) = (n, i - sumBelow n f, omega arith, omega arith, omega arith)
 
 -- Lists made by a function.
 

@@ -1,0 +1,37 @@
+-- A tree is accepted exactly where it passes questions 5 to 9.
+use mathlib.Core.List.{List}
+use mathlib.Core.Bool.{true}
+use mathlib.Core.Path.{_≡_}
+use Prim.Native.Nat.{ℕ}
+use Rattle.format.specs.Layout.{longEnough, layoutOk, headerOk}
+use Rattle.format.specs.Fits.{linksOk, textOf, countsTrue}
+use Rattle.format.specs.Verdict.{ask, readable, verdict}
+use Rattle.format.specs.HeaderLaws.{ask-test, ask-rest}
+
+module _ (t : List ℕ) where
+  -- the verdict of a tree that passes questions 5 to 7 is that of 8 and 9
+  pub verdict-readable : readable t ≡ 0 → verdict t ≡ ask 8 (linksOk t) (ask 9 (countsTrue (textOf t) t) 0)
+  unfolding readable verdict
+  verdict-readable h =
+      let after5 = ask-rest 4 (longEnough t) (ask 6 (layoutOk t) (ask 7 (headerOk t) 0)) h in
+      let after6 = ask-rest 5 (layoutOk t) (ask 7 (headerOk t) 0) after5 in
+      rw (ask-test 4 (longEnough t) (ask 6 (layoutOk t) (ask 7 (headerOk t) 0)) h, ask-test 5 (layoutOk t) (ask 7 (headerOk t) 0) after5, ask-test 6 (headerOk t) 0 after6)
+
+  pub accepted : readable t ≡ 0 → linksOk t ≡ true → countsTrue (textOf t) t ≡ true → verdict t ≡ 0
+  accepted h l c = rw (verdict-readable h, l, c)
+
+  module _ (v : verdict t ≡ 0) where
+    pub accepted-readable : readable t ≡ 0
+    unfolding readable verdict
+    accepted-readable =
+        let rest = ask 8 (linksOk t) (ask 9 (countsTrue (textOf t) t) 0) in
+        let after5 = ask-rest 4 (longEnough t) (ask 6 (layoutOk t) (ask 7 (headerOk t) rest)) v in
+        let after6 = ask-rest 5 (layoutOk t) (ask 7 (headerOk t) rest) after5 in
+        rw (ask-test 4 (longEnough t) (ask 6 (layoutOk t) (ask 7 (headerOk t) rest)) v, ask-test 5 (layoutOk t) (ask 7 (headerOk t) rest) after5, ask-test 6 (headerOk t) rest after6)
+
+    pub accepted-links : linksOk t ≡ true
+    accepted-links = ask-test 7 (linksOk t) (ask 9 (countsTrue (textOf t) t) 0) (rw (verdict-readable accepted-readable) at v)
+
+    pub accepted-counts : countsTrue (textOf t) t ≡ true
+    accepted-counts =
+        ask-test 8 (countsTrue (textOf t) t) 0 (ask-rest 7 (linksOk t) (ask 9 (countsTrue (textOf t) t) 0) (rw (verdict-readable accepted-readable) at v))

@@ -1,0 +1,11 @@
+pub mod Links
+pub mod Starts
+pub mod Landing
+pub mod Visits
+pub mod Shift
+pub mod Walk
+pub mod Reach
+pub mod Fitting
+pub mod OneText
+pub mod Reads
+pub mod Demands
