@@ -1,0 +1,2 @@
+// Question 8: whether starts, kinds, links, gaps, the counts of levels and the leaf count of a tree are right.
+mod level;
