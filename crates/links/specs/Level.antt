@@ -43,9 +43,9 @@ module _ (t : List ℕ) where
   abbrev pub startAsCut : ℕ → Bool
   startAsCut i = eqb (at.start t 0 i) (i * at.fullLength t 0)
 
-  -- child j of block i of level l does, from where the block starts
-  abbrev pub childAsCut : ℕ → ℕ → ℕ → Bool
-  childAsCut l i j = eqb (at.start t (l + 1) (at.link t l i + j)) (at.start t l i + j * at.fullLength t (l + 1))
+  -- child j of a block of level l does, where the block starts at start and its first child is number link
+  abbrev pub childAsCut : ℕ → ℕ → ℕ → ℕ → Bool
+  childAsCut l link start j = eqb (at.start t (l + 1) (link + j)) (start + j * at.fullLength t (l + 1))
 
   -- the occurrence of len bytes at place g of block j lies before start, and begins in a kept block
   unfoldable pub targetRight : ℕ → ℕ → ℕ → ℕ → ℕ → Bool
