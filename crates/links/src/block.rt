@@ -118,7 +118,14 @@ fn pointing_right(t: &[u8], v: Level, block: BlockNumber) -> bool
 }
 
 // The occurrence begins in a kept block, and ends at or before the start.
-fn target_right(t: &[u8], v: Level, target: BlockNumber, gap: BlockPlace, length: u32, start: TextPlace) -> bool
+fn target_right(
+    t: &[u8],
+    v: Level,
+    target: BlockNumber,
+    gap: BlockPlace,
+    length: u32,
+    start: TextPlace,
+) -> bool
     requires { ⌜ LevelOf (now t) v ⌝ }
     ensures { λ r. ⌜ r ≡ targetRight (now (t .entry)) (v .number) (target .0) (gap .0) length (start .0) ⌝ }
 {

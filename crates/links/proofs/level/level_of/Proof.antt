@@ -26,4 +26,5 @@ level-of-spec =
         part-is = c .before .part-length .ensures;
         room-is = c .room-below .ensures;
       },
-      refl)))
+      refl,
+    )))
