@@ -132,8 +132,8 @@ fn target_right(
     if v.count <= target.0 {
         return false;
     }
-    let kind = record::kind(t, v.counted, v.number, target);
-    if kind != 0 {
+    let target_kind = record::kind(t, v.counted, v.number, target);
+    if target_kind != 0 {
         return false;
     }
     let from = record::start(t, v.counted, v.number, target);
@@ -149,8 +149,8 @@ fn next_right(t: &[u8], v: Level, target: BlockNumber) -> bool
     if v.count <= next.0 {
         return false;
     }
-    let kind = record::kind(t, v.counted, v.number, next);
-    if kind != 0 {
+    let next_kind = record::kind(t, v.counted, v.number, next);
+    if next_kind != 0 {
         return false;
     }
     let from = record::start(t, v.counted, v.number, target);
