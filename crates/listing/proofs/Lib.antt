@@ -1,0 +1,2 @@
+mod WrittenLaws
+mod DigitLaws
