@@ -13,8 +13,8 @@ use lib.Dec.{ltb}
 use Rattle.text.specs.ListLaws.{lt-or-ge}
 use Rattle.io.specs.Digits.{digits, glyph, Fewest}
 use Rattle.listing.specs.Lines.{digitsWithin, decimal, figure}
-use Rattle.listing.specs.Written.{written}
-use Rattle.listing.proofs.WrittenLaws.{written-byte, written-more, length-written}
+use Rattle.listing.specs.Written.{Put}
+use Rattle.listing.proofs.WrittenLaws.{then-put, length-put, put-byte}
 
 -- more than ten digits make 10 ^ 10 or more
 pub few-digits : (n k : ℕ) → n < 4294967296 → Fewest 10 1 n k → k ≤ 10
@@ -70,17 +70,13 @@ module _ (n k : ℕ) (s : List ℕ) (small : n < 4294967296) (f : Fewest 10 1 n 
   pub digits-fit : length s ≤ 10
   digits-fit = omega (arith, ap length e, length-digits n k, few-digits n k small f)
 
-  pub number-put : (d o : List ℕ) (at r : ℕ) → o ≡ written d at s → r ≡ at + length s
-      → (o ≡ written d at (decimal n)) × (r ≡ at + length (decimal n)) × (r ≤ at + 10)
-  number-put d o at r w q =
+  pub number-put : {d o : List ℕ} {at r : ℕ} → Put d o at r s (length s) → Put d o at r (decimal n) 10
+  number-put {d} {o} {at} {r} w =
       let same : s ≡ decimal n = e ∙ digits-are n k f in
-      (rw same at w, rw same at q, omega (arith, digits-fit))
+      record { bytes = rw same at (w .bytes); after = rw same at (w .after); short = omega (arith, w .short, digits-fit) }
 
 -- a number with the byte after it
-pub figure-put : (d o : List ℕ) (at n after r : ℕ) → at + 11 ≤ length d → o ≡ written d at (decimal n) → r ≡ at + length (decimal n) → r ≤ at + 10
-    → (set o r after ≡ written d at (figure n after)) × (r + 1 ≡ at + length (figure n after)) × (r + 1 ≤ at + 11)
+pub figure-put : {d o : List ℕ} {at r : ℕ} (n after : ℕ) → at + 11 ≤ length d → Put d o at r (decimal n) 10 → Put d (set o r after) at (r + 1) (figure n after) 11
 unfolding figure
-figure-put d o at n after r h w e l =
-    let fits : at + length (decimal n) ≤ length d = omega arith in
-    let long : length o ≡ length d = ap length w ∙ length-written d at (decimal n) fits in
-    (written-more d at o (set o r after) (decimal n) (after ∷ []) r fits w e (written-byte o r after (omega arith)), rw (length-append (decimal n) (after ∷ [])) (omega arith), omega arith)
+figure-put {d} {o} {at} {r} n after h w =
+    then-put (omega arith) w (put-byte o r after (omega (arith, w .short, length-put (omega arith) w)))

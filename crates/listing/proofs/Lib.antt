@@ -1,2 +1,3 @@
 mod WrittenLaws
 mod DigitLaws
+mod LineLaws

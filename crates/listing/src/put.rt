@@ -1,15 +1,13 @@
 // Bytes and numbers put into a lent buffer. Each function answers the place after what it put.
-ghost use mathlib.Core.Path.{_≡_};
-ghost use mathlib.Core.List.{[], _∷_};
-ghost use Prim.Native.Nat.{_+_, _≤_, _<_};
+ghost use Prim.Native.Nat.{_+_, _≤_};
 ghost use lib.ListN.{length};
-ghost use Rattle.listing.specs.Written.{written};
+ghost use Rattle.listing.specs.Written.{Put};
 ghost use Rattle.listing.specs.Lines.{decimal, figure};
 
 // Puts the bytes of s at `at`.
 pub fn bytes(out: &mut [u8], at: usize, s: &[u8]) -> usize
     requires { ⌜ at + length (now s) ≤ length (now out) ⌝ }
-    ensures { λ r. ⌜ (now (out .exit) ≡ written (now (out .entry)) at (now (s .entry))) × (r ≡ at + length (now (s .entry))) ⌝ }
+    ensures { λ r. ⌜ Put (now (out .entry)) (now (out .exit)) at r (now (s .entry)) (length (now (s .entry))) ⌝ }
 {
     let mut i: usize = 0;
     while i < s.len() {
@@ -22,7 +20,7 @@ pub fn bytes(out: &mut [u8], at: usize, s: &[u8]) -> usize
 // Puts a number's digits: at most 10.
 pub fn number(out: &mut [u8], at: usize, n: u32) -> usize
     requires { ⌜ at + 10 ≤ length (now out) ⌝ }
-    ensures { λ r. ⌜ (now (out .exit) ≡ written (now (out .entry)) at (decimal n)) × (r ≡ at + length (decimal n)) × (r ≤ at + 10) ⌝ }
+    ensures { λ r. ⌜ Put (now (out .entry)) (now (out .exit)) at r (decimal n) 10 ⌝ }
 {
     let mut digits = [0u8; 20];
     let k = io::decimal(n as u64, &mut digits);
@@ -32,7 +30,7 @@ pub fn number(out: &mut [u8], at: usize, n: u32) -> usize
 // Puts a number, and a byte after it.
 pub fn number_and(out: &mut [u8], at: usize, n: u32, after: u8) -> usize
     requires { ⌜ at + 11 ≤ length (now out) ⌝ }
-    ensures { λ r. ⌜ (now (out .exit) ≡ written (now (out .entry)) at (figure n after)) × (r ≡ at + length (figure n after)) × (r ≤ at + 11) ⌝ }
+    ensures { λ r. ⌜ Put (now (out .entry)) (now (out .exit)) at r (figure n after) 11 ⌝ }
 {
     let end = number(out, at, n);
     out[end] = after;

@@ -13,4 +13,4 @@ number-spec =
     (λ c. search needs)
     (λ c κs. omega (arith, c .before .before .before .before .before .pre, digits.digits-fit (c .before .before .before .before .before .args .n) (c .before .before .decimal .result) _ (c .before .before .before .before .before .fits .n .fits) (c .before .before .decimal .ensures .1 .0) (c .before .before .decimal .ensures .1 .1)))
     (λ c. search needs)
-    (λ c. digits.number-put (c .before .before .before .before .before .before .before .before .args .n) (c .before .before .before .before .before .decimal .result) _ (c .before .before .before .before .before .before .before .before .fits .n .fits) (c .before .before .before .before .before .decimal .ensures .1 .0) (c .before .before .before .before .before .decimal .ensures .1 .1) _ _ _ _ (c .before .before .bytes .ensures .0) (c .before .before .bytes .ensures .1)))
+    (λ c. digits.number-put (c .before .before .before .before .before .before .before .before .args .n) (c .before .before .before .before .before .decimal .result) _ (c .before .before .before .before .before .before .before .before .fits .n .fits) (c .before .before .before .before .before .decimal .ensures .1 .0) (c .before .before .before .before .before .decimal .ensures .1 .1) (c .before .before .bytes .ensures)))

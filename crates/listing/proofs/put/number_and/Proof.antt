@@ -12,4 +12,4 @@ number-and-spec =
     (λ c. search needs)
     (λ c. search needs)
     (λ c. search needs)
-    (λ c. figure-put _ _ _ _ _ _ (c .before .before .before .before .before .pre) (c .before .before .number .ensures .0) (c .before .before .number .ensures .1) (c .before .before .number .ensures .2)))
+    (λ c. figure-put _ _ (c .before .before .before .before .before .pre) (c .before .before .number .ensures)))
