@@ -3,5 +3,5 @@ mod HeaderLaws
 mod QuestionSeven
 mod RecordLaws
 mod Rising
-mod Scan
-mod Tests
+pub mod Scan
+pub mod Tests

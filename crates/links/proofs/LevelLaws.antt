@@ -1,0 +1,83 @@
+-- The header's words as the accessors of `Layout` name them, and the parts of a level.
+use mathlib.Core.List.{List}
+use mathlib.Core.Logic.{_≢_}
+use mathlib.Core.Path.{_≡_, refl, sym, ap, _∙_}
+use Prim.Native.Nat.{ℕ, _+_, _-_, _*_, _^_, _≤_, _<_}
+use native.Mathlib.Omega.{arith}
+use borrow.Author.Tests.{eq-eqb, ne-eqb}
+use lib.ListN.{length}
+use Rattle.format.specs.Settings.{blockLength}
+use Rattle.format.specs.Layout as at
+use Rattle.format.specs.Fits.{lastLevel}
+use Rattle.format.specs.HeaderLaws.{Readable}
+use Rattle.layout.specs.declared.header.Header.{Header}
+use Rattle.layout.specs.Settings.{Sized}
+use Rattle.links.specs.declared.level.Level.{Level}
+use Rattle.links.specs.Level.{HeaderOf, LevelOf, partLength, roomBelow}
+
+module _ (t : List ℕ) (h : Header) (k : HeaderOf t h) where
+  pub levels-is : h .settings .levels ≡ at.settings t .levels
+  unfolding at.settings
+  levels-is = ap (λ (x : Header). x .settings .levels) (k .fields)
+
+  leaf-is : h .settings .leaf ≡ at.settings t .leaf
+  unfolding at.settings
+  leaf-is = ap (λ (x : Header). x .settings .leaf) (k .fields)
+
+  arity-is : h .settings .arity ≡ at.settings t .arity
+  unfolding at.settings
+  arity-is = ap (λ (x : Header). x .settings .arity) (k .fields)
+
+  pub counted-is : h .settings .counted ≡ at.countedCount t
+  unfolding at.countedCount
+  counted-is = ap (λ (x : Header). x .settings .counted) (k .fields)
+
+  pub length-is : h .length ≡ at.textLength t
+  unfolding at.textLength
+  length-is = ap (λ (x : Header). x .length) (k .fields)
+
+  leaves-is : h .«leaf_count» ≡ at.leafCount t
+  unfolding at.leafCount
+  leaves-is = ap (λ (x : Header). x .«leaf_count») (k .fields)
+
+  pub last-is : h .settings .levels - 1 ≡ lastLevel t
+  unfolding lastLevel
+  last-is = ap (λ (x : ℕ). x - 1) levels-is
+
+  pub table-there : (l : ℕ) → l < h .settings .levels → (l < 8) × (100 ≤ length t)
+  table-there l i = (omega (arith, levels-is, k .readable .levels-high), k .readable .long)
+
+  pub sized : (l : ℕ) → l < h .settings .levels → Sized (h .settings) l
+  sized l i = record {
+    leaf-high = omega (arith, leaf-is, k .readable .leaf-high);
+    arity-low = omega (arith, arity-is, k .readable .arity-low);
+    arity-high = omega (arith, arity-is, k .readable .arity-high);
+    levels-high = omega (arith, levels-is, k .readable .levels-high);
+    level-in = i;
+    block-high = rw (leaf-is, arity-is, levels-is) (k .readable .top-high);
+  }
+
+  pub full-is : (l b : ℕ) → b ≡ h .settings .leaf * h .settings .arity ^ (h .settings .levels - 1 - l) → b ≡ at.fullLength t l
+  unfolding at.fullLength blockLength
+  full-is l b e = rw (e, leaf-is, arity-is, levels-is)
+
+  module _ (l : ℕ) where
+    pub part-last : l ≡ h .settings .levels - 1 → 1 ≡ partLength t l
+    unfolding partLength
+    part-last e = rw (eq-eqb l (lastLevel t) (e ∙ last-is))
+
+    pub room-last : l ≡ h .settings .levels - 1 → h .«leaf_count» ≡ roomBelow t l
+    unfolding roomBelow
+    room-last e = rw (eq-eqb l (lastLevel t) (e ∙ last-is)) leaves-is
+
+    module _ (n : l ≡ h .settings .levels - 1 → ⊥) where
+      pub part-above : (b : ℕ) → b ≡ h .settings .leaf * h .settings .arity ^ (h .settings .levels - 1 - (l + 1)) → b ≡ partLength t l
+      unfolding partLength
+      part-above b e = rw (ne-eqb l (lastLevel t) (λ q. n (q ∙ sym last-is))) (full-is (l + 1) b e)
+
+      pub room-above : (c : ℕ) → c ≡ at.levelCount t (l + 1) → c ≡ roomBelow t l
+      unfolding roomBelow
+      room-above c e = rw (ne-eqb l (lastLevel t) (λ q. n (q ∙ sym last-is))) e
+
+      pub below-in : l < h .settings .levels → l + 1 < h .settings .levels
+      below-in i = let m : l ≢ h .settings .levels - 1 = n in omega arith

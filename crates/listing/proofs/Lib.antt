@@ -1,0 +1,3 @@
+mod WrittenLaws
+mod DigitLaws
+mod LineLaws

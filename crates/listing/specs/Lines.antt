@@ -1,0 +1,56 @@
+-- What the list program prints.
+use mathlib.Core.List.{List, [], _∷_, _++_}
+use mathlib.Core.Bool.{Bool, cond}
+use Prim.Native.Nat.{ℕ, zero, suc, _+_, _/_, _%_}
+use lib.ListN.{length}
+use lib.Dec.{eqb, leb, ltb}
+use Rattle.text.specs.Lists.{countBelow}
+use Rattle.format.specs.Layout as at
+use Rattle.format.specs.Verdict.{verdict}
+
+-- the digits of n in base 10, the highest first; there are at most more + 1 of them
+unfoldable pub digitsWithin : ℕ → ℕ → List ℕ
+digitsWithin zero n = (48 + n) ∷ []
+digitsWithin (suc more) n =
+    let higher = digitsWithin more (n / 10) in
+    cond (ltb n 10) ((48 + n) ∷ []) (higher ++ ((48 + n % 10) ∷ []))
+
+unfoldable pub decimal : ℕ → List ℕ
+decimal n = digitsWithin n n
+
+-- a number with the byte after it: a space (32), or a line's end (10)
+unfoldable pub figure : ℕ → ℕ → List ℕ
+figure n after = decimal n ++ (after ∷ [])
+
+unfoldable pub line : ℕ → ℕ → ℕ → ℕ → List ℕ
+line level blocks kept pointing = figure level 32 ++ figure blocks 32 ++ figure kept 32 ++ figure pointing 10
+
+module _ (t : List ℕ) where
+  abbrev pub hasKind : ℕ → ℕ → ℕ → Bool
+  hasKind l k i = eqb (at.kind t l i) k
+
+  -- level, blocks, kept, pointing
+  unfoldable pub levelLine : ℕ → List ℕ
+  levelLine l = line l (at.levelCount t l) (countBelow (at.levelCount t l) (at.isKept t l)) (countBelow (at.levelCount t l) (at.isPointing t l))
+
+  -- the lines of levels 0, 1, .., l - 1
+  unfoldable pub linesBelow : ℕ → List ℕ
+  linesBelow zero = []
+  linesBelow (suc l) = linesBelow l ++ levelLine l
+
+-- the word `refused`, the question's number
+unfoldable pub refusedLine : ℕ → List ℕ
+refusedLine q = 114 ∷ 101 ∷ 102 ∷ 117 ∷ 115 ∷ 101 ∷ 100 ∷ 32 ∷ [] ++ figure q 10
+
+-- the lines of all levels if the verdict is 0, else its number
+abbrev pub linesOf : ℕ → List ℕ → List ℕ
+linesOf zero t = linesBelow t (at.settings t .levels)
+linesOf (suc q) t = refusedLine (suc q)
+
+-- what is printed of any tree
+unfoldable pub listLines : List ℕ → List ℕ
+listLines t = linesOf (verdict t) t
+
+-- what is printed of any input: question 15 comes first
+unfoldable pub listed : List ℕ → List ℕ
+listed input = cond (leb (length input) 65536) (listLines input) (refusedLine 15)
