@@ -1,0 +1,3 @@
+// The questions put to a tree.
+pub mod step;
+pub mod walk;
