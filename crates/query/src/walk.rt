@@ -53,7 +53,7 @@ impl Trail {
 
 // The leaf byte that a kept block of the last level hands a place to.
 fn leaf(t: &[u8], h: Header, level: u32, b: u32, block: BlockNumber, place: BlockPlace, trail: Trail) -> Walked
-    requires { ⌜ (KeptAt (now t) h level b (block .0) (place .0) (trail .entered)) × (level + 1 ≡ h .settings .levels) ⌝ }
+    requires { ⌜ KeptAt (now t) h level b (block .0) (place .0) (trail .entered) ⌝ }
     ensures { λ r. ⌜ r ≡ walked (now (t .entry)) trail (pathFrom (now (t .entry)) 0 level (block .0) (place .0)) ⌝ }
 {
     let link = record::link(t, h.settings.counted, level, block) as u64;
@@ -72,14 +72,16 @@ pub fn kept_step(t: &[u8], h: Header, level: u32, b: u32, block: BlockNumber, pl
     requires { ⌜ KeptAt (now t) h level b (block .0) (place .0) (trail .entered) ⌝ }
     ensures { λ r. ⌜ r ≡ walked (now (t .entry)) trail (pathFrom (now (t .entry)) (at.settings (now (t .entry)) .levels - 1 - level) level (block .0) (place .0)) ⌝ }
 {
-    if level + 1 == h.settings.levels {
+    let down = level + 1;
+    if down == h.settings.levels {
         return leaf(t, h, level, b, block, place, trail);
     }
     let below = b / h.settings.arity;
+    let on = trail.enter(b, place);
     let next = step::child(t, h, level, below, block, place);
     match next {
-        Next::Kept(i, p) => kept_step(t, h, level + 1, below, i, p, trail.enter(b, place)),
-        Next::Points(i, p) => pointing_step(t, h, level + 1, below, i, p, trail.enter(b, place)),
+        Next::Kept(i, p) => kept_step(t, h, down, below, i, p, on),
+        Next::Points(i, p) => pointing_step(t, h, down, below, i, p, on),
         Next::Off => Walked::Broken,
     }
 }
@@ -92,9 +94,10 @@ pub fn pointing_step(t: &[u8], h: Header, level: u32, b: u32, block: BlockNumber
     if level + 1 == h.settings.levels {
         return Walked::Broken;
     }
+    let on = trail.enter(b, place);
     let next = step::target(t, h, level, b, block, place);
     match next {
-        Next::Kept(i, p) => kept_step(t, h, level, b, i, p, trail.enter(b, place)),
+        Next::Kept(i, p) => kept_step(t, h, level, b, i, p, on),
         Next::Points(_, _) => Walked::Broken,
         Next::Off => Walked::Broken,
     }

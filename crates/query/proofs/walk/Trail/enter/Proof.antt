@@ -1,0 +1,15 @@
+use borrow.Author.Needs.{needs}
+use native.Mathlib.Omega.{arith}
+use Rattle.query.proofs.WalkLaws as laws
+use Rattle.query.proofs.walk.Trail.enter.Statement.{statement}
+use Rattle.query.proofs.walk.Trail.enter.Tie as tie
+
+pub enter-spec : {M : Type 1} → statement M
+enter-spec =
+    tie.close
+    (tie.spec
+    (λ c. search needs)
+    (λ c. search needs)
+    (λ c. laws.onward-here _ _ (c .before .if1 .taken))
+    (λ c. search needs)
+    (λ c. laws.onward-left _ _ (c .before .if1 .left)))
