@@ -3,19 +3,21 @@ use mathlib.Core.List.{List, [], _∷_}
 use mathlib.Core.Option.{Option, none, some}
 use mathlib.Core.Bool.{Bool, true, false, cond, _&&_}
 use mathlib.Core.Path.{_≡_, refl, sym, ap, _∙_}
-use Prim.Native.Nat.{ℕ, zero, suc, _+_, _-_, _*_, _/_, _%_, _≤_, _<_, min}
+use Prim.Native.Nat.{ℕ, zero, suc, _+_, _-_, _*_, _/_, _%_, _^_, _≤_, _<_, min}
 use native.Mathlib.Omega.{arith}
 use native.Mathlib.Nat.{min-eq-left, min-eq-right, mul-div-cancel, mod-lt}
 use borrow.Author.Tests.{ltb-true, lt-ltb, le-ltb, eqb-true, ne-eqb}
 use lib.Dec.{ltb, eqb}
 use lib.ListN.{length}
 use Rattle.text.specs.ListLaws.{and-left, and-right}
+use Rattle.format.specs.Settings.{blockLength}
 use Rattle.format.specs.Layout as at
 use Rattle.format.specs.Path.{Path, Visit, visit, entered, keptBlock, pointingBlock, targetBlock, targetPlace, landBlock, landPlace, landVisits, lands, pathFrom, pathOf}
 use Rattle.format.specs.HeaderLaws.{Readable, full-step, full-pos}
 use Rattle.format.specs.Reading.{leftOver}
 use Rattle.paths.specs.Landing.{from-last, from-kept, from-pointing}
 use Rattle.paths.specs.Shift.{target-small}
+use Rattle.layout.specs.Settings.{Sized}
 use Rattle.layout.specs.declared.header.Header.{Header}
 use Rattle.layout.specs.declared.place.BlockNumber.{BlockNumber}
 use Rattle.layout.specs.declared.place.BlockPlace.{BlockPlace}
@@ -258,3 +260,64 @@ module _ (t : List ℕ) (h : Header) (level b i o : ℕ) (trail : Trail) (k : Po
           rw (above, z .1, z .2, on-is, k .on .b-is) at f in
           rw (above, from-pointing t n level i o (pointing-not-kept t level i (k .points)) (k .points) (z .0))
           (g ∙ walked-enter t trail level i o (pathFrom t (suc n) level (targetBlock t level i o) (targetPlace t level i o)))
+
+-- the start, on level 0
+
+pub sized-top : (t : List ℕ) (h : Header) → HeaderOf t h → Sized (h .settings) 0
+sized-top t h k =
+    let r = k .readable in record {
+      leaf-high = omega (arith, r .leaf-high, k .leaf-is);
+      arity-low = omega (arith, r .arity-low, k .arity-is);
+      arity-high = omega (arith, r .arity-high, k .arity-is);
+      levels-high = omega (arith, r .levels-high, k .levels-is);
+      level-in = omega (arith, r .levels-low, k .levels-is);
+      block-high = rw (k .leaf-is, k .arity-is, k .levels-is) (r .top-high);
+    }
+
+pub on-top : (t : List ℕ) (h : Header) (b : ℕ) → HeaderOf t h → b ≡ h .settings .leaf * h .settings .arity ^ (h .settings .levels - 1 - 0) → OnLevel t h 0 b
+unfolding at.fullLength blockLength
+on-top t h b k e = record {
+  header = k;
+  level-in = omega (arith, k .readable .levels-low);
+  b-is = e ∙ rw (k .leaf-is, k .arity-is, k .levels-is);
+}
+
+module _ (t : List ℕ) (h : Header) (b p : ℕ) (trail : Trail) (on : OnLevel t h 0 b) (x : Next) (x-is : x ≡ nextAt t 0 (p / b) (p % b)) where
+  top-path : (r : Walked) → r ≡ walked t trail (pathFrom t (at.settings t .levels - 1 - 0) 0 (p / b) (p % b)) → r ≡ walked t trail (pathOf t p)
+  unfolding pathOf
+  top-path r e =
+      let z : at.settings t .levels - 1 - 0 ≡ at.settings t .levels - 1 = omega arith in
+      rw (z, on .b-is) at e
+
+  small : p % b < b
+  small = mod-lt p (rw (on .b-is) (full-pos t (on .header .readable) 0))
+
+  module _ (j : BlockNumber) (q : BlockPlace) (e : x ≡ Kept j q) where
+    pub top-kept : (n : ℕ) → n ≡ 0 → KeptAt t h 0 b (j .0) (q .0) n
+    top-kept n z =
+        let w = next-kept t 0 (p / b) (p % b) x x-is j q e in
+        record { on = on; place-in = rw (w .2) small; kept = rw (w .1) (w .0); few = omega arith }
+
+    pub top-kept-by : (r : Walked) → r ≡ walked t trail (pathFrom t (at.settings t .levels - 1 - 0) 0 (j .0) (q .0)) → r ≡ walked t trail (pathOf t p)
+    top-kept-by r f =
+        let w = next-kept t 0 (p / b) (p % b) x x-is j q e in
+        top-path r (rw (w .1, w .2) at f)
+
+  module _ (j : BlockNumber) (q : BlockPlace) (e : x ≡ Points j q) where
+    pub top-points : Pointing t h 0 b (j .0) (q .0)
+    top-points =
+        let w = next-points t 0 (p / b) (p % b) x x-is j q e in
+        record { on = on; place-in = rw (w .3) small; points = rw (w .2) (w .1) }
+
+    pub top-points-by : (r : Walked) → r ≡ walked t trail (pathFrom t (at.settings t .levels - 1 - 0) 0 (j .0) (q .0)) → r ≡ walked t trail (pathOf t p)
+    top-points-by r f =
+        let w = next-points t 0 (p / b) (p % b) x x-is j q e in
+        top-path r (rw (w .2, w .3) at f)
+
+  pub top-off : x ≡ Off → Broken ≡ walked t trail (pathOf t p)
+  unfolding walked
+  top-off e =
+      let n = at.settings t .levels - 1 - 0 in
+      let w = next-off t 0 (p / b) (p % b) x x-is e in
+      let f : Broken ≡ walked t trail (pathFrom t n 0 (p / b) (p % b)) = rw (from-off t n 0 (p / b) (p % b) (w .0) (w .1)) in
+      top-path Broken f
