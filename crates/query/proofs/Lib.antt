@@ -1,2 +1,5 @@
 pub mod StepLaws
 pub mod WalkLaws
+pub mod HeaderLaws
+pub mod ByteLaws
+pub mod SpanLaws

@@ -23,14 +23,14 @@ pub field-there :
     (t : List ℕ) (h : Header) (level i f : ℕ) → HeaderOf t h → level < at.settings t .levels → i < at.levelCount t level → f < 4
     → FieldIn t (h .settings .counted) level i f
 field-there t h level i f k hl hi hf =
-    field-in t (k .readable) (h .settings .counted) level i f (k .counted-is) hl hi (omega arith)
+    field-in t (k .facts) (h .settings .counted) level i f (k .counted-is) hl hi (omega arith)
 
 module _ (t : List ℕ) (h : Header) (level b : ℕ) (on : OnLevel t h level b) where
   pub b-pos : 0 < b
-  b-pos = rw (on .b-is) (full-pos t (on .header .readable) level)
+  b-pos = rw (on .b-is) (full-pos t (on .header .facts) level)
 
   pub b-small : b ≤ 1048576
-  b-small = rw (on .b-is) (full-small t (on .header .readable) level)
+  b-small = rw (on .b-is) (full-small t (on .header .facts) level)
 
   -- a block past the table
   pub look-past : (i o : ℕ) → at.levelCount t level ≤ i → Off ≡ nextAt t level i o
@@ -60,7 +60,7 @@ module _ (t : List ℕ) (h : Header) (level b i o k : ℕ) (there : InTable t h 
 pub first-there : (t : List ℕ) (h : Header) (b p : ℕ) → OnLevel t h 0 b → p < h .length → InTable t h 0 b (p / b)
 first-there t h b p on small = record {
   on = on;
-  block-in = rw (on .b-is) (level0-holds t (on .header .readable) p (omega (arith, on .header .length-is)));
+  block-in = rw (on .b-is) (level0-holds t (on .header .facts) p (omega (arith, on .header .length-is)));
 }
 
 -- what it says of a block that it is kept, or that it points

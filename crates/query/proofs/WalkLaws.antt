@@ -5,7 +5,7 @@ use mathlib.Core.Bool.{Bool, true, false, cond, _&&_}
 use mathlib.Core.Path.{_≡_, refl, sym, ap, _∙_}
 use Prim.Native.Nat.{ℕ, zero, suc, _+_, _-_, _*_, _/_, _%_, _^_, _≤_, _<_, min}
 use native.Mathlib.Omega.{arith}
-use native.Mathlib.Nat.{min-eq-left, min-eq-right, mul-div-cancel, mod-lt}
+use native.Mathlib.Nat.{mul-div-cancel, mod-lt}
 use borrow.Author.Tests.{ltb-true, lt-ltb, le-ltb, eqb-true, ne-eqb}
 use lib.Dec.{ltb, eqb}
 use lib.ListN.{length}
@@ -32,13 +32,9 @@ use Rattle.query.proofs.StepLaws.{kept-in}
 
 -- what is carried
 
-pub onward-here : (trail : Trail) (here : ℕ) → here < trail .left → record { entered = trail .entered + 1; left = here } ≡ onward trail here
+pub onward-is : (trail : Trail) (here left : ℕ) → left ≡ min (trail .left) here → record { entered = trail .entered + 1; left = left } ≡ onward trail here
 unfolding onward
-onward-here trail here h = rw (min-eq-right {n = here} {m = trail .left} (omega arith))
-
-pub onward-left : (trail : Trail) (here : ℕ) → trail .left ≤ here → record { entered = trail .entered + 1; left = trail .left } ≡ onward trail here
-unfolding onward
-onward-left trail here h = rw (min-eq-left {n = trail .left} {m = here} h)
+onward-is trail here left e = rw e
 
 -- a block entered first is carried on
 pub walked-enter : (t : List ℕ) (trail : Trail) (l i o : ℕ) (r : Option Path)
@@ -122,7 +118,7 @@ module _ (t : List ℕ) where
 pub level-below : (t : List ℕ) (h : Header) (level b : ℕ) → OnLevel t h level b → (level + 1 ≡ h .settings .levels → ⊥)
     → OnLevel t h (level + 1) (b / h .settings .arity)
 level-below t h level b on more =
-    let k = on .header .readable in
+    let k = on .header .facts in
     let down : level + 1 < at.settings t .levels = omega (arith, on .level-in, on .header .levels-is, more) in record {
       header = on .header;
       level-in = down;
@@ -130,7 +126,7 @@ level-below t h level b on more =
     }
 
 pub arity-pos : (t : List ℕ) (h : Header) → HeaderOf t h → 0 < h .settings .arity
-arity-pos t h k = omega (arith, k .arity-is, k .readable .arity-low)
+arity-pos t h k = omega (arith, k .arity-is, k .facts .arity-low)
 
 module _ (t : List ℕ) (h : Header) (level b i o : ℕ) (trail : Trail) (k : KeptAt t h level b i o (trail .entered)) where
   pub leaf-at : (n link : ℕ) (on : Trail) → link ≡ at.link t level i → n ≡ link + o → n < h .«leaf_count» → on ≡ onward trail (b - o)
@@ -169,7 +165,7 @@ module _ (t : List ℕ) (h : Header) (level b i o : ℕ) (trail : Trail) (k : Ke
     unfolding onward
     kept-to j p e =
         let z = next-kept t (level + 1) (at.link t level i + o / below) (o % below) x x-is j p e in
-        let m : o % below < below = mod-lt o (rw (lower .b-is) (full-pos t (k .on .header .readable) (level + 1))) in
+        let m : o % below < below = mod-lt o (rw (lower .b-is) (full-pos t (k .on .header .facts) (level + 1))) in
         let n : on .entered ≡ trail .entered + 1 = ap (λ (y : Trail). y .entered) on-is in record {
           on = lower;
           place-in = rw (z .2) m;
@@ -182,7 +178,7 @@ module _ (t : List ℕ) (h : Header) (level b i o : ℕ) (trail : Trail) (k : Ke
     unfolding onward
     points-to j p e =
         let z = next-points t (level + 1) (at.link t level i + o / below) (o % below) x x-is j p e in
-        let m : o % below < below = mod-lt o (rw (lower .b-is) (full-pos t (k .on .header .readable) (level + 1))) in
+        let m : o % below < below = mod-lt o (rw (lower .b-is) (full-pos t (k .on .header .facts) (level + 1))) in
         let n : on .entered ≡ trail .entered + 1 = ap (λ (y : Trail). y .entered) on-is in (
           record { on = lower; place-in = rw (z .3) m; points = rw (z .2) (z .1) },
           omega (arith, k .few),
@@ -265,7 +261,7 @@ module _ (t : List ℕ) (h : Header) (level b i o : ℕ) (trail : Trail) (k : Po
 
 pub sized-top : (t : List ℕ) (h : Header) → HeaderOf t h → Sized (h .settings) 0
 sized-top t h k =
-    let r = k .readable in record {
+    let r = k .facts in record {
       leaf-high = omega (arith, r .leaf-high, k .leaf-is);
       arity-low = omega (arith, r .arity-low, k .arity-is);
       arity-high = omega (arith, r .arity-high, k .arity-is);
@@ -278,7 +274,7 @@ pub on-top : (t : List ℕ) (h : Header) (b : ℕ) → HeaderOf t h → b ≡ h 
 unfolding at.fullLength blockLength
 on-top t h b k e = record {
   header = k;
-  level-in = omega (arith, k .readable .levels-low);
+  level-in = omega (arith, k .facts .levels-low);
   b-is = e ∙ rw (k .leaf-is, k .arity-is, k .levels-is);
 }
 
@@ -290,7 +286,7 @@ module _ (t : List ℕ) (h : Header) (b p : ℕ) (trail : Trail) (on : OnLevel t
       rw (z, on .b-is) at e
 
   small : p % b < b
-  small = mod-lt p (rw (on .b-is) (full-pos t (on .header .readable) 0))
+  small = mod-lt p (rw (on .b-is) (full-pos t (on .header .facts) 0))
 
   module _ (j : BlockNumber) (q : BlockPlace) (e : x ≡ Kept j q) where
     pub top-kept : (n : ℕ) → n ≡ 0 → KeptAt t h 0 b (j .0) (q .0) n

@@ -5,6 +5,7 @@ use mathlib.Core.Path.{_≡_}
 use Prim.Native.Nat.{ℕ, _<_}
 use Rattle.format.specs.Layout as at
 use Rattle.format.specs.Path.{keptBlock, pointingBlock}
+use Rattle.format.specs.Verdict.{readable}
 use Rattle.format.specs.HeaderLaws.{Readable}
 use Rattle.layout.specs.declared.header.Header.{Header}
 use Rattle.query.specs.declared.step.Next.{Next}
@@ -20,7 +21,8 @@ module _ (t : List ℕ) where
   module _ (h : Header) where
     -- the tree passes questions 5 to 7, and this is its header
     pub record HeaderOf : Type 0 where
-      pub readable : Readable t
+      pub passes : readable t ≡ 0
+      pub facts : Readable t
       pub length-is : h .length ≡ at.textLength t
       pub leaf-is : h .settings .leaf ≡ at.settings t .leaf
       pub arity-is : h .settings .arity ≡ at.settings t .arity

@@ -37,18 +37,20 @@ impl Trail {
         requires { ⌜ (self .entered ≤ 16) × (place .0 < b) ⌝ }
         ensures { λ r. ⌜ r ≡ onward self (b - place .0) ⌝ }
     {
-        let here = b - place.0;
-        if here < self.left {
-            return Trail {
-                entered: self.entered + 1,
-                left: here,
-            };
-        }
         Trail {
             entered: self.entered + 1,
-            left: self.left,
+            left: shorter(self.left, b - place.0),
         }
     }
+}
+
+pub fn shorter(a: u32, b: u32) -> u32
+    ensures { λ r. ⌜ r ≡ min a b ⌝ }
+{
+    if b < a {
+        return b;
+    }
+    a
 }
 
 // The leaf byte that a kept block of the last level hands a place to.

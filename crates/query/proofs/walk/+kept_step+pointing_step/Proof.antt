@@ -54,7 +54,7 @@ pub +kept-step+pointing-step-spec : {M : Type 1} → statement M
     (λ c κs. c .before .before .before .pre .1)
     (λ c. laws.kept-last _ _ _ _ _ _ _ (c .before .before .before .before .pre .1) _ (c .before .if1 .taken) (c .leaf .ensures))
     (λ c. omega (arith, laws.arity-pos _ _ (c .before .before .before .before .pre .1 .on .header)))
-    (λ c κs. (omega (arith, c .before .before .before .before .pre .1 .few, c .before .before .before .before .pre .1 .on .level-in, c .before .before .before .before .pre .1 .on .header .readable .levels-high), c .before .before .before .before .pre .1 .place-in))
+    (λ c κs. (omega (arith, c .before .before .before .before .pre .1 .few, c .before .before .before .before .pre .1 .on .level-in, c .before .before .before .before .pre .1 .on .header .facts .levels-high), c .before .before .before .before .pre .1 .place-in))
     (λ c κs. (laws.level-below _ _ _ _ (c .before .before .before .before .before .pre .1 .on) (c .before .before .if1 .left), kept-in _ _ _ (c .before .before .before .before .before .pre .1 .kept)))
     (λ c. search needs)
     (λ c κs. (omega (arith, c .before .before .before .before .before .before .before .before .before .pre .0, c .before .before .before .before .before .before .before .before .before .pre .1 .on .level-in, c .before .before .before .before .before .before .before .before .before .pre .1 .on .header .levels-is, c .before .before .before .before .before .before .if1 .left), laws.kept-to _ _ _ _ _ _ _ (c .before .before .before .before .before .before .before .before .before .pre .1) (c .before .before .before .before .before .before .if1 .left) _ refl _ (c .before .before .before .before .enter .ensures) _ (c .before .before .before .child .ensures) _ _ (c .before .next .given .1)))
@@ -69,7 +69,7 @@ pub +kept-step+pointing-step-spec : {M : Type 1} → statement M
     pointing-step.Post
     (λ c. search needs)
     (λ c. laws.pointing-last _ _ _ _ _ _ _ (c .before .before .before .pre .1 .0) (c .if1 .taken))
-    (λ c κs. (omega (arith, c .before .before .before .pre .1 .1, c .before .before .before .pre .1 .0 .on .level-in, c .before .before .before .pre .1 .0 .on .header .readable .levels-high), c .before .before .before .pre .1 .0 .place-in))
+    (λ c κs. (omega (arith, c .before .before .before .pre .1 .1, c .before .before .before .pre .1 .0 .on .level-in, c .before .before .before .pre .1 .0 .on .header .facts .levels-high), c .before .before .before .pre .1 .0 .place-in))
     (λ c κs. c .before .before .before .before .pre .1 .0)
     (λ c. search needs)
     (λ c κs. (omega (arith, c .before .before .before .before .before .before .before .before .pre .0), laws.target-to _ _ _ _ _ _ _ (c .before .before .before .before .before .before .before .before .pre .1 .0) (c .before .before .before .before .before .if1 .left) _ (c .before .before .before .target .ensures) _ (c .before .before .before .before .enter .ensures) _ _ (c .before .next .given .1) (c .before .before .before .before .before .before .before .before .pre .1 .1)))

@@ -1,5 +1,4 @@
 use borrow.Author.Needs.{needs}
-use native.Mathlib.Omega.{arith}
 use Rattle.query.proofs.WalkLaws as laws
 use Rattle.query.proofs.walk.Trail.enter.Statement.{statement}
 use Rattle.query.proofs.walk.Trail.enter.Tie as tie
@@ -10,6 +9,5 @@ enter-spec =
     (tie.spec
     (λ c. search needs)
     (λ c. search needs)
-    (λ c. laws.onward-here _ _ (c .before .if1 .taken))
-    (λ c. search needs)
-    (λ c. laws.onward-left _ _ (c .before .if1 .left)))
+    (λ c κs. search needs)
+    (λ c. laws.onward-is _ _ _ (c .shorter .ensures)))
