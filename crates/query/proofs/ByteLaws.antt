@@ -95,7 +95,7 @@ module _ (t : List ℕ) (p : ℕ) where
   unfolding pathOf
   path-leaf q e = goes-leaf t (goes t (at.settings t .levels - 1) 0 (p / at.fullLength t 0) (p % at.fullLength t 0) q e)
 
-  path-long : (q : Path) → pathOf t p ≡ some q → 1 ≤ length (q .visits)
+  pub path-long : (q : Path) → pathOf t p ≡ some q → 1 ≤ length (q .visits)
   unfolding pathOf
   path-long q e = omega (arith, goes-long t (goes t (at.settings t .levels - 1) 0 (p / at.fullLength t 0) (p % at.fullLength t 0) q e))
 
