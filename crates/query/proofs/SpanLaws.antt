@@ -22,8 +22,9 @@ use Rattle.layout.specs.declared.header.HeaderRead.the-variants as read
 use Rattle.layout.specs.Header.{headerSays}
 use Rattle.query.specs.declared.Answer.{Answer}
 use Rattle.query.specs.declared.Answer.the-variants.{Byte, Refused}
+use Rattle.query.specs.declared.Copied.the-variants as copied
 use Rattle.query.specs.Steps.{HeaderOf}
-use Rattle.query.specs.Answers.{said, spanSays}
+use Rattle.query.specs.Answers.{said, spanSays, SpanAnswer}
 use Rattle.query.proofs.HeaderLaws.{header-refused, readable-small}
 use Rattle.query.proofs.ByteLaws.{path-long}
 
@@ -81,16 +82,16 @@ refused-14 t (some r) q long e = absurd (let z = ap (λ (s : Said). s .entered) 
 module _ (t : List ℕ) (h : Header) (p len : ℕ) (k : HeaderOf t h) where
   -- refused before any byte is read: the buffer stays
   module _ (d : List ℕ) where
-    number-leaves : (q : ℕ) → spanNumber t p len (length d) ≡ suc q → (suc q ≡ 14 → ⊥) → (refused (suc q) ≡ spanSays t p len (length d)) × (d ≡ spanLeaves t p len d)
+    number-leaves : (q : ℕ) → spanNumber t p len (length d) ≡ suc q → (suc q ≡ 14 → ⊥) → SpanAnswer t p len (length d) (copied.Refused (suc q)) × (d ≡ spanLeaves t p len d)
     unfolding spanSays spanLeaves
-    number-leaves q e other = (rw e, rw (e, ne-eqb (suc q) 0 (λ z. omega arith), ne-eqb (suc q) 14 other))
+    number-leaves q e other = (record { says = rw e; numbered = omega arith }, rw (e, ne-eqb (suc q) 0 (λ z. omega arith), ne-eqb (suc q) 14 other))
 
-    pub span-past : h .length < p + len → (refused 10 ≡ spanSays t p len (length d)) × (d ≡ spanLeaves t p len d)
+    pub span-past : h .length < p + len → SpanAnswer t p len (length d) (copied.Refused 10) × (d ≡ spanLeaves t p len d)
     unfolding spanNumber
     span-past past =
         number-leaves 9 (rw (k .passes, lt-leb (p + len) (at.textLength t) (omega (arith, k .length-is)))) (λ z. omega arith)
 
-    pub span-short : p + len ≤ h .length → length d < len → (refused 13 ≡ spanSays t p len (length d)) × (d ≡ spanLeaves t p len d)
+    pub span-short : p + len ≤ h .length → length d < len → SpanAnswer t p len (length d) (copied.Refused 13) × (d ≡ spanLeaves t p len d)
     unfolding spanNumber
     span-short low short =
         number-leaves 12 (rw (k .passes, le-leb (p + len) (at.textLength t) (omega (arith, k .length-is)), lt-leb len (length d) short)) (λ z. omega arith)
@@ -102,18 +103,18 @@ module _ (t : List ℕ) (h : Header) (p len : ℕ) (k : HeaderOf t h) where
       number-is = rw (k .passes, le-leb (p + len) (at.textLength t) (omega (arith, k .length-is)), le-leb len (length d) room)
 
       pub span-copied : (e : List ℕ) → true ≡ pathsHold t p len → e ≡ tabulate len (values t p) ++ drop len d
-          → (record { number = 0; value = len; entered = 0 } ≡ spanSays t p len (length d)) × (e ≡ spanLeaves t p len d)
+          → SpanAnswer t p len (length d) (copied.Bytes len) × (e ≡ spanLeaves t p len d)
       unfolding spanSays spanLeaves
       span-copied e all is =
           let z : spanNumber t p len (length d) ≡ 0 = rw (number-is, ← all) in
-          (rw z, rw (z, is))
+          (record { says = rw z; numbered = tt }, rw (z, is))
 
       pub span-broken : (e : List ℕ) (q : ℕ) → q ≡ 14 → false ≡ pathsHold t p len → e ≡ replicate len 0 ++ drop len d
-          → (refused q ≡ spanSays t p len (length d)) × (e ≡ spanLeaves t p len d)
+          → SpanAnswer t p len (length d) (copied.Refused q) × (e ≡ spanLeaves t p len d)
       unfolding spanSays spanLeaves
       span-broken e q q-is not-all is =
           let z : spanNumber t p len (length d) ≡ 14 = rw (number-is, ← not-all) in
-          (rw (z, q-is), rw (z, is))
+          (record { says = rw (z, q-is); numbered = omega arith }, rw (z, is))
 
 -- a byte's answer
 module _ (t : List ℕ) (h : Header) (p : ℕ) (k : HeaderOf t h) (i : ℕ) (low : p + i < h .length) (a : Answer) (a-is : said a ≡ byteSays t (p + i)) where
@@ -134,14 +135,14 @@ module _ (t : List ℕ) (h : Header) (p : ℕ) (k : HeaderOf t h) (i : ℕ) (low
 
 -- a tree that does not pass questions 5 to 7
 unread : (t : List ℕ) (p len : ℕ) (d : List ℕ) (j q : ℕ) → readable t ≡ suc j → q ≡ suc j
-    → (refused q ≡ spanSays t p len (length d)) × (d ≡ spanLeaves t p len d)
+    → SpanAnswer t p len (length d) (copied.Refused q) × (d ≡ spanLeaves t p len d)
 unfolding spanSays spanNumber spanLeaves
 unread t p len d j q z f =
     let n : spanNumber t p len (length d) ≡ suc j = rw (ne-eqb (readable t) 0 (λ y. omega arith)) z in
-    (rw (n, f), rw (n, ne-eqb (suc j) 0 (λ y. omega arith), ne-eqb (suc j) 14 (λ y. omega (arith, readable-small t))))
+    (record { says = rw (n, f); numbered = omega arith }, rw (n, ne-eqb (suc j) 0 (λ y. omega arith), ne-eqb (suc j) 14 (λ y. omega (arith, readable-small t))))
 
 pub span-unread : (t : List ℕ) (p len : ℕ) (d : List ℕ) (x : HeaderRead) → x ≡ headerSays t → (q : ℕ) → x ≡ read.Refused q
-    → (refused q ≡ spanSays t p len (length d)) × (d ≡ spanLeaves t p len d)
+    → SpanAnswer t p len (length d) (copied.Refused q) × (d ≡ spanLeaves t p len d)
 span-unread t p len d x x-is q e =
     let z = header-refused t x x-is q e in
     unread t p len d (z .0) q (z .1) (z .2)

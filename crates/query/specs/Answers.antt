@@ -25,6 +25,15 @@ copiedSaid (copied.Refused number) = refused number
 unfoldable pub spanSays : List ℕ → ℕ → ℕ → ℕ → Said
 spanSays t p len room = unless (spanNumber t p len room) (record { number = 0; value = len; entered = 0 })
 
+-- a refusal's number is not 0
+abbrev pub Numbered : Copied → Type 0
+Numbered (copied.Bytes len) = Unit {0}
+Numbered (copied.Refused number) = 1 ≤ number
+
+pub record SpanAnswer (t : List ℕ) (p len room : ℕ) (r : Copied) : Type 0 where
+  pub says : copiedSaid r ≡ spanSays t p len room
+  pub numbered : Numbered r
+
 -- where the run of place p is, in the tree
 pub record RunPart (t : List ℕ) (p : ℕ) (r : Part) : Type 0 where
   pub from-is : r .from ≡ runSays t p .0

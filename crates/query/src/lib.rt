@@ -10,7 +10,7 @@ ghost use mathlib.Core.Path.{_≡_};
 ghost use Prim.Native.Nat.{_+_};
 ghost use lib.ListN.{length, take, drop};
 ghost use Rattle.format.specs.Reading.{byteSays, runSays, spanLeaves};
-ghost use Rattle.query.specs.Answers.{said, copiedSaid, spanSays, RunPart};
+ghost use Rattle.query.specs.Answers.{said, RunPart, SpanAnswer};
 
 // A byte of the text with the number of blocks entered, or the number of the question that refuses.
 pub enum Answer {
@@ -59,7 +59,7 @@ fn run_part(t: &[u8], at: TextPlace) -> reading::Part
 
 // Copies the bytes from a place of the text, as many as asked for, to the start of the buffer.
 pub fn span(t: &[u8], at: TextPlace, len: u32, buffer: &mut [u8]) -> Copied
-    ensures { λ r. ⌜ copiedSaid r ≡ spanSays (now (t .entry)) (at .0) len (length (now (buffer .entry))) ⌝ }
+    ensures { λ r. ⌜ SpanAnswer (now (t .entry)) (at .0) len (length (now (buffer .entry))) r ⌝ }
     ensures { λ _. ⌜ now (buffer .exit) ≡ spanLeaves (now (t .entry)) (at .0) len (now (buffer .entry)) ⌝ }
 {
     let read = header::read_header(t);

@@ -11,7 +11,7 @@ ghost use mathlib.Core.List.{_++_};
 ghost use lib.ListN.{length, drop, replicate};
 ghost use Rattle.format.specs.Reading.{byteSays, spanLeaves};
 ghost use Rattle.query.specs.Steps.{HeaderOf};
-ghost use Rattle.query.specs.Answers.{said, copiedSaid, spanSays, RunPart};
+ghost use Rattle.query.specs.Answers.{said, RunPart, SpanAnswer};
 
 // A part of the tree's bytes.
 pub struct Part {
@@ -57,7 +57,7 @@ pub fn part_at(t: &[u8], h: Header, at: TextPlace) -> Part
 // Span: questions 10 and 13.
 pub fn span_at(t: &[u8], h: Header, at: TextPlace, len: u32, buffer: &mut [u8]) -> Copied
     requires { ⌜ HeaderOf (now t) h ⌝ }
-    ensures { λ r. ⌜ copiedSaid r ≡ spanSays (now (t .entry)) (at .0) len (length (now (buffer .entry))) ⌝ }
+    ensures { λ r. ⌜ SpanAnswer (now (t .entry)) (at .0) len (length (now (buffer .entry))) r ⌝ }
     ensures { λ _. ⌜ now (buffer .exit) ≡ spanLeaves (now (t .entry)) (at .0) len (now (buffer .entry)) ⌝ }
 {
     let end = at.0 as u64 + len as u64;
@@ -73,7 +73,7 @@ pub fn span_at(t: &[u8], h: Header, at: TextPlace, len: u32, buffer: &mut [u8]) 
 // Copies byte by byte; where one is refused, the part asked for is left zero.
 fn copy(t: &[u8], h: Header, at: TextPlace, len: u32, buffer: &mut [u8]) -> Copied
     requires { ⌜ (HeaderOf (now t) h) × (at .0 + len ≤ h .length) × (len ≤ length (now buffer)) ⌝ }
-    ensures { λ r. ⌜ copiedSaid r ≡ spanSays (now (t .entry)) (at .0) len (length (now (buffer .entry))) ⌝ }
+    ensures { λ r. ⌜ SpanAnswer (now (t .entry)) (at .0) len (length (now (buffer .entry))) r ⌝ }
     ensures { λ _. ⌜ now (buffer .exit) ≡ spanLeaves (now (t .entry)) (at .0) len (now (buffer .entry)) ⌝ }
 {
     let mut i: u32 = 0;

@@ -39,7 +39,15 @@ pub fn look(t: &[u8], h: Header, level: u32, b: u32, block: BlockNumber, place: 
 }
 
 // What the block some steps after another is.
-fn look_after(t: &[u8], h: Header, level: u32, b: u32, first: BlockNumber, steps: u32, place: BlockPlace) -> Next
+fn look_after(
+    t: &[u8],
+    h: Header,
+    level: u32,
+    b: u32,
+    first: BlockNumber,
+    steps: u32,
+    place: BlockPlace,
+) -> Next
     requires { ⌜ OnLevel (now t) h level b ⌝ }
     ensures { λ r. ⌜ r ≡ nextAt (now (t .entry)) level (first .0 + steps) (place .0) ⌝ }
 {
@@ -65,11 +73,26 @@ pub fn child(t: &[u8], h: Header, level: u32, b: u32, block: BlockNumber, place:
     ensures { λ r. ⌜ r ≡ nextAt (now (t .entry)) (level + 1) (at.link (now (t .entry)) level (block .0) + place .0 / b) (place .0 % b) ⌝ }
 {
     let link = record::link(t, h.settings.counted, level, block);
-    look_after(t, h, level + 1, b, BlockNumber(link), place.0 / b, BlockPlace(place.0 % b))
+    look_after(
+        t,
+        h,
+        level + 1,
+        b,
+        BlockNumber(link),
+        place.0 / b,
+        BlockPlace(place.0 % b),
+    )
 }
 
 // The block that a pointing block hands a place to: link at gap + place, or, if that is b or more, the next at that less b.
-pub fn target(t: &[u8], h: Header, level: u32, b: u32, block: BlockNumber, place: BlockPlace) -> Next
+pub fn target(
+    t: &[u8],
+    h: Header,
+    level: u32,
+    b: u32,
+    block: BlockNumber,
+    place: BlockPlace,
+) -> Next
     requires { ⌜ Pointing (now t) h level b (block .0) (place .0) ⌝ }
     ensures { λ r. ⌜ r ≡ nextAt (now (t .entry)) level (targetBlock (now (t .entry)) level (block .0) (place .0)) (targetPlace (now (t .entry)) level (block .0) (place .0)) ⌝ }
 {

@@ -54,7 +54,15 @@ pub fn shorter(a: u32, b: u32) -> u32
 }
 
 // The leaf byte that a kept block of the last level hands a place to.
-fn leaf(t: &[u8], h: Header, level: u32, b: u32, block: BlockNumber, place: BlockPlace, trail: Trail) -> Walked
+fn leaf(
+    t: &[u8],
+    h: Header,
+    level: u32,
+    b: u32,
+    block: BlockNumber,
+    place: BlockPlace,
+    trail: Trail,
+) -> Walked
     requires { ⌜ KeptAt (now t) h level b (block .0) (place .0) (trail .entered) ⌝ }
     ensures { λ r. ⌜ r ≡ walked (now (t .entry)) trail (pathFrom (now (t .entry)) 0 level (block .0) (place .0)) ⌝ }
 {
@@ -70,7 +78,15 @@ fn leaf(t: &[u8], h: Header, level: u32, b: u32, block: BlockNumber, place: Bloc
 }
 
 // From a kept block, which hands the place to a child.
-pub fn kept_step(t: &[u8], h: Header, level: u32, b: u32, block: BlockNumber, place: BlockPlace, trail: Trail) -> Walked
+pub fn kept_step(
+    t: &[u8],
+    h: Header,
+    level: u32,
+    b: u32,
+    block: BlockNumber,
+    place: BlockPlace,
+    trail: Trail,
+) -> Walked
     requires { ⌜ KeptAt (now t) h level b (block .0) (place .0) (trail .entered) ⌝ }
     ensures { λ r. ⌜ r ≡ walked (now (t .entry)) trail (pathFrom (now (t .entry)) (at.settings (now (t .entry)) .levels - 1 - level) level (block .0) (place .0)) ⌝ }
 {
@@ -89,7 +105,15 @@ pub fn kept_step(t: &[u8], h: Header, level: u32, b: u32, block: BlockNumber, pl
 }
 
 // From a pointing block, which hands the place to a kept block of its level; on the last level no block points.
-pub fn pointing_step(t: &[u8], h: Header, level: u32, b: u32, block: BlockNumber, place: BlockPlace, trail: Trail) -> Walked
+pub fn pointing_step(
+    t: &[u8],
+    h: Header,
+    level: u32,
+    b: u32,
+    block: BlockNumber,
+    place: BlockPlace,
+    trail: Trail,
+) -> Walked
     requires { ⌜ (Pointing (now t) h level b (block .0) (place .0)) × (trail .entered ≤ 2 * level) ⌝ }
     ensures { λ r. ⌜ r ≡ walked (now (t .entry)) trail (pathFrom (now (t .entry)) (at.settings (now (t .entry)) .levels - 1 - level) level (block .0) (place .0)) ⌝ }
 {

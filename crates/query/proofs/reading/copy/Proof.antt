@@ -39,9 +39,16 @@ copy-spec =
     (λ c. omega (arith, c .before .before .before .before .before .before .before .before .before .pre .2, c .before .before .before .before .before .before .loop .inv .1 .0))
     (λ c. omega arith)
     (λ c. omega arith)
-    (λ c. let a = laws.byte-good _ _ _ (c .before .before .before .before .before .before .before .before .before .pre .0) _ (omega (arith, c .before .before .before .before .before .before .before .before .before .pre .1)) _ (c .before .before .before .byte-at .ensures) _ _ (c .before .answer .given .1) in
-    (omega arith, (simp length-set (c .before .before .before .before .before .before .loop .inv .1 .0), (laws.tab-more (c .before .before .before .before .before .before .loop .i) _ (laws.values (c .before .before .before .before .before .before .before .before .before .args .t .now) (c .before .before .before .before .before .before .before .before .before .args .at .0)) (c .before .before .before .before .before .before .before .before .before .args .buffer .now) (c .before .before .before .before .before .before .loop .buffer) (omega (arith, c .before .before .before .before .before .before .before .before .before .pre .2)) (a .1) (c .before .before .before .before .before .before .loop .inv .1 .1 .0),
-    (drop-set-lt (c .before .before .before .before .before .before .before .before .before .args .len) (c .before .before .before .before .before .before .loop .buffer) (c .before .before .before .before .before .before .loop .i) _ (omega arith) ∙ c .before .before .before .before .before .before .loop .inv .1 .1 .1 .0, laws.rest-good _ _ _ _ (omega arith) (a .0) ∙ c .before .before .before .before .before .before .loop .inv .1 .1 .1 .1)))))
+    (λ c. let a = laws.byte-good _ _ _ (c .before .before .before .before .before .before .before .before .before .pre .0) _ (omega (arith, c .before .before .before .before .before .before .before .before .before .pre .1)) _ (c .before .before .before .byte-at .ensures) _ _ (c .before .answer .given .1) in (
+      omega arith,
+      (
+        simp length-set (c .before .before .before .before .before .before .loop .inv .1 .0),
+        (
+          laws.tab-more (c .before .before .before .before .before .before .loop .i) _ (laws.values (c .before .before .before .before .before .before .before .before .before .args .t .now) (c .before .before .before .before .before .before .before .before .before .args .at .0)) (c .before .before .before .before .before .before .before .before .before .args .buffer .now) (c .before .before .before .before .before .before .loop .buffer) (omega (arith, c .before .before .before .before .before .before .before .before .before .pre .2)) (a .1) (c .before .before .before .before .before .before .loop .inv .1 .1 .0),
+          (drop-set-lt (c .before .before .before .before .before .before .before .before .before .args .len) (c .before .before .before .before .before .before .loop .buffer) (c .before .before .before .before .before .before .loop .i) _ (omega arith) ∙ c .before .before .before .before .before .before .loop .inv .1 .1 .1 .0, laws.rest-good _ _ _ _ (omega arith) (a .0) ∙ c .before .before .before .before .before .before .loop .inv .1 .1 .1 .1),
+        ),
+      ),
+    ))
     (λ c. c .before .loop .inv .1 .0)
     (λ c. let e : c .before .loop .i ≡ c .before .before .before .before .args .len = omega arith in
     laws.span-copied _ _ _ _ (c .before .before .before .before .pre .0) _ (c .before .before .before .before .pre .1) (c .before .before .before .before .pre .2) _ (laws.rest-end _ _ _ _ e ∙ c .before .loop .inv .1 .1 .1 .1) (rw e at (c .before .loop .inv .1 .1 .0))))
