@@ -3,3 +3,4 @@ pub mod WalkLaws
 pub mod HeaderLaws
 pub mod ByteLaws
 pub mod SpanLaws
+pub mod Demands
