@@ -91,7 +91,7 @@ module _ (t : List ℕ) where
 
   -- Every place on a path lies in its block.
 
-  target-small : (l i o : ℕ) → pointingBlock t l i ≡ true → o < b t l → targetPlace t l i o < b t l
+  pub target-small : (l i o : ℕ) → pointingBlock t l i ≡ true → o < b t l → targetPlace t l i o < b t l
   unfolding pointingBlock
   target-small l i o pt h = go (lt-or-ge (at.gap t l i + o) (b t l))
     where

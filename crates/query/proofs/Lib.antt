@@ -1,0 +1,6 @@
+pub mod StepLaws
+pub mod WalkLaws
+pub mod HeaderLaws
+pub mod ByteLaws
+pub mod SpanLaws
+pub mod Demands
