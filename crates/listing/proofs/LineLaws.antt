@@ -1,12 +1,12 @@
 -- What is counted of a level, and the lines as they are put one after another.
-use mathlib.Core.List.{List, [], _∷_, _++_}
+use mathlib.Core.List.{List, [], _∷_}
 use mathlib.Core.Bool.{Bool, true, false, cond}
 use mathlib.Core.Path.{_≡_, refl, sym, ap, _∙_}
 use Prim.Native.Nat.{ℕ, zero, suc, _+_, _*_, _≤_, _<_}
 use native.Mathlib.Omega.{arith}
 use native.Mathlib.Numerals.{add-one}
 use borrow.Author.Tests.{eq-eqb, ne-eqb, le-leb, lt-leb}
-use lib.ListN.{length, length-append}
+use lib.ListN.{length}
 use lib.Dec.{eqb}
 use Rattle.text.specs.Lists.{countBelow}
 use Rattle.format.specs.Words.{wordAt}
@@ -18,7 +18,7 @@ use Rattle.layout.specs.Record.{FieldIn, field-in}
 use Rattle.listing.specs.Written.{Put}
 use Rattle.listing.specs.Lines.{figure, line, hasKind, levelLine, linesBelow, refusedLine, linesOf, listLines, listed}
 use Rattle.listing.specs.Tables.{Level}
-use Rattle.listing.proofs.WrittenLaws.{then-put, length-put, put-nothing, put-within}
+use Rattle.listing.proofs.WrittenLaws.{then-put, put-nothing, put-within}
 
 -- Counting.
 
