@@ -1,11 +1,11 @@
 -- What the code finds of a block, as question 8 says it.
 use mathlib.Core.List.{List}
 use mathlib.Core.Logic.{_≢_}
-use mathlib.Core.Bool.{Bool, true, false, cond, not, _&&_, _||_}
+use mathlib.Core.Bool.{Bool, true, false, not, _&&_, _||_}
 use mathlib.Core.Path.{_≡_, refl, sym, ap, _∙_}
-use Prim.Native.Nat.{ℕ, _+_, _-_, _*_, _/_, _≤_, _<_, min}
+use Prim.Native.Nat.{ℕ, _+_, _-_, _*_, _≤_, _<_, min}
 use native.Mathlib.Omega.{arith}
-use native.Mathlib.Nat.{div-one, mul-le-mul}
+use native.Mathlib.Nat.{div-one}
 use borrow.Author.Tests.{eq-eqb, ne-eqb, lt-ltb, le-ltb, le-leb, lt-leb, ltb-true}
 use lib.Dec.{eqb, leb, ltb}
 use Rattle.text.specs.Lists.{allBelow, sumBelow}
@@ -13,7 +13,7 @@ use Rattle.text.specs.ListLaws.{and-left}
 use Rattle.format.specs.Settings.{pieces}
 use Rattle.format.specs.Layout as at
 use Rattle.format.specs.Fits.{lastLevel, widthAt, keptRight, pointingRight, blockRight}
-use Rattle.format.specs.HeaderLaws.{Readable, full-pos, full-small}
+use Rattle.format.specs.HeaderLaws.{full-pos, full-small}
 use Rattle.layout.specs.Record.{FieldIn, field-in}
 use Rattle.links.specs.declared.level.Level.{Level}
 use Rattle.links.specs.Level.{LevelOf, partLength, roomBelow, childAsCut, targetRight, nextRight}

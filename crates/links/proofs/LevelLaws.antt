@@ -1,7 +1,7 @@
 -- The header's words as the accessors of `Layout` name them, and the parts of a level.
 use mathlib.Core.List.{List}
 use mathlib.Core.Logic.{_≢_}
-use mathlib.Core.Path.{_≡_, refl, sym, ap, _∙_}
+use mathlib.Core.Path.{_≡_, sym, ap, _∙_}
 use Prim.Native.Nat.{ℕ, _+_, _-_, _*_, _^_, _≤_, _<_}
 use native.Mathlib.Omega.{arith}
 use borrow.Author.Tests.{eq-eqb, ne-eqb}
@@ -9,11 +9,9 @@ use lib.ListN.{length}
 use Rattle.format.specs.Settings.{blockLength}
 use Rattle.format.specs.Layout as at
 use Rattle.format.specs.Fits.{lastLevel}
-use Rattle.format.specs.HeaderLaws.{Readable}
 use Rattle.layout.specs.declared.header.Header.{Header}
 use Rattle.layout.specs.Settings.{Sized}
-use Rattle.links.specs.declared.level.Level.{Level}
-use Rattle.links.specs.Level.{HeaderOf, LevelOf, partLength, roomBelow}
+use Rattle.links.specs.Level.{HeaderOf, partLength, roomBelow}
 
 module _ (t : List ℕ) (h : Header) (k : HeaderOf t h) where
   pub levels-is : h .settings .levels ≡ at.settings t .levels

@@ -8,7 +8,6 @@ use layout::record;
 ghost use mathlib.Core.Path.{_≡_};
 ghost use Prim.Native.Nat.{_+_, _-_, _≤_, _<_, min};
 ghost use Rattle.text.specs.Lists.{allBelow, sumBelow};
-ghost use Rattle.format.specs.Layout as at;
 ghost use Rattle.format.specs.Fits.{widthAt, keptRight, pointingRight, blockRight};
 ghost use Rattle.links.specs.Level.{LevelOf, childAsCut, targetRight, nextRight};
 

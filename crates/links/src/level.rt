@@ -2,7 +2,7 @@
 use layout::header::Header;
 use layout::record;
 ghost use mathlib.Core.Path.{_≡_};
-ghost use Prim.Native.Nat.{_<_, _≤_};
+ghost use Prim.Native.Nat.{_<_};
 ghost use Rattle.links.specs.Level.{HeaderOf, LevelOf, partLength, roomBelow};
 
 // What the blocks of a level are checked against.

@@ -7,7 +7,7 @@ use layout::header::Header;
 use layout::place::BlockNumber;
 use layout::record;
 ghost use mathlib.Core.Path.{_≡_};
-ghost use Prim.Native.Nat.{_≤_, _<_};
+ghost use Prim.Native.Nat.{_<_};
 ghost use Rattle.text.specs.Lists.{allBelow};
 ghost use Rattle.format.specs.Fits.{linksOk};
 ghost use Rattle.links.specs.Level.{HeaderOf, LevelOf, startAsCut, levelRight};

@@ -1,15 +1,12 @@
 -- The digits that `io::decimal` gives are those of `decimal`.
-use mathlib.Core.List.{List, [], _∷_, _++_}
-use mathlib.Core.Path.{_≡_, refl, sym, ap, _∙_}
-use mathlib.Core.Bool.{Bool, true, false, cond}
+use mathlib.Core.List.{List, [], _∷_}
+use mathlib.Core.Path.{_≡_, refl, ap, _∙_}
 use mathlib.Core.Logic.{_⊎_, inl, inr}
-use Prim.Native.Nat.{ℕ, zero, suc, _+_, _-_, _*_, _/_, _%_, _^_, _≤_, _<_}
+use Prim.Native.Nat.{ℕ, zero, suc, _+_, _-_, _/_, _%_, _^_, _≤_, _<_}
 use native.Mathlib.Omega.{arith}
-use native.Mathlib.Numerals.{add-one}
-use native.Mathlib.Nat.{pow-suc, pow-zero, one-le-pow, pow-le-pow-right, le-trans, mod-lt, mod-eq-of-lt, div-lt-iff-lt-mul, le-div-iff-mul-le}
+use native.Mathlib.Nat.{pow-suc, pow-zero, one-le-pow, pow-le-pow-right, mod-lt, mod-eq-of-lt, div-lt-iff-lt-mul, le-div-iff-mul-le}
 use borrow.Author.Tests.{lt-ltb, le-ltb}
 use lib.ListN.{length, set, length-append}
-use lib.Dec.{ltb}
 use Rattle.text.specs.ListLaws.{lt-or-ge}
 use Rattle.io.specs.Digits.{digits, glyph, Fewest}
 use Rattle.listing.specs.Lines.{digitsWithin, decimal, figure}

@@ -1,3 +1,3 @@
 mod WrittenLaws
 mod DigitLaws
-mod LineLaws
+pub mod LineLaws

@@ -1,12 +1,12 @@
 -- What is counted of a level, and the lines as they are put one after another.
-use mathlib.Core.List.{List, [], _∷_, _++_}
+use mathlib.Core.List.{List, [], _∷_}
 use mathlib.Core.Bool.{Bool, true, false, cond}
 use mathlib.Core.Path.{_≡_, refl, sym, ap, _∙_}
 use Prim.Native.Nat.{ℕ, zero, suc, _+_, _*_, _≤_, _<_}
 use native.Mathlib.Omega.{arith}
 use native.Mathlib.Numerals.{add-one}
-use borrow.Author.Tests.{eq-eqb, ne-eqb}
-use lib.ListN.{length, length-append}
+use borrow.Author.Tests.{eq-eqb, ne-eqb, le-leb, lt-leb}
+use lib.ListN.{length}
 use lib.Dec.{eqb}
 use Rattle.text.specs.Lists.{countBelow}
 use Rattle.format.specs.Words.{wordAt}
@@ -16,9 +16,9 @@ use Rattle.format.specs.Verdict.{verdict}
 use Rattle.format.specs.VerdictLaws.{accepted-readable}
 use Rattle.layout.specs.Record.{FieldIn, field-in}
 use Rattle.listing.specs.Written.{Put}
-use Rattle.listing.specs.Lines.{figure, line, hasKind, levelLine, linesBelow, refusedLine, linesOf, listLines}
+use Rattle.listing.specs.Lines.{figure, line, hasKind, levelLine, linesBelow, refusedLine, linesOf, listLines, listed}
 use Rattle.listing.specs.Tables.{Level}
-use Rattle.listing.proofs.WrittenLaws.{then-put, length-put, put-nothing, put-within}
+use Rattle.listing.proofs.WrittenLaws.{then-put, put-nothing, put-within}
 
 -- Counting.
 
@@ -110,3 +110,13 @@ module _ (t : List ℕ) where
 
 pub count-done : (p : ℕ → Bool) (i count n found : ℕ) → i ≤ count → count ≤ i → count ≡ n → found ≡ countBelow i p → found ≡ countBelow n p
 count-done p i count n found a b e f = let q : i ≡ n = omega arith in rw q at f
+
+-- Question 15 first.
+
+pub listed-long : {d e : List ℕ} {end : ℕ} (input : List ℕ) → 65536 < length input → Put d e 0 end (refusedLine 15) 19 → Put d e 0 end (listed input) 512
+unfolding listed
+listed-long input h p = rw (lt-leb (length input) 65536 h) (put-within 512 (omega arith) p)
+
+pub listed-short : {d e : List ℕ} {end : ℕ} (input : List ℕ) → length input ≤ 65536 → Put d e 0 end (listLines input) 512 → Put d e 0 end (listed input) 512
+unfolding listed
+listed-short input h p = rw (le-leb (length input) 65536 h) p

@@ -1,11 +1,11 @@
 -- Laws of `written`: what is put after what was put before.
-use mathlib.Core.List.{List, [], _∷_, _++_, append-assoc, append-nil}
+use mathlib.Core.List.{List, [], _∷_, _++_, append-assoc}
 use mathlib.Core.Path.{_≡_, refl, sym, ap, _∙_}
 use Prim.Native.Nat.{ℕ, suc, _+_, _≤_, _<_}
 use native.Mathlib.Omega.{arith}
 use native.Mathlib.Numerals.{add-one}
-use lib.ListN.{length, getD, set, take, drop, length-append, length-take, length-drop, take-append-drop}
-use lib.Seq.{paste, paste-suc, paste-zero, take-length, take-at, drop-at, drop-drop, drop-append-add, length-take-le, set-split, append-snoc}
+use lib.ListN.{length, getD, set, take, drop, length-append, length-drop}
+use lib.Seq.{paste, paste-suc, paste-zero, take-length, take-at, drop-drop, drop-append-add, length-take-le, set-split, append-snoc}
 use Rattle.listing.specs.Written.{written, Put}
 
 module _ (d : List ℕ) (at : ℕ) where

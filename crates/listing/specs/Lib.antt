@@ -1,3 +1,4 @@
 pub mod Written
 pub mod Lines
 pub mod Tables
+pub mod Worked

@@ -1,12 +1,11 @@
-use Prim.Native.Nat.{ℕ, _-_, _+_, _≤_}
+use Prim.Native.Nat.{_-_, _≤_}
 use borrow.Author.Needs.{needs}
 use mathlib.Core.Bool.{true}
-use mathlib.Core.Path.{_≡_, sym}
+use mathlib.Core.Path.{_≡_}
 use native.Mathlib.Omega.{arith}
 use Rattle.format.specs.Fits.{widthAt, blockRight}
 use Rattle.layout.proofs.Scan.{scan-none, scan-more}
 use Rattle.layout.proofs.Tests.{failed, held}
-use Rattle.links.proofs.BlockLaws as laws
 use Rattle.links.proofs.TreeLaws as tree
 use Rattle.links.proofs.level_right.Statement.{statement}
 use Rattle.links.proofs.level_right.Tie as tie

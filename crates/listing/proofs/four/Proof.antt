@@ -1,5 +1,4 @@
 use borrow.Author.Needs.{needs}
-use native.Mathlib.Omega.{arith}
 use Rattle.listing.proofs.LineLaws as laws
 use Rattle.listing.proofs.four.Statement.{statement}
 use Rattle.listing.proofs.four.Tie as tie

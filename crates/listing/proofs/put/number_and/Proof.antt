@@ -1,5 +1,4 @@
 use borrow.Author.Needs.{needs}
-use native.Mathlib.Omega.{arith}
 use Rattle.listing.proofs.DigitLaws.{figure-put}
 use Rattle.listing.proofs.put.number_and.Statement.{statement}
 use Rattle.listing.proofs.put.number_and.Tie as tie
