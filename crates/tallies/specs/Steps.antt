@@ -7,7 +7,7 @@ use mathlib.Core.Logic.{_⊎_, inl, inr}
 use Prim.Native.Nat.{ℕ, zero, suc, _+_, _-_, _*_, _/_, _%_, _≤_, _<_}
 use native.Mathlib.Omega.{arith}
 use native.Mathlib.Numerals.{add-one}
-use native.Mathlib.Nat.{div-add-mod', mod-lt, mod-eq-of-lt, add-mul, mul-comm, mul-div-cancel, div-mul-le-self}
+use native.Mathlib.Nat.{div-add-mod', mod-lt, mod-eq-of-lt, add-mul, mul-comm, mul-div-cancel, div-mul-le-self, zero-mul, one-mul, add-zero, mul-mod-left}
 use borrow.Author.Tests.{lt-ltb, le-ltb}
 use lib.ListN.{length}
 use lib.Dec.{ltb}
@@ -28,6 +28,11 @@ use Rattle.paths.specs.Fitting.{Fitting, fits-facts}
 use Rattle.paths.specs.OneText.{text-length, text-fits}
 use Rattle.tallies.specs.Local.{byteOf, inLeaves, upLength, handBlock, handPlace, handPlus, handMinus, lastChild}
 use Rattle.tallies.specs.Level.{tally, parentPlace, Block, Level}
+
+-- a number other than 0 is above it
+pos-of : (n : ℕ) → (n ≡ 0 → ⊥) → 1 ≤ n
+pos-of zero h = absurd (h refl)
+pos-of (suc n) h = omega arith
 
 module _ (t : List ℕ) where
   -- Stretches.
@@ -176,3 +181,138 @@ module _ (t : List ℕ) where
         let j = at.link t l a + q in
         let e : q * b t (l + 1) + len t (l + 1) j ≡ len t l a = omega (arith, last-child-end l a hl ha kept, p .start-is) in
         omega (arith, rw e at (child-tally l a q c (len t (l + 1) j) hl p h), h .inside-is)
+
+    -- Siblings.
+
+    -- a block that starts where its parent starts
+    pub at-parent : (l i : ℕ) → l < H t → i < N t l → s t l i % upLength t l ≡ 0 → parentPlace t l (s t l i) ≡ s t l i
+    unfolding upLength parentPlace
+    at-parent zero i hl hi e = omega (arith, mod-eq-of-lt (start-below t k d 0 i hl hi))
+    at-parent (suc l) i hl hi e = omega (arith, div-add-mod' (s t (suc l) i) (b t l))
+
+    -- any other has a left neighbour under the same parent, which ends where it starts
+    pub record Neighbour (l i : ℕ) : Type 0 where
+      pub low : 1 ≤ i
+      pub same-parent : parentPlace t l (s t l (i - 1)) ≡ parentPlace t l (s t l i)
+      pub parent-low : parentPlace t l (s t l i) ≤ s t l (i - 1)
+      pub meets : s t l (i - 1) + len t l (i - 1) ≡ s t l i
+
+    -- a block that is full where another starts within the text
+    full-before : (l i x : ℕ) → s t l i + b t l ≡ x → x < at.textLength t → s t l i + len t l i ≡ x
+    unfolding at.blockLengthAt
+    full-before l i x e h = omega arith
+
+    neighbour-top : (i : ℕ) → i < N t 0 → 0 < H t → (s t 0 i % upLength t 0 ≡ 0 → ⊥) → Neighbour 0 i
+    unfolding upLength parentPlace
+    neighbour-top i hi hl ne =
+        let below = start-below t k d 0 i hl hi in
+        let z : i ≡ 0 → ⊥ = λ e. ne (mod-eq-of-lt below ∙ d .start0 i hi ∙ rw e (zero-mul (b t 0))) in
+        let low : 1 ≤ i = pos-of i z in
+        let e : i ≡ (i - 1) + 1 = omega arith in
+        let f : i * b t 0 ≡ (i - 1) * b t 0 + b t 0 = ap (λ (x : ℕ). x * b t 0) e ∙ add-mul (i - 1) 1 (b t 0) ∙ rw one-mul in record {
+          low = low;
+          same-parent = refl;
+          parent-low = omega arith;
+          meets = full-before 0 (i - 1) (s t 0 i) (omega (arith, d .start0 i hi, d .start0 (i - 1) (omega arith))) below;
+        }
+
+    neighbour-under : (l i : ℕ) → l + 1 < H t → i < N t (l + 1) → (s t (l + 1) i % upLength t (l + 1) ≡ 0 → ⊥) → Neighbour (l + 1) i
+    neighbour-under l i hl hi ne = go (parent t k d l i hl hi)
+      where
+        go : (a j : ℕ) × Parent t l i a j → Neighbour (l + 1) i
+        go w =
+            let a = w .0 in
+            let j = w .1 in
+            let p = w .2 in
+            let c = b t (l + 1) in
+            let m = start-multiple t k d l a (omega arith) (p .below) in
+            let z : j ≡ 0 → ⊥ = λ e. ne (rw (up-under l, p .start-is, e, zero-mul c, add-zero, m .1) (mul-mod-left (m .0) (b t l))) in
+            let low : 1 ≤ j = pos-of j z in
+            let e : j ≡ (j - 1) + 1 = omega arith in
+            let f : j * c ≡ (j - 1) * c + c = ap (λ (x : ℕ). x * c) e ∙ add-mul (j - 1) 1 c ∙ rw one-mul in
+            let p₁ = child-of l a (j - 1) hl (p .below) (p .kept) (omega (arith, p .within)) in
+            let g : at.link t l a + (j - 1) ≡ i - 1 = omega (arith, p .number) in
+            let q : Parent t l (i - 1) a (j - 1) = rw g at p₁ in record {
+              low = omega (arith, p .number);
+              same-parent = parent-place l (i - 1) a (j - 1) hl q ∙ sym (parent-place l i a j hl p);
+              parent-low = rw (parent-place l i a j hl p) (omega (arith, q .start-is));
+              meets = full-before (l + 1) (i - 1) (s t (l + 1) i) (omega (arith, q .start-is, p .start-is)) (start-below t k d (l + 1) i hl hi);
+            }
+
+    pub neighbour : (l i : ℕ) → l < H t → i < N t l → (s t l i % upLength t l ≡ 0 → ⊥) → Neighbour l i
+    neighbour zero i hl hi ne = neighbour-top i hi hl ne
+    neighbour (suc l) i hl hi ne =
+        let e : suc l ≡ l + 1 = sym (add-one l) in
+        let ne₁ : s t (l + 1) i % upLength t (l + 1) ≡ 0 → ⊥ = rw e at ne in
+        rw e (neighbour-under l i (omega arith) (rw e at hi) ne₁)
+
+    -- Targets.
+
+    -- a pointing block's place, with the first gap bytes of the block pointed to, in the block that the place is handed to
+    points-hand : (l i o c : ℕ) → i < N t l → at.isKept t l i ≡ false → Pointing t l i → o < len t l i
+        → at.inside t l (at.link t l i) c ≡ tally t c (s t l (at.link t l i)) (len t l (at.link t l i))
+        → cond (ltb (at.gap t l i + o) (b t l)) 0 (at.inside t l (at.link t l i) c) + tally t c (s t l (targetBlock t l i o)) (targetPlace t l i o + 1)
+        ≡ tally t c (s t l (at.link t l i)) (at.gap t l i) + tally t c (s t l i) (o + 1)
+    points-hand l i o c hi un p ho ins = go (lt-or-ge (at.gap t l i + o) (b t l))
+      where
+        hl : l < H t
+        hl = omega (arith, p .above)
+
+        j : ℕ
+        j = at.link t l i
+
+        g : ℕ
+        g = at.gap t l i
+
+        whole : tally t c (s t l j) (g + o + 1) ≡ tally t c (s t l j) g + tally t c (s t l i) (o + 1)
+        whole = omega (arith, tally-parts c (s t l j) (s t l j + g) g (o + 1) (g + o + 1) refl (omega arith), points-tally l i (o + 1) c hi un (omega arith) hl)
+
+        go : (g + o < b t l) ⊎ (b t l ≤ g + o)
+            → cond (ltb (g + o) (b t l)) 0 (at.inside t l j c) + tally t c (s t l (targetBlock t l i o)) (targetPlace t l i o + 1)
+            ≡ tally t c (s t l j) g + tally t c (s t l i) (o + 1)
+        go (inl h) = let e = target-first t l i o h in rw (lt-ltb _ _ h, e .0, e .1) (omega (arith, whole))
+        go (inr h) =
+            let e = target-second t l i o h in
+            let f = p .next (omega arith) in
+            let full = target-full t k d l i p hi in
+            let in₁ : at.inside t l j c ≡ tally t c (s t l j) (b t l) = ins ∙ ap (tally t c (s t l j)) full in
+            let two = tally-parts c (s t l j) (s t l (j + 1)) (b t l) (g + o - b t l + 1) (g + o + 1) (f .start-is) (omega arith) in
+            rw (le-ltb _ _ h, e .0, e .1) (omega (arith, whole, in₁, two))
+
+    -- a place of a block is handed to a kept block of its level
+    pub record Handed (l i o c : ℕ) : Type 0 where
+      pub below : handBlock t l i o < N t l
+      pub kept : at.isKept t l (handBlock t l i o) ≡ true
+      pub inside : handPlace t l i o < len t l (handBlock t l i o)
+      pub count : handPlus t l i o c + tally t c (s t l (handBlock t l i o)) (handPlace t l i o + 1) ≡ handMinus t l i c + tally t c (s t l i) (o + 1)
+
+    pub handed-kept : (l i o c : ℕ) → i < N t l → at.isKept t l i ≡ true → o < len t l i → Handed l i o c
+    unfolding handBlock handPlace handPlus handMinus
+    handed-kept l i o c hi kept ho =
+        let e₁ : handBlock t l i o ≡ i = rw kept in
+        let e₂ : handPlace t l i o ≡ o = rw kept in
+        record { below = rw e₁ hi; kept = rw e₁ kept; inside = rw (e₁, e₂) ho; count = rw kept (omega arith) }
+
+    pub handed-points : (l i o c : ℕ) → l < H t → i < N t l → at.isKept t l i ≡ false → o < len t l i
+        → at.inside t l (at.link t l i) c ≡ tally t c (s t l (at.link t l i)) (len t l (at.link t l i))
+        → at.skip t l i c ≡ tally t c (s t l (at.link t l i)) (at.gap t l i) → Handed l i o c
+    unfolding handBlock handPlace handPlus handMinus
+    handed-points l i o c hl hi un ho ins sk =
+        let p = d .points l i hl hi un in
+        let w = target t k d l i o hi p ho in
+        let e₁ : handBlock t l i o ≡ targetBlock t l i o = rw un in
+        let e₂ : handPlace t l i o ≡ targetPlace t l i o = rw un in
+        record { below = rw e₁ (w .below); kept = rw e₁ (w .kept); inside = rw (e₁, e₂) (w .inside); count = rw un (omega (arith, points-hand l i o c hi un p ho ins, sk)) }
+
+    -- where the level's counts are true
+    pub skip-points : (l i c : ℕ) → at.isKept t l i ≡ false → Block t l i c → at.skip t l i c ≡ tally t c (s t l (at.link t l i)) (at.gap t l i)
+    skip-points l i c un h = h .skip-is ∙ rw un
+
+    pub handed : (l i o c : ℕ) → l < H t → i < N t l → o < len t l i → c < at.countedCount t → Level t l → Handed l i o c
+    handed l i o c hl hi ho hc h = go (bool-cases (at.isKept t l i))
+      where
+        go : (at.isKept t l i ≡ true) ⊎ (at.isKept t l i ≡ false) → Handed l i o c
+        go (inl kept) = handed-kept l i o c hi kept ho
+        go (inr un) =
+            let p = d .points l i hl hi un in
+            handed-points l i o c hl hi un ho (h (at.link t l i) c (p .target-below) hc .inside-is) (skip-points l i c un (h i c hi hc))
