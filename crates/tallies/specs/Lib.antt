@@ -1,3 +1,4 @@
 pub mod Local
 pub mod Level
 pub mod Steps
+pub mod Exact

@@ -249,7 +249,7 @@ module _ (t : List ℕ) where
     -- Targets.
 
     -- a pointing block's place, with the first gap bytes of the block pointed to, in the block that the place is handed to
-    points-hand : (l i o c : ℕ) → i < N t l → at.isKept t l i ≡ false → Pointing t l i → o < len t l i
+    pub points-hand : (l i o c : ℕ) → i < N t l → at.isKept t l i ≡ false → Pointing t l i → o < len t l i
         → at.inside t l (at.link t l i) c ≡ tally t c (s t l (at.link t l i)) (len t l (at.link t l i))
         → cond (ltb (at.gap t l i + o) (b t l)) 0 (at.inside t l (at.link t l i) c) + tally t c (s t l (targetBlock t l i o)) (targetPlace t l i o + 1)
         ≡ tally t c (s t l (at.link t l i)) (at.gap t l i) + tally t c (s t l i) (o + 1)
