@@ -7,7 +7,7 @@ use mathlib.Core.Logic.{_⊎_, inl, inr}
 use Prim.Native.Nat.{ℕ, zero, suc, _+_, _-_, _*_, _/_, _%_, _≤_, _<_}
 use native.Mathlib.Omega.{arith}
 use native.Mathlib.Numerals.{add-one}
-use native.Mathlib.Nat.{div-add-mod', mod-lt, mod-eq-of-lt, add-mul, mul-comm, mul-div-cancel, div-mul-le-self, zero-mul, one-mul, add-zero, mul-mod-left}
+use native.Mathlib.Nat.{pos-of-ne-zero, div-add-mod', mod-lt, mod-eq-of-lt, add-mul, mul-comm, mul-div-cancel, div-mul-le-self, zero-mul, one-mul, add-zero, mul-mod-left}
 use borrow.Author.Tests.{lt-ltb, le-ltb}
 use lib.ListN.{length}
 use lib.Dec.{ltb}
@@ -28,11 +28,6 @@ use Rattle.paths.specs.Fitting.{Fitting, fits-facts}
 use Rattle.paths.specs.OneText.{text-length, text-fits}
 use Rattle.tallies.specs.Local.{byteOf, inLeaves, upLength, handBlock, handPlace, handPlus, handMinus, lastChild}
 use Rattle.tallies.specs.Level.{tally, parentPlace, Block, Level}
-
--- a number other than 0 is above it
-pos-of : (n : ℕ) → (n ≡ 0 → ⊥) → 1 ≤ n
-pos-of zero h = absurd (h refl)
-pos-of (suc n) h = omega arith
 
 module _ (t : List ℕ) where
   -- Stretches.
@@ -207,7 +202,7 @@ module _ (t : List ℕ) where
     neighbour-top i hi hl ne =
         let below = start-below t k d 0 i hl hi in
         let z : i ≡ 0 → ⊥ = λ e. ne (mod-eq-of-lt below ∙ d .start0 i hi ∙ rw e (zero-mul (b t 0))) in
-        let low : 1 ≤ i = pos-of i z in
+        let low : 1 ≤ i = pos-of-ne-zero z in
         let e : i ≡ (i - 1) + 1 = omega arith in
         let f : i * b t 0 ≡ (i - 1) * b t 0 + b t 0 = ap (λ (x : ℕ). x * b t 0) e ∙ add-mul (i - 1) 1 (b t 0) ∙ rw one-mul in record {
           low = low;
@@ -227,7 +222,7 @@ module _ (t : List ℕ) where
             let c = b t (l + 1) in
             let m = start-multiple t k d l a (omega arith) (p .below) in
             let z : j ≡ 0 → ⊥ = λ e. ne (rw (up-under l, p .start-is, e, zero-mul c, add-zero, m .1) (mul-mod-left (m .0) (b t l))) in
-            let low : 1 ≤ j = pos-of j z in
+            let low : 1 ≤ j = pos-of-ne-zero z in
             let e : j ≡ (j - 1) + 1 = omega arith in
             let f : j * c ≡ (j - 1) * c + c = ap (λ (x : ℕ). x * c) e ∙ add-mul (j - 1) 1 c ∙ rw one-mul in
             let p₁ = child-of l a (j - 1) hl (p .below) (p .kept) (omega (arith, p .within)) in
