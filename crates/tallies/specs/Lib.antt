@@ -2,3 +2,4 @@ pub mod Local
 pub mod Level
 pub mod Steps
 pub mod Exact
+pub mod Ranks
