@@ -6,19 +6,21 @@ use mathlib.Core.Path.{_≡_, refl, sym, ap, _∙_}
 use mathlib.Core.Logic.{_⊎_, inl, inr}
 use Prim.Native.Nat.{ℕ, zero, suc, _+_, _-_, _*_, _/_, _%_, _≤_, _<_}
 use native.Mathlib.Omega.{arith}
+use native.Mathlib.Numerals.{add-one}
 use native.Mathlib.Nat.{div-add-mod', mod-lt}
 use borrow.Author.Tests.{eqb-true, eqb-false, eq-eqb, ne-eqb, lt-ltb, le-ltb, le-leb, ltb-true}
 use lib.ListN.{length, take, getD}
 use lib.Dec.{eqb, ltb, leb}
 use Rattle.text.specs.ListLaws.{bool-cases, bool-clash, lt-or-ge, and-left, and-right}
 use Rattle.text.specs.Text.{stretch, countIn}
-use Rattle.text.specs.CountLaws.{count-start}
+use Rattle.text.specs.CountLaws.{count-start, count-nil}
 use Rattle.format.specs.HeaderLaws.{Readable, readable-facts, full-pos, level0-holds}
 use Rattle.format.specs.Layout as at
 use Rattle.format.specs.Path.{Path, Visit, visit, keptBlock, targetBlock, targetPlace, pathOf}
 use Rattle.format.specs.Fits.{textOf}
 use Rattle.format.specs.Verdict.{ask, readable}
 use Rattle.format.specs.Said.{Said, refused, unless}
+use Rattle.format.specs.Finding.{pathLength}
 use Rattle.format.specs.Counting.{indexOf, addedAfter, added, takenAfter, taken, lastPlace, leavesReached, countOf, isCounted, numberOfByte, countSays}
 use Rattle.paths.specs.Links.{H, N, b, s, len, Linked}
 use Rattle.paths.specs.Starts.{child, len-reach}
@@ -143,3 +145,78 @@ module _ (t : List ℕ) where
         walked g (omega arith) (q .below) (q .inside), kept-step t k d l j y c hl (r .below) (r .kept) (r .inside) (a (l + 1) hl _ c (q .below) hc),
         points-hand t k d l i o c hi un₁ p ho (a l hl₀ (at.link t l i) c (p .target-below) hc .inside-is),
         skip-points t k d l i c un₁ (a l hl₀ i c hi hc))
+
+    -- The sums down the path of a place of the text.
+    pub counted-path : (p : ℕ) → p < at.textLength t → (q : Path) → pathOf t p ≡ some q
+        → added t c (q .visits) + countIn (byteOf t c) (leavesReached t q) ≡ taken t c (q .visits) + countIn (byteOf t c) (take (p + 1) (textOf t))
+    unfolding pathOf leafCount tally parentPlace
+    counted-path p hp q e =
+        let x = b t 0 in
+        let i = p / x in
+        let o = p % x in
+        let hi = level0-holds t k p hp in
+        let hl : 0 < H t = omega (arith, k .levels-low) in
+        let whole = div-add-mod' p x in
+        let start = d .start0 i hi in
+        let ho : o < len t 0 i = len-reach t 0 i o (mod-lt p (full-pos t k 0)) (omega arith) in
+        let g = goes t (H t - 1) 0 i o q e in
+        let up = a 0 hl i c hi hc .before-is in
+        let two = tally-parts t c 0 (s t 0 i) (s t 0 i - 0) (o + 1) (p + 1) (omega arith) (omega arith) in
+        omega (arith, walked g (omega arith) hi ho, count-start (byteOf t c) (textOf t) (p + 1))
+
+-- The number of a counted byte.
+
+index-at : (c : ℕ) (xs : List ℕ) → indexOf c xs < length xs → getD xs (indexOf c xs) 0 ≡ c
+unfolding indexOf
+index-at c [] h = absurd (let z : ⊥ = omega arith in z)
+index-at c (x ∷ xs) h = index-step c x xs (eqb c x) refl (index-at c xs) h
+  where
+    index-step : (c x : ℕ) (xs : List ℕ) (y : Bool) → eqb c x ≡ y → (indexOf c xs < length xs → getD xs (indexOf c xs) 0 ≡ c)
+        → cond y 0 (indexOf c xs + 1) < length (x ∷ xs) → getD (x ∷ xs) (cond y 0 (indexOf c xs + 1)) 0 ≡ c
+    index-step c x xs true e rest h = sym (eqb-true c x e)
+    index-step c x xs false e rest h = rw add-one (rest (omega arith))
+
+pub record Counted (t : List ℕ) (byte : ℕ) : Type 0 where
+  pub number-below : numberOfByte t byte < at.countedCount t
+  pub byte-is : byteOf t (numberOfByte t byte) ≡ byte
+
+pub counted : (t : List ℕ) → Readable t → (byte : ℕ) → isCounted t byte ≡ true → Counted t byte
+unfolding isCounted numberOfByte byteOf
+counted t k byte h =
+    let l : indexOf byte (at.settings t .counted) < length (at.settings t .counted) = ltb-true _ _ h in
+    record { number-below = omega (arith, k .counted-size); byte-is = index-at byte (at.settings t .counted) l }
+
+-- Count on an accepted tree.
+
+module _ (t : List ℕ) (r : readable t ≡ 0) (d : Linked t) (a : (m : ℕ) → m < H t → Level t m) where
+  -- what count says of the sums
+  count-of : (byte c : ℕ) (q : Path) (v : ℕ) → added t c (q .visits) + countIn byte (leavesReached t q) ≡ taken t c (q .visits) + v
+      → countOf t byte c (some q) ≡ record { number = 0; value = v; entered = length (q .visits) }
+  count-of byte c q v e =
+      let plus = added t c (q .visits) + countIn byte (leavesReached t q) in
+      let minus = taken t c (q .visits) in
+      let f : plus - minus ≡ v = omega arith in
+      let low : minus ≤ plus = omega arith in
+      rw (le-leb minus plus low, f)
+
+  count-asked : (byte i : ℕ) → isCounted t byte ≡ true → i ≤ at.textLength t
+      → countSays t byte i ≡ cond (eqb i 0) (record { number = 0; value = 0; entered = 0 }) (countOf t byte (numberOfByte t byte) (pathOf t (i - 1)))
+  unfolding countSays
+  count-asked byte i h hi = rw (r, h, le-leb i (at.textLength t) hi)
+
+  pub count-right : (byte i : ℕ) → isCounted t byte ≡ true → i ≤ at.textLength t
+      → countSays t byte i ≡ record { number = 0; value = countIn byte (take i (textOf t)); entered = cond (eqb i 0) 0 (pathLength t (pathOf t (i - 1))) }
+  count-right byte zero h hi = count-asked byte 0 h hi ∙ rw (count-nil byte)
+  count-right byte (suc i) h hi =
+      let k = readable-facts t r in
+      let n = counted t k byte h in
+      let c = numberOfByte t byte in
+      let e : suc i - 1 ≡ i = omega arith in
+      let ne : eqb (suc i) 0 ≡ false = ne-eqb (suc i) 0 (λ z. omega arith) in
+      let w = path-holds t k d i (omega arith) in
+      let q = w .0 in
+      let v = countIn byte (take (i + 1) (textOf t)) in
+      let sums : added t c (q .visits) + countIn byte (leavesReached t q) ≡ taken t c (q .visits) + v =
+      rw (n .byte-is) at (counted-path t k d a c (n .number-below) i (omega arith) q (w .1)) in
+      let f : v ≡ countIn byte (take (suc i) (textOf t)) = rw add-one in
+      count-asked byte (suc i) h hi ∙ rw (ne, e, w .1, ← f) (count-of byte c q v sums)
