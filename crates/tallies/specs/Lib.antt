@@ -3,3 +3,4 @@ pub mod Level
 pub mod Steps
 pub mod Exact
 pub mod Ranks
+pub mod Finds
