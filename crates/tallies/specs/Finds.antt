@@ -22,7 +22,7 @@ use Rattle.format.specs.Path.{Path, Visit, visit, entered, targetBlock, targetP
 use Rattle.format.specs.Fits.{textOf}
 use Rattle.format.specs.Finding.{total, pathLength}
 use Rattle.paths.specs.Links.{H, N, b, s, len, Pointing, Follows, Linked}
-use Rattle.paths.specs.Starts.{len-small, len-inside, len-end, start-below, Parent, InParent, in-parent, child, last-kept, leaf-below, target-full, second-inside}
+use Rattle.paths.specs.Starts.{len-small, len-inside, len-pos, start-below, Parent, InParent, in-parent, child, last-kept, leaf-below, target-full, second-inside}
 use Rattle.paths.specs.Landing.{kept-block, kept-not, pointing-block, from-last, from-kept, from-pointing, Target, target, target-first, target-second}
 use Rattle.paths.specs.Walk.{path-from-holds}
 use Rattle.paths.specs.OneText.{text-length}
@@ -272,3 +272,72 @@ module _ (t : List ℕ) (k : Readable t) (d : Linked t) (a : (m : ℕ) → m < H
       where
         own-at : (y z : ℕ) → y ≡ z → {m₁ m₂ : ℕ} → m₁ ≡ m₂ → Nth (byteOf t c) m₁ (textOf t) (s t l j) y → Nth (byteOf t c) m₂ (textOf t) (s t l j) z
         own-at y z e f h = rw (← e, ← f) h
+
+    -- the place of a block that is handed to a target
+    entered-target : (o : ℕ) → o < len t l i → pathLength t (pathFrom t (H t - 1 - l) l i o) ≡ pathLength t (pathFrom t (H t - 1 - l) l (targetBlock t l i o) (targetPlace t l i o)) + 1
+    entered-target o ho =
+        let w = target t k d l i o hi p ho in
+        let below = H t - 1 - (l + 1) in
+        let left : H t - 1 - l ≡ suc below = omega (arith, p .above) in
+        let path = path-from-holds t k d (suc below) l (targetBlock t l i o) (targetPlace t l i o) (omega (arith, p .above)) (w .below) (w .inside) in
+        rw (left, from-pointing t below l i o (kept-not t l i hi un) (pointing-block t l i hi p) (kept-block t l (targetBlock t l i o) (w .below) (w .kept)))
+        (entered-one (visit l i o) _ (path .0) (path .1))
+
+    -- in the first target
+    pub lands-first : (x e : ℕ) → Lands l j (n + at.skip t l i c) x e → (g ≤ x) × Lands l i n (x - g) (e + 1)
+    lands-first x e h =
+        let w = own x (h .nth) in
+        let full = target-full t k d l i p hi in
+        let gap-low = w .gap-low in
+        let o = x - g in
+        let back : g + o ≡ x = omega arith in
+        let tg = target-first t l i o (omega (arith, h .inside)) in
+        let place : targetPlace t l i o ≡ x = tg .1 ∙ back in
+        (gap-low, record { inside = w .inside; nth = w .nth; entered-is = entered-target o (w .inside) ∙ rw (tg .0, place) (ap (λ (y : ℕ). y + 1) (h .entered-is)) })
+
+    -- past the first target's inside there is a second, which holds the rest
+    pub second-holds : at.inside t l j c < n + at.skip t l i c → Follows t l j × (n + at.skip t l i c - at.inside t l j c ≤ at.inside t l (j + 1) c)
+    second-holds past = go (lt-or-ge (b t l) (g + len t l i))
+      where
+        go : (b t l < g + len t l i) ⊎ (g + len t l i ≤ b t l) → Follows t l j × (n + at.skip t l i c - at.inside t l j c ≤ at.inside t l (j + 1) c)
+        go (inl over) =
+            let f = p .next over in
+            let rest = g + len t l i - b t l in
+            let pos = len-pos t k d l i hl hi in
+            let within : rest - 1 < len t l (j + 1) =
+            (let z : g + (len t l i - 1) - b t l ≡ rest - 1 = omega arith in
+            rw z at (second-inside t k d l i (len t l i - 1) p f hi (omega arith) (omega arith))) in
+            let two = tally-parts t c (s t l j) (s t l (j + 1)) (b t l) rest (g + len t l i) (f .start-is) (omega arith) in
+            (f, omega (arith, both-are, first-is, two, a l hl (j + 1) c (f .below) hc .inside-is, tally-mono (s t l (j + 1)) rest (len t l (j + 1)) (omega arith)))
+        go (inr short) = absurd (let z : ⊥ = omega (arith, both-are, first-is, tally-mono (s t l j) (g + len t l i) (b t l) short) in z)
+
+    -- in the second
+    pub lands-second : at.inside t l j c < n + at.skip t l i c → (x e : ℕ) → Lands l (j + 1) (n + at.skip t l i c - at.inside t l j c) x e
+        → (g ≤ b t l + x) × Lands l i n (b t l + x - g) (e + 1)
+    unfolding tally
+    lands-second past x e h =
+        let f = second-holds past .0 in
+        let m = n + at.skip t l i c - at.inside t l j c in
+        let rank : countIn (byteOf t c) (stretch (textOf t) (s t l j) (b t l)) + m ≡ n + at.skip t l i c = omega (arith, first-is) in
+        let w = own (b t l + x) (rw rank at (nth-earlier (byteOf t c) m (textOf t) (s t l j) (b t l) x (rw (f .start-is) at (h .nth)))) in
+        let gap-low = w .gap-low in
+        let o = b t l + x - g in
+        let tg = target-second t l i o (omega arith) in
+        let back : g + o - b t l ≡ x = omega arith in
+        let place : targetPlace t l i o ≡ x = tg .1 ∙ back in
+        (gap-low, record { inside = w .inside; nth = w .nth; entered-is = entered-target o (w .inside) ∙ rw (tg .0, place) (ap (λ (y : ℕ). y + 1) (h .entered-is)) })
+
+  -- On level 0: the place of the n-th byte in the text, and its path's length.
+  pub lands-top : (i n o e : ℕ) → i < N t 0 → at.before t 0 i c < n → Lands 0 i (n - at.before t 0 i c) o e
+      → (placeOf (byteOf t c) n (textOf t) ≡ s t 0 i + o) × (pathLength t (pathOf t (s t 0 i + o)) ≡ e)
+  unfolding tally pathOf
+  lands-top i n o e hi low h =
+      let x = byteOf t c in
+      let start = d .start0 i hi in
+      let small : o < b t 0 = omega (arith, len-small t 0 i, h .inside) in
+      let before-is : at.before t 0 i c ≡ countIn x (stretch (textOf t) 0 (s t 0 i)) = rw (← start) at (top-before i hi) in
+      let rank : countIn x (stretch (textOf t) 0 (s t 0 i)) + (n - at.before t 0 i c) ≡ n = omega arith in
+      let zero-is : s t 0 i ≡ 0 + s t 0 i = omega arith in
+      let left : H t - 1 - 0 ≡ H t - 1 = omega arith in
+      (nth-place x n (textOf t) (s t 0 i + o) (rw rank at (nth-earlier x (n - at.before t 0 i c) (textOf t) 0 (s t 0 i) o (rw zero-is at (h .nth)))),
+      rw (start, digits-div i small, digits-mod i small) (rw left at (h .entered-is)))
