@@ -4,3 +4,4 @@ pub mod Steps
 pub mod Exact
 pub mod Ranks
 pub mod Finds
+pub mod Demands
