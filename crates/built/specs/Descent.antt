@@ -9,7 +9,7 @@ use lib.Dec.{leb}
 use borrow.Author.Tests.{le-leb, lt-leb}
 use Rattle.text.specs.Lists.{sumBelow, countBelow}
 use Rattle.text.specs.ListLaws.{lt-or-ge, bool-clash}
-use Rattle.built.specs.Pieces.{lt-pieces, pieces-cover}
+use Rattle.format.specs.PieceLaws.{lt-pieces, pieces-cover}
 use Rattle.built.specs.Levels.{Level, Cut, child-below, child-ends, start-le, le-of-start}
 use Rattle.built.specs.Landing.{Holds, Pair}
 

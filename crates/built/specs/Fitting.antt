@@ -17,7 +17,7 @@ use Rattle.format.specs.Blocks.{treeOf}
 use Rattle.format.specs.Layout as at
 use Rattle.format.specs.Fits.{lastLevel, blockFits, fits}
 use Rattle.built.specs.Sizes.{Taken}
-use Rattle.built.specs.Leftmost.{length-stretch, getD-stretch}
+use Rattle.text.specs.TextLaws.{length-stretch, getD-stretch}
 use Rattle.built.specs.Structure.{count, start, bytesIn, keptAt, widthOf}
 use Rattle.built.specs.Leaves.{kept-last, leaf-at, bytes-fit}
 use Rattle.built.specs.Targets.{placeOf, targetOf, points-to, placeOf-same}

@@ -13,7 +13,7 @@ use Rattle.text.specs.Text.{stretch}
 use Rattle.format.specs.Settings.{Settings}
 use Rattle.format.specs.Blocks.{startsAt, isKept, width, leafBytes, startOf, lengthOf}
 use Rattle.built.specs.Gather.{length-concat, getD-concat, map-tabulate, sumBelow-le}
-use Rattle.built.specs.Leftmost.{length-stretch, getD-stretch}
+use Rattle.text.specs.TextLaws.{length-stretch, getD-stretch}
 use Rattle.built.specs.Sizes.{Taken, bounds, size-last}
 use Rattle.built.specs.Levels.{count-le}
 use Rattle.built.specs.Structure.{size, count, start, bytesIn, keptAt, widthOf, bytesIn-is, level-at, count-below}

@@ -10,7 +10,7 @@ use Rattle.text.specs.Lists.{sumBelow}
 use Rattle.text.specs.ListLaws.{lt-or-ge, sumBelow-part, bool-cases}
 use Rattle.format.specs.Settings.{pieces}
 use Rattle.built.specs.Gather.{Placed, placed}
-use Rattle.built.specs.Pieces.{pieces-lt, whole-left}
+use Rattle.format.specs.PieceLaws.{pieces-start, whole-left}
 
 -- a text of n bytes
 module _ (n : ℕ) where
@@ -26,7 +26,7 @@ module _ (n : ℕ) where
   level-top b N start pos count at = record {
     size = pos;
     rising = λ i j l h. omega (arith, at i (omega arith), at j h, suc-mul i b, mul-le-mul-right {m = suc i} {n = j} b l);
-    within = λ i l. rw (at i l) (pieces-lt n b i pos (omega arith));
+    within = λ i l. rw (at i l) (pieces-start n b i (omega arith) pos);
     whole = λ i l. (i, at i l);
   }
 
@@ -74,7 +74,7 @@ module _ (n : ℕ) where
     child-inside i j h = go (bool-cases (kept i))
       where
         go : (kept i ≡ true) ⊎ (kept i ≡ false) → j * c < min b (n - start i)
-        go (inl k) = pieces-lt _ c j (cut .size) (rw (cut .cut i k) at h)
+        go (inl k) = pieces-start _ c j (rw (cut .cut i k) at h) (cut .size)
         go (inr k) = absurd (let z : ⊥ = omega (arith, cut .uncut i k) in z)
 
     pub child-ends : (i j : ℕ) → j < width i → j * c + c ≤ b

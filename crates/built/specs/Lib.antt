@@ -1,7 +1,5 @@
 pub mod Landing
-pub mod Leftmost
 pub mod Gather
-pub mod Pieces
 pub mod Levels
 pub mod Descent
 pub mod Marking
@@ -9,7 +7,6 @@ pub mod Sizes
 pub mod Structure
 pub mod Targets
 pub mod Leaves
-pub mod WordLaws
 pub mod Pairs
 pub mod Records
 pub mod Shape

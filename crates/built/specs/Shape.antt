@@ -10,7 +10,7 @@ use Rattle.text.specs.Lists.{sumBelow}
 use Rattle.format.specs.Words.{wordAt, wordsBytes}
 use Rattle.format.specs.Settings.{Settings}
 use Rattle.format.specs.Blocks.{treeOf, header, leafBytes, recordBytes, levelPairs}
-use Rattle.built.specs.WordLaws.{word-at, length-words}
+use Rattle.format.specs.WordLaws.{word-at, length-words}
 use Rattle.built.specs.Pairs.{levelWordsOf, offset, length-levelWordsOf}
 use Rattle.built.specs.Records.{records, recordWords, length-records}
 use Rattle.built.specs.Structure.{count}

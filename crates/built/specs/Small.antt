@@ -11,7 +11,7 @@ use Rattle.text.specs.Text.{stretch, countIn}
 use Rattle.format.specs.Settings.{Settings}
 use Rattle.format.specs.Blocks.{target, recordBytes}
 use Rattle.built.specs.Gather.{sumBelow-bound}
-use Rattle.built.specs.Leftmost.{leftmost-le}
+use Rattle.text.specs.TextLaws.{leftmost-le}
 use Rattle.built.specs.Levels.{count-le}
 use Rattle.built.specs.Sizes.{Taken, bounds}
 use Rattle.built.specs.Structure.{size, count, start, bytesIn, keptAt, level-at}

@@ -13,7 +13,7 @@ use Rattle.text.specs.ListLaws.{lt-or-ge, length-tabulate, getD-tabulate, sumBe
 use Rattle.format.specs.Settings.{Settings, blockLength, pieces}
 use Rattle.format.specs.Blocks.{startsAt, startOf, lengthOf, keptByPairs, isKept, width, cut}
 use Rattle.built.specs.Gather.{length-concat, getD-concat}
-use Rattle.built.specs.Pieces.{lt-pieces}
+use Rattle.format.specs.PieceLaws.{lt-pieces}
 use Rattle.built.specs.Sizes.{Taken, size-pos, size-falls, size-le}
 use Rattle.built.specs.Landing.{First, Holds, Pair, holds-kept, holds-next}
 use Rattle.built.specs.Levels.{Level, Cut, level-top, level-below}

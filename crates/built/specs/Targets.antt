@@ -10,7 +10,7 @@ use Rattle.text.specs.Text.{stretch, leftmost}
 use Rattle.format.specs.Settings.{Settings}
 use Rattle.format.specs.Blocks.{startsAt, occurrence, target}
 use Rattle.built.specs.Sizes.{Taken}
-use Rattle.built.specs.Leftmost.{leftmost-le, leftmost-same}
+use Rattle.text.specs.TextLaws.{leftmost-le, leftmost-same}
 use Rattle.built.specs.Landing.{First, Pair}
 use Rattle.built.specs.Descent.{holder, ends-before}
 use Rattle.built.specs.Marking.{byteAt, first-leftmost}

@@ -13,6 +13,7 @@ use Rattle.text.specs.ListLaws.{and-left, and-right, allBelow-at, sumBelow-part
 use Rattle.text.specs.Conjunctions.{parts}
 use Rattle.format.specs.Words.{wordAt}
 use Rattle.format.specs.Settings.{Settings, maxText, maxLeaf, minArity, maxArity, maxLevels, maxCounted, blockLength, pieces, lengthOk, sizesOk, countedOk, rising}
+use Rattle.format.specs.SizeLaws.{Sizes, sizes, length-step, length-pos, length-last, length-falls, length-top}
 use Rattle.format.specs.PieceLaws.{pieces-hold}
 use Rattle.format.specs.Layout.{textLength, countedCount, settings, levelCount, levelOffset, leafOffset, leafCount, recordSize, fullLength, longEnough, layoutOk, headerOk}
 use Rattle.format.specs.Verdict.{ask, readable}
@@ -50,31 +51,6 @@ ask-test q false rest h = absurd (let z : ⊥ = omega arith in z)
 pub ask-rest : (q : ℕ) (b : Bool) (rest : ℕ) → ask (suc q) b rest ≡ 0 → rest ≡ 0
 ask-rest q true rest h = h
 ask-rest q false rest h = absurd (let z : ⊥ = omega arith in z)
-
--- the sizes' bounds, of question 2
-pub record Sizes (S : Settings) : Type 0 where
-  pub leaf-low : 1 ≤ S .leaf
-  pub leaf-high : S .leaf ≤ maxLeaf
-  pub arity-low : minArity ≤ S .arity
-  pub arity-high : S .arity ≤ maxArity
-  pub levels-low : 1 ≤ S .levels
-  pub levels-high : S .levels ≤ maxLevels
-  pub top-high : S .leaf * S .arity ^ (S .levels - 1) ≤ maxText
-
-pub sizes : (S : Settings) → sizesOk S ≡ true → Sizes S
-unfolding sizesOk
-sizes S h =
-    let top = leb (S .leaf * S .arity ^ (S .levels - 1)) maxText in
-    let a = parts (leb 1 (S .leaf)) (leb (S .leaf) maxLeaf ∷ (leb minArity (S .arity) && leb (S .arity) maxArity) ∷ (leb 1 (S .levels) && leb (S .levels) maxLevels && top) ∷ []) h in
-    let c = parts (leb 1 (S .levels)) (leb (S .levels) maxLevels ∷ top ∷ []) (a .1 .1 .1 .0) in record {
-      leaf-low = leb-true _ _ (a .0);
-      leaf-high = leb-true _ _ (a .1 .0);
-      arity-low = leb-true _ _ (and-left _ (leb (S .arity) maxArity) (a .1 .1 .0));
-      arity-high = leb-true _ _ (and-right (leb minArity (S .arity)) _ (a .1 .1 .0));
-      levels-low = leb-true _ _ (c .0);
-      levels-high = leb-true _ _ (c .1 .0);
-      top-high = leb-true _ _ (c .1 .1 .0);
-    }
 
 -- the tests of question 7, in order
 record Header (t : List ℕ) : Type 0 where
@@ -119,8 +95,8 @@ unfolding settings
 counted-length t long few = simp (length-take, length-drop) (omega arith)
 
 full-length-top : (t : List ℕ) → fullLength t 0 ≡ settings t .leaf * settings t .arity ^ (settings t .levels - 1)
-unfolding fullLength blockLength
-full-length-top t = let e : settings t .levels - 1 - 0 ≡ settings t .levels - 1 = omega arith in rw e
+unfolding fullLength
+full-length-top t = length-top (settings t)
 
 pub readable-facts : (t : List ℕ) → readable t ≡ 0 → Readable t
 unfolding readable longEnough layoutOk lengthOk countedOk
@@ -164,27 +140,32 @@ readable-facts t h =
 module _ (t : List ℕ) (k : Readable t) where
   -- Block lengths.
 
-  -- a full block is as long as r full blocks of the next level
+  sized : Sizes (settings t)
+  sized = record {
+    leaf-low = k .leaf-low;
+    leaf-high = k .leaf-high;
+    arity-low = k .arity-low;
+    arity-high = k .arity-high;
+    levels-low = k .levels-low;
+    levels-high = k .levels-high;
+    top-high = k .top-high;
+  }
+
   pub full-step : (l : ℕ) → l + 1 < settings t .levels → fullLength t l ≡ fullLength t (l + 1) * settings t .arity
-  unfolding fullLength blockLength
-  full-step l h =
-      let e : settings t .levels - 1 - l ≡ suc (settings t .levels - 1 - (l + 1)) = omega arith in
-      rw (e, pow-suc, mul-assoc)
+  unfolding fullLength
+  full-step = length-step (settings t) sized
 
   pub full-pos : (l : ℕ) → 0 < fullLength t l
-  unfolding fullLength blockLength
-  full-pos l = mul-le-mul {n₁ = 1} {m₁ = 1} (k .leaf-low) (one-le-pow (settings t .levels - 1 - l) (settings t .arity) (omega (arith, k .arity-low)))
+  unfolding fullLength
+  full-pos = length-pos (settings t) sized
 
   pub full-last : fullLength t (settings t .levels - 1) ≡ settings t .leaf
-  unfolding fullLength blockLength
-  full-last =
-      let e : settings t .levels - 1 - (settings t .levels - 1) ≡ 0 = omega arith in
-      rw (e, pow-zero, mul-one)
+  unfolding fullLength
+  full-last = length-last (settings t) sized
 
-  -- no block is longer than one of a level above
   pub full-falls : (l j : ℕ) → l ≤ j → fullLength t j ≤ fullLength t l
-  unfolding fullLength blockLength
-  full-falls l j h = mul-le-mul-left (settings t .leaf) (pow-le-pow-right (omega (arith, k .arity-low)) (omega arith))
+  unfolding fullLength
+  full-falls = length-falls (settings t) sized
 
   pub full-small : (l : ℕ) → fullLength t l ≤ maxText
   full-small l = le-trans (full-falls 0 l (omega arith)) (k .full-high)

@@ -2,6 +2,7 @@
 pub mod Words
 pub mod WordLaws
 pub mod Settings
+pub mod SizeLaws
 pub mod PieceLaws
 pub mod Blocks
 pub mod Layout

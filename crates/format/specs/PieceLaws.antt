@@ -1,7 +1,7 @@
 -- Laws of `pieces`: x bytes cut into blocks of b bytes, the last cut short.
-use Prim.Native.Nat.{ℕ, _+_, _-_, _*_, _/_, _≤_, _<_}
+use Prim.Native.Nat.{ℕ, suc, _+_, _-_, _*_, _/_, _≤_, _<_}
 use native.Mathlib.Omega.{arith}
-use native.Mathlib.Nat.{lt-div-mul-add, div-mul-le-self, div-lt-iff-lt-mul, mul-le-mul-right, add-mul}
+use native.Mathlib.Nat.{lt-div-mul-add, div-lt-iff-lt-mul, suc-mul, le-div-iff-mul-le, lt-of-mul-lt-mul-left, mul-comm, mul-le-mul-right}
 use Rattle.format.specs.Settings.{pieces}
 
 -- the blocks hold all x bytes
@@ -13,9 +13,16 @@ pieces-cover x b pos = omega (arith, lt-div-mul-add {a = x + (b - 1)} {b = b} po
 pub pieces-hold : (x b o : ℕ) → 0 < b → o < x → o / b < pieces x b
 pieces-hold x b o pos h = div-lt-iff-lt-mul {k = b} {x = o} {y = pieces x b} pos .1 (omega (arith, pieces-cover x b pos))
 
--- each of them starts before the end
+-- block j is one of them exactly where it starts before the end
 pub pieces-start : (x b j : ℕ) → j < pieces x b → 0 < b → j * b < x
 unfolding pieces
-pieces-start x b j h pos =
-    let k : (j + 1) * b ≤ (x + (b - 1)) / b * b = mul-le-mul-right b (omega arith) in
-    omega (arith, div-mul-le-self (x + (b - 1)) b, add-mul j 1 b)
+pieces-start x b j h pos = omega (arith, suc-mul j b, le-div-iff-mul-le {k = b} {x = suc j} {y = x + (b - 1)} pos .0 h)
+
+pub lt-pieces : (x b j : ℕ) → 0 < b → j * b < x → j < pieces x b
+unfolding pieces
+lt-pieces x b j pos h = le-div-iff-mul-le {k = b} {x = suc j} {y = x + (b - 1)} pos .1 (omega (arith, suc-mul j b))
+
+-- a multiple of b below r blocks of b has a whole block left
+pub whole-left : (j r b : ℕ) → j * b < r * b → j * b + b ≤ r * b
+whole-left j r b h =
+    omega (arith, suc-mul j b, mul-le-mul-right {m = suc j} {n = r} b (lt-of-mul-lt-mul-left b (rw (mul-comm b j, mul-comm b r) h)))

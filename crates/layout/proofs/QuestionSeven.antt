@@ -14,7 +14,7 @@ use Rattle.text.specs.ListLaws.{and-both}
 use Rattle.format.specs.Words.{wordAt}
 use Rattle.format.specs.Layout as at
 use Rattle.format.specs.Settings as format
-use Rattle.format.specs.HeaderLaws.{Sizes, sizes}
+use Rattle.format.specs.SizeLaws.{Sizes, sizes}
 use Rattle.layout.specs.declared.settings.Settings.{Settings}
 use Rattle.layout.specs.declared.settings.Checked.{Checked}
 use Rattle.layout.specs.declared.settings.Checked.the-variants.{Fine, Refused}

@@ -1,0 +1,1 @@
+// Theorems on accepted trees: all of this crate is in specs/.
