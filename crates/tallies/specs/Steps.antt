@@ -7,7 +7,7 @@ use mathlib.Core.Logic.{_⊎_, inl, inr}
 use Prim.Native.Nat.{ℕ, zero, suc, _+_, _-_, _*_, _/_, _%_, _≤_, _<_}
 use native.Mathlib.Omega.{arith}
 use native.Mathlib.Numerals.{add-one}
-use native.Mathlib.Nat.{pos-of-ne-zero, div-add-mod', mod-lt, mod-eq-of-lt, add-mul, mul-comm, mul-div-cancel, div-mul-le-self, zero-mul, one-mul, add-zero, mul-mod-left}
+use native.Mathlib.Nat.{pos-of-ne-zero, div-add-mod', mod-lt, mod-eq-of-lt, add-mul, mul-comm, div-mul-le-self, zero-mul, one-mul, add-zero, mul-mod-left}
 use borrow.Author.Tests.{lt-ltb, le-ltb}
 use lib.ListN.{length}
 use lib.Dec.{ltb}
@@ -16,7 +16,7 @@ use Rattle.text.specs.ListLaws.{bool-cases, lt-or-ge, sumBelow-part}
 use Rattle.text.specs.Text.{stretch, countIn}
 use Rattle.text.specs.TextLaws.{stretch-ext}
 use Rattle.text.specs.CountLaws.{count-add, count-none, count-stretch-le}
-use Rattle.format.specs.PieceLaws.{pieces-hold}
+use Rattle.format.specs.PieceLaws.{lt-pieces}
 use Rattle.format.specs.HeaderLaws.{Readable, full-pos, full-step, leaf-inside}
 use Rattle.format.specs.Layout as at
 use Rattle.format.specs.Path.{targetBlock, targetPlace}
@@ -68,6 +68,14 @@ module _ (t : List ℕ) where
         let q = d .kept (H t - 1) i (omega arith) hi kept in
         omega (arith, q .link-is, d .leaf-count low, width-last t i kept, sumBelow-part (N t (H t - 1)) (widthAt t (H t - 1)) i hi)
 
+    pub leaves-end : (l i : ℕ) → l + 1 ≡ H t → i < N t l → at.link t l i + len t l i ≤ at.leafCount t
+    leaves-end l i e hi = go l (omega arith) hi
+      where
+        go : (m : ℕ) → m ≡ H t - 1 → i < N t m → at.link t m i + len t m i ≤ at.leafCount t
+        go m e h =
+            let h₁ : i < N t (H t - 1) = rw e at h in
+            rw e (leaf-end i h₁)
+
     last-leaves : (i x c : ℕ) → i < N t (H t - 1) → x ≤ len t (H t - 1) i → inLeaves t (H t - 1) i x c ≡ tally t c (s t (H t - 1) i) x
     unfolding inLeaves tally at.leafByte
     last-leaves i x c hi hx =
@@ -104,8 +112,7 @@ module _ (t : List ℕ) where
     child-of l a j hl ha kept h =
         let pos : 0 < b t (l + 1) = full-pos t k (l + 1) in
         let q = d .kept l a (omega arith) ha kept in
-        let wide : j < widthAt t l a =
-        rw (width-kept t l a hl kept) (rw (mul-div-cancel j pos) at (pieces-hold (len t l a) (b t (l + 1)) (j * b t (l + 1)) pos h)) in
+        let wide : j < widthAt t l a = rw (width-kept t l a hl kept) (lt-pieces (len t l a) (b t (l + 1)) j pos h) in
         record { below = ha; kept = kept; number = refl; start-is = q .child-start hl j wide; within = h }
 
     pub parent-place : (l i a j : ℕ) → l + 1 < H t → Parent t l i a j → parentPlace t (l + 1) (s t (l + 1) i) ≡ s t l a

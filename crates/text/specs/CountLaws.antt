@@ -10,8 +10,8 @@ use native.Mathlib.Nat.{le-trans}
 use lib.ListN.{length, take, drop, getD, length-take}
 use lib.Seq.{take-all, drop-cons}
 use lib.Dec.{eqb}
-use borrow.Author.Tests.{eqb-true, eqb-false, eq-eqb}
-use Rattle.text.specs.ListLaws.{bool-cases, lt-or-ge}
+use borrow.Author.Tests.{eqb-true, eq-eqb, ne-eqb}
+use Rattle.text.specs.ListLaws.{lt-or-ge}
 use Rattle.text.specs.Text.{stretch, countIn, placeIn, placeOf}
 use Rattle.text.specs.TextLaws.{stretch-add}
 
@@ -87,6 +87,14 @@ one-same c x e = rw (eq-eqb c x (sym e))
 pub count-next-same : (c : ℕ) (T : List ℕ) (p o : ℕ) → p + o < length T → getD T (p + o) 0 ≡ c
     → countIn c (stretch T p (o + 1)) ≡ countIn c (stretch T p o) + 1
 count-next-same c T p o h e = omega (arith, count-next c T p o h, one-same c (getD T (p + o) 0) e)
+
+one-other : (c x : ℕ) → (x ≡ c → ⊥) → one c x ≡ 0
+one-other c x e = rw (ne-eqb c x (λ f. e (sym f)))
+
+-- or it is another
+pub count-next-other : (c : ℕ) (T : List ℕ) (p o : ℕ) → p + o < length T → (getD T (p + o) 0 ≡ c → ⊥)
+    → countIn c (stretch T p (o + 1)) ≡ countIn c (stretch T p o)
+count-next-other c T p o h e = omega (arith, count-next c T p o h, one-other c (getD T (p + o) 0) e)
 
 -- a longer stretch has as many or more
 pub count-mono : (c : ℕ) (T : List ℕ) (p a b : ℕ) → a ≤ b → countIn c (stretch T p a) ≤ countIn c (stretch T p b)

@@ -1,0 +1,2 @@
+pub mod HeaderFacts
+pub mod WalkLaws
