@@ -4,9 +4,12 @@ use mathlib.Core.Bool.{Bool, true, false}
 use mathlib.Core.Path.{_≡_, refl, sym, ap, _∙_}
 use Prim.Native.Nat.{ℕ, _+_, _-_, _*_, _/_, _%_, _≤_, _<_}
 use native.Mathlib.Omega.{arith}
+use native.Mathlib.Nat.{mul-div-cancel}
+use mathlib.Core.Logic.{_⊎_, inl, inr}
 use borrow.Author.Tests.{eq-eqb, ne-eqb}
 use lib.ListN.{length, getD}
 use lib.Seq.{getD-take, getD-drop}
+use Rattle.text.specs.ListLaws.{below-suc}
 use Rattle.format.specs.Layout as at
 use Rattle.format.specs.WordLaws.{wordAt-lt}
 use Rattle.format.specs.HeaderLaws.{Readable, full-small, full-step, full-pos}
@@ -44,6 +47,25 @@ module _ (t : List ℕ) (h : Header) (w : Linking t h) where
 
   pub linked : Linked t
   linked = linked-facts t (w .links)
+
+  pub is-last : (level : ℕ) → level + 1 ≡ h .settings .levels → level + 1 ≡ at.settings t .levels
+  is-last level e = e ∙ levels-is
+
+  pub not-last : (level : ℕ) → level < at.settings t .levels → (level + 1 ≡ h .settings .levels → ⊥) → level + 1 < at.settings t .levels
+  not-last level hl n = go (below-suc level (at.settings t .levels - 1) (omega arith))
+    where
+      go : (level < at.settings t .levels - 1) ⊎ (level ≡ at.settings t .levels - 1) → level + 1 < at.settings t .levels
+      go (inl l) = omega arith
+      go (inr e) = absurd (n (omega (arith, levels-is, w .readable .levels-low)))
+
+  pub arity-pos : 0 < h .settings .arity
+  arity-pos = omega (arith, arity-is, w .readable .arity-low)
+
+  -- one level down, by one division
+  pub below-is : (level b : ℕ) → b ≡ at.fullLength t level → level + 1 < at.settings t .levels → b / h .settings .arity ≡ at.fullLength t (level + 1)
+  below-is level b b-is above =
+      let pos : 0 < at.settings t .arity = omega (arith, w .readable .arity-low) in
+      rw (arity-is, b-is, full-step t (w .readable) level above) (mul-div-cancel (at.fullLength t (level + 1)) pos)
 
 -- a level's count is a word
 pub count-lt : (t : List ℕ) (l : ℕ) → ((k : ℕ) → getD t k 0 < 256) → at.levelCount t l < 4294967296

@@ -2,18 +2,15 @@
 use mathlib.Core.List.{List}
 use mathlib.Core.Bool.{Bool, true, false, cond}
 use mathlib.Core.Path.{_≡_, refl, sym, ap, _∙_}
-use mathlib.Core.Logic.{_⊎_, inl, inr}
 use Prim.Native.Nat.{ℕ, suc, _+_, _-_, _*_, _/_, _%_, _≤_, _<_}
 use native.Mathlib.Omega.{arith}
-use native.Mathlib.Nat.{mul-div-cancel}
 use borrow.Author.Tests.{lt-ltb, le-ltb}
 use lib.ListN.{length, getD}
-use Rattle.text.specs.ListLaws.{below-suc}
 use Rattle.text.specs.Text.{stretch, countIn}
 use Rattle.text.specs.CountLaws.{count-next-same, count-next-other}
 use Rattle.format.specs.Layout as at
 use Rattle.format.specs.Path.{targetBlock, targetPlace}
-use Rattle.format.specs.HeaderLaws.{Readable, full-pos, full-step, full-small}
+use Rattle.format.specs.HeaderLaws.{Readable, full-pos, full-small}
 use Rattle.paths.specs.Links.{Linked, Pointing, Follows}
 use Rattle.paths.specs.Starts.{len-small, child}
 use Rattle.paths.specs.Landing.{target-first, target-second}
@@ -133,27 +130,26 @@ module _ (t : List ℕ) (h : Header) (level b c i o : ℕ) (b-is : b ≡ at.full
   d = facts.linked t h tree
 
   pub last-level : level + 1 ≡ h .settings .levels → level + 1 ≡ at.settings t .levels
-  last-level e = e ∙ facts.levels-is t h tree
+  last-level e = facts.is-last t h tree level e
 
   pub not-last : (level + 1 ≡ h .settings .levels → ⊥) → level + 1 < at.settings t .levels
-  not-last n = go (below-suc level (at.settings t .levels - 1) (omega (arith, w .block .table .level-in)))
-    where
-      go : (level < at.settings t .levels - 1) ⊎ (level ≡ at.settings t .levels - 1) → level + 1 < at.settings t .levels
-      go (inl l) = omega arith
-      go (inr e) = absurd (n (omega (arith, facts.levels-is t h tree, k .levels-low)))
+  not-last n = facts.not-last t h tree level (w .block .table .level-in) n
+
+  pub walk-small : (r : ℕ) → r ≡ upTo t (at.settings t .levels - 1 - level) level i o c → r ≤ 1048576
+  walk-small r e =
+      omega (arith, up-to t k d (at.settings t .levels - 1 - level) level i o c (omega (arith, w .block .table .level-in)) (w .block .table .block-in) (w .kept) (w .block .place-in)
+      (w .block .table .number-in) (w .below), tally-le t c (at.start t level i) (o + 1), w .block .place-in, facts.length-lt t h level i c (w .block .table))
 
   pub walk-last : level + 1 ≡ h .settings .levels → (r : ℕ) → r ≡ inLeaves t level i (o + 1) c → r ≡ upTo t (at.settings t .levels - 1 - level) level i o c
   unfolding upTo
   walk-last e r f = let z : at.settings t .levels - 1 - level ≡ 0 = omega (arith, last-level e) in f ∙ rw z
 
   pub arity-pos : 0 < h .settings .arity
-  arity-pos = omega (arith, facts.arity-is t h tree, k .arity-low)
+  arity-pos = facts.arity-pos t h tree
 
   module _ (above : level + 1 < at.settings t .levels) where
     pub below-is : b / h .settings .arity ≡ at.fullLength t (level + 1)
-    below-is =
-        let pos : 0 < at.settings t .arity = omega (arith, k .arity-low) in
-        rw (facts.arity-is t h tree, b-is, full-step t k level above) (mul-div-cancel (at.fullLength t (level + 1)) pos)
+    below-is = facts.below-is t h tree level b b-is above
 
     abbrev down : ℕ
     down = at.link t level i + o / at.fullLength t (level + 1)

@@ -1,8 +1,11 @@
 -- Where a block hands a place to, and what that adds and takes off, as the code's struct.
 use mathlib.Core.List.{List}
-use Prim.Native.Nat.{ℕ, _+_, _/_, _%_}
+use mathlib.Core.Bool.{cond}
+use Prim.Native.Nat.{ℕ, _+_, _-_, _*_, _/_, _%_, _^_}
+use lib.Dec.{eqb}
 use Rattle.format.specs.Layout as at
 use Rattle.tallies.specs.Local.{handBlock, handPlace, handPlus, handMinus}
+use Rattle.layout.specs.declared.header.Header.{Header}
 use Rattle.counts.specs.declared.walk.Hand.{Hand}
 
 module _ (t : List ℕ) where
@@ -25,3 +28,7 @@ module _ (t : List ℕ) where
         plus = at.before t (l + 1) j c + handPlus t (l + 1) j p c;
         minus = handMinus t (l + 1) j c;
       }
+
+-- the block length of the level above, by the header; of the text above level 0
+unfoldable pub upFrom : Header → ℕ → ℕ
+upFrom h level = cond (eqb level 0) (h .length) (h .settings .leaf * h .settings .arity ^ (h .settings .levels - 1 - (level - 1)))
