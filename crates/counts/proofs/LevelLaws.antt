@@ -73,7 +73,7 @@ module _ (t : List ℕ) (h : Header) (w : Linking t h) where
     pub below-left : TrueBelow t h (left - 1)
     below-left m l hm = f m (omega arith) hm
 
-    level-low : left - 1 < at.settings t .levels
+    pub level-low : left - 1 < at.settings t .levels
     level-low = omega (arith, pos-of-ne-zero some)
 
     pub level-done : levelLocal t (left - 1) ≡ true → (m : ℕ) → left - 1 ≤ m → m < at.settings t .levels → Level t m
