@@ -137,8 +137,14 @@ module _ (t : List ℕ) (h : Header) (level b c i o : ℕ) (b-is : b ≡ at.full
 
   pub walk-small : (r : ℕ) → r ≡ upTo t (at.settings t .levels - 1 - level) level i o c → r ≤ 1048576
   walk-small r e =
-      omega (arith, up-to t k d (at.settings t .levels - 1 - level) level i o c (omega (arith, w .block .table .level-in)) (w .block .table .block-in) (w .kept) (w .block .place-in)
-      (w .block .table .number-in) (w .below), tally-le t c (at.start t level i) (o + 1), w .block .place-in, facts.length-lt t h level i c (w .block .table))
+      omega (
+        arith,
+        up-to t k d (at.settings t .levels - 1 - level) level i o c (omega (arith, w .block .table .level-in)) (w .block .table .block-in) (w .kept) (w .block .place-in)
+            (w .block .table .number-in) (w .below),
+        tally-le t c (at.start t level i) (o + 1),
+        w .block .place-in,
+        facts.length-lt t h level i c (w .block .table),
+      )
 
   pub walk-last : level + 1 ≡ h .settings .levels → (r : ℕ) → r ≡ inLeaves t level i (o + 1) c → r ≡ upTo t (at.settings t .levels - 1 - level) level i o c
   unfolding upTo
@@ -187,8 +193,14 @@ module _ (t : List ℕ) (h : Header) (level b c i o : ℕ) (b-is : b ≡ at.full
 
         pub rest-small : rest ≤ 1048576
         rest-small =
-            omega (arith, rest-tally, tally-le t c (at.start t (level + 1) (handBlock t (level + 1) down onward)) (handPlace t (level + 1) down onward + 1), next .inside,
-            len-small t (level + 1) (handBlock t (level + 1) down onward), full-small t k (level + 1))
+            omega (
+              arith,
+              rest-tally,
+              tally-le t c (at.start t (level + 1) (handBlock t (level + 1) down onward)) (handPlace t (level + 1) down onward + 1),
+              next .inside,
+              len-small t (level + 1) (handBlock t (level + 1) down onward),
+              full-small t k (level + 1),
+            )
 
         pub minus-low : on .minus ≤ on .plus + rest
         unfolding stepOf

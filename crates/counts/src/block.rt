@@ -113,12 +113,21 @@ fn pointing_right(t: &[u8], h: Header, level: u32, b: u32, block: BlockNumber, c
     if skip != skipped {
         return false;
     }
-    let inside = record::inside(t, k, level, block, c) as u64;
-    skip + inside == pointing_inside(t, h, level, b, block, c)
+    let both = skip + record::inside(t, k, level, block, c) as u64;
+    let counted = pointing_inside(t, h, level, b, block, c);
+    both == counted
 }
 
 // Before, inside and skip of one counted byte in one block; the levels below are true already.
-pub fn block_right(t: &[u8], h: Header, level: u32, b: u32, up: u32, block: BlockNumber, c: u32) -> bool
+pub fn block_right(
+    t: &[u8],
+    h: Header,
+    level: u32,
+    b: u32,
+    up: u32,
+    block: BlockNumber,
+    c: u32,
+) -> bool
     requires { ⌜ (b ≡ at.fullLength (now t) level) × (up ≡ upLength (now t) level) × InTable (now t) h level (block .0) c × TrueBelow (now t) h level ⌝ }
     ensures { λ r. ⌜ r ≡ blockLocal (now (t .entry)) level (block .0) c ⌝ }
 {

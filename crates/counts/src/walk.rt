@@ -48,7 +48,15 @@ pub fn in_leaves(t: &[u8], h: Header, level: u32, block: BlockNumber, n: u32, c:
 }
 
 // A kept block answers for its own places; a pointing block hands a place to its first target, or past that one's end to the second.
-pub fn hand_on(t: &[u8], h: Header, level: u32, b: u32, block: BlockNumber, place: BlockPlace, c: u32) -> Hand
+pub fn hand_on(
+    t: &[u8],
+    h: Header,
+    level: u32,
+    b: u32,
+    block: BlockNumber,
+    place: BlockPlace,
+    c: u32,
+) -> Hand
     requires { ⌜ (b ≡ at.fullLength (now t) level) × InBlock (now t) h level (block .0) (place .0) c ⌝ }
     ensures { λ r. ⌜ (r ≡ handOf (now (t .entry)) level (block .0) (place .0) c) × (r .plus < 4294967296) ⌝ }
 {
@@ -83,7 +91,15 @@ pub fn hand_on(t: &[u8], h: Header, level: u32, b: u32, block: BlockNumber, plac
 }
 
 // From a kept block to the child that holds a place; b is the children's block length.
-fn step(t: &[u8], h: Header, level: u32, b: u32, block: BlockNumber, place: BlockPlace, c: u32) -> Hand
+fn step(
+    t: &[u8],
+    h: Header,
+    level: u32,
+    b: u32,
+    block: BlockNumber,
+    place: BlockPlace,
+    c: u32,
+) -> Hand
     requires { ⌜ (b ≡ at.fullLength (now t) (level + 1)) × (level + 1 < at.settings (now t) .levels) × InKept (now t) h level (block .0) (place .0) c ⌝ }
     ensures { λ r. ⌜ (r ≡ stepOf (now (t .entry)) level (block .0) (place .0) c) × (r .plus < 8589934592) ⌝ }
 {
@@ -102,7 +118,15 @@ fn step(t: &[u8], h: Header, level: u32, b: u32, block: BlockNumber, place: Bloc
 }
 
 // How often counted byte number c stands in a kept block up to a place, it included; the levels left fall.
-pub fn up_to(t: &[u8], h: Header, level: u32, b: u32, block: BlockNumber, place: BlockPlace, c: u32) -> u64
+pub fn up_to(
+    t: &[u8],
+    h: Header,
+    level: u32,
+    b: u32,
+    block: BlockNumber,
+    place: BlockPlace,
+    c: u32,
+) -> u64
     requires { ⌜ (b ≡ at.fullLength (now t) level) × InKept (now t) h level (block .0) (place .0) c ⌝ }
     ensures { λ r. ⌜ r ≡ upTo (now (t .entry)) (at.settings (now (t .entry)) .levels - 1 - level) level (block .0) (place .0) c ⌝ }
 {

@@ -240,8 +240,13 @@ module _ (t : List ℕ) (k : Readable t) (d : Linked t) (a : (m : ℕ) → m < H
     -- the gap and the block's own length from there on
     both-are : at.skip t l i c + at.inside t l i c ≡ tally t c (s t l j) (g + len t l i)
     both-are =
-        omega (arith, skip-is, a l hl i c hi hc .inside-is, points-tally t k d l i (len t l i) c hi un (omega arith) hl,
-        tally-parts t c (s t l j) (s t l j + g) g (len t l i) (g + len t l i) refl refl)
+        omega (
+          arith,
+          skip-is,
+          a l hl i c hi hc .inside-is,
+          points-tally t k d l i (len t l i) c hi un (omega arith) hl,
+          tally-parts t c (s t l j) (s t l j + g) g (len t l i) (g + len t l i) refl refl,
+        )
 
     -- from the occurrence to the block itself
     record Own (y : ℕ) : Type 0 where
@@ -338,6 +343,7 @@ module _ (t : List ℕ) (k : Readable t) (d : Linked t) (a : (m : ℕ) → m < H
       let before-is : at.before t 0 i c ≡ countIn x (stretch (textOf t) 0 (s t 0 i)) = rw (← start) at (top-before i hi) in
       let rank : countIn x (stretch (textOf t) 0 (s t 0 i)) + (n - at.before t 0 i c) ≡ n = omega arith in
       let zero-is : s t 0 i ≡ 0 + s t 0 i = omega arith in
-      let left : H t - 1 - 0 ≡ H t - 1 = omega arith in
-      (nth-place x n (textOf t) (s t 0 i + o) (rw rank at (nth-earlier x (n - at.before t 0 i c) (textOf t) 0 (s t 0 i) o (rw zero-is at (h .nth)))),
-      rw (start, digits-div i small, digits-mod i small) (rw left at (h .entered-is)))
+      let left : H t - 1 - 0 ≡ H t - 1 = omega arith in (
+        nth-place x n (textOf t) (s t 0 i + o) (rw rank at (nth-earlier x (n - at.before t 0 i c) (textOf t) 0 (s t 0 i) o (rw zero-is at (h .nth)))),
+        rw (start, digits-div i small, digits-mod i small) (rw left at (h .entered-is)),
+      )

@@ -127,8 +127,16 @@ module _ (t : List ℕ) where
         let hl : l + 1 < H t = omega arith in
         let kept₁ = kept-of l i kept in
         let q = child t k d l i o hl hi kept₁ ho in
-        omega (arith, added-cons c v vs, taken-cons c v vs, added-rest c v g (next-level l), taken-rest c v g (next-level l), leaf-rest c v g (next-level l),
-        walked g (omega arith) (q .below) (q .inside), kept-step t k d l i o c hl hi kept₁ ho (a (l + 1) hl _ c (q .below) hc))
+        omega (
+          arith,
+          added-cons c v vs,
+          taken-cons c v vs,
+          added-rest c v g (next-level l),
+          taken-rest c v g (next-level l),
+          leaf-rest c v g (next-level l),
+          walked g (omega arith) (q .below) (q .inside),
+          kept-step t k d l i o c hl hi kept₁ ho (a (l + 1) hl _ c (q .below) hc),
+        )
     walked {below = suc below} {l = l} {i = i} {o = o} (Goes.points {x = x} {vs = vs} un pt kept g) lev hi ho =
         let v = visit l i o in
         let j = targetBlock t l i o in
@@ -140,11 +148,21 @@ module _ (t : List ℕ) where
         let p = d .points l i hl₀ hi un₁ in
         let r = target t k d l i o hi p ho in
         let q = child t k d l j y hl (r .below) (r .kept) (r .inside) in
-        omega (arith, added-cons c v (w ∷ vs), taken-cons c v (w ∷ vs), added-target c l i o vs, taken-target c l i o j y vs,
-        added-rest c w g (next-level l), taken-rest c w g (next-level l), leaf-cons c v w vs x, leaf-rest c w g (next-level l),
-        walked g (omega arith) (q .below) (q .inside), kept-step t k d l j y c hl (r .below) (r .kept) (r .inside) (a (l + 1) hl _ c (q .below) hc),
-        points-hand t k d l i o c hi un₁ p ho (a l hl₀ (at.link t l i) c (p .target-below) hc .inside-is),
-        skip-points t k d l i c un₁ (a l hl₀ i c hi hc))
+        omega (
+          arith,
+          added-cons c v (w ∷ vs),
+          taken-cons c v (w ∷ vs),
+          added-target c l i o vs,
+          taken-target c l i o j y vs,
+          added-rest c w g (next-level l),
+          taken-rest c w g (next-level l),
+          leaf-cons c v w vs x,
+          leaf-rest c w g (next-level l),
+          walked g (omega arith) (q .below) (q .inside),
+          kept-step t k d l j y c hl (r .below) (r .kept) (r .inside) (a (l + 1) hl _ c (q .below) hc),
+          points-hand t k d l i o c hi un₁ p ho (a l hl₀ (at.link t l i) c (p .target-below) hc .inside-is),
+          skip-points t k d l i c un₁ (a l hl₀ i c hi hc),
+        )
 
     -- The sums down the path of a place of the text.
     pub counted-path : (p : ℕ) → p < at.textLength t → (q : Path) → pathOf t p ≡ some q
