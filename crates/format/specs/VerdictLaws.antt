@@ -1,12 +1,19 @@
 -- A tree is accepted exactly where it passes questions 5 to 9.
 use mathlib.Core.List.{List}
-use mathlib.Core.Bool.{true}
+use mathlib.Core.Bool.{Bool, true, false}
 use mathlib.Core.Path.{_≡_}
-use Prim.Native.Nat.{ℕ}
+use Prim.Native.Nat.{ℕ, suc}
+use native.Mathlib.Omega.{arith}
 use Rattle.format.specs.Layout.{longEnough, layoutOk, headerOk}
 use Rattle.format.specs.Fits.{linksOk, textOf, countsTrue}
 use Rattle.format.specs.Verdict.{ask, readable, verdict}
 use Rattle.format.specs.HeaderLaws.{ask-test, ask-rest}
+
+refused-first : (a b c : Bool) (q rest : ℕ) → ask 5 a (ask 6 b (ask 7 c 0)) ≡ suc q → ask 5 a (ask 6 b (ask 7 c rest)) ≡ suc q
+refused-first true true true q rest h = absurd (let z : ⊥ = omega arith in z)
+refused-first true true false q rest h = h
+refused-first true false c q rest h = h
+refused-first false b c q rest h = h
 
 module _ (t : List ℕ) where
   -- the verdict of a tree that passes questions 5 to 7 is that of 8 and 9
@@ -16,6 +23,11 @@ module _ (t : List ℕ) where
       let after5 = ask-rest 4 (longEnough t) (ask 6 (layoutOk t) (ask 7 (headerOk t) 0)) h in
       let after6 = ask-rest 5 (layoutOk t) (ask 7 (headerOk t) 0) after5 in
       rw (ask-test 4 (longEnough t) (ask 6 (layoutOk t) (ask 7 (headerOk t) 0)) h, ask-test 5 (layoutOk t) (ask 7 (headerOk t) 0) after5, ask-test 6 (headerOk t) 0 after6)
+
+  -- the verdict of a tree that fails one of them is its number
+  pub verdict-refused : (q : ℕ) → readable t ≡ suc q → verdict t ≡ suc q
+  unfolding readable verdict
+  verdict-refused q h = refused-first (longEnough t) (layoutOk t) (headerOk t) q _ h
 
   pub accepted : readable t ≡ 0 → linksOk t ≡ true → countsTrue (textOf t) t ≡ true → verdict t ≡ 0
   accepted h l c = rw (verdict-readable h, l, c)

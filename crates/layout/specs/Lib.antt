@@ -1,3 +1,4 @@
 pub mod Settings
 pub mod Header
+pub mod HeaderSays
 pub mod Record

@@ -3,3 +3,4 @@ pub mod ListLaws
 pub mod Conjunctions
 pub mod Text
 pub mod TextLaws
+pub mod CountLaws

@@ -1,0 +1,5 @@
+pub mod Tests
+pub mod HeaderFacts
+pub mod WalkLaws
+pub mod BlockLaws
+pub mod LevelLaws

@@ -1,0 +1,19 @@
+use borrow.Author.Needs.{needs}
+use borrow.Author.Tests.{ne-eqb, eq-eqb}
+use native.Mathlib.Omega.{arith}
+use Rattle.counts.proofs.HeaderFacts as facts
+use Rattle.counts.proofs.LevelLaws as laws
+use Rattle.counts.proofs.Tests.{failed, held}
+use Rattle.counts.proofs.level.up_length.Statement.{statement}
+use Rattle.counts.proofs.level.up_length.Tie as tie
+use Rattle.counts.specs.Hand.{upFrom}
+
+pub up-length-spec : {M : Type 1} → statement M
+unfolding upFrom
+up-length-spec =
+    tie.close
+    (tie.spec
+    (λ c. rw (eq-eqb _ 0 (c .if1 .taken)))
+    (λ c. search needs)
+    (λ c κs. search needs)
+    (λ c. rw (ne-eqb _ 0 (c .before .if1 .left)) (c .block-length .ensures)))

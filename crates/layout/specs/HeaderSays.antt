@@ -1,0 +1,71 @@
+-- What reading a header gives: the header of a tree that passes questions 5 to 7, or the number that every question answers.
+use mathlib.Core.List.{List}
+use mathlib.Core.Bool.{Bool, true, false}
+use mathlib.Core.Path.{_≡_, refl, sym, ap, _∙_}
+use Prim.Native.Nat.{ℕ, zero, suc, _≤_}
+use native.Mathlib.Omega.{arith}
+use Rattle.format.specs.Layout as at
+use Rattle.format.specs.Verdict.{ask, readable}
+use Rattle.format.specs.HeaderLaws.{Readable, readable-facts}
+use Rattle.layout.specs.declared.header.Header.{Header}
+use Rattle.layout.specs.declared.header.HeaderRead.{HeaderRead}
+use Rattle.layout.specs.declared.header.HeaderRead.the-variants.{Good, Refused}
+use Rattle.layout.specs.Header.{fieldsOf, goodUnless, headerSays}
+
+-- t passes questions 5 to 7, and h is its header
+pub record HeaderOf (t : List ℕ) (h : Header) : Type 0 where
+  pub passes : readable t ≡ 0
+  pub facts : Readable t
+  pub fields : h ≡ fieldsOf t
+  pub length-is : h .length ≡ at.textLength t
+  pub leaf-is : h .settings .leaf ≡ at.settings t .leaf
+  pub arity-is : h .settings .arity ≡ at.settings t .arity
+  pub levels-is : h .settings .levels ≡ at.settings t .levels
+  pub counted-is : h .settings .counted ≡ at.countedCount t
+  pub offset-is : h .«leaf_offset» ≡ at.leafOffset t
+  pub count-is : h .«leaf_count» ≡ at.leafCount t
+
+of-fields : (t : List ℕ) (h : Header) → readable t ≡ 0 → h ≡ fieldsOf t → HeaderOf t h
+unfolding at.textLength at.settings at.countedCount at.leafOffset at.leafCount
+of-fields t h z e = record {
+  passes = z;
+  facts = readable-facts t z;
+  fields = e;
+  length-is = ap (λ (x : Header). x .length) e;
+  leaf-is = ap (λ (x : Header). x .settings .leaf) e;
+  arity-is = ap (λ (x : Header). x .settings .arity) e;
+  levels-is = ap (λ (x : Header). x .settings .levels) e;
+  counted-is = ap (λ (x : Header). x .settings .counted) e;
+  offset-is = ap (λ (x : Header). x .«leaf_offset») e;
+  count-is = ap (λ (x : Header). x .«leaf_count») e;
+}
+
+good-cases : (n : ℕ) (f h : Header) → Good h ≡ goodUnless n f → (n ≡ 0) × (h ≡ f)
+good-cases zero f h e = (refl, cc)
+good-cases (suc n) f h e = absurd (let z : _≡_ {A = ℕ} 0 1 = cc in omega arith)
+
+refused-cases : (n q : ℕ) (f : Header) → Refused q ≡ goodUnless n f → (k : ℕ) × (n ≡ suc k) × (q ≡ suc k)
+refused-cases zero q f e = absurd (let z : _≡_ {A = ℕ} 0 1 = cc in omega arith)
+refused-cases (suc k) q f e = (k, refl, cc)
+
+module _ (t : List ℕ) (x : HeaderRead) (is : x ≡ headerSays t) where
+  pub header-good : (h : Header) → x ≡ Good h → HeaderOf t h
+  unfolding headerSays
+  header-good h e =
+      let z = good-cases (readable t) (fieldsOf t) h (sym e ∙ is) in
+      of-fields t h (z .0) (z .1)
+
+  pub header-refused : (q : ℕ) → x ≡ Refused q → (k : ℕ) × (readable t ≡ suc k) × (q ≡ suc k)
+  unfolding headerSays
+  header-refused q e = refused-cases (readable t) q (fieldsOf t) (sym e ∙ is)
+
+-- the number of a header that does not pass is at most 7
+ask-small : (a b c : Bool) → ask 5 a (ask 6 b (ask 7 c 0)) ≤ 7
+ask-small true true true = omega arith
+ask-small true true false = omega arith
+ask-small true false c = omega arith
+ask-small false b c = omega arith
+
+pub readable-small : (t : List ℕ) → readable t ≤ 7
+unfolding readable
+readable-small t = ask-small (at.longEnough t) (at.layoutOk t) (at.headerOk t)

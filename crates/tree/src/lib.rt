@@ -1,0 +1,31 @@
+// The tree layer's outside calls: the check of any bytes lent as a tree.
+use layout::header::Header;
+use layout::header::HeaderRead;
+ghost use mathlib.Core.Path.{_≡_};
+ghost use Rattle.format.specs.Verdict.{verdict};
+ghost use Rattle.layout.specs.HeaderSays.{HeaderOf};
+
+// Questions 5 to 9, asked of any bytes in that order: 0 where all hold, else the number of the first that fails.
+pub fn check(t: &[u8]) -> u32
+    ensures { λ r. ⌜ r ≡ verdict (now (t .entry)) ⌝ }
+{
+    let read = layout::header::read_header(t);
+    match read {
+        HeaderRead::Good(h) => check_tables(t, h),
+        HeaderRead::Refused(number) => number,
+    }
+}
+
+// Questions 8 and 9.
+fn check_tables(t: &[u8], h: Header) -> u32
+    requires { ⌜ HeaderOf (now t) h ⌝ }
+    ensures { λ r. ⌜ r ≡ verdict (now (t .entry)) ⌝ }
+{
+    if !links::links_right(t, h) {
+        return 8;
+    }
+    if !counts::counts_right(t, h) {
+        return 9;
+    }
+    0
+}
