@@ -1,1 +1,2 @@
 mod CheckLaws
+pub mod Demands

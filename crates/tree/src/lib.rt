@@ -5,6 +5,9 @@ ghost use mathlib.Core.Path.{_≡_};
 ghost use Rattle.format.specs.Verdict.{verdict};
 ghost use Rattle.layout.specs.HeaderSays.{HeaderOf};
 
+// The check's answer for a tree that no question refuses.
+pub const ACCEPTED: u32 = 0;
+
 // Questions 5 to 9, asked of any bytes in that order: 0 where all hold, else the number of the first that fails.
 pub fn check(t: &[u8]) -> u32
     ensures { λ r. ⌜ r ≡ verdict (now (t .entry)) ⌝ }
@@ -27,5 +30,5 @@ fn check_tables(t: &[u8], h: Header) -> u32
     if !counts::counts_right(t, h) {
         return 9;
     }
-    0
+    ACCEPTED
 }
