@@ -1,4 +1,4 @@
-// Byte, run and span on the worked book's tree, on a tree with a longer pointing block, and on damaged trees. Each line
+// Byte, run and span on the worked book's tree, on a tree whose last blocks point, and on damaged trees. Each line
 // is an answer; the file stdout has what is expected.
 use query::Answer;
 use query::Copied;
@@ -984,7 +984,7 @@ fn book() {
 }
 
 fn long() {
-    io::write_all(1, b"a pointing block of four bytes over three blocks\n");
+    io::write_all(1, b"a text whose last blocks point\n");
     say_all(&LONG, 29);
 }
 
