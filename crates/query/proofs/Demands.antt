@@ -2,8 +2,8 @@
 use mathlib.Core.List.{List, _++_}
 use mathlib.Core.Option.{some}
 use mathlib.Core.Bool.{true}
-use mathlib.Core.Path.{_≡_, refl, sym, ap, _∙_}
-use Prim.Native.Nat.{ℕ, suc, _+_, _-_, _*_, _≤_, _<_}
+use mathlib.Core.Path.{_≡_, ap, _∙_}
+use Prim.Native.Nat.{ℕ, _+_, _-_, _*_, _≤_, _<_}
 use native.Mathlib.Omega.{arith}
 use contract.Lifetimes.{Lfts}
 use denote.Ref.{RefT}
@@ -14,10 +14,9 @@ use Rattle.format.specs.Layout as at
 use Rattle.format.specs.Path.{Path, pathOf}
 use Rattle.format.specs.Fits.{linksOk, textOf, fits}
 use Rattle.format.specs.Verdict.{readable}
-use Rattle.format.specs.Said.{Said, refused, unless}
-use Rattle.format.specs.Reading.{byteSays, runSays, spanNumber, spanLeaves}
+use Rattle.format.specs.Said.{Said}
+use Rattle.format.specs.Reading.{runSays}
 use Rattle.paths.specs.Demands as paths
-use Rattle.paths.specs.Reads as reads
 use Rattle.query.specs.declared.Answer.{Answer}
 use Rattle.query.specs.declared.Answer.the-variants.{Byte, Refused}
 use Rattle.query.specs.declared.Copied.{Copied}

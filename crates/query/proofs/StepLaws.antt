@@ -1,8 +1,8 @@
 -- The steps of a path, from what was read to what they give.
 use mathlib.Core.List.{List}
-use mathlib.Core.Bool.{Bool, true, false, cond, _&&_}
-use mathlib.Core.Path.{_≡_, refl, sym, ap, _∙_}
-use Prim.Native.Nat.{ℕ, _+_, _-_, _*_, _/_, _%_, _≤_, _<_}
+use mathlib.Core.Bool.{true, _&&_}
+use mathlib.Core.Path.{_≡_, _∙_}
+use Prim.Native.Nat.{ℕ, _+_, _-_, _/_, _≤_, _<_}
 use native.Mathlib.Omega.{arith}
 use native.Mathlib.Nat.{add-zero}
 use lib.Dec.{ltb}
@@ -10,7 +10,7 @@ use borrow.Author.Tests.{ltb-true, lt-ltb, le-ltb, eq-eqb, ne-eqb}
 use Rattle.text.specs.ListLaws.{and-left, and-right}
 use Rattle.format.specs.Layout as at
 use Rattle.format.specs.Path.{keptBlock, pointingBlock, targetBlock, targetPlace}
-use Rattle.format.specs.HeaderLaws.{Readable, full-pos, full-small, level0-holds}
+use Rattle.format.specs.HeaderLaws.{full-pos, full-small, level0-holds}
 use Rattle.paths.specs.Landing.{target-first, target-second}
 use Rattle.layout.specs.declared.header.Header.{Header}
 use Rattle.layout.specs.Record.{FieldIn, field-in}

@@ -6,14 +6,14 @@ use mathlib.Core.Path.{_≡_, refl, sym, ap, _∙_}
 use Prim.Native.Nat.{ℕ, zero, suc, _+_, _-_, _*_, _/_, _%_, _^_, _≤_, _<_, min}
 use native.Mathlib.Omega.{arith}
 use native.Mathlib.Nat.{mul-div-cancel, mod-lt}
-use borrow.Author.Tests.{ltb-true, lt-ltb, le-ltb, eqb-true, ne-eqb}
+use borrow.Author.Tests.{le-ltb, eqb-true, ne-eqb}
 use lib.Dec.{ltb, eqb}
 use lib.ListN.{length}
 use Rattle.text.specs.ListLaws.{and-left, and-right}
 use Rattle.format.specs.Settings.{blockLength}
 use Rattle.format.specs.Layout as at
-use Rattle.format.specs.Path.{Path, Visit, visit, entered, keptBlock, pointingBlock, targetBlock, targetPlace, landBlock, landPlace, landVisits, lands, pathFrom, pathOf}
-use Rattle.format.specs.HeaderLaws.{Readable, full-step, full-pos}
+use Rattle.format.specs.Path.{Path, visit, entered, keptBlock, pointingBlock, targetBlock, targetPlace, lands, pathFrom, pathOf}
+use Rattle.format.specs.HeaderLaws.{full-step, full-pos}
 use Rattle.format.specs.Reading.{leftOver}
 use Rattle.paths.specs.Landing.{from-last, from-kept, from-pointing}
 use Rattle.paths.specs.Shift.{target-small}
@@ -26,9 +26,8 @@ use Rattle.query.specs.declared.step.Next.the-variants.{Kept, Points, Of
 use Rattle.query.specs.declared.walk.Trail.{Trail}
 use Rattle.query.specs.declared.walk.Walked.{Walked}
 use Rattle.query.specs.declared.walk.Walked.the-variants.{At, Broken}
-use Rattle.query.specs.Steps.{HeaderOf, OnLevel, InTable, Pointing, nextAt}
+use Rattle.query.specs.Steps.{HeaderOf, OnLevel, Pointing, nextAt}
 use Rattle.query.specs.Walk.{onward, walked, KeptAt}
-use Rattle.query.proofs.StepLaws.{kept-in}
 
 -- what is carried
 

@@ -1,6 +1,5 @@
 use borrow.Author.Needs.{needs}
 use mathlib.Core.Path.{refl}
-use native.Mathlib.Omega.{arith}
 use Rattle.query.proofs.ByteLaws as laws
 use Rattle.query.proofs.reading.byte_at.Statement.{statement}
 use Rattle.query.proofs.reading.byte_at.Tie as tie

@@ -1,5 +1,4 @@
 use borrow.Author.Needs.{needs}
-use native.Mathlib.Omega.{arith}
 use Rattle.query.proofs.SpanLaws as laws
 use Rattle.query.proofs.reading.span_at.Statement.{statement}
 use Rattle.query.proofs.reading.span_at.Tie as tie

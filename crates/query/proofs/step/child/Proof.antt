@@ -1,5 +1,4 @@
 use borrow.Author.Needs.{needs}
-use mathlib.Core.Path.{_∙_, ap}
 use native.Mathlib.Omega.{arith}
 use Rattle.query.proofs.StepLaws as laws
 use Rattle.query.proofs.step.child.Statement.{statement}
