@@ -1,23 +1,23 @@
 -- One block's counts, from what was read to whether they are right.
 use mathlib.Core.List.{List}
-use mathlib.Core.Bool.{Bool, true, false, cond, _&&_}
-use mathlib.Core.Path.{_≡_, refl, sym, ap, _∙_}
+use mathlib.Core.Bool.{Bool, true, false}
+use mathlib.Core.Path.{_≡_, _∙_}
 use Prim.Native.Nat.{ℕ, zero, suc, _+_, _-_, _/_, _%_, _≤_, _<_, min}
 use native.Mathlib.Omega.{arith}
 use borrow.Author.Tests.{eq-eqb, ne-eqb}
 use lib.Dec.{eqb}
 use Rattle.format.specs.Layout as at
-use Rattle.format.specs.Path.{targetBlock, targetPlace}
+use Rattle.format.specs.Path.{targetBlock}
 use Rattle.format.specs.Fits.{lastLevel}
 use Rattle.format.specs.HeaderLaws.{Readable, full-pos}
 use Rattle.paths.specs.Links.{Linked, Pointing}
 use Rattle.paths.specs.Starts.{start-below, len-pos, child, target-full}
 use Rattle.paths.specs.Landing.{target}
 use Rattle.layout.specs.declared.header.Header.{Header}
-use Rattle.tallies.specs.Local.{upLength, beforeLocal, inLeaves, lastChild, handBlock, handPlace, handPlus, upTo, keptInside, keptLocal, pointingSkip, pointingInside, pointingLocal, blockLocal}
-use Rattle.tallies.specs.Steps.{Neighbour, neighbour}
+use Rattle.tallies.specs.Local.{upLength, beforeLocal, inLeaves, lastChild, handBlock, handPlace, upTo, keptInside, keptLocal, pointingSkip, pointingInside, pointingLocal, blockLocal}
+use Rattle.tallies.specs.Families.{neighbour}
 use Rattle.counts.specs.declared.walk.Hand.{Hand}
-use Rattle.counts.specs.Asked.{Linking, InTable, InBlock, InKept, TrueBelow}
+use Rattle.counts.specs.Asked.{InTable, InBlock, InKept, TrueBelow}
 use Rattle.counts.specs.Hand.{handOf}
 use Rattle.counts.proofs.HeaderFacts as facts
 

@@ -1,8 +1,8 @@
 -- What the header's fields and a block's record are, where the check of counts looks at them.
 use mathlib.Core.List.{List}
-use mathlib.Core.Bool.{Bool, true, false}
-use mathlib.Core.Path.{_≡_, refl, sym, ap, _∙_}
-use Prim.Native.Nat.{ℕ, _+_, _-_, _*_, _/_, _%_, _≤_, _<_}
+use mathlib.Core.Bool.{true, false}
+use mathlib.Core.Path.{_≡_, sym, ap, _∙_}
+use Prim.Native.Nat.{ℕ, _+_, _-_, _*_, _/_, _≤_, _<_}
 use native.Mathlib.Omega.{arith}
 use native.Mathlib.Nat.{mul-div-cancel}
 use mathlib.Core.Logic.{_⊎_, inl, inr}
@@ -12,13 +12,13 @@ use lib.Seq.{getD-take, getD-drop}
 use Rattle.text.specs.ListLaws.{below-suc}
 use Rattle.format.specs.Layout as at
 use Rattle.format.specs.WordLaws.{wordAt-lt}
-use Rattle.format.specs.HeaderLaws.{Readable, full-small, full-step, full-pos}
+use Rattle.format.specs.HeaderLaws.{full-small, full-step}
 use Rattle.paths.specs.Links.{Linked, linked-facts}
 use Rattle.paths.specs.Starts.{len-small}
 use Rattle.tallies.specs.Local.{byteOf}
 use Rattle.layout.specs.declared.header.Header.{Header}
 use Rattle.layout.specs.Record.{FieldIn, field-in}
-use Rattle.counts.specs.Asked.{Linking, InTable, InBlock}
+use Rattle.counts.specs.Asked.{Linking, InTable}
 
 module _ (t : List ℕ) (h : Header) (w : Linking t h) where
   pub counted-is : h .settings .counted ≡ at.countedCount t

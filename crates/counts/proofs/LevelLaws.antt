@@ -1,25 +1,23 @@
 -- A level's counts, and those of all levels.
 use mathlib.Core.List.{List}
-use mathlib.Core.Bool.{Bool, true, false, cond}
-use mathlib.Core.Path.{_≡_, refl, sym, ap, _∙_}
+use mathlib.Core.Bool.{true, false}
+use mathlib.Core.Path.{_≡_, sym, _∙_}
 use mathlib.Core.Logic.{_⊎_, inl, inr}
-use Prim.Native.Nat.{ℕ, zero, suc, _+_, _-_, _*_, _^_, _≤_, _<_}
+use Prim.Native.Nat.{ℕ, zero, suc, _-_, _*_, _^_, _≤_, _<_}
 use native.Mathlib.Omega.{arith}
 use native.Mathlib.Nat.{pos-of-ne-zero}
-use borrow.Author.Tests.{eq-eqb, ne-eqb}
-use lib.Dec.{eqb}
+use borrow.Author.Tests.{ne-eqb}
 use Rattle.text.specs.Lists.{allBelow}
-use Rattle.text.specs.ListLaws.{bool-cases, bool-clash, lt-or-ge, allBelow-at, allBelow-make, allBelow-not}
+use Rattle.text.specs.ListLaws.{bool-cases, bool-clash, lt-or-ge, allBelow-make, allBelow-not}
 use Rattle.format.specs.Settings.{blockLength}
 use Rattle.format.specs.Layout as at
 use Rattle.format.specs.Fits.{textOf, countsTrue}
-use Rattle.format.specs.HeaderLaws.{Readable}
 use Rattle.layout.specs.declared.header.Header.{Header}
 use Rattle.layout.specs.Settings.{Sized}
 use Rattle.tallies.specs.Local.{upLength, blockLocal, levelLocal}
 use Rattle.tallies.specs.Level.{Level, counts-facts, counts-make}
 use Rattle.tallies.specs.Exact.{level-true, level-local}
-use Rattle.counts.specs.Asked.{Linking, InTable, TrueBelow}
+use Rattle.counts.specs.Asked.{Linking, TrueBelow}
 use Rattle.counts.specs.Hand.{upFrom}
 use Rattle.counts.proofs.HeaderFacts as facts
 

@@ -1,17 +1,16 @@
 -- The count walk, from what was read to what it answers.
 use mathlib.Core.List.{List}
-use mathlib.Core.Bool.{Bool, true, false, cond}
-use mathlib.Core.Path.{_≡_, refl, sym, ap, _∙_}
-use Prim.Native.Nat.{ℕ, suc, _+_, _-_, _*_, _/_, _%_, _≤_, _<_}
+use mathlib.Core.Bool.{false}
+use mathlib.Core.Path.{_≡_, _∙_}
+use Prim.Native.Nat.{ℕ, suc, _+_, _-_, _/_, _%_, _≤_, _<_}
 use native.Mathlib.Omega.{arith}
 use borrow.Author.Tests.{lt-ltb, le-ltb}
 use lib.ListN.{length, getD}
 use Rattle.text.specs.Text.{stretch, countIn}
 use Rattle.text.specs.CountLaws.{count-next-same, count-next-other}
 use Rattle.format.specs.Layout as at
-use Rattle.format.specs.Path.{targetBlock, targetPlace}
 use Rattle.format.specs.HeaderLaws.{Readable, full-pos, full-small}
-use Rattle.paths.specs.Links.{Linked, Pointing, Follows}
+use Rattle.paths.specs.Links.{Linked, Pointing}
 use Rattle.paths.specs.Starts.{len-small, child}
 use Rattle.paths.specs.Landing.{target-first, target-second}
 use Rattle.layout.specs.declared.place.BlockNumber.{BlockNumber}
@@ -19,7 +18,8 @@ use Rattle.layout.specs.declared.place.BlockPlace.{BlockPlace}
 use Rattle.layout.specs.declared.header.Header.{Header}
 use Rattle.tallies.specs.Level.{tally, Level}
 use Rattle.tallies.specs.Exact.{up-to}
-use Rattle.tallies.specs.Steps.{leaves-end, Handed, handed, tally-le}
+use Rattle.tallies.specs.Stretches.{leaves-end, tally-le}
+use Rattle.tallies.specs.Targets.{Handed, handed}
 use Rattle.tallies.specs.Local.{handBlock, handPlace, handPlus, handMinus, inLeaves, upTo}
 use Rattle.counts.specs.declared.walk.Hand.{Hand}
 use Rattle.counts.specs.Asked.{Linking, InTable, InBlock, InKept}

@@ -2,7 +2,7 @@
 use mathlib.Core.List.{List}
 use mathlib.Core.Bool.{true}
 use mathlib.Core.Path.{_≡_}
-use Prim.Native.Nat.{ℕ, _+_, _<_, _≤_}
+use Prim.Native.Nat.{ℕ, _<_}
 use Rattle.format.specs.Layout as at
 use Rattle.format.specs.Fits.{linksOk}
 use Rattle.format.specs.HeaderLaws.{Readable}

@@ -1,7 +1,7 @@
 -- What holds of the counts of a tree: each statement under its own sentence.
 use mathlib.Core.List.{List}
-use mathlib.Core.Bool.{Bool, true, cond}
-use mathlib.Core.Path.{_≡_, ap, _∙_}
+use mathlib.Core.Bool.{true, cond}
+use mathlib.Core.Path.{_≡_}
 use Prim.Native.Nat.{ℕ, _+_, _-_, _≤_, _<_}
 use lib.ListN.{take}
 use lib.Dec.{eqb}
@@ -11,11 +11,11 @@ use Rattle.format.specs.Path.{pathOf}
 use Rattle.format.specs.Fits.{linksOk, textOf, countsTrue}
 use Rattle.format.specs.Verdict.{readable, verdict}
 use Rattle.format.specs.VerdictLaws.{accepted-readable, accepted-links, accepted-counts}
-use Rattle.format.specs.HeaderLaws.{Readable, readable-facts}
+use Rattle.format.specs.HeaderLaws.{readable-facts}
 use Rattle.format.specs.Counting.{isCounted, numberOfByte, countSays}
 use Rattle.format.specs.Finding.{total, pathLength}
 use Rattle.paths.specs.Links.{Linked, linked-facts}
-use Rattle.tallies.specs.Local.{byteOf, countsLocal}
+use Rattle.tallies.specs.Local.{countsLocal}
 use Rattle.tallies.specs.Level.{Level, counts-facts}
 use Rattle.tallies.specs.Exact as exact
 use Rattle.tallies.specs.Ranks as ranks

@@ -1,15 +1,15 @@
 -- The check of counts is exact: the local equations of every level hold exactly where the counts are true of the tree's text.
 use mathlib.Core.List.{List}
-use mathlib.Core.Bool.{Bool, true, false, cond, _&&_}
-use mathlib.Core.Path.{_≡_, refl, sym, ap, _∙_}
+use mathlib.Core.Bool.{Bool, true, false, cond}
+use mathlib.Core.Path.{_≡_, refl, sym, _∙_}
 use mathlib.Core.Logic.{_⊎_, inl, inr}
-use Prim.Native.Nat.{ℕ, zero, suc, _+_, _-_, _*_, _/_, _%_, _≤_, _<_}
+use Prim.Native.Nat.{ℕ, zero, suc, _+_, _-_, _/_, _%_, _≤_, _<_}
 use native.Mathlib.Omega.{arith}
 use native.Mathlib.Nat.{pos-of-ne-zero}
 use borrow.Author.Tests.{eqb-true, eqb-false, eq-eqb, ne-eqb}
-use lib.Dec.{eqb, ltb}
+use lib.Dec.{eqb}
 use Rattle.text.specs.Lists.{allBelow}
-use Rattle.text.specs.ListLaws.{bool-cases, bool-clash, and-left, and-right, and-both, below-suc, allBelow-at, allBelow-make}
+use Rattle.text.specs.ListLaws.{bool-cases, and-left, and-right, and-both, below-suc, allBelow-at, allBelow-make}
 use Rattle.format.specs.HeaderLaws.{Readable}
 use Rattle.format.specs.Layout as at
 use Rattle.format.specs.Path.{targetBlock, targetPlace}
@@ -19,7 +19,9 @@ use Rattle.paths.specs.Starts.{child, len-pos, target-full}
 use Rattle.paths.specs.Landing.{target}
 use Rattle.tallies.specs.Local.{upLength, handBlock, handPlace, handPlus, upTo, beforeLocal, lastChild, keptInside, keptLocal, pointingSkip, pointingInside, pointingLocal, blockLocal, levelLocal, countsLocal}
 use Rattle.tallies.specs.Level.{tally, parentPlace, Block, Level, counts-facts, counts-make}
-use Rattle.tallies.specs.Steps.{tally-none, tally-parts, leaves-tally, kept-step, last-child-tally, at-parent, Neighbour, neighbour, points-hand, Handed, handed}
+use Rattle.tallies.specs.Stretches.{tally-none, tally-parts, leaves-tally}
+use Rattle.tallies.specs.Families.{kept-step, last-child-tally, at-parent, neighbour}
+use Rattle.tallies.specs.Targets.{points-hand, handed}
 
 module _ (t : List ℕ) (k : Readable t) (d : Linked t) where
   -- the counts of the levels below l are true

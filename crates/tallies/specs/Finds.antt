@@ -1,19 +1,18 @@
 -- Find (select) on an accepted tree: which block of a list of siblings holds the j-th byte, where a pointing block has it, and
 -- that the place reached this way is the place of the j-th byte in the text, with its path's length.
-use mathlib.Core.List.{List, [], _∷_, _++_}
-use mathlib.Core.Option.{Option, none, some}
-use mathlib.Core.Bool.{Bool, true, false, cond}
-use mathlib.Core.Path.{_≡_, refl, sym, ap, _∙_}
+use mathlib.Core.List.{List, [], _∷_}
+use mathlib.Core.Option.{Option, some}
+use mathlib.Core.Bool.{true, false}
+use mathlib.Core.Path.{_≡_, refl, ap, _∙_}
 use mathlib.Core.Logic.{_⊎_, inl, inr}
-use Prim.Native.Nat.{ℕ, zero, suc, _+_, _-_, _*_, _/_, _%_, _≤_, _<_}
+use Prim.Native.Nat.{ℕ, zero, suc, _+_, _-_, _*_, _≤_, _<_}
 use native.Mathlib.Omega.{arith}
-use native.Mathlib.Numerals.{add-one}
 use native.Mathlib.Nat.{add-mul, one-mul, zero-mul, add-zero, mul-div-cancel, mul-le-mul-right}
-use lib.ListN.{length, getD}
+use lib.ListN.{length}
 use lib.Arith.{digits-div, digits-mod}
 use Rattle.text.specs.ListLaws.{lt-or-ge}
 use Rattle.text.specs.Text.{stretch, countIn, placeOf}
-use Rattle.text.specs.CountLaws.{count-start, count-whole, count-mono, Nth, nth-earlier, nth-later, nth-past, nth-before, nth-place}
+use Rattle.text.specs.CountLaws.{count-whole, count-mono, Nth, nth-earlier, nth-later, nth-past, nth-before, nth-place}
 use Rattle.format.specs.Settings.{pieces}
 use Rattle.format.specs.PieceLaws.{pieces-cover, pieces-start}
 use Rattle.format.specs.HeaderLaws.{Readable, full-pos}
@@ -22,13 +21,15 @@ use Rattle.format.specs.Path.{Path, Visit, visit, entered, targetBlock, targetP
 use Rattle.format.specs.Fits.{textOf}
 use Rattle.format.specs.Finding.{total, pathLength}
 use Rattle.paths.specs.Links.{H, N, b, s, len, Pointing, Follows, Linked}
-use Rattle.paths.specs.Starts.{len-small, len-inside, len-pos, start-below, Parent, InParent, in-parent, child, last-kept, leaf-below, target-full, second-inside}
-use Rattle.paths.specs.Landing.{kept-block, kept-not, pointing-block, from-last, from-kept, from-pointing, Target, target, target-first, target-second}
+use Rattle.paths.specs.Starts.{len-small, len-inside, len-pos, start-below, Parent, in-parent, child, last-kept, leaf-below, target-full, second-inside}
+use Rattle.paths.specs.Landing.{kept-block, kept-not, pointing-block, from-last, from-kept, from-pointing, target, target-first, target-second}
 use Rattle.paths.specs.Walk.{path-from-holds}
 use Rattle.paths.specs.OneText.{text-length}
 use Rattle.tallies.specs.Local.{byteOf, inLeaves}
 use Rattle.tallies.specs.Level.{tally, parentPlace, Block, Level}
-use Rattle.tallies.specs.Steps.{tally-none, tally-parts, fitting, points-tally, child-of, child-tally, last-child-tally, leaves-tally, skip-points}
+use Rattle.tallies.specs.Stretches.{tally-none, tally-parts, fitting, points-tally, leaves-tally}
+use Rattle.tallies.specs.Families.{child-of, child-tally}
+use Rattle.tallies.specs.Targets.{skip-points}
 
 module _ (t : List ℕ) (k : Readable t) (d : Linked t) (a : (m : ℕ) → m < H t → Level t m) (c : ℕ) (hc : c < at.countedCount t) where
   tally-mono : (p x y : ℕ) → x ≤ y → tally t c p x ≤ tally t c p y

@@ -1,11 +1,9 @@
 -- That a level's counts are true of the tree's text, as plain facts.
 use mathlib.Core.List.{List, [], _∷_}
-use mathlib.Core.Bool.{Bool, true, false, cond, _&&_}
-use mathlib.Core.Path.{_≡_, refl, sym, ap, _∙_}
-use Prim.Native.Nat.{ℕ, zero, suc, _+_, _-_, _*_, _/_, _<_}
-use native.Mathlib.Omega.{arith}
+use mathlib.Core.Bool.{Bool, true, cond, _&&_}
+use mathlib.Core.Path.{_≡_}
+use Prim.Native.Nat.{ℕ, zero, suc, _-_, _*_, _/_, _<_}
 use borrow.Author.Tests.{eqb-true, eq-eqb}
-use lib.ListN.{getD}
 use lib.Dec.{eqb}
 use Rattle.text.specs.Lists.{allBelow}
 use Rattle.text.specs.ListLaws.{and-both, allBelow-at, allBelow-make}

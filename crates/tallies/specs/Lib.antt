@@ -1,6 +1,8 @@
 pub mod Local
 pub mod Level
-pub mod Steps
+pub mod Stretches
+pub mod Families
+pub mod Targets
 pub mod Exact
 pub mod Ranks
 pub mod Finds

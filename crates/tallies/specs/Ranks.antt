@@ -1,25 +1,24 @@
 -- Count (rank) on an accepted tree: what is added down the path, less what is taken off, is the text's count.
 use mathlib.Core.List.{List, [], _∷_}
-use mathlib.Core.Option.{Option, none, some}
+use mathlib.Core.Option.{some}
 use mathlib.Core.Bool.{Bool, true, false, cond}
 use mathlib.Core.Path.{_≡_, refl, sym, ap, _∙_}
 use mathlib.Core.Logic.{_⊎_, inl, inr}
-use Prim.Native.Nat.{ℕ, zero, suc, _+_, _-_, _*_, _/_, _%_, _≤_, _<_}
+use Prim.Native.Nat.{ℕ, zero, suc, _+_, _-_, _/_, _%_, _≤_, _<_}
 use native.Mathlib.Omega.{arith}
 use native.Mathlib.Numerals.{add-one}
 use native.Mathlib.Nat.{div-add-mod', mod-lt}
-use borrow.Author.Tests.{eqb-true, eqb-false, eq-eqb, ne-eqb, lt-ltb, le-ltb, le-leb, ltb-true}
+use borrow.Author.Tests.{eqb-true, eq-eqb, ne-eqb, lt-ltb, le-ltb, le-leb, ltb-true}
 use lib.ListN.{length, take, getD}
-use lib.Dec.{eqb, ltb, leb}
-use Rattle.text.specs.ListLaws.{bool-cases, bool-clash, lt-or-ge, and-left, and-right}
-use Rattle.text.specs.Text.{stretch, countIn}
+use lib.Dec.{eqb, ltb}
+use Rattle.text.specs.ListLaws.{bool-cases, bool-clash, lt-or-ge, and-right}
+use Rattle.text.specs.Text.{countIn}
 use Rattle.text.specs.CountLaws.{count-start, count-nil}
 use Rattle.format.specs.HeaderLaws.{Readable, readable-facts, full-pos, level0-holds}
 use Rattle.format.specs.Layout as at
 use Rattle.format.specs.Path.{Path, Visit, visit, keptBlock, targetBlock, targetPlace, pathOf}
 use Rattle.format.specs.Fits.{textOf}
-use Rattle.format.specs.Verdict.{ask, readable}
-use Rattle.format.specs.Said.{Said, refused, unless}
+use Rattle.format.specs.Verdict.{readable}
 use Rattle.format.specs.Finding.{pathLength}
 use Rattle.format.specs.Counting.{indexOf, addedAfter, added, takenAfter, taken, lastPlace, leavesReached, countOf, isCounted, numberOfByte, countSays}
 use Rattle.paths.specs.Links.{H, N, b, s, len, Linked}
@@ -28,8 +27,10 @@ use Rattle.paths.specs.Landing.{kept-block, target, target-first, target-second
 use Rattle.paths.specs.Visits.{Goes, goes}
 use Rattle.paths.specs.Walk.{path-holds}
 use Rattle.tallies.specs.Local.{byteOf, inLeaves}
-use Rattle.tallies.specs.Level.{tally, parentPlace, Block, Level}
-use Rattle.tallies.specs.Steps.{tally-parts, leaves-tally, kept-step, points-hand, skip-points}
+use Rattle.tallies.specs.Level.{tally, parentPlace, Level}
+use Rattle.tallies.specs.Stretches.{tally-parts, leaves-tally}
+use Rattle.tallies.specs.Families.{kept-step}
+use Rattle.tallies.specs.Targets.{points-hand, skip-points}
 
 module _ (t : List ℕ) where
   -- the last level's count that a path's end gives

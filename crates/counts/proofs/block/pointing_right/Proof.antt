@@ -1,5 +1,4 @@
 use borrow.Author.Needs.{needs}
-use native.Mathlib.Omega.{arith}
 use Rattle.counts.proofs.BlockLaws as laws
 use Rattle.counts.proofs.HeaderFacts as facts
 use Rattle.counts.proofs.block.pointing_right.Statement.{statement}

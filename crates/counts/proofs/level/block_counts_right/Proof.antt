@@ -1,10 +1,9 @@
-use Prim.Native.Nat.{ℕ, _+_, _-_, _≤_, _<_}
+use Prim.Native.Nat.{ℕ, _-_, _≤_, _<_}
 use borrow.Author.Count.{below-more}
 use borrow.Author.Needs.{needs}
 use mathlib.Core.Bool.{true}
 use mathlib.Core.Path.{_≡_}
 use native.Mathlib.Omega.{arith}
-use Rattle.counts.proofs.HeaderFacts as facts
 use Rattle.counts.proofs.LevelLaws as laws
 use Rattle.counts.proofs.Tests.{failed, held}
 use Rattle.counts.proofs.level.block_counts_right.Statement.{statement}

@@ -1,9 +1,5 @@
 use borrow.Author.Needs.{needs}
 use borrow.Author.Tests.{ne-eqb, eq-eqb}
-use native.Mathlib.Omega.{arith}
-use Rattle.counts.proofs.HeaderFacts as facts
-use Rattle.counts.proofs.LevelLaws as laws
-use Rattle.counts.proofs.Tests.{failed, held}
 use Rattle.counts.proofs.level.up_length.Statement.{statement}
 use Rattle.counts.proofs.level.up_length.Tie as tie
 use Rattle.counts.specs.Hand.{upFrom}
