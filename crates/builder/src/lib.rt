@@ -1,0 +1,3 @@
+// The builder: byte for byte the block tree of its text, written into a lent buffer.
+pub mod level;
+pub mod counts;
