@@ -1,1 +1,4 @@
 pub mod Levels
+pub mod Growing
+pub mod State
+pub mod Records

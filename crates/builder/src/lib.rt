@@ -1,3 +1,4 @@
 // The builder: byte for byte the block tree of its text, written into a lent buffer.
 pub mod level;
 pub mod counts;
+pub mod record;
