@@ -11,5 +11,5 @@ pub record Grown (D old new : List ℕ) : Type 0 where
   pub past : (k : ℕ) → length D ≤ k → getD new k 0 ≡ getD old k 0
 
 -- from place a up to w the buffer holds what D does
-abbrev pub Within : List ℕ → List ℕ → ℕ → ℕ → Type 0
-Within D t a w = (k : ℕ) → a ≤ k → k < w → getD t k 0 ≡ getD D k 0
+pub record Within (D t : List ℕ) (a w : ℕ) : Type 0 where
+  pub right : (k : ℕ) → a ≤ k → k < w → getD t k 0 ≡ getD D k 0

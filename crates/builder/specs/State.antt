@@ -53,3 +53,10 @@ module _ (S : Settings) (T : List ℕ) where
     pub gap-is : block .gap ≡ gapOf S T l i
     pub skip-is : (c : ℕ) → countIn c (stretch T (block .from) (block .gap)) ≡ skipOf S T l i c
     pub skip-in : block .from + block .gap ≤ length T
+
+  -- the record of block i of a level is about to be written
+  pub record Writing (out : List ℕ) (level : Level) (i : ℕ) (block : Block) : Type 0 where
+    pub level-is : LevelIs level
+    pub filled : Filled out (level .number) i
+    pub block-in : i < level .count
+    pub block-is : BlockIs (level .number) i block

@@ -12,7 +12,7 @@ ghost use Rattle.format.specs.Blocks.{treeOf, recordBytes};
 ghost use Rattle.built.specs.Structure.{count};
 ghost use Rattle.builder.specs.Levels.{recordPlace};
 ghost use Rattle.builder.specs.Growing.{Grown, Within};
-ghost use Rattle.builder.specs.State.{settingsOf, LevelIs, Filled, BlockIs, placeAt};
+ghost use Rattle.builder.specs.State.{settingsOf, Writing, placeAt};
 ghost use Rattle.builder.specs.Records.{putThree, beforeSays};
 
 // What a record says, and where the bytes stand that it counts.
@@ -52,7 +52,7 @@ fn put_count(out: &mut [u8], text: &[u8], byte: u8, at: usize, block: Block, bef
 }
 
 // The count before a block: none at its parent's start, else what the block on the left has before it and inside.
-fn before(out: &[u8], left: usize, block: Block) -> u32
+fn count_before(out: &[u8], left: usize, block: Block) -> u32
     requires { ⌜ ((block .start ≡ block .parent → ⊥) → (left + 8 ≤ length (now out)) × (wordAt (now out) left + wordAt (now out) (left + 4) < 4294967296)) ⌝ }
     ensures { λ r. ⌜ r ≡ beforeSays (now (out .entry)) left (block .start) (block .parent) ⌝ }
 {
@@ -60,4 +60,44 @@ fn before(out: &[u8], left: usize, block: Block) -> u32
         return 0;
     }
     word::read(out, left) + word::read(out, left + 4)
+}
+
+// The counts of a block, of the counted byte with number c.
+fn put_count_of(out: &mut [u8], text: &[u8], counted: &[u8], level: Level, i: u32, block: Block, c: usize)
+    requires { ⌜ Writing (settingsOf (level .settings) (now counted)) (now text) (now out) level i block × (c < length (now counted)) ⌝ }
+    ensures { λ _. ⌜ Grown (treeOf (settingsOf (level .settings) (now (counted .entry))) (now (text .entry))) (now (out .entry)) (now (out .exit)) ⌝ }
+    ensures { λ _. ⌜ Within (treeOf (settingsOf (level .settings) (now (counted .entry))) (now (text .entry))) (now (out .exit))
+        (placeAt (settingsOf (level .settings) (now (counted .entry))) (now (text .entry)) (level .number) i + 16 + 12 * c)
+        (placeAt (settingsOf (level .settings) (now (counted .entry))) (now (text .entry)) (level .number) i + 16 + 12 * c + 12) ⌝ }
+{
+    let at = level::place(counted, level, i) + 16 + 12 * c;
+    let b = count_before(out, at - (16 + 12 * counted.len()), block);
+    put_count(out, text, counted[c], at, block, b);
+}
+
+// The counts of a block, for each counted byte.
+fn put_counts(out: &mut [u8], text: &[u8], counted: &[u8], level: Level, i: u32, block: Block)
+    requires { ⌜ Writing (settingsOf (level .settings) (now counted)) (now text) (now out) level i block ⌝ }
+    ensures { λ _. ⌜ Grown (treeOf (settingsOf (level .settings) (now (counted .entry))) (now (text .entry))) (now (out .entry)) (now (out .exit)) ⌝ }
+    ensures { λ _. ⌜ Within (treeOf (settingsOf (level .settings) (now (counted .entry))) (now (text .entry))) (now (out .exit))
+        (placeAt (settingsOf (level .settings) (now (counted .entry))) (now (text .entry)) (level .number) i + 16)
+        (placeAt (settingsOf (level .settings) (now (counted .entry))) (now (text .entry)) (level .number) (i + 1)) ⌝ }
+{
+    let mut c: usize = 0;
+    while c < counted.len() {
+        put_count_of(out, text, counted, level, i, block, c);
+        c += 1;
+    }
+}
+
+// The record of a block.
+pub fn put_record(out: &mut [u8], text: &[u8], counted: &[u8], level: Level, i: u32, block: Block)
+    requires { ⌜ Writing (settingsOf (level .settings) (now counted)) (now text) (now out) level i block ⌝ }
+    ensures { λ _. ⌜ Grown (treeOf (settingsOf (level .settings) (now (counted .entry))) (now (text .entry))) (now (out .entry)) (now (out .exit)) ⌝ }
+    ensures { λ _. ⌜ Within (treeOf (settingsOf (level .settings) (now (counted .entry))) (now (text .entry))) (now (out .exit))
+        100 (placeAt (settingsOf (level .settings) (now (counted .entry))) (now (text .entry)) (level .number) (i + 1)) ⌝ }
+{
+    let at = level::place(counted, level, i);
+    put_three(out, at + 4, block.kind, block.link, block.gap);
+    put_counts(out, text, counted, level, i, block);
 }

@@ -1,11 +1,11 @@
 use borrow.Author.Tests.{eq-eqb, ne-eqb}
 use native.Mathlib.Omega.{arith}
 use Rattle.builder.proofs.RecordWrites.{words-added}
-use Rattle.builder.proofs.record.before.Statement.{statement}
-use Rattle.builder.proofs.record.before.Tie as tie
+use Rattle.builder.proofs.record.count_before.Statement.{statement}
+use Rattle.builder.proofs.record.count_before.Tie as tie
 
-pub before-spec : {M : Type 1} → statement M
-before-spec =
+pub count-before-spec : {M : Type 1} → statement M
+count-before-spec =
     tie.close
     (tie.spec
     (λ c. rw (eq-eqb (c .before .before .before .args .block .start) (c .before .before .before .args .block .parent) (c .if1 .taken)))
