@@ -5,3 +5,5 @@ pub mod Growth
 pub mod Neighbours
 pub mod StateLaws
 pub mod RecordCounts
+pub mod Pairing
+pub mod Halving

@@ -2,3 +2,5 @@ pub mod Levels
 pub mod Growing
 pub mod State
 pub mod Records
+pub mod Marking
+pub mod Targets

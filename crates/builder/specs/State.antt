@@ -60,3 +60,9 @@ module _ (S : Settings) (T : List ℕ) where
     pub filled : Filled out (level .number) i
     pub block-in : i < level .count
     pub block-is : BlockIs (level .number) i block
+
+  -- block i of a level is next in turn
+  pub record On (out : List ℕ) (level : Level) (i : ℕ) : Type 0 where
+    pub level-is : LevelIs level
+    pub filled : Filled out (level .number) i
+    pub block-in : i < level .count

@@ -1,5 +1,6 @@
 // A level of the tree that is being written.
 use layout::settings::Settings;
+use layout::word;
 ghost use mathlib.Core.Path.{_≡_};
 ghost use Prim.Native.Nat.{_+_, _*_, _/_, _-_, _≤_, _<_, min};
 ghost use lib.ListN.{length};
@@ -48,4 +49,13 @@ pub fn bytes(text: &[u8], level: Level, start: u32) -> u32
         return level.size;
     }
     left
+}
+
+// Where a block starts, read from its record.
+pub fn start(counted: &[u8], out: &[u8], level: Level, block: u32) -> u32
+    requires { ⌜ (length (now counted) ≤ 4) × (level .table ≤ 536871012) × (block ≤ 1048576)
+        × (recordPlace (level .table) block (now counted) + 4 ≤ length (now out)) ⌝ }
+    ensures { λ r. ⌜ r ≡ wordAt (now (out .entry)) (recordPlace (level .table) block (now (counted .entry))) ⌝ }
+{
+    word::read(out, place(counted, level, block))
 }

@@ -2,3 +2,5 @@
 pub mod level;
 pub mod counts;
 pub mod record;
+pub mod pair;
+pub mod target;
