@@ -7,3 +7,5 @@ pub mod StateLaws
 pub mod RecordCounts
 pub mod Pairing
 pub mod Halving
+pub mod Targeting
+pub mod Findings

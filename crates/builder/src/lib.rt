@@ -2,5 +2,6 @@
 pub mod level;
 pub mod counts;
 pub mod record;
+pub mod finding;
 pub mod pair;
 pub mod target;

@@ -1,6 +1,5 @@
 // The marking rule: pairs of blocks that follow each other in the list and in the text.
-use search::Fingerprint;
-use text::TextPlace;
+use crate::finding;
 use crate::level;
 use crate::level::Level;
 ghost use mathlib.Core.Path.{_≡_};
@@ -41,7 +40,7 @@ fn pair_at(text: &[u8], start: u32, size: u32) -> Pair
     ensures { λ r. ⌜ r ≡ pairSays (now (text .entry)) start (min (size + size) (length (now (text .entry)) - start)) ⌝ }
 {
     let len = shorter(size + size, text.len() as u32 - start);
-    if search::occurs_earlier(text, TextPlace(start), len, Fingerprint::new(257, 2147483647)) {
+    if finding::occurs_earlier(text, start, len) {
         return Pair::Again;
     }
     Pair::First

@@ -1,7 +1,5 @@
 // Where a pointing block points.
-use search::Fingerprint;
-use search::Occurrence;
-use text::TextPlace;
+use crate::finding;
 use crate::level;
 use crate::level::Level;
 use crate::record::Block;
@@ -56,4 +54,45 @@ fn holder(counted: &[u8], out: &[u8], level: Level, place: u32) -> u32
         range = narrow(counted, out, level, place, range);
     }
     range.low
+}
+
+// A block that is kept, with its link.
+pub fn kept_block(text: &[u8], counted: &[u8], out: &[u8], level: Level, i: u32, link: u32) -> Block
+    requires { ⌜ On (settingsOf (level .settings) (now counted)) (now text) (now out) level i ⌝ }
+    requires { ⌜ keptAt (settingsOf (level .settings) (now counted)) (now text) (level .number) i ≡ true ⌝ }
+    requires { ⌜ link ≡ sumBelow i (widthOf (settingsOf (level .settings) (now counted)) (now text) (level .number)) ⌝ }
+    ensures { λ r. ⌜ BlockIs (settingsOf (level .settings) (now (counted .entry))) (now (text .entry)) (level .number) i r ⌝ }
+{
+    let start = level::start(counted, out, level, i);
+    Block {
+        start,
+        length: level::bytes(text, level, start),
+        parent: level::parent(level, start),
+        kind: 0,
+        link,
+        from: 0,
+        gap: 0,
+    }
+}
+
+// A block that points to the one that holds the first byte of its leftmost occurrence.
+pub fn pointing_block(text: &[u8], counted: &[u8], out: &[u8], level: Level, i: u32) -> Block
+    requires { ⌜ On (settingsOf (level .settings) (now counted)) (now text) (now out) level i ⌝ }
+    requires { ⌜ keptAt (settingsOf (level .settings) (now counted)) (now text) (level .number) i ≡ false ⌝ }
+    ensures { λ r. ⌜ BlockIs (settingsOf (level .settings) (now (counted .entry))) (now (text .entry)) (level .number) i r ⌝ }
+{
+    let start = level::start(counted, out, level, i);
+    let length = level::bytes(text, level, start);
+    let place = finding::leftmost(text, start, length);
+    let link = holder(counted, out, level, place);
+    let from = level::start(counted, out, level, link);
+    Block {
+        start,
+        length,
+        parent: level::parent(level, start),
+        kind: 1,
+        link,
+        from,
+        gap: place - from,
+    }
 }

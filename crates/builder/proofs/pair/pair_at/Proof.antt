@@ -1,7 +1,4 @@
 use borrow.Author.Needs.{needs}
-use mathlib.Core.Bool.{Bool}
-use mathlib.Core.Path.{_≡_, _∙_, ap}
-use native.Mathlib.Omega.{arith}
 use Rattle.builder.proofs.Pairing.{again-here, first-here}
 use Rattle.builder.proofs.pair.pair_at.Statement.{statement}
 use Rattle.builder.proofs.pair.pair_at.Tie as tie
@@ -15,6 +12,5 @@ pair-at-spec =
     (λ c. search needs)
     (λ c κs. search needs)
     (λ c κs. search needs)
-    (λ c κs. search needs)
-    (λ c. let a = c .before .before .before .before .before .args in again-here (a .text .now) (a .start) (a .size) _ _ (c .before .before .before .before .before .pre .0) (c .before .before .before .shorter .ensures) (c .before .occurs-earlier .ensures) (c .if1 .taken))
-    (λ c. let a = c .before .before .before .before .before .args in first-here (a .text .now) (a .start) (a .size) _ _ (c .before .before .before .before .before .pre .0) (c .before .before .before .shorter .ensures) (c .before .occurs-earlier .ensures) (c .if1 .left)))
+    (λ c. let a = c .before .before .before .before .args in again-here (a .text .now) (a .start) (a .size) _ _ (c .before .before .before .before .pre .0) (c .before .before .shorter .ensures) (c .before .occurs-earlier .ensures) (c .if1 .taken))
+    (λ c. let a = c .before .before .before .before .args in first-here (a .text .now) (a .start) (a .size) _ _ (c .before .before .before .before .pre .0) (c .before .before .shorter .ensures) (c .before .occurs-earlier .ensures) (c .if1 .left)))
