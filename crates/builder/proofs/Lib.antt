@@ -9,3 +9,4 @@ pub mod Pairing
 pub mod Halving
 pub mod Targeting
 pub mod Findings
+pub mod Filling

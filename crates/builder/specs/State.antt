@@ -5,6 +5,7 @@ use mathlib.Core.Path.{_≡_}
 use Prim.Native.Nat.{ℕ, zero, suc, _+_, _*_, _≤_, _<_}
 use lib.ListN.{length}
 use lib.Dec.{eqb}
+use Rattle.text.specs.Lists.{sumBelow}
 use Rattle.text.specs.Text.{stretch, countIn}
 use Rattle.format.specs.Settings.{Settings, blockLength}
 use Rattle.format.specs.Blocks.{treeOf, startsAt, pairAt, firstPairAt, recordBytes}
@@ -66,3 +67,9 @@ module _ (S : Settings) (T : List ℕ) where
     pub level-is : LevelIs level
     pub filled : Filled out (level .number) i
     pub block-in : i < level .count
+
+  -- block i of a level is next in turn, with its kind and its link known
+  pub record Next (out : List ℕ) (level : Level) (i : ℕ) (kept : Bool) (link : ℕ) : Type 0 where
+    pub on : On out level i
+    pub kept-is : kept ≡ keptAt S T (level .number) i
+    pub link-is : link ≡ sumBelow i (widthOf S T (level .number))

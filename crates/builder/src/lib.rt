@@ -5,3 +5,4 @@ pub mod record;
 pub mod finding;
 pub mod pair;
 pub mod target;
+pub mod fill;
