@@ -10,3 +10,5 @@ pub mod Halving
 pub mod Targeting
 pub mod Findings
 pub mod Filling
+pub mod Starting
+pub mod Children

@@ -4,3 +4,4 @@ pub mod State
 pub mod Records
 pub mod Marking
 pub mod Targets
+pub mod Starts

@@ -73,3 +73,16 @@ module _ (S : Settings) (T : List ℕ) where
     pub on : On out level i
     pub kept-is : kept ≡ keptAt S T (level .number) i
     pub link-is : link ≡ sumBelow i (widthOf S T (level .number))
+
+  -- the starts of blocks a to b of level l stand in the buffer
+  pub record Started (out : List ℕ) (l a b : ℕ) : Type 0 where
+    pub starts : (x : ℕ) → a ≤ x → x < b → Within (treeOf S T) out (placeAt l x) (placeAt l x + 4)
+
+  -- the records of a level are written, there is room for those of the next, and the starts of the blocks below the first i are in place
+  pub record Below (out : List ℕ) (level next : Level) (i : ℕ) : Type 0 where
+    pub level-is : LevelIs level
+    pub next-is : LevelIs next
+    pub follows : next .number ≡ suc (level .number)
+    pub room : offset S T (suc (suc (level .number))) ≤ length out
+    pub body : Within (treeOf S T) out 100 (offset S T (suc (level .number)))
+    pub done : Started out (suc (level .number)) 0 (sumBelow i (widthOf S T (level .number)))

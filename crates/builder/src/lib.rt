@@ -6,3 +6,4 @@ pub mod finding;
 pub mod pair;
 pub mod target;
 pub mod fill;
+pub mod below;
