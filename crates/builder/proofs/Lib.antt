@@ -12,3 +12,4 @@ pub mod Findings
 pub mod Filling
 pub mod Starting
 pub mod Children
+pub mod Leafs

@@ -5,3 +5,4 @@ pub mod Records
 pub mod Marking
 pub mod Targets
 pub mod Starts
+pub mod Leaves

@@ -86,3 +86,11 @@ module _ (S : Settings) (T : List ℕ) where
     pub room : offset S T (suc (suc (level .number))) ≤ length out
     pub body : Within (treeOf S T) out 100 (offset S T (suc (level .number)))
     pub done : Started out (suc (level .number)) 0 (sumBelow i (widthOf S T (level .number)))
+
+  -- all records are written, and the leaf bytes before place `to`, those of the first i blocks of the last level
+  pub record Leafing (out : List ℕ) (level : Level) (to i : ℕ) : Type 0 where
+    pub level-is : LevelIs level
+    pub last : suc (level .number) ≡ S .levels
+    pub room : length (treeOf S T) ≤ length out
+    pub body : Within (treeOf S T) out 100 to
+    pub to-is : to ≡ offset S T (S .levels) + sumBelow i (widthOf S T (level .number))

@@ -7,3 +7,4 @@ pub mod pair;
 pub mod target;
 pub mod fill;
 pub mod below;
+pub mod leaf;
