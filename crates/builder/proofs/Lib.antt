@@ -13,3 +13,4 @@ pub mod Filling
 pub mod Starting
 pub mod Children
 pub mod Leafs
+pub mod Heads

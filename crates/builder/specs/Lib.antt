@@ -6,3 +6,5 @@ pub mod Marking
 pub mod Targets
 pub mod Starts
 pub mod Leaves
+pub mod Head
+pub mod Trees

@@ -8,3 +8,5 @@ pub mod target;
 pub mod fill;
 pub mod below;
 pub mod leaf;
+pub mod head;
+pub mod tree;

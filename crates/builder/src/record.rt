@@ -29,7 +29,7 @@ pub struct Block {
 }
 
 // Three words, one after the other.
-fn put_three(out: &mut [u8], at: usize, a: u32, b: u32, c: u32)
+pub fn put_three(out: &mut [u8], at: usize, a: u32, b: u32, c: u32)
     requires { ⌜ at + 12 ≤ length (now out) ⌝ }
     ensures { λ _. ⌜ now (out .exit) ≡ putThree (now (out .entry)) at a b c ⌝ }
 {
