@@ -14,3 +14,4 @@ pub mod Starting
 pub mod Children
 pub mod Leafs
 pub mod Heads
+pub mod Descending

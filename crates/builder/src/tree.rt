@@ -12,6 +12,7 @@ ghost use Prim.Native.Nat.{ℕ, suc, _+_, _-_, _*_, _^_, _/_, _≤_, _<_};
 ghost use lib.ListN.{length};
 ghost use Rattle.format.specs.Blocks.{treeOf};
 ghost use Rattle.built.specs.Sizes.{Taken};
+ghost use Rattle.layout.specs.Settings.{Sized};
 ghost use Rattle.builder.specs.Growing.{Grown};
 ghost use Rattle.builder.specs.State.{settingsOf, LevelIs};
 ghost use Rattle.builder.specs.Trees.{firstOf, nextOf, Ready, StepIs, Finished};
@@ -23,8 +24,8 @@ pub enum Step {
 }
 
 // Level 0.
-fn first_level(text: &[u8], counted: &[u8], s: Settings) -> Level
-    requires { ⌜ Taken (settingsOf s (now counted)) (now text) ⌝ }
+fn first_level(text: &[u8], s: Settings) -> Level
+    requires { ⌜ Sized s 0 × (1 ≤ s .leaf) × (length (now text) ≤ 1048576) ⌝ }
     ensures { λ r. ⌜ r ≡ firstOf s (length (now (text .entry))) ⌝ }
 {
     let size = s.block_length(0);
@@ -44,12 +45,13 @@ fn next_level(counted: &[u8], level: Level, count: u32) -> Level
     requires { ⌜ (length (now counted) ≤ 4) × (level .table ≤ 536871012) × (level .count ≤ 1048576) × (level .number < 8) × (0 < level .settings .arity) ⌝ }
     ensures { λ r. ⌜ r ≡ nextOf level count (now (counted .entry)) ⌝ }
 {
+    let settings = level.settings;
     Level {
-        settings: level.settings,
+        settings,
         number: level.number + 1,
         above: level.size,
         size: level.below,
-        below: level.below / level.settings.arity,
+        below: level.below / settings.arity,
         count,
         table: level::place(counted, level, level.count) as u32,
     }
