@@ -31,7 +31,7 @@ use Rattle.builder.proofs.Starting.{starts-grown, starts-within}
 use Rattle.builder.proofs.StateLaws.{record-size, place-le, place-end, record-inside-table, table-inside, offset-low, offset-rises, size-high, start-stands, kind-stands, link-stands, Few, few}
 
 -- no more blocks than bytes, and one more block's
-pieces-most : (x b : ℕ) → pieces x b * b ≤ x + (b - 1)
+pub pieces-most : (x b : ℕ) → pieces x b * b ≤ x + (b - 1)
 unfolding pieces
 pieces-most x b = div-mul-le-self (x + (b - 1)) b
 

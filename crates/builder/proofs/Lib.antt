@@ -15,3 +15,4 @@ pub mod Children
 pub mod Leafs
 pub mod Heads
 pub mod Descending
+pub mod Levelling

@@ -92,3 +92,35 @@ fn finish(out: &mut [u8], text: &[u8], counted: &[u8], level: Level) -> u32
     leaf::put_leaves(out, text, counted, level, at);
     end
 }
+
+// Writes the levels from the first on; the tree's size, 0 where it does not fit.
+fn put_levels(out: &mut [u8], text: &[u8], counted: &[u8], first: Level) -> u32
+    requires { ⌜ Ready (settingsOf (first .settings) (now counted)) (now text) (now out) first ⌝ }
+    ensures { λ _. ⌜ Grown (treeOf (settingsOf (first .settings) (now (counted .entry))) (now (text .entry))) (now (out .entry)) (now (out .exit)) ⌝ }
+    ensures { λ r. ⌜ Finished (treeOf (settingsOf (first .settings) (now (counted .entry))) (now (text .entry))) (now (out .exit)) r ⌝ }
+{
+    let mut level = first;
+    while level.number + 1 < first.settings.levels {
+        let step = descend(out, text, counted, level);
+        let Step::To(next) = step else {
+            return 0;
+        };
+        level = next;
+    }
+    finish(out, text, counted, level)
+}
+
+// Writes the tree; its size, 0 where it does not fit.
+pub fn write_tree(out: &mut [u8], text: &[u8], counted: &[u8], s: Settings) -> u32
+    requires { ⌜ Taken (settingsOf s (now counted)) (now text) ⌝ }
+    ensures { λ _. ⌜ Grown (treeOf (settingsOf s (now (counted .entry))) (now (text .entry))) (now (out .entry)) (now (out .exit)) ⌝ }
+    ensures { λ r. ⌜ Finished (treeOf (settingsOf s (now (counted .entry))) (now (text .entry))) (now (out .exit)) r ⌝ }
+{
+    let first = first_level(text, s);
+    if out.len() < level::place(counted, first, first.count) {
+        return 0;
+    }
+    head::put_head(out, text, counted, s);
+    below::put_starts(out, 100, 16 + 12 * counted.len(), 0, first.size, first.count);
+    put_levels(out, text, counted, first)
+}
