@@ -69,9 +69,11 @@ module _ (D t T : List ℕ) (to from n : ℕ) (fits : to + n ≤ length t) (insi
           rw y (byte-right D (bytesWritten t to T from j) (to + j) (getD T (from + j) 0) (omega (arith, g .same-length)) (omega arith) (is j (omega arith)))
 
   pub bytes-within : Within D (bytesWritten t to T from n) to (to + n)
-  bytes-within = record { right = λ k l m.
-      let e : to + (k - to) ≡ k = omega arith in
-      rw e at (bytes-right n (omega arith) (k - to) (omega arith)) }
+  bytes-within = record {
+    right = λ k l m.
+        let e : to + (k - to) ≡ k = omega arith in
+        rw e at (bytes-right n (omega arith) (k - to) (omega arith));
+  }
 
 module _ (S : Settings) (T out : List ℕ) (level : Level) (to i : ℕ) (w : Leafing S T out level to i) where
   abbrev l : ℕ

@@ -16,3 +16,4 @@ pub mod Leafs
 pub mod Heads
 pub mod Descending
 pub mod Levelling
+pub mod Outcomes

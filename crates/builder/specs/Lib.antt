@@ -8,3 +8,4 @@ pub mod Starts
 pub mod Leaves
 pub mod Head
 pub mod Trees
+pub mod Answers

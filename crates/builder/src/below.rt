@@ -1,8 +1,8 @@
 // The starts of a level's blocks, put in place from the kept blocks above.
-use layout::header;
-use layout::word;
 use crate::level;
 use crate::level::Level;
+use layout::header;
+use layout::word;
 ghost use mathlib.Core.Path.{_≡_};
 ghost use Prim.Native.Nat.{ℕ, suc, _+_, _*_, _≤_, _<_};
 ghost use lib.ListN.{length};
@@ -39,7 +39,14 @@ fn put_children_of(out: &mut [u8], text: &[u8], counted: &[u8], level: Level, ne
     let start = word::read(out, at);
     let link = word::read(out, at + 8);
     let children = header::pieces(level::bytes(text, level, start), next.size);
-    put_starts(out, level::place(counted, next, link), 16 + 12 * counted.len(), start, next.size, children);
+    put_starts(
+        out,
+        level::place(counted, next, link),
+        16 + 12 * counted.len(),
+        start,
+        next.size,
+        children,
+    );
 }
 
 // Puts the starts of all children of a level's blocks in place.

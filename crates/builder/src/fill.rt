@@ -1,11 +1,11 @@
 // The records of one level, written in order.
-use layout::header;
 use crate::level::Level;
 use crate::pair;
 use crate::pair::Pair;
 use crate::record;
 use crate::record::Block;
 use crate::target;
+use layout::header;
 ghost use mathlib.Core.Path.{_≡_};
 ghost use Prim.Native.Nat.{ℕ, suc, _+_, _≤_, _<_};
 ghost use lib.ListN.{length};
@@ -32,7 +32,15 @@ fn width(level: Level, kept: bool, length: u32) -> u32
 }
 
 // What the record of a block is to say.
-fn block_at(text: &[u8], counted: &[u8], out: &[u8], level: Level, i: u32, kept: bool, link: u32) -> Block
+fn block_at(
+    text: &[u8],
+    counted: &[u8],
+    out: &[u8],
+    level: Level,
+    i: u32,
+    kept: bool,
+    link: u32,
+) -> Block
     requires { ⌜ Next (settingsOf (level .settings) (now counted)) (now text) (now out) level i kept link ⌝ }
     ensures { λ r. ⌜ BlockIs (settingsOf (level .settings) (now (counted .entry))) (now (text .entry)) (level .number) i r ⌝ }
 {
@@ -43,7 +51,15 @@ fn block_at(text: &[u8], counted: &[u8], out: &[u8], level: Level, i: u32, kept:
 }
 
 // Writes the record of a block, and answers what the block has one level below.
-fn put_block(out: &mut [u8], text: &[u8], counted: &[u8], level: Level, i: u32, kept: bool, link: u32) -> u32
+fn put_block(
+    out: &mut [u8],
+    text: &[u8],
+    counted: &[u8],
+    level: Level,
+    i: u32,
+    kept: bool,
+    link: u32,
+) -> u32
     requires { ⌜ Next (settingsOf (level .settings) (now counted)) (now text) (now out) level i kept link ⌝ }
     ensures { λ r. ⌜ r ≡ widthOf (settingsOf (level .settings) (now (counted .entry))) (now (text .entry)) (level .number) i ⌝ }
     ensures { λ _. ⌜ Grown (treeOf (settingsOf (level .settings) (now (counted .entry))) (now (text .entry))) (now (out .entry)) (now (out .exit)) ⌝ }

@@ -1,7 +1,7 @@
 // The header.
+use crate::record;
 use layout::settings::Settings;
 use layout::word;
-use crate::record;
 ghost use mathlib.Core.Path.{_≡_};
 ghost use Prim.Native.Nat.{ℕ, suc, _+_, _-_, _*_, _≤_, _<_};
 ghost use lib.ListN.{length, getD};

@@ -1,8 +1,8 @@
 // A block's record, written.
-use layout::word;
 use crate::counts;
 use crate::level;
 use crate::level::Level;
+use layout::word;
 ghost use mathlib.Core.Path.{_≡_};
 ghost use Prim.Native.Nat.{_+_, _*_, _≤_, _<_};
 ghost use lib.ListN.{length, getD};
@@ -63,7 +63,15 @@ fn count_before(out: &[u8], left: usize, block: Block) -> u32
 }
 
 // The counts of a block, of the counted byte with number c.
-fn put_count_of(out: &mut [u8], text: &[u8], counted: &[u8], level: Level, i: u32, block: Block, c: usize)
+fn put_count_of(
+    out: &mut [u8],
+    text: &[u8],
+    counted: &[u8],
+    level: Level,
+    i: u32,
+    block: Block,
+    c: usize,
+)
     requires { ⌜ Writing (settingsOf (level .settings) (now counted)) (now text) (now out) level i block × (c < length (now counted)) ⌝ }
     ensures { λ _. ⌜ Grown (treeOf (settingsOf (level .settings) (now (counted .entry))) (now (text .entry))) (now (out .entry)) (now (out .exit)) ⌝ }
     ensures { λ _. ⌜ Within (treeOf (settingsOf (level .settings) (now (counted .entry))) (now (text .entry))) (now (out .exit))

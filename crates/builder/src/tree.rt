@@ -1,12 +1,12 @@
 // The tree, level by level.
-use layout::header;
-use layout::settings::Settings;
 use crate::below;
 use crate::fill;
 use crate::head;
 use crate::leaf;
 use crate::level;
 use crate::level::Level;
+use layout::header;
+use layout::settings::Settings;
 ghost use mathlib.Core.Path.{_≡_};
 ghost use Prim.Native.Nat.{ℕ, suc, _+_, _-_, _*_, _^_, _/_, _≤_, _<_};
 ghost use lib.ListN.{length};
@@ -121,6 +121,13 @@ pub fn write_tree(out: &mut [u8], text: &[u8], counted: &[u8], s: Settings) -> u
         return 0;
     }
     head::put_head(out, text, counted, s);
-    below::put_starts(out, 100, 16 + 12 * counted.len(), 0, first.size, first.count);
+    below::put_starts(
+        out,
+        100,
+        16 + 12 * counted.len(),
+        0,
+        first.size,
+        first.count,
+    );
     put_levels(out, text, counted, first)
 }
