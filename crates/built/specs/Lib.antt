@@ -12,6 +12,7 @@ pub mod Records
 pub mod Shape
 pub mod Small
 pub mod ReadBack
+pub mod Bytes
 pub mod Readable
 pub mod Linked
 pub mod Fitting

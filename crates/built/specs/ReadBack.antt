@@ -24,7 +24,7 @@ use lib.Arith.{digits-lt}
 use Rattle.text.specs.ListLaws.{sumBelow-part}
 
 -- a place in one of the parts of a whole, all of W words
-in-part : (a i c f W N : ℕ) → i < c → a + c ≤ N → f < W → a * W + (i * W + f) < N * W
+pub in-part : (a i c f W N : ℕ) → i < c → a + c ≤ N → f < W → a * W + (i * W + f) < N * W
 in-part a i c f W N il le fl = omega (arith, digits-lt il fl, add-mul a c W, mul-le-mul-right W le)
 
 module _ (S : Settings) (T : List ℕ) (h : Taken S T) where

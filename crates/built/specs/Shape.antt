@@ -26,14 +26,14 @@ module _ (S : Settings) (T : List ℕ) where
   unfoldable pub countedPlaces : List ℕ
   countedPlaces = S .counted ++ replicate (4 - length (S .counted)) 0
 
-  tree-is : treeOf S T ≡ wordsBytes sixWords ++ (countedPlaces ++ (wordsBytes (levelWordsOf S T) ++ (wordsBytes (records S T) ++ leafBytes S T)))
+  pub tree-is : treeOf S T ≡ wordsBytes sixWords ++ (countedPlaces ++ (wordsBytes (levelWordsOf S T) ++ (wordsBytes (records S T) ++ leafBytes S T)))
   unfolding treeOf header sixWords countedPlaces levelWordsOf records offset
   tree-is =
       parts (wordsBytes sixWords) countedPlaces _ (wordsBytes (records S T)) (leafBytes S T)
       ∙ ap (λ (w : List ℕ). wordsBytes sixWords ++ (countedPlaces ++ (wordsBytes w ++ (wordsBytes (records S T) ++ leafBytes S T))))
       (append-assoc (levelPairs S T (S .levels) 0 100) (replicate (16 - 2 * S .levels) 0) (offset S T (S .levels) ∷ length (leafBytes S T) ∷ []))
 
-  length-six : length (wordsBytes sixWords) ≡ 24
+  pub length-six : length (wordsBytes sixWords) ≡ 24
   unfolding sixWords
   length-six = length-words sixWords
 
@@ -49,24 +49,24 @@ module _ (S : Settings) (T : List ℕ) where
     length-level-words = length-words (levelWordsOf S T) ∙ ap (λ (x : ℕ). 4 * x) (length-levelWordsOf S T (limits .levels-high))
 
     -- the bytes before the words for the levels
-    head : List ℕ
+    unfoldable pub head : List ℕ
     head = wordsBytes sixWords ++ countedPlaces
 
-    length-head : length head ≡ 28
+    pub length-head : length head ≡ 28
     unfolding head
     length-head = rw (length-append, length-six, length-places)
 
-    tree-levels : treeOf S T ≡ head ++ (wordsBytes (levelWordsOf S T) ++ (wordsBytes (records S T) ++ leafBytes S T))
+    pub tree-levels : treeOf S T ≡ head ++ (wordsBytes (levelWordsOf S T) ++ (wordsBytes (records S T) ++ leafBytes S T))
     unfolding head
     tree-levels = tree-is ∙ sym (append-assoc (wordsBytes sixWords) countedPlaces _)
 
-    tree-records : treeOf S T ≡ (head ++ wordsBytes (levelWordsOf S T)) ++ (wordsBytes (records S T) ++ leafBytes S T)
+    pub tree-records : treeOf S T ≡ (head ++ wordsBytes (levelWordsOf S T)) ++ (wordsBytes (records S T) ++ leafBytes S T)
     tree-records = tree-levels ∙ sym (append-assoc head (wordsBytes (levelWordsOf S T)) _)
 
     tree-leaves : treeOf S T ≡ ((head ++ wordsBytes (levelWordsOf S T)) ++ wordsBytes (records S T)) ++ leafBytes S T
     tree-leaves = tree-records ∙ sym (append-assoc (head ++ wordsBytes (levelWordsOf S T)) (wordsBytes (records S T)) (leafBytes S T))
 
-    length-header : length (head ++ wordsBytes (levelWordsOf S T)) ≡ 100
+    pub length-header : length (head ++ wordsBytes (levelWordsOf S T)) ≡ 100
     length-header = rw (length-append, length-head, length-level-words)
 
     length-before-leaves : length ((head ++ wordsBytes (levelWordsOf S T)) ++ wordsBytes (records S T)) ≡ 100 + 4 * length (records S T)

@@ -102,7 +102,7 @@ word-next : (w : ℕ) (rest : List ℕ) (x : ℕ) → wordAt (wordBytes w ++ res
 unfolding wordBytes
 word-next w rest x = wordAt-append (wordBytes w) rest x
 
-words-cons : (w : ℕ) (ws B : List ℕ) → wordsBytes (w ∷ ws) ++ B ≡ wordBytes w ++ (wordsBytes ws ++ B)
+pub words-cons : (w : ℕ) (ws B : List ℕ) → wordsBytes (w ∷ ws) ++ B ≡ wordBytes w ++ (wordsBytes ws ++ B)
 unfolding wordsBytes concat
 words-cons w ws B = append-assoc (wordBytes w) (concat (map wordBytes ws)) B
 

@@ -1,0 +1,186 @@
+-- What build answers, case by case.
+use mathlib.Core.List.{List, _++_, append-nil}
+use mathlib.Core.Bool.{Bool, true, false, cond, _&&_}
+use mathlib.Core.Path.{_≡_, refl, sym, ap, _∙_, subst}
+use mathlib.Core.Logic.{_⊎_, inl, inr}
+use Prim.Native.Nat.{ℕ, zero, suc, _+_, _-_, _≤_, _<_}
+use native.Mathlib.Omega.{arith}
+use borrow.Author.Fill.{fill-more}
+use lib.ListN.{length, getD, set, drop, replicate, length-append, length-drop, List·getD-append}
+use lib.Seq.{getD-append-add, getD-drop, ext-getD, drop-length}
+use lib.Dec.{leb, eqb}
+use borrow.Author.Tests.{le-leb, lt-leb}
+use Rattle.text.specs.ListLaws.{lt-or-ge, bool-cases}
+use Rattle.format.specs.Settings.{Settings, lengthOk, sizesOk, countedOk}
+use Rattle.format.specs.Blocks.{treeOf}
+use Rattle.format.specs.Building.{buildNumber, buildSize, buildLeaves}
+use Rattle.layout.specs.declared.settings.Settings as code
+use Rattle.layout.specs.declared.settings.Checked.{Checked}
+use Rattle.layout.specs.declared.settings.Checked.the-variants.{Fine, Refused}
+use Rattle.layout.specs.Settings.{checked, sizes}
+use Rattle.built.specs.Sizes.{Taken}
+use Rattle.built.specs.Pairs.{offset}
+use Rattle.built.specs.Shape.{tree-length}
+use Rattle.builder.specs.declared.Built.{Built}
+use Rattle.builder.specs.declared.Built.the-variants.{Size, Refused as Not}
+use Rattle.builder.specs.Answers.{numberOf, sizeOf, given}
+use Rattle.builder.specs.Growing.{Grown, Within}
+use Rattle.builder.specs.State.{settingsOf}
+use Rattle.builder.specs.Trees.{Finished}
+use Rattle.builder.proofs.StateLaws.{offset-low}
+
+-- a buffer that holds the whole tree, with what stood after it
+pub whole : (D out new : List ℕ) → Grown D out new → length D ≤ length out → Within D new 0 (length D) → new ≡ D ++ drop (length D) out
+whole D out new g fits all = ext-getD 0 new (D ++ drop (length D) out) lengths (λ k l. at k (lt-or-ge k (length D)))
+  where
+    lengths : length new ≡ length (D ++ drop (length D) out)
+    lengths = g .same-length ∙ sym (rw (length-append D (drop (length D) out), length-drop (length D) out) (omega arith))
+
+    at : (k : ℕ) → (k < length D) ⊎ (length D ≤ k) → getD new k 0 ≡ getD (D ++ drop (length D) out) k 0
+    at k (inl l) = all .right k (omega arith) l ∙ sym (List·getD-append D (drop (length D) out) 0 k l)
+    at k (inr l) =
+        let e : k ≡ length D + (k - length D) = omega arith in
+        g .past k l ∙ sym (ap (λ (x : ℕ). getD (D ++ drop (length D) out) x 0) e ∙ getD-append-add D (drop (length D) out) (k - length D) 0 ∙ getD-drop (length D) out (k - length D) 0 ∙ ap (λ (x : ℕ). getD out x 0) (sym e))
+
+-- an answer, with what the buffer holds afterwards
+pub record Told (S : Settings) (T out : List ℕ) (r : Built) (new : List ℕ) : Type 0 where
+  pub number : numberOf r ≡ buildNumber S T out
+  pub size : sizeOf r ≡ buildSize S T out
+  pub buffer : new ≡ buildLeaves S T out
+
+module _ (S : Settings) (T out : List ℕ) where
+  -- refused before anything is written
+  refused-by : (q : ℕ) → buildNumber S T out ≡ q → eqb q 0 ≡ false → eqb q 4 ≡ false → Told S T out (Not q) out
+  unfolding buildSize buildLeaves
+  refused-by q e a b = record { number = sym e; size = rw (e, a); buffer = rw (e, a, b) }
+
+  pub refused-one : lengthOk (length T) ≡ false → Told S T out (Not 1) out
+  unfolding buildNumber
+  refused-one f = refused-by 1 (rw f) refl refl
+
+  pub refused-two : lengthOk (length T) ≡ true → sizesOk S ≡ false → Told S T out (Not 2) out
+  unfolding buildNumber
+  refused-two t f = refused-by 2 (rw (t, f)) refl refl
+
+  pub refused-three : lengthOk (length T) ≡ true → sizesOk S ≡ true → countedOk (S .counted) ≡ false → Told S T out (Not 3) out
+  unfolding buildNumber
+  refused-three t u f = refused-by 3 (rw (t, u, f)) refl refl
+
+  module _ (h : Taken S T) where
+    abbrev D : List ℕ
+    D = treeOf S T
+
+    long : 0 < length D
+    long = omega (arith, tree-length S T h, offset-low S T (S .levels))
+
+    pub full : length out < length D → (new : List ℕ) → new ≡ replicate (length out) 0 → Told S T out (Not 4) new
+    unfolding buildNumber buildSize buildLeaves
+    full l new e =
+        let n : buildNumber S T out ≡ 4 = rw (h .length-ok, h .sizes-ok, h .counted-ok, lt-leb (length D) (length out) l) in
+        record { number = sym n; size = rw n; buffer = rw n e }
+
+    pub built-fits : length D ≤ length out → (new : List ℕ) → new ≡ D ++ drop (length D) out → Told S T out (Size (length D)) new
+    unfolding buildNumber buildSize buildLeaves
+    built-fits l new e =
+        let n : buildNumber S T out ≡ 0 = rw (h .length-ok, h .sizes-ok, h .counted-ok, le-leb (length D) (length out) l) in
+        record { number = sym n; size = rw n; buffer = rw n e }
+
+    -- what the writing of the tree came to
+    module _ (new : List ℕ) (g : Grown D out new) (r : ℕ) (f : Finished D new r) where
+      pub told-full : r ≡ 0 → (last : List ℕ) → last ≡ replicate (length new) 0 → Told S T out (Not 4) last
+      told-full z last e = go f
+        where
+          go : Finished D new r → Told S T out (Not 4) last
+          go (inl y) = full (omega (arith, y .1, g .same-length)) last (e ∙ ap (λ (k : ℕ). replicate k 0) (g .same-length))
+          go (inr y) = absurd (let w : ⊥ = omega (arith, y .0, long) in w)
+
+      pub told-size : (r ≡ 0 → ⊥) → Told S T out (Size r) new
+      told-size n = go f
+        where
+          go : Finished D new r → Told S T out (Size r) new
+          go (inl y) = absurd (n (y .0))
+          go (inr y) =
+              let fits : length D ≤ length out = omega (arith, y .1, g .same-length) in
+              subst (λ (k : ℕ). Told S T out (Size k) new) (sym (y .0)) (built-fits fits new (whole D out new g fits (y .2)))
+
+-- Questions 1 to 3.
+
+pub no-bytes : (T : List ℕ) → length T < 1 → lengthOk (length T) ≡ false
+unfolding lengthOk
+no-bytes T l = rw (lt-leb 1 (length T) l)
+
+pub many-bytes : (T : List ℕ) → 1 ≤ length T → 1048576 < length T → lengthOk (length T) ≡ false
+unfolding lengthOk
+many-bytes T l m = rw (le-leb 1 (length T) l, lt-leb (length T) 1048576 m)
+
+pub some-bytes : (T : List ℕ) → 1 ≤ length T → length T ≤ 1048576 → lengthOk (length T) ≡ true
+unfolding lengthOk
+some-bytes T l m = rw (le-leb 1 (length T) l, le-leb (length T) 1048576 m)
+
+module _ (m r H : ℕ) (cs T out : List ℕ) (ok : lengthOk (length T) ≡ true) (x : Checked) (is : x ≡ checked m r H cs) where
+  abbrev S : Settings
+  S = given m r H cs
+
+  sizes-same : sizesOk S ≡ sizesOk (sizes m r H)
+  unfolding sizesOk
+  sizes-same = refl
+
+  module _ (a b : Bool) (a-is : sizesOk (sizes m r H) ≡ a) (b-is : countedOk cs ≡ b) where
+    by-cases : x ≡ cond a (cond b (Fine (record { leaf = m; arity = r; levels = H; counted = length cs })) (Refused 3)) (Refused 2)
+    unfolding checked
+    by-cases = is ∙ rw (a-is, b-is)
+
+  pub settings-refused : (q : ℕ) → x ≡ Refused q → Told S T out (Not q) out
+  settings-refused q e = go (sizesOk (sizes m r H)) (countedOk cs) refl refl
+    where
+      two : (q : ℕ) → Refused q ≡ Refused 2 → q ≡ 2
+      two q e = cc
+
+      three : (q : ℕ) → Refused q ≡ Refused 3 → q ≡ 3
+      three q e = cc
+
+      fine : (s : code.Settings) → Refused q ≡ Fine s → ⊥
+      fine s e = let z : _≡_ {A = ℕ} 0 1 = cc in omega arith
+
+      go : (a b : Bool) → sizesOk (sizes m r H) ≡ a → countedOk cs ≡ b → Told S T out (Not q) out
+      go false b f g = subst (λ (k : ℕ). Told S T out (Not k) out) (sym (two q (sym e ∙ by-cases false b f g))) (refused-two S T out ok (sizes-same ∙ f))
+      go true false f g = subst (λ (k : ℕ). Told S T out (Not k) out) (sym (three q (sym e ∙ by-cases true false f g))) (refused-three S T out ok (sizes-same ∙ f) g)
+      go true true f g = absurd (fine _ (sym e ∙ by-cases true true f g))
+
+  module _ (s : code.Settings) (e : x ≡ Fine s) where
+    fine-is : (sizesOk S ≡ true) × (countedOk cs ≡ true) × (settingsOf s cs ≡ S)
+    fine-is = go (sizesOk (sizes m r H)) (countedOk cs) refl refl
+      where
+        two : Fine s ≡ Refused 2 → ⊥
+        two e = let z : _≡_ {A = ℕ} 0 1 = cc in omega arith
+
+        three : Fine s ≡ Refused 3 → ⊥
+        three e = let z : _≡_ {A = ℕ} 0 1 = cc in omega arith
+
+        same : (u : code.Settings) → Fine s ≡ Fine u → s ≡ u
+        same u e = cc
+
+        go : (a b : Bool) → sizesOk (sizes m r H) ≡ a → countedOk cs ≡ b → (sizesOk S ≡ true) × (countedOk cs ≡ true) × (settingsOf s cs ≡ S)
+        go false b f g = absurd (two (sym e ∙ by-cases false b f g))
+        go true false f g = absurd (three (sym e ∙ by-cases true false f g))
+        go true true f g =
+            (sizes-same ∙ f, g, ap (λ (u : code.Settings). settingsOf u cs) (same (record { leaf = m; arity = r; levels = H; counted = length cs }) (sym e ∙ by-cases true true f g)))
+
+    pub settings-taken : Taken (settingsOf s cs) T
+    settings-taken = rw (fine-is .2) (record { length-ok = ok; sizes-ok = fine-is .0; counted-ok = fine-is .1 })
+
+    pub settings-told : (b : Built) (new : List ℕ) → numberOf b ≡ buildNumber (settingsOf s cs) T out → sizeOf b ≡ buildSize (settingsOf s cs) T out
+        → new ≡ buildLeaves (settingsOf s cs) T out → Told S T out b new
+    settings-told b new n z l = record {
+      number = n ∙ ap (λ (S : Settings). buildNumber S T out) (fine-is .2);
+      size = z ∙ ap (λ (S : Settings). buildSize S T out) (fine-is .2);
+      buffer = l ∙ ap (λ (S : Settings). buildLeaves S T out) (fine-is .2);
+    }
+
+-- A buffer made all zero.
+
+pub zero-more : (out t : List ℕ) (i : ℕ) → t ≡ replicate i 0 ++ drop i out → i < length out → set t i 0 ≡ replicate (i + 1) 0 ++ drop (i + 1) out
+zero-more out t i e l = rw e (fill-more i 0 out l)
+
+pub all-zero : (out t : List ℕ) (i : ℕ) → t ≡ replicate i 0 ++ drop i out → i ≡ length out → t ≡ replicate (length out) 0
+all-zero out t i e h = e ∙ rw (h, drop-length out) (append-nil (replicate (length out) 0))

@@ -1,0 +1,177 @@
+-- A block's record, kept and pointing: what the code finds is what the tree says.
+use mathlib.Core.List.{List}
+use mathlib.Core.Bool.{Bool, true, false, cond}
+use mathlib.Core.Path.{_≡_, refl, sym, ap, _∙_}
+use mathlib.Core.Logic.{_⊎_, inl, inr}
+use Prim.Native.Nat.{ℕ, zero, suc, _+_, _-_, _*_, _/_, _≤_, _<_, min}
+use native.Mathlib.Omega.{arith}
+use native.Mathlib.Numerals.{add-one}
+use lib.ListN.{length}
+use lib.Dec.{eqb, leb}
+use borrow.Author.Tests.{le-leb, lt-leb, ne-eqb}
+use Rattle.text.specs.Lists.{sumBelow, countBelow}
+use Rattle.text.specs.ListLaws.{lt-or-ge, bool-clash}
+use Rattle.text.specs.Text.{stretch, countIn, leftmost}
+use Rattle.format.specs.Words.{wordAt}
+use Rattle.format.specs.Settings.{Settings, blockLength}
+use Rattle.format.specs.Blocks.{target}
+use Rattle.built.specs.Descent.{countBelow-upto}
+use Rattle.built.specs.Levels.{Level as InOrder, start-le}
+use Rattle.built.specs.Leaves.{kept-last, bytes-fit}
+use Rattle.built.specs.Structure.{size, count, start, bytesIn, keptAt, widthOf, bytesIn-is, level-at}
+use Rattle.built.specs.Sizes.{Taken, bounds}
+use Rattle.built.specs.Records.{parentOf, kindOf, linkOf, gapOf, skipOf}
+use Rattle.built.specs.Targets.{placeOf, targetOf, placeOf-is, PointsTo, points-to}
+use Rattle.builder.specs.declared.level.Level.{Level}
+use Rattle.builder.specs.declared.record.Block.{Block}
+use Rattle.builder.specs.Levels.{recordPlace, parentSays}
+use Rattle.builder.specs.State.{LevelIs, Filled, On, BlockIs}
+use Rattle.builder.specs.Targets.{Sorted, Between, startIn}
+use Rattle.builder.proofs.Counting.{countIn-none}
+use Rattle.builder.proofs.Pairing.{start-fits, start-read, start-in}
+use Rattle.builder.proofs.StateLaws.{Few, few}
+
+module _ (S : Settings) (T out : List ℕ) (level : Level) (i : ℕ) (w : On S T out level i) where
+  abbrev l : ℕ
+  l = level .number
+
+  taken : Taken S T
+  taken = w .level-is .taken
+
+  l-in : l < S .levels
+  l-in = w .level-is .number-in
+
+  i-in : i < count S T l
+  i-in = omega (arith, w .block-in, w .level-is .count-is)
+
+  order : InOrder (length T) (size S T l) (count S T l) (start S T l)
+  order = level-at S T taken l l-in
+
+  pub sorted : Sorted out (level .table) (level .count) (S .counted)
+  sorted =
+      let f = few S T level (w .level-is) in
+      record {
+        counted-few = f .counted-few;
+        table-few = f .table-few;
+        count-few = f .count-few;
+        fits = λ x xl. start-fits S T out level i w x xl;
+        rises = λ x y xy yl. omega (
+          arith,
+          start-read S T out level i w x (omega arith),
+          start-read S T out level i w y yl,
+          order .rising x y xy (omega (arith, w .level-is .count-is)),
+          order .size,
+        );
+      }
+
+  parent-by : (n s : ℕ) → ((k : ℕ) → n ≡ suc k → level .above ≡ blockLength S k) → parentSays n (level .above) s ≡ parentOf S T n s
+  unfolding parentOf
+  parent-by zero s above = refl
+  parent-by (suc n) s above = rw (ne-eqb (suc n) 0 (λ e. omega arith), above n refl)
+
+  -- the block as the code reads it
+  module _ (s len up : ℕ) (s-is : s ≡ wordAt out (recordPlace (level .table) i (S .counted))) (len-is : len ≡ min (level .size) (length T - s))
+      (up-is : up ≡ parentSays (level .number) (level .above) s) where
+    s-right : s ≡ start S T l i
+    s-right = s-is ∙ start-read S T out level i w i (w .block-in)
+
+    len-right : len ≡ bytesIn S T l i
+    len-right = len-is ∙ rw (s-right, w .level-is .size-is) (sym (bytesIn-is S T l i))
+
+    up-right : up ≡ parentOf S T l (start S T l i)
+    up-right = up-is ∙ parent-by l s (w .level-is .above-is) ∙ ap (parentOf S T l) s-right
+
+    pub in-text : s + len ≤ length T
+    in-text = rw (s-right, len-right) (bytes-fit S T taken l i l-in i-in)
+
+    pub kept-is : (link : ℕ) → keptAt S T l i ≡ true → link ≡ sumBelow i (widthOf S T l)
+        → BlockIs S T l i (record { start = s; length = len; parent = up; kind = 0; link = link; from = 0; gap = 0 })
+    unfolding kindOf linkOf gapOf skipOf
+    kept-is link k e = record {
+      start-is = s-right;
+      length-is = len-right;
+      parent-is = up-right;
+      kind-is = rw k;
+      link-is = rw k e;
+      gap-is = rw k;
+      skip-is = λ c. rw k (countIn-none c T 0);
+      skip-in = omega arith;
+    }
+
+    -- the block points
+    module _ (points : keptAt S T l i ≡ false) (p : ℕ) (p-is : p ≡ leftmost T s len) where
+      upper : suc l < S .levels
+      upper = go (lt-or-ge (suc l) (S .levels))
+        where
+          go : (suc l < S .levels) ⊎ (S .levels ≤ suc l) → suc l < S .levels
+          go (inl z) = z
+          go (inr z) = bool-clash (keptAt S T l i) (kept-last S T l i (omega (arith, l-in))) points
+
+      to : PointsTo S T l i (targetOf S T l i)
+      to = points-to S T taken l i upper i-in points
+
+      p-right : p ≡ placeOf S T l i
+      p-right = p-is ∙ rw (s-right, len-right) (sym (placeOf-is S T l i))
+
+      pub whole-range : Between out (level .table) (level .count) (S .counted) p 0 (level .count)
+      whole-range =
+          let first : start S T l 0 ≤ start S T l (targetOf S T l i) = start-le (length T) (size S T l) (count S T l) (start S T l) order 0 (targetOf S T l i) (omega arith) (to .below) in
+          record {
+            some-left = omega (arith, w .block-in);
+            within = omega arith;
+            from = omega (arith, start-read S T out level i w 0 (omega (arith, w .block-in)), first, to .from, p-right);
+            after = λ j a k. absurd (let z : ⊥ = omega arith in z);
+          }
+
+      module _ (r : ℕ) (b : Between out (level .table) (level .count) (S .counted) p r (r + 1)) where
+        r-in : r < level .count
+        r-in = omega (arith, b .within)
+
+        at-or-before : (j : ℕ) → j < count S T l → j < suc r → leb (start S T l j) (placeOf S T l i) ≡ true
+        at-or-before j jl jr = le-leb (start S T l j) (placeOf S T l i) (omega (
+          arith,
+          start-le (length T) (size S T l) (count S T l) (start S T l) order j r (omega arith) (omega (arith, r-in, w .level-is .count-is)),
+          start-read S T out level i w r r-in,
+          b .from,
+          p-right,
+        ))
+
+        after-it : (j : ℕ) → j < count S T l → suc r ≤ j → leb (start S T l j) (placeOf S T l i) ≡ false
+        after-it j jl jr = lt-leb (start S T l j) (placeOf S T l i) (omega (
+          arith,
+          b .after j (omega arith) (omega (arith, w .level-is .count-is)),
+          start-read S T out level i w j (omega (arith, w .level-is .count-is)),
+          p-right,
+        ))
+
+        r-right : r ≡ targetOf S T l i
+        unfolding target
+        r-right = omega (
+          arith,
+          r-in,
+          w .level-is .count-is,
+          countBelow-upto (count S T l) (suc r) (λ j. leb (start S T l j) (placeOf S T l i)) at-or-before after-it,
+        )
+
+        pub target-fits : recordPlace (level .table) r (S .counted) + 4 ≤ length out
+        target-fits = start-fits S T out level i w r r-in
+
+        module _ (from : ℕ) (from-is : from ≡ wordAt out (recordPlace (level .table) r (S .counted))) where
+          from-right : from ≡ start S T l (targetOf S T l i)
+          from-right = from-is ∙ start-read S T out level i w r r-in ∙ ap (start S T l) r-right
+
+          pub from-le : from ≤ p
+          from-le = omega (arith, from-is, b .from)
+
+          pub pointing-is : BlockIs S T l i (record { start = s; length = len; parent = up; kind = 1; link = r; from = from; gap = p - from })
+          unfolding kindOf linkOf gapOf skipOf
+          pointing-is = record {
+            start-is = s-right;
+            length-is = len-right;
+            parent-is = up-right;
+            kind-is = rw points;
+            link-is = rw points r-right;
+            gap-is = rw (points, p-right, from-right);
+            skip-is = λ c. rw (points, p-right, from-right);
+            skip-in = omega (arith, from-le, p-right, to .ends, order .within i i-in);
+          }

@@ -1,0 +1,41 @@
+-- The marking rule, as the builder asks it: how each block and the next one stand.
+use mathlib.Core.List.{List}
+use mathlib.Core.Bool.{Bool, true, false, cond}
+use Prim.Native.Nat.{ℕ, zero, suc, _+_, _-_}
+use lib.ListN.{length}
+use lib.Dec.{eqb}
+use Rattle.text.specs.Text.{leftmost}
+use Rattle.format.specs.Settings.{Settings, blockLength}
+use Rattle.format.specs.Blocks.{startsAt, pairAt, firstPairAt}
+use Rattle.builder.specs.declared.pair.Pair.{Pair}
+use Rattle.builder.specs.declared.pair.Pair.the-variants.{Apart, First, Again}
+
+-- of the pairs before and after a block: one of them occurs here first, or there is none
+abbrev pub keptBy : Pair → Pair → Bool
+keptBy First after = true
+keptBy Apart Apart = true
+keptBy Apart First = true
+keptBy Apart Again = false
+keptBy Again Apart = false
+keptBy Again First = true
+keptBy Again Again = false
+
+-- a pair of len bytes at s
+abbrev pub pairSays : List ℕ → ℕ → ℕ → Pair
+pairSays T s len = cond (eqb (leftmost T s len) s) First Again
+
+-- by the tests of document 01
+abbrev pub pairBy : Bool → Bool → Pair
+pairBy first pair = cond first First (cond pair Again Apart)
+
+module _ (S : Settings) (T : List ℕ) (l : ℕ) where
+  -- block i and the next; none is looked for on the last level
+  unfoldable pub pairOf : ℕ → Pair
+  pairOf i =
+      cond (eqb (suc l) (S .levels)) Apart
+      (pairBy (firstPairAt T (blockLength S l) (startsAt S T l) i) (pairAt T (blockLength S l) (startsAt S T l) i))
+
+  -- block i and the one before it
+  unfoldable pub pairBefore : ℕ → Pair
+  pairBefore zero = Apart
+  pairBefore (suc i) = pairOf i

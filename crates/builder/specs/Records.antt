@@ -1,0 +1,14 @@
+-- What the builder writes of a record.
+use mathlib.Core.List.{List}
+use mathlib.Core.Bool.{cond}
+use Prim.Native.Nat.{ℕ, _+_}
+use lib.Dec.{eqb}
+use Rattle.format.specs.Words.{wordAt, setWord}
+
+-- three words, one after the other
+abbrev pub putThree : List ℕ → ℕ → ℕ → ℕ → ℕ → List ℕ
+putThree t at a b c = setWord (setWord (setWord t at a) (at + 4) b) (at + 8) c
+
+-- the count before a block: none at its parent's start, else the sum of the two words at `left`
+abbrev pub beforeSays : List ℕ → ℕ → ℕ → ℕ → ℕ
+beforeSays t left s parent = cond (eqb s parent) 0 (wordAt t left + wordAt t (left + 4))

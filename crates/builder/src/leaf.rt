@@ -1,0 +1,52 @@
+// The leaf bytes: those of the last level's blocks, one block after the other.
+use crate::level;
+use crate::level::Level;
+ghost use mathlib.Core.Path.{_≡_};
+ghost use Prim.Native.Nat.{ℕ, suc, _+_, _≤_, _<_};
+ghost use lib.ListN.{length};
+ghost use Rattle.text.specs.Lists.{sumBelow};
+ghost use Rattle.format.specs.Blocks.{treeOf};
+ghost use Rattle.built.specs.Structure.{widthOf};
+ghost use Rattle.builder.specs.Growing.{Grown, Within};
+ghost use Rattle.builder.specs.Leaves.{bytesWritten};
+ghost use Rattle.builder.specs.State.{settingsOf, Leafing};
+
+// Copies n bytes of the text.
+fn copy(out: &mut [u8], to: usize, text: &[u8], from: usize, n: usize)
+    requires { ⌜ (to + n ≤ length (now out)) × (from + n ≤ length (now text)) ⌝ }
+    ensures { λ _. ⌜ now (out .exit) ≡ bytesWritten (now (out .entry)) to (now (text .entry)) from n ⌝ }
+{
+    let mut j: usize = 0;
+    while j < n {
+        out[to + j] = text[from + j];
+        j += 1;
+    }
+}
+
+// Puts the leaf bytes of a block in place, and answers how many they are.
+fn put_leaf(out: &mut [u8], text: &[u8], counted: &[u8], level: Level, to: u32, i: u32) -> u32
+    requires { ⌜ Leafing (settingsOf (level .settings) (now counted)) (now text) (now out) level to i × (i < level .count) ⌝ }
+    ensures { λ r. ⌜ r ≡ widthOf (settingsOf (level .settings) (now (counted .entry))) (now (text .entry)) (level .number) i ⌝ }
+    ensures { λ _. ⌜ Grown (treeOf (settingsOf (level .settings) (now (counted .entry))) (now (text .entry))) (now (out .entry)) (now (out .exit)) ⌝ }
+    ensures { λ r. ⌜ Within (treeOf (settingsOf (level .settings) (now (counted .entry))) (now (text .entry))) (now (out .exit)) to (to + r) ⌝ }
+{
+    let start = level::start(counted, out, level, i);
+    let length = level::bytes(text, level, start);
+    copy(out, to as usize, text, start as usize, length as usize);
+    length
+}
+
+// Puts all leaf bytes in place.
+pub fn put_leaves(out: &mut [u8], text: &[u8], counted: &[u8], level: Level, at: u32)
+    requires { ⌜ Leafing (settingsOf (level .settings) (now counted)) (now text) (now out) level at 0 ⌝ }
+    ensures { λ _. ⌜ Grown (treeOf (settingsOf (level .settings) (now (counted .entry))) (now (text .entry))) (now (out .entry)) (now (out .exit)) ⌝ }
+    ensures { λ _. ⌜ Within (treeOf (settingsOf (level .settings) (now (counted .entry))) (now (text .entry))) (now (out .exit))
+        100 (length (treeOf (settingsOf (level .settings) (now (counted .entry))) (now (text .entry)))) ⌝ }
+{
+    let mut to: u32 = at;
+    let mut i: u32 = 0;
+    while i < level.count {
+        to = to + put_leaf(out, text, counted, level, to, i);
+        i += 1;
+    }
+}

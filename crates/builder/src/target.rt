@@ -1,0 +1,98 @@
+// Where a pointing block points.
+use crate::finding;
+use crate::level;
+use crate::level::Level;
+use crate::record::Block;
+ghost use mathlib.Core.Bool.{true, false};
+ghost use mathlib.Core.Path.{_≡_};
+ghost use Prim.Native.Nat.{ℕ, suc, _+_, _-_, _≤_, _<_};
+ghost use lib.ListN.{length};
+ghost use Rattle.text.specs.Text.{leftmost};
+ghost use Rattle.text.specs.Lists.{sumBelow};
+ghost use Rattle.built.specs.Structure.{keptAt, widthOf};
+ghost use Rattle.builder.specs.State.{settingsOf, On, BlockIs};
+ghost use Rattle.builder.specs.Targets.{Sorted, Between};
+
+// Blocks from `low` to just before `high`.
+pub struct Range {
+    pub low: u32,
+    pub high: u32,
+}
+
+// One step of the search for the last block that starts at a place or before it.
+fn narrow(counted: &[u8], out: &[u8], level: Level, place: u32, range: Range) -> Range
+    requires { ⌜ Sorted (now out) (level .table) (level .count) (now counted) ⌝ }
+    requires { ⌜ Between (now out) (level .table) (level .count) (now counted) place (range .low) (range .high) ⌝ }
+    requires { ⌜ range .low + 1 < range .high ⌝ }
+    ensures { λ r. ⌜ Between (now (out .entry)) (level .table) (level .count) (now (counted .entry)) place (r .low) (r .high) ⌝ }
+    ensures { λ r. ⌜ r .high - r .low < range .high - range .low ⌝ }
+{
+    let middle = range.low + (range.high - range.low) / 2;
+    if place < level::start(counted, out, level, middle) {
+        return Range {
+            low: range.low,
+            high: middle,
+        };
+    }
+    Range {
+        low: middle,
+        high: range.high,
+    }
+}
+
+// The last block that starts at a place or before it.
+fn holder(counted: &[u8], out: &[u8], level: Level, place: u32) -> u32
+    requires { ⌜ Sorted (now out) (level .table) (level .count) (now counted) ⌝ }
+    requires { ⌜ Between (now out) (level .table) (level .count) (now counted) place 0 (level .count) ⌝ }
+    ensures { λ r. ⌜ Between (now (out .entry)) (level .table) (level .count) (now (counted .entry)) place r (r + 1) ⌝ }
+{
+    let mut range = Range {
+        low: 0,
+        high: level.count,
+    };
+    while range.low + 1 < range.high {
+        range = narrow(counted, out, level, place, range);
+    }
+    range.low
+}
+
+// A block that is kept, with its link.
+pub fn kept_block(text: &[u8], counted: &[u8], out: &[u8], level: Level, i: u32, link: u32) -> Block
+    requires { ⌜ On (settingsOf (level .settings) (now counted)) (now text) (now out) level i ⌝ }
+    requires { ⌜ keptAt (settingsOf (level .settings) (now counted)) (now text) (level .number) i ≡ true ⌝ }
+    requires { ⌜ link ≡ sumBelow i (widthOf (settingsOf (level .settings) (now counted)) (now text) (level .number)) ⌝ }
+    ensures { λ r. ⌜ BlockIs (settingsOf (level .settings) (now (counted .entry))) (now (text .entry)) (level .number) i r ⌝ }
+{
+    let start = level::start(counted, out, level, i);
+    Block {
+        start,
+        length: level::bytes(text, level, start),
+        parent: level::parent(level, start),
+        kind: 0,
+        link,
+        from: 0,
+        gap: 0,
+    }
+}
+
+// A block that points to the one that holds the first byte of its leftmost occurrence.
+pub fn pointing_block(text: &[u8], counted: &[u8], out: &[u8], level: Level, i: u32) -> Block
+    requires { ⌜ On (settingsOf (level .settings) (now counted)) (now text) (now out) level i ⌝ }
+    requires { ⌜ keptAt (settingsOf (level .settings) (now counted)) (now text) (level .number) i ≡ false ⌝ }
+    ensures { λ r. ⌜ BlockIs (settingsOf (level .settings) (now (counted .entry))) (now (text .entry)) (level .number) i r ⌝ }
+{
+    let start = level::start(counted, out, level, i);
+    let length = level::bytes(text, level, start);
+    let place = finding::leftmost(text, start, length);
+    let link = holder(counted, out, level, place);
+    let from = level::start(counted, out, level, link);
+    Block {
+        start,
+        length,
+        parent: level::parent(level, start),
+        kind: 1,
+        link,
+        from,
+        gap: place - from,
+    }
+}
