@@ -1,17 +1,33 @@
--- The demands on the check, as theorems over what its call promises.
-use mathlib.Core.List.{List}
-use mathlib.Core.Path.{_≡_, sym, _∙_}
+-- The demands on build and check, as theorems over what their calls promise.
+use mathlib.Core.List.{List, _++_}
+use mathlib.Core.Path.{_≡_, refl, sym, ap, _∙_}
 use mathlib.Core.Logic.{_↔_}
 use mathlib.Core.Bool.{true}
-use Prim.Native.Nat.{ℕ}
+use mathlib.Core.Option.{some}
+use Prim.Native.Nat.{ℕ, suc, _+_, _≤_, _<_}
+use native.Mathlib.Omega.{arith}
 use contract.Lifetimes.{Lfts}
 use denote.Ref.{RefT, now}
-use Rattle.format.specs.Settings.{Settings}
+use lib.ListN.{length, getD, take, drop}
+use lib.Seq.{take-append-seam}
+use lib.Dec.{eqb, leb}
+use Rattle.text.specs.Text.{stretch}
+use Rattle.format.specs.Settings.{Settings, lengthOk, sizesOk, countedOk}
 use Rattle.format.specs.Blocks.{treeOf}
+use Rattle.format.specs.Layout as at
+use Rattle.format.specs.Path.{Path, pathOf}
 use Rattle.format.specs.Fits.{linksOk, textOf, fits}
-use Rattle.format.specs.Verdict.{readable, verdict}
+use Rattle.format.specs.Verdict.{ask, readable, verdict}
+use Rattle.format.specs.Said.{Said}
+use Rattle.format.specs.HeaderLaws.{ask-test, ask-rest}
+use Rattle.format.specs.Building.{buildNumber, buildSize, buildLeaves}
+use Rattle.format.specs.Reading.{byteSays, spanNumber, spanLeaves}
 use Rattle.built.specs.Sizes.{Taken}
-use Rattle.accepted.specs.Accepting.{StandsFor, accepts, one-text, built-text, built-verdict}
+use Rattle.accepted.specs.Accepting.{StandsFor, accepts, one-text, built-text, built-verdict, accepted-stands}
+use Rattle.paths.specs.Demands as paths
+use Rattle.builder.specs.declared.Built.{Built}
+use Rattle.builder.specs.Answers.{numberOf, sizeOf, given}
+use Rattle.builder.proofs.build.Reads as build-reads
 use Rattle.tree.proofs.check.Reads as check-reads
 
 -- r is an answer that the contract of `check` allows to a call on these bytes
@@ -30,8 +46,82 @@ module _ (κs : Lfts 1) (t : RefT (List ℕ)) (r : ℕ) (c : Checked κs t r) wh
       let o = one-text (now t) (s .1 .readable-is) (s .1 .linked) in
       (s .0, s .1, λ U f. o U f ∙ sym (o (s .0) (s .1 .fitting)))
 
--- "What the builder writes is accepted, and its one text is the input": the block tree of a text, for every text and all settings
--- that questions 1 to 3 let through.
-pub check-built : (κs : Lfts 1) (t : RefT (List ℕ)) (r : ℕ) → Checked κs t r
-    → (S : Settings) (T : List ℕ) → Taken S T → now t ≡ treeOf S T → (r ≡ 0) × (textOf (now t) ≡ T)
-check-built κs t r c S T h e = rw (c, e) (built-verdict S T h, built-text S T h)
+-- What a call of `build` leaves, where questions 1 to 4 let it through.
+module _ (S : Settings) (T out : List ℕ) (passed : buildNumber S T out ≡ 0) where
+  pub taken : Taken S T
+  unfolding buildNumber
+  taken =
+      let four = ask 4 (leb (length (treeOf S T)) (length out)) 0 in
+      let after1 = ask-rest 0 (lengthOk (length T)) (ask 2 (sizesOk S) (ask 3 (countedOk (S .counted)) four)) passed in
+      let after2 = ask-rest 1 (sizesOk S) (ask 3 (countedOk (S .counted)) four) after1 in
+      record {
+        length-ok = ask-test 0 (lengthOk (length T)) (ask 2 (sizesOk S) (ask 3 (countedOk (S .counted)) four)) passed;
+        sizes-ok = ask-test 1 (sizesOk S) (ask 3 (countedOk (S .counted)) four) after1;
+        counted-ok = ask-test 2 (countedOk (S .counted)) four after2;
+      }
+
+  -- the buffer begins with the block tree of the text, and the size is the tree's
+  pub leaves-tree : take (buildSize S T out) (buildLeaves S T out) ≡ treeOf S T
+  unfolding buildSize buildLeaves
+  leaves-tree = rw passed (take-append-seam (treeOf S T) (drop (length (treeOf S T)) out))
+
+-- r is an answer that the contract of `build` allows to a call with these arguments, which leaves the buffer `out` as `after`
+abbrev pub Answer : (κs : Lfts 3) (text : RefT (List ℕ)) (leaf arity levels : ℕ) (counted out after : RefT (List ℕ)) → Built → Type 0
+Answer κs text leaf arity levels counted out after r =
+    build-reads.Post κs (text, (leaf, (arity, (levels, (counted, (out, tt)))))) r (text, (leaf, (arity, (levels, (counted, (after, tt))))))
+
+module _ (κs : Lfts 3) (text : RefT (List ℕ)) (leaf arity levels : ℕ) (counted out after : RefT (List ℕ)) (r : Built)
+    (a : Answer κs text leaf arity levels counted out after r) (good : numberOf r ≡ 0) where
+  abbrev S : Settings
+  S = given leaf arity levels (now counted)
+
+  abbrev T : List ℕ
+  T = now text
+
+  abbrev before : List ℕ
+  before = now out
+
+  -- the part of the buffer that is the tree
+  abbrev tree : List ℕ
+  tree = take (sizeOf r) (now after)
+
+  passed : buildNumber S T before ≡ 0
+  passed = sym (a .0) ∙ good
+
+  -- "The builder's output is, byte for byte, the block tree of its text."
+  pub build-writes : tree ≡ treeOf S T
+  build-writes = rw (a .1 .0, a .1 .1) (leaves-tree S T before passed)
+
+  -- "What the builder writes is accepted, ..
+  pub build-accepted : verdict tree ≡ 0
+  build-accepted = rw build-writes (built-verdict S T (taken S T before passed))
+
+  -- .. and its one text is the input."
+  pub build-text : textOf tree ≡ T
+  build-text = rw build-writes (built-text S T (taken S T before passed))
+
+  stands : StandsFor tree (textOf tree)
+  stands = accepted-stands tree build-accepted
+
+  -- "Read back, every byte .. is the text's": byte is refused nowhere, and its figure is the path's length.
+  pub build-byte : (p : ℕ) → p < at.textLength tree
+      → (q : Path) × (pathOf tree p ≡ some q) × (byteSays tree p ≡ record { number = 0; value = getD T p 0; entered = length (q .visits) })
+  build-byte p h =
+      let w = paths.byte-of-text tree (stands .readable-is) (stands .linked) p h in
+      (w .0, w .1, rw build-text at (w .2))
+
+  -- ".. span .. is the text's."
+  pub build-span : (p len : ℕ) (lent : List ℕ) → p + len ≤ at.textLength tree → len ≤ length lent
+      → (spanNumber tree p len (length lent) ≡ 0) × (spanLeaves tree p len lent ≡ stretch T p len ++ drop len lent)
+  build-span p len lent h room = (
+    paths.span-good tree (stands .readable-is) (stands .linked) p len (length lent) h room,
+    paths.span-of-text tree (stands .readable-is) (stands .linked) p len lent h room ∙ ap (λ (U : List ℕ). stretch U p len ++ drop len lent) build-text,
+  )
+
+-- "The tree is the same for every choice of base and modulus": whatever a builder that meets the contract searches with, a call on the
+-- same arguments answers and leaves the same.
+pub build-settled : (κs : Lfts 3) (text : RefT (List ℕ)) (leaf arity levels : ℕ) (counted out one other : RefT (List ℕ)) (r s : Built)
+    → Answer κs text leaf arity levels counted out one r → Answer κs text leaf arity levels counted out other s
+    → (numberOf r ≡ numberOf s) × (sizeOf r ≡ sizeOf s) × (now one ≡ now other)
+build-settled κs text leaf arity levels counted out one other r s p q =
+    (p .0 ∙ sym (q .0), p .1 .0 ∙ sym (q .1 .0), p .1 .1 ∙ sym (q .1 .1))

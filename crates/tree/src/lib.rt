@@ -1,4 +1,6 @@
-// The tree layer's outside calls: the check of any bytes lent as a tree.
+// The tree layer's outside calls: build writes the block tree of a text, check asks any bytes lent as a tree.
+pub use builder::Built;
+pub use builder::build;
 use layout::header::Header;
 use layout::header::HeaderRead;
 ghost use mathlib.Core.Path.{_≡_};
