@@ -28,7 +28,7 @@ up-pos t k (suc l) = full-pos t k l
 
 module _ (t : List ℕ) (h : Header) (level i c : ℕ) (w : InTable t h level i c) where
   k : Readable t
-  k = w .tree .readable
+  k = w .tree .header .facts
 
   d : Linked t
   d = facts.linked t h (w .tree)

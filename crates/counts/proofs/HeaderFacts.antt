@@ -22,28 +22,22 @@ use Rattle.counts.specs.Asked.{Linking, InTable}
 
 module _ (t : List ℕ) (h : Header) (w : Linking t h) where
   pub counted-is : h .settings .counted ≡ at.countedCount t
-  unfolding at.countedCount
-  counted-is = ap (λ (x : Header). x .settings .counted) (w .header-is)
+  counted-is = w .header .counted-is
 
   pub levels-is : h .settings .levels ≡ at.settings t .levels
-  unfolding at.settings
-  levels-is = ap (λ (x : Header). x .settings .levels) (w .header-is)
+  levels-is = w .header .levels-is
 
   pub arity-is : h .settings .arity ≡ at.settings t .arity
-  unfolding at.settings
-  arity-is = ap (λ (x : Header). x .settings .arity) (w .header-is)
+  arity-is = w .header .arity-is
 
   pub leaf-is : h .settings .leaf ≡ at.settings t .leaf
-  unfolding at.settings
-  leaf-is = ap (λ (x : Header). x .settings .leaf) (w .header-is)
+  leaf-is = w .header .leaf-is
 
   pub length-is : h .length ≡ at.textLength t
-  unfolding at.textLength
-  length-is = ap (λ (x : Header). x .length) (w .header-is)
+  length-is = w .header .length-is
 
   pub offset-is : h .«leaf_offset» ≡ at.leafOffset t
-  unfolding at.leafOffset
-  offset-is = ap (λ (x : Header). x .«leaf_offset») (w .header-is)
+  offset-is = w .header .offset-is
 
   pub linked : Linked t
   linked = linked-facts t (w .links)
@@ -56,16 +50,16 @@ module _ (t : List ℕ) (h : Header) (w : Linking t h) where
     where
       go : (level < at.settings t .levels - 1) ⊎ (level ≡ at.settings t .levels - 1) → level + 1 < at.settings t .levels
       go (inl l) = omega arith
-      go (inr e) = absurd (n (omega (arith, levels-is, w .readable .levels-low)))
+      go (inr e) = absurd (n (omega (arith, levels-is, w .header .facts .levels-low)))
 
   pub arity-pos : 0 < h .settings .arity
-  arity-pos = omega (arith, arity-is, w .readable .arity-low)
+  arity-pos = omega (arith, arity-is, w .header .facts .arity-low)
 
   -- one level down, by one division
   pub below-is : (level b : ℕ) → b ≡ at.fullLength t level → level + 1 < at.settings t .levels → b / h .settings .arity ≡ at.fullLength t (level + 1)
   below-is level b b-is above =
-      let pos : 0 < at.settings t .arity = omega (arith, w .readable .arity-low) in
-      rw (arity-is, b-is, full-step t (w .readable) level above) (mul-div-cancel (at.fullLength t (level + 1)) pos)
+      let pos : 0 < at.settings t .arity = omega (arith, w .header .facts .arity-low) in
+      rw (arity-is, b-is, full-step t (w .header .facts) level above) (mul-div-cancel (at.fullLength t (level + 1)) pos)
 
 -- a level's count is a word
 pub count-lt : (t : List ℕ) (l : ℕ) → ((k : ℕ) → getD t k 0 < 256) → at.levelCount t l < 4294967296
@@ -87,7 +81,7 @@ byte-is t c h few =
 module _ (t : List ℕ) (h : Header) (level i c : ℕ) (w : InTable t h level i c) where
   -- the words of the block's record
   pub there : (f : ℕ) → f < 4 + 3 * h .settings .counted → FieldIn t (h .settings .counted) level i f
-  there f hf = field-in t (w .tree .readable) (h .settings .counted) level i f (counted-is t h (w .tree)) (w .level-in) (w .block-in) hf
+  there f hf = field-in t (w .tree .header .facts) (h .settings .counted) level i f (counted-is t h (w .tree)) (w .level-in) (w .block-in) hf
 
   pub plain-there : (f : ℕ) → f < 4 → FieldIn t (h .settings .counted) level i f
   plain-there f hf = there f (omega arith)
@@ -106,7 +100,7 @@ module _ (t : List ℕ) (h : Header) (level i c : ℕ) (w : InTable t h level i 
 
   -- no block is longer than the longest text
   pub full-lt : at.fullLength t level ≤ 1048576
-  full-lt = full-small t (w .tree .readable) level
+  full-lt = full-small t (w .tree .header .facts) level
 
   pub length-lt : at.blockLengthAt t level i ≤ 1048576
   length-lt = omega (arith, len-small t level i, full-lt)

@@ -28,7 +28,7 @@ module _ (t : List ℕ) (h : Header) (w : Linking t h) where
   -- what block_length asks, and what it gives
   pub sized : (level : ℕ) → level < at.settings t .levels → Sized (h .settings) level
   sized level l =
-      let k = w .readable in
+      let k = w .header .facts in
       let e₁ = facts.leaf-is t h w in
       let e₂ = facts.arity-is t h w in
       let e₃ = facts.levels-is t h w in record {
@@ -81,7 +81,7 @@ module _ (t : List ℕ) (h : Header) (w : Linking t h) where
         go (inl lt) = below-left m lt hm
         go (inr ge) =
             let z : m ≡ left - 1 = omega arith in
-            rw z (level-true t (w .readable) (facts.linked t h w) (left - 1) level-low below-left e)
+            rw z (level-true t (w .header .facts) (facts.linked t h w) (left - 1) level-low below-left e)
 
     pub level-fail : levelLocal t (left - 1) ≡ false → false ≡ countsTrue (textOf t) t
     level-fail e = go (bool-cases (countsTrue (textOf t) t))
@@ -89,7 +89,7 @@ module _ (t : List ℕ) (h : Header) (w : Linking t h) where
         go : (countsTrue (textOf t) t ≡ true) ⊎ (countsTrue (textOf t) t ≡ false) → false ≡ countsTrue (textOf t) t
         go (inl y) =
             bool-clash (levelLocal t (left - 1))
-            (level-local t (w .readable) (facts.linked t h w) (left - 1) level-low below-left (counts-facts t y (left - 1) level-low)) e
+            (level-local t (w .header .facts) (facts.linked t h w) (left - 1) level-low below-left (counts-facts t y (left - 1) level-low)) e
         go (inr n) = sym n
 
   pub levels-done : (left : ℕ) → left ≡ 0 → ((m : ℕ) → left ≤ m → m < at.settings t .levels → Level t m) → true ≡ countsTrue (textOf t) t

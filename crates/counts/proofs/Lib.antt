@@ -1,4 +1,3 @@
-pub mod Tests
 pub mod HeaderFacts
 pub mod WalkLaws
 pub mod BlockLaws

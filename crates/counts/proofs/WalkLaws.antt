@@ -89,24 +89,24 @@ module _ (t : List ℕ) (h : Header) (level i n c link : ℕ) (w : InTable t h l
     (n-low : n ≤ at.blockLengthAt t level i) (link-is : link ≡ at.link t level i) where
   pub leaves-fit : h .«leaf_offset» + link + n ≤ length t
   leaves-fit =
-      let k = w .tree .readable in
+      let k = w .tree .header .facts in
       omega (arith, facts.offset-is t h (w .tree), leaves-end t k (facts.linked t h (w .tree)) level i last (w .block-in), k .size)
 
   pub leaves-are : (r : ℕ) → r ≡ countIn (getD t (24 + c) 0) (stretch t (h .«leaf_offset» + link) n) → r ≡ inLeaves t level i n c
   unfolding inLeaves
-  leaves-are r e = e ∙ rw (facts.byte-is t c (w .number-in) (w .tree .readable .counted-high), facts.offset-is t h (w .tree), link-is)
+  leaves-are r e = e ∙ rw (facts.byte-is t c (w .number-in) (w .tree .header .facts .counted-high), facts.offset-is t h (w .tree), link-is)
 
 -- A step to a child.
 
 module _ (t : List ℕ) (h : Header) (level b c i o : ℕ) (b-is : b ≡ at.fullLength t (level + 1)) (hl : level + 1 < at.settings t .levels)
     (w : InKept t h level i o c) (j : ℕ) (j-is : j ≡ at.link t level i) where
   pub step-pos : 0 < b
-  step-pos = rw b-is (full-pos t (w .block .table .tree .readable) (level + 1))
+  step-pos = rw b-is (full-pos t (w .block .table .tree .header .facts) (level + 1))
 
   pub child-there : InBlock t h (level + 1) (j + o / b) (o % b) c
   child-there =
       let tree = w .block .table .tree in
-      let q = child t (tree .readable) (facts.linked t h tree) level i o hl (w .block .table .block-in) (w .kept) (w .block .place-in) in
+      let q = child t (tree .header .facts) (facts.linked t h tree) level i o hl (w .block .table .block-in) (w .kept) (w .block .place-in) in
       rw (j-is, b-is) (record {
         table = record { tree = tree; level-in = hl; block-in = q .below; number-in = w .block .table .number-in };
         place-in = q .inside;
@@ -124,7 +124,7 @@ module _ (t : List ℕ) (h : Header) (level b c i o : ℕ) (b-is : b ≡ at.full
   tree = w .block .table .tree
 
   k : Readable t
-  k = tree .readable
+  k = tree .header .facts
 
   d : Linked t
   d = facts.linked t h tree

@@ -5,17 +5,15 @@ use mathlib.Core.Path.{_≡_}
 use Prim.Native.Nat.{ℕ, _<_}
 use Rattle.format.specs.Layout as at
 use Rattle.format.specs.Fits.{linksOk}
-use Rattle.format.specs.HeaderLaws.{Readable}
 use Rattle.tallies.specs.Level.{Level}
 use Rattle.layout.specs.declared.header.Header.{Header}
-use Rattle.layout.specs.Header.{fieldsOf}
+use Rattle.layout.specs.HeaderSays.{HeaderOf}
 
 module _ (t : List ℕ) (h : Header) where
   -- the tree passes questions 5 to 8, and this is its header
   pub record Linking : Type 0 where
-    pub readable : Readable t
+    pub header : HeaderOf t h
     pub links : linksOk t ≡ true
-    pub header-is : h ≡ fieldsOf t
 
   -- a block of one of its levels, and the number of a counted byte
   pub record InTable (level i c : ℕ) : Type 0 where

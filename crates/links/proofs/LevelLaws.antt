@@ -11,48 +11,43 @@ use Rattle.format.specs.Layout as at
 use Rattle.format.specs.Fits.{lastLevel}
 use Rattle.layout.specs.declared.header.Header.{Header}
 use Rattle.layout.specs.Settings.{Sized}
-use Rattle.links.specs.Level.{HeaderOf, partLength, roomBelow}
+use Rattle.layout.specs.HeaderSays.{HeaderOf}
+use Rattle.links.specs.Level.{partLength, roomBelow}
 
 module _ (t : List ℕ) (h : Header) (k : HeaderOf t h) where
   pub levels-is : h .settings .levels ≡ at.settings t .levels
-  unfolding at.settings
-  levels-is = ap (λ (x : Header). x .settings .levels) (k .fields)
+  levels-is = k .levels-is
 
   leaf-is : h .settings .leaf ≡ at.settings t .leaf
-  unfolding at.settings
-  leaf-is = ap (λ (x : Header). x .settings .leaf) (k .fields)
+  leaf-is = k .leaf-is
 
   arity-is : h .settings .arity ≡ at.settings t .arity
-  unfolding at.settings
-  arity-is = ap (λ (x : Header). x .settings .arity) (k .fields)
+  arity-is = k .arity-is
 
   pub counted-is : h .settings .counted ≡ at.countedCount t
-  unfolding at.countedCount
-  counted-is = ap (λ (x : Header). x .settings .counted) (k .fields)
+  counted-is = k .counted-is
 
   pub length-is : h .length ≡ at.textLength t
-  unfolding at.textLength
-  length-is = ap (λ (x : Header). x .length) (k .fields)
+  length-is = k .length-is
 
   leaves-is : h .«leaf_count» ≡ at.leafCount t
-  unfolding at.leafCount
-  leaves-is = ap (λ (x : Header). x .«leaf_count») (k .fields)
+  leaves-is = k .count-is
 
   pub last-is : h .settings .levels - 1 ≡ lastLevel t
   unfolding lastLevel
   last-is = ap (λ (x : ℕ). x - 1) levels-is
 
   pub table-there : (l : ℕ) → l < h .settings .levels → (l < 8) × (100 ≤ length t)
-  table-there l i = (omega (arith, levels-is, k .readable .levels-high), k .readable .long)
+  table-there l i = (omega (arith, levels-is, k .facts .levels-high), k .facts .long)
 
   pub sized : (l : ℕ) → l < h .settings .levels → Sized (h .settings) l
   sized l i = record {
-    leaf-high = omega (arith, leaf-is, k .readable .leaf-high);
-    arity-low = omega (arith, arity-is, k .readable .arity-low);
-    arity-high = omega (arith, arity-is, k .readable .arity-high);
-    levels-high = omega (arith, levels-is, k .readable .levels-high);
+    leaf-high = omega (arith, leaf-is, k .facts .leaf-high);
+    arity-low = omega (arith, arity-is, k .facts .arity-low);
+    arity-high = omega (arith, arity-is, k .facts .arity-high);
+    levels-high = omega (arith, levels-is, k .facts .levels-high);
     level-in = i;
-    block-high = rw (leaf-is, arity-is, levels-is) (k .readable .top-high);
+    block-high = rw (leaf-is, arity-is, levels-is) (k .facts .top-high);
   }
 
   pub full-is : (l b : ℕ) → b ≡ h .settings .leaf * h .settings .arity ^ (h .settings .levels - 1 - l) → b ≡ at.fullLength t l

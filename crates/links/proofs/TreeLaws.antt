@@ -12,7 +12,8 @@ use Rattle.format.specs.Layout as at
 use Rattle.format.specs.Fits.{widthAt, blockRight, countBelowRight, linksOk}
 use Rattle.layout.specs.declared.header.Header.{Header}
 use Rattle.links.specs.declared.level.Level.{Level}
-use Rattle.links.specs.Level.{HeaderOf, LevelOf, roomBelow, startAsCut, levelRight}
+use Rattle.layout.specs.HeaderSays.{HeaderOf}
+use Rattle.links.specs.Level.{LevelOf, roomBelow, startAsCut, levelRight}
 use Rattle.links.proofs.LevelLaws.{levels-is}
 
 pub none-before : (f : ℕ → ℕ) → 0 ≡ sumBelow 0 f
@@ -77,7 +78,7 @@ module _ (t : List ℕ) (v : Level) (k : LevelOf t v) where
 -- the whole of question 8
 module _ (t : List ℕ) where
   pub some-level : (h : Header) → HeaderOf t h → 0 < h .settings .levels
-  some-level h k = omega (arith, levels-is t h k, k .readable .levels-low)
+  some-level h k = omega (arith, levels-is t h k, k .facts .levels-low)
 
   pub same-level : (l x : ℕ) (b : Bool) → x ≡ l → levelRight t x ≡ b → levelRight t l ≡ b
   same-level l x b e h = rw e at h

@@ -1,4 +1,4 @@
--- What is asked of a header, and of a level as its blocks are checked against it.
+-- What is asked of a level as its blocks are checked against it.
 use mathlib.Core.List.{List}
 use mathlib.Core.Bool.{Bool, cond, _&&_}
 use mathlib.Core.Path.{_≡_}
@@ -8,14 +8,7 @@ use Rattle.text.specs.Lists.{allBelow}
 use Rattle.format.specs.Layout as at
 use Rattle.format.specs.Fits.{lastLevel, countBelowRight, blockRight}
 use Rattle.format.specs.HeaderLaws.{Readable}
-use Rattle.layout.specs.declared.header.Header.{Header}
-use Rattle.layout.specs.Header.{fieldsOf}
 use Rattle.links.specs.declared.level.Level.{Level}
-
--- the header's words of a tree that passes questions 5 to 7
-pub record HeaderOf (t : List ℕ) (h : Header) : Type 0 where
-  pub readable : Readable t
-  pub fields : h ≡ fieldsOf t
 
 -- the bytes of a full child; a last level block is cut into its leaf bytes
 unfoldable pub partLength : List ℕ → ℕ → ℕ

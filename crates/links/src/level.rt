@@ -3,7 +3,8 @@ use layout::header::Header;
 use layout::record;
 ghost use mathlib.Core.Path.{_≡_};
 ghost use Prim.Native.Nat.{_<_};
-ghost use Rattle.links.specs.Level.{HeaderOf, LevelOf, partLength, roomBelow};
+ghost use Rattle.layout.specs.HeaderSays.{HeaderOf};
+ghost use Rattle.links.specs.Level.{LevelOf, partLength, roomBelow};
 
 // What the blocks of a level are checked against.
 pub struct Level {

@@ -10,7 +10,8 @@ ghost use mathlib.Core.Path.{_≡_};
 ghost use Prim.Native.Nat.{_<_};
 ghost use Rattle.text.specs.Lists.{allBelow};
 ghost use Rattle.format.specs.Fits.{linksOk};
-ghost use Rattle.links.specs.Level.{HeaderOf, LevelOf, startAsCut, levelRight};
+ghost use Rattle.layout.specs.HeaderSays.{HeaderOf};
+ghost use Rattle.links.specs.Level.{LevelOf, startAsCut, levelRight};
 
 // Question 8, of a tree that passes questions 5 to 7 and has the header h.
 pub fn links_right(t: &[u8], h: Header) -> bool

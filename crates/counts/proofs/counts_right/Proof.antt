@@ -3,7 +3,7 @@ use borrow.Author.Needs.{needs}
 use native.Mathlib.Omega.{arith}
 use Rattle.counts.proofs.HeaderFacts as facts
 use Rattle.counts.proofs.LevelLaws as laws
-use Rattle.counts.proofs.Tests.{failed, held}
+use Rattle.layout.proofs.Tests.{failed, held}
 use Rattle.counts.proofs.counts_right.Statement.{statement}
 use Rattle.counts.proofs.counts_right.Tie as tie
 use Rattle.format.specs.Layout as at

@@ -10,6 +10,6 @@ check-tables-spec =
     (tie.spec
     (λ c κs. search needs)
     (λ c. links-fail (c .before .before .before .args .t .now) _ (c .before .before .before .pre) (failed (c .before .links-right .ensures) (c .if1 .taken)))
-    (λ c κs. record { readable = c .before .before .before .pre .facts; links = held (c .before .links-right .ensures) (c .if1 .left); header-is = c .before .before .before .pre .fields })
+    (λ c κs. record { header = c .before .before .before .pre; links = held (c .before .links-right .ensures) (c .if1 .left) })
     (λ c. counts-fail (c .before .before .before .before .before .args .t .now) _ (c .before .before .before .before .before .pre) (held (c .before .before .before .links-right .ensures) (c .before .before .if1 .left)) (failed (c .before .counts-right .ensures) (c .if2 .taken)))
     (λ c. counts-hold (c .before .before .before .before .before .args .t .now) _ (c .before .before .before .before .before .pre) (held (c .before .before .before .links-right .ensures) (c .before .before .if1 .left)) (held (c .before .counts-right .ensures) (c .if2 .left))))

@@ -4,7 +4,7 @@ use Rattle.counts.proofs.BlockLaws as laws
 use Rattle.counts.proofs.HeaderFacts as facts
 use Rattle.counts.proofs.block.block_right.Statement.{statement}
 use Rattle.counts.proofs.block.block_right.Tie as tie
-use Rattle.counts.proofs.Tests.{failed, held}
+use Rattle.layout.proofs.Tests.{failed, held}
 
 pub block-right-spec : {M : Type 1} → statement M
 block-right-spec =

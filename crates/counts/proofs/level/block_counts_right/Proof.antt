@@ -5,7 +5,7 @@ use mathlib.Core.Bool.{true}
 use mathlib.Core.Path.{_≡_}
 use native.Mathlib.Omega.{arith}
 use Rattle.counts.proofs.LevelLaws as laws
-use Rattle.counts.proofs.Tests.{failed, held}
+use Rattle.layout.proofs.Tests.{failed, held}
 use Rattle.counts.proofs.level.block_counts_right.Statement.{statement}
 use Rattle.counts.proofs.level.block_counts_right.Tie as tie
 use Rattle.tallies.specs.Local.{blockLocal}

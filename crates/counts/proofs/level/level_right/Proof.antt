@@ -5,7 +5,7 @@ use mathlib.Core.Bool.{true}
 use mathlib.Core.Path.{_≡_}
 use native.Mathlib.Omega.{arith}
 use Rattle.counts.proofs.LevelLaws as laws
-use Rattle.counts.proofs.Tests.{failed, held}
+use Rattle.layout.proofs.Tests.{failed, held}
 use Rattle.counts.proofs.level.level_right.Statement.{statement}
 use Rattle.counts.proofs.level.level_right.Tie as tie
 use Rattle.format.specs.Layout as at
@@ -24,7 +24,7 @@ level-right-spec =
     (tie.spec Inv-loop μ-loop
     (λ c κs. laws.sized _ _ (c .before .pre .0) _ (c .before .pre .1))
     (λ c κs. laws.sized _ _ (c .before .before .pre .0) _ (c .before .before .pre .1))
-    (λ c κs. (omega (arith, c .before .before .before .pre .1, c .before .before .before .pre .0 .readable .levels-high), c .before .before .before .pre .0 .readable .long))
+    (λ c κs. (omega (arith, c .before .before .before .pre .1, c .before .before .before .pre .0 .header .facts .levels-high), c .before .before .before .pre .0 .header .facts .long))
     (λ c. (omega arith, λ x l. absurd (let z : ⊥ = omega arith in z)))
     (λ c κs. (laws.full-is _ _ (c .before .before .before .before .before .before .pre .0) _ _ (c .before .before .before .before .block-length .ensures), laws.up-is _ _ (c .before .before .before .before .before .before .pre .0) _ _ (c .before .before .before .up-length .ensures), c .before .before .before .before .before .before .pre .0, c .before .before .before .before .before .before .pre .1, omega (arith, c .before .before .level-count .ensures), c .before .before .before .before .before .before .pre .2))
     (λ c. laws.blocks-fail _ _ _ (c .before .before .before .before .level-count .ensures) _ (omega arith) (failed (c .before .block-counts-right .ensures) (c .if1 .taken)))

@@ -28,7 +28,7 @@ pub +up-to-spec : {M : Type 1} → statement M
     (λ t. up-to-lts.spec (in-leaves-reads.Asked, in-leaves-reads.Learnt, step-reads.Asked, step-reads.Learnt, up-to-below t, up-to.Post)
     (up-to-at t)
     up-to.Post
-    (λ c. omega (arith, c .before .pre .1 .1 .block .table .level-in, c .before .pre .1 .1 .block .table .tree .readable .levels-high))
+    (λ c. omega (arith, c .before .pre .1 .1 .block .table .level-in, c .before .pre .1 .1 .block .table .tree .header .facts .levels-high))
     (λ c. omega (arith, c .before .before .before .before .pre .1 .1 .block .place-in, facts.length-lt _ _ _ _ _ (c .before .before .before .before .pre .1 .1 .block .table)))
     (λ c κs. (c .before .before .before .before .pre .1 .1 .block .table, laws.last-level _ _ _ _ _ _ _ (c .before .before .before .before .pre .1 .0) (c .before .before .before .before .pre .1 .1) (c .before .if1 .taken), omega (arith, c .before .before .before .before .pre .1 .1 .block .place-in)))
     (λ c. laws.walk-last _ _ _ _ _ _ _ (c .before .before .before .before .before .pre .1 .0) (c .before .before .before .before .before .pre .1 .1) (c .before .before .if1 .taken) _ (c .in-leaves .ensures .0))

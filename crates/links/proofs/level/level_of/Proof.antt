@@ -16,7 +16,7 @@ level-of-spec =
     (λ c κs. search needs)
     (λ c. let k = c .before .before .before .before .before .before .pre .0 in (
       record {
-        readable = k .readable;
+        readable = k .facts;
         level-in = omega (arith, c .before .before .before .before .before .before .pre .1, laws.levels-is _ _ k);
         counted-is = laws.counted-is _ _ k;
         length-is = laws.length-is _ _ k;

@@ -1,0 +1,164 @@
+-- Byte and run, from the path's end.
+use mathlib.Core.List.{List, [], _∷_}
+use mathlib.Core.Option.{Option, none, some}
+use mathlib.Core.Path.{_≡_, refl, sym, ap, _∙_}
+use Prim.Native.Nat.{ℕ, suc, _+_, _-_, _/_, _%_, _≤_, _<_, min}
+use native.Mathlib.Omega.{arith}
+use native.Mathlib.Nat.{add-sub-cancel-left}
+use borrow.Author.Tests.{lt-ltb, le-ltb, ne-eqb}
+use lib.ListN.{length, getD, take, drop}
+use Rattle.format.specs.Layout as at
+use Rattle.format.specs.Path.{Path, Visit, pathOf}
+use Rattle.format.specs.Verdict.{readable}
+use Rattle.format.specs.HeaderLaws.{leaf-inside}
+use Rattle.format.specs.Said.{Said, refused, unless}
+use Rattle.format.specs.Reading.{byteSays, leftOver, runSays}
+use Rattle.paths.specs.Visits.{goes, goes-leaf, goes-long}
+use Rattle.layout.specs.declared.header.Header.{Header}
+use Rattle.layout.specs.declared.header.HeaderRead.{HeaderRead}
+use Rattle.layout.specs.declared.header.HeaderRead.the-variants.{Refused}
+use Rattle.layout.specs.Header.{headerSays}
+use Rattle.access.specs.declared.walk.Trail.{Trail}
+use Rattle.access.specs.declared.walk.Reached.{Reached}
+use Rattle.access.specs.declared.walk.Walked.{Walked}
+use Rattle.access.specs.declared.walk.Walked.the-variants.{At, Broken}
+use Rattle.access.specs.declared.reading.Part.{Part}
+use Rattle.layout.specs.HeaderSays.{HeaderOf}
+use Rattle.access.specs.Walk.{walked}
+use Rattle.access.specs.Answers.{RunPart}
+use Rattle.layout.specs.HeaderSays.{header-refused}
+
+-- the path that was walked, and what was carried down it
+record Ends (t : List ℕ) (trail : Trail) (o : Option Path) (r : Reached) : Type 0 where
+  path : Path
+  is : o ≡ some path
+  leaf-is : r .leaf ≡ path .leaf
+  entered-is : r .trail .entered ≡ trail .entered + length (path .visits)
+  left-is : r .trail .left ≡ leftOver t (path .visits) (trail .left)
+
+ends : (t : List ℕ) (trail : Trail) (o : Option Path) (r : Reached) → At r ≡ walked t trail o → Ends t trail o r
+unfolding walked
+ends t trail none r e = absurd (let z : _≡_ {A = ℕ} 0 1 = cc in omega arith)
+ends t trail (some q) r e =
+    let at-end : Reached = record { leaf = q .leaf; trail = record { entered = trail .entered + length (q .visits); left = leftOver t (q .visits) (trail .left) } } in
+    let z : r ≡ at-end = cc in record {
+      path = q;
+      is = refl;
+      leaf-is = ap (λ (x : Reached). x .leaf) z;
+      entered-is = ap (λ (x : Reached). x .trail .entered) z;
+      left-is = ap (λ (x : Reached). x .trail .left) z;
+    }
+
+broken : (t : List ℕ) (trail : Trail) (o : Option Path) → Broken ≡ walked t trail o → o ≡ none
+unfolding walked
+broken t trail none e = refl
+broken t trail (some q) e = absurd (let z : _≡_ {A = ℕ} 0 1 = cc in omega arith)
+
+-- a bound that is put in at the start may as well be put in at the end
+left-min : (t : List ℕ) (vs : List Visit) (a c : ℕ) → leftOver t vs (min a c) ≡ min (leftOver t vs a) c
+unfolding leftOver
+left-min t [] a c = refl
+left-min t (v ∷ vs) a c =
+    let x = at.fullLength t (v .level) - v .place in
+    let e : min (min a c) x ≡ min (min a x) c = omega arith in
+    rw e (left-min t vs (min a x) c)
+
+-- the answers' parts, as they were computed
+module _ (t : List ℕ) (q : Path) where
+  same-byte : (off leaf n v : ℕ) → off ≡ at.leafOffset t → leaf ≡ q .leaf → n ≡ length (q .visits) → v ≡ getD t (off + leaf) 0
+      → _≡_ {A = Said} (record { number = 0; value = v; entered = n }) (record { number = 0; value = at.leafByte t (q .leaf); entered = length (q .visits) })
+  unfolding at.leafByte
+  same-byte off leaf n v o l m e = rw (e, o, l, m)
+
+  same-from : (off leaf from : ℕ) → off ≡ at.leafOffset t → leaf ≡ q .leaf → from ≡ off + leaf → from ≡ at.leafOffset t + q .leaf
+  same-from off leaf from o l e = rw (e, o, l)
+
+  same-left : (most rest leaf count carried left : ℕ) → most ≡ rest → leaf ≡ q .leaf → count ≡ at.leafCount t → carried ≡ leftOver t (q .visits) most
+      → left ≡ min carried (count - leaf) → left ≡ leftOver t (q .visits) (min rest (at.leafCount t - q .leaf))
+  same-left most rest leaf count carried left m l c d e = rw (left-min t (q .visits) rest (at.leafCount t - q .leaf), e, d, m, l, c)
+
+-- a number other than 0 is the answer, and there is no run
+unless-refused : (n k q : ℕ) (a : Said) → n ≡ suc k → q ≡ suc k → refused q ≡ unless n a
+unless-refused n k q a e f = rw (e, f)
+
+run-none : (t : List ℕ) (p k : ℕ) → byteSays t p .number ≡ suc k → RunPart t p (record { from = 0; length = 0 })
+unfolding runSays
+run-none t p k e =
+    let z : runSays t p ≡ (0, 0) = rw (ne-eqb (byteSays t p .number) 0 (λ n. omega arith)) in
+    record { from-is = sym (ap (λ (y : ℕ × ℕ). y .0) z); length-is = sym (ap (λ (y : ℕ × ℕ). y .1) z); inside = omega arith }
+
+module _ (t : List ℕ) (p : ℕ) where
+  -- any path's leaf byte is in the tree, and it has entered a block
+  path-leaf : (q : Path) → pathOf t p ≡ some q → q .leaf < at.leafCount t
+  unfolding pathOf
+  path-leaf q e = goes-leaf t (goes t (at.settings t .levels - 1) 0 (p / at.fullLength t 0) (p % at.fullLength t 0) q e)
+
+  pub path-long : (q : Path) → pathOf t p ≡ some q → 1 ≤ length (q .visits)
+  unfolding pathOf
+  path-long q e = omega (arith, goes-long t (goes t (at.settings t .levels - 1) 0 (p / at.fullLength t 0) (p % at.fullLength t 0) q e))
+
+  module _ (h : Header) (k : HeaderOf t h) where
+    pub byte-past : h .length ≤ p → refused 10 ≡ byteSays t p
+    unfolding byteSays
+    byte-past past = rw (k .passes, le-ltb p (at.textLength t) (omega (arith, k .length-is)))
+
+    pub run-past : h .length ≤ p → RunPart t p (record { from = 0; length = 0 })
+    run-past past = run-none t p 9 (sym (ap (λ (y : Said). y .number) (byte-past past)))
+
+    module _ (low : p < h .length) (trail : Trail) (w : Walked) (w-is : w ≡ walked t trail (pathOf t p)) where
+      pub byte-broken : w ≡ Broken → refused 14 ≡ byteSays t p
+      unfolding byteSays
+      byte-broken b =
+          let z = broken t trail (pathOf t p) (sym b ∙ w-is) in
+          rw (k .passes, lt-ltb p (at.textLength t) (omega (arith, k .length-is)), z)
+
+      pub run-broken : w ≡ Broken → RunPart t p (record { from = 0; length = 0 })
+      run-broken b = run-none t p 13 (sym (ap (λ (y : Said). y .number) (byte-broken b)))
+
+      module _ (r : Reached) (e : w ≡ At r) where
+        end : Ends t trail (pathOf t p) r
+        end = ends t trail (pathOf t p) r (sym e ∙ w-is)
+
+        pub leaf-low : r .leaf < h .«leaf_count»
+        leaf-low = omega (arith, path-leaf (end .path) (end .is), end .leaf-is, k .count-is)
+
+        pub leaf-there : h .«leaf_offset» + r .leaf < length t
+        leaf-there = omega (arith, leaf-inside t (k .facts) (r .leaf) (omega (arith, leaf-low, k .count-is)), k .offset-is)
+
+        byte-end : byteSays t p ≡ record { number = 0; value = at.leafByte t (end .path .leaf); entered = length (end .path .visits) }
+        unfolding byteSays
+        byte-end = rw (k .passes, lt-ltb p (at.textLength t) (omega (arith, k .length-is)), end .is)
+
+        pub byte-reached : trail .entered ≡ 0 → (v : ℕ) → v ≡ getD t (h .«leaf_offset» + r .leaf) 0 → record { number = 0; value = v; entered = r .trail .entered } ≡ byteSays t p
+        byte-reached none-yet v v-is =
+            let n : r .trail .entered ≡ length (end .path .visits) = omega (arith, end .entered-is) in
+            same-byte t (end .path) _ _ _ v (k .offset-is) (end .leaf-is) n v-is ∙ sym byte-end
+
+        pub run-reached : trail .left ≡ h .length - p → (from left : ℕ) → from ≡ h .«leaf_offset» + r .leaf → left ≡ min (r .trail .left) (h .«leaf_count» - r .leaf)
+            → RunPart t p (record { from = from; length = left })
+        unfolding runSays
+        run-reached all from left from-is left-is =
+            let q = end .path in
+            let z : runSays t p ≡ (at.leafOffset t + q .leaf, leftOver t (q .visits) (min (at.textLength t - p) (at.leafCount t - q .leaf))) = rw (byte-end, end .is) in
+            let m = same-left t q (trail .left) (at.textLength t - p) _ _ (r .trail .left) left (all ∙ rw (k .length-is)) (end .leaf-is) (k .count-is) (end .left-is) left-is in record {
+              from-is = rw z (same-from t q _ _ from (k .offset-is) (end .leaf-is) from-is);
+              length-is = rw z m;
+              inside = omega (arith, leaf-low, k .facts .size, k .offset-is, k .count-is);
+            }
+
+-- a tree that does not pass questions 5 to 7
+module _ (t : List ℕ) (p : ℕ) (x : HeaderRead) (x-is : x ≡ headerSays t) (q : ℕ) (e : x ≡ Refused q) where
+  pub byte-unread : refused q ≡ byteSays t p
+  unfolding byteSays
+  byte-unread =
+      let z = header-refused t x x-is q e in
+      unless-refused (readable t) (z .0) q _ (z .1) (z .2)
+
+  pub run-unread : RunPart t p (record { from = 0; length = 0 })
+  run-unread =
+      let z = header-refused t x x-is q e in
+      run-none t p (z .0) (sym (ap (λ (y : Said). y .number) byte-unread) ∙ z .2)
+
+-- the part handed back
+pub part-list : (t : List ℕ) (p : ℕ) (r : Part) → RunPart t p r → take (r .from + r .length - r .from) (drop (r .from) t) ≡ take (runSays t p .1) (drop (runSays t p .0) t)
+part-list t p r k = rw (add-sub-cancel-left, k .from-is, k .length-is)

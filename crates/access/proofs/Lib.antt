@@ -1,0 +1,5 @@
+pub mod StepLaws
+pub mod WalkLaws
+pub mod ByteLaws
+pub mod SpanLaws
+pub mod Demands

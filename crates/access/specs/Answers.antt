@@ -1,0 +1,41 @@
+-- The answers in document 01's terms: each one's number and figures.
+use mathlib.Core.List.{List}
+use mathlib.Core.Path.{_≡_}
+use Prim.Native.Nat.{ℕ, _+_, _≤_}
+use lib.ListN.{length}
+use Rattle.format.specs.Said.{Said, refused, unless}
+use Rattle.format.specs.Reading.{runSays, spanNumber}
+use Rattle.access.specs.declared.Answer.{Answer}
+use Rattle.access.specs.declared.Answer.the-variants as answer
+use Rattle.access.specs.declared.Copied.{Copied}
+use Rattle.access.specs.declared.Copied.the-variants as copied
+use Rattle.access.specs.declared.reading.Part.{Part}
+
+-- a byte with the blocks entered
+abbrev pub said : Answer → Said
+said (answer.Byte value entered) = record { number = 0; value = value; entered = entered }
+said (answer.Refused number) = refused number
+
+-- the bytes that were copied
+abbrev pub copiedSaid : Copied → Said
+copiedSaid (copied.Bytes len) = record { number = 0; value = len; entered = 0 }
+copiedSaid (copied.Refused number) = refused number
+
+-- what span answers, with room for so many bytes: its number, or the length asked for
+unfoldable pub spanSays : List ℕ → ℕ → ℕ → ℕ → Said
+spanSays t p len room = unless (spanNumber t p len room) (record { number = 0; value = len; entered = 0 })
+
+-- a refusal's number is not 0
+abbrev pub Numbered : Copied → Type 0
+Numbered (copied.Bytes len) = Unit {0}
+Numbered (copied.Refused number) = 1 ≤ number
+
+pub record SpanAnswer (t : List ℕ) (p len room : ℕ) (r : Copied) : Type 0 where
+  pub says : copiedSaid r ≡ spanSays t p len room
+  pub numbered : Numbered r
+
+-- where the run of place p is, in the tree
+pub record RunPart (t : List ℕ) (p : ℕ) (r : Part) : Type 0 where
+  pub from-is : r .from ≡ runSays t p .0
+  pub length-is : r .length ≡ runSays t p .1
+  pub inside : r .from + r .length ≤ length t

@@ -1,0 +1,112 @@
+// Byte, run and span of a tree that passes questions 5 to 7, by its header.
+use crate::Answer;
+use crate::Copied;
+use crate::walk;
+use crate::walk::Walked;
+use layout::header::Header;
+use layout::place::TextPlace;
+ghost use mathlib.Core.Path.{_≡_};
+ghost use Prim.Native.Nat.{_+_, _≤_};
+ghost use mathlib.Core.List.{_++_};
+ghost use lib.ListN.{length, drop, replicate};
+ghost use Rattle.format.specs.Reading.{byteSays, spanLeaves};
+ghost use Rattle.layout.specs.HeaderSays.{HeaderOf};
+ghost use Rattle.access.specs.Answers.{said, RunPart, SpanAnswer};
+
+// A part of the tree's bytes.
+pub struct Part {
+    pub from: usize,
+    pub length: usize,
+}
+
+// Byte: questions 10 and 14.
+pub fn byte_at(t: &[u8], h: Header, at: TextPlace) -> Answer
+    requires { ⌜ HeaderOf (now t) h ⌝ }
+    ensures { λ r. ⌜ said r ≡ byteSays (now (t .entry)) (at .0) ⌝ }
+{
+    if h.length <= at.0 {
+        return Answer::Refused(10);
+    }
+    let walked = walk::walk(t, h, at);
+    let Walked::At(reached) = walked else {
+        return Answer::Refused(14);
+    };
+    let leaf = h.leaf_offset as usize + reached.leaf as usize;
+    Answer::Byte(t[leaf], reached.trail.entered)
+}
+
+// Run: no further than the leaf bytes go.
+pub fn part_at(t: &[u8], h: Header, at: TextPlace) -> Part
+    requires { ⌜ HeaderOf (now t) h ⌝ }
+    ensures { λ r. ⌜ RunPart (now (t .entry)) (at .0) r ⌝ }
+{
+    if h.length <= at.0 {
+        return Part { from: 0, length: 0 };
+    }
+    let walked = walk::walk(t, h, at);
+    let Walked::At(reached) = walked else {
+        return Part { from: 0, length: 0 };
+    };
+    let left = walk::shorter(reached.trail.left, h.leaf_count - reached.leaf);
+    Part {
+        from: h.leaf_offset as usize + reached.leaf as usize,
+        length: left as usize,
+    }
+}
+
+// Span: questions 10 and 13.
+pub fn span_at(t: &[u8], h: Header, at: TextPlace, len: u32, buffer: &mut [u8]) -> Copied
+    requires { ⌜ HeaderOf (now t) h ⌝ }
+    ensures { λ r. ⌜ SpanAnswer (now (t .entry)) (at .0) len (length (now (buffer .entry))) r ⌝ }
+    ensures { λ _. ⌜ now (buffer .exit) ≡ spanLeaves (now (t .entry)) (at .0) len (now (buffer .entry)) ⌝ }
+{
+    let end = at.0 as u64 + len as u64;
+    if (h.length as u64) < end {
+        return Copied::Refused(10);
+    }
+    if buffer.len() < len as usize {
+        return Copied::Refused(13);
+    }
+    copy(t, h, at, len, buffer)
+}
+
+// Copies byte by byte; where one is refused, the part asked for is left zero.
+fn copy(t: &[u8], h: Header, at: TextPlace, len: u32, buffer: &mut [u8]) -> Copied
+    requires { ⌜ (HeaderOf (now t) h) × (at .0 + len ≤ h .length) × (len ≤ length (now buffer)) ⌝ }
+    ensures { λ r. ⌜ SpanAnswer (now (t .entry)) (at .0) len (length (now (buffer .entry))) r ⌝ }
+    ensures { λ _. ⌜ now (buffer .exit) ≡ spanLeaves (now (t .entry)) (at .0) len (now (buffer .entry)) ⌝ }
+{
+    let mut i: u32 = 0;
+    while i < len {
+        let answer = byte_at(t, h, TextPlace(at.0 + i));
+        let Answer::Byte(value, _) = answer else {
+            clear(buffer, len as usize);
+            return Copied::Refused(number(answer));
+        };
+        buffer[i as usize] = value;
+        i += 1;
+    }
+    Copied::Bytes(len)
+}
+
+// The number of the question that refuses; 0 for an answer.
+fn number(answer: Answer) -> u32
+    ensures { λ r. ⌜ r ≡ said answer .number ⌝ }
+{
+    match answer {
+        Answer::Byte(_, _) => 0,
+        Answer::Refused(number) => number,
+    }
+}
+
+// Writes zeros into the first n bytes.
+fn clear(buffer: &mut [u8], n: usize)
+    requires { ⌜ n ≤ length (now buffer) ⌝ }
+    ensures { λ _. ⌜ now (buffer .exit) ≡ replicate n 0 ++ drop n (now (buffer .entry)) ⌝ }
+{
+    let mut i: usize = 0;
+    while i < n {
+        buffer[i] = 0;
+        i += 1;
+    }
+}

@@ -1,6 +1,0 @@
-pub mod StepLaws
-pub mod WalkLaws
-pub mod HeaderLaws
-pub mod ByteLaws
-pub mod SpanLaws
-pub mod Demands
