@@ -1,7 +1,24 @@
 // The builder on worked texts: each answer, then the buffer's bytes. The file stdout has what is expected.
 use builder::Built;
 
-const DIGITS: [u8; 16] = [48, 49, 50, 51, 52, 53, 54, 55, 56, 57, 97, 98, 99, 100, 101, 102];
+const DIGITS: [u8; 16] = [
+    48,
+    49,
+    50,
+    51,
+    52,
+    53,
+    54,
+    55,
+    56,
+    57,
+    97,
+    98,
+    99,
+    100,
+    101,
+    102,
+];
 
 fn say(answer: Built) {
     match answer {
