@@ -12,8 +12,8 @@ use borrow.Author.Tests.{le-leb, lt-leb}
 use Rattle.text.specs.Lists.{sumBelow}
 use Rattle.text.specs.ListLaws.{sumBelow-suc}
 use Rattle.format.specs.Settings.{pieces, lengthOk, sizesOk, countedOk, rising}
-use Rattle.format.specs.HeaderLaws.{Sizes}
-use Rattle.format.specs.HeaderLaws as format
+use Rattle.format.specs.SizeLaws.{Sizes}
+use Rattle.format.specs.SizeLaws as format
 use Rattle.layout.specs.declared.settings.Settings as code
 use Rattle.layout.specs.declared.settings.Checked.{Checked}
 use Rattle.layout.specs.declared.settings.Checked.the-variants as checked-is

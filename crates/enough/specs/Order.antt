@@ -6,7 +6,7 @@ use native.Mathlib.Nat.{suc-mul}
 use Rattle.text.specs.Lists.{sumBelow}
 use Rattle.format.specs.Settings.{pieces}
 use Rattle.built.specs.Levels.{Level}
-use Rattle.built.specs.Pieces.{lt-pieces}
+use Rattle.format.specs.PieceLaws.{lt-pieces}
 
 pub sumBelow-mono : (n : ℕ) (f g : ℕ → ℕ) → ((i : ℕ) → i < n → f i ≤ g i) → sumBelow n f ≤ sumBelow n g
 unfolding sumBelow
