@@ -4,12 +4,11 @@ use crate::level::Level;
 use layout::header;
 use layout::word;
 ghost use mathlib.Core.Path.{_≡_};
-ghost use Prim.Native.Nat.{ℕ, suc, _+_, _*_, _≤_, _<_};
-ghost use lib.ListN.{length};
+ghost use Prim.Native.Nat.{suc, _+_, _<_};
 ghost use Rattle.text.specs.Lists.{sumBelow};
 ghost use Rattle.format.specs.Blocks.{treeOf};
 ghost use Rattle.built.specs.Structure.{widthOf, count};
-ghost use Rattle.builder.specs.Growing.{Grown, Within};
+ghost use Rattle.builder.specs.Growing.{Grown};
 ghost use Rattle.builder.specs.Starts.{startsWritten, StartsAsk};
 ghost use Rattle.builder.specs.State.{settingsOf, Below, Started, Filled};
 

@@ -2,9 +2,8 @@
 use crate::level;
 use crate::level::Level;
 ghost use mathlib.Core.Path.{_≡_};
-ghost use Prim.Native.Nat.{ℕ, suc, _+_, _≤_, _<_};
+ghost use Prim.Native.Nat.{_+_, _≤_, _<_};
 ghost use lib.ListN.{length};
-ghost use Rattle.text.specs.Lists.{sumBelow};
 ghost use Rattle.format.specs.Blocks.{treeOf};
 ghost use Rattle.built.specs.Structure.{widthOf};
 ghost use Rattle.builder.specs.Growing.{Grown, Within};

@@ -2,7 +2,7 @@
 use layout::settings::Settings;
 use layout::word;
 ghost use mathlib.Core.Path.{_≡_};
-ghost use Prim.Native.Nat.{_+_, _*_, _/_, _-_, _≤_, _<_, min};
+ghost use Prim.Native.Nat.{_+_, _-_, _≤_, _<_, min};
 ghost use lib.ListN.{length};
 ghost use Rattle.format.specs.Words.{wordAt};
 ghost use Rattle.builder.specs.Levels.{parentSays, recordPlace};

@@ -3,7 +3,7 @@ use crate::finding;
 use crate::level;
 use crate::level::Level;
 ghost use mathlib.Core.Path.{_≡_};
-ghost use Prim.Native.Nat.{_+_, _-_, _≤_, _<_, min};
+ghost use Prim.Native.Nat.{_+_, _-_, _≤_, min};
 ghost use lib.ListN.{length};
 ghost use Rattle.builder.specs.State.{settingsOf, On};
 ghost use Rattle.builder.specs.Marking.{keptBy, pairSays, pairOf};

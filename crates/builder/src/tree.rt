@@ -8,13 +8,13 @@ use crate::level::Level;
 use layout::header;
 use layout::settings::Settings;
 ghost use mathlib.Core.Path.{_≡_};
-ghost use Prim.Native.Nat.{ℕ, suc, _+_, _-_, _*_, _^_, _/_, _≤_, _<_};
+ghost use Prim.Native.Nat.{_+_, _≤_, _<_};
 ghost use lib.ListN.{length};
 ghost use Rattle.format.specs.Blocks.{treeOf};
 ghost use Rattle.built.specs.Sizes.{Taken};
 ghost use Rattle.layout.specs.Settings.{Sized};
 ghost use Rattle.builder.specs.Growing.{Grown};
-ghost use Rattle.builder.specs.State.{settingsOf, LevelIs};
+ghost use Rattle.builder.specs.State.{settingsOf};
 ghost use Rattle.builder.specs.Trees.{firstOf, nextOf, Ready, StepIs, Finished};
 
 // The level after one, or that the buffer has no room for its records.

@@ -2,7 +2,7 @@ use borrow.Author.Needs.{needs}
 use native.Mathlib.Omega.{arith}
 use Rattle.builder.proofs.Leafs as laws
 use Rattle.builder.proofs.Pairing.{start-fits, start-read, start-in}
-use Rattle.builder.proofs.StateLaws.{Few, few}
+use Rattle.builder.proofs.StateLaws.{few}
 use Rattle.builder.proofs.leaf.put_leaf.Statement.{statement}
 use Rattle.builder.proofs.leaf.put_leaf.Tie as tie
 use Rattle.builder.specs.State.{settingsOf}

@@ -1,9 +1,8 @@
 use Prim.Native.Nat.{_+_}
 use borrow.Author.Needs.{needs}
-use mathlib.Core.Path.{_≡_, _∙_, ap}
 use native.Mathlib.Omega.{arith}
 use Rattle.builder.proofs.Pairing as laws
-use Rattle.builder.proofs.StateLaws.{Few, few}
+use Rattle.builder.proofs.StateLaws.{few}
 use Rattle.builder.proofs.pair.pair_after.Statement.{statement}
 use Rattle.builder.proofs.pair.pair_after.Tie as tie
 use Rattle.builder.specs.State.{settingsOf}

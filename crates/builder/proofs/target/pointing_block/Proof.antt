@@ -1,7 +1,7 @@
 use mathlib.Core.Path.{refl}
 use native.Mathlib.Omega.{arith}
 use Rattle.builder.proofs.Pairing.{start-fits, start-read, start-in}
-use Rattle.builder.proofs.StateLaws.{Few, few}
+use Rattle.builder.proofs.StateLaws.{few}
 use Rattle.builder.proofs.Targeting as laws
 use Rattle.builder.proofs.target.pointing_block.Statement.{statement}
 use Rattle.builder.proofs.target.pointing_block.Tie as tie
