@@ -2,6 +2,8 @@
 use crate::level;
 use crate::level::Level;
 use layout::header;
+use layout::place::BlockNumber;
+use layout::place::TextPlace;
 use layout::word;
 ghost use mathlib.Core.Path.{_≡_};
 ghost use Prim.Native.Nat.{suc, _+_, _<_};
@@ -31,16 +33,16 @@ fn put_children_of(out: &mut [u8], text: &[u8], counted: &[u8], level: Level, ne
     ensures { λ _. ⌜ Started (settingsOf (level .settings) (now (counted .entry))) (now (text .entry)) (now (out .exit)) (suc (level .number)) 0
         (sumBelow (i + 1) (widthOf (settingsOf (level .settings) (now (counted .entry))) (now (text .entry)) (level .number))) ⌝ }
 {
-    let at = level::place(counted, level, i);
+    let at = level::place(counted, level, BlockNumber(i));
     if word::read(out, at + 4) != 0 {
         return;
     }
     let start = word::read(out, at);
     let link = word::read(out, at + 8);
-    let children = header::pieces(level::bytes(text, level, start), next.size);
+    let children = header::pieces(level::bytes(text, level, TextPlace(start)), next.size);
     put_starts(
         out,
-        level::place(counted, next, link),
+        level::place(counted, next, BlockNumber(link)),
         16 + 12 * counted.len(),
         start,
         next.size,

@@ -2,6 +2,7 @@
 use crate::counts;
 use crate::level;
 use crate::level::Level;
+use layout::place::BlockNumber;
 use layout::word;
 ghost use mathlib.Core.Path.{_≡_};
 ghost use Prim.Native.Nat.{_+_, _*_, _≤_, _<_};
@@ -76,7 +77,7 @@ fn put_count_of(
         (placeAt (settingsOf (level .settings) (now (counted .entry))) (now (text .entry)) (level .number) i + 16 + 12 * c)
         (placeAt (settingsOf (level .settings) (now (counted .entry))) (now (text .entry)) (level .number) i + 16 + 12 * c + 12) ⌝ }
 {
-    let at = level::place(counted, level, i) + 16 + 12 * c;
+    let at = level::place(counted, level, BlockNumber(i)) + 16 + 12 * c;
     let b = count_before(out, at - (16 + 12 * counted.len()), block);
     put_count(out, text, counted[c], at, block, b);
 }
@@ -103,7 +104,7 @@ pub fn put_record(out: &mut [u8], text: &[u8], counted: &[u8], level: Level, i: 
     ensures { λ _. ⌜ Within (treeOf (settingsOf (level .settings) (now (counted .entry))) (now (text .entry))) (now (out .exit))
         100 (placeAt (settingsOf (level .settings) (now (counted .entry))) (now (text .entry)) (level .number) (i + 1)) ⌝ }
 {
-    let at = level::place(counted, level, i);
+    let at = level::place(counted, level, BlockNumber(i));
     put_three(out, at + 4, block.kind, block.link, block.gap);
     put_counts(out, text, counted, level, i, block);
 }
