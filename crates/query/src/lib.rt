@@ -1,0 +1,13 @@
+// The questions put to a tree, asked of any bytes lent as one: no call asks anything of its caller. The demands on them, and on build
+// and check, stand in proofs/Demands.antt.
+pub use access::Answer;
+pub use access::Copied;
+pub use access::byte;
+pub use access::run;
+pub use access::span;
+pub use rank::Counted;
+pub use rank::Found;
+pub use rank::RowCopied;
+pub use rank::count;
+pub use rank::find;
+pub use rank::row;
