@@ -1,7 +1,7 @@
 // The tree layer's outside calls: build writes the block tree of a text, check asks any bytes lent as a tree.
 pub use builder::Built;
-pub use enough::enough;
 pub use builder::build;
+pub use enough::enough;
 use layout::header::Header;
 use layout::header::HeaderRead;
 ghost use mathlib.Core.Path.{_≡_};
