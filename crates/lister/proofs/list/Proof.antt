@@ -1,7 +1,7 @@
 use borrow.Author.Needs.{needs}
 use Rattle.listing.proofs.LineLaws.{listed-long, listed-short}
-use Rattle.list.proofs.list.Statement.{statement}
-use Rattle.list.proofs.list.Tie as tie
+use Rattle.lister.proofs.list.Statement.{statement}
+use Rattle.lister.proofs.list.Tie as tie
 
 pub list-spec : {M : Type 1} → statement M
 list-spec =

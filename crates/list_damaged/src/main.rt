@@ -1,0 +1,4 @@
+// The list program on the worked book's tree with a wrong gap.
+fn main() {
+    lister::run();
+}
