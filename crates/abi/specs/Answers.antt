@@ -3,9 +3,10 @@ use mathlib.Core.List.{List, _++_}
 use mathlib.Core.Bool.{cond}
 use Prim.Native.Nat.{ℕ}
 use lib.ListN.{length, drop}
-use lib.Dec.{leb}
+use lib.Dec.{leb, eqb}
 use Rattle.format.specs.Said.{Said}
-use Rattle.format.specs.Verdict.{verdict}
+use Rattle.format.specs.Layout as at
+use Rattle.format.specs.Verdict.{ask, readable, verdict}
 use Rattle.enough.specs.declared.Room.{Room}
 use Rattle.enough.specs.declared.Room.the-variants.{Bytes, Refused}
 use Rattle.listing.specs.Lines.{listed}
@@ -22,6 +23,10 @@ roomNumber (Refused q) = q
 abbrev pub roomSize : Room → ℕ
 roomSize (Bytes n) = n
 roomSize (Refused q) = 0
+
+-- Count and find of a number above 255, which is no byte and so not counted: questions 5 to 7, then 10 for what ends at i, then 11
+unfoldable pub uncountedNumber : List ℕ → ℕ → ℕ
+uncountedNumber t i = cond (eqb (readable t) 0) (ask 10 (leb i (at.textLength t)) 11) (readable t)
 
 -- List: question 15, then the check's; all of it needs room for 512 bytes
 unfoldable pub inputNumber : List ℕ → ℕ

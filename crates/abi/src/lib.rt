@@ -4,18 +4,25 @@ use access::Answer;
 use access::Copied;
 use builder::Built;
 use enough::Room;
+use layout::header;
+use layout::header::HeaderRead;
 use layout::place::TextPlace;
+use rank::Counted;
+use rank::Found;
 ghost use mathlib.Core.Path.{_≡_};
 ghost use Prim.Native.Nat.{_≤_, _%_};
 ghost use lib.ListN.{length};
+ghost use lib.Dec.{leb};
 ghost use Rattle.format.specs.Building.{buildNumber, buildSize, buildLeaves};
 ghost use Rattle.format.specs.Reading.{byteSays, runSays, spanNumber, spanLeaves};
-ghost use Rattle.format.specs.Verdict.{verdict};
+ghost use Rattle.format.specs.Counting.{countSays};
+ghost use Rattle.format.specs.Finding.{FindSays};
+ghost use Rattle.format.specs.Verdict.{ask, verdict};
 ghost use Rattle.builder.specs.Answers.{given};
 ghost use Rattle.enough.specs.Enough.{enoughSays};
 ghost use Rattle.listing.specs.Lines.{listed};
 ghost use Rattle.listing.specs.Written.{Put};
-ghost use Rattle.abi.specs.Answers.{saying, roomNumber, roomSize, inputNumber, listNumber, listSize, listLeaves};
+ghost use Rattle.abi.specs.Answers.{saying, roomNumber, roomSize, uncountedNumber, inputNumber, listNumber, listSize, listLeaves};
 
 // The shortest buffer that list writes to.
 pub const LIST_LENGTH: usize = 512;
@@ -130,6 +137,77 @@ pub extern "C" fn bt_span(tree: &[u8], place: u32, len: u32, buffer: &mut [u8]) 
         Copied::Bytes(_) => 0,
         Copied::Refused(number) => number,
     }
+}
+
+// How often a byte stands in the first i bytes, and the blocks entered.
+#[no_mangle]
+pub extern "C" fn bt_count(tree: &[u8], byte: u32, i: u32, times: &mut u64, entered: &mut u32) -> u32
+    ensures { λ r. ⌜ saying r (now (times .exit)) (now (entered .exit)) ≡ countSays (now (tree .entry)) byte i ⌝ }
+{
+    if 255 < byte {
+        *times = 0;
+        *entered = 0;
+        return uncounted(tree, i);
+    }
+    let counted = rank::count(tree, byte as u8, i);
+    match counted {
+        Counted::Times(count, visits) => {
+            *times = count;
+            *entered = visits;
+            0
+        }
+        Counted::Refused(number) => {
+            *times = 0;
+            *entered = 0;
+            number
+        }
+    }
+}
+
+// The place of the j-th such byte, and the blocks on its path.
+#[no_mangle]
+pub extern "C" fn bt_find(tree: &[u8], byte: u32, j: u32, place: &mut u32, entered: &mut u32) -> u32
+    ensures { λ r. ⌜ FindSays (now (tree .entry)) byte j (saying r (now (place .exit)) (now (entered .exit))) ⌝ }
+{
+    if 255 < byte {
+        *place = 0;
+        *entered = 0;
+        return uncounted(tree, 0);
+    }
+    let found = rank::find(tree, byte as u8, j);
+    match found {
+        Found::At(at, path) => {
+            *place = at.0;
+            *entered = path;
+            0
+        }
+        Found::Refused(number) => {
+            *place = 0;
+            *entered = 0;
+            number
+        }
+    }
+}
+
+// The question that refuses a number above 255, which no tree counts: 5 to 7, 10 for what ends at i, 11.
+fn uncounted(tree: &[u8], i: u32) -> u32
+    ensures { λ r. ⌜ r ≡ uncountedNumber (now (tree .entry)) i ⌝ }
+{
+    let read = header::read_header(tree);
+    match read {
+        HeaderRead::Good(h) => past_or_uncounted(h.length, i),
+        HeaderRead::Refused(number) => number,
+    }
+}
+
+// Question 10 of a text of n bytes, then 11.
+fn past_or_uncounted(n: u32, i: u32) -> u32
+    ensures { λ r. ⌜ r ≡ ask 10 (leb i n) 11 ⌝ }
+{
+    if n < i {
+        return 10;
+    }
+    11
 }
 
 // The lines of the list program.

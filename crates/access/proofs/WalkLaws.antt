@@ -69,46 +69,46 @@ case-off false true i o e = absurd (let z : _≡_ {A = ℕ} 0 1 = cc in omega ar
 case-off false false i o e = (refl, refl)
 
 module _ (t : List ℕ) (l i o : ℕ) (x : Next) (is : x ≡ nextAt t l i o) where
-  next-kept : (j : BlockNumber) (p : BlockPlace) → x ≡ Kept j p → (keptBlock t l i ≡ true) × (j .0 ≡ i) × (p .0 ≡ o)
+  pub next-kept : (j : BlockNumber) (p : BlockPlace) → x ≡ Kept j p → (keptBlock t l i ≡ true) × (j .0 ≡ i) × (p .0 ≡ o)
   unfolding nextAt
   next-kept j p e =
       let z = case-kept (keptBlock t l i) (pointingBlock t l i) i o j p (sym is ∙ e) in
       (z .0, ap (λ (n : BlockNumber). n .0) (z .1), ap (λ (n : BlockPlace). n .0) (z .2))
 
-  next-points : (j : BlockNumber) (p : BlockPlace) → x ≡ Points j p → (keptBlock t l i ≡ false) × (pointingBlock t l i ≡ true) × (j .0 ≡ i) × (p .0 ≡ o)
+  pub next-points : (j : BlockNumber) (p : BlockPlace) → x ≡ Points j p → (keptBlock t l i ≡ false) × (pointingBlock t l i ≡ true) × (j .0 ≡ i) × (p .0 ≡ o)
   unfolding nextAt
   next-points j p e =
       let z = case-points (keptBlock t l i) (pointingBlock t l i) i o j p (sym is ∙ e) in
       (z .0, z .1, ap (λ (n : BlockNumber). n .0) (z .2), ap (λ (n : BlockPlace). n .0) (z .3))
 
-  next-off : x ≡ Off → (keptBlock t l i ≡ false) × (pointingBlock t l i ≡ false)
+  pub next-off : x ≡ Off → (keptBlock t l i ≡ false) × (pointingBlock t l i ≡ false)
   unfolding nextAt
   next-off e = case-off (keptBlock t l i) (pointingBlock t l i) i o (sym is ∙ e)
 
 -- paths that break
 
 module _ (t : List ℕ) where
-  from-off : (n l i o : ℕ) → keptBlock t l i ≡ false → pointingBlock t l i ≡ false → pathFrom t n l i o ≡ none
+  pub from-off : (n l i o : ℕ) → keptBlock t l i ≡ false → pointingBlock t l i ≡ false → pathFrom t n l i o ≡ none
   unfolding pathFrom lands
   from-off zero l i o k p = rw k
   from-off (suc n) l i o k p = rw (k, p)
 
-  pointing-not-kept : (l i : ℕ) → pointingBlock t l i ≡ true → keptBlock t l i ≡ false
+  pub pointing-not-kept : (l i : ℕ) → pointingBlock t l i ≡ true → keptBlock t l i ≡ false
   unfolding pointingBlock keptBlock at.isPointing at.isKept
   pointing-not-kept l i p =
       let within = ltb i (at.levelCount t l) in
       let one : at.kind t l i ≡ 1 = eqb-true _ _ (and-right within (eqb (at.kind t l i) 1) (and-left (within && eqb (at.kind t l i) 1) (ltb (at.gap t l i) (at.fullLength t l)) p)) in
       rw (ne-eqb (at.kind t l i) 0 (λ z. omega arith), and-left within (eqb (at.kind t l i) 1) (and-left (within && eqb (at.kind t l i) 1) (ltb (at.gap t l i) (at.fullLength t l)) p))
 
-  from-last-points : (l i o : ℕ) → keptBlock t l i ≡ false → pathFrom t 0 l i o ≡ none
+  pub from-last-points : (l i o : ℕ) → keptBlock t l i ≡ false → pathFrom t 0 l i o ≡ none
   unfolding pathFrom
   from-last-points l i o k = rw k
 
-  from-no-leaf : (l i o : ℕ) → at.leafCount t ≤ at.link t l i + o → keptBlock t l i ≡ true → pathFrom t 0 l i o ≡ none
+  pub from-no-leaf : (l i o : ℕ) → at.leafCount t ≤ at.link t l i + o → keptBlock t l i ≡ true → pathFrom t 0 l i o ≡ none
   unfolding pathFrom
   from-no-leaf l i o h k = rw (k, le-ltb _ _ h)
 
-  from-no-target : (n l i o : ℕ) → keptBlock t l i ≡ false → keptBlock t l (targetBlock t l i o) ≡ false → pointingBlock t l i ≡ true → pathFrom t (suc n) l i o ≡ none
+  pub from-no-target : (n l i o : ℕ) → keptBlock t l i ≡ false → keptBlock t l (targetBlock t l i o) ≡ false → pointingBlock t l i ≡ true → pathFrom t (suc n) l i o ≡ none
   unfolding pathFrom lands
   from-no-target n l i o k z p = rw (k, p, z)
 

@@ -1,11 +1,10 @@
 -- The starts of the children of a level's blocks, block by block.
 use mathlib.Core.List.{List}
-use mathlib.Core.Bool.{Bool, true, false, cond}
-use mathlib.Core.Path.{_≡_, refl, sym, ap, _∙_}
+use mathlib.Core.Bool.{true, false}
+use mathlib.Core.Path.{_≡_, sym, ap, _∙_}
 use mathlib.Core.Logic.{_⊎_, inl, inr}
-use Prim.Native.Nat.{ℕ, zero, suc, _+_, _-_, _*_, _/_, _≤_, _<_, min}
+use Prim.Native.Nat.{ℕ, suc, _+_, _-_, _*_, _≤_, _<_, min}
 use native.Mathlib.Omega.{arith}
-use native.Mathlib.Numerals.{add-one}
 use native.Mathlib.Nat.{add-mul, div-mul-le-self}
 use lib.ListN.{length}
 use Rattle.text.specs.Lists.{sumBelow}
@@ -17,7 +16,7 @@ use Rattle.built.specs.Bytes.{Stands}
 use Rattle.built.specs.Linked.{link-kept, kind-points}
 use Rattle.built.specs.Sizes.{Taken, Bounds, bounds, size-pos}
 use Rattle.built.specs.Structure.{size, count, start, bytesIn, keptAt, widthOf, bytesIn-is, level-at, cut-at, count-below, start-below}
-use Rattle.built.specs.Leaves.{bytes-fit, widths-le}
+use Rattle.built.specs.Leaves.{widths-le}
 use Rattle.built.specs.Pairs.{offset}
 use Rattle.built.specs.Records.{kindOf, linkOf}
 use Rattle.built.specs.Small.{kind-le, link-le}
@@ -25,10 +24,10 @@ use Rattle.builder.specs.declared.level.Level.{Level}
 use Rattle.builder.specs.Growing.{Grown, Within}
 use Rattle.builder.specs.Levels.{recordPlace}
 use Rattle.builder.specs.Starts.{startsWritten, StartsAsk}
-use Rattle.builder.specs.State.{LevelIs, Filled, Below, Started, placeAt}
-use Rattle.builder.proofs.Growth.{read-right, within-grown, within-part, grown-none, grown-then}
+use Rattle.builder.specs.State.{Filled, Below, Started, placeAt}
+use Rattle.builder.proofs.Growth.{read-right, within-grown, within-part}
 use Rattle.builder.proofs.Starting.{starts-grown, starts-within}
-use Rattle.builder.proofs.StateLaws.{record-size, place-le, place-end, record-inside-table, table-inside, offset-low, offset-rises, size-high, start-stands, kind-stands, link-stands, Few, few}
+use Rattle.builder.proofs.StateLaws.{record-size, place-le, place-end, record-inside-table, table-inside, offset-low, offset-rises, size-high, start-stands, kind-stands, link-stands}
 
 -- no more blocks than bytes, and one more block's
 pub pieces-most : (x b : ℕ) → pieces x b * b ≤ x + (b - 1)

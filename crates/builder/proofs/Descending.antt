@@ -1,16 +1,16 @@
 -- From level to level: the next level is the tree's, and what was written so far stands.
 use mathlib.Core.List.{List}
 use mathlib.Core.Path.{_≡_, refl, sym, ap, _∙_}
-use mathlib.Core.Logic.{_⊎_, inl, inr}
-use Prim.Native.Nat.{ℕ, zero, suc, _+_, _-_, _*_, _/_, _^_, _≤_, _<_}
+use mathlib.Core.Logic.{inl, inr}
+use Prim.Native.Nat.{ℕ, suc, _+_, _-_, _*_, _/_, _^_, _≤_, _<_}
 use native.Mathlib.Omega.{arith}
 use native.Mathlib.Numerals.{add-one}
-use native.Mathlib.Nat.{mul-div-right, one-le-pow, mul-le-mul, suc-inj}
+use native.Mathlib.Nat.{mul-div-right, one-le-pow, mul-le-mul}
 use lib.ListN.{length}
 use Rattle.text.specs.Lists.{sumBelow}
 use Rattle.format.specs.Words.{setWord}
 use Rattle.format.specs.Settings.{Settings, blockLength, pieces}
-use Rattle.format.specs.Blocks.{treeOf, recordBytes, leafBytes}
+use Rattle.format.specs.Blocks.{treeOf, leafBytes}
 use Rattle.layout.specs.declared.settings.Settings as code
 use Rattle.layout.specs.Settings.{Sized}
 use Rattle.built.specs.Sizes.{Taken, Bounds, bounds, size-pos, size-falls}
@@ -20,16 +20,15 @@ use Rattle.built.specs.Pairs.{offset}
 use Rattle.built.specs.Shape.{tree-length}
 use Rattle.built.specs.Built.{tree-small}
 use Rattle.builder.specs.declared.level.Level.{Level}
-use Rattle.builder.specs.declared.tree.Step.{Step}
 use Rattle.builder.specs.declared.tree.Step.the-variants.{To, Full}
 use Rattle.builder.specs.Growing.{Grown, Within}
 use Rattle.builder.specs.Head.{pairWritten, unusedWritten}
 use Rattle.builder.specs.Levels.{recordPlace}
-use Rattle.builder.specs.State.{settingsOf, LevelIs, Filled, Below, Started, Leafing, placeAt}
+use Rattle.builder.specs.State.{settingsOf, LevelIs, Filled, Below, Leafing, placeAt}
 use Rattle.builder.specs.Trees.{firstOf, nextOf, Ready, StepIs, Finished}
 use Rattle.builder.proofs.Growth.{grown-then, within-grown, within-part, within-join}
 use Rattle.builder.proofs.Heads.{level-grown, level-within, end-grown, end-within}
-use Rattle.builder.proofs.StateLaws.{record-size, place-end, offset-low, offset-rises, table-inside, block-high, Few, few}
+use Rattle.builder.proofs.StateLaws.{record-size, place-end, offset-low, table-inside, block-high, Few, few}
 
 divided : (r a b : ℕ) → 0 < r → a ≡ r * b → a / r ≡ b
 divided r a b pos e = rw e (mul-div-right b pos)

@@ -3,18 +3,17 @@ use mathlib.Core.List.{List}
 use mathlib.Core.Bool.{Bool, true, false, cond}
 use mathlib.Core.Path.{_≡_, refl, sym, ap, _∙_}
 use mathlib.Core.Logic.{_⊎_, inl, inr}
-use Prim.Native.Nat.{ℕ, zero, suc, _+_, _-_, _*_, _≤_, _<_}
+use Prim.Native.Nat.{ℕ, suc, _+_, _≤_, _<_}
 use native.Mathlib.Omega.{arith}
 use native.Mathlib.Numerals.{add-one}
-use lib.ListN.{length}
 use lib.Dec.{eqb}
 use borrow.Author.Tests.{eqb-false}
 use Rattle.text.specs.Lists.{sumBelow}
 use Rattle.text.specs.ListLaws.{lt-or-ge, sumBelow-suc}
 use Rattle.format.specs.Settings.{Settings, blockLength, pieces}
 use Rattle.format.specs.Blocks.{treeOf, width}
-use Rattle.built.specs.Structure.{size, count, start, bytesIn, keptAt, widthOf, bytesIn-is}
-use Rattle.built.specs.Sizes.{Taken, Bounds, bounds, size-pos}
+use Rattle.built.specs.Structure.{count, bytesIn, keptAt, widthOf}
+use Rattle.built.specs.Sizes.{Bounds, bounds, size-pos}
 use Rattle.built.specs.Leaves.{widths-le, bytes-fit}
 use Rattle.built.specs.Pairs.{offset}
 use Rattle.builder.specs.declared.level.Level.{Level}
@@ -24,9 +23,9 @@ use Rattle.builder.specs.Growing.{Grown, Within}
 use Rattle.builder.specs.Levels.{widthSays, WidthAsks}
 use Rattle.builder.specs.Marking.{keptBy, pairOf, pairBefore}
 use Rattle.builder.specs.State.{settingsOf, LevelIs, Filled, On, Next, placeAt}
-use Rattle.builder.proofs.Growth.{grown-none, grown-then, within-grown, within-part}
+use Rattle.builder.proofs.Growth.{grown-none, grown-then, within-part}
 use Rattle.builder.proofs.Pairing.{kept-rule}
-use Rattle.builder.proofs.StateLaws.{filled-grown, size-high, place-end, place-next}
+use Rattle.builder.proofs.StateLaws.{filled-grown, size-high, place-end}
 
 -- the loop over the blocks of a level, before block i
 pub record Going (S : Settings) (T : List ℕ) (level : Level) (out₀ out : List ℕ) (left : Pair) (link i : ℕ) : Type 0 where

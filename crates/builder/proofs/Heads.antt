@@ -1,11 +1,10 @@
 -- The header, part by part.
-use mathlib.Core.List.{List, _++_}
-use mathlib.Core.Path.{_≡_, refl, sym, ap, _∙_}
-use mathlib.Core.Logic.{_⊎_, inl, inr}
+use mathlib.Core.List.{List}
+use mathlib.Core.Path.{_≡_, sym, ap, _∙_}
 use Prim.Native.Nat.{ℕ, zero, suc, _+_, _-_, _*_, _≤_, _<_}
 use native.Mathlib.Omega.{arith}
 use native.Mathlib.Numerals.{add-one}
-use lib.ListN.{length, getD, set, replicate, getD-replicate, List·getD-append, length-replicate}
+use lib.ListN.{length, getD, set, replicate, getD-replicate, List·getD-append}
 use lib.Seq.{getD-append-add}
 use Rattle.format.specs.Words.{setWord}
 use Rattle.format.specs.Settings.{Settings}
@@ -13,7 +12,7 @@ use Rattle.format.specs.Blocks.{treeOf, leafBytes}
 use Rattle.built.specs.Bytes.{Stands, six-stands, counted-stands, level-stands}
 use Rattle.built.specs.Sizes.{Taken, Bounds, bounds}
 use Rattle.built.specs.Structure.{count}
-use Rattle.built.specs.Pairs.{offset, levelWordsOf, word-count, word-offset, word-none, word-leaf-offset, word-leaf-count}
+use Rattle.built.specs.Pairs.{offset, word-count, word-offset, word-none, word-leaf-offset, word-leaf-count}
 use Rattle.built.specs.Shape.{sixWords, countedPlaces, tree-length}
 use Rattle.builder.specs.Growing.{Grown, Within}
 use Rattle.builder.specs.Records.{putThree}

@@ -1,11 +1,10 @@
 -- Leaf bytes, block by block.
 use mathlib.Core.List.{List}
-use mathlib.Core.Path.{_≡_, refl, sym, ap, _∙_}
-use mathlib.Core.Logic.{_⊎_, inl, inr, _≢_}
-use Prim.Native.Nat.{ℕ, zero, suc, _+_, _-_, _*_, _≤_, _<_, min}
+use mathlib.Core.Path.{_≡_, sym, ap, _∙_}
+use mathlib.Core.Logic.{_⊎_, inl, inr}
+use Prim.Native.Nat.{ℕ, zero, suc, _+_, _-_, _≤_, _<_, min}
 use native.Mathlib.Omega.{arith}
 use native.Mathlib.Numerals.{add-one}
-use native.Mathlib.Nat.{add-assoc}
 use native.Mathlib.Decide.{ℕ-discrete}
 use lib.ListN.{length, getD, set, length-set}
 use lib.Seq.{getD-set-same, getD-set-other}
@@ -13,8 +12,8 @@ use Rattle.text.specs.Lists.{sumBelow}
 use Rattle.text.specs.ListLaws.{below-suc, sumBelow-suc, sumBelow-part}
 use Rattle.format.specs.Words.{wordAt}
 use Rattle.format.specs.Settings.{Settings}
-use Rattle.format.specs.Blocks.{treeOf, leafBytes, recordBytes}
-use Rattle.built.specs.Sizes.{Taken, Bounds, bounds}
+use Rattle.format.specs.Blocks.{treeOf}
+use Rattle.built.specs.Sizes.{Taken}
 use Rattle.built.specs.Structure.{size, count, start, bytesIn, widthOf, bytesIn-is}
 use Rattle.built.specs.Leaves.{width-last, leaf-count, leaf-at, bytes-fit}
 use Rattle.built.specs.Pairs.{offset}
@@ -24,7 +23,7 @@ use Rattle.builder.specs.declared.level.Level.{Level}
 use Rattle.builder.specs.Growing.{Grown, Within}
 use Rattle.builder.specs.Leaves.{bytesWritten}
 use Rattle.builder.specs.Levels.{recordPlace}
-use Rattle.builder.specs.State.{LevelIs, Filled, On, Leafing, placeAt}
+use Rattle.builder.specs.State.{Filled, On, Leafing, placeAt}
 use Rattle.builder.proofs.Growth.{grown-none, grown-then, within-grown, within-part, within-join}
 use Rattle.builder.proofs.Pairing.{start-read}
 use Rattle.builder.proofs.StateLaws.{record-size, record-inside-table, table-inside, offset-low}

@@ -1,12 +1,12 @@
 -- The loop over the levels, and what comes before it.
 use mathlib.Core.List.{List}
 use mathlib.Core.Path.{_≡_, refl, sym, ap, _∙_, subst}
-use mathlib.Core.Logic.{_⊎_, inl, inr}
-use Prim.Native.Nat.{ℕ, zero, suc, _+_, _-_, _*_, _≤_, _<_}
+use mathlib.Core.Logic.{inl}
+use Prim.Native.Nat.{ℕ, _+_, _*_, _≤_, _<_}
 use native.Mathlib.Omega.{arith}
 use lib.ListN.{length}
 use Rattle.text.specs.Lists.{sumBelow}
-use Rattle.format.specs.Settings.{Settings, blockLength, pieces}
+use Rattle.format.specs.Settings.{Settings, blockLength}
 use Rattle.format.specs.Blocks.{treeOf, recordBytes}
 use Rattle.layout.specs.declared.settings.Settings as code
 use Rattle.built.specs.Bytes.{Stands}
@@ -21,7 +21,7 @@ use Rattle.builder.specs.Levels.{recordPlace}
 use Rattle.builder.specs.Starts.{startsWritten, StartsAsk}
 use Rattle.builder.specs.State.{settingsOf, LevelIs, Filled, placeAt}
 use Rattle.builder.specs.Trees.{firstOf, Ready, StepIs, Finished}
-use Rattle.builder.proofs.Growth.{grown-none, grown-then, within-grown, within-none}
+use Rattle.builder.proofs.Growth.{grown-then, within-grown, within-none}
 use Rattle.builder.proofs.Children.{pieces-most}
 use Rattle.builder.proofs.Descending.{first-is}
 use Rattle.builder.proofs.Starting.{starts-grown, starts-within}

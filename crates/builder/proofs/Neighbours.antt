@@ -1,17 +1,15 @@
 -- The block on the left of one that does not start with its parent: it has the same parent, and the two touch.
 use mathlib.Core.List.{List}
 use mathlib.Core.Path.{_≡_, refl, sym, ap, _∙_}
-use Prim.Native.Nat.{ℕ, zero, suc, _+_, _-_, _*_, _/_, _≤_, _<_, min}
+use Prim.Native.Nat.{ℕ, zero, suc, _+_, _-_, _*_, _≤_, _<_}
 use native.Mathlib.Omega.{arith}
 use native.Mathlib.Nat.{suc-mul, div-mul-le-self}
-use lib.ListN.{length}
 use Rattle.text.specs.Lists.{sumBelow}
 use Rattle.text.specs.Text.{stretch, countIn}
 use Rattle.text.specs.TextLaws.{stretch-add}
 use Rattle.format.specs.Settings.{Settings}
-use Rattle.built.specs.Gather.{Placed}
 use Rattle.built.specs.Sizes.{Taken}
-use Rattle.built.specs.Structure.{size, count, start, bytesIn, widthOf, bytesIn-is, level-at, start-top, start-below, count-below}
+use Rattle.built.specs.Structure.{size, count, start, bytesIn, widthOf, bytesIn-is, level-at, start-top, start-below}
 use Rattle.built.specs.Parents.{parent, parent-start}
 use Rattle.built.specs.Records.{parentOf, beforeOf, insideOf}
 use Rattle.builder.proofs.Counting.{countIn-append}

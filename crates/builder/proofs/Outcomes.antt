@@ -1,16 +1,16 @@
 -- What build answers, case by case.
 use mathlib.Core.List.{List, _++_, append-nil}
-use mathlib.Core.Bool.{Bool, true, false, cond, _&&_}
+use mathlib.Core.Bool.{Bool, true, false, cond}
 use mathlib.Core.Path.{_≡_, refl, sym, ap, _∙_, subst}
 use mathlib.Core.Logic.{_⊎_, inl, inr}
-use Prim.Native.Nat.{ℕ, zero, suc, _+_, _-_, _≤_, _<_}
+use Prim.Native.Nat.{ℕ, _+_, _-_, _≤_, _<_}
 use native.Mathlib.Omega.{arith}
 use borrow.Author.Fill.{fill-more}
 use lib.ListN.{length, getD, set, drop, replicate, length-append, length-drop, List·getD-append}
 use lib.Seq.{getD-append-add, getD-drop, ext-getD, drop-length}
-use lib.Dec.{leb, eqb}
+use lib.Dec.{eqb}
 use borrow.Author.Tests.{le-leb, lt-leb}
-use Rattle.text.specs.ListLaws.{lt-or-ge, bool-cases}
+use Rattle.text.specs.ListLaws.{lt-or-ge}
 use Rattle.format.specs.Settings.{Settings, lengthOk, sizesOk, countedOk}
 use Rattle.format.specs.Blocks.{treeOf}
 use Rattle.format.specs.Building.{buildNumber, buildSize, buildLeaves}
@@ -19,7 +19,6 @@ use Rattle.layout.specs.declared.settings.Checked.{Checked}
 use Rattle.layout.specs.declared.settings.Checked.the-variants.{Fine, Refused}
 use Rattle.layout.specs.Settings.{checked, sizes}
 use Rattle.built.specs.Sizes.{Taken}
-use Rattle.built.specs.Pairs.{offset}
 use Rattle.built.specs.Shape.{tree-length}
 use Rattle.builder.specs.declared.Built.{Built}
 use Rattle.builder.specs.declared.Built.the-variants.{Size, Refused as Not}

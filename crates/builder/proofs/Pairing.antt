@@ -2,19 +2,17 @@
 use mathlib.Core.List.{List}
 use mathlib.Core.Bool.{Bool, true, false, cond, not, _&&_, _||_}
 use mathlib.Core.Path.{_≡_, refl, sym, ap, _∙_}
-use mathlib.Core.Logic.{_⊎_, inl, inr}
-use Prim.Native.Nat.{ℕ, zero, suc, _+_, _-_, _*_, _≤_, _<_, min}
+use Prim.Native.Nat.{ℕ, zero, suc, _+_, _-_, _≤_, _<_, min}
 use native.Mathlib.Omega.{arith}
 use native.Mathlib.Numerals.{add-one}
 use lib.ListN.{length}
-use lib.Dec.{eqb, ltb, leb}
+use lib.Dec.{eqb, ltb}
 use borrow.Author.Tests.{ltb-true, ltb-false, eq-eqb, ne-eqb, le-leb, lt-ltb, le-ltb}
-use Rattle.text.specs.ListLaws.{lt-or-ge}
 use Rattle.text.specs.Text.{leftmost}
 use Rattle.text.specs.TextLaws.{leftmost-le}
 use Rattle.format.specs.Words.{wordAt}
 use Rattle.format.specs.Settings.{Settings, blockLength}
-use Rattle.format.specs.Blocks.{treeOf, startsAt, pairAt, firstPairAt, keptByPairs, isKept, startOf}
+use Rattle.format.specs.Blocks.{treeOf, startsAt, pairAt, firstPairAt, keptByPairs, isKept}
 use Rattle.search.specs.Occurrences.{earlierSays}
 use Rattle.built.specs.Structure.{size, count, start, keptAt, level-at}
 use Rattle.built.specs.Sizes.{Taken, bounds}
@@ -23,9 +21,9 @@ use Rattle.builder.specs.declared.pair.Pair.{Pair}
 use Rattle.builder.specs.declared.pair.Pair.the-variants.{Apart, First, Again}
 use Rattle.builder.specs.Levels.{recordPlace}
 use Rattle.builder.specs.Marking.{keptBy, pairSays, pairBy, pairOf, pairBefore}
-use Rattle.builder.specs.State.{LevelIs, Filled, On, placeAt}
+use Rattle.builder.specs.State.{On, placeAt}
 use Rattle.builder.proofs.Growth.{read-right}
-use Rattle.builder.proofs.StateLaws.{record-size, start-stands, Few, few, record-inside-table}
+use Rattle.builder.proofs.StateLaws.{record-size, start-stands, record-inside-table}
 
 module _ (T : List ℕ) (s len : ℕ) (fits : s + len ≤ length T) (r : Bool) (r-is : r ≡ earlierSays T s len) where
   earlier : r ≡ ltb (leftmost T s len) s

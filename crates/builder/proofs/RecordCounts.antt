@@ -1,9 +1,9 @@
 -- The counts of a record, as they are written one counted byte after the other.
 use mathlib.Core.List.{List}
-use mathlib.Core.Bool.{Bool, true, false, cond}
-use mathlib.Core.Path.{_≡_, refl, sym, ap, _∙_}
+use mathlib.Core.Bool.{true, false}
+use mathlib.Core.Path.{_≡_, sym, ap, _∙_}
 use mathlib.Core.Logic.{_⊎_, inl, inr}
-use Prim.Native.Nat.{ℕ, zero, suc, _+_, _-_, _*_, _≤_, _<_}
+use Prim.Native.Nat.{ℕ, _+_, _-_, _*_, _≤_, _<_}
 use native.Mathlib.Omega.{arith}
 use native.Mathlib.Numerals.{add-one}
 use lib.ListN.{length, getD}
@@ -15,9 +15,8 @@ use Rattle.format.specs.Words.{wordAt}
 use Rattle.format.specs.Settings.{Settings}
 use Rattle.format.specs.Blocks.{treeOf, recordBytes}
 use Rattle.built.specs.Sizes.{Taken, Bounds, bounds}
-use Rattle.built.specs.Structure.{count, start, bytesIn}
+use Rattle.built.specs.Structure.{count, start}
 use Rattle.built.specs.Leaves.{bytes-fit}
-use Rattle.built.specs.Pairs.{offset}
 use Rattle.built.specs.Small.{before-le, inside-le}
 use Rattle.built.specs.Records.{kindOf, linkOf, gapOf, beforeOf, insideOf, skipOf}
 use Rattle.builder.specs.declared.level.Level.{Level}
@@ -25,10 +24,10 @@ use Rattle.builder.specs.declared.record.Block.{Block}
 use Rattle.builder.specs.Growing.{Grown, Within}
 use Rattle.builder.specs.Levels.{recordPlace}
 use Rattle.builder.specs.Records.{putThree, beforeSays}
-use Rattle.builder.specs.State.{LevelIs, Writing, placeAt}
+use Rattle.builder.specs.State.{Writing, placeAt}
 use Rattle.builder.proofs.Growth.{read-right, within-grown, within-join, grown-then, within-part, three-grown, three-within}
 use Rattle.builder.proofs.Neighbours.{LeftOf, left-of, before-left, before-first}
-use Rattle.builder.proofs.StateLaws.{record-size, place-next, place-le, record-inside-table, offset-low, table-inside, kind-stands, link-stands, gap-stands, before-stands, inside-stands, skip-stands}
+use Rattle.builder.proofs.StateLaws.{record-size, place-next, record-inside-table, offset-low, table-inside, kind-stands, link-stands, gap-stands, before-stands, inside-stands, skip-stands}
 
 -- the places written so far, and those of one more counted byte
 pub one-more : (D t u : List ℕ) (p c : ℕ) → Within D t p (p + 12 * c) → Grown D t u → Within D u (p + 12 * c) (p + 12 * c + 12) → Within D u p (p + 12 * (c + 1))

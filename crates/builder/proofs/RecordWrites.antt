@@ -1,6 +1,6 @@
 -- Writes of a record's words, joined.
 use mathlib.Core.List.{List}
-use mathlib.Core.Path.{_≡_, refl, sym, ap, _∙_}
+use mathlib.Core.Path.{_≡_}
 use Prim.Native.Nat.{ℕ, _+_}
 use Rattle.format.specs.Words.{wordAt, setWord}
 use Rattle.builder.specs.Records.{putThree}

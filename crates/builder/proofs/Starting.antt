@@ -1,18 +1,17 @@
 -- Starts written one after the other grow into the tree that has them.
 use mathlib.Core.List.{List}
-use mathlib.Core.Path.{_≡_, refl, sym, ap, _∙_}
+use mathlib.Core.Path.{_≡_, _∙_}
 use mathlib.Core.Logic.{_⊎_, inl, inr}
-use Prim.Native.Nat.{ℕ, zero, suc, _+_, _-_, _*_, _≤_, _<_}
+use Prim.Native.Nat.{ℕ, zero, suc, _+_, _*_, _≤_, _<_}
 use native.Mathlib.Omega.{arith}
 use native.Mathlib.Numerals.{add-one}
 use native.Mathlib.Nat.{suc-mul, mul-le-mul-right, mul-le-mul}
 use lib.ListN.{length}
 use Rattle.text.specs.ListLaws.{below-suc}
 use Rattle.format.specs.Words.{setWord}
-use Rattle.format.specs.WordLaws.{length-setWord}
 use Rattle.built.specs.Bytes.{Stands}
 use Rattle.builder.specs.Growing.{Grown, Within}
-use Rattle.builder.specs.Starts.{startsWritten, StartsAsk}
+use Rattle.builder.specs.Starts.{startsWritten}
 use Rattle.builder.proofs.Growth.{grown-none, grown-then, within-grown, word-grown, word-within}
 
 -- one start more

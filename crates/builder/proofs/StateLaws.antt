@@ -1,8 +1,8 @@
 -- Places and bounds on a level that is written.
 use mathlib.Core.List.{List}
 use mathlib.Core.Bool.{Bool, true, _&&_}
-use mathlib.Core.Path.{_≡_, refl, sym, ap, _∙_}
-use Prim.Native.Nat.{ℕ, zero, suc, _+_, _-_, _*_, _^_, _≤_, _<_}
+use mathlib.Core.Path.{_≡_, refl}
+use Prim.Native.Nat.{ℕ, suc, _+_, _-_, _*_, _^_, _≤_, _<_}
 use native.Mathlib.Omega.{arith}
 use native.Mathlib.Nat.{suc-mul, add-mul, mul-le-mul-right, mul-le-mul-left, pow-le-pow-right, le-trans}
 use lib.Dec.{leb}
@@ -11,19 +11,18 @@ use Rattle.text.specs.ListLaws.{and-right}
 use lib.ListN.{length, getD}
 use Rattle.text.specs.Lists.{sumBelow}
 use Rattle.format.specs.Settings.{Settings, blockLength, sizesOk}
-use Rattle.format.specs.Blocks.{treeOf, recordBytes, leafBytes}
+use Rattle.format.specs.Blocks.{treeOf, recordBytes}
 use Rattle.built.specs.Bytes.{Stands, record-stands}
 use Rattle.built.specs.Gather.{sumBelow-le}
 use Rattle.built.specs.Sizes.{Taken, Bounds, bounds}
-use Rattle.built.specs.Structure.{count, start, level-at}
+use Rattle.built.specs.Structure.{count, start}
 use Rattle.built.specs.Pairs.{offset}
-use Rattle.built.specs.Shape.{tree-length, record-bytes}
+use Rattle.built.specs.Shape.{tree-length}
 use Rattle.built.specs.Small.{offset-le, blocks-le}
-use Rattle.built.specs.Records.{recordAt, recordWords, record-start, record-kind, record-link, record-gap, record-before, record-inside, record-skip, kindOf, linkOf, gapOf, beforeOf, insideOf, skipOf}
+use Rattle.built.specs.Records.{recordWords, record-start, record-kind, record-link, record-gap, record-before, record-inside, record-skip, kindOf, linkOf, gapOf, beforeOf, insideOf, skipOf}
 use Rattle.builder.specs.declared.level.Level.{Level}
-use Rattle.builder.specs.Levels.{recordPlace}
 use Rattle.builder.specs.declared.record.Block.{Block}
-use Rattle.builder.specs.Growing.{Grown, Within}
+use Rattle.builder.specs.Growing.{Grown}
 use Rattle.builder.specs.State.{LevelIs, Filled, Writing, placeAt}
 use Rattle.builder.proofs.Growth.{within-grown}
 

@@ -1,17 +1,16 @@
 -- A block's record, kept and pointing: what the code finds is what the tree says.
 use mathlib.Core.List.{List}
-use mathlib.Core.Bool.{Bool, true, false, cond}
+use mathlib.Core.Bool.{true, false}
 use mathlib.Core.Path.{_≡_, refl, sym, ap, _∙_}
 use mathlib.Core.Logic.{_⊎_, inl, inr}
-use Prim.Native.Nat.{ℕ, zero, suc, _+_, _-_, _*_, _/_, _≤_, _<_, min}
+use Prim.Native.Nat.{ℕ, zero, suc, _+_, _-_, _≤_, _<_, min}
 use native.Mathlib.Omega.{arith}
-use native.Mathlib.Numerals.{add-one}
 use lib.ListN.{length}
-use lib.Dec.{eqb, leb}
+use lib.Dec.{leb}
 use borrow.Author.Tests.{le-leb, lt-leb, ne-eqb}
-use Rattle.text.specs.Lists.{sumBelow, countBelow}
+use Rattle.text.specs.Lists.{sumBelow}
 use Rattle.text.specs.ListLaws.{lt-or-ge, bool-clash}
-use Rattle.text.specs.Text.{stretch, countIn, leftmost}
+use Rattle.text.specs.Text.{leftmost}
 use Rattle.format.specs.Words.{wordAt}
 use Rattle.format.specs.Settings.{Settings, blockLength}
 use Rattle.format.specs.Blocks.{target}
@@ -19,17 +18,16 @@ use Rattle.built.specs.Descent.{countBelow-upto}
 use Rattle.built.specs.Levels.{Level as InOrder, start-le}
 use Rattle.built.specs.Leaves.{kept-last, bytes-fit}
 use Rattle.built.specs.Structure.{size, count, start, bytesIn, keptAt, widthOf, bytesIn-is, level-at}
-use Rattle.built.specs.Sizes.{Taken, bounds}
+use Rattle.built.specs.Sizes.{Taken}
 use Rattle.built.specs.Records.{parentOf, kindOf, linkOf, gapOf, skipOf}
 use Rattle.built.specs.Targets.{placeOf, targetOf, placeOf-is, PointsTo, points-to}
 use Rattle.builder.specs.declared.level.Level.{Level}
-use Rattle.builder.specs.declared.record.Block.{Block}
 use Rattle.builder.specs.Levels.{recordPlace, parentSays}
-use Rattle.builder.specs.State.{LevelIs, Filled, On, BlockIs}
-use Rattle.builder.specs.Targets.{Sorted, Between, startIn}
+use Rattle.builder.specs.State.{On, BlockIs}
+use Rattle.builder.specs.Targets.{Sorted, Between}
 use Rattle.builder.proofs.Counting.{countIn-none}
-use Rattle.builder.proofs.Pairing.{start-fits, start-read, start-in}
-use Rattle.builder.proofs.StateLaws.{Few, few}
+use Rattle.builder.proofs.Pairing.{start-fits, start-read}
+use Rattle.builder.proofs.StateLaws.{few}
 
 module _ (S : Settings) (T out : List ℕ) (level : Level) (i : ℕ) (w : On S T out level i) where
   abbrev l : ℕ

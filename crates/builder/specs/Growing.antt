@@ -1,7 +1,7 @@
 -- A buffer that grows into a tree: every write puts down what the tree has at that place, so what is right stays right.
 use mathlib.Core.List.{List}
 use mathlib.Core.Path.{_≡_}
-use Prim.Native.Nat.{ℕ, _+_, _≤_, _<_}
+use Prim.Native.Nat.{ℕ, _≤_, _<_}
 use lib.ListN.{length, getD}
 
 -- the buffer `new` came from `old` by writes of what D has, none past its end

@@ -1,8 +1,7 @@
 -- The marking rule, as the builder asks it: how each block and the next one stand.
 use mathlib.Core.List.{List}
 use mathlib.Core.Bool.{Bool, true, false, cond}
-use Prim.Native.Nat.{ℕ, zero, suc, _+_, _-_}
-use lib.ListN.{length}
+use Prim.Native.Nat.{ℕ, zero, suc}
 use lib.Dec.{eqb}
 use Rattle.text.specs.Text.{leftmost}
 use Rattle.format.specs.Settings.{Settings, blockLength}

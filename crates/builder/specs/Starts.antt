@@ -1,6 +1,6 @@
 -- Starts of blocks, one in each record from a place on.
 use mathlib.Core.List.{List}
-use Prim.Native.Nat.{ℕ, zero, suc, _+_, _*_, _≤_, _<_}
+use Prim.Native.Nat.{ℕ, zero, suc, _+_, _*_, _≤_}
 use lib.ListN.{length}
 use Rattle.format.specs.Words.{setWord}
 

@@ -1,14 +1,13 @@
 -- What is known while a level of the tree of T is written.
 use mathlib.Core.List.{List}
-use mathlib.Core.Bool.{Bool, true, false, cond, not, _&&_, _||_}
+use mathlib.Core.Bool.{Bool}
 use mathlib.Core.Path.{_≡_}
-use Prim.Native.Nat.{ℕ, zero, suc, _+_, _*_, _≤_, _<_}
+use Prim.Native.Nat.{ℕ, suc, _+_, _*_, _≤_, _<_}
 use lib.ListN.{length}
-use lib.Dec.{eqb}
 use Rattle.text.specs.Lists.{sumBelow}
 use Rattle.text.specs.Text.{stretch, countIn}
 use Rattle.format.specs.Settings.{Settings, blockLength}
-use Rattle.format.specs.Blocks.{treeOf, startsAt, pairAt, firstPairAt, recordBytes}
+use Rattle.format.specs.Blocks.{treeOf, recordBytes}
 use Rattle.layout.specs.declared.settings.Settings as code
 use Rattle.built.specs.Sizes.{Taken}
 use Rattle.built.specs.Structure.{count, start, bytesIn, keptAt, widthOf}

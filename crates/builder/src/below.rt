@@ -2,14 +2,15 @@
 use crate::level;
 use crate::level::Level;
 use layout::header;
+use layout::place::BlockNumber;
+use layout::place::TextPlace;
 use layout::word;
 ghost use mathlib.Core.Path.{_≡_};
-ghost use Prim.Native.Nat.{ℕ, suc, _+_, _*_, _≤_, _<_};
-ghost use lib.ListN.{length};
+ghost use Prim.Native.Nat.{suc, _+_, _<_};
 ghost use Rattle.text.specs.Lists.{sumBelow};
 ghost use Rattle.format.specs.Blocks.{treeOf};
 ghost use Rattle.built.specs.Structure.{widthOf, count};
-ghost use Rattle.builder.specs.Growing.{Grown, Within};
+ghost use Rattle.builder.specs.Growing.{Grown};
 ghost use Rattle.builder.specs.Starts.{startsWritten, StartsAsk};
 ghost use Rattle.builder.specs.State.{settingsOf, Below, Started, Filled};
 
@@ -32,16 +33,16 @@ fn put_children_of(out: &mut [u8], text: &[u8], counted: &[u8], level: Level, ne
     ensures { λ _. ⌜ Started (settingsOf (level .settings) (now (counted .entry))) (now (text .entry)) (now (out .exit)) (suc (level .number)) 0
         (sumBelow (i + 1) (widthOf (settingsOf (level .settings) (now (counted .entry))) (now (text .entry)) (level .number))) ⌝ }
 {
-    let at = level::place(counted, level, i);
+    let at = level::place(counted, level, BlockNumber(i));
     if word::read(out, at + 4) != 0 {
         return;
     }
     let start = word::read(out, at);
     let link = word::read(out, at + 8);
-    let children = header::pieces(level::bytes(text, level, start), next.size);
+    let children = header::pieces(level::bytes(text, level, TextPlace(start)), next.size);
     put_starts(
         out,
-        level::place(counted, next, link),
+        level::place(counted, next, BlockNumber(link)),
         16 + 12 * counted.len(),
         start,
         next.size,

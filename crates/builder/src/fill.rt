@@ -7,14 +7,14 @@ use crate::record::Block;
 use crate::target;
 use layout::header;
 ghost use mathlib.Core.Path.{_≡_};
-ghost use Prim.Native.Nat.{ℕ, suc, _+_, _≤_, _<_};
+ghost use Prim.Native.Nat.{suc, _+_};
 ghost use lib.ListN.{length};
 ghost use Rattle.text.specs.Lists.{sumBelow};
 ghost use Rattle.format.specs.Blocks.{treeOf};
-ghost use Rattle.built.specs.Structure.{keptAt, widthOf, count};
+ghost use Rattle.built.specs.Structure.{widthOf, count};
 ghost use Rattle.built.specs.Pairs.{offset};
 ghost use Rattle.builder.specs.Growing.{Grown, Within};
-ghost use Rattle.builder.specs.State.{settingsOf, LevelIs, Filled, On, Next, BlockIs, placeAt};
+ghost use Rattle.builder.specs.State.{settingsOf, LevelIs, Filled, Next, BlockIs, placeAt};
 ghost use Rattle.builder.specs.Levels.{widthSays, WidthAsks};
 
 // What a block has one level below: leaf bytes on the last level, else children; nothing where it points.

@@ -14,19 +14,19 @@ fn fingerprint() -> Fingerprint {
 }
 
 // The leftmost occurrence of the bytes at a place.
-pub fn leftmost(text: &[u8], start: u32, len: u32) -> u32
-    requires { ⌜ start + len ≤ length (now text) ⌝ }
-    ensures { λ r. ⌜ r ≡ texts.leftmost (now (text .entry)) start len ⌝ }
+pub fn leftmost(text: &[u8], start: TextPlace, len: u32) -> TextPlace
+    requires { ⌜ start .0 + len ≤ length (now text) ⌝ }
+    ensures { λ r. ⌜ r .0 ≡ texts.leftmost (now (text .entry)) (start .0) len ⌝ }
 {
-    match search::leftmost(text, TextPlace(start), len, fingerprint()) {
-        Occurrence::At(found) => found.0,
+    match search::leftmost(text, start, len, fingerprint()) {
+        Occurrence::At(found) => found,
         Occurrence::Outside => start,
     }
 }
 
 // Whether the bytes at a place occur earlier.
-pub fn occurs_earlier(text: &[u8], start: u32, len: u32) -> bool
-    ensures { λ r. ⌜ r ≡ earlierSays (now (text .entry)) start len ⌝ }
+pub fn occurs_earlier(text: &[u8], start: TextPlace, len: u32) -> bool
+    ensures { λ r. ⌜ r ≡ earlierSays (now (text .entry)) (start .0) len ⌝ }
 {
-    search::occurs_earlier(text, TextPlace(start), len, fingerprint())
+    search::occurs_earlier(text, start, len, fingerprint())
 }

@@ -3,7 +3,7 @@ use crate::record;
 use layout::settings::Settings;
 use layout::word;
 ghost use mathlib.Core.Path.{_≡_};
-ghost use Prim.Native.Nat.{ℕ, suc, _+_, _-_, _*_, _≤_, _<_};
+ghost use Prim.Native.Nat.{_-_, _≤_, _<_};
 ghost use lib.ListN.{length, getD};
 ghost use Rattle.format.specs.Words.{setWord};
 ghost use Rattle.format.specs.Blocks.{treeOf};

@@ -1,10 +1,10 @@
 // The leaf bytes: those of the last level's blocks, one block after the other.
 use crate::level;
 use crate::level::Level;
+use layout::place::BlockNumber;
 ghost use mathlib.Core.Path.{_≡_};
-ghost use Prim.Native.Nat.{ℕ, suc, _+_, _≤_, _<_};
+ghost use Prim.Native.Nat.{_+_, _≤_, _<_};
 ghost use lib.ListN.{length};
-ghost use Rattle.text.specs.Lists.{sumBelow};
 ghost use Rattle.format.specs.Blocks.{treeOf};
 ghost use Rattle.built.specs.Structure.{widthOf};
 ghost use Rattle.builder.specs.Growing.{Grown, Within};
@@ -30,9 +30,9 @@ fn put_leaf(out: &mut [u8], text: &[u8], counted: &[u8], level: Level, to: u32, 
     ensures { λ _. ⌜ Grown (treeOf (settingsOf (level .settings) (now (counted .entry))) (now (text .entry))) (now (out .entry)) (now (out .exit)) ⌝ }
     ensures { λ r. ⌜ Within (treeOf (settingsOf (level .settings) (now (counted .entry))) (now (text .entry))) (now (out .exit)) to (to + r) ⌝ }
 {
-    let start = level::start(counted, out, level, i);
+    let start = level::start(counted, out, level, BlockNumber(i));
     let length = level::bytes(text, level, start);
-    copy(out, to as usize, text, start as usize, length as usize);
+    copy(out, to as usize, text, start.0 as usize, length as usize);
     length
 }
 

@@ -1,8 +1,10 @@
 // A level of the tree that is being written.
+use layout::place::BlockNumber;
+use layout::place::TextPlace;
 use layout::settings::Settings;
 use layout::word;
 ghost use mathlib.Core.Path.{_≡_};
-ghost use Prim.Native.Nat.{_+_, _*_, _/_, _-_, _≤_, _<_, min};
+ghost use Prim.Native.Nat.{_+_, _-_, _≤_, _<_, min};
 ghost use lib.ListN.{length};
 ghost use Rattle.format.specs.Words.{wordAt};
 ghost use Rattle.builder.specs.Levels.{parentSays, recordPlace};
@@ -21,30 +23,30 @@ pub struct Level {
 }
 
 // Where the record of a block stands.
-pub fn place(counted: &[u8], level: Level, block: u32) -> usize
-    requires { ⌜ (length (now counted) ≤ 4) × (level .table ≤ 536871012) × (block ≤ 1048576) ⌝ }
-    ensures { λ r. ⌜ (r ≡ recordPlace (level .table) block (now (counted .entry))) × (r ≤ 603979876) ⌝ }
+pub fn place(counted: &[u8], level: Level, block: BlockNumber) -> usize
+    requires { ⌜ (length (now counted) ≤ 4) × (level .table ≤ 536871012) × (block .0 ≤ 1048576) ⌝ }
+    ensures { λ r. ⌜ (r ≡ recordPlace (level .table) (block .0) (now (counted .entry))) × (r ≤ 603979876) ⌝ }
 {
-    level.table as usize + block as usize * (16 + 12 * counted.len())
+    level.table as usize + block.0 as usize * (16 + 12 * counted.len())
 }
 
 // The start of a block's parent; the text's start on level 0.
-pub fn parent(level: Level, start: u32) -> u32
+pub fn parent(level: Level, start: TextPlace) -> TextPlace
     requires { ⌜ 0 < level .above ⌝ }
-    ensures { λ r. ⌜ r ≡ parentSays (level .number) (level .above) start ⌝ }
+    ensures { λ r. ⌜ r .0 ≡ parentSays (level .number) (level .above) (start .0) ⌝ }
 {
     if level.number == 0 {
-        return 0;
+        return TextPlace(0);
     }
-    start / level.above * level.above
+    TextPlace(start.0 / level.above * level.above)
 }
 
 // The bytes that a block has.
-pub fn bytes(text: &[u8], level: Level, start: u32) -> u32
-    requires { ⌜ (length (now text) ≤ 1048576) × (start ≤ length (now text)) ⌝ }
-    ensures { λ r. ⌜ (r ≡ min (level .size) (length (now (text .entry)) - start)) × (r ≤ 1048576) ⌝ }
+pub fn bytes(text: &[u8], level: Level, start: TextPlace) -> u32
+    requires { ⌜ (length (now text) ≤ 1048576) × (start .0 ≤ length (now text)) ⌝ }
+    ensures { λ r. ⌜ (r ≡ min (level .size) (length (now (text .entry)) - start .0)) × (r ≤ 1048576) ⌝ }
 {
-    let left = text.len() as u32 - start;
+    let left = text.len() as u32 - start.0;
     if level.size < left {
         return level.size;
     }
@@ -52,10 +54,10 @@ pub fn bytes(text: &[u8], level: Level, start: u32) -> u32
 }
 
 // Where a block starts, read from its record.
-pub fn start(counted: &[u8], out: &[u8], level: Level, block: u32) -> u32
-    requires { ⌜ (length (now counted) ≤ 4) × (level .table ≤ 536871012) × (block ≤ 1048576)
-        × (recordPlace (level .table) block (now counted) + 4 ≤ length (now out)) ⌝ }
-    ensures { λ r. ⌜ r ≡ wordAt (now (out .entry)) (recordPlace (level .table) block (now (counted .entry))) ⌝ }
+pub fn start(counted: &[u8], out: &[u8], level: Level, block: BlockNumber) -> TextPlace
+    requires { ⌜ (length (now counted) ≤ 4) × (level .table ≤ 536871012) × (block .0 ≤ 1048576)
+        × (recordPlace (level .table) (block .0) (now counted) + 4 ≤ length (now out)) ⌝ }
+    ensures { λ r. ⌜ r .0 ≡ wordAt (now (out .entry)) (recordPlace (level .table) (block .0) (now (counted .entry))) ⌝ }
 {
-    word::read(out, place(counted, level, block))
+    TextPlace(word::read(out, place(counted, level, block)))
 }

@@ -14,7 +14,6 @@ mod tree;
 use layout::settings::Checked;
 use layout::settings::Settings;
 ghost use mathlib.Core.Path.{_≡_};
-ghost use Prim.Native.Nat.{_+_, _≤_};
 ghost use lib.ListN.{length, replicate};
 ghost use Rattle.format.specs.Building.{buildNumber, buildSize, buildLeaves};
 ghost use Rattle.built.specs.Sizes.{Taken};

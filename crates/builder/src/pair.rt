@@ -2,8 +2,10 @@
 use crate::finding;
 use crate::level;
 use crate::level::Level;
+use layout::place::BlockNumber;
+use layout::place::TextPlace;
 ghost use mathlib.Core.Path.{_≡_};
-ghost use Prim.Native.Nat.{_+_, _-_, _≤_, _<_, min};
+ghost use Prim.Native.Nat.{_+_, _-_, _≤_, min};
 ghost use lib.ListN.{length};
 ghost use Rattle.builder.specs.State.{settingsOf, On};
 ghost use Rattle.builder.specs.Marking.{keptBy, pairSays, pairOf};
@@ -35,11 +37,11 @@ pub fn keeps(before: Pair, after: Pair) -> bool
 }
 
 // Whether the bytes of the pair that starts at a place occur earlier.
-fn pair_at(text: &[u8], start: u32, size: u32) -> Pair
-    requires { ⌜ (start ≤ length (now text)) × (length (now text) ≤ 1048576) × (size ≤ 1048576) ⌝ }
-    ensures { λ r. ⌜ r ≡ pairSays (now (text .entry)) start (min (size + size) (length (now (text .entry)) - start)) ⌝ }
+fn pair_at(text: &[u8], start: TextPlace, size: u32) -> Pair
+    requires { ⌜ (start .0 ≤ length (now text)) × (length (now text) ≤ 1048576) × (size ≤ 1048576) ⌝ }
+    ensures { λ r. ⌜ r ≡ pairSays (now (text .entry)) (start .0) (min (size + size) (length (now (text .entry)) - start .0)) ⌝ }
 {
-    let len = shorter(size + size, text.len() as u32 - start);
+    let len = shorter(size + size, text.len() as u32 - start.0);
     if finding::occurs_earlier(text, start, len) {
         return Pair::Again;
     }
@@ -66,9 +68,9 @@ pub fn pair_after(text: &[u8], counted: &[u8], out: &[u8], level: Level, i: u32)
     if i + 1 == level.count {
         return Pair::Apart;
     }
-    let start = level::start(counted, out, level, i);
-    let next = level::start(counted, out, level, i + 1);
-    if next != start + level.size {
+    let start = level::start(counted, out, level, BlockNumber(i));
+    let next = level::start(counted, out, level, BlockNumber(i + 1));
+    if next.0 != start.0 + level.size {
         return Pair::Apart;
     }
     pair_at(text, start, level.size)

@@ -2,15 +2,14 @@
 use crate::counts;
 use crate::level;
 use crate::level::Level;
+use layout::place::BlockNumber;
 use layout::word;
 ghost use mathlib.Core.Path.{_≡_};
 ghost use Prim.Native.Nat.{_+_, _*_, _≤_, _<_};
-ghost use lib.ListN.{length, getD};
+ghost use lib.ListN.{length};
 ghost use Rattle.text.specs.Text.{stretch, countIn};
 ghost use Rattle.format.specs.Words.{wordAt};
-ghost use Rattle.format.specs.Blocks.{treeOf, recordBytes};
-ghost use Rattle.built.specs.Structure.{count};
-ghost use Rattle.builder.specs.Levels.{recordPlace};
+ghost use Rattle.format.specs.Blocks.{treeOf};
 ghost use Rattle.builder.specs.Growing.{Grown, Within};
 ghost use Rattle.builder.specs.State.{settingsOf, Writing, placeAt};
 ghost use Rattle.builder.specs.Records.{putThree, beforeSays};
@@ -78,7 +77,7 @@ fn put_count_of(
         (placeAt (settingsOf (level .settings) (now (counted .entry))) (now (text .entry)) (level .number) i + 16 + 12 * c)
         (placeAt (settingsOf (level .settings) (now (counted .entry))) (now (text .entry)) (level .number) i + 16 + 12 * c + 12) ⌝ }
 {
-    let at = level::place(counted, level, i) + 16 + 12 * c;
+    let at = level::place(counted, level, BlockNumber(i)) + 16 + 12 * c;
     let b = count_before(out, at - (16 + 12 * counted.len()), block);
     put_count(out, text, counted[c], at, block, b);
 }
@@ -105,7 +104,7 @@ pub fn put_record(out: &mut [u8], text: &[u8], counted: &[u8], level: Level, i: 
     ensures { λ _. ⌜ Within (treeOf (settingsOf (level .settings) (now (counted .entry))) (now (text .entry))) (now (out .exit))
         100 (placeAt (settingsOf (level .settings) (now (counted .entry))) (now (text .entry)) (level .number) (i + 1)) ⌝ }
 {
-    let at = level::place(counted, level, i);
+    let at = level::place(counted, level, BlockNumber(i));
     put_three(out, at + 4, block.kind, block.link, block.gap);
     put_counts(out, text, counted, level, i, block);
 }

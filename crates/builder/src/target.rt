@@ -3,11 +3,11 @@ use crate::finding;
 use crate::level;
 use crate::level::Level;
 use crate::record::Block;
+use layout::place::BlockNumber;
+use layout::place::TextPlace;
 ghost use mathlib.Core.Bool.{true, false};
 ghost use mathlib.Core.Path.{_≡_};
-ghost use Prim.Native.Nat.{ℕ, suc, _+_, _-_, _≤_, _<_};
-ghost use lib.ListN.{length};
-ghost use Rattle.text.specs.Text.{leftmost};
+ghost use Prim.Native.Nat.{_+_, _-_, _<_};
 ghost use Rattle.text.specs.Lists.{sumBelow};
 ghost use Rattle.built.specs.Structure.{keptAt, widthOf};
 ghost use Rattle.builder.specs.State.{settingsOf, On, BlockIs};
@@ -20,15 +20,16 @@ pub struct Range {
 }
 
 // One step of the search for the last block that starts at a place or before it.
-fn narrow(counted: &[u8], out: &[u8], level: Level, place: u32, range: Range) -> Range
+fn narrow(counted: &[u8], out: &[u8], level: Level, place: TextPlace, range: Range) -> Range
     requires { ⌜ Sorted (now out) (level .table) (level .count) (now counted) ⌝ }
-    requires { ⌜ Between (now out) (level .table) (level .count) (now counted) place (range .low) (range .high) ⌝ }
+    requires { ⌜ Between (now out) (level .table) (level .count) (now counted) (place .0) (range .low) (range .high) ⌝ }
     requires { ⌜ range .low + 1 < range .high ⌝ }
-    ensures { λ r. ⌜ Between (now (out .entry)) (level .table) (level .count) (now (counted .entry)) place (r .low) (r .high) ⌝ }
+    ensures { λ r. ⌜ Between (now (out .entry)) (level .table) (level .count) (now (counted .entry)) (place .0) (r .low) (r .high) ⌝ }
     ensures { λ r. ⌜ r .high - r .low < range .high - range .low ⌝ }
 {
     let middle = range.low + (range.high - range.low) / 2;
-    if place < level::start(counted, out, level, middle) {
+    let start = level::start(counted, out, level, BlockNumber(middle));
+    if place.0 < start.0 {
         return Range {
             low: range.low,
             high: middle,
@@ -41,10 +42,10 @@ fn narrow(counted: &[u8], out: &[u8], level: Level, place: u32, range: Range) ->
 }
 
 // The last block that starts at a place or before it.
-fn holder(counted: &[u8], out: &[u8], level: Level, place: u32) -> u32
+fn holder(counted: &[u8], out: &[u8], level: Level, place: TextPlace) -> BlockNumber
     requires { ⌜ Sorted (now out) (level .table) (level .count) (now counted) ⌝ }
-    requires { ⌜ Between (now out) (level .table) (level .count) (now counted) place 0 (level .count) ⌝ }
-    ensures { λ r. ⌜ Between (now (out .entry)) (level .table) (level .count) (now (counted .entry)) place r (r + 1) ⌝ }
+    requires { ⌜ Between (now out) (level .table) (level .count) (now counted) (place .0) 0 (level .count) ⌝ }
+    ensures { λ r. ⌜ Between (now (out .entry)) (level .table) (level .count) (now (counted .entry)) (place .0) (r .0) (r .0 + 1) ⌝ }
 {
     let mut range = Range {
         low: 0,
@@ -53,7 +54,7 @@ fn holder(counted: &[u8], out: &[u8], level: Level, place: u32) -> u32
     while range.low + 1 < range.high {
         range = narrow(counted, out, level, place, range);
     }
-    range.low
+    BlockNumber(range.low)
 }
 
 // A block that is kept, with its link.
@@ -63,11 +64,12 @@ pub fn kept_block(text: &[u8], counted: &[u8], out: &[u8], level: Level, i: u32,
     requires { ⌜ link ≡ sumBelow i (widthOf (settingsOf (level .settings) (now counted)) (now text) (level .number)) ⌝ }
     ensures { λ r. ⌜ BlockIs (settingsOf (level .settings) (now (counted .entry))) (now (text .entry)) (level .number) i r ⌝ }
 {
-    let start = level::start(counted, out, level, i);
+    let start = level::start(counted, out, level, BlockNumber(i));
+    let parent = level::parent(level, start);
     Block {
-        start,
+        start: start.0,
         length: level::bytes(text, level, start),
-        parent: level::parent(level, start),
+        parent: parent.0,
         kind: 0,
         link,
         from: 0,
@@ -81,18 +83,19 @@ pub fn pointing_block(text: &[u8], counted: &[u8], out: &[u8], level: Level, i: 
     requires { ⌜ keptAt (settingsOf (level .settings) (now counted)) (now text) (level .number) i ≡ false ⌝ }
     ensures { λ r. ⌜ BlockIs (settingsOf (level .settings) (now (counted .entry))) (now (text .entry)) (level .number) i r ⌝ }
 {
-    let start = level::start(counted, out, level, i);
+    let start = level::start(counted, out, level, BlockNumber(i));
+    let parent = level::parent(level, start);
     let length = level::bytes(text, level, start);
     let place = finding::leftmost(text, start, length);
     let link = holder(counted, out, level, place);
     let from = level::start(counted, out, level, link);
     Block {
-        start,
+        start: start.0,
         length,
-        parent: level::parent(level, start),
+        parent: parent.0,
         kind: 1,
-        link,
-        from,
-        gap: place - from,
+        link: link.0,
+        from: from.0,
+        gap: place.0 - from.0,
     }
 }

@@ -6,15 +6,16 @@ use crate::leaf;
 use crate::level;
 use crate::level::Level;
 use layout::header;
+use layout::place::BlockNumber;
 use layout::settings::Settings;
 ghost use mathlib.Core.Path.{_≡_};
-ghost use Prim.Native.Nat.{ℕ, suc, _+_, _-_, _*_, _^_, _/_, _≤_, _<_};
+ghost use Prim.Native.Nat.{_+_, _≤_, _<_};
 ghost use lib.ListN.{length};
 ghost use Rattle.format.specs.Blocks.{treeOf};
 ghost use Rattle.built.specs.Sizes.{Taken};
 ghost use Rattle.layout.specs.Settings.{Sized};
 ghost use Rattle.builder.specs.Growing.{Grown};
-ghost use Rattle.builder.specs.State.{settingsOf, LevelIs};
+ghost use Rattle.builder.specs.State.{settingsOf};
 ghost use Rattle.builder.specs.Trees.{firstOf, nextOf, Ready, StepIs, Finished};
 
 // The level after one, or that the buffer has no room for its records.
@@ -53,7 +54,7 @@ fn next_level(counted: &[u8], level: Level, count: u32) -> Level
         size: level.below,
         below: level.below / settings.arity,
         count,
-        table: level::place(counted, level, level.count) as u32,
+        table: level::place(counted, level, BlockNumber(level.count)) as u32,
     }
 }
 
@@ -67,7 +68,7 @@ fn descend(out: &mut [u8], text: &[u8], counted: &[u8], level: Level) -> Step
     let count = fill::fill_level(out, text, counted, level);
     head::put_pair(out, level.number, level.count, level.table);
     let next = next_level(counted, level, count);
-    if out.len() < level::place(counted, next, next.count) {
+    if out.len() < level::place(counted, next, BlockNumber(next.count)) {
         return Step::Full;
     }
     below::put_children(out, text, counted, level, next);
@@ -83,7 +84,7 @@ fn finish(out: &mut [u8], text: &[u8], counted: &[u8], level: Level) -> u32
 {
     let count = fill::fill_level(out, text, counted, level);
     head::put_pair(out, level.number, level.count, level.table);
-    let at = level::place(counted, level, level.count) as u32;
+    let at = level::place(counted, level, BlockNumber(level.count)) as u32;
     let end = at + count;
     if out.len() < end as usize {
         return 0;
@@ -117,7 +118,7 @@ pub fn write_tree(out: &mut [u8], text: &[u8], counted: &[u8], s: Settings) -> u
     ensures { λ r. ⌜ Finished (treeOf (settingsOf s (now (counted .entry))) (now (text .entry))) (now (out .exit)) r ⌝ }
 {
     let first = first_level(text, s);
-    if out.len() < level::place(counted, first, first.count) {
+    if out.len() < level::place(counted, first, BlockNumber(first.count)) {
         return 0;
     }
     head::put_head(out, text, counted, s);

@@ -1,12 +1,10 @@
 -- The sum over the levels, and the answers.
-use mathlib.Core.List.{List, []}
+use mathlib.Core.List.{[]}
 use mathlib.Core.Bool.{Bool, true, false, cond}
-use mathlib.Core.Path.{_≡_, refl, sym, ap, _∙_}
-use Prim.Native.Nat.{ℕ, zero, suc, _+_, _-_, _*_, _/_, _^_, _≤_, _<_}
+use mathlib.Core.Path.{_≡_, refl, sym, _∙_}
+use Prim.Native.Nat.{ℕ, _+_, _-_, _*_, _^_, _≤_, _<_}
 use native.Mathlib.Omega.{arith}
-use native.Mathlib.Numerals.{add-one}
 use native.Mathlib.Nat.{one-le-pow, mul-le-mul, mul-le-mul-left, pow-le-pow-right, le-trans, div-le-self}
-use lib.ListN.{length}
 use lib.Dec.{leb}
 use borrow.Author.Tests.{le-leb, lt-leb}
 use Rattle.text.specs.Lists.{sumBelow}
@@ -18,7 +16,6 @@ use Rattle.layout.specs.declared.settings.Settings as code
 use Rattle.layout.specs.declared.settings.Checked.{Checked}
 use Rattle.layout.specs.declared.settings.Checked.the-variants as checked-is
 use Rattle.layout.specs.Settings.{Sized, checked, sizes}
-use Rattle.enough.specs.declared.Room.{Room}
 use Rattle.enough.specs.declared.Room.the-variants.{Bytes, Refused}
 use Rattle.enough.specs.Enough.{blocksAtMost, enoughFor, enoughSays}
 

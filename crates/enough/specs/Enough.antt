@@ -1,10 +1,10 @@
 -- A size that is enough for every tree of texts of n bytes: the header, a leaf byte for each byte of the text, and on each level a record for
 -- each block that the text can be cut into.
-use mathlib.Core.Bool.{Bool, cond, _&&_}
+use mathlib.Core.Bool.{cond}
 use Prim.Native.Nat.{ℕ, _+_, _-_, _*_, _^_}
 use lib.Dec.{leb}
 use Rattle.text.specs.Lists.{sumBelow}
-use Rattle.format.specs.Settings.{Settings, pieces, lengthOk, sizesOk}
+use Rattle.format.specs.Settings.{pieces, lengthOk, sizesOk}
 use Rattle.layout.specs.Settings.{sizes}
 use Rattle.enough.specs.declared.Room.{Room}
 use Rattle.enough.specs.declared.Room.the-variants.{Bytes, Refused}

@@ -3,9 +3,9 @@ use layout::header;
 use layout::settings::Checked;
 use layout::settings::Settings;
 ghost use mathlib.Core.Path.{_≡_};
-ghost use Prim.Native.Nat.{_+_, _-_, _*_, _^_, _≤_, _<_};
+ghost use Prim.Native.Nat.{_≤_};
 ghost use Rattle.layout.specs.Settings.{Sized};
-ghost use Rattle.enough.specs.Enough.{blocksAtMost, enoughFor, enoughSays};
+ghost use Rattle.enough.specs.Enough.{blocksAtMost, enoughSays};
 
 // The bytes that are enough, or the number of the question that refuses the length or the settings.
 pub enum Room {

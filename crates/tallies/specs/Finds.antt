@@ -38,7 +38,7 @@ module _ (t : List ℕ) (k : Readable t) (d : Linked t) (a : (m : ℕ) → m < H
 
   -- Siblings on level 0.
 
-  top-before : (i : ℕ) → i < N t 0 → at.before t 0 i c ≡ tally t c 0 (i * b t 0)
+  pub top-before : (i : ℕ) → i < N t 0 → at.before t 0 i c ≡ tally t c 0 (i * b t 0)
   unfolding parentPlace
   top-before i hi =
       let e : s t 0 i - 0 ≡ i * b t 0 = omega (arith, d .start0 i hi) in

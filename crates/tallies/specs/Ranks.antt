@@ -37,16 +37,16 @@ module _ (t : List ℕ) where
   unfoldable pub leafCount : ℕ → List Visit → ℕ → ℕ
   leafCount c vs x = countIn (byteOf t c) (leavesReached t (record { visits = vs; leaf = x }))
 
-  leaf-one : (c l i o : ℕ) → leafCount c (visit l i o ∷ []) (at.link t l i + o) ≡ inLeaves t l i (o + 1) c
+  pub leaf-one : (c l i o : ℕ) → leafCount c (visit l i o ∷ []) (at.link t l i + o) ≡ inLeaves t l i (o + 1) c
   unfolding leafCount leavesReached lastPlace inLeaves
   leaf-one c l i o = let e : at.link t l i + o - o ≡ at.link t l i = omega arith in rw e
 
-  leaf-cons : (c : ℕ) (v w : Visit) (vs : List Visit) (x : ℕ) → leafCount c (v ∷ w ∷ vs) x ≡ leafCount c (w ∷ vs) x
+  pub leaf-cons : (c : ℕ) (v w : Visit) (vs : List Visit) (x : ℕ) → leafCount c (v ∷ w ∷ vs) x ≡ leafCount c (w ∷ vs) x
   unfolding leafCount leavesReached lastPlace
   leaf-cons c v w vs x = refl
 
   -- the first block on a path
-  goes-head : {below l i o x : ℕ} {vs : List Visit} → Goes t below l i o vs x → (ws : List Visit) × (vs ≡ visit l i o ∷ ws)
+  pub goes-head : {below l i o x : ℕ} {vs : List Visit} → Goes t below l i o vs x → (ws : List Visit) × (vs ≡ visit l i o ∷ ws)
   goes-head (Goes.ends kept h) = ([], refl)
   goes-head (Goes.down {vs = vs} kept g) = (vs, refl)
   goes-head {l = l} {i = i} {o = o} (Goes.points {vs = vs} un pt kept g) = (visit l (targetBlock t l i o) (targetPlace t l i o) ∷ vs, refl)
@@ -61,37 +61,37 @@ module _ (t : List ℕ) where
   taken-down c u v vs e = rw e (omega arith)
 
   module _ {below l i o x : ℕ} {vs : List Visit} (c : ℕ) (u : Visit) (g : Goes t below l i o vs x) (e : eqb (u .level) l ≡ false) where
-    added-rest : addedAfter t c u vs ≡ added t c vs
+    pub added-rest : addedAfter t c u vs ≡ added t c vs
     added-rest = let w = goes-head g in rw (w .1) (added-down c u (visit l i o) (w .0) e)
 
-    taken-rest : takenAfter t c u vs ≡ taken t c vs
+    pub taken-rest : takenAfter t c u vs ≡ taken t c vs
     taken-rest = let w = goes-head g in rw (w .1) (taken-down c u (visit l i o) (w .0) e)
 
-    leaf-rest : leafCount c (u ∷ vs) x ≡ leafCount c vs x
+    pub leaf-rest : leafCount c (u ∷ vs) x ≡ leafCount c vs x
     leaf-rest = let w = goes-head g in rw (w .1) (leaf-cons c u (visit l i o) (w .0) x)
 
-  next-level : (l : ℕ) → eqb l (l + 1) ≡ false
+  pub next-level : (l : ℕ) → eqb l (l + 1) ≡ false
   next-level l = ne-eqb l (l + 1) (λ e. omega arith)
 
-  added-cons : (c : ℕ) (v : Visit) (vs : List Visit) → added t c (v ∷ vs) ≡ at.before t (v .level) (v .block) c + addedAfter t c v vs
+  pub added-cons : (c : ℕ) (v : Visit) (vs : List Visit) → added t c (v ∷ vs) ≡ at.before t (v .level) (v .block) c + addedAfter t c v vs
   unfolding added
   added-cons c v vs = refl
 
-  taken-cons : (c : ℕ) (v : Visit) (vs : List Visit) → taken t c (v ∷ vs) ≡ takenAfter t c v vs
+  pub taken-cons : (c : ℕ) (v : Visit) (vs : List Visit) → taken t c (v ∷ vs) ≡ takenAfter t c v vs
   unfolding taken
   taken-cons c v vs = refl
 
   -- nothing after the last block
-  added-end : (c : ℕ) (v : Visit) → addedAfter t c v [] ≡ 0
+  pub added-end : (c : ℕ) (v : Visit) → addedAfter t c v [] ≡ 0
   unfolding addedAfter
   added-end c v = refl
 
-  taken-end : (c : ℕ) (v : Visit) → takenAfter t c v [] ≡ 0
+  pub taken-end : (c : ℕ) (v : Visit) → takenAfter t c v [] ≡ 0
   unfolding takenAfter
   taken-end c v = refl
 
   -- from a pointing block to a target on its level
-  taken-target : (c l i o j p : ℕ) (vs : List Visit) → takenAfter t c (visit l i o) (visit l j p ∷ vs) ≡ at.skip t l i c + takenAfter t c (visit l j p) vs
+  pub taken-target : (c l i o j p : ℕ) (vs : List Visit) → takenAfter t c (visit l i o) (visit l j p ∷ vs) ≡ at.skip t l i c + takenAfter t c (visit l j p) vs
   unfolding takenAfter
   taken-target c l i o j p vs = rw (eq-eqb l l refl)
 

@@ -1,8 +1,8 @@
-use Prim.Native.Nat.{ℕ, _≤_, _-_}
-use borrow.Author.Fill.{fill-none, fill-more}
+use Prim.Native.Nat.{_≤_, _-_}
+use borrow.Author.Fill.{fill-none}
 use lib.ListN.{length, drop, replicate, length-set}
-use mathlib.Core.List.{List, _++_}
-use mathlib.Core.Path.{_≡_, refl, sym, ap, _∙_}
+use mathlib.Core.List.{_++_}
+use mathlib.Core.Path.{_≡_, refl}
 use native.Mathlib.Omega.{arith}
 use Rattle.builder.proofs.Outcomes.{all-zero, zero-more}
 use Rattle.builder.proofs.clear.Statement.{statement}

@@ -1,6 +1,6 @@
-use Prim.Native.Nat.{ℕ, _+_, _*_, _^_, _≤_, _-_}
+use Prim.Native.Nat.{ℕ, _*_, _^_, _≤_, _-_}
 use borrow.Author.Needs.{needs}
-use mathlib.Core.Path.{_≡_, ap, sym, _∙_}
+use mathlib.Core.Path.{_≡_, ap, _∙_}
 use native.Mathlib.Omega.{arith}
 use Rattle.enough.proofs.Answering as laws
 use Rattle.enough.proofs.blocks.Statement.{statement}

@@ -1,5 +1,4 @@
 use Prim.Native.Nat.{_≤_, _-_}
-use mathlib.Core.Path.{_≡_, refl, _∙_}
 use native.Mathlib.Omega.{arith}
 use Rattle.builder.proofs.Children.{below-more, below-all}
 use Rattle.builder.proofs.Growth.{grown-none, grown-then}

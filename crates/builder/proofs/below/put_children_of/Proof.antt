@@ -2,7 +2,7 @@ use borrow.Author.Needs.{needs}
 use native.Mathlib.Omega.{arith}
 use Rattle.builder.proofs.Children as laws
 use Rattle.builder.proofs.Growth.{grown-none}
-use Rattle.builder.proofs.StateLaws.{Few, few}
+use Rattle.builder.proofs.StateLaws.{few}
 use Rattle.builder.proofs.below.put_children_of.Statement.{statement}
 use Rattle.builder.proofs.below.put_children_of.Tie as tie
 use Rattle.builder.specs.State.{settingsOf}

@@ -1,6 +1,5 @@
 use Prim.Native.Nat.{_-_}
 use borrow.Author.Needs.{needs}
-use mathlib.Core.Path.{sym, _∙_}
 use native.Mathlib.Omega.{arith}
 use Rattle.builder.proofs.Filling as laws
 use Rattle.builder.proofs.fill.fill_level.Statement.{statement}

@@ -1,5 +1,5 @@
 use borrow.Author.Needs.{needs}
-use mathlib.Core.Path.{sym, _∙_}
+use mathlib.Core.Path.{_∙_}
 use Rattle.builder.proofs.Filling as laws
 use Rattle.builder.proofs.fill.put_block.Statement.{statement}
 use Rattle.builder.proofs.fill.put_block.Tie as tie

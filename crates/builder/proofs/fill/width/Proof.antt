@@ -1,8 +1,6 @@
 use Prim.Native.Nat.{_+_}
 use borrow.Author.Needs.{needs}
 use borrow.Author.Tests.{eq-eqb, ne-eqb, not-true, not-false}
-use mathlib.Core.Bool.{Bool}
-use mathlib.Core.Path.{refl}
 use Rattle.builder.proofs.fill.width.Statement.{statement}
 use Rattle.builder.proofs.fill.width.Tie as tie
 

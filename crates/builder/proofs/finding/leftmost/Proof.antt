@@ -11,5 +11,5 @@ leftmost-spec =
     (λ c κs. search needs)
     (λ c. search needs)
     (λ c. search needs)
-    (λ c. let a = c .before .before .before .before .before .before .args in found-at (a .text .now) (a .start) (a .len) (c .before .before .before .before .before .before .pre) _ (c .before .before .before .leftmost .ensures) _ (c .before .found .given .1))
-    (λ c. let a = c .before .before .before .before .before .args in found-outside (a .text .now) (a .start) (a .len) (c .before .before .before .before .before .pre) _ (c .before .before .leftmost .ensures) (c .enum-told .given .1)))
+    (λ c. let a = c .before .before .before .before .before .before .args in found-at (a .text .now) (a .start .0) (a .len) (c .before .before .before .before .before .before .pre) _ (c .before .before .before .leftmost .ensures) _ (c .before .found .given .1))
+    (λ c. let a = c .before .before .before .before .before .args in found-outside (a .text .now) (a .start .0) (a .len) (c .before .before .before .before .before .pre) _ (c .before .before .leftmost .ensures) (c .enum-told .given .1)))

@@ -6,7 +6,6 @@ use Rattle.builder.proofs.Heads.{unused-more}
 use Rattle.builder.proofs.head.put_unused.Statement.{statement}
 use Rattle.builder.proofs.head.put_unused.Tie as tie
 use Rattle.builder.specs.Head.{unusedWritten}
-use Rattle.format.specs.WordLaws.{length-setWord}
 
 abbrev Inv-loop : tie.InvT-loop
 Inv-loop out₀ levels n₀ out n = (n ≤ 8 - levels) × ((length out ≡ length out₀) × (out ≡ unusedWritten out₀ levels n))

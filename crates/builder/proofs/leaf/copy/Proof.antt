@@ -1,6 +1,6 @@
-use Prim.Native.Nat.{ℕ, _≤_, _-_, _+_}
+use Prim.Native.Nat.{ℕ, _≤_, _-_}
 use lib.ListN.{length, length-set}
-use mathlib.Core.Path.{_≡_, refl, sym, ap, _∙_}
+use mathlib.Core.Path.{_≡_, refl, ap, _∙_}
 use native.Mathlib.Omega.{arith}
 use Rattle.builder.proofs.Leafs.{bytes-more}
 use Rattle.builder.proofs.leaf.copy.Statement.{statement}

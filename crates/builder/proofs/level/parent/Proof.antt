@@ -11,5 +11,5 @@ parent-spec =
     (tie.spec
     (λ c. rw (eq-eqb (c .before .before .args .level .number) 0 (c .if1 .taken)))
     (λ c. search needs)
-    (λ c. omega (arith, div-mul-le-self (c .before .before .before .before .args .start) (c .before .before .before .before .args .level .above)))
-    (λ c. rw (ne-eqb (c .before .before .before .before .args .level .number) 0 (c .before .before .if1 .left))))
+    (λ c. omega (arith, div-mul-le-self (c .before .before .before .before .before .args .start .0) (c .before .before .before .before .before .args .level .above)))
+    (λ c. rw (ne-eqb (c .before .before .before .before .before .args .level .number) 0 (c .before .before .before .if1 .left))))

@@ -1,6 +1,6 @@
 use Prim.Native.Nat.{ℕ}
 use borrow.Author.Needs.{needs}
-use mathlib.Core.Path.{_≡_, _∙_, ap}
+use mathlib.Core.Path.{_∙_, ap}
 use Rattle.builder.proofs.level.start.Statement.{statement}
 use Rattle.builder.proofs.level.start.Tie as tie
 use Rattle.format.specs.Words.{wordAt}

@@ -12,5 +12,5 @@ pair-at-spec =
     (λ c. search needs)
     (λ c κs. search needs)
     (λ c κs. search needs)
-    (λ c. let a = c .before .before .before .before .args in again-here (a .text .now) (a .start) (a .size) _ _ (c .before .before .before .before .pre .0) (c .before .before .shorter .ensures) (c .before .occurs-earlier .ensures) (c .if1 .taken))
-    (λ c. let a = c .before .before .before .before .args in first-here (a .text .now) (a .start) (a .size) _ _ (c .before .before .before .before .pre .0) (c .before .before .shorter .ensures) (c .before .occurs-earlier .ensures) (c .if1 .left)))
+    (λ c. let a = c .before .before .before .before .before .args in again-here (a .text .now) (a .start .0) (a .size) _ _ (c .before .before .before .before .before .pre .0) (c .before .before .shorter .ensures) (c .before .occurs-earlier .ensures) (c .if1 .taken))
+    (λ c. let a = c .before .before .before .before .before .args in first-here (a .text .now) (a .start .0) (a .size) _ _ (c .before .before .before .before .before .pre .0) (c .before .before .shorter .ensures) (c .before .occurs-earlier .ensures) (c .if1 .left)))

@@ -1,8 +1,7 @@
 use borrow.Author.Needs.{needs}
-use lib.ListN.{length, getD}
 use native.Mathlib.Omega.{arith}
 use Rattle.builder.proofs.RecordCounts as laws
-use Rattle.builder.proofs.StateLaws.{Few, few}
+use Rattle.builder.proofs.StateLaws.{few}
 use Rattle.builder.proofs.record.put_count_of.Statement.{statement}
 use Rattle.builder.proofs.record.put_count_of.Tie as tie
 use Rattle.builder.specs.State.{settingsOf}

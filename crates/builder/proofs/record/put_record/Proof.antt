@@ -2,7 +2,7 @@ use borrow.Author.Needs.{needs}
 use native.Mathlib.Omega.{arith}
 use Rattle.builder.proofs.Growth.{grown-then}
 use Rattle.builder.proofs.RecordCounts as laws
-use Rattle.builder.proofs.StateLaws.{Few, few, writing-grown, record-size}
+use Rattle.builder.proofs.StateLaws.{few, writing-grown, record-size}
 use Rattle.builder.proofs.record.put_record.Statement.{statement}
 use Rattle.builder.proofs.record.put_record.Tie as tie
 use Rattle.builder.specs.State.{settingsOf}

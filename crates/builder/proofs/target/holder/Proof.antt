@@ -6,7 +6,7 @@ use Rattle.builder.proofs.target.holder.Tie as tie
 use Rattle.builder.specs.Targets.{Between}
 
 abbrev Inv-loop : tie.InvT-loop
-Inv-loop counted out level place range₀ range = Between out (level .table) (level .count) counted place (range .low) (range .high)
+Inv-loop counted out level place range₀ range = Between out (level .table) (level .count) counted (place .0) (range .low) (range .high)
 
 abbrev μ-loop : tie.MeasureT-loop
 μ-loop counted out level place range₀ range = range .high - range .low

@@ -1,6 +1,6 @@
 use native.Mathlib.Omega.{arith}
 use Rattle.builder.proofs.Pairing.{start-fits, start-read, start-in}
-use Rattle.builder.proofs.StateLaws.{Few, few}
+use Rattle.builder.proofs.StateLaws.{few}
 use Rattle.builder.proofs.Targeting as laws
 use Rattle.builder.proofs.target.kept_block.Statement.{statement}
 use Rattle.builder.proofs.target.kept_block.Tie as tie
@@ -11,6 +11,6 @@ kept-block-spec =
     tie.close
     (tie.spec
     (λ c κs. let a = c .before .before .before .args in let S = settingsOf (a .level .settings) (a .counted .now) in let w = c .before .before .before .pre .0 in let f = few S (a .text .now) (a .level) (w .level-is) in (f .counted-few, f .table-few, omega (arith, w .block-in, f .count-few), start-fits S (a .text .now) (a .out .now) (a .level) (a .i) w (a .i) (w .block-in)))
-    (λ c κs. let a = c .before .before .before .before .args in let S = settingsOf (a .level .settings) (a .counted .now) in let w = c .before .before .before .before .pre .0 in let f = few S (a .text .now) (a .level) (w .level-is) in (f .text-few, omega (arith, c .start .ensures, start-read S (a .text .now) (a .out .now) (a .level) (a .i) w (a .i) (w .block-in), start-in S (a .text .now) (a .out .now) (a .level) (a .i) w (a .i) (w .block-in))))
-    (λ c κs. c .before .before .before .before .before .pre .0 .level-is .above-low)
-    (λ c. let a = c .before .before .before .before .before .before .args in let S = settingsOf (a .level .settings) (a .counted .now) in laws.kept-is S (a .text .now) (a .out .now) (a .level) (a .i) (c .before .before .before .before .before .before .pre .0) _ _ _ (c .before .before .start .ensures) (c .before .bytes .ensures .0) (c .parent .ensures) (a .link) (c .before .before .before .before .before .before .pre .1 .0) (c .before .before .before .before .before .before .pre .1 .1)))
+    (λ c κs. c .before .before .before .before .pre .0 .level-is .above-low)
+    (λ c κs. let a = c .before .before .before .before .before .args in let S = settingsOf (a .level .settings) (a .counted .now) in let w = c .before .before .before .before .before .pre .0 in let f = few S (a .text .now) (a .level) (w .level-is) in (f .text-few, omega (arith, c .before .start .ensures, start-read S (a .text .now) (a .out .now) (a .level) (a .i) w (a .i) (w .block-in), start-in S (a .text .now) (a .out .now) (a .level) (a .i) w (a .i) (w .block-in))))
+    (λ c. let a = c .before .before .before .before .before .before .args in let S = settingsOf (a .level .settings) (a .counted .now) in laws.kept-is S (a .text .now) (a .out .now) (a .level) (a .i) (c .before .before .before .before .before .before .pre .0) _ _ _ (c .before .before .start .ensures) (c .bytes .ensures .0) (c .before .parent .ensures) (a .link) (c .before .before .before .before .before .before .pre .1 .0) (c .before .before .before .before .before .before .pre .1 .1)))

@@ -3,7 +3,7 @@ use borrow.Author.Needs.{needs}
 use native.Mathlib.Omega.{arith}
 use Rattle.builder.proofs.Descending as laws
 use Rattle.builder.proofs.Growth.{grown-then}
-use Rattle.builder.proofs.StateLaws.{Few, few, offset-low}
+use Rattle.builder.proofs.StateLaws.{few, offset-low}
 use Rattle.builder.proofs.tree.descend.Statement.{statement}
 use Rattle.builder.proofs.tree.descend.Tie as tie
 use Rattle.builder.specs.State.{settingsOf}

@@ -3,7 +3,6 @@ use native.Mathlib.Omega.{arith}
 use Rattle.builder.proofs.Descending.{first-sized}
 use Rattle.builder.proofs.Growth.{grown-none}
 use Rattle.builder.proofs.Levelling as laws
-use Rattle.builder.proofs.StateLaws.{Few}
 use Rattle.builder.proofs.tree.write_tree.Statement.{statement}
 use Rattle.builder.proofs.tree.write_tree.Tie as tie
 use Rattle.builder.specs.State.{settingsOf}

@@ -1,0 +1,90 @@
+-- Count, from the sums of a path.
+use mathlib.Core.List.{List}
+use mathlib.Core.Option.{Option, none, some}
+use mathlib.Core.Bool.{Bool, true, false, cond}
+use mathlib.Core.Path.{_≡_, refl, sym, ap, _∙_}
+use Prim.Native.Nat.{ℕ, zero, suc, _+_, _-_, _≤_, _<_}
+use native.Mathlib.Omega.{arith}
+use borrow.Author.Tests.{lt-ltb, le-ltb, lt-leb, le-leb, ne-eqb, eq-eqb}
+use lib.ListN.{length}
+use lib.Dec.{ltb, leb, eqb}
+use Rattle.format.specs.Layout as at
+use Rattle.format.specs.Path.{Path, pathOf}
+use Rattle.format.specs.Verdict.{readable}
+use Rattle.format.specs.Said.{Said, refused, unless}
+use Rattle.format.specs.Counting.{indexOf, countOf, isCounted, numberOfByte, countSays}
+use Rattle.layout.specs.declared.header.Header.{Header}
+use Rattle.layout.specs.declared.header.HeaderRead.{HeaderRead}
+use Rattle.layout.specs.declared.header.HeaderRead.the-variants.{Refused}
+use Rattle.layout.specs.Header.{headerSays}
+use Rattle.layout.specs.HeaderSays.{HeaderOf}
+use Rattle.layout.specs.HeaderSays.{header-refused}
+use Rattle.rank.specs.declared.sums.Sum.{Sum}
+use Rattle.rank.specs.declared.sums.Summed.{Summed}
+use Rattle.rank.specs.declared.sums.Summed.the-variants.{At, Broken}
+use Rattle.rank.specs.Sums.{wholeSum}
+use Rattle.rank.specs.Counts.{settled}
+
+-- the finished count
+
+pub settled-broken : (x : Summed) → x ≡ Broken → refused 14 ≡ settled x
+unfolding settled
+settled-broken x e = rw e
+
+pub settled-below : (x : Summed) (s : Sum) → x ≡ At s → s .plus < s .minus → refused 14 ≡ settled x
+unfolding settled
+settled-below x s e h = rw (e, lt-leb (s .minus) (s .plus) h)
+
+pub settled-at : (x : Summed) (s : Sum) → x ≡ At s → s .minus ≤ s .plus → record { number = 0; value = s .plus - s .minus; entered = s .entered } ≡ settled x
+unfolding settled
+settled-at x s e h = rw (e, le-leb (s .minus) (s .plus) h)
+
+settled-whole : (t : List ℕ) (byte c : ℕ) (r : Option Path) → settled (wholeSum t byte c r) ≡ countOf t byte c r
+unfolding settled wholeSum
+settled-whole t byte c none = refl
+settled-whole t byte c (some q) = refl
+
+-- the number of a byte, and whether it is counted
+module _ (t : List ℕ) (h : Header) (k : HeaderOf t h) (byte number : ℕ) (is : number ≡ numberOfByte t byte) where
+  pub not-counted : h .settings .counted ≤ number → isCounted t byte ≡ false
+  unfolding isCounted numberOfByte
+  not-counted past = le-ltb (indexOf byte (at.settings t .counted)) (length (at.settings t .counted)) (omega (arith, k .facts .counted-size, k .counted-is))
+
+  pub is-counted : number < h .settings .counted → isCounted t byte ≡ true
+  unfolding isCounted numberOfByte
+  is-counted low = lt-ltb (indexOf byte (at.settings t .counted)) (length (at.settings t .counted)) (omega (arith, k .facts .counted-size, k .counted-is))
+
+  pub number-in : number < h .settings .counted → number < at.countedCount t
+  number-in low = omega (arith, k .counted-is)
+
+-- each way out of count
+module _ (t : List ℕ) (h : Header) (k : HeaderOf t h) (byte i : ℕ) where
+  pub count-past : h .length < i → refused 10 ≡ countSays t byte i
+  unfolding countSays
+  count-past past = rw (k .passes, lt-leb i (at.textLength t) (omega (arith, k .length-is)))
+
+  module _ (low : i ≤ h .length) (number : ℕ) (is : number ≡ numberOfByte t byte) where
+    pub count-none : h .settings .counted ≤ number → refused 11 ≡ countSays t byte i
+    unfolding countSays
+    count-none past = rw (k .passes, le-leb i (at.textLength t) (omega (arith, k .length-is)), not-counted t h k byte number is past)
+
+    module _ (counted : number < h .settings .counted) where
+      pub count-nothing : i ≡ 0 → record { number = 0; value = 0; entered = 0 } ≡ countSays t byte i
+      unfolding countSays
+      count-nothing z = rw (k .passes, le-leb i (at.textLength t) (omega (arith, k .length-is)), is-counted t h k byte number is counted, z)
+
+      pub count-walked : (i ≡ 0 → ⊥) → (x : Summed) → x ≡ wholeSum t byte number (pathOf t (i - 1)) → (s : Said) → s ≡ settled x → s ≡ countSays t byte i
+      unfolding countSays
+      count-walked n x x-is s e =
+          rw (k .passes, le-leb i (at.textLength t) (omega (arith, k .length-is)), is-counted t h k byte number is counted, ne-eqb i 0 n)
+          (e ∙ ap settled x-is ∙ settled-whole t byte number (pathOf t (i - 1)) ∙ rw is)
+
+-- a tree that does not pass questions 5 to 7
+unless-refused : (n k q : ℕ) (a : Said) → n ≡ suc k → q ≡ suc k → refused q ≡ unless n a
+unless-refused n k q a e f = rw (e, f)
+
+pub count-unread : (t : List ℕ) (byte i : ℕ) (x : HeaderRead) → x ≡ headerSays t → (q : ℕ) → x ≡ Refused q → refused q ≡ countSays t byte i
+unfolding countSays
+count-unread t byte i x x-is q e =
+    let z = header-refused t x x-is q e in
+    unless-refused (readable t) (z .0) q _ (z .1) (z .2)

@@ -1,0 +1,6 @@
+pub mod ScanLaws
+pub mod SumLaws
+pub mod CountingLaws
+pub mod SeekLaws
+pub mod LandLaws
+pub mod FindingLaws

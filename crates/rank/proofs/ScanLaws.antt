@@ -1,0 +1,79 @@
+-- A byte looked for, one place after another.
+use mathlib.Core.List.{List, [], _∷_}
+use mathlib.Core.Bool.{Bool, true, false, cond}
+use mathlib.Core.Path.{_≡_, refl, sym, ap, _∙_}
+use Prim.Native.Nat.{ℕ, zero, suc, _+_, _≤_, _<_}
+use native.Mathlib.Omega.{arith}
+use native.Mathlib.Numerals.{add-one}
+use lib.ListN.{length, take, drop, getD, length-take, length-drop, drop-of-length-le}
+use lib.Seq.{drop-cons, getD-take, getD-drop}
+use lib.Dec.{eqb}
+use borrow.Author.Tests.{eq-eqb, ne-eqb}
+use Rattle.text.specs.Text.{stretch, countIn}
+use Rattle.text.specs.CountLaws.{one, count-next}
+use Rattle.format.specs.Layout as at
+use Rattle.format.specs.Counting.{indexOf, numberOfByte}
+use Rattle.rank.specs.Scans.{Names, Stands}
+
+-- the number of a byte in a list
+
+index-here : (c : ℕ) (xs : List ℕ) (i : ℕ) → i < length xs → getD xs i 0 ≡ c → indexOf c (drop i xs) ≡ 0
+unfolding indexOf
+index-here c xs i h e = rw (drop-cons xs i 0 h, eq-eqb c (getD xs i 0) (sym e))
+
+index-later : (c : ℕ) (xs : List ℕ) (i : ℕ) → i < length xs → (getD xs i 0 ≡ c → ⊥) → indexOf c (drop i xs) ≡ indexOf c (drop (i + 1) xs) + 1
+unfolding indexOf
+index-later c xs i h e = rw (add-one i, drop-cons xs i 0 h, ne-eqb c (getD xs i 0) (λ x. e (sym x)))
+
+index-past : (c : ℕ) (xs : List ℕ) (i : ℕ) → length xs ≤ i → indexOf c (drop i xs) ≡ 0
+unfolding indexOf
+index-past c xs i h = rw (drop-of-length-le xs h)
+
+-- of the names from i on
+unfoldable pub ahead : List ℕ → ℕ → ℕ → ℕ
+ahead t byte i = indexOf byte (drop i (at.settings t .counted)) + i
+
+pub ahead-start : (t : List ℕ) (byte : ℕ) → ahead t byte 0 ≡ numberOfByte t byte
+unfolding ahead numberOfByte
+ahead-start t byte = omega arith
+
+module _ (t : List ℕ) (k byte i : ℕ) (n : Names t k) where
+  name-at : i < k → getD (at.settings t .counted) i 0 ≡ getD t (24 + i) 0
+  unfolding at.settings
+  name-at h =
+      let a : i < at.countedCount t = omega (arith, n .k-is) in
+      let b : i < 4 = omega (arith, n .k-low) in
+      rw (getD-take, getD-take, getD-drop)
+
+  names : length (at.settings t .counted) ≡ k
+  unfolding at.settings
+  names = simp (length-take, length-drop) (omega (arith, n .long, n .k-is, n .k-low))
+
+  pub ahead-hit : i < k → getD t (24 + i) 0 ≡ byte → i ≡ ahead t byte i
+  unfolding ahead
+  ahead-hit h e = omega (arith, index-here byte (at.settings t .counted) i (omega (arith, names)) (name-at h ∙ e))
+
+  pub ahead-miss : i < k → (getD t (24 + i) 0 ≡ byte → ⊥) → ahead t byte (i + 1) ≡ ahead t byte i
+  unfolding ahead
+  ahead-miss h e = omega (arith, index-later byte (at.settings t .counted) i (omega (arith, names)) (λ x. e (sym (name-at h) ∙ x)))
+
+  pub ahead-end : k ≤ i → i ≡ ahead t byte i
+  unfolding ahead
+  ahead-end h = omega (arith, index-past byte (at.settings t .counted) i (omega (arith, names)))
+
+-- counts
+
+pub count-next-other : (c : ℕ) (T : List ℕ) (p o : ℕ) → p + o < length T → (getD T (p + o) 0 ≡ c → ⊥)
+    → countIn c (stretch T p (o + 1)) ≡ countIn c (stretch T p o)
+count-next-other c T p o h e =
+    let z : one c (getD T (p + o) 0) ≡ 0 = rw (ne-eqb c (getD T (p + o) 0) (λ x. e (sym x))) in
+    omega (arith, count-next c T p o h)
+
+module _ (t : List ℕ) (from n byte j : ℕ) where
+  pub stands-here : (r : ℕ) → r < n → getD t (from + r) 0 ≡ byte → countIn byte (stretch t from r) + 1 ≡ j → Stands t from n byte j r
+  stands-here r h e c = record { high = omega arith; here = λ x. (e, c); fewer = λ x. absurd (let z : ⊥ = omega arith in z) }
+
+  pub stands-not : (r : ℕ) → r ≤ n → n ≤ r → countIn byte (stretch t from r) < j → Stands t from n byte j r
+  stands-not r h g c =
+      let e : r ≡ n = omega arith in
+      record { high = h; here = λ x. absurd (let z : ⊥ = omega arith in z); fewer = λ x. rw e at c }

@@ -1,0 +1,16 @@
+use borrow.Author.Needs.{needs}
+use Rattle.layout.specs.HeaderSays.{header-good}
+use Rattle.rank.proofs.CountingLaws as laws
+use Rattle.rank.proofs.count.Statement.{statement}
+use Rattle.rank.proofs.count.Tie as tie
+
+pub count-spec : {M : Type 1} → statement M
+count-spec =
+    tie.close
+    (tie.spec
+    (λ c κs. search needs)
+    (λ c. search needs)
+    (λ c κs. header-good _ _ (c .before .before .before .read-header .ensures) _ (c .before .read .given .1))
+    (λ c. search needs)
+    (λ c. search needs)
+    (λ c. laws.count-unread _ _ _ _ (c .before .before .before .read-header .ensures) _ (c .before .read2 .given .1)))

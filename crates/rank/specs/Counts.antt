@@ -1,0 +1,19 @@
+-- What count answers in document 01's terms, and what is made of the sums.
+use mathlib.Core.Bool.{cond}
+use Prim.Native.Nat.{ℕ, _-_}
+use lib.Dec.{leb}
+use Rattle.format.specs.Said.{Said, refused}
+use Rattle.rank.specs.declared.Counted.{Counted}
+use Rattle.rank.specs.declared.Counted.the-variants.{Times, Refused}
+use Rattle.rank.specs.declared.sums.Summed.{Summed}
+use Rattle.rank.specs.declared.sums.Summed.the-variants.{At, Broken}
+
+-- how often the byte stands, with the blocks entered
+abbrev pub saidCount : Counted → Said
+saidCount (Times times entered) = record { number = 0; value = times; entered = entered }
+saidCount (Refused number) = refused number
+
+-- the finished count, which is not below zero
+unfoldable pub settled : Summed → Said
+settled Broken = refused 14
+settled (At s) = cond (leb (s .minus) (s .plus)) (record { number = 0; value = s .plus - s .minus; entered = s .entered }) (refused 14)

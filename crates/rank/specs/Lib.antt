@@ -1,0 +1,5 @@
+pub mod Scans
+pub mod Sums
+pub mod Counts
+pub mod Seeks
+pub mod Found

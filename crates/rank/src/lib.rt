@@ -1,0 +1,49 @@
+// The questions on counted bytes: count, find, row. Each asks 5 to 7 first, of any bytes lent as a tree.
+mod counting;
+mod finding;
+mod scan;
+mod seek;
+mod sums;
+
+use layout::header;
+use layout::header::HeaderRead;
+use layout::place::TextPlace;
+ghost use mathlib.Core.Path.{_≡_};
+ghost use Rattle.format.specs.Counting.{countSays};
+ghost use Rattle.format.specs.Finding.{FindSays};
+ghost use Rattle.rank.specs.Counts.{saidCount};
+ghost use Rattle.rank.specs.Found.{saidFind};
+
+// How often a byte stands, with the number of blocks entered, or the number of the question that refuses.
+pub enum Counted {
+    Times(u64, u32),
+    Refused(u32),
+}
+
+// A place of the text, with the number of blocks on its path, or the number of the question that refuses.
+pub enum Found {
+    At(TextPlace, u32),
+    Refused(u32),
+}
+
+// How often a counted byte stands in the first i bytes of the text.
+pub fn count(t: &[u8], byte: u8, i: u32) -> Counted
+    ensures { λ r. ⌜ saidCount r ≡ countSays (now (t .entry)) byte i ⌝ }
+{
+    let read = header::read_header(t);
+    match read {
+        HeaderRead::Good(h) => counting::count_at(t, h, byte, i),
+        HeaderRead::Refused(number) => Counted::Refused(number),
+    }
+}
+
+// Where a counted byte stands for the j-th time.
+pub fn find(t: &[u8], byte: u8, j: u32) -> Found
+    ensures { λ r. ⌜ FindSays (now (t .entry)) byte j (saidFind r) ⌝ }
+{
+    let read = header::read_header(t);
+    match read {
+        HeaderRead::Good(h) => finding::find_at(t, h, byte, j),
+        HeaderRead::Refused(number) => Found::Refused(number),
+    }
+}
