@@ -141,7 +141,13 @@ pub extern "C" fn bt_span(tree: &[u8], place: u32, len: u32, buffer: &mut [u8]) 
 
 // How often a byte stands in the first i bytes, and the blocks entered.
 #[no_mangle]
-pub extern "C" fn bt_count(tree: &[u8], byte: u32, i: u32, times: &mut u64, entered: &mut u32) -> u32
+pub extern "C" fn bt_count(
+    tree: &[u8],
+    byte: u32,
+    i: u32,
+    times: &mut u64,
+    entered: &mut u32,
+) -> u32
     ensures { λ r. ⌜ saying r (now (times .exit)) (now (entered .exit)) ≡ countSays (now (tree .entry)) byte i ⌝ }
 {
     if 255 < byte {
