@@ -4,3 +4,4 @@ pub mod CountingLaws
 pub mod SeekLaws
 pub mod LandLaws
 pub mod FindingLaws
+pub mod RowLaws

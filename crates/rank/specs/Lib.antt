@@ -3,3 +3,4 @@ pub mod Sums
 pub mod Counts
 pub mod Seeks
 pub mod Found
+pub mod Rows

@@ -1,6 +1,7 @@
 // The questions on counted bytes: count, find, row. Each asks 5 to 7 first, of any bytes lent as a tree.
 mod counting;
 mod finding;
+mod rows;
 mod scan;
 mod seek;
 mod sums;
@@ -10,9 +11,10 @@ use layout::header::HeaderRead;
 use layout::place::TextPlace;
 ghost use mathlib.Core.Path.{_≡_};
 ghost use Rattle.format.specs.Counting.{countSays};
-ghost use Rattle.format.specs.Finding.{FindSays};
+ghost use Rattle.format.specs.Finding.{FindSays, RowSays};
 ghost use Rattle.rank.specs.Counts.{saidCount};
 ghost use Rattle.rank.specs.Found.{saidFind};
+ghost use Rattle.rank.specs.Rows.{saidRow};
 
 // How often a byte stands, with the number of blocks entered, or the number of the question that refuses.
 pub enum Counted {
@@ -23,6 +25,12 @@ pub enum Counted {
 // A place of the text, with the number of blocks on its path, or the number of the question that refuses.
 pub enum Found {
     At(TextPlace, u32),
+    Refused(u32),
+}
+
+// How many bytes of a row were copied, or the number of the question that refuses.
+pub enum RowCopied {
+    Bytes(u32),
     Refused(u32),
 }
 
@@ -45,5 +53,16 @@ pub fn find(t: &[u8], byte: u8, j: u32) -> Found
     match read {
         HeaderRead::Good(h) => finding::find_at(t, h, byte, j),
         HeaderRead::Refused(number) => Found::Refused(number),
+    }
+}
+
+// Copies row q, what stands between the (q - 1)-th byte 10, or the text's start, and the q-th, to the start of the buffer.
+pub fn row(t: &[u8], q: u32, buffer: &mut [u8]) -> RowCopied
+    ensures { λ r. ⌜ RowSays (now (t .entry)) q (now (buffer .entry)) (saidRow r .number) (saidRow r .value) (now (buffer .exit)) ⌝ }
+{
+    let read = header::read_header(t);
+    match read {
+        HeaderRead::Good(h) => rows::row_at(t, h, q, buffer),
+        HeaderRead::Refused(number) => RowCopied::Refused(number),
     }
 }

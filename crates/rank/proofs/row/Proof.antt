@@ -1,0 +1,17 @@
+use borrow.Author.Needs.{needs}
+use Rattle.layout.specs.HeaderSays.{header-good}
+use Rattle.rank.proofs.RowLaws as laws
+use Rattle.rank.proofs.row.Statement.{statement}
+use Rattle.rank.proofs.row.Tie as tie
+
+pub row-spec : {M : Type 1} → statement M
+row-spec =
+    tie.close
+    (tie.spec
+    (λ c κs. search needs)
+    (λ c. search needs)
+    (λ c κs. header-good _ _ (c .before .before .before .before .read-header .ensures) _ (c .before .before .read .given .1))
+    (λ c. search needs)
+    (λ c. search needs)
+    (λ c. search needs)
+    (λ c. laws.row-unread _ _ _ _ (c .before .before .before .read-header .ensures) _ (c .before .read2 .given .1)))

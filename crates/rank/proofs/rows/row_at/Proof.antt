@@ -1,0 +1,23 @@
+use borrow.Author.Needs.{needs}
+use native.Mathlib.Omega.{arith}
+use Rattle.rank.proofs.RowLaws as laws
+use Rattle.rank.proofs.rows.row_at.Statement.{statement}
+use Rattle.rank.proofs.rows.row_at.Tie as tie
+
+pub row-at-spec : {M : Type 1} → statement M
+row-at-spec =
+    tie.close
+    (tie.spec
+    (λ c κs. search needs)
+    (λ c. search needs)
+    (λ c. search needs)
+    (λ c κs. search needs)
+    (λ c. laws.row-edges _ _ _ _ _ _ (c .before .before .before .edges-of .ensures) (c .before .enum-told .given .1) (c .edges-number .ensures))
+    (λ c κs. search needs)
+    (λ c. search needs)
+    (λ c. search needs)
+    (λ c κs. search needs)
+    (λ c. search needs)
+    (λ c. laws.row-not _ _ _ _ _ (laws.row-spans _ _ _ _ _ _ _ (c .before .before .before .before .before .before .before .before .before .before .before .before .before .pre .passes) (c .before .before .before .before .before .before .before .before .before .before .edges-of .ensures .spans _ _ (c .before .before .before .before .before .before .before .before .found .given .1)) (c .before .before .before .before .before .span .ensures .0 .says) (c .before .before .before .before .before .span .ensures .1)) _ _ (c .before .enum-told2 .given .1) (c .copied-number .ensures))
+    (λ c. search needs)
+    (λ c. laws.row-bytes _ _ _ _ _ (laws.row-spans _ _ _ _ _ _ _ (c .before .before .before .before .before .before .before .before .before .before .before .before .before .pre .passes) (c .before .before .before .before .before .before .before .before .before .before .edges-of .ensures .spans _ _ (c .before .before .before .before .before .before .before .before .found .given .1)) (c .before .before .before .before .before .span .ensures .0 .says) (c .before .before .before .before .before .span .ensures .1)) _ (c .before .copied .given .1)))
