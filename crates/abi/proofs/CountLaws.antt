@@ -1,4 +1,4 @@
--- Count and find: their answers by variants, and of a number above 255.
+-- Count, find and row: their answers by variants, and of a number above 255.
 use mathlib.Core.List.{List}
 use mathlib.Core.Bool.{Bool, true, false, cond}
 use mathlib.Core.Path.{_≡_, refl, sym, ap, subst, _∙_}
@@ -13,7 +13,7 @@ use Rattle.format.specs.Layout as at
 use Rattle.format.specs.Verdict.{ask, readable}
 use Rattle.format.specs.HeaderLaws.{Readable, readable-facts}
 use Rattle.format.specs.Counting.{isCounted, numberOfByte, countSays}
-use Rattle.format.specs.Finding.{selectNumber, FindSays}
+use Rattle.format.specs.Finding.{selectNumber, FindSays, RowSays}
 use Rattle.tallies.specs.Local.{byteOf}
 use Rattle.tallies.specs.Ranks as tally
 use Rattle.layout.specs.declared.header.Header.{Header}
@@ -25,8 +25,11 @@ use Rattle.rank.specs.declared.Counted.{Counted}
 use Rattle.rank.specs.declared.Counted.the-variants as count
 use Rattle.rank.specs.declared.Found.{Found}
 use Rattle.rank.specs.declared.Found.the-variants as found
+use Rattle.rank.specs.declared.RowCopied.{RowCopied}
+use Rattle.rank.specs.declared.RowCopied.the-variants as row
 use Rattle.rank.specs.Counts.{saidCount}
 use Rattle.rank.specs.Found.{saidFind}
+use Rattle.rank.specs.Rows.{saidRow}
 use Rattle.text.specs.declared.TextPlace.{TextPlace}
 use Rattle.abi.specs.Answers.{saying, uncountedNumber}
 
@@ -43,6 +46,13 @@ module _ (t : List ℕ) (byte j : ℕ) (r : Found) (k : FindSays t byte j (saidF
 
   pub find-refused : (q : ℕ) → r ≡ found.Refused q → FindSays t byte j (saying q 0 0)
   find-refused q e = subst (λ (x : Found). FindSays t byte j (saidFind x)) e k
+
+module _ (t : List ℕ) (q : ℕ) (buffer after : List ℕ) (r : RowCopied) (k : RowSays t q buffer (saidRow r .number) (saidRow r .value) after) where
+  pub row-told : (size : ℕ) → r ≡ row.Bytes size → RowSays t q buffer 0 size after
+  row-told size e = subst (λ (x : RowCopied). RowSays t q buffer (saidRow x .number) (saidRow x .value) after) e k
+
+  pub row-refused : (number : ℕ) → r ≡ row.Refused number → RowSays t q buffer number 0 after
+  row-refused number e = subst (λ (x : RowCopied). RowSays t q buffer (saidRow x .number) (saidRow x .value) after) e k
 
 -- the questions that a number above 255 is asked
 

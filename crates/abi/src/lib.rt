@@ -9,6 +9,7 @@ use layout::header::HeaderRead;
 use layout::place::TextPlace;
 use rank::Counted;
 use rank::Found;
+use rank::RowCopied;
 ghost use mathlib.Core.Path.{_≡_};
 ghost use Prim.Native.Nat.{_≤_, _%_};
 ghost use lib.ListN.{length};
@@ -16,7 +17,7 @@ ghost use lib.Dec.{leb};
 ghost use Rattle.format.specs.Building.{buildNumber, buildSize, buildLeaves};
 ghost use Rattle.format.specs.Reading.{byteSays, runSays, spanNumber, spanLeaves};
 ghost use Rattle.format.specs.Counting.{countSays};
-ghost use Rattle.format.specs.Finding.{FindSays};
+ghost use Rattle.format.specs.Finding.{FindSays, RowSays};
 ghost use Rattle.format.specs.Verdict.{ask, verdict};
 ghost use Rattle.builder.specs.Answers.{given};
 ghost use Rattle.enough.specs.Enough.{enoughSays};
@@ -190,6 +191,24 @@ pub extern "C" fn bt_find(tree: &[u8], byte: u32, j: u32, place: &mut u32, enter
         Found::Refused(number) => {
             *place = 0;
             *entered = 0;
+            number
+        }
+    }
+}
+
+// Copies row q, and answers its length.
+#[no_mangle]
+pub extern "C" fn bt_row(tree: &[u8], q: u32, buffer: &mut [u8], len: &mut u32) -> u32
+    ensures { λ r. ⌜ RowSays (now (tree .entry)) q (now (buffer .entry)) r (now (len .exit)) (now (buffer .exit)) ⌝ }
+{
+    let copied = rank::row(tree, q, buffer);
+    match copied {
+        RowCopied::Bytes(size) => {
+            *len = size;
+            0
+        }
+        RowCopied::Refused(number) => {
+            *len = 0;
             number
         }
     }
