@@ -1,5 +1,5 @@
 // The questions put to a tree. Each asks 5 to 7 first, of any bytes lent as a tree.
-mod reading;
+pub mod reading;
 pub mod step;
 pub mod walk;
 
@@ -47,7 +47,8 @@ pub fn run(t: &[u8], at: TextPlace) -> &[u8]
     &t[from..end]
 }
 
-fn run_part(t: &[u8], at: TextPlace) -> reading::Part
+// Where the run of a place is, in the tree's bytes.
+pub fn run_part(t: &[u8], at: TextPlace) -> reading::Part
     ensures { λ r. ⌜ RunPart (now (t .entry)) (at .0) r ⌝ }
 {
     let read = header::read_header(t);

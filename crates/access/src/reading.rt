@@ -90,7 +90,7 @@ fn copy(t: &[u8], h: Header, at: TextPlace, len: u32, buffer: &mut [u8]) -> Copi
 }
 
 // The number of the question that refuses; 0 for an answer.
-fn number(answer: Answer) -> u32
+pub fn number(answer: Answer) -> u32
     ensures { λ r. ⌜ r ≡ said answer .number ⌝ }
 {
     match answer {

@@ -1,0 +1,16 @@
+use borrow.Author.Needs.{needs}
+use Rattle.abi.proofs.AnswerLaws as laws
+use Rattle.abi.proofs.bt_span.Statement.{statement}
+use Rattle.abi.proofs.bt_span.Tie as tie
+
+pub bt-span-spec : {M : Type 1} → statement M
+bt-span-spec =
+    tie.close
+    (tie.spec
+    (λ c κs. search needs)
+    (λ c. search needs)
+    (λ c. search needs)
+    (λ c. search needs)
+    (λ c. (laws.span-told _ _ _ _ _ (c .before .before .before .before .span .ensures .0) _ (c .enum-told .given .1), c .before .before .before .before .span .ensures .1))
+    (λ c. search needs)
+    (λ c. (laws.span-refused _ _ _ _ _ (c .before .before .before .before .before .span .ensures .0) _ (c .before .copied .given .1), c .before .before .before .before .before .span .ensures .1)))

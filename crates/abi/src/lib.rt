@@ -1,0 +1,274 @@
+// The calls exported to C. Each answers a number: 0, or the number of the question that refuses. Figures are written behind
+// references, 0 on a refusal. Any bytes may be lent as a tree.
+use access::Answer;
+use access::Copied;
+use builder::Built;
+use enough::Room;
+use layout::header;
+use layout::header::HeaderRead;
+use layout::place::TextPlace;
+use rank::Counted;
+use rank::Found;
+use rank::RowCopied;
+ghost use mathlib.Core.Path.{_≡_};
+ghost use Prim.Native.Nat.{_≤_, _%_};
+ghost use lib.ListN.{length};
+ghost use lib.Dec.{leb};
+ghost use Rattle.format.specs.Building.{buildNumber, buildSize, buildLeaves};
+ghost use Rattle.format.specs.Reading.{byteSays, runSays, spanNumber, spanLeaves};
+ghost use Rattle.format.specs.Counting.{countSays};
+ghost use Rattle.format.specs.Finding.{FindSays, RowSays};
+ghost use Rattle.format.specs.Verdict.{ask, verdict};
+ghost use Rattle.builder.specs.Answers.{given};
+ghost use Rattle.enough.specs.Enough.{enoughSays};
+ghost use Rattle.listing.specs.Lines.{listed};
+ghost use Rattle.listing.specs.Written.{Put};
+ghost use Rattle.abi.specs.Answers.{saying, roomNumber, roomSize, uncountedNumber, inputNumber, listNumber, listSize, listLeaves};
+
+// The shortest buffer that list writes to.
+pub const LIST_LENGTH: usize = 512;
+
+// The longest tree that list reads.
+pub const LIST_INPUT: usize = 65536;
+
+// Builds the tree of a text.
+#[no_mangle]
+pub extern "C" fn bt_build(
+    text: &[u8],
+    leaf: u32,
+    arity: u32,
+    levels: u32,
+    counted: &[u8],
+    out: &mut [u8],
+    size: &mut u32,
+) -> u32
+    ensures number { λ r. ⌜ r ≡ buildNumber (given leaf arity levels (now (counted .entry))) (now (text .entry)) (now (out .entry)) ⌝ }
+    ensures written { λ _. ⌜ now (size .exit) ≡ buildSize (given leaf arity levels (now (counted .entry))) (now (text .entry)) (now (out .entry)) ⌝ }
+    ensures buffer { λ _. ⌜ now (out .exit) ≡ buildLeaves (given leaf arity levels (now (counted .entry))) (now (text .entry)) (now (out .entry)) ⌝ }
+{
+    let built = tree::build(text, leaf, arity, levels, counted, out);
+    match built {
+        Built::Size(n) => {
+            *size = n;
+            0
+        }
+        Built::Refused(number) => {
+            *size = 0;
+            number
+        }
+    }
+}
+
+// A size that is enough for the tree of any text of n bytes.
+#[no_mangle]
+pub extern "C" fn bt_enough(
+    n: u32,
+    leaf: u32,
+    arity: u32,
+    levels: u32,
+    counted: u32,
+    size: &mut u64,
+) -> u32
+    ensures { λ r. ⌜ r ≡ roomNumber (enoughSays n leaf arity levels counted) ⌝ }
+    ensures { λ _. ⌜ now (size .exit) ≡ roomSize (enoughSays n leaf arity levels counted) ⌝ }
+{
+    let room = tree::enough(n, leaf, arity, levels, counted);
+    match room {
+        Room::Bytes(bytes) => {
+            *size = bytes;
+            0
+        }
+        Room::Refused(number) => {
+            *size = 0;
+            number
+        }
+    }
+}
+
+// Questions 5 to 9.
+#[no_mangle]
+pub extern "C" fn bt_check(tree: &[u8]) -> u32
+    ensures { λ r. ⌜ r ≡ verdict (now (tree .entry)) ⌝ }
+{
+    tree::check(tree)
+}
+
+// The byte at a place, and the blocks entered.
+#[no_mangle]
+pub extern "C" fn bt_byte(tree: &[u8], place: u32, value: &mut u32, entered: &mut u32) -> u32
+    ensures { λ r. ⌜ saying r (now (value .exit)) (now (entered .exit)) ≡ byteSays (now (tree .entry)) place ⌝ }
+{
+    let answer = access::byte(tree, TextPlace(place));
+    match answer {
+        Answer::Byte(byte, blocks) => {
+            *value = byte as u32;
+            *entered = blocks;
+            0
+        }
+        Answer::Refused(number) => {
+            *value = 0;
+            *entered = 0;
+            number
+        }
+    }
+}
+
+// Where the run of a place starts in the tree's bytes, and its length. The start is counted modulo 2^32, which changes nothing in
+// a tree of less than 4 GiB.
+#[no_mangle]
+pub extern "C" fn bt_run(tree: &[u8], place: u32, offset: &mut u32, len: &mut u32) -> u32
+    ensures { λ r. ⌜ r ≡ byteSays (now (tree .entry)) place .number ⌝ }
+    ensures { λ _. ⌜ now (offset .exit) ≡ runSays (now (tree .entry)) place .0 % 4294967296 ⌝ }
+    ensures { λ _. ⌜ now (len .exit) ≡ runSays (now (tree .entry)) place .1 ⌝ }
+{
+    let part = access::run_part(tree, TextPlace(place));
+    *offset = (part.from % 4294967296) as u32;
+    *len = part.length as u32;
+    access::reading::number(access::byte(tree, TextPlace(place)))
+}
+
+// Copies the bytes from a place on.
+#[no_mangle]
+pub extern "C" fn bt_span(tree: &[u8], place: u32, len: u32, buffer: &mut [u8]) -> u32
+    ensures { λ r. ⌜ r ≡ spanNumber (now (tree .entry)) place len (length (now (buffer .entry))) ⌝ }
+    ensures { λ _. ⌜ now (buffer .exit) ≡ spanLeaves (now (tree .entry)) place len (now (buffer .entry)) ⌝ }
+{
+    let copied = access::span(tree, TextPlace(place), len, buffer);
+    match copied {
+        Copied::Bytes(_) => 0,
+        Copied::Refused(number) => number,
+    }
+}
+
+// How often a byte stands in the first i bytes, and the blocks entered.
+#[no_mangle]
+pub extern "C" fn bt_count(
+    tree: &[u8],
+    byte: u32,
+    i: u32,
+    times: &mut u64,
+    entered: &mut u32,
+) -> u32
+    ensures { λ r. ⌜ saying r (now (times .exit)) (now (entered .exit)) ≡ countSays (now (tree .entry)) byte i ⌝ }
+{
+    if 255 < byte {
+        *times = 0;
+        *entered = 0;
+        return uncounted(tree, i);
+    }
+    let counted = rank::count(tree, byte as u8, i);
+    match counted {
+        Counted::Times(count, visits) => {
+            *times = count;
+            *entered = visits;
+            0
+        }
+        Counted::Refused(number) => {
+            *times = 0;
+            *entered = 0;
+            number
+        }
+    }
+}
+
+// The place of the j-th such byte, and the blocks on its path.
+#[no_mangle]
+pub extern "C" fn bt_find(tree: &[u8], byte: u32, j: u32, place: &mut u32, entered: &mut u32) -> u32
+    ensures { λ r. ⌜ FindSays (now (tree .entry)) byte j (saying r (now (place .exit)) (now (entered .exit))) ⌝ }
+{
+    if 255 < byte {
+        *place = 0;
+        *entered = 0;
+        return uncounted(tree, 0);
+    }
+    let found = rank::find(tree, byte as u8, j);
+    match found {
+        Found::At(at, path) => {
+            *place = at.0;
+            *entered = path;
+            0
+        }
+        Found::Refused(number) => {
+            *place = 0;
+            *entered = 0;
+            number
+        }
+    }
+}
+
+// Copies row q, and answers its length.
+#[no_mangle]
+pub extern "C" fn bt_row(tree: &[u8], q: u32, buffer: &mut [u8], len: &mut u32) -> u32
+    ensures { λ r. ⌜ RowSays (now (tree .entry)) q (now (buffer .entry)) r (now (len .exit)) (now (buffer .exit)) ⌝ }
+{
+    let copied = rank::row(tree, q, buffer);
+    match copied {
+        RowCopied::Bytes(size) => {
+            *len = size;
+            0
+        }
+        RowCopied::Refused(number) => {
+            *len = 0;
+            number
+        }
+    }
+}
+
+// The question that refuses a number above 255, which no tree counts: 5 to 7, 10 for what ends at i, 11.
+fn uncounted(tree: &[u8], i: u32) -> u32
+    ensures { λ r. ⌜ r ≡ uncountedNumber (now (tree .entry)) i ⌝ }
+{
+    let read = header::read_header(tree);
+    match read {
+        HeaderRead::Good(h) => past_or_uncounted(h.length, i),
+        HeaderRead::Refused(number) => number,
+    }
+}
+
+// Question 10 of a text of n bytes, then 11.
+fn past_or_uncounted(n: u32, i: u32) -> u32
+    ensures { λ r. ⌜ r ≡ ask 10 (leb i n) 11 ⌝ }
+{
+    if n < i {
+        return 10;
+    }
+    11
+}
+
+// The lines of the list program.
+#[no_mangle]
+pub extern "C" fn bt_list(tree: &[u8], out: &mut [u8], len: &mut u32) -> u32
+    ensures { λ r. ⌜ r ≡ listNumber (now (tree .entry)) (length (now (out .entry))) ⌝ }
+    ensures { λ _. ⌜ now (len .exit) ≡ listSize (now (tree .entry)) (length (now (out .entry))) ⌝ }
+    ensures { λ _. ⌜ now (out .exit) ≡ listLeaves (now (tree .entry)) (now (out .entry)) ⌝ }
+{
+    if out.len() < LIST_LENGTH {
+        *len = 0;
+        return 13;
+    }
+    let number = input_number(tree);
+    let end = lines(tree, number, out);
+    *len = end as u32;
+    number
+}
+
+// Question 15, then the check's.
+fn input_number(tree: &[u8]) -> u32
+    ensures { λ r. ⌜ r ≡ inputNumber (now (tree .entry)) ⌝ }
+{
+    if LIST_INPUT < tree.len() {
+        return 15;
+    }
+    tree::check(tree)
+}
+
+// Puts the lines at the start of a buffer.
+fn lines(tree: &[u8], number: u32, out: &mut [u8]) -> usize
+    requires { ⌜ (number ≡ inputNumber (now tree)) × (512 ≤ length (now out)) ⌝ }
+    ensures { λ r. ⌜ Put (now (out .entry)) (now (out .exit)) 0 r (listed (now (tree .entry))) 512 ⌝ }
+{
+    if LIST_INPUT < tree.len() {
+        return listing::refused(15, out);
+    }
+    listing::listing(tree, number, out)
+}
