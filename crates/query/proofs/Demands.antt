@@ -75,7 +75,7 @@ module _ (t : RefT (List ℕ)) (v : verdict (now t) ≡ 0) where
         value = countIn byte (take i T);
         entered = cond (eqb i 0) 0 (pathLength (now t) (pathOf (now t) (i - 1)));
       }
-  count-right κs byte i r h k a = a ∙ tallies.count-of-text (now t) v byte i k h
+  count-right κs byte i r h k a = a .says ∙ tallies.count-of-text (now t) v byte i k h
 
   -- questions 11 and 12 let find and row through
   module _ (byte j : ℕ) (k : isCounted (now t) byte ≡ true) (low : 1 ≤ j) (high : j ≤ countIn byte T) where
@@ -93,11 +93,11 @@ module _ (t : RefT (List ℕ)) (v : verdict (now t) ≡ 0) where
         → (saidFind r ≡ record { number = 0; value = placeOf byte j T; entered = pathLength (now t) (pathOf (now t) (placeOf byte j T)) })
         × (pathLength (now t) (pathOf (now t) (placeOf byte j T)) ≤ 2 * at.settings (now t) .levels - 1)
     unfolding found
-    find-right κs r a = (a .accepted let-through v, path-short (placeOf byte j T) place-in)
+    find-right κs r a = (a .says .accepted let-through v, path-short (placeOf byte j T) place-in)
 
   -- "Row": what stands between the (q-1)-th byte 10, or the text's start, and the q-th, with room for it.
   pub row-right : (κs : Lfts 2) (q : ℕ) (buffer after : RefT (List ℕ)) (r : RowCopied) → isCounted (now t) 10 ≡ true → 1 ≤ q → q ≤ countIn 10 T
       → rowEnd (now t) q - rowStart (now t) q ≤ length (now buffer) → Row κs t q buffer after r
       → (saidRow r .number ≡ 0) × (saidRow r .value ≡ rowEnd (now t) q - rowStart (now t) q)
       × (now after ≡ stretch T (rowStart (now t) q) (saidRow r .value) ++ drop (saidRow r .value) (now buffer))
-  row-right κs q buffer after r k low high room a = a .accepted (let-through 10 q k low high) v room
+  row-right κs q buffer after r k low high room a = a .says .accepted (let-through 10 q k low high) v room

@@ -32,6 +32,7 @@ use Rattle.layout.specs.declared.header.HeaderRead.{HeaderRead}
 use Rattle.layout.specs.declared.header.HeaderRead.the-variants as header
 use Rattle.layout.specs.Header.{headerSays}
 use Rattle.layout.specs.HeaderSays.{HeaderOf}
+use Rattle.access.specs.Answers as query
 use Rattle.access.specs.Answers.{spanSays, copiedSaid}
 use Rattle.access.specs.declared.Copied.{Copied}
 use Rattle.access.specs.declared.Copied.the-variants as copied
@@ -42,8 +43,9 @@ use Rattle.rank.specs.declared.Found.{Found}
 use Rattle.rank.specs.declared.Found.the-variants as found-is
 use Rattle.rank.specs.declared.rows.Edges.{Edges}
 use Rattle.rank.specs.declared.rows.Edges.the-variants as edges
-use Rattle.rank.specs.Found.{saidFind}
-use Rattle.rank.specs.Rows.{edgesNumber, Refuses, Spans, EdgesOf}
+use Rattle.rank.specs.declared.RowCopied.the-variants as row
+use Rattle.rank.specs.Found.{saidFind, Numbered}
+use Rattle.rank.specs.Rows.{edgesNumber, RowAnswer, Refuses, Spans, EdgesOf}
 
 -- the questions before the walk, one fact each
 
@@ -100,15 +102,15 @@ module _ (t : List ℕ) (j : ℕ) (x : Found) (says : FindSays t 10 j (saidFind 
         let y = ap (λ (s : Said). s .entered) z in
         omega (arith, path-enters t v 10 j (asked-facts t 10 j asked))
 
-    refused-free : (n ≡ 14) ⊎ (n ≡ 0)
-    refused-free = go (lt-or-ge 0 (verdict t))
+    refused-free : 1 ≤ n → n ≡ 14
+    refused-free low = go (lt-or-ge 0 (verdict t))
       where
-        either : (saidFind x ≡ refused 14) ⊎ ((saidFind x .number ≡ 0) × (saidFind x .value < at.textLength t)) → (n ≡ 14) ⊎ (n ≡ 0)
-        either (inl s) = inl (ap (λ (y : Said). y .number) (sym said-refused ∙ s))
-        either (inr s) = inr (sym (ap (λ (y : Said). y .number) said-refused) ∙ s .0)
+        either : (saidFind x ≡ refused 14) ⊎ ((saidFind x .number ≡ 0) × (saidFind x .value < at.textLength t)) → n ≡ 14
+        either (inl s) = ap (λ (y : Said). y .number) (sym said-refused ∙ s)
+        either (inr s) = absurd (let z : n ≡ 0 = sym (ap (λ (y : Said). y .number) said-refused) ∙ s .0 in omega arith)
 
-        go : (0 < verdict t) ⊎ (verdict t ≤ 0) → (n ≡ 14) ⊎ (n ≡ 0)
-        go (inl low) = either (says .free asked (λ v. omega arith))
+        go : (0 < verdict t) ⊎ (verdict t ≤ 0) → n ≡ 14
+        go (inl above) = either (says .free asked (λ v. omega arith))
         go (inr high) = absurd (refused-not (omega arith))
 
   module _ (p : TextPlace) (e : ℕ) (is : x ≡ found-is.At p e) where
@@ -155,13 +157,15 @@ spans-at t q s len r = record {
 
 module _ (t : List ℕ) (q : ℕ) (last : Found) (says : FindSays t 10 q (saidFind last)) where
   -- the q-th is refused
-  pub edges-no-end : (k n : ℕ) → last ≡ found-is.Refused k → n ≡ saidFind last .number → EdgesOf t q (edges.Refused n)
-  edges-no-end k n e n-is =
+  pub edges-no-end : (k n : ℕ) → last ≡ found-is.Refused k → n ≡ saidFind last .number → Numbered last → EdgesOf t q (edges.Refused n)
+  edges-no-end k n e n-is numbered =
       let m : n ≡ k = n-is ∙ rw e in
+      let low : 1 ≤ k = rw e at numbered in
       not-spans t q n (record {
+        low = omega arith;
         asked = λ l. n-is ∙ ap (λ (s : Said). s .number) (says .asked l);
         accepted = λ z v. refused-not t q last says k e z v;
-        free = λ z. rw m (refused-free t q last says k e z);
+        free = λ z. rw m (refused-free t q last says k e z low);
       })
 
   module _ (end : TextPlace) (figure : ℕ) (last-is : last ≡ found-is.At end figure) where
@@ -186,16 +190,17 @@ module _ (t : List ℕ) (q : ℕ) (last : Found) (says : FindSays t 10 q (saidFi
           let a = asked-facts t 10 q asked in
           record { passes = a .passes; counted = a .counted; low = omega (arith, a .low, more); high = omega (arith, a .high) }
 
-      not-asked : (n : ℕ) → ((selectNumber t 10 q ≡ 0) → verdict t ≡ 0 → ⊥) → (n ≡ 14) ⊎ (n ≡ 0) → Refuses t q n
-      not-asked n never either = record { asked = λ l. absurd (let z : ⊥ = omega (arith, asked) in z); accepted = never; free = λ z. either }
+      not-asked : (n : ℕ) → ((selectNumber t 10 q ≡ 0) → verdict t ≡ 0 → ⊥) → n ≡ 14 → Refuses t q n
+      not-asked n never is = record { low = omega arith; asked = λ l. absurd (let z : ⊥ = omega (arith, asked) in z); accepted = never; free = λ z. is }
 
       module _ (first : Found) (said : FindSays t 10 (q - 1) (saidFind first)) where
         -- the one before is refused
-        pub edges-no-start : (k n : ℕ) → first ≡ found-is.Refused k → n ≡ saidFind first .number → EdgesOf t q (edges.Refused n)
-        edges-no-start k n e n-is =
+        pub edges-no-start : (k n : ℕ) → first ≡ found-is.Refused k → n ≡ saidFind first .number → Numbered first → EdgesOf t q (edges.Refused n)
+        edges-no-start k n e n-is numbered =
             let m : n ≡ k = n-is ∙ rw e in
+            let low : 1 ≤ k = rw e at numbered in
             let a = asked-make t 10 (q - 1) before-asked in
-            not-spans t q n (not-asked n (λ z v. refused-not t (q - 1) first said k e a v) (rw m (refused-free t (q - 1) first said k e a)))
+            not-spans t q n (not-asked n (λ z v. refused-not t (q - 1) first said k e a v) (rw m (refused-free t (q - 1) first said k e a low)))
 
         module _ (before : TextPlace) (other : ℕ) (first-is : first ≡ found-is.At before other) where
           order : verdict t ≡ 0 → before .0 < end .0
@@ -211,7 +216,7 @@ module _ (t : List ℕ) (q : ℕ) (last : Found) (says : FindSays t 10 q (saidFi
 
           -- a row length below zero
           pub edges-crossed : end .0 ≤ before .0 → EdgesOf t q (edges.Refused 14)
-          edges-crossed crossed = not-spans t q 14 (not-asked 14 (λ z v. omega (arith, order v)) (inl refl))
+          edges-crossed crossed = not-spans t q 14 (not-asked 14 (λ z v. omega (arith, order v)) refl)
 
           pub edges-between : before .0 < end .0 → EdgesOf t q (edges.At (record { 0 = before .0 + 1 }) (end .0 - (before .0 + 1)))
           unfolding rowStart rowEnd
@@ -231,15 +236,8 @@ row-refused t q n buffer r = record {
   asked = λ l. (r .asked l, refl, refl);
   short = λ z v l. absurd (r .accepted z v);
   accepted = λ z v l. absurd (r .accepted z v);
-  free = λ z v. go (r .free z);
+  free = λ z v. inr (inr (r .free z, refl, inl refl));
 }
-  where
-    go : (n ≡ 14) ⊎ (n ≡ 0)
-        → ((n ≡ 0) × (0 ≤ length buffer) × (0 ≤ at.textLength t) × (drop 0 buffer ≡ drop 0 buffer))
-        ⊎ (((n ≡ 13) × (_≡_ {A = ℕ} 0 0) × (buffer ≡ buffer))
-        ⊎ ((n ≡ 14) × (_≡_ {A = ℕ} 0 0) × ((buffer ≡ buffer) ⊎ ((k : ℕ) × (k ≤ length buffer) × (buffer ≡ replicate k 0 ++ drop k buffer)))))
-    go (inl e) = inr (inr (e, refl, inl refl))
-    go (inr e) = inl (e, omega arith, omega arith, refl)
 
 -- each way out of a span whose place and length were asked before
 record SpanWays (t : List ℕ) (p len : ℕ) (buffer : List ℕ) : Type 0 where
@@ -337,15 +335,20 @@ module _ (t : List ℕ) (q p len : ℕ) (buffer after : List ℕ) (s : Said) (pa
 
 -- as the code returns it
 
-pub row-edges : (t : List ℕ) (q : ℕ) (x : Edges) (n k : ℕ) (buffer : List ℕ) → EdgesOf t q x → x ≡ edges.Refused k → n ≡ edgesNumber x → RowSays t q buffer n 0 buffer
-row-edges t q x n k buffer h e n-is = let z : n ≡ k = n-is ∙ rw e in rw z (row-refused t q k buffer (h .refused k e))
+pub row-edges : (t : List ℕ) (q : ℕ) (x : Edges) (n k : ℕ) (buffer : List ℕ) → EdgesOf t q x → x ≡ edges.Refused k → n ≡ edgesNumber x → RowAnswer t q buffer (row.Refused n) buffer
+row-edges t q x n k buffer h e n-is =
+    let z : n ≡ k = n-is ∙ rw e in
+    rw z (record { says = row-refused t q k buffer (h .refused k e); numbered = h .refused k e .low })
 
 module _ (t : List ℕ) (q : ℕ) (buffer after : List ℕ) (x : Copied) (says : RowSays t q buffer (copiedSaid x .number) (copiedSaid x .value) after) where
   pub row-bytes : (size : ℕ) → x ≡ copied.Bytes size → RowSays t q buffer 0 size after
   row-bytes size e = rw e at says
 
-  pub row-not : (k n : ℕ) → x ≡ copied.Refused k → n ≡ copiedSaid x .number → RowSays t q buffer n 0 after
-  row-not k n e n-is = let z : n ≡ k = n-is ∙ rw e in rw z (rw e at says)
+  pub row-not : (k n : ℕ) → x ≡ copied.Refused k → n ≡ copiedSaid x .number → query.Numbered x → RowAnswer t q buffer (row.Refused n) after
+  row-not k n e n-is numbered =
+      let z : n ≡ k = n-is ∙ rw e in
+      let low : 1 ≤ k = rw e at numbered in
+      rw z (record { says = rw e at says; numbered = low })
 
 -- a tree that does not pass questions 5 to 7
 pub row-unread : (t : List ℕ) (q : ℕ) (buffer : List ℕ) (x : HeaderRead) → x ≡ headerSays t → (n : ℕ) → x ≡ header.Refused n → RowSays t q buffer n 0 buffer
@@ -354,6 +357,7 @@ row-unread t q buffer x x-is n e =
     let z = header-refused t x x-is n e in
     let m : selectNumber t 10 q ≡ suc (z .0) = rw (z .1, ne-eqb (suc (z .0)) 0 (λ y. omega arith)) in
     row-refused t q n buffer (record {
+      low = omega (arith, z .2);
       asked = λ l. z .2 ∙ sym m;
       accepted = λ y v. omega arith;
       free = λ y. absurd (let u : ⊥ = omega arith in u);

@@ -1,8 +1,11 @@
 -- What count answers in document 01's terms, and what is made of the sums.
 use mathlib.Core.Bool.{cond}
-use Prim.Native.Nat.{ℕ, _-_}
+use mathlib.Core.List.{List}
+use mathlib.Core.Path.{_≡_}
+use Prim.Native.Nat.{ℕ, _-_, _≤_}
 use lib.Dec.{leb}
 use Rattle.format.specs.Said.{Said, refused}
+use Rattle.format.specs.Counting.{countSays}
 use Rattle.rank.specs.declared.Counted.{Counted}
 use Rattle.rank.specs.declared.Counted.the-variants.{Times, Refused}
 use Rattle.rank.specs.declared.sums.Summed.{Summed}
@@ -12,6 +15,15 @@ use Rattle.rank.specs.declared.sums.Summed.the-variants.{At, Broken}
 abbrev pub saidCount : Counted → Said
 saidCount (Times times entered) = record { number = 0; value = times; entered = entered }
 saidCount (Refused number) = refused number
+
+-- a refusal's number is not 0
+abbrev pub Numbered : Counted → Type 0
+Numbered (Times times entered) = Unit {0}
+Numbered (Refused number) = 1 ≤ number
+
+pub record CountAnswer (t : List ℕ) (byte i : ℕ) (r : Counted) : Type 0 where
+  pub says : saidCount r ≡ countSays t byte i
+  pub numbered : Numbered r
 
 -- the finished count, which is not below zero
 unfoldable pub settled : Summed → Said

@@ -3,7 +3,7 @@ use mathlib.Core.List.{List}
 use mathlib.Core.Bool.{cond}
 use mathlib.Core.Path.{_≡_}
 use mathlib.Core.Logic.{_⊎_}
-use Prim.Native.Nat.{ℕ, _+_, _*_, _<_}
+use Prim.Native.Nat.{ℕ, _+_, _*_, _≤_, _<_}
 use lib.Dec.{ltb}
 use Rattle.format.specs.Layout as at
 use Rattle.format.specs.Verdict.{verdict}
@@ -18,6 +18,15 @@ use Rattle.rank.specs.declared.seek.Placed.the-variants as placed
 abbrev pub saidFind : Found → Said
 saidFind (At place entered) = record { number = 0; value = place .0; entered = entered }
 saidFind (Refused number) = refused number
+
+-- a refusal's number is not 0
+abbrev pub Numbered : Found → Type 0
+Numbered (At place entered) = Unit {0}
+Numbered (Refused number) = 1 ≤ number
+
+pub record FindAnswer (t : List ℕ) (byte j : ℕ) (r : Found) : Type 0 where
+  pub says : find.FindSays t byte j (saidFind r)
+  pub numbered : Numbered r
 
 -- a place in block i of level 0, as a place of the text of n bytes
 unfoldable pub placedIn : ℕ → ℕ → ℕ → Placed → Said

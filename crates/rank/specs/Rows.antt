@@ -6,7 +6,7 @@ use Prim.Native.Nat.{ℕ, _+_, _-_, _≤_, _<_}
 use Rattle.format.specs.Layout as at
 use Rattle.format.specs.Verdict.{verdict}
 use Rattle.format.specs.Said.{Said, refused}
-use Rattle.format.specs.Finding.{selectNumber, rowStart, rowEnd}
+use Rattle.format.specs.Finding.{selectNumber, rowStart, rowEnd, RowSays}
 use Rattle.text.specs.declared.TextPlace.{TextPlace}
 use Rattle.rank.specs.declared.RowCopied.{RowCopied}
 use Rattle.rank.specs.declared.RowCopied.the-variants.{Bytes, Refused}
@@ -18,6 +18,15 @@ abbrev pub saidRow : RowCopied → Said
 saidRow (Bytes size) = record { number = 0; value = size; entered = 0 }
 saidRow (Refused number) = refused number
 
+-- a refusal's number is not 0
+abbrev pub Numbered : RowCopied → Type 0
+Numbered (Bytes size) = Unit {0}
+Numbered (Refused number) = 1 ≤ number
+
+pub record RowAnswer (t : List ℕ) (q : ℕ) (buffer : List ℕ) (r : RowCopied) (after : List ℕ) : Type 0 where
+  pub says : RowSays t q buffer (saidRow r .number) (saidRow r .value) after
+  pub numbered : Numbered r
+
 -- the number of edges that are refused
 abbrev pub edgesNumber : Edges → ℕ
 edgesNumber (edges.At start len) = 0
@@ -26,9 +35,10 @@ edgesNumber (edges.Refused number) = number
 module _ (t : List ℕ) (q : ℕ) where
   -- row q has no edges, with this number: that of a question before the walk, or free
   pub record Refuses (n : ℕ) : Type 0 where
+    pub low : 1 ≤ n
     pub asked : 0 < selectNumber t 10 q → n ≡ selectNumber t 10 q
     pub accepted : selectNumber t 10 q ≡ 0 → verdict t ≡ 0 → ⊥
-    pub free : selectNumber t 10 q ≡ 0 → (n ≡ 14) ⊎ (n ≡ 0)
+    pub free : selectNumber t 10 q ≡ 0 → n ≡ 14
 
   -- row q is these bytes of the text
   pub record Spans (start len : ℕ) : Type 0 where

@@ -7,14 +7,13 @@ use crate::sums::Wanted;
 use layout::header::Header;
 use layout::place::TextPlace;
 ghost use mathlib.Core.Path.{_≡_};
-ghost use Rattle.format.specs.Counting.{countSays};
 ghost use Rattle.layout.specs.HeaderSays.{HeaderOf};
-ghost use Rattle.rank.specs.Counts.{saidCount, settled};
+ghost use Rattle.rank.specs.Counts.{saidCount, settled, Numbered, CountAnswer};
 
 // Questions 10, 11 and 14; the first i bytes end with place i - 1, and none of them need no path.
 pub fn count_at(t: &[u8], h: Header, byte: u8, i: u32) -> Counted
     requires { ⌜ HeaderOf (now t) h ⌝ }
-    ensures { λ r. ⌜ saidCount r ≡ countSays (now (t .entry)) byte i ⌝ }
+    ensures { λ r. ⌜ CountAnswer (now (t .entry)) byte i r ⌝ }
 {
     if h.length < i {
         return Counted::Refused(10);
@@ -31,7 +30,7 @@ pub fn count_at(t: &[u8], h: Header, byte: u8, i: u32) -> Counted
 
 // The finished count, which is not below zero.
 fn settle(summed: Summed) -> Counted
-    ensures { λ r. ⌜ saidCount r ≡ settled summed ⌝ }
+    ensures { λ r. ⌜ (saidCount r ≡ settled summed) × (Numbered r) ⌝ }
 {
     let Summed::At(sum) = summed else {
         return Counted::Refused(14);

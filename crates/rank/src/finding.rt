@@ -11,12 +11,12 @@ ghost use Prim.Native.Nat.{_<_};
 ghost use Rattle.format.specs.Layout as at;
 ghost use Rattle.format.specs.Finding as find;
 ghost use Rattle.layout.specs.HeaderSays.{HeaderOf};
-ghost use Rattle.rank.specs.Found.{saidFind};
+ghost use Rattle.rank.specs.Found.{FindAnswer};
 
 // Questions 11, 12 and 14.
 pub fn find_at(t: &[u8], h: Header, byte: u8, j: u32) -> Found
     requires { ⌜ HeaderOf (now t) h ⌝ }
-    ensures { λ r. ⌜ find.FindSays (now (t .entry)) byte j (saidFind r) ⌝ }
+    ensures { λ r. ⌜ FindAnswer (now (t .entry)) byte j r ⌝ }
 {
     let number = scan::number_of(t, h.settings.counted, byte);
     if h.settings.counted <= number {

@@ -9,12 +9,9 @@ mod sums;
 use layout::header;
 use layout::header::HeaderRead;
 use layout::place::TextPlace;
-ghost use mathlib.Core.Path.{_≡_};
-ghost use Rattle.format.specs.Counting.{countSays};
-ghost use Rattle.format.specs.Finding.{FindSays, RowSays};
-ghost use Rattle.rank.specs.Counts.{saidCount};
-ghost use Rattle.rank.specs.Found.{saidFind};
-ghost use Rattle.rank.specs.Rows.{saidRow};
+ghost use Rattle.rank.specs.Counts.{CountAnswer};
+ghost use Rattle.rank.specs.Found.{FindAnswer};
+ghost use Rattle.rank.specs.Rows.{RowAnswer};
 
 // How often a byte stands, with the number of blocks entered, or the number of the question that refuses.
 pub enum Counted {
@@ -36,7 +33,7 @@ pub enum RowCopied {
 
 // How often a counted byte stands in the first i bytes of the text.
 pub fn count(t: &[u8], byte: u8, i: u32) -> Counted
-    ensures { λ r. ⌜ saidCount r ≡ countSays (now (t .entry)) byte i ⌝ }
+    ensures { λ r. ⌜ CountAnswer (now (t .entry)) byte i r ⌝ }
 {
     let read = header::read_header(t);
     match read {
@@ -47,7 +44,7 @@ pub fn count(t: &[u8], byte: u8, i: u32) -> Counted
 
 // Where a counted byte stands for the j-th time.
 pub fn find(t: &[u8], byte: u8, j: u32) -> Found
-    ensures { λ r. ⌜ FindSays (now (t .entry)) byte j (saidFind r) ⌝ }
+    ensures { λ r. ⌜ FindAnswer (now (t .entry)) byte j r ⌝ }
 {
     let read = header::read_header(t);
     match read {
@@ -58,7 +55,7 @@ pub fn find(t: &[u8], byte: u8, j: u32) -> Found
 
 // Copies row q, what stands between the (q - 1)-th byte 10, or the text's start, and the q-th, to the start of the buffer.
 pub fn row(t: &[u8], q: u32, buffer: &mut [u8]) -> RowCopied
-    ensures { λ r. ⌜ RowSays (now (t .entry)) q (now (buffer .entry)) (saidRow r .number) (saidRow r .value) (now (buffer .exit)) ⌝ }
+    ensures { λ r. ⌜ RowAnswer (now (t .entry)) q (now (buffer .entry)) r (now (buffer .exit)) ⌝ }
 {
     let read = header::read_header(t);
     match read {

@@ -6,11 +6,10 @@ use access::Copied;
 use layout::header::Header;
 use layout::place::TextPlace;
 ghost use mathlib.Core.Path.{_≡_};
-ghost use Rattle.format.specs.Finding.{RowSays};
 ghost use Rattle.layout.specs.HeaderSays.{HeaderOf};
 ghost use Rattle.access.specs.Answers.{copiedSaid};
 ghost use Rattle.rank.specs.Found.{saidFind};
-ghost use Rattle.rank.specs.Rows.{saidRow, edgesNumber, EdgesOf};
+ghost use Rattle.rank.specs.Rows.{edgesNumber, EdgesOf, RowAnswer};
 
 // Where a row starts and how many bytes it has, or the number of the question that refuses.
 pub enum Edges {
@@ -73,7 +72,7 @@ fn copied_number(copied: Copied) -> u32
 // Questions 11, 12, 13 and 14, those of the edges first; the bytes between them are copied as a span's.
 pub fn row_at(t: &[u8], h: Header, q: u32, buffer: &mut [u8]) -> RowCopied
     requires { ⌜ HeaderOf (now t) h ⌝ }
-    ensures { λ r. ⌜ RowSays (now (t .entry)) q (now (buffer .entry)) (saidRow r .number) (saidRow r .value) (now (buffer .exit)) ⌝ }
+    ensures { λ r. ⌜ RowAnswer (now (t .entry)) q (now (buffer .entry)) r (now (buffer .exit)) ⌝ }
 {
     let found = edges_of(t, h, q);
     let Edges::At(start, len) = found else {

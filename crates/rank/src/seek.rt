@@ -22,7 +22,7 @@ ghost use Rattle.format.specs.Finding.{total};
 ghost use Rattle.layout.specs.HeaderSays.{HeaderOf};
 ghost use Rattle.access.specs.Steps.{OnLevel, InTable};
 ghost use Rattle.tallies.specs.Local.{byteOf};
-ghost use Rattle.rank.specs.Found.{saidFind, placedIn, Sought};
+ghost use Rattle.rank.specs.Found.{saidFind, Numbered, placedIn, Sought};
 ghost use Rattle.rank.specs.Seeks.{Near, moved, Siblings, LastBefore, picked, KeptIn, PointsIn, ChildWith, targetAt, TargetWith, Seeking, FoundIn};
 
 // A place in a block, and how many blocks its path enters from that block on.
@@ -294,7 +294,7 @@ fn first_block(t: &[u8], h: Header, number: u32, j: u64) -> BlockNumber
 // The place of the text that a place in a block of level 0 is, if it is one.
 fn text_place(n: u32, b: u32, block: BlockNumber, found: Placed) -> Found
     requires { ⌜ b ≤ 1048576 ⌝ }
-    ensures { λ r. ⌜ saidFind r ≡ placedIn n b (block .0) found ⌝ }
+    ensures { λ r. ⌜ (saidFind r ≡ placedIn n b (block .0) found) × (Numbered r) ⌝ }
 {
     let Placed::At(o, entered) = found else {
         return Found::Refused(14);
@@ -309,7 +309,7 @@ fn text_place(n: u32, b: u32, block: BlockNumber, found: Placed) -> Found
 // The place of the j-th byte of the text.
 pub fn seek(t: &[u8], h: Header, wanted: Wanted, j: u32) -> Found
     requires { ⌜ (HeaderOf (now t) h) × (wanted .number < at.countedCount (now t)) × (wanted .byte ≡ byteOf (now t) (wanted .number)) × (1 ≤ j) × (j ≤ total (now t) (wanted .number)) ⌝ }
-    ensures { λ r. ⌜ Sought (now (t .entry)) (wanted .byte) j (saidFind r) ⌝ }
+    ensures { λ r. ⌜ (Sought (now (t .entry)) (wanted .byte) j (saidFind r)) × (Numbered r) ⌝ }
 {
     let b = h.settings.block_length(0);
     let block = first_block(t, h, wanted.number, j as u64);

@@ -1,5 +1,6 @@
+use native.Mathlib.Omega.{arith}
 use borrow.Author.Needs.{needs}
-use Rattle.layout.specs.HeaderSays.{header-good}
+use Rattle.layout.specs.HeaderSays.{header-good, header-refused}
 use Rattle.rank.proofs.CountingLaws as laws
 use Rattle.rank.proofs.count.Statement.{statement}
 use Rattle.rank.proofs.count.Tie as tie
@@ -13,4 +14,4 @@ count-spec =
     (λ c κs. header-good _ _ (c .before .before .before .read-header .ensures) _ (c .before .read .given .1))
     (λ c. search needs)
     (λ c. search needs)
-    (λ c. laws.count-unread _ _ _ _ (c .before .before .before .read-header .ensures) _ (c .before .read2 .given .1)))
+    (λ c. record { says = laws.count-unread _ _ _ _ (c .before .before .before .read-header .ensures) _ (c .before .read2 .given .1); numbered = omega (arith, header-refused _ _ (c .before .before .before .read-header .ensures) _ (c .before .read2 .given .1) .2) }))

@@ -1,5 +1,6 @@
+use native.Mathlib.Omega.{arith}
 use borrow.Author.Needs.{needs}
-use Rattle.layout.specs.HeaderSays.{header-good}
+use Rattle.layout.specs.HeaderSays.{header-good, header-refused}
 use Rattle.rank.proofs.RowLaws as laws
 use Rattle.rank.proofs.row.Statement.{statement}
 use Rattle.rank.proofs.row.Tie as tie
@@ -14,4 +15,4 @@ row-spec =
     (λ c. search needs)
     (λ c. search needs)
     (λ c. search needs)
-    (λ c. laws.row-unread _ _ _ _ (c .before .before .before .read-header .ensures) _ (c .before .read2 .given .1)))
+    (λ c. record { says = laws.row-unread _ _ _ _ (c .before .before .before .read-header .ensures) _ (c .before .read2 .given .1); numbered = omega (arith, header-refused _ _ (c .before .before .before .read-header .ensures) _ (c .before .read2 .given .1) .2) }))

@@ -1,3 +1,4 @@
+use native.Mathlib.Omega.{arith}
 use borrow.Author.Needs.{needs}
 use Rattle.rank.proofs.CountingLaws as laws
 use Rattle.rank.proofs.counting.count_at.Statement.{statement}
@@ -7,11 +8,11 @@ pub count-at-spec : {M : Type 1} → statement M
 count-at-spec =
     tie.close
     (tie.spec
-    (λ c. laws.count-past _ _ (c .before .before .before .pre) _ _ (c .if1 .taken))
+    (λ c. record { says = laws.count-past _ _ (c .before .before .before .pre) _ _ (c .if1 .taken); numbered = omega arith })
     (λ c κs. search needs)
-    (λ c. laws.count-none _ _ (c .before .before .before .before .before .before .pre) _ _ (c .before .before .before .if1 .left) _ (c .before .before .number-of .ensures .0) (c .if2 .taken))
-    (λ c. laws.count-nothing _ _ (c .before .before .before .before .before .before .before .pre) _ _ (c .before .before .before .before .if1 .left) _ (c .before .before .before .number-of .ensures .0) (c .before .if2 .left) (c .if3 .taken))
+    (λ c. record { says = laws.count-none _ _ (c .before .before .before .before .before .before .pre) _ _ (c .before .before .before .if1 .left) _ (c .before .before .number-of .ensures .0) (c .if2 .taken); numbered = omega arith })
+    (λ c. record { says = laws.count-nothing _ _ (c .before .before .before .before .before .before .before .pre) _ _ (c .before .before .before .before .if1 .left) _ (c .before .before .before .number-of .ensures .0) (c .before .if2 .left) (c .if3 .taken); numbered = tt })
     (λ c. search needs)
     (λ c κs. search needs)
     (λ c κs. search needs)
-    (λ c. laws.count-walked _ _ (c .before .before .before .before .before .before .before .before .before .pre) _ _ (c .before .before .before .before .before .before .if1 .left) _ (c .before .before .before .before .before .number-of .ensures .0) (c .before .before .before .if2 .left) (c .before .before .if3 .left) _ (c .before .walk .ensures) _ (c .settle .ensures)))
+    (λ c. record { says = laws.count-walked _ _ (c .before .before .before .before .before .before .before .before .before .pre) _ _ (c .before .before .before .before .before .before .if1 .left) _ (c .before .before .before .before .before .number-of .ensures .0) (c .before .before .before .if2 .left) (c .before .before .if3 .left) _ (c .before .walk .ensures) _ (c .settle .ensures .0); numbered = c .settle .ensures .1 }))

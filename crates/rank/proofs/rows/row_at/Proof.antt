@@ -18,6 +18,6 @@ row-at-spec =
     (λ c. search needs)
     (λ c κs. search needs)
     (λ c. search needs)
-    (λ c. laws.row-not _ _ _ _ _ (laws.row-spans _ _ _ _ _ _ _ (c .before .before .before .before .before .before .before .before .before .before .before .before .before .pre .passes) (c .before .before .before .before .before .before .before .before .before .before .edges-of .ensures .spans _ _ (c .before .before .before .before .before .before .before .before .found .given .1)) (c .before .before .before .before .before .span .ensures .0 .says) (c .before .before .before .before .before .span .ensures .1)) _ _ (c .before .enum-told2 .given .1) (c .copied-number .ensures))
+    (λ c. laws.row-not _ _ _ _ _ (laws.row-spans _ _ _ _ _ _ _ (c .before .before .before .before .before .before .before .before .before .before .before .before .before .pre .passes) (c .before .before .before .before .before .before .before .before .before .before .edges-of .ensures .spans _ _ (c .before .before .before .before .before .before .before .before .found .given .1)) (c .before .before .before .before .before .span .ensures .0 .says) (c .before .before .before .before .before .span .ensures .1)) _ _ (c .before .enum-told2 .given .1) (c .copied-number .ensures) (c .before .before .before .before .before .span .ensures .0 .numbered))
     (λ c. search needs)
-    (λ c. laws.row-bytes _ _ _ _ _ (laws.row-spans _ _ _ _ _ _ _ (c .before .before .before .before .before .before .before .before .before .before .before .before .before .pre .passes) (c .before .before .before .before .before .before .before .before .before .before .edges-of .ensures .spans _ _ (c .before .before .before .before .before .before .before .before .found .given .1)) (c .before .before .before .before .before .span .ensures .0 .says) (c .before .before .before .before .before .span .ensures .1)) _ (c .before .copied .given .1)))
+    (λ c. record { says = laws.row-bytes _ _ _ _ _ (laws.row-spans _ _ _ _ _ _ _ (c .before .before .before .before .before .before .before .before .before .before .before .before .before .pre .passes) (c .before .before .before .before .before .before .before .before .before .before .edges-of .ensures .spans _ _ (c .before .before .before .before .before .before .before .before .found .given .1)) (c .before .before .before .before .before .span .ensures .0 .says) (c .before .before .before .before .before .span .ensures .1)) _ (c .before .copied .given .1); numbered = tt }))
