@@ -1,0 +1,69 @@
+//! Why the library refused, by name, number and words.
+
+use std::fmt;
+
+macro_rules! refusals {
+    ($($name:ident = $number:literal: $words:literal,)*) => {
+        /// The question that failed. Its number is the library's.
+        #[derive(Clone, Copy, Debug, PartialEq, Eq)]
+        pub enum Refusal {
+            $(#[doc = $words] $name = $number,)*
+        }
+
+        impl Refusal {
+            pub fn from_number(number: u32) -> Option<Self> {
+                match number {
+                    $($number => Some(Refusal::$name),)*
+                    _ => None,
+                }
+            }
+
+            fn words(self) -> &'static str {
+                match self {
+                    $(Refusal::$name => $words,)*
+                }
+            }
+        }
+    };
+}
+
+refusals! {
+    Text = 1: "a text must have 1 to 1,048,576 bytes",
+    Settings = 2: "the leaf length must be 1 to 256, the arity 2 to 16, the levels 1 to 8, and leaf x arity^(levels-1) at most 1,048,576",
+    Counted = 3: "at most 4 bytes can be counted, and each must be above the one before",
+    Space = 4: "the tree does not fit the buffer",
+    Short = 5: "a tree has at least 100 bytes; this is no tree, or cut off",
+    Layout = 6: "the layout is not 1; this is no block tree, or one of another version",
+    Header = 7: "the header is not right: its settings, unused places or offsets, or the file is longer or shorter than it says",
+    Links = 8: "the blocks are not right: a start, kind, link or gap, or the number of blocks or leaf bytes",
+    Counts = 9: "a count in the tree is not true",
+    Place = 10: "this lies past the text's end",
+    NotCounted = 11: "the tree does not count this byte",
+    NoSuch = 12: "the byte does not stand so often in the text; numbers go from 1 to its total",
+    Buffer = 13: "the answer does not fit the buffer",
+    Path = 14: "the tree is damaged: the way to a byte breaks off, or a count comes out below zero",
+    Input = 15: "only trees of at most 65,536 bytes are listed",
+}
+
+impl Refusal {
+    pub fn number(self) -> u32 {
+        self as u32
+    }
+}
+
+impl fmt::Display for Refusal {
+    fn fmt(&self, f: &mut fmt::Formatter<'_>) -> fmt::Result {
+        write!(f, "refused ({}): {}", self.number(), self.words())
+    }
+}
+
+impl std::error::Error for Refusal {}
+
+/// The answer, unless `number` is a refusal's.
+pub(crate) fn answer<T>(number: u32, value: T) -> Result<T, Refusal> {
+    match Refusal::from_number(number) {
+        None if number == 0 => Ok(value),
+        None => panic!("the library answered {number}, which include/blocktree.h does not list"),
+        Some(refusal) => Err(refusal),
+    }
+}
