@@ -36,6 +36,16 @@ pub struct Reached<T> {
     pub entered: u32,
 }
 
+/// The blocks of a level.
+#[derive(Clone, Copy, Debug, PartialEq, Eq)]
+pub struct Level {
+    /// Bytes of a full block.
+    pub block_length: u64,
+    pub blocks: u32,
+    /// Blocks that point; the others are kept.
+    pub pointing: u32,
+}
+
 /// A buffer of so many bytes is enough for the tree of any text of `n` bytes.
 pub fn enough(n: usize, settings: &Settings) -> Result<u64, Refusal> {
     let n = u32::try_from(n).unwrap_or(u32::MAX);
@@ -135,12 +145,26 @@ impl<'a> Tree<'a> {
         Settings { leaf: self.word(8), arity: self.word(12), levels: self.word(16), counted }
     }
 
+    /// The levels of a tree that the check accepts.
+    pub fn levels(&self) -> Vec<Level> {
+        let Settings { leaf, arity, levels, counted } = self.settings();
+        let record = 16 + 12 * counted.len();
+        (0..levels.min(8))
+            .map(|level| {
+                let at = 28 + 8 * level as usize;
+                let (blocks, offset) = (self.word(at), self.word(at + 4) as usize);
+                let pointing = (0..blocks as usize).filter(|block| self.word(offset + block * record + 4) == 1).count();
+                Level { block_length: u64::from(leaf) * u64::from(arity).pow(levels - 1 - level), blocks, pointing: pointing as u32 }
+            })
+            .collect()
+    }
+
     /// The number of leaf bytes, as the header has it.
     pub fn leaf_bytes(&self) -> u32 {
         self.word(96)
     }
 
-    /// The header's word at `at`; 0 where the bytes are too short to have one.
+    /// The word at `at`; 0 where the bytes are too short to have one.
     fn word(&self, at: usize) -> u32 {
         self.bytes.get(at..at + 4).and_then(|word| word.try_into().ok()).map_or(0, u32::from_le_bytes)
     }

@@ -5,7 +5,7 @@ mod support;
 
 use model::build::{build, plain_tree};
 use model::check::{check, list};
-use model::read::{byte, count, find, path, row, run, span, Answer, Tree};
+use model::read::{byte, count, find, row, run, span, Answer};
 use model::{fast, Shape};
 use support::books::{book, Kind};
 use support::Rng;
@@ -91,8 +91,7 @@ fn readings() {
 fn long_path_of_a_short_text() {
     let text = [b'A'; 1024];
     let bytes = plain_tree(&text, Shape::new(1, 2, 8), b"");
-    let tree = Tree::open(&bytes).ok().expect("a tree");
-    let longest = (0..1024).map(|p| path(&tree, p).expect("no path breaks").blocks().len()).max();
+    let longest = (0..1024).map(|p| byte(&bytes, p).2).max();
     assert!(longest.expect("a place") <= 15);
 }
 

@@ -96,7 +96,7 @@ impl<'a> Tree<'a> {
         self.leaf_count
     }
 
-    /// Leaf bytes of an accepted tree.
+    /// Some of the leaf bytes.
     #[inline]
     pub fn leaf_bytes(&self, first: u64, length: u64) -> &'a [u8] {
         let from = self.leaf_offset + first as usize;
@@ -129,7 +129,7 @@ impl<'a> Tree<'a> {
 }
 
 /// A block on a path.
-#[derive(Clone, Copy, Default)]
+#[derive(Clone, Copy)]
 pub struct Entered {
     pub level: usize,
     pub block: u64,
@@ -139,39 +139,23 @@ pub struct Entered {
     pub target: bool,
 }
 
-/// The blocks entered, in order, and the number of the leaf byte reached.
-pub struct Path {
-    entered: [Entered; 2 * MAX_LEVELS],
-    length: usize,
-    pub leaf: u64,
-}
-
-impl Path {
-    #[inline]
-    pub fn blocks(&self) -> &[Entered] {
-        &self.entered[..self.length]
-    }
-}
-
-/// The path of place `p`, which is below n; none where it breaks.
+/// Go the path of place `p`, which is below n: `enter` sees each block entered, in order. The number of the leaf byte reached; none where the path breaks.
 #[inline]
-pub fn path(tree: &Tree, p: u64) -> Option<Path> {
-    let mut path = Path { entered: Default::default(), length: 0, leaf: 0 };
+pub fn path(tree: &Tree, p: u64, mut enter: impl FnMut(Entered)) -> Option<u64> {
     let mut here = Entered { level: 0, block: p / tree.b[0], place: p % tree.b[0], target: false };
     loop {
         let Entered { level, block, place, target } = here;
         if block >= tree.blocks[level] {
             return None;
         }
-        path.entered[path.length] = here;
-        path.length += 1;
+        enter(here);
         let link = tree.field(level, block, LINK);
         let b = tree.b[level];
         let last = level + 1 == tree.levels;
         match tree.field(level, block, KIND) {
             0 if last => {
-                path.leaf = link + place;
-                return (path.leaf < tree.leaf_count).then_some(path);
+                let leaf = link + place;
+                return (leaf < tree.leaf_count).then_some(leaf);
             }
             0 => {
                 let child = tree.b[level + 1];
@@ -193,34 +177,46 @@ pub fn path(tree: &Tree, p: u64) -> Option<Path> {
     }
 }
 
-/// The number, the byte and the blocks entered.
-pub fn byte(bytes: &[u8], p: u32) -> (u32, u32, u32) {
-    match reach(bytes, p) {
-        Err(number) => (number, 0, 0),
-        Ok((tree, path)) => (0, u32::from(bytes[tree.leaf_offset + path.leaf as usize]), path.length as u32),
+/// The byte at `p`, which is below n, and the blocks entered; none where the path breaks.
+#[inline]
+pub fn byte_at(tree: &Tree, p: u64) -> Option<(u8, u32)> {
+    let mut entered = 0;
+    let leaf = path(tree, p, |_| entered += 1)?;
+    Some((tree.bytes[tree.leaf_offset + leaf as usize], entered))
+}
+
+/// Questions 5 to 7 and 10.
+#[inline]
+fn open_at(bytes: &[u8], p: u32) -> Result<Tree<'_>, u32> {
+    let tree = Tree::open(bytes)?;
+    if u64::from(p) < tree.n {
+        Ok(tree)
+    } else {
+        Err(10)
     }
 }
 
-#[inline]
-fn reach(bytes: &[u8], p: u32) -> Result<(Tree<'_>, Path), u32> {
-    let tree = Tree::open(bytes)?;
-    if u64::from(p) >= tree.n {
-        return Err(10);
+/// The number, the byte and the blocks entered.
+pub fn byte(bytes: &[u8], p: u32) -> (u32, u32, u32) {
+    match open_at(bytes, p).and_then(|tree| byte_at(&tree, p.into()).ok_or(14)) {
+        Ok((byte, entered)) => (0, byte.into(), entered),
+        Err(number) => (number, 0, 0),
     }
-    let path = path(&tree, u64::from(p)).ok_or(14u32)?;
-    Ok((tree, path))
 }
 
 /// The number, where the run begins in the tree's bytes, and its length.
 pub fn run(bytes: &[u8], p: u32) -> (u32, u32, u32) {
-    match reach(bytes, p) {
+    match try_run(bytes, p) {
+        Ok((offset, length)) => (0, offset as u32, length as u32),
         Err(number) => (number, 0, 0),
-        Ok((tree, path)) => {
-            let in_blocks = path.blocks().iter().map(|entered| tree.b[entered.level] - entered.place).min();
-            let length = in_blocks.unwrap_or(0).min(tree.leaf_count - path.leaf).min(tree.n - u64::from(p));
-            (0, (tree.leaf_offset as u64 + path.leaf) as u32, length as u32)
-        }
     }
+}
+
+fn try_run(bytes: &[u8], p: u32) -> Result<(u64, u64), u32> {
+    let tree = open_at(bytes, p)?;
+    let mut length = tree.n - u64::from(p);
+    let leaf = path(&tree, p.into(), |entered| length = length.min(tree.b[entered.level] - entered.place)).ok_or(14u32)?;
+    Ok((tree.leaf_offset as u64 + leaf, length.min(tree.leaf_count - leaf)))
 }
 
 /// The number; the bytes go to the buffer.
@@ -241,8 +237,8 @@ pub fn span(bytes: &[u8], p: u32, length: u32, buffer: &mut [u8]) -> u32 {
 /// Fill `part` with the text from `p`; zeros and 14 where a path breaks.
 fn copy(tree: &Tree, p: u64, part: &mut [u8]) -> u32 {
     for i in 0..part.len() {
-        match path(tree, p + i as u64) {
-            Some(path) => part[i] = tree.bytes[tree.leaf_offset + path.leaf as usize],
+        match byte_at(tree, p + i as u64) {
+            Some((byte, _)) => part[i] = byte,
             None => {
                 part.fill(0);
                 return 14;
@@ -269,29 +265,31 @@ fn try_count(bytes: &[u8], byte: u32, i: u32) -> Result<(u64, u32), u32> {
     if i == 0 {
         return Ok((0, 0));
     }
-    let path = path(&tree, u64::from(i) - 1).ok_or(14u32)?;
     let mut sum: i64 = 0;
-    for (at, entered) in path.blocks().iter().enumerate() {
-        let figure = |block: u64, field: usize| tree.field(entered.level, block, field + 3 * c) as i64;
-        if !entered.target {
-            sum += figure(entered.block, BEFORE);
-            continue;
+    let mut entered = 0;
+    let mut last = Entered { level: 0, block: 0, place: 0, target: false };
+    let leaf = path(&tree, u64::from(i) - 1, |here| {
+        let figure = |block: u64, field: usize| tree.field(here.level, block, field + 3 * c) as i64;
+        if here.target {
+            // the pointing block was the last one entered
+            let first = tree.field(here.level, last.block, LINK);
+            sum -= figure(last.block, SKIP);
+            if here.block != first {
+                sum += figure(first, INSIDE);
+            }
+        } else {
+            sum += figure(here.block, BEFORE);
         }
-        let pointing = path.entered[at - 1].block;
-        sum -= figure(pointing, SKIP);
-        let first = tree.field(entered.level, pointing, LINK);
-        if entered.block != first {
-            sum += figure(first, INSIDE);
-        }
-    }
-    let at_leaf = path.entered[path.length - 1];
-    let from = tree.leaf_offset + (path.leaf - at_leaf.place) as usize;
-    let to = tree.leaf_offset + path.leaf as usize;
-    sum += bytes[from..=to].iter().filter(|&&here| u32::from(here) == byte).count() as i64;
+        entered += 1;
+        last = here;
+    })
+    .ok_or(14u32)?;
+    let reached = tree.leaf_bytes(leaf - last.place, last.place + 1);
+    sum += reached.iter().filter(|&&here| u32::from(here) == byte).count() as i64;
     if sum < 0 {
         return Err(14);
     }
-    Ok((sum as u64, path.length as u32))
+    Ok((sum as u64, entered))
 }
 
 /// An answer, or what the format leaves open on a tree that the check refuses.
@@ -312,8 +310,8 @@ pub fn find(bytes: &[u8], byte: u32, j: u32) -> Answer<(u32, u32, u32)> {
         return Answer::Free(tree.n);
     }
     let place = nth(&text(&tree), byte as u8, j as usize);
-    let entered = path(&tree, place as u64).expect("no path breaks").length;
-    Answer::Settled((0, place as u32, entered as u32))
+    let (_, entered) = byte_at(&tree, place as u64).expect("no path breaks");
+    Answer::Settled((0, place as u32, entered))
 }
 
 /// Questions 5 to 7, 11 and 12.
@@ -334,12 +332,7 @@ pub fn nth(text: &[u8], byte: u8, j: usize) -> usize {
 
 /// The text of a tree that passes questions 5 to 8.
 pub fn text(tree: &Tree) -> Vec<u8> {
-    (0..tree.n)
-        .map(|p| {
-            let path = path(tree, p).expect("no path breaks");
-            tree.bytes[tree.leaf_offset + path.leaf as usize]
-        })
-        .collect()
+    (0..tree.n).map(|p| byte_at(tree, p).expect("no path breaks").0).collect()
 }
 
 /// The number and the row's length; the row goes to the buffer.
