@@ -13,6 +13,7 @@ use codebook::calls;
 use judge::{find_agrees, row_agrees, FILL};
 use model::read::Answer;
 use model::{build, check, fast, read, Shape};
+use std::collections::{BTreeMap, BTreeSet};
 use support::books::{book, Kind};
 use support::{to_hex, Rng};
 
@@ -39,7 +40,7 @@ fn library_build(text: &[u8], shape: Shape, counted: &[u8], out: &mut [u8]) -> (
 
 #[test]
 fn builds() {
-    rounds(6000, |rng| {
+    rounds(10_000, |rng| {
         let text = damage::text(rng, 120);
         let (shape, counted) = (damage::shape(rng), damage::counted(rng));
         let tree = build::plain_tree(&text, shape, &counted);
@@ -97,7 +98,7 @@ fn good_trees() {
 
 #[test]
 fn damaged_trees() {
-    rounds(6000, |rng| {
+    rounds(20_000, |rng| {
         let text = damage::text(rng, 60);
         let (shape, counted) = (damage::shape(rng), damage::counted(rng));
         let mut tree = if rng.one_in(2) { build::plain_tree(&text, shape, &counted) } else { damage::other_tree(rng, &text, shape, &counted) };
@@ -110,7 +111,7 @@ fn damaged_trees() {
 
 #[test]
 fn wild_trees() {
-    rounds(6000, |rng| {
+    rounds(20_000, |rng| {
         let tree = damage::wild_tree(rng).into_boxed_slice();
         ask(rng, &tree, 30);
     });
@@ -223,6 +224,47 @@ fn compare_book(rng: &mut Rng, text: &[u8], shape: Shape, counted: &[u8], questi
     let mut damaged = tree.to_vec();
     damage::damage(rng, &mut damaged);
     assert_eq!(calls::check(&damaged), check::check(&damaged), "{shape:?}");
+}
+
+/// The random trees and questions reach every number that a question can give, and free answers too.
+#[test]
+fn every_number_is_reached() {
+    const FREE: u32 = 99;
+    let mut reached: BTreeMap<&str, BTreeSet<u32>> = BTreeMap::new();
+    for round in 0..2000 {
+        let rng = &mut Rng::new(round);
+        let text = damage::text(rng, 60);
+        let (shape, counted) = (damage::shape(rng), damage::counted(rng));
+        let good = damage::other_tree(rng, &text, shape, &counted);
+        let mut damaged = good.clone();
+        damage::damage(rng, &mut damaged);
+        for tree in [good, damaged, damage::wild_tree(rng)] {
+            let (p, length, j) = (rng.below(70) as u32, rng.below(12) as u32, rng.below(12) as u32);
+            let mut buffer = [0; 8];
+            let mut note = |question, number| reached.entry(question).or_default().insert(number);
+            note("check", check::check(&tree));
+            note("list", check::list(&tree).0);
+            note("byte", read::byte(&tree, p).0);
+            note("run", read::run(&tree, p).0);
+            note("span", read::span(&tree, p, length, &mut buffer));
+            note("count", read::count(&tree, 10, p).0);
+            note("find", if let Answer::Settled(answer) = read::find(&tree, 10, j) { answer.0 } else { FREE });
+            note("row", if let Answer::Settled(answer) = read::row(&tree, j, &mut buffer) { answer.0 } else { FREE });
+        }
+    }
+    let expected: [(&str, &[u32]); 8] = [
+        ("check", &[0, 5, 6, 7, 8, 9]),
+        ("list", &[0, 5, 6, 7, 8, 9]),
+        ("byte", &[0, 5, 6, 7, 10, 14]),
+        ("run", &[0, 5, 6, 7, 10, 14]),
+        ("span", &[0, 5, 6, 7, 10, 13, 14]),
+        ("count", &[0, 5, 6, 7, 10, 11, 14]),
+        ("find", &[0, 5, 6, 7, 11, 12, FREE]),
+        ("row", &[0, 5, 6, 7, 11, 12, 13, FREE]),
+    ];
+    for (question, numbers) in expected {
+        assert_eq!(reached[question], numbers.iter().copied().collect(), "{question}");
+    }
 }
 
 /// The judge of free answers is not asleep.

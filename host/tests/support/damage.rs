@@ -143,7 +143,7 @@ fn add_or_drop_block(rng: &mut Rng, tree: &mut Vec<u8>) {
     let level = rng.below(levels);
     let (blocks, offset) = (word(tree, 28 + 8 * level), word(tree, 32 + 8 * level) as usize);
     let end = offset.saturating_add((blocks as usize).saturating_mul(record));
-    if end > tree.len() || blocks == 0 {
+    if offset < HEADER || end > tree.len() || blocks == 0 {
         return;
     }
     let block = offset + rng.below(blocks as usize) * record;
