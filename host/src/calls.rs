@@ -33,18 +33,7 @@ mod declared {
 pub fn build(text: &[u8], leaf: u32, arity: u32, levels: u32, counted: &[u8], out: &mut [u8]) -> (u32, u32) {
     let mut size = 0;
     let number = unsafe {
-        declared::bt_build(
-            text.as_ptr(),
-            text.len(),
-            leaf,
-            arity,
-            levels,
-            counted.as_ptr(),
-            counted.len(),
-            out.as_mut_ptr(),
-            out.len(),
-            &mut size,
-        )
+        declared::bt_build(text.as_ptr(), text.len(), leaf, arity, levels, counted.as_ptr(), counted.len(), out.as_mut_ptr(), out.len(), &mut size)
     };
     (number, size)
 }

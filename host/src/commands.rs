@@ -24,9 +24,8 @@ fn build(book: Option<&str>, out: Option<&str>, settings: Option<&Settings>, cou
     };
     let tried = tried.map_err(|refusal| Failure::Refused(messages::build_refusal(refusal, &text.name, text.bytes.len(), settings, counted)))?;
     let chosen = trials::smallest(&tried);
-    let report = files::write_tree(out, &chosen.tree)?;
     let name = out.filter(|&path| path != "-").unwrap_or("standard output");
-    report(&messages::build_report(&text.name, text.bytes.len(), &tried, chosen, name))
+    files::write_tree(out, &chosen.tree, &messages::build_report(&text.name, text.bytes.len(), &tried, chosen, name))
 }
 
 fn ask(question: &Question, path: Option<&str>, unchecked: bool) -> Result<(), Failure> {

@@ -38,19 +38,17 @@ pub fn print(bytes: &[u8]) -> Result<(), Failure> {
     }
 }
 
-/// Write a tree to a file. Gives the place for the report: standard output, or, where the tree went there, standard error.
-pub fn write_tree(path: Option<&str>, tree: &[u8]) -> Result<fn(&str) -> Result<(), Failure>, Failure> {
+/// Write a tree, and what there is to say of it: to standard output, or, where the tree goes there, to standard error.
+pub fn write_tree(path: Option<&str>, tree: &[u8], report: &str) -> Result<(), Failure> {
     match path {
         None | Some("-") => {
             print(tree)?;
-            Ok(|words| {
-                eprint!("{words}");
-                Ok(())
-            })
+            eprint!("{report}");
+            Ok(())
         }
         Some(path) => {
             fs::write(path, tree).map_err(|error| Failure::Usage(format!("{path} cannot be written: {error}")))?;
-            Ok(|words| print(words.as_bytes()))
+            print(report.as_bytes())
         }
     }
 }

@@ -13,8 +13,8 @@
 pub mod calls;
 mod refusal;
 
-pub use refusal::Refusal;
 use refusal::answer;
+pub use refusal::Refusal;
 
 /// The longest text.
 pub const MAX_TEXT: usize = 1_048_576;

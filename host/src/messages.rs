@@ -9,7 +9,7 @@ pub fn grouped(number: u64) -> String {
     let digits = number.to_string();
     let mut text = String::new();
     for (at, digit) in digits.chars().enumerate() {
-        if at > 0 && (digits.len() - at) % 3 == 0 {
+        if at > 0 && (digits.len() - at).is_multiple_of(3) {
             text.push(',');
         }
         text.push(digit);
@@ -44,13 +44,17 @@ pub fn build_report(book: &str, length: usize, tried: &[Trial], chosen: &Trial, 
         }
         text += &format!("chosen: {}, since its tree is the smallest of these {}\n", shape(&chosen.settings), tried.len());
     }
-    text + &format!(
+    text += &format!(
         "{tree}: {} bytes, {} of the text; {}; bytes counted: {}\n",
         grouped(chosen.tree.len() as u64),
         share(chosen.tree.len(), length),
         shape(&chosen.settings),
         counted(&chosen.settings.counted)
-    )
+    );
+    if chosen.tree.len() >= length {
+        text += "The tree is no smaller than the text: the book is short, or repeats itself too little.\n";
+    }
+    text
 }
 
 /// Why no tree was built, with the input that caused it.

@@ -2,12 +2,12 @@
 //!
 //! ROUNDS sets how many rounds the tests on short texts go (valgrind-damaged asks for few); SEED where they start.
 
-mod model;
-mod support;
 #[path = "support/damage.rs"]
 mod damage;
 #[path = "support/judge.rs"]
 mod judge;
+mod model;
+mod support;
 
 use codebook::calls;
 use judge::{find_agrees, row_agrees, FILL};

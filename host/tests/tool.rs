@@ -122,10 +122,15 @@ fn builds_with_given_settings() {
         .run("build small.txt -o small.tree --leaf 16 --arity=4 --levels 2 --count none")
         .succeeds()
         .prints("small.txt: 2,800 bytes\nsmall.tree: 2,436 bytes, 87.0 % of the text; leaf 16, arity 4, levels 2; bytes counted: none\n");
-    folder.run("row 1 small.tree").status(1).says(
-        "codebook: small.tree: row 1: refused (11): the tree does not count this byte; rows end in byte 10, so build must count it\n",
-    );
+    folder
+        .run("row 1 small.tree")
+        .status(1)
+        .says("codebook: small.tree: row 1: refused (11): the tree does not count this byte; rows end in byte 10, so build must count it\n");
     folder.run("build small.txt -o two.tree --leaf 16 --arity 4 --levels 2 --count \\n,C").succeeds();
+    folder.run("build small.txt -o large.tree --leaf 1 --arity 2 --levels 1").succeeds().prints(
+        "small.txt: 2,800 bytes\nlarge.tree: 81,300 bytes, 2903.6 % of the text; leaf 1, arity 2, levels 1; bytes counted: 10\n\
+         The tree is no smaller than the text: the book is short, or repeats itself too little.\n",
+    );
     folder.run("find C 41 two.tree").succeeds().prints("728 (3 blocks entered)\n");
 }
 
@@ -177,9 +182,10 @@ fn trees_from_standard_input() {
     folder.pipe("row 2", &tree).succeeds().prints("CH0502 444225\n");
     folder.pipe("row 2 -", &tree).succeeds().prints("CH0502 444225\n");
     folder.pipe("check", &tree).succeeds().prints("standard input: a good tree of 2,800 bytes of text\n");
-    folder.pipe("check", b"").status(1).says(
-        "codebook: standard input: refused (5): a tree has at least 100 bytes; this is no tree, or cut off; it has 0 bytes\n",
-    );
+    folder
+        .pipe("check", b"")
+        .status(1)
+        .says("codebook: standard input: refused (5): a tree has at least 100 bytes; this is no tree, or cut off; it has 0 bytes\n");
 }
 
 #[test]
@@ -221,9 +227,10 @@ fn damaged_trees() {
     damaged("count.tree", 120, 7);
     folder.run("check count.tree").status(1).says("codebook: count.tree: refused (9): a count in the tree is not true\n");
     damaged("layout.tree", 0, 2);
-    folder.run("row 1 layout.tree").status(1).says(
-        "codebook: layout.tree: refused (6): the layout is not 1; this is no block tree, or one of another version\n",
-    );
+    folder
+        .run("row 1 layout.tree")
+        .status(1)
+        .says("codebook: layout.tree: refused (6): the layout is not 1; this is no block tree, or one of another version\n");
     folder.write("cut.tree", &tree[..tree.len() - 1]);
     folder.run("check cut.tree").status(1).says(
         "codebook: cut.tree: refused (7): the header is not right: its settings, unused places or offsets, or the file is longer or shorter than it says\n",
@@ -240,10 +247,12 @@ fn texts_that_are_refused() {
     folder.write("long.txt", &vec![b'A'; 1_048_577]);
     folder.run("build long.txt -o no.tree").status(1).says(&format!("codebook: long.txt: {bounds}; it has more\n"));
     folder.run("build long.txt -o no.tree --leaf 256 --arity 16 --levels 3").status(1).says(&format!("codebook: long.txt: {bounds}; it has more\n"));
-    let settings = "refused (2): the leaf length must be 1 to 256, the arity 2 to 16, the levels 1 to 8, and leaf x arity^(levels-1) at most 1,048,576";
-    folder.run("build small.txt -o no.tree --leaf 256 --arity 16 --levels 5").status(1).says(&format!(
-        "codebook: small.txt: {settings}; given: leaf 256, arity 16, levels 5\n"
-    ));
+    let settings =
+        "refused (2): the leaf length must be 1 to 256, the arity 2 to 16, the levels 1 to 8, and leaf x arity^(levels-1) at most 1,048,576";
+    folder
+        .run("build small.txt -o no.tree --leaf 256 --arity 16 --levels 5")
+        .status(1)
+        .says(&format!("codebook: small.txt: {settings}; given: leaf 256, arity 16, levels 5\n"));
     let counted = "refused (3): at most 4 bytes can be counted, and each must be above the one before";
     folder.run("build small.txt -o no.tree --count 65,10").status(1).says(&format!("codebook: small.txt: {counted}; given: 65, 10\n"));
     folder.run("build small.txt -o no.tree --count 1,2,3,4,5").status(1).says(&format!("codebook: small.txt: {counted}; given: 1, 2, 3, 4, 5\n"));
@@ -278,7 +287,10 @@ fn calls_that_are_not_right() {
     usage("row 4294967296 x", "N is a number from 0 to 4294967295, not '4294967296'\nusage: codebook row N [TREE] [--unchecked]");
     usage("check a.tree b.tree", "'b.tree' is one word too many\nusage: codebook check [TREE]");
     usage("check --all", "there is no option '--all'\nusage: codebook check [TREE]");
-    usage("count 256 4 x", "a byte is a number from 0 to 255 or one character that is no digit, not '256'\nusage: codebook count BYTE LENGTH [TREE] [--unchecked]");
+    usage(
+        "count 256 4 x",
+        "a byte is a number from 0 to 255 or one character that is no digit, not '256'\nusage: codebook count BYTE LENGTH [TREE] [--unchecked]",
+    );
     let build = "usage: codebook build [BOOK] [-o TREE] [--leaf M --arity R --levels H] [--count BYTES]";
     usage("build small.txt -o", &format!("-o needs a value\n{build}"));
     usage("build --leaf 64", &format!("--leaf, --arity and --levels go together: give all three, or none to have a short list tried\n{build}"));

@@ -1,9 +1,9 @@
 //! The cases of vectors.txt, put to the library and to the model. The file's head says how a line is read.
 
-mod model;
-mod support;
 #[path = "support/judge.rs"]
 mod judge;
+mod model;
+mod support;
 
 use codebook::calls;
 use judge::{find_agrees, row_agrees, FILL};
@@ -15,6 +15,7 @@ use support::{from_hex, to_hex};
 const VECTORS: &str = include_str!("vectors.txt");
 
 /// The calls of one implementation.
+#[allow(clippy::type_complexity)]
 struct Calls {
     build: fn(&[u8], Shape, &[u8], &mut [u8]) -> (u32, u32),
     check: fn(&[u8]) -> u32,
@@ -58,8 +59,7 @@ fn model() {
 }
 
 /// Items of requests that are not in force in this format are passed over by name.
-const LATER: [&str; 13] =
-    ["places", "scan", "match", "columns", "rows", "column", "open", "left", "renew", "guide", "guidecheck", "guided", "order"];
+const LATER: [&str; 13] = ["places", "scan", "match", "columns", "rows", "column", "open", "left", "renew", "guide", "guidecheck", "guided", "order"];
 
 fn run_all(calls: &Calls) {
     let mut bytes: HashMap<&str, Vec<u8>> = HashMap::new();

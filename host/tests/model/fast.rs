@@ -110,19 +110,14 @@ fn try_find(bytes: &[u8], byte: u32, j: u32) -> Result<(u64, u32), u32> {
     unreachable!("the last level answers")
 }
 
-/// The last of the blocks from `first` on, below `end`, before any whose before is j or more. On an accepted tree befores do not fall.
+/// The last of the blocks from `first` on, below `end`, before any whose before is j or more.
 #[inline]
 fn last_before(tree: &Tree, level: usize, c: usize, first: u64, end: u64, j: u64) -> u64 {
-    let (mut low, mut high) = (first, end);
-    while high - low > 1 {
-        let middle = low + (high - low) / 2;
-        if tree.field(level, middle, BEFORE + 3 * c) < j {
-            low = middle;
-        } else {
-            high = middle;
-        }
+    let mut block = first;
+    while block + 1 < end && tree.field(level, block + 1, BEFORE + 3 * c) < j {
+        block += 1;
     }
-    low
+    block
 }
 
 /// Row q, on a tree that the check accepts.

@@ -29,10 +29,7 @@ impl Shape {
     }
 
     pub fn in_bounds(&self) -> bool {
-        (1..=256).contains(&self.m)
-            && (2..=16).contains(&self.r)
-            && (1..=8).contains(&self.h)
-            && self.block_length(0) <= MAX_TEXT
+        (1..=256).contains(&self.m) && (2..=16).contains(&self.r) && (1..=8).contains(&self.h) && self.block_length(0) <= MAX_TEXT
     }
 
     /// Bytes of a full block of `level`. The settings but for their product are within bounds.

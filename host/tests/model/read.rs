@@ -73,10 +73,7 @@ impl<'a> Tree<'a> {
             expected += u64::from(blocks) * record_length(k) as u64;
         }
         tree.leaf_offset = word(bytes, 92) as usize;
-        if tree.blocks[0] != blocks_for(n, tree.b[0])
-            || u64::from(word(bytes, 92)) != expected
-            || bytes.len() as u64 != expected + tree.leaf_count
-        {
+        if tree.blocks[0] != blocks_for(n, tree.b[0]) || u64::from(word(bytes, 92)) != expected || bytes.len() as u64 != expected + tree.leaf_count {
             return Err(7);
         }
         Ok(tree)

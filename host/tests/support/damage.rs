@@ -7,7 +7,7 @@ use crate::model::{blocks_for, record_length, word, Shape, HEADER};
 /// A text of 1 to `longest` bytes over a few letters, with stretches that come again.
 pub fn text(rng: &mut Rng, longest: usize) -> Vec<u8> {
     let length = rng.within(1, longest);
-    let letters: &[u8] = *rng.pick(&[b"A".as_slice(), b"AB", b"ABC\n", b"AB\n\0\xFF", b"0123456789 \n"]);
+    let letters = *rng.pick(&[b"A".as_slice(), b"AB", b"ABC\n", b"AB\n\0\xFF", b"0123456789 \n"]);
     let copies = rng.below(4);
     let mut text: Vec<u8> = Vec::new();
     while text.len() < length {
@@ -100,7 +100,7 @@ pub fn damage(rng: &mut Rng, tree: &mut Vec<u8>) {
         tree.resize(HEADER, 0);
         return;
     }
-    match rng.below(16) {
+    match rng.below(20) {
         0 => tree.truncate(rng.below(tree.len())),
         1 => {
             tree.truncate(tree.len() - 1);
@@ -114,6 +114,7 @@ pub fn damage(rng: &mut Rng, tree: &mut Vec<u8>) {
         6 => add_or_drop_block(rng, tree),
         7 => add_or_drop_leaf(rng, tree),
         8 => swap_records(rng, tree),
+        9..=12 => point_elsewhere(rng, tree),
         _ => {
             // a word of the records
             let records = (word(tree, 92) as usize).clamp(HEADER, tree.len() / 4 * 4) - HEADER;
@@ -177,6 +178,28 @@ fn add_or_drop_leaf(rng: &mut Rng, tree: &mut Vec<u8>) {
     } else if leaves > 0 && tree.len() > HEADER {
         tree.pop();
         set_word(tree, 96, leaves - 1);
+    }
+}
+
+/// Another link and gap for a pointing block, near enough to what it may have to pass now and then.
+fn point_elsewhere(rng: &mut Rng, tree: &mut [u8]) {
+    let Some((levels, record)) = layout(tree) else { return };
+    let level = rng.below(levels);
+    let (blocks, offset) = (word(tree, 28 + 8 * level) as usize, word(tree, 32 + 8 * level) as usize);
+    if offset < HEADER || offset.saturating_add(blocks.saturating_mul(record)) > tree.len() {
+        return;
+    }
+    let pointing: Vec<usize> = (0..blocks).map(|block| offset + block * record).filter(|&at| word(tree, at + 4) == 1).collect();
+    if pointing.is_empty() {
+        return;
+    }
+    let at = *rng.pick(&pointing);
+    // on a level above the last, a block is at most as long as the distance of the first two starts
+    let b = if blocks > 1 { word(tree, offset + record).max(1) } else { 1 };
+    let (link, gap) = (rng.below(blocks) as u32, rng.below(b.min(1000) as usize) as u32);
+    set_word(tree, at + 8, link);
+    if rng.one_in(2) {
+        set_word(tree, at + 12, gap);
     }
 }
 
