@@ -67,3 +67,26 @@ pub(crate) fn answer<T>(number: u32, value: T) -> Result<T, Refusal> {
         Some(refusal) => Err(refusal),
     }
 }
+
+#[cfg(test)]
+mod tests {
+    use super::Refusal;
+
+    /// Is this line of the header the declaration of that number?
+    fn declares(line: &str, number: u32) -> bool {
+        line.split_once(" = ").is_some_and(|(_, value)| value.split([',', ' ']).next() == Some(&number.to_string()))
+    }
+
+    #[test]
+    fn numbers_are_those_of_the_header() {
+        let header = include_str!("../../include/blocktree.h");
+        for number in 1..=15 {
+            let refusal = Refusal::from_number(number).expect("a refusal");
+            assert_eq!(refusal.number(), number);
+            assert!(refusal.to_string().starts_with(&format!("refused ({number}): ")));
+            let lines = header.lines().filter(|line| line.trim_start().starts_with("BT_") && declares(line, number));
+            assert_eq!(lines.count(), 1);
+        }
+        assert!(Refusal::from_number(0).is_none() && Refusal::from_number(16).is_none());
+    }
+}

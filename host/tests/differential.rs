@@ -128,6 +128,17 @@ fn wild_bytes() {
     });
 }
 
+#[test]
+fn list_without_room() {
+    let tree = build::plain_tree(b"ABCD", Shape::new(2, 2, 2), b"");
+    assert_eq!(calls::list(&tree, &mut []), (13, 0));
+    assert_eq!(calls::list(b"", &mut []), (13, 0));
+    let mut out = lent(512);
+    let (number, length) = calls::list(&tree, &mut out);
+    assert_eq!((number, &out[..length as usize]), (0, b"0 1 1 0\n1 2 2 0\n".as_slice()));
+    assert_eq!(out[length as usize..], *lent(512 - length as usize));
+}
+
 /// Put the check, the list and `questions` of each other kind to a tree.
 fn ask(rng: &mut Rng, tree: &[u8], questions: usize) {
     assert_eq!(calls::check(tree), check::check(tree), "check {}", to_hex(tree));
