@@ -99,7 +99,8 @@ fn good_trees() {
 #[test]
 fn damaged_trees() {
     rounds(20_000, |rng| {
-        let text = damage::text(rng, 60);
+        let longest = if rng.one_in(4) { 200 } else { 60 };
+        let text = damage::text(rng, longest);
         let (shape, counted) = (damage::shape(rng), damage::counted(rng));
         let mut tree = if rng.one_in(2) { build::plain_tree(&text, shape, &counted) } else { damage::other_tree(rng, &text, shape, &counted) };
         for _ in 0..rng.within(1, 3) {
@@ -278,7 +279,7 @@ fn every_number_is_reached() {
     }
 }
 
-/// The judge of free answers is not asleep.
+/// The judge of free answers turns away what the format does not let pass.
 #[test]
 fn free_answers_are_judged() {
     assert!(find_agrees(Answer::Free(20), (0, 19, 7)) && find_agrees(Answer::Free(20), (14, 0, 0)));

@@ -181,7 +181,8 @@ fn add_or_drop_leaf(rng: &mut Rng, tree: &mut Vec<u8>) {
     }
 }
 
-/// Another link and gap for a pointing block, near enough to what it may have to pass now and then.
+/// Another link and gap for a pointing block, near enough to what it may have to pass now and then; where the level has neighbours that are apart in
+/// the text, often across them.
 fn point_elsewhere(rng: &mut Rng, tree: &mut [u8]) {
     let Some((levels, record)) = layout(tree) else { return };
     let level = rng.below(levels);
@@ -189,16 +190,23 @@ fn point_elsewhere(rng: &mut Rng, tree: &mut [u8]) {
     if offset < HEADER || offset.saturating_add(blocks.saturating_mul(record)) > tree.len() {
         return;
     }
-    let pointing: Vec<usize> = (0..blocks).map(|block| offset + block * record).filter(|&at| word(tree, at + 4) == 1).collect();
+    let field = |block: usize, field: usize| word(tree, offset + block * record + 4 * field);
+    let pointing: Vec<usize> = (0..blocks).filter(|&block| field(block, 1) == 1).collect();
     if pointing.is_empty() {
         return;
     }
-    let at = *rng.pick(&pointing);
-    // on a level above the last, a block is at most as long as the distance of the first two starts
-    let b = if blocks > 1 { word(tree, offset + record).max(1) } else { 1 };
-    let (link, gap) = (rng.below(blocks) as u32, rng.below(b.min(1000) as usize) as u32);
-    set_word(tree, at + 8, link);
-    if rng.one_in(2) {
+    // block 0 starts at 0, and block 1 one block after it
+    let b = if blocks > 1 { field(1, 0).clamp(1, 1000) } else { 1 };
+    let apart: Vec<usize> = (1..blocks)
+        .filter(|&block| field(block - 1, 1) == 0 && field(block, 1) == 0 && field(block, 0) > field(block - 1, 0).saturating_add(b))
+        .map(|block| block - 1)
+        .collect();
+    let block = *rng.pick(&pointing);
+    let link = if apart.is_empty() || rng.one_in(4) { rng.below(blocks) } else { *rng.pick(&apart) };
+    let at = offset + block * record;
+    set_word(tree, at + 8, link as u32);
+    if rng.below(4) > 0 {
+        let gap = rng.below(b as usize) as u32;
         set_word(tree, at + 12, gap);
     }
 }
