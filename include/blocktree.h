@@ -12,7 +12,7 @@
  *    figures are aligned.
  *  - Nobody has to check a tree first: each call is safe on any bytes, reads nothing outside them and ends. On a tree that bt_check refuses, bt_find may
  *    answer any place below n with any number of blocks, and bt_row any bytes, or either may answer BT_PATH (bt_row also BT_BUFFER). All other answers
- *    are settled on any bytes.
+ *    are settled on any bytes. On a tree that bt_check accepts BT_PATH is never the answer.
  *  - Places in the text start at 0; occurrences and rows are numbered from 1.
  */
 #ifndef BLOCKTREE_H

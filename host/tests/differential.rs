@@ -189,7 +189,11 @@ fn long_books() {
     for (at, (m, r, h)) in shapes.into_iter().enumerate() {
         for kind in [Kind::Repetitive, Kind::Mixed, Kind::NearlyRandom] {
             let text = book(kind, rng.within(10_000, 20_000), at as u64);
-            compare_book(&mut rng, &text, Shape::new(m, r, h), b"\n 01", 300);
+            let mut tree = compare_book(&mut rng, &text, Shape::new(m, r, h), b"\n 01", 300);
+            for _ in 0..4 {
+                damage::damage(&mut rng, &mut tree);
+                ask(&mut rng, &tree.clone().into_boxed_slice(), 10);
+            }
         }
     }
 }
@@ -205,7 +209,8 @@ fn longest_books() {
     compare_book(&mut rng, &run, Shape::new(256, 16, 3), b"A", 300);
 }
 
-fn compare_book(rng: &mut Rng, text: &[u8], shape: Shape, counted: &[u8], questions: usize) {
+/// The book's tree, once it is compared and asked.
+fn compare_book(rng: &mut Rng, text: &[u8], shape: Shape, counted: &[u8], questions: usize) -> Vec<u8> {
     let expected = fast::tree(text, shape, counted);
     let mut tree = lent(expected.len());
     assert_eq!(library_build(text, shape, counted, &mut tree), (0, expected.len() as u32));
@@ -232,10 +237,10 @@ fn compare_book(rng: &mut Rng, text: &[u8], shape: Shape, counted: &[u8], questi
         assert_eq!(calls::row(&tree, j, &mut row), fast::row(&tree, j, &mut expected));
         assert!(row == expected);
     }
-    // one word of a record damaged: the numbers of a long tree
-    let mut damaged = tree.to_vec();
+    let mut damaged = expected.clone();
     damage::damage(rng, &mut damaged);
     assert_eq!(calls::check(&damaged), check::check(&damaged), "{shape:?}");
+    expected
 }
 
 /// The random trees and questions reach every number that a question can give, and free answers too.
