@@ -10,7 +10,7 @@ mod model;
 #[path = "../tests/support/mod.rs"]
 mod support;
 
-use codebook::calls;
+use codebook::{calls, SHORT_LIST};
 use model::{check, fast, read, Shape};
 use std::hint::black_box;
 use std::io::Write;
@@ -21,8 +21,6 @@ use support::Rng;
 
 const KINDS: [(Kind, &str); 3] = [(Kind::Repetitive, "highly repetitive"), (Kind::Mixed, "mixed"), (Kind::NearlyRandom, "nearly random")];
 const COUNTED: &[u8] = b"\n";
-/// The tool's list, for the sizes.
-const TRIED: [(u32, u32, u32); 6] = [(256, 2, 1), (128, 2, 2), (96, 2, 3), (64, 2, 4), (64, 2, 6), (48, 2, 5)];
 
 fn main() {
     let quick = std::env::args().any(|word| word == "quick");
@@ -123,7 +121,7 @@ fn shown(time: Duration) -> String {
 fn size_row(text: &[u8], name: &str, shape: Shape) {
     let size = |shape: Shape| fast::tree(text, shape, COUNTED).len();
     let percent = |part: usize| format!("{part} ({:.1} %)", 100.0 * part as f64 / text.len() as f64);
-    let (smallest, (m, r, h)) = TRIED.into_iter().map(|(m, r, h)| (size(Shape::new(m, r, h)), (m, r, h))).min().expect("a list");
+    let (smallest, (m, r, h)) = SHORT_LIST.into_iter().map(|(m, r, h)| (size(Shape::new(m, r, h)), (m, r, h))).min().expect("a list");
     let packed = |program: &str, level: &str| compressed(text, program, level).map_or("not installed".to_owned(), percent);
     println!(
         "| {name} | {} | {} | {} with {m}/{r}/{h} | {} | {} |",

@@ -19,6 +19,9 @@ pub use refusal::Refusal;
 /// The longest text.
 pub const MAX_TEXT: usize = 1_048_576;
 
+/// Settings worth trying on a book, as leaf length, arity and levels: from few and large blocks to many and small ones.
+pub const SHORT_LIST: [(u32, u32, u32); 6] = [(256, 2, 1), (128, 2, 2), (96, 2, 3), (64, 2, 4), (64, 2, 6), (48, 2, 5)];
+
 /// How a tree is laid out, and which bytes it can count and find.
 #[derive(Clone, Debug, PartialEq, Eq)]
 pub struct Settings {

@@ -1,12 +1,9 @@
 //! Which settings suit a book: a short list is tried, the smallest tree is kept.
 
 use crate::progress;
-use codebook::{build, Refusal, Settings};
+use codebook::{build, Refusal, Settings, SHORT_LIST};
 use std::sync::atomic::{AtomicUsize, Ordering};
 use std::thread;
-
-/// Leaf length, arity and levels to try, from few and large blocks to many and small ones.
-const LIST: [(u32, u32, u32); 6] = [(256, 2, 1), (128, 2, 2), (96, 2, 3), (64, 2, 4), (64, 2, 6), (48, 2, 5)];
 
 /// A tree and the settings it was built with.
 pub struct Trial {
@@ -14,9 +11,9 @@ pub struct Trial {
     pub tree: Vec<u8>,
 }
 
-/// The trees of all the list, in its order.
+/// The trees of all the short list, in its order.
 pub fn all(text: &[u8], counted: &[u8]) -> Result<Vec<Trial>, Refusal> {
-    let list = LIST.map(|(leaf, arity, levels)| Settings { leaf, arity, levels, counted: counted.to_vec() });
+    let list = SHORT_LIST.map(|(leaf, arity, levels)| Settings { leaf, arity, levels, counted: counted.to_vec() });
     build_all(text, &list)
 }
 

@@ -315,6 +315,14 @@ fn help() {
     }
 }
 
+#[test]
+fn help_names_the_short_list() {
+    let help = Folder::new("list").run("build --help").output.stdout;
+    for (leaf, arity, levels) in codebook::SHORT_LIST {
+        assert!(String::from_utf8_lossy(&help).contains(&format!("{leaf}/{arity}/{levels}")));
+    }
+}
+
 /// A reader that stops early is no failure.
 #[test]
 fn output_that_nobody_reads() {
