@@ -1,0 +1,156 @@
+//! The library next to the independent model on the same books in the same run: build, check and every question; and tree sizes next to gzip and xz.
+//!
+//!     cargo bench             books of 64 KiB and 1 MiB
+//!     cargo bench -- quick    books of 64 KiB only
+//!
+//! Prints the tables of docs/BENCHMARKS.md. Nothing is asserted about time; that both give the same answers is.
+
+#[path = "../tests/model/mod.rs"]
+mod model;
+#[path = "../tests/support/mod.rs"]
+mod support;
+
+use codebook::{calls, SHORT_LIST};
+use model::{check, fast, read, Shape};
+use std::hint::black_box;
+use std::io::Write;
+use std::process::{Command, Stdio};
+use std::time::{Duration, Instant};
+use support::books::{book, Kind};
+use support::Rng;
+
+const KINDS: [(Kind, &str); 3] = [(Kind::Repetitive, "highly repetitive"), (Kind::Mixed, "mixed"), (Kind::NearlyRandom, "nearly random")];
+const COUNTED: &[u8] = b"\n";
+
+fn main() {
+    let quick = std::env::args().any(|word| word == "quick");
+    describe_machine();
+    // larger blocks for the longer books: the builder searches the text once for each block and each pair
+    let sizes: &[(usize, Shape)] = &[(65_536, Shape { m: 64, r: 2, h: 4 }), (1_048_576, Shape { m: 128, r: 4, h: 3 })];
+    for &(size, shape) in &sizes[..if quick { 1 } else { 2 }] {
+        println!("\n## Books of {} KiB: leaf {}, arity {}, levels {}, byte 10 counted\n", size / 1024, shape.m, shape.r, shape.h);
+        println!("| Book | Question | Library | Model | Ratio |\n|---|---|---:|---:|---:|");
+        let texts: Vec<(Vec<u8>, &str)> = KINDS.iter().map(|&(kind, name)| (book(kind, size, 1), name)).collect();
+        for (text, name) in &texts {
+            time_book(text, name, shape);
+        }
+        println!("\n| Book | Text | Tree above | Smallest tree of the tool's list | gzip -9 | xz -9e |\n|---|---:|---:|---|---:|---:|");
+        for (text, name) in &texts {
+            size_row(text, name, shape);
+        }
+    }
+}
+
+fn time_book(text: &[u8], name: &str, shape: Shape) {
+    let expected = fast::tree(text, shape, COUNTED);
+    let mut tree = vec![0; expected.len()];
+    let line = |question: &str, [library, model]: [Duration; 2]| {
+        println!("| {name} | {question} | {} | {} | {:.2} |", shown(library), shown(model), library.as_secs_f64() / model.as_secs_f64());
+    };
+    let times = [
+        once(|| calls::build(text, shape.m, shape.r, shape.h, COUNTED, &mut tree)),
+        fastest(3, &mut || drop(black_box(fast::tree(text, shape, COUNTED)))),
+    ];
+    assert!(tree == expected, "both build the same tree");
+    line("build", times);
+    // every call is lent bytes that the compiler knows nothing of, or it would ask the header's questions once for all calls of the model
+    let tree = || black_box(tree.as_slice());
+    line("check", both(5, || calls::check(tree()), || check::check(tree())));
+
+    let n = text.len();
+    let rows = text.iter().filter(|&&byte| byte == 10).count();
+    let mut rng = Rng::new(n as u64);
+    let places: Vec<u32> = (0..4000).map(|_| rng.below(n - 100) as u32).collect();
+    let numbers: Vec<u32> = (0..4000).map(|_| rng.within(1, rows) as u32).collect();
+    line("byte", each(&places, |p| calls::byte(tree(), p), |p| read::byte(tree(), p)));
+    line("run", each(&places, |p| calls::run(tree(), p), |p| read::run(tree(), p)));
+    let [mut ours, mut theirs] = [[0; 100]; 2];
+    line(
+        "span of 100 bytes",
+        each(&places[..500], |p| (calls::span(tree(), p, 100, &mut ours), ours[99]), |p| (read::span(tree(), p, 100, &mut theirs), theirs[99])),
+    );
+    line("row", each(&numbers[..1000], |q| calls::row(tree(), q, &mut ours), |q| fast::row(tree(), q, &mut theirs)));
+    line("count", each(&places, |i| calls::count(tree(), 10, i), |i| read::count(tree(), 10, i)));
+    line("find", each(&numbers, |j| calls::find(tree(), 10, j), |j| fast::find(tree(), 10, j)));
+}
+
+/// The time of one run.
+fn once<T>(work: impl FnOnce() -> T) -> Duration {
+    let start = Instant::now();
+    black_box(work());
+    start.elapsed()
+}
+
+/// The shortest of some runs.
+fn fastest(runs: usize, work: &mut dyn FnMut()) -> Duration {
+    (0..runs).map(|_| once(&mut *work)).min().expect("some runs")
+}
+
+/// The shortest run of each, taken in turn.
+fn both<T: PartialEq>(runs: usize, mut library: impl FnMut() -> T, mut model: impl FnMut() -> T) -> [Duration; 2] {
+    assert!(library() == model(), "both answer the same");
+    let mut shortest = [Duration::MAX; 2];
+    for _ in 0..runs {
+        shortest[0] = shortest[0].min(once(&mut library));
+        shortest[1] = shortest[1].min(once(&mut model));
+    }
+    shortest
+}
+
+/// The time of one question, from the shortest of ten runs through all arguments.
+fn each<T: PartialEq>(arguments: &[u32], mut library: impl FnMut(u32) -> T, mut model: impl FnMut(u32) -> T) -> [Duration; 2] {
+    assert!(arguments.iter().all(|&argument| library(argument) == model(argument)), "both answer the same");
+    let all = |question: &mut dyn FnMut(u32) -> T| {
+        for &argument in arguments {
+            black_box(question(black_box(argument)));
+        }
+    };
+    let times = both(10, || all(&mut library), || all(&mut model));
+    times.map(|time| time / arguments.len() as u32)
+}
+
+fn shown(time: Duration) -> String {
+    let nanoseconds = time.as_secs_f64() * 1e9;
+    match nanoseconds {
+        below if below < 1e4 => format!("{below:.0} ns"),
+        below if below < 1e7 => format!("{:.1} µs", below / 1e3),
+        below if below < 1e10 => format!("{:.1} ms", below / 1e6),
+        above => format!("{:.1} s", above / 1e9),
+    }
+}
+
+fn size_row(text: &[u8], name: &str, shape: Shape) {
+    let size = |shape: Shape| fast::tree(text, shape, COUNTED).len();
+    let percent = |part: usize| format!("{part} ({:.1} %)", 100.0 * part as f64 / text.len() as f64);
+    let (smallest, (m, r, h)) = SHORT_LIST.into_iter().map(|(m, r, h)| (size(Shape::new(m, r, h)), (m, r, h))).min().expect("a list");
+    let packed = |program: &str, level: &str| compressed(text, program, level).map_or("not installed".to_owned(), percent);
+    println!(
+        "| {name} | {} | {} | {} with {m}/{r}/{h} | {} | {} |",
+        text.len(),
+        percent(size(shape)),
+        percent(smallest),
+        packed("gzip", "-9"),
+        packed("xz", "-9e")
+    );
+}
+
+/// The size of the text as a program packs it; none where it is not installed.
+fn compressed(text: &[u8], program: &str, level: &str) -> Option<usize> {
+    let mut child = Command::new(program).args([level, "-c"]).stdin(Stdio::piped()).stdout(Stdio::piped()).spawn().ok()?;
+    let mut stdin = child.stdin.take()?;
+    let text = text.to_vec();
+    let writer = std::thread::spawn(move || stdin.write_all(&text));
+    let output = child.wait_with_output().ok()?;
+    writer.join().ok()?.ok()?;
+    output.status.success().then_some(output.stdout.len())
+}
+
+fn describe_machine() {
+    let field = |path: &str, name: &str| {
+        let text = std::fs::read_to_string(path).unwrap_or_default();
+        let value = text.lines().find(|line| line.starts_with(name)).and_then(|line| line.split_once(':'));
+        value.map_or("unknown".to_owned(), |(_, value)| value.trim().to_owned())
+    };
+    let processors = std::thread::available_parallelism().map_or(1, usize::from);
+    println!("Machine: {}, {processors} processors, memory {}.", field("/proc/cpuinfo", "model name"), field("/proc/meminfo", "MemTotal"));
+}

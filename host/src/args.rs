@@ -1,0 +1,169 @@
+//! The words of a call, taken apart.
+
+use crate::help::Topic;
+use crate::Failure;
+use codebook::Settings;
+
+/// A question put to a tree.
+#[derive(Clone, Debug, PartialEq, Eq)]
+pub enum Question {
+    Check,
+    List,
+    Row(u32),
+    Byte(u32),
+    Span(u32, u32),
+    Count(u8, u32),
+    Find(u8, u32),
+    Text,
+    Stats,
+}
+
+/// What the call asks for.
+#[derive(Debug)]
+pub enum Call {
+    Help(Option<&'static Topic>),
+    Build {
+        book: Option<String>,
+        out: Option<String>,
+        /// None: try the short list.
+        settings: Option<Settings>,
+        counted: Vec<u8>,
+    },
+    Ask {
+        question: Question,
+        tree: Option<String>,
+        unchecked: bool,
+    },
+}
+
+pub fn parse(words: Vec<String>) -> Result<Call, Failure> {
+    let mut words = words.into_iter();
+    let command = match words.next() {
+        None => return Err(Failure::Usage("no command given; see codebook --help".to_owned())),
+        Some(word) if word == "--help" || word == "-h" => return Ok(Call::Help(None)),
+        Some(word) if word == "help" => match words.next() {
+            None => return Ok(Call::Help(None)),
+            Some(name) => return topic(&name).map(|topic| Call::Help(Some(topic))),
+        },
+        Some(word) => word,
+    };
+    let topic = topic(&command)?;
+    let mut given = Given::default();
+    given.read(topic, words)?;
+    if given.help {
+        return Ok(Call::Help(Some(topic)));
+    }
+    given.call(topic)
+}
+
+fn topic(name: &str) -> Result<&'static Topic, Failure> {
+    Topic::named(name).ok_or_else(|| Failure::Usage(format!("there is no command '{name}'; see codebook --help")))
+}
+
+/// The words after the command.
+#[derive(Default)]
+struct Given {
+    plain: Vec<String>,
+    out: Option<String>,
+    leaf: Option<u32>,
+    arity: Option<u32>,
+    levels: Option<u32>,
+    count: Option<Vec<u8>>,
+    unchecked: bool,
+    help: bool,
+}
+
+impl Given {
+    fn read(&mut self, topic: &Topic, words: impl Iterator<Item = String>) -> Result<(), Failure> {
+        let mut words = words;
+        while let Some(word) = words.next() {
+            if word == "--" {
+                self.plain.extend(words);
+                return Ok(());
+            }
+            if word == "-" || !word.starts_with('-') {
+                self.plain.push(word);
+                continue;
+            }
+            // both `--leaf 64` and `--leaf=64`
+            let (name, joined) = match word.split_once('=') {
+                Some((name, value)) => (name.to_owned(), Some(value.to_owned())),
+                None => (word, None),
+            };
+            if !topic.options.contains(&name.as_str()) && !["--help", "-h"].contains(&name.as_str()) {
+                return Err(usage(topic, &format!("there is no option '{name}'")));
+            }
+            let mut value = || joined.clone().or_else(|| words.next()).ok_or_else(|| usage(topic, &format!("{name} needs a value")));
+            match name.as_str() {
+                "-o" => self.out = Some(value()?),
+                "--leaf" => self.leaf = Some(number(topic, &name, &value()?)?),
+                "--arity" => self.arity = Some(number(topic, &name, &value()?)?),
+                "--levels" => self.levels = Some(number(topic, &name, &value()?)?),
+                "--count" => self.count = Some(bytes(topic, &value()?)?),
+                "--unchecked" => self.unchecked = true,
+                _ => self.help = true,
+            }
+        }
+        Ok(())
+    }
+
+    fn call(self, topic: &Topic) -> Result<Call, Failure> {
+        let least = topic.figures.len();
+        if self.plain.len() < least {
+            return Err(usage(topic, &format!("{} is missing", topic.figures[self.plain.len()])));
+        }
+        if self.plain.len() > least + 1 {
+            return Err(usage(topic, &format!("'{}' is one word too many", self.plain[least + 1])));
+        }
+        let file = self.plain.get(least).cloned();
+        let figure = |at: usize| number(topic, topic.figures[at], &self.plain[at]);
+        let question = match topic.name {
+            "build" => return self.build(topic, file),
+            "check" => Question::Check,
+            "list" => Question::List,
+            "row" => Question::Row(figure(0)?),
+            "byte" => Question::Byte(figure(0)?),
+            "span" => Question::Span(figure(0)?, figure(1)?),
+            "count" => Question::Count(byte(topic, &self.plain[0])?, figure(1)?),
+            "find" => Question::Find(byte(topic, &self.plain[0])?, figure(1)?),
+            "text" => Question::Text,
+            _ => Question::Stats,
+        };
+        Ok(Call::Ask { question, tree: file, unchecked: self.unchecked })
+    }
+
+    fn build(self, topic: &Topic, book: Option<String>) -> Result<Call, Failure> {
+        let counted = self.count.unwrap_or_else(|| vec![10]);
+        let settings = match (self.leaf, self.arity, self.levels) {
+            (None, None, None) => None,
+            (Some(leaf), Some(arity), Some(levels)) => Some(Settings { leaf, arity, levels, counted: counted.clone() }),
+            _ => return Err(usage(topic, "--leaf, --arity and --levels go together: give all three, or none to have a short list tried")),
+        };
+        Ok(Call::Build { book, out: self.out, settings, counted })
+    }
+}
+
+fn usage(topic: &Topic, words: &str) -> Failure {
+    Failure::Usage(format!("{words}\nusage: {}", topic.usage))
+}
+
+fn number(topic: &Topic, what: &str, word: &str) -> Result<u32, Failure> {
+    word.parse().map_err(|_| usage(topic, &format!("{what} is a number from 0 to 4294967295, not '{word}'")))
+}
+
+/// A byte: its number, or one character that is no digit.
+fn byte(topic: &Topic, word: &str) -> Result<u8, Failure> {
+    match word.as_bytes() {
+        [b'\\', b'n'] => Ok(10),
+        [one] if !one.is_ascii_digit() => Ok(*one),
+        _ => word.parse().map_err(|_| usage(topic, &format!("a byte is a number from 0 to 255 or one character that is no digit, not '{word}'"))),
+    }
+}
+
+/// Bytes parted by commas, or `none`.
+fn bytes(topic: &Topic, word: &str) -> Result<Vec<u8>, Failure> {
+    if word == "none" {
+        return Ok(Vec::new());
+    }
+    word.split(',').map(|part| byte(topic, part)).collect()
+}

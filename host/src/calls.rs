@@ -1,0 +1,98 @@
+//! The library's C calls, declared as in include/blocktree.h, each with a safe function that lends slices and hands back the number and all figures.
+
+mod declared {
+    extern "C" {
+        pub fn bt_build(
+            text: *const u8,
+            text_len: usize,
+            leaf: u32,
+            arity: u32,
+            levels: u32,
+            counted: *const u8,
+            counted_len: usize,
+            out: *mut u8,
+            out_len: usize,
+            size: *mut u32,
+        ) -> u32;
+        pub fn bt_enough(n: u32, leaf: u32, arity: u32, levels: u32, counted: u32, size: *mut u64) -> u32;
+        pub fn bt_check(tree: *const u8, tree_len: usize) -> u32;
+        pub fn bt_byte(tree: *const u8, tree_len: usize, place: u32, value: *mut u32, entered: *mut u32) -> u32;
+        pub fn bt_run(tree: *const u8, tree_len: usize, place: u32, offset: *mut u32, length: *mut u32) -> u32;
+        pub fn bt_span(tree: *const u8, tree_len: usize, place: u32, length: u32, buffer: *mut u8, buffer_len: usize) -> u32;
+        pub fn bt_count(tree: *const u8, tree_len: usize, byte: u32, i: u32, count: *mut u64, entered: *mut u32) -> u32;
+        pub fn bt_find(tree: *const u8, tree_len: usize, byte: u32, j: u32, place: *mut u32, entered: *mut u32) -> u32;
+        pub fn bt_row(tree: *const u8, tree_len: usize, q: u32, buffer: *mut u8, buffer_len: usize, length: *mut u32) -> u32;
+        pub fn bt_list(tree: *const u8, tree_len: usize, out: *mut u8, out_len: usize, length: *mut u32) -> u32;
+    }
+}
+
+// Safety of all calls below: a slice's pointer is non-null and good for its length, a `&mut` is aligned and overlaps nothing else that is lent, and the
+// library reads and writes only what it is lent, on any bytes (proved).
+
+/// The number and the tree's size.
+pub fn build(text: &[u8], leaf: u32, arity: u32, levels: u32, counted: &[u8], out: &mut [u8]) -> (u32, u32) {
+    let mut size = 0;
+    let number = unsafe {
+        declared::bt_build(text.as_ptr(), text.len(), leaf, arity, levels, counted.as_ptr(), counted.len(), out.as_mut_ptr(), out.len(), &mut size)
+    };
+    (number, size)
+}
+
+/// The number and the bytes that are enough.
+pub fn enough(n: u32, leaf: u32, arity: u32, levels: u32, counted: u32) -> (u32, u64) {
+    let mut size = 0;
+    let number = unsafe { declared::bt_enough(n, leaf, arity, levels, counted, &mut size) };
+    (number, size)
+}
+
+/// The number.
+pub fn check(tree: &[u8]) -> u32 {
+    unsafe { declared::bt_check(tree.as_ptr(), tree.len()) }
+}
+
+/// The number, the byte and the blocks entered.
+pub fn byte(tree: &[u8], place: u32) -> (u32, u32, u32) {
+    let (mut value, mut entered) = (0, 0);
+    let number = unsafe { declared::bt_byte(tree.as_ptr(), tree.len(), place, &mut value, &mut entered) };
+    (number, value, entered)
+}
+
+/// The number, where the part starts in the tree's bytes, and its length.
+pub fn run(tree: &[u8], place: u32) -> (u32, u32, u32) {
+    let (mut offset, mut length) = (0, 0);
+    let number = unsafe { declared::bt_run(tree.as_ptr(), tree.len(), place, &mut offset, &mut length) };
+    (number, offset, length)
+}
+
+/// The number.
+pub fn span(tree: &[u8], place: u32, length: u32, buffer: &mut [u8]) -> u32 {
+    unsafe { declared::bt_span(tree.as_ptr(), tree.len(), place, length, buffer.as_mut_ptr(), buffer.len()) }
+}
+
+/// The number, the count and the blocks entered.
+pub fn count(tree: &[u8], byte: u32, i: u32) -> (u32, u64, u32) {
+    let (mut count, mut entered) = (0, 0);
+    let number = unsafe { declared::bt_count(tree.as_ptr(), tree.len(), byte, i, &mut count, &mut entered) };
+    (number, count, entered)
+}
+
+/// The number, the place and the blocks entered.
+pub fn find(tree: &[u8], byte: u32, j: u32) -> (u32, u32, u32) {
+    let (mut place, mut entered) = (0, 0);
+    let number = unsafe { declared::bt_find(tree.as_ptr(), tree.len(), byte, j, &mut place, &mut entered) };
+    (number, place, entered)
+}
+
+/// The number and the row's length.
+pub fn row(tree: &[u8], q: u32, buffer: &mut [u8]) -> (u32, u32) {
+    let mut length = 0;
+    let number = unsafe { declared::bt_row(tree.as_ptr(), tree.len(), q, buffer.as_mut_ptr(), buffer.len(), &mut length) };
+    (number, length)
+}
+
+/// The number and the lines' length.
+pub fn list(tree: &[u8], out: &mut [u8]) -> (u32, u32) {
+    let mut length = 0;
+    let number = unsafe { declared::bt_list(tree.as_ptr(), tree.len(), out.as_mut_ptr(), out.len(), &mut length) };
+    (number, length)
+}

@@ -1,0 +1,79 @@
+//! The commands.
+
+use crate::args::{Call, Question};
+use crate::files::{self, Input};
+use crate::{help, messages, trials, Failure};
+use codebook::{list, Reached, Refusal, Settings, Tree, MAX_TEXT};
+
+pub fn run(call: Call) -> Result<(), Failure> {
+    match call {
+        Call::Help(None) => files::print(help::overview().as_bytes()),
+        Call::Help(Some(topic)) => files::print(topic.text().as_bytes()),
+        Call::Build { book, out, settings, counted } => build(book.as_deref(), out.as_deref(), settings.as_ref(), &counted),
+        Call::Ask { question, tree, unchecked } => ask(&question, tree.as_deref(), unchecked),
+    }
+}
+
+fn build(book: Option<&str>, out: Option<&str>, settings: Option<&Settings>, counted: &[u8]) -> Result<(), Failure> {
+    files::refuse_terminal(out)?;
+    // one byte more than the longest text is enough to be refused
+    let text = files::read(book, MAX_TEXT as u64 + 1)?;
+    let tried = match settings {
+        Some(settings) => trials::one(&text.bytes, settings).map(|trial| vec![trial]),
+        None => trials::all(&text.bytes, counted),
+    };
+    let tried = tried.map_err(|refusal| Failure::Refused(messages::build_refusal(refusal, &text.name, text.bytes.len(), settings, counted)))?;
+    let chosen = trials::smallest(&tried);
+    let name = out.filter(|&path| path != "-").unwrap_or("standard output");
+    files::write_tree(out, &chosen.tree, &messages::build_report(&text.name, text.bytes.len(), &tried, chosen, name))
+}
+
+fn ask(question: &Question, path: Option<&str>, unchecked: bool) -> Result<(), Failure> {
+    let Input { name, bytes } = files::read(path, u64::MAX)?;
+    if *question == Question::List {
+        let (lines, answer) = list(&bytes);
+        files::print(lines.as_bytes())?;
+        return answer.map_err(|refusal| refused(refusal, question, &name, &bytes));
+    }
+    let tree = if unchecked { Ok(Tree::unchecked(&bytes)) } else { Tree::checked(&bytes) };
+    let tree = tree.map_err(|refusal| refused(refusal, &Question::Check, &name, &bytes))?;
+    let output = answer(question, &name, tree).map_err(|refusal| refused(refusal, question, &name, &bytes))?;
+    files::print(&output)
+}
+
+fn refused(refusal: Refusal, question: &Question, name: &str, bytes: &[u8]) -> Failure {
+    Failure::Refused(messages::refusal(refusal, question, name, Tree::unchecked(bytes)))
+}
+
+/// What is printed.
+fn answer(question: &Question, name: &str, tree: Tree) -> Result<Vec<u8>, Refusal> {
+    Ok(match *question {
+        Question::Check | Question::List => format!("{name}: a good tree of {} bytes of text\n", messages::grouped(tree.text_length().into())).into(),
+        Question::Row(q) => {
+            let mut row = tree.row(q)?;
+            row.push(b'\n');
+            row
+        }
+        Question::Byte(place) => {
+            let Reached { value, entered } = tree.byte(place)?;
+            figure(&format!("{value} '{}'", [value].escape_ascii()), entered)
+        }
+        Question::Span(place, length) => tree.span(place, length)?,
+        Question::Count(byte, length) => {
+            let Reached { value, entered } = tree.count(byte, length)?;
+            figure(&value.to_string(), entered)
+        }
+        Question::Find(byte, number) => {
+            let Reached { value, entered } = tree.find(byte, number)?;
+            figure(&value.to_string(), entered)
+        }
+        Question::Text => tree.text()?,
+        Question::Stats => messages::stats(name, tree).into(),
+    })
+}
+
+/// A figure, first on its line, and the blocks entered for it.
+fn figure(figure: &str, entered: u32) -> Vec<u8> {
+    let blocks = if entered == 1 { "block" } else { "blocks" };
+    format!("{figure} ({entered} {blocks} entered)\n").into()
+}

@@ -1,0 +1,141 @@
+//! What `--help` says.
+
+/// A command.
+#[derive(Debug)]
+pub struct Topic {
+    pub name: &'static str,
+    pub usage: &'static str,
+    /// The words due before the file.
+    pub figures: &'static [&'static str],
+    pub options: &'static [&'static str],
+    summary: &'static str,
+    details: &'static str,
+}
+
+const UNCHECKED: &[&str] = &["--unchecked"];
+
+static TOPICS: [Topic; 10] = [
+    Topic {
+        name: "build",
+        usage: "codebook build [BOOK] [-o TREE] [--leaf M --arity R --levels H] [--count BYTES]",
+        figures: &[],
+        options: &["-o", "--leaf", "--arity", "--levels", "--count"],
+        summary: "build the tree of a book",
+        details: "\
+BOOK is any text of 1 to 1,048,576 bytes. Without -o the tree goes to standard output.
+
+Where no settings are given, a short list is tried (256/2/1, 128/2/2, 96/2/3, 64/2/4, 64/2/6 and 48/2/5 as leaf/arity/levels), the smallest tree is
+kept, and what each gave is printed.
+
+  -o TREE        the file to write
+  --leaf M       bytes of a block of the last level, 1 to 256
+  --arity R      children of a block, 2 to 16
+  --levels H     levels, 1 to 8; M x R^(H-1) is at most 1,048,576
+  --count BYTES  the bytes to count and find, at most 4, rising, parted by commas, as 10,65 or \\n,A; or none. Otherwise 10, which ends a row",
+    },
+    Topic {
+        name: "check",
+        usage: "codebook check [TREE]",
+        figures: &[],
+        options: &[],
+        summary: "check a tree, from anyone",
+        details: "\
+Says whether the tree is right in all its parts and its counts are true. It is no checksum: a tree whose leaf bytes were changed is the tree of
+another book. Status 1 where it is refused.",
+    },
+    Topic {
+        name: "list",
+        usage: "codebook list [TREE]",
+        figures: &[],
+        options: &[],
+        summary: "list a tree's levels",
+        details: "One line for each level: level, blocks, kept, pointing. A refused tree gives the line 'refused N'. For trees of at most 65,536 bytes; stats is for all.",
+    },
+    Topic {
+        name: "row",
+        usage: "codebook row N [TREE] [--unchecked]",
+        figures: &["N"],
+        options: UNCHECKED,
+        summary: "print row N of the book, from 1",
+        details: "A row ends in byte 10, which the tree must count (it does unless build was told otherwise). Bytes after the last byte 10 are no row.",
+    },
+    Topic {
+        name: "byte",
+        usage: "codebook byte PLACE [TREE] [--unchecked]",
+        figures: &["PLACE"],
+        options: UNCHECKED,
+        summary: "print the byte at a place, from 0",
+        details: "Prints the byte's number, the byte, and how many blocks were entered to reach it.",
+    },
+    Topic {
+        name: "span",
+        usage: "codebook span PLACE LENGTH [TREE] [--unchecked]",
+        figures: &["PLACE", "LENGTH"],
+        options: UNCHECKED,
+        summary: "print LENGTH bytes from a place, from 0",
+        details: "The bytes as they are, and nothing else.",
+    },
+    Topic {
+        name: "count",
+        usage: "codebook count BYTE LENGTH [TREE] [--unchecked]",
+        figures: &["BYTE", "LENGTH"],
+        options: UNCHECKED,
+        summary: "print how often a byte stands in the first LENGTH bytes",
+        details: "BYTE is a number from 0 to 255, or one character that is no digit; the tree must count it. Prints how often, and how many blocks were entered.",
+    },
+    Topic {
+        name: "find",
+        usage: "codebook find BYTE NUMBER [TREE] [--unchecked]",
+        figures: &["BYTE", "NUMBER"],
+        options: UNCHECKED,
+        summary: "print the place where a byte stands for the NUMBER-th time, from 1",
+        details: "BYTE is a number from 0 to 255, or one character that is no digit; the tree must count it. Prints the place, and how many blocks lead to it.",
+    },
+    Topic {
+        name: "text",
+        usage: "codebook text [TREE] [--unchecked]",
+        figures: &[],
+        options: UNCHECKED,
+        summary: "print the whole book",
+        details: "The bytes as they are, and nothing else.",
+    },
+    Topic {
+        name: "stats",
+        usage: "codebook stats [TREE]",
+        figures: &[],
+        options: &[],
+        summary: "describe a tree",
+        details: "Sizes, settings, rows, what is counted, and the blocks of each level.",
+    },
+];
+
+impl Topic {
+    pub fn named(name: &str) -> Option<&'static Self> {
+        TOPICS.iter().find(|topic| topic.name == name)
+    }
+
+    pub fn text(&self) -> String {
+        let mut text = format!("{}\n\n{}.\n{}\n", self.usage, capital(self.summary), self.details);
+        if self.options.contains(&"--unchecked") {
+            text.push_str("\n  --unchecked  do not check the tree first; on a tree that the check refuses the answer can be wrong\n");
+        }
+        text + ENDING
+    }
+}
+
+fn capital(words: &str) -> String {
+    words[..1].to_uppercase() + &words[1..]
+}
+
+const ENDING: &str = "
+No file, or -, is standard input. Status: 0 done, 1 refused, 2 a call or a file that is not right.
+";
+
+/// The text of `codebook --help`.
+pub fn overview() -> String {
+    let mut text = "codebook: block trees of code books\n\n".to_owned();
+    for topic in &TOPICS {
+        text += &format!("  {:<7}{}\n", topic.name, topic.summary);
+    }
+    text + "\ncodebook COMMAND --help says more.\n" + ENDING
+}

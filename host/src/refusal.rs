@@ -1,0 +1,92 @@
+//! Why the library refused, by name, number and words.
+
+use std::fmt;
+
+macro_rules! refusals {
+    ($($name:ident = $number:literal: $words:literal,)*) => {
+        /// The question that failed. Its number is the library's.
+        #[derive(Clone, Copy, Debug, PartialEq, Eq)]
+        pub enum Refusal {
+            $(#[doc = $words] $name = $number,)*
+        }
+
+        impl Refusal {
+            pub fn from_number(number: u32) -> Option<Self> {
+                match number {
+                    $($number => Some(Refusal::$name),)*
+                    _ => None,
+                }
+            }
+
+            fn words(self) -> &'static str {
+                match self {
+                    $(Refusal::$name => $words,)*
+                }
+            }
+        }
+    };
+}
+
+refusals! {
+    Text = 1: "a text must have 1 to 1,048,576 bytes",
+    Settings = 2: "the leaf length must be 1 to 256, the arity 2 to 16, the levels 1 to 8, and leaf x arity^(levels-1) at most 1,048,576",
+    Counted = 3: "at most 4 bytes can be counted, and each must be above the one before",
+    Space = 4: "the tree does not fit the buffer",
+    Short = 5: "a tree has at least 100 bytes; this is no tree, or cut off",
+    Layout = 6: "the layout is not 1; this is no block tree, or one of another version",
+    Header = 7: "the header is not right: its settings, unused places or offsets, or the file is longer or shorter than it says",
+    Links = 8: "the blocks are not right: a start, kind, link or gap, or the number of blocks or leaf bytes",
+    Counts = 9: "a count in the tree is not true",
+    Place = 10: "this lies past the text's end",
+    NotCounted = 11: "the tree does not count this byte",
+    NoSuch = 12: "the byte does not stand so often in the text; numbers go from 1 to its total",
+    Buffer = 13: "the answer does not fit the buffer",
+    Path = 14: "the tree is damaged: the way to a byte breaks off, or a count comes out below zero",
+    Input = 15: "only trees of at most 65,536 bytes are listed",
+}
+
+impl Refusal {
+    pub fn number(self) -> u32 {
+        self as u32
+    }
+}
+
+impl fmt::Display for Refusal {
+    fn fmt(&self, f: &mut fmt::Formatter<'_>) -> fmt::Result {
+        write!(f, "refused ({}): {}", self.number(), self.words())
+    }
+}
+
+impl std::error::Error for Refusal {}
+
+/// The answer, unless `number` is a refusal's.
+pub(crate) fn answer<T>(number: u32, value: T) -> Result<T, Refusal> {
+    match Refusal::from_number(number) {
+        None if number == 0 => Ok(value),
+        None => panic!("the library answered {number}, which include/blocktree.h does not list"),
+        Some(refusal) => Err(refusal),
+    }
+}
+
+#[cfg(test)]
+mod tests {
+    use super::Refusal;
+
+    /// Is this line of the header the declaration of that number?
+    fn declares(line: &str, number: u32) -> bool {
+        line.split_once(" = ").is_some_and(|(_, value)| value.split([',', ' ']).next() == Some(&number.to_string()))
+    }
+
+    #[test]
+    fn numbers_are_those_of_the_header() {
+        let header = include_str!("../../include/blocktree.h");
+        for number in 1..=15 {
+            let refusal = Refusal::from_number(number).expect("a refusal");
+            assert_eq!(refusal.number(), number);
+            assert!(refusal.to_string().starts_with(&format!("refused ({number}): ")));
+            let lines = header.lines().filter(|line| line.trim_start().starts_with("BT_") && declares(line, number));
+            assert_eq!(lines.count(), 1);
+        }
+        assert!(Refusal::from_number(0).is_none() && Refusal::from_number(16).is_none());
+    }
+}

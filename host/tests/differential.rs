@@ -1,0 +1,295 @@
+//! The library against the model: random texts, settings and questions; good trees, damaged ones and wild ones; short and long.
+//!
+//! ROUNDS sets how many rounds the tests on short texts go (valgrind-damaged asks for few); SEED where they start.
+
+#[path = "support/damage.rs"]
+mod damage;
+#[path = "support/judge.rs"]
+mod judge;
+mod model;
+mod support;
+
+use codebook::calls;
+use judge::{find_agrees, row_agrees, FILL};
+use model::read::Answer;
+use model::{build, check, fast, read, Shape};
+use std::collections::{BTreeMap, BTreeSet};
+use support::books::{book, Kind};
+use support::{to_hex, Rng};
+
+fn setting(name: &str, otherwise: u64) -> u64 {
+    std::env::var(name).ok().map_or(otherwise, |value| value.parse().expect("a number"))
+}
+
+/// Run `round` so many times, each with numbers of its own.
+fn rounds(otherwise: u64, mut round: impl FnMut(&mut Rng)) {
+    let seed = setting("SEED", 1);
+    for i in 0..setting("ROUNDS", otherwise) {
+        round(&mut Rng::new(seed << 32 | i));
+    }
+}
+
+/// A buffer of exactly this length, every byte filled.
+fn lent(length: usize) -> Box<[u8]> {
+    vec![FILL; length].into_boxed_slice()
+}
+
+fn library_build(text: &[u8], shape: Shape, counted: &[u8], out: &mut [u8]) -> (u32, u32) {
+    calls::build(text, shape.m, shape.r, shape.h, counted, out)
+}
+
+#[test]
+fn builds() {
+    rounds(10_000, |rng| {
+        let text = damage::text(rng, 120);
+        let (shape, counted) = (damage::shape(rng), damage::counted(rng));
+        let tree = build::plain_tree(&text, shape, &counted);
+        let lengths = [tree.len(), tree.len() + rng.below(9), tree.len() - 1 - rng.below(tree.len()), tree.len() - 1];
+        for length in lengths {
+            let (mut expected, mut got) = (lent(length), lent(length));
+            let answer = build::build(&text, shape, &counted, &mut expected);
+            assert_eq!(library_build(&text, shape, &counted, &mut got), answer, "{shape:?} {counted:?} {}", to_hex(&text));
+            assert!(got == expected, "{shape:?} {counted:?} {} in {length}", to_hex(&text));
+        }
+        let (number, enough) = calls::enough(text.len() as u32, shape.m, shape.r, shape.h, counted.len() as u32);
+        assert_eq!(number, 0);
+        assert!(enough >= tree.len() as u64);
+    });
+}
+
+#[test]
+fn build_refusals() {
+    rounds(4000, |rng| {
+        let text = if rng.one_in(3) { Vec::new() } else { damage::text(rng, 8) };
+        let odd = |rng: &mut Rng, most: usize| if rng.one_in(12) { damage::odd_word(rng, 1) } else { rng.within(0, most) as u32 };
+        let shape = Shape::new(odd(rng, 257), odd(rng, 17), odd(rng, 9));
+        let counted: Vec<u8> = (0..rng.below(6)).map(|i| if rng.one_in(4) { rng.next() as u8 } else { 40 * i as u8 }).collect();
+        let length = rng.below(400);
+        let (mut expected, mut got) = (lent(length), lent(length));
+        let answer = build::build(&text, shape, &counted, &mut expected);
+        assert_eq!(library_build(&text, shape, &counted, &mut got), answer, "{shape:?} {counted:?} {}", to_hex(&text));
+        assert!(got == expected);
+        let rising = counted.windows(2).all(|pair| pair[0] < pair[1]);
+        if answer.0 < 3 || counted.len() > 4 || rising {
+            let expected = if answer.0 == 4 { 0 } else { answer.0 };
+            let (number, size) = calls::enough(text.len() as u32, shape.m, shape.r, shape.h, counted.len() as u32);
+            assert_eq!((number, size == 0), (expected, expected != 0));
+        }
+    });
+}
+
+#[test]
+fn good_trees() {
+    rounds(3000, |rng| {
+        let text = damage::text(rng, 100);
+        let (shape, counted) = (damage::shape(rng), damage::counted(rng));
+        let built = build::plain_tree(&text, shape, &counted);
+        let other = damage::other_tree(rng, &text, shape, &counted);
+        for tree in [built, other] {
+            let tree = tree.into_boxed_slice();
+            assert_eq!(calls::check(&tree), 0, "{}", to_hex(&tree));
+            let mut back = lent(text.len());
+            assert_eq!(calls::span(&tree, 0, text.len() as u32, &mut back), 0);
+            assert!(*back == *text, "{}", to_hex(&tree));
+            ask(rng, &tree, 40);
+        }
+    });
+}
+
+#[test]
+fn damaged_trees() {
+    rounds(20_000, |rng| {
+        let longest = if rng.one_in(4) { 200 } else { 60 };
+        let text = damage::text(rng, longest);
+        let (shape, counted) = (damage::shape(rng), damage::counted(rng));
+        let mut tree = if rng.one_in(2) { build::plain_tree(&text, shape, &counted) } else { damage::other_tree(rng, &text, shape, &counted) };
+        for _ in 0..rng.within(1, 3) {
+            damage::damage(rng, &mut tree);
+            ask(rng, &tree.clone().into_boxed_slice(), 30);
+        }
+    });
+}
+
+#[test]
+fn wild_trees() {
+    rounds(20_000, |rng| {
+        let tree = damage::wild_tree(rng).into_boxed_slice();
+        ask(rng, &tree, 30);
+    });
+}
+
+#[test]
+fn wild_bytes() {
+    rounds(2000, |rng| {
+        let mut bytes: Vec<u8> = (0..rng.below(300)).map(|_| if rng.one_in(3) { rng.next() as u8 } else { 0 }).collect();
+        if rng.one_in(2) && bytes.len() >= 4 {
+            damage::set_word(&mut bytes, 0, 1);
+        }
+        ask(rng, &bytes.into_boxed_slice(), 5);
+    });
+}
+
+#[test]
+fn list_without_room() {
+    let tree = build::plain_tree(b"ABCD", Shape::new(2, 2, 2), b"");
+    assert_eq!(calls::list(&tree, &mut []), (13, 0));
+    assert_eq!(calls::list(b"", &mut []), (13, 0));
+    let mut out = lent(512);
+    let (number, length) = calls::list(&tree, &mut out);
+    assert_eq!((number, &out[..length as usize]), (0, b"0 1 1 0\n1 2 2 0\n".as_slice()));
+    assert_eq!(out[length as usize..], *lent(512 - length as usize));
+}
+
+/// Put the check, the list and `questions` of each other kind to a tree.
+fn ask(rng: &mut Rng, tree: &[u8], questions: usize) {
+    assert_eq!(calls::check(tree), check::check(tree), "check {}", to_hex(tree));
+    let (number, lines) = check::list(tree);
+    let (got, refusal) = codebook::list(tree);
+    assert_eq!((got, refusal.err().map_or(0, |refusal| refusal.number())), (lines, number), "list {}", to_hex(tree));
+    let n = read::Tree::open(tree).map_or(9, |tree| tree.n as usize);
+    for _ in 0..questions {
+        let number = if rng.one_in(20) { damage::odd_word(rng, n as u32) } else { rng.below(n + 2) as u32 };
+        ask_at(rng, tree, number);
+    }
+}
+
+fn ask_at(rng: &mut Rng, tree: &[u8], p: u32) {
+    assert_eq!(calls::byte(tree, p), read::byte(tree, p), "byte {p} {}", to_hex(tree));
+    assert_eq!(calls::run(tree, p), read::run(tree, p), "run {p} {}", to_hex(tree));
+
+    let length = if rng.one_in(20) { rng.next() as u32 } else { rng.below(12) as u32 };
+    let space = (length.min(40) as usize + rng.below(3)).saturating_sub(rng.below(3));
+    let (mut expected, mut got) = (lent(space), lent(space));
+    assert_eq!(calls::span(tree, p, length, &mut got), read::span(tree, p, length, &mut expected), "span {p} {length} {space} {}", to_hex(tree));
+    assert!(got == expected, "span {p} {length} {space} {}", to_hex(tree));
+
+    let byte = match rng.below(12) {
+        0 => 256 + u32::from(*rng.pick(b"\nAB")),
+        1 => rng.next() as u32 % 256,
+        _ => u32::from(*tree.get(24 + rng.below(4)).unwrap_or(&10)),
+    };
+    assert_eq!(calls::count(tree, byte, p), read::count(tree, byte, p), "count {byte} {p} {}", to_hex(tree));
+
+    let j = if rng.one_in(4) { p } else { rng.below(12) as u32 };
+    let got = calls::find(tree, byte, j);
+    assert!(find_agrees(read::find(tree, byte, j), got), "find {byte} {j} gives {got:?} {}", to_hex(tree));
+
+    let space = rng.below(30);
+    let (mut expected, mut buffer) = (lent(space), lent(space));
+    let answer = read::row(tree, j, &mut expected);
+    let got = calls::row(tree, j, &mut buffer);
+    assert!(row_agrees((answer, &expected), (got, &buffer)), "row {j} in {space} gives {got:?} {} {}", to_hex(&buffer), to_hex(tree));
+}
+
+/// Books of some length: the trees byte for byte, and many questions to each.
+#[test]
+fn long_books() {
+    let mut rng = Rng::new(setting("SEED", 1));
+    let shapes = [(64, 2, 4), (48, 2, 5), (16, 4, 3), (256, 2, 1), (3, 16, 3), (1, 2, 8)];
+    for (at, (m, r, h)) in shapes.into_iter().enumerate() {
+        for kind in [Kind::Repetitive, Kind::Mixed, Kind::NearlyRandom] {
+            let text = book(kind, rng.within(10_000, 20_000), at as u64);
+            let mut tree = compare_book(&mut rng, &text, Shape::new(m, r, h), b"\n 01", 300);
+            for _ in 0..4 {
+                damage::damage(&mut rng, &mut tree);
+                ask(&mut rng, &tree.clone().into_boxed_slice(), 10);
+            }
+        }
+    }
+}
+
+#[test]
+fn longest_books() {
+    let mut rng = Rng::new(setting("SEED", 1));
+    let text = book(Kind::Mixed, 1_048_576, 3);
+    compare_book(&mut rng, &text, Shape::new(256, 16, 3), b"\n", 300);
+    compare_book(&mut rng, &text, Shape::new(256, 16, 4), b"\n5", 300);
+    compare_book(&mut rng, &text, Shape::new(100, 2, 1), b"\n", 300);
+    let run = vec![b'A'; 1_048_576];
+    compare_book(&mut rng, &run, Shape::new(256, 16, 3), b"A", 300);
+}
+
+/// The book's tree, once it is compared and asked.
+fn compare_book(rng: &mut Rng, text: &[u8], shape: Shape, counted: &[u8], questions: usize) -> Vec<u8> {
+    let expected = fast::tree(text, shape, counted);
+    let mut tree = lent(expected.len());
+    assert_eq!(library_build(text, shape, counted, &mut tree), (0, expected.len() as u32));
+    assert!(*tree == *expected, "{shape:?}");
+    assert_eq!(calls::check(&tree), 0);
+    for _ in 0..questions {
+        let p = rng.below(text.len()) as u32;
+        let (number, value, entered) = calls::byte(&tree, p);
+        assert_eq!((number, value), (0, u32::from(text[p as usize])));
+        assert_eq!(entered, read::byte(&tree, p).2);
+        assert_eq!(calls::run(&tree, p), read::run(&tree, p));
+        let length = rng.below(200.min(text.len() - p as usize));
+        let mut span = lent(length);
+        assert_eq!(calls::span(&tree, p, length as u32, &mut span), 0);
+        assert!(*span == text[p as usize..p as usize + length]);
+        let byte = *rng.pick(counted);
+        let before = text[..p as usize].iter().filter(|&&here| here == byte).count();
+        let count = calls::count(&tree, byte.into(), p);
+        assert_eq!((count.0, count.1), (0, before as u64));
+        assert_eq!(count, read::count(&tree, byte.into(), p));
+        let j = before as u32 + 1;
+        assert_eq!(calls::find(&tree, byte.into(), j), fast::find(&tree, byte.into(), j));
+        let (mut expected, mut row) = (lent(60), lent(60));
+        assert_eq!(calls::row(&tree, j, &mut row), fast::row(&tree, j, &mut expected));
+        assert!(row == expected);
+    }
+    let mut damaged = expected.clone();
+    damage::damage(rng, &mut damaged);
+    assert_eq!(calls::check(&damaged), check::check(&damaged), "{shape:?}");
+    expected
+}
+
+/// The random trees and questions reach every number that a question can give, and free answers too.
+#[test]
+fn every_number_is_reached() {
+    const FREE: u32 = 99;
+    let mut reached: BTreeMap<&str, BTreeSet<u32>> = BTreeMap::new();
+    for round in 0..2000 {
+        let rng = &mut Rng::new(round);
+        let text = damage::text(rng, 60);
+        let (shape, counted) = (damage::shape(rng), damage::counted(rng));
+        let good = damage::other_tree(rng, &text, shape, &counted);
+        let mut damaged = good.clone();
+        damage::damage(rng, &mut damaged);
+        for tree in [good, damaged, damage::wild_tree(rng)] {
+            let (p, length, j) = (rng.below(70) as u32, rng.below(12) as u32, rng.below(12) as u32);
+            let mut buffer = [0; 8];
+            let mut note = |question, number| reached.entry(question).or_default().insert(number);
+            note("check", check::check(&tree));
+            note("list", check::list(&tree).0);
+            note("byte", read::byte(&tree, p).0);
+            note("run", read::run(&tree, p).0);
+            note("span", read::span(&tree, p, length, &mut buffer));
+            note("count", read::count(&tree, 10, p).0);
+            note("find", if let Answer::Settled(answer) = read::find(&tree, 10, j) { answer.0 } else { FREE });
+            note("row", if let Answer::Settled(answer) = read::row(&tree, j, &mut buffer) { answer.0 } else { FREE });
+        }
+    }
+    let expected: [(&str, &[u32]); 8] = [
+        ("check", &[0, 5, 6, 7, 8, 9]),
+        ("list", &[0, 5, 6, 7, 8, 9]),
+        ("byte", &[0, 5, 6, 7, 10, 14]),
+        ("run", &[0, 5, 6, 7, 10, 14]),
+        ("span", &[0, 5, 6, 7, 10, 13, 14]),
+        ("count", &[0, 5, 6, 7, 10, 11, 14]),
+        ("find", &[0, 5, 6, 7, 11, 12, FREE]),
+        ("row", &[0, 5, 6, 7, 11, 12, 13, FREE]),
+    ];
+    for (question, numbers) in expected {
+        assert_eq!(reached[question], numbers.iter().copied().collect(), "{question}");
+    }
+}
+
+/// The judge of free answers turns away what the format does not let pass.
+#[test]
+fn free_answers_are_judged() {
+    assert!(find_agrees(Answer::Free(20), (0, 19, 7)) && find_agrees(Answer::Free(20), (14, 0, 0)));
+    assert!(!find_agrees(Answer::Free(20), (0, 20, 1)) && !find_agrees(Answer::Free(20), (14, 1, 0)) && !find_agrees(Answer::Free(20), (12, 0, 0)));
+    let free = (Answer::Free(3), [].as_slice());
+    assert!(row_agrees(free, ((0, 2), &[1, 2, FILL])) && row_agrees(free, ((14, 0), &[0, 0, FILL])) && row_agrees(free, ((13, 0), &[FILL])));
+    assert!(!row_agrees(free, ((0, 1), &[1, 2, FILL])) && !row_agrees(free, ((14, 0), &[0, 1])) && !row_agrees(free, ((0, 4), &[1; 4])));
+}

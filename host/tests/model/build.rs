@@ -1,0 +1,181 @@
+//! Building: which blocks are kept, where the others point, and the tree's bytes.
+
+use super::*;
+
+/// What becomes of a block above the last level.
+#[derive(Clone, Copy, Debug, PartialEq, Eq)]
+pub enum Choice {
+    Keep,
+    Point { link: usize, gap: usize },
+}
+
+/// The level's blocks as the format chooses them. `leftmost(place, length)` is the leftmost place at which that stretch of the text stands.
+pub fn choose(n: usize, b: usize, starts: &[usize], leftmost: &dyn Fn(usize, usize) -> usize) -> Vec<Choice> {
+    let mut paired = vec![false; starts.len()];
+    let mut kept = vec![false; starts.len()];
+    for i in 1..starts.len() {
+        if starts[i] == starts[i - 1] + b {
+            paired[i - 1] = true;
+            paired[i] = true;
+            let pair = starts[i - 1];
+            if leftmost(pair, (2 * b).min(n - pair)) == pair {
+                kept[i - 1] = true;
+                kept[i] = true;
+            }
+        }
+    }
+    (0..starts.len())
+        .map(|i| {
+            if kept[i] || !paired[i] {
+                return Choice::Keep;
+            }
+            let place = leftmost(starts[i], b.min(n - starts[i]));
+            let link = starts.iter().rposition(|&start| start <= place).expect("block 0 starts at 0");
+            assert!(place < starts[link] + b, "the level has a block that holds the leftmost occurrence");
+            Choice::Point { link, gap: place - starts[link] }
+        })
+        .collect()
+}
+
+/// The leftmost place of a stretch, by trying every place.
+pub fn leftmost(text: &[u8], place: usize, length: usize) -> usize {
+    let stretch = &text[place..place + length];
+    text.windows(length).position(|window| window == stretch).expect("it stands at its own place")
+}
+
+struct Block {
+    start: usize,
+    parent_start: usize,
+    choice: Choice,
+    link: usize,
+}
+
+/// The tree of `text` in which `choose(b, starts)` decides on each level above the last. All settings are within bounds.
+pub fn assemble(text: &[u8], shape: Shape, counted: &[u8], mut choose: impl FnMut(usize, &[usize]) -> Vec<Choice>) -> Vec<u8> {
+    let n = text.len();
+    let last = shape.h as usize - 1;
+    let mut levels: Vec<Vec<Block>> = Vec::new();
+    let mut leaf_bytes: Vec<u8> = Vec::new();
+    // (start, start of the parent) of the blocks of the level to come
+    let mut list: Vec<(usize, usize)> = (0..n).step_by(shape.block_length(0) as usize).map(|start| (start, 0)).collect();
+    for level in 0..=last {
+        let b = shape.block_length(level) as usize;
+        let starts: Vec<usize> = list.iter().map(|&(start, _)| start).collect();
+        let choices = if level == last { vec![Choice::Keep; starts.len()] } else { choose(b, &starts) };
+        let mut blocks = Vec::new();
+        let mut children = Vec::new();
+        for (&(start, parent_start), choice) in list.iter().zip(choices) {
+            let end = n.min(start + b);
+            let link = match choice {
+                Choice::Point { link, .. } => link,
+                Choice::Keep if level == last => {
+                    leaf_bytes.extend_from_slice(&text[start..end]);
+                    leaf_bytes.len() - (end - start)
+                }
+                Choice::Keep => {
+                    let first = children.len();
+                    children.extend((start..end).step_by(shape.block_length(level + 1) as usize).map(|child| (child, start)));
+                    first
+                }
+            };
+            blocks.push(Block { start, parent_start, choice, link });
+        }
+        levels.push(blocks);
+        list = children;
+    }
+    write_tree(text, shape, counted, &levels, &leaf_bytes)
+}
+
+fn write_tree(text: &[u8], shape: Shape, counted: &[u8], levels: &[Vec<Block>], leaf_bytes: &[u8]) -> Vec<u8> {
+    let mut tree = Vec::new();
+    let put = |tree: &mut Vec<u8>, value: usize| tree.extend_from_slice(&(value as u32).to_le_bytes());
+    for value in [1, text.len(), shape.m as usize, shape.r as usize, shape.h as usize, counted.len()] {
+        put(&mut tree, value);
+    }
+    tree.extend_from_slice(counted);
+    tree.resize(28, 0);
+    let mut offset = HEADER;
+    for level in 0..MAX_LEVELS {
+        let blocks = levels.get(level).map_or(0, Vec::len);
+        put(&mut tree, blocks);
+        put(&mut tree, if level < levels.len() { offset } else { 0 });
+        offset += blocks * record_length(counted.len());
+    }
+    put(&mut tree, offset);
+    put(&mut tree, leaf_bytes.len());
+
+    let sums: Vec<Vec<u32>> = counted.iter().map(|&byte| prefix_counts(text, byte)).collect();
+    for (level, blocks) in levels.iter().enumerate() {
+        let b = shape.block_length(level) as usize;
+        for block in blocks {
+            let (kind, gap) = match block.choice {
+                Choice::Keep => (0, 0),
+                Choice::Point { gap, .. } => (1, gap),
+            };
+            for value in [block.start, kind, block.link, gap] {
+                put(&mut tree, value);
+            }
+            let end = text.len().min(block.start + b);
+            for sum in &sums {
+                let stretch = |from: usize, to: usize| (sum[to] - sum[from]) as usize;
+                put(&mut tree, stretch(block.parent_start, block.start));
+                put(&mut tree, stretch(block.start, end));
+                put(&mut tree, if kind == 1 { stretch(blocks[block.link].start, blocks[block.link].start + gap) } else { 0 });
+            }
+        }
+    }
+    tree.extend_from_slice(leaf_bytes);
+    tree
+}
+
+/// How often `byte` stands in each prefix of `text`.
+pub fn prefix_counts(text: &[u8], byte: u8) -> Vec<u32> {
+    let mut sums = vec![0];
+    for &here in text {
+        sums.push(sums[sums.len() - 1] + u32::from(here == byte));
+    }
+    sums
+}
+
+/// The questions 1 to 3.
+pub fn refusal(n: u64, shape: Shape, counted: &[u8]) -> u32 {
+    if !text_in_bounds(n) {
+        1
+    } else if !shape.in_bounds() {
+        2
+    } else if !counted_in_bounds(counted) {
+        3
+    } else {
+        0
+    }
+}
+
+/// Build into a lent buffer: the number and the tree's size.
+pub fn build(text: &[u8], shape: Shape, counted: &[u8], buffer: &mut [u8]) -> (u32, u32) {
+    build_with(text, shape, counted, buffer, plain_tree)
+}
+
+/// The tree, by trying every place for every stretch.
+pub fn plain_tree(text: &[u8], shape: Shape, counted: &[u8]) -> Vec<u8> {
+    assemble(text, shape, counted, |b, starts| choose(text.len(), b, starts, &|place, length| leftmost(text, place, length)))
+}
+
+pub fn build_with(text: &[u8], shape: Shape, counted: &[u8], buffer: &mut [u8], make: impl Fn(&[u8], Shape, &[u8]) -> Vec<u8>) -> (u32, u32) {
+    let number = refusal(text.len() as u64, shape, counted);
+    if number != 0 {
+        return (number, 0);
+    }
+    let tree = make(text, shape, counted);
+    if tree.len() > buffer.len() {
+        buffer.fill(0);
+        return (4, 0);
+    }
+    buffer[..tree.len()].copy_from_slice(&tree);
+    (0, tree.len() as u32)
+}
+
+/// The size of the tree of `n` bytes in which every block is kept: no tree of such a text is larger.
+pub fn largest(n: u64, shape: Shape, k: usize) -> u64 {
+    let blocks: u64 = (0..shape.h as usize).map(|level| blocks_for(n, shape.block_length(level))).sum();
+    HEADER as u64 + blocks * record_length(k) as u64 + n
+}

@@ -1,0 +1,67 @@
+//! The block tree of docs/FORMAT.md, written once more in plain Rust.
+//!
+//! This model shares nothing with the library. It is written to be read beside the format's page: one function for each of its sections, sums in 64 bits,
+//! refusals by their numbers. `fast` holds the two parts that need another method on long books, building and finding; the tests hold them to the plain ones.
+#![allow(dead_code)] // each test uses a part of the model
+
+pub mod build;
+pub mod check;
+pub mod fast;
+pub mod read;
+
+/// The longest text, and the longest block of level 0.
+pub const MAX_TEXT: u64 = 1_048_576;
+pub const HEADER: usize = 100;
+pub const MAX_LEVELS: usize = 8;
+pub const MAX_COUNTED: usize = 4;
+
+/// Leaf length, arity and levels.
+#[derive(Clone, Copy, Debug, PartialEq, Eq)]
+pub struct Shape {
+    pub m: u32,
+    pub r: u32,
+    pub h: u32,
+}
+
+impl Shape {
+    pub fn new(m: u32, r: u32, h: u32) -> Self {
+        Shape { m, r, h }
+    }
+
+    pub fn in_bounds(&self) -> bool {
+        (1..=256).contains(&self.m) && (2..=16).contains(&self.r) && (1..=8).contains(&self.h) && self.block_length(0) <= MAX_TEXT
+    }
+
+    /// Bytes of a full block of `level`. The settings but for their product are within bounds.
+    #[inline]
+    pub fn block_length(&self, level: usize) -> u64 {
+        u64::from(self.m) * u64::from(self.r).pow(self.h - 1 - level as u32)
+    }
+}
+
+pub fn text_in_bounds(n: u64) -> bool {
+    (1..=MAX_TEXT).contains(&n)
+}
+
+/// At most four counted bytes, each above the one before.
+pub fn counted_in_bounds(counted: &[u8]) -> bool {
+    counted.len() <= MAX_COUNTED && counted.windows(2).all(|pair| pair[0] < pair[1])
+}
+
+/// Bytes of a record with `k` counted bytes.
+#[inline]
+pub fn record_length(k: usize) -> usize {
+    16 + 12 * k
+}
+
+/// The word at `at`.
+#[inline]
+pub fn word(bytes: &[u8], at: usize) -> u32 {
+    u32::from_le_bytes([bytes[at], bytes[at + 1], bytes[at + 2], bytes[at + 3]])
+}
+
+/// How many blocks of `length` bytes hold `n` bytes.
+#[inline]
+pub fn blocks_for(n: u64, length: u64) -> u64 {
+    n.div_ceil(length)
+}

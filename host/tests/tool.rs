@@ -1,0 +1,343 @@
+//! The tool from end to end: what it prints, and its status.
+
+use std::fs;
+use std::io::Write;
+use std::path::{Path, PathBuf};
+use std::process::{Command, Output, Stdio};
+
+/// The book that ships with the repository.
+fn book() -> PathBuf {
+    Path::new(env!("CARGO_MANIFEST_DIR")).join("../books/small.txt")
+}
+
+/// A folder of this test's own, with the book and its tree in it.
+struct Folder(PathBuf);
+
+impl Folder {
+    fn new(name: &str) -> Self {
+        let path = Path::new(env!("CARGO_TARGET_TMPDIR")).join(name);
+        let _ = fs::remove_dir_all(&path);
+        fs::create_dir_all(&path).expect("a folder");
+        fs::copy(book(), path.join("small.txt")).expect("the book");
+        Folder(path)
+    }
+
+    fn with_tree(name: &str) -> Self {
+        let folder = Folder::new(name);
+        folder.run("build small.txt -o small.tree").succeeds();
+        folder
+    }
+
+    /// Run the tool with words parted by spaces, and nothing on standard input.
+    fn run(&self, words: &str) -> Done {
+        self.pipe(words, b"")
+    }
+
+    fn pipe(&self, words: &str, input: &[u8]) -> Done {
+        let mut child = Command::new(env!("CARGO_BIN_EXE_codebook"))
+            .args(words.split_whitespace())
+            .current_dir(&self.0)
+            .stdin(Stdio::piped())
+            .stdout(Stdio::piped())
+            .stderr(Stdio::piped())
+            .spawn()
+            .expect("the tool starts");
+        // a tool that stops early closes its end
+        let mut stdin = child.stdin.take().expect("a pipe");
+        let input = input.to_vec();
+        let writer = std::thread::spawn(move || {
+            let _ = stdin.write_all(&input);
+        });
+        let output = child.wait_with_output().expect("the tool ends");
+        writer.join().expect("the input is written");
+        Done { words: words.to_owned(), output }
+    }
+
+    fn read(&self, name: &str) -> Vec<u8> {
+        fs::read(self.0.join(name)).expect("a file")
+    }
+
+    fn write(&self, name: &str, bytes: &[u8]) {
+        fs::write(self.0.join(name), bytes).expect("a file");
+    }
+}
+
+struct Done {
+    words: String,
+    output: Output,
+}
+
+impl Done {
+    fn status(&self, status: i32) -> &Self {
+        assert_eq!(self.output.status.code(), Some(status), "{}: {}", self.words, self.errors());
+        self
+    }
+
+    fn succeeds(&self) -> &Self {
+        self.status(0)
+    }
+
+    fn prints(&self, text: &str) -> &Self {
+        assert_eq!(String::from_utf8_lossy(&self.output.stdout), text, "{}", self.words);
+        self
+    }
+
+    fn says(&self, text: &str) -> &Self {
+        assert_eq!(self.errors(), text, "{}", self.words);
+        self
+    }
+
+    fn errors(&self) -> String {
+        String::from_utf8_lossy(&self.output.stderr).into_owned()
+    }
+}
+
+#[test]
+fn builds_with_chosen_settings() {
+    let folder = Folder::new("chosen");
+    let report = "\
+small.txt: 2,800 bytes
+leaf  arity  levels  tree's bytes
+ 256      2       1         3,208
+ 128      2       2         2,264
+  96      2       3         1,984
+  64      2       4         2,312
+  64      2       6         2,452
+  48      2       5         2,436
+chosen: leaf 96, arity 2, levels 3, since its tree is the smallest of these 6
+";
+    let ending = "1,984 bytes, 70.9 % of the text; leaf 96, arity 2, levels 3; bytes counted: 10\n";
+    folder.run("build small.txt -o small.tree").succeeds().prints(&format!("{report}small.tree: {ending}")).says("");
+    assert_eq!(folder.read("small.tree").len(), 1984);
+    // in a pipe the tree goes to standard output and the report to standard error
+    let piped = folder.pipe("build", &folder.read("small.txt"));
+    piped.succeeds().says(&format!("{}standard output: {ending}", report.replace("small.txt", "standard input")));
+    assert_eq!(piped.output.stdout, folder.read("small.tree"));
+}
+
+#[test]
+fn builds_with_given_settings() {
+    let folder = Folder::new("given");
+    folder
+        .run("build small.txt -o small.tree --leaf 16 --arity=4 --levels 2 --count none")
+        .succeeds()
+        .prints("small.txt: 2,800 bytes\nsmall.tree: 2,436 bytes, 87.0 % of the text; leaf 16, arity 4, levels 2; bytes counted: none\n");
+    folder
+        .run("row 1 small.tree")
+        .status(1)
+        .says("codebook: small.tree: row 1: refused (11): the tree does not count this byte; rows end in byte 10, so build must count it\n");
+    folder.run("build small.txt -o two.tree --leaf 16 --arity 4 --levels 2 --count \\n,C").succeeds();
+    folder.run("build small.txt -o large.tree --leaf 1 --arity 2 --levels 1").succeeds().prints(
+        "small.txt: 2,800 bytes\nlarge.tree: 81,300 bytes, 2903.6 % of the text; leaf 1, arity 2, levels 1; bytes counted: 10\n\
+         The tree is no smaller than the text: the book is short, or repeats itself too little.\n",
+    );
+    folder.run("find C 41 two.tree").succeeds().prints("728 (3 blocks entered)\n");
+}
+
+#[test]
+fn answers() {
+    let folder = Folder::with_tree("answers");
+    folder.run("check small.tree").succeeds().prints("small.tree: a good tree of 2,800 bytes of text\n").says("");
+    folder.run("list small.tree").succeeds().prints("0 8 5 3\n1 9 6 3\n2 12 12 0\n");
+    folder.run("row 1 small.tree").succeeds().prints("CH0501 444224\n");
+    folder.run("row 200 small.tree").succeeds().prints("HON1012 52162\n");
+    folder.run("byte 0 small.tree").succeeds().prints("67 'C' (3 blocks entered)\n");
+    folder.run("byte 13 small.tree").succeeds().prints("10 '\\n' (3 blocks entered)\n");
+    folder.run("span 14 6 small.tree").succeeds().prints("CH0502");
+    folder.run("span 2800 0 small.tree").succeeds().prints("");
+    folder.run("count 10 2800 small.tree").succeeds().prints("200 (3 blocks entered)\n");
+    folder.run("count \\n 0 small.tree").succeeds().prints("0 (0 blocks entered)\n");
+    folder.run("find 10 1 small.tree").succeeds().prints("13 (3 blocks entered)\n");
+    let text = folder.run("text small.tree");
+    text.succeeds().says("");
+    assert_eq!(text.output.stdout, folder.read("small.txt"));
+    folder.run("stats small.tree").succeeds().prints(
+        "\
+small.tree: 1,984 bytes, 70.9 % of the text
+text        2,800 bytes
+settings    leaf 96, arity 2, levels 3
+counted     10 '\\n': 200 times, rows
+leaf bytes  1,072
+level  block length    blocks      kept  pointing
+    0           384         8         5         3
+    1           192         9         6         3
+    2            96        12        12         0
+",
+    );
+}
+
+#[test]
+fn every_row() {
+    let folder = Folder::with_tree("rows");
+    let text = String::from_utf8(folder.read("small.txt")).expect("a text");
+    for (at, row) in text.lines().enumerate().step_by(7) {
+        folder.run(&format!("row {} small.tree", at + 1)).succeeds().prints(&format!("{row}\n"));
+    }
+}
+
+#[test]
+fn trees_from_standard_input() {
+    let folder = Folder::with_tree("stdin");
+    let tree = folder.read("small.tree");
+    folder.pipe("row 2", &tree).succeeds().prints("CH0502 444225\n");
+    folder.pipe("row 2 -", &tree).succeeds().prints("CH0502 444225\n");
+    folder.pipe("check", &tree).succeeds().prints("standard input: a good tree of 2,800 bytes of text\n");
+    folder
+        .pipe("check", b"")
+        .status(1)
+        .says("codebook: standard input: refused (5): a tree has at least 100 bytes; this is no tree, or cut off; it has 0 bytes\n");
+}
+
+#[test]
+fn refused_questions() {
+    let folder = Folder::with_tree("refused");
+    let refused = |words: &str, says: &str| {
+        folder.run(words).status(1).prints("").says(&format!("codebook: small.tree: {says}\n"));
+    };
+    let no_such = "refused (12): the byte does not stand so often in the text; numbers go from 1 to its total";
+    let past = "refused (10): this lies past the text's end; the text has 2,800 bytes";
+    refused("row 201 small.tree", &format!("row 201: {no_such}; the book has 200 rows"));
+    refused("row 0 small.tree", &format!("row 0: {no_such}; the book has 200 rows"));
+    refused("find 10 201 small.tree", &format!("find 10 201: {no_such}; its total is 200"));
+    refused("byte 2800 small.tree", &format!("byte 2800: {past}"));
+    refused("span 2799 2 small.tree", &format!("span 2799 2: {past}"));
+    refused("span 4294967295 4294967295 small.tree", &format!("span 4294967295 4294967295: {past}"));
+    refused("count 10 2801 small.tree", &format!("count 10 2801: {past}"));
+    refused("count A 5 small.tree", "count 65 5: refused (11): the tree does not count this byte; it counts: 10");
+}
+
+#[test]
+fn damaged_trees() {
+    let folder = Folder::with_tree("damaged");
+    let tree = folder.read("small.tree");
+    let damaged = |name: &str, at: usize, value: u32| {
+        let mut tree = tree.clone();
+        tree[at..at + 4].copy_from_slice(&value.to_le_bytes());
+        folder.write(name, &tree);
+    };
+    damaged("kind.tree", 104, 2);
+    let links = "refused (8): the blocks are not right: a start, kind, link or gap, or the number of blocks or leaf bytes";
+    for words in ["check", "row 1", "byte 0", "text", "stats"] {
+        folder.run(&format!("{words} kind.tree")).status(1).prints("").says(&format!("codebook: kind.tree: {links}\n"));
+    }
+    folder.run("list kind.tree").status(1).prints("refused 8\n").says(&format!("codebook: kind.tree: {links}\n"));
+    let path = "refused (14): the tree is damaged: the way to a byte breaks off, or a count comes out below zero";
+    folder.run("byte 0 kind.tree --unchecked").status(1).says(&format!("codebook: kind.tree: byte 0: {path}\n"));
+    folder.run("text kind.tree --unchecked").status(1).prints("").says(&format!("codebook: kind.tree: {path}\n"));
+    damaged("count.tree", 120, 7);
+    folder.run("check count.tree").status(1).says("codebook: count.tree: refused (9): a count in the tree is not true\n");
+    damaged("layout.tree", 0, 2);
+    folder
+        .run("row 1 layout.tree")
+        .status(1)
+        .says("codebook: layout.tree: refused (6): the layout is not 1; this is no block tree, or one of another version\n");
+    folder.write("cut.tree", &tree[..tree.len() - 1]);
+    folder.run("check cut.tree").status(1).says(
+        "codebook: cut.tree: refused (7): the header is not right: its settings, unused places or offsets, or the file is longer or shorter than it says\n",
+    );
+}
+
+#[test]
+fn texts_that_are_refused() {
+    let folder = Folder::new("texts");
+    let bounds = "refused (1): a text must have 1 to 1,048,576 bytes";
+    folder.write("empty.txt", b"");
+    folder.run("build empty.txt -o no.tree").status(1).prints("").says(&format!("codebook: empty.txt: {bounds}; it is empty\n"));
+    folder.run("build -o no.tree").status(1).says(&format!("codebook: standard input: {bounds}; it is empty\n"));
+    folder.write("long.txt", &vec![b'A'; 1_048_577]);
+    folder.run("build long.txt -o no.tree").status(1).says(&format!("codebook: long.txt: {bounds}; it has more\n"));
+    folder.run("build long.txt -o no.tree --leaf 256 --arity 16 --levels 3").status(1).says(&format!("codebook: long.txt: {bounds}; it has more\n"));
+    let settings =
+        "refused (2): the leaf length must be 1 to 256, the arity 2 to 16, the levels 1 to 8, and leaf x arity^(levels-1) at most 1,048,576";
+    folder
+        .run("build small.txt -o no.tree --leaf 256 --arity 16 --levels 5")
+        .status(1)
+        .says(&format!("codebook: small.txt: {settings}; given: leaf 256, arity 16, levels 5\n"));
+    let counted = "refused (3): at most 4 bytes can be counted, and each must be above the one before";
+    folder.run("build small.txt -o no.tree --count 65,10").status(1).says(&format!("codebook: small.txt: {counted}; given: 65, 10\n"));
+    folder.run("build small.txt -o no.tree --count 1,2,3,4,5").status(1).says(&format!("codebook: small.txt: {counted}; given: 1, 2, 3, 4, 5\n"));
+    assert!(!folder.0.join("no.tree").exists());
+}
+
+#[test]
+fn longest_book() {
+    let folder = Folder::new("longest");
+    let text = folder.read("small.txt").repeat(375)[..1_048_576].to_vec();
+    folder.write("long.txt", &text);
+    folder.run("build long.txt -o long.tree --leaf 256 --arity 16 --levels 3").succeeds();
+    folder.run("row 74000 long.tree").succeeds();
+    let read = folder.run("text long.tree");
+    read.succeeds();
+    assert!(read.output.stdout == text);
+    folder.pipe("build - -o one.tree --leaf 256 --arity 2 --levels 1", &text).succeeds();
+    folder.run("list one.tree").status(1).prints("refused 15\n");
+    folder.run("stats one.tree").succeeds();
+}
+
+#[test]
+fn calls_that_are_not_right() {
+    let folder = Folder::new("usage");
+    let usage = |words: &str, says: &str| {
+        folder.run(words).status(2).prints("").says(&format!("codebook: {says}\n"));
+    };
+    usage("", "no command given; see codebook --help");
+    usage("print small.tree", "there is no command 'print'; see codebook --help");
+    usage("row", "N is missing\nusage: codebook row N [TREE] [--unchecked]");
+    usage("row one small.tree", "N is a number from 0 to 4294967295, not 'one'\nusage: codebook row N [TREE] [--unchecked]");
+    usage("row 4294967296 x", "N is a number from 0 to 4294967295, not '4294967296'\nusage: codebook row N [TREE] [--unchecked]");
+    usage("check a.tree b.tree", "'b.tree' is one word too many\nusage: codebook check [TREE]");
+    usage("check --all", "there is no option '--all'\nusage: codebook check [TREE]");
+    usage(
+        "count 256 4 x",
+        "a byte is a number from 0 to 255 or one character that is no digit, not '256'\nusage: codebook count BYTE LENGTH [TREE] [--unchecked]",
+    );
+    let build = "usage: codebook build [BOOK] [-o TREE] [--leaf M --arity R --levels H] [--count BYTES]";
+    usage("build small.txt -o", &format!("-o needs a value\n{build}"));
+    usage("build --leaf 64", &format!("--leaf, --arity and --levels go together: give all three, or none to have a short list tried\n{build}"));
+    usage("check none.tree", "none.tree cannot be read: No such file or directory (os error 2)");
+    usage("build none.txt -o x", "none.txt cannot be read: No such file or directory (os error 2)");
+    usage("build small.txt -o none/x.tree", "none/x.tree cannot be written: No such file or directory (os error 2)");
+    usage("check .", ". cannot be read: Is a directory (os error 21)");
+}
+
+#[test]
+fn help() {
+    let folder = Folder::new("help");
+    let overview = folder.run("--help");
+    overview.succeeds().says("");
+    let commands = ["build", "check", "list", "row", "byte", "span", "count", "find", "text", "stats"];
+    for command in commands {
+        assert!(String::from_utf8_lossy(&overview.output.stdout).contains(&format!("\n  {command:<7}")));
+        let help = folder.run(&format!("{command} --help"));
+        help.succeeds().says("");
+        assert!(help.output.stdout.starts_with(format!("codebook {command} ").as_bytes()));
+        assert_eq!(folder.run(&format!("help {command}")).output.stdout, help.output.stdout);
+    }
+}
+
+#[test]
+fn help_names_the_short_list() {
+    let help = Folder::new("list").run("build --help").output.stdout;
+    for (leaf, arity, levels) in codebook::SHORT_LIST {
+        assert!(String::from_utf8_lossy(&help).contains(&format!("{leaf}/{arity}/{levels}")));
+    }
+}
+
+/// A reader that stops early is no failure.
+#[test]
+fn output_that_nobody_reads() {
+    let folder = Folder::new("pipe");
+    let text = folder.read("small.txt").repeat(300);
+    folder.write("long.txt", &text);
+    folder.run("build long.txt -o long.tree --leaf 256 --arity 2 --levels 1").succeeds();
+    let mut child = Command::new(env!("CARGO_BIN_EXE_codebook"))
+        .args(["text", "long.tree"])
+        .current_dir(&folder.0)
+        .stdout(Stdio::piped())
+        .stderr(Stdio::piped())
+        .spawn()
+        .expect("the tool starts");
+    drop(child.stdout.take());
+    let output = child.wait_with_output().expect("the tool ends");
+    assert_eq!((output.status.code(), output.stderr.as_slice()), (Some(0), b"".as_slice()));
+}

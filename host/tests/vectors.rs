@@ -1,0 +1,170 @@
+//! The cases of vectors.txt, put to the library and to the model. The file's head says how a line is read.
+
+#[path = "support/judge.rs"]
+mod judge;
+mod model;
+mod support;
+
+use codebook::calls;
+use judge::{find_agrees, row_agrees, FILL};
+use model::read::Answer;
+use model::{build, check, read, Shape};
+use std::collections::HashMap;
+use support::{from_hex, to_hex};
+
+const VECTORS: &str = include_str!("vectors.txt");
+
+/// The calls of one implementation.
+#[allow(clippy::type_complexity)]
+struct Calls {
+    build: fn(&[u8], Shape, &[u8], &mut [u8]) -> (u32, u32),
+    check: fn(&[u8]) -> u32,
+    list: fn(&[u8]) -> String,
+    byte: fn(&[u8], u32) -> (u32, u32, u32),
+    run: fn(&[u8], u32) -> (u32, u32, u32),
+    span: fn(&[u8], u32, u32, &mut [u8]) -> u32,
+    count: fn(&[u8], u32, u32) -> (u32, u64, u32),
+    find: fn(&[u8], u32, u32) -> Answer<(u32, u32, u32)>,
+    row: fn(&[u8], u32, &mut [u8]) -> Answer<(u32, u32)>,
+}
+
+#[test]
+fn library() {
+    run_all(&Calls {
+        build: |text, shape, counted, out| calls::build(text, shape.m, shape.r, shape.h, counted, out),
+        check: calls::check,
+        list: |tree| codebook::list(tree).0,
+        byte: calls::byte,
+        run: calls::run,
+        span: calls::span,
+        count: calls::count,
+        find: |tree, byte, j| Answer::Settled(calls::find(tree, byte, j)),
+        row: |tree, q, buffer| Answer::Settled(calls::row(tree, q, buffer)),
+    });
+}
+
+#[test]
+fn model() {
+    run_all(&Calls {
+        build: build::build,
+        check: check::check,
+        list: |tree| check::list(tree).1,
+        byte: read::byte,
+        run: read::run,
+        span: read::span,
+        count: read::count,
+        find: read::find,
+        row: read::row,
+    });
+}
+
+/// Items of requests that are not in force in this format are passed over by name.
+const LATER: [&str; 13] = ["places", "scan", "match", "columns", "rows", "column", "open", "left", "renew", "guide", "guidecheck", "guided", "order"];
+
+fn run_all(calls: &Calls) {
+    let mut bytes: HashMap<&str, Vec<u8>> = HashMap::new();
+    let mut in_force = true;
+    let (mut run, mut wrong) = (0, Vec::new());
+    for line in VECTORS.lines().filter(|line| !line.is_empty() && !line.starts_with('#')) {
+        let tokens: Vec<&str> = line.split(' ').collect();
+        match tokens[..] {
+            ["landed", request] => in_force = request == "100",
+            ["text" | "tree", name, hex] => {
+                bytes.insert(name, from_hex(hex));
+            }
+            ["repeat", name, hex, times] => {
+                bytes.insert(name, from_hex(hex).repeat(times.parse().expect("a number")));
+            }
+            ["pad", name, tree, length] => {
+                let mut padded = bytes[tree].clone();
+                padded.resize(length.parse().expect("a number"), 0);
+                bytes.insert(name, padded);
+            }
+            _ if !in_force || LATER.contains(&tokens[0]) => {}
+            _ => {
+                let arrow = tokens.iter().position(|&token| token == "=>").expect("every item has an answer");
+                let got = item(calls, &bytes, &tokens[..arrow], &tokens[arrow + 1..]);
+                run += 1;
+                if let Err(got) = got {
+                    wrong.push(format!("{line}\n    got {got}"));
+                }
+            }
+        }
+    }
+    assert!(run >= 500, "only {run} items were run");
+    assert!(wrong.is_empty(), "{} of {run} items are wrong:\n{}", wrong.len(), wrong.join("\n"));
+}
+
+/// Run one item; the answer where it is not the expected one.
+fn item(calls: &Calls, bytes: &HashMap<&str, Vec<u8>>, item: &[&str], expected: &[&str]) -> Result<(), String> {
+    let number = |at: usize| item[at].parse::<u32>().expect("a number");
+    let lent = |at: usize| vec![FILL; item[at].parse().expect("a length")];
+    let subject = &bytes[item[1]];
+    let got = match item[0] {
+        "build" => {
+            let mut out = lent(6);
+            let (refusal, size) = (calls.build)(subject, Shape::new(number(2), number(3), number(4)), &from_hex(item[5]), &mut out);
+            format!("{refusal} {size} {}", to_hex(&out))
+        }
+        "check" => (calls.check)(subject).to_string(),
+        "list" => (calls.list)(subject).replace('\n', "/"),
+        "byte" => figures((calls.byte)(subject, number(2))),
+        "run" => figures((calls.run)(subject, number(2))),
+        "count" => {
+            let (refusal, count, entered) = (calls.count)(subject, number(2), number(3));
+            format!("{refusal} {count} {entered}")
+        }
+        "span" => {
+            let mut buffer = lent(4);
+            format!("{} 0 {}", (calls.span)(subject, number(2), number(3), &mut buffer), to_hex(&buffer))
+        }
+        "find" => return find(calls, subject, number(2), number(3), expected),
+        "row" => return row(calls, subject, number(2), lent(3), expected),
+        other => panic!("no such item: {other}"),
+    };
+    if got == expected.join(" ") {
+        Ok(())
+    } else {
+        Err(got)
+    }
+}
+
+fn figures((number, first, second): (u32, u32, u32)) -> String {
+    format!("{number} {first} {second}")
+}
+
+fn find(calls: &Calls, tree: &[u8], byte: u32, j: u32, expected: &[&str]) -> Result<(), String> {
+    let number = |at: usize| expected[at].parse::<u32>().expect("a number");
+    let expected = match expected {
+        ["free", n] => Answer::Free(n.parse().expect("a number")),
+        _ => Answer::Settled((number(0), number(1), number(2))),
+    };
+    let got = (calls.find)(tree, byte, j);
+    let agrees = match got {
+        Answer::Settled(got) => find_agrees(expected, got),
+        Answer::Free(_) => got == expected,
+    };
+    if agrees {
+        Ok(())
+    } else {
+        Err(format!("{got:?}"))
+    }
+}
+
+fn row(calls: &Calls, tree: &[u8], q: u32, mut buffer: Vec<u8>, expected: &[&str]) -> Result<(), String> {
+    let number = |at: usize| expected[at].parse::<u32>().expect("a number");
+    let (answer, expected_buffer) = match expected {
+        ["free", n] => (Answer::Free(n.parse().expect("a number")), Vec::new()),
+        _ => (Answer::Settled((number(0), number(1))), from_hex(expected[2])),
+    };
+    let got = (calls.row)(tree, q, &mut buffer);
+    let agrees = match got {
+        Answer::Settled(got) => row_agrees((answer, &expected_buffer), (got, &buffer)),
+        Answer::Free(_) => got == answer,
+    };
+    if agrees {
+        Ok(())
+    } else {
+        Err(format!("{got:?} {}", to_hex(&buffer)))
+    }
+}

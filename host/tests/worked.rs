@@ -1,0 +1,119 @@
+//! The model on the format's worked book, and its methods for long books held to its plain ones.
+
+mod model;
+mod support;
+
+use model::build::{build, plain_tree};
+use model::check::{check, list};
+use model::read::{byte, count, find, row, run, span, Answer};
+use model::{fast, Shape};
+use support::books::{book, Kind};
+use support::Rng;
+
+const WORKED: &[u8] = b"QABCDABCDEFGABCDABCD";
+
+fn worked() -> Vec<u8> {
+    plain_tree(WORKED, Shape::new(2, 2, 2), b"A")
+}
+
+#[test]
+fn worked_book() {
+    let tree = worked();
+    assert_eq!(tree.len(), 480);
+    assert_eq!(&tree[464..], b"QABCDABCDEFGABCD");
+    assert_eq!(check(&tree), 0);
+    assert_eq!(list(&tree), (0, "0 5 4 1\n1 8 8 0\n".to_owned()));
+    let level0: Vec<u32> = (100..240).step_by(4).map(|at| model::word(&tree, at)).collect();
+    assert_eq!(level0[..7], [0, 0, 0, 0, 0, 1, 0]);
+    assert_eq!(level0[28..], [16, 1, 0, 1, 3, 1, 0]);
+    assert_eq!(byte(&tree, 18), (0, u32::from(b'C'), 3));
+    assert_eq!(byte(&tree, 19), (0, u32::from(b'D'), 3));
+    assert_eq!(byte(&tree, 20), (10, 0, 0));
+    assert_eq!(count(&tree, 65, 17), (0, 4, 3));
+    assert_eq!(count(&tree, 65, 0), (0, 0, 0));
+    assert_eq!(count(&tree, 65, 21), (10, 0, 0));
+    assert_eq!(find(&tree, 65, 4), Answer::Settled((0, 16, 3)));
+    assert_eq!(find(&tree, 65, 5), Answer::Settled((12, 0, 0)));
+    assert_eq!(run(&tree, 17), (0, 466, 2));
+    assert_eq!(row(&tree, 1, &mut []), Answer::Settled((11, 0)));
+    assert_eq!(span(&tree, 20, 0, &mut []), 0);
+}
+
+#[test]
+fn blocks_that_point() {
+    let twelve = plain_tree(&[b'A'; 12], Shape::new(2, 2, 2), b"");
+    assert_eq!(twelve.len(), 220);
+    assert_eq!(model::word(&twelve, 132 + 4), 1); // block 2 points
+    assert_eq!((model::word(&twelve, 132 + 8), model::word(&twelve, 132 + 12)), (0, 0));
+    let cut = plain_tree(b"ABCDABCDA", Shape::new(2, 2, 2), b"");
+    assert_eq!((model::word(&cut, 132 + 4), model::word(&cut, 132 + 8), model::word(&cut, 132 + 12)), (1, 0, 0));
+}
+
+#[test]
+fn lent_buffers() {
+    let shape = Shape::new(2, 2, 2);
+    let mut long = [0xEE; 483];
+    assert_eq!(build(WORKED, shape, b"A", &mut long), (0, 480));
+    assert_eq!(long[480..], [0xEE; 3]);
+    let mut short = [0xEE; 479];
+    assert_eq!(build(WORKED, shape, b"A", &mut short), (4, 0));
+    assert_eq!(short, [0; 479]);
+    assert_eq!(build(WORKED, Shape::new(256, 16, 5), b"", &mut short), (2, 0));
+    assert_eq!(build(&vec![65; 1_048_577], shape, b"A", &mut short), (1, 0));
+}
+
+/// Sides taken where the format's words could be read in two ways, on damaged worked trees.
+#[test]
+fn readings() {
+    let with = |words: &[(usize, u32)]| {
+        let mut tree = worked();
+        for &(at, value) in words {
+            tree[at..at + 4].copy_from_slice(&value.to_le_bytes());
+        }
+        tree
+    };
+    assert_eq!(byte(&with(&[(112, 9)]), 0), (0, u32::from(b'Q'), 2));
+    assert_eq!(check(&with(&[(112, 1)])), 8);
+    assert_eq!(check(&with(&[(124, 1)])), 9);
+    assert_eq!(check(&with(&[(4, 19)])), 0);
+    let kind = with(&[(104, 2)]);
+    assert_eq!((byte(&kind, 19), byte(&kind, 16).0), ((0, u32::from(b'D'), 3), 14));
+    let leaf = with(&[(248, 15)]);
+    assert_eq!((byte(&leaf, 0).1, byte(&leaf, 1).0, run(&leaf, 0)), (u32::from(b'D'), 14, (0, 479, 1)));
+    assert_eq!(count(&with(&[(228, 0), (236, 1)]), 65, 17), (0, 0, 3));
+    assert_eq!(count(&with(&[(228, u32::MAX)]), 65, 17), (0, 4_294_967_296, 3));
+    let mut buffer = [0xEE; 3];
+    assert_eq!((span(&kind, 0, 3, &mut buffer[..2]), buffer), (13, [0xEE; 3]));
+    assert_eq!((span(&kind, 0, 2, &mut buffer), buffer), (14, [0, 0, 0xEE]));
+}
+
+#[test]
+fn long_path_of_a_short_text() {
+    let text = [b'A'; 1024];
+    let bytes = plain_tree(&text, Shape::new(1, 2, 8), b"");
+    let longest = (0..1024).map(|p| byte(&bytes, p).2).max();
+    assert!(longest.expect("a place") <= 15);
+}
+
+#[test]
+fn fast_methods_agree() {
+    let mut rng = Rng::new(8);
+    for round in 0..400 {
+        let kind = *rng.pick(&[Kind::Repetitive, Kind::Mixed, Kind::NearlyRandom]);
+        let text = if round % 2 == 0 {
+            let size = rng.within(4, 3000);
+            book(kind, size, round)
+        } else {
+            (0..rng.within(1, 300)).map(|_| *rng.pick(b"AB\n")).collect()
+        };
+        let shape = Shape::new(rng.within(1, 12) as u32, rng.within(2, 4) as u32, rng.within(1, 5) as u32);
+        let tree = plain_tree(&text, shape, b"\nA");
+        assert!(tree == fast::tree(&text, shape, b"\nA"), "{shape:?} {text:?}");
+        for j in 0..text.iter().filter(|&&byte| byte == 10).count().min(30) as u32 + 2 {
+            assert_eq!(Answer::Settled(fast::find(&tree, 10, j)), find(&tree, 10, j), "{shape:?} {text:?} {j}");
+            let (mut plain, mut quick) = ([0xEE; 40], [0xEE; 40]);
+            assert_eq!(Answer::Settled(fast::row(&tree, j, &mut quick)), row(&tree, j, &mut plain));
+            assert_eq!(plain, quick);
+        }
+    }
+}

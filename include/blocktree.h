@@ -1,0 +1,123 @@
+/* blocktree.h - block trees of code books: build them, check them, ask them.
+ *
+ * C99 and C++. Link with target/staticlib/libabi.a (made by `rt staticlib abi`), x86-64. The format and every question are in docs/FORMAT.md.
+ *
+ * What all calls have in common
+ *
+ *  - The answer is a number: BT_OK (0), or the number of the first question that failed (enum bt_number). A refused call sets every figure to 0.
+ *  - Bytes are lent as a pointer and a length for the time of the call. Nothing is kept, nothing is allocated, there is no state: calls may run at the
+ *    same time in several threads as long as what they write does not overlap.
+ *  - A `const` pointer is only read. A written buffer must not overlap anything else lent to the same call.
+ *  - Every pointer is non-null, also where its length is 0 (pass the address of any byte), and points to as many bytes as its length says; pointers to
+ *    figures are aligned.
+ *  - Nobody has to check a tree first: each call is safe on any bytes, reads nothing outside them and ends. On a tree that bt_check refuses, bt_find may
+ *    answer any place below n with any number of blocks, and bt_row any bytes, or either may answer BT_PATH (bt_row also BT_BUFFER). All other answers
+ *    are settled on any bytes. On a tree that bt_check accepts BT_PATH is never the answer.
+ *  - Places in the text start at 0; occurrences and rows are numbered from 1.
+ */
+#ifndef BLOCKTREE_H
+#define BLOCKTREE_H
+
+#include <stddef.h>
+#include <stdint.h>
+
+#ifdef __cplusplus
+extern "C" {
+#endif
+
+/* Bounds. */
+#define BT_MAX_TEXT 1048576u /* bytes of a text, and of a block of level 0 */
+#define BT_MAX_LEAF 256u     /* leaf length: 1 to this */
+#define BT_MIN_ARITY 2u      /* arity: this to BT_MAX_ARITY */
+#define BT_MAX_ARITY 16u
+#define BT_MAX_LEVELS 8u   /* levels: 1 to this */
+#define BT_MAX_COUNTED 4u  /* counted bytes: 0 to this */
+#define BT_LIST_LENGTH 512u /* a buffer of so many bytes holds all that bt_list writes */
+
+/* What the numbers mean. */
+enum bt_number {
+    BT_OK = 0,
+    BT_TEXT = 1,        /* the text does not have 1 to 1,048,576 bytes */
+    BT_SETTINGS = 2,    /* leaf is not 1 to 256, arity not 2 to 16, levels not 1 to 8, or leaf * arity^(levels-1) is above 1,048,576 */
+    BT_COUNTED = 3,     /* more than 4 counted bytes, or one that is not above the one before */
+    BT_SPACE = 4,       /* the tree does not fit the buffer */
+    BT_SHORT = 5,       /* the tree has fewer than 100 bytes */
+    BT_LAYOUT = 6,      /* the tree's layout is not 1 */
+    BT_HEADER = 7,      /* the header is not right: settings, unused places, offsets, or the tree's length */
+    BT_LINKS = 8,       /* starts, kinds, links, gaps, or the counts of levels or leaf bytes are not right */
+    BT_COUNTS = 9,      /* a count in the tree is not true */
+    BT_PLACE = 10,      /* the place, or the end of what is asked for, lies past the text's end */
+    BT_NOT_COUNTED = 11, /* the byte is not one that the tree counts (for a row: byte 10) */
+    BT_NO_SUCH = 12,    /* the byte does not stand so often in the text; there is no such row */
+    BT_BUFFER = 13,     /* the answer does not fit the buffer */
+    BT_PATH = 14,       /* the tree is damaged: the path of a place breaks, or a count or a row's length would be below 0 */
+    BT_INPUT = 15       /* list only: the tree has more than 65,536 bytes */
+};
+
+/* Build the tree of a text.
+ *   lent      text, counted: the counted bytes, rising
+ *   written   out: the tree in its first *size bytes, the rest as it was; all zero on BT_SPACE; as it was on 1, 2 and 3
+ *             *size: the tree's size
+ *   answers   0, 1, 2, 3, 4 */
+uint32_t bt_build(const uint8_t *text, size_t text_len, uint32_t leaf, uint32_t arity, uint32_t levels, const uint8_t *counted, size_t counted_len,
+                  uint8_t *out, size_t out_len, uint32_t *size);
+
+/* How large a buffer is enough for the tree of any text of n bytes, with `counted` counted bytes.
+ *   written   *size: that many bytes are enough
+ *   answers   0, 1, 2, 3 */
+uint32_t bt_enough(uint32_t n, uint32_t leaf, uint32_t arity, uint32_t levels, uint32_t counted, uint64_t *size);
+
+/* Check a tree: is it one, is it right in all its parts, are its counts true? It does not ask whether bt_build would have made it.
+ *   lent      tree
+ *   answers   0, 5 to 9 */
+uint32_t bt_check(const uint8_t *tree, size_t tree_len);
+
+/* The byte at a place of the text.
+ *   lent      tree
+ *   written   *value: the byte; *entered: the blocks entered on the way
+ *   answers   0, 5, 6, 7, 10, 14 */
+uint32_t bt_byte(const uint8_t *tree, size_t tree_len, uint32_t place, uint32_t *value, uint32_t *entered);
+
+/* The bytes of the text from a place on that lie side by side in the tree: a part of the tree's own bytes, to be read without a copy.
+ *   lent      tree
+ *   written   *offset: where in the tree's bytes the part starts; *length: its length, at least 1
+ *   answers   0, 5, 6, 7, 10, 14 */
+uint32_t bt_run(const uint8_t *tree, size_t tree_len, uint32_t place, uint32_t *offset, uint32_t *length);
+
+/* Copy `length` bytes of the text from a place on.
+ *   lent      tree
+ *   written   buffer: its first `length` bytes, the rest as it was; on BT_PATH zeros in the first `length` bytes; as it was on any other refusal
+ *   answers   0, 5, 6, 7, 10, 13, 14 */
+uint32_t bt_span(const uint8_t *tree, size_t tree_len, uint32_t place, uint32_t length, uint8_t *buffer, size_t buffer_len);
+
+/* How often a byte stands in the first i bytes of the text.
+ *   lent      tree
+ *   written   *count: how often; *entered: the blocks entered on the way (none for i = 0)
+ *   answers   0, 5, 6, 7, 10, 11 (also for a byte above 255), 14 */
+uint32_t bt_count(const uint8_t *tree, size_t tree_len, uint32_t byte, uint32_t i, uint64_t *count, uint32_t *entered);
+
+/* The place of the j-th such byte, j from 1.
+ *   lent      tree
+ *   written   *place: where it stands; *entered: the blocks on the path of that place
+ *   answers   0, 5, 6, 7, 11 (also for a byte above 255), 12, 14 */
+uint32_t bt_find(const uint8_t *tree, size_t tree_len, uint32_t byte, uint32_t j, uint32_t *place, uint32_t *entered);
+
+/* Copy row q, q from 1: what stands between the byte 10 before it (or the text's start) and its own, which is not copied. Byte 10 must be counted.
+ *   lent      tree
+ *   written   buffer: the row in its first *length bytes, the rest as it was; on BT_PATH as it was, or zeros in a first part; as it was on any
+ *             other refusal
+ *             *length: the row's length
+ *   answers   0, 5, 6, 7, 11, 12, 13, 14 */
+uint32_t bt_row(const uint8_t *tree, size_t tree_len, uint32_t q, uint8_t *buffer, size_t buffer_len, uint32_t *length);
+
+/* The lines of the list program: one for each level, "level blocks kept pointing", or one line "refused N".
+ *   lent      tree
+ *   written   out: the lines in its first *length bytes, at most BT_LIST_LENGTH; *length: their length
+ *   answers   0, 5 to 9 and 15 as in the line, 13 if out is too short for the lines */
+uint32_t bt_list(const uint8_t *tree, size_t tree_len, uint8_t *out, size_t out_len, uint32_t *length);
+
+#ifdef __cplusplus
+}
+#endif
+
+#endif
