@@ -80,7 +80,8 @@ uint32_t bt_byte(const uint8_t *tree, size_t tree_len, uint32_t place, uint32_t 
 
 /* The bytes of the text from a place on that lie side by side in the tree: a part of the tree's own bytes, to be read without a copy.
  *   lent      tree
- *   written   *offset: where in the tree's bytes the part starts; *length: its length, at least 1
+ *   written   *offset: where in the tree's bytes the part starts (of a tree of 4 GiB or more, which the check refuses, the lowest 32 bits of
+ *             it); *length: its length, at least 1
  *   answers   0, 5, 6, 7, 10, 14 */
 uint32_t bt_run(const uint8_t *tree, size_t tree_len, uint32_t place, uint32_t *offset, uint32_t *length);
 
@@ -113,7 +114,7 @@ uint32_t bt_row(const uint8_t *tree, size_t tree_len, uint32_t q, uint8_t *buffe
 /* The lines of the list program: one for each level, "level blocks kept pointing", or one line "refused N".
  *   lent      tree
  *   written   out: the lines in its first *length bytes, at most BT_LIST_LENGTH; *length: their length
- *   answers   0, 5 to 9 and 15 as in the line, 13 if out is too short for the lines */
+ *   answers   0, 5 to 9 and 15 as in the line, 13 if out is shorter than BT_LIST_LENGTH: then nothing is written and *length is 0 */
 uint32_t bt_list(const uint8_t *tree, size_t tree_len, uint8_t *out, size_t out_len, uint32_t *length);
 
 #ifdef __cplusplus
