@@ -1,4 +1,4 @@
-//! docs/TOUR.md: its commands are run, and what they print is compared with the page.
+//! README.md: the commands of its tour are run, and what they print is compared with the page.
 
 use std::fs;
 use std::os::unix::fs::symlink;
@@ -18,7 +18,7 @@ fn the_tour_prints_what_it_says() {
     let tool = Path::new(env!("CARGO_BIN_EXE_codebook")).parent().expect("a folder");
     let path = format!("{}:{}", tool.display(), std::env::var("PATH").unwrap_or_default());
 
-    let page = fs::read_to_string(repository.join("docs/TOUR.md")).expect("the page");
+    let page = fs::read_to_string(repository.join("README.md")).expect("the page");
     let commands = commands(&page);
     assert!(commands.len() > 10);
     for (command, printed) in commands {
