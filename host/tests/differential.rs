@@ -132,8 +132,12 @@ fn wild_bytes() {
 #[test]
 fn list_without_room() {
     let tree = build::plain_tree(b"ABCD", Shape::new(2, 2, 2), b"");
-    assert_eq!(calls::list(&tree, &mut []), (13, 0));
-    assert_eq!(calls::list(b"", &mut []), (13, 0));
+    for length in [0, 1, 16, 511] {
+        let mut out = lent(length);
+        assert_eq!(calls::list(&tree, &mut out), (13, 0), "{length}");
+        assert_eq!(calls::list(b"", &mut out), (13, 0), "{length}");
+        assert_eq!(out, lent(length));
+    }
     let mut out = lent(512);
     let (number, length) = calls::list(&tree, &mut out);
     assert_eq!((number, &out[..length as usize]), (0, b"0 1 1 0\n1 2 2 0\n".as_slice()));
