@@ -18,13 +18,13 @@ use Rattle.layout.specs.declared.header.Header.{Header}
 use Rattle.layout.specs.declared.header.HeaderRead.{HeaderRead}
 use Rattle.layout.specs.declared.header.HeaderRead.the-variants.{Refused}
 use Rattle.layout.specs.Header.{headerSays}
-use Rattle.access.specs.declared.walk.Trail.{Trail}
-use Rattle.access.specs.declared.walk.Reached.{Reached}
-use Rattle.access.specs.declared.walk.Walked.{Walked}
-use Rattle.access.specs.declared.walk.Walked.the-variants.{At, Broken}
+use Rattle.walk.specs.declared.Trail.{Trail}
+use Rattle.walk.specs.declared.Reached.{Reached}
+use Rattle.walk.specs.declared.Walked.{Walked}
+use Rattle.walk.specs.declared.Walked.the-variants.{At, Broken}
 use Rattle.access.specs.declared.reading.Part.{Part}
 use Rattle.layout.specs.HeaderSays.{HeaderOf}
-use Rattle.access.specs.Walk.{walked}
+use Rattle.walk.specs.Walk.{walked}
 use Rattle.access.specs.Answers.{RunPart}
 use Rattle.layout.specs.HeaderSays.{header-refused}
 

@@ -1,7 +1,5 @@
 // The questions put to a tree. Each asks 5 to 7 first, of any bytes lent as a tree.
 pub mod reading;
-pub mod step;
-pub mod walk;
 
 use layout::header;
 use layout::header::HeaderRead;

@@ -1,10 +1,9 @@
 // Byte, run and span of a tree that passes questions 5 to 7, by its header.
 use crate::Answer;
 use crate::Copied;
-use crate::walk;
-use crate::walk::Walked;
 use layout::header::Header;
 use layout::place::TextPlace;
+use walk::Walked;
 ghost use mathlib.Core.Path.{_≡_};
 ghost use Prim.Native.Nat.{_+_, _≤_};
 ghost use mathlib.Core.List.{_++_};

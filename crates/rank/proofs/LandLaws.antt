@@ -25,12 +25,12 @@ use Rattle.paths.specs.Landing.{kept-block, kept-not, pointing-block}
 use Rattle.layout.specs.declared.header.Header.{Header}
 use Rattle.layout.specs.declared.place.BlockNumber.{BlockNumber}
 use Rattle.layout.specs.declared.place.BlockPlace.{BlockPlace}
-use Rattle.access.specs.declared.step.Next.{Next}
-use Rattle.access.specs.declared.step.Next.the-variants as next
+use Rattle.walk.specs.declared.step.Next.{Next}
+use Rattle.walk.specs.declared.step.Next.the-variants as next
 use Rattle.layout.specs.HeaderSays.{HeaderOf}
-use Rattle.access.specs.Steps.{OnLevel, InTable, nextAt}
-use Rattle.access.proofs.StepLaws.{kept-in, pointing-in, b-small, b-pos}
-use Rattle.access.proofs.WalkLaws.{pointing-not-kept}
+use Rattle.walk.specs.Steps.{OnLevel, InTable, nextAt}
+use Rattle.walk.proofs.StepLaws.{kept-in, pointing-in, b-small, b-pos}
+use Rattle.walk.proofs.WalkLaws.{pointing-not-kept}
 use Rattle.tallies.specs.Level.{Level, tally}
 use Rattle.tallies.specs.Local.{byteOf, inLeaves}
 use Rattle.tallies.specs.Stretches.{leaves-tally}

@@ -13,10 +13,10 @@ use Rattle.format.specs.Path.{keptBlock, pointingBlock}
 use Rattle.layout.specs.declared.header.Header.{Header}
 use Rattle.layout.specs.declared.place.BlockNumber.{BlockNumber}
 use Rattle.layout.specs.declared.place.BlockPlace.{BlockPlace}
-use Rattle.access.specs.declared.step.Next.{Next}
-use Rattle.access.specs.declared.step.Next.the-variants as next
+use Rattle.walk.specs.declared.step.Next.{Next}
+use Rattle.walk.specs.declared.step.Next.the-variants as next
 use Rattle.layout.specs.HeaderSays.{HeaderOf}
-use Rattle.access.specs.Steps.{OnLevel, InTable, nextAt}
+use Rattle.walk.specs.Steps.{OnLevel, InTable, nextAt}
 use Rattle.rank.specs.declared.seek.Placed.{Placed}
 use Rattle.rank.specs.declared.seek.Placed.the-variants as placed
 use Rattle.rank.specs.declared.seek.Child.{Child}

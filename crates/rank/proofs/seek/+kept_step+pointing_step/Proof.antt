@@ -6,8 +6,8 @@ use borrow.Fn.PlainCycle.{Measures, is, falls, and}
 use mathlib.Core.Path.{refl}
 use native.Mathlib.Omega.{arith}
 use Rattle.layout.proofs.record.gap.Reads as gap-reads
-use Rattle.access.proofs.StepLaws.{field-there, kept-in, pointing-in, b-small}
-use Rattle.access.proofs.WalkLaws as walk
+use Rattle.walk.proofs.StepLaws.{field-there, kept-in, pointing-in, b-small}
+use Rattle.walk.proofs.WalkLaws as walk
 use Rattle.rank.proofs.LandLaws as laws
 use Rattle.rank.proofs.seek.+kept_step+pointing_step.Lts-kept_step as kept-step-lts
 use Rattle.rank.proofs.seek.+kept_step+pointing_step.Lts-pointing_step as pointing-step-lts

@@ -3,7 +3,7 @@ use borrow.Author.Needs.{needs}
 use mathlib.Core.Path.{_∙_, ap}
 use native.Mathlib.Omega.{arith}
 use Rattle.format.specs.Settings.{pieces}
-use Rattle.access.proofs.StepLaws.{field-there, kept-in, b-small, b-pos}
+use Rattle.walk.proofs.StepLaws.{field-there, kept-in, b-small, b-pos}
 use Rattle.rank.proofs.LandLaws as laws
 use Rattle.rank.proofs.seek.child_with.Statement.{statement}
 use Rattle.rank.proofs.seek.child_with.Tie as tie

@@ -1,5 +1,5 @@
 use native.Mathlib.Omega.{arith}
-use Rattle.access.proofs.StepLaws.{field-there}
+use Rattle.walk.proofs.StepLaws.{field-there}
 use Rattle.rank.proofs.LandLaws as laws
 use Rattle.rank.proofs.seek.kept_target.Statement.{statement}
 use Rattle.rank.proofs.seek.kept_target.Tie as tie

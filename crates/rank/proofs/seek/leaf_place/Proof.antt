@@ -1,6 +1,6 @@
 use borrow.Author.Needs.{needs}
 use native.Mathlib.Omega.{arith}
-use Rattle.access.proofs.StepLaws.{field-there, kept-in, b-small}
+use Rattle.walk.proofs.StepLaws.{field-there, kept-in, b-small}
 use Rattle.rank.proofs.LandLaws as laws
 use Rattle.rank.proofs.seek.leaf_place.Statement.{statement}
 use Rattle.rank.proofs.seek.leaf_place.Tie as tie

@@ -1,6 +1,6 @@
 use borrow.Author.Needs.{needs}
 use native.Mathlib.Omega.{arith}
-use Rattle.access.proofs.StepLaws.{field-there}
+use Rattle.walk.proofs.StepLaws.{field-there}
 use Rattle.rank.proofs.SeekLaws as laws
 use Rattle.rank.proofs.seek.length.Statement.{statement}
 use Rattle.rank.proofs.seek.length.Tie as tie

@@ -1,7 +1,7 @@
 use borrow.Author.Needs.{needs}
 use native.Mathlib.Omega.{arith}
-use Rattle.access.proofs.StepLaws.{b-small}
-use Rattle.access.proofs.WalkLaws as query
+use Rattle.walk.proofs.StepLaws.{b-small}
+use Rattle.walk.proofs.WalkLaws as query
 use Rattle.rank.proofs.FindingLaws as laws
 use Rattle.rank.proofs.seek.seek.Statement.{statement}
 use Rattle.rank.proofs.seek.seek.Tie as tie

@@ -1,7 +1,7 @@
 use borrow.Author.Needs.{needs}
 use mathlib.Core.Path.{_∙_, ap, refl}
 use native.Mathlib.Omega.{arith}
-use Rattle.access.proofs.StepLaws.{pointing-in}
+use Rattle.walk.proofs.StepLaws.{pointing-in}
 use Rattle.rank.proofs.LandLaws as laws
 use Rattle.rank.proofs.SumLaws as sums
 use Rattle.rank.proofs.seek.target_with.Statement.{statement}
