@@ -2,6 +2,7 @@
 // references, 0 on a refusal. Any bytes may be lent as a tree.
 use access::Answer;
 use access::Copied;
+use access::reading::Ran;
 use builder::Built;
 use enough::Room;
 use layout::header;
@@ -11,7 +12,7 @@ use rank::Counted;
 use rank::Found;
 use rank::RowCopied;
 ghost use mathlib.Core.Path.{_≡_};
-ghost use Prim.Native.Nat.{_≤_, _%_};
+ghost use Prim.Native.Nat.{_≤_};
 ghost use lib.ListN.{length};
 ghost use lib.Dec.{leb};
 ghost use Rattle.format.specs.Building.{buildNumber, buildSize, buildLeaves};
@@ -113,18 +114,26 @@ pub extern "C" fn bt_byte(tree: &[u8], place: u32, value: &mut u32, entered: &mu
     }
 }
 
-// Where the run of a place starts in the tree's bytes, and its length. The start is counted modulo 2^32, which changes nothing in
-// a tree of less than 4 GiB.
+// Where the run of a place starts in the tree's bytes, and its length.
 #[no_mangle]
-pub extern "C" fn bt_run(tree: &[u8], place: u32, offset: &mut u32, len: &mut u32) -> u32
+pub extern "C" fn bt_run(tree: &[u8], place: u32, offset: &mut u64, len: &mut u32) -> u32
     ensures { λ r. ⌜ r ≡ byteSays (now (tree .entry)) place .number ⌝ }
-    ensures { λ _. ⌜ now (offset .exit) ≡ runSays (now (tree .entry)) place .0 % 4294967296 ⌝ }
+    ensures { λ _. ⌜ now (offset .exit) ≡ runSays (now (tree .entry)) place .0 ⌝ }
     ensures { λ _. ⌜ now (len .exit) ≡ runSays (now (tree .entry)) place .1 ⌝ }
 {
-    let part = access::run_part(tree, TextPlace(place));
-    *offset = (part.from % 4294967296) as u32;
-    *len = part.length as u32;
-    access::reading::number(access::byte(tree, TextPlace(place)))
+    let ran = access::run_part(tree, TextPlace(place));
+    match ran {
+        Ran::At(part) => {
+            *offset = part.from as u64;
+            *len = part.length as u32;
+            0
+        }
+        Ran::Refused(number) => {
+            *offset = 0;
+            *len = 0;
+            number
+        }
+    }
 }
 
 // Copies the bytes from a place on.
