@@ -9,8 +9,8 @@ use layout::header;
 use layout::header::HeaderRead;
 use layout::place::TextPlace;
 use rank::Counted;
-use rank::Found;
-use rank::RowCopied;
+use rows::RowCopied;
+use select::Found;
 ghost use mathlib.Core.Path.{_≡_};
 ghost use Prim.Native.Nat.{_≤_};
 ghost use lib.ListN.{length};
@@ -190,7 +190,7 @@ pub extern "C" fn bt_find(tree: &[u8], byte: u32, j: u32, place: &mut u32, enter
         *entered = 0;
         return uncounted(tree, 0);
     }
-    let found = rank::find(tree, byte as u8, j);
+    let found = select::find(tree, byte as u8, j);
     match found {
         Found::At(at, path) => {
             *place = at.0;
@@ -210,7 +210,7 @@ pub extern "C" fn bt_find(tree: &[u8], byte: u32, j: u32, place: &mut u32, enter
 pub extern "C" fn bt_row(tree: &[u8], q: u32, buffer: &mut [u8], len: &mut u32) -> u32
     ensures { λ r. ⌜ RowSays (now (tree .entry)) q (now (buffer .entry)) r (now (len .exit)) (now (buffer .exit)) ⌝ }
 {
-    let copied = rank::row(tree, q, buffer);
+    let copied = rows::row(tree, q, buffer);
     match copied {
         RowCopied::Bytes(size) => {
             *len = size;

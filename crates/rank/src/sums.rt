@@ -1,6 +1,7 @@
 // The sums down the path of a place: what is added and what is taken off, apart. The step for a kept block and the step for a
 // pointing block call each other: twice the levels left, plus one if a pointer may still be followed, falls.
 use crate::scan;
+use crate::scan::Wanted;
 use layout::header::Header;
 use layout::place::BlockNumber;
 use layout::place::BlockPlace;
@@ -18,12 +19,6 @@ ghost use Rattle.layout.specs.HeaderSays.{HeaderOf};
 ghost use Rattle.walk.specs.Steps.{Pointing};
 ghost use Rattle.walk.specs.Walk.{KeptAt};
 ghost use Rattle.rank.specs.Sums.{Carried, Across, onward, summed, startSum, wholeSum};
-
-// A counted byte and its number.
-pub struct Wanted {
-    pub byte: u8,
-    pub number: u32,
-}
 
 // What is carried down a path: how many blocks were entered, what is added, and what is taken off.
 pub struct Sum {

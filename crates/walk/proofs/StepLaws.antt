@@ -2,7 +2,7 @@
 use mathlib.Core.List.{List}
 use mathlib.Core.Bool.{true, _&&_}
 use mathlib.Core.Path.{_≡_, _∙_}
-use Prim.Native.Nat.{ℕ, _+_, _-_, _/_, _≤_, _<_}
+use Prim.Native.Nat.{ℕ, _+_, _-_, _/_, _≤_, _<_, min}
 use native.Mathlib.Omega.{arith}
 use native.Mathlib.Nat.{add-zero}
 use lib.Dec.{ltb}
@@ -103,3 +103,14 @@ module _ (t : List ℕ) (h : Header) (level b i o : ℕ) (s : Pointing t h level
     target-next large e =
         let z = target-second t level i o (omega (arith, s .on .b-is)) in
         e ∙ rw (z .0, z .1, k-is, g-is, s .on .b-is)
+
+-- a block's length
+
+module _ (t : List ℕ) (h : Header) (level b i start : ℕ) (k : InTable t h level b i) (start-is : start ≡ at.start t level i) where
+  pub length-none : h .length ≤ start → (0 ≡ at.blockLengthAt t level i) × (0 ≤ b)
+  unfolding at.blockLengthAt
+  length-none past = (omega (arith, k .on .header .length-is), omega arith)
+
+  pub length-some : (r : ℕ) → start < h .length → r ≡ min b (h .length - start) → (r ≡ at.blockLengthAt t level i) × (r ≤ b)
+  unfolding at.blockLengthAt
+  length-some r low e = (e ∙ rw (k .on .b-is, start-is, k .on .header .length-is), omega arith)

@@ -13,7 +13,7 @@ ghost use Prim.Native.Nat.{_+_, _-_, _*_, _≤_, _<_, min};
 ghost use Rattle.format.specs.Layout as at;
 ghost use Rattle.format.specs.Path.{pathFrom, pathOf};
 ghost use Rattle.layout.specs.HeaderSays.{HeaderOf};
-ghost use Rattle.walk.specs.Steps.{InTable, Pointing};
+ghost use Rattle.walk.specs.Steps.{Pointing};
 ghost use Rattle.walk.specs.Walk.{KeptAt, walked, onward};
 
 // What is carried down a path: how many blocks were entered, and the bytes left from the place on in every one of them.

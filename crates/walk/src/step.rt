@@ -1,15 +1,14 @@
 // The steps of a path: what the block arrived at is, and the block that it hands a place to. A number past the
-// table, also one past 32 bits, is no block; starts are not read.
+// table, also one past 32 bits, is no block; the path itself reads no starts.
 use layout::header::Header;
 use layout::place::BlockNumber;
 use layout::place::BlockPlace;
 use layout::place::TextPlace;
 use layout::record;
 ghost use mathlib.Core.Path.{_≡_};
-ghost use Prim.Native.Nat.{_+_, _/_, _%_, _<_};
+ghost use Prim.Native.Nat.{_+_, _/_, _%_, _≤_, _<_};
 ghost use Rattle.format.specs.Layout as at;
 ghost use Rattle.format.specs.Path.{targetBlock, targetPlace};
-ghost use Rattle.layout.specs.HeaderSays.{HeaderOf};
 ghost use Rattle.walk.specs.Steps.{OnLevel, InTable, Pointing, nextAt};
 
 // The block that a path arrives at, and the place in it.
@@ -104,4 +103,16 @@ pub fn target(
         return look_after(t, h, level, b, BlockNumber(link), 0, BlockPlace(sum));
     }
     look_after(t, h, level, b, BlockNumber(link), 1, BlockPlace(sum - b))
+}
+
+// The bytes of a block: b, or n less its start where that is shorter.
+pub fn block_length(t: &[u8], h: Header, level: u32, b: u32, block: BlockNumber) -> u32
+    requires { ⌜ InTable (now t) h level b (block .0) ⌝ }
+    ensures { λ r. ⌜ (r ≡ at.blockLengthAt (now (t .entry)) level (block .0)) × (r ≤ b) ⌝ }
+{
+    let start = record::start(t, h.settings.counted, level, block);
+    if h.length <= start.0 {
+        return 0;
+    }
+    crate::shorter(b, h.length - start.0)
 }

@@ -1,5 +1,4 @@
 use borrow.Author.Needs.{needs}
-use mathlib.Core.Path.{_∙_, ap}
 use native.Mathlib.Omega.{arith}
 use Rattle.walk.proofs.StepLaws.{kept-in, b-small}
 use Rattle.rank.proofs.SumLaws as laws

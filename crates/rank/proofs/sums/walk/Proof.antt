@@ -1,5 +1,4 @@
 use borrow.Author.Needs.{needs}
-use mathlib.Core.Path.{refl}
 use native.Mathlib.Omega.{arith}
 use Rattle.walk.proofs.StepLaws.{kept-in, pointing-in}
 use Rattle.walk.proofs.WalkLaws as query
