@@ -80,10 +80,9 @@ uint32_t bt_byte(const uint8_t *tree, size_t tree_len, uint32_t place, uint32_t 
 
 /* The bytes of the text from a place on that lie side by side in the tree: a part of the tree's own bytes, to be read without a copy.
  *   lent      tree
- *   written   *offset: where in the tree's bytes the part starts (of a tree of 4 GiB or more, which the check refuses, the lowest 32 bits of
- *             it); *length: its length, at least 1
+ *   written   *offset: where in the tree's bytes the part starts; *length: its length, at least 1
  *   answers   0, 5, 6, 7, 10, 14 */
-uint32_t bt_run(const uint8_t *tree, size_t tree_len, uint32_t place, uint32_t *offset, uint32_t *length);
+uint32_t bt_run(const uint8_t *tree, size_t tree_len, uint32_t place, uint64_t *offset, uint32_t *length);
 
 /* Copy `length` bytes of the text from a place on.
  *   lent      tree

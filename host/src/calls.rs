@@ -17,7 +17,7 @@ mod declared {
         pub fn bt_enough(n: u32, leaf: u32, arity: u32, levels: u32, counted: u32, size: *mut u64) -> u32;
         pub fn bt_check(tree: *const u8, tree_len: usize) -> u32;
         pub fn bt_byte(tree: *const u8, tree_len: usize, place: u32, value: *mut u32, entered: *mut u32) -> u32;
-        pub fn bt_run(tree: *const u8, tree_len: usize, place: u32, offset: *mut u32, length: *mut u32) -> u32;
+        pub fn bt_run(tree: *const u8, tree_len: usize, place: u32, offset: *mut u64, length: *mut u32) -> u32;
         pub fn bt_span(tree: *const u8, tree_len: usize, place: u32, length: u32, buffer: *mut u8, buffer_len: usize) -> u32;
         pub fn bt_count(tree: *const u8, tree_len: usize, byte: u32, i: u32, count: *mut u64, entered: *mut u32) -> u32;
         pub fn bt_find(tree: *const u8, tree_len: usize, byte: u32, j: u32, place: *mut u32, entered: *mut u32) -> u32;
@@ -58,7 +58,7 @@ pub fn byte(tree: &[u8], place: u32) -> (u32, u32, u32) {
 }
 
 /// The number, where the part starts in the tree's bytes, and its length.
-pub fn run(tree: &[u8], place: u32) -> (u32, u32, u32) {
+pub fn run(tree: &[u8], place: u32) -> (u32, u64, u32) {
     let (mut offset, mut length) = (0, 0);
     let number = unsafe { declared::bt_run(tree.as_ptr(), tree.len(), place, &mut offset, &mut length) };
     (number, offset, length)

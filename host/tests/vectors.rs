@@ -10,6 +10,7 @@ use judge::{find_agrees, row_agrees, FILL};
 use model::read::Answer;
 use model::{build, check, read, Shape};
 use std::collections::HashMap;
+use std::fmt::Display;
 use support::{from_hex, to_hex};
 
 const VECTORS: &str = include_str!("vectors.txt");
@@ -21,7 +22,7 @@ struct Calls {
     check: fn(&[u8]) -> u32,
     list: fn(&[u8]) -> String,
     byte: fn(&[u8], u32) -> (u32, u32, u32),
-    run: fn(&[u8], u32) -> (u32, u32, u32),
+    run: fn(&[u8], u32) -> (u32, u64, u32),
     span: fn(&[u8], u32, u32, &mut [u8]) -> u32,
     count: fn(&[u8], u32, u32) -> (u32, u64, u32),
     find: fn(&[u8], u32, u32) -> Answer<(u32, u32, u32)>,
@@ -110,10 +111,7 @@ fn item(calls: &Calls, bytes: &HashMap<&str, Vec<u8>>, item: &[&str], expected: 
         "list" => (calls.list)(subject).replace('\n', "/"),
         "byte" => figures((calls.byte)(subject, number(2))),
         "run" => figures((calls.run)(subject, number(2))),
-        "count" => {
-            let (refusal, count, entered) = (calls.count)(subject, number(2), number(3));
-            format!("{refusal} {count} {entered}")
-        }
+        "count" => figures((calls.count)(subject, number(2), number(3))),
         "span" => {
             let mut buffer = lent(4);
             format!("{} 0 {}", (calls.span)(subject, number(2), number(3), &mut buffer), to_hex(&buffer))
@@ -129,7 +127,7 @@ fn item(calls: &Calls, bytes: &HashMap<&str, Vec<u8>>, item: &[&str], expected: 
     }
 }
 
-fn figures((number, first, second): (u32, u32, u32)) -> String {
+fn figures((number, first, second): (u32, impl Display, u32)) -> String {
     format!("{number} {first} {second}")
 }
 

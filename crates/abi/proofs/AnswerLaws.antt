@@ -7,11 +7,11 @@ use Prim.Native.Nat.{ℕ, zero, suc, _-_, _≤_, min}
 use native.Mathlib.Omega.{arith}
 use borrow.Author.Tests.{eqb-true}
 use lib.Dec.{eqb}
-use Rattle.format.specs.Said.{Said, refused, unless}
+use Rattle.format.specs.Said.{Said, unless}
 use Rattle.format.specs.Layout as at
 use Rattle.format.specs.Path.{Path, pathOf}
 use Rattle.format.specs.Verdict.{readable}
-use Rattle.format.specs.HeaderLaws.{Readable, readable-facts}
+use Rattle.format.specs.HeaderLaws.{readable-facts}
 use Rattle.format.specs.Reading.{byteSays, runOf, runSays, spanNumber}
 use Rattle.paths.specs.Shift.{left-most}
 use Rattle.access.specs.declared.Answer.{Answer}

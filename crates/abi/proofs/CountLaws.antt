@@ -11,7 +11,7 @@ use lib.Dec.{leb, eqb}
 use Rattle.format.specs.Said.{Said, refused, unless}
 use Rattle.format.specs.Layout as at
 use Rattle.format.specs.Verdict.{ask, readable}
-use Rattle.format.specs.HeaderLaws.{Readable, readable-facts}
+use Rattle.format.specs.HeaderLaws.{readable-facts}
 use Rattle.format.specs.Counting.{isCounted, numberOfByte, countSays}
 use Rattle.format.specs.Finding.{selectNumber, FindSays, RowSays}
 use Rattle.tallies.specs.Local.{byteOf}
@@ -20,16 +20,16 @@ use Rattle.layout.specs.declared.header.Header.{Header}
 use Rattle.layout.specs.declared.header.HeaderRead.{HeaderRead}
 use Rattle.layout.specs.declared.header.HeaderRead.the-variants as read
 use Rattle.layout.specs.Header.{headerSays}
-use Rattle.layout.specs.HeaderSays.{HeaderOf, header-good, header-refused}
+use Rattle.layout.specs.HeaderSays.{header-good, header-refused}
 use Rattle.rank.specs.declared.Counted.{Counted}
 use Rattle.rank.specs.declared.Counted.the-variants as count
-use Rattle.rank.specs.declared.Found.{Found}
-use Rattle.rank.specs.declared.Found.the-variants as found
-use Rattle.rank.specs.declared.RowCopied.{RowCopied}
-use Rattle.rank.specs.declared.RowCopied.the-variants as row
+use Rattle.select.specs.declared.Found.{Found}
+use Rattle.select.specs.declared.Found.the-variants as found
+use Rattle.rows.specs.declared.RowCopied.{RowCopied}
+use Rattle.rows.specs.declared.RowCopied.the-variants as row
 use Rattle.rank.specs.Counts.{saidCount}
-use Rattle.rank.specs.Found.{saidFind}
-use Rattle.rank.specs.Rows.{saidRow}
+use Rattle.select.specs.Found.{saidFind}
+use Rattle.rows.specs.Rows.{saidRow}
 use Rattle.text.specs.declared.TextPlace.{TextPlace}
 use Rattle.abi.specs.Answers.{saying, uncountedNumber}
 

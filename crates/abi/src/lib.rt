@@ -2,16 +2,17 @@
 // references, 0 on a refusal. Any bytes may be lent as a tree.
 use access::Answer;
 use access::Copied;
+use access::reading::Ran;
 use builder::Built;
 use enough::Room;
 use layout::header;
 use layout::header::HeaderRead;
 use layout::place::TextPlace;
 use rank::Counted;
-use rank::Found;
-use rank::RowCopied;
+use rows::RowCopied;
+use select::Found;
 ghost use mathlib.Core.Path.{_≡_};
-ghost use Prim.Native.Nat.{_≤_, _%_};
+ghost use Prim.Native.Nat.{_≤_};
 ghost use lib.ListN.{length};
 ghost use lib.Dec.{leb};
 ghost use Rattle.format.specs.Building.{buildNumber, buildSize, buildLeaves};
@@ -113,18 +114,26 @@ pub extern "C" fn bt_byte(tree: &[u8], place: u32, value: &mut u32, entered: &mu
     }
 }
 
-// Where the run of a place starts in the tree's bytes, and its length. The start is counted modulo 2^32, which changes nothing in
-// a tree of less than 4 GiB.
+// Where the run of a place starts in the tree's bytes, and its length.
 #[no_mangle]
-pub extern "C" fn bt_run(tree: &[u8], place: u32, offset: &mut u32, len: &mut u32) -> u32
+pub extern "C" fn bt_run(tree: &[u8], place: u32, offset: &mut u64, len: &mut u32) -> u32
     ensures { λ r. ⌜ r ≡ byteSays (now (tree .entry)) place .number ⌝ }
-    ensures { λ _. ⌜ now (offset .exit) ≡ runSays (now (tree .entry)) place .0 % 4294967296 ⌝ }
+    ensures { λ _. ⌜ now (offset .exit) ≡ runSays (now (tree .entry)) place .0 ⌝ }
     ensures { λ _. ⌜ now (len .exit) ≡ runSays (now (tree .entry)) place .1 ⌝ }
 {
-    let part = access::run_part(tree, TextPlace(place));
-    *offset = (part.from % 4294967296) as u32;
-    *len = part.length as u32;
-    access::reading::number(access::byte(tree, TextPlace(place)))
+    let ran = access::run_part(tree, TextPlace(place));
+    match ran {
+        Ran::At(part) => {
+            *offset = part.from as u64;
+            *len = part.length as u32;
+            0
+        }
+        Ran::Refused(number) => {
+            *offset = 0;
+            *len = 0;
+            number
+        }
+    }
 }
 
 // Copies the bytes from a place on.
@@ -181,7 +190,7 @@ pub extern "C" fn bt_find(tree: &[u8], byte: u32, j: u32, place: &mut u32, enter
         *entered = 0;
         return uncounted(tree, 0);
     }
-    let found = rank::find(tree, byte as u8, j);
+    let found = select::find(tree, byte as u8, j);
     match found {
         Found::At(at, path) => {
             *place = at.0;
@@ -201,7 +210,7 @@ pub extern "C" fn bt_find(tree: &[u8], byte: u32, j: u32, place: &mut u32, enter
 pub extern "C" fn bt_row(tree: &[u8], q: u32, buffer: &mut [u8], len: &mut u32) -> u32
     ensures { λ r. ⌜ RowSays (now (tree .entry)) q (now (buffer .entry)) r (now (len .exit)) (now (buffer .exit)) ⌝ }
 {
-    let copied = rank::row(tree, q, buffer);
+    let copied = rows::row(tree, q, buffer);
     match copied {
         RowCopied::Bytes(size) => {
             *len = size;

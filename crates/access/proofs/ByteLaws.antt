@@ -18,14 +18,16 @@ use Rattle.layout.specs.declared.header.Header.{Header}
 use Rattle.layout.specs.declared.header.HeaderRead.{HeaderRead}
 use Rattle.layout.specs.declared.header.HeaderRead.the-variants.{Refused}
 use Rattle.layout.specs.Header.{headerSays}
-use Rattle.access.specs.declared.walk.Trail.{Trail}
-use Rattle.access.specs.declared.walk.Reached.{Reached}
-use Rattle.access.specs.declared.walk.Walked.{Walked}
-use Rattle.access.specs.declared.walk.Walked.the-variants.{At, Broken}
+use Rattle.walk.specs.declared.Trail.{Trail}
+use Rattle.walk.specs.declared.Reached.{Reached}
+use Rattle.walk.specs.declared.Walked.{Walked}
+use Rattle.walk.specs.declared.Walked.the-variants.{At, Broken}
 use Rattle.access.specs.declared.reading.Part.{Part}
+use Rattle.access.specs.declared.reading.Ran.{Ran}
+use Rattle.access.specs.declared.reading.Ran.the-variants as ran
 use Rattle.layout.specs.HeaderSays.{HeaderOf}
-use Rattle.access.specs.Walk.{walked}
-use Rattle.access.specs.Answers.{RunPart}
+use Rattle.walk.specs.Walk.{walked}
+use Rattle.access.specs.Answers.{RunAnswer}
 use Rattle.layout.specs.HeaderSays.{header-refused}
 
 -- the path that was walked, and what was carried down it
@@ -81,11 +83,17 @@ module _ (t : List ℕ) (q : Path) where
 unless-refused : (n k q : ℕ) (a : Said) → n ≡ suc k → q ≡ suc k → refused q ≡ unless n a
 unless-refused n k q a e f = rw (e, f)
 
-run-none : (t : List ℕ) (p k : ℕ) → byteSays t p .number ≡ suc k → RunPart t p (record { from = 0; length = 0 })
+run-none : (t : List ℕ) (p k q : ℕ) → q ≡ suc k → refused q ≡ byteSays t p → RunAnswer t p (ran.Refused q)
 unfolding runSays
-run-none t p k e =
-    let z : runSays t p ≡ (0, 0) = rw (ne-eqb (byteSays t p .number) 0 (λ n. omega arith)) in
-    record { from-is = sym (ap (λ (y : ℕ × ℕ). y .0) z); length-is = sym (ap (λ (y : ℕ × ℕ). y .1) z); inside = omega arith }
+run-none t p k q q-is e =
+    let n = ap (λ (y : Said). y .number) e in
+    let z : runSays t p ≡ (0, 0) = rw (ne-eqb (byteSays t p .number) 0 (λ y. omega arith)) in record {
+      number-is = n;
+      numbered = omega arith;
+      from-is = sym (ap (λ (y : ℕ × ℕ). y .0) z);
+      length-is = sym (ap (λ (y : ℕ × ℕ). y .1) z);
+      inside = omega arith;
+    }
 
 module _ (t : List ℕ) (p : ℕ) where
   -- any path's leaf byte is in the tree, and it has entered a block
@@ -102,8 +110,8 @@ module _ (t : List ℕ) (p : ℕ) where
     unfolding byteSays
     byte-past past = rw (k .passes, le-ltb p (at.textLength t) (omega (arith, k .length-is)))
 
-    pub run-past : h .length ≤ p → RunPart t p (record { from = 0; length = 0 })
-    run-past past = run-none t p 9 (sym (ap (λ (y : Said). y .number) (byte-past past)))
+    pub run-past : h .length ≤ p → RunAnswer t p (ran.Refused 10)
+    run-past past = run-none t p 9 10 refl (byte-past past)
 
     module _ (low : p < h .length) (trail : Trail) (w : Walked) (w-is : w ≡ walked t trail (pathOf t p)) where
       pub byte-broken : w ≡ Broken → refused 14 ≡ byteSays t p
@@ -112,8 +120,8 @@ module _ (t : List ℕ) (p : ℕ) where
           let z = broken t trail (pathOf t p) (sym b ∙ w-is) in
           rw (k .passes, lt-ltb p (at.textLength t) (omega (arith, k .length-is)), z)
 
-      pub run-broken : w ≡ Broken → RunPart t p (record { from = 0; length = 0 })
-      run-broken b = run-none t p 13 (sym (ap (λ (y : Said). y .number) (byte-broken b)))
+      pub run-broken : w ≡ Broken → RunAnswer t p (ran.Refused 14)
+      run-broken b = run-none t p 13 14 refl (byte-broken b)
 
       module _ (r : Reached) (e : w ≡ At r) where
         end : Ends t trail (pathOf t p) r
@@ -135,12 +143,14 @@ module _ (t : List ℕ) (p : ℕ) where
             same-byte t (end .path) _ _ _ v (k .offset-is) (end .leaf-is) n v-is ∙ sym byte-end
 
         pub run-reached : trail .left ≡ h .length - p → (from left : ℕ) → from ≡ h .«leaf_offset» + r .leaf → left ≡ min (r .trail .left) (h .«leaf_count» - r .leaf)
-            → RunPart t p (record { from = from; length = left })
+            → RunAnswer t p (ran.At (record { from = from; length = left }))
         unfolding runSays
         run-reached all from left from-is left-is =
             let q = end .path in
             let z : runSays t p ≡ (at.leafOffset t + q .leaf, leftOver t (q .visits) (min (at.textLength t - p) (at.leafCount t - q .leaf))) = rw (byte-end, end .is) in
             let m = same-left t q (trail .left) (at.textLength t - p) _ _ (r .trail .left) left (all ∙ rw (k .length-is)) (end .leaf-is) (k .count-is) (end .left-is) left-is in record {
+              number-is = sym (ap (λ (y : Said). y .number) byte-end);
+              numbered = tt;
               from-is = rw z (same-from t q _ _ from (k .offset-is) (end .leaf-is) from-is);
               length-is = rw z m;
               inside = omega (arith, leaf-low, k .facts .size, k .offset-is, k .count-is);
@@ -154,11 +164,21 @@ module _ (t : List ℕ) (p : ℕ) (x : HeaderRead) (x-is : x ≡ headerSays t) (
       let z = header-refused t x x-is q e in
       unless-refused (readable t) (z .0) q _ (z .1) (z .2)
 
-  pub run-unread : RunPart t p (record { from = 0; length = 0 })
+  pub run-unread : RunAnswer t p (ran.Refused q)
   run-unread =
       let z = header-refused t x x-is q e in
-      run-none t p (z .0) (sym (ap (λ (y : Said). y .number) byte-unread) ∙ z .2)
+      run-none t p (z .0) q (z .2) byte-unread
 
 -- the part handed back
-pub part-list : (t : List ℕ) (p : ℕ) (r : Part) → RunPart t p r → take (r .from + r .length - r .from) (drop (r .from) t) ≡ take (runSays t p .1) (drop (runSays t p .0) t)
+module _ (t : List ℕ) (p : ℕ) (r : Ran) (k : RunAnswer t p r) where
+  pub part-told : (part : Part) → r ≡ ran.At part → RunAnswer t p (ran.At part)
+  part-told part e = rw e at k
+
+  pub part-refused : (q : ℕ) → r ≡ ran.Refused q → RunAnswer t p (ran.Refused q)
+  part-refused q e = rw e at k
+
+pub part-list : (t : List ℕ) (p : ℕ) (r : Part) → RunAnswer t p (ran.At r) → take (r .from + r .length - r .from) (drop (r .from) t) ≡ take (runSays t p .1) (drop (runSays t p .0) t)
 part-list t p r k = rw (add-sub-cancel-left, k .from-is, k .length-is)
+
+pub part-empty : (t : List ℕ) (p q : ℕ) → RunAnswer t p (ran.Refused q) → [] ≡ take (runSays t p .1) (drop (runSays t p .0) t)
+part-empty t p q k = rw (← k .length-is)

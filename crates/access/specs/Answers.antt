@@ -4,12 +4,14 @@ use mathlib.Core.Path.{_≡_}
 use Prim.Native.Nat.{ℕ, _+_, _≤_}
 use lib.ListN.{length}
 use Rattle.format.specs.Said.{Said, refused, unless}
-use Rattle.format.specs.Reading.{runSays, spanNumber}
+use Rattle.format.specs.Reading.{byteSays, runSays, spanNumber}
 use Rattle.access.specs.declared.Answer.{Answer}
 use Rattle.access.specs.declared.Answer.the-variants as answer
 use Rattle.access.specs.declared.Copied.{Copied}
 use Rattle.access.specs.declared.Copied.the-variants as copied
 use Rattle.access.specs.declared.reading.Part.{Part}
+use Rattle.access.specs.declared.reading.Ran.{Ran}
+use Rattle.access.specs.declared.reading.Ran.the-variants as ran
 
 -- a byte with the blocks entered
 abbrev pub said : Answer → Said
@@ -34,8 +36,23 @@ pub record SpanAnswer (t : List ℕ) (p len room : ℕ) (r : Copied) : Type 0 wh
   pub says : copiedSaid r ≡ spanSays t p len room
   pub numbered : Numbered r
 
--- where the run of place p is, in the tree
-pub record RunPart (t : List ℕ) (p : ℕ) (r : Part) : Type 0 where
-  pub from-is : r .from ≡ runSays t p .0
-  pub length-is : r .length ≡ runSays t p .1
-  pub inside : r .from + r .length ≤ length t
+-- a run's number, and the part that it is, which is empty where it is refused
+abbrev pub ranNumber : Ran → ℕ
+ranNumber (ran.At part) = 0
+ranNumber (ran.Refused number) = number
+
+abbrev pub ranPart : Ran → Part
+ranPart (ran.At part) = part
+ranPart (ran.Refused number) = record { from = 0; length = 0 }
+
+abbrev pub RunNumbered : Ran → Type 0
+RunNumbered (ran.At part) = Unit {0}
+RunNumbered (ran.Refused number) = 1 ≤ number
+
+-- where the run of place p is, in the tree, or byte's number for p
+pub record RunAnswer (t : List ℕ) (p : ℕ) (r : Ran) : Type 0 where
+  pub number-is : ranNumber r ≡ byteSays t p .number
+  pub numbered : RunNumbered r
+  pub from-is : ranPart r .from ≡ runSays t p .0
+  pub length-is : ranPart r .length ≡ runSays t p .1
+  pub inside : ranPart r .from + ranPart r .length ≤ length t

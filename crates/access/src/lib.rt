@@ -1,8 +1,7 @@
 // The questions put to a tree. Each asks 5 to 7 first, of any bytes lent as a tree.
 pub mod reading;
-pub mod step;
-pub mod walk;
 
+use crate::reading::Ran;
 use layout::header;
 use layout::header::HeaderRead;
 use layout::place::TextPlace;
@@ -10,7 +9,7 @@ ghost use mathlib.Core.Path.{_≡_};
 ghost use Prim.Native.Nat.{_+_};
 ghost use lib.ListN.{length, take, drop};
 ghost use Rattle.format.specs.Reading.{byteSays, runSays, spanLeaves};
-ghost use Rattle.access.specs.Answers.{said, RunPart, SpanAnswer};
+ghost use Rattle.access.specs.Answers.{said, RunAnswer, SpanAnswer};
 
 // A byte of the text with the number of blocks entered, or the number of the question that refuses.
 pub enum Answer {
@@ -41,20 +40,23 @@ pub fn run(t: &[u8], at: TextPlace) -> &[u8]
     ensures { λ r. ⌜ now r ≡ take (runSays (now (t .entry)) (at .0) .1) (drop (runSays (now (t .entry)) (at .0) .0) (now (t .entry))) ⌝ }
     ensures { λ r. ⌜ r .ptr ≡ (t .entry .ptr .0, t .entry .ptr .1 + runSays (now (t .entry)) (at .0) .0) ⌝ }
 {
-    let part = run_part(t, at);
+    let ran = run_part(t, at);
+    let Ran::At(part) = ran else {
+        return &t[0..0];
+    };
     let from = part.from;
     let end = from + part.length;
     &t[from..end]
 }
 
-// Where the run of a place is, in the tree's bytes.
-pub fn run_part(t: &[u8], at: TextPlace) -> reading::Part
-    ensures { λ r. ⌜ RunPart (now (t .entry)) (at .0) r ⌝ }
+// Where the run of a place is in the tree's bytes, or byte's number for that place.
+pub fn run_part(t: &[u8], at: TextPlace) -> Ran
+    ensures { λ r. ⌜ RunAnswer (now (t .entry)) (at .0) r ⌝ }
 {
     let read = header::read_header(t);
     match read {
         HeaderRead::Good(h) => reading::part_at(t, h, at),
-        HeaderRead::Refused(_) => reading::Part { from: 0, length: 0 },
+        HeaderRead::Refused(number) => Ran::Refused(number),
     }
 }
 

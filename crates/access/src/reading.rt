@@ -1,22 +1,27 @@
 // Byte, run and span of a tree that passes questions 5 to 7, by its header.
 use crate::Answer;
 use crate::Copied;
-use crate::walk;
-use crate::walk::Walked;
 use layout::header::Header;
 use layout::place::TextPlace;
+use walk::Walked;
 ghost use mathlib.Core.Path.{_≡_};
 ghost use Prim.Native.Nat.{_+_, _≤_};
 ghost use mathlib.Core.List.{_++_};
 ghost use lib.ListN.{length, drop, replicate};
 ghost use Rattle.format.specs.Reading.{byteSays, spanLeaves};
 ghost use Rattle.layout.specs.HeaderSays.{HeaderOf};
-ghost use Rattle.access.specs.Answers.{said, RunPart, SpanAnswer};
+ghost use Rattle.access.specs.Answers.{said, RunAnswer, SpanAnswer};
 
 // A part of the tree's bytes.
 pub struct Part {
     pub from: usize,
     pub length: usize,
+}
+
+// The part that a run is, or the number of the question that refuses.
+pub enum Ran {
+    At(Part),
+    Refused(u32),
 }
 
 // Byte: questions 10 and 14.
@@ -35,23 +40,23 @@ pub fn byte_at(t: &[u8], h: Header, at: TextPlace) -> Answer
     Answer::Byte(t[leaf], reached.trail.entered)
 }
 
-// Run: no further than the leaf bytes go.
-pub fn part_at(t: &[u8], h: Header, at: TextPlace) -> Part
+// Run: questions 10 and 14; no further than the leaf bytes go.
+pub fn part_at(t: &[u8], h: Header, at: TextPlace) -> Ran
     requires { ⌜ HeaderOf (now t) h ⌝ }
-    ensures { λ r. ⌜ RunPart (now (t .entry)) (at .0) r ⌝ }
+    ensures { λ r. ⌜ RunAnswer (now (t .entry)) (at .0) r ⌝ }
 {
     if h.length <= at.0 {
-        return Part { from: 0, length: 0 };
+        return Ran::Refused(10);
     }
     let walked = walk::walk(t, h, at);
     let Walked::At(reached) = walked else {
-        return Part { from: 0, length: 0 };
+        return Ran::Refused(14);
     };
     let left = walk::shorter(reached.trail.left, h.leaf_count - reached.leaf);
-    Part {
+    Ran::At(Part {
         from: h.leaf_offset as usize + reached.leaf as usize,
         length: left as usize,
-    }
+    })
 }
 
 // Span: questions 10 and 13.

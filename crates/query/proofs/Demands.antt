@@ -29,14 +29,14 @@ use Rattle.access.specs.declared.Copied.{Copied}
 use Rattle.access.specs.declared.Copied.the-variants as copied
 use Rattle.access.proofs.Demands as access
 use Rattle.rank.specs.declared.Counted.{Counted}
-use Rattle.rank.specs.declared.Found.{Found}
-use Rattle.rank.specs.declared.RowCopied.{RowCopied}
+use Rattle.select.specs.declared.Found.{Found}
+use Rattle.rows.specs.declared.RowCopied.{RowCopied}
 use Rattle.rank.specs.Counts.{saidCount}
-use Rattle.rank.specs.Found.{saidFind}
-use Rattle.rank.specs.Rows.{saidRow}
+use Rattle.select.specs.Found.{saidFind}
+use Rattle.rows.specs.Rows.{saidRow}
 use Rattle.rank.proofs.count.Reads as count-reads
-use Rattle.rank.proofs.find.Reads as find-reads
-use Rattle.rank.proofs.row.Reads as row-reads
+use Rattle.select.proofs.find.Reads as find-reads
+use Rattle.rows.proofs.row.Reads as row-reads
 
 -- answers that the contracts of `count`, `find` and `row` allow to a call with these arguments
 abbrev pub Count : (κs : Lfts 1) → RefT (List ℕ) → ℕ → ℕ → Counted → Type 0

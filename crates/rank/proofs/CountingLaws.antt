@@ -1,18 +1,21 @@
 -- Count, from the sums of a path.
 use mathlib.Core.List.{List}
 use mathlib.Core.Option.{Option, none, some}
-use mathlib.Core.Bool.{Bool, true, false, cond}
-use mathlib.Core.Path.{_≡_, refl, sym, ap, _∙_}
-use Prim.Native.Nat.{ℕ, zero, suc, _+_, _-_, _≤_, _<_}
+use mathlib.Core.Bool.{true, false}
+use mathlib.Core.Path.{_≡_, refl, ap, _∙_}
+use Prim.Native.Nat.{ℕ, suc, _+_, _-_, _≤_, _<_}
 use native.Mathlib.Omega.{arith}
-use borrow.Author.Tests.{lt-ltb, le-ltb, lt-leb, le-leb, ne-eqb, eq-eqb}
+use native.Mathlib.Nat.{zero-mul}
+use borrow.Author.Tests.{lt-ltb, le-ltb, lt-leb, le-leb, ne-eqb}
 use lib.ListN.{length}
-use lib.Dec.{ltb, leb, eqb}
+use Rattle.format.specs.PieceLaws.{lt-pieces}
+use Rattle.format.specs.HeaderLaws.{full-pos}
 use Rattle.format.specs.Layout as at
 use Rattle.format.specs.Path.{Path, pathOf}
 use Rattle.format.specs.Verdict.{readable}
 use Rattle.format.specs.Said.{Said, refused, unless}
 use Rattle.format.specs.Counting.{indexOf, countOf, isCounted, numberOfByte, countSays}
+use Rattle.format.specs.Finding.{total}
 use Rattle.layout.specs.declared.header.Header.{Header}
 use Rattle.layout.specs.declared.header.HeaderRead.{HeaderRead}
 use Rattle.layout.specs.declared.header.HeaderRead.the-variants.{Refused}
@@ -56,6 +59,17 @@ module _ (t : List ℕ) (h : Header) (k : HeaderOf t h) (byte number : ℕ) (is 
 
   pub number-in : number < h .settings .counted → number < at.countedCount t
   number-in low = omega (arith, k .counted-is)
+
+-- level 0 has a block
+pub some-block : (t : List ℕ) (h : Header) → HeaderOf t h → 0 < at.levelCount t 0
+some-block t h r =
+    let f = r .facts in
+    rw (f .level0) (lt-pieces (at.textLength t) (at.fullLength t 0) 0 (full-pos t f 0) (omega (arith, zero-mul (at.fullLength t 0), f .text-low)))
+
+-- the total
+pub total-is : (t : List ℕ) (c n before inside : ℕ) → n ≡ at.levelCount t 0 → before ≡ at.before t 0 (n - 1) c → inside ≡ at.inside t 0 (n - 1) c → before + inside ≡ total t c
+unfolding total
+total-is t c n before inside e b i = rw (← e, b, i)
 
 -- each way out of count
 module _ (t : List ℕ) (h : Header) (k : HeaderOf t h) (byte i : ℕ) where

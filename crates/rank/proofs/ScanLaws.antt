@@ -1,19 +1,17 @@
 -- A byte looked for, one place after another.
-use mathlib.Core.List.{List, [], _∷_}
-use mathlib.Core.Bool.{Bool, true, false, cond}
-use mathlib.Core.Path.{_≡_, refl, sym, ap, _∙_}
-use Prim.Native.Nat.{ℕ, zero, suc, _+_, _≤_, _<_}
+use mathlib.Core.List.{List}
+use mathlib.Core.Path.{_≡_, sym, _∙_}
+use Prim.Native.Nat.{ℕ, _+_, _≤_, _<_}
 use native.Mathlib.Omega.{arith}
 use native.Mathlib.Numerals.{add-one}
-use lib.ListN.{length, take, drop, getD, length-take, length-drop, drop-of-length-le}
+use lib.ListN.{length, drop, getD, length-take, length-drop, drop-of-length-le}
 use lib.Seq.{drop-cons, getD-take, getD-drop}
-use lib.Dec.{eqb}
 use borrow.Author.Tests.{eq-eqb, ne-eqb}
 use Rattle.text.specs.Text.{stretch, countIn}
 use Rattle.text.specs.CountLaws.{one, count-next}
 use Rattle.format.specs.Layout as at
 use Rattle.format.specs.Counting.{indexOf, numberOfByte}
-use Rattle.rank.specs.Scans.{Names, Stands}
+use Rattle.rank.specs.Scans.{Names}
 
 -- the number of a byte in a list
 
@@ -68,12 +66,3 @@ pub count-next-other : (c : ℕ) (T : List ℕ) (p o : ℕ) → p + o < length T
 count-next-other c T p o h e =
     let z : one c (getD T (p + o) 0) ≡ 0 = rw (ne-eqb c (getD T (p + o) 0) (λ x. e (sym x))) in
     omega (arith, count-next c T p o h)
-
-module _ (t : List ℕ) (from n byte j : ℕ) where
-  pub stands-here : (r : ℕ) → r < n → getD t (from + r) 0 ≡ byte → countIn byte (stretch t from r) + 1 ≡ j → Stands t from n byte j r
-  stands-here r h e c = record { high = omega arith; here = λ x. (e, c); fewer = λ x. absurd (let z : ⊥ = omega arith in z) }
-
-  pub stands-not : (r : ℕ) → r ≤ n → n ≤ r → countIn byte (stretch t from r) < j → Stands t from n byte j r
-  stands-not r h g c =
-      let e : r ≡ n = omega arith in
-      record { high = h; here = λ x. absurd (let z : ⊥ = omega arith in z); fewer = λ x. rw e at c }

@@ -1,12 +1,11 @@
 -- The sums down a path, step by step.
 use mathlib.Core.List.{List, [], _∷_}
 use mathlib.Core.Option.{Option, none, some}
-use mathlib.Core.Bool.{Bool, true, false, cond}
+use mathlib.Core.Bool.{true, false, cond}
 use mathlib.Core.Path.{_≡_, refl, sym, ap, _∙_}
 use mathlib.Core.Logic.{_⊎_, inl, inr}
-use Prim.Native.Nat.{ℕ, zero, suc, _+_, _-_, _*_, _/_, _%_, _≤_, _<_}
+use Prim.Native.Nat.{ℕ, suc, _+_, _-_, _*_, _/_, _%_, _≤_, _<_}
 use native.Mathlib.Omega.{arith}
-use native.Mathlib.Nat.{add-zero}
 use borrow.Author.Tests.{eq-eqb, ne-eqb}
 use lib.ListN.{length}
 use lib.Dec.{eqb}
@@ -22,16 +21,16 @@ use Rattle.layout.specs.declared.header.Header.{Header}
 use Rattle.layout.specs.declared.place.BlockNumber.{BlockNumber}
 use Rattle.layout.specs.declared.place.BlockPlace.{BlockPlace}
 use Rattle.layout.specs.Record.{FieldIn, field-in}
-use Rattle.access.specs.declared.step.Next.{Next}
-use Rattle.access.specs.declared.step.Next.the-variants.{Kept, Points, Off}
+use Rattle.walk.specs.declared.step.Next.{Next}
+use Rattle.walk.specs.declared.step.Next.the-variants.{Kept, Points, Off}
 use Rattle.layout.specs.HeaderSays.{HeaderOf}
-use Rattle.access.specs.Steps.{OnLevel, Pointing, nextAt}
-use Rattle.access.specs.Walk.{KeptAt}
-use Rattle.access.specs.declared.walk.Trail.{Trail}
-use Rattle.access.specs.Walk.{onward as trailed}
-use Rattle.access.proofs.StepLaws.{kept-in, pointing-in}
-use Rattle.access.proofs.WalkLaws as walk
-use Rattle.access.proofs.WalkLaws.{next-kept, next-points, next-off, from-off, from-last-points, from-no-leaf, from-no-target, pointing-not-kept}
+use Rattle.walk.specs.Steps.{OnLevel, Pointing, nextAt}
+use Rattle.walk.specs.Walk.{KeptAt}
+use Rattle.walk.specs.declared.Trail.{Trail}
+use Rattle.walk.specs.Walk.{onward as trailed}
+use Rattle.walk.proofs.StepLaws.{kept-in, pointing-in}
+use Rattle.walk.proofs.WalkLaws as walk
+use Rattle.walk.proofs.WalkLaws.{next-kept, next-points, next-off, from-off, from-last-points, from-no-leaf, from-no-target, pointing-not-kept}
 use Rattle.tallies.specs.Ranks.{goes-head}
 use Rattle.rank.specs.declared.sums.Sum.{Sum}
 use Rattle.rank.specs.declared.sums.Summed.{Summed}

@@ -1,6 +1,3 @@
 pub mod Scans
 pub mod Sums
 pub mod Counts
-pub mod Seeks
-pub mod Found
-pub mod Rows

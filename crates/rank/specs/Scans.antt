@@ -1,9 +1,8 @@
--- What is asked and answered where a byte is looked for in a part of the lent bytes.
+-- What is asked where the number of a counted byte is looked for.
 use mathlib.Core.List.{List}
 use mathlib.Core.Path.{_≡_}
-use Prim.Native.Nat.{ℕ, _+_, _≤_, _<_}
-use lib.ListN.{length, getD}
-use Rattle.text.specs.Text.{stretch, countIn}
+use Prim.Native.Nat.{ℕ, _≤_}
+use lib.ListN.{length}
 use Rattle.format.specs.Layout as at
 
 -- k bytes are counted
@@ -11,9 +10,3 @@ pub record Names (t : List ℕ) (k : ℕ) : Type 0 where
   pub long : 100 ≤ length t
   pub k-is : k ≡ at.countedCount t
   pub k-low : k ≤ 4
-
--- the j-th such byte of the n bytes at a place stands at r, or there are fewer
-pub record Stands (t : List ℕ) (from n byte j r : ℕ) : Type 0 where
-  pub high : r ≤ n
-  pub here : r < n → (getD t (from + r) 0 ≡ byte) × (countIn byte (stretch t from r) + 1 ≡ j)
-  pub fewer : n ≤ r → countIn byte (stretch t from n) < j

@@ -1,12 +1,17 @@
 // Count, of a tree that passes questions 5 to 7, by its header.
 use crate::Counted;
 use crate::scan;
+use crate::scan::Wanted;
 use crate::sums;
 use crate::sums::Summed;
-use crate::sums::Wanted;
 use layout::header::Header;
+use layout::place::BlockNumber;
 use layout::place::TextPlace;
+use layout::record;
 ghost use mathlib.Core.Path.{_≡_};
+ghost use Prim.Native.Nat.{_<_};
+ghost use Rattle.format.specs.Layout as at;
+ghost use Rattle.format.specs.Finding as find;
 ghost use Rattle.layout.specs.HeaderSays.{HeaderOf};
 ghost use Rattle.rank.specs.Counts.{saidCount, settled, Numbered, CountAnswer};
 
@@ -39,4 +44,14 @@ fn settle(summed: Summed) -> Counted
         return Counted::Refused(14);
     }
     Counted::Times(sum.plus - sum.minus, sum.entered)
+}
+
+// How often a counted byte stands in the text: before and inside of the last block of level 0.
+pub fn total(t: &[u8], h: Header, number: u32) -> u64
+    requires { ⌜ (HeaderOf (now t) h) × (number < at.countedCount (now t)) ⌝ }
+    ensures { λ r. ⌜ r ≡ find.total (now (t .entry)) number ⌝ }
+{
+    let last = BlockNumber(record::level_count(t, 0) - 1);
+    let before = record::before(t, h.settings.counted, 0, last, number) as u64;
+    before + record::inside(t, h.settings.counted, 0, last, number) as u64
 }

@@ -4,7 +4,13 @@ ghost use Prim.Native.Nat.{_+_, _≤_};
 ghost use lib.ListN.{length};
 ghost use Rattle.text.specs.Text.{stretch, countIn};
 ghost use Rattle.format.specs.Counting.{numberOfByte};
-ghost use Rattle.rank.specs.Scans.{Names, Stands};
+ghost use Rattle.rank.specs.Scans.{Names};
+
+// A counted byte and its number.
+pub struct Wanted {
+    pub byte: u8,
+    pub number: u32,
+}
 
 // The number of a counted byte: its place among the k at 24, or k where it is not one of them.
 pub fn number_of(t: &[u8], k: u32, byte: u8) -> u32
@@ -35,23 +41,4 @@ pub fn occurrences(t: &[u8], from: usize, n: u32, byte: u8) -> u32
         i += 1;
     }
     times
-}
-
-// Where a byte stands for the j-th time in the n bytes at a place; n where it does not.
-pub fn nth(t: &[u8], from: usize, n: u32, byte: u8, j: u64) -> u32
-    requires { ⌜ (from + n ≤ length (now t)) × (1 ≤ j) ⌝ }
-    ensures { λ r. ⌜ Stands (now (t .entry)) from n byte j r ⌝ }
-{
-    let mut left: u64 = j;
-    let mut i: u32 = 0;
-    while i < n {
-        if t[from + i as usize] == byte {
-            if left == 1 {
-                return i;
-            }
-            left = left - 1;
-        }
-        i += 1;
-    }
-    i
 }

@@ -1,13 +1,14 @@
 // The sums down the path of a place: what is added and what is taken off, apart. The step for a kept block and the step for a
 // pointing block call each other: twice the levels left, plus one if a pointer may still be followed, falls.
 use crate::scan;
-use access::step;
-use access::step::Next;
+use crate::scan::Wanted;
 use layout::header::Header;
 use layout::place::BlockNumber;
 use layout::place::BlockPlace;
 use layout::place::TextPlace;
 use layout::record;
+use walk::step;
+use walk::step::Next;
 ghost use mathlib.Core.Path.{_≡_};
 ghost use mathlib.Core.Bool.{cond};
 ghost use Prim.Native.Nat.{_+_, _-_, _*_, _≤_, _<_};
@@ -15,15 +16,9 @@ ghost use lib.Dec.{eqb};
 ghost use Rattle.format.specs.Layout as at;
 ghost use Rattle.format.specs.Path.{pathFrom, pathOf};
 ghost use Rattle.layout.specs.HeaderSays.{HeaderOf};
-ghost use Rattle.access.specs.Steps.{Pointing};
-ghost use Rattle.access.specs.Walk.{KeptAt};
+ghost use Rattle.walk.specs.Steps.{Pointing};
+ghost use Rattle.walk.specs.Walk.{KeptAt};
 ghost use Rattle.rank.specs.Sums.{Carried, Across, onward, summed, startSum, wholeSum};
-
-// A counted byte and its number.
-pub struct Wanted {
-    pub byte: u8,
-    pub number: u32,
-}
 
 // What is carried down a path: how many blocks were entered, what is added, and what is taken off.
 pub struct Sum {

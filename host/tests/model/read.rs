@@ -202,9 +202,9 @@ pub fn byte(bytes: &[u8], p: u32) -> (u32, u32, u32) {
 }
 
 /// The number, where the run begins in the tree's bytes, and its length.
-pub fn run(bytes: &[u8], p: u32) -> (u32, u32, u32) {
+pub fn run(bytes: &[u8], p: u32) -> (u32, u64, u32) {
     match try_run(bytes, p) {
-        Ok((offset, length)) => (0, offset as u32, length as u32),
+        Ok((offset, length)) => (0, offset, length as u32),
         Err(number) => (number, 0, 0),
     }
 }

@@ -13,4 +13,4 @@ run-part-spec =
     (λ c κs. header-good _ _ (c .before .before .before .read-header .ensures) _ (c .before .read .given .1))
     (λ c. search needs)
     (λ c. search needs)
-    (λ c. laws.run-unread _ _ _ (c .before .before .read-header .ensures) _ (c .enum-told .given .1)))
+    (λ c. laws.run-unread _ _ _ (c .before .before .before .read-header .ensures) _ (c .before .read2 .given .1)))

@@ -3,12 +3,11 @@ use Prim.Native.Nat.{ℕ, _<_}
 use borrow.Author.Needs.{needs}
 use borrow.Fn.Kinds.{In}
 use borrow.Fn.PlainCycle.{Measures, is, falls, and}
-use mathlib.Core.Path.{refl}
 use native.Mathlib.Omega.{arith}
-use Rattle.access.proofs.StepLaws.{kept-in}
-use Rattle.access.proofs.WalkLaws as walk
-use Rattle.access.proofs.step.child.Reads as child-reads
-use Rattle.access.proofs.step.target.Reads as target-reads
+use Rattle.walk.proofs.StepLaws.{kept-in}
+use Rattle.walk.proofs.WalkLaws as walk
+use Rattle.walk.proofs.step.child.Reads as child-reads
+use Rattle.walk.proofs.step.target.Reads as target-reads
 use Rattle.rank.proofs.SumLaws as laws
 use Rattle.rank.proofs.sums.+kept_step+pointing_step.Lts-kept_step as kept-step-lts
 use Rattle.rank.proofs.sums.+kept_step+pointing_step.Lts-pointing_step as pointing-step-lts

@@ -1,6 +1,4 @@
-use mathlib.Core.Path.{_∙_, ap}
 use native.Mathlib.Omega.{arith}
-use Rattle.layout.specs.Record.{FieldIn}
 use Rattle.rank.proofs.SumLaws as laws
 use Rattle.rank.proofs.sums.across.Statement.{statement}
 use Rattle.rank.proofs.sums.across.Tie as tie

@@ -1,4 +1,3 @@
-use mathlib.Core.Path.{_∙_, ap}
 use native.Mathlib.Omega.{arith}
 use Rattle.rank.proofs.SumLaws as laws
 use Rattle.rank.proofs.sums.down.Statement.{statement}

@@ -1,7 +1,6 @@
 use borrow.Author.Needs.{needs}
-use mathlib.Core.Path.{_∙_, ap}
 use native.Mathlib.Omega.{arith}
-use Rattle.access.proofs.StepLaws.{kept-in, b-small}
+use Rattle.walk.proofs.StepLaws.{kept-in, b-small}
 use Rattle.rank.proofs.SumLaws as laws
 use Rattle.rank.proofs.sums.leaf.Statement.{statement}
 use Rattle.rank.proofs.sums.leaf.Tie as tie

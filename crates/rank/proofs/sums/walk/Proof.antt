@@ -1,8 +1,7 @@
 use borrow.Author.Needs.{needs}
-use mathlib.Core.Path.{refl}
 use native.Mathlib.Omega.{arith}
-use Rattle.access.proofs.StepLaws.{kept-in, pointing-in}
-use Rattle.access.proofs.WalkLaws as query
+use Rattle.walk.proofs.StepLaws.{kept-in, pointing-in}
+use Rattle.walk.proofs.WalkLaws as query
 use Rattle.rank.proofs.SumLaws as laws
 use Rattle.rank.proofs.sums.walk.Statement.{statement}
 use Rattle.rank.proofs.sums.walk.Tie as tie

@@ -1,0 +1,19 @@
+use borrow.Author.Needs.{needs}
+use native.Mathlib.Omega.{arith}
+use Rattle.rank.proofs.CountingLaws as laws
+use Rattle.rank.proofs.SumLaws as sums
+use Rattle.rank.proofs.counting.total.Statement.{statement}
+use Rattle.rank.proofs.counting.total.Tie as tie
+
+pub total-spec : {M : Type 1} → statement M
+total-spec =
+    tie.close
+    (tie.spec
+    (λ c κs. search needs)
+    (λ c. omega (arith, laws.some-block _ _ (c .before .before .pre .0), c .level-count .ensures))
+    (λ c κs. sums.field-there _ _ _ _ _ _ (c .before .before .pre .0) (omega (arith, sums.facts _ _ (c .before .before .pre .0) .levels-low)) (omega (arith, laws.some-block _ _ (c .before .before .pre .0), c .level-count .ensures)) (c .before .before .pre .1) (omega arith))
+    (λ c. search needs)
+    (λ c κs. sums.field-there _ _ _ _ _ _ (c .before .before .before .pre .0) (omega (arith, sums.facts _ _ (c .before .before .before .pre .0) .levels-low)) (omega (arith, laws.some-block _ _ (c .before .before .before .pre .0), c .before .level-count .ensures)) (c .before .before .before .pre .1) (omega arith))
+    (λ c. search needs)
+    (λ c. search needs)
+    (λ c. laws.total-is _ _ _ _ _ (c .before .before .level-count .ensures) (c .before .before2 .ensures) (c .inside .ensures)))

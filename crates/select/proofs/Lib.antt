@@ -1,0 +1,4 @@
+pub mod ScanLaws
+pub mod SeekLaws
+pub mod LandLaws
+pub mod FindingLaws

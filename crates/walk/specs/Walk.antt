@@ -1,0 +1,33 @@
+-- What a walk down a path gives, and what is asked where it stands.
+use mathlib.Core.List.{List}
+use mathlib.Core.Option.{Option, none, some}
+use mathlib.Core.Bool.{true}
+use mathlib.Core.Path.{_≡_}
+use Prim.Native.Nat.{ℕ, _+_, _*_, _≤_, _<_, min}
+use lib.ListN.{length}
+use Rattle.format.specs.Path.{Path, keptBlock}
+use Rattle.format.specs.Reading.{leftOver}
+use Rattle.layout.specs.declared.header.Header.{Header}
+use Rattle.walk.specs.declared.Trail.{Trail}
+use Rattle.walk.specs.declared.Walked.{Walked}
+use Rattle.walk.specs.declared.Walked.the-variants.{At, Broken}
+use Rattle.walk.specs.Steps.{OnLevel}
+
+-- one more block entered, with so many bytes left in it
+unfoldable pub onward : Trail → ℕ → Trail
+onward trail here = record { entered = trail .entered + 1; left = min (trail .left) here }
+
+-- a path walked to its end: the leaf byte that it reaches, its blocks counted, and what is left in all of them
+unfoldable pub walked : List ℕ → Trail → Option Path → Walked
+walked t trail none = Broken
+walked t trail (some q) = At (record {
+  leaf = q .leaf;
+  trail = record { entered = trail .entered + length (q .visits); left = leftOver t (q .visits) (trail .left) };
+})
+
+-- a kept block of a level, a place in it, and the blocks entered before it: two on each level above, and the one that points to it
+pub record KeptAt (t : List ℕ) (h : Header) (level b i o entered : ℕ) : Type 0 where
+  pub on : OnLevel t h level b
+  pub place-in : o < b
+  pub kept : keptBlock t level i ≡ true
+  pub few : entered ≤ 2 * level + 1
