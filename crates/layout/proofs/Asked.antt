@@ -8,6 +8,7 @@ use borrow.Author.Tests.{le-leb, lt-leb, eq-eqb, ne-eqb}
 use Rattle.format.specs.Words.{wordAt}
 use Rattle.format.specs.Layout.{longEnough, layoutOk, headerOk}
 use Rattle.format.specs.Verdict.{readable}
+use Rattle.format.specs.HeaderLaws.{Readable, readable-facts}
 use Rattle.layout.specs.declared.header.Header.{Header}
 use Rattle.layout.specs.declared.header.HeaderRead.{HeaderRead}
 use Rattle.layout.specs.declared.header.HeaderRead.the-variants.{Good, Refused}
@@ -26,6 +27,10 @@ module _ (t : List ℕ) where
     pub asked-7 : layout ≡ 1 → headerOk t ≡ false → Refused 7 ≡ headerSays t
     unfolding headerSays readable longEnough layoutOk
     asked-7 l h = rw (le-leb 100 (length t) long, eq-eqb (wordAt t 0) 1 (sym is ∙ l), h)
+
+    pub asked-readable : layout ≡ 1 → headerOk t ≡ true → Readable t
+    unfolding readable longEnough layoutOk
+    asked-readable l h = readable-facts t (rw (le-leb 100 (length t) long, eq-eqb (wordAt t 0) 1 (sym is ∙ l), h))
 
     pub asked-all : layout ≡ 1 → headerOk t ≡ true → (x : Header) → x ≡ fieldsOf t → Good x ≡ headerSays t
     unfolding headerSays readable longEnough layoutOk

@@ -15,13 +15,14 @@ use Rattle.layout.specs.declared.header.Header.{Header}
 use Rattle.layout.specs.declared.header.HeaderRead.{HeaderRead}
 use Rattle.layout.specs.declared.header.HeaderRead.the-variants.{Good, Refused}
 
--- the header's words
+-- the header's words, and the length of a level 0 block
 abbrev pub fieldsOf : List ℕ → Header
 fieldsOf t = record {
   length = wordAt t 4;
   settings = record { leaf = wordAt t 8; arity = wordAt t 12; levels = wordAt t 16; counted = wordAt t 20 };
   «leaf_offset» = wordAt t 92;
   «leaf_count» = wordAt t 96;
+  block = at.fullLength t 0;
 }
 
 -- the header, unless a question refuses it

@@ -24,6 +24,7 @@ pub record HeaderOf (t : List ℕ) (h : Header) : Type 0 where
   pub counted-is : h .settings .counted ≡ at.countedCount t
   pub offset-is : h .«leaf_offset» ≡ at.leafOffset t
   pub count-is : h .«leaf_count» ≡ at.leafCount t
+  pub block-is : h .block ≡ at.fullLength t 0
 
 of-fields : (t : List ℕ) (h : Header) → readable t ≡ 0 → h ≡ fieldsOf t → HeaderOf t h
 unfolding at.textLength at.settings at.countedCount at.leafOffset at.leafCount
@@ -38,6 +39,7 @@ of-fields t h z e = record {
   counted-is = ap (λ (x : Header). x .settings .counted) e;
   offset-is = ap (λ (x : Header). x .«leaf_offset») e;
   count-is = ap (λ (x : Header). x .«leaf_count») e;
+  block-is = ap (λ (x : Header). x .block) e;
 }
 
 good-cases : (n : ℕ) (f h : Header) → Good h ≡ goodUnless n f → (n ≡ 0) × (h ≡ f)

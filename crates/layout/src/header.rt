@@ -8,6 +8,7 @@ ghost use Prim.Native.Nat.{_+_, _-_, _*_, _≤_, _<_};
 ghost use lib.ListN.{length};
 ghost use Rattle.format.specs.Settings as cut;
 ghost use Rattle.format.specs.Layout.{headerOk, recordSize};
+ghost use Rattle.format.specs.HeaderLaws.{Readable};
 ghost use Rattle.layout.specs.Header.{headerSays, restRight, spareCounted, spareLevels, tablesMeet, HasSettings, fieldsOf};
 
 // What a tree's header says. The levels' counts and offsets stay in the tree, and are read there.
@@ -18,6 +19,8 @@ pub struct Header {
     // where the leaf bytes start, and how many there are
     pub leaf_offset: u32,
     pub leaf_count: u32,
+    // the bytes of a full block of level 0
+    pub block: u32,
 }
 
 pub enum HeaderRead {
@@ -42,21 +45,23 @@ pub fn read_header(t: &[u8]) -> HeaderRead
     HeaderRead::Good(fields(t))
 }
 
-// The header's words.
+// The header's words, and what they make the length of a level 0 block.
 fn fields(t: &[u8]) -> Header
-    requires { ⌜ 100 ≤ length (now t) ⌝ }
+    requires { ⌜ Readable (now t) ⌝ }
     ensures { λ r. ⌜ r ≡ fieldsOf (now (t .entry)) ⌝ }
 {
+    let settings = Settings {
+        leaf: word::read(t, 8),
+        arity: word::read(t, 12),
+        levels: word::read(t, 16),
+        counted: word::read(t, 20),
+    };
     Header {
         length: word::read(t, 4),
-        settings: Settings {
-            leaf: word::read(t, 8),
-            arity: word::read(t, 12),
-            levels: word::read(t, 16),
-            counted: word::read(t, 20),
-        },
+        settings,
         leaf_offset: word::read(t, 92),
         leaf_count: word::read(t, 96),
+        block: settings.block_length(0),
     }
 }
 

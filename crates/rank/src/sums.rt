@@ -207,7 +207,7 @@ pub fn walk(t: &[u8], h: Header, wanted: Wanted, place: TextPlace) -> Summed
     requires { ⌜ (HeaderOf (now t) h) × (place .0 < h .length) × (wanted .number < at.countedCount (now t)) ⌝ }
     ensures { λ r. ⌜ r ≡ wholeSum (now (t .entry)) (wanted .byte) (wanted .number) (pathOf (now (t .entry)) (place .0)) ⌝ }
 {
-    let b = h.settings.block_length(0);
+    let b = h.block;
     match step::first(t, h, b, place) {
         Next::Kept(i, p) => kept_step(t, h, wanted, 0, b, i, p, start(t, h, wanted, i)),
         Next::Points(i, p) => pointing_step(t, h, wanted, 0, b, i, p, start(t, h, wanted, i)),

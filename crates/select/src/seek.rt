@@ -296,7 +296,7 @@ pub fn seek(t: &[u8], h: Header, wanted: Wanted, j: u32) -> Found
     requires { ⌜ (HeaderOf (now t) h) × (wanted .number < at.countedCount (now t)) × (wanted .byte ≡ byteOf (now t) (wanted .number)) × (1 ≤ j) × (j ≤ total (now t) (wanted .number)) ⌝ }
     ensures { λ r. ⌜ (Sought (now (t .entry)) (wanted .byte) j (saidFind r)) × (Numbered r) ⌝ }
 {
-    let b = h.settings.block_length(0);
+    let b = h.block;
     let block = first_block(t, h, wanted.number, j as u64);
     let next = pick(t, h, wanted.number, 0, b, block, BlockPlace(0), j as u64);
     match next {

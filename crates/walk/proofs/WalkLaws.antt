@@ -3,21 +3,19 @@ use mathlib.Core.List.{List, [], _∷_}
 use mathlib.Core.Option.{Option, none, some}
 use mathlib.Core.Bool.{Bool, true, false, cond, _&&_}
 use mathlib.Core.Path.{_≡_, refl, sym, ap, _∙_}
-use Prim.Native.Nat.{ℕ, zero, suc, _+_, _-_, _*_, _/_, _%_, _^_, _≤_, _<_, min}
+use Prim.Native.Nat.{ℕ, zero, suc, _+_, _-_, _*_, _/_, _%_, _≤_, _<_, min}
 use native.Mathlib.Omega.{arith}
 use native.Mathlib.Nat.{mul-div-cancel, mod-lt}
 use borrow.Author.Tests.{le-ltb, eqb-true, ne-eqb}
 use lib.Dec.{ltb, eqb}
 use lib.ListN.{length}
 use Rattle.text.specs.ListLaws.{and-left, and-right}
-use Rattle.format.specs.Settings.{blockLength}
 use Rattle.format.specs.Layout as at
 use Rattle.format.specs.Path.{Path, visit, entered, keptBlock, pointingBlock, targetBlock, targetPlace, lands, pathFrom, pathOf}
 use Rattle.format.specs.HeaderLaws.{full-step, full-pos}
 use Rattle.format.specs.Reading.{leftOver}
 use Rattle.paths.specs.Landing.{from-last, from-kept, from-pointing}
 use Rattle.paths.specs.Shift.{target-small}
-use Rattle.layout.specs.Settings.{Sized}
 use Rattle.layout.specs.declared.header.Header.{Header}
 use Rattle.layout.specs.declared.place.BlockNumber.{BlockNumber}
 use Rattle.layout.specs.declared.place.BlockPlace.{BlockPlace}
@@ -259,23 +257,11 @@ module _ (t : List ℕ) (h : Header) (level b i o : ℕ) (trail : Trail) (k : Po
 
 -- the start, on level 0
 
-pub sized-top : (t : List ℕ) (h : Header) → HeaderOf t h → Sized (h .settings) 0
-sized-top t h k =
-    let r = k .facts in record {
-      leaf-high = omega (arith, r .leaf-high, k .leaf-is);
-      arity-low = omega (arith, r .arity-low, k .arity-is);
-      arity-high = omega (arith, r .arity-high, k .arity-is);
-      levels-high = omega (arith, r .levels-high, k .levels-is);
-      level-in = omega (arith, r .levels-low, k .levels-is);
-      block-high = rw (k .leaf-is, k .arity-is, k .levels-is) (r .top-high);
-    }
-
-pub on-top : (t : List ℕ) (h : Header) (b : ℕ) → HeaderOf t h → b ≡ h .settings .leaf * h .settings .arity ^ (h .settings .levels - 1 - 0) → OnLevel t h 0 b
-unfolding at.fullLength blockLength
-on-top t h b k e = record {
+pub on-top : (t : List ℕ) (h : Header) → HeaderOf t h → OnLevel t h 0 (h .block)
+on-top t h k = record {
   header = k;
   level-in = omega (arith, k .facts .levels-low);
-  b-is = e ∙ rw (k .leaf-is, k .arity-is, k .levels-is);
+  b-is = k .block-is;
 }
 
 module _ (t : List ℕ) (h : Header) (b p : ℕ) (trail : Trail) (on : OnLevel t h 0 b) (x : Next) (x-is : x ≡ nextAt t 0 (p / b) (p % b)) where

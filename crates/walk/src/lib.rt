@@ -140,7 +140,7 @@ pub fn walk(t: &[u8], h: Header, at: TextPlace) -> Walked
         entered: 0,
         left: h.length - at.0,
     };
-    let b = h.settings.block_length(0);
+    let b = h.block;
     match step::first(t, h, b, at) {
         Next::Kept(i, p) => kept_step(t, h, 0, b, i, p, trail),
         Next::Points(i, p) => pointing_step(t, h, 0, b, i, p, trail),

@@ -1,25 +1,54 @@
-use Prim.Native.Nat.{ℕ}
-use borrow.Author.Needs.{needs}
-use mathlib.Core.Path.{_≡_}
+use Prim.Native.Nat.{ℕ, _*_, _^_, _-_, _≤_}
+use mathlib.Core.List.{List}
+use mathlib.Core.Path.{_≡_, _∙_}
+use native.Mathlib.Omega.{arith}
+use lib.ListN.{length}
+use Rattle.format.specs.Words.{wordAt}
+use Rattle.format.specs.Settings.{blockLength}
+use Rattle.format.specs.Layout as at
+use Rattle.format.specs.HeaderLaws.{Readable}
 use Rattle.layout.proofs.header.fields.Statement.{statement}
 use Rattle.layout.proofs.header.fields.Tie as tie
 use Rattle.layout.specs.declared.header.Header.{Header}
+use Rattle.layout.specs.Settings.{Sized}
 
 -- a header is equal to another whose words are
-words : {a b d e f g h a′ b′ d′ e′ f′ g′ h′ : ℕ} → a ≡ a′ → b ≡ b′ → d ≡ d′ → e ≡ e′ → f ≡ f′ → g ≡ g′ → h ≡ h′
-    → _≡_ {A = Header} (record { length = a; settings = record { leaf = b; arity = d; levels = e; counted = f }; «leaf_offset» = g; «leaf_count» = h })
-    (record { length = a′; settings = record { leaf = b′; arity = d′; levels = e′; counted = f′ }; «leaf_offset» = g′; «leaf_count» = h′ })
-words pa pb pd pe pf pg ph = λ i. record { length = pa i; settings = record { leaf = pb i; arity = pd i; levels = pe i; counted = pf i }; «leaf_offset» = pg i; «leaf_count» = ph i }
+words : {a b d e f g h k a′ b′ d′ e′ f′ g′ h′ k′ : ℕ} → a ≡ a′ → b ≡ b′ → d ≡ d′ → e ≡ e′ → f ≡ f′ → g ≡ g′ → h ≡ h′ → k ≡ k′
+    → _≡_ {A = Header}
+    (record { length = a; settings = record { leaf = b; arity = d; levels = e; counted = f }; «leaf_offset» = g; «leaf_count» = h; block = k })
+    (record { length = a′; settings = record { leaf = b′; arity = d′; levels = e′; counted = f′ }; «leaf_offset» = g′; «leaf_count» = h′; block = k′ })
+words pa pb pd pe pf pg ph pk =
+    λ i. record { length = pa i; settings = record { leaf = pb i; arity = pd i; levels = pe i; counted = pf i }; «leaf_offset» = pg i; «leaf_count» = ph i; block = pk i }
+
+module _ (t : List ℕ) (m r H : ℕ) (leaf-is : m ≡ wordAt t 8) (arity-is : r ≡ wordAt t 12) (levels-is : H ≡ wordAt t 16) where
+  -- settings of these words are within their bounds
+  sized : Readable t → (k : ℕ) → Sized (record { leaf = m; arity = r; levels = H; counted = k }) 0
+  unfolding at.settings
+  sized f k = record {
+    leaf-high = omega (arith, f .leaf-high, leaf-is);
+    arity-low = omega (arith, f .arity-low, arity-is);
+    arity-high = omega (arith, f .arity-high, arity-is);
+    levels-high = omega (arith, f .levels-high, levels-is);
+    level-in = omega (arith, f .levels-low, levels-is);
+    block-high = rw (leaf-is, arity-is, levels-is) (f .top-high);
+  }
+
+  -- and make a level 0 block this long
+  full : (b : ℕ) → b ≡ m * r ^ (H - 1 - 0) → b ≡ at.fullLength t 0
+  unfolding at.fullLength at.settings blockLength
+  full b e = e ∙ rw (leaf-is, arity-is, levels-is)
 
 pub fields-spec : {M : Type 1} → statement M
 fields-spec =
     tie.close
     (tie.spec
-    (λ c κs. search needs)
-    (λ c κs. search needs)
-    (λ c κs. search needs)
-    (λ c κs. search needs)
-    (λ c κs. search needs)
-    (λ c κs. search needs)
-    (λ c κs. search needs)
-    (λ c. let a = c .before .before .before in words (a .before .before .before .read .ensures) (a .before .before .read2 .ensures) (a .before .read3 .ensures) (a .read4 .ensures) (c .before .before .read5 .ensures) (c .before .read6 .ensures) (c .read7 .ensures)))
+    (λ c κs. omega (arith, c .before .pre .long))
+    (λ c κs. omega (arith, c .before .before .pre .long))
+    (λ c κs. omega (arith, c .before .before .before .pre .long))
+    (λ c κs. omega (arith, c .before .before .before .before .pre .long))
+    (λ c κs. omega (arith, c .before .before .before .before .before .pre .long))
+    (λ c κs. omega (arith, c .before .before .before .before .before .before .pre .long))
+    (λ c κs. omega (arith, c .before .before .before .before .before .before .before .pre .long))
+    (λ c κs. sized _ _ _ _ (c .before .before .before .before .before .before .read .ensures) (c .before .before .before .before .before .read2 .ensures) (c .before .before .before .before .read3 .ensures) (c .before .before .before .before .before .before .before .before .pre) _)
+    (λ c. words (c .before .before .before .read5 .ensures) (c .before .before .before .before .before .before .before .read .ensures) (c .before .before .before .before .before .before .read2 .ensures) (c .before .before .before .before .before .read3 .ensures) (c .before .before .before .before .read4 .ensures) (c .before .before .read6 .ensures) (c .before .read7 .ensures)
+    (full _ _ _ _ (c .before .before .before .before .before .before .before .read .ensures) (c .before .before .before .before .before .before .read2 .ensures) (c .before .before .before .before .before .read3 .ensures) _ (c .block-length .ensures))))

@@ -1,5 +1,5 @@
 use borrow.Author.Needs.{needs}
-use Rattle.layout.proofs.Asked.{asked-5, asked-6, asked-7, asked-all}
+use Rattle.layout.proofs.Asked.{asked-5, asked-6, asked-7, asked-readable, asked-all}
 use Rattle.layout.proofs.Tests.{failed, held}
 use Rattle.layout.proofs.header.read_header.Statement.{statement}
 use Rattle.layout.proofs.header.read_header.Tie as tie
@@ -13,5 +13,5 @@ read-header-spec =
     (λ c. asked-6 (c .before .before .before .before .args .t .now) (c .before .before .if1 .left) _ (c .before .read .ensures) (c .if2 .taken))
     (λ c κs. search needs)
     (λ c. asked-7 (c .before .before .before .before .before .before .args .t .now) (c .before .before .before .before .if1 .left) _ (c .before .before .before .read .ensures) (c .before .before .if2 .left) (failed (c .before .header-right .ensures) (c .if3 .taken)))
-    (λ c κs. search needs)
+    (λ c κs. asked-readable (c .before .before .before .before .before .before .args .t .now) (c .before .before .before .before .if1 .left) _ (c .before .before .before .read .ensures) (c .before .before .if2 .left) (held (c .before .header-right .ensures) (c .if3 .left)))
     (λ c. asked-all (c .before .before .before .before .before .before .before .args .t .now) (c .before .before .before .before .before .if1 .left) _ (c .before .before .before .before .read .ensures) (c .before .before .before .if2 .left) (held (c .before .before .header-right .ensures) (c .before .if3 .left)) _ (c .fields .ensures)))
