@@ -19,16 +19,16 @@ use Rattle.built.specs.Leaves.{leaf-count}
 use Rattle.built.specs.Pairs.{offset}
 use Rattle.built.specs.Shape.{tree-length}
 use Rattle.built.specs.Built.{tree-small}
-use Rattle.builder.specs.declared.level.Level.{Level}
+use Rattle.records.specs.declared.level.Level.{Level}
 use Rattle.builder.specs.declared.tree.Step.the-variants.{To, Full}
-use Rattle.builder.specs.Growing.{Grown, Within}
+use Rattle.records.specs.Growing.{Grown, Within}
 use Rattle.builder.specs.Head.{pairWritten, unusedWritten}
-use Rattle.builder.specs.Levels.{recordPlace}
-use Rattle.builder.specs.State.{settingsOf, LevelIs, Filled, Below, Leafing, placeAt}
+use Rattle.records.specs.Levels.{recordPlace}
+use Rattle.records.specs.State.{settingsOf, LevelIs, Filled, Below, Leafing, placeAt}
 use Rattle.builder.specs.Trees.{firstOf, nextOf, Ready, StepIs, Finished}
-use Rattle.builder.proofs.Growth.{grown-then, within-grown, within-part, within-join}
+use Rattle.records.proofs.Growth.{grown-then, within-grown, within-part, within-join}
 use Rattle.builder.proofs.Heads.{level-grown, level-within, end-grown, end-within}
-use Rattle.builder.proofs.StateLaws.{record-size, place-end, offset-low, table-inside, block-high, Few, few}
+use Rattle.records.proofs.StateLaws.{record-size, place-end, offset-low, table-inside, block-high, Few, few}
 
 divided : (r a b : ℕ) → 0 < r → a ≡ r * b → a / r ≡ b
 divided r a b pos e = rw e (mul-div-right b pos)

@@ -16,16 +16,16 @@ use Rattle.built.specs.Structure.{count, bytesIn, keptAt, widthOf}
 use Rattle.built.specs.Sizes.{Bounds, bounds, size-pos}
 use Rattle.built.specs.Leaves.{widths-le, bytes-fit}
 use Rattle.built.specs.Pairs.{offset}
-use Rattle.builder.specs.declared.level.Level.{Level}
+use Rattle.records.specs.declared.level.Level.{Level}
 use Rattle.builder.specs.declared.pair.Pair.{Pair}
 use Rattle.builder.specs.declared.pair.Pair.the-variants.{Apart}
-use Rattle.builder.specs.Growing.{Grown, Within}
-use Rattle.builder.specs.Levels.{widthSays, WidthAsks}
+use Rattle.records.specs.Growing.{Grown, Within}
+use Rattle.records.specs.Levels.{widthSays, WidthAsks}
 use Rattle.builder.specs.Marking.{keptBy, pairOf, pairBefore}
-use Rattle.builder.specs.State.{settingsOf, LevelIs, Filled, On, Next, placeAt}
-use Rattle.builder.proofs.Growth.{grown-none, grown-then, within-part}
+use Rattle.records.specs.State.{settingsOf, LevelIs, Filled, On, Next, placeAt}
+use Rattle.records.proofs.Growth.{grown-none, grown-then, within-part}
 use Rattle.builder.proofs.Pairing.{kept-rule}
-use Rattle.builder.proofs.StateLaws.{filled-grown, size-high, place-end}
+use Rattle.records.proofs.StateLaws.{filled-grown, size-high, place-end}
 
 -- the loop over the blocks of a level, before block i
 pub record Going (S : Settings) (T : List ℕ) (level : Level) (out₀ out : List ℕ) (left : Pair) (link i : ℕ) : Type 0 where

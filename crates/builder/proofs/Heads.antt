@@ -14,13 +14,13 @@ use Rattle.built.specs.Sizes.{Taken, Bounds, bounds}
 use Rattle.built.specs.Structure.{count}
 use Rattle.built.specs.Pairs.{offset, word-count, word-offset, word-none, word-leaf-offset, word-leaf-count}
 use Rattle.built.specs.Shape.{sixWords, countedPlaces, tree-length}
-use Rattle.builder.specs.Growing.{Grown, Within}
-use Rattle.builder.specs.Records.{putThree}
+use Rattle.records.specs.Growing.{Grown, Within}
+use Rattle.records.specs.Records.{putThree}
 use Rattle.builder.specs.Leaves.{bytesWritten}
 use Rattle.builder.specs.Head.{places, pairWritten, unusedWritten}
-use Rattle.builder.proofs.Growth.{grown-none, grown-then, within-grown, within-part, within-join, within-none, word-grown, word-within, three-grown, three-within}
+use Rattle.records.proofs.Growth.{grown-none, grown-then, within-grown, within-part, within-join, within-none, word-grown, word-within, three-grown, three-within}
 use Rattle.builder.proofs.Leafs.{bytes-grown, bytes-within}
-use Rattle.builder.proofs.StateLaws.{offset-low}
+use Rattle.records.proofs.StateLaws.{offset-low}
 
 -- Places for counted bytes.
 

@@ -19,14 +19,14 @@ use Rattle.built.specs.Leaves.{width-last, leaf-count, leaf-at, bytes-fit}
 use Rattle.built.specs.Pairs.{offset}
 use Rattle.built.specs.Shape.{leaf-place, tree-length}
 use Rattle.built.specs.Built.{tree-small}
-use Rattle.builder.specs.declared.level.Level.{Level}
-use Rattle.builder.specs.Growing.{Grown, Within}
+use Rattle.records.specs.declared.level.Level.{Level}
+use Rattle.records.specs.Growing.{Grown, Within}
 use Rattle.builder.specs.Leaves.{bytesWritten}
-use Rattle.builder.specs.Levels.{recordPlace}
-use Rattle.builder.specs.State.{Filled, On, Leafing, placeAt}
-use Rattle.builder.proofs.Growth.{grown-none, grown-then, within-grown, within-part, within-join}
+use Rattle.records.specs.Levels.{recordPlace}
+use Rattle.records.specs.State.{Filled, On, Leafing, placeAt}
+use Rattle.records.proofs.Growth.{grown-none, grown-then, within-grown, within-part, within-join}
 use Rattle.builder.proofs.Pairing.{start-read}
-use Rattle.builder.proofs.StateLaws.{record-size, record-inside-table, table-inside, offset-low}
+use Rattle.records.proofs.StateLaws.{record-size, record-inside-table, table-inside, offset-low}
 
 -- one byte more
 pub bytes-more : (t u v T : List ℕ) (to from j : ℕ) → u ≡ bytesWritten t to T from j → v ≡ set u (to + j) (getD T (from + j) 0)

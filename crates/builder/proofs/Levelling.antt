@@ -13,19 +13,19 @@ use Rattle.built.specs.Bytes.{Stands}
 use Rattle.built.specs.Sizes.{Taken, Bounds, bounds}
 use Rattle.built.specs.Structure.{size, count, start, count-top, start-top}
 use Rattle.built.specs.Pairs.{offset}
-use Rattle.builder.specs.declared.level.Level.{Level}
+use Rattle.records.specs.declared.level.Level.{Level}
 use Rattle.builder.specs.declared.tree.Step.{Step}
 use Rattle.builder.specs.declared.tree.Step.the-variants.{To, Full}
-use Rattle.builder.specs.Growing.{Grown, Within}
-use Rattle.builder.specs.Levels.{recordPlace}
-use Rattle.builder.specs.Starts.{startsWritten, StartsAsk}
-use Rattle.builder.specs.State.{settingsOf, LevelIs, Filled, placeAt}
+use Rattle.records.specs.Growing.{Grown, Within}
+use Rattle.records.specs.Levels.{recordPlace}
+use Rattle.records.specs.Starts.{startsWritten, StartsAsk}
+use Rattle.records.specs.State.{settingsOf, LevelIs, Filled, placeAt}
 use Rattle.builder.specs.Trees.{firstOf, Ready, StepIs, Finished}
-use Rattle.builder.proofs.Growth.{grown-then, within-grown, within-none}
-use Rattle.builder.proofs.Children.{pieces-most}
+use Rattle.records.proofs.Growth.{grown-then, within-grown, within-none}
+use Rattle.records.proofs.Children.{pieces-most}
 use Rattle.builder.proofs.Descending.{first-is}
-use Rattle.builder.proofs.Starting.{starts-grown, starts-within}
-use Rattle.builder.proofs.StateLaws.{record-size, place-end, record-inside-table, table-inside, offset-low, size-high, start-stands, Few, few}
+use Rattle.records.proofs.Starting.{starts-grown, starts-within}
+use Rattle.records.proofs.StateLaws.{record-size, place-end, record-inside-table, table-inside, offset-low, size-high, start-stands, Few, few}
 
 -- before a level: it has the settings of the first, and the tree is written up to it
 pub record Reached (first : code.Settings) (cs T out₀ out : List ℕ) (level : Level) : Type 0 where

@@ -1,17 +1,8 @@
-pub mod Counting
-pub mod Places
-pub mod RecordWrites
-pub mod Growth
-pub mod Neighbours
-pub mod StateLaws
-pub mod RecordCounts
 pub mod Pairing
 pub mod Halving
 pub mod Targeting
 pub mod Findings
 pub mod Filling
-pub mod Starting
-pub mod Children
 pub mod Leafs
 pub mod Heads
 pub mod Descending

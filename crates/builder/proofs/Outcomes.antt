@@ -23,10 +23,10 @@ use Rattle.built.specs.Shape.{tree-length}
 use Rattle.builder.specs.declared.Built.{Built}
 use Rattle.builder.specs.declared.Built.the-variants.{Size, Refused as Not}
 use Rattle.builder.specs.Answers.{numberOf, sizeOf, given}
-use Rattle.builder.specs.Growing.{Grown, Within}
-use Rattle.builder.specs.State.{settingsOf}
+use Rattle.records.specs.Growing.{Grown, Within}
+use Rattle.records.specs.State.{settingsOf}
 use Rattle.builder.specs.Trees.{Finished}
-use Rattle.builder.proofs.StateLaws.{offset-low}
+use Rattle.records.proofs.StateLaws.{offset-low}
 
 -- a buffer that holds the whole tree, with what stood after it
 pub whole : (D out new : List ℕ) → Grown D out new → length D ≤ length out → Within D new 0 (length D) → new ≡ D ++ drop (length D) out

@@ -16,14 +16,14 @@ use Rattle.format.specs.Blocks.{treeOf, startsAt, pairAt, firstPairAt, keptByPa
 use Rattle.search.specs.Occurrences.{earlierSays}
 use Rattle.built.specs.Structure.{size, count, start, keptAt, level-at}
 use Rattle.built.specs.Sizes.{Taken, bounds}
-use Rattle.builder.specs.declared.level.Level.{Level}
+use Rattle.records.specs.declared.level.Level.{Level}
 use Rattle.builder.specs.declared.pair.Pair.{Pair}
 use Rattle.builder.specs.declared.pair.Pair.the-variants.{Apart, First, Again}
-use Rattle.builder.specs.Levels.{recordPlace}
+use Rattle.records.specs.Levels.{recordPlace}
 use Rattle.builder.specs.Marking.{keptBy, pairSays, pairBy, pairOf, pairBefore}
-use Rattle.builder.specs.State.{On, placeAt}
-use Rattle.builder.proofs.Growth.{read-right}
-use Rattle.builder.proofs.StateLaws.{record-size, start-stands, record-inside-table}
+use Rattle.records.specs.State.{On, placeAt}
+use Rattle.records.proofs.Growth.{read-right}
+use Rattle.records.proofs.StateLaws.{record-size, start-stands, record-inside-table}
 
 module _ (T : List ℕ) (s len : ℕ) (fits : s + len ≤ length T) (r : Bool) (r-is : r ≡ earlierSays T s len) where
   earlier : r ≡ ltb (leftmost T s len) s

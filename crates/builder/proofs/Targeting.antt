@@ -21,13 +21,13 @@ use Rattle.built.specs.Structure.{size, count, start, bytesIn, keptAt, widthOf,
 use Rattle.built.specs.Sizes.{Taken}
 use Rattle.built.specs.Records.{parentOf, kindOf, linkOf, gapOf, skipOf}
 use Rattle.built.specs.Targets.{placeOf, targetOf, placeOf-is, PointsTo, points-to}
-use Rattle.builder.specs.declared.level.Level.{Level}
-use Rattle.builder.specs.Levels.{recordPlace, parentSays}
-use Rattle.builder.specs.State.{On, BlockIs}
+use Rattle.records.specs.declared.level.Level.{Level}
+use Rattle.records.specs.Levels.{recordPlace, parentSays}
+use Rattle.records.specs.State.{On, BlockIs}
 use Rattle.builder.specs.Targets.{Sorted, Between}
-use Rattle.builder.proofs.Counting.{countIn-none}
+use Rattle.records.proofs.Counting.{countIn-none}
 use Rattle.builder.proofs.Pairing.{start-fits, start-read}
-use Rattle.builder.proofs.StateLaws.{few}
+use Rattle.records.proofs.StateLaws.{few}
 
 module _ (S : Settings) (T out : List ℕ) (level : Level) (i : ℕ) (w : On S T out level i) where
   abbrev l : ℕ

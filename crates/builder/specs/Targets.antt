@@ -3,7 +3,7 @@ use mathlib.Core.List.{List}
 use Prim.Native.Nat.{ℕ, _+_, _≤_, _<_}
 use lib.ListN.{length}
 use Rattle.format.specs.Words.{wordAt}
-use Rattle.builder.specs.Levels.{recordPlace}
+use Rattle.records.specs.Levels.{recordPlace}
 
 module _ (out : List ℕ) (table count : ℕ) (cs : List ℕ) where
   -- the start that the record of block i holds

@@ -7,12 +7,12 @@ use lib.ListN.{length}
 use Rattle.format.specs.Settings.{Settings, pieces}
 use Rattle.format.specs.Blocks.{treeOf}
 use Rattle.layout.specs.declared.settings.Settings as code
-use Rattle.builder.specs.declared.level.Level.{Level}
+use Rattle.records.specs.declared.level.Level.{Level}
 use Rattle.builder.specs.declared.tree.Step.{Step}
 use Rattle.builder.specs.declared.tree.Step.the-variants.{To, Full}
-use Rattle.builder.specs.Growing.{Within}
-use Rattle.builder.specs.Levels.{recordPlace}
-use Rattle.builder.specs.State.{LevelIs, Filled}
+use Rattle.records.specs.Growing.{Within}
+use Rattle.records.specs.Levels.{recordPlace}
+use Rattle.records.specs.State.{LevelIs, Filled}
 
 -- level 0 of a text of n bytes
 abbrev pub firstOf : code.Settings → ℕ → Level

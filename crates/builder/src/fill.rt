@@ -1,11 +1,11 @@
 // The records of one level, written in order.
-use crate::level::Level;
 use crate::pair;
 use crate::pair::Pair;
-use crate::record;
-use crate::record::Block;
 use crate::target;
 use layout::header;
+use records::level::Level;
+use records::record;
+use records::record::Block;
 ghost use mathlib.Core.Path.{_≡_};
 ghost use Prim.Native.Nat.{suc, _+_};
 ghost use lib.ListN.{length};
@@ -13,9 +13,9 @@ ghost use Rattle.text.specs.Lists.{sumBelow};
 ghost use Rattle.format.specs.Blocks.{treeOf};
 ghost use Rattle.built.specs.Structure.{widthOf, count};
 ghost use Rattle.built.specs.Pairs.{offset};
-ghost use Rattle.builder.specs.Growing.{Grown, Within};
-ghost use Rattle.builder.specs.State.{settingsOf, LevelIs, Filled, Next, BlockIs, placeAt};
-ghost use Rattle.builder.specs.Levels.{widthSays, WidthAsks};
+ghost use Rattle.records.specs.Growing.{Grown, Within};
+ghost use Rattle.records.specs.State.{settingsOf, LevelIs, Filled, Next, BlockIs, placeAt};
+ghost use Rattle.records.specs.Levels.{widthSays, WidthAsks};
 
 // What a block has one level below: leaf bytes on the last level, else children; nothing where it points.
 fn width(level: Level, kept: bool, length: u32) -> u32

@@ -1,17 +1,17 @@
 // The header.
-use crate::record;
 use layout::settings::Settings;
 use layout::word;
+use records::record;
 ghost use mathlib.Core.Path.{_≡_};
 ghost use Prim.Native.Nat.{_-_, _≤_, _<_};
 ghost use lib.ListN.{length, getD};
 ghost use Rattle.format.specs.Words.{setWord};
 ghost use Rattle.format.specs.Blocks.{treeOf};
 ghost use Rattle.built.specs.Sizes.{Taken};
-ghost use Rattle.builder.specs.Growing.{Grown, Within};
+ghost use Rattle.records.specs.Growing.{Grown, Within};
 ghost use Rattle.builder.specs.Leaves.{bytesWritten};
 ghost use Rattle.builder.specs.Head.{places, pairWritten, unusedWritten};
-ghost use Rattle.builder.specs.State.{settingsOf};
+ghost use Rattle.records.specs.State.{settingsOf};
 
 // The byte at one of the four places for counted bytes, zero where it is not used.
 fn counted_byte(counted: &[u8], x: usize) -> u8

@@ -1,15 +1,15 @@
 // The leaf bytes: those of the last level's blocks, one block after the other.
-use crate::level;
-use crate::level::Level;
 use layout::place::BlockNumber;
+use records::level;
+use records::level::Level;
 ghost use mathlib.Core.Path.{_≡_};
 ghost use Prim.Native.Nat.{_+_, _≤_, _<_};
 ghost use lib.ListN.{length};
 ghost use Rattle.format.specs.Blocks.{treeOf};
 ghost use Rattle.built.specs.Structure.{widthOf};
-ghost use Rattle.builder.specs.Growing.{Grown, Within};
+ghost use Rattle.records.specs.Growing.{Grown, Within};
 ghost use Rattle.builder.specs.Leaves.{bytesWritten};
-ghost use Rattle.builder.specs.State.{settingsOf, Leafing};
+ghost use Rattle.records.specs.State.{settingsOf, Leafing};
 
 // Copies n bytes of the text.
 fn copy(out: &mut [u8], to: usize, text: &[u8], from: usize, n: usize)

@@ -1,13 +1,9 @@
 // The builder: byte for byte the block tree of its text, written into a lent buffer.
-mod below;
-mod counts;
 mod fill;
 mod finding;
 mod head;
 mod leaf;
-mod level;
 mod pair;
-mod record;
 mod target;
 mod tree;
 
@@ -18,7 +14,7 @@ ghost use lib.ListN.{length, replicate};
 ghost use Rattle.format.specs.Building.{buildNumber, buildSize, buildLeaves};
 ghost use Rattle.built.specs.Sizes.{Taken};
 ghost use Rattle.builder.specs.Answers.{numberOf, sizeOf, given};
-ghost use Rattle.builder.specs.State.{settingsOf};
+ghost use Rattle.records.specs.State.{settingsOf};
 
 // The tree's size, or the number of the question that refuses it.
 pub enum Built {

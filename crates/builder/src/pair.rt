@@ -1,13 +1,13 @@
 // The marking rule: pairs of blocks that follow each other in the list and in the text.
 use crate::finding;
-use crate::level;
-use crate::level::Level;
 use layout::place::BlockNumber;
 use layout::place::TextPlace;
+use records::level;
+use records::level::Level;
 ghost use mathlib.Core.Path.{_≡_};
 ghost use Prim.Native.Nat.{_+_, _-_, _≤_, min};
 ghost use lib.ListN.{length};
-ghost use Rattle.builder.specs.State.{settingsOf, On};
+ghost use Rattle.records.specs.State.{settingsOf, On};
 ghost use Rattle.builder.specs.Marking.{keptBy, pairSays, pairOf};
 
 // A block and the next: no pair; a pair whose bytes occur here first; a pair whose bytes occur earlier.

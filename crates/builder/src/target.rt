@@ -1,16 +1,16 @@
 // Where a pointing block points.
 use crate::finding;
-use crate::level;
-use crate::level::Level;
-use crate::record::Block;
 use layout::place::BlockNumber;
 use layout::place::TextPlace;
+use records::level;
+use records::level::Level;
+use records::record::Block;
 ghost use mathlib.Core.Bool.{true, false};
 ghost use mathlib.Core.Path.{_≡_};
 ghost use Prim.Native.Nat.{_+_, _-_, _<_};
 ghost use Rattle.text.specs.Lists.{sumBelow};
 ghost use Rattle.built.specs.Structure.{keptAt, widthOf};
-ghost use Rattle.builder.specs.State.{settingsOf, On, BlockIs};
+ghost use Rattle.records.specs.State.{settingsOf, On, BlockIs};
 ghost use Rattle.builder.specs.Targets.{Sorted, Between};
 
 // Blocks from `low` to just before `high`.

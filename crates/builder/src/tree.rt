@@ -1,21 +1,21 @@
 // The tree, level by level.
-use crate::below;
 use crate::fill;
 use crate::head;
 use crate::leaf;
-use crate::level;
-use crate::level::Level;
 use layout::header;
 use layout::place::BlockNumber;
 use layout::settings::Settings;
+use records::below;
+use records::level;
+use records::level::Level;
 ghost use mathlib.Core.Path.{_≡_};
 ghost use Prim.Native.Nat.{_+_, _≤_, _<_};
 ghost use lib.ListN.{length};
 ghost use Rattle.format.specs.Blocks.{treeOf};
 ghost use Rattle.built.specs.Sizes.{Taken};
 ghost use Rattle.layout.specs.Settings.{Sized};
-ghost use Rattle.builder.specs.Growing.{Grown};
-ghost use Rattle.builder.specs.State.{settingsOf};
+ghost use Rattle.records.specs.Growing.{Grown};
+ghost use Rattle.records.specs.State.{settingsOf};
 ghost use Rattle.builder.specs.Trees.{firstOf, nextOf, Ready, StepIs, Finished};
 
 // The level after one, or that the buffer has no room for its records.

@@ -4,7 +4,7 @@ use native.Mathlib.Omega.{arith}
 use Rattle.builder.proofs.Filling as laws
 use Rattle.builder.proofs.fill.fill_level.Statement.{statement}
 use Rattle.builder.proofs.fill.fill_level.Tie as tie
-use Rattle.builder.specs.State.{settingsOf}
+use Rattle.records.specs.State.{settingsOf}
 
 abbrev Inv-loop : tie.InvT-loop
 Inv-loop out₀ text counted level left₀ link₀ i₀ out left link i = laws.Going (settingsOf (level .settings) counted) text level out₀ out left link i

@@ -3,7 +3,7 @@ use native.Mathlib.Omega.{arith}
 use Rattle.builder.proofs.Heads.{head-grown, head-within}
 use Rattle.builder.proofs.head.put_head.Statement.{statement}
 use Rattle.builder.proofs.head.put_head.Tie as tie
-use Rattle.builder.specs.State.{settingsOf}
+use Rattle.records.specs.State.{settingsOf}
 use Rattle.built.specs.Sizes.{bounds}
 
 pub put-head-spec : {M : Type 1} → statement M

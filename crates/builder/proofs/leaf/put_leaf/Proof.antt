@@ -2,10 +2,10 @@ use borrow.Author.Needs.{needs}
 use native.Mathlib.Omega.{arith}
 use Rattle.builder.proofs.Leafs as laws
 use Rattle.builder.proofs.Pairing.{start-fits, start-read, start-in}
-use Rattle.builder.proofs.StateLaws.{few}
+use Rattle.records.proofs.StateLaws.{few}
 use Rattle.builder.proofs.leaf.put_leaf.Statement.{statement}
 use Rattle.builder.proofs.leaf.put_leaf.Tie as tie
-use Rattle.builder.specs.State.{settingsOf}
+use Rattle.records.specs.State.{settingsOf}
 
 pub put-leaf-spec : {M : Type 1} → statement M
 put-leaf-spec =

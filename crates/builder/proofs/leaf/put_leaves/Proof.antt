@@ -1,11 +1,11 @@
 use Prim.Native.Nat.{_≤_, _-_}
 use native.Mathlib.Omega.{arith}
-use Rattle.builder.proofs.Growth.{grown-none, grown-then}
+use Rattle.records.proofs.Growth.{grown-none, grown-then}
 use Rattle.builder.proofs.Leafs as laws
 use Rattle.builder.proofs.leaf.put_leaves.Statement.{statement}
 use Rattle.builder.proofs.leaf.put_leaves.Tie as tie
-use Rattle.builder.specs.Growing.{Grown}
-use Rattle.builder.specs.State.{settingsOf, Leafing}
+use Rattle.records.specs.Growing.{Grown}
+use Rattle.records.specs.State.{settingsOf, Leafing}
 use Rattle.format.specs.Blocks.{treeOf}
 
 abbrev Inv-loop : tie.InvT-loop

@@ -2,10 +2,10 @@ use Prim.Native.Nat.{_+_}
 use borrow.Author.Needs.{needs}
 use native.Mathlib.Omega.{arith}
 use Rattle.builder.proofs.Pairing as laws
-use Rattle.builder.proofs.StateLaws.{few}
+use Rattle.records.proofs.StateLaws.{few}
 use Rattle.builder.proofs.pair.pair_after.Statement.{statement}
 use Rattle.builder.proofs.pair.pair_after.Tie as tie
-use Rattle.builder.specs.State.{settingsOf}
+use Rattle.records.specs.State.{settingsOf}
 
 pub pair-after-spec : {M : Type 1} → statement M
 pair-after-spec =

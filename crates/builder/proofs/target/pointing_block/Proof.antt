@@ -1,10 +1,10 @@
 use native.Mathlib.Omega.{arith}
 use Rattle.builder.proofs.Pairing.{start-fits, start-read, start-in}
-use Rattle.builder.proofs.StateLaws.{few}
+use Rattle.records.proofs.StateLaws.{few}
 use Rattle.builder.proofs.Targeting as laws
 use Rattle.builder.proofs.target.pointing_block.Statement.{statement}
 use Rattle.builder.proofs.target.pointing_block.Tie as tie
-use Rattle.builder.specs.State.{settingsOf}
+use Rattle.records.specs.State.{settingsOf}
 
 pub pointing-block-spec : {M : Type 1} → statement M
 pointing-block-spec =

@@ -2,11 +2,11 @@ use Prim.Native.Nat.{suc}
 use borrow.Author.Needs.{needs}
 use native.Mathlib.Omega.{arith}
 use Rattle.builder.proofs.Descending as laws
-use Rattle.builder.proofs.Growth.{grown-then}
-use Rattle.builder.proofs.StateLaws.{few, offset-low}
+use Rattle.records.proofs.Growth.{grown-then}
+use Rattle.records.proofs.StateLaws.{few, offset-low}
 use Rattle.builder.proofs.tree.descend.Statement.{statement}
 use Rattle.builder.proofs.tree.descend.Tie as tie
-use Rattle.builder.specs.State.{settingsOf}
+use Rattle.records.specs.State.{settingsOf}
 use Rattle.built.specs.Sizes.{bounds}
 use Rattle.format.specs.Blocks.{treeOf}
 

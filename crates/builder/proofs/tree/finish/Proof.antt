@@ -2,10 +2,10 @@ use Prim.Native.Nat.{suc}
 use borrow.Author.Needs.{needs}
 use native.Mathlib.Omega.{arith}
 use Rattle.builder.proofs.Descending as laws
-use Rattle.builder.proofs.StateLaws.{few, offset-low}
+use Rattle.records.proofs.StateLaws.{few, offset-low}
 use Rattle.builder.proofs.tree.finish.Statement.{statement}
 use Rattle.builder.proofs.tree.finish.Tie as tie
-use Rattle.builder.specs.State.{settingsOf}
+use Rattle.records.specs.State.{settingsOf}
 use Rattle.built.specs.Sizes.{bounds}
 
 pub finish-spec : {M : Type 1} → statement M

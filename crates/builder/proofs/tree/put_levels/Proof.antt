@@ -2,11 +2,11 @@ use Prim.Native.Nat.{_-_}
 use borrow.Author.Needs.{needs}
 use mathlib.Core.Path.{refl, _∙_}
 use native.Mathlib.Omega.{arith}
-use Rattle.builder.proofs.Growth.{grown-none}
+use Rattle.records.proofs.Growth.{grown-none}
 use Rattle.builder.proofs.Levelling as laws
 use Rattle.builder.proofs.tree.put_levels.Statement.{statement}
 use Rattle.builder.proofs.tree.put_levels.Tie as tie
-use Rattle.builder.specs.State.{settingsOf}
+use Rattle.records.specs.State.{settingsOf}
 use Rattle.built.specs.Sizes.{bounds}
 use Rattle.format.specs.Blocks.{treeOf}
 

@@ -1,11 +1,11 @@
 use borrow.Author.Needs.{needs}
 use native.Mathlib.Omega.{arith}
 use Rattle.builder.proofs.Descending.{first-sized}
-use Rattle.builder.proofs.Growth.{grown-none}
+use Rattle.records.proofs.Growth.{grown-none}
 use Rattle.builder.proofs.Levelling as laws
 use Rattle.builder.proofs.tree.write_tree.Statement.{statement}
 use Rattle.builder.proofs.tree.write_tree.Tie as tie
-use Rattle.builder.specs.State.{settingsOf}
+use Rattle.records.specs.State.{settingsOf}
 use Rattle.built.specs.Sizes.{bounds}
 use Rattle.format.specs.Blocks.{treeOf}
 
