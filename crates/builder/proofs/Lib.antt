@@ -1,10 +1,3 @@
-pub mod Pairing
-pub mod Halving
-pub mod Targeting
-pub mod Findings
 pub mod Filling
-pub mod Leafs
-pub mod Heads
-pub mod Descending
 pub mod Levelling
 pub mod Outcomes

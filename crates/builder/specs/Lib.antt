@@ -1,6 +1,1 @@
-pub mod Marking
-pub mod Targets
-pub mod Leaves
-pub mod Head
-pub mod Trees
 pub mod Answers

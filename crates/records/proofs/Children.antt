@@ -13,7 +13,7 @@ use Rattle.format.specs.Words.{wordAt}
 use Rattle.format.specs.Settings.{Settings, blockLength, pieces}
 use Rattle.format.specs.Blocks.{treeOf, recordBytes}
 use Rattle.built.specs.Bytes.{Stands}
-use Rattle.built.specs.Linked.{link-kept, kind-points}
+use Rattle.built.specs.Linked.{link-kept}
 use Rattle.built.specs.Sizes.{Taken, Bounds, bounds, size-pos}
 use Rattle.built.specs.Structure.{size, count, start, bytesIn, keptAt, widthOf, bytesIn-is, level-at, cut-at, count-below, start-below}
 use Rattle.built.specs.Leaves.{widths-le}
@@ -21,13 +21,16 @@ use Rattle.built.specs.Pairs.{offset}
 use Rattle.built.specs.Records.{kindOf, linkOf}
 use Rattle.built.specs.Small.{kind-le, link-le}
 use Rattle.records.specs.declared.level.Level.{Level}
+use Rattle.records.specs.declared.level.Stretch.{Stretch}
 use Rattle.records.specs.Growing.{Grown, Within}
 use Rattle.records.specs.Levels.{recordPlace}
 use Rattle.records.specs.Starts.{startsWritten, StartsAsk}
-use Rattle.records.specs.State.{Filled, Below, Started, placeAt}
+use Rattle.records.specs.State.{Filled, Below, Started, On, StretchIs, placeAt}
 use Rattle.records.proofs.Growth.{read-right, within-grown, within-part}
+use Rattle.records.proofs.Reading.{on-written}
 use Rattle.records.proofs.Starting.{starts-grown, starts-within}
-use Rattle.records.proofs.StateLaws.{record-size, place-le, place-end, record-inside-table, table-inside, offset-low, offset-rises, size-high, start-stands, kind-stands, link-stands}
+use Rattle.records.proofs.StateLaws.{record-size, place-is, place-le, place-end, record-inside-table, table-inside, offset-low, offset-rises, size-high, start-stands, kind-stands, link-stands}
+use Rattle.records.proofs.Widths.{kept-by-kind, points-by-kind}
 
 -- no more blocks than bytes, and one more block's
 pub pieces-most : (x b : ℕ) → pieces x b * b ≤ x + (b - 1)
@@ -69,9 +72,13 @@ module _ (S : Settings) (T out : List ℕ) (level next : Level) (i : ℕ) (w : B
   ends : P + recordBytes S ≤ offset S T (suc l)
   ends = record-inside-table S T l i i-in
 
+  -- the records of the level are written
+  pub children-on : On S T out level i
+  children-on = on-written S T out level i (w .level-is) (omega (arith, offset-rises S T (suc l) (suc (suc l)) (omega arith), w .room)) (w .body) il
+
   module _ (at : ℕ) (at-is : at ≡ recordPlace (level .table) i (S .counted)) where
     at-right : at ≡ P
-    at-right = at-is ∙ rw (w .level-is .table-is, record-size S T)
+    at-right = at-is ∙ place-is S T level (w .level-is) i
 
     pub record-fits : at + 16 ≤ length out
     record-fits = omega (arith, at-right, ends, record-size S T, offset-rises S T (suc l) (suc (suc l)) (omega arith), w .room)
@@ -83,75 +90,46 @@ module _ (S : Settings) (T out : List ℕ) (level next : Level) (i : ℕ) (w : B
     kind-read : wordAt out (at + 4) ≡ kindOf S T l i
     kind-read = word 4 (kindOf S T l i) (omega (arith, record-size S T)) (kind-stands S T taken l i l-in i-in) (omega (arith, kind-le S T l i))
 
-    start-read : wordAt out at ≡ start S T l i
-    start-read =
-        rw at-right (read-right D out P (start S T l i) (within-part D out 100 (offset S T (suc l)) P (P + 4) (w .body) low (omega (arith, ends, record-size S T)))
-        (start-stands S T taken l i l-in i-in) (omega (arith, level-at S T taken l l-in .within i i-in, limits .text-high)))
-
     link-read : wordAt out (at + 8) ≡ linkOf S T l i
     link-read =
         let e : P + 4 + 4 ≡ P + 8 = omega arith in
         word 8 (linkOf S T l i) (omega (arith, record-size S T)) (rw e at (link-stands S T taken l i l-in i-in)) (omega (arith, link-le S T taken l l-in i i-in, limits .text-high))
 
-    kind-kept : keptAt S T l i ≡ true → kindOf S T l i ≡ 0
-    unfolding kindOf
-    kind-kept k = rw k
-
     module _ (kind : ℕ) (kind-is : kind ≡ wordAt out (at + 4)) where
-      points : (kind ≡ 0 → ⊥) → keptAt S T l i ≡ false
-      points n = go (bool-cases (keptAt S T l i))
-        where
-          go : (keptAt S T l i ≡ true) ⊎ (keptAt S T l i ≡ false) → keptAt S T l i ≡ false
-          go (inl y) = absurd (n (kind-is ∙ kind-read ∙ kind-kept y))
-          go (inr y) = y
-
       -- a pointing block has no children
       pub no-children : (kind ≡ 0 → ⊥) → Started S T out (suc l) 0 (sumBelow (i + 1) (widthOf S T l))
       no-children n =
-          let e : sumBelow (i + 1) (widthOf S T l) ≡ sum = sumBelow-suc i (widthOf S T l) ∙ omega (arith, cut-at S T taken l up .uncut i (points n)) in
+          let e : sumBelow (i + 1) (widthOf S T l) ≡ sum = sumBelow-suc i (widthOf S T l) ∙ omega (arith, cut-at S T taken l up .uncut i (points-by-kind S T l i kind (kind-is ∙ kind-read) n)) in
           rw e (w .done)
 
       module _ (zero-kind : kind ≡ 0) where
         kept : keptAt S T l i ≡ true
-        kept = go (bool-cases (keptAt S T l i))
-          where
-            go : (keptAt S T l i ≡ true) ⊎ (keptAt S T l i ≡ false) → keptAt S T l i ≡ true
-            go (inl y) = y
-            go (inr y) = absurd (let z : ⊥ = omega (arith, kind-is, kind-read, kind-points S T l i y) in z)
+        kept = kept-by-kind S T l i kind (kind-is ∙ kind-read) zero-kind
 
-        module _ (s link len n : ℕ) (s-is : s ≡ wordAt out at) (link-is : link ≡ wordAt out (at + 8)) where
-          s-right : s ≡ start S T l i
-          s-right = s-is ∙ start-read
-
+        module _ (link : ℕ) (link-is : link ≡ wordAt out (at + 8)) where
           link-right : link ≡ sum
           link-right = link-is ∙ link-read ∙ link-kept S T l i kept
-
-          pub s-few : s ≤ length T
-          s-few = omega (arith, s-right, level-at S T taken l l-in .within i i-in)
 
           pub link-few : link ≤ 1048576
           link-few = omega (arith, link-right, widths-le S T taken l i l-in (omega (arith, i-in)), limits .text-high)
 
-          module _ (len-is : len ≡ min (level .size) (length T - s)) where
-            len-right : len ≡ bytesIn S T l i
-            len-right = len-is ∙ rw (s-right, w .level-is .size-is) (sym (bytesIn-is S T l i))
-
+          module _ (own : Stretch) (own-is : StretchIs S T l i own) where
             size-right : next .size ≡ size S T (suc l)
             size-right = w .next-is .size-is ∙ ap (blockLength S) (w .follows)
 
-            pub pieces-asks : (len ≤ 1048576) × (0 < next .size) × (next .size ≤ 1048576)
+            pub pieces-asks : (own .length ≤ 1048576) × (0 < next .size) × (next .size ≤ 1048576)
             pieces-asks = (
-              omega (arith, len-is, limits .text-high),
+              omega (arith, own-is .fits, limits .text-high),
               rw size-right (size-pos S T taken (suc l)),
               rw size-right (size-high S T taken (suc l)),
             )
 
-            module _ (n-is : n ≡ pieces len (next .size)) (to : ℕ) (to-is : to ≡ recordPlace (next .table) link (S .counted)) (to-few : to ≤ 603979876) where
+            module _ (n : ℕ) (n-is : n ≡ pieces (own .length) (next .size)) (to : ℕ) (to-is : to ≡ recordPlace (next .table) link (S .counted)) (to-few : to ≤ 603979876) where
               n-right : n ≡ widthOf S T l i
-              n-right = n-is ∙ rw (len-right, size-right, bytesIn-is S T l i) (sym (cut-at S T taken l up .cut i kept))
+              n-right = n-is ∙ rw (own-is .length-is, size-right, bytesIn-is S T l i) (sym (cut-at S T taken l up .cut i kept))
 
               to-right : to ≡ placeAt S T (suc l) sum
-              to-right = to-is ∙ rw (w .next-is .table-is, w .follows, link-right, record-size S T)
+              to-right = to-is ∙ place-is S T next (w .next-is) link ∙ rw (w .follows, link-right)
 
               to-child : (j : ℕ) → to + j * recordBytes S ≡ placeAt S T (suc l) (sum + j)
               to-child j = omega (arith, to-right, add-mul sum j (recordBytes S))
@@ -165,24 +143,24 @@ module _ (S : Settings) (T out : List ℕ) (level next : Level) (i : ℕ) (w : B
               child-fits : (j : ℕ) → j < n → to + j * recordBytes S + 4 ≤ offset S T (suc (suc l))
               child-fits j h = omega (arith, to-child j, record-inside-table S T (suc l) (sum + j) (child-in j h), record-size S T)
 
-              stands : (j : ℕ) → j < n → Stands D (to + j * recordBytes S) (s + j * next .size)
+              stands : (j : ℕ) → j < n → Stands D (to + j * recordBytes S) (own .start .0 + j * next .size)
               stands j h =
-                  let e : start S T (suc l) (sum + j) ≡ s + j * next .size =
-                  start-below S T taken l i j up i-in (omega (arith, n-right)) ∙ rw (s-right, size-right) in
+                  let e : start S T (suc l) (sum + j) ≡ own .start .0 + j * next .size =
+                  start-below S T taken l i j up i-in (omega (arith, n-right)) ∙ rw (own-is .start-is, size-right) in
                   rw (to-child j, ← e) (start-stands S T taken (suc l) (sum + j) up (child-in j h))
 
-              pub starts-ask : StartsAsk out to (16 + 12 * length (S .counted)) s (next .size) n
+              pub starts-ask : StartsAsk out to (16 + 12 * length (S .counted)) (own .start .0) (next .size) n
               starts-ask = record {
                 room = rw (← record-size S T) (omega (arith, to-child n, place-le S T (suc l) (sum + n) (count S T (suc l)) all-in, place-end S T (suc l), w .room));
                 step-low = omega arith;
                 step-few = omega (arith, limits .counted-high);
                 at-few = omega arith;
                 count-few = omega (arith, n-right, sumBelow-part (count S T l) (widthOf S T l) i i-in, widths-le S T taken l (count S T l) l-in (omega arith), limits .text-high);
-                ends = rw n-is (omega (arith, pieces-most len (next .size), pieces-asks .0, pieces-asks .2, s-few, limits .text-high));
+                ends = rw n-is (omega (arith, pieces-most (own .length) (next .size), pieces-asks .0, pieces-asks .2, own-is .fits, limits .text-high));
               }
 
-              module _ (new : List ℕ) (new-is : new ≡ startsWritten out to (16 + 12 * length (S .counted)) s (next .size) n) where
-                new-right : new ≡ startsWritten out to (recordBytes S) s (next .size) n
+              module _ (new : List ℕ) (new-is : new ≡ startsWritten out to (16 + 12 * length (S .counted)) (own .start .0) (next .size) n) where
+                new-right : new ≡ startsWritten out to (recordBytes S) (own .start .0) (next .size) n
                 new-right = new-is ∙ rw (record-size S T)
 
                 fits : (j : ℕ) → j < n → to + j * recordBytes S + 4 ≤ length out
@@ -192,10 +170,10 @@ module _ (S : Settings) (T out : List ℕ) (level next : Level) (i : ℕ) (w : B
                 inside j h = omega (arith, child-fits j h, table-inside S T taken (suc l) up)
 
                 pub children-grown : Grown D out new
-                children-grown = rw new-right (starts-grown D out to (recordBytes S) s (next .size) n stands fits inside n (omega arith))
+                children-grown = rw new-right (starts-grown D out to (recordBytes S) (own .start .0) (next .size) n stands fits inside n (omega arith))
 
                 child-started : (j : ℕ) → j < n → Within D new (placeAt S T (suc l) (sum + j)) (placeAt S T (suc l) (sum + j) + 4)
-                child-started j h = rw (← to-child j, new-right) (starts-within D out to (recordBytes S) s (next .size) n stands fits inside n (omega arith) j h)
+                child-started j h = rw (← to-child j, new-right) (starts-within D out to (recordBytes S) (own .start .0) (next .size) n stands fits inside n (omega arith) j h)
 
                 pub children-started : Started S T new (suc l) 0 (sumBelow (i + 1) (widthOf S T l))
                 children-started = record { starts = λ x _ h. go x h (lt-or-ge x sum) }

@@ -27,7 +27,7 @@ use Rattle.records.specs.Records.{putThree, beforeSays}
 use Rattle.records.specs.State.{Writing, placeAt}
 use Rattle.records.proofs.Growth.{read-right, within-grown, within-join, grown-then, within-part, three-grown, three-within}
 use Rattle.records.proofs.Neighbours.{LeftOf, left-of, before-left, before-first}
-use Rattle.records.proofs.StateLaws.{record-size, place-next, record-inside-table, offset-low, table-inside, kind-stands, link-stands, gap-stands, before-stands, inside-stands, skip-stands}
+use Rattle.records.proofs.StateLaws.{record-size, place-is, place-next, record-inside-table, offset-low, table-inside, kind-stands, link-stands, gap-stands, before-stands, inside-stands, skip-stands}
 
 -- the places written so far, and those of one more counted byte
 pub one-more : (D t u : List ℕ) (p c : ℕ) → Within D t p (p + 12 * c) → Grown D t u → Within D u (p + 12 * c) (p + 12 * c + 12) → Within D u p (p + 12 * (c + 1))
@@ -57,11 +57,11 @@ module _ (S : Settings) (T out : List ℕ) (level : Level) (i : ℕ) (block : Bl
   i-in : i < count S T l
   i-in = omega (arith, w .block-in, w .level-is .count-is)
 
-  pub place-is : recordPlace (level .table) i (S .counted) ≡ P
-  place-is = rw (w .level-is .table-is, record-size S T)
+  pub here-is : recordPlace (level .table) i (S .counted) ≡ P
+  here-is = place-is S T level (w .level-is) i
 
   pub place-low : 100 ≤ recordPlace (level .table) i (S .counted)
-  place-low = omega (arith, place-is, offset-low S T l)
+  place-low = omega (arith, here-is, offset-low S T l)
 
   pub record-fits : P + recordBytes S ≤ length out
   record-fits = omega (arith, record-inside-table S T l i i-in, w .filled .room)
@@ -88,7 +88,7 @@ module _ (S : Settings) (T out : List ℕ) (level : Level) (i : ℕ) (block : Bl
       P-is = ap (placeAt S T l) (lo .next) ∙ place-next S T l j
 
       left-is : left ≡ placeAt S T l j + 16 + 12 * c
-      left-is = omega (arith, at-is, place-is, P-is, record-size S T)
+      left-is = omega (arith, at-is, here-is, P-is, record-size S T)
 
       low : 100 ≤ placeAt S T l j
       low = omega (arith, offset-low S T l)
@@ -135,7 +135,7 @@ module _ (S : Settings) (T out : List ℕ) (level : Level) (i : ℕ) (block : Bl
     inside-is = rw (w .block-is .start-is, w .block-is .length-is)
 
     pub here : at + 16 + 12 * c ≡ P + 16 + 12 * c
-    here = omega (arith, at-is, place-is)
+    here = omega (arith, at-is, here-is)
 
     pub count-fits : P + 16 + 12 * c + 12 ≤ length out
     count-fits = omega (arith, record-size S T, record-fits)
@@ -167,7 +167,7 @@ module _ (S : Settings) (T out : List ℕ) (level : Level) (i : ℕ) (block : Bl
   -- kind, link and gap are written
   module _ (new : List ℕ) (at : ℕ) (at-is : at ≡ recordPlace (level .table) i (S .counted)) (new-is : new ≡ putThree out (at + 4) (block .kind) (block .link) (block .gap)) where
     fields-are : new ≡ putThree out (P + 4) (kindOf S T l i) (linkOf S T l i) (gapOf S T l i)
-    fields-are = new-is ∙ rw (at-is ∙ place-is, w .block-is .kind-is, w .block-is .link-is, w .block-is .gap-is)
+    fields-are = new-is ∙ rw (at-is ∙ here-is, w .block-is .kind-is, w .block-is .link-is, w .block-is .gap-is)
 
     fits : P + 4 + 12 ≤ length out
     fits = omega (arith, record-fits, record-size S T)

@@ -23,6 +23,7 @@ use Rattle.built.specs.Records.{recordWords, record-start, record-kind, record-
 use Rattle.records.specs.declared.level.Level.{Level}
 use Rattle.records.specs.declared.record.Block.{Block}
 use Rattle.records.specs.Growing.{Grown}
+use Rattle.records.specs.Levels.{recordPlace}
 use Rattle.records.specs.State.{LevelIs, Filled, Writing, placeAt}
 use Rattle.records.proofs.Growth.{within-grown}
 
@@ -141,6 +142,10 @@ few S T level h = record {
   count-few = rw (h .count-is) (blocks-few S T (h .taken) (level .number) (h .number-in));
   size-few = rw (h .size-is) (size-high S T (h .taken) (level .number));
 }
+
+-- where the code finds the record of a block
+pub place-is : (S : Settings) (T : List ℕ) (level : Level) → LevelIs S T level → (i : ℕ) → recordPlace (level .table) i (S .counted) ≡ placeAt S T (level .number) i
+place-is S T level h i = rw (h .table-is, record-size S T)
 
 -- a state goes on as the buffer grows
 pub filled-grown : (S : Settings) (T t u : List ℕ) (l i : ℕ) → Filled S T t l i → Grown (treeOf S T) t u → Filled S T u l i

@@ -1,6 +1,5 @@
 -- What is known while a level of the tree of T is written.
 use mathlib.Core.List.{List}
-use mathlib.Core.Bool.{Bool}
 use mathlib.Core.Path.{_≡_}
 use Prim.Native.Nat.{ℕ, suc, _+_, _*_, _≤_, _<_}
 use lib.ListN.{length}
@@ -10,10 +9,11 @@ use Rattle.format.specs.Settings.{Settings, blockLength}
 use Rattle.format.specs.Blocks.{treeOf, recordBytes}
 use Rattle.layout.specs.declared.settings.Settings as code
 use Rattle.built.specs.Sizes.{Taken}
-use Rattle.built.specs.Structure.{count, start, bytesIn, keptAt, widthOf}
+use Rattle.built.specs.Structure.{count, start, bytesIn, widthOf}
 use Rattle.built.specs.Pairs.{offset}
 use Rattle.built.specs.Records.{parentOf, kindOf, linkOf, gapOf, skipOf}
 use Rattle.records.specs.declared.level.Level.{Level}
+use Rattle.records.specs.declared.level.Stretch.{Stretch}
 use Rattle.records.specs.declared.record.Block.{Block}
 use Rattle.records.specs.Growing.{Within}
 
@@ -43,6 +43,12 @@ module _ (S : Settings) (T : List ℕ) where
     pub body : Within (treeOf S T) out 100 (placeAt l i)
     pub starts : (x : ℕ) → x < count S T l → Within (treeOf S T) out (placeAt l x) (placeAt l x + 4)
 
+  -- the bytes of block i of level l, as the code reads them
+  pub record StretchIs (l i : ℕ) (r : Stretch) : Type 0 where
+    pub start-is : r .start .0 ≡ start S T l i
+    pub length-is : r .length ≡ bytesIn S T l i
+    pub fits : r .start .0 + r .length ≤ length T
+
   -- what the code knows of block i of level l, whose record it is about to write
   pub record BlockIs (l i : ℕ) (block : Block) : Type 0 where
     pub start-is : block .start ≡ start S T l i
@@ -67,12 +73,6 @@ module _ (S : Settings) (T : List ℕ) where
     pub filled : Filled out (level .number) i
     pub block-in : i < level .count
 
-  -- block i of a level is next in turn, with its kind and its link known
-  pub record Next (out : List ℕ) (level : Level) (i : ℕ) (kept : Bool) (link : ℕ) : Type 0 where
-    pub on : On out level i
-    pub kept-is : kept ≡ keptAt S T (level .number) i
-    pub link-is : link ≡ sumBelow i (widthOf S T (level .number))
-
   -- the starts of blocks a to b of level l stand in the buffer
   pub record Started (out : List ℕ) (l a b : ℕ) : Type 0 where
     pub starts : (x : ℕ) → a ≤ x → x < b → Within (treeOf S T) out (placeAt l x) (placeAt l x + 4)
@@ -85,11 +85,3 @@ module _ (S : Settings) (T : List ℕ) where
     pub room : offset S T (suc (suc (level .number))) ≤ length out
     pub body : Within (treeOf S T) out 100 (offset S T (suc (level .number)))
     pub done : Started out (suc (level .number)) 0 (sumBelow i (widthOf S T (level .number)))
-
-  -- all records are written, and the leaf bytes before place `to`, those of the first i blocks of the last level
-  pub record Leafing (out : List ℕ) (level : Level) (to i : ℕ) : Type 0 where
-    pub level-is : LevelIs level
-    pub last : suc (level .number) ≡ S .levels
-    pub room : length (treeOf S T) ≤ length out
-    pub body : Within (treeOf S T) out 100 to
-    pub to-is : to ≡ offset S T (S .levels) + sumBelow i (widthOf S T (level .number))

@@ -3,7 +3,6 @@ use crate::level;
 use crate::level::Level;
 use layout::header;
 use layout::place::BlockNumber;
-use layout::place::TextPlace;
 use layout::word;
 ghost use mathlib.Core.Path.{_≡_};
 ghost use Prim.Native.Nat.{suc, _+_, _<_};
@@ -37,14 +36,14 @@ fn put_children_of(out: &mut [u8], text: &[u8], counted: &[u8], level: Level, ne
     if word::read(out, at + 4) != 0 {
         return;
     }
-    let start = word::read(out, at);
     let link = word::read(out, at + 8);
-    let children = header::pieces(level::bytes(text, level, TextPlace(start)), next.size);
+    let own = level::stretch_of(text, counted, out, level, i);
+    let children = header::pieces(own.length, next.size);
     put_starts(
         out,
         level::place(counted, next, BlockNumber(link)),
         16 + 12 * counted.len(),
-        start,
+        own.start.0,
         next.size,
         children,
     );

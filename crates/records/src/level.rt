@@ -7,7 +7,8 @@ ghost use mathlib.Core.Path.{_≡_};
 ghost use Prim.Native.Nat.{_+_, _-_, _≤_, _<_, min};
 ghost use lib.ListN.{length};
 ghost use Rattle.format.specs.Words.{wordAt};
-ghost use Rattle.records.specs.Levels.{parentSays, recordPlace};
+ghost use Rattle.records.specs.Levels.{recordPlace};
+ghost use Rattle.records.specs.State.{settingsOf, On, StretchIs};
 
 pub struct Level {
     pub settings: Settings,
@@ -22,6 +23,12 @@ pub struct Level {
     pub table: u32,
 }
 
+// The bytes of a block: where they start, and how many they are.
+pub struct Stretch {
+    pub start: TextPlace,
+    pub length: u32,
+}
+
 // Where the record of a block stands.
 pub fn place(counted: &[u8], level: Level, block: BlockNumber) -> usize
     requires { ⌜ (length (now counted) ≤ 4) × (level .table ≤ 536871012) × (block .0 ≤ 1048576) ⌝ }
@@ -30,19 +37,8 @@ pub fn place(counted: &[u8], level: Level, block: BlockNumber) -> usize
     level.table as usize + block.0 as usize * (16 + 12 * counted.len())
 }
 
-// The start of a block's parent; the text's start on level 0.
-pub fn parent(level: Level, start: TextPlace) -> TextPlace
-    requires { ⌜ 0 < level .above ⌝ }
-    ensures { λ r. ⌜ r .0 ≡ parentSays (level .number) (level .above) (start .0) ⌝ }
-{
-    if level.number == 0 {
-        return TextPlace(0);
-    }
-    TextPlace(start.0 / level.above * level.above)
-}
-
 // The bytes that a block has.
-pub fn bytes(text: &[u8], level: Level, start: TextPlace) -> u32
+fn bytes(text: &[u8], level: Level, start: TextPlace) -> u32
     requires { ⌜ (length (now text) ≤ 1048576) × (start .0 ≤ length (now text)) ⌝ }
     ensures { λ r. ⌜ (r ≡ min (level .size) (length (now (text .entry)) - start .0)) × (r ≤ 1048576) ⌝ }
 {
@@ -60,4 +56,16 @@ pub fn start(counted: &[u8], out: &[u8], level: Level, block: BlockNumber) -> Te
     ensures { λ r. ⌜ r .0 ≡ wordAt (now (out .entry)) (recordPlace (level .table) (block .0) (now (counted .entry))) ⌝ }
 {
     TextPlace(word::read(out, place(counted, level, block)))
+}
+
+// The bytes of a block of a level whose starts stand in place.
+pub fn stretch_of(text: &[u8], counted: &[u8], out: &[u8], level: Level, i: u32) -> Stretch
+    requires { ⌜ On (settingsOf (level .settings) (now counted)) (now text) (now out) level i ⌝ }
+    ensures { λ r. ⌜ StretchIs (settingsOf (level .settings) (now (counted .entry))) (now (text .entry)) (level .number) i r ⌝ }
+{
+    let start = start(counted, out, level, BlockNumber(i));
+    Stretch {
+        start,
+        length: bytes(text, level, start),
+    }
 }

@@ -2,6 +2,7 @@
 use crate::counts;
 use crate::level;
 use crate::level::Level;
+use layout::header;
 use layout::place::BlockNumber;
 use layout::word;
 ghost use mathlib.Core.Path.{_≡_};
@@ -10,6 +11,7 @@ ghost use lib.ListN.{length};
 ghost use Rattle.text.specs.Text.{stretch, countIn};
 ghost use Rattle.format.specs.Words.{wordAt};
 ghost use Rattle.format.specs.Blocks.{treeOf};
+ghost use Rattle.built.specs.Structure.{widthOf};
 ghost use Rattle.records.specs.Growing.{Grown, Within};
 ghost use Rattle.records.specs.State.{settingsOf, Writing, placeAt};
 ghost use Rattle.records.specs.Records.{putThree, beforeSays};
@@ -98,7 +100,7 @@ fn put_counts(out: &mut [u8], text: &[u8], counted: &[u8], level: Level, i: u32,
 }
 
 // The record of a block.
-pub fn put_record(out: &mut [u8], text: &[u8], counted: &[u8], level: Level, i: u32, block: Block)
+fn put_record(out: &mut [u8], text: &[u8], counted: &[u8], level: Level, i: u32, block: Block)
     requires { ⌜ Writing (settingsOf (level .settings) (now counted)) (now text) (now out) level i block ⌝ }
     ensures { λ _. ⌜ Grown (treeOf (settingsOf (level .settings) (now (counted .entry))) (now (text .entry))) (now (out .entry)) (now (out .exit)) ⌝ }
     ensures { λ _. ⌜ Within (treeOf (settingsOf (level .settings) (now (counted .entry))) (now (text .entry))) (now (out .exit))
@@ -107,4 +109,29 @@ pub fn put_record(out: &mut [u8], text: &[u8], counted: &[u8], level: Level, i: 
     let at = level::place(counted, level, BlockNumber(i));
     put_three(out, at + 4, block.kind, block.link, block.gap);
     put_counts(out, text, counted, level, i, block);
+}
+
+// Writes the record of a block, and answers what the block has one level below: leaf bytes on the last level, else children; nothing where it points.
+pub fn put_block(
+    out: &mut [u8],
+    text: &[u8],
+    counted: &[u8],
+    level: Level,
+    i: u32,
+    block: Block,
+) -> u32
+    requires { ⌜ Writing (settingsOf (level .settings) (now counted)) (now text) (now out) level i block ⌝ }
+    ensures { λ r. ⌜ r ≡ widthOf (settingsOf (level .settings) (now (counted .entry))) (now (text .entry)) (level .number) i ⌝ }
+    ensures { λ _. ⌜ Grown (treeOf (settingsOf (level .settings) (now (counted .entry))) (now (text .entry))) (now (out .entry)) (now (out .exit)) ⌝ }
+    ensures { λ _. ⌜ Within (treeOf (settingsOf (level .settings) (now (counted .entry))) (now (text .entry))) (now (out .exit))
+        100 (placeAt (settingsOf (level .settings) (now (counted .entry))) (now (text .entry)) (level .number) (i + 1)) ⌝ }
+{
+    put_record(out, text, counted, level, i, block);
+    if block.kind != 0 {
+        return 0;
+    }
+    if level.number + 1 == level.settings.levels {
+        return block.length;
+    }
+    header::pieces(block.length, level.below)
 }
