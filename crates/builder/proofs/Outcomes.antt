@@ -1,13 +1,12 @@
 -- What build answers, case by case.
-use mathlib.Core.List.{List, _++_, append-nil}
+use mathlib.Core.List.{List, _++_}
 use mathlib.Core.Bool.{Bool, true, false, cond}
 use mathlib.Core.Path.{_≡_, refl, sym, ap, _∙_, subst}
 use mathlib.Core.Logic.{_⊎_, inl, inr}
 use Prim.Native.Nat.{ℕ, _+_, _-_, _≤_, _<_}
 use native.Mathlib.Omega.{arith}
-use borrow.Author.Fill.{fill-more}
-use lib.ListN.{length, getD, set, drop, replicate, length-append, length-drop, List·getD-append}
-use lib.Seq.{getD-append-add, getD-drop, ext-getD, drop-length}
+use lib.ListN.{length, getD, drop, replicate, length-append, length-drop, List·getD-append}
+use lib.Seq.{getD-append-add, getD-drop, ext-getD}
 use lib.Dec.{eqb}
 use borrow.Author.Tests.{le-leb, lt-leb}
 use Rattle.text.specs.ListLaws.{lt-or-ge}
@@ -23,10 +22,10 @@ use Rattle.built.specs.Shape.{tree-length}
 use Rattle.builder.specs.declared.Built.{Built}
 use Rattle.builder.specs.declared.Built.the-variants.{Size, Refused as Not}
 use Rattle.builder.specs.Answers.{numberOf, sizeOf, given}
-use Rattle.builder.specs.Growing.{Grown, Within}
-use Rattle.builder.specs.State.{settingsOf}
-use Rattle.builder.specs.Trees.{Finished}
-use Rattle.builder.proofs.StateLaws.{offset-low}
+use Rattle.records.specs.Growing.{Grown, Within}
+use Rattle.records.specs.State.{settingsOf}
+use Rattle.levels.specs.Trees.{Finished}
+use Rattle.records.proofs.StateLaws.{offset-low}
 
 -- a buffer that holds the whole tree, with what stood after it
 pub whole : (D out new : List ℕ) → Grown D out new → length D ≤ length out → Within D new 0 (length D) → new ≡ D ++ drop (length D) out
@@ -175,11 +174,3 @@ module _ (m r H : ℕ) (cs T out : List ℕ) (ok : lengthOk (length T) ≡ true)
       size = z ∙ ap (λ (S : Settings). buildSize S T out) (fine-is .2);
       buffer = l ∙ ap (λ (S : Settings). buildLeaves S T out) (fine-is .2);
     }
-
--- A buffer made all zero.
-
-pub zero-more : (out t : List ℕ) (i : ℕ) → t ≡ replicate i 0 ++ drop i out → i < length out → set t i 0 ≡ replicate (i + 1) 0 ++ drop (i + 1) out
-zero-more out t i e l = rw e (fill-more i 0 out l)
-
-pub all-zero : (out t : List ℕ) (i : ℕ) → t ≡ replicate i 0 ++ drop i out → i ≡ length out → t ≡ replicate (length out) 0
-all-zero out t i e h = e ∙ rw (h, drop-length out) (append-nil (replicate (length out) 0))

@@ -1,11 +1,1 @@
-pub mod Levels
-pub mod Growing
-pub mod State
-pub mod Records
-pub mod Marking
-pub mod Targets
-pub mod Starts
-pub mod Leaves
-pub mod Head
-pub mod Trees
 pub mod Answers

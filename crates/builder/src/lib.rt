@@ -1,24 +1,15 @@
 // The builder: byte for byte the block tree of its text, written into a lent buffer.
-mod below;
-mod counts;
 mod fill;
-mod finding;
-mod head;
-mod leaf;
-mod level;
-mod pair;
-mod record;
-mod target;
 mod tree;
 
 use layout::settings::Checked;
 use layout::settings::Settings;
+use levels::bytes;
 ghost use mathlib.Core.Path.{_≡_};
-ghost use lib.ListN.{length, replicate};
 ghost use Rattle.format.specs.Building.{buildNumber, buildSize, buildLeaves};
 ghost use Rattle.built.specs.Sizes.{Taken};
 ghost use Rattle.builder.specs.Answers.{numberOf, sizeOf, given};
-ghost use Rattle.builder.specs.State.{settingsOf};
+ghost use Rattle.records.specs.State.{settingsOf};
 
 // The tree's size, or the number of the question that refuses it.
 pub enum Built {
@@ -62,19 +53,8 @@ fn build_with(text: &[u8], counted: &[u8], s: Settings, out: &mut [u8]) -> Built
 {
     let size = tree::write_tree(out, text, counted, s);
     if size == 0 {
-        clear(out);
+        bytes::clear(out);
         return Built::Refused(4);
     }
     Built::Size(size)
-}
-
-// Makes a buffer all zero.
-fn clear(out: &mut [u8])
-    ensures { λ _. ⌜ now (out .exit) ≡ replicate (length (now (out .entry))) 0 ⌝ }
-{
-    let mut i: usize = 0;
-    while i < out.len() {
-        out[i] = 0;
-        i += 1;
-    }
 }

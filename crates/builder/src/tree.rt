@@ -1,98 +1,15 @@
 // The tree, level by level.
-use crate::below;
 use crate::fill;
-use crate::head;
-use crate::leaf;
-use crate::level;
-use crate::level::Level;
-use layout::header;
-use layout::place::BlockNumber;
 use layout::settings::Settings;
-ghost use mathlib.Core.Path.{_≡_};
-ghost use Prim.Native.Nat.{_+_, _≤_, _<_};
-ghost use lib.ListN.{length};
+use levels::step;
+use levels::step::Step;
+use records::level::Level;
+ghost use Prim.Native.Nat.{_+_, _<_};
 ghost use Rattle.format.specs.Blocks.{treeOf};
 ghost use Rattle.built.specs.Sizes.{Taken};
-ghost use Rattle.layout.specs.Settings.{Sized};
-ghost use Rattle.builder.specs.Growing.{Grown};
-ghost use Rattle.builder.specs.State.{settingsOf};
-ghost use Rattle.builder.specs.Trees.{firstOf, nextOf, Ready, StepIs, Finished};
-
-// The level after one, or that the buffer has no room for its records.
-pub enum Step {
-    To(Level),
-    Full,
-}
-
-// Level 0.
-fn first_level(text: &[u8], s: Settings) -> Level
-    requires { ⌜ Sized s 0 × (1 ≤ s .leaf) × (length (now text) ≤ 1048576) ⌝ }
-    ensures { λ r. ⌜ r ≡ firstOf s (length (now (text .entry))) ⌝ }
-{
-    let size = s.block_length(0);
-    Level {
-        settings: s,
-        number: 0,
-        above: 1,
-        size,
-        below: size / s.arity,
-        count: header::pieces(text.len() as u32, size),
-        table: 100,
-    }
-}
-
-// The level below one, of whose blocks the number is known.
-fn next_level(counted: &[u8], level: Level, count: u32) -> Level
-    requires { ⌜ (length (now counted) ≤ 4) × (level .table ≤ 536871012) × (level .count ≤ 1048576) × (level .number < 8) × (0 < level .settings .arity) ⌝ }
-    ensures { λ r. ⌜ r ≡ nextOf level count (now (counted .entry)) ⌝ }
-{
-    let settings = level.settings;
-    Level {
-        settings,
-        number: level.number + 1,
-        above: level.size,
-        size: level.below,
-        below: level.below / settings.arity,
-        count,
-        table: level::place(counted, level, BlockNumber(level.count)) as u32,
-    }
-}
-
-// Writes the records of a level above the last, and puts the starts of the next one in place.
-fn descend(out: &mut [u8], text: &[u8], counted: &[u8], level: Level) -> Step
-    requires { ⌜ Ready (settingsOf (level .settings) (now counted)) (now text) (now out) level ⌝ }
-    requires { ⌜ level .number + 1 < level .settings .levels ⌝ }
-    ensures { λ _. ⌜ Grown (treeOf (settingsOf (level .settings) (now (counted .entry))) (now (text .entry))) (now (out .entry)) (now (out .exit)) ⌝ }
-    ensures { λ r. ⌜ StepIs (settingsOf (level .settings) (now (counted .entry))) (now (text .entry)) (now (out .exit)) level r ⌝ }
-{
-    let count = fill::fill_level(out, text, counted, level);
-    head::put_pair(out, level.number, level.count, level.table);
-    let next = next_level(counted, level, count);
-    if out.len() < level::place(counted, next, BlockNumber(next.count)) {
-        return Step::Full;
-    }
-    below::put_children(out, text, counted, level, next);
-    Step::To(next)
-}
-
-// Writes the records of the last level, the rest of the header and the leaf bytes; the tree's size, 0 where it does not fit.
-fn finish(out: &mut [u8], text: &[u8], counted: &[u8], level: Level) -> u32
-    requires { ⌜ Ready (settingsOf (level .settings) (now counted)) (now text) (now out) level ⌝ }
-    requires { ⌜ level .number + 1 ≡ level .settings .levels ⌝ }
-    ensures { λ _. ⌜ Grown (treeOf (settingsOf (level .settings) (now (counted .entry))) (now (text .entry))) (now (out .entry)) (now (out .exit)) ⌝ }
-    ensures { λ r. ⌜ Finished (treeOf (settingsOf (level .settings) (now (counted .entry))) (now (text .entry))) (now (out .exit)) r ⌝ }
-{
-    let count = fill::fill_level(out, text, counted, level);
-    head::put_pair(out, level.number, level.count, level.table);
-    let at = level::place(counted, level, BlockNumber(level.count)) as u32;
-    let end = at + count;
-    if out.len() < end as usize {
-        return 0;
-    }
-    head::put_end(out, level.settings.levels, at, count);
-    leaf::put_leaves(out, text, counted, level, at);
-    end
-}
+ghost use Rattle.records.specs.Growing.{Grown};
+ghost use Rattle.records.specs.State.{settingsOf};
+ghost use Rattle.levels.specs.Trees.{Ready, Finished};
 
 // Writes the levels from the first on; the tree's size, 0 where it does not fit.
 fn put_levels(out: &mut [u8], text: &[u8], counted: &[u8], first: Level) -> u32
@@ -102,13 +19,15 @@ fn put_levels(out: &mut [u8], text: &[u8], counted: &[u8], first: Level) -> u32
 {
     let mut level = first;
     while level.number + 1 < first.settings.levels {
-        let step = descend(out, text, counted, level);
+        let count = fill::fill_level(out, text, counted, level);
+        let step = step::go_down(out, text, counted, level, count);
         let Step::To(next) = step else {
             return 0;
         };
         level = next;
     }
-    finish(out, text, counted, level)
+    let count = fill::fill_level(out, text, counted, level);
+    step::finish(out, text, counted, level, count)
 }
 
 // Writes the tree; its size, 0 where it does not fit.
@@ -117,18 +36,9 @@ pub fn write_tree(out: &mut [u8], text: &[u8], counted: &[u8], s: Settings) -> u
     ensures { λ _. ⌜ Grown (treeOf (settingsOf s (now (counted .entry))) (now (text .entry))) (now (out .entry)) (now (out .exit)) ⌝ }
     ensures { λ r. ⌜ Finished (treeOf (settingsOf s (now (counted .entry))) (now (text .entry))) (now (out .exit)) r ⌝ }
 {
-    let first = first_level(text, s);
-    if out.len() < level::place(counted, first, BlockNumber(first.count)) {
+    let step = step::begin(out, text, counted, s);
+    let Step::To(first) = step else {
         return 0;
-    }
-    head::put_head(out, text, counted, s);
-    below::put_starts(
-        out,
-        100,
-        16 + 12 * counted.len(),
-        0,
-        first.size,
-        first.count,
-    );
+    };
     put_levels(out, text, counted, first)
 }

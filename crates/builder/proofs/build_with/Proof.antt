@@ -2,7 +2,7 @@ use borrow.Author.Needs.{needs}
 use Rattle.builder.proofs.Outcomes as laws
 use Rattle.builder.proofs.build_with.Statement.{statement}
 use Rattle.builder.proofs.build_with.Tie as tie
-use Rattle.builder.specs.State.{settingsOf}
+use Rattle.records.specs.State.{settingsOf}
 
 pub build-with-spec : {M : Type 1} → statement M
 build-with-spec =

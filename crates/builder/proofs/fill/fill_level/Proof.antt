@@ -1,10 +1,11 @@
-use Prim.Native.Nat.{_-_}
 use borrow.Author.Needs.{needs}
+use Prim.Native.Nat.{_-_}
 use native.Mathlib.Omega.{arith}
 use Rattle.builder.proofs.Filling as laws
+use Rattle.records.proofs.StateLaws.{few}
+use Rattle.records.specs.State.{settingsOf}
 use Rattle.builder.proofs.fill.fill_level.Statement.{statement}
 use Rattle.builder.proofs.fill.fill_level.Tie as tie
-use Rattle.builder.specs.State.{settingsOf}
 
 abbrev Inv-loop : tie.InvT-loop
 Inv-loop out₀ text counted level left₀ link₀ i₀ out left link i = laws.Going (settingsOf (level .settings) counted) text level out₀ out left link i
@@ -16,13 +17,14 @@ pub fill-level-spec : {M : Type 1} → statement M
 fill-level-spec =
     tie.close
     (tie.spec Inv-loop μ-loop
-    (λ c. let a = c .before .before .before .args in laws.going-first (a .text .now) (a .counted .now) (a .level) (c .before .before .before .pre .0) (a .out .now) (c .before .before .before .pre .1))
-    (λ c κs. let a = c .before .before .before .before .before .before .before .args in laws.going-on (a .text .now) (a .counted .now) (a .level) (c .before .before .before .before .before .before .before .pre .0) _ _ _ _ _ (c .before .before .before .loop .inv) (c .before .if1 .taken))
+    (λ c. laws.going-first _ _ _ (c .before .before .before .pre .level-is) _ (c .before .before .before .pre .filled))
+    (λ c κs. laws.going-on _ _ _ (c .before .before .before .before .before .before .before .pre .level-is) _ _ _ _ _ (c .before .before .before .loop .inv) (c .before .if1 .taken))
     (λ c κs. search needs)
-    (λ c κs. let a = c .before .before .before .before .before .before .before .before .before .before .args in laws.going-next (a .text .now) (a .counted .now) (a .level) (c .before .before .before .before .before .before .before .before .before .before .pre .0) _ _ _ _ _ (c .before .before .before .before .before .before .loop .inv) (c .before .before .before .before .if1 .taken) _ (c .before .before .pair-after .ensures) _ (c .keeps .ensures))
-    (λ c. let a = c .before .before .before .before .before .before .before .before .before .before .before .before .before .args in omega (arith, laws.link-few (a .text .now) (a .counted .now) (a .level) (c .before .before .before .before .before .before .before .before .before .before .before .before .before .pre .0) _ _ _ _ _ (c .before .before .before .before .before .before .before .before .before .loop .inv) (c .before .before .before .before .before .before .before .if1 .taken) _ (c .before .before .before .before .before .pair-after .ensures) _ (c .before .before .before .keeps .ensures) _ _ (c .before .before .put-block .ensures .0) (c .before .before .put-block .ensures .1 .0) (c .before .before .put-block .ensures .1 .1)))
-    (λ c. omega (arith, c .before .before .before .before .before .before .before .if1 .taken))
-    (λ c. omega (arith, c .before .before .before .before .before .before .before .if1 .taken))
-    (λ c. let a = c .before .before .before .before .before .before .before .before .before .before .before .before .before .args in laws.going-more (a .text .now) (a .counted .now) (a .level) (c .before .before .before .before .before .before .before .before .before .before .before .before .before .pre .0) _ _ _ _ _ (c .before .before .before .before .before .before .before .before .before .loop .inv) (c .before .before .before .before .before .before .before .if1 .taken) _ (c .before .before .before .before .before .pair-after .ensures) _ (c .before .before .before .keeps .ensures) _ _ (c .before .before .put-block .ensures .0) (c .before .before .put-block .ensures .1 .0) (c .before .before .put-block .ensures .1 .1))
+    (λ c κs. laws.going-next _ _ _ (c .before .before .before .before .before .before .before .before .before .before .pre .level-is) _ _ _ _ _ (c .before .before .before .before .before .before .loop .inv) (c .before .before .before .before .if1 .taken) _ (c .before .before .pair-after .ensures) _ (c .before .keeps .ensures))
+    (λ c κs. laws.going-writing _ _ _ (c .before .before .before .before .before .before .before .before .before .before .before .before .pre .level-is) _ _ _ _ _ (c .before .before .before .before .before .before .before .before .loop .inv) (c .before .before .before .before .before .before .if1 .taken) _ (c .before .before .before .before .pair-after .ensures) _ (c .before .before .before .keeps .ensures) _ (c .before .block-at .ensures))
+    (λ c. omega (arith, laws.link-few _ _ _ (c .before .before .before .before .before .before .before .before .before .before .before .before .before .before .before .pre .level-is) _ _ _ _ _ (c .before .before .before .before .before .before .before .before .before .before .before .loop .inv) (c .before .before .before .before .before .before .before .before .before .if1 .taken) _ (c .before .before .before .before .before .before .before .pair-after .ensures) _ (c .before .before .before .before .before .before .keeps .ensures) _ _ (c .before .before .put-block .ensures .0) (c .before .before .put-block .ensures .1 .0) (c .before .before .put-block .ensures .1 .1)))
+    (λ c. omega (arith, c .before .before .before .before .before .before .before .before .before .if1 .taken, few _ _ _ (c .before .before .before .before .before .before .before .before .before .before .before .before .before .before .before .pre .level-is) .count-few))
+    (λ c. omega (arith, c .before .before .before .before .before .before .before .before .before .if1 .taken))
+    (λ c. laws.going-more _ _ _ (c .before .before .before .before .before .before .before .before .before .before .before .before .before .before .before .pre .level-is) _ _ _ _ _ (c .before .before .before .before .before .before .before .before .before .before .before .loop .inv) (c .before .before .before .before .before .before .before .before .before .if1 .taken) _ (c .before .before .before .before .before .before .before .pair-after .ensures) _ (c .before .before .before .before .before .before .keeps .ensures) _ _ (c .before .before .put-block .ensures .0) (c .before .before .put-block .ensures .1 .0) (c .before .before .put-block .ensures .1 .1))
     (λ c. c .before .before .loop .inv .grown .same-length)
-    (λ c. let a = c .before .before .before .before .before .before .args in (laws.all-link (a .text .now) (a .counted .now) (a .level) (c .before .before .before .before .before .before .pre .0) _ _ _ _ _ (c .before .before .loop .inv) (c .if1 .left), (c .before .before .loop .inv .grown, laws.all-within (a .text .now) (a .counted .now) (a .level) (c .before .before .before .before .before .before .pre .0) _ _ _ _ _ (c .before .before .loop .inv) (c .if1 .left)))))
+    (λ c. (c .before .before .loop .inv .grown, laws.all-written _ _ _ (c .before .before .before .before .before .before .pre .level-is) _ _ _ _ _ (c .before .before .loop .inv) (c .if1 .left) (c .before .before .before .before .before .before .pre .header))))

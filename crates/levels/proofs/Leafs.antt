@@ -1,0 +1,149 @@
+-- Leaf bytes, block by block.
+use mathlib.Core.List.{List}
+use mathlib.Core.Path.{_≡_, sym, ap, _∙_}
+use mathlib.Core.Logic.{_⊎_, inl, inr}
+use Prim.Native.Nat.{ℕ, zero, suc, _+_, _-_, _≤_, _<_}
+use native.Mathlib.Omega.{arith}
+use native.Mathlib.Numerals.{add-one}
+use native.Mathlib.Decide.{ℕ-discrete}
+use lib.ListN.{length, getD, set, length-set}
+use lib.Seq.{getD-set-same, getD-set-other}
+use Rattle.text.specs.Lists.{sumBelow}
+use Rattle.text.specs.ListLaws.{below-suc, sumBelow-suc, sumBelow-part}
+use Rattle.format.specs.Settings.{Settings}
+use Rattle.format.specs.Blocks.{treeOf}
+use Rattle.built.specs.Sizes.{Taken}
+use Rattle.built.specs.Structure.{count, start, bytesIn, widthOf}
+use Rattle.built.specs.Leaves.{width-last, leaf-count, leaf-at}
+use Rattle.built.specs.Pairs.{offset}
+use Rattle.built.specs.Shape.{leaf-place, tree-length}
+use Rattle.built.specs.Built.{tree-small}
+use Rattle.records.specs.declared.level.Level.{Level}
+use Rattle.records.specs.declared.level.Stretch.{Stretch}
+use Rattle.records.specs.Growing.{Grown, Within}
+use Rattle.levels.specs.Leaves.{bytesWritten, Leafing}
+use Rattle.records.specs.State.{On, StretchIs}
+use Rattle.records.proofs.Growth.{grown-none, grown-then, within-grown, within-part, within-join}
+use Rattle.records.proofs.Reading.{on-written}
+use Rattle.records.proofs.StateLaws.{table-inside}
+
+-- one byte more
+pub bytes-more : (t u v T : List ℕ) (to from j : ℕ) → u ≡ bytesWritten t to T from j → v ≡ set u (to + j) (getD T (from + j) 0)
+    → v ≡ bytesWritten t to T from (j + 1)
+bytes-more t u v T to from j e f = f ∙ rw (e, add-one j)
+
+module _ (D t : List ℕ) (i v : ℕ) (fits : i < length t) (inside : i < length D) (is : getD D i 0 ≡ v) where
+  pub byte-right : getD (set t i v) i 0 ≡ getD D i 0
+  byte-right = getD-set-same t i v 0 fits ∙ sym is
+
+  pub byte-grown : Grown D t (set t i v)
+  byte-grown = record {
+    same-length = length-set t i v;
+    keeps = λ k e. keep k e (ℕ-discrete k i);
+    past = λ k l. getD-set-other t i k v 0 (λ e. omega arith);
+  }
+    where
+      keep : (k : ℕ) → getD t k 0 ≡ getD D k 0 → Dec (k ≡ i) → getD (set t i v) k 0 ≡ getD D k 0
+      keep k e (yes y) = rw y byte-right
+      keep k e (no n) = getD-set-other t i k v 0 n ∙ e
+
+module _ (D t T : List ℕ) (to from n : ℕ) (fits : to + n ≤ length t) (inside : to + n ≤ length D) (is : (j : ℕ) → j < n → getD D (to + j) 0 ≡ getD T (from + j) 0) where
+  pub bytes-grown : (j : ℕ) → j ≤ n → Grown D t (bytesWritten t to T from j)
+  bytes-grown zero l = grown-none D t
+  bytes-grown (suc j) l =
+      let g = bytes-grown j (omega arith) in
+      grown-then D t (bytesWritten t to T from j) (bytesWritten t to T from (suc j)) g
+      (byte-grown D (bytesWritten t to T from j) (to + j) (getD T (from + j) 0) (omega (arith, g .same-length)) (omega arith) (is j (omega arith)))
+
+  bytes-right : (j : ℕ) → j ≤ n → (x : ℕ) → x < j → getD (bytesWritten t to T from j) (to + x) 0 ≡ getD D (to + x) 0
+  bytes-right zero l x k = absurd (let z : ⊥ = omega arith in z)
+  bytes-right (suc j) l x k = go (below-suc x j k) (bytes-right j (omega arith) x)
+    where
+      go : (x < j) ⊎ (x ≡ j) → (x < j → getD (bytesWritten t to T from j) (to + x) 0 ≡ getD D (to + x) 0)
+          → getD (bytesWritten t to T from (suc j)) (to + x) 0 ≡ getD D (to + x) 0
+      go (inl y) r = getD-set-other (bytesWritten t to T from j) (to + j) (to + x) (getD T (from + j) 0) 0 (λ e. omega arith) ∙ r y
+      go (inr y) r =
+          let g = bytes-grown j (omega arith) in
+          rw y (byte-right D (bytesWritten t to T from j) (to + j) (getD T (from + j) 0) (omega (arith, g .same-length)) (omega arith) (is j (omega arith)))
+
+  pub bytes-within : Within D (bytesWritten t to T from n) to (to + n)
+  bytes-within = record {
+    right = λ k l m.
+        let e : to + (k - to) ≡ k = omega arith in
+        rw e at (bytes-right n (omega arith) (k - to) (omega arith));
+  }
+
+module _ (S : Settings) (T out : List ℕ) (level : Level) (to i : ℕ) (w : Leafing S T out level to i) where
+  abbrev l : ℕ
+  l = level .number
+
+  abbrev D : List ℕ
+  D = treeOf S T
+
+  taken : Taken S T
+  taken = w .level-is .taken
+
+  l-in : l < S .levels
+  l-in = w .level-is .number-in
+
+  -- the records end where the leaf bytes begin
+  end : offset S T (suc l) ≤ to
+  end = omega (arith, w .to-is, ap (offset S T) (w .last))
+
+  module _ (il : i < level .count) where
+    i-in : i < count S T l
+    i-in = omega (arith, w .level-is .count-is)
+
+    pub leaf-on : On S T out level i
+    leaf-on = on-written S T out level i (w .level-is) (omega (arith, table-inside S T taken l l-in, w .room)) (within-part D out 100 to 100 (offset S T (suc l)) (w .body) (omega arith) end) il
+
+    module _ (own : Stretch) (own-is : StretchIs S T l i own) where
+      abbrev s : ℕ
+      s = own .start .0
+
+      abbrev len : ℕ
+      len = own .length
+
+      pub len-width : len ≡ widthOf S T l i
+      len-width = own-is .length-is ∙ sym (width-last S T l i (w .last))
+
+      pub in-tree : to + len ≤ length D
+      in-tree = omega (arith, w .to-is, len-width, tree-length S T taken, leaf-count S T taken l (w .last), sumBelow-part (count S T l) (widthOf S T l) i i-in)
+
+      pub leaf-fits : to + len ≤ length out
+      leaf-fits = omega (arith, in-tree, w .room)
+
+      pub leaf-small : to + len ≤ 537919588
+      leaf-small = omega (arith, in-tree, tree-small S T taken)
+
+      bytes-are : (j : ℕ) → j < len → getD D (to + j) 0 ≡ getD T (s + j) 0
+      bytes-are j h =
+          let e : to + j ≡ offset S T (S .levels) + (sumBelow i (widthOf S T l) + j) = omega (arith, w .to-is) in
+          rw (e, own-is .start-is) (leaf-place S T taken (sumBelow i (widthOf S T l) + j) ∙ leaf-at S T taken l i j (w .last) i-in (omega (arith, own-is .length-is)))
+
+      module _ (new : List ℕ) (new-is : new ≡ bytesWritten out to T s len) where
+        pub leaf-grown : Grown D out new
+        leaf-grown = rw new-is (bytes-grown D out T to s len leaf-fits in-tree bytes-are len (omega arith))
+
+        pub leaf-within : Within D new to (to + len)
+        leaf-within = rw new-is (bytes-within D out T to s len leaf-fits in-tree bytes-are)
+
+    -- the next block
+    module _ (new : List ℕ) (len : ℕ) (len-is : len ≡ widthOf S T l i) (g : Grown D out new) (here : Within D new to (to + len)) where
+      pub leafing-more : Leafing S T new level (to + len) (i + 1)
+      leafing-more = record {
+        level-is = w .level-is;
+        last = w .last;
+        room = omega (arith, w .room, g .same-length);
+        body = within-join D new 100 to (to + len) (within-grown D out new 100 to g (w .body)) here;
+        to-is = omega (arith, w .to-is, len-is, sumBelow-suc i (widthOf S T l));
+      }
+
+      pub to-few : to + len ≤ 537919588
+      to-few = omega (arith, w .to-is, len-is, tree-length S T taken, leaf-count S T taken l (w .last), sumBelow-part (count S T l) (widthOf S T l) i i-in, tree-small S T taken)
+
+  -- all leaf bytes are written
+  pub leafing-all : i ≡ level .count → Within D out 100 (length D)
+  leafing-all e =
+      let all : to ≡ length D = w .to-is ∙ sym (tree-length S T taken ∙ ap (λ (x : ℕ). offset S T (S .levels) + x) (leaf-count S T taken l (w .last) ∙ ap (λ (x : ℕ). sumBelow x (widthOf S T l)) (sym (e ∙ w .level-is .count-is)))) in
+      rw all at (w .body)

@@ -1,0 +1,5 @@
+pub mod Zeros
+pub mod Leafs
+pub mod Heads
+pub mod Beginning
+pub mod Descending

@@ -1,0 +1,22 @@
+use native.Mathlib.Omega.{arith}
+use Rattle.levels.proofs.Descending as laws
+use Rattle.records.proofs.StateLaws.{few}
+use Rattle.built.specs.Sizes.{bounds}
+use Rattle.levels.proofs.step.finish.Statement.{statement}
+use Rattle.levels.proofs.step.finish.Tie as tie
+
+pub finish-spec : {M : Type 1} → statement M
+finish-spec =
+    tie.close
+    (tie.spec
+    (λ c κs. laws.pair-asks _ _ _ _ _ (c .before .before .before .before .pre .0))
+    (λ c κs. let f = few _ _ _ (c .before .before .before .before .before .before .before .pre .0 .level-is) in (f .counted-few, f .table-few, f .count-few))
+    (λ c. omega (arith, c .place .ensures .1))
+    (λ c. omega (arith, laws.end-small _ _ _ _ _ _ (c .before .before .before .before .before .before .before .before .pre .0) (c .before .before .before .put-pair .ensures) (c .before .before .before .before .before .before .before .before .pre .1) _ (c .place .ensures .0)))
+    (λ c. omega (arith, laws.end-small _ _ _ _ _ _ (c .before .before .before .before .before .before .before .before .pre .0) (c .before .before .before .put-pair .ensures) (c .before .before .before .before .before .before .before .before .pre .1) _ (c .place .ensures .0)))
+    (λ c. laws.pair-grown _ _ _ _ _ _ (c .before .before .before .before .before .before .before .before .before .pre .0) (c .before .before .before .before .put-pair .ensures) .same-length)
+    (λ c. (laws.pair-grown _ _ _ _ _ _ (c .before .before .before .before .before .before .before .before .before .pre .0) (c .before .before .before .before .put-pair .ensures), laws.not-fits _ _ _ _ _ _ (c .before .before .before .before .before .before .before .before .before .pre .0) (c .before .before .before .before .put-pair .ensures) (c .before .before .before .before .before .before .before .before .before .pre .1) _ (c .before .place .ensures .0) (c .if1 .taken)))
+    (λ c κs. (laws.room-two _ _ _ _ _ _ (c .before .before .before .before .before .before .before .before .before .before .pre .0) (c .before .before .before .before .before .put-pair .ensures), bounds _ _ (c .before .before .before .before .before .before .before .before .before .before .pre .0 .level-is .taken) .levels-high))
+    (λ c κs. laws.leafing-first _ _ _ _ _ _ (c .before .before .before .before .before .before .before .before .before .before .before .before .before .before .pre .0) (c .before .before .before .before .before .before .before .before .before .put-pair .ensures) (c .before .before .before .before .before .before .before .before .before .before .before .before .before .before .pre .1) _ (c .before .before .before .before .before .before .place .ensures .0) (c .before .before .before .before .before .if1 .left) _ (c .before .before .before .put-end .ensures))
+    (λ c. laws.finish-grown _ _ _ _ _ _ (c .before .before .before .before .before .before .before .before .before .before .before .before .before .before .before .before .before .pre .0) (c .before .before .before .before .before .before .before .before .before .before .before .before .put-pair .ensures) (c .before .before .before .before .before .before .before .before .before .before .before .before .before .before .before .before .before .pre .1) _ (c .before .before .before .before .before .before .before .before .before .place .ensures .0) (c .before .before .before .before .before .before .before .before .if1 .left) _ (c .before .before .before .before .before .before .put-end .ensures) _ (c .before .before .put-leaves .ensures .0) (c .before .before .put-leaves .ensures .1) .same-length)
+    (λ c. (laws.finish-grown _ _ _ _ _ _ (c .before .before .before .before .before .before .before .before .before .before .before .before .before .before .before .before .before .pre .0) (c .before .before .before .before .before .before .before .before .before .before .before .before .put-pair .ensures) (c .before .before .before .before .before .before .before .before .before .before .before .before .before .before .before .before .before .pre .1) _ (c .before .before .before .before .before .before .before .before .before .place .ensures .0) (c .before .before .before .before .before .before .before .before .if1 .left) _ (c .before .before .before .before .before .before .put-end .ensures) _ (c .before .before .put-leaves .ensures .0) (c .before .before .put-leaves .ensures .1), laws.finished _ _ _ _ _ _ (c .before .before .before .before .before .before .before .before .before .before .before .before .before .before .before .before .before .pre .0) (c .before .before .before .before .before .before .before .before .before .before .before .before .put-pair .ensures) (c .before .before .before .before .before .before .before .before .before .before .before .before .before .before .before .before .before .pre .1) _ (c .before .before .before .before .before .before .before .before .before .place .ensures .0) (c .before .before .before .before .before .before .before .before .if1 .left) _ (c .before .before .before .before .before .before .put-end .ensures) _ (c .before .before .put-leaves .ensures .0) (c .before .before .put-leaves .ensures .1))))

@@ -1,0 +1,4 @@
+pub mod Findings
+pub mod Pairing
+pub mod Halving
+pub mod Targeting

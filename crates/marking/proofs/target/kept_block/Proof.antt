@@ -1,0 +1,11 @@
+use Rattle.marking.proofs.Targeting as laws
+use Rattle.marking.proofs.target.kept_block.Statement.{statement}
+use Rattle.marking.proofs.target.kept_block.Tie as tie
+
+pub kept-block-spec : {M : Type 1} → statement M
+kept-block-spec =
+    tie.close
+    (tie.spec
+    (λ c κs. c .before .before .before .pre .0)
+    (λ c κs. c .before .before .before .before .pre .0 .level-is .above-low)
+    (λ c. laws.kept-is _ _ _ _ _ (c .before .before .before .before .before .pre .0) _ (c .before .stretch-of .ensures) _ (c .parent .ensures) _ (c .before .before .before .before .before .pre .1 .0) (c .before .before .before .before .before .pre .1 .1)))

@@ -1,0 +1,11 @@
+pub mod Counting
+pub mod Places
+pub mod RecordWrites
+pub mod Growth
+pub mod Neighbours
+pub mod StateLaws
+pub mod Reading
+pub mod Widths
+pub mod RecordCounts
+pub mod Starting
+pub mod Children

@@ -1,0 +1,16 @@
+use borrow.Author.Tests.{eq-eqb, ne-eqb}
+use native.Mathlib.Omega.{arith}
+use Rattle.records.proofs.RecordWrites.{words-added}
+use Rattle.records.proofs.record.count_before.Statement.{statement}
+use Rattle.records.proofs.record.count_before.Tie as tie
+
+pub count-before-spec : {M : Type 1} → statement M
+count-before-spec =
+    tie.close
+    (tie.spec
+    (λ c. rw (eq-eqb (c .before .before .before .args .block .start) (c .before .before .before .args .block .parent) (c .if1 .taken)))
+    (λ c κs. omega (arith, c .before .before .before .pre (c .if1 .left) .0))
+    (λ c. omega (arith, c .before .before .before .before .pre (c .before .if1 .left) .0))
+    (λ c κs. omega (arith, c .before .before .before .before .pre (c .before .if1 .left) .0))
+    (λ c. omega (arith, c .before .before .before .before .before .pre (c .before .before .if1 .left) .1, words-added (c .before .before .before .before .before .args .out .now) (c .before .before .before .before .before .args .left) _ _ (c .before .read .ensures) (c .read2 .ensures)))
+    (λ c. rw (ne-eqb (c .before .before .before .before .before .args .block .start) (c .before .before .before .before .before .args .block .parent) (c .before .before .if1 .left)) (words-added (c .before .before .before .before .before .args .out .now) (c .before .before .before .before .before .args .left) _ _ (c .before .read .ensures) (c .read2 .ensures))))

@@ -1,0 +1,71 @@
+// A level of the tree that is being written.
+use layout::place::BlockNumber;
+use layout::place::TextPlace;
+use layout::settings::Settings;
+use layout::word;
+ghost use mathlib.Core.Path.{_≡_};
+ghost use Prim.Native.Nat.{_+_, _-_, _≤_, _<_, min};
+ghost use lib.ListN.{length};
+ghost use Rattle.format.specs.Words.{wordAt};
+ghost use Rattle.records.specs.Levels.{recordPlace};
+ghost use Rattle.records.specs.State.{settingsOf, On, StretchIs};
+
+pub struct Level {
+    pub settings: Settings,
+    // its number, from 0
+    pub number: u32,
+    // the block lengths of the level above, of this one and of the one below
+    pub above: u32,
+    pub size: u32,
+    pub below: u32,
+    // how many blocks it has, and where their records begin
+    pub count: u32,
+    pub table: u32,
+}
+
+// The bytes of a block: where they start, and how many they are.
+pub struct Stretch {
+    pub start: TextPlace,
+    pub length: u32,
+}
+
+// Where the record of a block stands.
+pub fn place(counted: &[u8], level: Level, block: BlockNumber) -> usize
+    requires { ⌜ (length (now counted) ≤ 4) × (level .table ≤ 536871012) × (block .0 ≤ 1048576) ⌝ }
+    ensures { λ r. ⌜ (r ≡ recordPlace (level .table) (block .0) (now (counted .entry))) × (r ≤ 603979876) ⌝ }
+{
+    level.table as usize + block.0 as usize * (16 + 12 * counted.len())
+}
+
+// The bytes that a block has.
+fn bytes(text: &[u8], level: Level, start: TextPlace) -> u32
+    requires { ⌜ (length (now text) ≤ 1048576) × (start .0 ≤ length (now text)) ⌝ }
+    ensures { λ r. ⌜ (r ≡ min (level .size) (length (now (text .entry)) - start .0)) × (r ≤ 1048576) ⌝ }
+{
+    let left = text.len() as u32 - start.0;
+    if level.size < left {
+        return level.size;
+    }
+    left
+}
+
+// Where a block starts, read from its record.
+pub fn start(counted: &[u8], out: &[u8], level: Level, block: BlockNumber) -> TextPlace
+    requires { ⌜ (length (now counted) ≤ 4) × (level .table ≤ 536871012) × (block .0 ≤ 1048576)
+        × (recordPlace (level .table) (block .0) (now counted) + 4 ≤ length (now out)) ⌝ }
+    ensures { λ r. ⌜ r .0 ≡ wordAt (now (out .entry)) (recordPlace (level .table) (block .0) (now (counted .entry))) ⌝ }
+{
+    TextPlace(word::read(out, place(counted, level, block)))
+}
+
+// The bytes of a block of a level whose starts stand in place.
+pub fn stretch_of(text: &[u8], counted: &[u8], out: &[u8], level: Level, i: u32) -> Stretch
+    requires { ⌜ On (settingsOf (level .settings) (now counted)) (now text) (now out) level i ⌝ }
+    ensures { λ r. ⌜ StretchIs (settingsOf (level .settings) (now (counted .entry))) (now (text .entry)) (level .number) i r ⌝ }
+{
+    let start = start(counted, out, level, BlockNumber(i));
+    Stretch {
+        start,
+        length: bytes(text, level, start),
+    }
+}

@@ -1,0 +1,5 @@
+// What is written of a level: the starts of its blocks and their records, given what each block is.
+pub mod below;
+mod counts;
+pub mod level;
+pub mod record;

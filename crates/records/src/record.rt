@@ -1,0 +1,137 @@
+// A block's record, written.
+use crate::counts;
+use crate::level;
+use crate::level::Level;
+use layout::header;
+use layout::place::BlockNumber;
+use layout::word;
+ghost use mathlib.Core.Path.{_≡_};
+ghost use Prim.Native.Nat.{_+_, _*_, _≤_, _<_};
+ghost use lib.ListN.{length};
+ghost use Rattle.text.specs.Text.{stretch, countIn};
+ghost use Rattle.format.specs.Words.{wordAt};
+ghost use Rattle.format.specs.Blocks.{treeOf};
+ghost use Rattle.built.specs.Structure.{widthOf};
+ghost use Rattle.records.specs.Growing.{Grown, Within};
+ghost use Rattle.records.specs.State.{settingsOf, Writing, placeAt};
+ghost use Rattle.records.specs.Records.{putThree, beforeSays};
+
+// What a record says, and where the bytes stand that it counts.
+pub struct Block {
+    pub start: u32,
+    pub length: u32,
+    // its parent's start
+    pub parent: u32,
+    pub kind: u32,
+    pub link: u32,
+    // the start of the block pointed to
+    pub from: u32,
+    pub gap: u32,
+}
+
+// Three words, one after the other.
+pub fn put_three(out: &mut [u8], at: usize, a: u32, b: u32, c: u32)
+    requires { ⌜ at + 12 ≤ length (now out) ⌝ }
+    ensures { λ _. ⌜ now (out .exit) ≡ putThree (now (out .entry)) at a b c ⌝ }
+{
+    word::write(out, at, a);
+    word::write(out, at + 4, b);
+    word::write(out, at + 8, c);
+}
+
+// The counts of one byte: before the block in its parent, inside it, and in the gap of the block pointed to.
+fn put_count(out: &mut [u8], text: &[u8], byte: u8, at: usize, block: Block, before: u32)
+    requires { ⌜ (at + 12 ≤ length (now out)) × (length (now text) ≤ 1048576)
+        × (block .start + block .length ≤ length (now text)) × (block .from + block .gap ≤ length (now text)) ⌝ }
+    ensures { λ _. ⌜ now (out .exit) ≡ putThree (now (out .entry)) at before
+        (countIn byte (stretch (now (text .entry)) (block .start) (block .length)))
+        (countIn byte (stretch (now (text .entry)) (block .from) (block .gap))) ⌝ }
+{
+    let inside = counts::count_in(text, block.start as usize, block.length as usize, byte);
+    let skip = counts::count_in(text, block.from as usize, block.gap as usize, byte);
+    put_three(out, at, before, inside, skip);
+}
+
+// The count before a block: none at its parent's start, else what the block on the left has before it and inside.
+fn count_before(out: &[u8], left: usize, block: Block) -> u32
+    requires { ⌜ ((block .start ≡ block .parent → ⊥) → (left + 8 ≤ length (now out)) × (wordAt (now out) left + wordAt (now out) (left + 4) < 4294967296)) ⌝ }
+    ensures { λ r. ⌜ r ≡ beforeSays (now (out .entry)) left (block .start) (block .parent) ⌝ }
+{
+    if block.start == block.parent {
+        return 0;
+    }
+    word::read(out, left) + word::read(out, left + 4)
+}
+
+// The counts of a block, of the counted byte with number c.
+fn put_count_of(
+    out: &mut [u8],
+    text: &[u8],
+    counted: &[u8],
+    level: Level,
+    i: u32,
+    block: Block,
+    c: usize,
+)
+    requires { ⌜ Writing (settingsOf (level .settings) (now counted)) (now text) (now out) level i block × (c < length (now counted)) ⌝ }
+    ensures { λ _. ⌜ Grown (treeOf (settingsOf (level .settings) (now (counted .entry))) (now (text .entry))) (now (out .entry)) (now (out .exit)) ⌝ }
+    ensures { λ _. ⌜ Within (treeOf (settingsOf (level .settings) (now (counted .entry))) (now (text .entry))) (now (out .exit))
+        (placeAt (settingsOf (level .settings) (now (counted .entry))) (now (text .entry)) (level .number) i + 16 + 12 * c)
+        (placeAt (settingsOf (level .settings) (now (counted .entry))) (now (text .entry)) (level .number) i + 16 + 12 * c + 12) ⌝ }
+{
+    let at = level::place(counted, level, BlockNumber(i)) + 16 + 12 * c;
+    let b = count_before(out, at - (16 + 12 * counted.len()), block);
+    put_count(out, text, counted[c], at, block, b);
+}
+
+// The counts of a block, for each counted byte.
+fn put_counts(out: &mut [u8], text: &[u8], counted: &[u8], level: Level, i: u32, block: Block)
+    requires { ⌜ Writing (settingsOf (level .settings) (now counted)) (now text) (now out) level i block ⌝ }
+    ensures { λ _. ⌜ Grown (treeOf (settingsOf (level .settings) (now (counted .entry))) (now (text .entry))) (now (out .entry)) (now (out .exit)) ⌝ }
+    ensures { λ _. ⌜ Within (treeOf (settingsOf (level .settings) (now (counted .entry))) (now (text .entry))) (now (out .exit))
+        (placeAt (settingsOf (level .settings) (now (counted .entry))) (now (text .entry)) (level .number) i + 16)
+        (placeAt (settingsOf (level .settings) (now (counted .entry))) (now (text .entry)) (level .number) (i + 1)) ⌝ }
+{
+    let mut c: usize = 0;
+    while c < counted.len() {
+        put_count_of(out, text, counted, level, i, block, c);
+        c += 1;
+    }
+}
+
+// The record of a block.
+fn put_record(out: &mut [u8], text: &[u8], counted: &[u8], level: Level, i: u32, block: Block)
+    requires { ⌜ Writing (settingsOf (level .settings) (now counted)) (now text) (now out) level i block ⌝ }
+    ensures { λ _. ⌜ Grown (treeOf (settingsOf (level .settings) (now (counted .entry))) (now (text .entry))) (now (out .entry)) (now (out .exit)) ⌝ }
+    ensures { λ _. ⌜ Within (treeOf (settingsOf (level .settings) (now (counted .entry))) (now (text .entry))) (now (out .exit))
+        100 (placeAt (settingsOf (level .settings) (now (counted .entry))) (now (text .entry)) (level .number) (i + 1)) ⌝ }
+{
+    let at = level::place(counted, level, BlockNumber(i));
+    put_three(out, at + 4, block.kind, block.link, block.gap);
+    put_counts(out, text, counted, level, i, block);
+}
+
+// Writes the record of a block, and answers what the block has one level below: leaf bytes on the last level, else children; nothing where it points.
+pub fn put_block(
+    out: &mut [u8],
+    text: &[u8],
+    counted: &[u8],
+    level: Level,
+    i: u32,
+    block: Block,
+) -> u32
+    requires { ⌜ Writing (settingsOf (level .settings) (now counted)) (now text) (now out) level i block ⌝ }
+    ensures { λ r. ⌜ r ≡ widthOf (settingsOf (level .settings) (now (counted .entry))) (now (text .entry)) (level .number) i ⌝ }
+    ensures { λ _. ⌜ Grown (treeOf (settingsOf (level .settings) (now (counted .entry))) (now (text .entry))) (now (out .entry)) (now (out .exit)) ⌝ }
+    ensures { λ _. ⌜ Within (treeOf (settingsOf (level .settings) (now (counted .entry))) (now (text .entry))) (now (out .exit))
+        100 (placeAt (settingsOf (level .settings) (now (counted .entry))) (now (text .entry)) (level .number) (i + 1)) ⌝ }
+{
+    put_record(out, text, counted, level, i, block);
+    if block.kind != 0 {
+        return 0;
+    }
+    if level.number + 1 == level.settings.levels {
+        return block.length;
+    }
+    header::pieces(block.length, level.below)
+}
