@@ -1,0 +1,44 @@
+-- The calls: which answers the contract of each allows, for any arguments and any lent bytes. Each is the generated `Post` of the function.
+use mathlib.Core.List.{List}
+use Prim.Native.Nat.{ℕ}
+use contract.Lifetimes.{Lfts}
+use denote.Ref.{RefT}
+use Rattle.enough.proofs.enough.Reads as enough-reads
+use Rattle.rank.proofs.count.Reads as count-reads
+use Rattle.rank.proofs.find.Reads as find-reads
+use Rattle.rank.proofs.row.Reads as row-reads
+pub use Rattle.builder.specs.declared.Built.{Built}
+pub use Rattle.builder.specs.declared.Built.the-variants as built
+pub use Rattle.enough.specs.declared.Room.{Room}
+pub use Rattle.enough.specs.declared.Room.the-variants as room
+pub use Rattle.access.specs.declared.Answer.{Answer}
+pub use Rattle.access.specs.declared.Answer.the-variants as answer
+pub use Rattle.access.specs.declared.Copied.{Copied}
+pub use Rattle.access.specs.declared.Copied.the-variants as copied
+pub use Rattle.rank.specs.declared.Counted.{Counted}
+pub use Rattle.rank.specs.declared.Counted.the-variants as counted
+pub use Rattle.rank.specs.declared.Found.{Found}
+pub use Rattle.rank.specs.declared.Found.the-variants as found
+pub use Rattle.rank.specs.declared.RowCopied.{RowCopied}
+pub use Rattle.rank.specs.declared.RowCopied.the-variants as rows
+
+-- build(text, leaf, arity, levels, counted, out) and check(tree); byte(tree, place), run(tree, place) and span(tree, place, len, buffer)
+pub use Rattle.tree.proofs.Demands.{Answer as Build, Checked as Check}
+pub use Rattle.access.proofs.Demands.{Asked as Byte, Run, Span}
+
+-- enough(n, leaf, arity, levels, counted)
+abbrev pub Enough : (n leaf arity levels counted : ℕ) → Room → Type 0
+Enough n leaf arity levels counted r =
+    enough-reads.Post tt (n, (leaf, (arity, (levels, (counted, tt))))) r (n, (leaf, (arity, (levels, (counted, tt)))))
+
+-- count(tree, byte, i)
+abbrev pub Count : (κs : Lfts 1) → RefT (List ℕ) → (byte i : ℕ) → Counted → Type 0
+Count κs t byte i r = count-reads.Post κs (t, (byte, (i, tt))) r (t, (byte, (i, tt)))
+
+-- find(tree, byte, j)
+abbrev pub Find : (κs : Lfts 1) → RefT (List ℕ) → (byte j : ℕ) → Found → Type 0
+Find κs t byte j r = find-reads.Post κs (t, (byte, (j, tt))) r (t, (byte, (j, tt)))
+
+-- row(tree, q, buffer), which leaves the buffer as `after`
+abbrev pub Row : (κs : Lfts 2) → RefT (List ℕ) → (q : ℕ) → (buffer after : RefT (List ℕ)) → RowCopied → Type 0
+Row κs t q buffer after r = row-reads.Post κs (t, (q, (buffer, tt))) r (t, (q, (after, tt)))
