@@ -3,10 +3,33 @@ use mathlib.Core.List.{List}
 use Prim.Native.Nat.{ℕ}
 use contract.Lifetimes.{Lfts}
 use denote.Ref.{RefT}
-use Rattle.enough.proofs.enough.Reads as enough-reads
-use Rattle.rank.proofs.count.Reads as count-reads
-use Rattle.rank.proofs.find.Reads as find-reads
-use Rattle.rank.proofs.row.Reads as row-reads
+pub use Rattle.builder.proofs.build.Reads as build-reads
+pub use Rattle.builder.proofs.build.Statement as build-stated
+pub use Rattle.builder.proofs.build.Met as build-met
+pub use Rattle.tree.proofs.check.Reads as check-reads
+pub use Rattle.tree.proofs.check.Statement as check-stated
+pub use Rattle.tree.proofs.check.Met as check-met
+pub use Rattle.enough.proofs.enough.Reads as enough-reads
+pub use Rattle.enough.proofs.enough.Statement as enough-stated
+pub use Rattle.enough.proofs.enough.Met as enough-met
+pub use Rattle.access.proofs.byte.Reads as byte-reads
+pub use Rattle.access.proofs.byte.Statement as byte-stated
+pub use Rattle.access.proofs.byte.Met as byte-met
+pub use Rattle.access.proofs.run.Reads as run-reads
+pub use Rattle.access.proofs.run.Statement as run-stated
+pub use Rattle.access.proofs.run.Met as run-met
+pub use Rattle.access.proofs.span.Reads as span-reads
+pub use Rattle.access.proofs.span.Statement as span-stated
+pub use Rattle.access.proofs.span.Met as span-met
+pub use Rattle.rank.proofs.count.Reads as count-reads
+pub use Rattle.rank.proofs.count.Statement as count-stated
+pub use Rattle.rank.proofs.count.Met as count-met
+pub use Rattle.rank.proofs.find.Reads as find-reads
+pub use Rattle.rank.proofs.find.Statement as find-stated
+pub use Rattle.rank.proofs.find.Met as find-met
+pub use Rattle.rank.proofs.row.Reads as row-reads
+pub use Rattle.rank.proofs.row.Statement as row-stated
+pub use Rattle.rank.proofs.row.Met as row-met
 pub use Rattle.builder.specs.declared.Built.{Built}
 pub use Rattle.builder.specs.declared.Built.the-variants as built
 pub use Rattle.enough.specs.declared.Room.{Room}

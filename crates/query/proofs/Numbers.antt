@@ -8,7 +8,8 @@ use Prim.Native.Nat.{ℕ, zero, suc, _+_, _-_, _≤_, _<_}
 use native.Mathlib.Omega.{arith}
 use lib.ListN.{length}
 use lib.Dec.{ltb, leb, eqb}
-use borrow.Author.Tests.{ne-eqb, ltb-true, leb-true}
+use borrow.Author.Tests.{ne-eqb, ltb-true, leb-true, le-leb}
+use Rattle.text.specs.ListLaws.{and-left, and-right}
 use Rattle.text.specs.Text.{countIn}
 use Rattle.format.specs.Settings.{Settings, lengthOk, sizesOk, countedOk}
 use Rattle.format.specs.Blocks.{treeOf}
@@ -172,3 +173,28 @@ span-fits t p len room h =
     let more = ask 10 (leb (p + len) (at.textLength t)) thirteen in
     let a = unless-passes (readable t) (refused more) (sym (then-is (readable t) more) ∙ h) in
     leb-true len room (ask-test 12 (leb len room) fourteen (ask-rest 9 (leb (p + len) (at.textLength t)) thirteen (a .1)))
+
+-- find and row walk only where the byte is counted and so many stand in the tree
+pub record Selected (t : List ℕ) (byte j : ℕ) : Type 0 where
+  pub pass : readable t ≡ 0
+  pub counted : isCounted t byte ≡ true
+  pub low : 1 ≤ j
+  pub high : j ≤ total t (numberOfByte t byte)
+
+pub select-passes : (t : List ℕ) (byte j : ℕ) → selectNumber t byte j ≡ 0 → Selected t byte j
+unfolding selectNumber
+select-passes t byte j h =
+    let all = total t (numberOfByte t byte) in
+    let twelve = ask 12 (leb 1 j && leb j all) 0 in
+    let eleven = ask 11 (isCounted t byte) twelve in
+    let a = unless-passes (readable t) (refused eleven) (sym (then-is (readable t) eleven) ∙ h) in
+    let range = ask-test 11 (leb 1 j && leb j all) 0 (ask-rest 10 (isCounted t byte) twelve (a .1)) in record {
+      pass = a .0;
+      counted = ask-test 10 (isCounted t byte) twelve (a .1);
+      low = leb-true 1 j (and-left (leb 1 j) (leb j all) range);
+      high = leb-true j all (and-right (leb 1 j) (leb j all) range);
+    }
+
+pub select-lets : (t : List ℕ) (byte j : ℕ) → Selected t byte j → selectNumber t byte j ≡ 0
+unfolding selectNumber
+select-lets t byte j h = rw (h .pass, h .counted, le-leb 1 j (h .low), le-leb j (total t (numberOfByte t byte)) (h .high))
