@@ -1,4 +1,5 @@
 pub mod Calls
 pub mod Numbers
+pub mod Ways
 pub mod Demand1
 pub mod Demands

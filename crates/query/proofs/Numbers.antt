@@ -145,6 +145,15 @@ unless-passes : (n : ℕ) (s : Said) → unless n s .number ≡ 0 → (n ≡ 0) 
 unless-passes zero s h = (refl, h)
 unless-passes (suc n) s h = absurd (let z : ⊥ = omega arith in z)
 
+-- build answers only where the tree fits the buffer
+pub build-fits : (S : Settings) (T out : List ℕ) → buildNumber S T out ≡ 0 → length (treeOf S T) ≤ length out
+unfolding buildNumber
+build-fits S T out h =
+    let four = ask 4 (leb (length (treeOf S T)) (length out)) 0 in
+    let three = ask 3 (countedOk (S .counted)) four in
+    let two = ask 2 (sizesOk S) three in
+    leb-true _ _ (ask-test 3 (leb (length (treeOf S T)) (length out)) 0 (ask-rest 2 (countedOk (S .counted)) four (ask-rest 1 (sizesOk S) three (ask-rest 0 (lengthOk (length T)) two h))))
+
 -- byte answers only where the path of its place holds
 pub record Reached (t : List ℕ) (p : ℕ) : Type 0 where
   pub pass : readable t ≡ 0
