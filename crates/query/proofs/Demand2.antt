@@ -20,7 +20,7 @@ use Rattle.tree.proofs.Demands as tree
 use Rattle.query.proofs.Calls as calls
 use Rattle.query.proofs.Calls.{Build, Check}
 use Rattle.query.proofs.Answering.{Answers}
-use Rattle.query.proofs.Demand3.{accepted-answers}
+use Rattle.query.proofs.Accepted.{accepted-answers}
 use calls.built as built
 
 -- A call of build that wrote a tree, of so many bytes, at the start of the buffer.

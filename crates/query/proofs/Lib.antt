@@ -2,6 +2,7 @@ pub mod Calls
 pub mod Numbers
 pub mod Ways
 pub mod Answering
+pub mod Accepted
 pub mod Demand1
 pub mod Demand2
 pub mod Demand3
