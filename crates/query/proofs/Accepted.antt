@@ -66,7 +66,7 @@ among-index c (x ∷ xs) (suc i) h e = go (eqb c x) (among-index c xs i (omega a
     go true l = omega arith
     go false l = omega arith
 
-among-counted : (t : List ℕ) (byte : ℕ) → Among byte (at.settings t .counted) → isCounted t byte ≡ true
+pub among-counted : (t : List ℕ) (byte : ℕ) → Among byte (at.settings t .counted) → isCounted t byte ≡ true
 unfolding isCounted
 among-counted t byte a = lt-ltb _ _ (among-index byte (at.settings t .counted) (a .0) (a .1) (a .2))
 
@@ -130,7 +130,7 @@ module _ (t : RefT (List ℕ)) (v : verdict (now t) ≡ 0) where
 
   -- questions 11 and 12 let find and row through
   module _ (byte j : ℕ) (k : Among byte (S .counted)) (low : 1 ≤ j) (high : j ≤ countIn byte T) where
-    let-through : selectNumber (now t) byte j ≡ 0
+    pub let-through : selectNumber (now t) byte j ≡ 0
     let-through =
         let c = among-counted (now t) byte k in
         select-lets (now t) byte j (record { pass = pass; counted = c; low = low; high = rw (tallies.total-of-text (now t) v byte c) high })

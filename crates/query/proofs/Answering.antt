@@ -1,6 +1,6 @@
 -- What it means that every question put to a tree is answered from a text: byte, run, span, row, count and find are the text's, never
 -- refused where questions 10 to 13 let them through, with blocks entered that equal the path's length, at most 2H - 1.
-use mathlib.Core.List.{List, _++_}
+use mathlib.Core.List.{List, [], _++_}
 use mathlib.Core.Option.{some}
 use mathlib.Core.Bool.{cond}
 use mathlib.Core.Path.{_≡_}
@@ -72,3 +72,38 @@ pub record Answers (t : RefT (List ℕ)) (S : Settings) (T : List ℕ) : Type 0 
   pub row-of : (κs : Lfts 2) (q : ℕ) (buffer after : RefT (List ℕ)) (r : RowCopied) → Row κs t q buffer after r
       → Among 10 (S .counted) → 1 ≤ q → q ≤ countIn 10 T → rowSize T q ≤ length (now buffer)
       → (r ≡ rows.Bytes (rowSize T q)) × (now after ≡ stretch T (rowFrom T q) (rowSize T q) ++ drop (rowSize T q) (now buffer))
+
+-- and where a question refuses, its number is answered, in document 01's order, and a lent buffer is unchanged
+pub record Refuses (t : RefT (List ℕ)) (S : Settings) (T : List ℕ) : Type 0 where
+  -- "Is p below n; or start + length, or i, at most n? No: 10."
+  pub byte-past : (κs : Lfts 1) (p : TextPlace) (r : Answer) → Byte κs t p r → length T ≤ p .0 → r ≡ answer.Refused 10
+
+  pub run-past : (κs : Lfts 1) (p : TextPlace) (r : RefT (List ℕ)) → Run κs t p r → length T ≤ p .0 → now r ≡ []
+
+  pub span-past : (κs : Lfts 2) (p : TextPlace) (len : ℕ) (buffer after : RefT (List ℕ)) (r : Copied) → Span κs t p len buffer after r
+      → length T < p .0 + len → (r ≡ copied.Refused 10) × (now after ≡ now buffer)
+
+  pub count-past : (κs : Lfts 1) (byte i : ℕ) (r : Counted) → Count κs t byte i r → length T < i → r ≡ counted.Refused 10
+
+  -- "Is the byte counted (for a row, byte 10)? No: 11."
+  pub count-other : (κs : Lfts 1) (byte i : ℕ) (r : Counted) → Count κs t byte i r → i ≤ length T → (Among byte (S .counted) → ⊥)
+      → r ≡ counted.Refused 11
+
+  pub find-other : (κs : Lfts 1) (byte j : ℕ) (r : Found) → Find κs t byte j r → (Among byte (S .counted) → ⊥) → r ≡ found.Refused 11
+
+  pub row-other : (κs : Lfts 2) (q : ℕ) (buffer after : RefT (List ℕ)) (r : RowCopied) → Row κs t q buffer after r
+      → (Among 10 (S .counted) → ⊥) → (r ≡ rows.Refused 11) × (now after ≡ now buffer)
+
+  -- "Is j (or q) 1 to the total? No: 12."
+  pub find-none : (κs : Lfts 1) (byte j : ℕ) (r : Found) → Find κs t byte j r → Among byte (S .counted) → (1 ≤ j → j ≤ countIn byte T → ⊥)
+      → r ≡ found.Refused 12
+
+  pub row-none : (κs : Lfts 2) (q : ℕ) (buffer after : RefT (List ℕ)) (r : RowCopied) → Row κs t q buffer after r
+      → Among 10 (S .counted) → (1 ≤ q → q ≤ countIn 10 T → ⊥) → (r ≡ rows.Refused 12) × (now after ≡ now buffer)
+
+  -- "Does the answer fit the buffer? No: 13."
+  pub span-short : (κs : Lfts 2) (p : TextPlace) (len : ℕ) (buffer after : RefT (List ℕ)) (r : Copied) → Span κs t p len buffer after r
+      → p .0 + len ≤ length T → length (now buffer) < len → (r ≡ copied.Refused 13) × (now after ≡ now buffer)
+
+  pub row-short : (κs : Lfts 2) (q : ℕ) (buffer after : RefT (List ℕ)) (r : RowCopied) → Row κs t q buffer after r
+      → Among 10 (S .counted) → 1 ≤ q → q ≤ countIn 10 T → length (now buffer) < rowSize T q → (r ≡ rows.Refused 13) × (now after ≡ now buffer)

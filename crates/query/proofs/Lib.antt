@@ -3,6 +3,7 @@ pub mod Numbers
 pub mod Ways
 pub mod Answering
 pub mod Accepted
+pub mod Refusing
 pub mod Demand1
 pub mod Demand2
 pub mod Demand3
