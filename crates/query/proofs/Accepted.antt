@@ -1,12 +1,12 @@
 -- Any tree that the check accepts: every question put to it is answered from the one text that fits it.
 use mathlib.Core.List.{List, [], _∷_, _++_}
-use mathlib.Core.Option.{Option, some}
+use mathlib.Core.Option.{Option}
 use mathlib.Core.Bool.{Bool, true, false, cond}
-use mathlib.Core.Path.{_≡_, refl, sym, ap, _∙_}
-use Prim.Native.Nat.{ℕ, zero, suc, _+_, _-_, _*_, _≤_, _<_}
+use mathlib.Core.Path.{_≡_, sym, ap, _∙_}
+use Prim.Native.Nat.{ℕ, zero, suc, _+_, _-_, _≤_, _<_}
 use native.Mathlib.Omega.{arith}
 use contract.Lifetimes.{Lfts}
-use denote.Ref.{RefT, now}
+use denote.Ref.{now}
 use lib.ListN.{length, getD, take, drop}
 use lib.Dec.{eqb}
 use borrow.Author.Tests.{lt-ltb, eq-eqb, ne-eqb}
@@ -20,17 +20,16 @@ use Rattle.format.specs.Fits.{linksOk, textOf}
 use Rattle.format.specs.Verdict.{readable, verdict}
 use Rattle.format.specs.VerdictLaws.{accepted-readable, accepted-links}
 use Rattle.format.specs.Said.{Said}
-use Rattle.format.specs.Counting.{indexOf, isCounted, numberOfByte}
-use Rattle.format.specs.Finding.{total, selectNumber, found, pathLength, rowStart, rowEnd}
+use Rattle.format.specs.Counting.{indexOf, isCounted}
+use Rattle.format.specs.Finding.{selectNumber, found, pathLength, rowStart, rowEnd}
 use Rattle.paths.specs.Demands as paths
 use Rattle.tallies.specs.Demands as tallies
 use Rattle.access.proofs.Demands as access
 use Rattle.query.proofs.Calls as calls
-use Rattle.query.proofs.Calls.{Answer, Copied, Counted, Found, RowCopied, Byte, Run, Span, Count, Find, Row, saidCount, CountNumbered, saidFind, FindNumbered, saidRow, RowNumbered}
-use Rattle.query.proofs.Numbers.{Selected, select-lets}
+use Rattle.query.proofs.Calls.{Lent, Answer, Counted, Found, RowCopied, Byte, Run, Count, Find, Row, saidCount, CountNumbered, saidFind, FindNumbered, saidRow, RowNumbered}
+use Rattle.query.proofs.Numbers.{select-lets}
 use Rattle.query.proofs.Answering.{LengthOfPath, Among, rowFrom, rowSize, Answers}
 use calls.answer as answer
-use calls.copied as copied
 use calls.counted as counted
 use calls.found as found-is
 use calls.rows as rows
@@ -71,7 +70,7 @@ unfolding isCounted
 among-counted t byte a = lt-ltb _ _ (among-index byte (at.settings t .counted) (a .0) (a .1) (a .2))
 
 -- Any tree that the check accepts, and the one text that fits it.
-module _ (t : RefT (List ℕ)) (v : verdict (now t) ≡ 0) where
+module _ (t : Lent) (v : verdict (now t) ≡ 0) where
   abbrev T : List ℕ
   T = textOf (now t)
 
@@ -107,7 +106,7 @@ module _ (t : RefT (List ℕ)) (v : verdict (now t) ≡ 0) where
       let w = access.byte-answers t pass links κs p r (below h) a in
       (pathLength (now t) (pathOf (now t) (p .0)), path-length (p .0) h, w .answer-is ∙ ap (λ (o : Option Path). answer.Byte (getD T (p .0) 0) (pathLength (now t) o)) (sym (w .path-is)))
 
-  run-right : (κs : Lfts 1) (p : TextPlace) (r : RefT (List ℕ)) → Run κs t p r → p .0 < length T
+  run-right : (κs : Lfts 1) (p : TextPlace) (r : Lent) → Run κs t p r → p .0 < length T
       → (from : ℕ) × (size : ℕ) × (1 ≤ size) × (from + size ≤ length (now t)) × (r .ptr ≡ (t .ptr .0, t .ptr .1 + from))
       × (now r ≡ take size (drop from (now t))) × (p .0 + size ≤ length T) × (now r ≡ stretch T (p .0) size)
   run-right κs p r a h =
@@ -142,7 +141,7 @@ module _ (t : RefT (List ℕ)) (v : verdict (now t) ≡ 0) where
         let p = placeOf byte j T in
         (pathLength (now t) (pathOf (now t) p), path-length p (omega (arith, place-nth byte j T low high .within)), find-is r p _ (a .numbered) (a .says .accepted let-through v))
 
-  row-right : (κs : Lfts 2) (q : ℕ) (buffer after : RefT (List ℕ)) (r : RowCopied) → Row κs t q buffer after r
+  row-right : (κs : Lfts 2) (q : ℕ) (buffer after : Lent) (r : RowCopied) → Row κs t q buffer after r
       → Among 10 (S .counted) → 1 ≤ q → q ≤ countIn 10 T → rowSize T q ≤ length (now buffer)
       → (r ≡ rows.Bytes (rowSize T q)) × (now after ≡ stretch T (rowFrom T q) (rowSize T q) ++ drop (rowSize T q) (now buffer))
   unfolding rowStart rowEnd

@@ -6,7 +6,7 @@ use mathlib.Core.Bool.{cond}
 use mathlib.Core.Path.{_≡_}
 use Prim.Native.Nat.{ℕ, _+_, _-_, _*_, _≤_, _<_}
 use contract.Lifetimes.{Lfts}
-use denote.Ref.{RefT, now}
+use denote.Ref.{now}
 use lib.ListN.{length, getD, take, drop}
 use lib.Dec.{eqb}
 use Rattle.text.specs.Text.{stretch, countIn, placeOf}
@@ -15,7 +15,7 @@ use Rattle.format.specs.Settings.{Settings}
 use Rattle.format.specs.Path.{Path, pathOf}
 use Rattle.paths.specs.Visits.{pointers}
 use Rattle.query.proofs.Calls as calls
-use Rattle.query.proofs.Calls.{Answer, Copied, Counted, Found, RowCopied, Byte, Run, Span, Count, Find, Row}
+use Rattle.query.proofs.Calls.{Lent, Answer, Copied, Counted, Found, RowCopied, Byte, Run, Span, Count, Find, Row}
 use calls.answer as answer
 use calls.copied as copied
 use calls.counted as counted
@@ -43,18 +43,18 @@ abbrev pub rowSize : List ℕ → ℕ → ℕ
 rowSize T q = placeOf 10 q T - rowFrom T q
 
 -- every question put to the tree t is answered from the text T; S are the settings
-pub record Answers (t : RefT (List ℕ)) (S : Settings) (T : List ℕ) : Type 0 where
+pub record Answers (t : Lent) (S : Settings) (T : List ℕ) : Type 0 where
   -- "the byte at p, with the blocks entered"
   pub byte-of : (κs : Lfts 1) (p : TextPlace) (r : Answer) → Byte κs t p r → p .0 < length T
       → (e : ℕ) × LengthOfPath (now t) (S .levels) (p .0) e × (r ≡ answer.Byte (getD T (p .0) 0) e)
 
   -- a part of the lent tree, of one byte or more, that stands in the text from p on
-  pub run-of : (κs : Lfts 1) (p : TextPlace) (r : RefT (List ℕ)) → Run κs t p r → p .0 < length T
+  pub run-of : (κs : Lfts 1) (p : TextPlace) (r : Lent) → Run κs t p r → p .0 < length T
       → (from : ℕ) × (size : ℕ) × (1 ≤ size) × (from + size ≤ length (now t)) × (r .ptr ≡ (t .ptr .0, t .ptr .1 + from))
       × (now r ≡ take size (drop from (now t))) × (p .0 + size ≤ length T) × (now r ≡ stretch T (p .0) size)
 
   -- "bytes from p, length given, copied to a buffer"
-  pub span-of : (κs : Lfts 2) (p : TextPlace) (len : ℕ) (buffer after : RefT (List ℕ)) (r : Copied) → Span κs t p len buffer after r
+  pub span-of : (κs : Lfts 2) (p : TextPlace) (len : ℕ) (buffer after : Lent) (r : Copied) → Span κs t p len buffer after r
       → p .0 + len ≤ length T → len ≤ length (now buffer)
       → (r ≡ copied.Bytes len) × (now after ≡ stretch T (p .0) len ++ drop len (now buffer))
 
@@ -69,18 +69,18 @@ pub record Answers (t : RefT (List ℕ)) (S : Settings) (T : List ℕ) : Type 0 
       → (e : ℕ) × LengthOfPath (now t) (S .levels) (placeOf byte j T) e × (r ≡ found.At (record { 0 = placeOf byte j T }) e)
 
   -- "what stands between the (q-1)-th byte 10 (or the text's start) and the q-th, copied"
-  pub row-of : (κs : Lfts 2) (q : ℕ) (buffer after : RefT (List ℕ)) (r : RowCopied) → Row κs t q buffer after r
+  pub row-of : (κs : Lfts 2) (q : ℕ) (buffer after : Lent) (r : RowCopied) → Row κs t q buffer after r
       → Among 10 (S .counted) → 1 ≤ q → q ≤ countIn 10 T → rowSize T q ≤ length (now buffer)
       → (r ≡ rows.Bytes (rowSize T q)) × (now after ≡ stretch T (rowFrom T q) (rowSize T q) ++ drop (rowSize T q) (now buffer))
 
 -- and where a question refuses, its number is answered, in document 01's order, and a lent buffer is unchanged
-pub record Refuses (t : RefT (List ℕ)) (S : Settings) (T : List ℕ) : Type 0 where
+pub record Refuses (t : Lent) (S : Settings) (T : List ℕ) : Type 0 where
   -- "Is p below n; or start + length, or i, at most n? No: 10."
   pub byte-past : (κs : Lfts 1) (p : TextPlace) (r : Answer) → Byte κs t p r → length T ≤ p .0 → r ≡ answer.Refused 10
 
-  pub run-past : (κs : Lfts 1) (p : TextPlace) (r : RefT (List ℕ)) → Run κs t p r → length T ≤ p .0 → now r ≡ []
+  pub run-past : (κs : Lfts 1) (p : TextPlace) (r : Lent) → Run κs t p r → length T ≤ p .0 → now r ≡ []
 
-  pub span-past : (κs : Lfts 2) (p : TextPlace) (len : ℕ) (buffer after : RefT (List ℕ)) (r : Copied) → Span κs t p len buffer after r
+  pub span-past : (κs : Lfts 2) (p : TextPlace) (len : ℕ) (buffer after : Lent) (r : Copied) → Span κs t p len buffer after r
       → length T < p .0 + len → (r ≡ copied.Refused 10) × (now after ≡ now buffer)
 
   pub count-past : (κs : Lfts 1) (byte i : ℕ) (r : Counted) → Count κs t byte i r → length T < i → r ≡ counted.Refused 10
@@ -91,19 +91,19 @@ pub record Refuses (t : RefT (List ℕ)) (S : Settings) (T : List ℕ) : Type 0 
 
   pub find-other : (κs : Lfts 1) (byte j : ℕ) (r : Found) → Find κs t byte j r → (Among byte (S .counted) → ⊥) → r ≡ found.Refused 11
 
-  pub row-other : (κs : Lfts 2) (q : ℕ) (buffer after : RefT (List ℕ)) (r : RowCopied) → Row κs t q buffer after r
+  pub row-other : (κs : Lfts 2) (q : ℕ) (buffer after : Lent) (r : RowCopied) → Row κs t q buffer after r
       → (Among 10 (S .counted) → ⊥) → (r ≡ rows.Refused 11) × (now after ≡ now buffer)
 
   -- "Is j (or q) 1 to the total? No: 12."
   pub find-none : (κs : Lfts 1) (byte j : ℕ) (r : Found) → Find κs t byte j r → Among byte (S .counted) → (1 ≤ j → j ≤ countIn byte T → ⊥)
       → r ≡ found.Refused 12
 
-  pub row-none : (κs : Lfts 2) (q : ℕ) (buffer after : RefT (List ℕ)) (r : RowCopied) → Row κs t q buffer after r
+  pub row-none : (κs : Lfts 2) (q : ℕ) (buffer after : Lent) (r : RowCopied) → Row κs t q buffer after r
       → Among 10 (S .counted) → (1 ≤ q → q ≤ countIn 10 T → ⊥) → (r ≡ rows.Refused 12) × (now after ≡ now buffer)
 
   -- "Does the answer fit the buffer? No: 13."
-  pub span-short : (κs : Lfts 2) (p : TextPlace) (len : ℕ) (buffer after : RefT (List ℕ)) (r : Copied) → Span κs t p len buffer after r
+  pub span-short : (κs : Lfts 2) (p : TextPlace) (len : ℕ) (buffer after : Lent) (r : Copied) → Span κs t p len buffer after r
       → p .0 + len ≤ length T → length (now buffer) < len → (r ≡ copied.Refused 13) × (now after ≡ now buffer)
 
-  pub row-short : (κs : Lfts 2) (q : ℕ) (buffer after : RefT (List ℕ)) (r : RowCopied) → Row κs t q buffer after r
+  pub row-short : (κs : Lfts 2) (q : ℕ) (buffer after : Lent) (r : RowCopied) → Row κs t q buffer after r
       → Among 10 (S .counted) → 1 ≤ q → q ≤ countIn 10 T → length (now buffer) < rowSize T q → (r ≡ rows.Refused 13) × (now after ≡ now buffer)

@@ -3,6 +3,13 @@ use mathlib.Core.List.{List}
 use Prim.Native.Nat.{ℕ}
 use contract.Lifetimes.{Lfts}
 use denote.Ref.{RefT}
+pub use Rattle.search.proofs.leftmost.Reads as leftmost-reads
+pub use Rattle.search.proofs.leftmost.Statement as leftmost-stated
+pub use Rattle.search.proofs.leftmost.Met as leftmost-met
+pub use Rattle.search.proofs.occurs_earlier.Reads as earlier-reads
+pub use Rattle.search.proofs.occurs_earlier.Statement as earlier-stated
+pub use Rattle.search.proofs.occurs_earlier.Met as earlier-met
+pub use Rattle.search.specs.declared.Fingerprint.{Fingerprint}
 pub use Rattle.builder.proofs.build.Reads as build-reads
 pub use Rattle.builder.proofs.build.Statement as build-stated
 pub use Rattle.builder.proofs.build.Met as build-met
@@ -56,19 +63,23 @@ pub use Rattle.rank.specs.Rows.{saidRow, Numbered as RowNumbered}
 pub use Rattle.tree.proofs.Demands.{Answer as Build, Checked as Check}
 pub use Rattle.access.proofs.Demands.{Asked as Byte, Run, Span}
 
+-- lent bytes
+abbrev pub Lent : Type 0
+Lent = RefT (List ℕ)
+
 -- enough(n, leaf, arity, levels, counted)
 abbrev pub Enough : (n leaf arity levels counted : ℕ) → Room → Type 0
 Enough n leaf arity levels counted r =
     enough-reads.Post tt (n, (leaf, (arity, (levels, (counted, tt))))) r (n, (leaf, (arity, (levels, (counted, tt)))))
 
 -- count(tree, byte, i)
-abbrev pub Count : (κs : Lfts 1) → RefT (List ℕ) → (byte i : ℕ) → Counted → Type 0
+abbrev pub Count : (κs : Lfts 1) → Lent → (byte i : ℕ) → Counted → Type 0
 Count κs t byte i r = count-reads.Post κs (t, (byte, (i, tt))) r (t, (byte, (i, tt)))
 
 -- find(tree, byte, j)
-abbrev pub Find : (κs : Lfts 1) → RefT (List ℕ) → (byte j : ℕ) → Found → Type 0
+abbrev pub Find : (κs : Lfts 1) → Lent → (byte j : ℕ) → Found → Type 0
 Find κs t byte j r = find-reads.Post κs (t, (byte, (j, tt))) r (t, (byte, (j, tt)))
 
 -- row(tree, q, buffer), which leaves the buffer as `after`
-abbrev pub Row : (κs : Lfts 2) → RefT (List ℕ) → (q : ℕ) → (buffer after : RefT (List ℕ)) → RowCopied → Type 0
+abbrev pub Row : (κs : Lfts 2) → Lent → (q : ℕ) → (buffer after : Lent) → RowCopied → Type 0
 Row κs t q buffer after r = row-reads.Post κs (t, (q, (buffer, tt))) r (t, (q, (after, tt)))

@@ -5,7 +5,7 @@ use mathlib.Core.Bool.{true}
 use mathlib.Core.Path.{_≡_, refl, sym, _∙_}
 use Prim.Native.Nat.{ℕ}
 use contract.Lifetimes.{Lfts}
-use denote.Ref.{RefT, now}
+use denote.Ref.{now}
 use lib.ListN.{take}
 use Rattle.format.specs.Settings.{Settings}
 use Rattle.format.specs.Blocks.{treeOf}
@@ -18,13 +18,14 @@ use Rattle.accepted.specs.Accepting.{StandsFor, accepted-stands, one-text}
 use Rattle.builder.specs.Answers.{given}
 use Rattle.tree.proofs.Demands as tree
 use Rattle.query.proofs.Calls as calls
-use Rattle.query.proofs.Calls.{Build, Check}
-use Rattle.query.proofs.Answering.{Answers}
+use Rattle.query.proofs.Calls.{Lent, Build, Check}
+use Rattle.query.proofs.Answering.{Answers, Refuses}
 use Rattle.query.proofs.Accepted.{accepted-answers}
+use Rattle.query.proofs.Refusing.{accepted-refuses}
 use calls.built as built
 
 -- A call of build that wrote a tree, of so many bytes, at the start of the buffer.
-module _ (κs : Lfts 3) (text : RefT (List ℕ)) (leaf arity levels : ℕ) (counted out after : RefT (List ℕ)) (size : ℕ)
+module _ (κs : Lfts 3) (text : Lent) (leaf arity levels : ℕ) (counted out after : Lent) (size : ℕ)
     (a : Build κs text leaf arity levels counted out after (built.Size size)) where
   abbrev S : Settings
   S = given leaf arity levels (now counted)
@@ -37,7 +38,7 @@ module _ (κs : Lfts 3) (text : RefT (List ℕ)) (leaf arity levels : ℕ) (coun
   build-writes = tree.build-writes κs text leaf arity levels counted out after (built.Size size) a refl
 
   -- The tree, lent to another call.
-  module _ (t : RefT (List ℕ)) (is : now t ≡ take size (now after)) where
+  module _ (t : Lent) (is : now t ≡ take size (now after)) where
     passed : buildNumber S T (now out) ≡ 0
     passed = sym (a .0)
 
@@ -53,6 +54,10 @@ module _ (κs : Lfts 3) (text : RefT (List ℕ)) (leaf arity levels : ℕ) (coun
     -- "Read back, every byte, span, run, row, count and place is the text's."
     pub build-answers : Answers t S T
     build-answers = rw (← settings-are, ← text-is) (accepted-answers t accepted)
+
+    -- Where questions 10 to 13 do not let one through, their number is answered.
+    pub build-refuses : Refuses t S T
+    build-refuses = rw (← settings-are, ← text-is) (accepted-refuses t accepted)
 
     -- "What the builder writes is accepted, ..
     pub build-accepted : (κ : Lfts 1) (r : ℕ) → Check κ t r → r ≡ 0

@@ -4,6 +4,7 @@ pub mod Ways
 pub mod Answering
 pub mod Accepted
 pub mod Refusing
+pub mod Buffers
 pub mod Demand1
 pub mod Demand2
 pub mod Demand3

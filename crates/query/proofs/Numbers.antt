@@ -2,7 +2,7 @@
 use mathlib.Core.List.{List, [], _∷_, _++_}
 use mathlib.Core.Bool.{Bool, true, false, cond, _&&_}
 use mathlib.Core.Option.{Option, none, some}
-use mathlib.Core.Path.{_≡_, refl, sym, ap, _∙_}
+use mathlib.Core.Path.{_≡_, refl, sym, _∙_}
 use mathlib.Core.Logic.{_⊎_, inl, inr}
 use Prim.Native.Nat.{ℕ, zero, suc, _+_, _-_, _≤_, _<_}
 use native.Mathlib.Omega.{arith}
@@ -138,6 +138,11 @@ module _ (t : List ℕ) where
   select-one byte j =
       then-one (5 ∷ 6 ∷ 7 ∷ []) (11 ∷ 12 ∷ 0 ∷ []) (readable t) _ (readable-one t)
       (asks-one ((11, isCounted t byte) ∷ (12, leb 1 j && leb j (total t (numberOfByte t byte))) ∷ []))
+
+  -- what find and row refuse with before they walk, and then others
+  pub select-first : (byte j n : ℕ) (xs : List ℕ) → 1 ≤ n → n ≡ selectNumber t byte j → OneOf ((5 ∷ 6 ∷ 7 ∷ 11 ∷ 12 ∷ []) ++ xs) n
+  select-first byte j n xs low e =
+      of-left (5 ∷ 6 ∷ 7 ∷ 11 ∷ 12 ∷ []) xs n (not-zero (5 ∷ 6 ∷ 7 ∷ 11 ∷ 12 ∷ []) n low (rw e (select-one byte j)))
 
 -- What is known where no question refuses.
 

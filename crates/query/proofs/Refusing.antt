@@ -1,16 +1,16 @@
 -- Any tree that the check accepts: what questions 10 to 13 refuse, and with which number.
 use mathlib.Core.List.{List, []}
-use mathlib.Core.Bool.{Bool, true, false, cond, _&&_}
-use mathlib.Core.Path.{_≡_, refl, sym, ap, _∙_}
+use mathlib.Core.Bool.{true, false, _&&_}
+use mathlib.Core.Path.{_≡_, ap, _∙_}
 use mathlib.Core.Logic.{_⊎_, inl, inr}
-use Prim.Native.Nat.{ℕ, zero, suc, _+_, _-_, _≤_, _<_}
+use Prim.Native.Nat.{ℕ, suc, _+_, _≤_, _<_}
 use native.Mathlib.Omega.{arith}
 use contract.Lifetimes.{Lfts}
-use denote.Ref.{RefT, now}
+use denote.Ref.{now}
 use lib.ListN.{length}
 use lib.Dec.{leb}
 use borrow.Author.Tests.{le-ltb, le-leb, lt-leb, leb-true, ne-eqb}
-use Rattle.text.specs.ListLaws.{bool-cases, bool-clash, and-left, and-right}
+use Rattle.text.specs.ListLaws.{bool-cases, and-left, and-right}
 use Rattle.text.specs.Text.{countIn}
 use Rattle.text.specs.declared.TextPlace.{TextPlace}
 use Rattle.format.specs.Settings.{Settings}
@@ -18,8 +18,8 @@ use Rattle.format.specs.Layout as at
 use Rattle.format.specs.Fits.{textOf}
 use Rattle.format.specs.Verdict.{readable, verdict}
 use Rattle.format.specs.VerdictLaws.{accepted-readable}
-use Rattle.format.specs.HeaderLaws.{Readable, readable-facts}
-use Rattle.format.specs.Said.{Said, refused, unless}
+use Rattle.format.specs.HeaderLaws.{readable-facts}
+use Rattle.format.specs.Said.{Said, refused}
 use Rattle.format.specs.Reading.{byteSays, runSays, spanNumber, spanLeaves}
 use Rattle.format.specs.Counting.{isCounted, numberOfByte, countSays}
 use Rattle.format.specs.Finding.{total, selectNumber, rowStart, rowEnd}
@@ -27,7 +27,7 @@ use Rattle.tallies.specs.Local.{byteOf}
 use Rattle.tallies.specs.Ranks as ranks
 use Rattle.tallies.specs.Demands as tallies
 use Rattle.query.proofs.Calls as calls
-use Rattle.query.proofs.Calls.{Answer, Copied, Counted, Found, RowCopied, Byte, Run, Span, Count, Find, Row, said, copiedSaid, spanSays, saidCount, saidFind, saidRow}
+use Rattle.query.proofs.Calls.{Lent, Answer, Copied, Counted, Found, RowCopied, Byte, Run, Span, Find, Row, said, copiedSaid, spanSays, saidCount, saidFind, saidRow}
 use Rattle.query.proofs.Ways.{text-size}
 use Rattle.query.proofs.Answering.{Among, rowSize, Refuses}
 use Rattle.query.proofs.Accepted.{among-counted, let-through}
@@ -59,7 +59,7 @@ row-no : (r : RowCopied) (n : ℕ) → saidRow r .number ≡ suc n → r ≡ row
 row-no (rows.Bytes m) n s = absurd (let z : ⊥ = omega arith in z)
 row-no (rows.Refused m) n s = ap rows.Refused s
 
-module _ (t : RefT (List ℕ)) (v : verdict (now t) ≡ 0) where
+module _ (t : Lent) (v : verdict (now t) ≡ 0) where
   abbrev T : List ℕ
   T = textOf (now t)
 
@@ -89,11 +89,11 @@ module _ (t : RefT (List ℕ)) (v : verdict (now t) ≡ 0) where
   unfolding byteSays
   ten p h = rw (pass, le-ltb p (at.textLength (now t)) (omega (arith, size)))
 
-  run-past : (κs : Lfts 1) (p : TextPlace) (r : RefT (List ℕ)) → Run κs t p r → length T ≤ p .0 → now r ≡ []
+  run-past : (κs : Lfts 1) (p : TextPlace) (r : Lent) → Run κs t p r → length T ≤ p .0 → now r ≡ []
   unfolding runSays
   run-past κs p r a h = rw (ten (p .0) h) at (a .0)
 
-  span-says : (κs : Lfts 2) (p : TextPlace) (len : ℕ) (buffer after : RefT (List ℕ)) (r : Copied) (n : ℕ) → Span κs t p len buffer after r
+  span-says : (κs : Lfts 2) (p : TextPlace) (len : ℕ) (buffer after : Lent) (r : Copied) (n : ℕ) → Span κs t p len buffer after r
       → spanNumber (now t) (p .0) len (length (now buffer)) ≡ suc n → (suc n ≡ 14 → ⊥) → (r ≡ copied.Refused (suc n)) × (now after ≡ now buffer)
   unfolding spanSays spanLeaves
   span-says κs p len buffer after r n a e other = (span-no r n (a .0 .says ∙ rw e), a .1 ∙ rw (e, ne-eqb (suc n) 0 (λ z. omega arith), ne-eqb (suc n) 14 other))
@@ -133,11 +133,11 @@ module _ (t : RefT (List ℕ)) (v : verdict (now t) ≡ 0) where
   find-asked : (κs : Lfts 1) (byte j : ℕ) (r : Found) (n : ℕ) → Find κs t byte j r → selectNumber (now t) byte j ≡ suc n → r ≡ found.Refused (suc n)
   find-asked κs byte j r n a e = find-no r n (rw e at (a .says .asked (rw e (omega arith))))
 
-  row-asked : (κs : Lfts 2) (q : ℕ) (buffer after : RefT (List ℕ)) (r : RowCopied) (n : ℕ) → Row κs t q buffer after r
+  row-asked : (κs : Lfts 2) (q : ℕ) (buffer after : Lent) (r : RowCopied) (n : ℕ) → Row κs t q buffer after r
       → selectNumber (now t) 10 q ≡ suc n → (r ≡ rows.Refused (suc n)) × (now after ≡ now buffer)
   row-asked κs q buffer after r n a e = let h = a .says .asked (rw e (omega arith)) in (row-no r n (h .0 ∙ e), h .2)
 
-  row-thirteen : (κs : Lfts 2) (q : ℕ) (buffer after : RefT (List ℕ)) (r : RowCopied) → Row κs t q buffer after r
+  row-thirteen : (κs : Lfts 2) (q : ℕ) (buffer after : Lent) (r : RowCopied) → Row κs t q buffer after r
       → Among 10 (S .counted) → 1 ≤ q → q ≤ countIn 10 T → length (now buffer) < rowSize T q → (r ≡ rows.Refused 13) × (now after ≡ now buffer)
   unfolding rowStart rowEnd
   row-thirteen κs q buffer after r a k low high small =

@@ -1,13 +1,13 @@
 -- The ways in which find and row can end, for any bytes lent as a tree.
 use mathlib.Core.List.{List, _++_}
-use mathlib.Core.Path.{_≡_, refl, sym, ap, _∙_}
+use mathlib.Core.Path.{_≡_, refl, ap}
 use mathlib.Core.Logic.{_⊎_, inl, inr}
-use Prim.Native.Nat.{ℕ, zero, suc, _+_, _-_, _≤_, _<_}
+use Prim.Native.Nat.{ℕ, zero, suc, _-_, _≤_, _<_}
 use native.Mathlib.Omega.{arith}
 use lib.ListN.{length, drop, replicate}
 use lib.Seq.{drop-at}
 use Rattle.text.specs.ListLaws.{lt-or-ge}
-use Rattle.text.specs.Text.{stretch, countIn, placeOf}
+use Rattle.text.specs.Text.{stretch, placeOf}
 use Rattle.text.specs.TextLaws.{length-stretch}
 use Rattle.text.specs.CountLaws.{Nth, place-nth}
 use Rattle.format.specs.Layout as at
