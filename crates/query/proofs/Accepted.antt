@@ -1,5 +1,5 @@
 -- Any tree that the check accepts: every question put to it is answered from the one text that fits it.
-use mathlib.Core.List.{List, [], _∷_, _++_}
+use mathlib.Core.List.{List, [], _∷_}
 use mathlib.Core.Option.{Option}
 use mathlib.Core.Bool.{Bool, true, false, cond}
 use mathlib.Core.Path.{_≡_, sym, ap, _∙_}
@@ -7,12 +7,11 @@ use Prim.Native.Nat.{ℕ, zero, suc, _+_, _-_, _≤_, _<_}
 use native.Mathlib.Omega.{arith}
 use contract.Lifetimes.{Lfts}
 use denote.Ref.{now}
-use lib.ListN.{length, getD, take, drop}
+use lib.ListN.{length, getD, take}
 use lib.Dec.{eqb}
 use borrow.Author.Tests.{lt-ltb, eq-eqb, ne-eqb}
-use Rattle.text.specs.Text.{stretch, countIn, placeOf}
+use Rattle.text.specs.Text.{countIn, placeOf}
 use Rattle.text.specs.CountLaws.{place-nth}
-use Rattle.text.specs.declared.TextPlace.{TextPlace}
 use Rattle.format.specs.Settings.{Settings}
 use Rattle.format.specs.Layout as at
 use Rattle.format.specs.Path.{Path, pathOf}
@@ -26,9 +25,9 @@ use Rattle.paths.specs.Demands as paths
 use Rattle.tallies.specs.Demands as tallies
 use Rattle.access.proofs.Demands as access
 use Rattle.query.proofs.Calls as calls
-use Rattle.query.proofs.Calls.{Lent, Answer, Counted, Found, RowCopied, Byte, Run, Count, Find, Row, saidCount, CountNumbered, saidFind, FindNumbered, saidRow, RowNumbered}
+use Rattle.query.proofs.Calls.{Lent, Counted, Found, RowCopied, Byte, Count, saidCount, CountNumbered, saidFind, FindNumbered, saidRow, RowNumbered}
 use Rattle.query.proofs.Numbers.{select-lets}
-use Rattle.query.proofs.Answering.{LengthOfPath, Among, rowFrom, rowSize, Answers}
+use Rattle.query.proofs.Answering.{LengthOfPath, Among, rowSize, Answers}
 use calls.answer as answer
 use calls.counted as counted
 use calls.found as found-is
@@ -100,32 +99,10 @@ module _ (t : Lent) (v : verdict (now t) ≡ 0) where
         short = rw (w .1) (paths.path-short (now t) pass p (w .0) (w .1));
       }
 
-  byte-right : (κs : Lfts 1) (p : TextPlace) (r : Answer) → Byte κs t p r → p .0 < length T
-      → (e : ℕ) × LengthOfPath (now t) (S .levels) (p .0) e × (r ≡ answer.Byte (getD T (p .0) 0) e)
-  byte-right κs p r a h =
-      let w = access.byte-answers t pass links κs p r (below h) a in
-      (pathLength (now t) (pathOf (now t) (p .0)), path-length (p .0) h, w .answer-is ∙ ap (λ (o : Option Path). answer.Byte (getD T (p .0) 0) (pathLength (now t) o)) (sym (w .path-is)))
-
-  run-right : (κs : Lfts 1) (p : TextPlace) (r : Lent) → Run κs t p r → p .0 < length T
-      → (from : ℕ) × (size : ℕ) × (1 ≤ size) × (from + size ≤ length (now t)) × (r .ptr ≡ (t .ptr .0, t .ptr .1 + from))
-      × (now r ≡ take size (drop from (now t))) × (p .0 + size ≤ length T) × (now r ≡ stretch T (p .0) size)
-  run-right κs p r a h =
-      let w = access.run-stretches t pass links κs p r (below h) a in
-      (w .from, w .size, w .some-byte, w .in-tree, w .place, w .of-tree, omega (arith, w .in-text, text-size), w .of-text)
-
   count-says : (κs : Lfts 1) (byte i : ℕ) (r : Counted) → Count κs t byte i r → Among byte (S .counted) → i ≤ length T
       → r ≡ counted.Times (countIn byte (take i T)) (cond (eqb i 0) 0 (pathLength (now t) (pathOf (now t) (i - 1))))
   count-says κs byte i r a k h =
       count-is r _ _ (a .numbered) (a .says ∙ tallies.count-of-text (now t) v byte i (among-counted (now t) byte k) (omega (arith, text-size)))
-
-  count-right : (κs : Lfts 1) (byte i : ℕ) (r : Counted) → Count κs t byte i r → Among byte (S .counted) → 1 ≤ i → i ≤ length T
-      → (e : ℕ) × LengthOfPath (now t) (S .levels) (i - 1) e × (r ≡ counted.Times (countIn byte (take i T)) e)
-  count-right κs byte i r a k low h =
-      (pathLength (now t) (pathOf (now t) (i - 1)), path-length (i - 1) (omega arith), rw (ne-eqb i 0 (λ z. omega arith)) at (count-says κs byte i r a k h))
-
-  count-nothing : (κs : Lfts 1) (byte : ℕ) (r : Counted) → Count κs t byte 0 r → Among byte (S .counted) → r ≡ counted.Times 0 0
-  unfolding countIn
-  count-nothing κs byte r a k = count-says κs byte 0 r a k (omega arith)
 
   -- questions 11 and 12 let find and row through
   module _ (byte j : ℕ) (k : Among byte (S .counted)) (low : 1 ≤ j) (high : j ≤ countIn byte T) where
@@ -134,29 +111,26 @@ module _ (t : Lent) (v : verdict (now t) ≡ 0) where
         let c = among-counted (now t) byte k in
         select-lets (now t) byte j (record { pass = pass; counted = c; low = low; high = rw (tallies.total-of-text (now t) v byte c) high })
 
-    find-right : (κs : Lfts 1) (r : Found) → Find κs t byte j r
-        → (e : ℕ) × LengthOfPath (now t) (S .levels) (placeOf byte j T) e × (r ≡ found-is.At (record { 0 = placeOf byte j T }) e)
-    unfolding found
-    find-right κs r a =
-        let p = placeOf byte j T in
-        (pathLength (now t) (pathOf (now t) p), path-length p (omega (arith, place-nth byte j T low high .within)), find-is r p _ (a .numbered) (a .says .accepted let-through v))
-
-  row-right : (κs : Lfts 2) (q : ℕ) (buffer after : Lent) (r : RowCopied) → Row κs t q buffer after r
-      → Among 10 (S .counted) → 1 ≤ q → q ≤ countIn 10 T → rowSize T q ≤ length (now buffer)
-      → (r ≡ rows.Bytes (rowSize T q)) × (now after ≡ stretch T (rowFrom T q) (rowSize T q) ++ drop (rowSize T q) (now buffer))
-  unfolding rowStart rowEnd
-  row-right κs q buffer after r a k low high room =
-      let h = a .says .accepted (let-through 10 q k low high) v room in
-      (row-is r (rowSize T q) (a .numbered) (h .0) (h .1), rw (h .1) at (h .2))
-
   -- every question put to it is answered from that text
   pub accepted-answers : Answers t S T
+  unfolding countIn found rowStart rowEnd
   accepted-answers = record {
-    byte-of = byte-right;
-    run-of = run-right;
+    byte-of = λ κs p r a h.
+        let w = access.byte-answers t pass links κs p r (below h) a in
+        let is = ap (λ (o : Option Path). answer.Byte (getD T (p .0) 0) (pathLength (now t) o)) (sym (w .path-is)) in
+        (pathLength (now t) (pathOf (now t) (p .0)), path-length (p .0) h, w .answer-is ∙ is);
+    run-of = λ κs p r a h.
+        let w = access.run-stretches t pass links κs p r (below h) a in
+        (w .from, w .size, w .some-byte, w .in-tree, w .place, w .of-tree, omega (arith, w .in-text, text-size), w .of-text);
     span-of = λ κs p len buffer after r a low room. access.span-copies t pass links κs p len buffer after r (omega (arith, text-size)) room a;
-    count-of = count-right;
-    count-none = count-nothing;
-    find-of = λ κs byte j r a k low high. find-right byte j k low high κs r a;
-    row-of = row-right;
+    count-of = λ κs byte i r a k low h.
+        (pathLength (now t) (pathOf (now t) (i - 1)), path-length (i - 1) (omega arith), rw (ne-eqb i 0 (λ z. omega arith)) at (count-says κs byte i r a k h));
+    count-none = λ κs byte r a k. count-says κs byte 0 r a k (omega arith);
+    find-of = λ κs byte j r a k low high.
+        let p = placeOf byte j T in
+        let in-text : p < length T = omega (arith, place-nth byte j T low high .within) in
+        (pathLength (now t) (pathOf (now t) p), path-length p in-text, find-is r p _ (a .numbered) (a .says .accepted (let-through byte j k low high) v));
+    row-of = λ κs q buffer after r a k low high room.
+        let h = a .says .accepted (let-through 10 q k low high) v room in
+        (row-is r (rowSize T q) (a .numbered) (h .0) (h .1), rw (h .1) at (h .2));
   }
