@@ -47,27 +47,21 @@ pub record Answers (t : Lent) (S : Settings) (T : List ℕ) : Type 0 where
   -- "the byte at p, with the blocks entered"
   pub byte-of : (κs : Lfts 1) (p : TextPlace) (r : Answer) → Byte κs t p r → p .0 < length T
       → (e : ℕ) × LengthOfPath (now t) (S .levels) (p .0) e × (r ≡ answer.Byte (getD T (p .0) 0) e)
-
   -- a part of the lent tree, of one byte or more, that stands in the text from p on
   pub run-of : (κs : Lfts 1) (p : TextPlace) (r : Lent) → Run κs t p r → p .0 < length T
       → (from : ℕ) × (size : ℕ) × (1 ≤ size) × (from + size ≤ length (now t)) × (r .ptr ≡ (t .ptr .0, t .ptr .1 + from))
       × (now r ≡ take size (drop from (now t))) × (p .0 + size ≤ length T) × (now r ≡ stretch T (p .0) size)
-
   -- "bytes from p, length given, copied to a buffer"
   pub span-of : (κs : Lfts 2) (p : TextPlace) (len : ℕ) (buffer after : Lent) (r : Copied) → Span κs t p len buffer after r
       → p .0 + len ≤ length T → len ≤ length (now buffer)
       → (r ≡ copied.Bytes len) × (now after ≡ stretch T (p .0) len ++ drop len (now buffer))
-
   -- "how often a counted byte stands in the first i bytes", with the length of the path of place i - 1; "i = 0 gives 0 with none entered"
   pub count-of : (κs : Lfts 1) (byte i : ℕ) (r : Counted) → Count κs t byte i r → Among byte (S .counted) → 1 ≤ i → i ≤ length T
       → (e : ℕ) × LengthOfPath (now t) (S .levels) (i - 1) e × (r ≡ counted.Times (countIn byte (take i T)) e)
-
   pub count-none : (κs : Lfts 1) (byte : ℕ) (r : Counted) → Count κs t byte 0 r → Among byte (S .counted) → r ≡ counted.Times 0 0
-
   -- "the place of the j-th such byte, with the path of that place"
   pub find-of : (κs : Lfts 1) (byte j : ℕ) (r : Found) → Find κs t byte j r → Among byte (S .counted) → 1 ≤ j → j ≤ countIn byte T
       → (e : ℕ) × LengthOfPath (now t) (S .levels) (placeOf byte j T) e × (r ≡ found.At (record { 0 = placeOf byte j T }) e)
-
   -- "what stands between the (q-1)-th byte 10 (or the text's start) and the q-th, copied"
   pub row-of : (κs : Lfts 2) (q : ℕ) (buffer after : Lent) (r : RowCopied) → Row κs t q buffer after r
       → Among 10 (S .counted) → 1 ≤ q → q ≤ countIn 10 T → rowSize T q ≤ length (now buffer)
@@ -77,33 +71,23 @@ pub record Answers (t : Lent) (S : Settings) (T : List ℕ) : Type 0 where
 pub record Refuses (t : Lent) (S : Settings) (T : List ℕ) : Type 0 where
   -- "Is p below n; or start + length, or i, at most n? No: 10."
   pub byte-past : (κs : Lfts 1) (p : TextPlace) (r : Answer) → Byte κs t p r → length T ≤ p .0 → r ≡ answer.Refused 10
-
   pub run-past : (κs : Lfts 1) (p : TextPlace) (r : Lent) → Run κs t p r → length T ≤ p .0 → now r ≡ []
-
   pub span-past : (κs : Lfts 2) (p : TextPlace) (len : ℕ) (buffer after : Lent) (r : Copied) → Span κs t p len buffer after r
       → length T < p .0 + len → (r ≡ copied.Refused 10) × (now after ≡ now buffer)
-
   pub count-past : (κs : Lfts 1) (byte i : ℕ) (r : Counted) → Count κs t byte i r → length T < i → r ≡ counted.Refused 10
-
   -- "Is the byte counted (for a row, byte 10)? No: 11."
   pub count-other : (κs : Lfts 1) (byte i : ℕ) (r : Counted) → Count κs t byte i r → i ≤ length T → (Among byte (S .counted) → ⊥)
       → r ≡ counted.Refused 11
-
   pub find-other : (κs : Lfts 1) (byte j : ℕ) (r : Found) → Find κs t byte j r → (Among byte (S .counted) → ⊥) → r ≡ found.Refused 11
-
   pub row-other : (κs : Lfts 2) (q : ℕ) (buffer after : Lent) (r : RowCopied) → Row κs t q buffer after r
       → (Among 10 (S .counted) → ⊥) → (r ≡ rows.Refused 11) × (now after ≡ now buffer)
-
   -- "Is j (or q) 1 to the total? No: 12."
   pub find-none : (κs : Lfts 1) (byte j : ℕ) (r : Found) → Find κs t byte j r → Among byte (S .counted) → (1 ≤ j → j ≤ countIn byte T → ⊥)
       → r ≡ found.Refused 12
-
   pub row-none : (κs : Lfts 2) (q : ℕ) (buffer after : Lent) (r : RowCopied) → Row κs t q buffer after r
       → Among 10 (S .counted) → (1 ≤ q → q ≤ countIn 10 T → ⊥) → (r ≡ rows.Refused 12) × (now after ≡ now buffer)
-
   -- "Does the answer fit the buffer? No: 13."
   pub span-short : (κs : Lfts 2) (p : TextPlace) (len : ℕ) (buffer after : Lent) (r : Copied) → Span κs t p len buffer after r
       → p .0 + len ≤ length T → length (now buffer) < len → (r ≡ copied.Refused 13) × (now after ≡ now buffer)
-
   pub row-short : (κs : Lfts 2) (q : ℕ) (buffer after : Lent) (r : RowCopied) → Row κs t q buffer after r
       → Among 10 (S .counted) → 1 ≤ q → q ≤ countIn 10 T → length (now buffer) < rowSize T q → (r ≡ rows.Refused 13) × (now after ≡ now buffer)

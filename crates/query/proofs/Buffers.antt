@@ -1,7 +1,7 @@
 -- Demand 1, the lent buffers: "leaves each lent buffer as document 01 says", and with which numbers build, span and row refuse, for any
 -- arguments and any lent bytes. A lent slice keeps its length by its type.
 use mathlib.Core.List.{[], _∷_, _++_}
-use mathlib.Core.Bool.{cond}
+use mathlib.Core.Bool.{Bool, true, false, cond}
 use mathlib.Core.Path.{_≡_, refl, sym, ap, _∙_}
 use mathlib.Core.Logic.{_⊎_, inl, inr}
 use Prim.Native.Nat.{ℕ, zero, suc, _+_, _≤_}
@@ -10,26 +10,31 @@ use contract.Lifetimes.{Lfts}
 use denote.Ref.{now}
 use lib.ListN.{length, take, drop, replicate}
 use lib.Seq.{drop-at, take-append-seam, drop-append-seam}
-use lib.Dec.{eqb}
+use lib.Dec.{leb, eqb}
 use borrow.Author.Tests.{eq-eqb, ne-eqb}
 use Rattle.text.specs.Lists.{tabulate}
 use Rattle.text.specs.ListLaws.{length-tabulate}
 use Rattle.text.specs.declared.TextPlace.{TextPlace}
-use Rattle.format.specs.Settings.{Settings}
+use Rattle.format.specs.Settings.{Settings, lengthOk, sizesOk, countedOk}
 use Rattle.format.specs.Blocks.{treeOf}
 use Rattle.format.specs.HeaderLaws.{readable-facts}
 use Rattle.format.specs.Said.{Said, refused, unless}
 use Rattle.format.specs.Building.{buildNumber, buildSize, buildLeaves}
 use Rattle.format.specs.Reading.{byteSays, spanNumber, spanLeaves}
+use Rattle.built.specs.Sizes.{Taken}
 use Rattle.built.specs.Readable.{built-readable}
 use Rattle.builder.specs.Answers.{given}
+use Rattle.layout.specs.Settings.{sizes}
+use Rattle.enough.specs.Enough.{enoughFor, enoughSays}
+use Rattle.enough.specs.Sizes.{never-full}
 use Rattle.access.specs.Answers.{spanSays}
 use Rattle.tree.proofs.Demands as tree
 use Rattle.query.proofs.Calls as calls
-use Rattle.query.proofs.Calls.{Lent, Build, Span, Row}
+use Rattle.query.proofs.Calls.{Lent, Build, Enough, Span, Row}
 use Rattle.query.proofs.Numbers.{OneOf, of-right, not-zero, build-one, build-fits, span-one, select-first, span-fits}
 use Rattle.query.proofs.Ways.{Zeros, RowWay, row-way}
 use calls.built as built
+use calls.room as room
 use calls.copied as copied
 use calls.rows as rows
 
@@ -109,6 +114,14 @@ module _ (κs : Lfts 2) (t : Lent) (q : ℕ) (buffer after : Lent) where
         go (RowWay.broken z (inr zeros)) = inr (z, zeros)
         go (RowWay.copied z fits rest) = absurd (let y : ⊥ = omega (arith, a .numbered) in y)
 
+-- what is known where enough answers a size
+room-facts : (one two three : Bool) (size m : ℕ) → room.Bytes m ≡ cond one (cond two (cond three (room.Bytes size) (room.Refused 3)) (room.Refused 2)) (room.Refused 1)
+    → (one ≡ true) × (two ≡ true) × (m ≡ size)
+room-facts true true true size m e = (refl, refl, cc)
+room-facts true true false size m e = absurd (let z : _≡_ {A = ℕ} 0 1 = cc in omega arith)
+room-facts true false three size m e = absurd (let z : _≡_ {A = ℕ} 0 1 = cc in omega arith)
+room-facts false two three size m e = absurd (let z : _≡_ {A = ℕ} 0 1 = cc in omega arith)
+
 module _ (κs : Lfts 3) (text : Lent) (leaf arity levels : ℕ) (counted out after : Lent) where
   abbrev S : Settings
   S = given leaf arity levels (now counted)
@@ -151,3 +164,14 @@ module _ (κs : Lfts 3) (text : Lent) (leaf arity levels : ℕ) (counted out aft
     -- .. and any other leaves it unchanged.
     pub build-unchanged : (n ≡ 4 → ⊥) → now after ≡ now out
     build-unchanged e = build-left ∙ rw (ne-eqb n 4 e)
+
+    -- With room of the size that enough answers, and counted bytes that question 3 takes, build is not refused.
+    pub never-refused : (m : ℕ) → Enough (length (now text)) leaf arity levels (length (now counted)) (room.Bytes m) → m ≤ length (now out)
+        → countedOk (now counted) ≡ true → ⊥
+    unfolding enoughSays sizesOk
+    never-refused m e space rising =
+        let size = enoughFor (length (now text)) leaf arity levels (length (now counted)) in
+        let k = room-facts (lengthOk (length (now text))) (sizesOk (sizes leaf arity levels)) (leb (length (now counted)) 4) size m e in
+        let taken : Taken S (now text) = record { length-ok = k .0; sizes-ok = k .1; counted-ok = rising } in
+        let enough : size ≤ length (now out) = omega (arith, k .2) in
+        omega (arith, build-low, a .0, never-full S (now text) taken (now out) enough)

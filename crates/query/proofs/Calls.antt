@@ -51,14 +51,12 @@ pub use Rattle.rank.specs.declared.Found.{Found}
 pub use Rattle.rank.specs.declared.Found.the-variants as found
 pub use Rattle.rank.specs.declared.RowCopied.{RowCopied}
 pub use Rattle.rank.specs.declared.RowCopied.the-variants as rows
-
 -- what an answer says in document 01's terms, and that a refusal's number is not 0
 pub use Rattle.access.specs.Answers.{said, copiedSaid}
 unfoldable pub use Rattle.access.specs.Answers.{spanSays}
 pub use Rattle.rank.specs.Counts.{saidCount, Numbered as CountNumbered}
 pub use Rattle.rank.specs.Found.{saidFind, Numbered as FindNumbered}
 pub use Rattle.rank.specs.Rows.{saidRow, Numbered as RowNumbered}
-
 -- build(text, leaf, arity, levels, counted, out) and check(tree); byte(tree, place), run(tree, place) and span(tree, place, len, buffer)
 pub use Rattle.tree.proofs.Demands.{Answer as Build, Checked as Check}
 pub use Rattle.access.proofs.Demands.{Asked as Byte, Run, Span}

@@ -35,17 +35,24 @@ use calls.counted as counted
 use calls.found as found
 
 -- "Every call ends, on every text, setting, tree and question; reads and writes only what was lent": each call meets its contract. That is
--- a theorem of the logic, for any arguments: from memory that holds what is lent the call returns, with that memory and no other touched.
+-- a theorem of the logic, for any arguments: from a memory that holds what is lent, the call returns, and any other memory is as it was.
 pub every-call-ends : {M : Type 1}
     → calls.leftmost-stated.statement M × calls.earlier-stated.statement M
     × calls.build-stated.statement M × calls.check-stated.statement M × calls.enough-stated.statement M
     × calls.byte-stated.statement M × calls.run-stated.statement M × calls.span-stated.statement M
     × calls.count-stated.statement M × calls.find-stated.statement M × calls.row-stated.statement M
 every-call-ends = (
-  calls.leftmost-met.met, calls.earlier-met.met,
-  calls.build-met.met, calls.check-met.met, calls.enough-met.met,
-  calls.byte-met.met, calls.run-met.met, calls.span-met.met,
-  calls.count-met.met, calls.find-met.met, calls.row-met.met,
+  calls.leftmost-met.met,
+  calls.earlier-met.met,
+  calls.build-met.met,
+  calls.check-met.met,
+  calls.enough-met.met,
+  calls.byte-met.met,
+  calls.run-met.met,
+  calls.span-met.met,
+  calls.count-met.met,
+  calls.find-met.met,
+  calls.row-met.met,
 )
 
 -- "trusts no caller to have checked a tree": what a call asks of its caller holds of any arguments.
@@ -53,7 +60,7 @@ pub trusts-no-caller :
     ((κs : Lfts 1) (text : Lent) (p : TextPlace) (len : ℕ) (by : Fingerprint) → calls.leftmost-reads.Asked κs (text, (p, (len, (by, tt)))))
     × ((κs : Lfts 1) (text : Lent) (p : TextPlace) (len : ℕ) (by : Fingerprint) → calls.earlier-reads.Asked κs (text, (p, (len, (by, tt)))))
     × ((κs : Lfts 3) (text : Lent) (leaf arity levels : ℕ) (counted out : Lent)
-        → calls.build-reads.Asked κs (text, (leaf, (arity, (levels, (counted, (out, tt)))))))
+    → calls.build-reads.Asked κs (text, (leaf, (arity, (levels, (counted, (out, tt)))))))
     × ((κs : Lfts 1) (t : Lent) → calls.check-reads.Asked κs (t, tt))
     × ((κs : Lfts 0) (n leaf arity levels counted : ℕ) → calls.enough-reads.Asked κs (n, (leaf, (arity, (levels, (counted, tt))))))
     × ((κs : Lfts 1) (t : Lent) (p : TextPlace) → calls.byte-reads.Asked κs (t, (p, tt)))
@@ -63,10 +70,17 @@ pub trusts-no-caller :
     × ((κs : Lfts 1) (t : Lent) (byte j : ℕ) → calls.find-reads.Asked κs (t, (byte, (j, tt))))
     × ((κs : Lfts 2) (t : Lent) (q : ℕ) (buffer : Lent) → calls.row-reads.Asked κs (t, (q, (buffer, tt))))
 trusts-no-caller = (
-  λ κs text p len by. tt, λ κs text p len by. tt,
-  λ κs text leaf arity levels counted out. tt, λ κs t. tt, λ κs n leaf arity levels counted. tt,
-  λ κs t p. tt, λ κs t p. tt, λ κs t p len buffer. tt,
-  λ κs t byte i. tt, λ κs t byte j. tt, λ κs t q buffer. tt,
+  λ κs text p len by. tt,
+  λ κs text p len by. tt,
+  λ κs text leaf arity levels counted out. tt,
+  λ κs t. tt,
+  λ κs n leaf arity levels counted. tt,
+  λ κs t p. tt,
+  λ κs t p. tt,
+  λ κs t p len buffer. tt,
+  λ κs t byte i. tt,
+  λ κs t byte j. tt,
+  λ κs t q buffer. tt,
 )
 
 -- "gives its answer or a numbered refusal of document 01": which numbers each call refuses with, for any arguments and any lent bytes.
@@ -97,21 +111,23 @@ module _ (κs : Lfts 1) (t : Lent) (p : TextPlace) where
       let e : n ≡ byteSays (now t) (p .0) .number = ap (λ (s : Said). s .number) a in
       not-zero (5 ∷ 6 ∷ 7 ∷ 10 ∷ 14 ∷ []) n (byte-not-zero n a) (rw e (byte-one (now t) (p .0)))
 
+-- κ is byte's lifetime, κs run's
+module _ (κ κs : Lfts 1) (t : Lent) (p : TextPlace) (r : Lent) where
   -- Run: a part of the lent tree, of one byte or more, where byte answers; ..
-  pub run-answer : (r : Lent) (v e : ℕ) → Byte κs t p (answer.Byte v e) → Run κs t p r
+  pub run-answer : (v e : ℕ) → Byte κ t p (answer.Byte v e) → Run κs t p r
       → (from : ℕ) × (size : ℕ) × (1 ≤ size) × (from + size ≤ length (now t))
       × (r .ptr ≡ (t .ptr .0, t .ptr .1 + from)) × (now r ≡ take size (drop from (now t)))
-  run-answer r v e b a =
+  run-answer v e b a =
       let w = byte-reached (now t) (p .0) (sym (ap (λ (s : Said). s .number) b)) in
       let k = paths.run-by-path (now t) (w .pass) (p .0) (w .path) (w .path-is) (w .low) in
       (runSays (now t) (p .0) .0, runSays (now t) (p .0) .1, k .some-byte, k .in-tree, a .1, a .0)
 
   -- .. "Refused, it is the empty part, and the number is byte's for that place."
-  pub run-empty : (r : Lent) (n : ℕ) → Byte κs t p (answer.Refused n) → Run κs t p r → now r ≡ []
+  pub run-empty : (n : ℕ) → Byte κ t p (answer.Refused n) → Run κs t p r → now r ≡ []
   unfolding runSays
-  run-empty r n b a =
+  run-empty n b a =
       let e : byteSays (now t) (p .0) .number ≡ n = sym (ap (λ (s : Said). s .number) b) in
-      let z = ne-eqb (byteSays (now t) (p .0) .number) 0 (λ x. omega (arith, byte-not-zero n b)) in
+      let z = ne-eqb (byteSays (now t) (p .0) .number) 0 (λ x. omega (arith, byte-not-zero κ t p n b)) in
       rw z at (a .0)
 
 -- Count: a refusal is 5, 6, 7, 10, 11 or 14.

@@ -17,42 +17,26 @@ use Rattle.query.proofs.Calls as calls
 use Rattle.query.proofs.Calls.{Lent, Build, Check}
 use Rattle.query.proofs.Answering.{Answers, Refuses}
 use calls.built as built
-
--- Demand 1.
-
--- "Every call ends, on every text, setting, tree and question; reads and writes only what was lent; ..
+-- Demand 1. "Every call ends, on every text, setting, tree and question; reads and writes only what was lent; ..
 pub use Rattle.query.proofs.Demand1.{every-call-ends}
-
 -- .. gives its answer or a numbered refusal of document 01; ..
 pub use Rattle.query.proofs.Demand1.{check-numbers, enough-numbers, byte-answer, byte-numbers, run-answer, run-empty, count-numbers, find-answer, find-numbers}
 pub use Rattle.query.proofs.Buffers.{build-numbers, span-numbers, row-numbers}
-
 -- .. trusts no caller to have checked a tree; ..
 pub use Rattle.query.proofs.Demand1.{trusts-no-caller}
-
 -- .. leaves each lent buffer as document 01 says."
 pub use Rattle.query.proofs.Buffers.{build-answer, build-zeros, build-unchanged, span-answer, span-zeros, span-unchanged, row-answer, row-leaves}
-
--- Demand 2.
-
--- "The builder's output is, byte for byte, the block tree of its text as document 01 defines it; ..
+-- Demand 2. "The builder's output is, byte for byte, the block tree of its text as document 01 defines it; ..
 pub use Rattle.query.proofs.Demand2.{build-writes}
-
 -- .. read back, every byte, span, run, row, count and place is the text's."
 pub use Rattle.query.proofs.Demand2.{build-answers, build-refuses}
-
--- Demand 3.
-
--- "The check accepts any bytes, whoever made them, exactly when questions 5 to 8 hold, a text fits and the counts are true of it. ..
+-- Demand 3. "The check accepts any bytes, whoever made them, exactly when questions 5 to 8 hold, a text fits and the counts are true of it. ..
 pub use Rattle.query.proofs.Demand3.{check-accepts}
-
 -- .. Exactly one text then fits; ..
 pub use Rattle.query.proofs.Demand3.{check-one-text}
-
 -- .. byte, count and find on such a tree are never refused where questions 10 to 12 let them through, are right, and report blocks entered
 -- that equal the path's length, at most twice the levels less one. ..
 pub use Rattle.query.proofs.Demand3.{check-answers, check-refuses}
-
 -- .. What the builder writes is accepted, and its one text is the input."
 pub use Rattle.query.proofs.Demand2.{build-accepted, build-one-text}
 
@@ -76,6 +60,10 @@ pub built-tree :
     × Answers t (given leaf arity levels (now counted)) (now text) × Refuses t (given leaf arity levels (now counted)) (now text)
 built-tree κs text leaf arity levels counted out after size a t is =
     let one = build-one-text κs text leaf arity levels counted out after size a t is in (
-      is ∙ build-writes κs text leaf arity levels counted out after size a, build-accepted κs text leaf arity levels counted out after size a t is, one .0, one .1,
-      build-answers κs text leaf arity levels counted out after size a t is, build-refuses κs text leaf arity levels counted out after size a t is,
+      is ∙ build-writes κs text leaf arity levels counted out after size a,
+      build-accepted κs text leaf arity levels counted out after size a t is,
+      one .0,
+      one .1,
+      build-answers κs text leaf arity levels counted out after size a t is,
+      build-refuses κs text leaf arity levels counted out after size a t is,
     )
