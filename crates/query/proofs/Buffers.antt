@@ -166,10 +166,10 @@ module _ (κs : Lfts 3) (text : Lent) (leaf arity levels : ℕ) (counted out aft
     build-unchanged e = build-left ∙ rw (ne-eqb n 4 e)
 
     -- With room of the size that enough answers, and counted bytes that question 3 takes, build is not refused.
-    pub never-refused : (m : ℕ) → Enough (length (now text)) leaf arity levels (length (now counted)) (room.Bytes m) → m ≤ length (now out)
+    pub build-has-room : (m : ℕ) → Enough (length (now text)) leaf arity levels (length (now counted)) (room.Bytes m) → m ≤ length (now out)
         → countedOk (now counted) ≡ true → ⊥
     unfolding enoughSays sizesOk
-    never-refused m e space rising =
+    build-has-room m e space rising =
         let size = enoughFor (length (now text)) leaf arity levels (length (now counted)) in
         let k = room-facts (lengthOk (length (now text))) (sizesOk (sizes leaf arity levels)) (leb (length (now counted)) 4) size m e in
         let taken : Taken S (now text) = record { length-ok = k .0; sizes-ok = k .1; counted-ok = rising } in

@@ -26,6 +26,8 @@ pub use Rattle.query.proofs.Buffers.{build-numbers, span-numbers, row-n
 pub use Rattle.query.proofs.Demand1.{trusts-no-caller}
 -- .. leaves each lent buffer as document 01 says."
 pub use Rattle.query.proofs.Buffers.{build-answer, build-zeros, build-unchanged, span-answer, span-zeros, span-unchanged, row-answer, row-leaves}
+-- With the room that enough answers, build is not refused for want of it.
+pub use Rattle.query.proofs.Buffers.{build-has-room}
 -- Demand 2. "The builder's output is, byte for byte, the block tree of its text as document 01 defines it; ..
 pub use Rattle.query.proofs.Demand2.{build-writes}
 -- .. read back, every byte, span, run, row, count and place is the text's."
