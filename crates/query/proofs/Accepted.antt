@@ -26,8 +26,8 @@ use Rattle.tallies.specs.Demands as tallies
 use Rattle.access.proofs.Demands as access
 use Rattle.query.proofs.Calls as calls
 use Rattle.query.proofs.Calls.{Lent, Counted, Found, RowCopied, Byte, Count, saidCount, CountNumbered, saidFind, FindNumbered, saidRow, RowNumbered}
-use Rattle.query.proofs.Numbers.{select-lets}
-use Rattle.query.proofs.Answering.{LengthOfPath, Among, rowSize, Answers}
+use Rattle.query.proofs.Passing.{select-lets}
+use Rattle.query.proofs.Answering.{LengthOfPath, length-of-path, Among, rowSize, Answers}
 use calls.answer as answer
 use calls.counted as counted
 use calls.found as found-is
@@ -91,13 +91,8 @@ module _ (t : Lent) (v : verdict (now t) ≡ 0) where
   -- every place of the text has a path of that length
   path-length : (p : ℕ) → p < length T → LengthOfPath (now t) (S .levels) p (pathLength (now t) (pathOf (now t) p))
   path-length p h =
-      let w = paths.no-path-breaks (now t) pass links p (below h) in record {
-        path = w .0;
-        path-is = w .1;
-        length-is = ap (pathLength (now t)) (w .1);
-        each-level = ap (pathLength (now t)) (w .1) ∙ paths.blocks-entered (now t) pass p (w .0) (w .1);
-        short = rw (w .1) (paths.path-short (now t) pass p (w .0) (w .1));
-      }
+      let w = paths.no-path-breaks (now t) pass links p (below h) in
+      rw (w .1) (length-of-path (now t) pass p (w .0) (w .1))
 
   count-says : (κs : Lfts 1) (byte i : ℕ) (r : Counted) → Count κs t byte i r → Among byte (S .counted) → i ≤ length T
       → r ≡ counted.Times (countIn byte (take i T)) (cond (eqb i 0) 0 (pathLength (now t) (pathOf (now t) (i - 1))))

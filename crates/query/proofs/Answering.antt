@@ -3,7 +3,7 @@
 use mathlib.Core.List.{List, [], _++_}
 use mathlib.Core.Option.{some}
 use mathlib.Core.Bool.{cond}
-use mathlib.Core.Path.{_≡_}
+use mathlib.Core.Path.{_≡_, refl}
 use Prim.Native.Nat.{ℕ, _+_, _-_, _*_, _≤_, _<_}
 use contract.Lifetimes.{Lfts}
 use denote.Ref.{now}
@@ -12,7 +12,10 @@ use lib.Dec.{eqb}
 use Rattle.text.specs.Text.{stretch, countIn, placeOf}
 use Rattle.text.specs.declared.TextPlace.{TextPlace}
 use Rattle.format.specs.Settings.{Settings}
+use Rattle.format.specs.Layout as at
 use Rattle.format.specs.Path.{Path, pathOf}
+use Rattle.format.specs.Verdict.{readable}
+use Rattle.paths.specs.Demands as paths
 use Rattle.paths.specs.Visits.{pointers}
 use Rattle.query.proofs.Calls as calls
 use Rattle.query.proofs.Calls.{Lent, Answer, Copied, Counted, Found, RowCopied, Byte, Run, Span, Count, Find, Row}
@@ -30,6 +33,16 @@ pub record LengthOfPath (t : List ℕ) (H p e : ℕ) : Type 0 where
   pub length-is : e ≡ length (path .visits)
   pub each-level : e ≡ H + pointers t (path .visits)
   pub short : e ≤ 2 * H - 1
+
+-- in a tree that passes questions 5 to 7 every path that holds has such a length
+pub length-of-path : (t : List ℕ) → readable t ≡ 0 → (p : ℕ) (q : Path) → pathOf t p ≡ some q → LengthOfPath t (at.settings t .levels) p (length (q .visits))
+length-of-path t r p q e = record {
+  path = q;
+  path-is = e;
+  length-is = refl;
+  each-level = paths.blocks-entered t r p q e;
+  short = paths.path-short t r p q e;
+}
 
 -- the byte stands among these
 abbrev pub Among : ℕ → List ℕ → Type 0

@@ -31,7 +31,8 @@ use Rattle.access.specs.Answers.{spanSays}
 use Rattle.tree.proofs.Demands as tree
 use Rattle.query.proofs.Calls as calls
 use Rattle.query.proofs.Calls.{Lent, Build, Enough, Span, Row}
-use Rattle.query.proofs.Numbers.{OneOf, of-right, not-zero, build-one, build-fits, span-one, select-first, span-fits}
+use Rattle.query.proofs.Numbers.{OneOf, of-right, not-zero, build-one, span-one, select-first}
+use Rattle.query.proofs.Passing.{build-fits, span-fits}
 use Rattle.query.proofs.Ways.{Zeros, RowWay, row-way}
 use calls.built as built
 use calls.room as room

@@ -4,8 +4,8 @@ use mathlib.Core.List.{[], _∷_}
 use mathlib.Core.Bool.{Bool, true, false, cond}
 use mathlib.Core.Option.{some}
 use mathlib.Core.Path.{_≡_, sym, ap, _∙_}
-use mathlib.Core.Logic.{inl, inr}
-use Prim.Native.Nat.{ℕ, zero, suc, _+_, _≤_, _<_}
+use mathlib.Core.Logic.{_⊎_, inl, inr}
+use Prim.Native.Nat.{ℕ, zero, suc, _+_, _-_, _≤_, _<_}
 use native.Mathlib.Omega.{arith}
 use contract.Lifetimes.{Lfts}
 use denote.Ref.{now}
@@ -26,7 +26,9 @@ use Rattle.enough.specs.Enough.{enoughFor, enoughSays}
 use Rattle.access.proofs.ByteLaws.{path-long}
 use Rattle.query.proofs.Calls as calls
 use Rattle.query.proofs.Calls.{Lent, Fingerprint, Check, Enough, Byte, Run, Count, Find}
-use Rattle.query.proofs.Numbers.{OneOf, of-right, not-zero, verdict-one, byte-one, count-one, select-first, byte-reached}
+use Rattle.query.proofs.Numbers.{OneOf, of-right, not-zero, verdict-one, byte-one, count-one, select-first}
+use Rattle.query.proofs.Passing.{byte-reached, Summed, count-summed}
+use Rattle.query.proofs.Answering.{LengthOfPath, length-of-path}
 use Rattle.query.proofs.Ways.{FindWay, find-way}
 use Rattle.query.proofs.Ways as ways
 use calls.room as room
@@ -90,13 +92,14 @@ pub check-numbers : (κs : Lfts 1) (t : Lent) (r : ℕ) → Check κs t r → On
 check-numbers κs t r a = rw a (verdict-one (now t))
 
 module _ (κs : Lfts 1) (t : Lent) (p : TextPlace) where
-  -- Byte: an answer is the byte at the end of the place's path, with that path's length, ..
+  -- Byte: an answer is the byte at the end of the place's path, with that path's length, on any tree; ..
   pub byte-answer : (v e : ℕ) → Byte κs t p (answer.Byte v e)
-      → (q : Path) × (pathOf (now t) (p .0) ≡ some q) × (v ≡ at.leafByte (now t) (q .leaf)) × (e ≡ length (q .visits))
+      → (q : Path) × (pathOf (now t) (p .0) ≡ some q) × (v ≡ at.leafByte (now t) (q .leaf)) × LengthOfPath (now t) (at.settings (now t) .levels) (p .0) e
   byte-answer v e a =
       let w = byte-reached (now t) (p .0) (sym (ap (λ (s : Said). s .number) a)) in
       let z = a ∙ paths.byte-by-path (now t) (w .pass) (p .0) (w .path) (w .path-is) (w .low) in
-      (w .path, w .path-is, ap (λ (s : Said). s .value) z, ap (λ (s : Said). s .entered) z)
+      let entered : e ≡ length (w .path .visits) = ap (λ (s : Said). s .entered) z in
+      (w .path, w .path-is, ap (λ (s : Said). s .value) z, rw entered (length-of-path (now t) (w .pass) (p .0) (w .path) (w .path-is)))
 
   byte-not-zero : (n : ℕ) → Byte κs t p (answer.Refused n) → 1 ≤ n
   byte-not-zero zero a =
@@ -130,7 +133,20 @@ module _ (κ κs : Lfts 1) (t : Lent) (p : TextPlace) (r : Lent) where
       let z = ne-eqb (byteSays (now t) (p .0) .number) 0 (λ x. omega (arith, byte-not-zero κ t p n b)) in
       rw z at (a .0)
 
--- Count: a refusal is 5, 6, 7, 10, 11 or 14.
+-- Count: an answer has the length of the path of place i - 1, on any tree, or is 0 with none entered, for no bytes; ..
+pub count-answer : (κs : Lfts 1) (t : Lent) (byte i c e : ℕ) → Count κs t byte i (counted.Times c e)
+    → ((i ≡ 0) × (c ≡ 0) × (e ≡ 0)) ⊎ LengthOfPath (now t) (at.settings (now t) .levels) (i - 1) e
+count-answer κs t byte i c e a = go (count-summed (now t) byte i (sym (ap (λ (s : Said). s .number) (a .says))))
+  where
+    entered : e ≡ countSays (now t) byte i .entered
+    entered = ap (λ (s : Said). s .entered) (a .says)
+
+    go : ((i ≡ 0) × (countSays (now t) byte i ≡ refused 0)) ⊎ Summed (now t) i (countSays (now t) byte i .entered)
+        → ((i ≡ 0) × (c ≡ 0) × (e ≡ 0)) ⊎ LengthOfPath (now t) (at.settings (now t) .levels) (i - 1) e
+    go (inl h) = let z = a .says ∙ h .1 in inl (h .0, ap (λ (s : Said). s .value) z, ap (λ (s : Said). s .entered) z)
+    go (inr w) = inr (rw (entered ∙ w .entered-is) (length-of-path (now t) (w .pass) (i - 1) (w .path) (w .path-is)))
+
+-- .. a refusal is 5, 6, 7, 10, 11 or 14.
 pub count-numbers : (κs : Lfts 1) (t : Lent) (byte i n : ℕ) → Count κs t byte i (counted.Refused n) → OneOf (5 ∷ 6 ∷ 7 ∷ 10 ∷ 11 ∷ 14 ∷ []) n
 count-numbers κs t byte i n a =
     let e : n ≡ countSays (now t) byte i .number = ap (λ (s : Said). s .number) (a .says) in

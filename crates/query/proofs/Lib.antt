@@ -1,5 +1,6 @@
 pub mod Calls
 pub mod Numbers
+pub mod Passing
 pub mod Ways
 pub mod Answering
 pub mod Accepted

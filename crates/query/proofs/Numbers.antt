@@ -2,14 +2,13 @@
 use mathlib.Core.List.{List, [], _∷_, _++_}
 use mathlib.Core.Bool.{Bool, true, false, cond, _&&_}
 use mathlib.Core.Option.{Option, none, some}
-use mathlib.Core.Path.{_≡_, refl, sym, _∙_}
+use mathlib.Core.Path.{_≡_, refl}
 use mathlib.Core.Logic.{_⊎_, inl, inr}
-use Prim.Native.Nat.{ℕ, zero, suc, _+_, _-_, _≤_, _<_}
+use Prim.Native.Nat.{ℕ, zero, suc, _+_, _-_, _≤_}
 use native.Mathlib.Omega.{arith}
 use lib.ListN.{length}
 use lib.Dec.{ltb, leb, eqb}
-use borrow.Author.Tests.{ne-eqb, ltb-true, leb-true, le-leb}
-use Rattle.text.specs.ListLaws.{and-left, and-right}
+use borrow.Author.Tests.{ne-eqb}
 use Rattle.text.specs.Text.{countIn}
 use Rattle.format.specs.Settings.{Settings, lengthOk, sizesOk, countedOk}
 use Rattle.format.specs.Blocks.{treeOf}
@@ -17,7 +16,6 @@ use Rattle.format.specs.Layout as at
 use Rattle.format.specs.Path.{Path, pathOf}
 use Rattle.format.specs.Fits.{linksOk, textOf, countsTrue}
 use Rattle.format.specs.Verdict.{ask, readable, verdict}
-use Rattle.format.specs.HeaderLaws.{ask-test, ask-rest}
 use Rattle.format.specs.Said.{Said, refused, unless}
 use Rattle.format.specs.Building.{buildNumber}
 use Rattle.format.specs.Reading.{byteOf, byteSays, pathsHold, spanNumber}
@@ -143,72 +141,3 @@ module _ (t : List ℕ) where
   pub select-first : (byte j n : ℕ) (xs : List ℕ) → 1 ≤ n → n ≡ selectNumber t byte j → OneOf ((5 ∷ 6 ∷ 7 ∷ 11 ∷ 12 ∷ []) ++ xs) n
   select-first byte j n xs low e =
       of-left (5 ∷ 6 ∷ 7 ∷ 11 ∷ 12 ∷ []) xs n (not-zero (5 ∷ 6 ∷ 7 ∷ 11 ∷ 12 ∷ []) n low (rw e (select-one byte j)))
-
--- What is known where no question refuses.
-
-unless-passes : (n : ℕ) (s : Said) → unless n s .number ≡ 0 → (n ≡ 0) × (s .number ≡ 0)
-unless-passes zero s h = (refl, h)
-unless-passes (suc n) s h = absurd (let z : ⊥ = omega arith in z)
-
--- build answers only where the tree fits the buffer
-pub build-fits : (S : Settings) (T out : List ℕ) → buildNumber S T out ≡ 0 → length (treeOf S T) ≤ length out
-unfolding buildNumber
-build-fits S T out h =
-    let four = ask 4 (leb (length (treeOf S T)) (length out)) 0 in
-    let three = ask 3 (countedOk (S .counted)) four in
-    let two = ask 2 (sizesOk S) three in
-    leb-true _ _ (ask-test 3 (leb (length (treeOf S T)) (length out)) 0 (ask-rest 2 (countedOk (S .counted)) four (ask-rest 1 (sizesOk S) three (ask-rest 0 (lengthOk (length T)) two h))))
-
--- byte answers only where the path of its place holds
-pub record Reached (t : List ℕ) (p : ℕ) : Type 0 where
-  pub pass : readable t ≡ 0
-  pub low : p < at.textLength t
-  pub path : Path
-  pub path-is : pathOf t p ≡ some path
-
-pub byte-reached : (t : List ℕ) (p : ℕ) → byteSays t p .number ≡ 0 → Reached t p
-unfolding byteSays
-byte-reached t p h =
-    let ten = ask 10 (ltb p (at.textLength t)) 0 in
-    let a = unless-passes (readable t) (unless ten (byteOf t (pathOf t p))) h in
-    let b = unless-passes ten (byteOf t (pathOf t p)) (a .1) in
-    go (a .0) (ltb-true p (at.textLength t) (ask-test 9 (ltb p (at.textLength t)) 0 (b .0))) (pathOf t p) refl (b .1)
-  where
-    go : readable t ≡ 0 → p < at.textLength t → (o : Option Path) → pathOf t p ≡ o → byteOf t o .number ≡ 0 → Reached t p
-    go r l none e k = absurd (let z : ⊥ = omega arith in z)
-    go r l (some q) e k = record { pass = r; low = l; path = q; path-is = e }
-
--- span answers only where its bytes fit the buffer
-pub span-fits : (t : List ℕ) (p len room : ℕ) → spanNumber t p len room ≡ 0 → len ≤ room
-unfolding spanNumber
-span-fits t p len room h =
-    let fourteen = ask 14 (pathsHold t p len) 0 in
-    let thirteen = ask 13 (leb len room) fourteen in
-    let more = ask 10 (leb (p + len) (at.textLength t)) thirteen in
-    let a = unless-passes (readable t) (refused more) (sym (then-is (readable t) more) ∙ h) in
-    leb-true len room (ask-test 12 (leb len room) fourteen (ask-rest 9 (leb (p + len) (at.textLength t)) thirteen (a .1)))
-
--- find and row walk only where the byte is counted and so many stand in the tree
-pub record Selected (t : List ℕ) (byte j : ℕ) : Type 0 where
-  pub pass : readable t ≡ 0
-  pub counted : isCounted t byte ≡ true
-  pub low : 1 ≤ j
-  pub high : j ≤ total t (numberOfByte t byte)
-
-pub select-passes : (t : List ℕ) (byte j : ℕ) → selectNumber t byte j ≡ 0 → Selected t byte j
-unfolding selectNumber
-select-passes t byte j h =
-    let all = total t (numberOfByte t byte) in
-    let twelve = ask 12 (leb 1 j && leb j all) 0 in
-    let eleven = ask 11 (isCounted t byte) twelve in
-    let a = unless-passes (readable t) (refused eleven) (sym (then-is (readable t) eleven) ∙ h) in
-    let range = ask-test 11 (leb 1 j && leb j all) 0 (ask-rest 10 (isCounted t byte) twelve (a .1)) in record {
-      pass = a .0;
-      counted = ask-test 10 (isCounted t byte) twelve (a .1);
-      low = leb-true 1 j (and-left (leb 1 j) (leb j all) range);
-      high = leb-true j all (and-right (leb 1 j) (leb j all) range);
-    }
-
-pub select-lets : (t : List ℕ) (byte j : ℕ) → Selected t byte j → selectNumber t byte j ≡ 0
-unfolding selectNumber
-select-lets t byte j h = rw (h .pass, h .counted, le-leb 1 j (h .low), le-leb j (total t (numberOfByte t byte)) (h .high))

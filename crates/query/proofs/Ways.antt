@@ -18,7 +18,7 @@ use Rattle.format.specs.Said.{Said, refused}
 use Rattle.format.specs.Finding.{selectNumber, found, FindSays, rowStart, rowEnd, RowSays}
 use Rattle.paths.specs.Demands as paths
 use Rattle.tallies.specs.Demands as tallies
-use Rattle.query.proofs.Numbers.{Selected, select-passes}
+use Rattle.query.proofs.Passing.{Selected, select-passes}
 
 -- On an accepted tree: the place that is found lies in the text, and a row's bytes do.
 module _ (t : List ℕ) (v : verdict t ≡ 0) where
