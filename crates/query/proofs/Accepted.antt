@@ -85,6 +85,7 @@ module _ (t : Lent) (v : verdict (now t) ≡ 0) where
   text-size : length T ≡ at.textLength (now t)
   text-size = paths.text-size (now t) pass links
 
+  -- below n, in the header's terms
   below : {p : ℕ} → p < length T → p < at.textLength (now t)
   below h = omega (arith, text-size)
 
@@ -94,6 +95,7 @@ module _ (t : Lent) (v : verdict (now t) ≡ 0) where
       let w = paths.no-path-breaks (now t) pass links p (below h) in
       rw (w .1) (length-of-path (now t) pass p (w .0) (w .1))
 
+  -- what count answers, for any number of bytes
   count-says : (κs : Lfts 1) (byte i : ℕ) (r : Counted) → Count κs t byte i r → Among byte (S .counted) → i ≤ length T
       → r ≡ counted.Times (countIn byte (take i T)) (cond (eqb i 0) 0 (pathLength (now t) (pathOf (now t) (i - 1))))
   count-says κs byte i r a k h =

@@ -61,6 +61,7 @@ module _ (κs : Lfts 2) (t : Lent) (p : TextPlace) (len : ℕ) (buffer after : L
       (e .1, span-fits (now t) (p .0) len _ (e .0), rw left (drop-at bytes (drop len (now buffer)) len (length-tabulate len _)))
 
   module _ (n : ℕ) (a : Span κs t p len buffer after (copied.Refused n)) where
+    -- the number is the definition's
     span-says : n ≡ spanNumber (now t) (p .0) len (length (now buffer))
     unfolding spanSays
     span-says = says-refused n _ len (a .0 .numbered) (a .0 .says)
@@ -70,6 +71,7 @@ module _ (κs : Lfts 2) (t : Lent) (p : TextPlace) (len : ℕ) (buffer after : L
     span-numbers =
         not-zero (5 ∷ 6 ∷ 7 ∷ 10 ∷ 13 ∷ 14 ∷ []) n (a .0 .numbered) (rw span-says (span-one (now t) (p .0) len (length (now buffer))))
 
+    -- what is left in the buffer, by the number
     span-left : now after ≡ cond (eqb n 14) (replicate len 0 ++ drop len (now buffer)) (now buffer)
     unfolding spanLeaves
     span-left = a .1 ∙ rw (← span-says, ne-eqb n 0 (λ e. omega (arith, a .0 .numbered)))
@@ -139,6 +141,7 @@ module _ (κs : Lfts 3) (text : Lent) (leaf arity levels : ℕ) (counted out aft
       (rw size-is (build-fits S (now text) (now out) passed), rw (left, size-is) (take-append-seam tree (drop (length tree) (now out))), rw (left, size-is) (drop-append-seam tree (drop (length tree) (now out))))
 
   module _ (n : ℕ) (a : Build κs text leaf arity levels counted out after (built.Refused n)) where
+    -- a tree has bytes, so that a size of 0 is a refusal's
     build-not-zero : (m : ℕ) → buildNumber S (now text) (now out) ≡ m → 1 ≤ m
     unfolding buildSize
     build-not-zero zero e =
@@ -154,6 +157,7 @@ module _ (κs : Lfts 3) (text : Lent) (leaf arity levels : ℕ) (counted out aft
     pub build-numbers : OneOf (1 ∷ 2 ∷ 3 ∷ 4 ∷ []) n
     build-numbers = not-zero (1 ∷ 2 ∷ 3 ∷ 4 ∷ []) n build-low (rw (a .0) (build-one S (now text) (now out)))
 
+    -- what is left in the buffer, by the number
     build-left : now after ≡ cond (eqb n 4) (replicate (length (now out)) 0) (now out)
     unfolding buildLeaves
     build-left = a .1 .1 ∙ rw (← a .0, ne-eqb n 0 (λ e. omega (arith, build-low)))

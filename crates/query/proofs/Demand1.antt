@@ -101,6 +101,7 @@ module _ (κs : Lfts 1) (t : Lent) (p : TextPlace) where
       let entered : e ≡ length (w .path .visits) = ap (λ (s : Said). s .entered) z in
       (w .path, w .path-is, ap (λ (s : Said). s .value) z, rw entered (length-of-path (now t) (w .pass) (p .0) (w .path) (w .path-is)))
 
+  -- a path enters a block, so that a figure of 0 is a refusal's
   byte-not-zero : (n : ℕ) → Byte κs t p (answer.Refused n) → 1 ≤ n
   byte-not-zero zero a =
       let w = byte-reached (now t) (p .0) (sym (ap (λ (s : Said). s .number) a)) in
@@ -138,6 +139,7 @@ pub count-answer : (κs : Lfts 1) (t : Lent) (byte i c e : ℕ) → Count κs t 
     → ((i ≡ 0) × (c ≡ 0) × (e ≡ 0)) ⊎ LengthOfPath (now t) (at.settings (now t) .levels) (i - 1) e
 count-answer κs t byte i c e a = go (count-summed (now t) byte i (sym (ap (λ (s : Said). s .number) (a .says))))
   where
+    -- the figure is the definition's
     entered : e ≡ countSays (now t) byte i .entered
     entered = ap (λ (s : Said). s .entered) (a .says)
 

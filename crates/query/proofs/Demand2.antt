@@ -39,6 +39,7 @@ module _ (κs : Lfts 3) (text : Lent) (leaf arity levels : ℕ) (counted out aft
 
   -- The tree, lent to another call.
   module _ (t : Lent) (is : now t ≡ take size (now after)) where
+    -- no question refused
     passed : buildNumber S T (now out) ≡ 0
     passed = sym (a .0)
 
@@ -48,6 +49,7 @@ module _ (κs : Lfts 3) (text : Lent) (leaf arity levels : ℕ) (counted out aft
     text-is : textOf (now t) ≡ T
     text-is = rw is (tree.build-text κs text leaf arity levels counted out after (built.Size size) a refl)
 
+    -- its header has the settings that were given
     settings-are : at.settings (now t) ≡ S
     settings-are = rw (is ∙ build-writes) (read-settings S T (tree.taken S T (now out) passed))
 

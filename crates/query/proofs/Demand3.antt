@@ -1,7 +1,7 @@
 -- Demand 3: "The check accepts any bytes, whoever made them, exactly when questions 5 to 8 hold, a text fits and the counts are true of it.
 -- Exactly one text then fits; byte, count and find on such a tree are never refused where questions 10 to 12 let them through, are right,
 -- and report blocks entered that equal the path's length, at most twice the levels less one. What the builder writes is accepted, and its
--- one text is the input."
+-- one text is the input." The last sentence stands in `Demand2`.
 use mathlib.Core.List.{List}
 use mathlib.Core.Bool.{true}
 use mathlib.Core.Path.{_≡_, refl, sym}
@@ -26,6 +26,7 @@ module _ (κs : Lfts 1) (t : Lent) where
   check-accepts r c = tree.check-accepts κs t r c
 
   module _ (c : Check κs t 0) where
+    -- a text that fits is the one that the paths give
     text-is : (T : List ℕ) → fits T (now t) ≡ true → T ≡ textOf (now t)
     text-is = one-text (now t) (accepted-readable (now t) (sym c)) (accepted-links (now t) (sym c))
 

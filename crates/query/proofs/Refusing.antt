@@ -93,6 +93,7 @@ module _ (t : Lent) (v : verdict (now t) ≡ 0) where
   unfolding runSays
   run-past κs p r a h = rw (ten (p .0) h) at (a .0)
 
+  -- a refused span answers its number, and leaves the buffer
   span-says : (κs : Lfts 2) (p : TextPlace) (len : ℕ) (buffer after : Lent) (r : Copied) (n : ℕ) → Span κs t p len buffer after r
       → spanNumber (now t) (p .0) len (length (now buffer)) ≡ suc n → (suc n ≡ 14 → ⊥) → (r ≡ copied.Refused (suc n)) × (now after ≡ now buffer)
   unfolding spanSays spanLeaves
@@ -130,6 +131,7 @@ module _ (t : Lent) (v : verdict (now t) ≡ 0) where
       go all e (inl h) = absurd (none (leb-true 1 j (and-left (leb 1 j) (leb j all) h)) (rw e at (leb-true j all (and-right (leb 1 j) (leb j all) h))))
       go all e (inr h) = h
 
+  -- a find and a row that are refused before the walk
   find-asked : (κs : Lfts 1) (byte j : ℕ) (r : Found) (n : ℕ) → Find κs t byte j r → selectNumber (now t) byte j ≡ suc n → r ≡ found.Refused (suc n)
   find-asked κs byte j r n a e = find-no r n (rw e at (a .says .asked (rw e (omega arith))))
 
@@ -137,6 +139,7 @@ module _ (t : Lent) (v : verdict (now t) ≡ 0) where
       → selectNumber (now t) 10 q ≡ suc n → (r ≡ rows.Refused (suc n)) × (now after ≡ now buffer)
   row-asked κs q buffer after r n a e = let h = a .says .asked (rw e (omega arith)) in (row-no r n (h .0 ∙ e), h .2)
 
+  -- a row that does not fit
   row-thirteen : (κs : Lfts 2) (q : ℕ) (buffer after : Lent) (r : RowCopied) → Row κs t q buffer after r
       → Among 10 (S .counted) → 1 ≤ q → q ≤ countIn 10 T → length (now buffer) < rowSize T q → (r ≡ rows.Refused 13) × (now after ≡ now buffer)
   unfolding rowStart rowEnd
