@@ -1,103 +1,71 @@
--- The demands on the questions, as theorems over what the calls promise: on every tree that the check accepts, whoever made it, and on
--- what build writes.
-use mathlib.Core.List.{List, _++_}
-use mathlib.Core.Option.{Option, none, some}
-use mathlib.Core.Bool.{true, cond}
-use mathlib.Core.Path.{_≡_, refl, sym, ap, _∙_}
-use Prim.Native.Nat.{ℕ, _+_, _-_, _*_, _≤_, _<_}
-use native.Mathlib.Omega.{arith}
+-- The demands, as theorems over what the calls promise: of any lent bytes, of every tree that the check accepts, whoever made it, and of what
+-- build writes. Each theorem is named here under the sentence that it shows. What it means that questions are answered from a text is said in
+-- `Answering`, what a call promises in `Calls`.
+use mathlib.Core.List.{List}
+use mathlib.Core.Bool.{true}
+use mathlib.Core.Path.{_≡_, _∙_}
+use Prim.Native.Nat.{ℕ}
 use contract.Lifetimes.{Lfts}
-use denote.Ref.{RefT, now}
-use lib.ListN.{length, getD, take, drop}
-use lib.Dec.{eqb, leb}
-use borrow.Author.Tests.{le-leb}
-use Rattle.text.specs.Text.{stretch, countIn, placeOf}
-use Rattle.text.specs.CountLaws.{place-nth}
-use Rattle.text.specs.declared.TextPlace.{TextPlace}
+use denote.Ref.{now}
+use lib.ListN.{take}
+use Rattle.format.specs.Blocks.{treeOf}
 use Rattle.format.specs.Layout as at
-use Rattle.format.specs.Path.{Path, pathOf}
-use Rattle.format.specs.Fits.{textOf}
-use Rattle.format.specs.Verdict.{readable, verdict}
-use Rattle.format.specs.VerdictLaws.{accepted-readable, accepted-links}
-use Rattle.format.specs.Said.{Said}
-use Rattle.format.specs.Counting.{isCounted, numberOfByte}
-use Rattle.format.specs.Finding.{total, selectNumber, found, pathLength, rowStart, rowEnd, FindSays, RowSays}
-use Rattle.paths.specs.Demands as paths
-use Rattle.tallies.specs.Demands as tallies
-use Rattle.access.specs.declared.Answer.{Answer}
-use Rattle.access.specs.declared.Copied.{Copied}
-use Rattle.access.specs.declared.Copied.the-variants as copied
-use Rattle.access.proofs.Demands as access
-use Rattle.rank.specs.declared.Counted.{Counted}
-use Rattle.select.specs.declared.Found.{Found}
-use Rattle.rows.specs.declared.RowCopied.{RowCopied}
-use Rattle.rank.specs.Counts.{saidCount}
-use Rattle.select.specs.Found.{saidFind}
-use Rattle.rows.specs.Rows.{saidRow}
-use Rattle.rank.proofs.count.Reads as count-reads
-use Rattle.select.proofs.find.Reads as find-reads
-use Rattle.rows.proofs.row.Reads as row-reads
+use Rattle.format.specs.Fits.{fits}
+use Rattle.accepted.specs.Accepting.{StandsFor}
+use Rattle.builder.specs.Answers.{given}
+use Rattle.query.proofs.Calls as calls
+use Rattle.query.proofs.Calls.{Lent, Build, Check}
+use Rattle.query.proofs.Answering.{Answers, Refuses}
+use calls.built as built
+-- Demand 1. "Every call ends, on every text, setting, tree and question; reads and writes only what was lent; ..
+pub use Rattle.query.proofs.Demand1.{every-call-ends}
+-- .. gives its answer or a numbered refusal of document 01; ..
+pub use Rattle.query.proofs.Demand1.{check-numbers, enough-numbers, byte-answer, byte-numbers, run-answer, run-empty, count-answer, count-numbers, find-answer, find-numbers}
+pub use Rattle.query.proofs.Buffers.{build-numbers, span-numbers, row-numbers}
+-- .. trusts no caller to have checked a tree; ..
+pub use Rattle.query.proofs.Demand1.{trusts-no-caller}
+-- .. leaves each lent buffer as document 01 says."
+pub use Rattle.query.proofs.Buffers.{build-answer, build-zeros, build-unchanged, span-answer, span-zeros, span-unchanged, row-answer, row-leaves}
+-- With the room that enough answers, build is not refused for want of it.
+pub use Rattle.query.proofs.Buffers.{build-has-room}
+-- Demand 2. "The builder's output is, byte for byte, the block tree of its text as document 01 defines it; ..
+pub use Rattle.query.proofs.Demand2.{build-writes}
+-- .. read back, every byte, span, run, row, count and place is the text's."
+pub use Rattle.query.proofs.Demand2.{build-answers, build-refuses}
+-- Demand 3. "The check accepts any bytes, whoever made them, exactly when questions 5 to 8 hold, a text fits and the counts are true of it. ..
+pub use Rattle.query.proofs.Demand3.{check-accepts}
+-- .. Exactly one text then fits; ..
+pub use Rattle.query.proofs.Demand3.{check-one-text}
+-- .. byte, count and find on such a tree are never refused where questions 10 to 12 let them through, are right, and report blocks entered
+-- that equal the path's length, at most twice the levels less one. ..
+pub use Rattle.query.proofs.Demand3.{check-answers, check-refuses}
+-- .. What the builder writes is accepted, and its one text is the input."
+pub use Rattle.query.proofs.Demand2.{build-accepted, build-one-text}
 
--- answers that the contracts of `count`, `find` and `row` allow to a call with these arguments
-abbrev pub Count : (κs : Lfts 1) → RefT (List ℕ) → ℕ → ℕ → Counted → Type 0
-Count κs t byte i r = count-reads.Post κs (t, (byte, (i, tt))) r (t, (byte, (i, tt)))
+-- The two roads to a tree, each in one theorem.
 
-abbrev pub Find : (κs : Lfts 1) → RefT (List ℕ) → ℕ → ℕ → Found → Type 0
-Find κs t byte j r = find-reads.Post κs (t, (byte, (j, tt))) r (t, (byte, (j, tt)))
+-- A tree that check accepted, whoever made it: exactly one text fits it, and every question is answered from that text.
+pub any-tree : (κs : Lfts 1) (t : Lent) → Check κs t 0
+    → (T : List ℕ) × StandsFor (now t) T × ((U : List ℕ) → fits U (now t) ≡ true → U ≡ T)
+    × Answers t (at.settings (now t)) T × Refuses t (at.settings (now t)) T
+any-tree κs t c =
+    let one = check-one-text κs t c in
+    (one .0, one .1, one .2, check-answers κs t c (one .0) (one .1 .fitting), check-refuses κs t c (one .0) (one .1 .fitting))
 
-abbrev pub Row : (κs : Lfts 2) → RefT (List ℕ) → ℕ → RefT (List ℕ) → RefT (List ℕ) → RowCopied → Type 0
-Row κs t q buffer after r = row-reads.Post κs (t, (q, (buffer, tt))) r (t, (q, (after, tt)))
-
--- Any tree that the check accepts, and the one text that fits it.
-module _ (t : RefT (List ℕ)) (v : verdict (now t) ≡ 0) where
-  abbrev T : List ℕ
-  T = textOf (now t)
-
-  pub pass : readable (now t) ≡ 0
-  pass = accepted-readable (now t) v
-
-  -- a place's path has at most 2H - 1 blocks
-  pub path-short : (p : ℕ) → p < at.textLength (now t) → pathLength (now t) (pathOf (now t) p) ≤ 2 * at.settings (now t) .levels - 1
-  path-short p h =
-      let w = paths.no-path-breaks (now t) pass (accepted-links (now t) v) p h in
-      rw (w .1) (paths.path-short (now t) pass p (w .0) (w .1))
-
-  -- "Byte .. on such a tree [is] never refused where question 10 lets [it] through, [is] right, and report[s] blocks entered that equal
-  -- the path's length, at most twice the levels less one."
-  pub byte-right : (κs : Lfts 1) (p : TextPlace) (r : Answer) → p .0 < at.textLength (now t) → access.Asked κs t p r
-      → access.Answered t pass (accepted-links (now t) v) (p .0) r
-  byte-right = access.byte-answers t pass (accepted-links (now t) v)
-
-  -- "Count": how often the byte stands in the first i bytes of the text.
-  pub count-right : (κs : Lfts 1) (byte i : ℕ) (r : Counted) → i ≤ at.textLength (now t) → isCounted (now t) byte ≡ true → Count κs t byte i r
-      → saidCount r ≡ record {
-        number = 0;
-        value = countIn byte (take i T);
-        entered = cond (eqb i 0) 0 (pathLength (now t) (pathOf (now t) (i - 1)));
-      }
-  count-right κs byte i r h k a = a .says ∙ tallies.count-of-text (now t) v byte i k h
-
-  -- questions 11 and 12 let find and row through
-  module _ (byte j : ℕ) (k : isCounted (now t) byte ≡ true) (low : 1 ≤ j) (high : j ≤ countIn byte T) where
-    let-through : selectNumber (now t) byte j ≡ 0
-    unfolding selectNumber
-    let-through =
-        let e : j ≤ total (now t) (numberOfByte (now t) byte) = rw (tallies.total-of-text (now t) v byte k) high in
-        rw (pass, k, le-leb 1 j low, le-leb j (total (now t) (numberOfByte (now t) byte)) e)
-
-    place-in : placeOf byte j T < at.textLength (now t)
-    place-in = omega (arith, place-nth byte j T low high .within, paths.text-size (now t) pass (accepted-links (now t) v))
-
-    -- "Find": the place of the j-th such byte, with the length of that place's path, at most 2H - 1.
-    pub find-right : (κs : Lfts 1) (r : Found) → Find κs t byte j r
-        → (saidFind r ≡ record { number = 0; value = placeOf byte j T; entered = pathLength (now t) (pathOf (now t) (placeOf byte j T)) })
-        × (pathLength (now t) (pathOf (now t) (placeOf byte j T)) ≤ 2 * at.settings (now t) .levels - 1)
-    unfolding found
-    find-right κs r a = (a .says .accepted let-through v, path-short (placeOf byte j T) place-in)
-
-  -- "Row": what stands between the (q-1)-th byte 10, or the text's start, and the q-th, with room for it.
-  pub row-right : (κs : Lfts 2) (q : ℕ) (buffer after : RefT (List ℕ)) (r : RowCopied) → isCounted (now t) 10 ≡ true → 1 ≤ q → q ≤ countIn 10 T
-      → rowEnd (now t) q - rowStart (now t) q ≤ length (now buffer) → Row κs t q buffer after r
-      → (saidRow r .number ≡ 0) × (saidRow r .value ≡ rowEnd (now t) q - rowStart (now t) q)
-      × (now after ≡ stretch T (rowStart (now t) q) (saidRow r .value) ++ drop (saidRow r .value) (now buffer))
-  row-right κs q buffer after r k low high room a = a .says .accepted (let-through 10 q k low high) v room
+-- A tree that build wrote: it is the block tree of the text, check accepts it, the text and no other fits it, and every question is answered
+-- from the text.
+pub built-tree :
+    (κs : Lfts 3) (text : Lent) (leaf arity levels : ℕ) (counted out after : Lent) (size : ℕ)
+    → Build κs text leaf arity levels counted out after (built.Size size) → (t : Lent) → now t ≡ take size (now after)
+    → (now t ≡ treeOf (given leaf arity levels (now counted)) (now text)) × ((κ : Lfts 1) (r : ℕ) → Check κ t r → r ≡ 0)
+    × StandsFor (now t) (now text) × ((U : List ℕ) → fits U (now t) ≡ true → U ≡ now text)
+    × Answers t (given leaf arity levels (now counted)) (now text) × Refuses t (given leaf arity levels (now counted)) (now text)
+built-tree κs text leaf arity levels counted out after size a t is =
+    let one = build-one-text κs text leaf arity levels counted out after size a t is in (
+      is ∙ build-writes κs text leaf arity levels counted out after size a,
+      build-accepted κs text leaf arity levels counted out after size a t is,
+      one .0,
+      one .1,
+      build-answers κs text leaf arity levels counted out after size a t is,
+      build-refuses κs text leaf arity levels counted out after size a t is,
+    )

@@ -1,1 +1,12 @@
+pub mod Calls
+pub mod Numbers
+pub mod Passing
+pub mod Ways
+pub mod Answering
+pub mod Accepted
+pub mod Refusing
+pub mod Buffers
+pub mod Demand1
+pub mod Demand2
+pub mod Demand3
 pub mod Demands

@@ -1,0 +1,83 @@
+-- The calls: which answers the contract of each allows, for any arguments and any lent bytes. Each is the generated `Post` of the function.
+use mathlib.Core.List.{List}
+use Prim.Native.Nat.{ℕ}
+use contract.Lifetimes.{Lfts}
+use denote.Ref.{RefT}
+pub use Rattle.search.proofs.leftmost.Reads as leftmost-reads
+pub use Rattle.search.proofs.leftmost.Statement as leftmost-stated
+pub use Rattle.search.proofs.leftmost.Met as leftmost-met
+pub use Rattle.search.proofs.occurs_earlier.Reads as earlier-reads
+pub use Rattle.search.proofs.occurs_earlier.Statement as earlier-stated
+pub use Rattle.search.proofs.occurs_earlier.Met as earlier-met
+pub use Rattle.search.specs.declared.Fingerprint.{Fingerprint}
+pub use Rattle.builder.proofs.build.Reads as build-reads
+pub use Rattle.builder.proofs.build.Statement as build-stated
+pub use Rattle.builder.proofs.build.Met as build-met
+pub use Rattle.tree.proofs.check.Reads as check-reads
+pub use Rattle.tree.proofs.check.Statement as check-stated
+pub use Rattle.tree.proofs.check.Met as check-met
+pub use Rattle.enough.proofs.enough.Reads as enough-reads
+pub use Rattle.enough.proofs.enough.Statement as enough-stated
+pub use Rattle.enough.proofs.enough.Met as enough-met
+pub use Rattle.access.proofs.byte.Reads as byte-reads
+pub use Rattle.access.proofs.byte.Statement as byte-stated
+pub use Rattle.access.proofs.byte.Met as byte-met
+pub use Rattle.access.proofs.run.Reads as run-reads
+pub use Rattle.access.proofs.run.Statement as run-stated
+pub use Rattle.access.proofs.run.Met as run-met
+pub use Rattle.access.proofs.span.Reads as span-reads
+pub use Rattle.access.proofs.span.Statement as span-stated
+pub use Rattle.access.proofs.span.Met as span-met
+pub use Rattle.rank.proofs.count.Reads as count-reads
+pub use Rattle.rank.proofs.count.Statement as count-stated
+pub use Rattle.rank.proofs.count.Met as count-met
+pub use Rattle.select.proofs.find.Reads as find-reads
+pub use Rattle.select.proofs.find.Statement as find-stated
+pub use Rattle.select.proofs.find.Met as find-met
+pub use Rattle.rows.proofs.row.Reads as row-reads
+pub use Rattle.rows.proofs.row.Statement as row-stated
+pub use Rattle.rows.proofs.row.Met as row-met
+pub use Rattle.builder.specs.declared.Built.{Built}
+pub use Rattle.builder.specs.declared.Built.the-variants as built
+pub use Rattle.enough.specs.declared.Room.{Room}
+pub use Rattle.enough.specs.declared.Room.the-variants as room
+pub use Rattle.access.specs.declared.Answer.{Answer}
+pub use Rattle.access.specs.declared.Answer.the-variants as answer
+pub use Rattle.access.specs.declared.Copied.{Copied}
+pub use Rattle.access.specs.declared.Copied.the-variants as copied
+pub use Rattle.rank.specs.declared.Counted.{Counted}
+pub use Rattle.rank.specs.declared.Counted.the-variants as counted
+pub use Rattle.select.specs.declared.Found.{Found}
+pub use Rattle.select.specs.declared.Found.the-variants as found
+pub use Rattle.rows.specs.declared.RowCopied.{RowCopied}
+pub use Rattle.rows.specs.declared.RowCopied.the-variants as rows
+-- what an answer says in document 01's terms, and that a refusal's number is not 0
+pub use Rattle.access.specs.Answers.{said, copiedSaid}
+unfoldable pub use Rattle.access.specs.Answers.{spanSays}
+pub use Rattle.rank.specs.Counts.{saidCount, Numbered as CountNumbered}
+pub use Rattle.select.specs.Found.{saidFind, Numbered as FindNumbered}
+pub use Rattle.rows.specs.Rows.{saidRow, Numbered as RowNumbered}
+-- build(text, leaf, arity, levels, counted, out) and check(tree); byte(tree, place), run(tree, place) and span(tree, place, len, buffer)
+pub use Rattle.tree.proofs.Demands.{Answer as Build, Checked as Check}
+pub use Rattle.access.proofs.Demands.{Asked as Byte, Run, Span}
+
+-- lent bytes
+abbrev pub Lent : Type 0
+Lent = RefT (List ℕ)
+
+-- enough(n, leaf, arity, levels, counted)
+abbrev pub Enough : (n leaf arity levels counted : ℕ) → Room → Type 0
+Enough n leaf arity levels counted r =
+    enough-reads.Post tt (n, (leaf, (arity, (levels, (counted, tt))))) r (n, (leaf, (arity, (levels, (counted, tt)))))
+
+-- count(tree, byte, i)
+abbrev pub Count : (κs : Lfts 1) → Lent → (byte i : ℕ) → Counted → Type 0
+Count κs t byte i r = count-reads.Post κs (t, (byte, (i, tt))) r (t, (byte, (i, tt)))
+
+-- find(tree, byte, j)
+abbrev pub Find : (κs : Lfts 1) → Lent → (byte j : ℕ) → Found → Type 0
+Find κs t byte j r = find-reads.Post κs (t, (byte, (j, tt))) r (t, (byte, (j, tt)))
+
+-- row(tree, q, buffer), which leaves the buffer as `after`
+abbrev pub Row : (κs : Lfts 2) → Lent → (q : ℕ) → (buffer after : Lent) → RowCopied → Type 0
+Row κs t q buffer after r = row-reads.Post κs (t, (q, (buffer, tt))) r (t, (q, (after, tt)))

@@ -1,0 +1,185 @@
+-- Demand 1: "Every call ends, on every text, setting, tree and question; reads and writes only what was lent; gives its answer or a
+-- numbered refusal of document 01; trusts no caller to have checked a tree; leaves each lent buffer as document 01 says."
+use mathlib.Core.List.{[], _∷_}
+use mathlib.Core.Bool.{Bool, true, false, cond}
+use mathlib.Core.Option.{some}
+use mathlib.Core.Path.{_≡_, sym, ap, _∙_}
+use mathlib.Core.Logic.{_⊎_, inl, inr}
+use Prim.Native.Nat.{ℕ, zero, suc, _+_, _-_, _≤_, _<_}
+use native.Mathlib.Omega.{arith}
+use contract.Lifetimes.{Lfts}
+use denote.Ref.{now}
+use lib.ListN.{length, take, drop}
+use lib.Dec.{leb}
+use borrow.Author.Tests.{ne-eqb}
+use Rattle.text.specs.declared.TextPlace.{TextPlace}
+use Rattle.format.specs.Settings.{lengthOk, sizesOk}
+use Rattle.format.specs.Layout as at
+use Rattle.format.specs.Path.{Path, pathOf}
+use Rattle.format.specs.Said.{Said, refused}
+use Rattle.format.specs.Reading.{byteSays, runSays}
+use Rattle.format.specs.Counting.{countSays}
+use Rattle.format.specs.Finding.{selectNumber}
+use Rattle.paths.specs.Demands as paths
+use Rattle.layout.specs.Settings.{sizes}
+use Rattle.enough.specs.Enough.{enoughFor, enoughSays}
+use Rattle.access.proofs.ByteLaws.{path-long}
+use Rattle.query.proofs.Calls as calls
+use Rattle.query.proofs.Calls.{Lent, Fingerprint, Check, Enough, Byte, Run, Count, Find}
+use Rattle.query.proofs.Numbers.{OneOf, of-right, not-zero, verdict-one, byte-one, count-one, select-first}
+use Rattle.query.proofs.Passing.{byte-reached, Summed, count-summed}
+use Rattle.query.proofs.Answering.{LengthOfPath, length-of-path}
+use Rattle.query.proofs.Ways.{FindWay, find-way}
+use Rattle.query.proofs.Ways as ways
+use calls.room as room
+use calls.answer as answer
+use calls.counted as counted
+use calls.found as found
+
+-- "Every call ends, on every text, setting, tree and question; reads and writes only what was lent": each call meets its contract. That is
+-- a theorem of the logic, for any arguments: from a memory that holds what is lent, the call returns, and any other memory is as it was.
+pub every-call-ends : {M : Type 1}
+    → calls.leftmost-stated.statement M × calls.earlier-stated.statement M
+    × calls.build-stated.statement M × calls.check-stated.statement M × calls.enough-stated.statement M
+    × calls.byte-stated.statement M × calls.run-stated.statement M × calls.span-stated.statement M
+    × calls.count-stated.statement M × calls.find-stated.statement M × calls.row-stated.statement M
+every-call-ends = (
+  calls.leftmost-met.met,
+  calls.earlier-met.met,
+  calls.build-met.met,
+  calls.check-met.met,
+  calls.enough-met.met,
+  calls.byte-met.met,
+  calls.run-met.met,
+  calls.span-met.met,
+  calls.count-met.met,
+  calls.find-met.met,
+  calls.row-met.met,
+)
+
+-- "trusts no caller to have checked a tree": what a call asks of its caller holds of any arguments.
+pub trusts-no-caller :
+    ((κs : Lfts 1) (text : Lent) (p : TextPlace) (len : ℕ) (by : Fingerprint) → calls.leftmost-reads.Asked κs (text, (p, (len, (by, tt)))))
+    × ((κs : Lfts 1) (text : Lent) (p : TextPlace) (len : ℕ) (by : Fingerprint) → calls.earlier-reads.Asked κs (text, (p, (len, (by, tt)))))
+    × ((κs : Lfts 3) (text : Lent) (leaf arity levels : ℕ) (counted out : Lent)
+    → calls.build-reads.Asked κs (text, (leaf, (arity, (levels, (counted, (out, tt)))))))
+    × ((κs : Lfts 1) (t : Lent) → calls.check-reads.Asked κs (t, tt))
+    × ((κs : Lfts 0) (n leaf arity levels counted : ℕ) → calls.enough-reads.Asked κs (n, (leaf, (arity, (levels, (counted, tt))))))
+    × ((κs : Lfts 1) (t : Lent) (p : TextPlace) → calls.byte-reads.Asked κs (t, (p, tt)))
+    × ((κs : Lfts 1) (t : Lent) (p : TextPlace) → calls.run-reads.Asked κs (t, (p, tt)))
+    × ((κs : Lfts 2) (t : Lent) (p : TextPlace) (len : ℕ) (buffer : Lent) → calls.span-reads.Asked κs (t, (p, (len, (buffer, tt)))))
+    × ((κs : Lfts 1) (t : Lent) (byte i : ℕ) → calls.count-reads.Asked κs (t, (byte, (i, tt))))
+    × ((κs : Lfts 1) (t : Lent) (byte j : ℕ) → calls.find-reads.Asked κs (t, (byte, (j, tt))))
+    × ((κs : Lfts 2) (t : Lent) (q : ℕ) (buffer : Lent) → calls.row-reads.Asked κs (t, (q, (buffer, tt))))
+trusts-no-caller = (
+  λ κs text p len by. tt,
+  λ κs text p len by. tt,
+  λ κs text leaf arity levels counted out. tt,
+  λ κs t. tt,
+  λ κs n leaf arity levels counted. tt,
+  λ κs t p. tt,
+  λ κs t p. tt,
+  λ κs t p len buffer. tt,
+  λ κs t byte i. tt,
+  λ κs t byte j. tt,
+  λ κs t q buffer. tt,
+)
+
+-- "gives its answer or a numbered refusal of document 01": which numbers each call refuses with, for any arguments and any lent bytes.
+
+-- Check: 0, or 5 to 9.
+pub check-numbers : (κs : Lfts 1) (t : Lent) (r : ℕ) → Check κs t r → OneOf (5 ∷ 6 ∷ 7 ∷ 8 ∷ 9 ∷ 0 ∷ []) r
+check-numbers κs t r a = rw a (verdict-one (now t))
+
+module _ (κs : Lfts 1) (t : Lent) (p : TextPlace) where
+  -- Byte: an answer is the byte at the end of the place's path, with that path's length, on any tree; ..
+  pub byte-answer : (v e : ℕ) → Byte κs t p (answer.Byte v e)
+      → (q : Path) × (pathOf (now t) (p .0) ≡ some q) × (v ≡ at.leafByte (now t) (q .leaf)) × LengthOfPath (now t) (at.settings (now t) .levels) (p .0) e
+  byte-answer v e a =
+      let w = byte-reached (now t) (p .0) (sym (ap (λ (s : Said). s .number) a)) in
+      let z = a ∙ paths.byte-by-path (now t) (w .pass) (p .0) (w .path) (w .path-is) (w .low) in
+      let entered : e ≡ length (w .path .visits) = ap (λ (s : Said). s .entered) z in
+      (w .path, w .path-is, ap (λ (s : Said). s .value) z, rw entered (length-of-path (now t) (w .pass) (p .0) (w .path) (w .path-is)))
+
+  -- a path enters a block, so that a figure of 0 is a refusal's
+  byte-not-zero : (n : ℕ) → Byte κs t p (answer.Refused n) → 1 ≤ n
+  byte-not-zero zero a =
+      let w = byte-reached (now t) (p .0) (sym (ap (λ (s : Said). s .number) a)) in
+      let z = a ∙ paths.byte-by-path (now t) (w .pass) (p .0) (w .path) (w .path-is) (w .low) in
+      absurd (let x : ⊥ = omega (arith, ap (λ (s : Said). s .entered) z, path-long (now t) (p .0) (w .path) (w .path-is)) in x)
+  byte-not-zero (suc n) a = omega arith
+
+  -- .. and a refusal is 5, 6, 7, 10 or 14.
+  pub byte-numbers : (n : ℕ) → Byte κs t p (answer.Refused n) → OneOf (5 ∷ 6 ∷ 7 ∷ 10 ∷ 14 ∷ []) n
+  byte-numbers n a =
+      let e : n ≡ byteSays (now t) (p .0) .number = ap (λ (s : Said). s .number) a in
+      not-zero (5 ∷ 6 ∷ 7 ∷ 10 ∷ 14 ∷ []) n (byte-not-zero n a) (rw e (byte-one (now t) (p .0)))
+
+-- κ is byte's lifetime, κs run's
+module _ (κ κs : Lfts 1) (t : Lent) (p : TextPlace) (r : Lent) where
+  -- Run: a part of the lent tree, of one byte or more, where byte answers; ..
+  pub run-answer : (v e : ℕ) → Byte κ t p (answer.Byte v e) → Run κs t p r
+      → (from : ℕ) × (size : ℕ) × (1 ≤ size) × (from + size ≤ length (now t))
+      × (r .ptr ≡ (t .ptr .0, t .ptr .1 + from)) × (now r ≡ take size (drop from (now t)))
+  run-answer v e b a =
+      let w = byte-reached (now t) (p .0) (sym (ap (λ (s : Said). s .number) b)) in
+      let k = paths.run-by-path (now t) (w .pass) (p .0) (w .path) (w .path-is) (w .low) in
+      (runSays (now t) (p .0) .0, runSays (now t) (p .0) .1, k .some-byte, k .in-tree, a .1, a .0)
+
+  -- .. "Refused, it is the empty part, and the number is byte's for that place."
+  pub run-empty : (n : ℕ) → Byte κ t p (answer.Refused n) → Run κs t p r → now r ≡ []
+  unfolding runSays
+  run-empty n b a =
+      let e : byteSays (now t) (p .0) .number ≡ n = sym (ap (λ (s : Said). s .number) b) in
+      let z = ne-eqb (byteSays (now t) (p .0) .number) 0 (λ x. omega (arith, byte-not-zero κ t p n b)) in
+      rw z at (a .0)
+
+-- Count: an answer has the length of the path of place i - 1, on any tree, or is 0 with none entered, for no bytes; ..
+pub count-answer : (κs : Lfts 1) (t : Lent) (byte i c e : ℕ) → Count κs t byte i (counted.Times c e)
+    → ((i ≡ 0) × (c ≡ 0) × (e ≡ 0)) ⊎ LengthOfPath (now t) (at.settings (now t) .levels) (i - 1) e
+count-answer κs t byte i c e a = go (count-summed (now t) byte i (sym (ap (λ (s : Said). s .number) (a .says))))
+  where
+    -- the figure is the definition's
+    entered : e ≡ countSays (now t) byte i .entered
+    entered = ap (λ (s : Said). s .entered) (a .says)
+
+    go : ((i ≡ 0) × (countSays (now t) byte i ≡ refused 0)) ⊎ Summed (now t) i (countSays (now t) byte i .entered)
+        → ((i ≡ 0) × (c ≡ 0) × (e ≡ 0)) ⊎ LengthOfPath (now t) (at.settings (now t) .levels) (i - 1) e
+    go (inl h) = let z = a .says ∙ h .1 in inl (h .0, ap (λ (s : Said). s .value) z, ap (λ (s : Said). s .entered) z)
+    go (inr w) = inr (rw (entered ∙ w .entered-is) (length-of-path (now t) (w .pass) (i - 1) (w .path) (w .path-is)))
+
+-- .. a refusal is 5, 6, 7, 10, 11 or 14.
+pub count-numbers : (κs : Lfts 1) (t : Lent) (byte i n : ℕ) → Count κs t byte i (counted.Refused n) → OneOf (5 ∷ 6 ∷ 7 ∷ 10 ∷ 11 ∷ 14 ∷ []) n
+count-numbers κs t byte i n a =
+    let e : n ≡ countSays (now t) byte i .number = ap (λ (s : Said). s .number) (a .says) in
+    not-zero (5 ∷ 6 ∷ 7 ∷ 10 ∷ 11 ∷ 14 ∷ []) n (a .numbered) (rw e (count-one (now t) byte i))
+
+module _ (κs : Lfts 1) (t : Lent) (byte j : ℕ) where
+  -- Find: an answer is a place of the text; ..
+  pub find-answer : (p : TextPlace) (e : ℕ) → Find κs t byte j (found.At p e) → p .0 < at.textLength (now t)
+  find-answer p e a = go (find-way (now t) byte j _ (a .says))
+    where
+      go : FindWay (now t) byte j (record { number = 0; value = p .0; entered = e }) → p .0 < at.textLength (now t)
+      go (ways.asked low is) = absurd (let z : 0 ≡ selectNumber (now t) byte j = ap (λ (s : Said). s .number) is in omega arith)
+      go (ways.broken is) = absurd (let z : _≡_ {A = ℕ} 0 14 = ap (λ (s : Said). s .number) is in omega arith)
+      go (ways.placed z low) = low
+
+  -- .. a refusal is 5, 6, 7, 11, 12 or 14.
+  pub find-numbers : (n : ℕ) → Find κs t byte j (found.Refused n) → OneOf (5 ∷ 6 ∷ 7 ∷ 11 ∷ 12 ∷ 14 ∷ []) n
+  find-numbers n a = go (find-way (now t) byte j _ (a .says))
+    where
+      go : FindWay (now t) byte j (refused n) → OneOf (5 ∷ 6 ∷ 7 ∷ 11 ∷ 12 ∷ 14 ∷ []) n
+      go (ways.asked low is) = select-first (now t) byte j n (14 ∷ []) (a .numbered) (ap (λ (s : Said). s .number) is)
+      go (ways.broken is) = of-right (5 ∷ 6 ∷ 7 ∷ 11 ∷ 12 ∷ []) (14 ∷ []) n (inl (ap (λ (s : Said). s .number) is))
+      go (ways.placed z low) = absurd (let y : ⊥ = omega (arith, a .numbered) in y)
+
+-- Enough: a refusal is 1, 2 or 3.
+pub enough-numbers : (n leaf arity levels k m : ℕ) → Enough n leaf arity levels k (room.Refused m) → OneOf (1 ∷ 2 ∷ 3 ∷ []) m
+unfolding enoughSays
+enough-numbers n leaf arity levels k m a = go (lengthOk n) (sizesOk (sizes leaf arity levels)) (leb k 4) (enoughFor n leaf arity levels k) a
+  where
+    go : (one two three : Bool) (size : ℕ) → room.Refused m ≡ cond one (cond two (cond three (room.Bytes size) (room.Refused 3)) (room.Refused 2)) (room.Refused 1) → OneOf (1 ∷ 2 ∷ 3 ∷ []) m
+    go true true true size e = absurd (let z : _≡_ {A = ℕ} 0 1 = cc in omega arith)
+    go true true false size e = inr (inr (inl cc))
+    go true false three size e = inr (inl cc)
+    go false two three size e = inl cc

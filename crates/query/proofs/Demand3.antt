@@ -1,0 +1,44 @@
+-- Demand 3: "The check accepts any bytes, whoever made them, exactly when questions 5 to 8 hold, a text fits and the counts are true of it.
+-- Exactly one text then fits; byte, count and find on such a tree are never refused where questions 10 to 12 let them through, are right,
+-- and report blocks entered that equal the path's length, at most twice the levels less one. What the builder writes is accepted, and its
+-- one text is the input." The last sentence stands in `Demand2`.
+use mathlib.Core.List.{List}
+use mathlib.Core.Bool.{true}
+use mathlib.Core.Path.{_≡_, refl, sym}
+use mathlib.Core.Logic.{_↔_}
+use Prim.Native.Nat.{ℕ}
+use contract.Lifetimes.{Lfts}
+use denote.Ref.{now}
+use Rattle.format.specs.Layout as at
+use Rattle.format.specs.Fits.{textOf, fits}
+use Rattle.format.specs.VerdictLaws.{accepted-readable, accepted-links}
+use Rattle.accepted.specs.Accepting.{StandsFor, one-text}
+use Rattle.tree.proofs.Demands as tree
+use Rattle.query.proofs.Calls.{Lent, Check}
+use Rattle.query.proofs.Answering.{Answers, Refuses}
+use Rattle.query.proofs.Accepted.{accepted-answers}
+use Rattle.query.proofs.Refusing.{accepted-refuses}
+
+-- A call of check, on any bytes, whoever made them.
+module _ (κs : Lfts 1) (t : Lent) where
+  -- "The check accepts any bytes, whoever made them, exactly when questions 5 to 8 hold, a text fits and the counts are true of it."
+  pub check-accepts : (r : ℕ) → Check κs t r → (r ≡ 0) ↔ ((T : List ℕ) × StandsFor (now t) T)
+  check-accepts r c = tree.check-accepts κs t r c
+
+  module _ (c : Check κs t 0) where
+    -- a text that fits is the one that the paths give
+    text-is : (T : List ℕ) → fits T (now t) ≡ true → T ≡ textOf (now t)
+    text-is = one-text (now t) (accepted-readable (now t) (sym c)) (accepted-links (now t) (sym c))
+
+    -- "Exactly one text then fits": the tree stands for it, and any that fits is the same.
+    pub check-one-text : (T : List ℕ) × StandsFor (now t) T × ((U : List ℕ) → fits U (now t) ≡ true → U ≡ T)
+    check-one-text = tree.check-one-text κs t 0 c refl
+
+    -- "byte, count and find on such a tree are never refused where questions 10 to 12 let them through, are right, and report blocks
+    -- entered that equal the path's length, at most twice the levels less one": so are run, span and row. T is the text that fits.
+    pub check-answers : (T : List ℕ) → fits T (now t) ≡ true → Answers t (at.settings (now t)) T
+    check-answers T f = rw (text-is T f) (accepted-answers t (sym c))
+
+    -- Where questions 10 to 13 do not let one through, their number is answered.
+    pub check-refuses : (T : List ℕ) → fits T (now t) ≡ true → Refuses t (at.settings (now t)) T
+    check-refuses T f = rw (text-is T f) (accepted-refuses t (sym c))
