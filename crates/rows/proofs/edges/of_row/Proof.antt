@@ -1,6 +1,6 @@
 use borrow.Author.Needs.{needs}
 use native.Mathlib.Omega.{arith}
-use Rattle.rows.proofs.RowLaws as laws
+use Rattle.rows.proofs.EdgeLaws as laws
 use Rattle.rows.proofs.edges.of_row.Statement.{statement}
 use Rattle.rows.proofs.edges.of_row.Tie as tie
 
