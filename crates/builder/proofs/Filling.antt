@@ -9,7 +9,7 @@ use Rattle.text.specs.Lists.{sumBelow}
 use Rattle.text.specs.ListLaws.{sumBelow-suc}
 use Rattle.format.specs.Settings.{Settings}
 use Rattle.format.specs.Blocks.{treeOf}
-use Rattle.built.specs.Structure.{count, keptAt, widthOf}
+use Rattle.built.specs.Structure.{widthOf}
 use Rattle.built.specs.Sizes.{Bounds, bounds}
 use Rattle.built.specs.Leaves.{widths-le}
 use Rattle.built.specs.Pairs.{offset}
@@ -59,7 +59,7 @@ module _ (S : Settings) (T : List ℕ) (level : Level) (h : LevelIs S T level) w
       going-writing block is = record { level-is = h; filled = g .filled; block-in = il; block-is = is }
 
       module _ (new : List ℕ) (wide : ℕ) (wide-is : wide ≡ widthOf S T l i) (more : Grown D out new) (body : Within D new 100 (placeAt S T l (i + 1))) where
-        pub link-next : link + wide ≡ sumBelow (i + 1) (widthOf S T l)
+        link-next : link + wide ≡ sumBelow (i + 1) (widthOf S T l)
         link-next = rw (g .link-is, wide-is) (sym (sumBelow-suc i (widthOf S T l)))
 
         pub link-few : link + wide ≤ 1048576

@@ -4,7 +4,6 @@ use mathlib.Core.Path.{_≡_, refl, sym, ap, subst}
 use mathlib.Core.Logic.{inl}
 use Prim.Native.Nat.{ℕ, _+_, _≤_, _<_}
 use native.Mathlib.Omega.{arith}
-use lib.ListN.{length}
 use Rattle.format.specs.Blocks.{treeOf}
 use Rattle.layout.specs.declared.settings.Settings as code
 use Rattle.records.specs.declared.level.Level.{Level}

@@ -2,14 +2,11 @@
 use mathlib.Core.List.{List, _++_}
 use mathlib.Core.Bool.{Bool, true, false, cond}
 use mathlib.Core.Path.{_≡_, refl, sym, ap, _∙_, subst}
-use mathlib.Core.Logic.{_⊎_, inl, inr}
-use Prim.Native.Nat.{ℕ, _+_, _-_, _≤_, _<_}
+use Prim.Native.Nat.{ℕ, _≤_, _<_}
 use native.Mathlib.Omega.{arith}
-use lib.ListN.{length, getD, drop, replicate, length-append, length-drop, List·getD-append}
-use lib.Seq.{getD-append-add, getD-drop, ext-getD}
+use lib.ListN.{length, drop, replicate}
 use lib.Dec.{eqb}
 use borrow.Author.Tests.{le-leb, lt-leb}
-use Rattle.text.specs.ListLaws.{lt-or-ge}
 use Rattle.format.specs.Settings.{Settings, lengthOk, sizesOk, countedOk}
 use Rattle.format.specs.Blocks.{treeOf}
 use Rattle.format.specs.Building.{buildNumber, buildSize, buildLeaves}
@@ -18,27 +15,13 @@ use Rattle.layout.specs.declared.settings.Checked.{Checked}
 use Rattle.layout.specs.declared.settings.Checked.the-variants.{Fine, Refused}
 use Rattle.layout.specs.Settings.{checked, sizes}
 use Rattle.built.specs.Sizes.{Taken}
-use Rattle.built.specs.Shape.{tree-length}
 use Rattle.builder.specs.declared.Built.{Built}
 use Rattle.builder.specs.declared.Built.the-variants.{Size, Refused as Not}
 use Rattle.builder.specs.Answers.{numberOf, sizeOf, given}
-use Rattle.records.specs.Growing.{Grown, Within}
+use Rattle.records.specs.Growing.{Grown}
 use Rattle.records.specs.State.{settingsOf}
 use Rattle.levels.specs.Trees.{Finished}
-use Rattle.records.proofs.StateLaws.{offset-low}
-
--- a buffer that holds the whole tree, with what stood after it
-pub whole : (D out new : List ℕ) → Grown D out new → length D ≤ length out → Within D new 0 (length D) → new ≡ D ++ drop (length D) out
-whole D out new g fits all = ext-getD 0 new (D ++ drop (length D) out) lengths (λ k l. at k (lt-or-ge k (length D)))
-  where
-    lengths : length new ≡ length (D ++ drop (length D) out)
-    lengths = g .same-length ∙ sym (rw (length-append D (drop (length D) out), length-drop (length D) out) (omega arith))
-
-    at : (k : ℕ) → (k < length D) ⊎ (length D ≤ k) → getD new k 0 ≡ getD (D ++ drop (length D) out) k 0
-    at k (inl l) = all .right k (omega arith) l ∙ sym (List·getD-append D (drop (length D) out) 0 k l)
-    at k (inr l) =
-        let e : k ≡ length D + (k - length D) = omega arith in
-        g .past k l ∙ sym (ap (λ (x : ℕ). getD (D ++ drop (length D) out) x 0) e ∙ getD-append-add D (drop (length D) out) (k - length D) 0 ∙ getD-drop (length D) out (k - length D) 0 ∙ ap (λ (x : ℕ). getD out x 0) (sym e))
+use Rattle.levels.proofs.Whole.{finished-full, finished-whole}
 
 -- an answer, with what the buffer holds afterwards
 pub record Told (S : Settings) (T out : List ℕ) (r : Built) (new : List ℕ) : Type 0 where
@@ -68,9 +51,6 @@ module _ (S : Settings) (T out : List ℕ) where
     abbrev D : List ℕ
     D = treeOf S T
 
-    long : 0 < length D
-    long = omega (arith, tree-length S T h, offset-low S T (S .levels))
-
     pub full : length out < length D → (new : List ℕ) → new ≡ replicate (length out) 0 → Told S T out (Not 4) new
     unfolding buildNumber buildSize buildLeaves
     full l new e =
@@ -86,20 +66,12 @@ module _ (S : Settings) (T out : List ℕ) where
     -- what the writing of the tree came to
     module _ (new : List ℕ) (g : Grown D out new) (r : ℕ) (f : Finished D new r) where
       pub told-full : r ≡ 0 → (last : List ℕ) → last ≡ replicate (length new) 0 → Told S T out (Not 4) last
-      told-full z last e = go f
-        where
-          go : Finished D new r → Told S T out (Not 4) last
-          go (inl y) = full (omega (arith, y .1, g .same-length)) last (e ∙ ap (λ (k : ℕ). replicate k 0) (g .same-length))
-          go (inr y) = absurd (let w : ⊥ = omega (arith, y .0, long) in w)
+      told-full z last e = full (finished-full S T h out new g r f z) last (e ∙ ap (λ (k : ℕ). replicate k 0) (g .same-length))
 
       pub told-size : (r ≡ 0 → ⊥) → Told S T out (Size r) new
-      told-size n = go f
-        where
-          go : Finished D new r → Told S T out (Size r) new
-          go (inl y) = absurd (n (y .0))
-          go (inr y) =
-              let fits : length D ≤ length out = omega (arith, y .1, g .same-length) in
-              subst (λ (k : ℕ). Told S T out (Size k) new) (sym (y .0)) (built-fits fits new (whole D out new g fits (y .2)))
+      told-size n =
+          let w = finished-whole S T h out new g r f n in
+          subst (λ (k : ℕ). Told S T out (Size k) new) (sym (w .0)) (built-fits (w .1) new (w .2))
 
 -- Questions 1 to 3.
 

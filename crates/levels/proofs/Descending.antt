@@ -160,7 +160,7 @@ module _ (T cs : List ℕ) (level : Level) (out two : List ℕ) (total : ℕ) (r
       at-right : at ≡ offset S T (S .levels)
       at-right = at-is ∙ table-end ∙ ap (offset S T) last′
 
-      pub end-is : at + total ≡ length D
+      end-is : at + total ≡ length D
       end-is = rw (at-right, total-leaves) (sym (tree-length S T taken))
 
       pub end-small : at + total ≤ 537919588

@@ -47,7 +47,7 @@ module _ (D t : List ℕ) (x a b : ℕ) (fits : 36 + 8 * x ≤ length t) (inside
   pub pair-grown : Grown D t (pairWritten t x a b)
   pair-grown = grown-then D t (setWord t (28 + 8 * x) a) (pairWritten t x a b) first second
 
-  pub pair-within : Within D (pairWritten t x a b) (28 + 8 * x) (28 + 8 * (x + 1))
+  pair-within : Within D (pairWritten t x a b) (28 + 8 * x) (28 + 8 * (x + 1))
   pair-within =
       within-join D (pairWritten t x a b) (28 + 8 * x) (32 + 8 * x) (28 + 8 * (x + 1))
       (within-part D (pairWritten t x a b) (28 + 8 * x) (28 + 8 * x + 4) (28 + 8 * x) (32 + 8 * x)

@@ -13,7 +13,7 @@ use Rattle.text.specs.ListLaws.{below-suc, sumBelow-suc, sumBelow-part}
 use Rattle.format.specs.Settings.{Settings}
 use Rattle.format.specs.Blocks.{treeOf}
 use Rattle.built.specs.Sizes.{Taken}
-use Rattle.built.specs.Structure.{count, start, bytesIn, widthOf}
+use Rattle.built.specs.Structure.{count, widthOf}
 use Rattle.built.specs.Leaves.{width-last, leaf-count, leaf-at}
 use Rattle.built.specs.Pairs.{offset}
 use Rattle.built.specs.Shape.{leaf-place, tree-length}
@@ -33,10 +33,10 @@ pub bytes-more : (t u v T : List ℕ) (to from j : ℕ) → u ≡ bytesWritten t
 bytes-more t u v T to from j e f = f ∙ rw (e, add-one j)
 
 module _ (D t : List ℕ) (i v : ℕ) (fits : i < length t) (inside : i < length D) (is : getD D i 0 ≡ v) where
-  pub byte-right : getD (set t i v) i 0 ≡ getD D i 0
+  byte-right : getD (set t i v) i 0 ≡ getD D i 0
   byte-right = getD-set-same t i v 0 fits ∙ sym is
 
-  pub byte-grown : Grown D t (set t i v)
+  byte-grown : Grown D t (set t i v)
   byte-grown = record {
     same-length = length-set t i v;
     keeps = λ k e. keep k e (ℕ-discrete k i);
@@ -112,9 +112,6 @@ module _ (S : Settings) (T out : List ℕ) (level : Level) (to i : ℕ) (w : Lea
 
       pub leaf-fits : to + len ≤ length out
       leaf-fits = omega (arith, in-tree, w .room)
-
-      pub leaf-small : to + len ≤ 537919588
-      leaf-small = omega (arith, in-tree, tree-small S T taken)
 
       bytes-are : (j : ℕ) → j < len → getD D (to + j) 0 ≡ getD T (s + j) 0
       bytes-are j h =

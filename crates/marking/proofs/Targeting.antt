@@ -1,13 +1,14 @@
 -- A block's record, kept and pointing: what the code finds is what the tree says.
 use mathlib.Core.List.{List}
 use mathlib.Core.Bool.{true, false}
-use mathlib.Core.Path.{_≡_, refl, sym, ap, _∙_}
+use mathlib.Core.Path.{_≡_, refl, ap, _∙_}
 use Prim.Native.Nat.{ℕ, zero, suc, _+_, _-_, _≤_, _<_}
 use native.Mathlib.Omega.{arith}
 use lib.ListN.{length}
 use lib.Dec.{leb}
 use borrow.Author.Tests.{le-leb, lt-leb, ne-eqb}
 use Rattle.text.specs.Lists.{sumBelow}
+use Rattle.text.specs.CountLaws.{count-none}
 use Rattle.format.specs.Words.{wordAt}
 use Rattle.format.specs.Settings.{Settings, blockLength}
 use Rattle.format.specs.Blocks.{target}
@@ -22,7 +23,6 @@ use Rattle.records.specs.declared.level.Stretch.{Stretch}
 use Rattle.records.specs.Levels.{recordPlace}
 use Rattle.records.specs.State.{On, StretchIs, BlockIs}
 use Rattle.marking.specs.Targets.{parentSays, Sorted, Between}
-use Rattle.records.proofs.Counting.{countIn-none}
 use Rattle.records.proofs.Reading.{start-fits, start-read}
 use Rattle.records.proofs.StateLaws.{few}
 use Rattle.records.proofs.Widths.{points-above}
@@ -80,7 +80,7 @@ module _ (S : Settings) (T out : List ℕ) (level : Level) (i : ℕ) (w : On S T
       kind-is = rw k;
       link-is = rw k e;
       gap-is = rw k;
-      skip-is = λ c. rw k (countIn-none c T 0);
+      skip-is = λ c. rw k (count-none c T 0);
       skip-in = omega arith;
     }
 

@@ -1,21 +1,21 @@
 -- The starts of the children of a level's blocks, block by block.
 use mathlib.Core.List.{List}
-use mathlib.Core.Bool.{true, false}
+use mathlib.Core.Bool.{true}
 use mathlib.Core.Path.{_≡_, sym, ap, _∙_}
 use mathlib.Core.Logic.{_⊎_, inl, inr}
-use Prim.Native.Nat.{ℕ, suc, _+_, _-_, _*_, _≤_, _<_, min}
+use Prim.Native.Nat.{ℕ, suc, _+_, _-_, _*_, _≤_, _<_}
 use native.Mathlib.Omega.{arith}
 use native.Mathlib.Nat.{add-mul, div-mul-le-self}
 use lib.ListN.{length}
 use Rattle.text.specs.Lists.{sumBelow}
-use Rattle.text.specs.ListLaws.{lt-or-ge, bool-cases, sumBelow-suc, sumBelow-part}
+use Rattle.text.specs.ListLaws.{lt-or-ge, sumBelow-suc, sumBelow-part}
 use Rattle.format.specs.Words.{wordAt}
 use Rattle.format.specs.Settings.{Settings, blockLength, pieces}
 use Rattle.format.specs.Blocks.{treeOf, recordBytes}
 use Rattle.built.specs.Bytes.{Stands}
 use Rattle.built.specs.Linked.{link-kept}
 use Rattle.built.specs.Sizes.{Taken, Bounds, bounds, size-pos}
-use Rattle.built.specs.Structure.{size, count, start, bytesIn, keptAt, widthOf, bytesIn-is, level-at, cut-at, count-below, start-below}
+use Rattle.built.specs.Structure.{size, count, start, keptAt, widthOf, bytesIn-is, cut-at, count-below, start-below}
 use Rattle.built.specs.Leaves.{widths-le}
 use Rattle.built.specs.Pairs.{offset}
 use Rattle.built.specs.Records.{kindOf, linkOf}

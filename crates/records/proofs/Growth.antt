@@ -18,7 +18,7 @@ unfolding wordBytes
 length-wordBytes v = refl
 
 -- the bytes of a word that was written
-pub written-stands : (t : List ℕ) (i v : ℕ) → i + 4 ≤ length t → Stands (setWord t i v) i v
+written-stands : (t : List ℕ) (i v : ℕ) → i + 4 ≤ length t → Stands (setWord t i v) i v
 written-stands t i v fits r l =
     let head : length (take i t) ≡ i = length-take-le i t (omega arith) in
     let e : i + r ≡ length (take i t) + r = omega arith in
@@ -28,18 +28,15 @@ written-stands t i v fits r l =
     ∙ getD-append-add (take i t) (wordBytes v) r 0)
 
 module _ (t : List ℕ) (i v : ℕ) (s : Stands t i v) where
-  byte : (r : ℕ) → r < 4 → getD t (i + r) 0 ≡ getD (wordBytes v) r 0
-  byte = s
-
   first : getD t i 0 ≡ getD (wordBytes v) 0 0
   first = ap (λ (k : ℕ). getD t k 0) (let e : i ≡ i + 0 = omega arith in e) ∙ s 0 (omega arith)
 
   -- the word that stands in a buffer is read there
-  pub stands-word : v < 4294967296 → wordAt t i ≡ v
+  stands-word : v < 4294967296 → wordAt t i ≡ v
   unfolding wordAt wordBytes
   stands-word small = rw (first, s 1 (omega arith), s 2 (omega arith), s 3 (omega arith)) (digits v small)
 
-pub within-word : (D t : List ℕ) (i v : ℕ) → Within D t i (i + 4) → Stands D i v → Stands t i v
+within-word : (D t : List ℕ) (i v : ℕ) → Within D t i (i + 4) → Stands D i v → Stands t i v
 within-word D t i v w s r l = w .right (i + r) (omega arith) (omega arith) ∙ s r l
 
 -- a word of the tree, read from a buffer that has it

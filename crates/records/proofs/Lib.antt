@@ -1,4 +1,3 @@
-pub mod Counting
 pub mod Places
 pub mod RecordWrites
 pub mod Growth

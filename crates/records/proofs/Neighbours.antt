@@ -6,13 +6,12 @@ use native.Mathlib.Omega.{arith}
 use native.Mathlib.Nat.{suc-mul, div-mul-le-self}
 use Rattle.text.specs.Lists.{sumBelow}
 use Rattle.text.specs.Text.{stretch, countIn}
-use Rattle.text.specs.TextLaws.{stretch-add}
+use Rattle.text.specs.CountLaws.{count-add}
 use Rattle.format.specs.Settings.{Settings}
 use Rattle.built.specs.Sizes.{Taken}
 use Rattle.built.specs.Structure.{size, count, start, bytesIn, widthOf, bytesIn-is, level-at, start-top, start-below}
 use Rattle.built.specs.Parents.{parent, parent-start}
 use Rattle.built.specs.Records.{parentOf, beforeOf, insideOf}
-use Rattle.records.proofs.Counting.{countIn-append}
 
 -- block j stands on the left of block i, in the same parent
 pub record LeftOf (S : Settings) (T : List ℕ) (l i j : ℕ) : Type 0 where
@@ -72,7 +71,7 @@ module _ (S : Settings) (T : List ℕ) (h : Taken S T) where
       let len : start S T l i - up ≡ start S T l j - up + bytesIn S T l j = omega (arith, left .touch) in
       let at : up + (start S T l j - up) ≡ start S T l j = omega arith in
       rw (left .together, len)
-      (ap (countIn c) (stretch-add T up (start S T l j - up) (bytesIn S T l j)) ∙ countIn-append c _ _ ∙ ap (λ (x : ℕ). countIn c (stretch T up (start S T l j - up)) + countIn c (stretch T x (bytesIn S T l j))) at)
+      (count-add c T up (start S T l j - up) (bytesIn S T l j) ∙ ap (λ (x : ℕ). countIn c (stretch T up (start S T l j - up)) + countIn c (stretch T x (bytesIn S T l j))) at)
 
   -- none stands before a block that starts with its parent
   pub before-first : (l i c : ℕ) → start S T l i ≡ parentOf S T l (start S T l i) → beforeOf S T l i c ≡ 0

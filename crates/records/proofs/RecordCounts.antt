@@ -15,7 +15,7 @@ use Rattle.format.specs.Words.{wordAt}
 use Rattle.format.specs.Settings.{Settings}
 use Rattle.format.specs.Blocks.{treeOf, recordBytes}
 use Rattle.built.specs.Sizes.{Taken, Bounds, bounds}
-use Rattle.built.specs.Structure.{count, start}
+use Rattle.built.specs.Structure.{count}
 use Rattle.built.specs.Leaves.{bytes-fit}
 use Rattle.built.specs.Small.{before-le, inside-le}
 use Rattle.built.specs.Records.{kindOf, linkOf, gapOf, beforeOf, insideOf, skipOf}
@@ -66,7 +66,7 @@ module _ (S : Settings) (T out : List ℕ) (level : Level) (i : ℕ) (block : Bl
   pub record-fits : P + recordBytes S ≤ length out
   record-fits = omega (arith, record-inside-table S T l i i-in, w .filled .room)
 
-  pub record-in-tree : P + recordBytes S ≤ length D
+  record-in-tree : P + recordBytes S ≤ length D
   record-in-tree = omega (arith, record-inside-table S T l i i-in, table-inside S T taken l l-in)
 
   pub inside-text : block .start + block .length ≤ length T

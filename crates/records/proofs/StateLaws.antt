@@ -1,16 +1,13 @@
 -- Places and bounds on a level that is written.
 use mathlib.Core.List.{List}
-use mathlib.Core.Bool.{Bool, true, _&&_}
 use mathlib.Core.Path.{_≡_, refl}
 use Prim.Native.Nat.{ℕ, suc, _+_, _-_, _*_, _^_, _≤_, _<_}
 use native.Mathlib.Omega.{arith}
-use native.Mathlib.Nat.{suc-mul, add-mul, mul-le-mul-right, mul-le-mul-left, pow-le-pow-right, le-trans}
-use lib.Dec.{leb}
-use borrow.Author.Tests.{leb-true}
-use Rattle.text.specs.ListLaws.{and-right}
+use native.Mathlib.Nat.{suc-mul, add-mul, mul-le-mul-right}
 use lib.ListN.{length, getD}
 use Rattle.text.specs.Lists.{sumBelow}
-use Rattle.format.specs.Settings.{Settings, blockLength, sizesOk}
+use Rattle.format.specs.Settings.{Settings, blockLength}
+use Rattle.format.specs.SizeLaws.{Sizes, sizes, length-top, length-falls}
 use Rattle.format.specs.Blocks.{treeOf, recordBytes}
 use Rattle.built.specs.Bytes.{Stands, record-stands}
 use Rattle.built.specs.Gather.{sumBelow-le}
@@ -112,19 +109,15 @@ module _ (S : Settings) (T : List ℕ) where
             rw (record-skip S T l i c cl, p) at (record-stands S T h l i (6 + 3 * c) e il six)
 
 -- block lengths are at most the longest text
-module _ (a b c d e f g : Bool) where
-  last-of-seven : (a && b && (c && d) && (e && f && g)) ≡ true → g ≡ true
-  last-of-seven h = and-right (e && f) g (and-right (a && b && (c && d)) (e && f && g) h)
-
 module _ (S : Settings) (T : List ℕ) (h : Taken S T) where
+  sized : Sizes S
+  sized = sizes S (h .sizes-ok)
+
   pub block-high : S .leaf * S .arity ^ (S .levels - 1) ≤ 1048576
-  unfolding sizesOk
-  block-high = leb-true _ _ (last-of-seven (leb 1 (S .leaf)) (leb (S .leaf) 256) (leb 2 (S .arity)) (leb (S .arity) 16) (leb 1 (S .levels)) (leb (S .levels) 8)
-      (leb (S .leaf * S .arity ^ (S .levels - 1)) 1048576) (h .sizes-ok))
+  block-high = sized .top-high
 
   pub size-high : (l : ℕ) → blockLength S l ≤ 1048576
-  unfolding blockLength
-  size-high l = le-trans (mul-le-mul-left (S .leaf) (pow-le-pow-right {n = S .arity} (omega (arith, bounds S T h .arity-low)) (let z : S .levels - 1 - l ≤ S .levels - 1 = omega arith in z))) block-high
+  size-high l = omega (arith, length-falls S sized 0 l (omega arith), length-top S, block-high)
 
 -- the numbers of a level are small
 pub record Few (S : Settings) (T : List ℕ) (level : Level) : Type 0 where

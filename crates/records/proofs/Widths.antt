@@ -12,7 +12,7 @@ use Rattle.built.specs.Leaves.{bytes-fit, kept-last, width-last}
 use Rattle.built.specs.Linked.{kind-points}
 use Rattle.built.specs.Records.{kindOf}
 use Rattle.built.specs.Sizes.{Taken, Bounds, bounds, size-pos}
-use Rattle.built.specs.Structure.{count, bytesIn, keptAt, widthOf, bytesIn-is, cut-at}
+use Rattle.built.specs.Structure.{keptAt, widthOf, bytesIn-is, cut-at}
 use Rattle.records.specs.declared.level.Level.{Level}
 use Rattle.records.specs.declared.record.Block.{Block}
 use Rattle.records.specs.State.{Writing}

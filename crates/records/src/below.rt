@@ -8,7 +8,7 @@ ghost use mathlib.Core.Path.{_≡_};
 ghost use Prim.Native.Nat.{suc, _+_, _<_};
 ghost use Rattle.text.specs.Lists.{sumBelow};
 ghost use Rattle.format.specs.Blocks.{treeOf};
-ghost use Rattle.built.specs.Structure.{widthOf, count};
+ghost use Rattle.built.specs.Structure.{widthOf};
 ghost use Rattle.records.specs.Growing.{Grown};
 ghost use Rattle.records.specs.Starts.{startsWritten, StartsAsk};
 ghost use Rattle.records.specs.State.{settingsOf, Below, Started, Filled};

@@ -18,6 +18,6 @@ pair-after-spec =
     (λ c. search needs)
     (λ c κs. let f = few _ _ _ (c .before .before .before .before .before .before .before .before .before .pre .level-is) in (f .counted-few, f .table-few, omega (arith, c .before .before .before .before .before .before .before .before .before .pre .block-in, f .count-few), start-fits _ _ _ _ _ (c .before .before .before .before .before .before .before .before .before .pre) _ (omega (arith, c .before .before .before .before .before .before .before .before .before .pre .block-in, c .before .if2 .left))))
     (λ c. let f = few _ _ _ (c .before .before .before .before .before .before .before .before .before .before .before .before .pre .level-is) in omega (arith, f .size-few, f .text-few, c .before .before .before .start .ensures, start-read _ _ _ _ _ (c .before .before .before .before .before .before .before .before .before .before .before .before .pre) _ (c .before .before .before .before .before .before .before .before .before .before .before .before .pre .block-in), start-in _ _ _ _ _ (c .before .before .before .before .before .before .before .before .before .before .before .before .pre) _ (c .before .before .before .before .before .before .before .before .before .before .before .before .pre .block-in)))
-    (λ c. laws.apart-far _ _ _ _ _ (c .before .before .before .before .before .before .before .before .before .before .before .before .before .before .pre) _ _ (c .before .before .before .before .before .start .ensures) (c .before .before .before .before .before .before .if2 .left) (c .before .before .before .before .start2 .ensures) (c .if3 .taken))
+    (λ c. laws.apart-far _ _ _ _ _ (c .before .before .before .before .before .before .before .before .before .before .before .before .before .before .pre) _ _ (c .before .before .before .before .before .start .ensures) (c .before .before .before .before .before .before .if2 .left) (c .before .before .before .before .start2 .ensures) (λ e. omega (arith, c .if3 .taken)))
     (λ c κs. let f = few _ _ _ (c .before .before .before .before .before .before .before .before .before .before .before .before .before .before .pre .level-is) in (omega (arith, c .before .before .before .before .before .start .ensures, start-read _ _ _ _ _ (c .before .before .before .before .before .before .before .before .before .before .before .before .before .before .pre) _ (c .before .before .before .before .before .before .before .before .before .before .before .before .before .before .pre .block-in), start-in _ _ _ _ _ (c .before .before .before .before .before .before .before .before .before .before .before .before .before .before .pre) _ (c .before .before .before .before .before .before .before .before .before .before .before .before .before .before .pre .block-in)), f .text-few, f .size-few))
-    (λ c. laws.pair-is _ _ _ _ _ (c .before .before .before .before .before .before .before .before .before .before .before .before .before .before .before .pre) _ _ (c .before .before .before .before .before .before .start .ensures) (c .before .before .before .before .before .before .before .if2 .left) (c .before .before .before .before .before .start2 .ensures) (c .before .before .before .before .before .before .before .before .before .if1 .left) (c .before .if3 .left) _ (c .pair-at .ensures)))
+    (λ c. laws.pair-is _ _ _ _ _ (c .before .before .before .before .before .before .before .before .before .before .before .before .before .before .before .pre) _ _ (c .before .before .before .before .before .before .start .ensures) (c .before .before .before .before .before .before .before .if2 .left) (c .before .before .before .before .before .start2 .ensures) (c .before .before .before .before .before .before .before .before .before .if1 .left) (omega (arith, c .before .if3 .left)) _ (c .pair-at .ensures)))
