@@ -49,9 +49,13 @@ module _ (t : List ℕ) (p : ℕ) (q : Path) (e : pathOf t p ≡ some q) where
   path-goes = goes t (at.settings t .levels - 1) 0 (p / at.fullLength t 0) (p % at.fullLength t 0) q e
 
   -- any path's leaf byte is in the tree
-  pub path-leaf : q .leaf < at.leafCount t
+  path-leaf : q .leaf < at.leafCount t
   path-leaf = goes-leaf t path-goes
 
   -- a byte at least is left in every block
   pub path-left : Readable t → (most : ℕ) → 0 < most → 0 < leftOver t (q .visits) most
   path-left k most low = within-left t (q .visits) most 0 (goes-within t (full-pos t k) path-goes (mod-lt p (full-pos t k 0))) low
+
+-- so is the one reached
+pub end-leaf : (t : List ℕ) (trail : Trail) (p : ℕ) (r : Reached) → Ends t trail (pathOf t p) r → r .leaf < at.leafCount t
+end-leaf t trail p r e = rw (e .leaf-is) (path-leaf t p (e .path) (e .is))

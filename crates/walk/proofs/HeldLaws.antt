@@ -20,7 +20,7 @@ use Rattle.walk.specs.declared.Reached.{Reached}
 use Rattle.walk.specs.declared.Walked.the-variants.{At}
 use Rattle.walk.specs.Walk.{walked}
 use Rattle.walk.specs.Held.{Held, unknown, aheadOf}
-use Rattle.walk.proofs.EndLaws.{Ends, ends, path-leaf, path-left}
+use Rattle.walk.proofs.EndLaws.{Ends, ends, end-leaf, path-left}
 
 -- nothing known is held of any place
 pub held-unknown : (t : List ℕ) (h : Header) (p : ℕ) (r : Reached) → r ≡ unknown → Held t h p r
@@ -51,7 +51,7 @@ module _ (t : List ℕ) (n p : ℕ) (r : Reached) (e : At r ≡ walked t (record
 module _ (t : List ℕ) (h : Header) (k : HeaderOf t h) (p : ℕ) (low : p < h .length) (r : Reached)
     (e : At r ≡ walked t (record { entered = 0; left = h .length - p }) (pathOf t p)) where
   pub leaf-low : r .leaf < h .«leaf_count»
-  leaf-low = omega (arith, path-leaf t p (end t (h .length) p r e .path) (end t (h .length) p r e .is), end t (h .length) p r e .leaf-is, k .count-is)
+  leaf-low = omega (arith, end-leaf t (record { entered = 0; left = h .length - p }) p r (end t (h .length) p r e), k .count-is)
 
   pub left-low : 0 < r .trail .left
   left-low = let z = end t (h .length) p r e in omega (arith, path-left t p (z .path) (z .is) (k .facts) (h .length - p) (omega arith), z .left-is)
