@@ -1,3 +1,4 @@
 pub mod ByteLaws
 pub mod SpanLaws
+pub mod CopyLaws
 pub mod Demands

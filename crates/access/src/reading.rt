@@ -129,7 +129,7 @@ pub fn number(answer: Answer) -> u32
 }
 
 // Writes zeros into the first n bytes.
-fn clear(buffer: &mut [u8], n: usize)
+pub fn clear(buffer: &mut [u8], n: usize)
     requires { ⌜ n ≤ length (now buffer) ⌝ }
     ensures { λ _. ⌜ now (buffer .exit) ≡ replicate n 0 ++ drop n (now (buffer .entry)) ⌝ }
 {

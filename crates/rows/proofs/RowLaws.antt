@@ -1,11 +1,11 @@
--- Row, from two finds and a span.
+-- Row, from two finds and the bytes between them.
 use mathlib.Core.List.{List, _++_}
 use mathlib.Core.Bool.{true, false, cond, _&&_}
 use mathlib.Core.Path.{_≡_, refl, sym, ap, _∙_}
 use mathlib.Core.Logic.{_⊎_, inl, inr}
 use Prim.Native.Nat.{ℕ, zero, suc, _+_, _-_, _≤_, _<_}
 use native.Mathlib.Omega.{arith}
-use borrow.Author.Tests.{leb-true, lt-leb, le-leb, ne-eqb}
+use borrow.Author.Tests.{leb-true, le-leb, ne-eqb}
 use lib.ListN.{length, drop, replicate}
 use lib.Seq.{drop-at}
 use lib.Dec.{leb, eqb}
@@ -22,18 +22,16 @@ use Rattle.format.specs.Fits.{textOf}
 use Rattle.format.specs.Verdict.{ask, readable, verdict}
 use Rattle.format.specs.Said.{Said, refused, unless}
 use Rattle.format.specs.Counting.{isCounted, numberOfByte}
-use Rattle.format.specs.Reading.{byteSays, pathsHold, spanNumber, spanLeaves}
+use Rattle.format.specs.Reading.{pathsHold, spanNumber, spanLeaves}
 use Rattle.format.specs.Finding.{total, selectNumber, pathLength, found, FindSays, rowStart, rowEnd, RowSays}
 use Rattle.paths.specs.OneText.{text-length}
 use Rattle.paths.specs.Demands as paths
 use Rattle.layout.specs.declared.header.HeaderRead.{HeaderRead}
 use Rattle.layout.specs.declared.header.HeaderRead.the-variants as header
 use Rattle.layout.specs.Header.{headerSays}
-use Rattle.access.specs.Answers as query
-use Rattle.access.specs.Answers.{spanSays, copiedSaid}
-use Rattle.access.specs.declared.Copied.{Copied}
-use Rattle.access.specs.declared.Copied.the-variants as copied
+use Rattle.access.specs.Answers.{spanSays}
 use Rattle.access.proofs.ByteLaws.{path-long}
+use Rattle.access.proofs.SpanLaws.{values, no-room, number-in-room}
 use Rattle.layout.specs.HeaderSays.{header-refused}
 use Rattle.tallies.specs.Demands as tallies
 use Rattle.select.specs.declared.Found.{Found}
@@ -243,29 +241,22 @@ record SpanWays (t : List ℕ) (p len : ℕ) (buffer : List ℕ) : Type 0 where
       ⊎ ((spanNumber t p len (length buffer) ≡ 14) × (len ≤ length buffer) × (spanLeaves t p len buffer ≡ replicate len 0 ++ drop len buffer)))
 
 module _ (t : List ℕ) (p len : ℕ) (buffer : List ℕ) (passes : readable t ≡ 0) (within : p + len ≤ at.textLength t) where
-  number-is : spanNumber t p len (length buffer) ≡ ask 13 (leb len (length buffer)) (ask 14 (pathsHold t p len) 0)
-  unfolding spanNumber
-  number-is = rw (passes, le-leb (p + len) (at.textLength t) within)
-
   leaves-is : (n : ℕ) → spanNumber t p len (length buffer) ≡ n
-      → spanLeaves t p len buffer ≡ cond (eqb n 0) (tabulate len (λ k. byteSays t (p + k) .value) ++ drop len buffer) (cond (eqb n 14) (replicate len 0 ++ drop len buffer) buffer)
+      → spanLeaves t p len buffer ≡ cond (eqb n 0) (tabulate len (values t p) ++ drop len buffer) (cond (eqb n 14) (replicate len 0 ++ drop len buffer) buffer)
   unfolding spanLeaves
   leaves-is n e = rw e
-
-  no-room : length buffer < len → spanNumber t p len (length buffer) ≡ 13
-  no-room short = number-is ∙ rw (lt-leb len (length buffer) short)
 
   span-ways : SpanWays t p len buffer
   span-ways = go (lt-or-ge (length buffer) len) (bool-cases (pathsHold t p len))
     where
       go : (length buffer < len) ⊎ (len ≤ length buffer) → (pathsHold t p len ≡ true) ⊎ (pathsHold t p len ≡ false) → SpanWays t p len buffer
-      go (inl short) y = let e = no-room short in record { ways = inl (e, leaves-is 13 e) }
+      go (inl short) y = let e = no-room t p len buffer passes within short in record { ways = inl (e, leaves-is 13 e) }
       go (inr room) (inl hold) =
-          let e : spanNumber t p len (length buffer) ≡ 0 = number-is ∙ rw (le-leb len (length buffer) room, hold) in
-          let bytes = tabulate len (λ k. byteSays t (p + k) .value) in
-          record { ways = inr (inl (e, room, ap (drop len) (leaves-is 0 e) ∙ drop-at bytes (drop len buffer) len (length-tabulate len (λ k. byteSays t (p + k) .value)))) }
+          let e : spanNumber t p len (length buffer) ≡ 0 = number-in-room t p len buffer passes within room ∙ rw hold in
+          let bytes = tabulate len (values t p) in
+          record { ways = inr (inl (e, room, ap (drop len) (leaves-is 0 e) ∙ drop-at bytes (drop len buffer) len (length-tabulate len (values t p)))) }
       go (inr room) (inr broken) =
-          let e : spanNumber t p len (length buffer) ≡ 14 = number-is ∙ rw (le-leb len (length buffer) room, broken) in
+          let e : spanNumber t p len (length buffer) ≡ 14 = number-in-room t p len buffer passes within room ∙ rw broken in
           record { ways = inr (inr (e, room, leaves-is 14 e)) }
 
 unless-at : (n : ℕ) (s a : Said) → s ≡ unless n a → a .number ≡ 0 → s .number ≡ n
@@ -336,16 +327,6 @@ pub row-edges : (t : List ℕ) (q : ℕ) (x : Edges) (n k : ℕ) (buffer : List 
 row-edges t q x n k buffer h e n-is =
     let z : n ≡ k = n-is ∙ rw e in
     rw z (record { says = row-refused t q k buffer (h .refused k e); numbered = h .refused k e .low })
-
-module _ (t : List ℕ) (q : ℕ) (buffer after : List ℕ) (x : Copied) (says : RowSays t q buffer (copiedSaid x .number) (copiedSaid x .value) after) where
-  pub row-bytes : (size : ℕ) → x ≡ copied.Bytes size → RowSays t q buffer 0 size after
-  row-bytes size e = rw e at says
-
-  pub row-not : (k n : ℕ) → x ≡ copied.Refused k → n ≡ copiedSaid x .number → query.Numbered x → RowAnswer t q buffer (row.Refused n) after
-  row-not k n e n-is numbered =
-      let z : n ≡ k = n-is ∙ rw e in
-      let low : 1 ≤ k = rw e at numbered in
-      rw z (record { says = rw e at says; numbered = low })
 
 -- a tree that does not pass questions 5 to 7
 pub row-unread : (t : List ℕ) (q : ℕ) (buffer : List ℕ) (x : HeaderRead) → x ≡ headerSays t → (n : ℕ) → x ≡ header.Refused n → RowSays t q buffer n 0 buffer

@@ -7,6 +7,7 @@ use Rattle.format.specs.Verdict.{verdict}
 use Rattle.format.specs.Said.{Said, refused}
 use Rattle.format.specs.Finding.{selectNumber, rowStart, rowEnd, RowSays}
 use Rattle.text.specs.declared.TextPlace.{TextPlace}
+use Rattle.access.specs.Answers.{spanSays}
 use Rattle.rows.specs.declared.RowCopied.{RowCopied}
 use Rattle.rows.specs.declared.RowCopied.the-variants.{Bytes, Refused}
 use Rattle.rows.specs.declared.edges.Edges.{Edges}
@@ -24,6 +25,11 @@ Numbered (Refused number) = 1 ≤ number
 
 pub record RowAnswer (t : List ℕ) (q : ℕ) (buffer : List ℕ) (r : RowCopied) (after : List ℕ) : Type 0 where
   pub says : RowSays t q buffer (saidRow r .number) (saidRow r .value) after
+  pub numbered : Numbered r
+
+-- what the copying of a row answers, with room for so many bytes: what span says of them
+pub record CopyAnswer (t : List ℕ) (p len room : ℕ) (r : RowCopied) : Type 0 where
+  pub says : saidRow r ≡ spanSays t p len room
   pub numbered : Numbered r
 
 -- the number of edges that are refused

@@ -2,24 +2,18 @@
 use crate::RowCopied;
 use crate::edges;
 use crate::edges::Edges;
-use access::Copied;
+use access::Answer;
+use access::reading;
 use layout::header::Header;
+use layout::place::TextPlace;
 ghost use mathlib.Core.Path.{_≡_};
+ghost use Prim.Native.Nat.{_+_, _≤_};
+ghost use lib.ListN.{length};
+ghost use Rattle.format.specs.Reading.{spanLeaves};
 ghost use Rattle.layout.specs.HeaderSays.{HeaderOf};
-ghost use Rattle.access.specs.Answers.{copiedSaid};
-ghost use Rattle.rows.specs.Rows.{RowAnswer};
+ghost use Rattle.rows.specs.Rows.{CopyAnswer, RowAnswer};
 
-// The number of the question that refuses a copy; 0 for bytes.
-fn copied_number(copied: Copied) -> u32
-    ensures { λ r. ⌜ r ≡ copiedSaid copied .number ⌝ }
-{
-    match copied {
-        Copied::Bytes(_) => 0,
-        Copied::Refused(number) => number,
-    }
-}
-
-// Questions 11, 12, 13 and 14, those of the edges first; the bytes between them are copied as a span's.
+// Questions 11, 12, 13 and 14, those of the edges first.
 pub fn row_at(t: &[u8], h: Header, q: u32, buffer: &mut [u8]) -> RowCopied
     requires { ⌜ HeaderOf (now t) h ⌝ }
     ensures { λ r. ⌜ RowAnswer (now (t .entry)) q (now (buffer .entry)) r (now (buffer .exit)) ⌝ }
@@ -28,9 +22,27 @@ pub fn row_at(t: &[u8], h: Header, q: u32, buffer: &mut [u8]) -> RowCopied
     let Edges::At(start, len) = found else {
         return RowCopied::Refused(edges::number(found));
     };
-    let copied = access::span(t, start, len, buffer);
-    let Copied::Bytes(size) = copied else {
-        return RowCopied::Refused(copied_number(copied));
-    };
-    RowCopied::Bytes(size)
+    if buffer.len() < len as usize {
+        return RowCopied::Refused(13);
+    }
+    copy(t, h, start, len, buffer)
+}
+
+// Copies a row byte by byte; where one is refused, its number is passed on and the row's part of the buffer is left zero.
+fn copy(t: &[u8], h: Header, start: TextPlace, len: u32, buffer: &mut [u8]) -> RowCopied
+    requires { ⌜ (HeaderOf (now t) h) × (start .0 + len ≤ h .length) × (len ≤ length (now buffer)) ⌝ }
+    ensures { λ r. ⌜ CopyAnswer (now (t .entry)) (start .0) len (length (now (buffer .entry))) r ⌝ }
+    ensures { λ _. ⌜ now (buffer .exit) ≡ spanLeaves (now (t .entry)) (start .0) len (now (buffer .entry)) ⌝ }
+{
+    let mut i: u32 = 0;
+    while i < len {
+        let answer = reading::byte_at(t, h, TextPlace(start.0 + i));
+        let Answer::Byte(value, _) = answer else {
+            reading::clear(buffer, len as usize);
+            return RowCopied::Refused(reading::number(answer));
+        };
+        buffer[i as usize] = value;
+        i += 1;
+    }
+    RowCopied::Bytes(len)
 }

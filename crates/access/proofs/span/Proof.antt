@@ -1,6 +1,7 @@
 use borrow.Author.Needs.{needs}
 use Rattle.layout.specs.HeaderSays.{header-good}
 use Rattle.access.proofs.SpanLaws as laws
+use Rattle.access.specs.declared.Copied.the-variants.{Refused}
 use Rattle.access.proofs.span.Statement.{statement}
 use Rattle.access.proofs.span.Tie as tie
 
@@ -14,4 +15,4 @@ span-spec =
     (λ c. search needs)
     (λ c. search needs)
     (λ c. search needs)
-    (λ c. laws.span-unread _ _ _ _ _ (c .before .before .before .read-header .ensures) _ (c .before .read2 .given .1)))
+    (λ c. let k = laws.span-unread _ _ _ _ _ (c .before .before .before .read-header .ensures) _ (c .before .read2 .given .1) in laws.answered _ _ _ _ _ (Refused _) (k .0) (k .1)))
