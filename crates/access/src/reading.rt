@@ -99,20 +99,23 @@ pub fn span_at(t: &[u8], h: Header, at: TextPlace, len: u32, buffer: &mut [u8]) 
     copy(t, h, at, len, buffer)
 }
 
-// Copies byte by byte; where one is refused, the part asked for is left zero.
+// Copies byte by byte, reading on from each to the next; where one is refused, the part asked for is left zero.
 fn copy(t: &[u8], h: Header, at: TextPlace, len: u32, buffer: &mut [u8]) -> Copied
     requires { ⌜ (HeaderOf (now t) h) × (at .0 + len ≤ h .length) × (len ≤ length (now buffer)) ⌝ }
     ensures { λ r. ⌜ SpanAnswer (now (t .entry)) (at .0) len (length (now (buffer .entry))) r ⌝ }
     ensures { λ _. ⌜ now (buffer .exit) ≡ spanLeaves (now (t .entry)) (at .0) len (now (buffer .entry)) ⌝ }
 {
+    let mut held = held::nothing();
     let mut i: u32 = 0;
     while i < len {
-        let answer = byte_at(t, h, TextPlace(at.0 + i));
+        let read = next_byte(t, h, TextPlace(at.0 + i), held);
+        let answer = read.answer;
         let Answer::Byte(value, _) = answer else {
             clear(buffer, len as usize);
             return Copied::Refused(number(answer));
         };
         buffer[i as usize] = value;
+        held = read.held;
         i += 1;
     }
     Copied::Bytes(len)

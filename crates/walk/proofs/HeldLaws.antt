@@ -5,6 +5,7 @@ use mathlib.Core.Path.{_≡_, refl, sym, ap, _∙_}
 use mathlib.Core.Logic.{_⊎_, inl, inr}
 use Prim.Native.Nat.{ℕ, _+_, _-_, _≤_, _<_}
 use native.Mathlib.Omega.{arith}
+use native.Mathlib.Nat.{add-assoc}
 use borrow.Author.Tests.{eq-eqb, ne-eqb}
 use lib.Dec.{eqb}
 use lib.ListN.{length}
@@ -25,6 +26,10 @@ use Rattle.walk.proofs.EndLaws.{Ends, ends, end-leaf, path-left}
 -- nothing known is held of any place
 pub held-unknown : (t : List ℕ) (h : Header) (p : ℕ) (r : Reached) → r ≡ unknown → Held t h p r
 held-unknown t h p r e = record { is = λ low. absurd (let z = ap (λ (x : Reached). x .trail .left) e in let y : ⊥ = omega arith in y) }
+
+-- the place after the i-th from p
+pub held-next : (t : List ℕ) (h : Header) (p i : ℕ) (r : Reached) → Held t h (p + i + 1) r → Held t h (p + (i + 1)) r
+held-next t h p i r k = rw (← add-assoc p i 1) k
 
 same-end : (x y entered n left m : ℕ) → x ≡ y → entered ≡ n → left ≡ m
     → At (record { leaf = x; trail = record { entered = entered; left = left } }) ≡ At (record { leaf = y; trail = record { entered = n; left = m } })
