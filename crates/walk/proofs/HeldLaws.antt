@@ -1,14 +1,11 @@
 -- Reading on, from one place's path to the next one's.
 use mathlib.Core.List.{List}
-use mathlib.Core.Bool.{Bool, true, false, cond}
-use mathlib.Core.Path.{_≡_, refl, sym, ap, _∙_}
+use mathlib.Core.Path.{_≡_, ap, _∙_}
 use mathlib.Core.Logic.{_⊎_, inl, inr}
 use Prim.Native.Nat.{ℕ, _+_, _-_, _≤_, _<_}
 use native.Mathlib.Omega.{arith}
 use native.Mathlib.Nat.{add-assoc}
 use borrow.Author.Tests.{eq-eqb, ne-eqb}
-use lib.Dec.{eqb}
-use lib.ListN.{length}
 use Rattle.text.specs.ListLaws.{lt-or-ge}
 use Rattle.format.specs.Layout as at
 use Rattle.format.specs.Path.{pathOf}
@@ -16,7 +13,6 @@ use Rattle.format.specs.Reading.{leftOver}
 use Rattle.paths.specs.Shift.{further, length-further, left-within, path-further, left-further}
 use Rattle.layout.specs.declared.header.Header.{Header}
 use Rattle.layout.specs.HeaderSays.{HeaderOf}
-use Rattle.walk.specs.declared.Trail.{Trail}
 use Rattle.walk.specs.declared.Reached.{Reached}
 use Rattle.walk.specs.declared.Walked.the-variants.{At}
 use Rattle.walk.specs.Walk.{walked}
