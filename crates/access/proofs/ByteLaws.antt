@@ -1,6 +1,6 @@
 -- Byte and run, from the path's end.
 use mathlib.Core.List.{List, [], _∷_}
-use mathlib.Core.Option.{Option, none, some}
+use mathlib.Core.Option.{some}
 use mathlib.Core.Path.{_≡_, refl, sym, ap, _∙_}
 use Prim.Native.Nat.{ℕ, suc, _+_, _-_, _/_, _%_, _≤_, _<_, min}
 use native.Mathlib.Omega.{arith}
@@ -13,7 +13,7 @@ use Rattle.format.specs.Verdict.{readable}
 use Rattle.format.specs.HeaderLaws.{leaf-inside}
 use Rattle.format.specs.Said.{Said, refused, unless}
 use Rattle.format.specs.Reading.{byteSays, leftOver, runSays}
-use Rattle.paths.specs.Visits.{goes, goes-leaf, goes-long}
+use Rattle.paths.specs.Visits.{goes, goes-long}
 use Rattle.layout.specs.declared.header.Header.{Header}
 use Rattle.layout.specs.declared.header.HeaderRead.{HeaderRead}
 use Rattle.layout.specs.declared.header.HeaderRead.the-variants.{Refused}
@@ -27,34 +27,9 @@ use Rattle.access.specs.declared.reading.Ran.{Ran}
 use Rattle.access.specs.declared.reading.Ran.the-variants as ran
 use Rattle.layout.specs.HeaderSays.{HeaderOf}
 use Rattle.walk.specs.Walk.{walked}
+use Rattle.walk.proofs.EndLaws.{Ends, ends, broken, end-leaf}
 use Rattle.access.specs.Answers.{RunAnswer}
 use Rattle.layout.specs.HeaderSays.{header-refused}
-
--- the path that was walked, and what was carried down it
-record Ends (t : List ℕ) (trail : Trail) (o : Option Path) (r : Reached) : Type 0 where
-  path : Path
-  is : o ≡ some path
-  leaf-is : r .leaf ≡ path .leaf
-  entered-is : r .trail .entered ≡ trail .entered + length (path .visits)
-  left-is : r .trail .left ≡ leftOver t (path .visits) (trail .left)
-
-ends : (t : List ℕ) (trail : Trail) (o : Option Path) (r : Reached) → At r ≡ walked t trail o → Ends t trail o r
-unfolding walked
-ends t trail none r e = absurd (let z : _≡_ {A = ℕ} 0 1 = cc in omega arith)
-ends t trail (some q) r e =
-    let at-end : Reached = record { leaf = q .leaf; trail = record { entered = trail .entered + length (q .visits); left = leftOver t (q .visits) (trail .left) } } in
-    let z : r ≡ at-end = cc in record {
-      path = q;
-      is = refl;
-      leaf-is = ap (λ (x : Reached). x .leaf) z;
-      entered-is = ap (λ (x : Reached). x .trail .entered) z;
-      left-is = ap (λ (x : Reached). x .trail .left) z;
-    }
-
-broken : (t : List ℕ) (trail : Trail) (o : Option Path) → Broken ≡ walked t trail o → o ≡ none
-unfolding walked
-broken t trail none e = refl
-broken t trail (some q) e = absurd (let z : _≡_ {A = ℕ} 0 1 = cc in omega arith)
 
 -- a bound that is put in at the start may as well be put in at the end
 left-min : (t : List ℕ) (vs : List Visit) (a c : ℕ) → leftOver t vs (min a c) ≡ min (leftOver t vs a) c
@@ -96,11 +71,7 @@ run-none t p k q q-is e =
     }
 
 module _ (t : List ℕ) (p : ℕ) where
-  -- any path's leaf byte is in the tree, and it has entered a block
-  path-leaf : (q : Path) → pathOf t p ≡ some q → q .leaf < at.leafCount t
-  unfolding pathOf
-  path-leaf q e = goes-leaf t (goes t (at.settings t .levels - 1) 0 (p / at.fullLength t 0) (p % at.fullLength t 0) q e)
-
+  -- any path has entered a block
   pub path-long : (q : Path) → pathOf t p ≡ some q → 1 ≤ length (q .visits)
   unfolding pathOf
   path-long q e = omega (arith, goes-long t (goes t (at.settings t .levels - 1) 0 (p / at.fullLength t 0) (p % at.fullLength t 0) q e))
@@ -128,7 +99,7 @@ module _ (t : List ℕ) (p : ℕ) where
         end = ends t trail (pathOf t p) r (sym e ∙ w-is)
 
         pub leaf-low : r .leaf < h .«leaf_count»
-        leaf-low = omega (arith, path-leaf (end .path) (end .is), end .leaf-is, k .count-is)
+        leaf-low = omega (arith, end-leaf t trail p r end, k .count-is)
 
         pub leaf-there : h .«leaf_offset» + r .leaf < length t
         leaf-there = omega (arith, leaf-inside t (k .facts) (r .leaf) (omega (arith, leaf-low, k .count-is)), k .offset-is)

@@ -3,13 +3,16 @@ use crate::Answer;
 use crate::Copied;
 use layout::header::Header;
 use layout::place::TextPlace;
+use walk::Reached;
 use walk::Walked;
+use walk::held;
 ghost use mathlib.Core.Path.{_≡_};
-ghost use Prim.Native.Nat.{_+_, _≤_};
+ghost use Prim.Native.Nat.{_+_, _≤_, _<_};
 ghost use mathlib.Core.List.{_++_};
 ghost use lib.ListN.{length, drop, replicate};
 ghost use Rattle.format.specs.Reading.{byteSays, spanLeaves};
 ghost use Rattle.layout.specs.HeaderSays.{HeaderOf};
+ghost use Rattle.walk.specs.Held.{Held};
 ghost use Rattle.access.specs.Answers.{said, RunAnswer, SpanAnswer};
 
 // A part of the tree's bytes.
@@ -24,6 +27,12 @@ pub enum Ran {
     Refused(u32),
 }
 
+// A byte's answer, and what is held of the place after it.
+pub struct Read {
+    pub answer: Answer,
+    pub held: Reached,
+}
+
 // Byte: questions 10 and 14.
 pub fn byte_at(t: &[u8], h: Header, at: TextPlace) -> Answer
     requires { ⌜ HeaderOf (now t) h ⌝ }
@@ -32,12 +41,27 @@ pub fn byte_at(t: &[u8], h: Header, at: TextPlace) -> Answer
     if h.length <= at.0 {
         return Answer::Refused(10);
     }
-    let walked = walk::walk(t, h, at);
+    let read = next_byte(t, h, at, held::nothing());
+    read.answer
+}
+
+// The byte of a place in the text, by what is held of the place: question 14.
+pub fn next_byte(t: &[u8], h: Header, at: TextPlace, held: Reached) -> Read
+    requires { ⌜ (HeaderOf (now t) h) × (at .0 < h .length) × (Held (now t) h (at .0) held) ⌝ }
+    ensures { λ r. ⌜ (said (r .answer) ≡ byteSays (now (t .entry)) (at .0)) × (Held (now (t .entry)) h (at .0 + 1) (r .held)) ⌝ }
+{
+    let walked = held::reach(t, h, at, held);
     let Walked::At(reached) = walked else {
-        return Answer::Refused(14);
+        return Read {
+            answer: Answer::Refused(14),
+            held: held::nothing(),
+        };
     };
     let leaf = h.leaf_offset as usize + reached.leaf as usize;
-    Answer::Byte(t[leaf], reached.trail.entered)
+    Read {
+        answer: Answer::Byte(t[leaf], reached.trail.entered),
+        held: held::ahead(h.leaf_count, reached),
+    }
 }
 
 // Run: questions 10 and 14; no further than the leaf bytes go.
@@ -75,20 +99,23 @@ pub fn span_at(t: &[u8], h: Header, at: TextPlace, len: u32, buffer: &mut [u8]) 
     copy(t, h, at, len, buffer)
 }
 
-// Copies byte by byte; where one is refused, the part asked for is left zero.
+// Copies byte by byte, reading on from each to the next; where one is refused, the part asked for is left zero.
 fn copy(t: &[u8], h: Header, at: TextPlace, len: u32, buffer: &mut [u8]) -> Copied
     requires { ⌜ (HeaderOf (now t) h) × (at .0 + len ≤ h .length) × (len ≤ length (now buffer)) ⌝ }
     ensures { λ r. ⌜ SpanAnswer (now (t .entry)) (at .0) len (length (now (buffer .entry))) r ⌝ }
     ensures { λ _. ⌜ now (buffer .exit) ≡ spanLeaves (now (t .entry)) (at .0) len (now (buffer .entry)) ⌝ }
 {
+    let mut held = held::nothing();
     let mut i: u32 = 0;
     while i < len {
-        let answer = byte_at(t, h, TextPlace(at.0 + i));
+        let read = next_byte(t, h, TextPlace(at.0 + i), held);
+        let answer = read.answer;
         let Answer::Byte(value, _) = answer else {
             clear(buffer, len as usize);
             return Copied::Refused(number(answer));
         };
         buffer[i as usize] = value;
+        held = read.held;
         i += 1;
     }
     Copied::Bytes(len)

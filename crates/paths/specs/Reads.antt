@@ -13,15 +13,15 @@ use Rattle.text.specs.ListLaws.{and-both}
 use Rattle.text.specs.Text.{stretch}
 use Rattle.text.specs.TextLaws.{stretch-ext}
 use Rattle.format.specs.Layout as at
-use Rattle.format.specs.Path.{Path, Visit, pathOf}
+use Rattle.format.specs.Path.{Path, pathOf}
 use Rattle.format.specs.Fits.{leafOf, textOf}
 use Rattle.format.specs.Verdict.{readable}
 use Rattle.format.specs.HeaderLaws.{Readable, full-pos}
 use Rattle.format.specs.Said.{Said}
 use Rattle.format.specs.Reading.{byteSays, leftOver, runSays, pathsHold, spanNumber, spanLeaves}
 use Rattle.paths.specs.Links.{H, b}
-use Rattle.paths.specs.Visits.{Goes, goes, goes-path, goes-leaf}
-use Rattle.paths.specs.Shift.{left-most, left-within, within-left, goes-first, goes-within, shift, step-div, step-mod}
+use Rattle.paths.specs.Visits.{Goes, goes, goes-leaf}
+use Rattle.paths.specs.Shift.{left-most, left-within, within-left, goes-within, path-further}
 use Rattle.paths.specs.Fitting.{stretch-tabulate}
 use Rattle.paths.specs.OneText.{text-length, text-at}
 
@@ -58,20 +58,13 @@ module _ (t : List ℕ) (k : Readable t) (r : readable t ≡ 0) (p : ℕ) (hp : 
       within-left t (q .visits) (min (at.textLength t - p) (at.leafCount t - q .leaf)) 0
       (goes-within t (full-pos t k) goes-of-path (mod-lt p (full-pos t k 0))) (omega (arith, goes-leaf t goes-of-path))
 
-  -- d places on, where the step stays within level 0's block
-  moved : (d : ℕ) (ws : List Visit) → p % b t 0 + d < b t 0 → Goes t (H t - 1) 0 (p / b t 0) (p % b t 0 + d) ws (q .leaf + d)
-      → leafOf t (pathOf t (p + d)) ≡ at.leafByte t (q .leaf + d)
-  unfolding pathOf
-  moved d ws small g = rw (step-div p d (b t 0) small, step-mod p d (b t 0) small) (ap (leafOf t) (goes-path t g))
-
   -- a byte of the run is the text's
   run-byte : (d : ℕ) → d < size → at.leafByte t (q .leaf + d) ≡ getD (textOf t) (p + d) 0
   run-byte d h =
       let most = min (at.textLength t - p) (at.leafCount t - q .leaf) in
       let less : d < most = omega (arith, left-most t (q .visits) most) in
       let w = left-within t (q .visits) most d h in
-      let g = shift t d goes-of-path w (omega arith) in
-      sym (text-at t (p + d) (omega arith) ∙ moved d (g .0) (goes-first t d goes-of-path w) (g .1))
+      sym (text-at t (p + d) (omega arith) ∙ ap (leafOf t) (path-further t p d q e w (omega arith)))
 
   part-of-path : Part t p (at.leafOffset t + q .leaf) size
   unfolding stretch at.leafByte

@@ -6,6 +6,7 @@ use access::Answer;
 use access::reading;
 use layout::header::Header;
 use layout::place::TextPlace;
+use walk::held;
 ghost use mathlib.Core.Path.{_≡_};
 ghost use Prim.Native.Nat.{_+_, _≤_};
 ghost use lib.ListN.{length};
@@ -28,20 +29,23 @@ pub fn row_at(t: &[u8], h: Header, q: u32, buffer: &mut [u8]) -> RowCopied
     copy(t, h, start, len, buffer)
 }
 
-// Copies a row byte by byte; where one is refused, its number is passed on and the row's part of the buffer is left zero.
+// Copies a row byte by byte, reading on from each to the next; where one is refused, its number is passed on and the row's part of the buffer is left zero.
 fn copy(t: &[u8], h: Header, start: TextPlace, len: u32, buffer: &mut [u8]) -> RowCopied
     requires { ⌜ (HeaderOf (now t) h) × (start .0 + len ≤ h .length) × (len ≤ length (now buffer)) ⌝ }
     ensures { λ r. ⌜ CopyAnswer (now (t .entry)) (start .0) len (length (now (buffer .entry))) r ⌝ }
     ensures { λ _. ⌜ now (buffer .exit) ≡ spanLeaves (now (t .entry)) (start .0) len (now (buffer .entry)) ⌝ }
 {
+    let mut held = held::nothing();
     let mut i: u32 = 0;
     while i < len {
-        let answer = reading::byte_at(t, h, TextPlace(start.0 + i));
+        let read = reading::next_byte(t, h, TextPlace(start.0 + i), held);
+        let answer = read.answer;
         let Answer::Byte(value, _) = answer else {
             reading::clear(buffer, len as usize);
             return RowCopied::Refused(reading::number(answer));
         };
         buffer[i as usize] = value;
+        held = read.held;
         i += 1;
     }
     RowCopied::Bytes(len)

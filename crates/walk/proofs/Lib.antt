@@ -1,2 +1,4 @@
 pub mod StepLaws
 pub mod WalkLaws
+pub mod EndLaws
+pub mod HeldLaws

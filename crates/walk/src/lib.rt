@@ -1,5 +1,6 @@
 // The walk down the path of a place. The step for a kept block and the step for a pointing block call each other: twice the
 // levels left, plus one if a pointer may still be followed, falls.
+pub mod held;
 pub mod step;
 
 use crate::step::Next;
