@@ -3,6 +3,9 @@
 mod ask;
 mod wrong;
 
+ghost use Prim.Native.Nat.{_≤_};
+ghost use lib.ListN.{length};
+
 // Room for the lines.
 fn input_room() -> [u8; 262144] {
     [0; 262144]
@@ -40,7 +43,9 @@ fn run(lines: &[u8], bytes: &mut [u8], lent: &mut [u8]) {
 }
 
 // Copies the line that starts at `at`, and answers it.
-fn answer(lines: &[u8], at: usize, bytes: &mut [u8], lent: &mut [u8]) {
+fn answer(lines: &[u8], at: usize, bytes: &mut [u8], lent: &mut [u8])
+    requires { ⌜ at ≤ length (now lines) ⌝ }
+{
     let line = tokens::until(lines, at, 10);
     io::write_all(1, line);
     ask::line(&lines[..at], line, bytes, lent);

@@ -27,7 +27,7 @@ pub fn check(tree: &[u8]) {
 pub fn list(tree: &[u8]) {
     let mut out = [0u8; 512];
     let n = lister::list(tree, &mut out);
-    say::lines(&mut out, n);
+    say::lines(&out[..n]);
 }
 
 pub fn byte(tree: &[u8], at: u32) {

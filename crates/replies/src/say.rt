@@ -1,6 +1,4 @@
 // What is printed of an answer.
-ghost use Prim.Native.Nat.{_≤_};
-ghost use lib.ListN.{length};
 
 // A question's number.
 pub fn number(number: u32) {
@@ -45,17 +43,21 @@ fn wide(byte: u8) -> u64 {
     byte as u64
 }
 
-// The first n bytes, each newline written as `/`.
-pub fn lines(out: &mut [u8], n: usize)
-    requires { ⌜ n ≤ length (now out) ⌝ }
-{
+// Lines, each newline written as `/`.
+pub fn lines(bytes: &[u8]) {
+    io::write_all(1, b" => ");
     let mut i: usize = 0;
-    while i < n {
-        if out[i] == 10 {
-            out[i] = 47;
-        }
+    while i < bytes.len() {
+        slashed(bytes[i]);
         i += 1;
     }
-    io::write_all(1, b" => ");
-    io::write_all(1, &out[..n]);
+}
+
+fn slashed(byte: u8) {
+    if byte == 10 {
+        io::write_all(1, b"/");
+    } else {
+        let one = [byte];
+        io::write_all(1, &one);
+    }
 }

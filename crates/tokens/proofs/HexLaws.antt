@@ -15,6 +15,7 @@ use Rattle.text.specs.ListLaws.{bool-clash, allBelow-at, allBelow-not, and-both
 use Rattle.tokens.specs.Hex.{digitOf, byteOf, byteAt, allHex, hexBytes, hexOf, madeSize}
 use Rattle.tokens.specs.declared.hexadecimal.Fault.the-variants as Fault
 use Rattle.tokens.specs.declared.hexadecimal.Made.the-variants as Made
+use Rattle.tokens.specs.declared.hexadecimal.Made as made
 
 module _ (word : List ℕ) (i high low : ℕ) (h : high ≡ digitOf (getD word (2 * i) 0)) (l : low ≡ digitOf (getD word (2 * i + 1) 0)) where
   pub byte-none : 15 < low → 256 ≡ byteAt word i
@@ -118,3 +119,6 @@ module _ (word : List ℕ) (room : ℕ) where
   hex-all =
       rw (length-tabulate (length word / 2) (byteAt word))
       (sizes (sameList word dash) (eqb (length word % 2) 0) (eqb (length word) 0) (allHex word) (ltb room (length word / 2)) (length word / 2) (length word / 2) (λ _. omega arith))
+
+  pub hex-inside : (r : made.Made) (n : ℕ) → r ≡ hexOf word room → r ≡ Made.Bytes n → n ≤ room
+  hex-inside r n a e = rw (sym a ∙ e) at hex-within
