@@ -1,0 +1,153 @@
+// What a line asks, put to the library.
+use crate::wrong;
+use script::Gift;
+use script::Question;
+use tokens::hexadecimal::Fault;
+use tokens::hexadecimal::Made;
+
+// Answers a line; the script has the lines before it.
+pub fn line(script: &[u8], line: &[u8], bytes: &mut [u8], lent: &mut [u8]) {
+    if script::is_comment(line) {
+        return;
+    }
+    if script::gives_bytes(line) {
+        give(script, line, bytes);
+        return;
+    }
+    let question = script::question_of(line);
+    match question {
+        Question::Nothing => wrong::say(b"no such word"),
+        Question::Build => build(script, line, bytes, lent),
+        _ => of_tree(script, line, question, bytes, lent),
+    }
+}
+
+// How many tokens a line has that gives bytes a name.
+fn gift_length(gift: Gift) -> u32 {
+    match gift {
+        Gift::Text | Gift::Tree => 3,
+        _ => 4,
+    }
+}
+
+// Tries a line that gives bytes a name.
+fn give(script: &[u8], line: &[u8], bytes: &mut [u8]) {
+    if tokens::ends(line, gift_length(script::gift_of(line))) {
+        wrong::made(script::make(script, line, bytes));
+    } else {
+        wrong::fault(Fault::Number);
+    }
+}
+
+// Whether the tokens from `from` up to, not including, `to` are numbers and the last ones.
+fn numbers(line: &[u8], from: u32, to: u32) -> bool {
+    if tokens::ends(line, to) {
+        return tokens::figures(line, from, to);
+    }
+    false
+}
+
+// How many tokens a question to a tree has.
+fn length(question: Question) -> u32 {
+    match question {
+        Question::Byte | Question::Run => 3,
+        Question::Count | Question::Find | Question::Row => 4,
+        Question::Span => 5,
+        _ => 2,
+    }
+}
+
+// The length of the buffer that a question to a tree lends: its last token.
+fn lent_length(question: Question, line: &[u8]) -> usize {
+    match question {
+        Question::Span => tokens::figure(line, 4) as usize,
+        Question::Row => tokens::figure(line, 3) as usize,
+        _ => 0,
+    }
+}
+
+// A question to a tree.
+fn of_tree(script: &[u8], line: &[u8], question: Question, bytes: &mut [u8], lent: &mut [u8]) {
+    if !numbers(line, 2, length(question)) {
+        wrong::fault(Fault::Number);
+        return;
+    }
+    let size = lent_length(question, line);
+    if lent.len() < size {
+        wrong::fault(Fault::Room);
+        return;
+    }
+    let made = script::named(script, tokens::token(line, 1), bytes);
+    match made {
+        Made::Bytes(n) => put(question, &bytes[..n], line, &mut lent[..size]),
+        Made::Wrong(f) => wrong::fault(f),
+    }
+}
+
+// Puts a question to a tree; the lent buffer holds 238 in every byte.
+fn put(question: Question, tree: &[u8], line: &[u8], lent: &mut [u8]) {
+    script::fill(lent, 238);
+    let a = tokens::figure(line, 2);
+    match question {
+        Question::Check => replies::check(tree),
+        Question::List => replies::list(tree),
+        Question::Byte => replies::byte(tree, a),
+        Question::Run => replies::run(tree, a),
+        Question::Span => replies::span(tree, a, tokens::figure(line, 3), lent),
+        Question::Row => replies::row(tree, a, lent),
+        _ => on_byte(question, tree, a, tokens::figure(line, 3)),
+    }
+}
+
+// A question on a counted byte.
+fn on_byte(question: Question, tree: &[u8], byte: u32, number: u32) {
+    if 255 < byte {
+        wrong::fault(Fault::Number);
+        return;
+    }
+    match question {
+        Question::Count => replies::count(tree, byte as u8, number),
+        _ => replies::find(tree, byte as u8, number),
+    }
+}
+
+// Build: a text, three settings, the counted bytes, and the length of the lent buffer.
+fn build(script: &[u8], line: &[u8], bytes: &mut [u8], lent: &mut [u8]) {
+    if !tokens::figures(line, 2, 5) {
+        wrong::fault(Fault::Number);
+        return;
+    }
+    if !numbers(line, 6, 7) {
+        wrong::fault(Fault::Number);
+        return;
+    }
+    let size = tokens::figure(line, 6) as usize;
+    if lent.len() < size {
+        wrong::fault(Fault::Room);
+        return;
+    }
+    let made = script::named(script, tokens::token(line, 1), bytes);
+    match made {
+        Made::Bytes(n) => build_of(&bytes[..n], line, &mut lent[..size]),
+        Made::Wrong(f) => wrong::fault(f),
+    }
+}
+
+// The same of the text.
+fn build_of(text: &[u8], line: &[u8], lent: &mut [u8]) {
+    let mut counted = [0u8; 256];
+    let made = tokens::hex(tokens::token(line, 5), &mut counted);
+    match made {
+        Made::Bytes(n) => build_counting(text, line, &counted[..n], lent),
+        Made::Wrong(f) => wrong::fault(f),
+    }
+}
+
+// The same with the counted bytes.
+fn build_counting(text: &[u8], line: &[u8], counted: &[u8], lent: &mut [u8]) {
+    script::fill(lent, 238);
+    let leaf = tokens::figure(line, 2);
+    let arity = tokens::figure(line, 3);
+    let levels = tokens::figure(line, 4);
+    replies::build(text, leaf, arity, levels, counted, lent);
+}

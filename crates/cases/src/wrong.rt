@@ -1,0 +1,27 @@
+// What is printed of a line that is wrong.
+use tokens::hexadecimal::Fault;
+use tokens::hexadecimal::Made;
+
+// What is wrong with a line, in words.
+pub fn say(words: &[u8]) {
+    io::write_all(1, b" => wrong: ");
+    io::write_all(1, words);
+}
+
+// What is wrong where a line gives no bytes.
+pub fn fault(fault: Fault) {
+    match fault {
+        Fault::Name => say(b"no text or tree has this name"),
+        Fault::Number => say(b"a number is missing or wrong, or there is more"),
+        Fault::Hex => say(b"bytes are missing or not in hexadecimal"),
+        Fault::Room => say(b"no room for so many bytes"),
+    }
+}
+
+// Nothing where a line gives bytes.
+pub fn made(made: Made) {
+    match made {
+        Made::Bytes(_) => {}
+        Made::Wrong(f) => fault(f),
+    }
+}

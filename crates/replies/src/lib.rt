@@ -1,0 +1,82 @@
+// The library's answers, printed in the format of the cases: ` => `, the number of the question that refuses or 0, the figures, and what
+// a lent buffer holds, in hexadecimal.
+mod say;
+
+use layout::place::TextPlace;
+use query::Answer;
+use query::Copied;
+use query::Counted;
+use query::Found;
+use query::RowCopied;
+use tree::Built;
+
+// Build, into a lent buffer.
+pub fn build(text: &[u8], leaf: u32, arity: u32, levels: u32, counted: &[u8], out: &mut [u8]) {
+    let answer = tree::build(text, leaf, arity, levels, counted, out);
+    match answer {
+        Built::Size(n) => say::buffer(0, n as u64, out),
+        Built::Refused(number) => say::buffer(number, 0, out),
+    }
+}
+
+pub fn check(tree: &[u8]) {
+    say::number(tree::check(tree));
+}
+
+// What the list program prints.
+pub fn list(tree: &[u8]) {
+    let mut out = [0u8; 512];
+    let n = lister::list(tree, &mut out);
+    say::lines(&out[..n]);
+}
+
+pub fn byte(tree: &[u8], at: u32) {
+    let answer = query::byte(tree, TextPlace(at));
+    match answer {
+        Answer::Byte(value, entered) => say::three(0, value as u64, entered as u64),
+        Answer::Refused(number) => say::three(number, 0, 0),
+    }
+}
+
+// Where the run is in the tree's bytes; its number is byte's.
+pub fn run(tree: &[u8], at: u32) {
+    let part = query::run_part(tree, TextPlace(at));
+    let answer = query::byte(tree, TextPlace(at));
+    match answer {
+        Answer::Byte(_, _) => say::three(0, part.from as u64, part.length as u64),
+        Answer::Refused(number) => say::three(number, part.from as u64, part.length as u64),
+    }
+}
+
+pub fn count(tree: &[u8], byte: u8, i: u32) {
+    let answer = query::count(tree, byte, i);
+    match answer {
+        Counted::Times(times, entered) => say::three(0, times, entered as u64),
+        Counted::Refused(number) => say::three(number, 0, 0),
+    }
+}
+
+pub fn find(tree: &[u8], byte: u8, j: u32) {
+    let answer = query::find(tree, byte, j);
+    match answer {
+        Found::At(place, entered) => say::three(0, place.0 as u64, entered as u64),
+        Found::Refused(number) => say::three(number, 0, 0),
+    }
+}
+
+// A span's figure is 0.
+pub fn span(tree: &[u8], at: u32, len: u32, buffer: &mut [u8]) {
+    let answer = query::span(tree, TextPlace(at), len, buffer);
+    match answer {
+        Copied::Bytes(_) => say::buffer(0, 0, buffer),
+        Copied::Refused(number) => say::buffer(number, 0, buffer),
+    }
+}
+
+pub fn row(tree: &[u8], q: u32, buffer: &mut [u8]) {
+    let answer = query::row(tree, q, buffer);
+    match answer {
+        RowCopied::Bytes(copied) => say::buffer(0, copied as u64, buffer),
+        RowCopied::Refused(number) => say::buffer(number, 0, buffer),
+    }
+}

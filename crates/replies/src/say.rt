@@ -1,0 +1,63 @@
+// What is printed of an answer.
+
+// A question's number.
+pub fn number(number: u32) {
+    io::write_all(1, b" => ");
+    io::print_decimal(1, number as u64);
+}
+
+// A figure.
+fn figure(figure: u64) {
+    io::write_all(1, b" ");
+    io::print_decimal(1, figure);
+}
+
+// A number and two figures.
+pub fn three(n: u32, a: u64, b: u64) {
+    number(n);
+    figure(a);
+    figure(b);
+}
+
+// A number, a figure, and what a lent buffer holds.
+pub fn buffer(n: u32, a: u64, bytes: &[u8]) {
+    number(n);
+    figure(a);
+    io::write_all(1, b" ");
+    if bytes.len() == 0 {
+        io::write_all(1, b"-");
+    }
+    hex(bytes);
+}
+
+// Bytes in hexadecimal.
+fn hex(bytes: &[u8]) {
+    let mut i: usize = 0;
+    while i < bytes.len() {
+        io::print_hex(1, wide(bytes[i]), 2);
+        i += 1;
+    }
+}
+
+fn wide(byte: u8) -> u64 {
+    byte as u64
+}
+
+// Lines, each newline written as `/`.
+pub fn lines(bytes: &[u8]) {
+    io::write_all(1, b" => ");
+    let mut i: usize = 0;
+    while i < bytes.len() {
+        slashed(bytes[i]);
+        i += 1;
+    }
+}
+
+fn slashed(byte: u8) {
+    if byte == 10 {
+        io::write_all(1, b"/");
+    } else {
+        let one = [byte];
+        io::write_all(1, &one);
+    }
+}

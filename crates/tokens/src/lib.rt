@@ -1,0 +1,12 @@
+// Lines of text cut into tokens, and what a token says: a number, or bytes in hexadecimal.
+pub mod decimal;
+pub mod hexadecimal;
+pub mod parts;
+
+pub use decimal::figure;
+pub use decimal::figures;
+pub use hexadecimal::hex;
+pub use parts::ends;
+pub use parts::past;
+pub use parts::token;
+pub use parts::until;
