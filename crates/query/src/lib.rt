@@ -4,7 +4,6 @@ pub use access::Answer;
 pub use access::Copied;
 pub use access::byte;
 pub use access::run;
-pub use access::run_part;
 pub use access::span;
 pub use rank::Counted;
 pub use rank::count;

@@ -2,6 +2,7 @@
 // a lent buffer holds, in hexadecimal.
 mod say;
 
+use access::reading::Ran;
 use layout::place::TextPlace;
 use query::Answer;
 use query::Copied;
@@ -38,13 +39,12 @@ pub fn byte(tree: &[u8], at: u32) {
     }
 }
 
-// Where the run is in the tree's bytes; its number is byte's.
+// Where the run is in the tree's bytes, and its length.
 pub fn run(tree: &[u8], at: u32) {
-    let part = query::run_part(tree, TextPlace(at));
-    let answer = query::byte(tree, TextPlace(at));
-    match answer {
-        Answer::Byte(_, _) => say::three(0, part.from as u64, part.length as u64),
-        Answer::Refused(number) => say::three(number, part.from as u64, part.length as u64),
+    let ran = access::run_part(tree, TextPlace(at));
+    match ran {
+        Ran::At(part) => say::three(0, part.from as u64, part.length as u64),
+        Ran::Refused(number) => say::three(number, 0, 0),
     }
 }
 
