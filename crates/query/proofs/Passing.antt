@@ -1,14 +1,14 @@
 -- What is known of any bytes lent as a tree where no question refuses.
 use mathlib.Core.List.{List}
-use mathlib.Core.Bool.{Bool, true, false, cond, _&&_}
+use mathlib.Core.Bool.{Bool, true, false, cond}
 use mathlib.Core.Option.{Option, none, some}
 use mathlib.Core.Path.{_≡_, refl, sym, _∙_}
 use mathlib.Core.Logic.{_⊎_, inl, inr}
-use Prim.Native.Nat.{ℕ, zero, suc, _+_, _-_, _≤_, _<_}
+use Prim.Native.Nat.{ℕ, _+_, _-_, _≤_, _<_}
 use native.Mathlib.Omega.{arith}
 use lib.ListN.{length}
 use lib.Dec.{ltb, leb, eqb}
-use borrow.Author.Tests.{eqb-true, ltb-true, leb-true, le-leb}
+use borrow.Author.Tests.{eqb-true, ltb-true, leb-true}
 use Rattle.text.specs.Text.{countIn}
 use Rattle.format.specs.Settings.{Settings, lengthOk, sizesOk, countedOk}
 use Rattle.format.specs.Blocks.{treeOf}

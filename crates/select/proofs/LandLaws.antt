@@ -41,7 +41,7 @@ use Rattle.select.specs.declared.seek.Child.{Child}
 use Rattle.select.specs.declared.seek.Child.the-variants as child
 use Rattle.select.specs.declared.seek.Target.{Target}
 use Rattle.select.specs.declared.seek.Target.the-variants as target
-use Rattle.select.specs.Scans.{Stands}
+use Rattle.stretches.specs.Stretches.{Stands}
 use Rattle.select.specs.Seeks.{moved, Near, restIn, KeptIn, PointsIn, Siblings, LastBefore, picked, Chosen, ChildWith, Aimed, targetAt, TargetWith, Seeking, Landed, FoundIn}
 
 -- What a pick says.
