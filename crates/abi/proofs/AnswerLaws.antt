@@ -3,11 +3,12 @@ use mathlib.Core.List.{List}
 use mathlib.Core.Option.{Option, none, some}
 use mathlib.Core.Bool.{Bool, true, false, cond}
 use mathlib.Core.Path.{_≡_, refl, sym, ap, _∙_}
-use Prim.Native.Nat.{ℕ, zero, suc, _-_, _≤_, min}
+use Prim.Native.Nat.{ℕ, _-_, _≤_, min}
 use native.Mathlib.Omega.{arith}
 use borrow.Author.Tests.{eqb-true}
 use lib.Dec.{eqb}
-use Rattle.format.specs.Said.{Said, unless}
+use Rattle.format.specs.Said.{Said}
+use Rattle.format.specs.SaidLaws.{unless-passes, unless-number}
 use Rattle.format.specs.Layout as at
 use Rattle.format.specs.Path.{Path, pathOf}
 use Rattle.format.specs.Verdict.{readable}
@@ -53,13 +54,9 @@ module _ (r : Answer) (s : Said) (is : said r ≡ s) where
 
 -- run: no longer than the longest text
 
-unless-zero : (n : ℕ) (s : Said) → unless n s .number ≡ 0 → n ≡ 0
-unless-zero zero s e = refl
-unless-zero (suc n) s e = e
-
 byte-readable : (t : List ℕ) (p : ℕ) → byteSays t p .number ≡ 0 → readable t ≡ 0
 unfolding byteSays
-byte-readable t p e = unless-zero (readable t) _ e
+byte-readable t p e = unless-passes (readable t) _ e .0
 
 path-short : (t : List ℕ) (p : ℕ) (o : Option Path) → runOf t p o .1 ≤ at.textLength t
 path-short t p none = omega arith
@@ -77,14 +74,10 @@ run-short t p =
 
 -- span
 
-unless-number : (n value entered : ℕ) → unless n (saying 0 value entered) .number ≡ n
-unless-number zero value entered = refl
-unless-number (suc n) value entered = refl
-
 module _ (t : List ℕ) (p len room : ℕ) (r : Copied) (k : SpanAnswer t p len room r) where
   span-number : copiedSaid r .number ≡ spanNumber t p len room
   unfolding spanSays
-  span-number = ap (λ (s : Said). s .number) (k .says) ∙ unless-number (spanNumber t p len room) len 0
+  span-number = ap (λ (s : Said). s .number) (k .says) ∙ unless-number (spanNumber t p len room) (saying 0 len 0) refl
 
   pub span-told : (n : ℕ) → r ≡ copied.Bytes n → 0 ≡ spanNumber t p len room
   span-told n e = sym (ap (λ (x : Copied). copiedSaid x .number) e) ∙ span-number

@@ -11,7 +11,8 @@ use Rattle.format.specs.Layout as at
 use Rattle.format.specs.Path.{Path, Visit, pathOf}
 use Rattle.format.specs.Verdict.{readable}
 use Rattle.format.specs.HeaderLaws.{leaf-inside}
-use Rattle.format.specs.Said.{Said, refused, unless}
+use Rattle.format.specs.Said.{Said, refused}
+use Rattle.format.specs.SaidLaws.{unless-refused}
 use Rattle.format.specs.Reading.{byteSays, leftOver, runSays}
 use Rattle.paths.specs.Visits.{goes, goes-long}
 use Rattle.layout.specs.declared.header.Header.{Header}
@@ -54,10 +55,7 @@ module _ (t : List ℕ) (q : Path) where
       → left ≡ min carried (count - leaf) → left ≡ leftOver t (q .visits) (min rest (at.leafCount t - q .leaf))
   same-left most rest leaf count carried left m l c d e = rw (left-min t (q .visits) rest (at.leafCount t - q .leaf), e, d, m, l, c)
 
--- a number other than 0 is the answer, and there is no run
-unless-refused : (n k q : ℕ) (a : Said) → n ≡ suc k → q ≡ suc k → refused q ≡ unless n a
-unless-refused n k q a e f = rw (e, f)
-
+-- a number other than 0 has no run
 run-none : (t : List ℕ) (p k q : ℕ) → q ≡ suc k → refused q ≡ byteSays t p → RunAnswer t p (ran.Refused q)
 unfolding runSays
 run-none t p k q q-is e =

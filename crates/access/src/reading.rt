@@ -8,8 +8,7 @@ use walk::Walked;
 use walk::held;
 ghost use mathlib.Core.Path.{_≡_};
 ghost use Prim.Native.Nat.{_+_, _≤_, _<_};
-ghost use mathlib.Core.List.{_++_};
-ghost use lib.ListN.{length, drop, replicate};
+ghost use lib.ListN.{length};
 ghost use Rattle.format.specs.Reading.{byteSays, spanLeaves};
 ghost use Rattle.layout.specs.HeaderSays.{HeaderOf};
 ghost use Rattle.walk.specs.Held.{Held};
@@ -76,7 +75,7 @@ pub fn part_at(t: &[u8], h: Header, at: TextPlace) -> Ran
     let Walked::At(reached) = walked else {
         return Ran::Refused(14);
     };
-    let left = walk::shorter(reached.trail.left, h.leaf_count - reached.leaf);
+    let left = stretches::shorter(reached.trail.left, h.leaf_count - reached.leaf);
     Ran::At(Part {
         from: h.leaf_offset as usize + reached.leaf as usize,
         length: left as usize,
@@ -111,7 +110,7 @@ fn copy(t: &[u8], h: Header, at: TextPlace, len: u32, buffer: &mut [u8]) -> Copi
         let read = next_byte(t, h, TextPlace(at.0 + i), held);
         let answer = read.answer;
         let Answer::Byte(value, _) = answer else {
-            clear(buffer, len as usize);
+            stretches::clear(buffer, len as usize);
             return Copied::Refused(number(answer));
         };
         buffer[i as usize] = value;
@@ -128,17 +127,5 @@ pub fn number(answer: Answer) -> u32
     match answer {
         Answer::Byte(_, _) => 0,
         Answer::Refused(number) => number,
-    }
-}
-
-// Writes zeros into the first n bytes.
-pub fn clear(buffer: &mut [u8], n: usize)
-    requires { ⌜ n ≤ length (now buffer) ⌝ }
-    ensures { λ _. ⌜ now (buffer .exit) ≡ replicate n 0 ++ drop n (now (buffer .entry)) ⌝ }
-{
-    let mut i: usize = 0;
-    while i < n {
-        buffer[i] = 0;
-        i += 1;
     }
 }

@@ -1,10 +1,11 @@
 -- What build answers, case by case.
-use mathlib.Core.List.{List, _++_}
+use mathlib.Core.List.{List, _++_, append-nil}
 use mathlib.Core.Bool.{Bool, true, false, cond}
 use mathlib.Core.Path.{_≡_, refl, sym, ap, _∙_, subst}
 use Prim.Native.Nat.{ℕ, _≤_, _<_}
 use native.Mathlib.Omega.{arith}
 use lib.ListN.{length, drop, replicate}
+use lib.Seq.{drop-length}
 use lib.Dec.{eqb}
 use borrow.Author.Tests.{le-leb, lt-leb}
 use Rattle.format.specs.Settings.{Settings, lengthOk, sizesOk, countedOk}
@@ -65,8 +66,8 @@ module _ (S : Settings) (T out : List ℕ) where
 
     -- what the writing of the tree came to
     module _ (new : List ℕ) (g : Grown D out new) (r : ℕ) (f : Finished D new r) where
-      pub told-full : r ≡ 0 → (last : List ℕ) → last ≡ replicate (length new) 0 → Told S T out (Not 4) last
-      told-full z last e = full (finished-full S T h out new g r f z) last (e ∙ ap (λ (k : ℕ). replicate k 0) (g .same-length))
+      pub told-full : r ≡ 0 → (last : List ℕ) → last ≡ replicate (length new) 0 ++ drop (length new) new → Told S T out (Not 4) last
+      told-full z last e = full (finished-full S T h out new g r f z) last (e ∙ rw (drop-length new) (append-nil (replicate (length new) 0)) ∙ ap (λ (k : ℕ). replicate k 0) (g .same-length))
 
       pub told-size : (r ≡ 0 → ⊥) → Told S T out (Size r) new
       told-size n =

@@ -4,7 +4,6 @@ mod tree;
 
 use layout::settings::Checked;
 use layout::settings::Settings;
-use levels::bytes;
 ghost use mathlib.Core.Path.{_≡_};
 ghost use Rattle.format.specs.Building.{buildNumber, buildSize, buildLeaves};
 ghost use Rattle.built.specs.Sizes.{Taken};
@@ -53,7 +52,8 @@ fn build_with(text: &[u8], counted: &[u8], s: Settings, out: &mut [u8]) -> Built
 {
     let size = tree::write_tree(out, text, counted, s);
     if size == 0 {
-        bytes::clear(out);
+        let all = out.len();
+        stretches::clear(out, all);
         return Built::Refused(4);
     }
     Built::Size(size)

@@ -1,13 +1,14 @@
 -- Every number that the built tree holds is below 2^32.
-use mathlib.Core.List.{List, [], _∷_}
+use mathlib.Core.List.{List}
 use mathlib.Core.Bool.{Bool, true, false, cond}
 use Prim.Native.Nat.{ℕ, zero, suc, _+_, _*_, _≤_, _<_}
 use native.Mathlib.Omega.{arith}
 use native.Mathlib.Nat.{mul-le-mul}
 use lib.ListN.{length, drop, length-take, length-drop}
-use lib.Dec.{eqb, leb}
+use lib.Dec.{leb}
 use Rattle.text.specs.Lists.{sumBelow, countBelow}
 use Rattle.text.specs.Text.{stretch, countIn}
+use Rattle.text.specs.CountLaws as text
 use Rattle.format.specs.Settings.{Settings}
 use Rattle.format.specs.Blocks.{target, recordBytes}
 use Rattle.built.specs.Gather.{sumBelow-bound}
@@ -19,15 +20,6 @@ use Rattle.built.specs.Targets.{placeOf, targetOf, placeOf-is}
 use Rattle.built.specs.Leaves.{widths-le}
 use Rattle.built.specs.Pairs.{offset}
 use Rattle.built.specs.Records.{kindOf, linkOf, gapOf, beforeOf, insideOf, skipOf}
-
-countIn-le : (c : ℕ) (xs : List ℕ) → countIn c xs ≤ length xs
-unfolding countIn
-countIn-le c [] = omega arith
-countIn-le c (x ∷ xs) = go (eqb c x) (countIn-le c xs)
-  where
-    go : (y : Bool) → countIn c xs ≤ length xs → cond y (countIn c xs + 1) (countIn c xs) ≤ suc (length xs)
-    go true h = omega arith
-    go false h = omega arith
 
 stretch-le : (T : List ℕ) (p len : ℕ) → length (stretch T p len) ≤ length T
 unfolding stretch
@@ -48,7 +40,7 @@ cond-le false a b n p q = q
 
 module _ (S : Settings) (T : List ℕ) where
   counted-le : (c p len : ℕ) → countIn c (stretch T p len) ≤ length T
-  counted-le c p len = omega (arith, countIn-le c (stretch T p len), stretch-le T p len)
+  counted-le c p len = omega (arith, text.count-le c (stretch T p len), stretch-le T p len)
 
   target-le : (l i : ℕ) → targetOf S T l i ≤ count S T l
   unfolding target

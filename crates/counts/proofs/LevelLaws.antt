@@ -3,7 +3,7 @@ use mathlib.Core.List.{List}
 use mathlib.Core.Bool.{true, false}
 use mathlib.Core.Path.{_≡_, sym, _∙_}
 use mathlib.Core.Logic.{_⊎_, inl, inr}
-use Prim.Native.Nat.{ℕ, zero, suc, _-_, _*_, _^_, _≤_, _<_}
+use Prim.Native.Nat.{ℕ, zero, suc, _-_, _≤_, _<_}
 use native.Mathlib.Omega.{arith}
 use native.Mathlib.Nat.{pos-of-ne-zero}
 use borrow.Author.Tests.{ne-eqb}
@@ -13,7 +13,6 @@ use Rattle.format.specs.Settings.{blockLength}
 use Rattle.format.specs.Layout as at
 use Rattle.format.specs.Fits.{textOf, countsTrue}
 use Rattle.layout.specs.declared.header.Header.{Header}
-use Rattle.layout.specs.Settings.{Sized}
 use Rattle.tallies.specs.Local.{upLength, blockLocal, levelLocal}
 use Rattle.tallies.specs.Level.{Level, counts-facts, counts-make}
 use Rattle.tallies.specs.Exact.{level-true, level-local}
@@ -24,25 +23,6 @@ use Rattle.counts.proofs.HeaderFacts as facts
 module _ (t : List ℕ) (h : Header) (w : Linking t h) where
   pub counted-low : (c : ℕ) → c < h .settings .counted → c < at.countedCount t
   counted-low c l = omega (arith, facts.counted-is t h w)
-
-  -- what block_length asks, and what it gives
-  pub sized : (level : ℕ) → level < at.settings t .levels → Sized (h .settings) level
-  sized level l =
-      let k = w .header .facts in
-      let e₁ = facts.leaf-is t h w in
-      let e₂ = facts.arity-is t h w in
-      let e₃ = facts.levels-is t h w in record {
-        leaf-high = rw e₁ (k .leaf-high);
-        arity-low = rw e₂ (k .arity-low);
-        arity-high = rw e₂ (k .arity-high);
-        levels-high = rw e₃ (k .levels-high);
-        level-in = rw e₃ l;
-        block-high = rw (e₁, e₂, e₃) (k .top-high);
-      }
-
-  pub full-is : (level b : ℕ) → b ≡ h .settings .leaf * h .settings .arity ^ (h .settings .levels - 1 - level) → b ≡ at.fullLength t level
-  unfolding at.fullLength blockLength
-  full-is level b e = e ∙ rw (facts.leaf-is t h w, facts.arity-is t h w, facts.levels-is t h w)
 
   up-top : upFrom h 0 ≡ upLength t 0
   unfolding upFrom upLength

@@ -7,7 +7,6 @@ use native.Mathlib.Omega.{arith}
 use borrow.Author.Tests.{lt-ltb, le-ltb}
 use lib.ListN.{length, getD}
 use Rattle.text.specs.Text.{stretch, countIn}
-use Rattle.text.specs.CountLaws.{count-next-same, count-next-other}
 use Rattle.format.specs.Layout as at
 use Rattle.format.specs.HeaderLaws.{Readable, full-pos, full-small}
 use Rattle.paths.specs.Links.{Linked, Pointing}
@@ -25,16 +24,6 @@ use Rattle.counts.specs.declared.walk.Hand.{Hand}
 use Rattle.counts.specs.Asked.{Linking, InTable, InBlock, InKept}
 use Rattle.counts.specs.Hand.{handOf, stepOf}
 use Rattle.counts.proofs.HeaderFacts as facts
-
--- Counting bytes.
-
-pub one-more : (t : List ℕ) (from n byte count i m : ℕ) → from + n ≤ length t → i < n → count ≡ countIn byte (stretch t from i) → getD t (from + i) 0 ≡ byte → m ≡ count + 1
-    → m ≡ countIn byte (stretch t from (i + 1))
-one-more t from n byte count i m fits h e same up = omega (arith, count-next-same byte t from i (omega arith) same)
-
-pub no-more : (t : List ℕ) (from n byte count i m : ℕ) → from + n ≤ length t → i < n → count ≡ countIn byte (stretch t from i) → (getD t (from + i) 0 ≡ byte → ⊥) → m ≡ count
-    → m ≡ countIn byte (stretch t from (i + 1))
-no-more t from n byte count i m fits h e other up = omega (arith, count-next-other byte t from i (omega arith) other)
 
 -- Handing a place on.
 

@@ -5,8 +5,6 @@ use layout::place::BlockPlace;
 use layout::record;
 ghost use mathlib.Core.Path.{_≡_};
 ghost use Prim.Native.Nat.{_+_, _-_, _≤_, _<_};
-ghost use lib.ListN.{length};
-ghost use Rattle.text.specs.Text.{stretch, countIn};
 ghost use Rattle.format.specs.Layout as at;
 ghost use Rattle.tallies.specs.Local.{inLeaves, upTo};
 ghost use Rattle.counts.specs.Asked.{InTable, InBlock, InKept};
@@ -20,22 +18,6 @@ pub struct Hand {
     pub minus: u64,
 }
 
-// How often a byte stands in the n bytes from a place of any lent bytes.
-fn count_bytes(t: &[u8], from: usize, n: usize, byte: u8) -> u64
-    requires { ⌜ from + n ≤ length (now t) ⌝ }
-    ensures { λ r. ⌜ (r ≡ countIn byte (stretch (now (t .entry)) from n)) × (r ≤ n) ⌝ }
-{
-    let mut count: u64 = 0;
-    let mut i: usize = 0;
-    while i < n {
-        if t[from + i] == byte {
-            count += 1;
-        }
-        i += 1;
-    }
-    count
-}
-
 // How often counted byte number c stands in the first n leaf bytes of a last-level block.
 pub fn in_leaves(t: &[u8], h: Header, level: u32, block: BlockNumber, n: u32, c: u32) -> u64
     requires { ⌜ (InTable (now t) h level (block .0) c) × (level + 1 ≡ at.settings (now t) .levels) × (n ≤ at.blockLengthAt (now t) level (block .0)) ⌝ }
@@ -44,7 +26,7 @@ pub fn in_leaves(t: &[u8], h: Header, level: u32, block: BlockNumber, n: u32, c:
     let link = record::link(t, h.settings.counted, level, block);
     let from = h.leaf_offset as usize + link as usize;
     let byte = t[24 + c as usize];
-    count_bytes(t, from, n as usize, byte)
+    stretches::count_in(t, from, n, byte) as u64
 }
 
 // A kept block answers for its own places; a pointing block hands a place to its first target, or past that one's end to the second.

@@ -12,8 +12,10 @@ pub mod Verdict
 pub mod HeaderLaws
 pub mod VerdictLaws
 pub mod Said
+pub mod SaidLaws
 pub mod Building
 pub mod Reading
 pub mod Counting
 pub mod Finding
+pub mod FindingLaws
 pub mod Worked

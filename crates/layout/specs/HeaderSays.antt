@@ -2,14 +2,16 @@
 use mathlib.Core.List.{List}
 use mathlib.Core.Bool.{Bool, true, false}
 use mathlib.Core.Path.{_≡_, refl, sym, ap, _∙_}
-use Prim.Native.Nat.{ℕ, zero, suc, _≤_}
+use Prim.Native.Nat.{ℕ, zero, suc, _-_, _*_, _^_, _≤_, _<_}
 use native.Mathlib.Omega.{arith}
+use Rattle.format.specs.Settings.{blockLength}
 use Rattle.format.specs.Layout as at
 use Rattle.format.specs.Verdict.{ask, readable}
 use Rattle.format.specs.HeaderLaws.{Readable, readable-facts}
 use Rattle.layout.specs.declared.header.Header.{Header}
 use Rattle.layout.specs.declared.header.HeaderRead.{HeaderRead}
 use Rattle.layout.specs.declared.header.HeaderRead.the-variants.{Good, Refused}
+use Rattle.layout.specs.Settings.{Sized}
 use Rattle.layout.specs.Header.{fieldsOf, goodUnless, headerSays}
 
 -- t passes questions 5 to 7, and h is its header
@@ -60,6 +62,22 @@ module _ (t : List ℕ) (x : HeaderRead) (is : x ≡ headerSays t) where
   pub header-refused : (q : ℕ) → x ≡ Refused q → (k : ℕ) × (readable t ≡ suc k) × (q ≡ suc k)
   unfolding headerSays
   header-refused q e = refused-cases (readable t) q (fieldsOf t) (sym e ∙ is)
+
+-- a header's settings are within their bounds, and give the length of a level's blocks
+module _ (t : List ℕ) (h : Header) (k : HeaderOf t h) where
+  pub sized : (level : ℕ) → level < h .settings .levels → Sized (h .settings) level
+  sized level l = record {
+    leaf-high = rw (k .leaf-is) (k .facts .leaf-high);
+    arity-low = rw (k .arity-is) (k .facts .arity-low);
+    arity-high = rw (k .arity-is) (k .facts .arity-high);
+    levels-high = rw (k .levels-is) (k .facts .levels-high);
+    level-in = l;
+    block-high = rw (k .leaf-is, k .arity-is, k .levels-is) (k .facts .top-high);
+  }
+
+  pub full-is : (level b : ℕ) → b ≡ h .settings .leaf * h .settings .arity ^ (h .settings .levels - 1 - level) → b ≡ at.fullLength t level
+  unfolding at.fullLength blockLength
+  full-is level b e = e ∙ rw (k .leaf-is, k .arity-is, k .levels-is)
 
 -- the number of a header that does not pass is at most 7
 ask-small : (a b c : Bool) → ask 5 a (ask 6 b (ask 7 c 0)) ≤ 7

@@ -16,7 +16,7 @@ use Rattle.built.specs.Pairs.{offset, word-count, word-offset, word-none, word-
 use Rattle.built.specs.Shape.{sixWords, countedPlaces, tree-length}
 use Rattle.records.specs.Growing.{Grown, Within}
 use Rattle.records.specs.Records.{putThree}
-use Rattle.levels.specs.Leaves.{bytesWritten}
+use Rattle.stretches.specs.Stretches.{bytesWritten}
 use Rattle.levels.specs.Head.{places, pairWritten, unusedWritten}
 use Rattle.records.proofs.Growth.{grown-none, grown-then, within-grown, within-part, within-join, within-none, word-grown, word-within, three-grown, three-within}
 use Rattle.levels.proofs.Leafs.{bytes-grown, bytes-within}

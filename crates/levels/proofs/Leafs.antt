@@ -4,7 +4,6 @@ use mathlib.Core.Path.{_≡_, sym, ap, _∙_}
 use mathlib.Core.Logic.{_⊎_, inl, inr}
 use Prim.Native.Nat.{ℕ, zero, suc, _+_, _-_, _≤_, _<_}
 use native.Mathlib.Omega.{arith}
-use native.Mathlib.Numerals.{add-one}
 use native.Mathlib.Decide.{ℕ-discrete}
 use lib.ListN.{length, getD, set, length-set}
 use lib.Seq.{getD-set-same, getD-set-other}
@@ -18,19 +17,15 @@ use Rattle.built.specs.Leaves.{width-last, leaf-count, leaf-at}
 use Rattle.built.specs.Pairs.{offset}
 use Rattle.built.specs.Shape.{leaf-place, tree-length}
 use Rattle.built.specs.Built.{tree-small}
+use Rattle.stretches.specs.Stretches.{bytesWritten}
 use Rattle.records.specs.declared.level.Level.{Level}
 use Rattle.records.specs.declared.level.Stretch.{Stretch}
 use Rattle.records.specs.Growing.{Grown, Within}
-use Rattle.levels.specs.Leaves.{bytesWritten, Leafing}
+use Rattle.levels.specs.Leaves.{Leafing}
 use Rattle.records.specs.State.{On, StretchIs}
 use Rattle.records.proofs.Growth.{grown-none, grown-then, within-grown, within-part, within-join}
 use Rattle.records.proofs.Reading.{on-written}
 use Rattle.records.proofs.StateLaws.{table-inside}
-
--- one byte more
-pub bytes-more : (t u v T : List ℕ) (to from j : ℕ) → u ≡ bytesWritten t to T from j → v ≡ set u (to + j) (getD T (from + j) 0)
-    → v ≡ bytesWritten t to T from (j + 1)
-bytes-more t u v T to from j e f = f ∙ rw (e, add-one j)
 
 module _ (D t : List ℕ) (i v : ℕ) (fits : i < length t) (inside : i < length D) (is : getD D i 0 ≡ v) where
   byte-right : getD (set t i v) i 0 ≡ getD D i 0

@@ -1,4 +1,3 @@
-pub mod Zeros
 pub mod Leafs
 pub mod Heads
 pub mod Beginning

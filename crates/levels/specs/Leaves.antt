@@ -1,8 +1,8 @@
--- Bytes copied one after the other, and the leaf bytes, block by block.
+-- The leaf bytes, block by block.
 use mathlib.Core.List.{List}
 use mathlib.Core.Path.{_≡_}
-use Prim.Native.Nat.{ℕ, zero, suc, _+_, _≤_}
-use lib.ListN.{length, getD, set}
+use Prim.Native.Nat.{ℕ, suc, _+_, _≤_}
+use lib.ListN.{length}
 use Rattle.text.specs.Lists.{sumBelow}
 use Rattle.format.specs.Settings.{Settings}
 use Rattle.format.specs.Blocks.{treeOf}
@@ -11,11 +11,6 @@ use Rattle.built.specs.Pairs.{offset}
 use Rattle.records.specs.declared.level.Level.{Level}
 use Rattle.records.specs.Growing.{Within}
 use Rattle.records.specs.State.{LevelIs}
-
--- n bytes of T from `from`, written from `to` on
-abbrev pub bytesWritten : List ℕ → ℕ → List ℕ → ℕ → ℕ → List ℕ
-bytesWritten t to T from zero = t
-bytesWritten t to T from (suc n) = set (bytesWritten t to T from n) (to + n) (getD T (from + n) 0)
 
 module _ (S : Settings) (T : List ℕ) where
   -- all records are written, and the leaf bytes before place `to`, those of the first i blocks of the last level

@@ -9,7 +9,7 @@ ghost use Rattle.format.specs.Words.{setWord};
 ghost use Rattle.format.specs.Blocks.{treeOf};
 ghost use Rattle.built.specs.Sizes.{Taken};
 ghost use Rattle.records.specs.Growing.{Grown, Within};
-ghost use Rattle.levels.specs.Leaves.{bytesWritten};
+ghost use Rattle.stretches.specs.Stretches.{bytesWritten};
 ghost use Rattle.levels.specs.Head.{places, pairWritten, unusedWritten};
 ghost use Rattle.records.specs.State.{settingsOf};
 

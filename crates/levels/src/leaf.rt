@@ -1,5 +1,4 @@
 // The leaf bytes: those of the last level's blocks, one block after the other.
-use crate::bytes;
 use records::level;
 use records::level::Level;
 ghost use mathlib.Core.Path.{_≡_};
@@ -19,7 +18,7 @@ fn put_leaf(out: &mut [u8], text: &[u8], counted: &[u8], level: Level, to: u32, 
     ensures { λ r. ⌜ Within (treeOf (settingsOf (level .settings) (now (counted .entry))) (now (text .entry))) (now (out .exit)) to (to + r) ⌝ }
 {
     let own = level::stretch_of(text, counted, out, level, i);
-    bytes::copy(
+    stretches::copy(
         out,
         to as usize,
         text,

@@ -1,5 +1,4 @@
 // From level to level: the header, level 0, the way down and the leaf bytes; everything of a tree but what its records say.
-pub mod bytes;
 mod head;
 mod leaf;
 pub mod step;

@@ -6,23 +6,15 @@ use Prim.Native.Nat.{ℕ, _+_, _-_, _*_, _^_, _≤_, _<_}
 use native.Mathlib.Omega.{arith}
 use borrow.Author.Tests.{eq-eqb, ne-eqb}
 use lib.ListN.{length}
-use Rattle.format.specs.Settings.{blockLength}
 use Rattle.format.specs.Layout as at
 use Rattle.format.specs.Fits.{lastLevel}
 use Rattle.layout.specs.declared.header.Header.{Header}
-use Rattle.layout.specs.Settings.{Sized}
-use Rattle.layout.specs.HeaderSays.{HeaderOf}
+use Rattle.layout.specs.HeaderSays.{HeaderOf, full-is}
 use Rattle.links.specs.Level.{partLength, roomBelow}
 
 module _ (t : List ℕ) (h : Header) (k : HeaderOf t h) where
   pub levels-is : h .settings .levels ≡ at.settings t .levels
   levels-is = k .levels-is
-
-  leaf-is : h .settings .leaf ≡ at.settings t .leaf
-  leaf-is = k .leaf-is
-
-  arity-is : h .settings .arity ≡ at.settings t .arity
-  arity-is = k .arity-is
 
   pub counted-is : h .settings .counted ≡ at.countedCount t
   counted-is = k .counted-is
@@ -40,20 +32,6 @@ module _ (t : List ℕ) (h : Header) (k : HeaderOf t h) where
   pub table-there : (l : ℕ) → l < h .settings .levels → (l < 8) × (100 ≤ length t)
   table-there l i = (omega (arith, levels-is, k .facts .levels-high), k .facts .long)
 
-  pub sized : (l : ℕ) → l < h .settings .levels → Sized (h .settings) l
-  sized l i = record {
-    leaf-high = omega (arith, leaf-is, k .facts .leaf-high);
-    arity-low = omega (arith, arity-is, k .facts .arity-low);
-    arity-high = omega (arith, arity-is, k .facts .arity-high);
-    levels-high = omega (arith, levels-is, k .facts .levels-high);
-    level-in = i;
-    block-high = rw (leaf-is, arity-is, levels-is) (k .facts .top-high);
-  }
-
-  pub full-is : (l b : ℕ) → b ≡ h .settings .leaf * h .settings .arity ^ (h .settings .levels - 1 - l) → b ≡ at.fullLength t l
-  unfolding at.fullLength blockLength
-  full-is l b e = rw (e, leaf-is, arity-is, levels-is)
-
   module _ (l : ℕ) where
     pub part-last : l ≡ h .settings .levels - 1 → 1 ≡ partLength t l
     unfolding partLength
@@ -66,7 +44,7 @@ module _ (t : List ℕ) (h : Header) (k : HeaderOf t h) where
     module _ (n : l ≡ h .settings .levels - 1 → ⊥) where
       pub part-above : (b : ℕ) → b ≡ h .settings .leaf * h .settings .arity ^ (h .settings .levels - 1 - (l + 1)) → b ≡ partLength t l
       unfolding partLength
-      part-above b e = rw (ne-eqb l (lastLevel t) (λ q. n (q ∙ sym last-is))) (full-is (l + 1) b e)
+      part-above b e = rw (ne-eqb l (lastLevel t) (λ q. n (q ∙ sym last-is))) (full-is t h k (l + 1) b e)
 
       pub room-above : (c : ℕ) → c ≡ at.levelCount t (l + 1) → c ≡ roomBelow t l
       unfolding roomBelow

@@ -41,20 +41,11 @@ fn pair_at(text: &[u8], start: TextPlace, size: u32) -> Pair
     requires { ⌜ (start .0 ≤ length (now text)) × (length (now text) ≤ 1048576) × (size ≤ 1048576) ⌝ }
     ensures { λ r. ⌜ r ≡ pairSays (now (text .entry)) (start .0) (min (size + size) (length (now (text .entry)) - start .0)) ⌝ }
 {
-    let len = shorter(size + size, text.len() as u32 - start.0);
+    let len = stretches::shorter(size + size, text.len() as u32 - start.0);
     if finding::occurs_earlier(text, start, len) {
         return Pair::Again;
     }
     Pair::First
-}
-
-fn shorter(a: u32, b: u32) -> u32
-    ensures { λ r. ⌜ r ≡ min a b ⌝ }
-{
-    if a < b {
-        return a;
-    }
-    b
 }
 
 // How a block and the next one stand. On the last level, where all blocks are kept, no pair is looked for.

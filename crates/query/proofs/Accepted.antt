@@ -21,12 +21,12 @@ use Rattle.format.specs.VerdictLaws.{accepted-readable, accepted-links}
 use Rattle.format.specs.Said.{Said}
 use Rattle.format.specs.Counting.{indexOf, isCounted}
 use Rattle.format.specs.Finding.{selectNumber, found, pathLength, rowStart, rowEnd}
+use Rattle.format.specs.FindingLaws.{select-lets}
 use Rattle.paths.specs.Demands as paths
 use Rattle.tallies.specs.Demands as tallies
 use Rattle.access.proofs.Demands as access
 use Rattle.query.proofs.Calls as calls
 use Rattle.query.proofs.Calls.{Lent, Counted, Found, RowCopied, Byte, Count, saidCount, CountNumbered, saidFind, FindNumbered, saidRow, RowNumbered}
-use Rattle.query.proofs.Passing.{select-lets}
 use Rattle.query.proofs.Answering.{LengthOfPath, length-of-path, Among, rowSize, Answers}
 use calls.answer as answer
 use calls.counted as counted

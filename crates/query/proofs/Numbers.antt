@@ -8,7 +8,6 @@ use Prim.Native.Nat.{ℕ, zero, suc, _+_, _-_, _≤_}
 use native.Mathlib.Omega.{arith}
 use lib.ListN.{length}
 use lib.Dec.{ltb, leb, eqb}
-use borrow.Author.Tests.{ne-eqb}
 use Rattle.text.specs.Text.{countIn}
 use Rattle.format.specs.Settings.{Settings, lengthOk, sizesOk, countedOk}
 use Rattle.format.specs.Blocks.{treeOf}
@@ -17,6 +16,7 @@ use Rattle.format.specs.Path.{Path, pathOf}
 use Rattle.format.specs.Fits.{linksOk, textOf, countsTrue}
 use Rattle.format.specs.Verdict.{ask, readable, verdict}
 use Rattle.format.specs.Said.{Said, refused, unless}
+use Rattle.format.specs.SaidLaws.{then-is}
 use Rattle.format.specs.Building.{buildNumber}
 use Rattle.format.specs.Reading.{byteOf, byteSays, pathsHold, spanNumber}
 use Rattle.format.specs.Counting.{added, taken, leavesReached, countOf, isCounted, numberOfByte, countSays}
@@ -66,10 +66,6 @@ unless-one xs ys zero s h k = of-right xs ys (s .number) k
 unless-one xs ys (suc n) s h k = of-left xs ys (suc n) (not-zero xs (suc n) (omega arith) h)
 
 -- the same of numbers alone
-pub then-is : (n rest : ℕ) → cond (eqb n 0) rest n ≡ unless n (refused rest) .number
-then-is zero rest = refl
-then-is (suc n) rest = rw (ne-eqb (suc n) 0 (λ e. omega arith))
-
 pub then-one : (xs ys : List ℕ) (n rest : ℕ) → OneOf (xs ++ 0 ∷ []) n → OneOf ys rest → OneOf (xs ++ ys) (cond (eqb n 0) rest n)
 then-one xs ys n rest h k = rw (then-is n rest) (unless-one xs ys n (refused rest) h k)
 

@@ -1,15 +1,14 @@
 -- What is known of any bytes lent as a tree where no question refuses.
 use mathlib.Core.List.{List}
-use mathlib.Core.Bool.{Bool, true, false, cond, _&&_}
+use mathlib.Core.Bool.{Bool, true, false, cond}
 use mathlib.Core.Option.{Option, none, some}
 use mathlib.Core.Path.{_≡_, refl, sym, _∙_}
 use mathlib.Core.Logic.{_⊎_, inl, inr}
-use Prim.Native.Nat.{ℕ, zero, suc, _+_, _-_, _≤_, _<_}
+use Prim.Native.Nat.{ℕ, _+_, _-_, _≤_, _<_}
 use native.Mathlib.Omega.{arith}
 use lib.ListN.{length}
 use lib.Dec.{ltb, leb, eqb}
-use borrow.Author.Tests.{eqb-true, ltb-true, leb-true, le-leb}
-use Rattle.text.specs.ListLaws.{and-left, and-right}
+use borrow.Author.Tests.{eqb-true, ltb-true, leb-true}
 use Rattle.text.specs.Text.{countIn}
 use Rattle.format.specs.Settings.{Settings, lengthOk, sizesOk, countedOk}
 use Rattle.format.specs.Blocks.{treeOf}
@@ -17,16 +16,11 @@ use Rattle.format.specs.Layout as at
 use Rattle.format.specs.Path.{Path, pathOf}
 use Rattle.format.specs.Verdict.{ask, readable}
 use Rattle.format.specs.HeaderLaws.{ask-test, ask-rest}
-use Rattle.format.specs.Said.{Said, refused, unless}
+use Rattle.format.specs.Said.{refused, unless}
+use Rattle.format.specs.SaidLaws.{unless-passes, then-is}
 use Rattle.format.specs.Building.{buildNumber}
 use Rattle.format.specs.Reading.{byteOf, byteSays, pathsHold, spanNumber}
 use Rattle.format.specs.Counting.{added, taken, leavesReached, countOf, isCounted, numberOfByte, countSays}
-use Rattle.format.specs.Finding.{total, selectNumber}
-use Rattle.query.proofs.Numbers.{then-is}
-
-unless-passes : (n : ℕ) (s : Said) → unless n s .number ≡ 0 → (n ≡ 0) × (s .number ≡ 0)
-unless-passes zero s h = (refl, h)
-unless-passes (suc n) s h = absurd (let z : ⊥ = omega arith in z)
 
 -- build answers only where the tree fits the buffer
 pub build-fits : (S : Settings) (T out : List ℕ) → buildNumber S T out ≡ 0 → length (treeOf S T) ≤ length out
@@ -99,28 +93,3 @@ span-fits t p len room h =
     let more = ask 10 (leb (p + len) (at.textLength t)) thirteen in
     let a = unless-passes (readable t) (refused more) (sym (then-is (readable t) more) ∙ h) in
     leb-true len room (ask-test 12 (leb len room) fourteen (ask-rest 9 (leb (p + len) (at.textLength t)) thirteen (a .1)))
-
--- find and row walk only where the byte is counted and so many stand in the tree
-pub record Selected (t : List ℕ) (byte j : ℕ) : Type 0 where
-  pub pass : readable t ≡ 0
-  pub counted : isCounted t byte ≡ true
-  pub low : 1 ≤ j
-  pub high : j ≤ total t (numberOfByte t byte)
-
-pub select-passes : (t : List ℕ) (byte j : ℕ) → selectNumber t byte j ≡ 0 → Selected t byte j
-unfolding selectNumber
-select-passes t byte j h =
-    let all = total t (numberOfByte t byte) in
-    let twelve = ask 12 (leb 1 j && leb j all) 0 in
-    let eleven = ask 11 (isCounted t byte) twelve in
-    let a = unless-passes (readable t) (refused eleven) (sym (then-is (readable t) eleven) ∙ h) in
-    let range = ask-test 11 (leb 1 j && leb j all) 0 (ask-rest 10 (isCounted t byte) twelve (a .1)) in record {
-      pass = a .0;
-      counted = ask-test 10 (isCounted t byte) twelve (a .1);
-      low = leb-true 1 j (and-left (leb 1 j) (leb j all) range);
-      high = leb-true j all (and-right (leb 1 j) (leb j all) range);
-    }
-
-pub select-lets : (t : List ℕ) (byte j : ℕ) → Selected t byte j → selectNumber t byte j ≡ 0
-unfolding selectNumber
-select-lets t byte j h = rw (h .pass, h .counted, le-leb 1 j (h .low), le-leb j (total t (numberOfByte t byte)) (h .high))

@@ -7,32 +7,21 @@ use native.Mathlib.Omega.{arith}
 use lib.ListN.{length, drop, replicate}
 use lib.Seq.{drop-at}
 use Rattle.text.specs.ListLaws.{lt-or-ge}
-use Rattle.text.specs.Text.{stretch, placeOf}
+use Rattle.text.specs.Text.{stretch}
 use Rattle.text.specs.TextLaws.{length-stretch}
-use Rattle.text.specs.CountLaws.{Nth, place-nth}
 use Rattle.format.specs.Layout as at
 use Rattle.format.specs.Fits.{textOf}
 use Rattle.format.specs.Verdict.{verdict}
 use Rattle.format.specs.VerdictLaws.{accepted-readable, accepted-links}
 use Rattle.format.specs.Said.{Said, refused}
 use Rattle.format.specs.Finding.{selectNumber, found, FindSays, rowStart, rowEnd, RowSays}
+use Rattle.format.specs.FindingLaws.{select-passes}
 use Rattle.paths.specs.Demands as paths
 use Rattle.tallies.specs.Demands as tallies
-use Rattle.query.proofs.Passing.{Selected, select-passes}
 
--- On an accepted tree: the place that is found lies in the text, and a row's bytes do.
-module _ (t : List ℕ) (v : verdict t ≡ 0) where
-  abbrev T : List ℕ
-  T = textOf t
-
-  pub text-size : length T ≡ at.textLength t
-  text-size = paths.text-size t (accepted-readable t v) (accepted-links t v)
-
-  stands : (byte j : ℕ) → Selected t byte j → Nth byte j T 0 (placeOf byte j T)
-  stands byte j s = place-nth byte j T (s .low) (rw (tallies.total-of-text t v byte (s .counted)) at (s .high))
-
-  place-in : (byte j : ℕ) → Selected t byte j → placeOf byte j T < at.textLength t
-  place-in byte j s = omega (arith, stands byte j s .within, text-size)
+-- the text of an accepted tree
+pub text-size : (t : List ℕ) → verdict t ≡ 0 → length (textOf t) ≡ at.textLength t
+text-size t v = paths.text-size t (accepted-readable t v) (accepted-links t v)
 
 module _ (t : List ℕ) (byte j : ℕ) where
   -- refused before the walk or in it, or a place of the text
@@ -55,7 +44,7 @@ module _ (t : List ℕ) (byte j : ℕ) where
       go (inr z) (inr w) =
           let v : verdict t ≡ 0 = omega arith in
           let e = a .accepted (omega arith) v in
-          placed (ap (λ (x : Said). x .number) e) (rw (ap (λ (x : Said). x .value) e) (place-in t v byte j (select-passes t byte j (omega arith))))
+          placed (ap (λ (x : Said). x .number) e) (rw (ap (λ (x : Said). x .value) e) (tallies.place-below t v byte j (select-passes t byte j (omega arith))))
 
 -- what stands from one place to another, or nothing
 part-long : (T : List ℕ) (start end size : ℕ) → size ≡ end - start → end ≤ length T → length (stretch T start size) ≡ size
@@ -80,7 +69,7 @@ module _ (t : List ℕ) (q : ℕ) (buffer : List ℕ) where
     unfolding rowEnd
     row-copied z v room =
         let h = a .accepted z v room in
-        let in-text = place-in t v 10 q (select-passes t 10 q z) in
+        let in-text = tallies.place-below t v 10 q (select-passes t 10 q z) in
         let bytes = stretch (textOf t) (rowStart t q) size in
         let long : length bytes ≡ size = part-long (textOf t) (rowStart t q) (rowEnd t q) size (h .1) (omega (arith, text-size t v)) in
         copied (h .0) (omega (arith, h .1)) (rw (h .2) (drop-at bytes (drop size buffer) size long))

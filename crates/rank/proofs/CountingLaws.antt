@@ -3,7 +3,7 @@ use mathlib.Core.List.{List}
 use mathlib.Core.Option.{Option, none, some}
 use mathlib.Core.Bool.{true, false}
 use mathlib.Core.Path.{_≡_, refl, ap, _∙_}
-use Prim.Native.Nat.{ℕ, suc, _+_, _-_, _≤_, _<_}
+use Prim.Native.Nat.{ℕ, _+_, _-_, _≤_, _<_}
 use native.Mathlib.Omega.{arith}
 use native.Mathlib.Nat.{zero-mul}
 use borrow.Author.Tests.{lt-ltb, le-ltb, lt-leb, le-leb, ne-eqb}
@@ -13,15 +13,15 @@ use Rattle.format.specs.HeaderLaws.{full-pos}
 use Rattle.format.specs.Layout as at
 use Rattle.format.specs.Path.{Path, pathOf}
 use Rattle.format.specs.Verdict.{readable}
-use Rattle.format.specs.Said.{Said, refused, unless}
+use Rattle.format.specs.Said.{Said, refused}
+use Rattle.format.specs.SaidLaws.{unless-refused}
 use Rattle.format.specs.Counting.{indexOf, countOf, isCounted, numberOfByte, countSays}
 use Rattle.format.specs.Finding.{total}
 use Rattle.layout.specs.declared.header.Header.{Header}
 use Rattle.layout.specs.declared.header.HeaderRead.{HeaderRead}
 use Rattle.layout.specs.declared.header.HeaderRead.the-variants.{Refused}
 use Rattle.layout.specs.Header.{headerSays}
-use Rattle.layout.specs.HeaderSays.{HeaderOf}
-use Rattle.layout.specs.HeaderSays.{header-refused}
+use Rattle.layout.specs.HeaderSays.{HeaderOf, header-refused}
 use Rattle.rank.specs.declared.sums.Sum.{Sum}
 use Rattle.rank.specs.declared.sums.Summed.{Summed}
 use Rattle.rank.specs.declared.sums.Summed.the-variants.{At, Broken}
@@ -94,9 +94,6 @@ module _ (t : List ℕ) (h : Header) (k : HeaderOf t h) (byte i : ℕ) where
           (e ∙ ap settled x-is ∙ settled-whole t byte number (pathOf t (i - 1)) ∙ rw is)
 
 -- a tree that does not pass questions 5 to 7
-unless-refused : (n k q : ℕ) (a : Said) → n ≡ suc k → q ≡ suc k → refused q ≡ unless n a
-unless-refused n k q a e f = rw (e, f)
-
 pub count-unread : (t : List ℕ) (byte i : ℕ) (x : HeaderRead) → x ≡ headerSays t → (q : ℕ) → x ≡ Refused q → refused q ≡ countSays t byte i
 unfolding countSays
 count-unread t byte i x x-is q e =

@@ -7,8 +7,6 @@ use native.Mathlib.Numerals.{add-one}
 use lib.ListN.{length, drop, getD, length-take, length-drop, drop-of-length-le}
 use lib.Seq.{drop-cons, getD-take, getD-drop}
 use borrow.Author.Tests.{eq-eqb, ne-eqb}
-use Rattle.text.specs.Text.{stretch, countIn}
-use Rattle.text.specs.CountLaws.{one, count-next}
 use Rattle.format.specs.Layout as at
 use Rattle.format.specs.Counting.{indexOf, numberOfByte}
 use Rattle.rank.specs.Scans.{Names}
@@ -58,11 +56,3 @@ module _ (t : List ℕ) (k byte i : ℕ) (n : Names t k) where
   pub ahead-end : k ≤ i → i ≡ ahead t byte i
   unfolding ahead
   ahead-end h = omega (arith, index-past byte (at.settings t .counted) i (omega (arith, names)))
-
--- counts
-
-pub count-next-other : (c : ℕ) (T : List ℕ) (p o : ℕ) → p + o < length T → (getD T (p + o) 0 ≡ c → ⊥)
-    → countIn c (stretch T p (o + 1)) ≡ countIn c (stretch T p o)
-count-next-other c T p o h e =
-    let z : one c (getD T (p + o) 0) ≡ 0 = rw (ne-eqb c (getD T (p + o) 0) (λ x. e (sym x))) in
-    omega (arith, count-next c T p o h)

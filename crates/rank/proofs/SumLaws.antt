@@ -31,7 +31,7 @@ use Rattle.walk.specs.Walk.{onward as trailed}
 use Rattle.walk.proofs.StepLaws.{kept-in, pointing-in}
 use Rattle.walk.proofs.WalkLaws as walk
 use Rattle.walk.proofs.WalkLaws.{next-kept, next-points, next-off, from-off, from-last-points, from-no-leaf, from-no-target, pointing-not-kept}
-use Rattle.tallies.specs.Ranks.{goes-head}
+use Rattle.tallies.specs.Ranks.{goes-head, added-target, taken-target}
 use Rattle.rank.specs.declared.sums.Sum.{Sum}
 use Rattle.rank.specs.declared.sums.Summed.{Summed}
 use Rattle.rank.specs.declared.sums.Summed.the-variants.{At, Broken}
@@ -99,19 +99,10 @@ module _ (t : List ℕ) (byte c : ℕ) (s : Sum) where
   sum-child n l i o j p = sum-enter n (l + 1) j p (visit l i o) (at.before t (l + 1) j c) 0 (added-child l i o j p) (taken-child l i o j p) (pathFrom t n (l + 1) j p) refl
 
   -- to a target
-  added-target : (l i o j p : ℕ) (ws : List Visit) → addedAfter t c (visit l i o) (visit l j p ∷ ws)
-      ≡ cond (eqb j (at.link t l i)) 0 (at.inside t l (at.link t l i) c) + addedAfter t c (visit l j p) ws
-  unfolding addedAfter
-  added-target l i o j p ws = rw (eq-eqb l l refl)
-
-  taken-target : (l i o j p : ℕ) (ws : List Visit) → takenAfter t c (visit l i o) (visit l j p ∷ ws) ≡ at.skip t l i c + takenAfter t c (visit l j p) ws
-  unfolding takenAfter
-  taken-target l i o j p ws = rw (eq-eqb l l refl)
-
   pub sum-target : (n l i o j p : ℕ) → summed t byte c (onward s (cond (eqb j (at.link t l i)) 0 (at.inside t l (at.link t l i) c)) (at.skip t l i c)) (pathFrom t n l j p)
       ≡ summed t byte c s (entered (visit l i o ∷ []) (pathFrom t n l j p))
   sum-target n l i o j p =
-      sum-enter n l j p (visit l i o) (cond (eqb j (at.link t l i)) 0 (at.inside t l (at.link t l i) c)) (at.skip t l i c) (added-target l i o j p) (taken-target l i o j p) (pathFrom t n l j p) refl
+      sum-enter n l j p (visit l i o) (cond (eqb j (at.link t l i)) 0 (at.inside t l (at.link t l i) c)) (at.skip t l i c) (added-target t c l i o j p) (taken-target t c l i o j p) (pathFrom t n l j p) refl
 
   -- on the last level
   pub sum-leaf : (l i o n : ℕ) (r : Sum) → keptBlock t l i ≡ true → at.link t l i + o < at.leafCount t → n ≡ countIn byte (stretch t (at.leafOffset t + at.link t l i) (o + 1))

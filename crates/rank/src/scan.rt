@@ -1,8 +1,6 @@
-// A byte looked for in a part of the lent bytes.
+// A counted byte looked for in the header.
 ghost use mathlib.Core.Path.{_≡_};
-ghost use Prim.Native.Nat.{_+_, _≤_};
-ghost use lib.ListN.{length};
-ghost use Rattle.text.specs.Text.{stretch, countIn};
+ghost use Prim.Native.Nat.{_≤_};
 ghost use Rattle.format.specs.Counting.{numberOfByte};
 ghost use Rattle.rank.specs.Scans.{Names};
 
@@ -25,20 +23,4 @@ pub fn number_of(t: &[u8], k: u32, byte: u8) -> u32
         i += 1;
     }
     i
-}
-
-// How often a byte stands in the n bytes at a place.
-pub fn occurrences(t: &[u8], from: usize, n: u32, byte: u8) -> u32
-    requires { ⌜ from + n ≤ length (now t) ⌝ }
-    ensures { λ r. ⌜ (r ≡ countIn byte (stretch (now (t .entry)) from n)) × (r ≤ n) ⌝ }
-{
-    let mut times: u32 = 0;
-    let mut i: u32 = 0;
-    while i < n {
-        if t[from + i as usize] == byte {
-            times += 1;
-        }
-        i += 1;
-    }
-    times
 }

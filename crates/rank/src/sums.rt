@@ -1,6 +1,5 @@
 // The sums down the path of a place: what is added and what is taken off, apart. The step for a kept block and the step for a
 // pointing block call each other: twice the levels left, plus one if a pointer may still be followed, falls.
-use crate::scan;
 use crate::scan::Wanted;
 use layout::header::Header;
 use layout::place::BlockNumber;
@@ -64,7 +63,7 @@ fn leaf(
     let number = link + place.0 as u64;
     if number < h.leaf_count as u64 {
         let from = h.leaf_offset as usize + link as usize;
-        let here = scan::occurrences(t, from, place.0 + 1, wanted.byte);
+        let here = stretches::count_in(t, from, place.0 + 1, wanted.byte);
         return Summed::At(sum.enter(here, 0));
     }
     Summed::Broken

@@ -1,5 +1,4 @@
 // What is written of a level: the starts of its blocks and their records, given what each block is.
 pub mod below;
-mod counts;
 pub mod level;
 pub mod record;

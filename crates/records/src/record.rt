@@ -1,5 +1,4 @@
 // A block's record, written.
-use crate::counts;
 use crate::level;
 use crate::level::Level;
 use layout::header;
@@ -47,8 +46,8 @@ fn put_count(out: &mut [u8], text: &[u8], byte: u8, at: usize, block: Block, bef
         (countIn byte (stretch (now (text .entry)) (block .start) (block .length)))
         (countIn byte (stretch (now (text .entry)) (block .from) (block .gap))) ⌝ }
 {
-    let inside = counts::count_in(text, block.start as usize, block.length as usize, byte);
-    let skip = counts::count_in(text, block.from as usize, block.gap as usize, byte);
+    let inside = stretches::count_in(text, block.start as usize, block.length, byte);
+    let skip = stretches::count_in(text, block.from as usize, block.gap, byte);
     put_three(out, at, before, inside, skip);
 }
 

@@ -1,26 +1,22 @@
 -- A row's edges, from two finds.
 use mathlib.Core.List.{List}
-use mathlib.Core.Bool.{true, cond, _&&_}
 use mathlib.Core.Path.{_≡_, refl, sym, ap, _∙_}
 use mathlib.Core.Logic.{_⊎_, inl, inr}
-use Prim.Native.Nat.{ℕ, zero, suc, _+_, _-_, _≤_, _<_}
+use Prim.Native.Nat.{ℕ, _+_, _-_, _≤_, _<_}
 use native.Mathlib.Omega.{arith}
-use borrow.Author.Tests.{leb-true, le-leb, ne-eqb}
-use lib.Dec.{leb, eqb}
-use Rattle.text.specs.ListLaws.{and-left, and-right, lt-or-ge}
+use borrow.Author.Tests.{ne-eqb}
+use Rattle.text.specs.ListLaws.{lt-or-ge}
 use Rattle.text.specs.Text.{placeOf}
-use Rattle.text.specs.CountLaws.{Nth, place-nth, nth-past, count-next-same}
+use Rattle.text.specs.CountLaws.{nth-past, count-next-same}
 use Rattle.text.specs.declared.TextPlace.{TextPlace}
-use Rattle.format.specs.HeaderLaws.{ask-test, ask-rest}
 use Rattle.format.specs.VerdictLaws.{accepted-readable, accepted-links}
 use Rattle.format.specs.Layout as at
 use Rattle.format.specs.Path.{pathOf}
 use Rattle.format.specs.Fits.{textOf}
-use Rattle.format.specs.Verdict.{ask, readable, verdict}
+use Rattle.format.specs.Verdict.{verdict}
 use Rattle.format.specs.Said.{Said, refused}
-use Rattle.format.specs.Counting.{isCounted, numberOfByte}
-use Rattle.format.specs.Finding.{total, selectNumber, pathLength, found, FindSays, rowStart, rowEnd}
-use Rattle.paths.specs.OneText.{text-length}
+use Rattle.format.specs.Finding.{selectNumber, pathLength, found, FindSays, rowStart, rowEnd}
+use Rattle.format.specs.FindingLaws.{Selected, select-passes, select-lets}
 use Rattle.paths.specs.Demands as paths
 use Rattle.access.proofs.ByteLaws.{path-long}
 use Rattle.tallies.specs.Demands as tallies
@@ -30,46 +26,11 @@ use Rattle.rows.specs.declared.edges.Edges.the-variants as edges
 use Rattle.select.specs.Found.{saidFind, Numbered}
 use Rattle.rows.specs.Rows.{Refuses, Spans, EdgesOf}
 
--- the questions before the walk, one fact each
-
-record Asked (t : List ℕ) (byte j : ℕ) : Type 0 where
-  passes : readable t ≡ 0
-  counted : isCounted t byte ≡ true
-  low : 1 ≤ j
-  high : j ≤ total t (numberOfByte t byte)
-
-past-zero : (n rest : ℕ) → cond (eqb n 0) rest n ≡ 0 → (n ≡ 0) × (rest ≡ 0)
-past-zero zero rest h = (refl, h)
-past-zero (suc n) rest h = absurd (let z : suc n ≡ 0 = rw (ne-eqb (suc n) 0 (λ y. omega arith)) at h in omega arith)
-
-asked-facts : (t : List ℕ) (byte j : ℕ) → selectNumber t byte j ≡ 0 → Asked t byte j
-unfolding selectNumber
-asked-facts t byte j h =
-    let all = total t (numberOfByte t byte) in
-    let range = ask 12 (leb 1 j && leb j all) 0 in
-    let z = past-zero (readable t) (ask 11 (isCounted t byte) range) h in
-    let in-range = ask-test 11 (leb 1 j && leb j all) 0 (ask-rest 10 (isCounted t byte) range (z .1)) in record {
-      passes = z .0;
-      counted = ask-test 10 (isCounted t byte) range (z .1);
-      low = leb-true 1 j (and-left (leb 1 j) (leb j all) in-range);
-      high = leb-true j all (and-right (leb 1 j) (leb j all) in-range);
-    }
-
-asked-make : (t : List ℕ) (byte j : ℕ) → Asked t byte j → selectNumber t byte j ≡ 0
-unfolding selectNumber
-asked-make t byte j h = rw (h .passes, h .counted, le-leb 1 j (h .low), le-leb j (total t (numberOfByte t byte)) (h .high))
-
--- on an accepted tree the j-th byte stands in the text, and its path enters a block
-module _ (t : List ℕ) (v : verdict t ≡ 0) (byte j : ℕ) (h : Asked t byte j) where
-  stands : Nth byte j (textOf t) 0 (placeOf byte j (textOf t))
-  stands = place-nth byte j (textOf t) (h .low) (omega (arith, h .high, tallies.total-of-text t v byte (h .counted)))
-
-  place-below : placeOf byte j (textOf t) < at.textLength t
-  place-below = omega (arith, stands .within, text-length t)
-
+-- on an accepted tree the path of the j-th byte enters a block
+module _ (t : List ℕ) (v : verdict t ≡ 0) (byte j : ℕ) (h : Selected t byte j) where
   path-enters : 1 ≤ pathLength t (pathOf t (placeOf byte j (textOf t)))
   path-enters =
-      let w = paths.no-path-breaks t (accepted-readable t v) (accepted-links t v) (placeOf byte j (textOf t)) place-below in
+      let w = paths.no-path-breaks t (accepted-readable t v) (accepted-links t v) (placeOf byte j (textOf t)) (tallies.place-below t v byte j h) in
       rw (w .1) (path-long t (placeOf byte j (textOf t)) (w .0) (w .1))
 
 -- what a find says of a place, and of a refusal
@@ -83,7 +44,7 @@ module _ (t : List ℕ) (j : ℕ) (x : Found) (says : FindSays t 10 j (saidFind 
     refused-not v =
         let z = sym said-refused ∙ says .accepted asked v in
         let y = ap (λ (s : Said). s .entered) z in
-        omega (arith, path-enters t v 10 j (asked-facts t 10 j asked))
+        omega (arith, path-enters t v 10 j (select-passes t 10 j asked))
 
     refused-free : 1 ≤ n → n ≡ 14
     refused-free low = go (lt-or-ge 0 (verdict t))
@@ -122,7 +83,7 @@ module _ (t : List ℕ) (j : ℕ) (x : Found) (says : FindSays t 10 j (saidFind 
         go (inl low) = either (says .free place-asked (λ v. omega arith))
         go (inr high) =
             let v : verdict t ≡ 0 = omega arith in
-            rw (place-is v) (place-below t v 10 j (asked-facts t 10 j place-asked))
+            rw (place-is v) (tallies.place-below t v 10 j (select-passes t 10 j place-asked))
 
 -- the edges
 
@@ -156,7 +117,7 @@ module _ (t : List ℕ) (q : ℕ) (last : Found) (says : FindSays t 10 q (saidFi
     asked = place-asked t q last says end figure last-is
 
     pub row-low : 1 ≤ q
-    row-low = asked-facts t 10 q asked .low
+    row-low = select-passes t 10 q asked .low
 
     -- the first row
     pub edges-first : q ≡ 1 → EdgesOf t q (edges.At (record { 0 = 0 }) (end .0))
@@ -168,10 +129,10 @@ module _ (t : List ℕ) (q : ℕ) (last : Found) (says : FindSays t 10 q (saidFi
     })
 
     module _ (more : q ≡ 1 → ⊥) where
-      before-asked : Asked t 10 (q - 1)
+      before-asked : Selected t 10 (q - 1)
       before-asked =
-          let a = asked-facts t 10 q asked in
-          record { passes = a .passes; counted = a .counted; low = omega (arith, a .low, more); high = omega (arith, a .high) }
+          let a = select-passes t 10 q asked in
+          record { pass = a .pass; counted = a .counted; low = omega (arith, a .low, more); high = omega (arith, a .high) }
 
       not-asked : (n : ℕ) → ((selectNumber t 10 q ≡ 0) → verdict t ≡ 0 → ⊥) → n ≡ 14 → Refuses t q n
       not-asked n never is = record { low = omega arith; asked = λ l. absurd (let z : ⊥ = omega (arith, asked) in z); accepted = never; free = λ z. is }
@@ -182,17 +143,17 @@ module _ (t : List ℕ) (q : ℕ) (last : Found) (says : FindSays t 10 q (saidFi
         edges-no-start k n e n-is numbered =
             let m : n ≡ k = n-is ∙ rw e in
             let low : 1 ≤ k = rw e at numbered in
-            let a = asked-make t 10 (q - 1) before-asked in
+            let a = select-lets t 10 (q - 1) before-asked in
             not-spans t q n (not-asked n (λ z v. refused-not t (q - 1) first said k e a v) (rw m (refused-free t (q - 1) first said k e a low)))
 
         module _ (before : TextPlace) (other : ℕ) (first-is : first ≡ found-is.At before other) where
           order : verdict t ≡ 0 → before .0 < end .0
           order v =
-              let a = asked-facts t 10 q asked in
+              let a = select-passes t 10 q asked in
               let x = placeOf 10 (q - 1) (textOf t) in
               let y = placeOf 10 q (textOf t) in
-              let one = stands t v 10 (q - 1) before-asked in
-              let two = stands t v 10 q a in
+              let one = tallies.stands t v 10 (q - 1) before-asked in
+              let two = tallies.stands t v 10 q a in
               let past : x + 1 ≤ y =
               nth-past 10 q (textOf t) 0 (x + 1) y two (omega (arith, one .rank, count-next-same 10 (textOf t) 0 x (one .within) (one .byte-is), before-asked .low)) in
               omega (arith, place-is t q last says end figure last-is v, place-is t (q - 1) first said before other first-is v)

@@ -3,7 +3,7 @@ use mathlib.Core.List.{List, _++_}
 use mathlib.Core.Bool.{true, false, cond}
 use mathlib.Core.Path.{_≡_, refl, sym, ap, _∙_}
 use mathlib.Core.Logic.{_⊎_, inl, inr}
-use Prim.Native.Nat.{ℕ, zero, suc, _+_, _-_, _≤_, _<_}
+use Prim.Native.Nat.{ℕ, suc, _+_, _-_, _≤_, _<_}
 use native.Mathlib.Omega.{arith}
 use borrow.Author.Tests.{ne-eqb}
 use lib.ListN.{length, drop, replicate}
@@ -17,6 +17,7 @@ use Rattle.format.specs.Layout as at
 use Rattle.format.specs.Fits.{textOf}
 use Rattle.format.specs.Verdict.{readable}
 use Rattle.format.specs.Said.{Said, refused, unless}
+use Rattle.format.specs.SaidLaws.{unless-number}
 use Rattle.format.specs.Reading.{pathsHold, spanNumber, spanLeaves}
 use Rattle.format.specs.Finding.{selectNumber, RowSays}
 use Rattle.paths.specs.Demands as paths
@@ -64,10 +65,6 @@ module _ (t : List ℕ) (p len : ℕ) (buffer : List ℕ) (passes : readable t �
           let e : spanNumber t p len (length buffer) ≡ 14 = number-in-room t p len buffer passes within room ∙ rw broken in
           record { ways = inr (inr (e, room, leaves-is 14 e)) }
 
-unless-at : (n : ℕ) (s a : Said) → s ≡ unless n a → a .number ≡ 0 → s .number ≡ n
-unless-at zero s a e z = ap (λ (y : Said). y .number) e ∙ z
-unless-at (suc n) s a e z = ap (λ (y : Said). y .number) e
-
 unless-value : (n m : ℕ) (s a : Said) → s ≡ unless n a → n ≡ suc m → s .value ≡ 0
 unless-value n m s a e z = let f : s ≡ refused (suc m) = rw z at e in ap (λ (y : Said). y .value) f
 
@@ -83,7 +80,7 @@ module _ (t : List ℕ) (q p len : ℕ) (buffer after : List ℕ) (s : Said) (pa
   said-is = s-is
 
   s-number : s .number ≡ spanNumber t p len (length buffer)
-  s-number = unless-at (spanNumber t p len (length buffer)) s bytes-said said-is refl
+  s-number = ap (λ (y : Said). y .number) said-is ∙ unless-number (spanNumber t p len (length buffer)) bytes-said refl
 
   s-none : (m : ℕ) → spanNumber t p len (length buffer) ≡ suc m → s .value ≡ 0
   s-none m e = unless-value (spanNumber t p len (length buffer)) m s bytes-said said-is e

@@ -6,7 +6,7 @@ use mathlib.Core.Logic.{_⊎_, inl, inr}
 use Prim.Native.Nat.{ℕ, suc, _+_, _-_, _*_, _≤_, _<_}
 use native.Mathlib.Omega.{arith}
 use native.Mathlib.Nat.{zero-mul, mul-le-mul}
-use borrow.Author.Tests.{ltb-true, lt-ltb, le-ltb, lt-leb, le-leb, ne-eqb}
+use borrow.Author.Tests.{ltb-true, lt-ltb, le-ltb, lt-leb, ne-eqb}
 use lib.Dec.{ltb, leb}
 use Rattle.text.specs.Text.{placeOf}
 use Rattle.format.specs.Layout as at
@@ -16,6 +16,7 @@ use Rattle.format.specs.Verdict.{ask, verdict}
 use Rattle.format.specs.Said.{Said, refused}
 use Rattle.format.specs.Counting.{numberOfByte}
 use Rattle.format.specs.Finding.{total, selectNumber, pathLength, found, FindSays}
+use Rattle.format.specs.FindingLaws.{select-lets}
 use Rattle.paths.specs.Starts.{len-inside}
 use Rattle.layout.specs.declared.header.Header.{Header}
 use Rattle.layout.specs.declared.header.HeaderRead.{HeaderRead}
@@ -173,9 +174,6 @@ module _ (t : List ℕ) (h : Header) (r : HeaderOf t h) (byte j number : ℕ) (i
     range-past true high e = rw e
     range-past false high e = refl
 
-    range-in : (low high : Bool) → low ≡ true → high ≡ true → ask 12 (low && high) 0 ≡ 0
-    range-in low high e f = rw (e, f)
-
     pub find-zero : j ≡ 0 → FindSays t byte j (refused 12)
     unfolding selectNumber
     find-zero z = find-refused t byte j 11
@@ -191,10 +189,7 @@ module _ (t : List ℕ) (h : Header) (r : HeaderOf t h) (byte j number : ℕ) (i
           (rw (r .passes, is-counted t h r byte number is counted) (range-past (leb 1 j) (leb j (total t (numberOfByte t byte))) (lt-leb j (total t (numberOfByte t byte)) (omega (arith, all-of)))))
 
       asked-none : 1 ≤ j → j ≤ all → selectNumber t byte j ≡ 0
-      unfolding selectNumber
-      asked-none low high =
-          rw (r .passes, is-counted t h r byte number is counted)
-          (range-in (leb 1 j) (leb j (total t (numberOfByte t byte))) (le-leb 1 j low) (le-leb j (total t (numberOfByte t byte)) (omega (arith, all-of))))
+      asked-none low high = select-lets t byte j (record { pass = r .passes; counted = is-counted t h r byte number is counted; low = low; high = omega (arith, all-of) })
 
       pub find-sought : (s : Said) → 1 ≤ j → j ≤ all → Sought t byte j s → FindSays t byte j s
       find-sought s low high z = record {

@@ -20,7 +20,7 @@ use Rattle.format.specs.Path.{keptBlock, pointingBlock}
 use Rattle.format.specs.Verdict.{verdict}
 use Rattle.paths.specs.Links.{H, N, s, len, Linked, linked-facts}
 use Rattle.paths.specs.Links as links
-use Rattle.paths.specs.Starts.{len-small, len-pos, leaf-below}
+use Rattle.paths.specs.Starts.{len-small, len-pos}
 use Rattle.paths.specs.Landing.{kept-block, pointing-block}
 use Rattle.layout.specs.declared.header.Header.{Header}
 use Rattle.layout.specs.declared.place.BlockNumber.{BlockNumber}
@@ -31,7 +31,7 @@ use Rattle.walk.proofs.StepLaws.{kept-in, pointing-in, b-small, b-pos}
 use Rattle.walk.proofs.WalkLaws.{pointing-not-kept}
 use Rattle.tallies.specs.Level.{Level, tally}
 use Rattle.tallies.specs.Local.{byteOf, inLeaves}
-use Rattle.tallies.specs.Stretches.{leaves-tally}
+use Rattle.tallies.specs.Stretches.{leaves-end, leaves-tally}
 use Rattle.tallies.specs.Finds as finds
 use Rattle.tallies.specs.Demands as demands
 use Rattle.rank.specs.declared.scan.Wanted.{Wanted}
@@ -41,7 +41,7 @@ use Rattle.select.specs.declared.seek.Child.{Child}
 use Rattle.select.specs.declared.seek.Child.the-variants as child
 use Rattle.select.specs.declared.seek.Target.{Target}
 use Rattle.select.specs.declared.seek.Target.the-variants as target
-use Rattle.select.specs.Scans.{Stands}
+use Rattle.stretches.specs.Stretches.{Stands}
 use Rattle.select.specs.Seeks.{moved, Near, restIn, KeptIn, PointsIn, Siblings, LastBefore, picked, Chosen, ChildWith, Aimed, targetAt, TargetWith, Seeking, Landed, FoundIn}
 
 -- What a pick says.
@@ -283,15 +283,6 @@ module _ (t : List ℕ) (h : Header) (c level b i j link : ℕ) (p : PointsIn t 
 
 -- The leaf bytes.
 
-leaf-end : (t : List ℕ) (v : verdict t ≡ 0) (l i : ℕ) → l + 1 ≡ H t → i < N t l → at.link t l i + len t l i ≤ at.leafCount t
-leaf-end t v l i last hi = go l (omega arith) hi
-  where
-    go : (m : ℕ) → m ≡ H t - 1 → i < N t m → at.link t m i + len t m i ≤ at.leafCount t
-    go m e h =
-        let h₁ : i < N t (H t - 1) = rw e at h in
-        let pos = len-pos t (k t v) (d t v) (H t - 1) i (omega (arith, k t v .levels-low)) h₁ in
-        rw e (omega (arith, leaf-below t (k t v) (d t v) i (len t (H t - 1) i - 1) h₁ (omega arith)))
-
 near-off : (most : ℕ) → Near placed.Off most
 near-off most = record { near = λ o e x. absurd (let z : _≡_ {A = ℕ} 0 1 = cc in omega arith) }
 
@@ -308,7 +299,7 @@ module _ (t : List ℕ) (h : Header) (w : Wanted) (level b i j link n : ℕ) (ke
   leaf-block = kept-in t level i (kept .kept)
 
   pub leaf-past : h .«leaf_count» < link + n → FoundIn t (w .number) level i j 1 placed.Off
-  leaf-past past = not-found t (w .number) level i j 1 (λ v hc high. omega (arith, leaf-end t v level i bottom leaf-block, n-is .0, kept .on .header .count-is))
+  leaf-past past = not-found t (w .number) level i j 1 (λ v hc high. omega (arith, leaves-end t (k t v) (d t v) level i bottom leaf-block, n-is .0, kept .on .header .count-is))
 
   pub leaf-room : link + n ≤ h .«leaf_count» → h .«leaf_offset» + link + n ≤ length t
   leaf-room within = omega (arith, kept .on .header .facts .size, kept .on .header .offset-is, kept .on .header .count-is)

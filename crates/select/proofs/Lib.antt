@@ -1,4 +1,3 @@
-pub mod ScanLaws
 pub mod SeekLaws
 pub mod LandLaws
 pub mod FindingLaws

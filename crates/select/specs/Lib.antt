@@ -1,3 +1,2 @@
-pub mod Scans
 pub mod Seeks
 pub mod Found

@@ -2,7 +2,6 @@
 // for a kept block and the step for a pointing block call each other: twice the levels left, plus one if a pointer may still be
 // followed, falls.
 use crate::Found;
-use crate::scan;
 use layout::header;
 use layout::header::Header;
 use layout::place::BlockNumber;
@@ -203,7 +202,7 @@ fn leaf_place(
         return Placed::Off;
     }
     let from = h.leaf_offset as usize + link as usize;
-    let place = scan::nth(t, from, len, wanted.byte, j);
+    let place = stretches::nth(t, from, len, wanted.byte, j);
     if place < len {
         return Placed::At(BlockPlace(place), 1);
     }

@@ -3,9 +3,11 @@ use mathlib.Core.List.{List}
 use mathlib.Core.Bool.{true, cond}
 use mathlib.Core.Path.{_≡_}
 use Prim.Native.Nat.{ℕ, _+_, _-_, _≤_, _<_}
+use native.Mathlib.Omega.{arith}
 use lib.ListN.{take}
 use lib.Dec.{eqb}
 use Rattle.text.specs.Text.{countIn, placeOf}
+use Rattle.text.specs.CountLaws.{Nth, place-nth}
 use Rattle.format.specs.Layout as at
 use Rattle.format.specs.Path.{pathOf}
 use Rattle.format.specs.Fits.{linksOk, textOf, countsTrue}
@@ -14,7 +16,9 @@ use Rattle.format.specs.VerdictLaws.{accepted-readable, accepted-links, accepte
 use Rattle.format.specs.HeaderLaws.{readable-facts}
 use Rattle.format.specs.Counting.{isCounted, numberOfByte, countSays}
 use Rattle.format.specs.Finding.{total, pathLength}
+use Rattle.format.specs.FindingLaws.{Selected}
 use Rattle.paths.specs.Links.{Linked, linked-facts}
+use Rattle.paths.specs.OneText.{text-length}
 use Rattle.tallies.specs.Local.{countsLocal}
 use Rattle.tallies.specs.Level.{Level, counts-facts}
 use Rattle.tallies.specs.Exact as exact
@@ -58,3 +62,11 @@ module _ (t : List ℕ) (v : verdict t ≡ 0) where
         → finds.Lands t (readable-facts t r) d levels (numberOfByte t byte) (n .number-below) 0 i (j - at.before t 0 i (numberOfByte t byte)) o e
         → (placeOf byte j (textOf t) ≡ at.start t 0 i + o) × (pathLength t (pathOf t (at.start t 0 i + o)) ≡ e)
     found-in-text i j o e hi low w = rw (n .byte-is) at (finds.lands-top t (readable-facts t r) d levels (numberOfByte t byte) (n .number-below) i j o e hi low w)
+
+  -- Where questions 11 and 12 let find and row through, the j-th byte stands in the text.
+  module _ (byte j : ℕ) (s : Selected t byte j) where
+    pub stands : Nth byte j (textOf t) 0 (placeOf byte j (textOf t))
+    stands = place-nth byte j (textOf t) (s .low) (rw (total-of-text byte (s .counted)) at (s .high))
+
+    pub place-below : placeOf byte j (textOf t) < at.textLength t
+    place-below = omega (arith, stands .within, text-length t)

@@ -95,10 +95,17 @@ module _ (t : List ℕ) where
   unfolding takenAfter
   taken-target c l i o j p vs = rw (eq-eqb l l refl)
 
-  added-target : (c l i o : ℕ) (vs : List Visit) → addedAfter t c (visit l i o) (visit l (targetBlock t l i o) (targetPlace t l i o) ∷ vs)
-      ≡ cond (ltb (at.gap t l i + o) (b t l)) 0 (at.inside t l (at.link t l i) c) + addedAfter t c (visit l (targetBlock t l i o) (targetPlace t l i o)) vs
+  pub added-target : (c l i o j p : ℕ) (vs : List Visit) → addedAfter t c (visit l i o) (visit l j p ∷ vs)
+      ≡ cond (eqb j (at.link t l i)) 0 (at.inside t l (at.link t l i) c) + addedAfter t c (visit l j p) vs
   unfolding addedAfter
-  added-target c l i o vs = rw (eq-eqb l l refl) (ap (λ (x : ℕ). x + addedAfter t c (visit l (targetBlock t l i o) (targetPlace t l i o)) vs) (go (lt-or-ge (at.gap t l i + o) (b t l))))
+  added-target c l i o j p vs = rw (eq-eqb l l refl)
+
+  -- to the target that holds a place
+  added-at-target : (c l i o : ℕ) (vs : List Visit) → addedAfter t c (visit l i o) (visit l (targetBlock t l i o) (targetPlace t l i o) ∷ vs)
+      ≡ cond (ltb (at.gap t l i + o) (b t l)) 0 (at.inside t l (at.link t l i) c) + addedAfter t c (visit l (targetBlock t l i o) (targetPlace t l i o)) vs
+  added-at-target c l i o vs =
+      added-target c l i o (targetBlock t l i o) (targetPlace t l i o) vs
+      ∙ ap (λ (x : ℕ). x + addedAfter t c (visit l (targetBlock t l i o) (targetPlace t l i o)) vs) (go (lt-or-ge (at.gap t l i + o) (b t l)))
     where
       go : (at.gap t l i + o < b t l) ⊎ (b t l ≤ at.gap t l i + o)
           → cond (eqb (targetBlock t l i o) (at.link t l i)) 0 (at.inside t l (at.link t l i) c) ≡ cond (ltb (at.gap t l i + o) (b t l)) 0 (at.inside t l (at.link t l i) c)
@@ -153,7 +160,7 @@ module _ (t : List ℕ) where
           arith,
           added-cons c v (w ∷ vs),
           taken-cons c v (w ∷ vs),
-          added-target c l i o vs,
+          added-at-target c l i o vs,
           taken-target c l i o j y vs,
           added-rest c w g (next-level l),
           taken-rest c w g (next-level l),

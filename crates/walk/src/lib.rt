@@ -10,7 +10,7 @@ use layout::place::BlockPlace;
 use layout::place::TextPlace;
 use layout::record;
 ghost use mathlib.Core.Path.{_≡_};
-ghost use Prim.Native.Nat.{_+_, _-_, _*_, _≤_, _<_, min};
+ghost use Prim.Native.Nat.{_+_, _-_, _*_, _≤_, _<_};
 ghost use Rattle.format.specs.Layout as at;
 ghost use Rattle.format.specs.Path.{pathFrom, pathOf};
 ghost use Rattle.layout.specs.HeaderSays.{HeaderOf};
@@ -42,18 +42,9 @@ impl Trail {
     {
         Trail {
             entered: self.entered + 1,
-            left: shorter(self.left, b - place.0),
+            left: stretches::shorter(self.left, b - place.0),
         }
     }
-}
-
-pub fn shorter(a: u32, b: u32) -> u32
-    ensures { λ r. ⌜ r ≡ min a b ⌝ }
-{
-    if b < a {
-        return b;
-    }
-    a
 }
 
 // The leaf byte that a kept block of the last level hands a place to.

@@ -114,5 +114,5 @@ pub fn block_length(t: &[u8], h: Header, level: u32, b: u32, block: BlockNumber)
     if h.length <= start.0 {
         return 0;
     }
-    crate::shorter(b, h.length - start.0)
+    stretches::shorter(b, h.length - start.0)
 }

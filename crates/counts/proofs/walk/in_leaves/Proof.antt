@@ -16,4 +16,5 @@ in-leaves-spec =
     (λ c. search needs)
     (λ c. omega (arith, c .before .before .before .before .pre .0 .tree .header .facts .long, c .before .before .before .before .pre .0 .tree .header .facts .counted-high, c .before .before .before .before .pre .0 .number-in))
     (λ c κs. laws.leaves-fit _ _ _ _ _ _ _ (c .before .before .before .before .pre .0) (c .before .before .before .before .pre .1) (c .before .before .before .before .pre .2) (c .before .before .link .ensures))
-    (λ c. (laws.leaves-are _ _ _ _ _ _ _ (c .before .before .before .before .before .pre .0) (c .before .before .before .before .before .pre .1) (c .before .before .before .before .before .pre .2) (c .before .before .before .link .ensures) _ (c .count-bytes .ensures .0), c .count-bytes .ensures .1)))
+    (λ c. search needs)
+    (λ c. (laws.leaves-are _ _ _ _ _ _ _ (c .before .before .before .before .before .pre .0) (c .before .before .before .before .before .pre .1) (c .before .before .before .before .before .pre .2) (c .before .before .before .link .ensures) _ (c .count-in .ensures .0), c .count-in .ensures .1)))

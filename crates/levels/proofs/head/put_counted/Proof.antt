@@ -6,7 +6,7 @@ use Rattle.levels.proofs.Heads.{places-more}
 use Rattle.levels.proofs.head.put_counted.Statement.{statement}
 use Rattle.levels.proofs.head.put_counted.Tie as tie
 use Rattle.levels.specs.Head.{places}
-use Rattle.levels.specs.Leaves.{bytesWritten}
+use Rattle.stretches.specs.Stretches.{bytesWritten}
 
 abbrev Inv-loop : tie.InvT-loop
 Inv-loop out₀ counted x₀ out x = (x ≤ 4) × ((length out ≡ length out₀) × (out ≡ bytesWritten out₀ 24 (places counted) 0 x))

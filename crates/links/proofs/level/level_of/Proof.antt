@@ -1,6 +1,7 @@
 use borrow.Author.Needs.{needs}
 use mathlib.Core.Path.{refl}
 use native.Mathlib.Omega.{arith}
+use Rattle.layout.specs.HeaderSays as header
 use Rattle.links.proofs.LevelLaws as laws
 use Rattle.links.proofs.level.level_of.Statement.{statement}
 use Rattle.links.proofs.level.level_of.Tie as tie
@@ -11,7 +12,7 @@ level-of-spec =
     (tie.spec
     (λ c. search needs)
     (λ c κs. laws.table-there _ _ (c .before .before .pre .0) _ (c .before .before .pre .1))
-    (λ c κs. laws.sized _ _ (c .before .before .before .pre .0) _ (c .before .before .before .pre .1))
+    (λ c κs. header.sized _ _ (c .before .before .before .pre .0) _ (c .before .before .before .pre .1))
     (λ c κs. search needs)
     (λ c κs. search needs)
     (λ c. let k = c .before .before .before .before .before .before .pre .0 in (
@@ -22,7 +23,7 @@ level-of-spec =
         length-is = laws.length-is _ _ k;
         last-is = laws.last-is _ _ k;
         count-is = c .before .before .before .level-count .ensures;
-        full-is = laws.full-is _ _ k _ _ (c .before .before .block-length .ensures);
+        full-is = header.full-is _ _ k _ _ (c .before .before .block-length .ensures);
         part-is = c .before .part-length .ensures;
         room-is = c .room-below .ensures;
       },

@@ -19,5 +19,5 @@ leaf-spec =
     (λ c. omega (arith, b-small _ _ _ _ (c .before .before .before .before .before .before .before .pre .0 .on), c .before .before .before .before .before .before .before .pre .0 .place-in))
     (λ c κs. laws.leaf-fits _ _ _ _ _ _ (c .before .before .before .before .before .before .before .pre .0 .on .header) (c .before .before .before .before .before .link .ensures) (c .before .before .if1 .taken))
     (λ c κs. let s = laws.carried-small _ _ _ (c .before .before .before .before .before .before .before .before .pre .1) (laws.entered-small _ _ _ _ _ _ _ (c .before .before .before .before .before .before .before .before .pre .0)) in (laws.entered-small _ _ _ _ _ _ _ (c .before .before .before .before .before .before .before .before .pre .0), s .0, s .1))
-    (λ c. laws.leaf-sum _ _ _ _ _ _ _ _ _ _ (c .before .before .before .before .before .before .before .before .before .pre .0) _ (c .before .before .before .before .before .before .before .link .ensures) _ (c .before .before .before .before .if1 .taken) (c .before .occurrences .ensures .0) (c .enter .ensures))
+    (λ c. laws.leaf-sum _ _ _ _ _ _ _ _ _ _ (c .before .before .before .before .before .before .before .before .before .pre .0) _ (c .before .before .before .before .before .before .before .link .ensures) _ (c .before .before .before .before .if1 .taken) (c .before .count-in .ensures .0) (c .enter .ensures))
     (λ c. laws.leaf-none _ _ _ _ _ _ _ _ _ _ (c .before .before .before .before .before .pre .0) _ (c .before .before .before .link .ensures) (c .if1 .left)))

@@ -8,11 +8,9 @@ put-count-spec =
     tie.close
     (tie.spec
     (λ c. search needs)
-    (λ c. search needs)
     (λ c κs. search needs)
-    (λ c. search needs)
     (λ c. search needs)
     (λ c κs. search needs)
     (λ c κs. search needs)
     (λ c. search needs)
-    (λ c. count-written _ _ _ _ _ _ _ _ (c .before .before .before .before .before .before .before .count-in .ensures .0) (c .before .before .before .before .count-in2 .ensures .0) (c .before .before .put-three .ensures)))
+    (λ c. count-written _ _ _ _ _ _ _ _ (c .before .before .before .before .before .before .count-in .ensures .0) (c .before .before .before .before .count-in2 .ensures .0) (c .before .before .put-three .ensures)))

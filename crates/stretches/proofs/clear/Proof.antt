@@ -4,8 +4,8 @@ use lib.ListN.{length, drop, replicate, length-set}
 use mathlib.Core.List.{_++_}
 use mathlib.Core.Path.{_≡_, refl}
 use native.Mathlib.Omega.{arith}
-use Rattle.access.proofs.reading.clear.Statement.{statement}
-use Rattle.access.proofs.reading.clear.Tie as tie
+use Rattle.stretches.proofs.clear.Statement.{statement}
+use Rattle.stretches.proofs.clear.Tie as tie
 
 abbrev Inv-loop : tie.InvT-loop
 Inv-loop buffer₀ n i₀ buffer i = (i ≤ n) × ((length buffer ≡ length buffer₀) × (buffer ≡ replicate i 0 ++ drop i buffer₀))

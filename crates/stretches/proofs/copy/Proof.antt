@@ -2,10 +2,10 @@ use Prim.Native.Nat.{ℕ, _≤_, _-_}
 use lib.ListN.{length, length-set}
 use mathlib.Core.Path.{_≡_, refl, ap, _∙_}
 use native.Mathlib.Omega.{arith}
-use Rattle.levels.proofs.Leafs.{bytes-more}
-use Rattle.levels.proofs.bytes.copy.Statement.{statement}
-use Rattle.levels.proofs.bytes.copy.Tie as tie
-use Rattle.levels.specs.Leaves.{bytesWritten}
+use Rattle.stretches.proofs.StretchLaws.{bytes-more}
+use Rattle.stretches.proofs.copy.Statement.{statement}
+use Rattle.stretches.proofs.copy.Tie as tie
+use Rattle.stretches.specs.Stretches.{bytesWritten}
 
 abbrev Inv-loop : tie.InvT-loop
 Inv-loop out₀ to text from n j₀ out j = (j ≤ n) × ((length out ≡ length out₀) × (out ≡ bytesWritten out₀ to text from j))

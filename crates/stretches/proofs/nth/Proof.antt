@@ -3,11 +3,10 @@ use borrow.Author.Needs.{needs}
 use mathlib.Core.Logic.{⊎-elim}
 use mathlib.Core.Path.{_≡_}
 use native.Mathlib.Omega.{arith}
-use Rattle.rank.proofs.ScanLaws.{count-next-other}
-use Rattle.select.proofs.ScanLaws as laws
-use Rattle.select.proofs.scan.nth.Statement.{statement}
-use Rattle.select.proofs.scan.nth.Tie as tie
-use Rattle.text.specs.CountLaws.{count-none, count-next-same}
+use Rattle.stretches.proofs.StretchLaws as laws
+use Rattle.stretches.proofs.nth.Statement.{statement}
+use Rattle.stretches.proofs.nth.Tie as tie
+use Rattle.text.specs.CountLaws.{count-none, count-next-same, count-next-other}
 use Rattle.text.specs.Text.{stretch, countIn}
 
 abbrev Inv-loop : tie.InvT-loop

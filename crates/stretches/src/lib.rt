@@ -1,0 +1,76 @@
+// Stretches of lent bytes: a byte counted or looked for in one, bytes copied or made zero, and the shorter of two lengths.
+ghost use mathlib.Core.Path.{_≡_};
+ghost use mathlib.Core.List.{_++_};
+ghost use Prim.Native.Nat.{_+_, _≤_, min};
+ghost use lib.ListN.{length, drop, replicate};
+ghost use Rattle.text.specs.Text.{stretch, countIn};
+ghost use Rattle.stretches.specs.Stretches.{Stands, bytesWritten};
+
+// How often a byte stands in the n bytes at a place.
+pub fn count_in(t: &[u8], from: usize, n: u32, byte: u8) -> u32
+    requires { ⌜ from + n ≤ length (now t) ⌝ }
+    ensures { λ r. ⌜ (r ≡ countIn byte (stretch (now (t .entry)) from n)) × (r ≤ n) ⌝ }
+{
+    let mut times: u32 = 0;
+    let mut i: u32 = 0;
+    while i < n {
+        if t[from + i as usize] == byte {
+            times += 1;
+        }
+        i += 1;
+    }
+    times
+}
+
+// Where a byte stands for the j-th time in the n bytes at a place; n where it does not.
+pub fn nth(t: &[u8], from: usize, n: u32, byte: u8, j: u64) -> u32
+    requires { ⌜ (from + n ≤ length (now t)) × (1 ≤ j) ⌝ }
+    ensures { λ r. ⌜ Stands (now (t .entry)) from n byte j r ⌝ }
+{
+    let mut left: u64 = j;
+    let mut i: u32 = 0;
+    while i < n {
+        if t[from + i as usize] == byte {
+            if left == 1 {
+                return i;
+            }
+            left = left - 1;
+        }
+        i += 1;
+    }
+    i
+}
+
+// Copies n bytes of the text.
+pub fn copy(out: &mut [u8], to: usize, text: &[u8], from: usize, n: usize)
+    requires { ⌜ (to + n ≤ length (now out)) × (from + n ≤ length (now text)) ⌝ }
+    ensures { λ _. ⌜ now (out .exit) ≡ bytesWritten (now (out .entry)) to (now (text .entry)) from n ⌝ }
+{
+    let mut j: usize = 0;
+    while j < n {
+        out[to + j] = text[from + j];
+        j += 1;
+    }
+}
+
+// Writes zeros into the first n bytes.
+pub fn clear(buffer: &mut [u8], n: usize)
+    requires { ⌜ n ≤ length (now buffer) ⌝ }
+    ensures { λ _. ⌜ now (buffer .exit) ≡ replicate n 0 ++ drop n (now (buffer .entry)) ⌝ }
+{
+    let mut i: usize = 0;
+    while i < n {
+        buffer[i] = 0;
+        i += 1;
+    }
+}
+
+// The shorter of two lengths.
+pub fn shorter(a: u32, b: u32) -> u32
+    ensures { λ r. ⌜ r ≡ min a b ⌝ }
+{
+    if b < a {
+        return b;
+    }
+    a
+}
