@@ -1,13 +1,13 @@
 -- Questions 8 and 9: which trees are well linked, which text fits a tree, and which counts are true of it.
-use mathlib.Core.List.{List, [], _∷_}
+use mathlib.Core.List.{List}
 use mathlib.Core.Option.{Option, none, some}
-use mathlib.Core.Bool.{Bool, true, false, cond, not, _&&_, _||_}
-use Prim.Native.Nat.{ℕ, zero, suc, _+_, _-_, _*_, _/_, _%_}
+use mathlib.Core.Bool.{Bool, cond, not, _&&_, _||_}
+use Prim.Native.Nat.{ℕ, zero, suc, _+_, _-_, _*_, _/_}
 use lib.ListN.{length, getD}
 use lib.Dec.{ltb, leb, eqb}
 use Rattle.text.specs.Lists.{tabulate, allBelow, sumBelow, sameList}
 use Rattle.text.specs.Text.{stretch, countIn}
-use Rattle.format.specs.Settings.{Settings, blockLength, pieces}
+use Rattle.format.specs.Settings.{pieces}
 use Rattle.format.specs.Layout as at
 use Rattle.format.specs.Path.{Path, pathOf}
 

@@ -4,7 +4,7 @@ use mathlib.Core.Bool.{Bool, true, false, _&&_}
 use mathlib.Core.Path.{_≡_, refl}
 use Prim.Native.Nat.{ℕ, suc, _+_, _-_, _*_, _/_, _^_, _≤_, _<_}
 use native.Mathlib.Omega.{arith}
-use native.Mathlib.Nat.{pow-suc, pow-zero, mul-one, mul-assoc, mul-le-mul, mul-le-mul-left, mul-le-mul-right, pow-le-pow-right, one-le-pow, le-trans, add-mul}
+use native.Mathlib.Nat.{mul-le-mul-right, le-trans, add-mul}
 use borrow.Author.Tests.{eqb-true, leb-true}
 use lib.ListN.{length, getD, length-take, length-drop}
 use lib.Dec.{eqb, leb}
@@ -12,7 +12,7 @@ use Rattle.text.specs.Lists.{allBelow, sumBelow}
 use Rattle.text.specs.ListLaws.{and-left, and-right, allBelow-at, sumBelow-part}
 use Rattle.text.specs.Conjunctions.{parts}
 use Rattle.format.specs.Words.{wordAt}
-use Rattle.format.specs.Settings.{Settings, maxText, maxLeaf, minArity, maxArity, maxLevels, maxCounted, blockLength, pieces, lengthOk, sizesOk, countedOk, rising}
+use Rattle.format.specs.Settings.{maxText, maxLeaf, minArity, maxArity, maxLevels, maxCounted, pieces, lengthOk, sizesOk, countedOk, rising}
 use Rattle.format.specs.SizeLaws.{Sizes, sizes, length-step, length-pos, length-last, length-falls, length-top}
 use Rattle.format.specs.PieceLaws.{pieces-hold}
 use Rattle.format.specs.Layout.{textLength, countedCount, settings, levelCount, levelOffset, leafOffset, leafCount, recordSize, fullLength, longEnough, layoutOk, headerOk}

@@ -1,9 +1,9 @@
 -- A tree's bytes, read by the layout: the header's words, the fields of a record, a leaf byte. Any bytes can be read so.
-use mathlib.Core.List.{List, [], _∷_}
-use mathlib.Core.Bool.{Bool, true, false, not, _&&_}
-use Prim.Native.Nat.{ℕ, zero, suc, _+_, _-_, _*_, _/_, _^_, min}
+use mathlib.Core.List.{List}
+use mathlib.Core.Bool.{Bool, _&&_}
+use Prim.Native.Nat.{ℕ, _+_, _-_, _*_, min}
 use lib.ListN.{length, getD, take, drop}
-use lib.Dec.{ltb, leb, eqb}
+use lib.Dec.{leb, eqb}
 use Rattle.text.specs.Lists.{allBelow, sumBelow}
 use Rattle.format.specs.Words.{wordAt}
 use Rattle.format.specs.Settings.{Settings, blockLength, pieces, lengthOk, sizesOk, countedOk}

@@ -1,7 +1,7 @@
 -- How the tests of question 7, asked one by one, make the whole.
-use mathlib.Core.List.{List, [], _∷_}
+use mathlib.Core.List.{List}
 use mathlib.Core.Bool.{Bool, true, false, cond, _&&_}
-use mathlib.Core.Path.{_≡_, refl, sym, ap, _∙_}
+use mathlib.Core.Path.{_≡_, refl, sym, _∙_}
 use mathlib.Core.Logic.{_⊎_, inl, inr, ⊎-elim}
 use Prim.Native.Nat.{ℕ, _+_, _-_, _*_, _≤_, _<_}
 use native.Mathlib.Omega.{arith}
@@ -14,7 +14,7 @@ use Rattle.text.specs.ListLaws.{and-both}
 use Rattle.format.specs.Words.{wordAt}
 use Rattle.format.specs.Layout as at
 use Rattle.format.specs.Settings as format
-use Rattle.format.specs.SizeLaws.{Sizes, sizes}
+use Rattle.format.specs.SizeLaws.{sizes}
 use Rattle.layout.specs.declared.settings.Settings.{Settings}
 use Rattle.layout.specs.declared.settings.Checked.{Checked}
 use Rattle.layout.specs.declared.settings.Checked.the-variants.{Fine, Refused}

@@ -3,7 +3,6 @@ use crate::settings::Checked;
 use crate::settings::Settings;
 use crate::word;
 ghost use mathlib.Core.Path.{_≡_};
-ghost use mathlib.Core.Bool.{_&&_};
 ghost use Prim.Native.Nat.{_+_, _-_, _*_, _≤_, _<_};
 ghost use lib.ListN.{length};
 ghost use Rattle.format.specs.Settings as cut;

@@ -1,8 +1,7 @@
 // The settings of a tree, with their bounds, each named once.
 ghost use mathlib.Core.Path.{_≡_};
 ghost use Prim.Native.Nat.{_+_, _*_, _^_, _-_, _≤_, _<_};
-ghost use lib.ListN.{length};
-ghost use Rattle.format.specs.Settings.{sizesOk, countedOk, rising};
+ghost use Rattle.format.specs.Settings.{sizesOk, rising};
 ghost use Rattle.layout.specs.Settings.{sizes, checked, Sized};
 
 // The settings that a tree is built with: of the counted bytes their number; the bytes themselves stay where they are lent.

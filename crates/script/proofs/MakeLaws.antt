@@ -9,7 +9,6 @@ use native.Mathlib.Numerals.{add-one}
 use native.Mathlib.Omega.{arith}
 use lib.ListN.{length, getD, set, take, drop, replicate, length-set, length-take, length-drop, length-append, length-replicate}
 use lib.Seq.{paste, take-paste, length-take-le, getD-set-same, getD-set-other, getD-take, take-at, ext-getD}
-use lib.Dec.{ltb, leb}
 use borrow.Author.Tests.{lt-ltb, le-ltb}
 use Rattle.text.specs.Lists.{tabulate}
 use Rattle.text.specs.ListLaws.{below-suc, length-tabulate, getD-tabulate, tabulate-ext}
@@ -21,7 +20,7 @@ use Rattle.tokens.specs.declared.hexadecimal.Fault.{Fault}
 use Rattle.tokens.specs.declared.hexadecimal.Fault.the-variants as fault
 use Rattle.tokens.specs.declared.hexadecimal.Made.{Made}
 use Rattle.tokens.specs.declared.hexadecimal.Made.the-variants.{Bytes, Wrong}
-use Rattle.script.specs.Making.{Given, madeOf, bytesOf, Gives, firstOf, hexGiven, figureOf, repeated, timesOver, repeatGiven, plainBy, plainGiven, padTo, padGiven, makeBy, makeGiven, namedGiven}
+use Rattle.script.specs.Making.{Given, Gives, firstOf, hexGiven, figureOf, repeated, timesOver, repeatGiven, plainBy, plainGiven, padTo, padGiven, makeBy, makeGiven, namedGiven}
 use Rattle.script.specs.Words.{giftOf}
 use Rattle.script.specs.declared.words.Gift.{Gift}
 use Rattle.script.specs.Naming.{givingLine}

@@ -7,7 +7,6 @@ use Prim.Native.Nat.{ℕ, zero, suc, _+_, _-_, _*_, _/_, _%_, _≤_, _<_}
 use native.Mathlib.Omega.{arith}
 use native.Mathlib.Numerals.{add-one}
 use native.Mathlib.Nat.{pos-of-ne-zero, div-add-mod', mod-eq-of-lt, add-mul, mul-comm, div-mul-le-self, zero-mul, one-mul, add-zero, mul-mod-left}
-use lib.ListN.{length}
 use lib.Arith.{mul-pred, digits-mod}
 use Rattle.text.specs.ListLaws.{lt-or-ge}
 use Rattle.format.specs.PieceLaws.{lt-pieces}

@@ -1,16 +1,15 @@
 -- Laws of the definitions of `Lists`, and of tests joined by `&&` and `||`.
-use mathlib.Core.List.{List, [], _∷_, _++_}
-use mathlib.Core.Bool.{Bool, true, false, cond, not, _&&_, _||_}
-use mathlib.Core.Path.{_≡_, refl, sym, ap, _∙_}
+use mathlib.Core.List.{List, [], _∷_}
+use mathlib.Core.Bool.{Bool, true, false, not, _&&_, _||_}
+use mathlib.Core.Path.{_≡_, refl, ap, _∙_}
 use mathlib.Core.Logic.{_⊎_, inl, inr}
 use Prim.Native.Nat.{ℕ, zero, suc, _+_, _-_, _≤_, _<_}
 use native.Mathlib.Omega.{arith}
 use native.Mathlib.Decide.{decLt}
-use native.Mathlib.Nat.{add-suc, add-zero, suc-inj}
-use lib.ListN.{length, getD, length-append}
-use lib.Dec.{eqb, ltb}
+use lib.ListN.{length, getD}
+use lib.Dec.{eqb}
 use borrow.Author.Tests.{eqb-true, eq-eqb}
-use Rattle.text.specs.Lists.{tabulate, concat, sumBelow, allBelow, sameList}
+use Rattle.text.specs.Lists.{tabulate, sumBelow, allBelow, sameList}
 
 -- Tests.
 

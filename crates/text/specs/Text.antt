@@ -1,8 +1,8 @@
 -- What is asked of a text, a list of bytes.
 use mathlib.Core.List.{List, [], _∷_}
-use mathlib.Core.Bool.{Bool, true, false, cond}
+use mathlib.Core.Bool.{cond}
 use Prim.Native.Nat.{ℕ, zero, suc, _+_, _-_}
-use lib.ListN.{length, take, drop, getD}
+use lib.ListN.{take, drop}
 use lib.Dec.{eqb}
 use Rattle.text.specs.Lists.{sameList}
 

@@ -2,7 +2,7 @@
 use mathlib.Core.List.{List, [], _∷_}
 use mathlib.Core.Bool.{Bool, true, false, cond}
 use mathlib.Core.Path.{_≡_, refl, sym, ap, _∙_}
-use Prim.Native.Nat.{ℕ, suc, _+_, _*_, _/_, _%_, _≤_, _<_}
+use Prim.Native.Nat.{ℕ, _+_, _*_, _/_, _%_, _≤_, _<_}
 use native.Mathlib.Nat.{zero-add}
 use native.Mathlib.Numerals.{add-one}
 use native.Mathlib.Omega.{arith}
@@ -10,7 +10,7 @@ use lib.ListN.{length, getD, set}
 use lib.Seq.{paste, paste-suc}
 use lib.Dec.{ltb, leb, eqb}
 use borrow.Author.Tests.{lt-ltb, le-ltb, le-leb, lt-leb, leb-true, ltb-false, eq-eqb, ne-eqb}
-use Rattle.text.specs.Lists.{allBelow, tabulate, sameList}
+use Rattle.text.specs.Lists.{allBelow, sameList}
 use Rattle.text.specs.ListLaws.{bool-clash, allBelow-at, allBelow-not, and-both, eq-sameList, ne-sameList, length-tabulate, getD-tabulate}
 use Rattle.tokens.specs.Hex.{digitOf, byteOf, byteAt, allHex, hexBytes, hexOf, madeSize}
 use Rattle.tokens.specs.declared.hexadecimal.Fault.the-variants as Fault

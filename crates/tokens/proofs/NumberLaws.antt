@@ -10,7 +10,7 @@ use lib.Seq.{drop-cons}
 use Rattle.text.specs.Lists.{allBelow}
 use Rattle.text.specs.ListLaws.{allBelow-not, and-both}
 use Rattle.tokens.specs.Parts.{tokenOf}
-use Rattle.tokens.specs.Numbers.{moreOf, then, numberFrom, numberOf, valueOf, said, isNumber, figuresRight}
+use Rattle.tokens.specs.Numbers.{moreOf, then, numberFrom, numberOf, said, isNumber, figuresRight}
 use Rattle.tokens.specs.declared.decimal.Number.{Number}
 use Rattle.tokens.specs.declared.decimal.Number.the-variants.{Is, Nothing}
 

@@ -5,7 +5,6 @@ use Prim.Native.Nat.{ℕ, _+_, _-_, _*_, _/_, _%_}
 use lib.ListN.{length, getD}
 use lib.Dec.{eqb, ltb, leb}
 use Rattle.text.specs.Lists.{allBelow, tabulate, sameList}
-use Rattle.tokens.specs.declared.hexadecimal.Fault.{Fault}
 use Rattle.tokens.specs.declared.hexadecimal.Fault.the-variants as fault
 use Rattle.tokens.specs.declared.hexadecimal.Made.{Made}
 use Rattle.tokens.specs.declared.hexadecimal.Made.the-variants.{Bytes, Wrong}

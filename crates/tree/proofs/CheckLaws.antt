@@ -2,9 +2,9 @@
 use mathlib.Core.List.{List}
 use mathlib.Core.Bool.{true, false}
 use mathlib.Core.Path.{_≡_, sym, _∙_}
-use Prim.Native.Nat.{ℕ, suc}
+use Prim.Native.Nat.{ℕ}
 use Rattle.format.specs.Fits.{linksOk, textOf, countsTrue}
-use Rattle.format.specs.Verdict.{readable, verdict}
+use Rattle.format.specs.Verdict.{verdict}
 use Rattle.format.specs.VerdictLaws.{verdict-readable, verdict-refused}
 use Rattle.layout.specs.declared.header.Header.{Header}
 use Rattle.layout.specs.declared.header.HeaderRead.{HeaderRead}

@@ -1,24 +1,22 @@
 -- The demands on build and check, as theorems over what their calls promise.
 use mathlib.Core.List.{List, _++_}
-use mathlib.Core.Path.{_≡_, refl, sym, ap, _∙_}
+use mathlib.Core.Path.{_≡_, sym, ap, _∙_}
 use mathlib.Core.Logic.{_↔_}
 use mathlib.Core.Bool.{true}
 use mathlib.Core.Option.{some}
-use Prim.Native.Nat.{ℕ, suc, _+_, _≤_, _<_}
-use native.Mathlib.Omega.{arith}
+use Prim.Native.Nat.{ℕ, _+_, _≤_, _<_}
 use contract.Lifetimes.{Lfts}
 use denote.Ref.{RefT, now}
 use lib.ListN.{length, getD, take, drop}
 use lib.Seq.{take-append-seam}
-use lib.Dec.{eqb, leb}
+use lib.Dec.{leb}
 use Rattle.text.specs.Text.{stretch}
 use Rattle.format.specs.Settings.{Settings, lengthOk, sizesOk, countedOk}
 use Rattle.format.specs.Blocks.{treeOf}
 use Rattle.format.specs.Layout as at
 use Rattle.format.specs.Path.{Path, pathOf}
-use Rattle.format.specs.Fits.{linksOk, textOf, fits}
-use Rattle.format.specs.Verdict.{ask, readable, verdict}
-use Rattle.format.specs.Said.{Said}
+use Rattle.format.specs.Fits.{textOf, fits}
+use Rattle.format.specs.Verdict.{ask, verdict}
 use Rattle.format.specs.HeaderLaws.{ask-test, ask-rest}
 use Rattle.format.specs.Building.{buildNumber, buildSize, buildLeaves}
 use Rattle.format.specs.Reading.{byteSays, spanNumber, spanLeaves}

@@ -1,6 +1,5 @@
 use borrow.Author.Needs.{needs}
 use borrow.Author.Tests.{lt-leb, le-leb}
-use mathlib.Core.Path.{_∙_, sym, ap}
 use Rattle.format.specs.Settings.{lengthOk}
 use Rattle.layout.proofs.QuestionSeven as laws
 use Rattle.layout.proofs.header.header_right.Statement.{statement}

@@ -1,6 +1,5 @@
 use borrow.Author.Needs.{needs}
 use mathlib.Core.Path.{_∙_, sym}
-use native.Mathlib.Omega.{arith}
 use Rattle.layout.proofs.HeaderLaws as laws
 use Rattle.layout.proofs.Tests.{failed, held}
 use Rattle.layout.proofs.header.rest_right.Statement.{statement}

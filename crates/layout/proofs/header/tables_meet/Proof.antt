@@ -1,14 +1,14 @@
 use Prim.Native.Nat.{ℕ, _-_, _+_, _*_, _≤_}
 use borrow.Author.Needs.{needs}
 use mathlib.Core.Bool.{true}
-use mathlib.Core.Path.{_≡_, refl, _∙_, ap}
+use mathlib.Core.Path.{_≡_, _∙_, ap}
 use native.Mathlib.Omega.{arith}
 use Rattle.format.specs.Layout.{levelCount, recordSize}
 use Rattle.layout.proofs.HeaderLaws.{apart, meets, end-none, end-more, leaves-meet, level-apart}
 use Rattle.layout.proofs.Scan.{scan-none, scan-more, scan-fails}
 use Rattle.layout.proofs.header.tables_meet.Statement.{statement}
 use Rattle.layout.proofs.header.tables_meet.Tie as tie
-use Rattle.layout.specs.Header.{tablesMeet, follows}
+use Rattle.layout.specs.Header.{follows}
 use Rattle.text.specs.Lists.{allBelow, sumBelow}
 
 abbrev Inv-loop : tie.InvT-loop

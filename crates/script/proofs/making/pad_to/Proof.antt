@@ -1,4 +1,3 @@
-use native.Mathlib.Omega.{arith}
 use borrow.Author.Needs.{needs}
 use Rattle.script.proofs.MakeLaws.{pad-short, pad-long, pad-all}
 use Rattle.script.proofs.making.pad_to.Statement.{statement}

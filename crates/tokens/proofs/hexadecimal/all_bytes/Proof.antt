@@ -1,5 +1,5 @@
 -- `all_bytes` meets its contract. The loop's invariant: those passed are bytes.
-use Prim.Native.Nat.{_-_, _≤_, _/_}
+use Prim.Native.Nat.{_-_, _≤_}
 use native.Mathlib.Omega.{arith}
 use borrow.Author.Needs.{needs}
 use Rattle.tokens.proofs.HexLaws.{Bytes, bytes-none, bytes-more, bytes-all, bytes-not}

@@ -1,6 +1,5 @@
 -- `start` meets its contract. The loop's invariant: token i begins at the place reached.
 use Prim.Native.Nat.{_-_, _≤_}
-use mathlib.Core.Path.{refl}
 use native.Mathlib.Omega.{arith}
 use borrow.Author.Needs.{needs}
 use Rattle.tokens.specs.Parts.{Start}

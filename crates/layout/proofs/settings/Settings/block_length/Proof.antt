@@ -1,7 +1,7 @@
-use Prim.Native.Nat.{ℕ, _*_, _^_, _-_, _≤_, _<_, _+_}
+use Prim.Native.Nat.{ℕ, _*_, _^_, _-_, _≤_, _<_}
 use borrow.Author.Needs.{needs}
 use mathlib.Core.Path.{_≡_}
-use native.Mathlib.Nat.{mul-le-mul-left, pow-le-pow-right, le-trans}
+use native.Mathlib.Nat.{mul-le-mul-left, pow-le-pow-right}
 use native.Mathlib.Omega.{arith}
 use Rattle.layout.proofs.settings.Settings.block_length.Statement.{statement}
 use Rattle.layout.proofs.settings.Settings.block_length.Tie as tie

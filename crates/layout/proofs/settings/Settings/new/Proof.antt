@@ -1,6 +1,5 @@
 use borrow.Author.Needs.{needs}
 use borrow.Author.Tests.{lt-leb, le-leb}
-use mathlib.Core.Path.{sym, _∙_}
 use Rattle.format.specs.Settings.{countedOk}
 use Rattle.layout.proofs.Tests.{failed, held}
 use Rattle.layout.proofs.settings.Settings.new.Statement.{statement}
