@@ -1,6 +1,6 @@
 // The builder: byte for byte the block tree of its text, written into a lent buffer.
 mod fill;
-mod tree;
+mod whole;
 
 use layout::settings::Checked;
 use layout::settings::Settings;
@@ -50,7 +50,7 @@ fn build_with(text: &[u8], counted: &[u8], s: Settings, out: &mut [u8]) -> Built
     ensures { λ r. ⌜ sizeOf r ≡ buildSize (settingsOf s (now (counted .entry))) (now (text .entry)) (now (out .entry)) ⌝ }
     ensures { λ _. ⌜ now (out .exit) ≡ buildLeaves (settingsOf s (now (counted .entry))) (now (text .entry)) (now (out .entry)) ⌝ }
 {
-    let size = tree::write_tree(out, text, counted, s);
+    let size = whole::write_tree(out, text, counted, s);
     if size == 0 {
         let all = out.len();
         stretches::clear(out, all);

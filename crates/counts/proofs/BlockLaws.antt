@@ -16,7 +16,7 @@ use Rattle.paths.specs.Landing.{target}
 use Rattle.layout.specs.declared.header.Header.{Header}
 use Rattle.tallies.specs.Local.{upLength, beforeLocal, inLeaves, lastChild, handBlock, handPlace, upTo, keptInside, keptLocal, pointingSkip, pointingInside, pointingLocal, blockLocal}
 use Rattle.tallies.specs.Families.{neighbour}
-use Rattle.counts.specs.declared.walk.Hand.{Hand}
+use Rattle.counts.specs.declared.prefix.Hand.{Hand}
 use Rattle.counts.specs.Asked.{InTable, InBlock, InKept, TrueBelow}
 use Rattle.counts.specs.Hand.{handOf}
 use Rattle.counts.proofs.HeaderFacts as facts

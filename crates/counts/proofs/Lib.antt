@@ -1,4 +1,4 @@
 pub mod HeaderFacts
-pub mod WalkLaws
+pub mod PrefixLaws
 pub mod BlockLaws
 pub mod LevelLaws

@@ -6,7 +6,7 @@ use lib.Dec.{eqb}
 use Rattle.format.specs.Layout as at
 use Rattle.tallies.specs.Local.{handBlock, handPlace, handPlus, handMinus}
 use Rattle.layout.specs.declared.header.Header.{Header}
-use Rattle.counts.specs.declared.walk.Hand.{Hand}
+use Rattle.counts.specs.declared.prefix.Hand.{Hand}
 
 module _ (t : List ℕ) where
   -- what i adds and takes off as it hands on place o

@@ -1,5 +1,5 @@
 // One block's counts of one counted byte.
-use crate::walk;
+use crate::prefix;
 use layout::header::Header;
 use layout::place::BlockNumber;
 use layout::place::BlockPlace;
@@ -53,7 +53,7 @@ fn kept_inside(t: &[u8], h: Header, level: u32, b: u32, block: BlockNumber, c: u
     let length = length_from(h.length, start, b);
     let down = level + 1;
     if down == h.settings.levels {
-        return walk::in_leaves(t, h, level, block, length, c);
+        return prefix::in_leaves(t, h, level, block, length, c);
     }
     let link = record::link(t, k, level, block);
     let last = BlockNumber(link + (length - 1) / (b / h.settings.arity));
@@ -86,7 +86,7 @@ fn pointing_skip(t: &[u8], h: Header, level: u32, b: u32, block: BlockNumber, c:
         return 0;
     }
     let link = record::link(t, h.settings.counted, level, block);
-    walk::up_to(t, h, level, b, BlockNumber(link), BlockPlace(gap.0 - 1), c)
+    prefix::up_to(t, h, level, b, BlockNumber(link), BlockPlace(gap.0 - 1), c)
 }
 
 // How often it stands there in the gap and the block's own length together.
@@ -96,9 +96,9 @@ fn pointing_inside(t: &[u8], h: Header, level: u32, b: u32, block: BlockNumber, 
 {
     let start = record::start(t, h.settings.counted, level, block);
     let length = length_from(h.length, start, b);
-    let on = walk::hand_on(t, h, level, b, block, BlockPlace(length - 1), c);
+    let on = prefix::hand_on(t, h, level, b, block, BlockPlace(length - 1), c);
     let next = on.block;
-    let rest = walk::up_to(t, h, level, b, next, on.place, c);
+    let rest = prefix::up_to(t, h, level, b, next, on.place, c);
     on.plus + rest
 }
 

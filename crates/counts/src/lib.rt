@@ -6,7 +6,7 @@ ghost use Rattle.counts.specs.Asked.{Linking};
 
 pub mod block;
 pub mod level;
-pub mod walk;
+pub mod prefix;
 
 // Of a tree that passes questions 5 to 8, with its header: are its counts true of the one text that fits it? The levels are looked at
 // from the last one up.

@@ -1,7 +1,7 @@
 use native.Mathlib.Omega.{arith}
 use Rattle.counts.proofs.BlockLaws as laws
 use Rattle.counts.proofs.HeaderFacts as facts
-use Rattle.counts.proofs.WalkLaws.{walk-small}
+use Rattle.counts.proofs.PrefixLaws.{walk-small}
 use Rattle.counts.proofs.block.pointing_inside.Statement.{statement}
 use Rattle.counts.proofs.block.pointing_inside.Tie as tie
 

@@ -5,8 +5,8 @@ use native.Mathlib.Omega.{arith}
 use Rattle.builder.proofs.Levelling as laws
 use Rattle.records.proofs.Growth.{grown-none, grown-then}
 use Rattle.built.specs.Sizes.{bounds}
-use Rattle.builder.proofs.tree.put_levels.Statement.{statement}
-use Rattle.builder.proofs.tree.put_levels.Tie as tie
+use Rattle.builder.proofs.whole.put_levels.Statement.{statement}
+use Rattle.builder.proofs.whole.put_levels.Tie as tie
 
 abbrev Inv-loop : tie.InvT-loop
 Inv-loop out₀ text counted first level₀ out level = laws.Reached (first .settings) counted text out₀ out level

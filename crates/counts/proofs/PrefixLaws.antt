@@ -20,7 +20,7 @@ use Rattle.tallies.specs.Exact.{up-to}
 use Rattle.tallies.specs.Stretches.{leaves-end, tally-le}
 use Rattle.tallies.specs.Targets.{Handed, handed}
 use Rattle.tallies.specs.Local.{handBlock, handPlace, handPlus, handMinus, inLeaves, upTo}
-use Rattle.counts.specs.declared.walk.Hand.{Hand}
+use Rattle.counts.specs.declared.prefix.Hand.{Hand}
 use Rattle.counts.specs.Asked.{Linking, InTable, InBlock, InKept}
 use Rattle.counts.specs.Hand.{handOf, stepOf}
 use Rattle.counts.proofs.HeaderFacts as facts

@@ -1,9 +1,9 @@
 use borrow.Author.Needs.{needs}
 use native.Mathlib.Omega.{arith}
 use Rattle.counts.proofs.HeaderFacts as facts
-use Rattle.counts.proofs.WalkLaws as laws
-use Rattle.counts.proofs.walk.in_leaves.Statement.{statement}
-use Rattle.counts.proofs.walk.in_leaves.Tie as tie
+use Rattle.counts.proofs.PrefixLaws as laws
+use Rattle.counts.proofs.prefix.in_leaves.Statement.{statement}
+use Rattle.counts.proofs.prefix.in_leaves.Tie as tie
 
 pub in-leaves-spec : {M : Type 1} → statement M
 in-leaves-spec =

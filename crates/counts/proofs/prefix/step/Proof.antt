@@ -2,9 +2,9 @@ use Prim.Native.Nat.{_+_}
 use borrow.Author.Needs.{needs}
 use native.Mathlib.Omega.{arith}
 use Rattle.counts.proofs.HeaderFacts as facts
-use Rattle.counts.proofs.WalkLaws as laws
-use Rattle.counts.proofs.walk.step.Statement.{statement}
-use Rattle.counts.proofs.walk.step.Tie as tie
+use Rattle.counts.proofs.PrefixLaws as laws
+use Rattle.counts.proofs.prefix.step.Statement.{statement}
+use Rattle.counts.proofs.prefix.step.Tie as tie
 
 pub step-spec : {M : Type 1} → statement M
 step-spec =

@@ -1,7 +1,7 @@
 use borrow.Author.Needs.{needs}
 use Rattle.builder.proofs.Levelling as laws
-use Rattle.builder.proofs.tree.write_tree.Statement.{statement}
-use Rattle.builder.proofs.tree.write_tree.Tie as tie
+use Rattle.builder.proofs.whole.write_tree.Statement.{statement}
+use Rattle.builder.proofs.whole.write_tree.Tie as tie
 
 pub write-tree-spec : {M : Type 1} → statement M
 write-tree-spec =

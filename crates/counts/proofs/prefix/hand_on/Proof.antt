@@ -1,9 +1,9 @@
 use borrow.Author.Needs.{needs}
 use native.Mathlib.Omega.{arith}
 use Rattle.counts.proofs.HeaderFacts as facts
-use Rattle.counts.proofs.WalkLaws as laws
-use Rattle.counts.proofs.walk.hand_on.Statement.{statement}
-use Rattle.counts.proofs.walk.hand_on.Tie as tie
+use Rattle.counts.proofs.PrefixLaws as laws
+use Rattle.counts.proofs.prefix.hand_on.Statement.{statement}
+use Rattle.counts.proofs.prefix.hand_on.Tie as tie
 
 pub hand-on-spec : {M : Type 1} → statement M
 hand-on-spec =

@@ -3,14 +3,14 @@ use native.Mathlib.Omega.{arith}
 use borrow.Fn.Kinds.{In}
 use borrow.Fn.PlainCycle.{Measures, is, falls, and}
 use Rattle.counts.proofs.HeaderFacts as facts
-use Rattle.counts.proofs.WalkLaws as laws
-use Rattle.counts.proofs.walk.up_to.Reads as up-to
-use Rattle.counts.proofs.walk.up_to.Kinds as up-to-kinds
-use Rattle.counts.proofs.walk.+up_to.Lts-up_to as up-to-lts
-use Rattle.counts.proofs.walk.in_leaves.Reads as in-leaves-reads
-use Rattle.counts.proofs.walk.step.Reads as step-reads
-use Rattle.counts.proofs.walk.+up_to.{statement}
-use Rattle.counts.proofs.walk.+up_to.Tie.{close}
+use Rattle.counts.proofs.PrefixLaws as laws
+use Rattle.counts.proofs.prefix.up_to.Reads as up-to
+use Rattle.counts.proofs.prefix.up_to.Kinds as up-to-kinds
+use Rattle.counts.proofs.prefix.+up_to.Lts-up_to as up-to-lts
+use Rattle.counts.proofs.prefix.in_leaves.Reads as in-leaves-reads
+use Rattle.counts.proofs.prefix.step.Reads as step-reads
+use Rattle.counts.proofs.prefix.+up_to.{statement}
+use Rattle.counts.proofs.prefix.+up_to.Tie.{close}
 
 -- the levels left
 abbrev μ-up-to : Measures 1 up-to-kinds.ps ℕ
