@@ -7,6 +7,7 @@ use Prim.Native.Nat.{ℕ, _-_, _≤_, min}
 use native.Mathlib.Omega.{arith}
 use borrow.Author.Tests.{eqb-true}
 use lib.Dec.{eqb}
+use Rattle.format.specs.Settings.{maxText}
 use Rattle.format.specs.Said.{Said}
 use Rattle.format.specs.SaidLaws.{unless-passes, unless-number}
 use Rattle.format.specs.Layout as at
@@ -66,10 +67,10 @@ part-short : (b : Bool) (part : ℕ × ℕ) (most : ℕ) → (b ≡ true → par
 part-short true part most h = h refl
 part-short false part most h = omega arith
 
-pub run-short : (t : List ℕ) (p : ℕ) → runSays t p .1 ≤ 1048576
+pub run-short : (t : List ℕ) (p : ℕ) → runSays t p .1 ≤ maxText
 unfolding runSays
 run-short t p =
-    part-short (eqb (byteSays t p .number) 0) (runOf t p (pathOf t p)) 1048576
+    part-short (eqb (byteSays t p .number) 0) (runOf t p (pathOf t p)) maxText
     (λ e. omega (arith, path-short t p (pathOf t p), readable-facts t (byte-readable t p (eqb-true _ 0 e)) .text-high))
 
 -- span

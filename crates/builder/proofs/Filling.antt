@@ -7,7 +7,7 @@ use native.Mathlib.Omega.{arith}
 use native.Mathlib.Numerals.{add-one}
 use Rattle.text.specs.Lists.{sumBelow}
 use Rattle.text.specs.ListLaws.{sumBelow-suc}
-use Rattle.format.specs.Settings.{Settings}
+use Rattle.format.specs.Settings.{Settings, maxText}
 use Rattle.format.specs.Blocks.{treeOf}
 use Rattle.built.specs.Structure.{widthOf}
 use Rattle.built.specs.Sizes.{Bounds, bounds}
@@ -62,7 +62,7 @@ module _ (S : Settings) (T : List ℕ) (level : Level) (h : LevelIs S T level) w
         link-next : link + wide ≡ sumBelow (i + 1) (widthOf S T l)
         link-next = rw (g .link-is, wide-is) (sym (sumBelow-suc i (widthOf S T l)))
 
-        pub link-few : link + wide ≤ 1048576
+        pub link-few : link + wide ≤ maxText
         link-few = omega (arith, link-next, widths-le S T (h .taken) l (i + 1) (h .number-in) (omega (arith, h .count-is)), limits .text-high)
 
         before-next : right ≡ pairBefore S T l (i + 1)

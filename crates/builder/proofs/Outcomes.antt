@@ -8,7 +8,7 @@ use lib.ListN.{length, drop, replicate}
 use lib.Seq.{drop-length}
 use lib.Dec.{eqb}
 use borrow.Author.Tests.{le-leb, lt-leb}
-use Rattle.format.specs.Settings.{Settings, lengthOk, sizesOk, countedOk}
+use Rattle.format.specs.Settings.{Settings, lengthOk, sizesOk, countedOk, maxText}
 use Rattle.format.specs.Blocks.{treeOf}
 use Rattle.format.specs.Building.{buildNumber, buildSize, buildLeaves}
 use Rattle.layout.specs.declared.settings.Settings as code
@@ -80,13 +80,13 @@ pub no-bytes : (T : List ℕ) → length T < 1 → lengthOk (length T) ≡ false
 unfolding lengthOk
 no-bytes T l = rw (lt-leb 1 (length T) l)
 
-pub many-bytes : (T : List ℕ) → 1 ≤ length T → 1048576 < length T → lengthOk (length T) ≡ false
+pub many-bytes : (T : List ℕ) → 1 ≤ length T → maxText < length T → lengthOk (length T) ≡ false
 unfolding lengthOk
-many-bytes T l m = rw (le-leb 1 (length T) l, lt-leb (length T) 1048576 m)
+many-bytes T l m = rw (le-leb 1 (length T) l, lt-leb (length T) maxText m)
 
-pub some-bytes : (T : List ℕ) → 1 ≤ length T → length T ≤ 1048576 → lengthOk (length T) ≡ true
+pub some-bytes : (T : List ℕ) → 1 ≤ length T → length T ≤ maxText → lengthOk (length T) ≡ true
 unfolding lengthOk
-some-bytes T l m = rw (le-leb 1 (length T) l, le-leb (length T) 1048576 m)
+some-bytes T l m = rw (le-leb 1 (length T) l, le-leb (length T) maxText m)
 
 module _ (m r H : ℕ) (cs T out : List ℕ) (ok : lengthOk (length T) ≡ true) (x : Checked) (is : x ≡ checked m r H cs) where
   abbrev S : Settings

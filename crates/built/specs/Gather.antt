@@ -44,12 +44,6 @@ unfolding sumBelow
 sumBelow-same zero c = omega arith
 sumBelow-same (suc n) c = rw (sumBelow-same n c, suc-mul) (omega arith)
 
--- each part at most c
-pub sumBelow-bound : (n c : ℕ) (f : ℕ → ℕ) → ((i : ℕ) → i < n → f i ≤ c) → sumBelow n f ≤ n * c
-unfolding sumBelow
-sumBelow-bound zero c f h = omega arith
-sumBelow-bound (suc n) c f h = rw suc-mul (omega (arith, sumBelow-bound n c f (λ i l. h i (omega arith)), h n (omega arith)))
-
 pub sumBelow-scale : (n c : ℕ) (f : ℕ → ℕ) → sumBelow n (λ i. f i * c) ≡ sumBelow n f * c
 unfolding sumBelow
 sumBelow-scale zero c f = omega arith

@@ -10,6 +10,7 @@ use borrow.Author.Tests.{eq-eqb, ne-eqb}
 use lib.ListN.{length, getD}
 use lib.Seq.{getD-take, getD-drop}
 use Rattle.text.specs.ListLaws.{below-suc}
+use Rattle.format.specs.Settings.{maxText}
 use Rattle.format.specs.Layout as at
 use Rattle.format.specs.WordLaws.{wordAt-lt}
 use Rattle.format.specs.HeaderLaws.{full-small, full-step}
@@ -99,10 +100,10 @@ module _ (t : List ℕ) (h : Header) (level i c : ℕ) (w : InTable t h level i 
   skip-there = (number-low, there (6 + 3 * c) (omega (arith, number-low)))
 
   -- no block is longer than the longest text
-  pub full-lt : at.fullLength t level ≤ 1048576
+  pub full-lt : at.fullLength t level ≤ maxText
   full-lt = full-small t (w .tree .header .facts) level
 
-  pub length-lt : at.blockLengthAt t level i ≤ 1048576
+  pub length-lt : at.blockLengthAt t level i ≤ maxText
   length-lt = omega (arith, len-small t level i, full-lt)
 
 -- the kind says whether the block is kept

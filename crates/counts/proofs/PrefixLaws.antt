@@ -2,11 +2,12 @@
 use mathlib.Core.List.{List}
 use mathlib.Core.Bool.{false}
 use mathlib.Core.Path.{_≡_, _∙_}
-use Prim.Native.Nat.{ℕ, suc, _+_, _-_, _/_, _%_, _≤_, _<_}
+use Prim.Native.Nat.{ℕ, suc, _+_, _-_, _/_, _%_, _≤_, _<_, _*_}
 use native.Mathlib.Omega.{arith}
 use borrow.Author.Tests.{lt-ltb, le-ltb}
 use lib.ListN.{length, getD}
 use Rattle.text.specs.Text.{stretch, countIn}
+use Rattle.format.specs.Settings.{maxText}
 use Rattle.format.specs.Layout as at
 use Rattle.format.specs.HeaderLaws.{Readable, full-pos, full-small}
 use Rattle.paths.specs.Links.{Linked, Pointing}
@@ -46,7 +47,7 @@ module _ (t : List ℕ) (h : Header) (level b c : ℕ) (block : BlockNumber) (pl
     p : Pointing t level i
     p = facts.linked t h (w .table .tree) .points level i (w .table .level-in) (w .table .block-in) un
 
-    pub sum-small : (g : ℕ) → g ≡ at.gap t level i → g + o < 2097152
+    pub sum-small : (g : ℕ) → g ≡ at.gap t level i → g + o < (2 * maxText)
     sum-small g e = omega (arith, p .gap-small, w .place-in, facts.full-lt t h level i c (w .table), facts.length-lt t h level i c (w .table))
 
     module _ (j g sk : ℕ) (j-is : j ≡ at.link t level i) (g-is : g ≡ at.gap t level i) (sk-is : sk ≡ at.skip t level i c) where
@@ -124,7 +125,7 @@ module _ (t : List ℕ) (h : Header) (level b c i o : ℕ) (b-is : b ≡ at.full
   pub not-last : (level + 1 ≡ h .settings .levels → ⊥) → level + 1 < at.settings t .levels
   not-last n = facts.not-last t h tree level (w .block .table .level-in) n
 
-  pub walk-small : (r : ℕ) → r ≡ upTo t (at.settings t .levels - 1 - level) level i o c → r ≤ 1048576
+  pub walk-small : (r : ℕ) → r ≡ upTo t (at.settings t .levels - 1 - level) level i o c → r ≤ maxText
   walk-small r e =
       omega (
         arith,
@@ -180,7 +181,7 @@ module _ (t : List ℕ) (h : Header) (level b c i o : ℕ) (b-is : b ≡ at.full
             ∙ up-to t k d (at.settings t .levels - 1 - (level + 1)) (level + 1) (handBlock t (level + 1) down onward) (handPlace t (level + 1) down onward) c (omega arith)
             (next .below) (next .kept) (next .inside) (w .block .table .number-in) below-true
 
-        pub rest-small : rest ≤ 1048576
+        pub rest-small : rest ≤ maxText
         rest-small =
             omega (
               arith,

@@ -9,7 +9,7 @@ use lib.Dec.{leb}
 use borrow.Author.Tests.{le-leb, lt-leb}
 use Rattle.text.specs.Lists.{sumBelow}
 use Rattle.text.specs.ListLaws.{sumBelow-suc}
-use Rattle.format.specs.Settings.{pieces, lengthOk, sizesOk, countedOk, rising}
+use Rattle.format.specs.Settings.{pieces, lengthOk, sizesOk, countedOk, rising, maxText}
 use Rattle.format.specs.SizeLaws.{Sizes}
 use Rattle.format.specs.SizeLaws as format
 use Rattle.layout.specs.declared.settings.Settings as code
@@ -33,22 +33,22 @@ module _ (s : code.Settings) (z : Sized s 0) (low : 1 ≤ s .leaf) where
   pub block-low : (l : ℕ) → 0 < s .leaf * s .arity ^ (s .levels - 1 - l)
   block-low l = mul-le-mul {n₁ = 1} {m₁ = 1} low (one-le-pow (s .levels - 1 - l) (s .arity) (omega (arith, z .arity-low)))
 
-  pub block-few : (l : ℕ) → s .leaf * s .arity ^ (s .levels - 1 - l) ≤ 1048576
+  pub block-few : (l : ℕ) → s .leaf * s .arity ^ (s .levels - 1 - l) ≤ maxText
   block-few l = le-trans (mul-le-mul-left (s .leaf) (pow-le-pow-right {n = s .arity} (omega (arith, z .arity-low)) (let e : s .levels - 1 - l ≤ s .levels - 1 = omega arith in e))) (z .block-high)
 
   -- the blocks of the first levels
   abbrev pub upTo : ℕ → ℕ → ℕ
   upTo n l = sumBelow l (λ l. pieces n (s .leaf * s .arity ^ (s .levels - 1 - l)))
 
-  pieces-few : (n b : ℕ) → n ≤ 1048576 → b ≤ 1048576 → pieces n b ≤ 2097152
+  pieces-few : (n b : ℕ) → n ≤ maxText → b ≤ maxText → pieces n b ≤ (2 * maxText)
   unfolding pieces
   pieces-few n b h k = omega (arith, div-le-self (n + (b - 1)) b)
 
-  module _ (n l sum b p : ℕ) (small : n ≤ 1048576) (b-is : b ≡ s .leaf * s .arity ^ (s .levels - 1 - l)) (p-is : p ≡ pieces n b) where
+  module _ (n l sum b p : ℕ) (small : n ≤ maxText) (b-is : b ≡ s .leaf * s .arity ^ (s .levels - 1 - l)) (p-is : p ≡ pieces n b) where
     pub one-level : sum ≡ upTo n l → sum + p ≡ upTo n (l + 1)
     one-level e = rw (e, p-is, b-is) (sym (sumBelow-suc l (λ l. pieces n (s .leaf * s .arity ^ (s .levels - 1 - l)))))
 
-    pub level-few : p ≤ 2097152
+    pub level-few : p ≤ (2 * maxText)
     level-few = rw p-is (pieces-few n b small (rw b-is (block-few l)))
 
 pub none-first : (f : ℕ → ℕ) → 0 ≡ sumBelow 0 f
@@ -61,11 +61,11 @@ module _ (n m r H k : ℕ) where
   unfolding enoughSays lengthOk
   no-length l = rw (lt-leb 1 n l)
 
-  pub long : 1 ≤ n → 1048576 < n → Refused 1 ≡ enoughSays n m r H k
+  pub long : 1 ≤ n → maxText < n → Refused 1 ≡ enoughSays n m r H k
   unfolding enoughSays lengthOk
-  long l h = rw (le-leb 1 n l, lt-leb n 1048576 h)
+  long l h = rw (le-leb 1 n l, lt-leb n maxText h)
 
-  module _ (low : 1 ≤ n) (high : n ≤ 1048576) (x : Checked) (is : x ≡ checked m r H []) where
+  module _ (low : 1 ≤ n) (high : n ≤ maxText) (x : Checked) (is : x ≡ checked m r H []) where
     nothing-counted : countedOk [] ≡ true
     unfolding countedOk rising
     nothing-counted = refl
@@ -77,7 +77,7 @@ module _ (n m r H k : ℕ) where
     module _ (y : Bool) (e : sizesOk (sizes m r H) ≡ y) where
       said : enoughSays n m r H k ≡ cond y (cond (leb k 4) (Bytes (enoughFor n m r H k)) (Refused 3)) (Refused 2)
       unfolding enoughSays lengthOk
-      said = rw (le-leb 1 n low, le-leb n 1048576 high, e)
+      said = rw (le-leb 1 n low, le-leb n maxText high, e)
 
     pub sizes-refused : (q : ℕ) → x ≡ checked-is.Refused q → Refused 2 ≡ enoughSays n m r H k
     sizes-refused q e = go (sizesOk (sizes m r H)) refl
@@ -126,5 +126,5 @@ module _ (n m r H k : ℕ) where
       enough-is h sum e′ = sym (said true (fine-is .0) ∙ rw (le-leb k 4 h, e′, fine-is .1))
 
 -- the records of all levels are few
-pub bytes-few : (k sum : ℕ) → k ≤ 4 → sum ≤ 16777216 → (16 + 12 * k) * sum ≤ 1073741824
+pub bytes-few : (k sum : ℕ) → k ≤ 4 → sum ≤ 16 * maxText → (16 + 12 * k) * sum ≤ 1024 * maxText
 bytes-few k sum h l = mul-le-mul (let e : 16 + 12 * k ≤ 64 = omega arith in e) l

@@ -3,9 +3,10 @@ use layout::header;
 use layout::settings::Checked;
 use layout::settings::Settings;
 ghost use mathlib.Core.Path.{_≡_};
-ghost use Prim.Native.Nat.{_≤_};
+ghost use Prim.Native.Nat.{_*_, _≤_};
 ghost use Rattle.layout.specs.Settings.{Sized};
 ghost use Rattle.enough.specs.Enough.{blocksAtMost, enoughSays};
+ghost use Rattle.format.specs.Settings.{maxText};
 
 // The bytes that are enough, or the number of the question that refuses the length or the settings.
 pub enum Room {
@@ -35,8 +36,8 @@ pub fn enough(n: u32, leaf: u32, arity: u32, levels: u32, counted: u32) -> Room
 
 // The blocks of all levels, where each level covers the text.
 fn blocks(n: u32, s: Settings) -> u64
-    requires { ⌜ Sized s 0 × (1 ≤ s .leaf) × (n ≤ 1048576) ⌝ }
-    ensures { λ r. ⌜ (r ≡ blocksAtMost n (s .leaf) (s .arity) (s .levels)) × (r ≤ 16777216) ⌝ }
+    requires { ⌜ Sized s 0 × (1 ≤ s .leaf) × (n ≤ maxText) ⌝ }
+    ensures { λ r. ⌜ (r ≡ blocksAtMost n (s .leaf) (s .arity) (s .levels)) × (r ≤ 16 * maxText) ⌝ }
 {
     let mut sum: u64 = 0;
     let mut l: u32 = 0;

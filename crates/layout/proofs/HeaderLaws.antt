@@ -10,6 +10,7 @@ use lib.Dec.{eqb}
 use borrow.Author.Tests.{eq-eqb, ne-eqb}
 use Rattle.text.specs.Lists.{allBelow, sumBelow}
 use Rattle.text.specs.ListLaws.{and-both, sumBelow-suc}
+use Rattle.format.specs.Settings.{maxText}
 use Rattle.format.specs.Words.{wordAt}
 use Rattle.format.specs.Layout as at
 use Rattle.format.specs.Settings as format
@@ -69,7 +70,7 @@ module _ (t : List ℕ) where
     unfolding at.fullLength at.settings format.blockLength
     block-is b e = rw (e, h .leaf-is, h .arity-is, h .levels-is)
 
-    pub block-bounds : (b : ℕ) → b ≡ s .leaf * s .arity ^ (s .levels - 1 - 0) → (0 < b) × (b ≤ 1048576)
+    pub block-bounds : (b : ℕ) → b ≡ s .leaf * s .arity ^ (s .levels - 1 - 0) → (0 < b) × (b ≤ maxText)
     block-bounds b e =
         let e′ : s .levels - 1 - 0 ≡ s .levels - 1 = omega arith in
         let low : 1 ≤ s .leaf * s .arity ^ (s .levels - 1) = mul-le-mul {n₁ = 1} {m₁ = 1} (h .leaf-low) (one-le-pow (s .levels - 1) (s .arity) (omega (arith, h .arity-low))) in

@@ -7,7 +7,7 @@ use lib.ListN.{length, getD}
 use lib.Dec.{eqb}
 use Rattle.text.specs.Lists.{allBelow, sumBelow}
 use Rattle.format.specs.Words.{wordAt}
-use Rattle.format.specs.Settings.{pieces}
+use Rattle.format.specs.Settings.{pieces, maxText}
 use Rattle.format.specs.Layout as at
 use Rattle.format.specs.Verdict.{readable}
 use Rattle.layout.specs.declared.settings.Settings.{Settings}
@@ -66,7 +66,7 @@ module _ (t : List ℕ) where
   pub record HasSettings (n : ℕ) (s : Settings) : Type 0 where
     pub long : 100 ≤ length t
     pub n-is : n ≡ wordAt t 4
-    pub n-high : n ≤ 1048576
+    pub n-high : n ≤ maxText
     pub leaf-is : s .leaf ≡ wordAt t 8
     pub arity-is : s .arity ≡ wordAt t 12
     pub levels-is : s .levels ≡ wordAt t 16
@@ -77,5 +77,5 @@ module _ (t : List ℕ) where
     pub arity-high : s .arity ≤ 16
     pub levels-low : 1 ≤ s .levels
     pub levels-high : s .levels ≤ 8
-    pub block-high : s .leaf * s .arity ^ (s .levels - 1) ≤ 1048576
+    pub block-high : s .leaf * s .arity ^ (s .levels - 1) ≤ maxText
     pub counted-high : s .counted ≤ 4

@@ -3,6 +3,7 @@ use mathlib.Core.List.{List, []}
 use mathlib.Core.Bool.{cond}
 use Prim.Native.Nat.{ℕ, _*_, _^_, _-_, _≤_, _<_}
 use lib.ListN.{length}
+use Rattle.format.specs.Settings.{maxText}
 use Rattle.format.specs.Settings as format
 use Rattle.layout.specs.declared.settings.Settings.{Settings}
 use Rattle.layout.specs.declared.settings.Checked.{Checked}
@@ -26,4 +27,4 @@ pub record Sized (s : Settings) (level : ℕ) : Type 0 where
   pub arity-high : s .arity ≤ 16
   pub levels-high : s .levels ≤ 8
   pub level-in : level < s .levels
-  pub block-high : s .leaf * s .arity ^ (s .levels - 1) ≤ 1048576
+  pub block-high : s .leaf * s .arity ^ (s .levels - 1) ≤ maxText

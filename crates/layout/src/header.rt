@@ -5,6 +5,7 @@ use crate::word;
 ghost use mathlib.Core.Path.{_≡_};
 ghost use Prim.Native.Nat.{_+_, _-_, _*_, _≤_, _<_};
 ghost use lib.ListN.{length};
+ghost use Rattle.format.specs.Settings.{maxText};
 ghost use Rattle.format.specs.Settings as cut;
 ghost use Rattle.format.specs.Layout.{headerOk, recordSize};
 ghost use Rattle.format.specs.HeaderLaws.{Readable};
@@ -116,7 +117,7 @@ fn rest_right(t: &[u8], n: u32, settings: Settings) -> bool
 
 // How many blocks of b bytes, the last cut short, x bytes are cut into.
 pub fn pieces(x: u32, b: u32) -> u32
-    requires { ⌜ (x ≤ 1048576) × (0 < b) × (b ≤ 1048576) ⌝ }
+    requires { ⌜ (x ≤ maxText) × (0 < b) × (b ≤ maxText) ⌝ }
     ensures { λ r. ⌜ r ≡ cut.pieces x b ⌝ }
 {
     (x + (b - 1)) / b

@@ -6,7 +6,7 @@ use native.Mathlib.Omega.{arith}
 use native.Mathlib.Nat.{mul-div-right, one-le-pow, mul-le-mul}
 use lib.ListN.{length}
 use Rattle.text.specs.Lists.{sumBelow}
-use Rattle.format.specs.Settings.{Settings, blockLength, pieces}
+use Rattle.format.specs.Settings.{Settings, blockLength, pieces, maxText}
 use Rattle.format.specs.Blocks.{treeOf, recordBytes}
 use Rattle.layout.specs.declared.settings.Settings as code
 use Rattle.layout.specs.Settings.{Sized}
@@ -90,7 +90,7 @@ module _ (s : code.Settings) (cs T : List ℕ) (h : Taken (settingsOf s cs) T) w
 pub sized-pos : (s : code.Settings) → Sized s 0 → 1 ≤ s .leaf → 0 < s .leaf * s .arity ^ (s .levels - 1 - 0)
 sized-pos s z one = mul-le-mul {n₁ = 1} {m₁ = 1} one (one-le-pow (s .levels - 1 - 0) (s .arity) (omega (arith, z .arity-low)))
 
-pub sized-high : (s : code.Settings) → Sized s 0 → s .leaf * s .arity ^ (s .levels - 1 - 0) ≤ 1048576
+pub sized-high : (s : code.Settings) → Sized s 0 → s .leaf * s .arity ^ (s .levels - 1 - 0) ≤ maxText
 sized-high s z = let e : s .levels - 1 - 0 ≡ s .levels - 1 = omega arith in rw e (z .block-high)
 
 pub first-made : (s : code.Settings) (n b p : ℕ) → b ≡ s .leaf * s .arity ^ (s .levels - 1 - 0) → p ≡ pieces n b

@@ -11,7 +11,7 @@ use Rattle.text.specs.Lists.{sumBelow}
 use Rattle.text.specs.ListLaws.{below-suc, sumBelow-suc, sumBelow-part}
 use Rattle.format.specs.Settings.{Settings}
 use Rattle.format.specs.Blocks.{treeOf}
-use Rattle.built.specs.Sizes.{Taken}
+use Rattle.built.specs.Sizes.{Taken, maxTree}
 use Rattle.built.specs.Structure.{count, widthOf}
 use Rattle.built.specs.Leaves.{width-last, leaf-count, leaf-at}
 use Rattle.built.specs.Pairs.{offset}
@@ -131,7 +131,7 @@ module _ (S : Settings) (T out : List ℕ) (level : Level) (to i : ℕ) (w : Lea
         to-is = omega (arith, w .to-is, len-is, sumBelow-suc i (widthOf S T l));
       }
 
-      pub to-few : to + len ≤ 537919588
+      pub to-few : to + len ≤ maxTree
       to-few = omega (arith, w .to-is, len-is, tree-length S T taken, leaf-count S T taken l (w .last), sumBelow-part (count S T l) (widthOf S T l) i i-in, tree-small S T taken)
 
   -- all leaf bytes are written

@@ -10,7 +10,7 @@ use borrow.Author.Tests.{eq-eqb, ne-eqb, lt-ltb, le-ltb, le-leb, lt-leb, ltb-tru
 use lib.Dec.{eqb, leb, ltb}
 use Rattle.text.specs.Lists.{allBelow, sumBelow}
 use Rattle.text.specs.ListLaws.{and-left}
-use Rattle.format.specs.Settings.{pieces}
+use Rattle.format.specs.Settings.{pieces, maxText}
 use Rattle.format.specs.Layout as at
 use Rattle.format.specs.Fits.{lastLevel, widthAt, keptRight, pointingRight, blockRight}
 use Rattle.format.specs.HeaderLaws.{full-pos, full-small}
@@ -48,10 +48,10 @@ module _ (t : List ℕ) (v : Level) (k : LevelOf t v) where
     child-there i h = field-in t (k .readable) (v .counted) (v .number + 1) i 0 (k .counted-is) above (omega (arith, room-above)) (omega arith)
 
   -- the sizes that a block is cut by
-  pub full-high : v .full ≤ 1048576
+  pub full-high : v .full ≤ maxText
   full-high = omega (arith, k .full-is, full-small t (k .readable) (v .number))
 
-  part-bounds : (b : Bool) → eqb (v .number) (lastLevel t) ≡ b → (0 < v .part) × (v .part ≤ 1048576)
+  part-bounds : (b : Bool) → eqb (v .number) (lastLevel t) ≡ b → (0 < v .part) × (v .part ≤ maxText)
   unfolding partLength
   part-bounds true e = rw (k .part-is, e) (omega arith, omega arith)
   part-bounds false e = rw (k .part-is, e) (full-pos t (k .readable) (v .number + 1), full-small t (k .readable) (v .number + 1))
@@ -59,7 +59,7 @@ module _ (t : List ℕ) (v : Level) (k : LevelOf t v) where
   pub part-low : 0 < v .part
   part-low = part-bounds _ refl .0
 
-  pub part-high : v .part ≤ 1048576
+  pub part-high : v .part ≤ maxText
   part-high = part-bounds _ refl .1
 
   pub kept-kind : (i kind : ℕ) → kind ≡ at.kind t (v .number) i → kind ≡ 0 → at.isKept t (v .number) i ≡ true

@@ -4,6 +4,8 @@ use mathlib.Core.Bool.{cond}
 use Prim.Native.Nat.{ℕ, _+_, _*_, _/_, _≤_, _<_}
 use lib.Dec.{eqb}
 use lib.ListN.{length}
+use Rattle.built.specs.Sizes.{maxTable}
+use Rattle.format.specs.Settings.{maxText}
 use Rattle.format.specs.Words.{wordAt}
 use Rattle.records.specs.Levels.{recordPlace}
 
@@ -19,8 +21,8 @@ module _ (out : List ℕ) (table count : ℕ) (cs : List ℕ) where
   -- the records of the level are there, and their starts rise
   pub record Sorted : Type 0 where
     pub counted-few : length cs ≤ 4
-    pub table-few : table ≤ 536871012
-    pub count-few : count ≤ 1048576
+    pub table-few : table ≤ maxTable
+    pub count-few : count ≤ maxText
     pub fits : (i : ℕ) → i < count → recordPlace table i cs + 4 ≤ length out
     pub rises : (i j : ℕ) → i < j → j < count → startIn i < startIn j
 

@@ -9,6 +9,7 @@ ghost use Prim.Native.Nat.{_+_, _-_, _≤_, min};
 ghost use lib.ListN.{length};
 ghost use Rattle.records.specs.State.{settingsOf, On};
 ghost use Rattle.marking.specs.Marking.{keptBy, pairSays, pairOf};
+ghost use Rattle.format.specs.Settings.{maxText};
 
 // A block and the next: no pair; a pair whose bytes occur here first; a pair whose bytes occur earlier.
 pub enum Pair {
@@ -38,7 +39,7 @@ pub fn keeps(before: Pair, after: Pair) -> bool
 
 // Whether the bytes of the pair that starts at a place occur earlier.
 fn pair_at(text: &[u8], start: TextPlace, size: u32) -> Pair
-    requires { ⌜ (start .0 ≤ length (now text)) × (length (now text) ≤ 1048576) × (size ≤ 1048576) ⌝ }
+    requires { ⌜ (start .0 ≤ length (now text)) × (length (now text) ≤ maxText) × (size ≤ maxText) ⌝ }
     ensures { λ r. ⌜ r ≡ pairSays (now (text .entry)) (start .0) (min (size + size) (length (now (text .entry)) - start .0)) ⌝ }
 {
     let len = stretches::shorter(size + size, text.len() as u32 - start.0);

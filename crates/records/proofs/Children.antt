@@ -10,11 +10,11 @@ use lib.ListN.{length}
 use Rattle.text.specs.Lists.{sumBelow}
 use Rattle.text.specs.ListLaws.{lt-or-ge, sumBelow-suc, sumBelow-part}
 use Rattle.format.specs.Words.{wordAt}
-use Rattle.format.specs.Settings.{Settings, blockLength, pieces}
+use Rattle.format.specs.Settings.{Settings, blockLength, pieces, maxText}
 use Rattle.format.specs.Blocks.{treeOf, recordBytes}
 use Rattle.built.specs.Bytes.{Stands}
 use Rattle.built.specs.Linked.{link-kept}
-use Rattle.built.specs.Sizes.{Taken, Bounds, bounds, size-pos}
+use Rattle.built.specs.Sizes.{Taken, Bounds, bounds, size-pos, maxTable}
 use Rattle.built.specs.Structure.{size, count, start, keptAt, widthOf, bytesIn-is, cut-at, count-below, start-below}
 use Rattle.built.specs.Leaves.{widths-le}
 use Rattle.built.specs.Pairs.{offset}
@@ -110,21 +110,21 @@ module _ (S : Settings) (T out : List ℕ) (level next : Level) (i : ℕ) (w : B
           link-right : link ≡ sum
           link-right = link-is ∙ link-read ∙ link-kept S T l i kept
 
-          pub link-few : link ≤ 1048576
+          pub link-few : link ≤ maxText
           link-few = omega (arith, link-right, widths-le S T taken l i l-in (omega (arith, i-in)), limits .text-high)
 
           module _ (own : Stretch) (own-is : StretchIs S T l i own) where
             size-right : next .size ≡ size S T (suc l)
             size-right = w .next-is .size-is ∙ ap (blockLength S) (w .follows)
 
-            pub pieces-asks : (own .length ≤ 1048576) × (0 < next .size) × (next .size ≤ 1048576)
+            pub pieces-asks : (own .length ≤ maxText) × (0 < next .size) × (next .size ≤ maxText)
             pieces-asks = (
               omega (arith, own-is .fits, limits .text-high),
               rw size-right (size-pos S T taken (suc l)),
               rw size-right (size-high S T taken (suc l)),
             )
 
-            module _ (n : ℕ) (n-is : n ≡ pieces (own .length) (next .size)) (to : ℕ) (to-is : to ≡ recordPlace (next .table) link (S .counted)) (to-few : to ≤ 603979876) where
+            module _ (n : ℕ) (n-is : n ≡ pieces (own .length) (next .size)) (to : ℕ) (to-is : to ≡ recordPlace (next .table) link (S .counted)) (to-few : to ≤ maxTable + 64 * maxText) where
               n-right : n ≡ widthOf S T l i
               n-right = n-is ∙ rw (own-is .length-is, size-right, bytesIn-is S T l i) (sym (cut-at S T taken l up .cut i kept))
 

@@ -8,6 +8,7 @@ use native.Mathlib.Numerals.{add-one}
 use native.Mathlib.Nat.{suc-mul, mul-le-mul-right, mul-le-mul}
 use lib.ListN.{length}
 use Rattle.text.specs.ListLaws.{below-suc}
+use Rattle.format.specs.Settings.{maxText}
 use Rattle.format.specs.Words.{setWord}
 use Rattle.built.specs.Bytes.{Stands}
 use Rattle.records.specs.Growing.{Grown, Within}
@@ -23,8 +24,8 @@ starts-more t u v at step s b j e f = f ∙ rw (e, add-one j)
 pub part-below : (j n x : ℕ) → j < n → j * x + x ≤ n * x
 part-below j n x l = omega (arith, suc-mul j x, mul-le-mul-right {m = suc j} {n = n} x l)
 
-pub few-steps : (j n step : ℕ) → j < n → n ≤ 1048576 → step ≤ 64 → j * step ≤ 67108864
-few-steps j n step l k m = mul-le-mul (let z : j ≤ 1048576 = omega arith in z) m
+pub few-steps : (j n step : ℕ) → j < n → n ≤ maxText → step ≤ 64 → j * step ≤ 64 * maxText
+few-steps j n step l k m = mul-le-mul (let z : j ≤ maxText = omega arith in z) m
 
 module _ (D t : List ℕ) (at step s b : ℕ) where
   module _ (n : ℕ) (stand : (j : ℕ) → j < n → Stands D (at + j * step) (s + j * b)) (fits : (j : ℕ) → j < n → at + j * step + 4 ≤ length t)

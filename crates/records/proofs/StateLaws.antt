@@ -6,12 +6,12 @@ use native.Mathlib.Omega.{arith}
 use native.Mathlib.Nat.{suc-mul, add-mul, mul-le-mul-right}
 use lib.ListN.{length, getD}
 use Rattle.text.specs.Lists.{sumBelow}
-use Rattle.format.specs.Settings.{Settings, blockLength}
+use Rattle.format.specs.Settings.{Settings, blockLength, maxText}
 use Rattle.format.specs.SizeLaws.{Sizes, sizes, length-top, length-falls}
 use Rattle.format.specs.Blocks.{treeOf, recordBytes}
 use Rattle.built.specs.Bytes.{Stands, record-stands}
 use Rattle.built.specs.Gather.{sumBelow-le}
-use Rattle.built.specs.Sizes.{Taken, Bounds, bounds}
+use Rattle.built.specs.Sizes.{Taken, Bounds, bounds, maxTable}
 use Rattle.built.specs.Structure.{count, start}
 use Rattle.built.specs.Pairs.{offset}
 use Rattle.built.specs.Shape.{tree-length}
@@ -59,7 +59,7 @@ module _ (S : Settings) (T : List ℕ) where
     pub table-inside : (l : ℕ) → l < S .levels → offset S T (suc l) ≤ length (treeOf S T)
     table-inside l e = omega (arith, tree-length S T h, offset-rises (suc l) (S .levels) e)
 
-    pub blocks-few : (l : ℕ) → l < S .levels → count S T l ≤ 1048576
+    pub blocks-few : (l : ℕ) → l < S .levels → count S T l ≤ maxText
     blocks-few l e = omega (arith, blocks-le S T h l e, limits .text-high)
 
     -- The words of a record.
@@ -113,19 +113,19 @@ module _ (S : Settings) (T : List ℕ) (h : Taken S T) where
   sized : Sizes S
   sized = sizes S (h .sizes-ok)
 
-  pub block-high : S .leaf * S .arity ^ (S .levels - 1) ≤ 1048576
+  pub block-high : S .leaf * S .arity ^ (S .levels - 1) ≤ maxText
   block-high = sized .top-high
 
-  pub size-high : (l : ℕ) → blockLength S l ≤ 1048576
+  pub size-high : (l : ℕ) → blockLength S l ≤ maxText
   size-high l = omega (arith, length-falls S sized 0 l (omega arith), length-top S, block-high)
 
 -- the numbers of a level are small
 pub record Few (S : Settings) (T : List ℕ) (level : Level) : Type 0 where
   pub counted-few : length (S .counted) ≤ 4
-  pub text-few : length T ≤ 1048576
-  pub table-few : level .table ≤ 536871012
-  pub count-few : level .count ≤ 1048576
-  pub size-few : level .size ≤ 1048576
+  pub text-few : length T ≤ maxText
+  pub table-few : level .table ≤ maxTable
+  pub count-few : level .count ≤ maxText
+  pub size-few : level .size ≤ maxText
 
 pub few : (S : Settings) (T : List ℕ) (level : Level) → LevelIs S T level → Few S T level
 few S T level h = record {

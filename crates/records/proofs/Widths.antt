@@ -7,7 +7,7 @@ use Prim.Native.Nat.{ℕ, suc, _+_, _≤_, _<_}
 use native.Mathlib.Omega.{arith}
 use native.Mathlib.Numerals.{add-one}
 use Rattle.text.specs.ListLaws.{lt-or-ge, bool-cases, bool-clash}
-use Rattle.format.specs.Settings.{Settings, pieces}
+use Rattle.format.specs.Settings.{Settings, pieces, maxText}
 use Rattle.built.specs.Leaves.{bytes-fit, kept-last, width-last}
 use Rattle.built.specs.Linked.{kind-points}
 use Rattle.built.specs.Records.{kindOf}
@@ -79,7 +79,7 @@ module _ (S : Settings) (T out : List ℕ) (level : Level) (i : ℕ) (block : Bl
         go (inl z) = z
         go (inr z) = absurd (n (let e : l + 1 ≡ S .levels = omega (arith, l-in) in e))
 
-    pub pieces-ask : (block .length ≤ 1048576) × (0 < level .below) × (level .below ≤ 1048576)
+    pub pieces-ask : (block .length ≤ maxText) × (0 < level .below) × (level .below ≤ maxText)
     pieces-ask = (
       omega (arith, w .block-is .length-is, bytes-fit S T taken l i l-in (omega (arith, w .block-in, w .level-is .count-is)), limits .text-high),
       rw (w .level-is .below-is up) (size-pos S T taken (suc l)),

@@ -4,8 +4,10 @@ use layout::place::TextPlace;
 use layout::settings::Settings;
 use layout::word;
 ghost use mathlib.Core.Path.{_≡_};
-ghost use Prim.Native.Nat.{_+_, _-_, _≤_, _<_, min};
+ghost use Prim.Native.Nat.{_+_, _-_, _*_, _≤_, _<_, min};
 ghost use lib.ListN.{length};
+ghost use Rattle.built.specs.Sizes.{maxTable};
+ghost use Rattle.format.specs.Settings.{maxText};
 ghost use Rattle.format.specs.Words.{wordAt};
 ghost use Rattle.records.specs.Levels.{recordPlace};
 ghost use Rattle.records.specs.State.{settingsOf, On, StretchIs};
@@ -31,16 +33,16 @@ pub struct Stretch {
 
 // Where the record of a block stands.
 pub fn place(counted: &[u8], level: Level, block: BlockNumber) -> usize
-    requires { ⌜ (length (now counted) ≤ 4) × (level .table ≤ 536871012) × (block .0 ≤ 1048576) ⌝ }
-    ensures { λ r. ⌜ (r ≡ recordPlace (level .table) (block .0) (now (counted .entry))) × (r ≤ 603979876) ⌝ }
+    requires { ⌜ (length (now counted) ≤ 4) × (level .table ≤ maxTable) × (block .0 ≤ maxText) ⌝ }
+    ensures { λ r. ⌜ (r ≡ recordPlace (level .table) (block .0) (now (counted .entry))) × (r ≤ maxTable + 64 * maxText) ⌝ }
 {
     level.table as usize + block.0 as usize * (16 + 12 * counted.len())
 }
 
 // The bytes that a block has.
 fn bytes(text: &[u8], level: Level, start: TextPlace) -> u32
-    requires { ⌜ (length (now text) ≤ 1048576) × (start .0 ≤ length (now text)) ⌝ }
-    ensures { λ r. ⌜ (r ≡ min (level .size) (length (now (text .entry)) - start .0)) × (r ≤ 1048576) ⌝ }
+    requires { ⌜ (length (now text) ≤ maxText) × (start .0 ≤ length (now text)) ⌝ }
+    ensures { λ r. ⌜ (r ≡ min (level .size) (length (now (text .entry)) - start .0)) × (r ≤ maxText) ⌝ }
 {
     let left = text.len() as u32 - start.0;
     if level.size < left {
@@ -51,7 +53,7 @@ fn bytes(text: &[u8], level: Level, start: TextPlace) -> u32
 
 // Where a block starts, read from its record.
 pub fn start(counted: &[u8], out: &[u8], level: Level, block: BlockNumber) -> TextPlace
-    requires { ⌜ (length (now counted) ≤ 4) × (level .table ≤ 536871012) × (block .0 ≤ 1048576)
+    requires { ⌜ (length (now counted) ≤ 4) × (level .table ≤ maxTable) × (block .0 ≤ maxText)
         × (recordPlace (level .table) (block .0) (now counted) + 4 ≤ length (now out)) ⌝ }
     ensures { λ r. ⌜ r .0 ≡ wordAt (now (out .entry)) (recordPlace (level .table) (block .0) (now (counted .entry))) ⌝ }
 {

@@ -8,6 +8,7 @@ ghost use mathlib.Core.Path.{_≡_};
 ghost use Prim.Native.Nat.{_+_, _*_, _≤_, _<_};
 ghost use lib.ListN.{length};
 ghost use Rattle.text.specs.Text.{stretch, countIn};
+ghost use Rattle.format.specs.Settings.{maxText};
 ghost use Rattle.format.specs.Words.{wordAt};
 ghost use Rattle.format.specs.Blocks.{treeOf};
 ghost use Rattle.built.specs.Structure.{widthOf};
@@ -40,7 +41,7 @@ pub fn put_three(out: &mut [u8], at: usize, a: u32, b: u32, c: u32)
 
 // The counts of one byte: before the block in its parent, inside it, and in the gap of the block pointed to.
 fn put_count(out: &mut [u8], text: &[u8], byte: u8, at: usize, block: Block, before: u32)
-    requires { ⌜ (at + 12 ≤ length (now out)) × (length (now text) ≤ 1048576)
+    requires { ⌜ (at + 12 ≤ length (now out)) × (length (now text) ≤ maxText)
         × (block .start + block .length ≤ length (now text)) × (block .from + block .gap ≤ length (now text)) ⌝ }
     ensures { λ _. ⌜ now (out .exit) ≡ putThree (now (out .entry)) at before
         (countIn byte (stretch (now (text .entry)) (block .start) (block .length)))

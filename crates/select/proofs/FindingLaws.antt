@@ -9,6 +9,7 @@ use native.Mathlib.Nat.{zero-mul, mul-le-mul}
 use borrow.Author.Tests.{ltb-true, lt-ltb, le-ltb, lt-leb, ne-eqb}
 use lib.Dec.{ltb, leb}
 use Rattle.text.specs.Text.{placeOf}
+use Rattle.format.specs.Settings.{maxText}
 use Rattle.format.specs.Layout as at
 use Rattle.format.specs.Path.{pathOf}
 use Rattle.format.specs.Fits.{textOf}
@@ -52,7 +53,7 @@ top-siblings t h c n r hc e = record {
 
 -- a place of the text
 
-pub product : (n s : ℕ) → n < 4294967296 → s ≤ 1048576 → n * s ≤ 4503599627370496
+pub product : (n s : ℕ) → n < 4294967296 → s ≤ maxText → n * s ≤ 4294967296 * maxText
 product n s a b = let c : n ≤ 4294967296 = omega arith in mul-le-mul c b
 
 module _ (n b i : ℕ) (x : Placed) where

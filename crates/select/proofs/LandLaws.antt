@@ -11,7 +11,7 @@ use lib.ListN.{length, getD}
 use lib.Dec.{ltb, leb}
 use Rattle.text.specs.ListLaws.{bool-cases, bool-clash, and-right}
 use Rattle.text.specs.Text.{stretch, countIn}
-use Rattle.format.specs.Settings.{pieces}
+use Rattle.format.specs.Settings.{pieces, maxText}
 use Rattle.format.specs.PieceLaws.{pieces-start, lt-pieces}
 use Rattle.format.specs.HeaderLaws.{Readable, readable-facts, full-pos}
 use Rattle.format.specs.VerdictLaws.{accepted-readable, accepted-links}
@@ -167,7 +167,7 @@ module _ (t : List ℕ) (h : Header) (c level b i below j link count : ℕ) (kep
     pub child-place : (x - link) * below < at.blockLengthAt t level i
     child-place = pieces-start (at.blockLengthAt t level i) below (x - link) (omega (arith, last .low, last .high)) (b-pos t h (level + 1) below lower)
 
-    pub child-place-small : (x - link) * below < 1048576
+    pub child-place-small : (x - link) * below < maxText
     child-place-small = omega (arith, child-place, len-small t level i, kept .on .b-is, b-small t h level b (kept .on))
 
     chosen : (y p r : ℕ) → Picked t c (level + 1) x ((x - link) * below) j y p r → Chosen t c level i below j y p r
@@ -340,7 +340,7 @@ module _ (t : List ℕ) (h : Header) (w : Wanted) (level b i j link n : ℕ) (ke
 -- Places moved.
 
 near-case : (o : BlockPlace) (e f g m : ℕ) (x : Bool) (p : BlockPlace) (q : ℕ) → cond x (placed.At (record { 0 = f + o .0 - g }) (e + 1)) placed.Off ≡ placed.At p q
-    → o .0 ≤ e * 1048576 → e ≤ m → f ≤ 1048576 → (p .0 ≤ q * 1048576) × (q ≤ m + 1)
+    → o .0 ≤ e * maxText → e ≤ m → f ≤ maxText → (p .0 ≤ q * maxText) × (q ≤ m + 1)
 near-case o e f g m true p q h a c s =
     let p₁ : record { 0 = f + o .0 - g } ≡ p = cc in
     let p₀ : f + o .0 - g ≡ p .0 = ap (λ (y : BlockPlace). y .0) p₁ in
@@ -348,7 +348,7 @@ near-case o e f g m true p q h a c s =
     (omega arith, omega arith)
 near-case o e f g m false p q h a c s = absurd (let z : _≡_ {A = ℕ} 0 1 = cc in omega arith)
 
-near-moved : (x r : Placed) (f g m : ℕ) → Near x m → f ≤ 1048576 → r ≡ moved x f g → Near r (m + 1)
+near-moved : (x r : Placed) (f g m : ℕ) → Near x m → f ≤ maxText → r ≡ moved x f g → Near r (m + 1)
 unfolding moved
 near-moved (placed.At o e) r f g m n s r-is = record {
   near = λ p q h. near-case o e f g m (leb g (f + o .0)) p q (sym r-is ∙ h) (n .near o e refl .0) (n .near o e refl .1) s;

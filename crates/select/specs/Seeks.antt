@@ -5,7 +5,7 @@ use mathlib.Core.Path.{_≡_}
 use mathlib.Core.Logic.{_⊎_}
 use Prim.Native.Nat.{ℕ, _+_, _-_, _*_, _≤_, _<_}
 use lib.Dec.{ltb, leb}
-use Rattle.format.specs.Settings.{pieces}
+use Rattle.format.specs.Settings.{pieces, maxText}
 use Rattle.format.specs.Layout as at
 use Rattle.format.specs.Path.{keptBlock, pointingBlock}
 use Rattle.format.specs.Verdict.{verdict}
@@ -37,7 +37,7 @@ moved placed.Off forward back = placed.Off
 
 -- a place that is not far off: a block's length for each block entered
 pub record Near (r : Placed) (most : ℕ) : Type 0 where
-  pub near : (o : BlockPlace) (e : ℕ) → r ≡ placed.At o e → (o .0 ≤ e * 1048576) × (e ≤ most)
+  pub near : (o : BlockPlace) (e : ℕ) → r ≡ placed.At o e → (o .0 ≤ e * maxText) × (e ≤ most)
 
 -- the rest of j in a block that was arrived at
 abbrev pub restIn : Next → ℕ → Child
@@ -80,7 +80,7 @@ module _ (t : List ℕ) where
     pub within : x - at.link t level i < pieces (at.blockLengthAt t level i) below
     pub in-table : x < at.levelCount t (level + 1)
     pub place-is : o ≡ (x - at.link t level i) * below
-    pub place-low : o ≤ 1048576
+    pub place-low : o ≤ maxText
     pub before-low : at.before t (level + 1) x c < j
     pub rest-is : rest ≡ j - at.before t (level + 1) x c
     pub next : x - at.link t level i + 1 < pieces (at.blockLengthAt t level i) below → j ≤ at.before t (level + 1) (x + 1) c

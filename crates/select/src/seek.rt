@@ -13,6 +13,7 @@ use walk::step;
 use walk::step::Next;
 ghost use mathlib.Core.Path.{_≡_};
 ghost use Prim.Native.Nat.{_+_, _-_, _*_, _≤_, _<_};
+ghost use Rattle.format.specs.Settings.{maxText};
 ghost use Rattle.format.specs.Layout as at;
 ghost use Rattle.format.specs.Finding.{total};
 ghost use Rattle.layout.specs.HeaderSays.{HeaderOf};
@@ -91,7 +92,7 @@ fn pick(
 
 // A place moved on by the bytes before it and back by a gap, with one more block entered.
 fn shift(found: Placed, forward: u32, back: u32) -> Placed
-    requires { ⌜ (Near found 16) × (forward ≤ 1048576) ⌝ }
+    requires { ⌜ (Near found 16) × (forward ≤ maxText) ⌝ }
     ensures { λ r. ⌜ r ≡ moved found forward back ⌝ }
 {
     match found {
@@ -277,7 +278,7 @@ fn first_block(t: &[u8], h: Header, number: u32, j: u64) -> BlockNumber
 
 // The place of the text that a place in a block of level 0 is, if it is one.
 fn text_place(n: u32, b: u32, block: BlockNumber, found: Placed) -> Found
-    requires { ⌜ b ≤ 1048576 ⌝ }
+    requires { ⌜ b ≤ maxText ⌝ }
     ensures { λ r. ⌜ (saidFind r ≡ placedIn n b (block .0) found) × (Numbered r) ⌝ }
 {
     let Placed::At(o, entered) = found else {

@@ -2,12 +2,13 @@
 use mathlib.Core.List.{List}
 use mathlib.Core.Bool.{true, _&&_}
 use mathlib.Core.Path.{_≡_, _∙_}
-use Prim.Native.Nat.{ℕ, _+_, _-_, _/_, _≤_, _<_, min}
+use Prim.Native.Nat.{ℕ, _+_, _-_, _/_, _≤_, _<_, min, _*_}
 use native.Mathlib.Omega.{arith}
 use native.Mathlib.Nat.{add-zero}
 use lib.Dec.{ltb}
 use borrow.Author.Tests.{ltb-true, lt-ltb, le-ltb, eq-eqb, ne-eqb}
 use Rattle.text.specs.ListLaws.{and-left, and-right}
+use Rattle.format.specs.Settings.{maxText}
 use Rattle.format.specs.Layout as at
 use Rattle.format.specs.Path.{keptBlock, pointingBlock, targetBlock, targetPlace}
 use Rattle.format.specs.HeaderLaws.{full-pos, full-small, level0-holds}
@@ -30,7 +31,7 @@ module _ (t : List ℕ) (h : Header) (level b : ℕ) (on : OnLevel t h level b) 
   pub b-pos : 0 < b
   b-pos = rw (on .b-is) (full-pos t (on .header .facts) level)
 
-  pub b-small : b ≤ 1048576
+  pub b-small : b ≤ maxText
   b-small = rw (on .b-is) (full-small t (on .header .facts) level)
 
   -- a block past the table
@@ -90,7 +91,7 @@ module _ (t : List ℕ) (h : Header) (level b i o : ℕ) (s : Pointing t h level
   pointing-there f hf = field-there t h level i f (s .on .header) (s .on .level-in) (pointing-in t level i (s .points)) hf
 
   -- gap + place is below twice the block length
-  pub sum-small : (g : ℕ) → g ≡ at.gap t level i → g + o < 2097152
+  pub sum-small : (g : ℕ) → g ≡ at.gap t level i → g + o < (2 * maxText)
   sum-small g e = omega (arith, pointing-gap t level i (s .points), s .on .b-is, s .place-in, b-small t h level b (s .on))
 
   module _ (k g : ℕ) (k-is : k ≡ at.link t level i) (g-is : g ≡ at.gap t level i) (r : Next) where

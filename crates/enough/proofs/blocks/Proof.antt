@@ -6,11 +6,11 @@ use Rattle.enough.proofs.Answering as laws
 use Rattle.enough.proofs.blocks.Statement.{statement}
 use Rattle.enough.proofs.blocks.Tie as tie
 use Rattle.enough.specs.Enough.{blocksAtMost}
-use Rattle.format.specs.Settings.{pieces}
+use Rattle.format.specs.Settings.{pieces, maxText}
 use Rattle.text.specs.Lists.{sumBelow}
 
 abbrev Inv-loop : tie.InvT-loop
-Inv-loop n s sum₀ l₀ sum l = (l ≤ s .levels) × ((sum ≤ l * 2097152) × (sum ≡ sumBelow l (λ l. pieces n (s .leaf * s .arity ^ (s .levels - 1 - l)))))
+Inv-loop n s sum₀ l₀ sum l = (l ≤ s .levels) × ((sum ≤ l * (2 * maxText)) × (sum ≡ sumBelow l (λ l. pieces n (s .leaf * s .arity ^ (s .levels - 1 - l)))))
 
 abbrev μ-loop : tie.MeasureT-loop
 μ-loop n s sum₀ l₀ sum l = s .levels - l

@@ -11,6 +11,7 @@ use Rattle.links.proofs.starts_right.Statement.{statement}
 use Rattle.links.proofs.starts_right.Tie as tie
 use Rattle.links.specs.Level.{startAsCut}
 use Rattle.text.specs.Lists.{allBelow}
+use Rattle.format.specs.Settings.{maxText}
 
 abbrev Inv-loop : tie.InvT-loop
 Inv-loop t v i₀ i = (i ≤ v .count) × (allBelow i (startAsCut t) ≡ true)
@@ -27,7 +28,7 @@ starts-right-spec =
     (λ c. search needs)
     (λ c. search needs)
     (λ c. search needs)
-    (λ c. omega (arith, mul-le-mul {n₁ = c .before .before .before .before .before .loop .i} {n₂ = 4294967295} {m₂ = 1048576} (omega arith) (laws.full-high _ _ (c .before .before .before .before .before .before .before .pre .0))))
+    (λ c. omega (arith, mul-le-mul {n₁ = c .before .before .before .before .before .loop .i} {n₂ = 4294967295} {m₂ = maxText} (omega arith) (laws.full-high _ _ (c .before .before .before .before .before .before .before .pre .0))))
     (λ c. let a = c .before .before .before .before .before .before .before .before .args in scan-fails (startAsCut (a .t .now)) (a .v .count) (c .before .before .before .before .before .before .loop .i) (c .before .before .before .before .if1 .taken) (tree.start-off _ _ (c .before .before .before .before .before .before .before .before .pre .0) _ _ (c .before .before .before .start .ensures) (c .before .before .before .before .before .before .before .before .pre .1) (c .if2 .taken)))
     (λ c. search needs)
     (λ c. search needs)

@@ -1,6 +1,6 @@
 use borrow.Author.Needs.{needs}
 use borrow.Author.Tests.{lt-leb, le-leb}
-use Rattle.format.specs.Settings.{lengthOk}
+use Rattle.format.specs.Settings.{lengthOk, maxText}
 use Rattle.layout.proofs.QuestionSeven as laws
 use Rattle.layout.proofs.header.header_right.Statement.{statement}
 use Rattle.layout.proofs.header.header_right.Tie as tie
@@ -12,7 +12,7 @@ header-right-spec =
     (tie.spec
     (λ c κs. search needs)
     (λ c. laws.header-length _ _ (c .before .read .ensures) (simp (lt-leb 1 _ (c .if1 .taken))))
-    (λ c. laws.header-length _ _ (c .before .before .read .ensures) (simp (le-leb 1 _ (c .before .if1 .left), lt-leb _ 1048576 (c .if2 .taken))))
+    (λ c. laws.header-length _ _ (c .before .before .read .ensures) (simp (le-leb 1 _ (c .before .if1 .left), lt-leb _ maxText (c .if2 .taken))))
     (λ c κs. search needs)
     (λ c. search needs)
     (λ c. laws.header-many (c .before .before .before .before .before .before .args .t .now) _ (c .before .read2 .ensures) (c .if3 .taken))

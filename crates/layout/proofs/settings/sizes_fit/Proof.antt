@@ -3,7 +3,7 @@ use Prim.Native.Nat.{ℕ}
 use mathlib.Core.Path.{ap}
 use lib.Dec.{leb}
 use borrow.Author.Tests.{lt-leb, le-leb}
-use Rattle.format.specs.Settings.{sizesOk}
+use Rattle.format.specs.Settings.{sizesOk, maxText}
 use Rattle.layout.proofs.settings.sizes_fit.Statement.{statement}
 use Rattle.layout.proofs.settings.sizes_fit.Tie as tie
 
@@ -23,4 +23,4 @@ sizes-fit-spec =
     (λ c κs. search needs)
     (λ c. search needs)
     (λ c. let a = c .before .before .before in
-    simp (le-leb 1 _ (a .before .before .before .if1 .left), le-leb _ 256 (a .before .before .if2 .left), le-leb 2 _ (a .before .if3 .left), le-leb _ 16 (a .if4 .left), le-leb 1 _ (c .before .before .if5 .left), le-leb _ 8 (c .before .if6 .left)) (ap (λ (b : ℕ). leb b 1048576) (c .power .ensures))))
+    simp (le-leb 1 _ (a .before .before .before .if1 .left), le-leb _ 256 (a .before .before .if2 .left), le-leb 2 _ (a .before .if3 .left), le-leb _ 16 (a .if4 .left), le-leb 1 _ (c .before .before .if5 .left), le-leb _ 8 (c .before .if6 .left)) (ap (λ (b : ℕ). leb b maxText) (c .power .ensures))))

@@ -1,4 +1,5 @@
 use borrow.Author.Needs.{needs}
+use native.Mathlib.Omega.{arith}
 use Rattle.levels.proofs.Descending.{next-made}
 use Rattle.levels.proofs.step.next_level.Statement.{statement}
 use Rattle.levels.proofs.step.next_level.Tie as tie
@@ -10,5 +11,5 @@ next-level-spec =
     (λ c. search needs)
     (λ c. search needs)
     (λ c κs. search needs)
-    (λ c. search needs)
+    (λ c. omega (arith, c .place .ensures .0, c .before .before .before .before .before .before .pre .1))
     (λ c. let a = c .before .before .before .before .before .before .args in next-made (a .level) (a .count) _ (a .counted .now) (c .place .ensures .0)))

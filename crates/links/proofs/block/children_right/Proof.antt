@@ -10,6 +10,7 @@ use Rattle.links.proofs.block.children_right.Statement.{statement}
 use Rattle.links.proofs.block.children_right.Tie as tie
 use Rattle.links.specs.Level.{childAsCut}
 use Rattle.text.specs.Lists.{allBelow}
+use Rattle.format.specs.Settings.{maxText}
 
 abbrev Inv-loop : tie.InvT-loop
 Inv-loop t v start link width j₀ j = (j ≤ width) × (allBelow j (childAsCut t (v .number) link (start .0)) ≡ true)
@@ -29,8 +30,8 @@ children-right-spec =
     (λ c. search needs)
     (λ c. search needs)
     (λ c. search needs)
-    (λ c. omega (arith, mul-le-mul {n₁ = c .before .before .before .before .before .before .loop .j} {n₂ = 4294967295} {m₂ = 1048576} (omega arith) (laws.part-high _ _ (c .before .before .before .before .before .before .before .before .pre .0))))
-    (λ c. omega (arith, mul-le-mul {n₁ = c .before .before .before .before .before .before .loop .j} {n₂ = 4294967295} {m₂ = 1048576} (omega arith) (laws.part-high _ _ (c .before .before .before .before .before .before .before .before .pre .0))))
+    (λ c. omega (arith, mul-le-mul {n₁ = c .before .before .before .before .before .before .loop .j} {n₂ = 4294967295} {m₂ = maxText} (omega arith) (laws.part-high _ _ (c .before .before .before .before .before .before .before .before .pre .0))))
+    (λ c. omega (arith, mul-le-mul {n₁ = c .before .before .before .before .before .before .loop .j} {n₂ = 4294967295} {m₂ = maxText} (omega arith) (laws.part-high _ _ (c .before .before .before .before .before .before .before .before .pre .0))))
     (λ c. let a = c .before .before .before .before .before .before .before .before .before .args in scan-fails (childAsCut (a .t .now) (a .v .number) (a .link) (a .start .0)) (a .width) (c .before .before .before .before .before .before .before .loop .j) (c .before .before .before .before .before .before .loop-test .taken) (laws.child-off _ _ (c .before .before .before .before .before .before .before .before .before .pre .0) _ _ _ _ (c .before .before .before .before .before .before .before .before .before .pre .1) (c .before .before .before .before .start .ensures) (c .if1 .taken)))
     (λ c. search needs)
     (λ c. search needs)
