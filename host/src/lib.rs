@@ -119,12 +119,20 @@ impl<'a> Tree<'a> {
         answer(number, Reached { value, entered })
     }
 
-    /// Row `q`, from 1, without its byte 10.
+    /// Row `q`, from 1, without its byte 10. What stands after the last byte 10 is a row too, if the text's last byte is another one.
     pub fn row(&self, q: u32) -> Result<Vec<u8>, Refusal> {
         let mut buffer = vec![0; MAX_TEXT.min(self.text_length() as usize)];
         let (number, length) = calls::row(self.bytes, q, &mut buffer);
         buffer.truncate(length as usize);
         answer(number, buffer)
+    }
+
+    /// How many rows there are: the total of byte 10, and one more if the text's last byte is another one.
+    pub fn rows(&self) -> Result<u64, Refusal> {
+        let length = self.text_length();
+        let ended = self.count(10, length)?.value;
+        let open = length > 0 && self.byte(length - 1)?.value != 10;
+        Ok(ended + u64::from(open))
     }
 
     /// The whole text.

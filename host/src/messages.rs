@@ -97,7 +97,7 @@ fn hint(refusal: Refusal, question: &Question, tree: Tree) -> Option<String> {
         (Refusal::Place, _) => Some(format!("the text has {} bytes", grouped(tree.text_length().into()))),
         (Refusal::NotCounted, Question::Row(_)) => Some("rows end in byte 10, so build must count it".to_owned()),
         (Refusal::NotCounted, _) => Some(format!("it counts: {}", counted(&tree.settings().counted))),
-        (Refusal::NoSuch, Question::Row(_)) => Some(format!("the book has {} rows", grouped(total(10)))),
+        (Refusal::NoSuch, Question::Row(_)) => tree.rows().ok().map(|rows| format!("the book has {} rows", grouped(rows))),
         (Refusal::NoSuch, Question::Find(byte, _)) => Some(format!("its total is {}", grouped(total(*byte)))),
         _ => None,
     }
@@ -111,8 +111,10 @@ pub fn stats(name: &str, tree: Tree) -> String {
     text += &format!("settings    {}\n", shape(&settings));
     for &byte in &settings.counted {
         let total = tree.count(byte, length).map_or(0, |count| count.value);
-        let rows = if byte == 10 { ", rows" } else { "" };
-        text += &format!("counted     {byte} '{}': {} times{rows}\n", [byte].escape_ascii(), grouped(total));
+        text += &format!("counted     {byte} '{}': {} times\n", [byte].escape_ascii(), grouped(total));
+    }
+    if let Ok(rows) = tree.rows() {
+        text += &format!("rows        {}\n", grouped(rows));
     }
     text += &format!("leaf bytes  {}\n", grouped(tree.leaf_bytes().into()));
     text += "level  block length    blocks      kept  pointing\n";

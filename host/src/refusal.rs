@@ -39,7 +39,7 @@ refusals! {
     Counts = 9: "a count in the tree is not true",
     Place = 10: "this lies past the text's end",
     NotCounted = 11: "the tree does not count this byte",
-    NoSuch = 12: "the byte does not stand so often in the text; numbers go from 1 to its total",
+    NoSuch = 12: "the text has no occurrence or row of this number; numbers start at 1",
     Buffer = 13: "the answer does not fit the buffer",
     Path = 14: "the tree is damaged: the way to a byte breaks off, or a count comes out below zero",
     Input = 15: "only trees of at most 65,536 bytes are listed",

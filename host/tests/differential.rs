@@ -192,7 +192,11 @@ fn long_books() {
     let shapes = [(64, 2, 4), (48, 2, 5), (16, 4, 3), (256, 2, 1), (3, 16, 3), (1, 2, 8)];
     for (at, (m, r, h)) in shapes.into_iter().enumerate() {
         for kind in [Kind::Repetitive, Kind::Mixed, Kind::NearlyRandom] {
-            let text = book(kind, rng.within(10_000, 20_000), at as u64);
+            let mut text = book(kind, rng.within(10_000, 20_000), at as u64);
+            if rng.one_in(2) {
+                // the last row without its end
+                text.pop();
+            }
             let mut tree = compare_book(&mut rng, &text, Shape::new(m, r, h), b"\n 01", 300);
             for _ in 0..4 {
                 damage::damage(&mut rng, &mut tree);
@@ -281,7 +285,7 @@ fn every_number_is_reached() {
         ("span", &[0, 5, 6, 7, 10, 13, 14]),
         ("count", &[0, 5, 6, 7, 10, 11, 14]),
         ("find", &[0, 5, 6, 7, 11, 12, FREE]),
-        ("row", &[0, 5, 6, 7, 11, 12, 13, FREE]),
+        ("row", &[0, 5, 6, 7, 11, 12, 13, 14, FREE]),
     ];
     for (question, numbers) in expected {
         assert_eq!(reached[question], numbers.iter().copied().collect(), "{question}");

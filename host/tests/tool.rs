@@ -156,7 +156,8 @@ fn answers() {
 small.tree: 1,984 bytes, 70.9 % of the text
 text        2,800 bytes
 settings    leaf 96, arity 2, levels 3
-counted     10 '\\n': 200 times, rows
+counted     10 '\\n': 200 times
+rows        200
 leaf bytes  1,072
 level  block length    blocks      kept  pointing
     0           384         8         5         3
@@ -173,6 +174,20 @@ fn every_row() {
     for (at, row) in text.lines().enumerate().step_by(7) {
         folder.run(&format!("row {} small.tree", at + 1)).succeeds().prints(&format!("{row}\n"));
     }
+}
+
+/// A book whose last row has no end byte.
+#[test]
+fn last_row_without_end() {
+    let folder = Folder::new("open");
+    let no_such = "refused (12): the text has no occurrence or row of this number; numbers start at 1";
+    folder.write("open.txt", b"CH1 12\nCH2 34");
+    folder.run("build open.txt -o open.tree --leaf 4 --arity 2 --levels 2").succeeds();
+    folder.run("row 1 open.tree").succeeds().prints("CH1 12\n");
+    folder.run("row 2 open.tree").succeeds().prints("CH2 34\n");
+    folder.run("row 3 open.tree").status(1).says(&format!("codebook: open.tree: row 3: {no_such}; the book has 2 rows\n"));
+    let printed = folder.run("stats open.tree").succeeds().output.stdout.clone();
+    assert!(String::from_utf8_lossy(&printed).contains("counted     10 '\\n': 1 times\nrows        2\n"));
 }
 
 #[test]
@@ -194,7 +209,7 @@ fn refused_questions() {
     let refused = |words: &str, says: &str| {
         folder.run(words).status(1).prints("").says(&format!("codebook: small.tree: {says}\n"));
     };
-    let no_such = "refused (12): the byte does not stand so often in the text; numbers go from 1 to its total";
+    let no_such = "refused (12): the text has no occurrence or row of this number; numbers start at 1";
     let past = "refused (10): this lies past the text's end; the text has 2,800 bytes";
     refused("row 201 small.tree", &format!("row 201: {no_such}; the book has 200 rows"));
     refused("row 0 small.tree", &format!("row 0: {no_such}; the book has 200 rows"));

@@ -1,4 +1,4 @@
-//! The cases of vectors.txt, put to the library and to the model. The file's head says how a line is read.
+//! The cases of vectors.txt, and those that the program `cases` runs, put to the library and to the model. The head of vectors.txt says how a line is read.
 
 #[path = "support/judge.rs"]
 mod judge;
@@ -14,6 +14,8 @@ use std::fmt::Display;
 use support::{from_hex, to_hex};
 
 const VECTORS: &str = include_str!("vectors.txt");
+/// What the program `cases` must write; its lines that are wrong on purpose are its own.
+const CASES: &str = include_str!("../../crates/cases/stdout");
 
 /// The calls of one implementation.
 #[allow(clippy::type_complexity)]
@@ -63,13 +65,18 @@ fn model() {
 const LATER: [&str; 13] = ["places", "scan", "match", "columns", "rows", "column", "open", "left", "renew", "guide", "guidecheck", "guided", "order"];
 
 fn run_all(calls: &Calls) {
+    run_file(calls, VECTORS);
+    run_file(calls, CASES);
+}
+
+fn run_file(calls: &Calls, file: &str) {
     let mut bytes: HashMap<&str, Vec<u8>> = HashMap::new();
     let mut in_force = true;
     let (mut run, mut wrong) = (0, Vec::new());
-    for line in VECTORS.lines().filter(|line| !line.is_empty() && !line.starts_with('#')) {
+    for line in file.lines().filter(|line| !line.is_empty() && !line.starts_with('#') && !line.contains(" => wrong: ")) {
         let tokens: Vec<&str> = line.split(' ').collect();
         match tokens[..] {
-            ["landed", request] => in_force = request == "100",
+            ["landed", request] => in_force = request == "101",
             ["text" | "tree", name, hex] => {
                 bytes.insert(name, from_hex(hex));
             }

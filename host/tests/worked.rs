@@ -109,7 +109,7 @@ fn fast_methods_agree() {
         let shape = Shape::new(rng.within(1, 12) as u32, rng.within(2, 4) as u32, rng.within(1, 5) as u32);
         let tree = plain_tree(&text, shape, b"\nA");
         assert!(tree == fast::tree(&text, shape, b"\nA"), "{shape:?} {text:?}");
-        for j in 0..text.iter().filter(|&&byte| byte == 10).count().min(30) as u32 + 2 {
+        for j in 0..text.iter().filter(|&&byte| byte == 10).count().min(30) as u32 + 3 {
             assert_eq!(Answer::Settled(fast::find(&tree, 10, j)), find(&tree, 10, j), "{shape:?} {text:?} {j}");
             let (mut plain, mut quick) = ([0xEE; 40], [0xEE; 40]);
             assert_eq!(Answer::Settled(fast::row(&tree, j, &mut quick)), row(&tree, j, &mut plain));

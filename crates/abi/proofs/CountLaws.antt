@@ -13,7 +13,8 @@ use Rattle.format.specs.Layout as at
 use Rattle.format.specs.Verdict.{ask, readable}
 use Rattle.format.specs.HeaderLaws.{readable-facts}
 use Rattle.format.specs.Counting.{isCounted, numberOfByte, countSays}
-use Rattle.format.specs.Finding.{selectNumber, FindSays, RowSays}
+use Rattle.format.specs.Finding.{selectNumber, FindSays}
+use Rattle.format.specs.RowSays.{RowSays}
 use Rattle.tallies.specs.Local.{byteOf}
 use Rattle.tallies.specs.Ranks as tally
 use Rattle.layout.specs.declared.header.Header.{Header}

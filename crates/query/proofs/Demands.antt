@@ -41,6 +41,13 @@ pub use Rattle.query.proofs.Demand3.{check-one-text}
 pub use Rattle.query.proofs.Demand3.{check-answers, check-refuses}
 -- .. What the builder writes is accepted, and its one text is the input."
 pub use Rattle.query.proofs.Demand2.{build-accepted, build-one-text}
+-- Rows. "If the text's last byte is not 10, the bytes after the last byte 10 (or all the text, where none stands) are one more row. Its number
+-- is the total of byte 10 plus one. ..
+pub use Rattle.text.specs.RowLaws.{rows-count, row-last}
+-- .. Every row answered before keeps its bytes, ..
+pub use Rattle.text.specs.RowLaws.{row-between}
+-- .. and question 12 counts the added row."
+pub use Rattle.tallies.specs.Rows.{row-lets, row-twelve, row-eleven}
 
 -- The two roads to a tree, each in one theorem.
 

@@ -129,7 +129,9 @@ pub fn row(bytes: &[u8], q: u32, buffer: &mut [u8]) -> (u32, u32) {
 }
 
 fn try_row(bytes: &[u8], q: u32, buffer: &mut [u8]) -> Result<u32, u32> {
-    let (end, _) = try_find(bytes, 10, q)?;
+    let tree = row_questions(bytes, q)?;
+    let total = tree.total(tree.counted(10).ok_or(11u32)?);
+    let end = if u64::from(q) > total { tree.n } else { try_find(bytes, 10, q)?.0 };
     let start = if q == 1 { 0 } else { try_find(bytes, 10, q - 1)?.0 + 1 };
     let length = (end - start) as u32;
     if length as usize > buffer.len() {

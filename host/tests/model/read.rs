@@ -334,7 +334,7 @@ pub fn text(tree: &Tree) -> Vec<u8> {
 
 /// The number and the row's length; the row goes to the buffer.
 pub fn row(bytes: &[u8], q: u32, buffer: &mut [u8]) -> Answer<(u32, u32)> {
-    let (tree, _) = match find_questions(bytes, 10, q) {
+    let tree = match row_questions(bytes, q) {
         Ok(tree) => tree,
         Err(number) => return Answer::Settled((number, 0)),
     };
@@ -342,10 +342,33 @@ pub fn row(bytes: &[u8], q: u32, buffer: &mut [u8]) -> Answer<(u32, u32)> {
         return Answer::Free(tree.n);
     }
     let text = text(&tree);
-    let row = text.split(|&byte| byte == 10).nth(q as usize - 1).expect("the total says so");
+    let row = rows_of(&text)[q as usize - 1];
     if row.len() > buffer.len() {
         return Answer::Settled((13, 0));
     }
     buffer[..row.len()].copy_from_slice(row);
     Answer::Settled((0, row.len() as u32))
+}
+
+/// Questions 5 to 7, 11 and 12. Where q is the total of byte 10 plus one, and there alone, the last byte is read: its 14, or 12 where it is 10.
+pub fn row_questions(bytes: &[u8], q: u32) -> Result<Tree<'_>, u32> {
+    let tree = Tree::open(bytes)?;
+    let c = tree.counted(10).ok_or(11u32)?;
+    if u64::from(q) != tree.total(c) + 1 {
+        return find_questions(bytes, 10, q).map(|(tree, _)| tree);
+    }
+    match byte_at(&tree, tree.n - 1) {
+        None => Err(14),
+        Some((10, _)) => Err(12),
+        Some(_) => Ok(tree),
+    }
+}
+
+/// The rows of a text: a byte 10 ends a row; the bytes after the last byte 10, if there are any, are one more row.
+pub fn rows_of(text: &[u8]) -> Vec<&[u8]> {
+    let mut rows: Vec<&[u8]> = text.split(|&byte| byte == 10).collect();
+    if text.last().is_none_or(|&byte| byte == 10) {
+        rows.pop();
+    }
+    rows
 }
