@@ -102,8 +102,9 @@ uint32_t bt_count(const uint8_t *tree, size_t tree_len, uint32_t byte, uint32_t 
  *   answers   0, 5, 6, 7, 11 (also for a byte above 255), 12, 14 */
 uint32_t bt_find(const uint8_t *tree, size_t tree_len, uint32_t byte, uint32_t j, uint32_t *place, uint32_t *entered);
 
-/* Copy row q, q from 1: what stands between the byte 10 before it (or the text's start) and its own, which is not copied. If the text's last byte is
- * not 10, what stands after the last byte 10 (or all the text) is one more row. Byte 10 must be counted. BT_NO_SUCH: the text has no row q.
+/* Copy row q, q from 1: what stands between the byte 10 before it (or the text's start) and its own, which is not copied, nor is
+ * one byte 13 directly before it. If the text's last byte is not 10, what stands after the last byte 10 (or all the text) is one more row, with a byte
+ * 13 at its end if it has one. Byte 10 must be counted. BT_NO_SUCH: the text has no row q.
  *   lent      tree
  *   written   buffer: the row in its first *length bytes, the rest as it was; on BT_PATH as it was, or zeros in a first part; as it was on any
  *             other refusal

@@ -57,7 +57,7 @@ another book. Status 1 where it is refused.",
         figures: &["N"],
         options: UNCHECKED,
         summary: "print row N of the book, from 1",
-        details: "A row ends in byte 10, which the tree must count (it does unless build was told otherwise). If the book's last byte is another one, what stands after the last byte 10 is a row too.",
+        details: "A row ends in byte 10, or in bytes 13 and 10; the tree must count byte 10 (it does unless build was told otherwise). It is printed with a plain line end, without the 13. If the book's last byte is another one, what stands after the last byte 10 is a row too.",
     },
     Topic {
         name: "byte",

@@ -119,7 +119,7 @@ impl<'a> Tree<'a> {
         answer(number, Reached { value, entered })
     }
 
-    /// Row `q`, from 1, without its byte 10. What stands after the last byte 10 is a row too, if the text's last byte is another one.
+    /// Row `q`, from 1, without its byte 10 and without one byte 13 directly before that. What stands after the last byte 10 is a row too, if the text's last byte is another one.
     pub fn row(&self, q: u32) -> Result<Vec<u8>, Refusal> {
         let mut buffer = vec![0; MAX_TEXT.min(self.text_length() as usize)];
         let (number, length) = calls::row(self.bytes, q, &mut buffer);

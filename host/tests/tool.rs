@@ -190,6 +190,17 @@ fn last_row_without_end() {
     assert!(String::from_utf8_lossy(&printed).contains("counted     10 '\\n': 1 times\nrows        2\n"));
 }
 
+/// A book whose rows end in bytes 13 and 10.
+#[test]
+fn rows_that_end_in_two_bytes() {
+    let folder = Folder::new("seller");
+    folder.write("seller.txt", b"CH1 12\r\nCH2 34\r\r\n\r\nCH3 56\r");
+    folder.run("build seller.txt -o seller.tree --leaf 4 --arity 2 --levels 2").succeeds();
+    for (q, row) in ["CH1 12", "CH2 34\r", "", "CH3 56\r"].into_iter().enumerate() {
+        folder.run(&format!("row {} seller.tree", q + 1)).succeeds().prints(&format!("{row}\n"));
+    }
+}
+
 #[test]
 fn trees_from_standard_input() {
     let folder = Folder::with_tree("stdin");

@@ -44,10 +44,11 @@ pub use Rattle.query.proofs.Demand2.{build-accepted, build-one-text}
 -- Rows. "If the text's last byte is not 10, the bytes after the last byte 10 (or all the text, where none stands) are one more row. Its number
 -- is the total of byte 10 plus one. ..
 pub use Rattle.text.specs.RowLaws.{rows-count, row-last}
--- .. Every row answered before keeps its bytes, ..
-pub use Rattle.text.specs.RowLaws.{row-between}
--- .. and question 12 counts the added row."
+-- .. and question 12 counts the added row." ..
 pub use Rattle.tallies.specs.Rows.{row-lets, row-twelve, row-eleven}
+-- .. "One byte 13 directly before the ending byte 10 now belongs to the end and not to the row. A byte 13 anywhere else stays in the row, also at
+-- the end of a row that has no byte 10" (`row-last`).
+pub use Rattle.text.specs.RowLaws.{row-between, trimmed-mark, trimmed-plain, trimmed-none}
 
 -- The two roads to a tree, each in one theorem.
 

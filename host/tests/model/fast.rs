@@ -133,7 +133,8 @@ fn try_row(bytes: &[u8], q: u32, buffer: &mut [u8]) -> Result<u32, u32> {
     let total = tree.total(tree.counted(10).ok_or(11u32)?);
     let end = if u64::from(q) > total { tree.n } else { try_find(bytes, 10, q)?.0 };
     let start = if q == 1 { 0 } else { try_find(bytes, 10, q - 1)?.0 + 1 };
-    let length = (end - start) as u32;
+    let marked = end < tree.n && end > start && byte_at(&tree, end - 1).ok_or(14u32)?.0 == b'\r';
+    let length = (end - start) as u32 - u32::from(marked);
     if length as usize > buffer.len() {
         return Err(13);
     }

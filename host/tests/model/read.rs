@@ -364,11 +364,16 @@ pub fn row_questions(bytes: &[u8], q: u32) -> Result<Tree<'_>, u32> {
     }
 }
 
-/// The rows of a text: a byte 10 ends a row; the bytes after the last byte 10, if there are any, are one more row.
+/// The rows of a text: a byte 10 ends a row, and so does a byte 13 directly before it; the bytes after the last byte 10, if there are any, are one more
+/// row, as they stand.
 pub fn rows_of(text: &[u8]) -> Vec<&[u8]> {
     let mut rows: Vec<&[u8]> = text.split(|&byte| byte == 10).collect();
-    if text.last().is_none_or(|&byte| byte == 10) {
-        rows.pop();
+    let open = rows.pop().expect("a split gives a part");
+    for row in &mut rows {
+        *row = row.strip_suffix(b"\r").unwrap_or(row);
+    }
+    if !open.is_empty() {
+        rows.push(open);
     }
     rows
 }

@@ -7,7 +7,7 @@ use crate::model::{blocks_for, record_length, word, Shape, HEADER};
 /// A text of 1 to `longest` bytes over a few letters, with stretches that come again.
 pub fn text(rng: &mut Rng, longest: usize) -> Vec<u8> {
     let length = rng.within(1, longest);
-    let letters = *rng.pick(&[b"A".as_slice(), b"AB", b"ABC\n", b"AB\n\0\xFF", b"0123456789 \n"]);
+    let letters = *rng.pick(&[b"A".as_slice(), b"AB", b"ABC\n", b"A\r\n", b"AB\n\0\xFF", b"0123456789 \n"]);
     let copies = rng.below(4);
     let mut text: Vec<u8> = Vec::new();
     while text.len() < length {
