@@ -42,10 +42,10 @@ enum bt_number {
     BT_COUNTED = 3,     /* more than 4 counted bytes, or one that is not above the one before */
     BT_SPACE = 4,       /* the tree does not fit the buffer */
     BT_SHORT = 5,       /* the tree has fewer than 100 bytes */
-    BT_LAYOUT = 6,      /* the tree's layout is not 1 */
+    BT_LAYOUT = 6,      /* the tree's layout is neither 1 nor 2 */
     BT_HEADER = 7,      /* the header is not right: settings, unused places, offsets, or the tree's length */
     BT_LINKS = 8,       /* starts, kinds, links, gaps, or the counts of levels or leaf bytes are not right */
-    BT_COUNTS = 9,      /* a count in the tree is not true */
+    BT_COUNTS = 9,      /* a count or an edge in the tree is not true */
     BT_PLACE = 10,      /* the place, or the end of what is asked for, lies past the text's end */
     BT_NOT_COUNTED = 11, /* the byte is not one that the tree counts (for a row: byte 10) */
     BT_NO_SUCH = 12,    /* the byte does not stand so often in the text; there is no such row */
@@ -54,7 +54,7 @@ enum bt_number {
     BT_INPUT = 15       /* list only: the tree has more than 65,536 bytes */
 };
 
-/* Build the tree of a text.
+/* Build the tree of a text, in layout 2. Trees of layout 1 are read and checked all the same.
  *   lent      text, counted: the counted bytes, rising
  *   written   out: the tree in its first *size bytes, the rest as it was; all zero on BT_SPACE; as it was on 1, 2 and 3
  *             *size: the tree's size
@@ -62,12 +62,13 @@ enum bt_number {
 uint32_t bt_build(const uint8_t *text, size_t text_len, uint32_t leaf, uint32_t arity, uint32_t levels, const uint8_t *counted, size_t counted_len,
                   uint8_t *out, size_t out_len, uint32_t *size);
 
-/* How large a buffer is enough for the tree of any text of n bytes, with `counted` counted bytes.
+/* How large a buffer is enough for the tree of any text of n bytes, with `counted` counted bytes: for one that bt_build makes, and for any of either
+ * layout that bt_check accepts.
  *   written   *size: that many bytes are enough
  *   answers   0, 1, 2, 3 */
 uint32_t bt_enough(uint32_t n, uint32_t leaf, uint32_t arity, uint32_t levels, uint32_t counted, uint64_t *size);
 
-/* Check a tree: is it one, is it right in all its parts, are its counts true? It does not ask whether bt_build would have made it.
+/* Check a tree: is it one, is it right in all its parts, are its counts and edges true? It does not ask whether bt_build would have made it.
  *   lent      tree
  *   answers   0, 5 to 9 */
 uint32_t bt_check(const uint8_t *tree, size_t tree_len);
@@ -84,11 +85,12 @@ uint32_t bt_byte(const uint8_t *tree, size_t tree_len, uint32_t place, uint32_t 
  *   answers   0, 5, 6, 7, 10, 14 */
 uint32_t bt_run(const uint8_t *tree, size_t tree_len, uint32_t place, uint64_t *offset, uint32_t *length);
 
-/* Copy `length` bytes of the text from a place on.
+/* Copy `length` bytes of the text from a place on. In a layout 2 tree a span of 1 to leaf bytes is read from edges or leaf bytes, by one short walk.
  *   lent      tree
  *   written   buffer: its first `length` bytes, the rest as it was; on BT_PATH zeros in the first `length` bytes; as it was on any other refusal
+ *             *entered: the blocks entered by that walk, at most twice the levels; 0 for any other span
  *   answers   0, 5, 6, 7, 10, 13, 14 */
-uint32_t bt_span(const uint8_t *tree, size_t tree_len, uint32_t place, uint32_t length, uint8_t *buffer, size_t buffer_len);
+uint32_t bt_span(const uint8_t *tree, size_t tree_len, uint32_t place, uint32_t length, uint8_t *buffer, size_t buffer_len, uint32_t *entered);
 
 /* How often a byte stands in the first i bytes of the text.
  *   lent      tree

@@ -69,6 +69,10 @@ fn time_book(text: &[u8], name: &str, shape: Shape) {
         "span of 100 bytes",
         each(&places[..500], |p| (calls::span(tree(), p, 100, &mut ours), ours[99]), |p| (read::span(tree(), p, 100, &mut theirs), theirs[99])),
     );
+    line(
+        "span of 16 bytes",
+        each(&places, |p| (calls::span(tree(), p, 16, &mut ours), ours[15]), |p| (read::span(tree(), p, 16, &mut theirs), theirs[15])),
+    );
     line("row", each(&numbers[..1000], |q| calls::row(tree(), q, &mut ours), |q| fast::row(tree(), q, &mut theirs)));
     line("count", each(&places, |i| calls::count(tree(), 10, i), |i| read::count(tree(), 10, i)));
     line("find", each(&numbers, |j| calls::find(tree(), 10, j), |j| fast::find(tree(), 10, j)));

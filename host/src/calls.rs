@@ -18,7 +18,7 @@ mod declared {
         pub fn bt_check(tree: *const u8, tree_len: usize) -> u32;
         pub fn bt_byte(tree: *const u8, tree_len: usize, place: u32, value: *mut u32, entered: *mut u32) -> u32;
         pub fn bt_run(tree: *const u8, tree_len: usize, place: u32, offset: *mut u64, length: *mut u32) -> u32;
-        pub fn bt_span(tree: *const u8, tree_len: usize, place: u32, length: u32, buffer: *mut u8, buffer_len: usize) -> u32;
+        pub fn bt_span(tree: *const u8, tree_len: usize, place: u32, length: u32, buffer: *mut u8, buffer_len: usize, entered: *mut u32) -> u32;
         pub fn bt_count(tree: *const u8, tree_len: usize, byte: u32, i: u32, count: *mut u64, entered: *mut u32) -> u32;
         pub fn bt_find(tree: *const u8, tree_len: usize, byte: u32, j: u32, place: *mut u32, entered: *mut u32) -> u32;
         pub fn bt_row(tree: *const u8, tree_len: usize, q: u32, buffer: *mut u8, buffer_len: usize, length: *mut u32) -> u32;
@@ -64,9 +64,11 @@ pub fn run(tree: &[u8], place: u32) -> (u32, u64, u32) {
     (number, offset, length)
 }
 
-/// The number.
-pub fn span(tree: &[u8], place: u32, length: u32, buffer: &mut [u8]) -> u32 {
-    unsafe { declared::bt_span(tree.as_ptr(), tree.len(), place, length, buffer.as_mut_ptr(), buffer.len()) }
+/// The number and the blocks entered.
+pub fn span(tree: &[u8], place: u32, length: u32, buffer: &mut [u8]) -> (u32, u32) {
+    let mut entered = 0;
+    let number = unsafe { declared::bt_span(tree.as_ptr(), tree.len(), place, length, buffer.as_mut_ptr(), buffer.len(), &mut entered) };
+    (number, entered)
 }
 
 /// The number, the count and the blocks entered.

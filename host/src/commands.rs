@@ -58,7 +58,7 @@ fn answer(question: &Question, name: &str, tree: Tree) -> Result<Vec<u8>, Refusa
             let Reached { value, entered } = tree.byte(place)?;
             figure(&format!("{value} '{}'", [value].escape_ascii()), entered)
         }
-        Question::Span(place, length) => tree.span(place, length)?,
+        Question::Span(place, length) => tree.span(place, length)?.value,
         Question::Count(byte, length) => {
             let Reached { value, entered } = tree.count(byte, length)?;
             figure(&value.to_string(), entered)

@@ -24,7 +24,7 @@ static TOPICS: [Topic; 10] = [
         details: "\
 BOOK is any text of 1 to 1,048,576 bytes. Without -o the tree goes to standard output.
 
-Where no settings are given, a short list is tried (256/2/1, 128/2/2, 96/2/3, 64/2/4, 64/2/6 and 48/2/5 as leaf/arity/levels), the smallest tree is
+Where no settings are given, a short list is tried (256/2/1, 64/4/3, 48/2/5, 32/4/4, 24/8/3 and 16/4/4 as leaf/arity/levels), the smallest tree is
 kept, and what each gave is printed.
 
   -o TREE        the file to write
@@ -40,7 +40,7 @@ kept, and what each gave is printed.
         options: &[],
         summary: "check a tree, from anyone",
         details: "\
-Says whether the tree is right in all its parts and its counts are true. It is no checksum: a tree whose leaf bytes were changed is the tree of
+Says whether the tree is right in all its parts and its counts and edges are true. It is no checksum: a tree whose leaf bytes were changed is the tree of
 another book. Status 1 where it is refused.",
     },
     Topic {

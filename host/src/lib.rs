@@ -20,7 +20,7 @@ pub use refusal::Refusal;
 pub const MAX_TEXT: usize = 1_048_576;
 
 /// Settings worth trying on a book, as leaf length, arity and levels: from few and large blocks to many and small ones.
-pub const SHORT_LIST: [(u32, u32, u32); 6] = [(256, 2, 1), (128, 2, 2), (96, 2, 3), (64, 2, 4), (64, 2, 6), (48, 2, 5)];
+pub const SHORT_LIST: [(u32, u32, u32); 6] = [(256, 2, 1), (64, 4, 3), (48, 2, 5), (32, 4, 4), (24, 8, 3), (16, 4, 4)];
 
 /// How a tree is laid out, and which bytes it can count and find.
 #[derive(Clone, Debug, PartialEq, Eq)]
@@ -102,9 +102,11 @@ impl<'a> Tree<'a> {
         answer(number, &self.bytes[offset as usize..][..length as usize])
     }
 
-    pub fn span(&self, place: u32, length: u32) -> Result<Vec<u8>, Refusal> {
+    /// `length` bytes from `place` on. The blocks entered are those of a short span, of at most the leaf length, in a tree of layout 2; else 0.
+    pub fn span(&self, place: u32, length: u32) -> Result<Reached<Vec<u8>>, Refusal> {
         let mut buffer = vec![0; MAX_TEXT.min(length as usize)];
-        answer(calls::span(self.bytes, place, length, &mut buffer), buffer)
+        let (number, entered) = calls::span(self.bytes, place, length, &mut buffer);
+        answer(number, Reached { value: buffer, entered })
     }
 
     /// How often `byte` stands in the first `i` bytes.
@@ -137,12 +139,17 @@ impl<'a> Tree<'a> {
 
     /// The whole text.
     pub fn text(&self) -> Result<Vec<u8>, Refusal> {
-        self.span(0, self.text_length())
+        self.span(0, self.text_length()).map(|span| span.value)
     }
 
     /// Bytes of the tree.
     pub fn size(&self) -> usize {
         self.bytes.len()
+    }
+
+    /// The layout, as the header has it: 1, or 2, which has edges.
+    pub fn layout(&self) -> u32 {
+        self.word(0)
     }
 
     /// Bytes of the text, as the header has it.
@@ -159,7 +166,7 @@ impl<'a> Tree<'a> {
     /// The levels of a tree that the check accepts.
     pub fn levels(&self) -> Vec<Level> {
         let Settings { leaf, arity, levels, counted } = self.settings();
-        let record = 16 + 12 * counted.len();
+        let record = 16 + 12 * counted.len() + if self.layout() == 2 { 2 * leaf as usize } else { 0 };
         (0..levels.min(8))
             .map(|level| {
                 let at = 28 + 8 * level as usize;

@@ -108,6 +108,7 @@ pub fn stats(name: &str, tree: Tree) -> String {
     let (settings, length) = (tree.settings(), tree.text_length());
     let mut text = format!("{name}: {} bytes, {} of the text\n", grouped(tree.size() as u64), share(tree.size(), length as usize));
     text += &format!("text        {} bytes\n", grouped(length.into()));
+    text += &format!("layout      {}\n", tree.layout());
     text += &format!("settings    {}\n", shape(&settings));
     for &byte in &settings.counted {
         let total = tree.count(byte, length).map_or(0, |count| count.value);

@@ -31,7 +31,7 @@ fn reads_a_row() {
             .arg(&program),
     );
     let printed = output(&mut Command::new(program)).stdout;
-    assert_eq!(String::from_utf8_lossy(&printed), "text 112 bytes, tree 740 bytes\nrow 7: CH0503 324122\n");
+    assert_eq!(String::from_utf8_lossy(&printed), "text 112 bytes, tree 1060 bytes\nrow 7: CH0503 324122\n");
 }
 
 /// The header alone, as C99 and as C++.

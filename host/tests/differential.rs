@@ -89,7 +89,7 @@ fn good_trees() {
             let tree = tree.into_boxed_slice();
             assert_eq!(calls::check(&tree), 0, "{}", to_hex(&tree));
             let mut back = lent(text.len());
-            assert_eq!(calls::span(&tree, 0, text.len() as u32, &mut back), 0);
+            assert_eq!(calls::span(&tree, 0, text.len() as u32, &mut back).0, 0);
             assert!(*back == *text, "{}", to_hex(&tree));
             ask(rng, &tree, 40);
         }
@@ -123,7 +123,7 @@ fn wild_bytes() {
     rounds(2000, |rng| {
         let mut bytes: Vec<u8> = (0..rng.below(300)).map(|_| if rng.one_in(3) { rng.next() as u8 } else { 0 }).collect();
         if rng.one_in(2) && bytes.len() >= 4 {
-            damage::set_word(&mut bytes, 0, 1);
+            damage::set_word(&mut bytes, 0, rng.within(1, 2) as u32);
         }
         ask(rng, &bytes.into_boxed_slice(), 5);
     });
@@ -232,7 +232,8 @@ fn compare_book(rng: &mut Rng, text: &[u8], shape: Shape, counted: &[u8], questi
         assert_eq!(calls::run(&tree, p), read::run(&tree, p));
         let length = rng.below(200.min(text.len() - p as usize));
         let mut span = lent(length);
-        assert_eq!(calls::span(&tree, p, length as u32, &mut span), 0);
+        let (number, entered) = calls::span(&tree, p, length as u32, &mut span);
+        assert!(number == 0 && entered <= 2 * shape.h);
         assert!(*span == text[p as usize..p as usize + length]);
         let byte = *rng.pick(counted);
         let before = text[..p as usize].iter().filter(|&&here| here == byte).count();
@@ -271,7 +272,7 @@ fn every_number_is_reached() {
             note("list", check::list(&tree).0);
             note("byte", read::byte(&tree, p).0);
             note("run", read::run(&tree, p).0);
-            note("span", read::span(&tree, p, length, &mut buffer));
+            note("span", read::span(&tree, p, length, &mut buffer).0);
             note("count", read::count(&tree, 10, p).0);
             note("find", if let Answer::Settled(answer) = read::find(&tree, 10, j) { answer.0 } else { FREE });
             note("row", if let Answer::Settled(answer) = read::row(&tree, j, &mut buffer) { answer.0 } else { FREE });

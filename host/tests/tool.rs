@@ -98,17 +98,18 @@ fn builds_with_chosen_settings() {
     let report = "\
 small.txt: 2,800 bytes
 leaf  arity  levels  tree's bytes
- 256      2       1         3,208
- 128      2       2         2,264
-  96      2       3         1,984
-  64      2       4         2,312
-  64      2       6         2,452
-  48      2       5         2,436
-chosen: leaf 96, arity 2, levels 3, since its tree is the smallest of these 6
+ 256      2       1         8,840
+  64      4       3         7,548
+  48      2       5         7,428
+  32      4       4         6,444
+  24      8       3         5,884
+  16      4       4         6,256
+chosen: leaf 24, arity 8, levels 3, since its tree is the smallest of these 6
 ";
-    let ending = "1,984 bytes, 70.9 % of the text; leaf 96, arity 2, levels 3; bytes counted: 10\n";
+    let ending = "5,884 bytes, 210.1 % of the text; leaf 24, arity 8, levels 3; bytes counted: 10\n\
+                  The tree is no smaller than the text: the book is short, or repeats itself too little.\n";
     folder.run("build small.txt -o small.tree").succeeds().prints(&format!("{report}small.tree: {ending}")).says("");
-    assert_eq!(folder.read("small.tree").len(), 1984);
+    assert_eq!(folder.read("small.tree").len(), 5884);
     // in a pipe the tree goes to standard output and the report to standard error
     let piped = folder.pipe("build", &folder.read("small.txt"));
     piped.succeeds().says(&format!("{}standard output: {ending}", report.replace("small.txt", "standard input")));
@@ -118,17 +119,17 @@ chosen: leaf 96, arity 2, levels 3, since its tree is the smallest of these 6
 #[test]
 fn builds_with_given_settings() {
     let folder = Folder::new("given");
-    folder
-        .run("build small.txt -o small.tree --leaf 16 --arity=4 --levels 2 --count none")
-        .succeeds()
-        .prints("small.txt: 2,800 bytes\nsmall.tree: 2,436 bytes, 87.0 % of the text; leaf 16, arity 4, levels 2; bytes counted: none\n");
+    folder.run("build small.txt -o small.tree --leaf 16 --arity=4 --levels 2 --count none").succeeds().prints(
+        "small.txt: 2,800 bytes\nsmall.tree: 5,476 bytes, 195.6 % of the text; leaf 16, arity 4, levels 2; bytes counted: none\n\
+             The tree is no smaller than the text: the book is short, or repeats itself too little.\n",
+    );
     folder
         .run("row 1 small.tree")
         .status(1)
         .says("codebook: small.tree: row 1: refused (11): the tree does not count this byte; rows end in byte 10, so build must count it\n");
     folder.run("build small.txt -o two.tree --leaf 16 --arity 4 --levels 2 --count \\n,C").succeeds();
     folder.run("build small.txt -o large.tree --leaf 1 --arity 2 --levels 1").succeeds().prints(
-        "small.txt: 2,800 bytes\nlarge.tree: 81,300 bytes, 2903.6 % of the text; leaf 1, arity 2, levels 1; bytes counted: 10\n\
+        "small.txt: 2,800 bytes\nlarge.tree: 86,900 bytes, 3103.6 % of the text; leaf 1, arity 2, levels 1; bytes counted: 10\n\
          The tree is no smaller than the text: the book is short, or repeats itself too little.\n",
     );
     folder.run("find C 41 two.tree").succeeds().prints("728 (3 blocks entered)\n");
@@ -138,7 +139,7 @@ fn builds_with_given_settings() {
 fn answers() {
     let folder = Folder::with_tree("answers");
     folder.run("check small.tree").succeeds().prints("small.tree: a good tree of 2,800 bytes of text\n").says("");
-    folder.run("list small.tree").succeeds().prints("0 8 5 3\n1 9 6 3\n2 12 12 0\n");
+    folder.run("list small.tree").succeeds().prints("0 2 2 0\n1 15 6 9\n2 45 45 0\n");
     folder.run("row 1 small.tree").succeeds().prints("CH0501 444224\n");
     folder.run("row 200 small.tree").succeeds().prints("HON1012 52162\n");
     folder.run("byte 0 small.tree").succeeds().prints("67 'C' (3 blocks entered)\n");
@@ -153,16 +154,17 @@ fn answers() {
     assert_eq!(text.output.stdout, folder.read("small.txt"));
     folder.run("stats small.tree").succeeds().prints(
         "\
-small.tree: 1,984 bytes, 70.9 % of the text
+small.tree: 5,884 bytes, 210.1 % of the text
 text        2,800 bytes
-settings    leaf 96, arity 2, levels 3
+layout      2
+settings    leaf 24, arity 8, levels 3
 counted     10 '\\n': 200 times
 rows        200
 leaf bytes  1,072
 level  block length    blocks      kept  pointing
-    0           384         8         5         3
-    1           192         9         6         3
-    2            96        12        12         0
+    0         1,536         2         2         0
+    1           192        15         6         9
+    2            24        45        45         0
 ",
     );
 }
@@ -251,12 +253,12 @@ fn damaged_trees() {
     folder.run("byte 0 kind.tree --unchecked").status(1).says(&format!("codebook: kind.tree: byte 0: {path}\n"));
     folder.run("text kind.tree --unchecked").status(1).prints("").says(&format!("codebook: kind.tree: {path}\n"));
     damaged("count.tree", 120, 7);
-    folder.run("check count.tree").status(1).says("codebook: count.tree: refused (9): a count in the tree is not true\n");
-    damaged("layout.tree", 0, 2);
+    folder.run("check count.tree").status(1).says("codebook: count.tree: refused (9): a count or an edge in the tree is not true\n");
+    damaged("layout.tree", 0, 3);
     folder
         .run("row 1 layout.tree")
         .status(1)
-        .says("codebook: layout.tree: refused (6): the layout is not 1; this is no block tree, or one of another version\n");
+        .says("codebook: layout.tree: refused (6): the layout is neither 1 nor 2; this is no block tree, or one of another version\n");
     folder.write("cut.tree", &tree[..tree.len() - 1]);
     folder.run("check cut.tree").status(1).says(
         "codebook: cut.tree: refused (7): the header is not right: its settings, unused places or offsets, or the file is longer or shorter than it says\n",

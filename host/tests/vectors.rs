@@ -25,7 +25,7 @@ struct Calls {
     list: fn(&[u8]) -> String,
     byte: fn(&[u8], u32) -> (u32, u32, u32),
     run: fn(&[u8], u32) -> (u32, u64, u32),
-    span: fn(&[u8], u32, u32, &mut [u8]) -> u32,
+    span: fn(&[u8], u32, u32, &mut [u8]) -> (u32, u32),
     count: fn(&[u8], u32, u32) -> (u32, u64, u32),
     find: fn(&[u8], u32, u32) -> Answer<(u32, u32, u32)>,
     row: fn(&[u8], u32, &mut [u8]) -> Answer<(u32, u32)>,
@@ -76,7 +76,7 @@ fn run_file(calls: &Calls, file: &str) {
     for line in file.lines().filter(|line| !line.is_empty() && !line.starts_with('#') && !line.contains(" => wrong: ")) {
         let tokens: Vec<&str> = line.split(' ').collect();
         match tokens[..] {
-            ["landed", request] => in_force = request == "102",
+            ["landed", request] => in_force = request == "103",
             ["text" | "tree", name, hex] => {
                 bytes.insert(name, from_hex(hex));
             }
@@ -121,7 +121,8 @@ fn item(calls: &Calls, bytes: &HashMap<&str, Vec<u8>>, item: &[&str], expected: 
         "count" => figures((calls.count)(subject, number(2), number(3))),
         "span" => {
             let mut buffer = lent(4);
-            format!("{} 0 {}", (calls.span)(subject, number(2), number(3), &mut buffer), to_hex(&buffer))
+            let (refusal, entered) = (calls.span)(subject, number(2), number(3), &mut buffer);
+            format!("{refusal} {entered} {}", to_hex(&buffer))
         }
         "find" => return find(calls, subject, number(2), number(3), expected),
         "row" => return row(calls, subject, number(2), lent(3), expected),

@@ -3,7 +3,7 @@
 mod model;
 mod support;
 
-use model::build::{build, plain_tree};
+use model::build::{build, plain_tree, plain_tree_in};
 use model::check::{check, list};
 use model::read::{byte, count, find, row, run, span, Answer};
 use model::{fast, Shape};
@@ -12,52 +12,67 @@ use support::Rng;
 
 const WORKED: &[u8] = b"QABCDABCDEFGABCDABCD";
 
-fn worked() -> Vec<u8> {
-    plain_tree(WORKED, Shape::new(2, 2, 2), b"A")
+fn worked(layout: u32) -> Vec<u8> {
+    plain_tree_in(layout, WORKED, Shape::new(2, 2, 2), b"A")
 }
 
 #[test]
 fn worked_book() {
-    let tree = worked();
-    assert_eq!(tree.len(), 480);
-    assert_eq!(&tree[464..], b"QABCDABCDEFGABCD");
-    assert_eq!(check(&tree), 0);
-    assert_eq!(list(&tree), (0, "0 5 4 1\n1 8 8 0\n".to_owned()));
-    let level0: Vec<u32> = (100..240).step_by(4).map(|at| model::word(&tree, at)).collect();
-    assert_eq!(level0[..7], [0, 0, 0, 0, 0, 1, 0]);
-    assert_eq!(level0[28..], [16, 1, 0, 1, 3, 1, 0]);
-    assert_eq!(byte(&tree, 18), (0, u32::from(b'C'), 3));
-    assert_eq!(byte(&tree, 19), (0, u32::from(b'D'), 3));
-    assert_eq!(byte(&tree, 20), (10, 0, 0));
-    assert_eq!(count(&tree, 65, 17), (0, 4, 3));
-    assert_eq!(count(&tree, 65, 0), (0, 0, 0));
-    assert_eq!(count(&tree, 65, 21), (10, 0, 0));
-    assert_eq!(find(&tree, 65, 4), Answer::Settled((0, 16, 3)));
-    assert_eq!(find(&tree, 65, 5), Answer::Settled((12, 0, 0)));
-    assert_eq!(run(&tree, 17), (0, 466, 2));
-    assert_eq!(row(&tree, 1, &mut []), Answer::Settled((11, 0)));
-    assert_eq!(span(&tree, 20, 0, &mut []), 0);
+    for (layout, record, leaves) in [(1, 28, 464), (2, 32, 516)] {
+        let tree = worked(layout);
+        assert_eq!((model::word(&tree, 40), model::word(&tree, 92)), (100 + 5 * record, leaves));
+        assert_eq!(&tree[leaves as usize..], b"QABCDABCDEFGABCD");
+        let words = |block: u32| [0, 1, 2, 3, 4, 5, 6].map(|field| model::word(&tree, (100 + block * record + 4 * field) as usize));
+        assert_eq!(words(0), [0, 0, 0, 0, 0, 1, 0]);
+        assert_eq!(words(4), [16, 1, 0, 1, 3, 1, 0]);
+        worked_questions(&tree, leaves.into());
+    }
+    let tree = worked(2);
+    assert_eq!(tree[128..132], *b"QABC");
+    // short spans, with the blocks entered
+    for (place, bytes, entered) in [(3, b"CD", 2), (1, b"AB", 3), (2, b"BC", 2), (16, b"AB", 4), (18, b"CD", 3)] {
+        let mut span_of = [0; 2];
+        assert_eq!((span(&tree, place, 2, &mut span_of), &span_of), ((0, entered), bytes));
+    }
+}
+
+fn worked_questions(tree: &[u8], leaves: u64) {
+    assert_eq!(check(tree), 0);
+    assert_eq!(list(tree), (0, "0 5 4 1\n1 8 8 0\n".to_owned()));
+    assert_eq!(byte(tree, 18), (0, u32::from(b'C'), 3));
+    assert_eq!(byte(tree, 19), (0, u32::from(b'D'), 3));
+    assert_eq!(byte(tree, 20), (10, 0, 0));
+    assert_eq!(count(tree, 65, 17), (0, 4, 3));
+    assert_eq!(count(tree, 65, 0), (0, 0, 0));
+    assert_eq!(count(tree, 65, 21), (10, 0, 0));
+    assert_eq!(find(tree, 65, 4), Answer::Settled((0, 16, 3)));
+    assert_eq!(find(tree, 65, 5), Answer::Settled((12, 0, 0)));
+    assert_eq!(run(tree, 17), (0, leaves + 2, 2));
+    assert_eq!(row(tree, 1, &mut []), Answer::Settled((11, 0)));
+    assert_eq!(span(tree, 20, 0, &mut []), (0, 0));
 }
 
 #[test]
 fn blocks_that_point() {
     let twelve = plain_tree(&[b'A'; 12], Shape::new(2, 2, 2), b"");
-    assert_eq!(twelve.len(), 220);
-    assert_eq!(model::word(&twelve, 132 + 4), 1); // block 2 points
-    assert_eq!((model::word(&twelve, 132 + 8), model::word(&twelve, 132 + 12)), (0, 0));
+    assert_eq!(twelve.len(), 248);
+    let kind_link_gap = |tree: &[u8]| [4, 8, 12].map(|at| model::word(tree, 100 + 2 * 20 + at));
+    assert_eq!(kind_link_gap(&twelve), [1, 0, 0]); // block 2 points
     let cut = plain_tree(b"ABCDABCDA", Shape::new(2, 2, 2), b"");
-    assert_eq!((model::word(&cut, 132 + 4), model::word(&cut, 132 + 8), model::word(&cut, 132 + 12)), (1, 0, 0));
+    assert_eq!(kind_link_gap(&cut), [1, 0, 0]);
+    assert_eq!(cut[156..160], *b"A\0A\0"); // a block shorter than m
+    assert_eq!(plain_tree_in(1, &[b'A'; 12], Shape::new(2, 2, 2), b"").len(), 220);
 }
 
 #[test]
 fn lent_buffers() {
     let shape = Shape::new(2, 2, 2);
-    let mut long = [0xEE; 483];
-    assert_eq!(build(WORKED, shape, b"A", &mut long), (0, 480));
-    assert_eq!(long[480..], [0xEE; 3]);
-    let mut short = [0xEE; 479];
+    let mut long = [0xEE; 535];
+    assert_eq!(build(WORKED, shape, b"A", &mut long), (0, 532));
+    assert_eq!(long[532..], [0xEE; 3]);
+    let mut short = [0xEE; 531];
     assert_eq!(build(WORKED, shape, b"A", &mut short), (4, 0));
-    assert_eq!(short, [0; 479]);
+    assert_eq!(short, [0; 531]);
     assert_eq!(build(WORKED, Shape::new(256, 16, 5), b"", &mut short), (2, 0));
     assert_eq!(build(&vec![65; 1_048_577], shape, b"A", &mut short), (1, 0));
 }
@@ -66,7 +81,7 @@ fn lent_buffers() {
 #[test]
 fn readings() {
     let with = |words: &[(usize, u32)]| {
-        let mut tree = worked();
+        let mut tree = worked(1);
         for &(at, value) in words {
             tree[at..at + 4].copy_from_slice(&value.to_le_bytes());
         }
@@ -83,8 +98,16 @@ fn readings() {
     assert_eq!(count(&with(&[(228, 0), (236, 1)]), 65, 17), (0, 0, 3));
     assert_eq!(count(&with(&[(228, u32::MAX)]), 65, 17), (0, 4_294_967_296, 3));
     let mut buffer = [0xEE; 3];
-    assert_eq!((span(&kind, 0, 3, &mut buffer[..2]), buffer), (13, [0xEE; 3]));
-    assert_eq!((span(&kind, 0, 2, &mut buffer), buffer), (14, [0, 0, 0xEE]));
+    assert_eq!((span(&kind, 0, 3, &mut buffer[..2]).0, buffer), (13, [0xEE; 3]));
+    assert_eq!((span(&kind, 0, 2, &mut buffer).0, buffer), (14, [0, 0, 0xEE]));
+    // with kind 2 in blocks 0 and 1 a span over their border is read all the same
+    let mut edges = worked(2);
+    for at in [104, 136] {
+        edges[at] = 2;
+    }
+    let mut buffer = [0; 2];
+    assert_eq!((span(&edges, 3, 2, &mut buffer), &buffer), ((0, 2), b"CD"));
+    assert_eq!((byte(&edges, 3).0, byte(&edges, 4).0), (14, 14));
 }
 
 #[test]

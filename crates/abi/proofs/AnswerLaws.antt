@@ -9,18 +9,18 @@ use borrow.Author.Tests.{eqb-true}
 use lib.Dec.{eqb}
 use Rattle.format.specs.Settings.{maxText}
 use Rattle.format.specs.Said.{Said}
-use Rattle.format.specs.SaidLaws.{unless-passes, unless-number}
+use Rattle.format.specs.SaidLaws.{unless-passes}
 use Rattle.format.specs.Layout as at
 use Rattle.format.specs.Path.{Path, pathOf}
 use Rattle.format.specs.Verdict.{readable}
 use Rattle.format.specs.HeaderLaws.{readable-facts}
-use Rattle.format.specs.Reading.{byteSays, runOf, runSays, spanNumber}
+use Rattle.format.specs.Reading.{byteSays, runOf, runSays, spanSays}
 use Rattle.paths.specs.Shift.{left-most}
 use Rattle.access.specs.declared.Answer.{Answer}
 use Rattle.access.specs.declared.Answer.the-variants as answer
 use Rattle.access.specs.declared.Copied.{Copied}
 use Rattle.access.specs.declared.Copied.the-variants as copied
-use Rattle.access.specs.Answers.{said, copiedSaid, spanSays, SpanAnswer}
+use Rattle.access.specs.Answers.{said, copiedSaid, SpanAnswer}
 use Rattle.builder.specs.declared.Built.{Built}
 use Rattle.builder.specs.declared.Built.the-variants as built
 use Rattle.builder.specs.Answers.{numberOf, sizeOf}
@@ -76,12 +76,8 @@ run-short t p =
 -- span
 
 module _ (t : List ℕ) (p len room : ℕ) (r : Copied) (k : SpanAnswer t p len room r) where
-  span-number : copiedSaid r .number ≡ spanNumber t p len room
-  unfolding spanSays
-  span-number = ap (λ (s : Said). s .number) (k .says) ∙ unless-number (spanNumber t p len room) (saying 0 len 0) refl
+  pub span-told : (n entered : ℕ) → r ≡ copied.Bytes n entered → (0 ≡ spanSays t p len room .number) × (entered ≡ spanSays t p len room .entered)
+  span-told n entered e = let z = sym (ap copiedSaid e) ∙ k .says in (ap (λ (s : Said). s .number) z, ap (λ (s : Said). s .entered) z)
 
-  pub span-told : (n : ℕ) → r ≡ copied.Bytes n → 0 ≡ spanNumber t p len room
-  span-told n e = sym (ap (λ (x : Copied). copiedSaid x .number) e) ∙ span-number
-
-  pub span-refused : (q : ℕ) → r ≡ copied.Refused q → q ≡ spanNumber t p len room
-  span-refused q e = sym (ap (λ (x : Copied). copiedSaid x .number) e) ∙ span-number
+  pub span-refused : (q : ℕ) → r ≡ copied.Refused q → (q ≡ spanSays t p len room .number) × (0 ≡ spanSays t p len room .entered)
+  span-refused q e = let z = sym (ap copiedSaid e) ∙ k .says in (ap (λ (s : Said). s .number) z, ap (λ (s : Said). s .entered) z)

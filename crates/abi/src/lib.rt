@@ -16,7 +16,7 @@ ghost use Prim.Native.Nat.{_≤_};
 ghost use lib.ListN.{length};
 ghost use lib.Dec.{leb};
 ghost use Rattle.format.specs.Building.{buildNumber, buildSize, buildLeaves};
-ghost use Rattle.format.specs.Reading.{byteSays, runSays, spanNumber, spanLeaves};
+ghost use Rattle.format.specs.Reading.{byteSays, runSays, spanSays, spanLeaves};
 ghost use Rattle.format.specs.Counting.{countSays};
 ghost use Rattle.format.specs.Finding.{FindSays};
 ghost use Rattle.format.specs.RowSays.{RowSays};
@@ -137,16 +137,29 @@ pub extern "C" fn bt_run(tree: &[u8], place: u32, offset: &mut u64, len: &mut u3
     }
 }
 
-// Copies the bytes from a place on.
+// Copies the bytes from a place on, and answers the blocks entered: those of a short span of a layout 2 tree, else 0.
 #[no_mangle]
-pub extern "C" fn bt_span(tree: &[u8], place: u32, len: u32, buffer: &mut [u8]) -> u32
-    ensures { λ r. ⌜ r ≡ spanNumber (now (tree .entry)) place len (length (now (buffer .entry))) ⌝ }
+pub extern "C" fn bt_span(
+    tree: &[u8],
+    place: u32,
+    len: u32,
+    buffer: &mut [u8],
+    entered: &mut u32,
+) -> u32
+    ensures { λ r. ⌜ r ≡ spanSays (now (tree .entry)) place len (length (now (buffer .entry))) .number ⌝ }
+    ensures { λ _. ⌜ now (entered .exit) ≡ spanSays (now (tree .entry)) place len (length (now (buffer .entry))) .entered ⌝ }
     ensures { λ _. ⌜ now (buffer .exit) ≡ spanLeaves (now (tree .entry)) place len (now (buffer .entry)) ⌝ }
 {
     let copied = access::span(tree, TextPlace(place), len, buffer);
     match copied {
-        Copied::Bytes(_) => 0,
-        Copied::Refused(number) => number,
+        Copied::Bytes(_, blocks) => {
+            *entered = blocks;
+            0
+        }
+        Copied::Refused(number) => {
+            *entered = 0;
+            number
+        }
     }
 }
 

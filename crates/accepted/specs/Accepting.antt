@@ -6,19 +6,20 @@ use mathlib.Core.Logic.{_↔_}
 use Prim.Native.Nat.{ℕ}
 use Rattle.format.specs.Settings.{Settings}
 use Rattle.format.specs.Blocks.{treeOf}
-use Rattle.format.specs.Fits.{linksOk, textOf, fits, countsTrue}
+use Rattle.format.specs.Fits.{linksOk, textOf, fits, countsTrue, edgesTrue}
 use Rattle.format.specs.Verdict.{readable, verdict}
 use Rattle.format.specs.VerdictLaws as verdicts
 use Rattle.paths.specs.Demands as paths
 use Rattle.built.specs.Sizes.{Taken}
 use Rattle.built.specs.Built.{built, built-accepted}
 
--- Questions 5 to 8 hold of t, T fits it, and its counts are true of T.
+-- Questions 5 to 8 hold of t, T fits it, and its counts and, in layout 2, its edges are true of T.
 pub record StandsFor (t T : List ℕ) : Type 0 where
   pub readable-is : readable t ≡ 0
   pub linked : linksOk t ≡ true
   pub fitting : fits T t ≡ true
   pub counted : countsTrue T t ≡ true
+  pub edged : edgesTrue T t ≡ true
 
 module _ (t : List ℕ) where
   -- An accepted tree stands for the text that its paths give, ..
@@ -28,6 +29,7 @@ module _ (t : List ℕ) where
     linked = verdicts.accepted-links t v;
     fitting = paths.text-fits t (verdicts.accepted-readable t v) (verdicts.accepted-links t v);
     counted = verdicts.accepted-counts t v;
+    edged = verdicts.accepted-edges t v;
   }
 
   -- .. and for no other: exactly one text fits a tree that passes questions 5 to 8.
@@ -38,9 +40,9 @@ module _ (t : List ℕ) where
   pub stands-accepted : (T : List ℕ) → StandsFor t T → verdict t ≡ 0
   stands-accepted T s =
       let e : T ≡ textOf t = one-text (s .readable-is) (s .linked) T (s .fitting) in
-      verdicts.accepted t (s .readable-is) (s .linked) (rw e at (s .counted))
+      verdicts.accepted t (s .readable-is) (s .linked) (rw e at (s .counted)) (rw e at (s .edged))
 
-  -- So the check accepts bytes exactly when questions 5 to 8 hold, a text fits and the counts are true of it.
+  -- So the check accepts bytes exactly when questions 5 to 8 hold, a text fits, and the counts and the edges are true of it.
   pub accepts : (verdict t ≡ 0) ↔ ((T : List ℕ) × StandsFor t T)
   accepts = (λ v. (textOf t, accepted-stands v), λ s. stands-accepted (s .0) (s .1))
 

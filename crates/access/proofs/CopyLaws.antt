@@ -23,7 +23,7 @@ use Rattle.access.specs.declared.Answer.{Answer}
 use Rattle.access.specs.declared.Answer.the-variants.{Byte, Refused}
 use Rattle.access.specs.Answers.{said}
 use Rattle.access.proofs.ByteLaws.{path-long}
-use Rattle.access.proofs.SpanLaws.{Spanned, values, span-copied, span-broken}
+use Rattle.access.proofs.SpanLaws.{ByPaths, values, span-copied, span-broken}
 
 -- f 0, .., f (n - 1) and then the rest of d: one more by a store at n
 tab-suc : (n : ℕ) (f : ℕ → ℕ) (d : List ℕ) → n < length d → set (tabulate n f ++ drop n d) n (f n) ≡ tabulate (suc n) f ++ drop (suc n) d
@@ -109,12 +109,12 @@ module _ (t : List ℕ) (h : Header) (p len : ℕ) (k : HeaderOf t h) (low : p +
 
   -- it is refused, and the part asked for is cleared
   pub copy-broken : i < len → (a : Answer) → said a ≡ byteSays t (p + i) → (q : ℕ) → a ≡ Refused q → (n : ℕ) → n ≡ said a .number → (z : List ℕ)
-      → z ≡ replicate len 0 ++ drop len e → (1 ≤ n) × Spanned t p len d (refused n) z
+      → z ≡ replicate len 0 ++ drop len e → (1 ≤ n) × ByPaths t p len d (refused n) z
   copy-broken more a a-is q is n n-is z z-is =
       let b = byte-refused t h p k i (omega arith) a a-is q is in
       let n-14 : n ≡ 14 = n-is ∙ ap (λ (s : Said). s .number) a-is ∙ b in
-      (omega arith, span-broken t p len d (k .passes) (omega (arith, k .length-is)) room z n n-14 (rest-broken t p len i more b ∙ c .hold) (rw (c .past) at z-is))
+      (omega arith, span-broken t p len d (pathsHold t p len) (tabulate len (values t p)) 0 (k .passes) (omega (arith, k .length-is)) room z n n-14 (rest-broken t p len i more b ∙ c .hold) (rw (c .past) at z-is))
 
   -- all are copied
-  pub copy-end : i ≡ len → Spanned t p len d (record { number = 0; value = len; entered = 0 }) e
-  copy-end all = span-copied t p len d (k .passes) (omega (arith, k .length-is)) room e (rest-end t p len i all ∙ c .hold) (rw all at (c .bytes))
+  pub copy-end : i ≡ len → ByPaths t p len d (record { number = 0; value = len; entered = 0 }) e
+  copy-end all = span-copied t p len d (pathsHold t p len) (tabulate len (values t p)) 0 (k .passes) (omega (arith, k .length-is)) room e (rest-end t p len i all ∙ c .hold) (rw all at (c .bytes))

@@ -1,4 +1,5 @@
--- The demands on byte, run and span, as theorems over what the calls promise, on every tree that passes questions 5 to 8.
+-- The demands on byte and run, as theorems over what the calls promise, on every tree that passes questions 5 to 8, and on span, on every tree that
+-- the check accepts.
 use mathlib.Core.List.{List, _++_}
 use mathlib.Core.Option.{some}
 use mathlib.Core.Bool.{true}
@@ -13,15 +14,17 @@ use Rattle.text.specs.declared.TextPlace.{TextPlace}
 use Rattle.format.specs.Layout as at
 use Rattle.format.specs.Path.{Path, pathOf}
 use Rattle.format.specs.Fits.{linksOk, textOf, fits}
-use Rattle.format.specs.Verdict.{readable}
+use Rattle.format.specs.Verdict.{readable, verdict}
+use Rattle.format.specs.VerdictLaws.{accepted-readable}
+use Rattle.margins.specs.Demands as margins
 use Rattle.format.specs.Said.{Said}
-use Rattle.format.specs.Reading.{runSays}
+use Rattle.format.specs.Reading.{runSays, spanBlocks, spanSays}
 use Rattle.paths.specs.Demands as paths
 use Rattle.access.specs.declared.Answer.{Answer}
 use Rattle.access.specs.declared.Answer.the-variants.{Byte, Refused}
 use Rattle.access.specs.declared.Copied.{Copied}
 use Rattle.access.specs.declared.Copied.the-variants as copied
-use Rattle.access.specs.Answers.{said, copiedSaid, spanSays, Numbered}
+use Rattle.access.specs.Answers.{said, copiedSaid, Numbered}
 use Rattle.access.proofs.ByteLaws.{path-long}
 use Rattle.access.proofs.byte.Reads as byte-reads
 use Rattle.access.proofs.run.Reads as run-reads
@@ -47,11 +50,12 @@ byte-is (Byte w m) v n low e =
     cc
 byte-is (Refused q) v n low e = absurd (let z : 0 ≡ n = ap (λ (s : Said). s .entered) e in omega arith)
 
-copied-is : (r : Copied) (len : ℕ) → Numbered r → copiedSaid r ≡ record { number = 0; value = len; entered = 0 } → r ≡ copied.Bytes len
-copied-is (copied.Bytes m) len k e =
+copied-is : (r : Copied) (len n : ℕ) → Numbered r → copiedSaid r ≡ record { number = 0; value = len; entered = n } → r ≡ copied.Bytes len n
+copied-is (copied.Bytes m b) len n k e =
     let z : m ≡ len = ap (λ (s : Said). s .value) e in
+    let y : b ≡ n = ap (λ (s : Said). s .entered) e in
     cc
-copied-is (copied.Refused q) len k e = absurd (let z : q ≡ 0 = ap (λ (s : Said). s .number) e in omega arith)
+copied-is (copied.Refused q) len n k e = absurd (let z : q ≡ 0 = ap (λ (s : Said). s .number) e in omega arith)
 
 -- Any lent bytes.
 
@@ -89,16 +93,6 @@ module _ (t : RefT (List ℕ)) (pass : readable (t .now) ≡ 0) (links : linksOk
   pub text-fits : fits (textOf (t .now)) (t .now) ≡ true
   text-fits = paths.text-fits (t .now) pass links
 
-  -- A span within the text and the buffer is not refused, and leaves that stretch of the text and then what stood there.
-  pub span-copies :
-      (κs : Lfts 2) (p : TextPlace) (len : ℕ) (buffer after : RefT (List ℕ)) (r : Copied) → p .0 + len ≤ at.textLength (t .now) → len ≤ length (buffer .now)
-      → Span κs t p len buffer after r → (r ≡ copied.Bytes len) × (after .now ≡ stretch (textOf (t .now)) (p .0) len ++ drop len (buffer .now))
-  unfolding spanSays
-  span-copies κs p len buffer after r low room a =
-      let z = paths.span-good (t .now) pass links (p .0) len (length (buffer .now)) low room in
-      let s : copiedSaid r ≡ record { number = 0; value = len; entered = 0 } = a .0 .says ∙ rw z in
-      (copied-is r len (a .0 .numbered) s, a .1 ∙ paths.span-of-text (t .now) pass links (p .0) len (buffer .now) low room)
-
   -- A run is a part of the lent tree, of one byte or more, and a stretch of the text from the place on.
   pub record Stretches (p : ℕ) (r : RefT (List ℕ)) : Type 0 where
     pub from : ℕ
@@ -122,3 +116,19 @@ module _ (t : RefT (List ℕ)) (pass : readable (t .now) ≡ 0) (links : linksOk
         of-tree = a .0;
         of-text = a .0 ∙ k .bytes;
       }
+
+-- Any tree that the check accepts: a span within the text and the buffer is not refused, leaves that stretch of the text and then what stood there, and
+-- reports the blocks entered, at most twice the number of levels; 0 if it is not short.
+pub span-copies :
+    (t : RefT (List ℕ)) → verdict (t .now) ≡ 0 → (κs : Lfts 2) (p : TextPlace) (len : ℕ) (buffer after : RefT (List ℕ)) (r : Copied)
+    → p .0 + len ≤ at.textLength (t .now) → len ≤ length (buffer .now) → Span κs t p len buffer after r
+    → (r ≡ copied.Bytes len (spanBlocks (t .now) (p .0) len)) × (spanBlocks (t .now) (p .0) len ≤ 2 * at.settings (t .now) .levels)
+    × (after .now ≡ stretch (textOf (t .now)) (p .0) len ++ drop len (buffer .now))
+unfolding spanSays
+span-copies t v κs p len buffer after r low room a =
+    let z = margins.span-good (t .now) v (p .0) len (length (buffer .now)) low room in
+    let s : copiedSaid r ≡ record { number = 0; value = len; entered = spanBlocks (t .now) (p .0) len } = a .0 .says ∙ rw z in (
+      copied-is r len (spanBlocks (t .now) (p .0) len) (a .0 .numbered) s,
+      margins.span-entered (t .now) (accepted-readable (t .now) v) (p .0) len,
+      a .1 ∙ margins.span-of-text (t .now) v (p .0) len (buffer .now) low room,
+    )

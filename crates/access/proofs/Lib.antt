@@ -1,4 +1,5 @@
 pub mod ByteLaws
 pub mod SpanLaws
 pub mod CopyLaws
+pub mod ShortLaws
 pub mod Demands

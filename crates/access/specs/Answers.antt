@@ -3,8 +3,8 @@ use mathlib.Core.List.{List}
 use mathlib.Core.Path.{_≡_}
 use Prim.Native.Nat.{ℕ, _+_, _≤_}
 use lib.ListN.{length}
-use Rattle.format.specs.Said.{Said, refused, unless}
-use Rattle.format.specs.Reading.{byteSays, runSays, spanNumber}
+use Rattle.format.specs.Said.{Said, refused}
+use Rattle.format.specs.Reading.{byteSays, runSays, spanSays, copySays}
 use Rattle.access.specs.declared.Answer.{Answer}
 use Rattle.access.specs.declared.Answer.the-variants as answer
 use Rattle.access.specs.declared.Copied.{Copied}
@@ -18,22 +18,23 @@ abbrev pub said : Answer → Said
 said (answer.Byte value entered) = record { number = 0; value = value; entered = entered }
 said (answer.Refused number) = refused number
 
--- the bytes that were copied
+-- the bytes that were copied, with the blocks entered
 abbrev pub copiedSaid : Copied → Said
-copiedSaid (copied.Bytes len) = record { number = 0; value = len; entered = 0 }
+copiedSaid (copied.Bytes len entered) = record { number = 0; value = len; entered = entered }
 copiedSaid (copied.Refused number) = refused number
-
--- what span answers, with room for so many bytes: its number, or the length asked for
-unfoldable pub spanSays : List ℕ → ℕ → ℕ → ℕ → Said
-spanSays t p len room = unless (spanNumber t p len room) (record { number = 0; value = len; entered = 0 })
 
 -- a refusal's number is not 0
 abbrev pub Numbered : Copied → Type 0
-Numbered (copied.Bytes len) = Unit {0}
+Numbered (copied.Bytes len entered) = Unit {0}
 Numbered (copied.Refused number) = 1 ≤ number
 
 pub record SpanAnswer (t : List ℕ) (p len room : ℕ) (r : Copied) : Type 0 where
   pub says : copiedSaid r ≡ spanSays t p len room
+  pub numbered : Numbered r
+
+-- the same of bytes that are copied by their paths
+pub record CopyAnswer (t : List ℕ) (p len room : ℕ) (r : Copied) : Type 0 where
+  pub says : copiedSaid r ≡ copySays t p len room
   pub numbered : Numbered r
 
 -- a run's number, and the part that it is, which is empty where it is refused

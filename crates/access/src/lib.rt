@@ -17,9 +17,10 @@ pub enum Answer {
     Refused(u32),
 }
 
-// How many bytes were copied, or the number of the question that refuses.
+// How many bytes were copied, with the number of blocks entered of a short span, 0 of any other; or the number of the question that
+// refuses.
 pub enum Copied {
-    Bytes(u32),
+    Bytes(u32, u32),
     Refused(u32),
 }
 

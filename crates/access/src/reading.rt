@@ -1,18 +1,22 @@
 // Byte, run and span of a tree that passes questions 5 to 7, by its header.
 use crate::Answer;
 use crate::Copied;
+use borders::gather;
+use borders::gather::Gathered;
 use layout::header::Header;
 use layout::place::TextPlace;
 use walk::Reached;
 use walk::Walked;
 use walk::held;
+ghost use mathlib.Core.Bool.{true, _&&_};
 ghost use mathlib.Core.Path.{_≡_};
 ghost use Prim.Native.Nat.{_+_, _≤_, _<_};
 ghost use lib.ListN.{length};
-ghost use Rattle.format.specs.Reading.{byteSays, spanLeaves};
+ghost use lib.Dec.{eqb, leb};
+ghost use Rattle.format.specs.Reading.{byteSays, isShort, spanLeaves, copyLeaves};
 ghost use Rattle.layout.specs.HeaderSays.{HeaderOf};
 ghost use Rattle.walk.specs.Held.{Held};
-ghost use Rattle.access.specs.Answers.{said, RunAnswer, SpanAnswer};
+ghost use Rattle.access.specs.Answers.{said, RunAnswer, SpanAnswer, CopyAnswer};
 
 // A part of the tree's bytes.
 pub struct Part {
@@ -82,7 +86,7 @@ pub fn part_at(t: &[u8], h: Header, at: TextPlace) -> Ran
     })
 }
 
-// Span: questions 10 and 13.
+// Span: questions 10 and 13; then a short span of a layout 2 tree by edges, any other by its bytes' paths.
 pub fn span_at(t: &[u8], h: Header, at: TextPlace, len: u32, buffer: &mut [u8]) -> Copied
     requires { ⌜ HeaderOf (now t) h ⌝ }
     ensures { λ r. ⌜ SpanAnswer (now (t .entry)) (at .0) len (length (now (buffer .entry))) r ⌝ }
@@ -95,14 +99,47 @@ pub fn span_at(t: &[u8], h: Header, at: TextPlace, len: u32, buffer: &mut [u8]) 
     if buffer.len() < len as usize {
         return Copied::Refused(13);
     }
+    if is_short(h, len) {
+        return short_span(t, h, at, len, buffer);
+    }
     copy(t, h, at, len, buffer)
+}
+
+// Whether a span is short: one of 1 to m bytes of a layout 2 tree.
+fn is_short(h: Header, len: u32) -> bool
+    ensures { λ r. ⌜ r ≡ (eqb (h .layout) 2 && leb 1 len && leb len (h .settings .leaf)) ⌝ }
+{
+    if h.layout != 2 {
+        return false;
+    }
+    if len < 1 {
+        return false;
+    }
+    len <= h.settings.leaf
+}
+
+// A short span: its bytes stand in the tree in one part or two; where its walk breaks, the part asked for is left zero.
+fn short_span(t: &[u8], h: Header, at: TextPlace, len: u32, buffer: &mut [u8]) -> Copied
+    requires { ⌜ (HeaderOf (now t) h) × (at .0 + len ≤ h .length) × (len ≤ length (now buffer)) × (isShort (now t) len ≡ true) ⌝ }
+    ensures { λ r. ⌜ SpanAnswer (now (t .entry)) (at .0) len (length (now (buffer .entry))) r ⌝ }
+    ensures { λ _. ⌜ now (buffer .exit) ≡ spanLeaves (now (t .entry)) (at .0) len (now (buffer .entry)) ⌝ }
+{
+    let found = gather::from_text(t, h, at, len);
+    let Gathered::At(q) = found else {
+        stretches::clear(buffer, len as usize);
+        return Copied::Refused(14);
+    };
+    let size = q.size as usize;
+    stretches::copy(buffer, 0, t, q.from, size);
+    stretches::copy(buffer, size, t, q.next, len as usize - size);
+    Copied::Bytes(len, q.entered)
 }
 
 // Copies byte by byte, reading on from each to the next; where one is refused, the part asked for is left zero.
 fn copy(t: &[u8], h: Header, at: TextPlace, len: u32, buffer: &mut [u8]) -> Copied
     requires { ⌜ (HeaderOf (now t) h) × (at .0 + len ≤ h .length) × (len ≤ length (now buffer)) ⌝ }
-    ensures { λ r. ⌜ SpanAnswer (now (t .entry)) (at .0) len (length (now (buffer .entry))) r ⌝ }
-    ensures { λ _. ⌜ now (buffer .exit) ≡ spanLeaves (now (t .entry)) (at .0) len (now (buffer .entry)) ⌝ }
+    ensures { λ r. ⌜ CopyAnswer (now (t .entry)) (at .0) len (length (now (buffer .entry))) r ⌝ }
+    ensures { λ _. ⌜ now (buffer .exit) ≡ copyLeaves (now (t .entry)) (at .0) len (now (buffer .entry)) ⌝ }
 {
     let mut held = held::nothing();
     let mut i: u32 = 0;
@@ -117,7 +154,7 @@ fn copy(t: &[u8], h: Header, at: TextPlace, len: u32, buffer: &mut [u8]) -> Copi
         held = read.held;
         i += 1;
     }
-    Copied::Bytes(len)
+    Copied::Bytes(len, 0)
 }
 
 // The number of the question that refuses; 0 for an answer.

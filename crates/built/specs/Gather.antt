@@ -4,7 +4,8 @@ use mathlib.Core.Path.{_≡_, refl, sym, ap, _∙_}
 use mathlib.Core.Logic.{_⊎_, inl, inr}
 use Prim.Native.Nat.{ℕ, zero, suc, _+_, _-_, _*_, _≤_, _<_}
 use native.Mathlib.Omega.{arith}
-use native.Mathlib.Nat.{suc-mul, add-mul}
+use native.Mathlib.Nat.{suc-mul, add-mul, mul-le-mul-right}
+use lib.Arith.{digits-lt}
 use lib.ListN.{length, getD, length-append, List·getD-append}
 use lib.Seq.{getD-append-add}
 use Rattle.text.specs.Lists.{tabulate, concat, sumBelow}
@@ -48,6 +49,10 @@ pub sumBelow-scale : (n c : ℕ) (f : ℕ → ℕ) → sumBelow n (λ i. f i * c
 unfolding sumBelow
 sumBelow-scale zero c f = omega arith
 sumBelow-scale (suc n) c f = rw (sumBelow-scale n c f) (sym (add-mul (sumBelow n f) (f n) c))
+
+-- a place in one of the parts of a whole, all of W numbers
+pub in-part : (a i c f W N : ℕ) → i < c → a + c ≤ N → f < W → a * W + (i * W + f) < N * W
+in-part a i c f W N il le fl = omega (arith, digits-lt il fl, add-mul a c W, mul-le-mul-right W le)
 
 -- Joins.
 

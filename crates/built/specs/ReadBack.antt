@@ -1,31 +1,24 @@
 -- The built tree read by the layout gives what it was built from: the header, the records and the leaf bytes.
 use mathlib.Core.List.{List}
 use mathlib.Core.Bool.{Bool, true, false, cond}
-use mathlib.Core.Path.{_≡_, refl, sym, _∙_}
+use mathlib.Core.Path.{_≡_, refl, sym, ap, _∙_}
 use Prim.Native.Nat.{ℕ, suc, _+_, _*_, _≤_, _<_}
 use native.Mathlib.Omega.{arith}
-use native.Mathlib.Nat.{mul-left-comm, add-mul, mul-le-mul-right}
 use lib.ListN.{length, getD, take, drop}
 use lib.Seq.{take-at}
 use lib.Dec.{eqb}
-use Rattle.text.specs.Lists.{sumBelow}
 use Rattle.format.specs.Words.{wordAt}
 use Rattle.format.specs.Settings.{Settings}
-use Rattle.format.specs.Blocks.{treeOf, leafBytes, recordBytes}
+use Rattle.format.specs.Blocks.{treeOf, leafBytes, recordBytes, builtLayout}
 use Rattle.format.specs.Layout as at
 use Rattle.built.specs.Sizes.{Taken, Bounds, bounds}
 use Rattle.built.specs.Structure.{size, count, start, bytesIn, keptAt, bytesIn-is, level-at}
 use Rattle.built.specs.Leaves.{leaves-le}
 use Rattle.built.specs.Pairs.{offset, levelWordsOf, word-count, word-offset, word-none, word-leaf-offset, word-leaf-count}
-use Rattle.built.specs.Records.{recordAt, recordWords, records, record-word, length-records, record-start, record-kind, record-link, record-gap, record-before, record-inside, record-skip, kindOf, linkOf, gapOf, beforeOf, insideOf, skipOf}
-use Rattle.built.specs.Shape.{sixWords, six-word, countedPlaces, counted-places, level-word, record-word-at, record-bytes, offset-words, leaf-place}
+use Rattle.built.specs.Bytes.{stands-word, record-stands}
+use Rattle.built.specs.Records.{recordAt, recordWords, record-start, record-kind, record-link, record-gap, record-before, record-inside, record-skip, kindOf, linkOf, gapOf, beforeOf, insideOf, skipOf}
+use Rattle.built.specs.Shape.{sixWords, six-word, countedPlaces, counted-places, level-word, leaf-place}
 use Rattle.built.specs.Small.{blocks-le, link-le, gap-le, kind-le, before-le, inside-le, skip-le, offset-le}
-use lib.Arith.{digits-lt}
-use Rattle.text.specs.ListLaws.{sumBelow-part}
-
--- a place in one of the parts of a whole, all of W words
-pub in-part : (a i c f W N : ℕ) → i < c → a + c ≤ N → f < W → a * W + (i * W + f) < N * W
-in-part a i c f W N il le fl = omega (arith, digits-lt il fl, add-mul a c W, mul-le-mul-right W le)
 
 module _ (S : Settings) (T : List ℕ) (h : Taken S T) where
   limits : Bounds S T
@@ -33,8 +26,8 @@ module _ (S : Settings) (T : List ℕ) (h : Taken S T) where
 
   -- The header.
 
-  pub read-layout : wordAt (treeOf S T) 0 ≡ 1
-  unfolding sixWords
+  pub read-layout : at.layout (treeOf S T) ≡ builtLayout
+  unfolding at.layout sixWords
   read-layout = six-word S T h 0 (omega arith) (omega arith)
 
   pub read-textLength : at.textLength (treeOf S T) ≡ length T
@@ -108,7 +101,7 @@ module _ (S : Settings) (T : List ℕ) (h : Taken S T) where
 
   pub read-recordSize : at.recordSize (treeOf S T) ≡ recordBytes S
   unfolding at.recordSize recordBytes
-  read-recordSize = rw read-countedCount
+  read-recordSize = rw (read-layout, ap (λ (x : Settings). x .leaf) read-settings, read-countedCount)
 
   pub read-leafByte : (x : ℕ) → at.leafByte (treeOf S T) x ≡ getD (leafBytes S T) x 0
   unfolding at.leafByte
@@ -123,13 +116,11 @@ module _ (S : Settings) (T : List ℕ) (h : Taken S T) where
   module _ (l i : ℕ) (e : l < S .levels) (il : i < count S T l) where
     read-field : (f : ℕ) → f < recordWords S T → getD (recordAt S T l i) f 0 < 4294967296 → at.field (treeOf S T) l i f ≡ getD (recordAt S T l i) f 0
     unfolding at.field
-    read-field f fl small =
-        let j : ℕ = sumBelow l (count S T) * recordWords S T + (i * recordWords S T + f) in
-        let word : getD (records S T) j 0 ≡ getD (recordAt S T l i) f 0 = record-word S T l i f e il fl in
-        let place : offset S T l + i * recordBytes S + 4 * f ≡ 100 + 4 * j =
-        rw (record-bytes S T h) (omega (arith, offset-words S T h l, mul-left-comm i 4 (recordWords S T))) in
-        let below : j < length (records S T) = rw (length-records S T) (in-part (sumBelow l (count S T)) i (count S T l) f (recordWords S T) _ il (sumBelow-part (S .levels) (count S T) l e) fl) in
-        rw (read-levelOffset l e, read-recordSize, place) (record-word-at S T h j below (rw word small) ∙ word)
+    read-field f fl small = rw (read-levelOffset l e, read-recordSize) (stands-word (treeOf S T) _ _ (record-stands S T h l i f e il fl) small)
+
+    pub read-edgesAt : at.edgesAt (treeOf S T) l i ≡ offset S T l + i * recordBytes S + 4 * recordWords S T
+    unfolding at.edgesAt recordWords
+    read-edgesAt = rw (read-levelOffset l e, read-recordSize, read-countedCount) (omega arith)
 
     some-words : 4 ≤ recordWords S T
     unfolding recordWords

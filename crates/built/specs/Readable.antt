@@ -93,7 +93,7 @@ module _ (S : Settings) (T : List ℕ) (h : Taken S T) where
 
   pub layout-ok : at.layoutOk t ≡ true
   unfolding at.layoutOk
-  layout-ok = eq-eqb _ 1 (read-layout S T h)
+  layout-ok = rw (read-layout S T h)
 
   -- The built tree is read by every question.
   pub built-readable : readable t ≡ 0

@@ -1,4 +1,4 @@
--- The words of a record of the built tree, one by one, and where each stands among the words of all records.
+-- The words and the edges of a record of the built tree, one by one, and where each byte of it stands among the bytes of all records.
 use mathlib.Core.List.{List, [], _∷_, _++_, map}
 use mathlib.Core.Bool.{Bool, true, false, cond}
 use mathlib.Core.Path.{_≡_, refl, sym, ap, _∙_}
@@ -12,7 +12,12 @@ use Rattle.text.specs.Lists.{tabulate, concat, sumBelow}
 use Rattle.text.specs.ListLaws.{sumBelow-ext}
 use Rattle.text.specs.Text.{stretch, countIn}
 use Rattle.format.specs.Settings.{Settings}
-use Rattle.format.specs.Blocks.{startsAt, recordOf, levelWords}
+use Rattle.format.specs.Words.{wordsBytes}
+use Rattle.format.specs.WordLaws.{length-words}
+use Rattle.format.specs.Edges.{edgesOf}
+use Rattle.format.specs.EdgeLaws.{length-edges}
+use Rattle.format.specs.SizeLaws.{record-edged}
+use Rattle.format.specs.Blocks.{startsAt, recordOf, recordIn, recordBytes, levelBytes, builtLayout}
 use Rattle.built.specs.Gather.{length-concat, getD-concat, map-tabulate, sumBelow-same, sumBelow-scale}
 use Rattle.built.specs.Structure.{size, count, start, bytesIn, keptAt, widthOf}
 use Rattle.built.specs.Targets.{placeOf, targetOf}
@@ -128,37 +133,56 @@ module _ (S : Settings) (T : List ℕ) where
           let e : 6 + 3 * c ≡ 4 + (c * 3 + 2) = omega (arith, mul-comm 3 c) in
           rw e (record-count c 2 h (omega arith))
 
+  -- a record's bytes: its words', then its edges
+  abbrev pub edgesIn : ℕ → ℕ → List ℕ
+  edgesIn l i = edgesOf (S .leaf) (stretch T (start S T l i) (bytesIn S T l i))
+
+  pub record-bytes : recordBytes S ≡ 4 * recordWords + (S .leaf + S .leaf)
+  unfolding recordBytes recordWords
+  record-bytes = omega (arith, record-edged builtLayout (S .leaf) (length (S .counted)) refl)
+
+  abbrev pub bytesAt : ℕ → ℕ → List ℕ
+  bytesAt l i = recordIn S T l (startsAt S T l) i
+
+  pub bytes-are : (l i : ℕ) → bytesAt l i ≡ wordsBytes (recordAt l i) ++ edgesIn l i
+  unfolding recordIn
+  bytes-are l i = refl
+
+  length-bytes : (l i : ℕ) → length (bytesAt l i) ≡ recordBytes S
+  length-bytes l i =
+      rw (bytes-are l i, length-append (wordsBytes (recordAt l i)), length-words (recordAt l i), length-record l i, length-edges, record-bytes)
+
   -- All records, level by level.
   abbrev pub levelOf : ℕ → List ℕ
-  levelOf l = levelWords S T l (startsAt S T l)
+  levelOf l = levelBytes S T l (startsAt S T l)
 
   unfoldable pub records : List ℕ
   records = concat (tabulate (S .levels) levelOf)
 
-  record-places : (l i : ℕ) → sumBelow i (λ i. length (recordAt l i)) ≡ i * recordWords
-  record-places l i = sumBelow-ext i _ _ (λ j _. length-record l j) ∙ sumBelow-same i recordWords
+  record-places : (l i : ℕ) → sumBelow i (λ i. length (bytesAt l i)) ≡ i * recordBytes S
+  record-places l i = sumBelow-ext i _ _ (λ j _. length-bytes l j) ∙ sumBelow-same i (recordBytes S)
 
-  length-level : (l : ℕ) → length (levelOf l) ≡ count S T l * recordWords
-  unfolding levelWords
-  length-level l = length-concat (count S T l) (recordAt l) ∙ record-places l (count S T l)
+  length-level : (l : ℕ) → length (levelOf l) ≡ count S T l * recordBytes S
+  unfolding levelBytes
+  length-level l = length-concat (count S T l) (bytesAt l) ∙ record-places l (count S T l)
 
-  level-word : (l i f : ℕ) → i < count S T l → f < recordWords → getD (levelOf l) (i * recordWords + f) 0 ≡ getD (recordAt l i) f 0
-  unfolding levelWords
-  level-word l i f il fl = rw (← record-places l i) (getD-concat (count S T l) (recordAt l) i f 0 il (rw (length-record l i) fl))
+  level-byte : (l i x : ℕ) → i < count S T l → x < recordBytes S → getD (levelOf l) (i * recordBytes S + x) 0 ≡ getD (bytesAt l i) x 0
+  unfolding levelBytes
+  level-byte l i x il xl = rw (← record-places l i) (getD-concat (count S T l) (bytesAt l) i x 0 il (rw (length-bytes l i) xl))
 
-  level-places : (l : ℕ) → sumBelow l (λ l. length (levelOf l)) ≡ sumBelow l (count S T) * recordWords
-  level-places l = sumBelow-ext l _ _ (λ j _. length-level j) ∙ sumBelow-scale l recordWords (count S T)
+  level-places : (l : ℕ) → sumBelow l (λ l. length (levelOf l)) ≡ sumBelow l (count S T) * recordBytes S
+  level-places l = sumBelow-ext l _ _ (λ j _. length-level j) ∙ sumBelow-scale l (recordBytes S) (count S T)
 
-  pub length-records : length records ≡ sumBelow (S .levels) (count S T) * recordWords
+  pub length-records : length records ≡ sumBelow (S .levels) (count S T) * recordBytes S
   unfolding records
   length-records = length-concat (S .levels) levelOf ∙ level-places (S .levels)
 
-  pub record-word : (l i f : ℕ) → l < S .levels → i < count S T l → f < recordWords
-      → getD records (sumBelow l (count S T) * recordWords + (i * recordWords + f)) 0 ≡ getD (recordAt l i) f 0
+  pub record-byte : (l i x : ℕ) → l < S .levels → i < count S T l → x < recordBytes S
+      → getD records (sumBelow l (count S T) * recordBytes S + (i * recordBytes S + x)) 0 ≡ getD (bytesAt l i) x 0
   unfolding records
-  record-word l i f k il fl =
-      rw (← level-places l) (getD-concat (S .levels) levelOf l (i * recordWords + f) 0 k (rw (length-level l) (within i (count S T l) f il fl)))
-      ∙ level-word l i f il fl
+  record-byte l i x k il xl =
+      rw (← level-places l) (getD-concat (S .levels) levelOf l (i * recordBytes S + x) 0 k (rw (length-level l) (within i (count S T l) x il xl)))
+      ∙ level-byte l i x il xl
     where
-      within : (i N f : ℕ) → i < N → f < recordWords → i * recordWords + f < N * recordWords
-      within i N f il fl = digits-lt il fl
+      within : (i N x : ℕ) → i < N → x < recordBytes S → i * recordBytes S + x < N * recordBytes S
+      within i N x il xl = digits-lt il xl

@@ -3,16 +3,15 @@ use mathlib.Core.List.{List, [], _∷_, _++_, append-assoc}
 use mathlib.Core.Path.{_≡_, refl, sym, ap, _∙_}
 use Prim.Native.Nat.{ℕ, _+_, _-_, _*_, _<_}
 use native.Mathlib.Omega.{arith}
-use native.Mathlib.Nat.{mul-left-comm}
-use lib.ListN.{length, getD, replicate, take, drop, length-append, length-replicate}
+use lib.ListN.{length, getD, replicate, take, drop, length-append, length-replicate, List·getD-append}
 use lib.Seq.{getD-append-add, take-at, drop-at}
 use Rattle.text.specs.Lists.{sumBelow}
 use Rattle.format.specs.Words.{wordAt, wordsBytes}
 use Rattle.format.specs.Settings.{Settings}
-use Rattle.format.specs.Blocks.{treeOf, header, leafBytes, recordBytes, levelPairs}
+use Rattle.format.specs.Blocks.{treeOf, header, leafBytes, levelPairs, builtLayout}
 use Rattle.format.specs.WordLaws.{word-at, length-words}
 use Rattle.built.specs.Pairs.{levelWordsOf, offset, length-levelWordsOf}
-use Rattle.built.specs.Records.{records, recordWords, length-records}
+use Rattle.built.specs.Records.{records, length-records}
 use Rattle.built.specs.Structure.{count}
 use Rattle.built.specs.Sizes.{Taken, Bounds, bounds}
 
@@ -21,16 +20,16 @@ parts a c w r l = simp append-assoc
 
 module _ (S : Settings) (T : List ℕ) where
   unfoldable pub sixWords : List ℕ
-  sixWords = 1 ∷ length T ∷ S .leaf ∷ S .arity ∷ S .levels ∷ length (S .counted) ∷ []
+  sixWords = builtLayout ∷ length T ∷ S .leaf ∷ S .arity ∷ S .levels ∷ length (S .counted) ∷ []
 
   unfoldable pub countedPlaces : List ℕ
   countedPlaces = S .counted ++ replicate (4 - length (S .counted)) 0
 
-  pub tree-is : treeOf S T ≡ wordsBytes sixWords ++ (countedPlaces ++ (wordsBytes (levelWordsOf S T) ++ (wordsBytes (records S T) ++ leafBytes S T)))
+  pub tree-is : treeOf S T ≡ wordsBytes sixWords ++ (countedPlaces ++ (wordsBytes (levelWordsOf S T) ++ (records S T ++ leafBytes S T)))
   unfolding treeOf header sixWords countedPlaces levelWordsOf records offset
   tree-is =
-      parts (wordsBytes sixWords) countedPlaces _ (wordsBytes (records S T)) (leafBytes S T)
-      ∙ ap (λ (w : List ℕ). wordsBytes sixWords ++ (countedPlaces ++ (wordsBytes w ++ (wordsBytes (records S T) ++ leafBytes S T))))
+      parts (wordsBytes sixWords) countedPlaces _ (records S T) (leafBytes S T)
+      ∙ ap (λ (w : List ℕ). wordsBytes sixWords ++ (countedPlaces ++ (wordsBytes w ++ (records S T ++ leafBytes S T))))
       (append-assoc (levelPairs S T (S .levels) 0 100) (replicate (16 - 2 * S .levels) 0) (offset S T (S .levels) ∷ length (leafBytes S T) ∷ []))
 
   pub length-six : length (wordsBytes sixWords) ≡ 24
@@ -56,21 +55,21 @@ module _ (S : Settings) (T : List ℕ) where
     unfolding head
     length-head = rw (length-append, length-six, length-places)
 
-    pub tree-levels : treeOf S T ≡ head ++ (wordsBytes (levelWordsOf S T) ++ (wordsBytes (records S T) ++ leafBytes S T))
+    pub tree-levels : treeOf S T ≡ head ++ (wordsBytes (levelWordsOf S T) ++ (records S T ++ leafBytes S T))
     unfolding head
     tree-levels = tree-is ∙ sym (append-assoc (wordsBytes sixWords) countedPlaces _)
 
-    pub tree-records : treeOf S T ≡ (head ++ wordsBytes (levelWordsOf S T)) ++ (wordsBytes (records S T) ++ leafBytes S T)
+    pub tree-records : treeOf S T ≡ (head ++ wordsBytes (levelWordsOf S T)) ++ (records S T ++ leafBytes S T)
     tree-records = tree-levels ∙ sym (append-assoc head (wordsBytes (levelWordsOf S T)) _)
 
-    tree-leaves : treeOf S T ≡ ((head ++ wordsBytes (levelWordsOf S T)) ++ wordsBytes (records S T)) ++ leafBytes S T
-    tree-leaves = tree-records ∙ sym (append-assoc (head ++ wordsBytes (levelWordsOf S T)) (wordsBytes (records S T)) (leafBytes S T))
+    tree-leaves : treeOf S T ≡ ((head ++ wordsBytes (levelWordsOf S T)) ++ records S T) ++ leafBytes S T
+    tree-leaves = tree-records ∙ sym (append-assoc (head ++ wordsBytes (levelWordsOf S T)) (records S T) (leafBytes S T))
 
     pub length-header : length (head ++ wordsBytes (levelWordsOf S T)) ≡ 100
     length-header = rw (length-append, length-head, length-level-words)
 
-    length-before-leaves : length ((head ++ wordsBytes (levelWordsOf S T)) ++ wordsBytes (records S T)) ≡ 100 + 4 * length (records S T)
-    length-before-leaves = rw (length-append (head ++ wordsBytes (levelWordsOf S T)), length-header, length-words)
+    length-before-leaves : length ((head ++ wordsBytes (levelWordsOf S T)) ++ records S T) ≡ 100 + length (records S T)
+    length-before-leaves = rw (length-append (head ++ wordsBytes (levelWordsOf S T)), length-header)
 
     -- What stands where.
 
@@ -78,44 +77,35 @@ module _ (S : Settings) (T : List ℕ) where
     unfolding sixWords
     six-word j l small =
         let e : 4 * j ≡ 0 + 4 * j = omega arith in
-        rw (tree-is, e) (word-at [] sixWords (countedPlaces ++ (wordsBytes (levelWordsOf S T) ++ (wordsBytes (records S T) ++ leafBytes S T))) 0 j refl l small)
+        rw (tree-is, e) (word-at [] sixWords (countedPlaces ++ (wordsBytes (levelWordsOf S T) ++ (records S T ++ leafBytes S T))) 0 j refl l small)
 
     pub counted-places : take 4 (drop 24 (treeOf S T)) ≡ countedPlaces
     counted-places =
         rw tree-is (ap (λ (x : List ℕ). take 4 x) (drop-at (wordsBytes sixWords) _ 24 length-six) ∙ take-at countedPlaces _ 4 length-places)
 
-    pub counted-place : (x : ℕ) → getD (treeOf S T) (24 + x) 0 ≡ getD (countedPlaces ++ (wordsBytes (levelWordsOf S T) ++ (wordsBytes (records S T) ++ leafBytes S T))) x 0
+    pub counted-place : (x : ℕ) → getD (treeOf S T) (24 + x) 0 ≡ getD (countedPlaces ++ (wordsBytes (levelWordsOf S T) ++ (records S T ++ leafBytes S T))) x 0
     counted-place x =
-        rw (tree-is, ← length-six) (getD-append-add (wordsBytes sixWords) (countedPlaces ++ (wordsBytes (levelWordsOf S T) ++ (wordsBytes (records S T) ++ leafBytes S T))) x 0)
+        rw (tree-is, ← length-six) (getD-append-add (wordsBytes sixWords) (countedPlaces ++ (wordsBytes (levelWordsOf S T) ++ (records S T ++ leafBytes S T))) x 0)
 
     pub level-word : (j : ℕ) → j < 18 → getD (levelWordsOf S T) j 0 < 4294967296 → wordAt (treeOf S T) (28 + 4 * j) ≡ getD (levelWordsOf S T) j 0
     level-word j l small =
-        rw tree-levels (word-at head (levelWordsOf S T) (wordsBytes (records S T) ++ leafBytes S T) 28 j length-head (rw (length-levelWordsOf S T (limits .levels-high)) l) small)
+        rw tree-levels (word-at head (levelWordsOf S T) (records S T ++ leafBytes S T) 28 j length-head (rw (length-levelWordsOf S T (limits .levels-high)) l) small)
 
-    pub record-word-at : (j : ℕ) → j < length (records S T) → getD (records S T) j 0 < 4294967296 → wordAt (treeOf S T) (100 + 4 * j) ≡ getD (records S T) j 0
-    record-word-at j l small =
-        rw tree-records (word-at (head ++ wordsBytes (levelWordsOf S T)) (records S T) (leafBytes S T) 100 j length-header l small)
+    pub record-byte-at : (x : ℕ) → x < length (records S T) → getD (treeOf S T) (100 + x) 0 ≡ getD (records S T) x 0
+    record-byte-at x l =
+        rw (tree-records, ← length-header)
+        (getD-append-add (head ++ wordsBytes (levelWordsOf S T)) (records S T ++ leafBytes S T) x 0 ∙ List·getD-append (records S T) (leafBytes S T) 0 x l)
 
-    four : (x y : ℕ) → x * (4 * y) ≡ 4 * (x * y)
-    four x y = mul-left-comm x 4 y
-
-    pub record-bytes : recordBytes S ≡ 4 * recordWords S T
-    unfolding recordBytes recordWords
-    record-bytes = omega arith
-
-    pub offset-words : (l : ℕ) → offset S T l ≡ 100 + 4 * (sumBelow l (count S T) * recordWords S T)
+    offset-end : offset S T (S .levels) ≡ 100 + length (records S T)
     unfolding offset
-    offset-words l = rw (record-bytes, four)
-
-    offset-end : offset S T (S .levels) ≡ 100 + 4 * length (records S T)
-    offset-end = offset-words (S .levels) ∙ ap (λ (x : ℕ). 100 + 4 * x) (sym (length-records S T))
+    offset-end = rw (length-records S T)
 
     pub leaf-place : (x : ℕ) → getD (treeOf S T) (offset S T (S .levels) + x) 0 ≡ getD (leafBytes S T) x 0
     leaf-place x =
         rw (offset-end, tree-leaves, ← length-before-leaves)
-        (getD-append-add ((head ++ wordsBytes (levelWordsOf S T)) ++ wordsBytes (records S T)) (leafBytes S T) x 0)
+        (getD-append-add ((head ++ wordsBytes (levelWordsOf S T)) ++ records S T) (leafBytes S T) x 0)
 
     pub tree-length : length (treeOf S T) ≡ offset S T (S .levels) + length (leafBytes S T)
     tree-length =
         rw (offset-end, tree-leaves)
-        (length-append ((head ++ wordsBytes (levelWordsOf S T)) ++ wordsBytes (records S T)) (leafBytes S T) ∙ ap (λ (x : ℕ). x + length (leafBytes S T)) length-before-leaves)
+        (length-append ((head ++ wordsBytes (levelWordsOf S T)) ++ records S T) (leafBytes S T) ∙ ap (λ (x : ℕ). x + length (leafBytes S T)) length-before-leaves)

@@ -3,7 +3,7 @@ use mathlib.Core.Path.{_≡_, refl}
 use mathlib.Core.Logic.{_⊎_, inl, inr}
 use Prim.Native.Nat.{ℕ, zero, suc, _+_, _-_, _*_, _≤_, _<_}
 use native.Mathlib.Omega.{arith}
-use native.Mathlib.Nat.{suc-mul, add-mul, mul-assoc, mul-comm, mul-one, mul-le-mul-right, mul-le-mul-left}
+use native.Mathlib.Nat.{suc-mul, add-mul, mul-add, mul-assoc, mul-comm, mul-one, mul-le-mul, mul-le-mul-right, mul-le-mul-left}
 use Rattle.text.specs.Lists.{sumBelow}
 use Rattle.text.specs.ListLaws.{lt-or-ge}
 use Rattle.built.specs.Levels.{Level}
@@ -59,3 +59,13 @@ all-few x m y k low h = go (lt-or-ge k x)
     go : (k < x) ⊎ (x ≤ k) → x ≤ y + k
     go (inl l) = past (x - k) (omega arith)
     go (inr l) = omega arith
+
+-- The bytes of x records of 16 + 12 k + 2 m bytes (k counted bytes, two edges of m bytes), where x blocks of m bytes are at most 2 n bytes and
+-- one block for each of H levels.
+pub records-few : (x m n H k : ℕ) → 1 ≤ m → m ≤ 256 → H ≤ 8 → k ≤ 4 → x * m ≤ 2 * n + H * m → x * (16 + 12 * k + (m + m)) ≤ 132 * n + 4608
+records-few x m n H k low high levels counted room =
+    let few : x ≤ 2 * n + 8 = omega (arith, all-few x m (2 * n) H low room) in
+    let words : x * (16 + 12 * k) ≤ (2 * n + 8) * 64 = mul-le-mul few (let e : 16 + 12 * k ≤ 64 = omega arith in e) in
+    let blocks : H * m ≤ 2048 = mul-le-mul levels high in
+    let whole : x * (16 + 12 * k + (m + m)) ≡ x * (16 + 12 * k) + (x * m + x * m) = rw (mul-add x (16 + 12 * k) (m + m), mul-add x m m) in
+    omega arith

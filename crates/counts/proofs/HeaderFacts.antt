@@ -81,23 +81,20 @@ byte-is t c h few =
 
 module _ (t : List ℕ) (h : Header) (level i c : ℕ) (w : InTable t h level i c) where
   -- the words of the block's record
-  pub there : (f : ℕ) → f < 4 + 3 * h .settings .counted → FieldIn t (h .settings .counted) level i f
-  there f hf = field-in t (w .tree .header .facts) (h .settings .counted) level i f (counted-is t h (w .tree)) (w .level-in) (w .block-in) hf
+  pub there : (f : ℕ) → f < 4 + 3 * at.countedCount t → FieldIn t (h .«record_size») level i f
+  there f hf = field-in t (w .tree .header .facts) (h .«record_size») level i f (w .tree .header .size-is) (w .level-in) (w .block-in) hf
 
-  pub plain-there : (f : ℕ) → f < 4 → FieldIn t (h .settings .counted) level i f
+  pub plain-there : (f : ℕ) → f < 4 → FieldIn t (h .«record_size») level i f
   plain-there f hf = there f (omega arith)
 
-  pub number-low : c < h .settings .counted
-  number-low = omega (arith, counted-is t h (w .tree), w .number-in)
+  pub before-there : FieldIn t (h .«record_size») level i (4 + 3 * c)
+  before-there = there (4 + 3 * c) (omega (arith, w .number-in))
 
-  pub before-there : (c < h .settings .counted) × FieldIn t (h .settings .counted) level i (4 + 3 * c)
-  before-there = (number-low, there (4 + 3 * c) (omega (arith, number-low)))
+  pub inside-there : FieldIn t (h .«record_size») level i (5 + 3 * c)
+  inside-there = there (5 + 3 * c) (omega (arith, w .number-in))
 
-  pub inside-there : (c < h .settings .counted) × FieldIn t (h .settings .counted) level i (5 + 3 * c)
-  inside-there = (number-low, there (5 + 3 * c) (omega (arith, number-low)))
-
-  pub skip-there : (c < h .settings .counted) × FieldIn t (h .settings .counted) level i (6 + 3 * c)
-  skip-there = (number-low, there (6 + 3 * c) (omega (arith, number-low)))
+  pub skip-there : FieldIn t (h .«record_size») level i (6 + 3 * c)
+  skip-there = there (6 + 3 * c) (omega (arith, w .number-in))
 
   -- no block is longer than the longest text
   pub full-lt : at.fullLength t level ≤ maxText

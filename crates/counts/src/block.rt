@@ -30,16 +30,16 @@ fn before_right(t: &[u8], h: Header, level: u32, up: u32, block: BlockNumber, c:
     requires { ⌜ (up ≡ upLength (now t) level) × InTable (now t) h level (block .0) c ⌝ }
     ensures { λ r. ⌜ r ≡ eqb (at.before (now (t .entry)) level (block .0) c) (beforeLocal (now (t .entry)) level (block .0) c) ⌝ }
 {
-    let k = h.settings.counted;
-    let before = record::before(t, k, level, block, c);
-    let start = record::start(t, k, level, block);
+    let size = h.record_size;
+    let before = record::before(t, size, level, block, c);
+    let start = record::start(t, size, level, block);
     let apart = start.0 % up;
     if apart == 0 {
         return before == 0;
     }
     let left = BlockNumber(block.0 - 1);
-    let to_left = record::before(t, k, level, left, c) as u64;
-    let in_left = record::inside(t, k, level, left, c) as u64;
+    let to_left = record::before(t, size, level, left, c) as u64;
+    let in_left = record::inside(t, size, level, left, c) as u64;
     before as u64 == to_left + in_left
 }
 
@@ -48,17 +48,17 @@ fn kept_inside(t: &[u8], h: Header, level: u32, b: u32, block: BlockNumber, c: u
     requires { ⌜ (b ≡ at.fullLength (now t) level) × InTable (now t) h level (block .0) c × (at.isKept (now t) level (block .0) ≡ true) ⌝ }
     ensures { λ r. ⌜ r ≡ keptInside (now (t .entry)) level (block .0) c ⌝ }
 {
-    let k = h.settings.counted;
-    let start = record::start(t, k, level, block);
+    let size = h.record_size;
+    let start = record::start(t, size, level, block);
     let length = length_from(h.length, start, b);
     let down = level + 1;
     if down == h.settings.levels {
         return prefix::in_leaves(t, h, level, block, length, c);
     }
-    let link = record::link(t, k, level, block);
+    let link = record::link(t, size, level, block);
     let last = BlockNumber(link + (length - 1) / (b / h.settings.arity));
-    let to_last = record::before(t, k, down, last, c) as u64;
-    let in_last = record::inside(t, k, down, last, c) as u64;
+    let to_last = record::before(t, size, down, last, c) as u64;
+    let in_last = record::inside(t, size, down, last, c) as u64;
     to_last + in_last
 }
 
@@ -67,12 +67,12 @@ fn kept_right(t: &[u8], h: Header, level: u32, b: u32, block: BlockNumber, c: u3
     requires { ⌜ (b ≡ at.fullLength (now t) level) × InTable (now t) h level (block .0) c × (at.isKept (now t) level (block .0) ≡ true) ⌝ }
     ensures { λ r. ⌜ r ≡ keptLocal (now (t .entry)) level (block .0) c ⌝ }
 {
-    let k = h.settings.counted;
-    let skip = record::skip(t, k, level, block, c);
+    let size = h.record_size;
+    let skip = record::skip(t, size, level, block, c);
     if skip != 0 {
         return false;
     }
-    let inside = record::inside(t, k, level, block, c);
+    let inside = record::inside(t, size, level, block, c);
     inside as u64 == kept_inside(t, h, level, b, block, c)
 }
 
@@ -81,11 +81,11 @@ fn pointing_skip(t: &[u8], h: Header, level: u32, b: u32, block: BlockNumber, c:
     requires { ⌜ (b ≡ at.fullLength (now t) level) × InTable (now t) h level (block .0) c × (at.isKept (now t) level (block .0) ≡ false) × TrueBelow (now t) h level ⌝ }
     ensures { λ r. ⌜ r ≡ pointingSkip (now (t .entry)) level (block .0) c ⌝ }
 {
-    let gap = record::gap(t, h.settings.counted, level, block);
+    let gap = record::gap(t, h.record_size, level, block);
     if gap.0 == 0 {
         return 0;
     }
-    let link = record::link(t, h.settings.counted, level, block);
+    let link = record::link(t, h.record_size, level, block);
     prefix::up_to(t, h, level, b, BlockNumber(link), BlockPlace(gap.0 - 1), c)
 }
 
@@ -94,7 +94,7 @@ fn pointing_inside(t: &[u8], h: Header, level: u32, b: u32, block: BlockNumber, 
     requires { ⌜ (b ≡ at.fullLength (now t) level) × InTable (now t) h level (block .0) c × (at.isKept (now t) level (block .0) ≡ false) × TrueBelow (now t) h level ⌝ }
     ensures { λ r. ⌜ (r ≡ pointingInside (now (t .entry)) level (block .0) c) ⌝ }
 {
-    let start = record::start(t, h.settings.counted, level, block);
+    let start = record::start(t, h.record_size, level, block);
     let length = length_from(h.length, start, b);
     let on = prefix::hand_on(t, h, level, b, block, BlockPlace(length - 1), c);
     let next = on.block;
@@ -107,13 +107,13 @@ fn pointing_right(t: &[u8], h: Header, level: u32, b: u32, block: BlockNumber, c
     requires { ⌜ (b ≡ at.fullLength (now t) level) × InTable (now t) h level (block .0) c × (at.isKept (now t) level (block .0) ≡ false) × TrueBelow (now t) h level ⌝ }
     ensures { λ r. ⌜ r ≡ pointingLocal (now (t .entry)) level (block .0) c ⌝ }
 {
-    let k = h.settings.counted;
-    let skip = record::skip(t, k, level, block, c) as u64;
+    let size = h.record_size;
+    let skip = record::skip(t, size, level, block, c) as u64;
     let skipped = pointing_skip(t, h, level, b, block, c);
     if skip != skipped {
         return false;
     }
-    let both = skip + record::inside(t, k, level, block, c) as u64;
+    let both = skip + record::inside(t, size, level, block, c) as u64;
     let counted = pointing_inside(t, h, level, b, block, c);
     both == counted
 }
@@ -134,7 +134,7 @@ pub fn block_right(
     if !before_right(t, h, level, up, block, c) {
         return false;
     }
-    let kind = record::kind(t, h.settings.counted, level, block);
+    let kind = record::kind(t, h.record_size, level, block);
     if kind == 0 {
         return kept_right(t, h, level, b, block, c);
     }

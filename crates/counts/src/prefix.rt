@@ -23,7 +23,7 @@ pub fn in_leaves(t: &[u8], h: Header, level: u32, block: BlockNumber, n: u32, c:
     requires { ⌜ (InTable (now t) h level (block .0) c) × (level + 1 ≡ at.settings (now t) .levels) × (n ≤ at.blockLengthAt (now t) level (block .0)) ⌝ }
     ensures { λ r. ⌜ (r ≡ inLeaves (now (t .entry)) level (block .0) n c) × (r ≤ n) ⌝ }
 {
-    let link = record::link(t, h.settings.counted, level, block);
+    let link = record::link(t, h.record_size, level, block);
     let from = h.leaf_offset as usize + link as usize;
     let byte = t[24 + c as usize];
     stretches::count_in(t, from, n, byte) as u64
@@ -42,8 +42,8 @@ pub fn hand_on(
     requires { ⌜ (b ≡ at.fullLength (now t) level) × InBlock (now t) h level (block .0) (place .0) c ⌝ }
     ensures { λ r. ⌜ (r ≡ handOf (now (t .entry)) level (block .0) (place .0) c) × (r .plus < 4294967296) ⌝ }
 {
-    let k = h.settings.counted;
-    let kind = record::kind(t, k, level, block);
+    let size = h.record_size;
+    let kind = record::kind(t, size, level, block);
     if kind == 0 {
         return Hand {
             block,
@@ -52,9 +52,9 @@ pub fn hand_on(
             minus: 0,
         };
     }
-    let link = record::link(t, k, level, block);
-    let gap = record::gap(t, k, level, block);
-    let skip = record::skip(t, k, level, block, c) as u64;
+    let link = record::link(t, size, level, block);
+    let gap = record::gap(t, size, level, block);
+    let skip = record::skip(t, size, level, block, c) as u64;
     let at = gap.0 + place.0;
     if at < b {
         return Hand {
@@ -67,7 +67,7 @@ pub fn hand_on(
     Hand {
         block: BlockNumber(link + 1),
         place: BlockPlace(at - b),
-        plus: record::inside(t, k, level, BlockNumber(link), c) as u64,
+        plus: record::inside(t, size, level, BlockNumber(link), c) as u64,
         minus: skip,
     }
 }
@@ -85,9 +85,9 @@ fn step(
     requires { ⌜ (b ≡ at.fullLength (now t) (level + 1)) × (level + 1 < at.settings (now t) .levels) × InKept (now t) h level (block .0) (place .0) c ⌝ }
     ensures { λ r. ⌜ (r ≡ stepOf (now (t .entry)) level (block .0) (place .0) c) × (r .plus < 8589934592) ⌝ }
 {
-    let link = record::link(t, h.settings.counted, level, block);
+    let link = record::link(t, h.record_size, level, block);
     let child = BlockNumber(link + place.0 / b);
-    let before = record::before(t, h.settings.counted, level + 1, child, c);
+    let before = record::before(t, h.record_size, level + 1, child, c);
     let on = hand_on(t, h, level + 1, b, child, BlockPlace(place.0 % b), c);
     let block = on.block;
     let place = on.place;

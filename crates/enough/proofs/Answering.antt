@@ -9,7 +9,8 @@ use lib.Dec.{leb}
 use borrow.Author.Tests.{le-leb, lt-leb}
 use Rattle.text.specs.Lists.{sumBelow}
 use Rattle.text.specs.ListLaws.{sumBelow-suc}
-use Rattle.format.specs.Settings.{pieces, lengthOk, sizesOk, countedOk, rising, maxText}
+use Rattle.format.specs.Settings.{pieces, lengthOk, sizesOk, countedOk, rising, recordLength, maxText}
+use Rattle.format.specs.Blocks.{builtLayout}
 use Rattle.format.specs.SizeLaws.{Sizes}
 use Rattle.format.specs.SizeLaws as format
 use Rattle.layout.specs.declared.settings.Settings as code
@@ -122,9 +123,9 @@ module _ (n m r H k : ℕ) where
       pub many-counted : 4 < k → Refused 3 ≡ enoughSays n m r H k
       many-counted h = sym (said true (fine-is .0) ∙ rw (lt-leb k 4 h))
 
-      pub enough-is : k ≤ 4 → (sum : ℕ) → sum ≡ blocksAtMost n (s .leaf) (s .arity) (s .levels) → Bytes (100 + n + (16 + 12 * k) * sum) ≡ enoughSays n m r H k
-      enough-is h sum e′ = sym (said true (fine-is .0) ∙ rw (le-leb k 4 h, e′, fine-is .1))
+      pub enough-is : k ≤ 4 → (sum : ℕ) → sum ≡ blocksAtMost n (s .leaf) (s .arity) (s .levels) → (z : ℕ) → z ≡ recordLength builtLayout (s .leaf) k → Bytes (100 + n + z * sum) ≡ enoughSays n m r H k
+      enough-is h sum e′ z ez = sym (said true (fine-is .0) ∙ rw (le-leb k 4 h, e′, ez, fine-is .1))
 
 -- the records of all levels are few
-pub bytes-few : (k sum : ℕ) → k ≤ 4 → sum ≤ 16 * maxText → (16 + 12 * k) * sum ≤ 1024 * maxText
-bytes-few k sum h l = mul-le-mul (let e : 16 + 12 * k ≤ 64 = omega arith in e) l
+pub bytes-few : (z sum : ℕ) → z ≤ 576 → sum ≤ 16 * maxText → z * sum ≤ 9216 * maxText
+bytes-few z sum h l = mul-le-mul h l

@@ -4,7 +4,8 @@ use mathlib.Core.Bool.{cond}
 use Prim.Native.Nat.{ℕ, _+_, _-_, _*_, _^_}
 use lib.Dec.{leb}
 use Rattle.text.specs.Lists.{sumBelow}
-use Rattle.format.specs.Settings.{pieces, lengthOk, sizesOk}
+use Rattle.format.specs.Settings.{pieces, recordLength, lengthOk, sizesOk}
+use Rattle.format.specs.Blocks.{builtLayout}
 use Rattle.layout.specs.Settings.{sizes}
 use Rattle.enough.specs.declared.Room.{Room}
 use Rattle.enough.specs.declared.Room.the-variants.{Bytes, Refused}
@@ -14,7 +15,7 @@ unfoldable pub blocksAtMost : ℕ → ℕ → ℕ → ℕ → ℕ
 blocksAtMost n m r H = sumBelow H (λ l. pieces n (m * r ^ (H - 1 - l)))
 
 abbrev pub enoughFor : ℕ → ℕ → ℕ → ℕ → ℕ → ℕ
-enoughFor n m r H k = 100 + n + (16 + 12 * k) * blocksAtMost n m r H
+enoughFor n m r H k = 100 + n + recordLength builtLayout m k * blocksAtMost n m r H
 
 -- the size, unless the length (1), the sizes (2) or the number of counted bytes (3) are refused
 unfoldable pub enoughSays : ℕ → ℕ → ℕ → ℕ → ℕ → Room

@@ -6,13 +6,14 @@ use mathlib.Core.Logic.{_⊎_, inl, inr}
 use Prim.Native.Nat.{ℕ, zero, suc, _+_, _-_, _*_, _^_, _≤_, _<_, min}
 use native.Mathlib.Omega.{arith}
 use native.Mathlib.Numerals.{add-one}
-use native.Mathlib.Nat.{mul-comm, mul-le-mul-right}
+use native.Mathlib.Nat.{mul-comm, mul-le-mul-right, le-trans}
 use lib.ListN.{length}
 use borrow.Author.Tests.{le-leb}
 use Rattle.text.specs.Lists.{sumBelow}
 use Rattle.text.specs.ListLaws.{bool-cases, sumBelow-ext}
-use Rattle.format.specs.Settings.{Settings, blockLength, pieces}
-use Rattle.format.specs.Blocks.{treeOf, recordBytes, leafBytes}
+use Rattle.format.specs.Settings.{Settings, blockLength, pieces, recordLength}
+use Rattle.format.specs.Blocks.{treeOf, recordBytes, leafBytes, builtLayout}
+use Rattle.format.specs.SizeLaws.{record-most, record-edged}
 use Rattle.format.specs.Building.{buildNumber}
 use Rattle.format.specs.Layout as at
 use Rattle.format.specs.Fits.{widthAt, linksOk}
@@ -33,6 +34,10 @@ use Rattle.enough.specs.Order.{sumBelow-mono, blocks-few, bytes-few}
 together : (x z R y n : ℕ) → x ≤ z → y ≤ n → 100 + x * R + y ≤ 100 + n + R * z
 together x z R y n h k = omega (arith, mul-le-mul-right {m = x} {n = z} R h, mul-comm R z)
 
+-- no layout has longer records than the one that is built
+record-least : (v m k : ℕ) → recordLength v m k ≤ recordLength builtLayout m k
+record-least v m k = omega (arith, record-most v m k, record-edged builtLayout m k refl)
+
 module _ (S : Settings) (T : List ℕ) (h : built.Taken S T) where
   all-blocks : sumBelow (S .levels) (count S T) ≤ blocksAtMost (length T) (S .leaf) (S .arity) (S .levels)
   unfolding blocksAtMost blockLength
@@ -43,7 +48,7 @@ module _ (S : Settings) (T : List ℕ) (h : built.Taken S T) where
   pub built-enough : length (treeOf S T) ≤ enoughFor (length T) (S .leaf) (S .arity) (S .levels) (length (S .counted))
   unfolding offset recordBytes
   built-enough = rw (tree-length S T h)
-      (together (sumBelow (S .levels) (count S T)) (blocksAtMost (length T) (S .leaf) (S .arity) (S .levels)) (16 + 12 * length (S .counted)) (length (leafBytes S T)) (length T)
+      (together (sumBelow (S .levels) (count S T)) (blocksAtMost (length T) (S .leaf) (S .arity) (S .levels)) (recordBytes S) (length (leafBytes S T)) (length T)
       all-blocks (leaves-le S T h))
 
   -- With a buffer of that size question 4 never refuses.
@@ -98,8 +103,12 @@ module _ (t : List ℕ) (k : Readable t) (d : Linked t) where
 
   whole : length t ≤ enoughFor n (at.settings t .leaf) (at.settings t .arity) (H t) (at.countedCount t)
   unfolding at.recordSize
-  whole = rw (k .size, k .leaf-at)
-      (together (sumBelow (H t) (N t)) (blocksAtMost n (at.settings t .leaf) (at.settings t .arity) (H t)) (16 + 12 * at.countedCount t) (at.leafCount t) n tables leaves)
+  whole =
+      let z = blocksAtMost n (at.settings t .leaf) (at.settings t .arity) (H t) in
+      let most : recordLength (at.layout t) (at.settings t .leaf) (at.countedCount t) * z ≤ recordLength builtLayout (at.settings t .leaf) (at.countedCount t) * z =
+      mul-le-mul-right z (record-least (at.layout t) (at.settings t .leaf) (at.countedCount t)) in
+      rw (k .size, k .leaf-at)
+      (le-trans (together (sumBelow (H t) (N t)) z (at.recordSize t) (at.leafCount t) n tables leaves) (omega (arith, most)))
 
 -- Every accepted tree of that shape is at most as long.
 pub accepted-enough : (t : List ℕ) → readable t ≡ 0 → linksOk t ≡ true

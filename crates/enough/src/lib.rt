@@ -31,7 +31,14 @@ pub fn enough(n: u32, leaf: u32, arity: u32, levels: u32, counted: u32) -> Room
     if Settings::MAX_COUNTED < counted as usize {
         return Room::Refused(3);
     }
-    Room::Bytes(100 + n as u64 + (16 + 12 * counted as u64) * blocks(n, s))
+    let whole = Settings {
+        leaf: s.leaf,
+        arity: s.arity,
+        levels: s.levels,
+        counted,
+    };
+    let size = whole.record_size(Settings::EDGED) as u64;
+    Room::Bytes(100 + n as u64 + size * blocks(n, s))
 }
 
 // The blocks of all levels, where each level covers the text.

@@ -7,7 +7,8 @@ use lib.Dec.{ltb, leb, eqb}
 use Rattle.text.specs.Lists.{tabulate, concat, sumBelow, countBelow}
 use Rattle.format.specs.Words.{wordsBytes}
 use Rattle.text.specs.Text.{stretch, leftmost, countIn}
-use Rattle.format.specs.Settings.{Settings, blockLength, pieces}
+use Rattle.format.specs.Settings.{Settings, blockLength, pieces, recordLength}
+use Rattle.format.specs.Edges.{edgesOf}
 
 -- The blocks of one level above the last: b bytes each, at the places `starts`.
 module _ (T : List ℕ) (b : ℕ) (starts : List ℕ) where
@@ -95,12 +96,21 @@ module _ (S : Settings) (T : List ℕ) (l : ℕ) (starts : List ℕ) where
       let points : List ℕ = 1 ∷ target i ∷ (occurrence i - startOf T b starts (target i)) ∷ [] in
       (s ∷ cond (isKept i) kept points) ++ concat (map (countsOf i) (S .counted))
 
-  unfoldable pub levelWords : List ℕ
-  levelWords = concat (tabulate (length starts) recordOf)
+  -- the bytes of block i's record: its words, then its edges
+  unfoldable pub recordIn : ℕ → List ℕ
+  unfolding b
+  recordIn i = wordsBytes (recordOf i) ++ edgesOf (S .leaf) (stretch T (startOf T b starts i) (lengthOf T b starts i))
 
--- the bytes of one record
+  unfoldable pub levelBytes : List ℕ
+  levelBytes = concat (tabulate (length starts) recordIn)
+
+-- the layout that is built
+abbrev pub builtLayout : ℕ
+builtLayout = 2
+
+-- how many bytes a record has
 unfoldable pub recordBytes : Settings → ℕ
-recordBytes S = 16 + 12 * length (S .counted)
+recordBytes S = recordLength builtLayout (S .leaf) (length (S .counted))
 
 -- the header's two words for each of a level and those below it: its block count and its offset
 unfoldable pub levelPairs : Settings → List ℕ → ℕ → ℕ → ℕ → List ℕ
@@ -119,11 +129,11 @@ header S T =
     let H = S .levels in
     let k = length (S .counted) in
     let leaves = 100 + sumBelow H (λ l. length (startsAt S T l)) * recordBytes S in
-    wordsBytes (1 ∷ length T ∷ S .leaf ∷ S .arity ∷ H ∷ k ∷ [])
+    wordsBytes (builtLayout ∷ length T ∷ S .leaf ∷ S .arity ∷ H ∷ k ∷ [])
     ++ (S .counted ++ replicate (4 - k) 0)
     ++ wordsBytes (levelPairs S T H 0 100 ++ replicate (16 - 2 * H) 0 ++ leaves ∷ length (leafBytes S T) ∷ [])
 
 -- the bytes of the block tree of T
 unfoldable pub treeOf : Settings → List ℕ → List ℕ
 treeOf S T =
-    header S T ++ wordsBytes (concat (tabulate (S .levels) (λ l. levelWords S T l (startsAt S T l)))) ++ leafBytes S T
+    header S T ++ concat (tabulate (S .levels) (λ l. levelBytes S T l (startsAt S T l))) ++ leafBytes S T

@@ -1,4 +1,4 @@
--- Questions 8 and 9: which trees are well linked, which text fits a tree, and which counts are true of it.
+-- Questions 8 and 9: which trees are well linked, which text fits a tree, and which counts and edges are true of it.
 use mathlib.Core.List.{List}
 use mathlib.Core.Option.{Option, none, some}
 use mathlib.Core.Bool.{Bool, cond, not, _&&_, _||_}
@@ -8,6 +8,7 @@ use lib.Dec.{ltb, leb, eqb}
 use Rattle.text.specs.Lists.{tabulate, allBelow, sumBelow, sameList}
 use Rattle.text.specs.Text.{stretch, countIn}
 use Rattle.format.specs.Settings.{pieces}
+use Rattle.format.specs.Edges.{edgesOf}
 use Rattle.format.specs.Layout as at
 use Rattle.format.specs.Path.{Path, pathOf}
 
@@ -104,3 +105,16 @@ module _ (T t : List ℕ) where
   countsTrue =
       allBelow (at.settings t .levels) (λ l.
       allBelow (at.levelCount t l) (λ i. allBelow (at.countedCount t) (blockCountsTrue l i)))
+
+  -- the edges of block i are those of its bytes in the text
+  unfoldable pub blockEdgesTrue : ℕ → ℕ → Bool
+  unfolding at.settings at.edgesAt at.start at.blockLengthAt
+  blockEdgesTrue l i =
+      let m = at.settings t .leaf in
+      sameList (stretch t (at.edgesAt t l i) (m + m)) (edgesOf m (stretch T (at.start t l i) (at.blockLengthAt t l i)))
+
+  -- in layout 1 there are none
+  unfoldable pub edgesTrue : Bool
+  unfolding at.settings at.levelCount at.hasEdges
+  edgesTrue =
+      not (at.hasEdges t) || allBelow (at.settings t .levels) (λ l. allBelow (at.levelCount t l) (blockEdgesTrue l))

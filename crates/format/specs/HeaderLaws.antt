@@ -1,7 +1,8 @@
 -- What questions 5 to 7 give of a tree's header, as plain facts over the accessors of `Layout`, and what follows from them.
 use mathlib.Core.List.{List, [], _∷_}
-use mathlib.Core.Bool.{Bool, true, false, _&&_}
+use mathlib.Core.Bool.{Bool, true, false, _&&_, _||_}
 use mathlib.Core.Path.{_≡_, refl}
+use mathlib.Core.Logic.{_⊎_, inl, inr}
 use Prim.Native.Nat.{ℕ, suc, _+_, _-_, _*_, _/_, _^_, _≤_, _<_}
 use native.Mathlib.Omega.{arith}
 use native.Mathlib.Nat.{mul-le-mul-right, le-trans, add-mul}
@@ -9,19 +10,18 @@ use borrow.Author.Tests.{eqb-true, leb-true}
 use lib.ListN.{length, getD, length-take, length-drop}
 use lib.Dec.{eqb, leb}
 use Rattle.text.specs.Lists.{allBelow, sumBelow}
-use Rattle.text.specs.ListLaws.{and-left, and-right, allBelow-at, sumBelow-part}
+use Rattle.text.specs.ListLaws.{and-left, and-right, or-cases, allBelow-at, sumBelow-part}
 use Rattle.text.specs.Conjunctions.{parts}
-use Rattle.format.specs.Words.{wordAt}
 use Rattle.format.specs.Settings.{maxText, maxLeaf, minArity, maxArity, maxLevels, maxCounted, pieces, lengthOk, sizesOk, countedOk, rising}
-use Rattle.format.specs.SizeLaws.{Sizes, sizes, length-step, length-pos, length-last, length-falls, length-top}
+use Rattle.format.specs.SizeLaws.{Sizes, sizes, length-step, length-pos, length-last, length-falls, length-top, record-low, record-high, record-edged}
 use Rattle.format.specs.PieceLaws.{pieces-hold}
-use Rattle.format.specs.Layout.{textLength, countedCount, settings, levelCount, levelOffset, leafOffset, leafCount, recordSize, fullLength, longEnough, layoutOk, headerOk}
+use Rattle.format.specs.Layout.{layout, textLength, countedCount, settings, levelCount, levelOffset, leafOffset, leafCount, recordSize, edgesAt, fullLength, longEnough, layoutOk, headerOk}
 use Rattle.format.specs.Verdict.{ask, readable}
 
 -- Questions 5 to 7, one fact each.
 pub record Readable (t : List ℕ) : Type 0 where
   pub long : 100 ≤ length t
-  pub layout : wordAt t 0 ≡ 1
+  pub layout : (layout t ≡ 1) ⊎ (layout t ≡ 2)
   pub text-low : 1 ≤ textLength t
   pub text-high : textLength t ≤ maxText
   pub leaf-low : 1 ≤ settings t .leaf
@@ -98,8 +98,16 @@ full-length-top : (t : List ℕ) → fullLength t 0 ≡ settings t .leaf * setti
 unfolding fullLength
 full-length-top t = length-top (settings t)
 
+layout-cases : (t : List ℕ) → layoutOk t ≡ true → (layout t ≡ 1) ⊎ (layout t ≡ 2)
+unfolding layoutOk
+layout-cases t h = go (or-cases (eqb (layout t) 1) (eqb (layout t) 2) h)
+  where
+    go : (eqb (layout t) 1 ≡ true) ⊎ (eqb (layout t) 2 ≡ true) → (layout t ≡ 1) ⊎ (layout t ≡ 2)
+    go (inl e) = inl (eqb-true (layout t) 1 e)
+    go (inr e) = inr (eqb-true (layout t) 2 e)
+
 pub readable-facts : (t : List ℕ) → readable t ≡ 0 → Readable t
-unfolding readable longEnough layoutOk lengthOk countedOk
+unfolding readable longEnough lengthOk countedOk
 readable-facts t h =
     let five = ask-test 4 (longEnough t) (ask 6 (layoutOk t) (ask 7 (headerOk t) 0)) h in
     let after5 = ask-rest 4 (longEnough t) (ask 6 (layoutOk t) (ask 7 (headerOk t) 0)) h in
@@ -114,7 +122,7 @@ readable-facts t h =
     let unused : (l : ℕ) → H ≤ l → l < 8 → (eqb (levelCount t l) 0 && eqb (levelOffset t l) 0) ≡ true =
     λ l lo hi. (let e : H + (l - H) ≡ l = omega arith in rw e at (d .zero-levels (l - H) (omega arith))) in record {
       long = long;
-      layout = eqb-true (wordAt t 0) 1 six;
+      layout = layout-cases t six;
       text-low = leb-true 1 (textLength t) (and-left (leb 1 (textLength t)) (leb (textLength t) maxText) (d .text));
       text-high = leb-true (textLength t) maxText (and-right (leb 1 (textLength t)) (leb (textLength t) maxText) (d .text));
       leaf-low = z .leaf-low;
@@ -172,16 +180,38 @@ module _ (t : List ℕ) (k : Readable t) where
 
   -- Where things stand in the tree's bytes.
 
-  -- each word of each record lies before the leaf bytes
-  pub record-inside : (l i f : ℕ) → l < settings t .levels → i < levelCount t l → f < 4 + 3 * countedCount t
-      → levelOffset t l + i * recordSize t + 4 * f + 4 ≤ leafOffset t
+  pub size-low : 16 + 12 * countedCount t ≤ recordSize t
   unfolding recordSize
-  record-inside l i f hl hi hf =
-      let R = 16 + 12 * countedCount t in
+  size-low = record-low (layout t) (settings t .leaf) (countedCount t)
+
+  pub size-high : recordSize t ≤ 576
+  unfolding recordSize
+  size-high = record-high (layout t) (settings t .leaf) (countedCount t) (k .leaf-high) (k .counted-high)
+
+  pub size-edged : layout t ≡ 2 → recordSize t ≡ 16 + 12 * countedCount t + (settings t .leaf + settings t .leaf)
+  unfolding recordSize
+  size-edged = record-edged (layout t) (settings t .leaf) (countedCount t)
+
+  -- each byte of each record lies before the leaf bytes
+  pub byte-inside : (l i x : ℕ) → l < settings t .levels → i < levelCount t l → x ≤ recordSize t
+      → levelOffset t l + i * recordSize t + x ≤ leafOffset t
+  byte-inside l i x hl hi hx =
+      let R = recordSize t in
       let S = sumBelow l (levelCount t) in
       let part = sumBelow-part (settings t .levels) (levelCount t) l hl in
       let whole : (S + (i + 1)) * R ≤ sumBelow (settings t .levels) (levelCount t) * R = mul-le-mul-right R (omega (arith, part)) in
       omega (arith, k .level-at l hl, k .leaf-at, add-mul S (i + 1) R, add-mul i 1 R)
+
+  -- so does each of its words
+  pub record-inside : (l i f : ℕ) → l < settings t .levels → i < levelCount t l → f < 4 + 3 * countedCount t
+      → levelOffset t l + i * recordSize t + 4 * f + 4 ≤ leafOffset t
+  record-inside l i f hl hi hf = omega (arith, byte-inside l i (4 * f + 4) hl hi (omega (arith, size-low)))
+
+  -- and, in layout 2, its edges
+  pub edges-inside : (l i : ℕ) → layout t ≡ 2 → l < settings t .levels → i < levelCount t l
+      → edgesAt t l i + (settings t .leaf + settings t .leaf) ≤ leafOffset t
+  unfolding edgesAt
+  edges-inside l i two hl hi = omega (arith, byte-inside l i (recordSize t) hl hi (omega arith), size-edged two)
 
   pub leaf-start-inside : leafOffset t ≤ length t
   leaf-start-inside = omega (arith, k .size)

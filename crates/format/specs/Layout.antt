@@ -1,14 +1,18 @@
 -- A tree's bytes, read by the layout: the header's words, the fields of a record, a leaf byte. Any bytes can be read so.
 use mathlib.Core.List.{List}
-use mathlib.Core.Bool.{Bool, _&&_}
+use mathlib.Core.Bool.{Bool, _&&_, _||_}
 use Prim.Native.Nat.{ℕ, _+_, _-_, _*_, min}
 use lib.ListN.{length, getD, take, drop}
 use lib.Dec.{leb, eqb}
 use Rattle.text.specs.Lists.{allBelow, sumBelow}
 use Rattle.format.specs.Words.{wordAt}
-use Rattle.format.specs.Settings.{Settings, blockLength, pieces, lengthOk, sizesOk, countedOk}
+use Rattle.format.specs.Settings.{Settings, blockLength, pieces, recordLength, lengthOk, sizesOk, countedOk}
 
 module _ (t : List ℕ) where
+  -- 1, or 2: then records have edges
+  unfoldable pub layout : ℕ
+  layout = wordAt t 0
+
   unfoldable pub textLength : ℕ
   textLength = wordAt t 4
 
@@ -37,8 +41,8 @@ module _ (t : List ℕ) where
   leafCount = wordAt t 96
 
   unfoldable pub recordSize : ℕ
-  unfolding countedCount
-  recordSize = 16 + 12 * countedCount
+  unfolding layout settings countedCount
+  recordSize = recordLength layout (settings .leaf) countedCount
 
   -- word f of the record of block i of level l
   unfoldable pub field : ℕ → ℕ → ℕ → ℕ
@@ -74,6 +78,11 @@ module _ (t : List ℕ) where
   unfolding field
   skip l i c = field l i (6 + 3 * c)
 
+  -- where the edges of block i of level l stand in a layout 2 tree: after its words
+  unfoldable pub edgesAt : ℕ → ℕ → ℕ
+  unfolding levelOffset recordSize countedCount
+  edgesAt l i = levelOffset l + i * recordSize + (16 + 12 * countedCount)
+
   unfoldable pub leafByte : ℕ → ℕ
   unfolding leafOffset
   leafByte x = getD t (leafOffset + x) 0
@@ -94,12 +103,17 @@ module _ (t : List ℕ) where
   unfolding kind
   isPointing l i = eqb (kind l i) 1
 
+  unfoldable pub hasEdges : Bool
+  unfolding layout
+  hasEdges = eqb layout 2
+
   -- questions 5 and 6
   unfoldable pub longEnough : Bool
   longEnough = leb 100 (length t)
 
   unfoldable pub layoutOk : Bool
-  layoutOk = eqb (wordAt t 0) 1
+  unfolding layout
+  layoutOk = eqb layout 1 || eqb layout 2
 
   -- question 7
   unfoldable pub headerOk : Bool

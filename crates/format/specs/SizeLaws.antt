@@ -1,15 +1,15 @@
--- What question 2 gives of the settings, and the laws of block lengths.
+-- What question 2 gives of the settings, and the laws of block lengths and record lengths.
 use mathlib.Core.List.{[], _∷_}
-use mathlib.Core.Bool.{true, _&&_}
-use mathlib.Core.Path.{_≡_}
+use mathlib.Core.Bool.{Bool, true, false, cond, _&&_}
+use mathlib.Core.Path.{_≡_, refl}
 use Prim.Native.Nat.{ℕ, suc, _+_, _-_, _*_, _^_, _≤_, _<_}
 use native.Mathlib.Omega.{arith}
 use native.Mathlib.Nat.{pow-suc, pow-zero, mul-one, mul-assoc, mul-le-mul, mul-le-mul-left, pow-le-pow-right, one-le-pow}
-use borrow.Author.Tests.{leb-true}
-use lib.Dec.{leb}
+use borrow.Author.Tests.{leb-true, ne-eqb}
+use lib.Dec.{leb, eqb}
 use Rattle.text.specs.ListLaws.{and-left, and-right}
 use Rattle.text.specs.Conjunctions.{parts}
-use Rattle.format.specs.Settings.{Settings, sizesOk, blockLength, maxText, maxLeaf, minArity, maxArity, maxLevels}
+use Rattle.format.specs.Settings.{Settings, sizesOk, blockLength, recordLength, maxText, maxLeaf, minArity, maxArity, maxLevels}
 
 -- the sizes' bounds, of question 2
 pub record Sizes (S : Settings) : Type 0 where
@@ -62,3 +62,28 @@ module _ (S : Settings) (z : Sizes S) where
   pub length-falls : (l j : ℕ) → l ≤ j → blockLength S j ≤ blockLength S l
   unfolding blockLength
   length-falls l j h = mul-le-mul-left (S .leaf) (pow-le-pow-right (omega (arith, z .arity-low)) (omega arith))
+
+-- a record has its words, and at most two edges after them
+cond-low : (y : Bool) (m : ℕ) → cond y (m + m) 0 ≤ m + m
+cond-low true m = omega arith
+cond-low false m = omega arith
+
+module _ (v m k : ℕ) where
+  pub record-low : 16 + 12 * k ≤ recordLength v m k
+  unfolding recordLength
+  record-low = omega arith
+
+  pub record-most : recordLength v m k ≤ 16 + 12 * k + (m + m)
+  unfolding recordLength
+  record-most = omega (arith, cond-low (eqb v 2) m)
+
+  pub record-high : m ≤ maxLeaf → k ≤ 4 → recordLength v m k ≤ 576
+  record-high hm hk = omega (arith, record-most)
+
+  pub record-plain : (v ≡ 2 → ⊥) → recordLength v m k ≡ 16 + 12 * k
+  unfolding recordLength
+  record-plain h = rw (ne-eqb v 2 h) (omega arith)
+
+  pub record-edged : v ≡ 2 → recordLength v m k ≡ 16 + 12 * k + (m + m)
+  unfolding recordLength
+  record-edged e = rw e

@@ -1,9 +1,9 @@
 -- What the check answers: 0 for an accepted tree, else the number of the first question that it fails.
 use mathlib.Core.List.{List}
-use mathlib.Core.Bool.{Bool, true, false}
+use mathlib.Core.Bool.{Bool, true, false, _&&_}
 use Prim.Native.Nat.{ℕ}
 use Rattle.format.specs.Layout as at
-use Rattle.format.specs.Fits.{linksOk, textOf, countsTrue}
+use Rattle.format.specs.Fits.{linksOk, textOf, countsTrue, edgesTrue}
 
 -- the number of a question that fails, else what the next ones say
 abbrev pub ask : ℕ → Bool → ℕ → ℕ
@@ -18,4 +18,5 @@ readable t = ask 5 (at.longEnough t) (ask 6 (at.layoutOk t) (ask 7 (at.headerOk 
 unfoldable pub verdict : List ℕ → ℕ
 unfolding at.longEnough at.layoutOk at.headerOk
 verdict t =
-    ask 5 (at.longEnough t) (ask 6 (at.layoutOk t) (ask 7 (at.headerOk t) (ask 8 (linksOk t) (ask 9 (countsTrue (textOf t) t) 0))))
+    let true-of-text = countsTrue (textOf t) t && edgesTrue (textOf t) t in
+    ask 5 (at.longEnough t) (ask 6 (at.layoutOk t) (ask 7 (at.headerOk t) (ask 8 (linksOk t) (ask 9 true-of-text 0))))

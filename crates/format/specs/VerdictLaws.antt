@@ -1,11 +1,12 @@
 -- A tree is accepted exactly where it passes questions 5 to 9.
 use mathlib.Core.List.{List}
-use mathlib.Core.Bool.{Bool, true, false}
+use mathlib.Core.Bool.{Bool, true, false, _&&_}
 use mathlib.Core.Path.{_≡_}
 use Prim.Native.Nat.{ℕ, suc}
 use native.Mathlib.Omega.{arith}
-use Rattle.format.specs.Layout.{longEnough, layoutOk, headerOk}
-use Rattle.format.specs.Fits.{linksOk, textOf, countsTrue}
+use Rattle.text.specs.ListLaws.{and-left, and-right}
+use Rattle.format.specs.Layout.{layout, hasEdges, longEnough, layoutOk, headerOk}
+use Rattle.format.specs.Fits.{linksOk, textOf, countsTrue, edgesTrue}
 use Rattle.format.specs.Verdict.{ask, readable, verdict}
 use Rattle.format.specs.HeaderLaws.{ask-test, ask-rest}
 
@@ -15,9 +16,18 @@ refused-first true true false q rest h = h
 refused-first true false c q rest h = h
 refused-first false b c q rest h = h
 
+-- layout 1 has no edges, and nothing is asked of them
+pub no-edges : (T t : List ℕ) → layout t ≡ 1 → edgesTrue T t ≡ true
+unfolding edgesTrue hasEdges
+no-edges T t e = rw e
+
 module _ (t : List ℕ) where
+  -- question 9
+  abbrev nine : Bool
+  nine = countsTrue (textOf t) t && edgesTrue (textOf t) t
+
   -- the verdict of a tree that passes questions 5 to 7 is that of 8 and 9
-  pub verdict-readable : readable t ≡ 0 → verdict t ≡ ask 8 (linksOk t) (ask 9 (countsTrue (textOf t) t) 0)
+  pub verdict-readable : readable t ≡ 0 → verdict t ≡ ask 8 (linksOk t) (ask 9 (countsTrue (textOf t) t && edgesTrue (textOf t) t) 0)
   unfolding readable verdict
   verdict-readable h =
       let after5 = ask-rest 4 (longEnough t) (ask 6 (layoutOk t) (ask 7 (headerOk t) 0)) h in
@@ -29,21 +39,26 @@ module _ (t : List ℕ) where
   unfolding readable verdict
   verdict-refused q h = refused-first (longEnough t) (layoutOk t) (headerOk t) q _ h
 
-  pub accepted : readable t ≡ 0 → linksOk t ≡ true → countsTrue (textOf t) t ≡ true → verdict t ≡ 0
-  accepted h l c = rw (verdict-readable h, l, c)
+  pub accepted : readable t ≡ 0 → linksOk t ≡ true → countsTrue (textOf t) t ≡ true → edgesTrue (textOf t) t ≡ true → verdict t ≡ 0
+  accepted h l c e = rw (verdict-readable h, l, c, e)
 
   module _ (v : verdict t ≡ 0) where
     pub accepted-readable : readable t ≡ 0
     unfolding readable verdict
     accepted-readable =
-        let rest = ask 8 (linksOk t) (ask 9 (countsTrue (textOf t) t) 0) in
+        let rest = ask 8 (linksOk t) (ask 9 nine 0) in
         let after5 = ask-rest 4 (longEnough t) (ask 6 (layoutOk t) (ask 7 (headerOk t) rest)) v in
         let after6 = ask-rest 5 (layoutOk t) (ask 7 (headerOk t) rest) after5 in
         rw (ask-test 4 (longEnough t) (ask 6 (layoutOk t) (ask 7 (headerOk t) rest)) v, ask-test 5 (layoutOk t) (ask 7 (headerOk t) rest) after5, ask-test 6 (headerOk t) rest after6)
 
     pub accepted-links : linksOk t ≡ true
-    accepted-links = ask-test 7 (linksOk t) (ask 9 (countsTrue (textOf t) t) 0) (rw (verdict-readable accepted-readable) at v)
+    accepted-links = ask-test 7 (linksOk t) (ask 9 nine 0) (rw (verdict-readable accepted-readable) at v)
+
+    accepted-true : nine ≡ true
+    accepted-true = ask-test 8 nine 0 (ask-rest 7 (linksOk t) (ask 9 nine 0) (rw (verdict-readable accepted-readable) at v))
 
     pub accepted-counts : countsTrue (textOf t) t ≡ true
-    accepted-counts =
-        ask-test 8 (countsTrue (textOf t) t) 0 (ask-rest 7 (linksOk t) (ask 9 (countsTrue (textOf t) t) 0) (rw (verdict-readable accepted-readable) at v))
+    accepted-counts = and-left (countsTrue (textOf t) t) (edgesTrue (textOf t) t) accepted-true
+
+    pub accepted-edges : edgesTrue (textOf t) t ≡ true
+    accepted-edges = and-right (countsTrue (textOf t) t) (edgesTrue (textOf t) t) accepted-true

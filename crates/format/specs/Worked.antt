@@ -1,20 +1,22 @@
--- The worked book of document 01 and two more texts, computed from the definitions.
-use mathlib.Core.List.{List, [], _∷_}
+-- The worked book of document 01 and two more texts, computed from the definitions; trees are of layout 2.
+use mathlib.Core.List.{List, [], _∷_, _++_}
 use mathlib.Core.Option.{some}
 use mathlib.Core.Path.{_≡_, refl}
 use Prim.Native.Nat.{ℕ}
 use lib.ListN.{length, replicate, take, drop}
 use Rattle.text.specs.Lists.{tabulate, concat, sumBelow, countBelow, allBelow, sameList}
-use Rattle.format.specs.Words.{wordAt, wordsBytes, wordBytes}
+use Rattle.format.specs.Words.{setWord, wordAt, wordsBytes, wordBytes}
 use Rattle.text.specs.Text.{stretch, leftmost, firstFrom, countIn, placeOf, placeIn}
-use Rattle.format.specs.Settings.{Settings, blockLength, pieces, lengthOk, sizesOk, countedOk, rising, risingAfter}
-use Rattle.format.specs.Blocks.{treeOf, header, leafBytes, levelPairs, recordBytes, levelWords, recordOf, target, occurrence, width, isKept, startsAt, cut, keptByPairs, firstPairAt, pairAt, lengthOf, startOf}
+use Rattle.format.specs.Settings.{Settings, blockLength, pieces, recordLength, lengthOk, sizesOk, countedOk, rising, risingAfter}
+use Rattle.format.specs.Edges.{edgesOf, filledOut}
+use Rattle.format.specs.Blocks.{treeOf, header, leafBytes, levelPairs, recordBytes, levelBytes, recordIn, recordOf, target, occurrence, width, isKept, startsAt, cut, keptByPairs, firstPairAt, pairAt, lengthOf, startOf}
 use Rattle.format.specs.Layout as at
 use Rattle.format.specs.Path.{pathOf, pathFrom, visit, targetPlace, targetBlock, pointingBlock, keptBlock, lands, landBlock, landPlace, landVisits}
-use Rattle.format.specs.Fits.{linksOk, textOf, fits, countsTrue, lastLevel, widthAt, keptRight, pointingRight, blockRight, countBelowRight, blockFits, blockCountsTrue}
+use Rattle.format.specs.Short.{shortOf, shortFrom, byEdges, inLeaf}
+use Rattle.format.specs.Fits.{linksOk, textOf, fits, countsTrue, edgesTrue, blockEdgesTrue, lastLevel, widthAt, keptRight, pointingRight, blockRight, countBelowRight, blockFits, blockCountsTrue}
 use Rattle.format.specs.Verdict.{verdict, readable}
 use Rattle.format.specs.Said.{Said}
-use Rattle.format.specs.Reading.{byteSays, runSays, spanNumber, spanLeaves, leftOver, pathsHold}
+use Rattle.format.specs.Reading.{byteSays, runSays, asksSpan, leavesSpan, isShort, spanReached, spanBytes, spanBlocks, spanNumber, spanSays, spanLeaves, leftOver, pathsHold}
 use Rattle.format.specs.Counting.{countSays, indexOf, added, addedAfter, taken, takenAfter, lastPlace, leavesReached, isCounted, numberOfByte}
 use Rattle.format.specs.Finding.{selectNumber, total, found}
 
@@ -33,34 +35,82 @@ abcd = 65 ∷ 66 ∷ 67 ∷ 68 ∷ 65 ∷ 66 ∷ 67 ∷ 68 ∷ 65 ∷ []
 said : ℕ → ℕ → ℕ → Said
 said q v e = record { number = q; value = v; entered = e }
 
+-- a span: its number, its length, the blocks entered, and what it leaves of three bytes 1
+spanned : List ℕ → ℕ → ℕ → Said × List ℕ
+spanned t p len = (spanSays t p len 3, spanLeaves t p len (1 ∷ 1 ∷ 1 ∷ []))
+
+-- the book's tree with kind 2 in blocks 0 and 1 of level 0, and with another start in block 0
+other-kinds : List ℕ
+other-kinds = setWord (setWord (treeOf two book) 104 2) 136 2
+
+other-start : List ℕ
+other-start = setWord (treeOf two book) 100 18
+
+-- the words of the records of level l
+words : Settings → List ℕ → ℕ → List ℕ
+words S T l = concat (tabulate (length (startsAt S T l)) (recordOf S T l (startsAt S T l)))
+
+-- the trees of the book and of twelve letters A in layout 1: the header's words, the records without edges, the leaf bytes
+older : List ℕ
+older =
+    wordsBytes (1 ∷ 20 ∷ 2 ∷ 2 ∷ 2 ∷ 1 ∷ 65 ∷ 5 ∷ 100 ∷ 8 ∷ 240 ∷ []) ++ replicate 48 0 ++ wordsBytes (464 ∷ 16 ∷ words two book 0 ++ words two book 1) ++ take 16 book
+
+older-twelve : List ℕ
+older-twelve =
+    let twelve : List ℕ = replicate 12 65 in
+    wordsBytes (1 ∷ 12 ∷ 2 ∷ 2 ∷ 2 ∷ 0 ∷ 0 ∷ 3 ∷ 100 ∷ 4 ∷ 148 ∷ []) ++ replicate 48 0 ++ wordsBytes (212 ∷ 8 ∷ words plain twelve 0 ++ words plain twelve 1) ++ replicate 8 65
+
 -- The table: the worked book's level 0 and where the rest of its tree lies, M1 to M10, the path of place 18, the text read back
--- and the verdict.
+-- and the verdict; edges and short spans; and the book's tree in layout 1.
 pub record Marked : Type 0 where
-  level0 : levelWords two book 0 (startsAt two book 0) ≡
-      0 ∷ 0 ∷ 0 ∷ 0 ∷ 0 ∷ 1 ∷ 0
-      ∷ 4 ∷ 0 ∷ 2 ∷ 0 ∷ 1 ∷ 1 ∷ 0
-      ∷ 8 ∷ 0 ∷ 4 ∷ 0 ∷ 2 ∷ 0 ∷ 0
-      ∷ 12 ∷ 0 ∷ 6 ∷ 0 ∷ 2 ∷ 1 ∷ 0
-      ∷ 16 ∷ 1 ∷ 0 ∷ 1 ∷ 3 ∷ 1 ∷ 0 ∷ []
-  level1 : (at.levelCount (treeOf two book) 1 ≡ 8) × (at.levelOffset (treeOf two book) 1 ≡ 240)
-  leaves : drop 464 (treeOf two book) ≡ take 16 book
-  m1 : length (treeOf two book) ≡ 480
+  level0 : tabulate 5 (recordOf two book 0 (startsAt two book 0)) ≡
+      (0 ∷ 0 ∷ 0 ∷ 0 ∷ 0 ∷ 1 ∷ 0 ∷ [])
+      ∷ (4 ∷ 0 ∷ 2 ∷ 0 ∷ 1 ∷ 1 ∷ 0 ∷ [])
+      ∷ (8 ∷ 0 ∷ 4 ∷ 0 ∷ 2 ∷ 0 ∷ 0 ∷ [])
+      ∷ (12 ∷ 0 ∷ 6 ∷ 0 ∷ 2 ∷ 1 ∷ 0 ∷ [])
+      ∷ (16 ∷ 1 ∷ 0 ∷ 1 ∷ 3 ∷ 1 ∷ 0 ∷ []) ∷ []
+  level1 : (at.levelCount (treeOf two book) 1 ≡ 8) × (at.levelOffset (treeOf two book) 1 ≡ 260)
+  leaves : drop 516 (treeOf two book) ≡ take 16 book
+  m1 : length (treeOf two book) ≡ 532
   m2 : byteSays (treeOf two book) 18 ≡ said 0 67 3
   m3 : byteSays (treeOf two book) 19 ≡ said 0 68 3
   m4 : countSays (treeOf two book) 65 17 ≡ said 0 4 3
   m5 : countSays (treeOf two book) 65 0 ≡ said 0 0 0
   m6 : (selectNumber (treeOf two book) 65 4 ≡ 0) × (found (treeOf two book) 65 4 ≡ said 0 16 3)
   m7 : selectNumber (treeOf two book) 65 5 ≡ 12
-  m8 : (runSays (treeOf two book) 17 ≡ (466, 2)) × (stretch (treeOf two book) 466 2 ≡ 66 ∷ 67 ∷ [])
-  m9 : (length (treeOf plain (replicate 12 65)) ≡ 220)
-      × (take 4 (drop 8 (levelWords plain (replicate 12 65) 0 (startsAt plain (replicate 12 65) 0))) ≡ 8 ∷ 1 ∷ 0 ∷ 0 ∷ [])
-  m10 : (at.blockLengthAt (treeOf plain abcd) 0 2 ≡ 1) × (take 4 (drop 8 (levelWords plain abcd 0 (startsAt plain abcd 0))) ≡ 8 ∷ 1 ∷ 0 ∷ 0 ∷ [])
+  m8 : (runSays (treeOf two book) 17 ≡ (518, 2)) × (stretch (treeOf two book) 518 2 ≡ 66 ∷ 67 ∷ [])
+  m9 : (length (treeOf plain (replicate 12 65)) ≡ 248)
+      × (recordOf plain (replicate 12 65) 0 (startsAt plain (replicate 12 65) 0) 2 ≡ 8 ∷ 1 ∷ 0 ∷ 0 ∷ [])
+  m10 : (at.blockLengthAt (treeOf plain abcd) 0 2 ≡ 1) × (recordOf plain abcd 0 (startsAt plain abcd 0) 2 ≡ 8 ∷ 1 ∷ 0 ∷ 0 ∷ [])
   path : pathOf (treeOf two book) 18 ≡ some (record { visits = visit 0 4 2 ∷ visit 0 0 3 ∷ visit 1 1 1 ∷ []; leaf = 3 })
   text : textOf (treeOf two book) ≡ book
   accepted : verdict (treeOf two book) ≡ 0
+  -- the edges of block 0, QABC, and of M10's last block, of one byte
+  edges : (stretch (treeOf two book) 128 4 ≡ 81 ∷ 65 ∷ 66 ∷ 67 ∷ []) × (stretch (treeOf plain abcd) 156 4 ≡ 65 ∷ 0 ∷ 65 ∷ 0 ∷ [])
+  -- over a level 0 border; over a border of level 1; in a leaf; through a pointing block, and over the border of its two targets
+  over-top : spanned (treeOf two book) 3 2 ≡ (said 0 2 2, 67 ∷ 68 ∷ 1 ∷ [])
+  over-child : spanned (treeOf two book) 1 2 ≡ (said 0 2 3, 65 ∷ 66 ∷ 1 ∷ [])
+  in-leaf : spanned (treeOf two book) 2 2 ≡ (said 0 2 2, 66 ∷ 67 ∷ 1 ∷ [])
+  pointed : spanned (treeOf two book) 16 2 ≡ (said 0 2 4, 65 ∷ 66 ∷ 1 ∷ [])
+  over-targets : spanned (treeOf two book) 18 2 ≡ (said 0 2 3, 67 ∷ 68 ∷ 1 ∷ [])
+  -- no kind is read over a border, where bytes and a span in one block are refused; nor is a start, the left block being full
+  kinds-unread : (spanned other-kinds 3 2 ≡ (said 0 2 2, 67 ∷ 68 ∷ 1 ∷ [])) × (byteSays other-kinds 3 ≡ said 14 0 0) × (byteSays other-kinds 4 ≡ said 14 0 0)
+  kind-read : spanned other-kinds 0 2 ≡ (said 14 0 0, 0 ∷ 0 ∷ 1 ∷ [])
+  start-unread : spanned other-start 3 2 ≡ (said 0 2 2, 67 ∷ 68 ∷ 1 ∷ [])
+  -- longer than m; of no bytes; past the end; without room
+  by-paths : spanned (treeOf two book) 0 3 ≡ (said 0 3 0, 81 ∷ 65 ∷ 66 ∷ [])
+  no-bytes : spanned (treeOf two book) 20 0 ≡ (said 0 0 0, 1 ∷ 1 ∷ 1 ∷ [])
+  past-end : spanned (treeOf two book) 19 2 ≡ (said 10 0 0, 1 ∷ 1 ∷ 1 ∷ [])
+  no-room : spanned (treeOf two book) 0 4 ≡ (said 13 0 0, 1 ∷ 1 ∷ 1 ∷ [])
+  -- layout 1 is read and checked as before, and its spans report 0
+  older-read : (length older ≡ 480) × (textOf older ≡ book) × (verdict older ≡ 0)
+  older-bytes : (byteSays older 18 ≡ said 0 67 3) × (byteSays older 19 ≡ said 0 68 3) × (runSays older 17 ≡ (466, 2)) × (stretch older 466 2 ≡ 66 ∷ 67 ∷ [])
+  older-counts : (countSays older 65 17 ≡ said 0 4 3) × (countSays older 65 0 ≡ said 0 0 0) × (found older 65 4 ≡ said 0 16 3) × (selectNumber older 65 5 ≡ 12)
+  older-span : spanned older 3 2 ≡ (said 0 2 0, 67 ∷ 68 ∷ 1 ∷ [])
+  older-m9 : (length older-twelve ≡ 220) × (textOf older-twelve ≡ replicate 12 65) × (verdict older-twelve ≡ 0)
 
 pub marked : Marked
-unfolding abcd said book two plain tabulate concat sumBelow countBelow allBelow sameList wordAt wordsBytes wordBytes stretch leftmost firstFrom countIn placeOf placeIn blockLength pieces lengthOk sizesOk countedOk rising risingAfter treeOf header leafBytes levelPairs recordBytes levelWords recordOf target occurrence width isKept startsAt cut keptByPairs firstPairAt pairAt lengthOf startOf pathOf pathFrom targetPlace targetBlock pointingBlock keptBlock lands landBlock landPlace landVisits linksOk textOf fits countsTrue lastLevel widthAt keptRight pointingRight blockRight countBelowRight blockFits blockCountsTrue verdict readable at.leafByte byteSays countSays runSays spanNumber spanLeaves selectNumber indexOf leftOver pathsHold added addedAfter taken takenAfter lastPlace leavesReached isCounted numberOfByte total found at.blockLengthAt at.levelCount at.levelOffset
+unfolding spanned other-kinds other-start words older older-twelve abcd said book two plain tabulate concat sumBelow countBelow allBelow sameList setWord wordAt wordsBytes wordBytes stretch leftmost firstFrom countIn placeOf placeIn blockLength pieces lengthOk sizesOk countedOk rising risingAfter treeOf header leafBytes levelPairs recordBytes recordLength edgesOf filledOut levelBytes recordIn recordOf target occurrence width isKept startsAt cut keptByPairs firstPairAt pairAt lengthOf startOf pathOf pathFrom targetPlace targetBlock pointingBlock keptBlock lands landBlock landPlace landVisits shortOf shortFrom byEdges inLeaf linksOk textOf fits countsTrue edgesTrue blockEdgesTrue lastLevel widthAt keptRight pointingRight blockRight countBelowRight blockFits blockCountsTrue verdict readable at.leafByte byteSays countSays runSays asksSpan leavesSpan isShort spanReached spanBytes spanBlocks spanNumber spanSays spanLeaves selectNumber indexOf leftOver pathsHold added addedAfter taken takenAfter lastPlace leavesReached isCounted numberOfByte total found at.blockLengthAt at.levelCount at.levelOffset
 marked = record {
   level0 = refl;
   level1 = (refl, refl);
@@ -78,4 +128,22 @@ marked = record {
   path = refl;
   text = refl;
   accepted = refl;
+  edges = (refl, refl);
+  over-top = refl;
+  over-child = refl;
+  in-leaf = refl;
+  pointed = refl;
+  over-targets = refl;
+  kinds-unread = (refl, refl, refl);
+  kind-read = refl;
+  start-unread = refl;
+  by-paths = refl;
+  no-bytes = refl;
+  past-end = refl;
+  no-room = refl;
+  older-read = (refl, refl, refl);
+  older-bytes = (refl, refl, refl, refl);
+  older-counts = (refl, refl, refl, refl);
+  older-span = refl;
+  older-m9 = (refl, refl, refl);
 }

@@ -76,9 +76,9 @@ module _ (t : List ℕ) where
         let low : 1 ≤ s .leaf * s .arity ^ (s .levels - 1) = mul-le-mul {n₁ = 1} {m₁ = 1} (h .leaf-low) (one-le-pow (s .levels - 1) (s .arity) (omega (arith, h .arity-low))) in
         rw (e, e′) (low, h .block-high)
 
-    pub size-is : (size : ℕ) → size ≡ 16 + 12 * s .counted → (size ≡ at.recordSize t) × (size ≤ 64)
-    unfolding at.recordSize at.countedCount
-    size-is size e = (e ∙ ap (λ (k : ℕ). 16 + 12 * k) (h .counted-is), omega (arith, h .counted-high))
+    pub size-is : (v size : ℕ) → v ≡ wordAt t 0 → size ≡ format.recordLength v (s .leaf) (s .counted) → size ≡ at.recordSize t
+    unfolding at.recordSize at.layout at.settings at.countedCount
+    size-is v size v-is e = rw (e, v-is, h .leaf-is, h .counted-is)
 
     counted-here : (r : Bool) → r ≡ spareCounted t (s .counted) → r ≡ spareCounted t (at.countedCount t)
     unfolding at.countedCount

@@ -6,20 +6,22 @@ use native.Mathlib.Omega.{arith}
 use lib.ListN.{length}
 use Rattle.format.specs.Words.{wordAt}
 use Rattle.format.specs.Layout as at
-use Rattle.layout.specs.Record.{FieldIn}
+use Rattle.layout.specs.Record.{FieldIn, EdgesIn}
 
-module _ (t : List ℕ) (counted level block f table : ℕ) (h : FieldIn t counted level block f) (is : table ≡ wordAt t (32 + 8 * level)) where
-  size-is : 16 + 12 * counted ≡ at.recordSize t
-  unfolding at.recordSize
-  size-is = ap (λ (k : ℕ). 16 + 12 * k) (h .counted-is)
-
-  pub place-is : table + block * (16 + 12 * counted) + 4 * f ≡ at.levelOffset t level + block * at.recordSize t + 4 * f
+module _ (t : List ℕ) (size level block f table : ℕ) (h : FieldIn t size level block f) (is : table ≡ wordAt t (32 + 8 * level)) where
+  pub place-is : table + block * size + 4 * f ≡ at.levelOffset t level + block * at.recordSize t + 4 * f
   unfolding at.levelOffset
-  place-is = rw (size-is, is)
+  place-is = rw (h .size-is, is)
 
-  pub place-in : table + block * (16 + 12 * counted) + 4 * f + 4 ≤ length t
+  pub place-in : table + block * size + 4 * f + 4 ≤ length t
   place-in = omega (arith, h .inside, place-is)
 
-  pub field-is : (v : ℕ) → v ≡ wordAt t (table + block * (16 + 12 * counted) + 4 * f) → v ≡ at.field t level block f
+  pub field-is : (v : ℕ) → v ≡ wordAt t (table + block * size + 4 * f) → v ≡ at.field t level block f
   unfolding at.field
   field-is v e = e ∙ ap (wordAt t) place-is
+
+-- where the edges of a block stand
+pub edges-are : (t : List ℕ) (size counted level block table : ℕ) → EdgesIn t size counted level → table ≡ wordAt t (32 + 8 * level)
+    → (z : ℕ) → z ≡ block * size → table + z + (16 + 12 * counted) ≡ at.edgesAt t level block
+unfolding at.edgesAt at.levelOffset
+edges-are t size counted level block table h is z z-is = rw (z-is, h .size-is, h .counted-is, is)

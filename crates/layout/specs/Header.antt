@@ -15,14 +15,16 @@ use Rattle.layout.specs.declared.header.Header.{Header}
 use Rattle.layout.specs.declared.header.HeaderRead.{HeaderRead}
 use Rattle.layout.specs.declared.header.HeaderRead.the-variants.{Good, Refused}
 
--- the header's words, and the length of a level 0 block
+-- the header's words, and the lengths of a level 0 block and of a record
 abbrev pub fieldsOf : List ℕ → Header
 fieldsOf t = record {
+  layout = wordAt t 0;
   length = wordAt t 4;
   settings = record { leaf = wordAt t 8; arity = wordAt t 12; levels = wordAt t 16; counted = wordAt t 20 };
   «leaf_offset» = wordAt t 92;
   «leaf_count» = wordAt t 96;
   block = at.fullLength t 0;
+  «record_size» = at.recordSize t;
 }
 
 -- the header, unless a question refuses it

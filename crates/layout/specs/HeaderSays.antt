@@ -19,6 +19,7 @@ pub record HeaderOf (t : List ℕ) (h : Header) : Type 0 where
   pub passes : readable t ≡ 0
   pub facts : Readable t
   pub fields : h ≡ fieldsOf t
+  pub layout-is : h .layout ≡ at.layout t
   pub length-is : h .length ≡ at.textLength t
   pub leaf-is : h .settings .leaf ≡ at.settings t .leaf
   pub arity-is : h .settings .arity ≡ at.settings t .arity
@@ -27,13 +28,15 @@ pub record HeaderOf (t : List ℕ) (h : Header) : Type 0 where
   pub offset-is : h .«leaf_offset» ≡ at.leafOffset t
   pub count-is : h .«leaf_count» ≡ at.leafCount t
   pub block-is : h .block ≡ at.fullLength t 0
+  pub size-is : h .«record_size» ≡ at.recordSize t
 
 of-fields : (t : List ℕ) (h : Header) → readable t ≡ 0 → h ≡ fieldsOf t → HeaderOf t h
-unfolding at.textLength at.settings at.countedCount at.leafOffset at.leafCount
+unfolding at.layout at.textLength at.settings at.countedCount at.leafOffset at.leafCount
 of-fields t h z e = record {
   passes = z;
   facts = readable-facts t z;
   fields = e;
+  layout-is = ap (λ (x : Header). x .layout) e;
   length-is = ap (λ (x : Header). x .length) e;
   leaf-is = ap (λ (x : Header). x .settings .leaf) e;
   arity-is = ap (λ (x : Header). x .settings .arity) e;
@@ -42,6 +45,7 @@ of-fields t h z e = record {
   offset-is = ap (λ (x : Header). x .«leaf_offset») e;
   count-is = ap (λ (x : Header). x .«leaf_count») e;
   block-is = ap (λ (x : Header). x .block) e;
+  size-is = ap (λ (x : Header). x .«record_size») e;
 }
 
 good-cases : (n : ℕ) (f h : Header) → Good h ≡ goodUnless n f → (n ≡ 0) × (h ≡ f)

@@ -3,8 +3,10 @@ use crate::settings::Checked;
 use crate::settings::Settings;
 use crate::word;
 ghost use mathlib.Core.Path.{_≡_};
+ghost use mathlib.Core.Bool.{_||_};
 ghost use Prim.Native.Nat.{_+_, _-_, _*_, _≤_, _<_};
 ghost use lib.ListN.{length};
+ghost use lib.Dec.{eqb};
 ghost use Rattle.format.specs.Settings.{maxText};
 ghost use Rattle.format.specs.Settings as cut;
 ghost use Rattle.format.specs.Layout.{headerOk, recordSize};
@@ -13,6 +15,8 @@ ghost use Rattle.layout.specs.Header.{headerSays, restRight, spareCounte
 
 // What a tree's header says. The levels' counts and offsets stay in the tree, and are read there.
 pub struct Header {
+    // 1, or 2: then records have edges
+    pub layout: u32,
     // n, the bytes of the text
     pub length: u32,
     pub settings: Settings,
@@ -21,6 +25,8 @@ pub struct Header {
     pub leaf_count: u32,
     // the bytes of a full block of level 0
     pub block: u32,
+    // the bytes of a record
+    pub record_size: u32,
 }
 
 pub enum HeaderRead {
@@ -35,8 +41,7 @@ pub fn read_header(t: &[u8]) -> HeaderRead
     if t.len() < 100 {
         return HeaderRead::Refused(5);
     }
-    let layout = word::read(t, 0);
-    if layout != 1 {
+    if !known(word::read(t, 0)) {
         return HeaderRead::Refused(6);
     }
     if !header_right(t) {
@@ -45,11 +50,22 @@ pub fn read_header(t: &[u8]) -> HeaderRead
     HeaderRead::Good(fields(t))
 }
 
-// The header's words, and what they make the length of a level 0 block.
-fn fields(t: &[u8]) -> Header
+// The layouts that are read.
+fn known(layout: u32) -> bool
+    ensures { λ r. ⌜ r ≡ (eqb layout 1 || eqb layout 2) ⌝ }
+{
+    if layout == Settings::PLAIN {
+        return true;
+    }
+    layout == Settings::EDGED
+}
+
+// The header's words, and what they make the length of a level 0 block and of a record.
+pub fn fields(t: &[u8]) -> Header
     requires { ⌜ Readable (now t) ⌝ }
     ensures { λ r. ⌜ r ≡ fieldsOf (now (t .entry)) ⌝ }
 {
+    let layout = word::read(t, 0);
     let settings = Settings {
         leaf: word::read(t, 8),
         arity: word::read(t, 12),
@@ -57,11 +73,13 @@ fn fields(t: &[u8]) -> Header
         counted: word::read(t, 20),
     };
     Header {
+        layout,
         length: word::read(t, 4),
         settings,
         leaf_offset: word::read(t, 92),
         leaf_count: word::read(t, 96),
         block: settings.block_length(0),
+        record_size: settings.record_size(layout),
     }
 }
 
@@ -109,7 +127,8 @@ fn rest_right(t: &[u8], n: u32, settings: Settings) -> bool
     if count != pieces(n, settings.block_length(0)) {
         return false;
     }
-    if !tables_meet(t, settings.levels as usize, settings.record_size()) {
+    let size = settings.record_size(word::read(t, 0));
+    if !tables_meet(t, settings.levels as usize, size) {
         return false;
     }
     t.len() as u64 == word::read(t, 92) as u64 + word::read(t, 96) as u64
@@ -160,7 +179,7 @@ fn spare_levels_zero(t: &[u8], levels: usize) -> bool
 
 // Level 0's records begin at 100, each level follows the last, then the leaf bytes.
 fn tables_meet(t: &[u8], levels: usize, size: u32) -> bool
-    requires { ⌜ (100 ≤ length (now t)) × (levels ≤ 8) × (size ≡ recordSize (now t)) × (size ≤ 64) ⌝ }
+    requires { ⌜ (100 ≤ length (now t)) × (levels ≤ 8) × (size ≡ recordSize (now t)) × (size ≤ 576) ⌝ }
     ensures { λ r. ⌜ r ≡ tablesMeet (now (t .entry)) levels ⌝ }
 {
     let mut end: u64 = 100;
@@ -176,10 +195,10 @@ fn tables_meet(t: &[u8], levels: usize, size: u32) -> bool
     word::read(t, 92) as u64 == end
 }
 
-// The bytes of a level's records.
-fn table_bytes(count: u32, size: u32) -> u64
-    requires { ⌜ size ≤ 64 ⌝ }
-    ensures { λ r. ⌜ (r ≡ count * size) × (r ≤ 274877906944) ⌝ }
+// The bytes of so many records.
+pub fn table_bytes(count: u32, size: u32) -> u64
+    requires { ⌜ size ≤ 576 ⌝ }
+    ensures { λ r. ⌜ (r ≡ count * size) × (r ≤ 2473901162496) ⌝ }
 {
     count as u64 * size as u64
 }

@@ -1,7 +1,7 @@
 // The settings of a tree, with their bounds, each named once.
 ghost use mathlib.Core.Path.{_≡_};
 ghost use Prim.Native.Nat.{_+_, _*_, _^_, _-_, _≤_, _<_};
-ghost use Rattle.format.specs.Settings.{sizesOk, rising};
+ghost use Rattle.format.specs.Settings.{sizesOk, rising, recordLength};
 ghost use Rattle.layout.specs.Settings.{sizes, checked, Sized};
 
 // The settings that a tree is built with: of the counted bytes their number; the bytes themselves stay where they are lent.
@@ -35,6 +35,11 @@ impl Settings {
 
     pub const MAX_COUNTED: usize = 4;
 
+    // the layouts: without edges, and with them
+    pub const PLAIN: u32 = 1;
+
+    pub const EDGED: u32 = 2;
+
     // The settings, or the number of the question that refuses them: 2 for m, r and H, 3 for the counted bytes.
     pub fn new(leaf: u32, arity: u32, levels: u32, counted: &[u8]) -> Checked
         ensures { λ r. ⌜ r ≡ checked leaf arity levels (now (counted .entry)) ⌝ }
@@ -65,12 +70,16 @@ impl Settings {
         b as u32
     }
 
-    // The bytes of a record.
-    pub fn record_size(self) -> u32
-        requires { ⌜ self .counted ≤ 4 ⌝ }
-        ensures { λ r. ⌜ r ≡ 16 + 12 * self .counted ⌝ }
+    // The bytes of a record of a layout: 16, 12 for each counted byte, and in layout 2 two edges of m bytes.
+    pub fn record_size(self, layout: u32) -> u32
+        requires { ⌜ (self .leaf ≤ 256) × (self .counted ≤ 4) ⌝ }
+        ensures { λ r. ⌜ (r ≡ recordLength layout (self .leaf) (self .counted)) × (r ≤ 576) ⌝ }
     {
-        16 + 12 * self.counted
+        let words = 16 + 12 * self.counted;
+        if layout == Settings::EDGED {
+            return words + (self.leaf + self.leaf);
+        }
+        words
     }
 }
 

@@ -78,6 +78,7 @@ module _ (s : code.Settings) (cs T : List ℕ) (h : Taken (settingsOf s cs) T) w
   first-is = record {
     taken = h;
     number-in = limits₀ .levels-low;
+    leaf-is = refl;
     above-low = omega arith;
     above-is = λ k e. absurd (let z : ⊥ = omega arith in z);
     size-is = size-zero;
@@ -126,11 +127,11 @@ module _ (s : code.Settings) (cs T : List ℕ) (h : Taken (settingsOf s cs) T) (
   size-first : first .size ≡ blockLength S 0
   size-first = level-first .size-is ∙ ap (blockLength S) number-first
 
-  end-first : recordPlace (first .table) (first .count) cs ≡ offset S T 1
+  end-first : recordPlace (first .table) (first .count) (settingsOf (first .settings) cs) ≡ offset S T 1
   end-first =
       place-is S T first level-first (first .count) ∙ rw (number-first, count-first) (place-end S T 0)
 
-  module _ (out : List ℕ) (p : ℕ) (p-is : p ≡ recordPlace (first .table) (first .count) cs) where
+  module _ (out : List ℕ) (p : ℕ) (p-is : p ≡ recordPlace (first .table) (first .count) (settingsOf (first .settings) cs)) where
     pub no-first : length out < p → StepIs S T out s 0 Full
     no-first k = step-none S T out s 0 (omega (arith, p-is, end-first, table-inside S T h 0 (limits .levels-low)))
 
@@ -141,23 +142,23 @@ module _ (s : code.Settings) (cs T : List ℕ) (h : Taken (settingsOf s cs) T) (
       pub long-first : 100 ≤ length out
       long-first = omega (arith, room-first, offset-low S T 1)
 
-      module _ (one : List ℕ) (g : Grown D out one) (header : Within D one 0 28) where
+      module _ (one : List ℕ) (g : Grown D out one) (header : Within D one 0 28) (step : ℕ) (step-is : step ≡ recordBytes S) where
         room-one : offset S T 1 ≤ length one
         room-one = omega (arith, room-first, g .same-length)
 
-        pub starts-first : StartsAsk one 100 (16 + 12 * length cs) 0 (first .size) (first .count)
+        pub starts-first : StartsAsk one 100 step 0 (first .size) (first .count)
         starts-first = record {
-          room = rw (← record-size S T, count-first) (omega (arith, table-zero S T, place-end S T 0, room-one));
-          step-low = omega arith;
-          step-few = omega (arith, limits .counted-high);
+          room = rw (step-is, count-first) (omega (arith, table-zero S T, place-end S T 0, room-one));
+          step-low = omega (arith, step-is, record-size S T);
+          step-few = omega (arith, step-is, record-size S T, limits .counted-high, limits .leaf-high);
           at-few = omega arith;
           count-few = few-first .count-few;
           ends = rw (count-first, size-first, count-top S T h) (omega (arith, pieces-most (length T) (blockLength S 0), limits .text-high, size-high S T h 0));
         }
 
-        module _ (two : List ℕ) (two-is : two ≡ startsWritten one 100 (16 + 12 * length cs) 0 (first .size) (first .count)) where
+        module _ (two : List ℕ) (two-is : two ≡ startsWritten one 100 step 0 (first .size) (first .count)) where
           two-right : two ≡ startsWritten one 100 (recordBytes S) 0 (blockLength S 0) (count S T 0)
-          two-right = two-is ∙ rw (record-size S T, size-first, count-first)
+          two-right = two-is ∙ rw (step-is, size-first, count-first)
 
           at-place : (j : ℕ) → 100 + j * recordBytes S ≡ placeAt S T 0 j
           at-place j = omega (arith, table-zero S T)

@@ -18,8 +18,7 @@ use Rattle.records.specs.Growing.{Grown, Within}
 use Rattle.records.specs.Records.{putThree}
 use Rattle.stretches.specs.Stretches.{bytesWritten}
 use Rattle.levels.specs.Head.{places, pairWritten, unusedWritten}
-use Rattle.records.proofs.Growth.{grown-none, grown-then, within-grown, within-part, within-join, within-none, word-grown, word-within, three-grown, three-within}
-use Rattle.levels.proofs.Leafs.{bytes-grown, bytes-within}
+use Rattle.records.proofs.Growth.{bytes-grown, bytes-within, grown-none, grown-then, within-grown, within-part, within-join, within-none, word-grown, word-within, three-grown, three-within}
 use Rattle.records.proofs.StateLaws.{offset-low}
 
 -- Places for counted bytes.
@@ -70,15 +69,15 @@ module _ (S : Settings) (T : List ℕ) (h : Taken S T) where
   long = omega (arith, tree-length S T h, offset-low S T (S .levels))
 
   -- the header up to the levels' words
-  module _ (t u v w : List ℕ) (fits : 100 ≤ length t) (u-is : u ≡ putThree t 0 1 (length T) (S .leaf))
+  module _ (t u v w : List ℕ) (fits : 100 ≤ length t) (u-is : u ≡ putThree t 0 2 (length T) (S .leaf))
       (v-is : v ≡ putThree u 12 (S .arity) (S .levels) (length (S .counted))) (w-is : w ≡ bytesWritten v 24 (places (S .counted)) 0 4) where
     g1 : Grown D t u
     unfolding sixWords
-    g1 = rw u-is (three-grown D t 0 1 (length T) (S .leaf) (omega arith) (omega (arith, long)) (six-stands S T h 0 (omega arith)) (six-stands S T h 1 (omega arith)) (six-stands S T h 2 (omega arith)))
+    g1 = rw u-is (three-grown D t 0 2 (length T) (S .leaf) (omega arith) (omega (arith, long)) (six-stands S T h 0 (omega arith)) (six-stands S T h 1 (omega arith)) (six-stands S T h 2 (omega arith)))
 
     w1 : Within D u 0 12
     unfolding sixWords
-    w1 = rw u-is (three-within D t 0 1 (length T) (S .leaf) (omega arith) (omega (arith, long)) (six-stands S T h 0 (omega arith)) (six-stands S T h 1 (omega arith)) (six-stands S T h 2 (omega arith)))
+    w1 = rw u-is (three-within D t 0 2 (length T) (S .leaf) (omega arith) (omega (arith, long)) (six-stands S T h 0 (omega arith)) (six-stands S T h 1 (omega arith)) (six-stands S T h 2 (omega arith)))
 
     fits-u : 100 ≤ length u
     fits-u = omega (arith, g1 .same-length)

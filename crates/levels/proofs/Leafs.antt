@@ -1,14 +1,11 @@
 -- Leaf bytes, block by block.
 use mathlib.Core.List.{List}
 use mathlib.Core.Path.{_≡_, sym, ap, _∙_}
-use mathlib.Core.Logic.{_⊎_, inl, inr}
-use Prim.Native.Nat.{ℕ, zero, suc, _+_, _-_, _≤_, _<_}
+use Prim.Native.Nat.{ℕ, suc, _+_, _≤_, _<_}
 use native.Mathlib.Omega.{arith}
-use native.Mathlib.Decide.{ℕ-discrete}
-use lib.ListN.{length, getD, set, length-set}
-use lib.Seq.{getD-set-same, getD-set-other}
+use lib.ListN.{length, getD}
 use Rattle.text.specs.Lists.{sumBelow}
-use Rattle.text.specs.ListLaws.{below-suc, sumBelow-suc, sumBelow-part}
+use Rattle.text.specs.ListLaws.{sumBelow-suc, sumBelow-part}
 use Rattle.format.specs.Settings.{Settings}
 use Rattle.format.specs.Blocks.{treeOf}
 use Rattle.built.specs.Sizes.{Taken, maxTree}
@@ -23,50 +20,9 @@ use Rattle.records.specs.declared.level.Stretch.{Stretch}
 use Rattle.records.specs.Growing.{Grown, Within}
 use Rattle.levels.specs.Leaves.{Leafing}
 use Rattle.records.specs.State.{On, StretchIs}
-use Rattle.records.proofs.Growth.{grown-none, grown-then, within-grown, within-part, within-join}
+use Rattle.records.proofs.Growth.{within-grown, within-part, within-join, bytes-grown, bytes-within}
 use Rattle.records.proofs.Reading.{on-written}
 use Rattle.records.proofs.StateLaws.{table-inside}
-
-module _ (D t : List ℕ) (i v : ℕ) (fits : i < length t) (inside : i < length D) (is : getD D i 0 ≡ v) where
-  byte-right : getD (set t i v) i 0 ≡ getD D i 0
-  byte-right = getD-set-same t i v 0 fits ∙ sym is
-
-  byte-grown : Grown D t (set t i v)
-  byte-grown = record {
-    same-length = length-set t i v;
-    keeps = λ k e. keep k e (ℕ-discrete k i);
-    past = λ k l. getD-set-other t i k v 0 (λ e. omega arith);
-  }
-    where
-      keep : (k : ℕ) → getD t k 0 ≡ getD D k 0 → Dec (k ≡ i) → getD (set t i v) k 0 ≡ getD D k 0
-      keep k e (yes y) = rw y byte-right
-      keep k e (no n) = getD-set-other t i k v 0 n ∙ e
-
-module _ (D t T : List ℕ) (to from n : ℕ) (fits : to + n ≤ length t) (inside : to + n ≤ length D) (is : (j : ℕ) → j < n → getD D (to + j) 0 ≡ getD T (from + j) 0) where
-  pub bytes-grown : (j : ℕ) → j ≤ n → Grown D t (bytesWritten t to T from j)
-  bytes-grown zero l = grown-none D t
-  bytes-grown (suc j) l =
-      let g = bytes-grown j (omega arith) in
-      grown-then D t (bytesWritten t to T from j) (bytesWritten t to T from (suc j)) g
-      (byte-grown D (bytesWritten t to T from j) (to + j) (getD T (from + j) 0) (omega (arith, g .same-length)) (omega arith) (is j (omega arith)))
-
-  bytes-right : (j : ℕ) → j ≤ n → (x : ℕ) → x < j → getD (bytesWritten t to T from j) (to + x) 0 ≡ getD D (to + x) 0
-  bytes-right zero l x k = absurd (let z : ⊥ = omega arith in z)
-  bytes-right (suc j) l x k = go (below-suc x j k) (bytes-right j (omega arith) x)
-    where
-      go : (x < j) ⊎ (x ≡ j) → (x < j → getD (bytesWritten t to T from j) (to + x) 0 ≡ getD D (to + x) 0)
-          → getD (bytesWritten t to T from (suc j)) (to + x) 0 ≡ getD D (to + x) 0
-      go (inl y) r = getD-set-other (bytesWritten t to T from j) (to + j) (to + x) (getD T (from + j) 0) 0 (λ e. omega arith) ∙ r y
-      go (inr y) r =
-          let g = bytes-grown j (omega arith) in
-          rw y (byte-right D (bytesWritten t to T from j) (to + j) (getD T (from + j) 0) (omega (arith, g .same-length)) (omega arith) (is j (omega arith)))
-
-  pub bytes-within : Within D (bytesWritten t to T from n) to (to + n)
-  bytes-within = record {
-    right = λ k l m.
-        let e : to + (k - to) ≡ k = omega arith in
-        rw e at (bytes-right n (omega arith) (k - to) (omega arith));
-  }
 
 module _ (S : Settings) (T out : List ℕ) (level : Level) (to i : ℕ) (w : Leafing S T out level to i) where
   abbrev l : ℕ

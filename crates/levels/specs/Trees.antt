@@ -15,7 +15,7 @@ use Rattle.levels.specs.declared.step.Step.{Step}
 use Rattle.levels.specs.declared.step.Step.the-variants.{To, Full}
 use Rattle.records.specs.Growing.{Within}
 use Rattle.records.specs.Levels.{recordPlace}
-use Rattle.records.specs.State.{LevelIs, Filled}
+use Rattle.records.specs.State.{settingsOf, LevelIs, Filled}
 
 -- level 0 of a text of n bytes
 abbrev pub firstOf : code.Settings → ℕ → Level
@@ -38,7 +38,7 @@ nextOf level count cs = record {
   size = level .below;
   below = level .below / level .settings .arity;
   count = count;
-  table = recordPlace (level .table) (level .count) cs;
+  table = recordPlace (level .table) (level .count) (settingsOf (level .settings) cs);
 }
 
 module _ (S : Settings) (T : List ℕ) where

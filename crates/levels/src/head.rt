@@ -41,7 +41,7 @@ pub fn put_head(out: &mut [u8], text: &[u8], counted: &[u8], s: Settings)
     ensures { λ _. ⌜ Grown (treeOf (settingsOf s (now (counted .entry))) (now (text .entry))) (now (out .entry)) (now (out .exit)) ⌝ }
     ensures { λ _. ⌜ Within (treeOf (settingsOf s (now (counted .entry))) (now (text .entry))) (now (out .exit)) 0 28 ⌝ }
 {
-    record::put_three(out, 0, 1, text.len() as u32, s.leaf);
+    record::put_three(out, 0, Settings::EDGED, text.len() as u32, s.leaf);
     record::put_three(out, 12, s.arity, s.levels, counted.len() as u32);
     put_counted(out, counted);
 }

@@ -24,8 +24,8 @@ pieces-one x = let e : x + (1 - 1) ≡ x = omega arith in rw e (div-one x)
 
 module _ (t : List ℕ) (v : Level) (k : LevelOf t v) where
   -- a field of a record of the level
-  pub there : (i f : ℕ) → i < v .count → f < 4 → FieldIn t (v .counted) (v .number) i f
-  there i f h g = field-in t (k .readable) (v .counted) (v .number) i f (k .counted-is) (k .level-in) (omega (arith, k .count-is)) (omega arith)
+  pub there : (i f : ℕ) → i < v .count → f < 4 → FieldIn t (v .size) (v .number) i f
+  there i f h g = field-in t (k .readable) (v .size) (v .number) i f (k .size-is) (k .level-in) (omega (arith, k .count-is)) (omega arith)
 
   -- above the last level
   module _ (n : v .number ≡ v .last → ⊥) where
@@ -44,8 +44,8 @@ module _ (t : List ℕ) (v : Level) (k : LevelOf t v) where
     unfolding lastLevel
     above = let m : v .number ≢ v .last = n in omega (arith, k .last-is, k .level-in)
 
-    pub child-there : (i : ℕ) → i < v .room → FieldIn t (v .counted) (v .number + 1) i 0
-    child-there i h = field-in t (k .readable) (v .counted) (v .number + 1) i 0 (k .counted-is) above (omega (arith, room-above)) (omega arith)
+    pub child-there : (i : ℕ) → i < v .room → FieldIn t (v .size) (v .number + 1) i 0
+    child-there i h = field-in t (k .readable) (v .size) (v .number + 1) i 0 (k .size-is) above (omega (arith, room-above)) (omega arith)
 
   -- the sizes that a block is cut by
   pub full-high : v .full ≤ maxText

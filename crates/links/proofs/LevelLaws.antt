@@ -16,8 +16,8 @@ module _ (t : List ℕ) (h : Header) (k : HeaderOf t h) where
   pub levels-is : h .settings .levels ≡ at.settings t .levels
   levels-is = k .levels-is
 
-  pub counted-is : h .settings .counted ≡ at.countedCount t
-  counted-is = k .counted-is
+  pub size-is : h .«record_size» ≡ at.recordSize t
+  size-is = k .size-is
 
   pub length-is : h .length ≡ at.textLength t
   length-is = k .length-is

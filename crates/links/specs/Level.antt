@@ -22,7 +22,7 @@ roomBelow t l = cond (eqb l (lastLevel t)) (at.leafCount t) (at.levelCount t (l 
 pub record LevelOf (t : List ℕ) (v : Level) : Type 0 where
   pub readable : Readable t
   pub level-in : v .number < at.settings t .levels
-  pub counted-is : v .counted ≡ at.countedCount t
+  pub size-is : v .size ≡ at.recordSize t
   pub length-is : v .length ≡ at.textLength t
   pub last-is : v .last ≡ lastLevel t
   pub count-is : v .count ≡ at.levelCount t (v .number)

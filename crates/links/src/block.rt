@@ -30,11 +30,11 @@ pub fn width(t: &[u8], v: Level, block: BlockNumber) -> u32
     requires { ⌜ LevelOf (now t) v × (block .0 < v .count) ⌝ }
     ensures { λ r. ⌜ r ≡ widthAt (now (t .entry)) (v .number) (block .0) ⌝ }
 {
-    let kind = record::kind(t, v.counted, v.number, block);
+    let kind = record::kind(t, v.size, v.number, block);
     if kind != 0 {
         return 0;
     }
-    let start = record::start(t, v.counted, v.number, block);
+    let start = record::start(t, v.size, v.number, block);
     header::pieces(block_length(v, start), v.part)
 }
 
@@ -44,7 +44,7 @@ pub fn block_right(t: &[u8], v: Level, block: BlockNumber, before: u32, width: u
         × (width ≡ widthAt (now t) (v .number) (block .0)) × (before + width ≤ v .room) ⌝ }
     ensures { λ r. ⌜ r ≡ blockRight (now (t .entry)) (v .number) (block .0) ⌝ }
 {
-    let kind = record::kind(t, v.counted, v.number, block);
+    let kind = record::kind(t, v.size, v.number, block);
     if kind == 0 {
         return kept_right(t, v, block, before, width);
     }
@@ -57,18 +57,18 @@ fn kept_right(t: &[u8], v: Level, block: BlockNumber, before: u32, width: u32) -
         × (width ≡ widthAt (now t) (v .number) (block .0)) × (before + width ≤ v .room) ⌝ }
     ensures { λ r. ⌜ r ≡ keptRight (now (t .entry)) (v .number) (block .0) ⌝ }
 {
-    let link = record::link(t, v.counted, v.number, block);
+    let link = record::link(t, v.size, v.number, block);
     if link != before {
         return false;
     }
-    let gap = record::gap(t, v.counted, v.number, block);
+    let gap = record::gap(t, v.size, v.number, block);
     if gap.0 != 0 {
         return false;
     }
     if v.number == v.last {
         return true;
     }
-    let start = record::start(t, v.counted, v.number, block);
+    let start = record::start(t, v.size, v.number, block);
     children_right(t, v, start, link, width)
 }
 
@@ -79,7 +79,7 @@ fn children_right(t: &[u8], v: Level, start: TextPlace, link: u32, width: u32) -
 {
     let mut j: u32 = 0;
     while j < width {
-        let child = record::start(t, v.counted, v.number + 1, BlockNumber(link + j));
+        let child = record::start(t, v.size, v.number + 1, BlockNumber(link + j));
         if child.0 as u64 != start.0 as u64 + j as u64 * v.part as u64 {
             return false;
         }
@@ -93,19 +93,19 @@ fn pointing_right(t: &[u8], v: Level, block: BlockNumber) -> bool
     requires { ⌜ LevelOf (now t) v × (block .0 < v .count) ⌝ }
     ensures { λ r. ⌜ r ≡ pointingRight (now (t .entry)) (v .number) (block .0) ⌝ }
 {
-    let kind = record::kind(t, v.counted, v.number, block);
+    let kind = record::kind(t, v.size, v.number, block);
     if kind != 1 {
         return false;
     }
     if v.number == v.last {
         return false;
     }
-    let gap = record::gap(t, v.counted, v.number, block);
+    let gap = record::gap(t, v.size, v.number, block);
     if v.full <= gap.0 {
         return false;
     }
-    let target = BlockNumber(record::link(t, v.counted, v.number, block));
-    let start = record::start(t, v.counted, v.number, block);
+    let target = BlockNumber(record::link(t, v.size, v.number, block));
+    let start = record::start(t, v.size, v.number, block);
     let length = block_length(v, start);
     if !target_right(t, v, target, gap, length, start) {
         return false;
@@ -131,11 +131,11 @@ fn target_right(
     if v.count <= target.0 {
         return false;
     }
-    let target_kind = record::kind(t, v.counted, v.number, target);
+    let target_kind = record::kind(t, v.size, v.number, target);
     if target_kind != 0 {
         return false;
     }
-    let from = record::start(t, v.counted, v.number, target);
+    let from = record::start(t, v.size, v.number, target);
     from.0 as u64 + gap.0 as u64 + length as u64 <= start.0 as u64
 }
 
@@ -148,11 +148,11 @@ fn next_right(t: &[u8], v: Level, target: BlockNumber) -> bool
     if v.count <= next.0 {
         return false;
     }
-    let next_kind = record::kind(t, v.counted, v.number, next);
+    let next_kind = record::kind(t, v.size, v.number, next);
     if next_kind != 0 {
         return false;
     }
-    let from = record::start(t, v.counted, v.number, target);
-    let to = record::start(t, v.counted, v.number, next);
+    let from = record::start(t, v.size, v.number, target);
+    let to = record::start(t, v.size, v.number, next);
     to.0 as u64 == from.0 as u64 + v.full as u64
 }

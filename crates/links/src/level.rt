@@ -11,8 +11,8 @@ pub struct Level {
     pub number: u32,
     // the number of the last level
     pub last: u32,
-    // k, how many bytes are counted
-    pub counted: u32,
+    // the bytes of a record
+    pub size: u32,
     // n, the bytes of the text
     pub length: u32,
     // how many blocks the level has
@@ -33,7 +33,7 @@ pub fn level_of(t: &[u8], h: Header, number: u32) -> Level
     Level {
         number,
         last: h.settings.levels - 1,
-        counted: h.settings.counted,
+        size: h.record_size,
         length: h.length,
         count: record::level_count(t, number),
         full: h.settings.block_length(number),

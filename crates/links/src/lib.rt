@@ -38,7 +38,7 @@ fn starts_right(t: &[u8], v: Level) -> bool
 {
     let mut i: u32 = 0;
     while i < v.count {
-        let start = record::start(t, v.counted, 0, BlockNumber(i));
+        let start = record::start(t, v.size, 0, BlockNumber(i));
         if start.0 as u64 != i as u64 * v.full as u64 {
             return false;
         }

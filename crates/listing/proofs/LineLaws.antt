@@ -9,12 +9,13 @@ use borrow.Author.Tests.{eq-eqb, ne-eqb, le-leb, lt-leb}
 use lib.ListN.{length}
 use lib.Dec.{eqb}
 use Rattle.text.specs.Lists.{countBelow}
-use Rattle.format.specs.Words.{wordAt}
 use Rattle.format.specs.Layout as at
 use Rattle.format.specs.HeaderLaws.{Readable, readable-facts}
 use Rattle.format.specs.Verdict.{verdict}
 use Rattle.format.specs.VerdictLaws.{accepted-readable}
 use Rattle.layout.specs.Record.{FieldIn, field-in}
+use Rattle.layout.specs.Header.{fieldsOf}
+use Rattle.layout.specs.declared.header.Header.{Header}
 use Rattle.listing.specs.Written.{Put}
 use Rattle.listing.specs.Lines.{figure, line, hasKind, levelLine, linesBelow, refusedLine, linesOf, listLines, listed}
 use Rattle.listing.specs.Tables.{Level}
@@ -41,12 +42,12 @@ pub count-more : (t : List ℕ) (l k i found kind one : ℕ) → found ≡ count
 unfolding countBelow
 count-more t l k i found kind one e q w = rw (add-one, e, w, q) (sym (more (hasKind t l k i) (countBelow i (hasKind t l k))))
 
-module _ (t : List ℕ) (counted l : ℕ) (k : Level t counted l) where
+module _ (t : List ℕ) (size l : ℕ) (k : Level t size l) where
   pub table-there : (l < 8) × (100 ≤ length t)
   table-there = (omega (arith, k .level-in, k .readable .levels-high), k .readable .long)
 
-  pub kind-there : (i : ℕ) → i < at.levelCount t l → FieldIn t counted l i 1
-  kind-there i h = field-in t (k .readable) counted l i 1 (k .counted-is) (k .level-in) h (omega arith)
+  pub kind-there : (i : ℕ) → i < at.levelCount t l → FieldIn t size l i 1
+  kind-there i h = field-in t (k .readable) size l i 1 (k .size-is) (k .level-in) h (omega arith)
 
 -- The lines.
 
@@ -76,17 +77,19 @@ module _ (t : List ℕ) where
   unfolding linesBelow
   lines-more l h p q = rw add-one (put-within (44 * suc l) (omega arith) (then-put (omega arith) p q))
 
-  module _ (k : Readable t) (count counted : ℕ) (count-is : count ≡ wordAt t 16) (counted-is : counted ≡ wordAt t 20) where
+  module _ (k : Readable t) (h : Header) (h-is : h ≡ fieldsOf t) where
+    abbrev count : ℕ
+    count = h .settings .levels
+
     levels-are : count ≡ at.settings t .levels
     unfolding at.settings
-    levels-are = count-is
+    levels-are = ap (λ (x : Header). x .settings .levels) h-is
 
     pub levels-few : count ≤ 8
     levels-few = omega (arith, levels-are, k .levels-high)
 
-    pub level-there : (l : ℕ) → l < count → Level t counted l
-    unfolding at.countedCount
-    level-there l h = record { readable = k; counted-is = counted-is; level-in = omega (arith, levels-are) }
+    pub level-there : (l : ℕ) → l < count → Level t (h .«record_size») l
+    level-there l low = record { readable = k; size-is = ap (λ (x : Header). x .«record_size») h-is; level-in = omega (arith, levels-are) }
 
     pub lines-done : {d e : List ℕ} {end : ℕ} (l : ℕ) → l ≤ count → count ≤ l → Put d e 0 end (linesBelow t l) (44 * l) → Put d e 0 end (linesBelow t (at.settings t .levels)) 352
     lines-done l a b p = let q : l ≡ at.settings t .levels = omega (arith, levels-are) in put-within 352 (omega (arith, levels-few)) (rw q at p)

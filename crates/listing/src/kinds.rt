@@ -11,15 +11,15 @@ ghost use Rattle.listing.specs.Lines.{hasKind};
 ghost use Rattle.listing.specs.Tables.{Level};
 
 // How many blocks of a level have the given kind.
-pub fn count_of(t: &[u8], counted: u32, level: u32, kind: u32) -> u32
-    requires { ⌜ Level (now t) counted level ⌝ }
+pub fn count_of(t: &[u8], size: u32, level: u32, kind: u32) -> u32
+    requires { ⌜ Level (now t) size level ⌝ }
     ensures { λ r. ⌜ r ≡ countBelow (at.levelCount (now (t .entry)) level) (hasKind (now (t .entry)) level kind) ⌝ }
 {
     let count = record::level_count(t, level);
     let mut found: u32 = 0;
     let mut i: u32 = 0;
     while i < count {
-        found += one_if_same(record::kind(t, counted, level, BlockNumber(i)), kind);
+        found += one_if_same(record::kind(t, size, level, BlockNumber(i)), kind);
         i += 1;
     }
     found

@@ -2,8 +2,8 @@
 mod kinds;
 mod put;
 
+use layout::header;
 use layout::record;
-use layout::word;
 ghost use mathlib.Core.Path.{_≡_};
 ghost use Prim.Native.Nat.{_+_, _≤_};
 ghost use lib.ListN.{length};
@@ -40,25 +40,26 @@ fn levels(t: &[u8], out: &mut [u8]) -> usize
     requires { ⌜ Readable (now t) × (512 ≤ length (now out)) ⌝ }
     ensures { λ r. ⌜ Put (now (out .entry)) (now (out .exit)) 0 r (linesBelow (now (t .entry)) (at.settings (now (t .entry)) .levels)) 352 ⌝ }
 {
-    let count = word::read(t, 16);
-    let counted = word::read(t, 20);
+    let h = header::fields(t);
+    let count = h.settings.levels;
+    let size = h.record_size;
     let mut end: usize = 0;
     let mut l: u32 = 0;
     while l < count {
-        end = level_line(t, counted, l, out, end);
+        end = level_line(t, size, l, out, end);
         l += 1;
     }
     end
 }
 
 // Puts the line of a level: its number, how many blocks it has, how many are kept, how many point.
-fn level_line(t: &[u8], counted: u32, level: u32, out: &mut [u8], at: usize) -> usize
-    requires { ⌜ Level (now t) counted level × (at + 44 ≤ length (now out)) ⌝ }
+fn level_line(t: &[u8], size: u32, level: u32, out: &mut [u8], at: usize) -> usize
+    requires { ⌜ Level (now t) size level × (at + 44 ≤ length (now out)) ⌝ }
     ensures { λ r. ⌜ Put (now (out .entry)) (now (out .exit)) at r (levelLine (now (t .entry)) level) 44 ⌝ }
 {
     let blocks = record::level_count(t, level);
-    let kept = kinds::count_of(t, counted, level, 0);
-    let pointing = kinds::count_of(t, counted, level, 1);
+    let kept = kinds::count_of(t, size, level, 0);
+    let pointing = kinds::count_of(t, size, level, 1);
     four(out, at, level, blocks, kept, pointing)
 }
 

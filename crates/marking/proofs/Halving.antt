@@ -5,18 +5,19 @@ use mathlib.Core.Logic.{_⊎_, inl, inr}
 use Prim.Native.Nat.{ℕ, _+_, _-_, _/_, _≤_, _<_}
 use native.Mathlib.Omega.{arith}
 use Rattle.text.specs.ListLaws.{lt-or-ge}
+use Rattle.format.specs.Settings.{Settings}
 use Rattle.marking.specs.Targets.{Sorted, Between, startIn}
 
-module _ (out : List ℕ) (table count : ℕ) (cs : List ℕ) (sorted : Sorted out table count cs) (p low high middle s : ℕ)
-    (b : Between out table count cs p low high) (l : low < middle) (h : middle < high) (is : s ≡ startIn out table count cs middle) where
-  pub lower-half : p < s → Between out table count cs p low middle
+module _ (out : List ℕ) (table count : ℕ) (S : Settings) (sorted : Sorted out table count S) (p low high middle s : ℕ)
+    (b : Between out table count S p low high) (l : low < middle) (h : middle < high) (is : s ≡ startIn out table count S middle) where
+  pub lower-half : p < s → Between out table count S p low middle
   lower-half q = record { some-left = l; within = omega (arith, b .within); from = b .from; after = λ j a k. go j k a (lt-or-ge middle j) }
     where
-      go : (j : ℕ) → j < count → middle ≤ j → (middle < j) ⊎ (j ≤ middle) → p < startIn out table count cs j
+      go : (j : ℕ) → j < count → middle ≤ j → (middle < j) ⊎ (j ≤ middle) → p < startIn out table count S j
       go j k a (inl z) = omega (arith, sorted .rises middle j z k, is)
       go j k a (inr z) = let e : j ≡ middle = omega arith in rw e (omega (arith, is))
 
-  pub upper-half : s ≤ p → Between out table count cs p middle high
+  pub upper-half : s ≤ p → Between out table count S p middle high
   upper-half q = record { some-left = h; within = b .within; from = omega (arith, is); after = b .after }
 
 -- the middle lies between
@@ -24,6 +25,6 @@ pub middle-in : (low high : ℕ) → low + 1 < high → (low < low + (high - low
 middle-in low high k = (omega arith, omega arith)
 
 -- a range of one block
-pub one-left : (out : List ℕ) (table count : ℕ) (cs : List ℕ) (p low high : ℕ) → Between out table count cs p low high → high ≤ low + 1
-    → Between out table count cs p low (low + 1)
-one-left out table count cs p low high b k = let e : high ≡ low + 1 = omega (arith, b .some-left) in rw e at b
+pub one-left : (out : List ℕ) (table count : ℕ) (S : Settings) (p low high : ℕ) → Between out table count S p low high → high ≤ low + 1
+    → Between out table count S p low (low + 1)
+one-left out table count S p low high b k = let e : high ≡ low + 1 = omega (arith, b .some-left) in rw e at b

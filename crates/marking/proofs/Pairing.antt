@@ -20,7 +20,7 @@ use Rattle.marking.specs.declared.pair.Pair.{Pair}
 use Rattle.marking.specs.declared.pair.Pair.the-variants.{Apart, First, Again}
 use Rattle.records.specs.Levels.{recordPlace}
 use Rattle.marking.specs.Marking.{keptBy, pairSays, pairBy, pairOf, pairBefore}
-use Rattle.records.specs.State.{On}
+use Rattle.records.specs.State.{settingsOf, On}
 use Rattle.records.proofs.Reading.{start-read}
 
 module _ (T : List ℕ) (s len : ℕ) (fits : s + len ≤ length T) (r : Bool) (r-is : r ≡ earlierSays T s len) where
@@ -69,8 +69,8 @@ module _ (S : Settings) (T out : List ℕ) (level : Level) (i : ℕ) (w : On S T
   pub apart-end : i + 1 ≡ level .count → Apart ≡ pairOf S T l i
   apart-end e = not-pair (no-next (le-ltb (suc i) (count S T l) (omega (arith, w .level-is .count-is))))
 
-  module _ (s next : ℕ) (s-is : s ≡ wordAt out (recordPlace (level .table) i (S .counted))) (more : i + 1 ≡ level .count → ⊥)
-      (next-is : next ≡ wordAt out (recordPlace (level .table) (i + 1) (S .counted))) where
+  module _ (s next : ℕ) (s-is : s ≡ wordAt out (recordPlace (level .table) i (settingsOf (level .settings) (S .counted)))) (more : i + 1 ≡ level .count → ⊥)
+      (next-is : next ≡ wordAt out (recordPlace (level .table) (i + 1) (settingsOf (level .settings) (S .counted)))) where
     i-next : i + 1 < level .count
     i-next = omega (arith, w .block-in, more)
 

@@ -21,7 +21,7 @@ use Rattle.built.specs.Targets.{placeOf, targetOf, PointsTo, points-to}
 use Rattle.records.specs.declared.level.Level.{Level}
 use Rattle.records.specs.declared.level.Stretch.{Stretch}
 use Rattle.records.specs.Levels.{recordPlace}
-use Rattle.records.specs.State.{On, StretchIs, BlockIs}
+use Rattle.records.specs.State.{settingsOf, On, StretchIs, BlockIs}
 use Rattle.marking.specs.Targets.{parentSays, Sorted, Between}
 use Rattle.records.proofs.Reading.{start-fits, start-read}
 use Rattle.records.proofs.StateLaws.{few}
@@ -43,12 +43,13 @@ module _ (S : Settings) (T out : List ℕ) (level : Level) (i : ℕ) (w : On S T
   order : InOrder (length T) (size S T l) (count S T l) (start S T l)
   order = level-at S T taken l l-in
 
-  pub sorted : Sorted out (level .table) (level .count) (S .counted)
+  pub sorted : Sorted out (level .table) (level .count) (settingsOf (level .settings) (S .counted))
   sorted =
       let f = few S T level (w .level-is) in
       record {
         counted-few = f .counted-few;
         table-few = f .table-few;
+        leaf-few = f .leaf-few;
         count-few = f .count-few;
         fits = λ x xl. start-fits S T out level i w x xl;
         rises = λ x y xy yl. omega (
@@ -89,7 +90,7 @@ module _ (S : Settings) (T out : List ℕ) (level : Level) (i : ℕ) (w : On S T
     to : PointsTo S T l i (targetOf S T l i)
     to = points-to S T taken l i (points-above S T l i l-in points) i-in points
 
-    pub whole-range : Between out (level .table) (level .count) (S .counted) p 0 (level .count)
+    pub whole-range : Between out (level .table) (level .count) (settingsOf (level .settings) (S .counted)) p 0 (level .count)
     whole-range =
         let first : start S T l 0 ≤ start S T l (targetOf S T l i) = start-le (length T) (size S T l) (count S T l) (start S T l) order 0 (targetOf S T l i) (omega arith) (to .below) in
         record {
@@ -99,7 +100,7 @@ module _ (S : Settings) (T out : List ℕ) (level : Level) (i : ℕ) (w : On S T
           after = λ j a k. absurd (let z : ⊥ = omega arith in z);
         }
 
-    module _ (r : ℕ) (b : Between out (level .table) (level .count) (S .counted) p r (r + 1)) where
+    module _ (r : ℕ) (b : Between out (level .table) (level .count) (settingsOf (level .settings) (S .counted)) p r (r + 1)) where
       r-in : r < level .count
       r-in = omega (arith, b .within)
 
@@ -129,10 +130,10 @@ module _ (S : Settings) (T out : List ℕ) (level : Level) (i : ℕ) (w : On S T
         countBelow-upto (count S T l) (suc r) (λ j. leb (start S T l j) (placeOf S T l i)) at-or-before after-it,
       )
 
-      pub target-fits : recordPlace (level .table) r (S .counted) + 4 ≤ length out
+      pub target-fits : recordPlace (level .table) r (settingsOf (level .settings) (S .counted)) + 4 ≤ length out
       target-fits = start-fits S T out level i w r r-in
 
-      module _ (from : ℕ) (from-is : from ≡ wordAt out (recordPlace (level .table) r (S .counted))) where
+      module _ (from : ℕ) (from-is : from ≡ wordAt out (recordPlace (level .table) r (settingsOf (level .settings) (S .counted)))) where
         from-right : from ≡ start S T l (targetOf S T l i)
         from-right = from-is ∙ start-read S T out level i w r r-in ∙ ap (start S T l) r-right
 

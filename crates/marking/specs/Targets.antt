@@ -5,7 +5,7 @@ use Prim.Native.Nat.{ℕ, _+_, _*_, _/_, _≤_, _<_}
 use lib.Dec.{eqb}
 use lib.ListN.{length}
 use Rattle.built.specs.Sizes.{maxTable}
-use Rattle.format.specs.Settings.{maxText}
+use Rattle.format.specs.Settings.{Settings, maxText}
 use Rattle.format.specs.Words.{wordAt}
 use Rattle.records.specs.Levels.{recordPlace}
 
@@ -13,17 +13,18 @@ use Rattle.records.specs.Levels.{recordPlace}
 abbrev pub parentSays : ℕ → ℕ → ℕ → ℕ
 parentSays number above s = cond (eqb number 0) 0 (s / above * above)
 
-module _ (out : List ℕ) (table count : ℕ) (cs : List ℕ) where
+module _ (out : List ℕ) (table count : ℕ) (S : Settings) where
   -- the start that the record of block i holds
   abbrev pub startIn : ℕ → ℕ
-  startIn i = wordAt out (recordPlace table i cs)
+  startIn i = wordAt out (recordPlace table i S)
 
   -- the records of the level are there, and their starts rise
   pub record Sorted : Type 0 where
-    pub counted-few : length cs ≤ 4
+    pub counted-few : length (S .counted) ≤ 4
     pub table-few : table ≤ maxTable
+    pub leaf-few : S .leaf ≤ 256
     pub count-few : count ≤ maxText
-    pub fits : (i : ℕ) → i < count → recordPlace table i cs + 4 ≤ length out
+    pub fits : (i : ℕ) → i < count → recordPlace table i S + 4 ≤ length out
     pub rises : (i j : ℕ) → i < j → j < count → startIn i < startIn j
 
   -- block `low` starts at p or before it, block `high` and those after it start after p

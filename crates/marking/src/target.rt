@@ -32,10 +32,10 @@ fn parent(level: Level, start: TextPlace) -> TextPlace
 
 // One step of the search for the last block that starts at a place or before it.
 fn narrow(counted: &[u8], out: &[u8], level: Level, place: TextPlace, range: Range) -> Range
-    requires { ⌜ Sorted (now out) (level .table) (level .count) (now counted) ⌝ }
-    requires { ⌜ Between (now out) (level .table) (level .count) (now counted) (place .0) (range .low) (range .high) ⌝ }
+    requires { ⌜ Sorted (now out) (level .table) (level .count) (settingsOf (level .settings) (now counted)) ⌝ }
+    requires { ⌜ Between (now out) (level .table) (level .count) (settingsOf (level .settings) (now counted)) (place .0) (range .low) (range .high) ⌝ }
     requires { ⌜ range .low + 1 < range .high ⌝ }
-    ensures { λ r. ⌜ Between (now (out .entry)) (level .table) (level .count) (now (counted .entry)) (place .0) (r .low) (r .high) ⌝ }
+    ensures { λ r. ⌜ Between (now (out .entry)) (level .table) (level .count) (settingsOf (level .settings) (now (counted .entry))) (place .0) (r .low) (r .high) ⌝ }
     ensures { λ r. ⌜ r .high - r .low < range .high - range .low ⌝ }
 {
     let middle = range.low + (range.high - range.low) / 2;
@@ -54,9 +54,9 @@ fn narrow(counted: &[u8], out: &[u8], level: Level, place: TextPlace, range: Ran
 
 // The last block that starts at a place or before it.
 fn holder(counted: &[u8], out: &[u8], level: Level, place: TextPlace) -> BlockNumber
-    requires { ⌜ Sorted (now out) (level .table) (level .count) (now counted) ⌝ }
-    requires { ⌜ Between (now out) (level .table) (level .count) (now counted) (place .0) 0 (level .count) ⌝ }
-    ensures { λ r. ⌜ Between (now (out .entry)) (level .table) (level .count) (now (counted .entry)) (place .0) (r .0) (r .0 + 1) ⌝ }
+    requires { ⌜ Sorted (now out) (level .table) (level .count) (settingsOf (level .settings) (now counted)) ⌝ }
+    requires { ⌜ Between (now out) (level .table) (level .count) (settingsOf (level .settings) (now counted)) (place .0) 0 (level .count) ⌝ }
+    ensures { λ r. ⌜ Between (now (out .entry)) (level .table) (level .count) (settingsOf (level .settings) (now (counted .entry))) (place .0) (r .0) (r .0 + 1) ⌝ }
 {
     let mut range = Range {
         low: 0,

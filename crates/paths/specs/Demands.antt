@@ -12,7 +12,8 @@ use Rattle.format.specs.Path.{Path, Visit, entered, pathFrom, pathOf}
 use Rattle.format.specs.Fits.{linksOk, textOf, fits}
 use Rattle.format.specs.Verdict.{readable}
 use Rattle.format.specs.HeaderLaws.{Readable, readable-facts}
-use Rattle.format.specs.Reading.{byteSays, runSays, spanNumber, spanLeaves}
+use Rattle.format.specs.Reading.{byteSays, runSays, pathsHold, copyNumber, copyLeaves}
+use Rattle.text.specs.Lists.{tabulate}
 use Rattle.paths.specs.Links.{Linked, linked-facts}
 use Rattle.paths.specs.Visits.{Goes, goes, goes-length, goes-short, pointers}
 use Rattle.paths.specs.Walk.{path-holds}
@@ -81,10 +82,17 @@ module _ (t : List ℕ) (r : readable t ≡ 0) (h : linksOk t ≡ true) where
   pub run-of-text : (p : ℕ) → p < at.textLength t → reads.Part t p (runSays t p .0) (runSays t p .1)
   run-of-text p hp = let w = no-path-breaks p hp in reads.run-part t k r p hp (w .0) (w .1)
 
-  -- Span, with room for it, is not refused, and leaves the text's bytes in the buffer.
-  pub span-good : (p len room : ℕ) → p + len ≤ at.textLength t → len ≤ room → spanNumber t p len room ≡ 0
-  span-good = reads.span-number t k r no-path-breaks
+  -- The paths of all places hold, and give the text's bytes.
+  pub paths-all : (p len : ℕ) → p + len ≤ at.textLength t → pathsHold t p len ≡ true
+  paths-all p len fits = reads.paths-hold t k r no-path-breaks len p fits
 
-  pub span-of-text : (p len : ℕ) (buffer : List ℕ) → p + len ≤ at.textLength t → len ≤ length buffer
-      → spanLeaves t p len buffer ≡ stretch (textOf t) p len ++ drop len buffer
-  span-of-text = reads.span-leaves t k r no-path-breaks
+  pub bytes-all : (p len : ℕ) → p + len ≤ at.textLength t → tabulate len (λ x. byteSays t (p + x) .value) ≡ stretch (textOf t) p len
+  bytes-all = reads.bytes-of-text t k r no-path-breaks
+
+  -- Copying bytes by their paths, with room for them, is not refused, and leaves the text's bytes in the buffer.
+  pub copy-good : (p len room : ℕ) → p + len ≤ at.textLength t → len ≤ room → copyNumber t p len room ≡ 0
+  copy-good = reads.copy-number t k r no-path-breaks
+
+  pub copy-of-text : (p len : ℕ) (buffer : List ℕ) → p + len ≤ at.textLength t → len ≤ length buffer
+      → copyLeaves t p len buffer ≡ stretch (textOf t) p len ++ drop len buffer
+  copy-of-text = reads.copy-leaves t k r no-path-breaks

@@ -1,4 +1,4 @@
--- Byte, run and span answer with the bytes of the tree's text.
+-- Byte and run answer with, and copying by paths leaves, the bytes of the tree's text.
 use mathlib.Core.List.{List, _++_}
 use mathlib.Core.Option.{some}
 use mathlib.Core.Bool.{true}
@@ -18,7 +18,7 @@ use Rattle.format.specs.Fits.{leafOf, textOf}
 use Rattle.format.specs.Verdict.{readable}
 use Rattle.format.specs.HeaderLaws.{Readable, full-pos}
 use Rattle.format.specs.Said.{Said}
-use Rattle.format.specs.Reading.{byteSays, leftOver, runSays, pathsHold, spanNumber, spanLeaves}
+use Rattle.format.specs.Reading.{byteSays, leftOver, runSays, pathsHold, asksSpan, leavesSpan, copyNumber, copyLeaves}
 use Rattle.paths.specs.Links.{H, b}
 use Rattle.paths.specs.Visits.{Goes, goes, goes-leaf}
 use Rattle.paths.specs.Shift.{left-most, left-within, within-left, goes-within, path-further}
@@ -82,7 +82,7 @@ module _ (t : List ℕ) (k : Readable t) (r : readable t ≡ 0) (p : ℕ) (hp : 
   pub run-part : Part t p (runSays t p .0) (runSays t p .1)
   run-part = rw run-of-path part-of-path
 
--- Span, where every path of it holds.
+-- Bytes copied by their paths, where every path holds.
 
 module _ (t : List ℕ) (k : Readable t) (r : readable t ≡ 0) (holds : (p : ℕ) → p < at.textLength t → (q : Path) × (pathOf t p ≡ some q)) where
   byte-good : (p : ℕ) → p < at.textLength t → byteSays t p .number ≡ 0
@@ -93,19 +93,20 @@ module _ (t : List ℕ) (k : Readable t) (r : readable t ≡ 0) (holds : (p : �
       let w = holds p hp in
       ap (λ (x : Said). x .value) (byte-of-path t k r p hp (w .0) (w .1)) ∙ sym (text-of-path t k r p hp (w .0) (w .1))
 
-  paths-hold : (len p : ℕ) → p + len ≤ at.textLength t → pathsHold t p len ≡ true
+  pub paths-hold : (len p : ℕ) → p + len ≤ at.textLength t → pathsHold t p len ≡ true
   unfolding pathsHold
   paths-hold zero p h = refl
   paths-hold (suc len) p h = and-both (eq-eqb (byteSays t p .number) 0 (byte-good p (omega arith))) (paths-hold len (p + 1) (omega arith))
 
-  pub span-number : (p len room : ℕ) → p + len ≤ at.textLength t → len ≤ room → spanNumber t p len room ≡ 0
-  unfolding spanNumber
-  span-number p len room h fits = rw (r, le-leb _ _ h, le-leb _ _ fits, paths-hold len p h)
+  pub copy-number : (p len room : ℕ) → p + len ≤ at.textLength t → len ≤ room → copyNumber t p len room ≡ 0
+  unfolding copyNumber asksSpan
+  copy-number p len room h fits = rw (r, le-leb _ _ h, le-leb _ _ fits, paths-hold len p h)
 
-  pub span-leaves : (p len : ℕ) (buffer : List ℕ) → p + len ≤ at.textLength t → len ≤ length buffer
-      → spanLeaves t p len buffer ≡ stretch (textOf t) p len ++ drop len buffer
-  unfolding spanLeaves
-  span-leaves p len buffer h fits =
-      let bytes : stretch (textOf t) p len ≡ tabulate len (λ x. byteSays t (p + x) .value) =
-      stretch-tabulate (textOf t) p len (λ x. byteSays t (p + x) .value) (omega (arith, text-length t)) (λ o ho. sym (byte-value (p + o) (omega arith))) in
-      rw (span-number p len (length buffer) h fits, bytes)
+  pub bytes-of-text : (p len : ℕ) → p + len ≤ at.textLength t → tabulate len (λ x. byteSays t (p + x) .value) ≡ stretch (textOf t) p len
+  bytes-of-text p len h =
+      sym (stretch-tabulate (textOf t) p len (λ x. byteSays t (p + x) .value) (omega (arith, text-length t)) (λ o ho. sym (byte-value (p + o) (omega arith))))
+
+  pub copy-leaves : (p len : ℕ) (buffer : List ℕ) → p + len ≤ at.textLength t → len ≤ length buffer
+      → copyLeaves t p len buffer ≡ stretch (textOf t) p len ++ drop len buffer
+  unfolding copyLeaves leavesSpan
+  copy-leaves p len buffer h fits = rw (copy-number p len (length buffer) h fits, bytes-of-text p len h)

@@ -53,7 +53,6 @@ pub use Rattle.rows.specs.declared.RowCopied.{RowCopied}
 pub use Rattle.rows.specs.declared.RowCopied.the-variants as rows
 -- what an answer says in document 01's terms, and that a refusal's number is not 0
 pub use Rattle.access.specs.Answers.{said, copiedSaid}
-unfoldable pub use Rattle.access.specs.Answers.{spanSays}
 pub use Rattle.rank.specs.Counts.{saidCount, Numbered as CountNumbered}
 pub use Rattle.select.specs.Found.{saidFind, Numbered as FindNumbered}
 pub use Rattle.rows.specs.Rows.{saidRow, Numbered as RowNumbered}

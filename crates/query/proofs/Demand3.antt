@@ -1,7 +1,8 @@
--- Demand 3: "The check accepts any bytes, whoever made them, exactly when questions 5 to 8 hold, a text fits and the counts are true of it.
--- Exactly one text then fits; byte, count and find on such a tree are never refused where questions 10 to 12 let them through, are right,
--- and report blocks entered that equal the path's length, at most twice the levels less one. What the builder writes is accepted, and its
--- one text is the input." The last sentence stands in `Demand2`.
+-- Demand 3: "The check accepts any bytes, whoever made them, exactly when questions 5 to 8 hold, a text fits and the counts are true of it",
+-- a layout 2 tree "exactly when, besides, its edges are true of the text that fits". "Exactly one text then fits; byte, count and find on
+-- such a tree are never refused where questions 10 to 12 let them through, are right, and report blocks entered that equal the path's length,
+-- at most twice the levels less one. What the builder writes is accepted, and its one text is the input." The last sentence stands in
+-- `Demand2`.
 use mathlib.Core.List.{List}
 use mathlib.Core.Bool.{true}
 use mathlib.Core.Path.{_≡_, refl, sym}
@@ -10,8 +11,8 @@ use Prim.Native.Nat.{ℕ}
 use contract.Lifetimes.{Lfts}
 use denote.Ref.{now}
 use Rattle.format.specs.Layout as at
-use Rattle.format.specs.Fits.{textOf, fits}
-use Rattle.format.specs.VerdictLaws.{accepted-readable, accepted-links}
+use Rattle.format.specs.Fits.{textOf, fits, edgesTrue}
+use Rattle.format.specs.VerdictLaws.{no-edges, accepted-readable, accepted-links}
 use Rattle.accepted.specs.Accepting.{StandsFor, one-text}
 use Rattle.tree.proofs.Demands as tree
 use Rattle.query.proofs.Calls.{Lent, Check}
@@ -21,9 +22,14 @@ use Rattle.query.proofs.Refusing.{accepted-refuses}
 
 -- A call of check, on any bytes, whoever made them.
 module _ (κs : Lfts 1) (t : Lent) where
-  -- "The check accepts any bytes, whoever made them, exactly when questions 5 to 8 hold, a text fits and the counts are true of it."
+  -- "The check accepts any bytes, whoever made them, exactly when questions 5 to 8 hold, a text fits and the counts are true of it", "a layout 2
+  -- tree exactly when, besides, its edges are true of the text that fits."
   pub check-accepts : (r : ℕ) → Check κs t r → (r ≡ 0) ↔ ((T : List ℕ) × StandsFor (now t) T)
   check-accepts r c = tree.check-accepts κs t r c
+
+  -- "Trees of layout 1 are read and checked as before": they have no edges, and nothing is asked of them.
+  pub older-edges : at.layout (now t) ≡ 1 → (T : List ℕ) → edgesTrue T (now t) ≡ true
+  older-edges one T = no-edges T (now t) one
 
   module _ (c : Check κs t 0) where
     -- a text that fits is the one that the paths give

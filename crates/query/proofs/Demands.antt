@@ -32,8 +32,9 @@ pub use Rattle.query.proofs.Buffers.{build-has-room}
 pub use Rattle.query.proofs.Demand2.{build-writes}
 -- .. read back, every byte, span, run, row, count and place is the text's."
 pub use Rattle.query.proofs.Demand2.{build-answers, build-refuses}
--- Demand 3. "The check accepts any bytes, whoever made them, exactly when questions 5 to 8 hold, a text fits and the counts are true of it. ..
-pub use Rattle.query.proofs.Demand3.{check-accepts}
+-- Demand 3. "The check accepts any bytes, whoever made them, exactly when questions 5 to 8 hold, a text fits and the counts are true of it",
+-- "a layout 2 tree exactly when, besides, its edges are true of the text that fits"; of layout 1 nothing is asked besides. ..
+pub use Rattle.query.proofs.Demand3.{check-accepts, older-edges}
 -- .. Exactly one text then fits; ..
 pub use Rattle.query.proofs.Demand3.{check-one-text}
 -- .. byte, count and find on such a tree are never refused where questions 10 to 12 let them through, are right, and report blocks entered
@@ -49,6 +50,14 @@ pub use Rattle.tallies.specs.Rows.{row-lets, row-twelve, row-eleven}
 -- .. "One byte 13 directly before the ending byte 10 now belongs to the end and not to the row. A byte 13 anywhere else stays in the row, also at
 -- the end of a row that has no byte 10" (`row-last`).
 pub use Rattle.text.specs.RowLaws.{row-between, trimmed-mark, trimmed-plain, trimmed-none}
+-- Edges. "question 9 also covers edges and their zeros": what the check looks at is exact. ..
+pub use Rattle.margins.specs.Demands.{edges-exact}
+-- .. "On a layout 2 tree a span of 1 to m bytes goes down only while it lies in one block, and where it crosses a border the two edges give it": on
+-- an accepted tree it is never refused with 14, and these are the text's bytes. ..
+pub use Rattle.margins.specs.Demands.{short-holds, short-text}
+-- .. "It reports the blocks entered, on an accepted tree at most twice the number of levels": at least one, and so many on any tree that passes
+-- questions 5 to 7. "Any other span is read by its bytes' paths and reports 0."
+pub use Rattle.margins.specs.Demands.{span-walked, span-entered, span-other}
 
 -- The two roads to a tree, each in one theorem.
 

@@ -19,7 +19,7 @@ use Rattle.format.specs.HeaderLaws.{ask-test, ask-rest}
 use Rattle.format.specs.Said.{refused, unless}
 use Rattle.format.specs.SaidLaws.{unless-passes, then-is}
 use Rattle.format.specs.Building.{buildNumber}
-use Rattle.format.specs.Reading.{byteOf, byteSays, pathsHold, spanNumber}
+use Rattle.format.specs.Reading.{byteOf, byteSays, asksSpan, spanReached, spanNumber}
 use Rattle.format.specs.Counting.{added, taken, leavesReached, countOf, isCounted, numberOfByte, countSays}
 
 -- build answers only where the tree fits the buffer
@@ -84,12 +84,22 @@ count-summed t byte i h =
         let minus = taken t c (q .visits) in
         inr (some-path r q minus plus (leb minus plus) e k)
 
--- span answers only where its bytes fit the buffer
-pub span-fits : (t : List ℕ) (p len room : ℕ) → spanNumber t p len room ≡ 0 → len ≤ room
-unfolding spanNumber
-span-fits t p len room h =
-    let fourteen = ask 14 (pathsHold t p len) 0 in
+-- span answers only where its bytes fit the buffer and are reached
+pub record Spanned (t : List ℕ) (p len room : ℕ) : Type 0 where
+  pub pass : readable t ≡ 0
+  pub fits : len ≤ room
+  pub reached : spanReached t p len ≡ true
+
+pub span-passes : (t : List ℕ) (p len room : ℕ) → spanNumber t p len room ≡ 0 → Spanned t p len room
+unfolding spanNumber asksSpan
+span-passes t p len room h =
+    let fourteen = ask 14 (spanReached t p len) 0 in
     let thirteen = ask 13 (leb len room) fourteen in
     let more = ask 10 (leb (p + len) (at.textLength t)) thirteen in
     let a = unless-passes (readable t) (refused more) (sym (then-is (readable t) more) ∙ h) in
-    leb-true len room (ask-test 12 (leb len room) fourteen (ask-rest 9 (leb (p + len) (at.textLength t)) thirteen (a .1)))
+    let after10 = ask-rest 9 (leb (p + len) (at.textLength t)) thirteen (a .1) in
+    record {
+      pass = a .0;
+      fits = leb-true len room (ask-test 12 (leb len room) fourteen after10);
+      reached = ask-test 13 (spanReached t p len) 0 (ask-rest 12 (leb len room) fourteen after10);
+    }

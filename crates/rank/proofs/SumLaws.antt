@@ -21,14 +21,14 @@ use Rattle.layout.specs.declared.header.Header.{Header}
 use Rattle.layout.specs.declared.place.BlockNumber.{BlockNumber}
 use Rattle.layout.specs.declared.place.BlockPlace.{BlockPlace}
 use Rattle.layout.specs.Record.{FieldIn, field-in}
-use Rattle.walk.specs.declared.step.Next.{Next}
-use Rattle.walk.specs.declared.step.Next.the-variants.{Kept, Points, Off}
+use Rattle.steps.specs.declared.Next.{Next}
+use Rattle.steps.specs.declared.Next.the-variants.{Kept, Points, Off}
 use Rattle.layout.specs.HeaderSays.{HeaderOf}
-use Rattle.walk.specs.Steps.{OnLevel, Pointing, nextAt}
+use Rattle.steps.specs.Steps.{OnLevel, Pointing, nextAt}
 use Rattle.walk.specs.Walk.{KeptAt}
 use Rattle.walk.specs.declared.Trail.{Trail}
 use Rattle.walk.specs.Walk.{onward as trailed}
-use Rattle.walk.proofs.StepLaws.{kept-in, pointing-in}
+use Rattle.steps.proofs.StepLaws.{kept-in, pointing-in}
 use Rattle.walk.proofs.WalkLaws as walk
 use Rattle.walk.proofs.WalkLaws.{next-kept, next-points, next-off, from-off, from-last-points, from-no-leaf, from-no-target, pointing-not-kept}
 use Rattle.tallies.specs.Ranks.{goes-head, added-target, taken-target}
@@ -42,9 +42,9 @@ pub facts : (t : List ℕ) (h : Header) → HeaderOf t h → Readable t
 facts t h k = k .facts
 
 pub field-there : (t : List ℕ) (h : Header) (level i c f : ℕ) → HeaderOf t h → level < at.settings t .levels → i < at.levelCount t level → c < at.countedCount t
-    → f ≤ 6 + 3 * c → (c < h .settings .counted) × FieldIn t (h .settings .counted) level i f
+    → f ≤ 6 + 3 * c → FieldIn t (h .«record_size») level i f
 field-there t h level i c f k hl hi hc hf =
-    (omega (arith, k .counted-is), field-in t (facts t h k) (h .settings .counted) level i f (k .counted-is) hl hi (omega (arith, k .counted-is)))
+    field-in t (facts t h k) (h .«record_size») level i f (k .size-is) hl hi (omega arith)
 
 -- what is carried
 

@@ -52,6 +52,6 @@ pub fn total(t: &[u8], h: Header, number: u32) -> u64
     ensures { λ r. ⌜ r ≡ find.total (now (t .entry)) number ⌝ }
 {
     let last = BlockNumber(record::level_count(t, 0) - 1);
-    let before = record::before(t, h.settings.counted, 0, last, number) as u64;
-    before + record::inside(t, h.settings.counted, 0, last, number) as u64
+    let before = record::before(t, h.record_size, 0, last, number) as u64;
+    before + record::inside(t, h.record_size, 0, last, number) as u64
 }

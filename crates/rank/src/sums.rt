@@ -6,8 +6,7 @@ use layout::place::BlockNumber;
 use layout::place::BlockPlace;
 use layout::place::TextPlace;
 use layout::record;
-use walk::step;
-use walk::step::Next;
+use steps::Next;
 ghost use mathlib.Core.Path.{_≡_};
 ghost use mathlib.Core.Bool.{cond};
 ghost use Prim.Native.Nat.{_+_, _-_, _*_, _≤_, _<_};
@@ -15,7 +14,7 @@ ghost use lib.Dec.{eqb};
 ghost use Rattle.format.specs.Layout as at;
 ghost use Rattle.format.specs.Path.{pathFrom, pathOf};
 ghost use Rattle.layout.specs.HeaderSays.{HeaderOf};
-ghost use Rattle.walk.specs.Steps.{Pointing};
+ghost use Rattle.steps.specs.Steps.{Pointing};
 ghost use Rattle.walk.specs.Walk.{KeptAt};
 ghost use Rattle.rank.specs.Sums.{Carried, Across, onward, summed, startSum, wholeSum};
 
@@ -59,7 +58,7 @@ fn leaf(
     requires { ⌜ (KeptAt (now t) h level b (block .0) (place .0) (sum .entered)) × (Carried (now t) (wanted .number) sum) ⌝ }
     ensures { λ r. ⌜ r ≡ summed (now (t .entry)) (wanted .byte) (wanted .number) sum (pathFrom (now (t .entry)) 0 level (block .0) (place .0)) ⌝ }
 {
-    let link = record::link(t, h.settings.counted, level, block) as u64;
+    let link = record::link(t, h.record_size, level, block) as u64;
     let number = link + place.0 as u64;
     if number < h.leaf_count as u64 {
         let from = h.leaf_offset as usize + link as usize;
@@ -84,18 +83,12 @@ fn across(
     ensures { λ r. ⌜ r ≡ onward sum (cond (eqb (target .0) (at.link (now (t .entry)) level (block .0))) 0 (at.inside (now (t .entry)) level (at.link (now (t .entry)) level (block .0)) (wanted .number))) (at.skip (now (t .entry)) level (block .0) (wanted .number)) ⌝ }
     ensures { λ r. ⌜ Carried (now (t .entry)) (wanted .number) r ⌝ }
 {
-    let link = record::link(t, h.settings.counted, level, block);
-    let skip = record::skip(t, h.settings.counted, level, block, wanted.number);
+    let link = record::link(t, h.record_size, level, block);
+    let skip = record::skip(t, h.record_size, level, block, wanted.number);
     if target.0 == link {
         return sum.enter(0, skip);
     }
-    let inside = record::inside(
-        t,
-        h.settings.counted,
-        level,
-        BlockNumber(link),
-        wanted.number,
-    );
+    let inside = record::inside(t, h.record_size, level, BlockNumber(link), wanted.number);
     sum.enter(inside, skip)
 }
 
@@ -105,7 +98,7 @@ fn down(t: &[u8], h: Header, wanted: Wanted, level: u32, block: BlockNumber, sum
     ensures { λ r. ⌜ r ≡ onward sum (at.before (now (t .entry)) level (block .0) (wanted .number)) 0 ⌝ }
     ensures { λ r. ⌜ Carried (now (t .entry)) (wanted .number) r ⌝ }
 {
-    let before = record::before(t, h.settings.counted, level, block, wanted.number);
+    let before = record::before(t, h.record_size, level, block, wanted.number);
     sum.enter(before, 0)
 }
 
@@ -128,7 +121,7 @@ fn kept_step(
         return leaf(t, h, wanted, level, b, block, place, sum);
     }
     let below = b / h.settings.arity;
-    let next = step::child(t, h, level, below, block, place);
+    let next = steps::child(t, h, level, below, block, place);
     match next {
         Next::Kept(i, p) => kept_step(
             t,
@@ -171,7 +164,7 @@ fn pointing_step(
     if level + 1 == h.settings.levels {
         return Summed::Broken;
     }
-    let next = step::target(t, h, level, b, block, place);
+    let next = steps::target(t, h, level, b, block, place);
     match next {
         Next::Kept(i, p) => kept_step(
             t,
@@ -196,7 +189,7 @@ fn start(t: &[u8], h: Header, wanted: Wanted, block: BlockNumber) -> Sum
 {
     Sum {
         entered: 0,
-        plus: record::before(t, h.settings.counted, 0, block, wanted.number) as u64,
+        plus: record::before(t, h.record_size, 0, block, wanted.number) as u64,
         minus: 0,
     }
 }
@@ -207,7 +200,7 @@ pub fn walk(t: &[u8], h: Header, wanted: Wanted, place: TextPlace) -> Summed
     ensures { λ r. ⌜ r ≡ wholeSum (now (t .entry)) (wanted .byte) (wanted .number) (pathOf (now (t .entry)) (place .0)) ⌝ }
 {
     let b = h.block;
-    match step::first(t, h, b, place) {
+    match steps::first(t, h, b, place) {
         Next::Kept(i, p) => kept_step(t, h, wanted, 0, b, i, p, start(t, h, wanted, i)),
         Next::Points(i, p) => pointing_step(t, h, wanted, 0, b, i, p, start(t, h, wanted, i)),
         Next::Off => Summed::Broken,

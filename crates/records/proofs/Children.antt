@@ -25,7 +25,7 @@ use Rattle.records.specs.declared.level.Stretch.{Stretch}
 use Rattle.records.specs.Growing.{Grown, Within}
 use Rattle.records.specs.Levels.{recordPlace}
 use Rattle.records.specs.Starts.{startsWritten, StartsAsk}
-use Rattle.records.specs.State.{Filled, Below, Started, On, StretchIs, placeAt}
+use Rattle.records.specs.State.{settingsOf, Filled, Below, Started, On, StretchIs, placeAt}
 use Rattle.records.proofs.Growth.{read-right, within-grown, within-part}
 use Rattle.records.proofs.Reading.{on-written}
 use Rattle.records.proofs.Starting.{starts-grown, starts-within}
@@ -76,7 +76,7 @@ module _ (S : Settings) (T out : List ℕ) (level next : Level) (i : ℕ) (w : B
   pub children-on : On S T out level i
   children-on = on-written S T out level i (w .level-is) (omega (arith, offset-rises S T (suc l) (suc (suc l)) (omega arith), w .room)) (w .body) il
 
-  module _ (at : ℕ) (at-is : at ≡ recordPlace (level .table) i (S .counted)) where
+  module _ (at : ℕ) (at-is : at ≡ recordPlace (level .table) i (settingsOf (level .settings) (S .counted))) where
     at-right : at ≡ P
     at-right = at-is ∙ place-is S T level (w .level-is) i
 
@@ -124,7 +124,7 @@ module _ (S : Settings) (T out : List ℕ) (level next : Level) (i : ℕ) (w : B
               rw size-right (size-high S T taken (suc l)),
             )
 
-            module _ (n : ℕ) (n-is : n ≡ pieces (own .length) (next .size)) (to : ℕ) (to-is : to ≡ recordPlace (next .table) link (S .counted)) (to-few : to ≤ maxTable + 64 * maxText) where
+            module _ (n : ℕ) (n-is : n ≡ pieces (own .length) (next .size)) (to : ℕ) (to-is : to ≡ recordPlace (next .table) link (settingsOf (next .settings) (S .counted))) (to-few : to ≤ maxTable + 576 * maxText) (step : ℕ) (step-is : step ≡ recordBytes S) where
               n-right : n ≡ widthOf S T l i
               n-right = n-is ∙ rw (own-is .length-is, size-right, bytesIn-is S T l i) (sym (cut-at S T taken l up .cut i kept))
 
@@ -149,19 +149,19 @@ module _ (S : Settings) (T out : List ℕ) (level next : Level) (i : ℕ) (w : B
                   start-below S T taken l i j up i-in (omega (arith, n-right)) ∙ rw (own-is .start-is, size-right) in
                   rw (to-child j, ← e) (start-stands S T taken (suc l) (sum + j) up (child-in j h))
 
-              pub starts-ask : StartsAsk out to (16 + 12 * length (S .counted)) (own .start .0) (next .size) n
+              pub starts-ask : StartsAsk out to step (own .start .0) (next .size) n
               starts-ask = record {
-                room = rw (← record-size S T) (omega (arith, to-child n, place-le S T (suc l) (sum + n) (count S T (suc l)) all-in, place-end S T (suc l), w .room));
-                step-low = omega arith;
-                step-few = omega (arith, limits .counted-high);
+                room = rw step-is (omega (arith, to-child n, place-le S T (suc l) (sum + n) (count S T (suc l)) all-in, place-end S T (suc l), w .room));
+                step-low = omega (arith, step-is, record-size S T);
+                step-few = omega (arith, step-is, record-size S T, limits .counted-high, limits .leaf-high);
                 at-few = omega arith;
                 count-few = omega (arith, n-right, sumBelow-part (count S T l) (widthOf S T l) i i-in, widths-le S T taken l (count S T l) l-in (omega arith), limits .text-high);
                 ends = rw n-is (omega (arith, pieces-most (own .length) (next .size), pieces-asks .0, pieces-asks .2, own-is .fits, limits .text-high));
               }
 
-              module _ (new : List ℕ) (new-is : new ≡ startsWritten out to (16 + 12 * length (S .counted)) (own .start .0) (next .size) n) where
+              module _ (new : List ℕ) (new-is : new ≡ startsWritten out to step (own .start .0) (next .size) n) where
                 new-right : new ≡ startsWritten out to (recordBytes S) (own .start .0) (next .size) n
-                new-right = new-is ∙ rw (record-size S T)
+                new-right = new-is ∙ rw step-is
 
                 fits : (j : ℕ) → j < n → to + j * recordBytes S + 4 ≤ length out
                 fits j h = omega (arith, child-fits j h, w .room)

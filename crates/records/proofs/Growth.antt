@@ -2,14 +2,16 @@
 use mathlib.Core.List.{List, _++_}
 use mathlib.Core.Path.{_≡_, refl, sym, ap, _∙_}
 use mathlib.Core.Logic.{_⊎_, inl, inr}
-use Prim.Native.Nat.{ℕ, _+_, _-_, _≤_, _<_}
+use Prim.Native.Nat.{ℕ, zero, suc, _+_, _-_, _≤_, _<_}
 use native.Mathlib.Omega.{arith}
-use lib.ListN.{length, getD, take, drop, length-append, List·getD-append}
-use lib.Seq.{getD-append-add, length-take-le}
-use Rattle.text.specs.ListLaws.{lt-or-ge}
+use lib.ListN.{length, getD, set, take, drop, length-append, length-set, List·getD-append}
+use lib.Seq.{getD-append-add, length-take-le, getD-set-same, getD-set-other}
+use native.Mathlib.Decide.{ℕ-discrete}
+use Rattle.text.specs.ListLaws.{lt-or-ge, below-suc}
 use Rattle.format.specs.Words.{wordAt, wordBytes, setWord}
-use Rattle.format.specs.WordLaws.{length-setWord, getD-setWord-other, setWord-eq, digits}
-use Rattle.built.specs.Bytes.{Stands}
+use Rattle.format.specs.WordLaws.{length-setWord, getD-setWord-other, setWord-eq}
+use Rattle.built.specs.Bytes.{Stands, stands-word}
+use Rattle.stretches.specs.Stretches.{bytesWritten}
 use Rattle.records.specs.Growing.{Grown, Within}
 use Rattle.records.specs.Records.{putThree}
 
@@ -26,15 +28,6 @@ written-stands t i v fits r l =
     rw (setWord-eq t i v fits, e)
     (List·getD-append (take i t ++ wordBytes v) (drop (i + 4) t) 0 (length (take i t) + r) m
     ∙ getD-append-add (take i t) (wordBytes v) r 0)
-
-module _ (t : List ℕ) (i v : ℕ) (s : Stands t i v) where
-  first : getD t i 0 ≡ getD (wordBytes v) 0 0
-  first = ap (λ (k : ℕ). getD t k 0) (let e : i ≡ i + 0 = omega arith in e) ∙ s 0 (omega arith)
-
-  -- the word that stands in a buffer is read there
-  stands-word : v < 4294967296 → wordAt t i ≡ v
-  unfolding wordAt wordBytes
-  stands-word small = rw (first, s 1 (omega arith), s 2 (omega arith), s 3 (omega arith)) (digits v small)
 
 within-word : (D t : List ℕ) (i v : ℕ) → Within D t i (i + 4) → Stands D i v → Stands t i v
 within-word D t i v w s r l = w .right (i + r) (omega arith) (omega arith) ∙ s r l
@@ -141,3 +134,46 @@ module _ (D : List ℕ) where
         within-join (putThree t i a b c) i (i + 4) (i + 12)
         (within-grown t1 (putThree t i a b c) i (i + 4) (grown-then t1 t2 (putThree t i a b c) g2 g3) first-word)
         (within-join (putThree t i a b c) (i + 4) (i + 8) (i + 12) (within-grown t2 (putThree t i a b c) (i + 4) (i + 8) g3 second-word) third-word)
+
+-- Bytes written one after the other.
+
+module _ (D t : List ℕ) (i v : ℕ) (fits : i < length t) (inside : i < length D) (is : getD D i 0 ≡ v) where
+  byte-right : getD (set t i v) i 0 ≡ getD D i 0
+  byte-right = getD-set-same t i v 0 fits ∙ sym is
+
+  byte-grown : Grown D t (set t i v)
+  byte-grown = record {
+    same-length = length-set t i v;
+    keeps = λ k e. keep k e (ℕ-discrete k i);
+    past = λ k l. getD-set-other t i k v 0 (λ e. omega arith);
+  }
+    where
+      keep : (k : ℕ) → getD t k 0 ≡ getD D k 0 → Dec (k ≡ i) → getD (set t i v) k 0 ≡ getD D k 0
+      keep k e (yes y) = rw y byte-right
+      keep k e (no n) = getD-set-other t i k v 0 n ∙ e
+
+module _ (D t T : List ℕ) (to from n : ℕ) (fits : to + n ≤ length t) (inside : to + n ≤ length D) (is : (j : ℕ) → j < n → getD D (to + j) 0 ≡ getD T (from + j) 0) where
+  pub bytes-grown : (j : ℕ) → j ≤ n → Grown D t (bytesWritten t to T from j)
+  bytes-grown zero l = grown-none D t
+  bytes-grown (suc j) l =
+      let g = bytes-grown j (omega arith) in
+      grown-then D t (bytesWritten t to T from j) (bytesWritten t to T from (suc j)) g
+      (byte-grown D (bytesWritten t to T from j) (to + j) (getD T (from + j) 0) (omega (arith, g .same-length)) (omega arith) (is j (omega arith)))
+
+  bytes-right : (j : ℕ) → j ≤ n → (x : ℕ) → x < j → getD (bytesWritten t to T from j) (to + x) 0 ≡ getD D (to + x) 0
+  bytes-right zero l x k = absurd (let z : ⊥ = omega arith in z)
+  bytes-right (suc j) l x k = go (below-suc x j k) (bytes-right j (omega arith) x)
+    where
+      go : (x < j) ⊎ (x ≡ j) → (x < j → getD (bytesWritten t to T from j) (to + x) 0 ≡ getD D (to + x) 0)
+          → getD (bytesWritten t to T from (suc j)) (to + x) 0 ≡ getD D (to + x) 0
+      go (inl y) r = getD-set-other (bytesWritten t to T from j) (to + j) (to + x) (getD T (from + j) 0) 0 (λ e. omega arith) ∙ r y
+      go (inr y) r =
+          let g = bytes-grown j (omega arith) in
+          rw y (byte-right D (bytesWritten t to T from j) (to + j) (getD T (from + j) 0) (omega (arith, g .same-length)) (omega arith) (is j (omega arith)))
+
+  pub bytes-within : Within D (bytesWritten t to T from n) to (to + n)
+  bytes-within = record {
+    right = λ k l m.
+        let e : to + (k - to) ≡ k = omega arith in
+        rw e at (bytes-right n (omega arith) (k - to) (omega arith));
+  }

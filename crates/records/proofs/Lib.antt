@@ -6,5 +6,6 @@ pub mod StateLaws
 pub mod Reading
 pub mod Widths
 pub mod RecordCounts
+pub mod EdgeBytes
 pub mod Starting
 pub mod Children

@@ -15,7 +15,7 @@ use Rattle.built.specs.Sizes.{Taken, bounds}
 use Rattle.records.specs.declared.level.Level.{Level}
 use Rattle.records.specs.Growing.{Within}
 use Rattle.records.specs.Levels.{recordPlace}
-use Rattle.records.specs.State.{LevelIs, On, StretchIs, placeAt}
+use Rattle.records.specs.State.{settingsOf, LevelIs, On, StretchIs, placeAt}
 use Rattle.records.proofs.Growth.{read-right, within-part}
 use Rattle.records.proofs.StateLaws.{record-size, place-is, start-stands, record-inside-table, offset-low}
 
@@ -34,13 +34,13 @@ module _ (S : Settings) (T out : List ℕ) (level : Level) (i : ℕ) (w : On S T
     x-in : x < count S T l
     x-in = omega (arith, w .level-is .count-is)
 
-    at : recordPlace (level .table) x (S .counted) ≡ placeAt S T l x
+    at : recordPlace (level .table) x (settingsOf (level .settings) (S .counted)) ≡ placeAt S T l x
     at = place-is S T level (w .level-is) x
 
-    pub start-fits : recordPlace (level .table) x (S .counted) + 4 ≤ length out
+    pub start-fits : recordPlace (level .table) x (settingsOf (level .settings) (S .counted)) + 4 ≤ length out
     start-fits = omega (arith, at, record-size S T, record-inside-table S T l x x-in, w .filled .room)
 
-    pub start-read : wordAt out (recordPlace (level .table) x (S .counted)) ≡ start S T l x
+    pub start-read : wordAt out (recordPlace (level .table) x (settingsOf (level .settings) (S .counted))) ≡ start S T l x
     start-read = rw at (read-right (treeOf S T) out (placeAt S T l x) (start S T l x) (w .filled .starts x x-in)
         (start-stands S T taken l x l-in x-in) (omega (arith, level-at S T taken l l-in .within x x-in, bounds S T taken .text-high)))
 
@@ -48,7 +48,7 @@ module _ (S : Settings) (T out : List ℕ) (level : Level) (i : ℕ) (w : On S T
     start-in = level-at S T taken l l-in .within x x-in
 
   -- the bytes of block i
-  module _ (s : TextPlace) (s-is : s .0 ≡ wordAt out (recordPlace (level .table) i (S .counted))) where
+  module _ (s : TextPlace) (s-is : s .0 ≡ wordAt out (recordPlace (level .table) i (settingsOf (level .settings) (S .counted)))) where
     s-right : s .0 ≡ start S T l i
     s-right = s-is ∙ start-read i (w .block-in)
 

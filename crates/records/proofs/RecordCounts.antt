@@ -5,7 +5,6 @@ use mathlib.Core.Path.{_≡_, sym, ap, _∙_}
 use mathlib.Core.Logic.{_⊎_, inl, inr}
 use Prim.Native.Nat.{ℕ, _+_, _-_, _*_, _≤_, _<_}
 use native.Mathlib.Omega.{arith}
-use native.Mathlib.Numerals.{add-one}
 use lib.ListN.{length, getD}
 use lib.Dec.{eqb}
 use borrow.Author.Tests.{eqb-true, eqb-false}
@@ -24,7 +23,7 @@ use Rattle.records.specs.declared.record.Block.{Block}
 use Rattle.records.specs.Growing.{Grown, Within}
 use Rattle.records.specs.Levels.{recordPlace}
 use Rattle.records.specs.Records.{putThree, beforeSays}
-use Rattle.records.specs.State.{Writing, placeAt}
+use Rattle.records.specs.State.{settingsOf, Writing, placeAt}
 use Rattle.records.proofs.Growth.{read-right, within-grown, within-join, grown-then, within-part, three-grown, three-within}
 use Rattle.records.proofs.Neighbours.{LeftOf, left-of, before-left, before-first}
 use Rattle.records.proofs.StateLaws.{record-size, place-is, place-next, record-inside-table, offset-low, table-inside, kind-stands, link-stands, gap-stands, before-stands, inside-stands, skip-stands}
@@ -57,10 +56,10 @@ module _ (S : Settings) (T out : List ℕ) (level : Level) (i : ℕ) (block : Bl
   i-in : i < count S T l
   i-in = omega (arith, w .block-in, w .level-is .count-is)
 
-  pub here-is : recordPlace (level .table) i (S .counted) ≡ P
+  pub here-is : recordPlace (level .table) i (settingsOf (level .settings) (S .counted)) ≡ P
   here-is = place-is S T level (w .level-is) i
 
-  pub place-low : 100 ≤ recordPlace (level .table) i (S .counted)
+  pub place-low : 100 ≤ recordPlace (level .table) i (settingsOf (level .settings) (S .counted))
   place-low = omega (arith, here-is, offset-low S T l)
 
   pub record-fits : P + recordBytes S ≤ length out
@@ -73,12 +72,12 @@ module _ (S : Settings) (T out : List ℕ) (level : Level) (i : ℕ) (block : Bl
   inside-text = rw (w .block-is .start-is, w .block-is .length-is) (bytes-fit S T taken l i l-in i-in)
 
   -- the counts of counted byte number c
-  module _ (at c : ℕ) (at-is : at ≡ recordPlace (level .table) i (S .counted)) (cl : c < length (S .counted)) where
+  module _ (at c size : ℕ) (at-is : at ≡ recordPlace (level .table) i (settingsOf (level .settings) (S .counted))) (size-is : size ≡ recordBytes S) (cl : c < length (S .counted)) where
     abbrev x : ℕ
     x = getD (S .counted) c 0
 
     abbrev left : ℕ
-    left = at + 16 + 12 * c - (16 + 12 * length (S .counted))
+    left = at + 16 + 12 * c - size
 
     module _ (j : ℕ) (lo : LeftOf S T l i j) where
       j-in : j < count S T l
@@ -88,7 +87,10 @@ module _ (S : Settings) (T out : List ℕ) (level : Level) (i : ℕ) (block : Bl
       P-is = ap (placeAt S T l) (lo .next) ∙ place-next S T l j
 
       left-is : left ≡ placeAt S T l j + 16 + 12 * c
-      left-is = omega (arith, at-is, here-is, P-is, record-size S T)
+      left-is = omega (arith, at-is, here-is, P-is, size-is)
+
+      left-low : size ≤ at + 16 + 12 * c
+      left-low = omega (arith, at-is, here-is, P-is, size-is)
 
       low : 100 ≤ placeAt S T l j
       low = omega (arith, offset-low S T l)
@@ -119,8 +121,8 @@ module _ (S : Settings) (T out : List ℕ) (level : Level) (i : ℕ) (block : Bl
     apart : (block .start ≡ block .parent → ⊥) → (j : ℕ) × LeftOf S T l i j
     apart n = left-of S T taken l i l-in i-in (λ e. n (w .block-is .start-is ∙ e ∙ sym (w .block-is .parent-is)))
 
-    pub left-needs : (block .start ≡ block .parent → ⊥) → (left + 8 ≤ length out) × (wordAt out left + wordAt out (left + 4) < 4294967296)
-    left-needs n = let j = apart n in (left-fits (j .0) (j .1), small (j .0) (j .1))
+    pub left-needs : (block .start ≡ block .parent → ⊥) → (size ≤ at + 16 + 12 * c) × (left + 8 ≤ length out) × (wordAt out left + wordAt out (left + 4) < 4294967296)
+    left-needs n = let j = apart n in (left-low (j .0) (j .1), left-fits (j .0) (j .1), small (j .0) (j .1))
 
     before-is : beforeSays out left (block .start) (block .parent) ≡ beforeOf S T l i x
     before-is = go (bool-cases (eqb (block .start) (block .parent)))
@@ -161,11 +163,11 @@ module _ (S : Settings) (T out : List ℕ) (level : Level) (i : ℕ) (block : Bl
 
   -- all counts stand where those of as many bytes as are counted do
   pub counted-all : (new : List ℕ) (c : ℕ) → c ≤ length (S .counted) → length (S .counted) ≤ c → Within D new (P + 16) (P + 16 + 12 * c)
-      → Within D new (P + 16) (placeAt S T l (i + 1))
-  counted-all new c a b h = within-part D new (P + 16) (P + 16 + 12 * c) (P + 16) (placeAt S T l (i + 1)) h (omega arith) (omega (arith, add-one i, place-next S T l i, record-size S T))
+      → Within D new (P + 16) (P + 16 + 12 * length (S .counted))
+  counted-all new c a b h = within-part D new (P + 16) (P + 16 + 12 * c) (P + 16) (P + 16 + 12 * length (S .counted)) h (omega arith) (omega arith)
 
   -- kind, link and gap are written
-  module _ (new : List ℕ) (at : ℕ) (at-is : at ≡ recordPlace (level .table) i (S .counted)) (new-is : new ≡ putThree out (at + 4) (block .kind) (block .link) (block .gap)) where
+  module _ (new : List ℕ) (at : ℕ) (at-is : at ≡ recordPlace (level .table) i (settingsOf (level .settings) (S .counted))) (new-is : new ≡ putThree out (at + 4) (block .kind) (block .link) (block .gap)) where
     fields-are : new ≡ putThree out (P + 4) (kindOf S T l i) (linkOf S T l i) (gapOf S T l i)
     fields-are = new-is ∙ rw (at-is ∙ here-is, w .block-is .kind-is, w .block-is .link-is, w .block-is .gap-is)
 
@@ -186,10 +188,14 @@ module _ (S : Settings) (T out : List ℕ) (level : Level) (i : ℕ) (block : Bl
         (rw fields-are (three-within D out (P + 4) (kindOf S T l i) (linkOf S T l i) (gapOf S T l i) fits inside
         (kind-stands S T taken l i l-in i-in) (link-stands S T taken l i l-in i-in) (gap-stands S T taken l i l-in i-in))) (omega arith) (omega arith)
 
-    -- with the counts the record is complete
-    pub record-done : (last : List ℕ) → Grown D new last → Within D last (P + 16) (placeAt S T l (i + 1)) → Within D last 100 (placeAt S T l (i + 1))
-    record-done last g counts =
-        let all = grown-then D out new last fields-grown g in
+    -- with the counts and the edges the record is complete
+    pub record-done : (third last : List ℕ) → Grown D new third → Within D third (P + 16) (P + 16 + 12 * length (S .counted)) → Grown D third last
+        → Within D last (P + 16 + 12 * length (S .counted)) (placeAt S T l (i + 1)) → Within D last 100 (placeAt S T l (i + 1))
+    record-done third last g counts g′ edges =
+        let on = grown-then D new third last g g′ in
+        let all = grown-then D out new last fields-grown on in
         within-join D last 100 P (placeAt S T l (i + 1)) (within-grown D out last 100 P all (w .filled .body))
         (within-join D last P (P + 4) (placeAt S T l (i + 1)) (within-grown D out last P (P + 4) all (w .filled .starts i i-in))
-        (within-join D last (P + 4) (P + 16) (placeAt S T l (i + 1)) (within-grown D new last (P + 4) (P + 16) g fields-within) counts))
+        (within-join D last (P + 4) (P + 16) (placeAt S T l (i + 1)) (within-grown D new last (P + 4) (P + 16) on fields-within)
+        (within-join D last (P + 16) (P + 16 + 12 * length (S .counted)) (placeAt S T l (i + 1))
+        (within-grown D third last (P + 16) (P + 16 + 12 * length (S .counted)) g′ counts) edges)))

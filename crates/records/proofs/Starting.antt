@@ -24,7 +24,7 @@ starts-more t u v at step s b j e f = f ∙ rw (e, add-one j)
 pub part-below : (j n x : ℕ) → j < n → j * x + x ≤ n * x
 part-below j n x l = omega (arith, suc-mul j x, mul-le-mul-right {m = suc j} {n = n} x l)
 
-pub few-steps : (j n step : ℕ) → j < n → n ≤ maxText → step ≤ 64 → j * step ≤ 64 * maxText
+pub few-steps : (j n step : ℕ) → j < n → n ≤ maxText → step ≤ 576 → j * step ≤ 576 * maxText
 few-steps j n step l k m = mul-le-mul (let z : j ≤ maxText = omega arith in z) m
 
 module _ (D t : List ℕ) (at step s b : ℕ) where

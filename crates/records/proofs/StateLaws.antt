@@ -7,8 +7,8 @@ use native.Mathlib.Nat.{suc-mul, add-mul, mul-le-mul-right}
 use lib.ListN.{length, getD}
 use Rattle.text.specs.Lists.{sumBelow}
 use Rattle.format.specs.Settings.{Settings, blockLength, maxText}
-use Rattle.format.specs.SizeLaws.{Sizes, sizes, length-top, length-falls}
-use Rattle.format.specs.Blocks.{treeOf, recordBytes}
+use Rattle.format.specs.SizeLaws.{Sizes, sizes, length-top, length-falls, record-edged}
+use Rattle.format.specs.Blocks.{treeOf, recordBytes, builtLayout}
 use Rattle.built.specs.Bytes.{Stands, record-stands}
 use Rattle.built.specs.Gather.{sumBelow-le}
 use Rattle.built.specs.Sizes.{Taken, Bounds, bounds, maxTable}
@@ -21,15 +21,15 @@ use Rattle.records.specs.declared.level.Level.{Level}
 use Rattle.records.specs.declared.record.Block.{Block}
 use Rattle.records.specs.Growing.{Grown}
 use Rattle.records.specs.Levels.{recordPlace}
-use Rattle.records.specs.State.{LevelIs, Filled, Writing, placeAt}
+use Rattle.records.specs.State.{settingsOf, LevelIs, Filled, Writing, placeAt}
 use Rattle.records.proofs.Growth.{within-grown}
 
 module _ (S : Settings) (T : List ℕ) where
   -- Places of records.
 
-  pub record-size : recordBytes S ≡ 16 + 12 * length (S .counted)
+  pub record-size : recordBytes S ≡ 16 + 12 * length (S .counted) + (S .leaf + S .leaf)
   unfolding recordBytes
-  record-size = refl
+  record-size = record-edged builtLayout (S .leaf) (length (S .counted)) refl
 
   pub place-next : (l i : ℕ) → placeAt S T l (suc i) ≡ placeAt S T l i + recordBytes S
   place-next l i = omega (arith, suc-mul i (recordBytes S))
@@ -125,6 +125,7 @@ pub record Few (S : Settings) (T : List ℕ) (level : Level) : Type 0 where
   pub text-few : length T ≤ maxText
   pub table-few : level .table ≤ maxTable
   pub count-few : level .count ≤ maxText
+  pub leaf-few : level .settings .leaf ≤ 256
   pub size-few : level .size ≤ maxText
 
 pub few : (S : Settings) (T : List ℕ) (level : Level) → LevelIs S T level → Few S T level
@@ -133,12 +134,14 @@ few S T level h = record {
   text-few = bounds S T (h .taken) .text-high;
   table-few = rw (h .table-is) (offset-le S T (h .taken) (level .number) (omega (arith, h .number-in)));
   count-few = rw (h .count-is) (blocks-few S T (h .taken) (level .number) (h .number-in));
+  leaf-few = rw (h .leaf-is) (bounds S T (h .taken) .leaf-high);
   size-few = rw (h .size-is) (size-high S T (h .taken) (level .number));
 }
 
 -- where the code finds the record of a block
-pub place-is : (S : Settings) (T : List ℕ) (level : Level) → LevelIs S T level → (i : ℕ) → recordPlace (level .table) i (S .counted) ≡ placeAt S T (level .number) i
-place-is S T level h i = rw (h .table-is, record-size S T)
+pub place-is : (S : Settings) (T : List ℕ) (level : Level) → LevelIs S T level → (i : ℕ) → recordPlace (level .table) i (settingsOf (level .settings) (S .counted)) ≡ placeAt S T (level .number) i
+unfolding recordBytes
+place-is S T level h i = rw (h .table-is, h .leaf-is)
 
 -- a state goes on as the buffer grows
 pub filled-grown : (S : Settings) (T t u : List ℕ) (l i : ℕ) → Filled S T t l i → Grown (treeOf S T) t u → Filled S T u l i

@@ -1,8 +1,8 @@
 -- Places of records.
-use mathlib.Core.List.{List}
 use Prim.Native.Nat.{ℕ, _+_, _*_}
-use lib.ListN.{length}
+use Rattle.format.specs.Settings.{Settings}
+use Rattle.format.specs.Blocks.{recordBytes}
 
--- where the record of block i stands: level records begin at `table`, and each has 16 bytes and 12 for each counted byte
-abbrev pub recordPlace : ℕ → ℕ → List ℕ → ℕ
-recordPlace table i cs = table + i * (16 + 12 * length cs)
+-- where the record of block i stands: level records begin at `table`
+abbrev pub recordPlace : ℕ → ℕ → Settings → ℕ
+recordPlace table i S = table + i * recordBytes S

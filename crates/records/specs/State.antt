@@ -26,6 +26,7 @@ module _ (S : Settings) (T : List ℕ) where
   pub record LevelIs (level : Level) : Type 0 where
     pub taken : Taken S T
     pub number-in : level .number < S .levels
+    pub leaf-is : level .settings .leaf ≡ S .leaf
     pub above-low : 0 < level .above
     pub above-is : (k : ℕ) → level .number ≡ suc k → level .above ≡ blockLength S k
     pub size-is : level .size ≡ blockLength S (level .number)

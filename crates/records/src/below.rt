@@ -42,7 +42,7 @@ fn put_children_of(out: &mut [u8], text: &[u8], counted: &[u8], level: Level, ne
     put_starts(
         out,
         level::place(counted, next, BlockNumber(link)),
-        16 + 12 * counted.len(),
+        level::record_size(counted, level.settings),
         own.start.0,
         next.size,
         children,

@@ -9,6 +9,7 @@ ghost use lib.ListN.{length};
 ghost use Rattle.built.specs.Sizes.{maxTable};
 ghost use Rattle.format.specs.Settings.{maxText};
 ghost use Rattle.format.specs.Words.{wordAt};
+ghost use Rattle.format.specs.Blocks.{recordBytes};
 ghost use Rattle.records.specs.Levels.{recordPlace};
 ghost use Rattle.records.specs.State.{settingsOf, On, StretchIs};
 
@@ -31,12 +32,21 @@ pub struct Stretch {
     pub length: u32,
 }
 
+// The bytes of a record: its words, and two edges.
+pub fn record_size(counted: &[u8], s: Settings) -> usize
+    requires { ⌜ (length (now counted) ≤ 4) × (s .leaf ≤ 256) ⌝ }
+    ensures { λ r. ⌜ (r ≡ recordBytes (settingsOf s (now (counted .entry)))) × (16 ≤ r) × (r ≤ 576) ⌝ }
+{
+    let edge = s.leaf as usize;
+    16 + 12 * counted.len() + (edge + edge)
+}
+
 // Where the record of a block stands.
 pub fn place(counted: &[u8], level: Level, block: BlockNumber) -> usize
-    requires { ⌜ (length (now counted) ≤ 4) × (level .table ≤ maxTable) × (block .0 ≤ maxText) ⌝ }
-    ensures { λ r. ⌜ (r ≡ recordPlace (level .table) (block .0) (now (counted .entry))) × (r ≤ maxTable + 64 * maxText) ⌝ }
+    requires { ⌜ (length (now counted) ≤ 4) × (level .table ≤ maxTable) × (block .0 ≤ maxText) × (level .settings .leaf ≤ 256) ⌝ }
+    ensures { λ r. ⌜ (r ≡ recordPlace (level .table) (block .0) (settingsOf (level .settings) (now (counted .entry)))) × (r ≤ maxTable + 576 * maxText) ⌝ }
 {
-    level.table as usize + block.0 as usize * (16 + 12 * counted.len())
+    level.table as usize + block.0 as usize * record_size(counted, level.settings)
 }
 
 // The bytes that a block has.
@@ -53,9 +63,9 @@ fn bytes(text: &[u8], level: Level, start: TextPlace) -> u32
 
 // Where a block starts, read from its record.
 pub fn start(counted: &[u8], out: &[u8], level: Level, block: BlockNumber) -> TextPlace
-    requires { ⌜ (length (now counted) ≤ 4) × (level .table ≤ maxTable) × (block .0 ≤ maxText)
-        × (recordPlace (level .table) (block .0) (now counted) + 4 ≤ length (now out)) ⌝ }
-    ensures { λ r. ⌜ r .0 ≡ wordAt (now (out .entry)) (recordPlace (level .table) (block .0) (now (counted .entry))) ⌝ }
+    requires { ⌜ (length (now counted) ≤ 4) × (level .table ≤ maxTable) × (block .0 ≤ maxText) × (level .settings .leaf ≤ 256)
+        × (recordPlace (level .table) (block .0) (settingsOf (level .settings) (now counted)) + 4 ≤ length (now out)) ⌝ }
+    ensures { λ r. ⌜ r .0 ≡ wordAt (now (out .entry)) (recordPlace (level .table) (block .0) (settingsOf (level .settings) (now (counted .entry)))) ⌝ }
 {
     TextPlace(word::read(out, place(counted, level, block)))
 }

@@ -5,7 +5,7 @@ use layout::header;
 use layout::place::BlockNumber;
 use layout::word;
 ghost use mathlib.Core.Path.{_≡_};
-ghost use Prim.Native.Nat.{_+_, _*_, _≤_, _<_};
+ghost use Prim.Native.Nat.{_+_, _-_, _*_, _≤_, _<_};
 ghost use lib.ListN.{length};
 ghost use Rattle.text.specs.Text.{stretch, countIn};
 ghost use Rattle.format.specs.Settings.{maxText};
@@ -14,7 +14,7 @@ ghost use Rattle.format.specs.Blocks.{treeOf};
 ghost use Rattle.built.specs.Structure.{widthOf};
 ghost use Rattle.records.specs.Growing.{Grown, Within};
 ghost use Rattle.records.specs.State.{settingsOf, Writing, placeAt};
-ghost use Rattle.records.specs.Records.{putThree, beforeSays};
+ghost use Rattle.records.specs.Records.{putThree, beforeSays, edgeWritten};
 
 // What a record says, and where the bytes stand that it counts.
 pub struct Block {
@@ -52,14 +52,17 @@ fn put_count(out: &mut [u8], text: &[u8], byte: u8, at: usize, block: Block, bef
     put_three(out, at, before, inside, skip);
 }
 
-// The count before a block: none at its parent's start, else what the block on the left has before it and inside.
-fn count_before(out: &[u8], left: usize, block: Block) -> u32
-    requires { ⌜ ((block .start ≡ block .parent → ⊥) → (left + 8 ≤ length (now out)) × (wordAt (now out) left + wordAt (now out) (left + 4) < 4294967296)) ⌝ }
-    ensures { λ r. ⌜ r ≡ beforeSays (now (out .entry)) left (block .start) (block .parent) ⌝ }
+// The count before a block, at a place of its record: none at its parent's start, else what the block on the left, one record
+// before, has before it and inside.
+fn count_before(out: &[u8], at: usize, size: usize, block: Block) -> u32
+    requires { ⌜ ((block .start ≡ block .parent → ⊥) → (size ≤ at) × (at - size + 8 ≤ length (now out))
+        × (wordAt (now out) (at - size) + wordAt (now out) (at - size + 4) < 4294967296)) ⌝ }
+    ensures { λ r. ⌜ r ≡ beforeSays (now (out .entry)) (at - size) (block .start) (block .parent) ⌝ }
 {
     if block.start == block.parent {
         return 0;
     }
+    let left = at - size;
     word::read(out, left) + word::read(out, left + 4)
 }
 
@@ -80,7 +83,8 @@ fn put_count_of(
         (placeAt (settingsOf (level .settings) (now (counted .entry))) (now (text .entry)) (level .number) i + 16 + 12 * c + 12) ⌝ }
 {
     let at = level::place(counted, level, BlockNumber(i)) + 16 + 12 * c;
-    let b = count_before(out, at - (16 + 12 * counted.len()), block);
+    let size = level::record_size(counted, level.settings);
+    let b = count_before(out, at, size, block);
     put_count(out, text, counted[c], at, block, b);
 }
 
@@ -90,13 +94,39 @@ fn put_counts(out: &mut [u8], text: &[u8], counted: &[u8], level: Level, i: u32,
     ensures { λ _. ⌜ Grown (treeOf (settingsOf (level .settings) (now (counted .entry))) (now (text .entry))) (now (out .entry)) (now (out .exit)) ⌝ }
     ensures { λ _. ⌜ Within (treeOf (settingsOf (level .settings) (now (counted .entry))) (now (text .entry))) (now (out .exit))
         (placeAt (settingsOf (level .settings) (now (counted .entry))) (now (text .entry)) (level .number) i + 16)
-        (placeAt (settingsOf (level .settings) (now (counted .entry))) (now (text .entry)) (level .number) (i + 1)) ⌝ }
+        (placeAt (settingsOf (level .settings) (now (counted .entry))) (now (text .entry)) (level .number) i + 16 + 12 * length (now (counted .entry))) ⌝ }
 {
     let mut c: usize = 0;
     while c < counted.len() {
         put_count_of(out, text, counted, level, i, block, c);
         c += 1;
     }
+}
+
+// An edge of m bytes: `own` bytes of the text, then zeros.
+fn put_edge(out: &mut [u8], text: &[u8], at: usize, from: usize, own: usize, m: usize)
+    requires { ⌜ (at + m ≤ length (now out)) × (from + own ≤ length (now text)) × (own ≤ m) ⌝ }
+    ensures { λ _. ⌜ now (out .exit) ≡ edgeWritten (now (out .entry)) at (now (text .entry)) from own m ⌝ }
+{
+    stretches::copy(out, at, text, from, own);
+    stretches::clear_at(out, at + own, m - own);
+}
+
+// The edges of a block, after its counts: its first m bytes, and its last m bytes.
+fn put_edges(out: &mut [u8], text: &[u8], counted: &[u8], level: Level, i: u32, block: Block)
+    requires { ⌜ Writing (settingsOf (level .settings) (now counted)) (now text) (now out) level i block ⌝ }
+    ensures { λ _. ⌜ Grown (treeOf (settingsOf (level .settings) (now (counted .entry))) (now (text .entry))) (now (out .entry)) (now (out .exit)) ⌝ }
+    ensures { λ _. ⌜ Within (treeOf (settingsOf (level .settings) (now (counted .entry))) (now (text .entry))) (now (out .exit))
+        (placeAt (settingsOf (level .settings) (now (counted .entry))) (now (text .entry)) (level .number) i + 16 + 12 * length (now (counted .entry)))
+        (placeAt (settingsOf (level .settings) (now (counted .entry))) (now (text .entry)) (level .number) (i + 1)) ⌝ }
+{
+    let m = level.settings.leaf as usize;
+    let length = block.length as usize;
+    let own = stretches::shorter(level.settings.leaf, block.length) as usize;
+    let first = block.start as usize;
+    let at = level::place(counted, level, BlockNumber(i)) + 16 + 12 * counted.len();
+    put_edge(out, text, at, first, own, m);
+    put_edge(out, text, at + m, first + (length - own), own, m);
 }
 
 // The record of a block.
@@ -109,6 +139,7 @@ fn put_record(out: &mut [u8], text: &[u8], counted: &[u8], level: Level, i: u32,
     let at = level::place(counted, level, BlockNumber(i));
     put_three(out, at + 4, block.kind, block.link, block.gap);
     put_counts(out, text, counted, level, i, block);
+    put_edges(out, text, counted, level, i, block);
 }
 
 // Writes the record of a block, and answers what the block has one level below: leaf bytes on the last level, else children; nothing where it points.

@@ -64,11 +64,11 @@ pub fn find(tree: &[u8], byte: u8, j: u32) {
     }
 }
 
-// A span's figure is 0.
+// A span's figure is the blocks entered.
 pub fn span(tree: &[u8], at: u32, len: u32, buffer: &mut [u8]) {
     let answer = query::span(tree, TextPlace(at), len, buffer);
     match answer {
-        Copied::Bytes(_) => say::buffer(0, 0, buffer),
+        Copied::Bytes(_, entered) => say::buffer(0, entered as u64, buffer),
         Copied::Refused(number) => say::buffer(number, 0, buffer),
     }
 }

@@ -1,6 +1,5 @@
 pub mod Modulo
 pub mod Digits
-pub mod Same
 pub mod Ahead
 pub mod Usable
 pub mod Cases

@@ -8,33 +8,6 @@ ghost use Rattle.text.specs.Lists.{sameList};
 ghost use Rattle.text.specs.Text.{stretch, leftmost};
 ghost use Rattle.search.specs.Fingers.{Ready, finger};
 
-// Whether two runs of bytes are the same; stops at the first difference.
-pub fn same(a: &[u8], b: &[u8]) -> bool
-    ensures { λ r. ⌜ r ≡ sameList (now (a .entry)) (now (b .entry)) ⌝ }
-{
-    if a.len() != b.len() {
-        return false;
-    }
-    let mut i = 0;
-    while i < a.len() {
-        if a[i] != b[i] {
-            return false;
-        }
-        i += 1;
-    }
-    true
-}
-
-// Whether the n bytes at p and at q are the same.
-pub fn same_at(text: &[u8], p: usize, q: usize, n: usize) -> bool
-    requires { ⌜ (p + n ≤ length (now text)) × (q + n ≤ length (now text)) ⌝ }
-    ensures { λ r. ⌜ r ≡ sameList (stretch (now (text .entry)) p n) (stretch (now (text .entry)) q n) ⌝ }
-{
-    let p_end = p + n;
-    let q_end = q + n;
-    same(&text[p..p_end], &text[q..q_end])
-}
-
 // Whether the n bytes at `at` stand at p too. h and wanted are their fingerprints: equal ones only
 // propose, and the bytes decide.
 pub fn stands(
@@ -54,7 +27,7 @@ pub fn stands(
     if h != wanted {
         return false;
     }
-    same_at(text, p, at, n)
+    stretches::same_at(text, p, at, n)
 }
 
 // The first place with the n bytes at `at`.

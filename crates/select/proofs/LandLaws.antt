@@ -25,9 +25,9 @@ use Rattle.paths.specs.Landing.{kept-block, pointing-block}
 use Rattle.layout.specs.declared.header.Header.{Header}
 use Rattle.layout.specs.declared.place.BlockNumber.{BlockNumber}
 use Rattle.layout.specs.declared.place.BlockPlace.{BlockPlace}
-use Rattle.walk.specs.declared.step.Next.the-variants as next
-use Rattle.walk.specs.Steps.{OnLevel, InTable, nextAt}
-use Rattle.walk.proofs.StepLaws.{kept-in, pointing-in, b-small, b-pos}
+use Rattle.steps.specs.declared.Next.the-variants as next
+use Rattle.steps.specs.Steps.{OnLevel, InTable, nextAt}
+use Rattle.steps.proofs.StepLaws.{kept-in, pointing-in, b-small, b-pos}
 use Rattle.walk.proofs.WalkLaws.{pointing-not-kept}
 use Rattle.tallies.specs.Level.{Level, tally}
 use Rattle.tallies.specs.Local.{byteOf, inLeaves}

@@ -7,9 +7,9 @@ use borrow.Author.Tests.{lt-ltb, le-ltb, lt-leb, le-leb}
 use Rattle.format.specs.Layout as at
 use Rattle.layout.specs.declared.place.BlockNumber.{BlockNumber}
 use Rattle.layout.specs.declared.place.BlockPlace.{BlockPlace}
-use Rattle.walk.specs.declared.step.Next.{Next}
-use Rattle.walk.specs.declared.step.Next.the-variants as next
-use Rattle.walk.specs.Steps.{nextAt}
+use Rattle.steps.specs.declared.Next.{Next}
+use Rattle.steps.specs.declared.Next.the-variants as next
+use Rattle.steps.specs.Steps.{nextAt}
 use Rattle.select.specs.declared.seek.Placed.{Placed}
 use Rattle.select.specs.declared.seek.Placed.the-variants as placed
 use Rattle.select.specs.declared.seek.Child.the-variants as child

@@ -12,10 +12,10 @@ use Rattle.format.specs.Verdict.{verdict}
 use Rattle.layout.specs.declared.header.Header.{Header}
 use Rattle.layout.specs.declared.place.BlockNumber.{BlockNumber}
 use Rattle.layout.specs.declared.place.BlockPlace.{BlockPlace}
-use Rattle.walk.specs.declared.step.Next.{Next}
-use Rattle.walk.specs.declared.step.Next.the-variants as next
+use Rattle.steps.specs.declared.Next.{Next}
+use Rattle.steps.specs.declared.Next.the-variants as next
 use Rattle.layout.specs.HeaderSays.{HeaderOf}
-use Rattle.walk.specs.Steps.{OnLevel, nextAt}
+use Rattle.steps.specs.Steps.{OnLevel, nextAt}
 use Rattle.tallies.specs.Local.{byteOf}
 use Rattle.tallies.specs.Finds.{Lands}
 use Rattle.tallies.specs.Demands as demands

@@ -9,15 +9,14 @@ use layout::place::BlockPlace;
 use layout::place::TextPlace;
 use layout::record;
 use rank::scan::Wanted;
-use walk::step;
-use walk::step::Next;
+use steps::Next;
 ghost use mathlib.Core.Path.{_≡_};
 ghost use Prim.Native.Nat.{_+_, _-_, _*_, _≤_, _<_};
 ghost use Rattle.format.specs.Settings.{maxText};
 ghost use Rattle.format.specs.Layout as at;
 ghost use Rattle.format.specs.Finding.{total};
 ghost use Rattle.layout.specs.HeaderSays.{HeaderOf};
-ghost use Rattle.walk.specs.Steps.{OnLevel, InTable};
+ghost use Rattle.steps.specs.Steps.{OnLevel, InTable};
 ghost use Rattle.tallies.specs.Local.{byteOf};
 ghost use Rattle.select.specs.Found.{saidFind, Numbered, placedIn, Sought};
 ghost use Rattle.select.specs.Seeks.{Near, moved, Siblings, LastBefore, picked, KeptIn, PointsIn, ChildWith, targetAt, TargetWith, Seeking, FoundIn};
@@ -56,7 +55,7 @@ fn last_before(
 {
     let mut i: u32 = first;
     while i + 1 < end {
-        let next = record::before(t, h.settings.counted, level, BlockNumber(i + 1), number) as u64;
+        let next = record::before(t, h.record_size, level, BlockNumber(i + 1), number) as u64;
         if j <= next {
             return BlockNumber(i);
         }
@@ -79,11 +78,11 @@ fn pick(
     requires { ⌜ (InTable (now t) h level b (block .0)) × (number < at.countedCount (now t)) ⌝ }
     ensures { λ r. ⌜ r ≡ picked (now (t .entry)) number level (block .0) (place .0) j ⌝ }
 {
-    let before = record::before(t, h.settings.counted, level, block, number) as u64;
+    let before = record::before(t, h.record_size, level, block, number) as u64;
     if j <= before {
         return Child::Off;
     }
-    match step::look(t, h, level, b, block, place) {
+    match steps::look(t, h, level, b, block, place) {
         Next::Kept(i, o) => Child::Kept(i, o, j - before),
         Next::Points(i, o) => Child::Points(i, o, j - before),
         Next::Off => Child::Off,
@@ -121,8 +120,8 @@ fn child_with(
     requires { ⌜ (KeptIn (now t) h level b (block .0)) × (OnLevel (now t) h (level + 1) below) × (number < at.countedCount (now t)) × (1 ≤ j) ⌝ }
     ensures { λ r. ⌜ ChildWith (now (t .entry)) number level (block .0) below j r ⌝ }
 {
-    let link = record::link(t, h.settings.counted, level, block);
-    let count = header::pieces(step::block_length(t, h, level, b, block), below);
+    let link = record::link(t, h.record_size, level, block);
+    let count = header::pieces(steps::block_length(t, h, level, b, block), below);
     let table = record::level_count(t, level + 1) as u64;
     if table < link as u64 + count as u64 {
         return Child::Off;
@@ -147,7 +146,7 @@ fn kept_target(
     requires { ⌜ (HeaderOf (now t) h) × (level < at.settings (now t) .levels) × (block .0 < at.levelCount (now t) level) ⌝ }
     ensures { λ r. ⌜ r ≡ targetAt (now (t .entry)) level (block .0) forward rest ⌝ }
 {
-    let kind = record::kind(t, h.settings.counted, level, block);
+    let kind = record::kind(t, h.record_size, level, block);
     if kind == 0 {
         return Target::Kept(block, forward, rest);
     }
@@ -168,13 +167,13 @@ fn target_with(
     requires { ⌜ (PointsIn (now t) h level b (block .0)) × (number < at.countedCount (now t)) × (1 ≤ j) × (j ≤ 1099511627776) ⌝ }
     ensures { λ r. ⌜ TargetWith (now (t .entry)) number level (block .0) b j r ⌝ }
 {
-    let link = record::link(t, h.settings.counted, level, block);
+    let link = record::link(t, h.record_size, level, block);
     let count = record::level_count(t, level);
     if count <= link {
         return Target::Off;
     }
-    let rank = j + record::skip(t, h.settings.counted, level, block, number) as u64;
-    let inside = record::inside(t, h.settings.counted, level, BlockNumber(link), number) as u64;
+    let rank = j + record::skip(t, h.record_size, level, block, number) as u64;
+    let inside = record::inside(t, h.record_size, level, BlockNumber(link), number) as u64;
     if rank <= inside {
         return kept_target(t, h, level, BlockNumber(link), 0, rank);
     }
@@ -197,8 +196,8 @@ fn leaf_place(
     requires { ⌜ (KeptIn (now t) h level b (block .0)) × (Seeking (now t) h wanted level b j (level + 2)) × (level + 1 ≡ h .settings .levels) ⌝ }
     ensures { λ r. ⌜ FoundIn (now (t .entry)) (wanted .number) level (block .0) j 1 r ⌝ }
 {
-    let link = record::link(t, h.settings.counted, level, block) as u64;
-    let len = step::block_length(t, h, level, b, block);
+    let link = record::link(t, h.record_size, level, block) as u64;
+    let len = steps::block_length(t, h, level, b, block);
     if (h.leaf_count as u64) < link + len as u64 {
         return Placed::Off;
     }
@@ -256,7 +255,7 @@ fn pointing_step(
     if level + 1 == h.settings.levels {
         return Placed::Off;
     }
-    let gap = record::gap(t, h.settings.counted, level, block);
+    let gap = record::gap(t, h.record_size, level, block);
     let next = target_with(t, h, wanted.number, level, b, block, j);
     match next {
         Target::Kept(i, forward, rest) => shift(

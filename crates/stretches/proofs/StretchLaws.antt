@@ -1,10 +1,15 @@
--- A byte looked for, and bytes copied, one place after another.
+-- A byte looked for, bytes copied, and zeros, one place after another.
 use mathlib.Core.List.{List}
-use mathlib.Core.Path.{_≡_, _∙_}
+use mathlib.Core.Bool.{true, false}
+use mathlib.Core.Path.{_≡_, sym, ap, _∙_}
 use Prim.Native.Nat.{ℕ, _+_, _≤_, _<_}
 use native.Mathlib.Omega.{arith}
 use native.Mathlib.Numerals.{add-one}
-use lib.ListN.{getD, set}
+use lib.ListN.{length, getD, set, replicate, length-replicate, getD-replicate}
+use lib.Seq.{ext-getD}
+use Rattle.text.specs.Lists.{sameList}
+use Rattle.text.specs.ListLaws.{ne-sameList, eq-sameList}
+use Rattle.text.specs.TextLaws.{length-stretch, getD-stretch}
 use Rattle.text.specs.Text.{stretch, countIn}
 use Rattle.stretches.specs.Stretches.{Stands, bytesWritten}
 
@@ -21,3 +26,14 @@ module _ (t : List ℕ) (from n byte j : ℕ) where
 pub bytes-more : (t u v T : List ℕ) (to from j : ℕ) → u ≡ bytesWritten t to T from j → v ≡ set u (to + j) (getD T (from + j) 0)
     → v ≡ bytesWritten t to T from (j + 1)
 bytes-more t u v T to from j e f = f ∙ rw (e, add-one j)
+
+-- bytes that are all zero
+module _ (t : List ℕ) (a n : ℕ) where
+  pub zeros-not : (i : ℕ) → i < n → (getD t (a + i) 0 ≡ 0 → ⊥) → false ≡ sameList (stretch t a n) (replicate n 0)
+  zeros-not i h other =
+      sym (ne-sameList _ _ (λ e. other (sym (getD-stretch t a n i h) ∙ ap (λ (x : List ℕ). getD x i 0) e ∙ getD-replicate n i 0 0 h)))
+
+  pub zeros-all : (i : ℕ) → a + n ≤ length t → n ≤ i → ((x : ℕ) → x < i → getD t (a + x) 0 ≡ 0) → true ≡ sameList (stretch t a n) (replicate n 0)
+  zeros-all i fits all z =
+      sym (eq-sameList _ _ (ext-getD 0 (stretch t a n) (replicate n 0) (length-stretch t a n fits ∙ sym (length-replicate n 0))
+      (λ x h. (let low : x < n = rw (length-stretch t a n fits) at h in getD-stretch t a n x low ∙ z x (omega arith) ∙ sym (getD-replicate n x 0 0 low)))))

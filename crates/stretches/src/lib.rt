@@ -1,8 +1,9 @@
-// Stretches of lent bytes: a byte counted or looked for in one, bytes copied or made zero, and the shorter of two lengths.
+// Stretches of lent bytes: a byte counted or looked for in one, bytes compared, copied or made zero, and the shorter of two lengths.
 ghost use mathlib.Core.Path.{_≡_};
-ghost use mathlib.Core.List.{_++_};
+ghost use mathlib.Core.List.{[], _++_};
 ghost use Prim.Native.Nat.{_+_, _≤_, min};
 ghost use lib.ListN.{length, drop, replicate};
+ghost use Rattle.text.specs.Lists.{sameList};
 ghost use Rattle.text.specs.Text.{stretch, countIn};
 ghost use Rattle.stretches.specs.Stretches.{Stands, bytesWritten};
 
@@ -63,6 +64,60 @@ pub fn clear(buffer: &mut [u8], n: usize)
         buffer[i] = 0;
         i += 1;
     }
+}
+
+// Writes zeros into the n bytes at a place.
+pub fn clear_at(out: &mut [u8], to: usize, n: usize)
+    requires { ⌜ to + n ≤ length (now out) ⌝ }
+    ensures { λ _. ⌜ now (out .exit) ≡ bytesWritten (now (out .entry)) to [] 0 n ⌝ }
+{
+    let mut j: usize = 0;
+    while j < n {
+        out[to + j] = 0;
+        j += 1;
+    }
+}
+
+// Whether two runs of bytes are the same; stops at the first difference.
+pub fn same(a: &[u8], b: &[u8]) -> bool
+    ensures { λ r. ⌜ r ≡ sameList (now (a .entry)) (now (b .entry)) ⌝ }
+{
+    if a.len() != b.len() {
+        return false;
+    }
+    let mut i = 0;
+    while i < a.len() {
+        if a[i] != b[i] {
+            return false;
+        }
+        i += 1;
+    }
+    true
+}
+
+// Whether the n bytes at p and at q are the same.
+pub fn same_at(text: &[u8], p: usize, q: usize, n: usize) -> bool
+    requires { ⌜ (p + n ≤ length (now text)) × (q + n ≤ length (now text)) ⌝ }
+    ensures { λ r. ⌜ r ≡ sameList (stretch (now (text .entry)) p n) (stretch (now (text .entry)) q n) ⌝ }
+{
+    let p_end = p + n;
+    let q_end = q + n;
+    same(&text[p..p_end], &text[q..q_end])
+}
+
+// Whether the n bytes at a place are all zero.
+pub fn zeros(t: &[u8], a: usize, n: u32) -> bool
+    requires { ⌜ a + n ≤ length (now t) ⌝ }
+    ensures { λ r. ⌜ r ≡ sameList (stretch (now (t .entry)) a n) (replicate n 0) ⌝ }
+{
+    let mut i: u32 = 0;
+    while i < n {
+        if t[a + i as usize] != 0 {
+            return false;
+        }
+        i += 1;
+    }
+    true
 }
 
 // The shorter of two lengths.

@@ -3,7 +3,7 @@ use mathlib.Core.List.{List}
 use mathlib.Core.Bool.{true, false}
 use mathlib.Core.Path.{_≡_, sym, _∙_}
 use Prim.Native.Nat.{ℕ}
-use Rattle.format.specs.Fits.{linksOk, textOf, countsTrue}
+use Rattle.format.specs.Fits.{linksOk, textOf, countsTrue, edgesTrue}
 use Rattle.format.specs.Verdict.{verdict}
 use Rattle.format.specs.VerdictLaws.{verdict-readable, verdict-refused}
 use Rattle.layout.specs.declared.header.Header.{Header}
@@ -27,5 +27,9 @@ module _ (t : List ℕ) where
       pub counts-fail : countsTrue (textOf t) t ≡ false → 9 ≡ verdict t
       counts-fail f = rw (verdict-readable t (k .passes), links, f)
 
-      pub counts-hold : countsTrue (textOf t) t ≡ true → 0 ≡ verdict t
-      counts-hold f = rw (verdict-readable t (k .passes), links, f)
+      module _ (counts : countsTrue (textOf t) t ≡ true) where
+        pub edges-fail : edgesTrue (textOf t) t ≡ false → 9 ≡ verdict t
+        edges-fail f = rw (verdict-readable t (k .passes), links, counts, f)
+
+        pub edges-hold : edgesTrue (textOf t) t ≡ true → 0 ≡ verdict t
+        edges-hold f = rw (verdict-readable t (k .passes), links, counts, f)

@@ -23,6 +23,7 @@ use Rattle.format.specs.Reading.{byteSays, spanNumber, spanLeaves}
 use Rattle.built.specs.Sizes.{Taken}
 use Rattle.accepted.specs.Accepting.{StandsFor, accepts, one-text, built-text, built-verdict, accepted-stands}
 use Rattle.paths.specs.Demands as paths
+use Rattle.margins.specs.Demands as margins
 use Rattle.builder.specs.declared.Built.{Built}
 use Rattle.builder.specs.Answers.{numberOf, sizeOf, given}
 use Rattle.builder.proofs.build.Reads as build-reads
@@ -33,7 +34,8 @@ abbrev pub Checked : (κs : Lfts 1) → RefT (List ℕ) → ℕ → Type 0
 Checked κs t r = check-reads.Post κs (t, tt) r (t, tt)
 
 module _ (κs : Lfts 1) (t : RefT (List ℕ)) (r : ℕ) (c : Checked κs t r) where
-  -- "The check accepts any bytes, whoever made them, exactly when questions 5 to 8 hold, a text fits and the counts are true of it."
+  -- "The check accepts any bytes, whoever made them, exactly when questions 5 to 8 hold, a text fits and the counts are true of it", and of a
+  -- layout 2 tree, besides, its edges.
   pub check-accepts : (r ≡ 0) ↔ ((T : List ℕ) × StandsFor (now t) T)
   check-accepts = (λ e. accepts (now t) .0 (sym c ∙ e), λ s. c ∙ accepts (now t) .1 s)
 
@@ -112,8 +114,8 @@ module _ (κs : Lfts 3) (text : RefT (List ℕ)) (leaf arity levels : ℕ) (coun
   pub build-span : (p len : ℕ) (lent : List ℕ) → p + len ≤ at.textLength tree → len ≤ length lent
       → (spanNumber tree p len (length lent) ≡ 0) × (spanLeaves tree p len lent ≡ stretch T p len ++ drop len lent)
   build-span p len lent h room = (
-    paths.span-good tree (stands .readable-is) (stands .linked) p len (length lent) h room,
-    paths.span-of-text tree (stands .readable-is) (stands .linked) p len lent h room ∙ ap (λ (U : List ℕ). stretch U p len ++ drop len lent) build-text,
+    margins.span-good tree build-accepted p len (length lent) h room,
+    margins.span-of-text tree build-accepted p len lent h room ∙ ap (λ (U : List ℕ). stretch U p len ++ drop len lent) build-text,
   )
 
 -- "The tree is the same for every choice of base and modulus": whatever a builder that meets the contract searches with, a call on the

@@ -1,4 +1,5 @@
 // The tree layer's outside calls: build writes the block tree of a text, check asks any bytes lent as a tree.
+use borders::truth;
 pub use builder::Built;
 pub use builder::build;
 pub use enough::enough;
@@ -31,6 +32,9 @@ fn check_tables(t: &[u8], h: Header) -> u32
         return 8;
     }
     if !counts::counts_right(t, h) {
+        return 9;
+    }
+    if !truth::edges_right(t, h) {
         return 9;
     }
     ACCEPTED

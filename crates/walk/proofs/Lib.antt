@@ -1,4 +1,3 @@
-pub mod StepLaws
 pub mod WalkLaws
 pub mod EndLaws
 pub mod HeldLaws

@@ -11,7 +11,7 @@ use Rattle.layout.specs.declared.header.Header.{Header}
 use Rattle.walk.specs.declared.Trail.{Trail}
 use Rattle.walk.specs.declared.Walked.{Walked}
 use Rattle.walk.specs.declared.Walked.the-variants.{At, Broken}
-use Rattle.walk.specs.Steps.{OnLevel}
+use Rattle.steps.specs.Steps.{OnLevel}
 
 -- one more block entered, with so many bytes left in it
 unfoldable pub onward : Trail → ℕ → Trail

@@ -1,20 +1,19 @@
 // The walk down the path of a place. The step for a kept block and the step for a pointing block call each other: twice the
 // levels left, plus one if a pointer may still be followed, falls.
 pub mod held;
-pub mod step;
 
-use crate::step::Next;
 use layout::header::Header;
 use layout::place::BlockNumber;
 use layout::place::BlockPlace;
 use layout::place::TextPlace;
 use layout::record;
+use steps::Next;
 ghost use mathlib.Core.Path.{_≡_};
 ghost use Prim.Native.Nat.{_+_, _-_, _*_, _≤_, _<_};
 ghost use Rattle.format.specs.Layout as at;
 ghost use Rattle.format.specs.Path.{pathFrom, pathOf};
 ghost use Rattle.layout.specs.HeaderSays.{HeaderOf};
-ghost use Rattle.walk.specs.Steps.{Pointing};
+ghost use Rattle.steps.specs.Steps.{Pointing};
 ghost use Rattle.walk.specs.Walk.{KeptAt, walked, onward};
 
 // What is carried down a path: how many blocks were entered, and the bytes left from the place on in every one of them.
@@ -60,7 +59,7 @@ fn leaf(
     requires { ⌜ KeptAt (now t) h level b (block .0) (place .0) (trail .entered) ⌝ }
     ensures { λ r. ⌜ r ≡ walked (now (t .entry)) trail (pathFrom (now (t .entry)) 0 level (block .0) (place .0)) ⌝ }
 {
-    let link = record::link(t, h.settings.counted, level, block) as u64;
+    let link = record::link(t, h.record_size, level, block) as u64;
     let number = link + place.0 as u64;
     if number < h.leaf_count as u64 {
         return Walked::At(Reached {
@@ -90,7 +89,7 @@ pub fn kept_step(
     }
     let below = b / h.settings.arity;
     let on = trail.enter(b, place);
-    let next = step::child(t, h, level, below, block, place);
+    let next = steps::child(t, h, level, below, block, place);
     match next {
         Next::Kept(i, p) => kept_step(t, h, down, below, i, p, on),
         Next::Points(i, p) => pointing_step(t, h, down, below, i, p, on),
@@ -115,7 +114,7 @@ pub fn pointing_step(
         return Walked::Broken;
     }
     let on = trail.enter(b, place);
-    let next = step::target(t, h, level, b, block, place);
+    let next = steps::target(t, h, level, b, block, place);
     match next {
         Next::Kept(i, p) => kept_step(t, h, level, b, i, p, on),
         Next::Points(_, _) => Walked::Broken,
@@ -133,7 +132,7 @@ pub fn walk(t: &[u8], h: Header, at: TextPlace) -> Walked
         left: h.length - at.0,
     };
     let b = h.block;
-    match step::first(t, h, b, at) {
+    match steps::first(t, h, b, at) {
         Next::Kept(i, p) => kept_step(t, h, 0, b, i, p, trail),
         Next::Points(i, p) => pointing_step(t, h, 0, b, i, p, trail),
         Next::Off => Walked::Broken,

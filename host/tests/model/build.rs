@@ -51,7 +51,7 @@ struct Block {
 }
 
 /// The tree of `text` in which `choose(b, starts)` decides on each level above the last. All settings are within bounds.
-pub fn assemble(text: &[u8], shape: Shape, counted: &[u8], mut choose: impl FnMut(usize, &[usize]) -> Vec<Choice>) -> Vec<u8> {
+pub fn assemble(layout: u32, text: &[u8], shape: Shape, counted: &[u8], mut choose: impl FnMut(usize, &[usize]) -> Vec<Choice>) -> Vec<u8> {
     let n = text.len();
     let last = shape.h as usize - 1;
     let mut levels: Vec<Vec<Block>> = Vec::new();
@@ -83,13 +83,13 @@ pub fn assemble(text: &[u8], shape: Shape, counted: &[u8], mut choose: impl FnMu
         levels.push(blocks);
         list = children;
     }
-    write_tree(text, shape, counted, &levels, &leaf_bytes)
+    write_tree(layout, text, shape, counted, &levels, &leaf_bytes)
 }
 
-fn write_tree(text: &[u8], shape: Shape, counted: &[u8], levels: &[Vec<Block>], leaf_bytes: &[u8]) -> Vec<u8> {
+fn write_tree(layout: u32, text: &[u8], shape: Shape, counted: &[u8], levels: &[Vec<Block>], leaf_bytes: &[u8]) -> Vec<u8> {
     let mut tree = Vec::new();
     let put = |tree: &mut Vec<u8>, value: usize| tree.extend_from_slice(&(value as u32).to_le_bytes());
-    for value in [1, text.len(), shape.m as usize, shape.r as usize, shape.h as usize, counted.len()] {
+    for value in [layout as usize, text.len(), shape.m as usize, shape.r as usize, shape.h as usize, counted.len()] {
         put(&mut tree, value);
     }
     tree.extend_from_slice(counted);
@@ -99,7 +99,7 @@ fn write_tree(text: &[u8], shape: Shape, counted: &[u8], levels: &[Vec<Block>], 
         let blocks = levels.get(level).map_or(0, Vec::len);
         put(&mut tree, blocks);
         put(&mut tree, if level < levels.len() { offset } else { 0 });
-        offset += blocks * record_length(counted.len());
+        offset += blocks * record_length(layout, shape.m, counted.len());
     }
     put(&mut tree, offset);
     put(&mut tree, leaf_bytes.len());
@@ -122,10 +122,20 @@ fn write_tree(text: &[u8], shape: Shape, counted: &[u8], levels: &[Vec<Block>], 
                 put(&mut tree, stretch(block.start, end));
                 put(&mut tree, if kind == 1 { stretch(blocks[block.link].start, blocks[block.link].start + gap) } else { 0 });
             }
+            if layout == WITH_EDGES {
+                tree.extend(edges(&text[block.start..end], shape.m as usize));
+            }
         }
     }
     tree.extend_from_slice(leaf_bytes);
     tree
+}
+
+/// The first m bytes of a block and its last m bytes; of a shorter block both are its bytes and then zeros.
+pub fn edges(block: &[u8], m: usize) -> Vec<u8> {
+    let (first, last) = (&block[..m.min(block.len())], &block[block.len().saturating_sub(m)..]);
+    let zeros = vec![0; m - first.len()];
+    [first, &zeros, last, &zeros].concat()
 }
 
 /// How often `byte` stands in each prefix of `text`.
@@ -157,7 +167,12 @@ pub fn build(text: &[u8], shape: Shape, counted: &[u8], buffer: &mut [u8]) -> (u
 
 /// The tree, by trying every place for every stretch.
 pub fn plain_tree(text: &[u8], shape: Shape, counted: &[u8]) -> Vec<u8> {
-    assemble(text, shape, counted, |b, starts| choose(text.len(), b, starts, &|place, length| leftmost(text, place, length)))
+    plain_tree_in(WITH_EDGES, text, shape, counted)
+}
+
+/// The same in either layout.
+pub fn plain_tree_in(layout: u32, text: &[u8], shape: Shape, counted: &[u8]) -> Vec<u8> {
+    assemble(layout, text, shape, counted, |b, starts| choose(text.len(), b, starts, &|place, length| leftmost(text, place, length)))
 }
 
 pub fn build_with(text: &[u8], shape: Shape, counted: &[u8], buffer: &mut [u8], make: impl Fn(&[u8], Shape, &[u8]) -> Vec<u8>) -> (u32, u32) {
@@ -177,5 +192,5 @@ pub fn build_with(text: &[u8], shape: Shape, counted: &[u8], buffer: &mut [u8], 
 /// The size of the tree of `n` bytes in which every block is kept: no tree of such a text is larger.
 pub fn largest(n: u64, shape: Shape, k: usize) -> u64 {
     let blocks: u64 = (0..shape.h as usize).map(|level| blocks_for(n, shape.block_length(level))).sum();
-    HEADER as u64 + blocks * record_length(k) as u64 + n
+    HEADER as u64 + blocks * record_length(WITH_EDGES, shape.m, k) as u64 + n
 }

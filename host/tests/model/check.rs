@@ -1,6 +1,6 @@
 //! The check: questions 5 to 9; and the list program.
 
-use super::build::prefix_counts;
+use super::build::{edges, prefix_counts};
 use super::read::*;
 use super::*;
 
@@ -9,7 +9,7 @@ pub fn check(bytes: &[u8]) -> u32 {
     match Tree::open(bytes) {
         Err(number) => number,
         Ok(tree) if !well_linked(&tree) => 8,
-        Ok(tree) if !counts_true(&tree) => 9,
+        Ok(tree) if !counts_and_edges_true(&tree) => 9,
         Ok(_) => 0,
     }
 }
@@ -64,11 +64,20 @@ fn points_well(tree: &Tree, level: usize, i: u64) -> bool {
 }
 
 /// Question 9, by the text that fits: a tree that passes 5 to 8 has exactly one.
-fn counts_true(tree: &Tree) -> bool {
+fn counts_and_edges_true(tree: &Tree) -> bool {
     let text = text(tree);
-    (0..tree.k).all(|c| {
+    let counts = (0..tree.k).all(|c| {
         let sums = prefix_counts(&text, tree.bytes[24 + c]);
         (0..tree.levels).all(|level| level_counts_true(tree, level, c, &sums))
+    });
+    counts && (tree.layout != WITH_EDGES || (0..tree.levels).all(|level| level_edges_true(tree, level, &text)))
+}
+
+fn level_edges_true(tree: &Tree, level: usize, text: &[u8]) -> bool {
+    (0..tree.blocks(level)).all(|i| {
+        let start = tree.field(level, i, START) as usize;
+        let block = &text[start..start + tree.length(level, i) as usize];
+        [tree.first_edge(level, i), tree.last_edge(level, i)].concat() == edges(block, tree.m)
     })
 }
 

@@ -8,7 +8,7 @@ use std::collections::HashMap;
 
 /// The tree. Each length asked for is searched once, all windows of the text in one pass.
 pub fn tree(text: &[u8], shape: Shape, counted: &[u8]) -> Vec<u8> {
-    assemble(text, shape, counted, |b, starts| {
+    assemble(WITH_EDGES, text, shape, counted, |b, starts| {
         let leftmost = Leftmost { text, by_length: RefCell::new(HashMap::new()), starts };
         choose(text.len(), b, starts, &|place, length| leftmost.of(place, length))
     })
@@ -138,7 +138,7 @@ fn try_row(bytes: &[u8], q: u32, buffer: &mut [u8]) -> Result<u32, u32> {
     if length as usize > buffer.len() {
         return Err(13);
     }
-    match span(bytes, start as u32, length, buffer) {
+    match copy(&tree, start, &mut buffer[..length as usize]) {
         0 => Ok(length),
         number => Err(number),
     }

@@ -14,6 +14,9 @@ pub const MAX_TEXT: u64 = 1_048_576;
 pub const HEADER: usize = 100;
 pub const MAX_LEVELS: usize = 8;
 pub const MAX_COUNTED: usize = 4;
+/// The layouts: 1, and 2, which the builder writes.
+pub const LAYOUTS: [u32; 2] = [1, WITH_EDGES];
+pub const WITH_EDGES: u32 = 2;
 
 /// Leaf length, arity and levels.
 #[derive(Clone, Copy, Debug, PartialEq, Eq)]
@@ -48,10 +51,10 @@ pub fn counted_in_bounds(counted: &[u8]) -> bool {
     counted.len() <= MAX_COUNTED && counted.windows(2).all(|pair| pair[0] < pair[1])
 }
 
-/// Bytes of a record with `k` counted bytes.
+/// Bytes of a record with `k` counted bytes, and in layout 2 with two edges of `m` bytes.
 #[inline]
-pub fn record_length(k: usize) -> usize {
-    16 + 12 * k
+pub fn record_length(layout: u32, m: u32, k: usize) -> usize {
+    16 + 12 * k + if layout == WITH_EDGES { 2 * m as usize } else { 0 }
 }
 
 /// The word at `at`.

@@ -6,6 +6,8 @@ use super::*;
 pub struct Tree<'a> {
     pub bytes: &'a [u8],
     pub n: u64,
+    pub layout: u32,
+    pub m: usize,
     pub levels: usize,
     pub k: usize,
     b: [u64; MAX_LEVELS],
@@ -31,7 +33,8 @@ impl<'a> Tree<'a> {
         if bytes.len() < HEADER {
             return Err(5);
         }
-        if word(bytes, 0) != 1 {
+        let layout = word(bytes, 0);
+        if !LAYOUTS.contains(&layout) {
             return Err(6);
         }
         let n = u64::from(word(bytes, 4));
@@ -47,6 +50,8 @@ impl<'a> Tree<'a> {
         let mut tree = Tree {
             bytes,
             n,
+            layout,
+            m: shape.m as usize,
             levels,
             k,
             b: [0; MAX_LEVELS],
@@ -70,7 +75,7 @@ impl<'a> Tree<'a> {
             tree.b[level] = shape.block_length(level);
             tree.blocks[level] = u64::from(blocks);
             tree.offset[level] = offset as usize;
-            expected += u64::from(blocks) * record_length(k) as u64;
+            expected += u64::from(blocks) * record_length(layout, shape.m, k) as u64;
         }
         tree.leaf_offset = word(bytes, 92) as usize;
         if tree.blocks[0] != blocks_for(n, tree.b[0]) || u64::from(word(bytes, 92)) != expected || bytes.len() as u64 != expected + tree.leaf_count {
@@ -103,7 +108,25 @@ impl<'a> Tree<'a> {
     /// A word of the record of a block in the table.
     #[inline]
     pub fn field(&self, level: usize, block: u64, field: usize) -> u64 {
-        u64::from(word(self.bytes, self.offset[level] + block as usize * record_length(self.k) + 4 * field))
+        u64::from(word(self.bytes, self.record(level, block) + 4 * field))
+    }
+
+    /// Where the record of a block in the table begins.
+    #[inline]
+    fn record(&self, level: usize, block: u64) -> usize {
+        self.offset[level] + block as usize * record_length(self.layout, self.m as u32, self.k)
+    }
+
+    /// The first m bytes of a block, as its record in layout 2 has them.
+    #[inline]
+    pub fn first_edge(&self, level: usize, block: u64) -> &'a [u8] {
+        &self.bytes[self.record(level, block) + record_length(1, 0, self.k)..][..self.m]
+    }
+
+    /// The last m bytes of a block, as its record in layout 2 has them.
+    #[inline]
+    pub fn last_edge(&self, level: usize, block: u64) -> &'a [u8] {
+        &self.bytes[self.record(level, block) + record_length(1, 0, self.k) + self.m..][..self.m]
     }
 
     /// A block's length: b, or n less its start where that is shorter.
@@ -216,23 +239,80 @@ fn try_run(bytes: &[u8], p: u32) -> Result<(u64, u64), u32> {
     Ok((tree.leaf_offset as u64 + leaf, length.min(tree.leaf_count - leaf)))
 }
 
-/// The number; the bytes go to the buffer.
-pub fn span(bytes: &[u8], p: u32, length: u32, buffer: &mut [u8]) -> u32 {
+/// The number and the blocks entered by a short span, 0 for any other; the bytes go to the buffer.
+pub fn span(bytes: &[u8], p: u32, length: u32, buffer: &mut [u8]) -> (u32, u32) {
     let tree = match Tree::open(bytes) {
         Ok(tree) => tree,
-        Err(number) => return number,
+        Err(number) => return (number, 0),
     };
     if u64::from(p) + u64::from(length) > tree.n {
-        return 10;
+        return (10, 0);
     }
     if length as usize > buffer.len() {
-        return 13;
+        return (13, 0);
     }
-    copy(&tree, u64::from(p), &mut buffer[..length as usize])
+    let part = &mut buffer[..length as usize];
+    if tree.layout != WITH_EDGES || part.is_empty() || part.len() > tree.m {
+        return (copy(&tree, u64::from(p), part), 0);
+    }
+    match short(&tree, p.into(), part) {
+        Some(entered) => (0, entered),
+        None => {
+            part.fill(0);
+            (14, 0)
+        }
+    }
 }
 
-/// Fill `part` with the text from `p`; zeros and 14 where a path breaks.
-fn copy(tree: &Tree, p: u64, part: &mut [u8]) -> u32 {
+/// Fill `part`, of 1 to m bytes, with the text from `p`, going down only while it lies in one block. The blocks entered; none where the walk breaks.
+fn short(tree: &Tree, p: u64, part: &mut [u8]) -> Option<u32> {
+    let (mut level, mut block, mut place) = (0, p / tree.b[0], p % tree.b[0]);
+    let (mut target, mut entered) = (false, 0);
+    loop {
+        let b = tree.b[level];
+        if place + part.len() as u64 > b {
+            // over the border: the end of the left block's last edge, the left block taken as full, and the beginning of the right one's first
+            if block + 1 >= tree.blocks[level] {
+                return None;
+            }
+            let (left, right) = part.split_at_mut((b - place) as usize);
+            left.copy_from_slice(&tree.last_edge(level, block)[tree.m - left.len()..]);
+            right.copy_from_slice(&tree.first_edge(level, block + 1)[..right.len()]);
+            return Some(entered + 2);
+        }
+        if block >= tree.blocks[level] {
+            return None;
+        }
+        entered += 1;
+        let link = tree.field(level, block, LINK);
+        let last = level + 1 == tree.levels;
+        match tree.field(level, block, KIND) {
+            0 if last => {
+                let leaf = link + place;
+                if leaf + part.len() as u64 > tree.leaf_count {
+                    return None;
+                }
+                part.copy_from_slice(tree.leaf_bytes(leaf, part.len() as u64));
+                return Some(entered);
+            }
+            0 => {
+                let child = tree.b[level + 1];
+                (level, block, place, target) = (level + 1, link + place / child, place % child, false);
+            }
+            1 if !target && !last => {
+                let there = tree.field(level, block, GAP) + place;
+                if there - place >= b {
+                    return None;
+                }
+                (block, place, target) = (link + there / b, there % b, true);
+            }
+            _ => return None,
+        }
+    }
+}
+
+/// Fill `part` with the text from `p`, each byte by its path; zeros and 14 where one breaks.
+pub fn copy(tree: &Tree, p: u64, part: &mut [u8]) -> u32 {
     for i in 0..part.len() {
         match byte_at(tree, p + i as u64) {
             Some((byte, _)) => part[i] = byte,

@@ -2,7 +2,7 @@
 
 use super::Rng;
 use crate::model::build::{assemble, Choice};
-use crate::model::{blocks_for, record_length, word, Shape, HEADER};
+use crate::model::{blocks_for, record_length, word, Shape, HEADER, LAYOUTS, WITH_EDGES};
 
 /// A text of 1 to `longest` bytes over a few letters, with stretches that come again.
 pub fn text(rng: &mut Rng, longest: usize) -> Vec<u8> {
@@ -44,10 +44,11 @@ pub fn counted(rng: &mut Rng) -> Vec<u8> {
     counted
 }
 
-/// A good tree that the builder would not make: blocks that could point are kept now and then, and occurrences are not the leftmost.
+/// A good tree that the builder would not make: blocks that could point are kept now and then, occurrences are not the leftmost, and the layout may be 1.
 pub fn other_tree(rng: &mut Rng, text: &[u8], shape: Shape, counted: &[u8]) -> Vec<u8> {
     let keep_one_in = rng.within(1, 4);
-    assemble(text, shape, counted, |b, starts| {
+    let layout = *rng.pick(&LAYOUTS);
+    assemble(layout, text, shape, counted, |b, starts| {
         let mut choices: Vec<Choice> = Vec::new();
         for &start in starts {
             let mut targets = targets(text, b, starts, &choices, start);
@@ -135,7 +136,7 @@ fn odd_at(rng: &mut Rng, tree: &mut [u8], length: usize, from: usize) {
 /// The number of levels and the length of a record, where the header has sane ones.
 fn layout(tree: &[u8]) -> Option<(usize, usize)> {
     let (levels, k, leaf) = (word(tree, 16) as usize, word(tree, 20) as usize, word(tree, 92) as usize);
-    ((1..=8).contains(&levels) && k <= 4 && leaf <= tree.len()).then_some((levels, record_length(k)))
+    ((1..=8).contains(&levels) && k <= 4 && leaf <= tree.len()).then_some((levels, record_length(word(tree, 0), word(tree, 8).min(256), k)))
 }
 
 /// A block more or less on one level, the header laid out to match.
@@ -233,7 +234,8 @@ pub fn wild_tree(rng: &mut Rng) -> Vec<u8> {
     let n = rng.within(1, 4 * shape.block_length(0) as usize);
     let counted = counted(rng);
     let mut tree = vec![0; HEADER];
-    for (at, value) in [(0, 1), (4, n as u32), (8, shape.m), (12, shape.r), (16, shape.h), (20, counted.len() as u32)] {
+    let layout = *rng.pick(&LAYOUTS);
+    for (at, value) in [(0, layout), (4, n as u32), (8, shape.m), (12, shape.r), (16, shape.h), (20, counted.len() as u32)] {
         set_word(&mut tree, at, value);
     }
     tree[24..24 + counted.len()].copy_from_slice(&counted);
@@ -243,9 +245,12 @@ pub fn wild_tree(rng: &mut Rng) -> Vec<u8> {
         set_word(&mut tree, 28 + 8 * level, blocks as u32);
         for i in 0..blocks {
             record(rng, &mut tree, i, shape.block_length(level) as u32, counted.len());
+            if layout == WITH_EDGES {
+                tree.extend((0..2 * shape.m).map(|_| *rng.pick(b"AB\n\0")));
+            }
         }
     }
-    lay_out(&mut tree, shape.h as usize, record_length(counted.len()));
+    lay_out(&mut tree, shape.h as usize, record_length(layout, shape.m, counted.len()));
     let leaves = rng.within(n / 2, n + 2);
     set_word(&mut tree, 96, leaves as u32);
     tree.extend((0..leaves).map(|_| *rng.pick(b"AB\n")));

@@ -1,6 +1,6 @@
 use borrow.Author.Needs.{needs}
 use Rattle.layout.proofs.Tests.{failed, held}
-use Rattle.tree.proofs.CheckLaws.{links-fail, counts-fail, counts-hold}
+use Rattle.tree.proofs.CheckLaws.{links-fail, counts-fail, edges-fail, edges-hold}
 use Rattle.tree.proofs.check_tables.Statement.{statement}
 use Rattle.tree.proofs.check_tables.Tie as tie
 
@@ -12,4 +12,6 @@ check-tables-spec =
     (λ c. links-fail (c .before .before .before .args .t .now) _ (c .before .before .before .pre) (failed (c .before .links-right .ensures) (c .if1 .taken)))
     (λ c κs. record { header = c .before .before .before .pre; links = held (c .before .links-right .ensures) (c .if1 .left) })
     (λ c. counts-fail (c .before .before .before .before .before .args .t .now) _ (c .before .before .before .before .before .pre) (held (c .before .before .before .links-right .ensures) (c .before .before .if1 .left)) (failed (c .before .counts-right .ensures) (c .if2 .taken)))
-    (λ c. counts-hold (c .before .before .before .before .before .args .t .now) _ (c .before .before .before .before .before .pre) (held (c .before .before .before .links-right .ensures) (c .before .before .if1 .left)) (held (c .before .counts-right .ensures) (c .if2 .left))))
+    (λ c κs. record { header = c .before .before .before .before .before .pre; linked = held (c .before .before .before .links-right .ensures) (c .before .before .if1 .left) })
+    (λ c. edges-fail (c .before .before .before .before .before .before .before .args .t .now) _ (c .before .before .before .before .before .before .before .pre) (held (c .before .before .before .before .before .links-right .ensures) (c .before .before .before .before .if1 .left)) (held (c .before .before .before .counts-right .ensures) (c .before .before .if2 .left)) (failed (c .before .edges-right .ensures) (c .if3 .taken)))
+    (λ c. edges-hold (c .before .before .before .before .before .before .before .args .t .now) _ (c .before .before .before .before .before .before .before .pre) (held (c .before .before .before .before .before .links-right .ensures) (c .before .before .before .before .if1 .left)) (held (c .before .before .before .counts-right .ensures) (c .before .before .if2 .left)) (held (c .before .edges-right .ensures) (c .if3 .left))))

@@ -10,11 +10,11 @@ use Rattle.walk.proofs.+kept_step+pointing_step.Lts-kept_step as kept-s
 use Rattle.walk.proofs.pointing_step.Reads as pointing-step
 use Rattle.walk.proofs.pointing_step.Kinds as pointing-step-kinds
 use Rattle.walk.proofs.+kept_step+pointing_step.Lts-pointing_step as pointing-step-lts
-use Rattle.walk.proofs.step.child.Reads as child-reads
-use Rattle.walk.proofs.step.target.Reads as target-reads
+use Rattle.steps.proofs.child.Reads as child-reads
+use Rattle.steps.proofs.target.Reads as target-reads
 use Rattle.walk.proofs.Trail.enter.Reads as enter-reads
 use Rattle.walk.proofs.leaf.Reads as leaf-reads
-use Rattle.walk.proofs.StepLaws.{kept-in}
+use Rattle.steps.proofs.StepLaws.{kept-in}
 use Rattle.walk.proofs.WalkLaws as laws
 use Rattle.walk.proofs.+kept_step+pointing_step.{statement}
 use Rattle.walk.proofs.+kept_step+pointing_step.Tie.{close}

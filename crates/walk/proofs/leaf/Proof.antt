@@ -1,7 +1,7 @@
 use borrow.Author.Needs.{needs}
 use mathlib.Core.Path.{refl}
 use native.Mathlib.Omega.{arith}
-use Rattle.walk.proofs.StepLaws.{field-there, kept-in}
+use Rattle.steps.proofs.StepLaws.{field-there, kept-in}
 use Rattle.walk.proofs.WalkLaws as laws
 use Rattle.walk.proofs.leaf.Statement.{statement}
 use Rattle.walk.proofs.leaf.Tie as tie

@@ -5,7 +5,7 @@ use native.Mathlib.Omega.{arith}
 use Rattle.walk.specs.Held.{Held}
 use Rattle.walk.proofs.HeldLaws.{held-unknown, held-next}
 use Rattle.access.proofs.CopyLaws as laws
-use Rattle.access.proofs.SpanLaws.{answered}
+use Rattle.access.proofs.SpanLaws.{copy-answered}
 use Rattle.access.proofs.reading.copy.Statement.{statement}
 use Rattle.access.proofs.reading.copy.Tie as tie
 use Rattle.access.specs.declared.Copied.the-variants.{Bytes, Refused}
@@ -31,7 +31,7 @@ copy-spec =
     (λ c. c .before .before .before .clear .kept .0 ∙ c .before .before .before .before .before .before .before .before .before .before .loop .inv .1 .same-length)
     (λ c. let start = c .before .before .before .before .before .before .before .before .before .before .before .before .before .before in
     let a = laws.copy-broken _ _ _ _ (start .pre .0) (start .pre .1) _ (start .pre .2) _ _ (c .before .before .before .before .before .before .before .before .before .before .loop .inv .1) (omega arith) _ (c .before .before .before .before .before .before .before .next-byte .ensures .0) _ (c .before .before .before .before .before .enum-told .given .1) _ (c .number .ensures) _ (c .before .before .before .clear .ensures) in
-    answered _ _ _ _ _ (Refused _) (a .0) (a .1))
+    copy-answered _ _ _ _ _ (Refused _) (a .0) (a .1))
     (λ c. search needs)
     (λ c. omega (arith, c .before .before .before .before .before .before .before .before .before .before .pre .2, c .before .before .before .before .before .before .loop .inv .1 .same-length))
     (λ c. omega arith)
@@ -43,4 +43,4 @@ copy-spec =
     ))
     (λ c. c .before .loop .inv .1 .same-length)
     (λ c. let start = c .before .before .before .before .before in
-    answered _ _ _ _ _ (Bytes _) tt (laws.copy-end _ _ _ _ (start .pre .0) (start .pre .1) _ (start .pre .2) _ _ (c .before .loop .inv .1) (omega arith))))
+    copy-answered _ _ _ _ _ (Bytes _ 0) tt (laws.copy-end _ _ _ _ (start .pre .0) (start .pre .1) _ (start .pre .2) _ _ (c .before .loop .inv .1) (omega arith))))

@@ -1,10 +1,10 @@
-use Prim.Native.Nat.{ℕ, _*_, _^_, _-_}
+use Prim.Native.Nat.{ℕ, _*_, _^_, _-_, _≤_}
 use mathlib.Core.List.{List}
 use mathlib.Core.Path.{_≡_, _∙_}
 use native.Mathlib.Omega.{arith}
 use lib.ListN.{length}
 use Rattle.format.specs.Words.{wordAt}
-use Rattle.format.specs.Settings.{blockLength}
+use Rattle.format.specs.Settings.{blockLength, recordLength}
 use Rattle.format.specs.Layout as at
 use Rattle.format.specs.HeaderLaws.{Readable}
 use Rattle.layout.proofs.header.fields.Statement.{statement}
@@ -13,12 +13,12 @@ use Rattle.layout.specs.declared.header.Header.{Header}
 use Rattle.layout.specs.Settings.{Sized}
 
 -- a header is equal to another whose words are
-words : {a b d e f g h k a′ b′ d′ e′ f′ g′ h′ k′ : ℕ} → a ≡ a′ → b ≡ b′ → d ≡ d′ → e ≡ e′ → f ≡ f′ → g ≡ g′ → h ≡ h′ → k ≡ k′
+words : {v a b d e f g h k z v′ a′ b′ d′ e′ f′ g′ h′ k′ z′ : ℕ} → v ≡ v′ → a ≡ a′ → b ≡ b′ → d ≡ d′ → e ≡ e′ → f ≡ f′ → g ≡ g′ → h ≡ h′ → k ≡ k′ → z ≡ z′
     → _≡_ {A = Header}
-    (record { length = a; settings = record { leaf = b; arity = d; levels = e; counted = f }; «leaf_offset» = g; «leaf_count» = h; block = k })
-    (record { length = a′; settings = record { leaf = b′; arity = d′; levels = e′; counted = f′ }; «leaf_offset» = g′; «leaf_count» = h′; block = k′ })
-words pa pb pd pe pf pg ph pk =
-    λ i. record { length = pa i; settings = record { leaf = pb i; arity = pd i; levels = pe i; counted = pf i }; «leaf_offset» = pg i; «leaf_count» = ph i; block = pk i }
+    (record { layout = v; length = a; settings = record { leaf = b; arity = d; levels = e; counted = f }; «leaf_offset» = g; «leaf_count» = h; block = k; «record_size» = z })
+    (record { layout = v′; length = a′; settings = record { leaf = b′; arity = d′; levels = e′; counted = f′ }; «leaf_offset» = g′; «leaf_count» = h′; block = k′; «record_size» = z′ })
+words pv pa pb pd pe pf pg ph pk pz =
+    λ i. record { layout = pv i; length = pa i; settings = record { leaf = pb i; arity = pd i; levels = pe i; counted = pf i }; «leaf_offset» = pg i; «leaf_count» = ph i; block = pk i; «record_size» = pz i }
 
 module _ (t : List ℕ) (m r H : ℕ) (leaf-is : m ≡ wordAt t 8) (arity-is : r ≡ wordAt t 12) (levels-is : H ≡ wordAt t 16) where
   -- settings of these words are within their bounds
@@ -38,6 +38,15 @@ module _ (t : List ℕ) (m r H : ℕ) (leaf-is : m ≡ wordAt t 8) (arity-is : r
   unfolding at.fullLength at.settings blockLength
   full b e = e ∙ rw (leaf-is, arity-is, levels-is)
 
+-- and a record
+size : (t : List ℕ) (v m k z : ℕ) → v ≡ wordAt t 0 → m ≡ wordAt t 8 → k ≡ wordAt t 20 → z ≡ recordLength v m k → z ≡ at.recordSize t
+unfolding at.recordSize at.layout at.settings at.countedCount
+size t v m k z ev em ek e = rw (e, ev, em, ek)
+
+few : (t : List ℕ) (m k : ℕ) → Readable t → m ≡ wordAt t 8 → k ≡ wordAt t 20 → (m ≤ 256) × (k ≤ 4)
+unfolding at.settings at.countedCount
+few t m k f em ek = (omega (arith, f .leaf-high, em), omega (arith, f .counted-high, ek))
+
 pub fields-spec : {M : Type 1} → statement M
 fields-spec =
     tie.close
@@ -49,6 +58,10 @@ fields-spec =
     (λ c κs. omega (arith, c .before .before .before .before .before .pre .long))
     (λ c κs. omega (arith, c .before .before .before .before .before .before .pre .long))
     (λ c κs. omega (arith, c .before .before .before .before .before .before .before .pre .long))
-    (λ c κs. sized _ _ _ _ (c .before .before .before .before .before .before .read .ensures) (c .before .before .before .before .before .read2 .ensures) (c .before .before .before .before .read3 .ensures) (c .before .before .before .before .before .before .before .before .pre) _)
-    (λ c. words (c .before .before .before .read5 .ensures) (c .before .before .before .before .before .before .before .read .ensures) (c .before .before .before .before .before .before .read2 .ensures) (c .before .before .before .before .before .read3 .ensures) (c .before .before .before .before .read4 .ensures) (c .before .before .read6 .ensures) (c .before .read7 .ensures)
-    (full _ _ _ _ (c .before .before .before .before .before .before .before .read .ensures) (c .before .before .before .before .before .before .read2 .ensures) (c .before .before .before .before .before .read3 .ensures) _ (c .block-length .ensures))))
+    (λ c κs. omega (arith, c .before .before .before .before .before .before .before .before .pre .long))
+    (λ c κs. sized _ _ _ _ (c .before .before .before .before .before .before .read2 .ensures) (c .before .before .before .before .before .read3 .ensures) (c .before .before .before .before .read4 .ensures) (c .before .before .before .before .before .before .before .before .before .pre) _)
+    (λ c κs. let z = c .before .before .before .before in few _ _ _ (z .before .before .before .before .before .before .pre) (z .before .before .before .read2 .ensures) (z .read5 .ensures))
+    (λ c. let z = c .before .before .before .before .before in
+    words (z .before .before .before .before .read .ensures) (c .before .before .before .before .read6 .ensures) (z .before .before .before .read2 .ensures) (z .before .before .read3 .ensures) (z .before .read4 .ensures) (z .read5 .ensures) (c .before .before .before .read7 .ensures) (c .before .before .read8 .ensures)
+    (full _ _ _ _ (z .before .before .before .read2 .ensures) (z .before .before .read3 .ensures) (z .before .read4 .ensures) _ (c .before .block-length .ensures))
+    (size _ _ _ _ _ (z .before .before .before .before .read .ensures) (z .before .before .before .read2 .ensures) (z .read5 .ensures) (c .record-size .ensures .0))))

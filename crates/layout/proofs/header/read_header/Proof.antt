@@ -10,8 +10,9 @@ read-header-spec =
     (tie.spec
     (λ c. asked-5 (c .before .before .args .t .now) (c .if1 .taken))
     (λ c κs. search needs)
-    (λ c. asked-6 (c .before .before .before .before .args .t .now) (c .before .before .if1 .left) _ (c .before .read .ensures) (c .if2 .taken))
     (λ c κs. search needs)
-    (λ c. asked-7 (c .before .before .before .before .before .before .args .t .now) (c .before .before .before .before .if1 .left) _ (c .before .before .before .read .ensures) (c .before .before .if2 .left) (failed (c .before .header-right .ensures) (c .if3 .taken)))
-    (λ c κs. asked-readable (c .before .before .before .before .before .before .args .t .now) (c .before .before .before .before .if1 .left) _ (c .before .before .before .read .ensures) (c .before .before .if2 .left) (held (c .before .header-right .ensures) (c .if3 .left)))
-    (λ c. asked-all (c .before .before .before .before .before .before .before .args .t .now) (c .before .before .before .before .before .if1 .left) _ (c .before .before .before .before .read .ensures) (c .before .before .before .if2 .left) (held (c .before .before .header-right .ensures) (c .before .if3 .left)) _ (c .fields .ensures)))
+    (λ c. asked-6 (c .before .before .before .before .before .args .t .now) (c .before .before .before .if1 .left) _ (c .before .before .read .ensures) (failed (c .before .known .ensures) (c .if2 .taken)))
+    (λ c κs. search needs)
+    (λ c. let z = c .before .before .before .before in asked-7 (z .before .before .before .args .t .now) (z .before .if1 .left) _ (z .read .ensures) (held (c .before .before .before .known .ensures) (c .before .before .if2 .left)) (failed (c .before .header-right .ensures) (c .if3 .taken)))
+    (λ c κs. let z = c .before .before .before .before in asked-readable (z .before .before .before .args .t .now) (z .before .if1 .left) _ (z .read .ensures) (held (c .before .before .before .known .ensures) (c .before .before .if2 .left)) (held (c .before .header-right .ensures) (c .if3 .left)))
+    (λ c. let z = c .before .before .before .before .before in asked-all (z .before .before .before .args .t .now) (z .before .if1 .left) _ (z .read .ensures) (held (c .before .before .before .before .known .ensures) (c .before .before .before .if2 .left)) (held (c .before .before .header-right .ensures) (c .before .if3 .left)) _ (c .fields .ensures)))

@@ -5,7 +5,7 @@ use native.Mathlib.Omega.{arith}
 use Rattle.layout.proofs.header.table_bytes.Statement.{statement}
 use Rattle.layout.proofs.header.table_bytes.Tie as tie
 
-product : (n s : ℕ) → n < 4294967296 → s ≤ 64 → n * s ≤ 274877906944
+product : (n s : ℕ) → n < 4294967296 → s ≤ 576 → n * s ≤ 2473901162496
 product n s a b = let c : n ≤ 4294967296 = omega arith in mul-le-mul c b
 
 pub table-bytes-spec : {M : Type 1} → statement M

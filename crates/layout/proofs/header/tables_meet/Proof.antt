@@ -12,7 +12,7 @@ use Rattle.layout.specs.Header.{follows}
 use Rattle.text.specs.Lists.{allBelow, sumBelow}
 
 abbrev Inv-loop : tie.InvT-loop
-Inv-loop t levels size end₀ l₀ end l = (l ≤ levels) × ((end ≡ 100 + sumBelow l (levelCount t) * recordSize t) × ((end ≤ 100 + l * 274877906944) × (allBelow l (follows t) ≡ true)))
+Inv-loop t levels size end₀ l₀ end l = (l ≤ levels) × ((end ≡ 100 + sumBelow l (levelCount t) * recordSize t) × ((end ≤ 100 + l * 2473901162496) × (allBelow l (follows t) ≡ true)))
 
 abbrev μ-loop : tie.MeasureT-loop
 μ-loop t levels size end₀ l₀ end l = levels - l

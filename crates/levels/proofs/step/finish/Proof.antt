@@ -10,7 +10,7 @@ finish-spec =
     tie.close
     (tie.spec
     (λ c κs. laws.pair-asks _ _ _ _ _ (c .before .before .before .before .pre .0))
-    (λ c κs. let f = few _ _ _ (c .before .before .before .before .before .before .before .pre .0 .level-is) in (f .counted-few, f .table-few, f .count-few))
+    (λ c κs. let f = few _ _ _ (c .before .before .before .before .before .before .before .pre .0 .level-is) in (f .counted-few, f .table-few, f .count-few, f .leaf-few))
     (λ c. omega (arith, laws.table-small _ _ _ _ _ _ (c .before .before .before .before .before .before .before .before .pre .0) (c .before .before .before .put-pair .ensures), c .place .ensures .0))
     (λ c. omega (arith, laws.end-small _ _ _ _ _ _ (c .before .before .before .before .before .before .before .before .pre .0) (c .before .before .before .put-pair .ensures) (c .before .before .before .before .before .before .before .before .pre .1) _ (c .place .ensures .0)))
     (λ c. omega (arith, laws.end-small _ _ _ _ _ _ (c .before .before .before .before .before .before .before .before .pre .0) (c .before .before .before .put-pair .ensures) (c .before .before .before .before .before .before .before .before .pre .1) _ (c .place .ensures .0)))

@@ -19,7 +19,7 @@ level-of-spec =
       record {
         readable = k .facts;
         level-in = omega (arith, c .before .before .before .before .before .before .pre .1, laws.levels-is _ _ k);
-        counted-is = laws.counted-is _ _ k;
+        size-is = laws.size-is _ _ k;
         length-is = laws.length-is _ _ k;
         last-is = laws.last-is _ _ k;
         count-is = c .before .before .before .level-count .ensures;

@@ -9,10 +9,10 @@ use Rattle.listing.specs.Lines.{hasKind}
 use Rattle.text.specs.Lists.{countBelow}
 
 abbrev Inv-loop : tie.InvT-loop
-Inv-loop t counted level kind count found₀ i₀ found i = (i ≤ count) × (found ≤ i) × (found ≡ countBelow i (hasKind t level kind))
+Inv-loop t size level kind count found₀ i₀ found i = (i ≤ count) × (found ≤ i) × (found ≡ countBelow i (hasKind t level kind))
 
 abbrev μ-loop : tie.MeasureT-loop
-μ-loop t counted level kind count found₀ i₀ found i = count - i
+μ-loop t size level kind count found₀ i₀ found i = count - i
 
 pub count-of-spec : {M : Type 1} → statement M
 count-of-spec =

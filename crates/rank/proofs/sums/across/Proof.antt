@@ -7,7 +7,7 @@ pub across-spec : {M : Type 1} → statement M
 across-spec =
     tie.close
     (tie.spec
-    (λ c κs. (laws.field-there _ _ _ _ _ 2 (c .before .pre .0 .header) (c .before .pre .0 .level-in) (c .before .pre .0 .block-in) (c .before .pre .2 .number-in) (omega arith) .1))
+    (λ c κs. (laws.field-there _ _ _ _ _ 2 (c .before .pre .0 .header) (c .before .pre .0 .level-in) (c .before .pre .0 .block-in) (c .before .pre .2 .number-in) (omega arith)))
     (λ c κs. laws.field-there _ _ _ _ _ _ (c .before .before .pre .0 .header) (c .before .before .pre .0 .level-in) (c .before .before .pre .0 .block-in) (c .before .before .pre .2 .number-in) (omega arith))
     (λ c κs. let s = laws.carried-small _ _ _ (c .before .before .before .before .before .pre .2) (c .before .before .before .before .before .pre .1) in (c .before .before .before .before .before .pre .1, s .0, s .1))
     (λ c. (laws.across-first _ _ _ _ _ _ _ _ (c .before .if1 .taken) (c .before .before .before .before .link .ensures) (c .before .before .before .skip .ensures) (c .enter .ensures), laws.carried-on _ _ _ _ _ _ (c .before .before .before .before .before .before .pre .2) (c .enter .ensures) (omega arith) (omega arith)))

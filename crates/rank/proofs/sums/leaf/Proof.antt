@@ -1,6 +1,6 @@
 use borrow.Author.Needs.{needs}
 use native.Mathlib.Omega.{arith}
-use Rattle.walk.proofs.StepLaws.{kept-in, b-small}
+use Rattle.steps.proofs.StepLaws.{kept-in, b-small}
 use Rattle.rank.proofs.SumLaws as laws
 use Rattle.rank.proofs.sums.leaf.Statement.{statement}
 use Rattle.rank.proofs.sums.leaf.Tie as tie
@@ -9,7 +9,7 @@ pub leaf-spec : {M : Type 1} → statement M
 leaf-spec =
     tie.close
     (tie.spec
-    (λ c κs. (laws.field-there _ _ _ _ _ 2 (c .before .pre .0 .on .header) (c .before .pre .0 .on .level-in) (kept-in _ _ _ (c .before .pre .0 .kept)) (c .before .pre .1 .number-in) (omega arith) .1))
+    (λ c κs. (laws.field-there _ _ _ _ _ 2 (c .before .pre .0 .on .header) (c .before .pre .0 .on .level-in) (kept-in _ _ _ (c .before .pre .0 .kept)) (c .before .pre .1 .number-in) (omega arith)))
     (λ c. search needs)
     (λ c. search needs)
     (λ c. search needs)

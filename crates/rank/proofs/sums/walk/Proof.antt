@@ -1,6 +1,6 @@
 use borrow.Author.Needs.{needs}
 use native.Mathlib.Omega.{arith}
-use Rattle.walk.proofs.StepLaws.{kept-in, pointing-in}
+use Rattle.steps.proofs.StepLaws.{kept-in, pointing-in}
 use Rattle.walk.proofs.WalkLaws as query
 use Rattle.rank.proofs.SumLaws as laws
 use Rattle.rank.proofs.sums.walk.Statement.{statement}

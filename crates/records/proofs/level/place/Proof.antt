@@ -1,6 +1,6 @@
+use Prim.Native.Nat.{ℕ, _+_, _*_}
 use borrow.Author.Needs.{needs}
-use lib.ListN.{length}
-use mathlib.Core.Path.{refl}
+use mathlib.Core.Path.{ap}
 use native.Mathlib.Omega.{arith}
 use Rattle.records.proofs.Places.{records-end}
 use Rattle.records.proofs.level.place.Statement.{statement}
@@ -12,8 +12,10 @@ place-spec =
     (tie.spec
     (λ c. search needs)
     (λ c. search needs)
-    (λ c. search needs)
-    (λ c. search needs)
-    (λ c. omega (arith, records-end (c .before .before .args .block .0) (length (c .before .before .args .counted .now)) (omega arith) (omega arith)))
-    (λ c. omega (arith, records-end (c .before .before .args .block .0) (length (c .before .before .args .counted .now)) (omega arith) (omega arith)))
-    (λ c. (refl, omega (arith, records-end (c .before .before .args .block .0) (length (c .before .before .args .counted .now)) (omega arith) (omega arith)))))
+    (λ c κs. search needs)
+    (λ c. let z = c .before .before .before .before in omega (arith, records-end (z .args .block .0) _ (z .pre .2) (c .record-size .ensures .2)))
+    (λ c. let z = c .before .before .before .before in omega (arith, z .pre .1, records-end (z .args .block .0) _ (z .pre .2) (c .record-size .ensures .2)))
+    (λ c. let z = c .before .before .before .before in (
+      ap (λ (x : ℕ). z .args .level .table + z .args .block .0 * x) (c .record-size .ensures .0),
+      omega (arith, z .pre .1, records-end (z .args .block .0) _ (z .pre .2) (c .record-size .ensures .2)),
+    )))

@@ -1,7 +1,7 @@
 use borrow.Author.Needs.{needs}
 use native.Mathlib.Omega.{arith}
 use Rattle.format.specs.Settings.{pieces}
-use Rattle.walk.proofs.StepLaws.{field-there, kept-in, b-small, b-pos}
+use Rattle.steps.proofs.StepLaws.{field-there, kept-in, b-small, b-pos}
 use Rattle.select.proofs.LandLaws as laws
 use Rattle.select.proofs.seek.child_with.Statement.{statement}
 use Rattle.select.proofs.seek.child_with.Tie as tie

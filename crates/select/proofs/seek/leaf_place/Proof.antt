@@ -1,6 +1,6 @@
 use borrow.Author.Needs.{needs}
 use native.Mathlib.Omega.{arith}
-use Rattle.walk.proofs.StepLaws.{field-there, kept-in}
+use Rattle.steps.proofs.StepLaws.{field-there, kept-in}
 use Rattle.select.proofs.LandLaws as laws
 use Rattle.select.proofs.seek.leaf_place.Statement.{statement}
 use Rattle.select.proofs.seek.leaf_place.Tie as tie

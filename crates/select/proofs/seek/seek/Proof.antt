@@ -1,6 +1,6 @@
 use borrow.Author.Needs.{needs}
 use native.Mathlib.Omega.{arith}
-use Rattle.walk.proofs.StepLaws.{b-small}
+use Rattle.steps.proofs.StepLaws.{b-small}
 use Rattle.walk.proofs.WalkLaws as query
 use Rattle.select.proofs.FindingLaws as laws
 use Rattle.select.proofs.seek.seek.Statement.{statement}

@@ -1,7 +1,7 @@
 use borrow.Author.Needs.{needs}
 use mathlib.Core.Path.{refl}
 use native.Mathlib.Omega.{arith}
-use Rattle.walk.proofs.StepLaws.{pointing-in}
+use Rattle.steps.proofs.StepLaws.{pointing-in}
 use Rattle.select.proofs.LandLaws as laws
 use Rattle.rank.proofs.SumLaws as sums
 use Rattle.select.proofs.seek.target_with.Statement.{statement}
@@ -11,7 +11,7 @@ pub target-with-spec : {M : Type 1} → statement M
 target-with-spec =
     tie.close
     (tie.spec
-    (λ c κs. (sums.field-there _ _ _ _ _ 2 (c .before .pre .0 .on .header) (c .before .pre .0 .on .level-in) (pointing-in _ _ _ (c .before .pre .0 .points)) (c .before .pre .1) (omega arith) .1))
+    (λ c κs. (sums.field-there _ _ _ _ _ 2 (c .before .pre .0 .on .header) (c .before .pre .0 .on .level-in) (pointing-in _ _ _ (c .before .pre .0 .points)) (c .before .pre .1) (omega arith)))
     (λ c κs. search needs)
     (λ c. laws.aim-past _ _ _ _ _ _ _ _ (c .before .before .before .before .pre .0) (c .before .before .before .before .pre .1) (c .before .before .before .before .pre .2) (c .before .before .link .ensures) (omega (arith, c .before .level-count .ensures, c .if1 .taken)))
     (λ c κs. sums.field-there _ _ _ _ _ _ (c .before .before .before .before .pre .0 .on .header) (c .before .before .before .before .pre .0 .on .level-in) (pointing-in _ _ _ (c .before .before .before .before .pre .0 .points)) (c .before .before .before .before .pre .1) (omega arith))

@@ -1,0 +1,3 @@
+pub mod GatherLaws
+pub mod WholeLaws
+pub mod TruthLaws

@@ -1,0 +1,26 @@
+use Prim.Native.Nat.{ℕ, _+_, _*_, _≤_}
+use borrow.Author.Needs.{needs}
+use mathlib.Core.Path.{_≡_, sym, _∙_}
+use native.Mathlib.Omega.{arith}
+use Rattle.format.specs.Settings.{recordLength}
+use Rattle.format.specs.SizeLaws.{record-plain, record-edged, record-high}
+use Rattle.layout.proofs.settings.Settings.record_size.Statement.{statement}
+use Rattle.layout.proofs.settings.Settings.record_size.Tie as tie
+
+-- the length, and that it is at most 576
+pub with-edges : (v m k : ℕ) → m ≤ 256 → k ≤ 4 → v ≡ 2 → (16 + 12 * k + (m + m) ≡ recordLength v m k) × (16 + 12 * k + (m + m) ≤ 576)
+with-edges v m k hm hk e = (sym (record-edged v m k e), omega arith)
+
+pub without : (v m k : ℕ) → k ≤ 4 → (v ≡ 2 → ⊥) → (16 + 12 * k ≡ recordLength v m k) × (16 + 12 * k ≤ 576)
+without v m k hk h = (sym (record-plain v m k h), omega arith)
+
+pub record-size-spec : {M : Type 1} → statement M
+record-size-spec =
+    tie.close
+    (tie.spec
+    (λ c. search needs)
+    (λ c. search needs)
+    (λ c. search needs)
+    (λ c. search needs)
+    (λ c. with-edges _ _ _ (c .before .before .before .pre .0) (c .before .before .before .pre .1) (c .before .if1 .taken))
+    (λ c. without _ _ _ (c .before .before .pre .1) (c .if1 .left)))

@@ -1,0 +1,17 @@
+use borrow.Author.Needs.{needs}
+use native.Mathlib.Omega.{arith}
+use Rattle.steps.proofs.StepLaws as laws
+use Rattle.steps.proofs.target.Statement.{statement}
+use Rattle.steps.proofs.target.Tie as tie
+
+pub target-spec : {M : Type 1} → statement M
+target-spec =
+    tie.close
+    (tie.spec
+    (λ c κs. laws.pointing-there _ _ _ _ _ _ (c .before .pre) 2 (omega arith))
+    (λ c κs. laws.pointing-there _ _ _ _ _ _ (c .before .before .pre) 3 (omega arith))
+    (λ c. omega (arith, laws.sum-small _ _ _ _ _ _ (c .before .before .before .before .before .pre) _ (c .before .before .gap .ensures)))
+    (λ c κs. search needs)
+    (λ c. laws.target-here _ _ _ _ _ _ (c .before .before .before .before .before .before .before .pre) _ _ (c .before .before .before .before .before .link .ensures) (c .before .before .before .before .gap .ensures) _ (c .before .if1 .taken) (c .look-after .ensures))
+    (λ c κs. search needs)
+    (λ c. laws.target-next _ _ _ _ _ _ (c .before .before .before .before .before .before .before .pre) _ _ (c .before .before .before .before .before .link .ensures) (c .before .before .before .before .gap .ensures) _ (c .before .if1 .left) (c .look-after2 .ensures)))
