@@ -37,6 +37,12 @@ wordAt-drop t n i =
     place : (k : ℕ) → n + (i + k) ≡ n + i + k
     place k = omega arith
 
+-- a word is its four bytes alone: lists that agree on them have the same word there, whatever else they hold and however long they are
+pub wordAt-agree : (t u : List ℕ) (i : ℕ) → ((k : ℕ) → i ≤ k → k < i + 4 → getD t k 0 ≡ getD u k 0) → wordAt t i ≡ wordAt u i
+unfolding wordAt
+wordAt-agree t u i same =
+    rw (same i (omega arith) (omega arith), same (i + 1) (omega arith) (omega arith), same (i + 2) (omega arith) (omega arith), same (i + 3) (omega arith) (omega arith))
+
 -- four bytes make a word below 2^32
 pub wordAt-lt : (t : List ℕ) (i : ℕ) → ((k : ℕ) → getD t k 0 < 256) → wordAt t i < 4294967296
 unfolding wordAt

@@ -1,4 +1,5 @@
 mod Asked
+pub mod Demands
 mod HeaderLaws
 mod QuestionSeven
 mod RecordLaws

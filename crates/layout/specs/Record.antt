@@ -1,10 +1,11 @@
 -- What is asked where a field of a record is read: that the lent bytes hold its four.
 use mathlib.Core.List.{List}
-use mathlib.Core.Path.{_≡_}
+use mathlib.Core.Path.{_≡_, _∙_}
 use Prim.Native.Nat.{ℕ, _+_, _*_, _≤_, _<_}
-use lib.ListN.{length}
+use lib.ListN.{length, getD}
 use native.Mathlib.Omega.{arith}
-use Rattle.format.specs.Layout.{settings, levelCount, levelOffset, countedCount, recordSize}
+use Rattle.format.specs.Layout.{settings, layout, levelCount, levelOffset, countedCount, recordSize, field}
+use Rattle.format.specs.WordLaws.{wordAt-agree}
 use Rattle.format.specs.HeaderLaws.{Readable, word-inside}
 
 pub record FieldIn (t : List ℕ) (size level block f : ℕ) : Type 0 where
@@ -24,6 +25,39 @@ field-in t k size level block f is hl hb hf = record {
   f-low = omega (arith, k .counted-high);
   inside = word-inside t k level block f hl hb hf;
 }
+
+-- A number is read in its place. Other bytes with the same header that hold the field's four, also where its record is cut off there, hold the
+-- field; and if they agree on these four, it is the same number, whatever else they hold and however long they are.
+module _ (t u : List ℕ) (header : (k : ℕ) → k < 100 → getD t k 0 ≡ getD u k 0) where
+  same-size : recordSize t ≡ recordSize u
+  unfolding recordSize layout settings countedCount
+  same-size =
+      rw (
+        wordAt-agree t u 0 (λ k low high. header k (omega arith)),
+        wordAt-agree t u 8 (λ k low high. header k (omega arith)),
+        wordAt-agree t u 20 (λ k low high. header k (omega arith)),
+      )
+
+  same-offset : (level : ℕ) → level < 8 → levelOffset t level ≡ levelOffset u level
+  unfolding levelOffset
+  same-offset level low = wordAt-agree t u (32 + 8 * level) (λ k l h. header k (omega arith))
+
+  module _ (size level block f : ℕ) (h : FieldIn t size level block f) where
+    abbrev place : ℕ
+    place = levelOffset t level + block * recordSize t + 4 * f
+
+    pub field-held : 100 ≤ length u → place + 4 ≤ length u → FieldIn u size level block f
+    field-held long held = record {
+      header = long;
+      level-low = h .level-low;
+      size-is = h .size-is ∙ same-size;
+      f-low = h .f-low;
+      inside = rw (← same-offset level (h .level-low), ← same-size) held;
+    }
+
+    pub field-agree : ((k : ℕ) → place ≤ k → k < place + 4 → getD t k 0 ≡ getD u k 0) → field t level block f ≡ field u level block f
+    unfolding field
+    field-agree same = wordAt-agree t u place same ∙ rw (same-offset level (h .level-low), same-size)
 
 -- what is asked where the place of edges is
 pub record EdgesIn (t : List ℕ) (size counted level : ℕ) : Type 0 where
