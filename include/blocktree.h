@@ -8,8 +8,8 @@
  *  - Bytes are lent as a pointer and a length for the time of the call. Nothing is kept, nothing is allocated, there is no state: calls may run at the
  *    same time in several threads as long as what they write does not overlap.
  *  - A `const` pointer is only read. A written buffer must not overlap anything else lent to the same call.
- *  - Every pointer is non-null, also where its length is 0 (pass the address of any byte), and points to as many bytes as its length says; pointers to
- *    figures are aligned.
+ *  - Every pointer is non-null, also where its length is 0 (pass the address of any byte), and points to as many bytes, or words of a table, as its
+ *    length says; pointers to figures and to words are aligned.
  *  - Nobody has to check a tree first: each call is safe on any bytes, reads nothing outside them and ends. On a tree that bt_check refuses, bt_find may
  *    answer any place below n with any number of blocks, and bt_row any bytes, or either may answer BT_PATH (bt_row also BT_BUFFER). All other answers
  *    are settled on any bytes. On a tree that bt_check accepts BT_PATH is never the answer.
@@ -32,6 +32,7 @@ extern "C" {
 #define BT_MAX_ARITY 16u
 #define BT_MAX_LEVELS 8u   /* levels: 1 to this */
 #define BT_MAX_COUNTED 4u  /* counted bytes: 0 to this */
+#define BT_MAX_PATTERN 256u /* bytes of a pattern: 1 to this */
 #define BT_LIST_LENGTH 512u /* a buffer of so many bytes holds all that bt_list writes */
 
 /* What the numbers mean. */
@@ -51,7 +52,9 @@ enum bt_number {
     BT_NO_SUCH = 12,    /* the byte does not stand so often in the text; there is no such row */
     BT_BUFFER = 13,     /* the answer does not fit the buffer */
     BT_PATH = 14,       /* the tree is damaged: the path of a place breaks, or a count or a row's length would be below 0 */
-    BT_INPUT = 15       /* list only: the tree has more than 65,536 bytes */
+    BT_INPUT = 15,      /* list only: the tree has more than 65,536 bytes */
+    BT_PATTERN = 16,    /* the pattern does not have 1 to 256 bytes */
+    BT_TABLE = 17       /* the table has fewer words than the pattern has places */
 };
 
 /* Build the tree of a text, in layout 2. Trees of layout 1 are read and checked all the same.
@@ -113,6 +116,16 @@ uint32_t bt_find(const uint8_t *tree, size_t tree_len, uint32_t byte, uint32_t j
  *             *length: the row's length
  *   answers   0, 5, 6, 7, 11, 12, 13, 14 */
 uint32_t bt_row(const uint8_t *tree, size_t tree_len, uint32_t q, uint8_t *buffer, size_t buffer_len, uint32_t *length);
+
+/* All places of a pattern of 1 to BT_MAX_PATTERN bytes of any value: each place of the text from which its bytes stand there, overlaps included.
+ *   lent      tree, pattern
+ *   written   table: the places in its first *number words, rising, the rest as it was; as it was on any refusal
+ *             *number: how many places there are, 0 where the pattern stands nowhere
+ *   answers   0, 5, 6, 7, 16, 14, 17
+ * n words, as many as the text has bytes (the tree's word at 4), are always enough. With 0 words the call says whether the pattern stands in the text:
+ * BT_TABLE where it does, BT_OK where it does not. The text is read once, and once more where there are more than 256 places; for each byte read the
+ * search takes two steps on average at most, whatever the pattern. */
+uint32_t bt_places(const uint8_t *tree, size_t tree_len, const uint8_t *pattern, size_t pattern_len, uint32_t *table, size_t words, uint32_t *number);
 
 /* The lines of the list program: one for each level, "level blocks kept pointing", or one line "refused N".
  *   lent      tree

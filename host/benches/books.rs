@@ -34,6 +34,11 @@ fn main() {
         for (text, name) in &texts {
             time_book(text, name, shape);
         }
+        println!("\n| Text | Pattern | Places | Library | Model | Ratio | In the text itself |\n|---|---|---:|---:|---:|---:|---:|");
+        for (text, name) in &texts {
+            time_patterns(text, name, shape, &book_patterns(text));
+        }
+        time_patterns(&vec![b'A'; size], "all A", shape, &letter_patterns());
         println!("\n| Book | Text | Tree above | Smallest tree of the tool's list | gzip -9 | xz -9e |\n|---|---:|---:|---|---:|---:|");
         for (text, name) in &texts {
             size_row(text, name, shape);
@@ -76,6 +81,37 @@ fn time_book(text: &[u8], name: &str, shape: Shape) {
     line("row", each(&numbers[..1000], |q| calls::row(tree(), q, &mut ours), |q| fast::row(tree(), q, &mut theirs)));
     line("count", each(&places, |i| calls::count(tree(), 10, i), |i| read::count(tree(), 10, i)));
     line("find", each(&numbers, |j| calls::find(tree(), 10, j), |j| fast::find(tree(), 10, j)));
+}
+
+type Pattern = (&'static str, Vec<u8>);
+
+/// The code of a row, one that no row has, and a digit.
+fn book_patterns(text: &[u8]) -> Vec<Pattern> {
+    let rows: Vec<&[u8]> = text.split(|&byte| byte == 10).collect();
+    let code = rows[rows.len() / 2].split(|&byte| byte == b' ').next().expect("a code");
+    vec![("a code", code.to_vec()), ("no row's code", [code, b"#"].concat()), ("a digit", b"1".to_vec())]
+}
+
+/// Patterns for a text of letters A: one that stands at every place, the longest, and the one after whose bytes most is to be tried again.
+fn letter_patterns() -> Vec<Pattern> {
+    let mut last = vec![b'A'; 255];
+    last.push(b'B');
+    vec![("A", b"A".to_vec()), ("256 A", vec![b'A'; 256]), ("255 A and B", last)]
+}
+
+/// All places of patterns: by the library; by the model, which reads the text back and compares at every place; and that comparison alone.
+fn time_patterns(text: &[u8], name: &str, shape: Shape, patterns: &[Pattern]) {
+    let tree = fast::tree(text, shape, COUNTED);
+    let tree = || black_box(tree.as_slice());
+    let [mut ours, mut theirs] = [vec![0; text.len()], vec![0; text.len()]];
+    for (words, pattern) in patterns {
+        let number = calls::places(tree(), pattern, &mut ours);
+        assert!(number == read::places(tree(), pattern, &mut theirs) && ours == theirs, "both find the same places");
+        let [library, model] = both(9, || calls::places(tree(), pattern, &mut ours), || read::places(tree(), pattern, &mut theirs));
+        let alone = fastest(9, &mut || drop(black_box(read::places_in(black_box(text), pattern))));
+        let ratio = library.as_secs_f64() / model.as_secs_f64();
+        println!("| {name} | {words} | {} | {} | {} | {ratio:.2} | {} |", number.1, shown(library), shown(model), shown(alone));
+    }
 }
 
 /// The time of one run.

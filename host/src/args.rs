@@ -14,6 +14,7 @@ pub enum Question {
     Span(u32, u32),
     Count(u8, u32),
     Find(u8, u32),
+    Places(Vec<u8>),
     Text,
     Stats,
 }
@@ -126,6 +127,7 @@ impl Given {
             "span" => Question::Span(figure(0)?, figure(1)?),
             "count" => Question::Count(byte(topic, &self.plain[0])?, figure(1)?),
             "find" => Question::Find(byte(topic, &self.plain[0])?, figure(1)?),
+            "places" => Question::Places(pattern(topic, &self.plain[0])?),
             "text" => Question::Text,
             _ => Question::Stats,
         };
@@ -158,6 +160,31 @@ fn byte(topic: &Topic, word: &str) -> Result<u8, Failure> {
         [one] if !one.is_ascii_digit() => Ok(*one),
         _ => word.parse().map_err(|_| usage(topic, &format!("a byte is a number from 0 to 255 or one character that is no digit, not '{word}'"))),
     }
+}
+
+/// The bytes of a word, in which `\n`, `\r`, `\\` and `\xHH` stand for one byte.
+fn pattern(topic: &Topic, word: &str) -> Result<Vec<u8>, Failure> {
+    let mut bytes = Vec::new();
+    let mut rest = word.as_bytes();
+    while let [first, others @ ..] = rest {
+        let (byte, length) = if *first == b'\\' { escaped(topic, others)? } else { (*first, 0) };
+        bytes.push(byte);
+        rest = &others[length..];
+    }
+    Ok(bytes)
+}
+
+/// What stands after a backslash: the byte, and how many letters name it.
+fn escaped(topic: &Topic, letters: &[u8]) -> Result<(u8, usize), Failure> {
+    let hexadecimal = |digits: &[u8]| std::str::from_utf8(digits).ok().and_then(|digits| u8::from_str_radix(digits, 16).ok());
+    let byte = match letters {
+        [b'n', ..] => Some((10, 1)),
+        [b'r', ..] => Some((13, 1)),
+        [b'\\', ..] => Some((b'\\', 1)),
+        [b'x', high, low, ..] if *high != b'+' => hexadecimal(&[*high, *low]).map(|byte| (byte, 3)),
+        _ => None,
+    };
+    byte.ok_or_else(|| usage(topic, "in a pattern a backslash begins \\n, \\r, \\\\ or \\xHH, a byte in hexadecimal"))
 }
 
 /// Bytes parted by commas, or `none`.

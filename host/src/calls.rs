@@ -22,6 +22,15 @@ mod declared {
         pub fn bt_count(tree: *const u8, tree_len: usize, byte: u32, i: u32, count: *mut u64, entered: *mut u32) -> u32;
         pub fn bt_find(tree: *const u8, tree_len: usize, byte: u32, j: u32, place: *mut u32, entered: *mut u32) -> u32;
         pub fn bt_row(tree: *const u8, tree_len: usize, q: u32, buffer: *mut u8, buffer_len: usize, length: *mut u32) -> u32;
+        pub fn bt_places(
+            tree: *const u8,
+            tree_len: usize,
+            pattern: *const u8,
+            pattern_len: usize,
+            table: *mut u32,
+            words: usize,
+            number: *mut u32,
+        ) -> u32;
         pub fn bt_list(tree: *const u8, tree_len: usize, out: *mut u8, out_len: usize, length: *mut u32) -> u32;
     }
 }
@@ -90,6 +99,14 @@ pub fn row(tree: &[u8], q: u32, buffer: &mut [u8]) -> (u32, u32) {
     let mut length = 0;
     let number = unsafe { declared::bt_row(tree.as_ptr(), tree.len(), q, buffer.as_mut_ptr(), buffer.len(), &mut length) };
     (number, length)
+}
+
+/// The number and how many places there are.
+pub fn places(tree: &[u8], pattern: &[u8], table: &mut [u32]) -> (u32, u32) {
+    let mut places = 0;
+    let number =
+        unsafe { declared::bt_places(tree.as_ptr(), tree.len(), pattern.as_ptr(), pattern.len(), table.as_mut_ptr(), table.len(), &mut places) };
+    (number, places)
 }
 
 /// The number and the lines' length.

@@ -67,6 +67,7 @@ fn answer(question: &Question, name: &str, tree: Tree) -> Result<Vec<u8>, Refusa
             let Reached { value, entered } = tree.find(byte, number)?;
             figure(&value.to_string(), entered)
         }
+        Question::Places(ref pattern) => tree.places(pattern)?.iter().map(|place| format!("{place}\n")).collect::<String>().into(),
         Question::Text => tree.text()?,
         Question::Stats => messages::stats(name, tree).into(),
     })

@@ -14,7 +14,7 @@ pub struct Topic {
 
 const UNCHECKED: &[&str] = &["--unchecked"];
 
-static TOPICS: [Topic; 10] = [
+static TOPICS: [Topic; 11] = [
     Topic {
         name: "build",
         usage: "codebook build [BOOK] [-o TREE] [--leaf M --arity R --levels H] [--count BYTES]",
@@ -90,6 +90,16 @@ another book. Status 1 where it is refused.",
         options: UNCHECKED,
         summary: "print the place where a byte stands for the NUMBER-th time, from 1",
         details: "BYTE is a number from 0 to 255, or one character that is no digit; the tree must count it. Prints the place, and how many blocks lead to it.",
+    },
+    Topic {
+        name: "places",
+        usage: "codebook places PATTERN [TREE] [--unchecked]",
+        figures: &["PATTERN"],
+        options: UNCHECKED,
+        summary: "print all places of a code fragment, from 0, one to a line",
+        details: "\
+PATTERN is 1 to 256 bytes, as they stand in the book; \\n is byte 10, \\r byte 13, \\xHH the byte of that hexadecimal number, \\\\ a backslash. Places may
+overlap. Nothing is printed where it stands nowhere. A PATTERN that begins with - goes after --.",
     },
     Topic {
         name: "text",

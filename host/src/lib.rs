@@ -19,6 +19,9 @@ pub use refusal::Refusal;
 /// The longest text.
 pub const MAX_TEXT: usize = 1_048_576;
 
+/// The longest pattern.
+pub const MAX_PATTERN: usize = 256;
+
 /// Settings worth trying on a book, as leaf length, arity and levels: from few and large blocks to many and small ones.
 pub const SHORT_LIST: [(u32, u32, u32); 6] = [(256, 2, 1), (64, 4, 3), (48, 2, 5), (32, 4, 4), (24, 8, 3), (16, 4, 4)];
 
@@ -135,6 +138,20 @@ impl<'a> Tree<'a> {
         let ended = self.count(10, length)?.value;
         let open = length > 0 && self.byte(length - 1)?.value != 10;
         Ok(ended + u64::from(open))
+    }
+
+    /// All places of `pattern`, 1 to `MAX_PATTERN` bytes, in rising order; one may overlap the next.
+    pub fn places(&self, pattern: &[u8]) -> Result<Vec<u32>, Refusal> {
+        // a few words are enough mostly, and one for each byte of the text always
+        let most = MAX_TEXT.min(self.text_length() as usize);
+        let mut table = vec![0; most.min(4096)];
+        let (mut number, mut places) = calls::places(self.bytes, pattern, &mut table);
+        if number == Refusal::Table.number() {
+            table.resize(most, 0);
+            (number, places) = calls::places(self.bytes, pattern, &mut table);
+        }
+        table.truncate(places as usize);
+        answer(number, table)
     }
 
     /// The whole text.

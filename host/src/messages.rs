@@ -78,6 +78,7 @@ impl Question {
             Question::Span(place, length) => Some(format!("span {place} {length}")),
             Question::Count(byte, length) => Some(format!("count {byte} {length}")),
             Question::Find(byte, number) => Some(format!("find {byte} {number}")),
+            Question::Places(_) => Some("places".to_owned()),
             Question::Check | Question::List | Question::Text | Question::Stats => None,
         }
     }
@@ -99,6 +100,7 @@ fn hint(refusal: Refusal, question: &Question, tree: Tree) -> Option<String> {
         (Refusal::NotCounted, _) => Some(format!("it counts: {}", counted(&tree.settings().counted))),
         (Refusal::NoSuch, Question::Row(_)) => tree.rows().ok().map(|rows| format!("the book has {} rows", grouped(rows))),
         (Refusal::NoSuch, Question::Find(byte, _)) => Some(format!("its total is {}", grouped(total(*byte)))),
+        (Refusal::Pattern, Question::Places(pattern)) => Some(format!("this one has {}", grouped(pattern.len() as u64))),
         _ => None,
     }
 }

@@ -43,6 +43,8 @@ refusals! {
     Buffer = 13: "the answer does not fit the buffer",
     Path = 14: "the tree is damaged: the way to a byte breaks off, or a count comes out below zero",
     Input = 15: "only trees of at most 65,536 bytes are listed",
+    Pattern = 16: "a pattern must have 1 to 256 bytes",
+    Table = 17: "the table has fewer words than the pattern has places",
 }
 
 impl Refusal {
@@ -80,13 +82,13 @@ mod tests {
     #[test]
     fn numbers_are_those_of_the_header() {
         let header = include_str!("../../include/blocktree.h");
-        for number in 1..=15 {
+        for number in 1..=17 {
             let refusal = Refusal::from_number(number).expect("a refusal");
             assert_eq!(refusal.number(), number);
             assert!(refusal.to_string().starts_with(&format!("refused ({number}): ")));
             let lines = header.lines().filter(|line| line.trim_start().starts_with("BT_") && declares(line, number));
             assert_eq!(lines.count(), 1);
         }
-        assert!(Refusal::from_number(0).is_none() && Refusal::from_number(16).is_none());
+        assert!(Refusal::from_number(0).is_none() && Refusal::from_number(18).is_none());
     }
 }

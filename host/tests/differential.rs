@@ -10,7 +10,7 @@ mod model;
 mod support;
 
 use codebook::calls;
-use judge::{find_agrees, row_agrees, FILL};
+use judge::{find_agrees, row_agrees, FILL, FILL_WORD};
 use model::read::Answer;
 use model::{build, check, fast, read, Shape};
 use std::collections::{BTreeMap, BTreeSet};
@@ -32,6 +32,11 @@ fn rounds(otherwise: u64, mut round: impl FnMut(&mut Rng)) {
 /// A buffer of exactly this length, every byte filled.
 fn lent(length: usize) -> Box<[u8]> {
     vec![FILL; length].into_boxed_slice()
+}
+
+/// A table of so many words, every one filled.
+fn lent_words(words: usize) -> Box<[u32]> {
+    vec![FILL_WORD; words].into_boxed_slice()
 }
 
 fn library_build(text: &[u8], shape: Shape, counted: &[u8], out: &mut [u8]) -> (u32, u32) {
@@ -129,6 +134,28 @@ fn wild_bytes() {
     });
 }
 
+/// Texts of two letters, in which patterns overlap, and more places than the library keeps in its first reading of the text.
+#[test]
+fn patterns() {
+    rounds(1500, |rng| {
+        let longest = if rng.one_in(4) { 900 } else { 120 };
+        let mut text: Vec<u8> = (0..rng.within(1, longest)).map(|_| if rng.one_in(8) { b'B' } else { b'A' }).collect();
+        if rng.one_in(3) {
+            text.fill(b'A');
+        }
+        let tree = fast::tree(&text, damage::shape(rng), b"").into_boxed_slice();
+        for _ in 0..8 {
+            let from = rng.below(text.len());
+            let pattern = &text[from..text.len().min(from + if rng.one_in(2) { 3 } else { 300 })];
+            ask_places(rng, &tree, pattern);
+        }
+        // a pattern that goes back as often as it can at every byte
+        let mut pattern = vec![b'A'; rng.within(1, 255)];
+        pattern.push(b'B');
+        ask_places(rng, &tree, &pattern);
+    });
+}
+
 #[test]
 fn list_without_room() {
     let tree = build::plain_tree(b"ABCD", Shape::new(2, 2, 2), b"");
@@ -154,6 +181,35 @@ fn ask(rng: &mut Rng, tree: &[u8], questions: usize) {
     for _ in 0..questions {
         let number = if rng.one_in(20) { damage::odd_word(rng, n as u32) } else { rng.below(n + 2) as u32 };
         ask_at(rng, tree, number);
+    }
+    for _ in 0..questions.div_ceil(10) {
+        let pattern = pattern(rng, tree);
+        ask_places(rng, tree, &pattern);
+    }
+}
+
+/// A pattern, mostly cut from the tree's own bytes, now and then of a length that is refused.
+fn pattern(rng: &mut Rng, tree: &[u8]) -> Vec<u8> {
+    let length = match rng.below(12) {
+        0 => *rng.pick(&[0, 255, 256, 257, 300]),
+        1 => rng.below(40),
+        _ => rng.within(1, 4),
+    };
+    let from = tree.len() - rng.below(tree.len().min(200) + 1);
+    let mut pattern = tree[from..tree.len().min(from + length)].to_vec();
+    pattern.resize(length, *rng.pick(b"AB\n"));
+    pattern
+}
+
+/// All places of a pattern: into tables of no word, of exactly as many as there are places, of one less, and of some other length.
+fn ask_places(rng: &mut Rng, tree: &[u8], pattern: &[u8]) {
+    let all = read::Tree::open(tree).map_or(0, |tree| tree.n as usize);
+    let places = read::places(tree, pattern, &mut lent_words(all)).1 as usize;
+    for words in [0, places, places.saturating_sub(1), rng.below(all + 3)] {
+        let (mut expected, mut got) = (lent_words(words), lent_words(words));
+        let answer = read::places(tree, pattern, &mut expected);
+        assert_eq!(calls::places(tree, pattern, &mut got), answer, "places {} in {words} words {}", to_hex(pattern), to_hex(tree));
+        assert!(got == expected, "places {} in {words} words {}", to_hex(pattern), to_hex(tree));
     }
 }
 
@@ -246,6 +302,13 @@ fn compare_book(rng: &mut Rng, text: &[u8], shape: Shape, counted: &[u8], questi
         assert_eq!(calls::row(&tree, j, &mut row), fast::row(&tree, j, &mut expected));
         assert!(row == expected);
     }
+    for length in [1, 2, 6, 40, 256] {
+        let from = rng.below(text.len() - length);
+        let places = read::places_in(text, &text[from..from + length]);
+        let mut table = lent_words(places.len());
+        assert_eq!(calls::places(&tree, &text[from..from + length], &mut table), (0, places.len() as u32), "{shape:?}");
+        assert!(*table == *places, "{shape:?}");
+    }
     let mut damaged = expected.clone();
     damage::damage(rng, &mut damaged);
     assert_eq!(calls::check(&damaged), check::check(&damaged), "{shape:?}");
@@ -275,10 +338,11 @@ fn every_number_is_reached() {
             note("span", read::span(&tree, p, length, &mut buffer).0);
             note("count", read::count(&tree, 10, p).0);
             note("find", if let Answer::Settled(answer) = read::find(&tree, 10, j) { answer.0 } else { FREE });
+            note("places", read::places(&tree, &text[..text.len().min(p as usize % 3)], &mut [0; 2]).0);
             note("row", if let Answer::Settled(answer) = read::row(&tree, j, &mut buffer) { answer.0 } else { FREE });
         }
     }
-    let expected: [(&str, &[u32]); 8] = [
+    let expected: [(&str, &[u32]); 9] = [
         ("check", &[0, 5, 6, 7, 8, 9]),
         ("list", &[0, 5, 6, 7, 8, 9]),
         ("byte", &[0, 5, 6, 7, 10, 14]),
@@ -287,6 +351,7 @@ fn every_number_is_reached() {
         ("count", &[0, 5, 6, 7, 10, 11, 14]),
         ("find", &[0, 5, 6, 7, 11, 12, FREE]),
         ("row", &[0, 5, 6, 7, 11, 12, 13, 14, FREE]),
+        ("places", &[0, 5, 6, 7, 14, 16, 17]),
     ];
     for (question, numbers) in expected {
         assert_eq!(reached[question], numbers.iter().copied().collect(), "{question}");

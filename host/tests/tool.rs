@@ -170,6 +170,40 @@ level  block length    blocks      kept  pointing
 }
 
 #[test]
+fn places() {
+    let folder = Folder::with_tree("places");
+    folder.run("places CH0502 small.tree").succeeds().prints("14\n574\n1134\n1694\n2254\n").says("");
+    folder.run("places 4\\nHON1003 small.tree").succeeds().prints("418\n978\n1538\n2098\n2658\n");
+    folder.run("places \\x43H0502\\x20 small.tree --unchecked").succeeds().prints("14\n574\n1134\n1694\n2254\n");
+    folder.run("places CH9 small.tree").succeeds().prints("").says("");
+    folder.pipe("places -- -", &folder.read("small.tree")).succeeds().prints("");
+    // more places than the first table has words
+    folder.write("a.txt", &[b'A'; 5000]);
+    folder.run("build a.txt -o a.tree --leaf 64 --arity 2 --levels 6").succeeds();
+    let all: String = (0..4999).map(|place| format!("{place}\n")).collect();
+    folder.run("places AA a.tree").succeeds().prints(&all);
+}
+
+#[test]
+fn places_that_are_refused() {
+    let folder = Folder::with_tree("refused-places");
+    let bounds = "small.tree: places: refused (16): a pattern must have 1 to 256 bytes; this one has 257";
+    folder.run(&format!("places {} small.tree", "C".repeat(257))).status(1).prints("").says(&format!("codebook: {bounds}\n"));
+    folder.run(&format!("places {} small.tree", "C".repeat(256))).succeeds().prints("");
+    let mut tree = folder.read("small.tree");
+    tree[104] = 2;
+    folder.write("kind.tree", &tree);
+    let path = "refused (14): the tree is damaged: the way to a byte breaks off, or a count comes out below zero";
+    folder.run("places CH0502 kind.tree --unchecked").status(1).prints("").says(&format!("codebook: kind.tree: places: {path}\n"));
+    let usage = "usage: codebook places PATTERN [TREE] [--unchecked]";
+    folder.run("places").status(2).says(&format!("codebook: PATTERN is missing\n{usage}\n"));
+    for pattern in ["CH\\", "CH\\t", "\\x4", "\\x+4", "\\xg0"] {
+        let escapes = "in a pattern a backslash begins \\n, \\r, \\\\ or \\xHH, a byte in hexadecimal";
+        folder.run(&format!("places {pattern} small.tree")).status(2).prints("").says(&format!("codebook: {escapes}\n{usage}\n"));
+    }
+}
+
+#[test]
 fn every_row() {
     let folder = Folder::with_tree("rows");
     let text = String::from_utf8(folder.read("small.txt")).expect("a text");
@@ -333,7 +367,7 @@ fn help() {
     let folder = Folder::new("help");
     let overview = folder.run("--help");
     overview.succeeds().says("");
-    let commands = ["build", "check", "list", "row", "byte", "span", "count", "find", "text", "stats"];
+    let commands = ["build", "check", "list", "row", "byte", "span", "count", "find", "places", "text", "stats"];
     for command in commands {
         assert!(String::from_utf8_lossy(&overview.output.stdout).contains(&format!("\n  {command:<7}")));
         let help = folder.run(&format!("{command} --help"));

@@ -6,7 +6,7 @@ mod model;
 mod support;
 
 use codebook::calls;
-use judge::{find_agrees, row_agrees, FILL};
+use judge::{find_agrees, row_agrees, FILL, FILL_WORD};
 use model::read::Answer;
 use model::{build, check, read, Shape};
 use std::collections::HashMap;
@@ -29,6 +29,7 @@ struct Calls {
     count: fn(&[u8], u32, u32) -> (u32, u64, u32),
     find: fn(&[u8], u32, u32) -> Answer<(u32, u32, u32)>,
     row: fn(&[u8], u32, &mut [u8]) -> Answer<(u32, u32)>,
+    places: fn(&[u8], &[u8], &mut [u32]) -> (u32, u32),
 }
 
 #[test]
@@ -43,6 +44,7 @@ fn library() {
         count: calls::count,
         find: |tree, byte, j| Answer::Settled(calls::find(tree, byte, j)),
         row: |tree, q, buffer| Answer::Settled(calls::row(tree, q, buffer)),
+        places: calls::places,
     });
 }
 
@@ -58,11 +60,12 @@ fn model() {
         count: read::count,
         find: read::find,
         row: read::row,
+        places: read::places,
     });
 }
 
 /// Items of requests that are not in force in this format are passed over by name.
-const LATER: [&str; 13] = ["places", "scan", "match", "columns", "rows", "column", "open", "left", "renew", "guide", "guidecheck", "guided", "order"];
+const LATER: [&str; 12] = ["scan", "match", "columns", "rows", "column", "open", "left", "renew", "guide", "guidecheck", "guided", "order"];
 
 fn run_all(calls: &Calls) {
     run_file(calls, VECTORS);
@@ -76,7 +79,7 @@ fn run_file(calls: &Calls, file: &str) {
     for line in file.lines().filter(|line| !line.is_empty() && !line.starts_with('#') && !line.contains(" => wrong: ")) {
         let tokens: Vec<&str> = line.split(' ').collect();
         match tokens[..] {
-            ["landed", request] => in_force = request == "103",
+            ["landed", request] => in_force = request == "105",
             ["text" | "tree", name, hex] => {
                 bytes.insert(name, from_hex(hex));
             }
@@ -124,6 +127,11 @@ fn item(calls: &Calls, bytes: &HashMap<&str, Vec<u8>>, item: &[&str], expected: 
             let (refusal, entered) = (calls.span)(subject, number(2), number(3), &mut buffer);
             format!("{refusal} {entered} {}", to_hex(&buffer))
         }
+        "places" => {
+            let mut table = vec![FILL_WORD; item[3].parse().expect("a length")];
+            let (refusal, places) = (calls.places)(subject, &from_hex(item[2]), &mut table);
+            format!("{refusal} {places} {}", words(&table))
+        }
         "find" => return find(calls, subject, number(2), number(3), expected),
         "row" => return row(calls, subject, number(2), lent(3), expected),
         other => panic!("no such item: {other}"),
@@ -137,6 +145,14 @@ fn item(calls: &Calls, bytes: &HashMap<&str, Vec<u8>>, item: &[&str], expected: 
 
 fn figures((number, first, second): (u32, impl Display, u32)) -> String {
     format!("{number} {first} {second}")
+}
+
+/// Words in decimal, parted by commas.
+fn words(table: &[u32]) -> String {
+    if table.is_empty() {
+        return "-".to_owned();
+    }
+    table.iter().map(u32::to_string).collect::<Vec<_>>().join(",")
 }
 
 fn find(calls: &Calls, tree: &[u8], byte: u32, j: u32, expected: &[&str]) -> Result<(), String> {

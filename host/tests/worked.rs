@@ -5,7 +5,7 @@ mod support;
 
 use model::build::{build, plain_tree, plain_tree_in};
 use model::check::{check, list};
-use model::read::{byte, count, find, row, run, span, Answer};
+use model::read::{byte, count, find, places, row, run, span, Answer};
 use model::{fast, Shape};
 use support::books::{book, Kind};
 use support::Rng;
@@ -108,6 +108,31 @@ fn readings() {
     let mut buffer = [0; 2];
     assert_eq!((span(&edges, 3, 2, &mut buffer), &buffer), ((0, 2), b"CD"));
     assert_eq!((byte(&edges, 3).0, byte(&edges, 4).0), (14, 14));
+}
+
+/// The places of a pattern: its questions in order, and the lent table.
+#[test]
+fn places_of_patterns() {
+    let tree = worked(2);
+    let ask = |tree: &[u8], pattern: &[u8], words: usize| {
+        let mut table = vec![9; words];
+        let (number, places) = places(tree, pattern, &mut table);
+        (number, places, table)
+    };
+    assert_eq!(ask(&tree, b"ABCD", 6), (0, 4, vec![1, 5, 12, 16, 9, 9]));
+    assert_eq!(ask(&tree, b"ABCD", 4), (0, 4, vec![1, 5, 12, 16]));
+    assert_eq!(ask(&tree, b"ABCD", 3), (17, 0, vec![9, 9, 9]));
+    assert_eq!(ask(&tree, b"X", 0), (0, 0, vec![]));
+    assert_eq!(ask(&tree, WORKED, 1), (0, 1, vec![0]));
+    assert_eq!((ask(&tree, b"", 1).0, ask(&tree, &[b'Q'; 256], 1).0, ask(&tree, &[b'Q'; 257], 1).0), (16, 0, 16));
+    let twelve = plain_tree(&[b'A'; 12], Shape::new(2, 2, 2), b"");
+    assert_eq!(ask(&twelve, b"AA", 11), (0, 11, (0..11).collect()));
+    let mut broken = tree.clone();
+    broken[104] = 2;
+    assert_eq!(ask(&broken, b"D", 0), (14, 0, vec![]));
+    assert_eq!(ask(&broken, &[b'Q'; 256], 2), (14, 0, vec![9, 9]));
+    assert_eq!(ask(&broken, b"", 0).0, 16);
+    assert_eq!((ask(&tree[..99], b"", 0).0, ask(&tree[1..], b"", 0).0, ask(&tree[..479], b"", 0).0), (5, 6, 7));
 }
 
 #[test]

@@ -8,6 +8,7 @@ use enough::Room;
 use layout::header;
 use layout::header::HeaderRead;
 use layout::place::TextPlace;
+use patterns::PlacesWritten;
 use rank::Counted;
 use rows::RowCopied;
 use select::Found;
@@ -25,6 +26,7 @@ ghost use Rattle.builder.specs.Answers.{given};
 ghost use Rattle.enough.specs.Enough.{enoughSays};
 ghost use Rattle.listing.specs.Lines.{listed};
 ghost use Rattle.listing.specs.Written.{Put};
+ghost use Rattle.patterns.specs.Places.{placesSays, placesLeaves};
 ghost use Rattle.abi.specs.Answers.{saying, roomNumber, roomSize, uncountedNumber, inputNumber, listNumber, listSize, listLeaves};
 
 // The shortest buffer that list writes to.
@@ -233,6 +235,25 @@ pub extern "C" fn bt_row(tree: &[u8], q: u32, buffer: &mut [u8], len: &mut u32) 
         RowCopied::Refused(number) => {
             *len = 0;
             number
+        }
+    }
+}
+
+// Writes all places of a pattern, and answers their number.
+#[no_mangle]
+pub extern "C" fn bt_places(tree: &[u8], pattern: &[u8], table: &mut [u32], number: &mut u32) -> u32
+    ensures { λ r. ⌜ saying r (now (number .exit)) 0 ≡ placesSays (now (tree .entry)) (now (pattern .entry)) (length (now (table .entry))) ⌝ }
+    ensures { λ _. ⌜ now (table .exit) ≡ placesLeaves (now (tree .entry)) (now (pattern .entry)) (now (table .entry)) ⌝ }
+{
+    let written = patterns::places(tree, pattern, table);
+    match written {
+        PlacesWritten::Number(n) => {
+            *number = n;
+            0
+        }
+        PlacesWritten::Refused(q) => {
+            *number = 0;
+            q
         }
     }
 }

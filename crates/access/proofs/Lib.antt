@@ -2,4 +2,5 @@ pub mod ByteLaws
 pub mod SpanLaws
 pub mod CopyLaws
 pub mod ShortLaws
+pub mod RunLaws
 pub mod Demands

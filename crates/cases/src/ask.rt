@@ -1,4 +1,5 @@
 // What a line asks, put to the library.
+use crate::pattern;
 use crate::wrong;
 use script::Gift;
 use script::Question;
@@ -18,6 +19,7 @@ pub fn line(script: &[u8], line: &[u8], bytes: &mut [u8], lent: &mut [u8]) {
     match question {
         Question::Nothing => wrong::say(b"no such word"),
         Question::Build => build(script, line, bytes, lent),
+        Question::Places => pattern::places(script, line, bytes),
         _ => of_tree(script, line, question, bytes, lent),
     }
 }
@@ -40,7 +42,7 @@ fn give(script: &[u8], line: &[u8], bytes: &mut [u8]) {
 }
 
 // Whether the tokens from `from` up to, not including, `to` are numbers and the last ones.
-fn numbers(line: &[u8], from: u32, to: u32) -> bool {
+pub fn numbers(line: &[u8], from: u32, to: u32) -> bool {
     if tokens::ends(line, to) {
         return tokens::figures(line, from, to);
     }

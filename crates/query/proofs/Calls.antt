@@ -37,6 +37,9 @@ pub use Rattle.select.proofs.find.Met as find-met
 pub use Rattle.rows.proofs.row.Reads as row-reads
 pub use Rattle.rows.proofs.row.Statement as row-stated
 pub use Rattle.rows.proofs.row.Met as row-met
+pub use Rattle.patterns.proofs.places.Reads as places-reads
+pub use Rattle.patterns.proofs.places.Statement as places-stated
+pub use Rattle.patterns.proofs.places.Met as places-met
 pub use Rattle.builder.specs.declared.Built.{Built}
 pub use Rattle.builder.specs.declared.Built.the-variants as built
 pub use Rattle.enough.specs.declared.Room.{Room}
@@ -51,6 +54,8 @@ pub use Rattle.select.specs.declared.Found.{Found}
 pub use Rattle.select.specs.declared.Found.the-variants as found
 pub use Rattle.rows.specs.declared.RowCopied.{RowCopied}
 pub use Rattle.rows.specs.declared.RowCopied.the-variants as rows
+pub use Rattle.patterns.specs.declared.PlacesWritten.{PlacesWritten}
+pub use Rattle.patterns.specs.declared.PlacesWritten.the-variants as places
 -- what an answer says in document 01's terms, and that a refusal's number is not 0
 pub use Rattle.access.specs.Answers.{said, copiedSaid}
 pub use Rattle.rank.specs.Counts.{saidCount, Numbered as CountNumbered}
@@ -59,6 +64,8 @@ pub use Rattle.rows.specs.Rows.{saidRow, Numbered as RowNumbered}
 -- build(text, leaf, arity, levels, counted, out) and check(tree); byte(tree, place), run(tree, place) and span(tree, place, len, buffer)
 pub use Rattle.tree.proofs.Demands.{Answer as Build, Checked as Check}
 pub use Rattle.access.proofs.Demands.{Asked as Byte, Run, Span}
+-- places(tree, pattern, table)
+pub use Rattle.patterns.proofs.Demands.{Places}
 
 -- lent bytes
 abbrev pub Lent : Type 0

@@ -43,6 +43,7 @@ pub every-call-ends : {M : Type 1}
     × calls.build-stated.statement M × calls.check-stated.statement M × calls.enough-stated.statement M
     × calls.byte-stated.statement M × calls.run-stated.statement M × calls.span-stated.statement M
     × calls.count-stated.statement M × calls.find-stated.statement M × calls.row-stated.statement M
+    × calls.places-stated.statement M
 every-call-ends = (
   calls.leftmost-met.met,
   calls.earlier-met.met,
@@ -55,6 +56,7 @@ every-call-ends = (
   calls.count-met.met,
   calls.find-met.met,
   calls.row-met.met,
+  calls.places-met.met,
 )
 
 -- "trusts no caller to have checked a tree": what a call asks of its caller holds of any arguments.
@@ -71,6 +73,7 @@ pub trusts-no-caller :
     × ((κs : Lfts 1) (t : Lent) (byte i : ℕ) → calls.count-reads.Asked κs (t, (byte, (i, tt))))
     × ((κs : Lfts 1) (t : Lent) (byte j : ℕ) → calls.find-reads.Asked κs (t, (byte, (j, tt))))
     × ((κs : Lfts 2) (t : Lent) (q : ℕ) (buffer : Lent) → calls.row-reads.Asked κs (t, (q, (buffer, tt))))
+    × ((κs : Lfts 3) (t pattern table : Lent) → calls.places-reads.Asked κs (t, (pattern, (table, tt))))
 trusts-no-caller = (
   λ κs text p len by. tt,
   λ κs text p len by. tt,
@@ -83,6 +86,7 @@ trusts-no-caller = (
   λ κs t byte i. tt,
   λ κs t byte j. tt,
   λ κs t q buffer. tt,
+  λ κs t pattern table. tt,
 )
 
 -- "gives its answer or a numbered refusal of document 01": which numbers each call refuses with, for any arguments and any lent bytes.

@@ -58,6 +58,16 @@ pub use Rattle.margins.specs.Demands.{short-holds, short-text}
 -- .. "It reports the blocks entered, on an accepted tree at most twice the number of levels": at least one, and so many on any tree that passes
 -- questions 5 to 7. "Any other span is read by its bytes' paths and reports 0."
 pub use Rattle.margins.specs.Demands.{span-walked, span-entered, span-other}
+-- Places. "all its places are written to a lent table of words in rising order, each once, overlaps included, with their number": of a
+-- tree that the check accepts and of what build writes, `places-of` of `Answers`. ..
+-- .. "They are the places in the bytes that its paths give, on an accepted tree its text; ..
+pub use Rattle.query.proofs.PatternPlaces.{places-answer}
+-- .. it gives 14 if the path of some place below n breaks. It refuses a pattern of other length with 16, after question 7, and a table that is
+-- too short with 17, after 14; ..
+pub use Rattle.patterns.proofs.Demands.{places-unread, places-length, places-broken, places-short, places-written}
+pub use Rattle.query.proofs.PatternPlaces.{places-numbers}
+-- .. the table is untouched either way."
+pub use Rattle.query.proofs.PatternPlaces.{places-unchanged}
 
 -- The two roads to a tree, each in one theorem.
 

@@ -9,4 +9,5 @@ pub mod Buffers
 pub mod Demand1
 pub mod Demand2
 pub mod Demand3
+pub mod PatternPlaces
 pub mod Demands

@@ -5,6 +5,8 @@ pub use access::Copied;
 pub use access::byte;
 pub use access::run;
 pub use access::span;
+pub use patterns::PlacesWritten;
+pub use patterns::places;
 pub use rank::Counted;
 pub use rank::count;
 pub use rows::RowCopied;

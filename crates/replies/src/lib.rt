@@ -8,6 +8,7 @@ use query::Answer;
 use query::Copied;
 use query::Counted;
 use query::Found;
+use query::PlacesWritten;
 use query::RowCopied;
 use tree::Built;
 
@@ -78,5 +79,14 @@ pub fn row(tree: &[u8], q: u32, buffer: &mut [u8]) {
     match answer {
         RowCopied::Bytes(copied) => say::buffer(0, copied as u64, buffer),
         RowCopied::Refused(number) => say::buffer(number, 0, buffer),
+    }
+}
+
+// How many places there are, and the words of the lent table.
+pub fn places(tree: &[u8], pattern: &[u8], table: &mut [u32]) {
+    let answer = query::places(tree, pattern, table);
+    match answer {
+        PlacesWritten::Number(n) => say::table(0, n as u64, table),
+        PlacesWritten::Refused(number) => say::table(number, 0, table),
     }
 }

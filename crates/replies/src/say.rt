@@ -30,6 +30,34 @@ pub fn buffer(n: u32, a: u64, bytes: &[u8]) {
     hex(bytes);
 }
 
+// A number, a figure, and what a lent table holds.
+pub fn table(n: u32, a: u64, table: &[u32]) {
+    number(n);
+    figure(a);
+    io::write_all(1, b" ");
+    if table.len() == 0 {
+        io::write_all(1, b"-");
+    }
+    words(table);
+}
+
+// Words in decimal, parted by commas.
+fn words(table: &[u32]) {
+    let mut i: usize = 0;
+    while i < table.len() {
+        word(i, table[i]);
+        i += 1;
+    }
+}
+
+// A word, after a comma where it is not the first.
+fn word(i: usize, value: u32) {
+    if 0 < i {
+        io::write_all(1, b",");
+    }
+    io::print_decimal(1, value as u64);
+}
+
 // Bytes in hexadecimal.
 fn hex(bytes: &[u8]) {
     let mut i: usize = 0;

@@ -22,19 +22,20 @@ giftWord word =
 unfoldable pub giftOf : List ℕ → Gift
 giftOf line = giftWord (tokenOf line 0)
 
--- what a line that begins with this word asks: build, check, list, byte, count, find, span, run, row
+-- what a line that begins with this word asks: places, row, run, span, find, count, byte, list, check, build
 unfoldable pub questionWord : List ℕ → Question
 questionWord word =
-    cond (sameList word (98 ∷ 117 ∷ 105 ∷ 108 ∷ 100 ∷ [])) question.Build
-    (cond (sameList word (99 ∷ 104 ∷ 101 ∷ 99 ∷ 107 ∷ [])) question.Check
-    (cond (sameList word (108 ∷ 105 ∷ 115 ∷ 116 ∷ [])) question.List
-    (cond (sameList word (98 ∷ 121 ∷ 116 ∷ 101 ∷ [])) question.Byte
-    (cond (sameList word (99 ∷ 111 ∷ 117 ∷ 110 ∷ 116 ∷ [])) question.Count
-    (cond (sameList word (102 ∷ 105 ∷ 110 ∷ 100 ∷ [])) question.Find
-    (cond (sameList word (115 ∷ 112 ∷ 97 ∷ 110 ∷ [])) question.Span
-    (cond (sameList word (114 ∷ 117 ∷ 110 ∷ [])) question.Run
+    cond (sameList word (112 ∷ 108 ∷ 97 ∷ 99 ∷ 101 ∷ 115 ∷ [])) question.Places
     (cond (sameList word (114 ∷ 111 ∷ 119 ∷ [])) question.Row
-    question.Nothing))))))))
+    (cond (sameList word (114 ∷ 117 ∷ 110 ∷ [])) question.Run
+    (cond (sameList word (115 ∷ 112 ∷ 97 ∷ 110 ∷ [])) question.Span
+    (cond (sameList word (102 ∷ 105 ∷ 110 ∷ 100 ∷ [])) question.Find
+    (cond (sameList word (99 ∷ 111 ∷ 117 ∷ 110 ∷ 116 ∷ [])) question.Count
+    (cond (sameList word (98 ∷ 121 ∷ 116 ∷ 101 ∷ [])) question.Byte
+    (cond (sameList word (108 ∷ 105 ∷ 115 ∷ 116 ∷ [])) question.List
+    (cond (sameList word (99 ∷ 104 ∷ 101 ∷ 99 ∷ 107 ∷ [])) question.Check
+    (cond (sameList word (98 ∷ 117 ∷ 105 ∷ 108 ∷ 100 ∷ [])) question.Build
+    question.Nothing)))))))))
 
 unfoldable pub questionOf : List ℕ → Question
 questionOf line = questionWord (tokenOf line 0)

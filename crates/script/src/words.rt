@@ -1,5 +1,7 @@
 // The word that a line begins with.
+ghost use mathlib.Core.Bool.{cond};
 ghost use mathlib.Core.Path.{_≡_};
+ghost use Rattle.text.specs.Lists.{sameList};
 ghost use Rattle.script.specs.Words.{giftOf, questionOf, isComment};
 
 // How a line gives bytes a name.
@@ -22,6 +24,7 @@ pub enum Question {
     Span,
     Run,
     Row,
+    Places,
     Nothing,
 }
 
@@ -45,39 +48,31 @@ pub fn gift_of(line: &[u8]) -> Gift
     Gift::Nothing
 }
 
+// One question where the word is this name, else the other.
+fn either(word: &[u8], name: &[u8], one: Question, other: Question) -> Question
+    ensures { λ r. ⌜ r ≡ cond (sameList (now (word .entry)) (now (name .entry))) one other ⌝ }
+{
+    if check::same(word, name) {
+        return one;
+    }
+    other
+}
+
 // What a line asks.
 pub fn question_of(line: &[u8]) -> Question
     ensures { λ r. ⌜ r ≡ questionOf (now (line .entry)) ⌝ }
 {
     let word = tokens::token(line, 0);
-    if check::same(word, b"build") {
-        return Question::Build;
-    }
-    if check::same(word, b"check") {
-        return Question::Check;
-    }
-    if check::same(word, b"list") {
-        return Question::List;
-    }
-    if check::same(word, b"byte") {
-        return Question::Byte;
-    }
-    if check::same(word, b"count") {
-        return Question::Count;
-    }
-    if check::same(word, b"find") {
-        return Question::Find;
-    }
-    if check::same(word, b"span") {
-        return Question::Span;
-    }
-    if check::same(word, b"run") {
-        return Question::Run;
-    }
-    if check::same(word, b"row") {
-        return Question::Row;
-    }
-    Question::Nothing
+    let asked = either(word, b"build", Question::Build, Question::Nothing);
+    let asked = either(word, b"check", Question::Check, asked);
+    let asked = either(word, b"list", Question::List, asked);
+    let asked = either(word, b"byte", Question::Byte, asked);
+    let asked = either(word, b"count", Question::Count, asked);
+    let asked = either(word, b"find", Question::Find, asked);
+    let asked = either(word, b"span", Question::Span, asked);
+    let asked = either(word, b"run", Question::Run, asked);
+    let asked = either(word, b"row", Question::Row, asked);
+    either(word, b"places", Question::Places, asked)
 }
 
 // Whether a line asks nothing and gives nothing: it is empty or begins with `#`.

@@ -17,6 +17,7 @@ pub const MAX_COUNTED: usize = 4;
 /// The layouts: 1, and 2, which the builder writes.
 pub const LAYOUTS: [u32; 2] = [1, WITH_EDGES];
 pub const WITH_EDGES: u32 = 2;
+pub const MAX_PATTERN: usize = 256;
 
 /// Leaf length, arity and levels.
 #[derive(Clone, Copy, Debug, PartialEq, Eq)]

@@ -407,9 +407,43 @@ pub fn nth(text: &[u8], byte: u8, j: usize) -> usize {
     text.iter().enumerate().filter(|(_, &here)| here == byte).nth(j - 1).expect("the total says so").0
 }
 
+/// The bytes that the paths of all places give; none where one breaks.
+pub fn bytes_of_paths(tree: &Tree) -> Option<Vec<u8>> {
+    (0..tree.n).map(|p| byte_at(tree, p).map(|(byte, _)| byte)).collect()
+}
+
 /// The text of a tree that passes questions 5 to 8.
 pub fn text(tree: &Tree) -> Vec<u8> {
-    (0..tree.n).map(|p| byte_at(tree, p).expect("no path breaks").0).collect()
+    bytes_of_paths(tree).expect("no path breaks")
+}
+
+/// All places of a pattern in a text, by comparing its bytes at every place.
+pub fn places_in(text: &[u8], pattern: &[u8]) -> Vec<u32> {
+    (0..text.len()).filter(|&place| text[place..].starts_with(pattern)).map(|place| place as u32).collect()
+}
+
+/// The number and how many places there are; they go to the table.
+pub fn places(bytes: &[u8], pattern: &[u8], table: &mut [u32]) -> (u32, u32) {
+    match try_places(bytes, pattern, table.len()) {
+        Ok(places) => {
+            table[..places.len()].copy_from_slice(&places);
+            (0, places.len() as u32)
+        }
+        Err(number) => (number, 0),
+    }
+}
+
+fn try_places(bytes: &[u8], pattern: &[u8], words: usize) -> Result<Vec<u32>, u32> {
+    let tree = Tree::open(bytes)?;
+    if !(1..=MAX_PATTERN).contains(&pattern.len()) {
+        return Err(16);
+    }
+    let text = bytes_of_paths(&tree).ok_or(14u32)?;
+    let places = places_in(&text, pattern);
+    if places.len() > words {
+        return Err(17);
+    }
+    Ok(places)
 }
 
 /// The number and the row's length; the row goes to the buffer.

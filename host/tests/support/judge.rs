@@ -5,6 +5,9 @@ use crate::model::read::Answer;
 /// What every byte of a lent buffer holds before a call.
 pub const FILL: u8 = 0xEE;
 
+/// And every word of a lent table.
+pub const FILL_WORD: u32 = 0xEEEE_EEEE;
+
 /// Does `got` (number, place, blocks entered) agree?
 pub fn find_agrees(expected: Answer<(u32, u32, u32)>, got: (u32, u32, u32)) -> bool {
     match expected {

@@ -1,6 +1,7 @@
 use borrow.Author.Needs.{needs}
+use mathlib.Core.Path.{refl}
 use Rattle.script.specs.Words.{questionOf, questionWord}
-use Rattle.script.proofs.WordLaws.{told}
+use Rattle.script.proofs.WordLaws.{word-more}
 use Rattle.script.proofs.words.question_of.Statement.{statement}
 use Rattle.script.proofs.words.question_of.Tie as tie
 
@@ -12,29 +13,43 @@ question-of-spec =
     (λ c κs. search needs)
     (λ c. search needs)
     (λ c κs. search needs)
-    (λ c. let t = c .before .before .before .token in simp (told (t .ensures) (c .before .same .ensures) (c .if1 .taken)))
     (λ c. search needs)
     (λ c κs. search needs)
-    (λ c. let t = c .before .before .before .before .before .before .token in simp (told (t .ensures) (c .before .before .before .before .same .ensures) (c .before .before .before .if1 .left), told (t .ensures) (c .before .same2 .ensures) (c .if2 .taken)))
     (λ c. search needs)
     (λ c κs. search needs)
-    (λ c. let t = c .before .before .before .before .before .before .before .before .before .token in simp (told (t .ensures) (c .before .before .before .before .before .before .before .same .ensures) (c .before .before .before .before .before .before .if1 .left), told (t .ensures) (c .before .before .before .before .same2 .ensures) (c .before .before .before .if2 .left), told (t .ensures) (c .before .same3 .ensures) (c .if3 .taken)))
     (λ c. search needs)
     (λ c κs. search needs)
-    (λ c. let t = c .before .before .before .before .before .before .before .before .before .before .before .before .token in simp (told (t .ensures) (c .before .before .before .before .before .before .before .before .before .before .same .ensures) (c .before .before .before .before .before .before .before .before .before .if1 .left), told (t .ensures) (c .before .before .before .before .before .before .before .same2 .ensures) (c .before .before .before .before .before .before .if2 .left), told (t .ensures) (c .before .before .before .before .same3 .ensures) (c .before .before .before .if3 .left), told (t .ensures) (c .before .same4 .ensures) (c .if4 .taken)))
     (λ c. search needs)
     (λ c κs. search needs)
-    (λ c. let t = c .before .before .before .before .before .before .before .before .before .before .before .before .before .before .before .token in simp (told (t .ensures) (c .before .before .before .before .before .before .before .before .before .before .before .before .before .same .ensures) (c .before .before .before .before .before .before .before .before .before .before .before .before .if1 .left), told (t .ensures) (c .before .before .before .before .before .before .before .before .before .before .same2 .ensures) (c .before .before .before .before .before .before .before .before .before .if2 .left), told (t .ensures) (c .before .before .before .before .before .before .before .same3 .ensures) (c .before .before .before .before .before .before .if3 .left), told (t .ensures) (c .before .before .before .before .same4 .ensures) (c .before .before .before .if4 .left), told (t .ensures) (c .before .same5 .ensures) (c .if5 .taken)))
     (λ c. search needs)
     (λ c κs. search needs)
-    (λ c. let t = c .before .before .before .before .before .before .before .before .before .before .before .before .before .before .before .before .before .before .token in simp (told (t .ensures) (c .before .before .before .before .before .before .before .before .before .before .before .before .before .before .before .before .same .ensures) (c .before .before .before .before .before .before .before .before .before .before .before .before .before .before .before .if1 .left), told (t .ensures) (c .before .before .before .before .before .before .before .before .before .before .before .before .before .same2 .ensures) (c .before .before .before .before .before .before .before .before .before .before .before .before .if2 .left), told (t .ensures) (c .before .before .before .before .before .before .before .before .before .before .same3 .ensures) (c .before .before .before .before .before .before .before .before .before .if3 .left), told (t .ensures) (c .before .before .before .before .before .before .before .same4 .ensures) (c .before .before .before .before .before .before .if4 .left), told (t .ensures) (c .before .before .before .before .same5 .ensures) (c .before .before .before .if5 .left), told (t .ensures) (c .before .same6 .ensures) (c .if6 .taken)))
     (λ c. search needs)
     (λ c κs. search needs)
-    (λ c. let t = c .before .before .before .before .before .before .before .before .before .before .before .before .before .before .before .before .before .before .before .before .before .token in simp (told (t .ensures) (c .before .before .before .before .before .before .before .before .before .before .before .before .before .before .before .before .before .before .before .same .ensures) (c .before .before .before .before .before .before .before .before .before .before .before .before .before .before .before .before .before .before .if1 .left), told (t .ensures) (c .before .before .before .before .before .before .before .before .before .before .before .before .before .before .before .before .same2 .ensures) (c .before .before .before .before .before .before .before .before .before .before .before .before .before .before .before .if2 .left), told (t .ensures) (c .before .before .before .before .before .before .before .before .before .before .before .before .before .same3 .ensures) (c .before .before .before .before .before .before .before .before .before .before .before .before .if3 .left), told (t .ensures) (c .before .before .before .before .before .before .before .before .before .before .same4 .ensures) (c .before .before .before .before .before .before .before .before .before .if4 .left), told (t .ensures) (c .before .before .before .before .before .before .before .same5 .ensures) (c .before .before .before .before .before .before .if5 .left), told (t .ensures) (c .before .before .before .before .same6 .ensures) (c .before .before .before .if6 .left), told (t .ensures) (c .before .same7 .ensures) (c .if7 .taken)))
     (λ c. search needs)
     (λ c κs. search needs)
-    (λ c. let t = c .before .before .before .before .before .before .before .before .before .before .before .before .before .before .before .before .before .before .before .before .before .before .before .before .token in simp (told (t .ensures) (c .before .before .before .before .before .before .before .before .before .before .before .before .before .before .before .before .before .before .before .before .before .before .same .ensures) (c .before .before .before .before .before .before .before .before .before .before .before .before .before .before .before .before .before .before .before .before .before .if1 .left), told (t .ensures) (c .before .before .before .before .before .before .before .before .before .before .before .before .before .before .before .before .before .before .before .same2 .ensures) (c .before .before .before .before .before .before .before .before .before .before .before .before .before .before .before .before .before .before .if2 .left), told (t .ensures) (c .before .before .before .before .before .before .before .before .before .before .before .before .before .before .before .before .same3 .ensures) (c .before .before .before .before .before .before .before .before .before .before .before .before .before .before .before .if3 .left), told (t .ensures) (c .before .before .before .before .before .before .before .before .before .before .before .before .before .same4 .ensures) (c .before .before .before .before .before .before .before .before .before .before .before .before .if4 .left), told (t .ensures) (c .before .before .before .before .before .before .before .before .before .before .same5 .ensures) (c .before .before .before .before .before .before .before .before .before .if5 .left), told (t .ensures) (c .before .before .before .before .before .before .before .same6 .ensures) (c .before .before .before .before .before .before .if6 .left), told (t .ensures) (c .before .before .before .before .same7 .ensures) (c .before .before .before .if7 .left), told (t .ensures) (c .before .same8 .ensures) (c .if8 .taken)))
     (λ c. search needs)
     (λ c κs. search needs)
-    (λ c. let t = c .before .before .before .before .before .before .before .before .before .before .before .before .before .before .before .before .before .before .before .before .before .before .before .before .before .before .before .token in simp (told (t .ensures) (c .before .before .before .before .before .before .before .before .before .before .before .before .before .before .before .before .before .before .before .before .before .before .before .before .before .same .ensures) (c .before .before .before .before .before .before .before .before .before .before .before .before .before .before .before .before .before .before .before .before .before .before .before .before .if1 .left), told (t .ensures) (c .before .before .before .before .before .before .before .before .before .before .before .before .before .before .before .before .before .before .before .before .before .before .same2 .ensures) (c .before .before .before .before .before .before .before .before .before .before .before .before .before .before .before .before .before .before .before .before .before .if2 .left), told (t .ensures) (c .before .before .before .before .before .before .before .before .before .before .before .before .before .before .before .before .before .before .before .same3 .ensures) (c .before .before .before .before .before .before .before .before .before .before .before .before .before .before .before .before .before .before .if3 .left), told (t .ensures) (c .before .before .before .before .before .before .before .before .before .before .before .before .before .before .before .before .same4 .ensures) (c .before .before .before .before .before .before .before .before .before .before .before .before .before .before .before .if4 .left), told (t .ensures) (c .before .before .before .before .before .before .before .before .before .before .before .before .before .same5 .ensures) (c .before .before .before .before .before .before .before .before .before .before .before .before .if5 .left), told (t .ensures) (c .before .before .before .before .before .before .before .before .before .before .same6 .ensures) (c .before .before .before .before .before .before .before .before .before .if6 .left), told (t .ensures) (c .before .before .before .before .before .before .before .same7 .ensures) (c .before .before .before .before .before .before .if7 .left), told (t .ensures) (c .before .before .before .before .same8 .ensures) (c .before .before .before .if8 .left), told (t .ensures) (c .before .same9 .ensures) (c .if9 .taken)))
-    (λ c. let t = c .before .before .before .before .before .before .before .before .before .before .before .before .before .before .before .before .before .before .before .before .before .before .before .before .before .before .before .token in simp (told (t .ensures) (c .before .before .before .before .before .before .before .before .before .before .before .before .before .before .before .before .before .before .before .before .before .before .before .before .before .same .ensures) (c .before .before .before .before .before .before .before .before .before .before .before .before .before .before .before .before .before .before .before .before .before .before .before .before .if1 .left), told (t .ensures) (c .before .before .before .before .before .before .before .before .before .before .before .before .before .before .before .before .before .before .before .before .before .before .same2 .ensures) (c .before .before .before .before .before .before .before .before .before .before .before .before .before .before .before .before .before .before .before .before .before .if2 .left), told (t .ensures) (c .before .before .before .before .before .before .before .before .before .before .before .before .before .before .before .before .before .before .before .same3 .ensures) (c .before .before .before .before .before .before .before .before .before .before .before .before .before .before .before .before .before .before .if3 .left), told (t .ensures) (c .before .before .before .before .before .before .before .before .before .before .before .before .before .before .before .before .same4 .ensures) (c .before .before .before .before .before .before .before .before .before .before .before .before .before .before .before .if4 .left), told (t .ensures) (c .before .before .before .before .before .before .before .before .before .before .before .before .before .same5 .ensures) (c .before .before .before .before .before .before .before .before .before .before .before .before .if5 .left), told (t .ensures) (c .before .before .before .before .before .before .before .before .before .before .same6 .ensures) (c .before .before .before .before .before .before .before .before .before .if6 .left), told (t .ensures) (c .before .before .before .before .before .before .before .same7 .ensures) (c .before .before .before .before .before .before .if7 .left), told (t .ensures) (c .before .before .before .before .same8 .ensures) (c .before .before .before .if8 .left), told (t .ensures) (c .before .same9 .ensures) (c .if9 .left))))
+    (λ c. search needs)
+    (λ c κs. search needs)
+    -- the last word first; each stands two places before the next
+    (λ c. let c1 = c in
+    let c2 = c1 .before .before in
+    let c3 = c2 .before .before in
+    let c4 = c3 .before .before in
+    let c5 = c4 .before .before in
+    let c6 = c5 .before .before in
+    let c7 = c6 .before .before in
+    let c8 = c7 .before .before in
+    let c9 = c8 .before .before in
+    let c10 = c9 .before .before in
+    let t = c10 .before .before .token .ensures in
+    word-more _ _ t (c1 .either10 .ensures)
+    (word-more _ _ t (c2 .either9 .ensures)
+    (word-more _ _ t (c3 .either8 .ensures)
+    (word-more _ _ t (c4 .either7 .ensures)
+    (word-more _ _ t (c5 .either6 .ensures)
+    (word-more _ _ t (c6 .either5 .ensures)
+    (word-more _ _ t (c7 .either4 .ensures)
+    (word-more _ _ t (c8 .either3 .ensures)
+    (word-more _ _ t (c9 .either2 .ensures)
+    (word-more _ _ t (c10 .either .ensures) refl)))))))))))
