@@ -5,7 +5,7 @@
  * What all calls have in common
  *
  *  - The answer is a number: BT_OK (0), or the number of the first question that failed (enum bt_number). A refused call sets every figure to 0.
- *  - Bytes are lent as a pointer and a length for the time of the call. Nothing is kept, nothing is allocated, there is no state: calls may run at the
+ *  - Bytes are lent as a pointer and a length for the time of the call (a table of words with its length in words). Nothing is kept, nothing is allocated, there is no state: calls may run at the
  *    same time in several threads as long as what they write does not overlap.
  *  - A `const` pointer is only read. A written buffer must not overlap anything else lent to the same call.
  *  - Every pointer is non-null, also where its length is 0 (pass the address of any byte), and points to as many bytes, or words of a table, as its
@@ -54,7 +54,8 @@ enum bt_number {
     BT_PATH = 14,       /* the tree is damaged: the path of a place breaks, or a count or a row's length would be below 0 */
     BT_INPUT = 15,      /* list only: the tree has more than 65,536 bytes */
     BT_PATTERN = 16,    /* the pattern does not have 1 to 256 bytes */
-    BT_TABLE = 17       /* the table has fewer words than the pattern has places */
+    BT_TABLE = 17,      /* the table has fewer words than the pattern has places */
+    BT_WORK = 18        /* bt_build_scanned only: the table has fewer than four words for each leaf length of text, a begun one counting whole */
 };
 
 /* Build the tree of a text, in layout 2. Trees of layout 1 are read and checked all the same.
@@ -64,6 +65,20 @@ enum bt_number {
  *   answers   0, 1, 2, 3, 4 */
 uint32_t bt_build(const uint8_t *text, size_t text_len, uint32_t leaf, uint32_t arity, uint32_t levels, const uint8_t *counted, size_t counted_len,
                   uint8_t *out, size_t out_len, uint32_t *size);
+
+/* Build the same tree by one scan of the text for each level above the last, in a small part of bt_build's time on long texts. It works in a lent
+ * table of words.
+ *   lent      text, counted: the counted bytes, rising; work: a table of bt_scan_words(text_len, leaf) words or more, whatever they hold
+ *   written   out: the tree in its first *size bytes, the rest as it was; all zero on BT_SPACE; as it was on any other refusal
+ *             work: anything, where the answer is 0 or BT_SPACE; as it was on any other refusal
+ *             *size: the tree's size; *windows: how many windows of the text were looked up, for each level above the last and each length that its
+ *             blocks and pairs of blocks have one at every place from which the text holds that many bytes
+ *   answers   0, 1, 2, 3, 18, 4, asked in this order */
+uint32_t bt_build_scanned(const uint8_t *text, size_t text_len, uint32_t leaf, uint32_t arity, uint32_t levels, const uint8_t *counted, size_t counted_len,
+                          uint32_t *work, size_t work_len, uint8_t *out, size_t out_len, uint32_t *size, uint32_t *windows);
+
+/* How many words the table of bt_build_scanned must have for a text of n bytes: four for each leaf length, a begun one counting whole (0 where leaf is 0). */
+uint64_t bt_scan_words(uint32_t n, uint32_t leaf);
 
 /* How large a buffer is enough for the tree of any text of n bytes, with `counted` counted bytes: for one that bt_build makes, and for any of either
  * layout that bt_check accepts.

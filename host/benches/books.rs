@@ -1,7 +1,8 @@
 //! The library next to the independent model on the same books in the same run: build, check and every question; and tree sizes next to gzip and xz.
 //!
-//!     cargo bench             books of 64 KiB and 1 MiB
-//!     cargo bench -- quick    books of 64 KiB only
+//!     cargo bench               books of 64 KiB and 1 MiB
+//!     cargo bench -- quick      books of 64 KiB only
+//!     cargo bench -- builders   the two builders only
 //!
 //! Prints the tables of docs/BENCHMARKS.md. Nothing is asserted about time; that both give the same answers is.
 
@@ -23,8 +24,15 @@ const KINDS: [(Kind, &str); 3] = [(Kind::Repetitive, "highly repetitive"), (Kind
 const COUNTED: &[u8] = b"\n";
 
 fn main() {
-    let quick = std::env::args().any(|word| word == "quick");
+    let told = |wanted: &str| std::env::args().any(|word| word == wanted);
+    let (quick, builders) = (told("quick"), told("builders"));
     describe_machine();
+    for &size in &[65_536, 1_048_576][..if quick { 1 } else { 2 }] {
+        time_builders(size);
+    }
+    if builders {
+        return;
+    }
     // larger blocks for the longer books: the builder searches the text once for each block and each pair
     let sizes: &[(usize, Shape)] = &[(65_536, Shape { m: 64, r: 2, h: 4 }), (1_048_576, Shape { m: 128, r: 4, h: 3 })];
     for &(size, shape) in &sizes[..if quick { 1 } else { 2 }] {
@@ -112,6 +120,35 @@ fn time_patterns(text: &[u8], name: &str, shape: Shape, patterns: &[Pattern]) {
         let ratio = library.as_secs_f64() / model.as_secs_f64();
         println!("| {name} | {words} | {} | {} | {} | {ratio:.2} | {} |", number.1, shown(library), shown(model), shown(alone));
     }
+}
+
+/// The two builders next to the model's on books of one size.
+fn time_builders(size: usize) {
+    let shape = Shape { m: 64, r: 2, h: 4 };
+    println!("\n## Builders, {} KiB: leaf {}, arity {}, levels {}, byte 10 counted\n", size / 1024, shape.m, shape.r, shape.h);
+    println!("| Book | `build` | `build_scanned` | Windows | Model | Ratio to `build` | Ratio to the model |\n|---|---:|---:|---:|---:|---:|---:|");
+    let mut texts: Vec<(Vec<u8>, &str)> = KINDS.iter().map(|&(kind, name)| (book(kind, size, 1), name)).collect();
+    texts.push((vec![b'A'; size], "one byte repeated"));
+    texts.push((equal_blocks(size), "two blocks of 512 bytes by turns, at random"));
+    for (text, name) in &texts {
+        let expected = fast::tree(text, shape, COUNTED);
+        let [mut first, mut tree] = [vec![0; expected.len()], vec![0; expected.len()]];
+        let mut work = vec![0; calls::scan_words(size as u32, shape.m) as usize];
+        let mut windows = 0;
+        let build = once(|| calls::build(text, shape.m, shape.r, shape.h, COUNTED, &mut first));
+        let scanned = fastest(5, &mut || windows = calls::build_scanned(text, shape.m, shape.r, shape.h, COUNTED, &mut work, &mut tree).2);
+        let model = fastest(5, &mut || drop(black_box(fast::tree(text, shape, COUNTED))));
+        assert!(first == expected && tree == expected, "all build the same tree");
+        let ratio = |other: Duration| scanned.as_secs_f64() / other.as_secs_f64();
+        println!("| {name} | {} | {} | {windows} | {} | {:.4} | {:.2} |", shown(build), shown(scanned), shown(model), ratio(build), ratio(model));
+    }
+}
+
+/// Two blocks of 512 bytes, one or the other at each place.
+fn equal_blocks(size: usize) -> Vec<u8> {
+    let mut rng = Rng::new(9);
+    let blocks: Vec<Vec<u8>> = (0..2).map(|_| (0..512).map(|_| rng.next() as u8).collect()).collect();
+    (0..size / 512).flat_map(|_| blocks[rng.below(2)].clone()).collect()
 }
 
 /// The time of one run.

@@ -32,6 +32,22 @@ mod declared {
             number: *mut u32,
         ) -> u32;
         pub fn bt_list(tree: *const u8, tree_len: usize, out: *mut u8, out_len: usize, length: *mut u32) -> u32;
+        pub fn bt_build_scanned(
+            text: *const u8,
+            text_len: usize,
+            leaf: u32,
+            arity: u32,
+            levels: u32,
+            counted: *const u8,
+            counted_len: usize,
+            work: *mut u32,
+            work_len: usize,
+            out: *mut u8,
+            out_len: usize,
+            size: *mut u32,
+            windows: *mut u32,
+        ) -> u32;
+        pub fn bt_scan_words(n: u32, leaf: u32) -> u64;
     }
 }
 
@@ -114,4 +130,32 @@ pub fn list(tree: &[u8], out: &mut [u8]) -> (u32, u32) {
     let mut length = 0;
     let number = unsafe { declared::bt_list(tree.as_ptr(), tree.len(), out.as_mut_ptr(), out.len(), &mut length) };
     (number, length)
+}
+
+/// The number, the tree's size and the windows looked up.
+pub fn build_scanned(text: &[u8], leaf: u32, arity: u32, levels: u32, counted: &[u8], work: &mut [u32], out: &mut [u8]) -> (u32, u32, u32) {
+    let (mut size, mut windows) = (0, 0);
+    let number = unsafe {
+        declared::bt_build_scanned(
+            text.as_ptr(),
+            text.len(),
+            leaf,
+            arity,
+            levels,
+            counted.as_ptr(),
+            counted.len(),
+            work.as_mut_ptr(),
+            work.len(),
+            out.as_mut_ptr(),
+            out.len(),
+            &mut size,
+            &mut windows,
+        )
+    };
+    (number, size, windows)
+}
+
+/// The words of the table that `build_scanned` needs.
+pub fn scan_words(n: u32, leaf: u32) -> u64 {
+    unsafe { declared::bt_scan_words(n, leaf) }
 }

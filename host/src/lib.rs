@@ -60,13 +60,32 @@ pub fn enough(n: usize, settings: &Settings) -> Result<u64, Refusal> {
     answer(number, size)
 }
 
-/// The tree of `text`.
+/// The tree of `text`. It needs no memory besides the tree's, and searches the text once for each block and each pair: `build_scanned` is for long texts.
 pub fn build(text: &[u8], settings: &Settings) -> Result<Vec<u8>, Refusal> {
     let enough = enough(text.len(), settings)?;
     let mut tree = vec![0; usize::try_from(enough).expect("a tree fits the memory")];
     let (number, size) = calls::build(text, settings.leaf, settings.arity, settings.levels, &settings.counted, &mut tree);
     tree.truncate(size as usize);
     answer(number, tree)
+}
+
+/// A tree, and how many windows of the text were looked up to build it.
+#[derive(Clone, Debug, PartialEq, Eq)]
+pub struct Scanned {
+    pub tree: Vec<u8>,
+    pub windows: u32,
+}
+
+/// The tree of `text`, the same as `build` gives, by one scan of the text for each level: on long texts in a small part of the time. It takes
+/// four words of memory besides for each leaf length of text.
+pub fn build_scanned(text: &[u8], settings: &Settings) -> Result<Scanned, Refusal> {
+    let enough = enough(text.len(), settings)?;
+    let mut tree = vec![0; usize::try_from(enough).expect("a tree fits the memory")];
+    let words = calls::scan_words(text.len() as u32, settings.leaf);
+    let mut work = vec![0; usize::try_from(words).expect("the table fits the memory")];
+    let (number, size, windows) = calls::build_scanned(text, settings.leaf, settings.arity, settings.levels, &settings.counted, &mut work, &mut tree);
+    tree.truncate(size as usize);
+    answer(number, Scanned { tree, windows })
 }
 
 /// The lines of the list program, one for each level; or its line `refused N`, and the refusal.

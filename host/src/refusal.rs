@@ -45,6 +45,7 @@ refusals! {
     Input = 15: "only trees of at most 65,536 bytes are listed",
     Pattern = 16: "a pattern must have 1 to 256 bytes",
     Table = 17: "the table has fewer words than the pattern has places",
+    Work = 18: "the table of words is too short: four words are needed for each leaf length of text, a begun one counting whole",
 }
 
 impl Refusal {
@@ -82,13 +83,13 @@ mod tests {
     #[test]
     fn numbers_are_those_of_the_header() {
         let header = include_str!("../../include/blocktree.h");
-        for number in 1..=17 {
+        for number in 1..=18 {
             let refusal = Refusal::from_number(number).expect("a refusal");
             assert_eq!(refusal.number(), number);
             assert!(refusal.to_string().starts_with(&format!("refused ({number}): ")));
             let lines = header.lines().filter(|line| line.trim_start().starts_with("BT_") && declares(line, number));
             assert_eq!(lines.count(), 1);
         }
-        assert!(Refusal::from_number(0).is_none() && Refusal::from_number(18).is_none());
+        assert!(Refusal::from_number(0).is_none() && Refusal::from_number(19).is_none());
     }
 }

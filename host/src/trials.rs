@@ -1,7 +1,7 @@
 //! Which settings suit a book: a short list is tried, the smallest tree is kept.
 
 use crate::progress;
-use codebook::{build, Refusal, Settings, SHORT_LIST};
+use codebook::{build_scanned, Refusal, Settings, SHORT_LIST};
 use std::sync::atomic::{AtomicUsize, Ordering};
 use std::thread;
 
@@ -30,7 +30,7 @@ fn build_all(text: &[u8], list: &[Settings]) -> Result<Vec<Trial>, Refusal> {
         let work = || {
             let mut mine = Vec::new();
             while let Some(settings) = list.get(next.fetch_add(1, Ordering::Relaxed)) {
-                mine.push((settings, build(text, settings)));
+                mine.push((settings, build_scanned(text, settings).map(|scanned| scanned.tree)));
                 done.fetch_add(1, Ordering::Relaxed);
             }
             mine

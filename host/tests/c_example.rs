@@ -16,22 +16,31 @@ fn output(command: &mut Command) -> Output {
     output
 }
 
-#[test]
-fn reads_a_row() {
-    let program = Path::new(env!("CARGO_TARGET_TMPDIR")).join("read_row");
+/// What an example prints, compiled without a warning.
+fn printed(example: &str) -> String {
+    let program = Path::new(env!("CARGO_TARGET_TMPDIR")).join(example);
     output(
         Command::new("gcc")
             .arg("-std=c99")
             .args(STRICT)
             .arg("-I")
             .arg(repository().join("include"))
-            .arg(repository().join("examples/c/read_row.c"))
+            .arg(repository().join(format!("examples/c/{example}.c")))
             .arg(ARCHIVE)
             .arg("-o")
             .arg(&program),
     );
-    let printed = output(&mut Command::new(program)).stdout;
-    assert_eq!(String::from_utf8_lossy(&printed), "text 112 bytes, tree 1060 bytes\nrow 7: CH0503 324122\n");
+    String::from_utf8_lossy(&output(&mut Command::new(program)).stdout).into_owned()
+}
+
+#[test]
+fn reads_a_row() {
+    assert_eq!(printed("read_row"), "text 112 bytes, tree 1060 bytes\nrow 7: CH0503 324122\n");
+}
+
+#[test]
+fn builds_with_one_scan_a_level() {
+    assert_eq!(printed("build_scanned"), "table of 56 words, 470 windows looked up\nboth trees are the same\n");
 }
 
 /// The header alone, as C99 and as C++.

@@ -83,6 +83,73 @@ fn build_refusals() {
     });
 }
 
+/// A table of exactly so many words, of any content.
+fn table(rng: &mut Rng, words: usize) -> Box<[u32]> {
+    (0..words).map(|_| rng.next() as u32).collect()
+}
+
+/// The builder with one scan a level, in a table of any content: what it answers and leaves in the buffer. Whatever it answers but 0 and 4, the table is
+/// untouched; whatever but 18, the first builder answers and leaves the same.
+fn library_scan(rng: &mut Rng, text: &[u8], shape: Shape, counted: &[u8], words: usize, out: &mut [u8]) -> (u32, u32, u32) {
+    let mut first = out.to_vec().into_boxed_slice();
+    let before = table(rng, words);
+    let mut work = before.clone();
+    let (number, size, windows) = calls::build_scanned(text, shape.m, shape.r, shape.h, counted, &mut work, out);
+    assert!(number == 0 || number == 4 || work == before, "{number}");
+    if number != 18 {
+        assert_eq!(library_build(text, shape, counted, &mut first), (number, size));
+        assert!(*first == *out);
+    }
+    (number, size, windows)
+}
+
+#[test]
+fn scans() {
+    rounds(10_000, |rng| {
+        let text = damage::text(rng, 120);
+        let (shape, counted) = (damage::shape(rng), damage::counted(rng));
+        let tree = build::plain_tree(&text, shape, &counted);
+        let needed = calls::scan_words(text.len() as u32, shape.m) as usize;
+        assert_eq!(needed, 4 * text.len().div_ceil(shape.m as usize));
+        let enough = needed + rng.below(9);
+        let cases = [(needed, tree.len()), (enough, tree.len() + rng.below(9)), (enough, rng.below(tree.len())), (needed - 1, tree.len()), (rng.below(needed), rng.below(tree.len()))];
+        for (words, length) in cases {
+            let (mut expected, mut got) = (lent(length), lent(length));
+            let answer = build::scan_with(&text, shape, &counted, words, &mut expected, |_, _, _| tree.clone());
+            assert_eq!(library_scan(rng, &text, shape, &counted, words, &mut got), answer, "{shape:?} {counted:?} {words} {length} {}", to_hex(&text));
+            assert!(got == expected, "{shape:?} {counted:?} {} in {length}", to_hex(&text));
+        }
+    });
+}
+
+/// 1, 2 and 3 come before 18, and 18 before 4.
+#[test]
+fn scan_refusals() {
+    let mut reached = BTreeSet::new();
+    rounds(4000, |rng| {
+        let text = if rng.one_in(8) { Vec::new() } else { damage::text(rng, 8) };
+        let odd = |rng: &mut Rng, most: usize| if rng.one_in(12) { damage::odd_word(rng, 1) } else { rng.within(0, most) as u32 };
+        let shape = if rng.one_in(3) { Shape::new(odd(rng, 257), odd(rng, 17), odd(rng, 9)) } else { damage::shape(rng) };
+        let counted: Vec<u8> = (0..rng.below(6)).map(|i| if rng.one_in(8) { rng.next() as u8 } else { 40 * i as u8 }).collect();
+        let (words, length) = (rng.below(40), rng.below(400));
+        let (mut expected, mut got) = (lent(length), lent(length));
+        let answer = build::scan(&text, shape, &counted, words, &mut expected);
+        assert_eq!(library_scan(rng, &text, shape, &counted, words, &mut got), answer, "{shape:?} {counted:?} {words} {}", to_hex(&text));
+        assert!(got == expected);
+        reached.insert(answer.0);
+    });
+    if setting("ROUNDS", 4000) >= 1000 {
+        assert_eq!(reached, [0, 1, 2, 3, 4, 18].into());
+    }
+}
+
+#[test]
+fn scan_words() {
+    for (n, leaf, words) in [(0, 1, 0), (1, 1, 4), (20, 2, 40), (21, 2, 44), (1_048_576, 1, 4_194_304), (5, 0, 0), (u32::MAX, 1, 17_179_869_180), (u32::MAX, u32::MAX, 4)] {
+        assert_eq!(calls::scan_words(n, leaf), words, "{n} {leaf}");
+    }
+}
+
 #[test]
 fn good_trees() {
     rounds(3000, |rng| {
@@ -273,12 +340,43 @@ fn longest_books() {
     compare_book(&mut rng, &run, Shape::new(256, 16, 3), b"A", 300);
 }
 
+/// The tree by one scan a level, and the windows looked up.
+fn compare_scan(rng: &mut Rng, text: &[u8], shape: Shape, counted: &[u8], expected: &[u8]) {
+    let mut tree = lent(expected.len());
+    let mut work = table(rng, 4 * text.len().div_ceil(shape.m as usize));
+    let windows = build::windows(text.len(), shape, expected);
+    assert_eq!(calls::build_scanned(text, shape.m, shape.r, shape.h, counted, &mut work, &mut tree), (0, expected.len() as u32, windows), "{shape:?}");
+    assert!(*tree == *expected, "{shape:?}");
+}
+
+/// Long books with small blocks, which the first builder would take minutes for: by one scan a level alone.
+#[test]
+fn scanned_books() {
+    let mut rng = Rng::new(setting("SEED", 1));
+    let equal_blocks = [b"0123456789ABCDEF".repeat(4), b"fedcba9876543210".repeat(4)].concat().repeat(1024);
+    let texts = [
+        book(Kind::Repetitive, 1_048_576, 5),
+        book(Kind::Mixed, 1_000_003, 6),
+        book(Kind::NearlyRandom, 1_048_575, 7),
+        vec![b'A'; 1_048_576],
+        equal_blocks,
+        (0..65_536u32).map(|place| place.count_ones() as u8 % 2).collect(),
+    ];
+    for text in texts {
+        for shape in [Shape::new(64, 2, 4), Shape::new(16, 4, 3)] {
+            let expected = fast::tree(&text, shape, b"\n");
+            compare_scan(&mut rng, &text, shape, b"\n", &expected);
+        }
+    }
+}
+
 /// The book's tree, once it is compared and asked.
 fn compare_book(rng: &mut Rng, text: &[u8], shape: Shape, counted: &[u8], questions: usize) -> Vec<u8> {
     let expected = fast::tree(text, shape, counted);
     let mut tree = lent(expected.len());
     assert_eq!(library_build(text, shape, counted, &mut tree), (0, expected.len() as u32));
     assert!(*tree == *expected, "{shape:?}");
+    compare_scan(rng, text, shape, counted, &expected);
     assert_eq!(calls::check(&tree), 0);
     for _ in 0..questions {
         let p = rng.below(text.len()) as u32;

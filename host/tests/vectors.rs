@@ -21,6 +21,7 @@ const CASES: &str = include_str!("../../crates/cases/stdout");
 #[allow(clippy::type_complexity)]
 struct Calls {
     build: fn(&[u8], Shape, &[u8], &mut [u8]) -> (u32, u32),
+    scan: fn(&[u8], Shape, &[u8], usize, &mut [u8]) -> (u32, u32, u32),
     check: fn(&[u8]) -> u32,
     list: fn(&[u8]) -> String,
     byte: fn(&[u8], u32) -> (u32, u32, u32),
@@ -36,6 +37,7 @@ struct Calls {
 fn library() {
     run_all(&Calls {
         build: |text, shape, counted, out| calls::build(text, shape.m, shape.r, shape.h, counted, out),
+        scan: library_scan,
         check: calls::check,
         list: |tree| codebook::list(tree).0,
         byte: calls::byte,
@@ -52,6 +54,7 @@ fn library() {
 fn model() {
     run_all(&Calls {
         build: build::build,
+        scan: build::scan,
         check: check::check,
         list: |tree| check::list(tree).1,
         byte: read::byte,
@@ -64,8 +67,17 @@ fn model() {
     });
 }
 
+/// The builder with one scan a level, in a table of so many words, every byte of which is filled. What it then holds is free, except on a refusal other than 4.
+fn library_scan(text: &[u8], shape: Shape, counted: &[u8], words: usize, out: &mut [u8]) -> (u32, u32, u32) {
+    let filled = u32::from_le_bytes([FILL; 4]);
+    let mut work = vec![filled; words];
+    let answer = calls::build_scanned(text, shape.m, shape.r, shape.h, counted, &mut work, out);
+    assert!(answer.0 == 0 || answer.0 == 4 || work.iter().all(|&word| word == filled));
+    answer
+}
+
 /// Items of requests that are not in force in this format are passed over by name.
-const LATER: [&str; 12] = ["scan", "match", "columns", "rows", "column", "open", "left", "renew", "guide", "guidecheck", "guided", "order"];
+const LATER: [&str; 11] = ["match", "columns", "rows", "column", "open", "left", "renew", "guide", "guidecheck", "guided", "order"];
 
 fn run_all(calls: &Calls) {
     run_file(calls, VECTORS);
@@ -79,7 +91,7 @@ fn run_file(calls: &Calls, file: &str) {
     for line in file.lines().filter(|line| !line.is_empty() && !line.starts_with('#') && !line.contains(" => wrong: ")) {
         let tokens: Vec<&str> = line.split(' ').collect();
         match tokens[..] {
-            ["landed", request] => in_force = request == "105",
+            ["landed", request] => in_force = request == "106",
             ["text" | "tree", name, hex] => {
                 bytes.insert(name, from_hex(hex));
             }
@@ -116,6 +128,12 @@ fn item(calls: &Calls, bytes: &HashMap<&str, Vec<u8>>, item: &[&str], expected: 
             let mut out = lent(6);
             let (refusal, size) = (calls.build)(subject, Shape::new(number(2), number(3), number(4)), &from_hex(item[5]), &mut out);
             format!("{refusal} {size} {}", to_hex(&out))
+        }
+        "scan" => {
+            let mut out = lent(7);
+            let words = item[6].parse().expect("a number");
+            let (refusal, size, windows) = (calls.scan)(subject, Shape::new(number(2), number(3), number(4)), &from_hex(item[5]), words, &mut out);
+            format!("{refusal} {size} {windows} {}", to_hex(&out))
         }
         "check" => (calls.check)(subject).to_string(),
         "list" => (calls.list)(subject).replace('\n', "/"),

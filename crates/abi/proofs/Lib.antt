@@ -2,3 +2,4 @@ pub mod AnswerLaws
 pub mod CountLaws
 pub mod ListLaws
 pub mod PlaceLaws
+pub mod ScanLaws

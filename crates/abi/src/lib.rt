@@ -11,6 +11,7 @@ use layout::place::TextPlace;
 use patterns::PlacesWritten;
 use rank::Counted;
 use rows::RowCopied;
+use scanner::Scanned;
 use select::Found;
 ghost use mathlib.Core.Path.{_≡_};
 ghost use Prim.Native.Nat.{_≤_};
@@ -27,6 +28,7 @@ ghost use Rattle.enough.specs.Enough.{enoughSays};
 ghost use Rattle.listing.specs.Lines.{listed};
 ghost use Rattle.listing.specs.Written.{Put};
 ghost use Rattle.patterns.specs.Places.{placesSays, placesLeaves};
+ghost use Rattle.scanner.specs.Scanning.{tableWords, scanNumber, scanSize, scanWindows, scanLeaves, TableLeft};
 ghost use Rattle.abi.specs.Answers.{saying, roomNumber, roomSize, uncountedNumber, inputNumber, listNumber, listSize, listLeaves};
 
 // The shortest buffer that list writes to.
@@ -61,6 +63,48 @@ pub extern "C" fn bt_build(
             number
         }
     }
+}
+
+// Builds the same tree by one scan of the text for each level above the last, in a lent table of words.
+#[no_mangle]
+pub extern "C" fn bt_build_scanned(
+    text: &[u8],
+    leaf: u32,
+    arity: u32,
+    levels: u32,
+    counted: &[u8],
+    work: &mut [u32],
+    out: &mut [u8],
+    size: &mut u32,
+    windows: &mut u32,
+) -> u32
+    ensures number { λ r. ⌜ r ≡ scanNumber (given leaf arity levels (now (counted .entry))) (now (text .entry)) (now (out .entry)) (length (now (work .entry))) ⌝ }
+    ensures written { λ _. ⌜ now (size .exit) ≡ scanSize (given leaf arity levels (now (counted .entry))) (now (text .entry)) (now (out .entry)) (length (now (work .entry))) ⌝ }
+    ensures looked { λ _. ⌜ now (windows .exit) ≡ scanWindows (given leaf arity levels (now (counted .entry))) (now (text .entry)) (now (out .entry)) (length (now (work .entry))) ⌝ }
+    ensures buffer { λ _. ⌜ now (out .exit) ≡ scanLeaves (given leaf arity levels (now (counted .entry))) (now (text .entry)) (now (out .entry)) (length (now (work .entry))) ⌝ }
+    ensures table { λ r. ⌜ TableLeft r (now (work .entry)) (now (work .exit)) ⌝ }
+{
+    let scanned = tree::build_scanned(text, leaf, arity, levels, counted, work, out);
+    match scanned {
+        Scanned::Size(n, w) => {
+            *size = n;
+            *windows = w;
+            0
+        }
+        Scanned::Refused(number) => {
+            *size = 0;
+            *windows = 0;
+            number
+        }
+    }
+}
+
+// How many words that table must have for a text of n bytes.
+#[no_mangle]
+pub extern "C" fn bt_scan_words(n: u32, leaf: u32) -> u64
+    ensures { λ r. ⌜ r ≡ tableWords n leaf ⌝ }
+{
+    tree::scan_words(n, leaf)
 }
 
 // A size that is enough for the tree of any text of n bytes.

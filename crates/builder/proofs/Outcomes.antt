@@ -2,6 +2,7 @@
 use mathlib.Core.List.{List, _++_, append-nil}
 use mathlib.Core.Bool.{Bool, true, false, cond}
 use mathlib.Core.Path.{_≡_, refl, sym, ap, _∙_, subst}
+use mathlib.Core.Logic.{_⊎_, inl, inr}
 use Prim.Native.Nat.{ℕ, _≤_, _<_}
 use native.Mathlib.Omega.{arith}
 use lib.ListN.{length, drop, replicate}
@@ -101,8 +102,9 @@ module _ (m r H : ℕ) (cs T out : List ℕ) (ok : lengthOk (length T) ≡ true)
     unfolding checked
     by-cases = is ∙ rw (a-is, b-is)
 
-  pub settings-refused : (q : ℕ) → x ≡ Refused q → Told S T out (Not q) out
-  settings-refused q e = go (sizesOk (sizes m r H)) (countedOk cs) refl refl
+  -- which question refuses the settings
+  pub refused-is : (q : ℕ) → x ≡ Refused q → ((q ≡ 2) × (sizesOk S ≡ false)) ⊎ ((q ≡ 3) × (sizesOk S ≡ true) × (countedOk cs ≡ false))
+  refused-is q e = go (sizesOk (sizes m r H)) (countedOk cs) refl refl
     where
       two : (q : ℕ) → Refused q ≡ Refused 2 → q ≡ 2
       two q e = cc
@@ -113,13 +115,20 @@ module _ (m r H : ℕ) (cs T out : List ℕ) (ok : lengthOk (length T) ≡ true)
       fine : (s : code.Settings) → Refused q ≡ Fine s → ⊥
       fine s e = let z : _≡_ {A = ℕ} 0 1 = cc in omega arith
 
-      go : (a b : Bool) → sizesOk (sizes m r H) ≡ a → countedOk cs ≡ b → Told S T out (Not q) out
-      go false b f g = subst (λ (k : ℕ). Told S T out (Not k) out) (sym (two q (sym e ∙ by-cases false b f g))) (refused-two S T out ok (sizes-same ∙ f))
-      go true false f g = subst (λ (k : ℕ). Told S T out (Not k) out) (sym (three q (sym e ∙ by-cases true false f g))) (refused-three S T out ok (sizes-same ∙ f) g)
+      go : (a b : Bool) → sizesOk (sizes m r H) ≡ a → countedOk cs ≡ b → ((q ≡ 2) × (sizesOk S ≡ false)) ⊎ ((q ≡ 3) × (sizesOk S ≡ true) × (countedOk cs ≡ false))
+      go false b f g = inl (two q (sym e ∙ by-cases false b f g), sizes-same ∙ f)
+      go true false f g = inr (three q (sym e ∙ by-cases true false f g), sizes-same ∙ f, g)
       go true true f g = absurd (fine _ (sym e ∙ by-cases true true f g))
 
+  pub settings-refused : (q : ℕ) → x ≡ Refused q → Told S T out (Not q) out
+  settings-refused q e = go (refused-is q e)
+    where
+      go : ((q ≡ 2) × (sizesOk S ≡ false)) ⊎ ((q ≡ 3) × (sizesOk S ≡ true) × (countedOk cs ≡ false)) → Told S T out (Not q) out
+      go (inl (z, f)) = subst (λ (k : ℕ). Told S T out (Not k) out) (sym z) (refused-two S T out ok f)
+      go (inr (z, f, g)) = subst (λ (k : ℕ). Told S T out (Not k) out) (sym z) (refused-three S T out ok f g)
+
   module _ (s : code.Settings) (e : x ≡ Fine s) where
-    fine-is : (sizesOk S ≡ true) × (countedOk cs ≡ true) × (settingsOf s cs ≡ S)
+    pub fine-is : (sizesOk S ≡ true) × (countedOk cs ≡ true) × (settingsOf s cs ≡ S)
     fine-is = go (sizesOk (sizes m r H)) (countedOk cs) refl refl
       where
         two : Fine s ≡ Refused 2 → ⊥

@@ -1,5 +1,5 @@
 // The builder: byte for byte the block tree of its text, written into a lent buffer.
-mod fill;
+pub mod fill;
 mod whole;
 
 use layout::settings::Checked;

@@ -5,6 +5,10 @@ use script::Gift;
 use script::Question;
 use tokens::hexadecimal::Fault;
 use tokens::hexadecimal::Made;
+ghost use Prim.Native.Nat.{_≤_};
+
+// Room for the table that a scan is lent.
+const TABLE: usize = 512;
 
 // Answers a line; the script has the lines before it.
 pub fn line(script: &[u8], line: &[u8], bytes: &mut [u8], lent: &mut [u8]) {
@@ -18,7 +22,7 @@ pub fn line(script: &[u8], line: &[u8], bytes: &mut [u8], lent: &mut [u8]) {
     let question = script::question_of(line);
     match question {
         Question::Nothing => wrong::say(b"no such word"),
-        Question::Build => build(script, line, bytes, lent),
+        Question::Build | Question::Scan => build(script, line, question, bytes, lent),
         Question::Places => pattern::places(script, line, bytes),
         _ => of_tree(script, line, question, bytes, lent),
     }
@@ -113,43 +117,84 @@ fn on_byte(question: Question, tree: &[u8], byte: u32, number: u32) {
     }
 }
 
-// Build: a text, three settings, the counted bytes, and the length of the lent buffer.
-fn build(script: &[u8], line: &[u8], bytes: &mut [u8], lent: &mut [u8]) {
+// Which token of a line that builds is the last, the length of the lent buffer.
+fn last(question: Question) -> u32
+    ensures { λ r. ⌜ r ≤ 7 ⌝ }
+{
+    match question {
+        Question::Scan => 7,
+        _ => 6,
+    }
+}
+
+// Build: a text, three settings, the counted bytes, and the length of the lent buffer; with one scan a level, before that, how many words the
+// lent table has.
+fn build(script: &[u8], line: &[u8], question: Question, bytes: &mut [u8], lent: &mut [u8]) {
     if !tokens::figures(line, 2, 5) {
         wrong::fault(Fault::Number);
         return;
     }
-    if !numbers(line, 6, 7) {
+    let last = last(question);
+    if !numbers(line, 6, last + 1) {
         wrong::fault(Fault::Number);
         return;
     }
-    let size = tokens::figure(line, 6) as usize;
+    let size = tokens::figure(line, last) as usize;
     if lent.len() < size {
         wrong::fault(Fault::Room);
         return;
     }
     let made = script::named(script, tokens::token(line, 1), bytes);
     match made {
-        Made::Bytes(n) => build_of(&bytes[..n], line, &mut lent[..size]),
+        Made::Bytes(n) => build_of(&bytes[..n], line, question, &mut lent[..size]),
         Made::Wrong(f) => wrong::fault(f),
     }
 }
 
 // The same of the text.
-fn build_of(text: &[u8], line: &[u8], lent: &mut [u8]) {
+fn build_of(text: &[u8], line: &[u8], question: Question, lent: &mut [u8]) {
     let mut counted = [0u8; 256];
     let made = tokens::hex(tokens::token(line, 5), &mut counted);
     match made {
-        Made::Bytes(n) => build_counting(text, line, &counted[..n], lent),
+        Made::Bytes(n) => build_counting(text, line, question, &counted[..n], lent),
         Made::Wrong(f) => wrong::fault(f),
     }
 }
 
 // The same with the counted bytes.
-fn build_counting(text: &[u8], line: &[u8], counted: &[u8], lent: &mut [u8]) {
+fn build_counting(text: &[u8], line: &[u8], question: Question, counted: &[u8], lent: &mut [u8]) {
     script::fill(lent, 238);
     let leaf = tokens::figure(line, 2);
     let arity = tokens::figure(line, 3);
     let levels = tokens::figure(line, 4);
-    replies::build(text, leaf, arity, levels, counted, lent);
+    match question {
+        Question::Scan => scan(
+            text,
+            leaf,
+            arity,
+            levels,
+            counted,
+            tokens::figure(line, 6) as usize,
+            lent,
+        ),
+        _ => replies::build(text, leaf, arity, levels, counted, lent),
+    }
+}
+
+// With one scan a level, in a table of so many words, which have 238 in every byte.
+fn scan(
+    text: &[u8],
+    leaf: u32,
+    arity: u32,
+    levels: u32,
+    counted: &[u8],
+    words: usize,
+    lent: &mut [u8],
+) {
+    if TABLE < words {
+        wrong::fault(Fault::Room);
+        return;
+    }
+    let mut work = [4008636142u32; TABLE];
+    replies::scan(text, leaf, arity, levels, counted, &mut work[..words], lent);
 }

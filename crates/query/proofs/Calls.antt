@@ -56,6 +56,14 @@ pub use Rattle.rows.specs.declared.RowCopied.{RowCopied}
 pub use Rattle.rows.specs.declared.RowCopied.the-variants as rows
 pub use Rattle.patterns.specs.declared.PlacesWritten.{PlacesWritten}
 pub use Rattle.patterns.specs.declared.PlacesWritten.the-variants as places
+pub use Rattle.scanner.proofs.build_scanned.Reads as scanned-reads
+pub use Rattle.scanner.proofs.build_scanned.Statement as scanned-stated
+pub use Rattle.scanner.proofs.build_scanned.Met as scanned-met
+pub use Rattle.scanner.proofs.scan_words.Reads as scan-words-reads
+pub use Rattle.scanner.proofs.scan_words.Statement as scan-words-stated
+pub use Rattle.scanner.proofs.scan_words.Met as scan-words-met
+pub use Rattle.scanner.specs.declared.Scanned.{Scanned}
+pub use Rattle.scanner.specs.declared.Scanned.the-variants as scanned
 -- what an answer says in document 01's terms, and that a refusal's number is not 0
 pub use Rattle.access.specs.Answers.{said, copiedSaid}
 pub use Rattle.rank.specs.Counts.{saidCount, Numbered as CountNumbered}
@@ -75,6 +83,15 @@ Lent = RefT (List ℕ)
 abbrev pub Enough : (n leaf arity levels counted : ℕ) → Room → Type 0
 Enough n leaf arity levels counted r =
     enough-reads.Post tt (n, (leaf, (arity, (levels, (counted, tt))))) r (n, (leaf, (arity, (levels, (counted, tt)))))
+
+-- build_scanned(text, leaf, arity, levels, counted, words, out), which leaves the table as `table` and the buffer as `after`
+abbrev pub BuildScanned : (κs : Lfts 4) (text : Lent) (leaf arity levels : ℕ) (counted words table out after : Lent) → Scanned → Type 0
+BuildScanned κs text leaf arity levels counted words table out after r =
+    scanned-reads.Post κs (text, (leaf, (arity, (levels, (counted, (words, (out, tt))))))) r (text, (leaf, (arity, (levels, (counted, (table, (after, tt)))))))
+
+-- scan_words(n, leaf)
+abbrev pub ScanWords : (n leaf : ℕ) → ℕ → Type 0
+ScanWords n leaf r = scan-words-reads.Post tt (n, (leaf, tt)) r (n, (leaf, tt))
 
 -- count(tree, byte, i)
 abbrev pub Count : (κs : Lfts 1) → Lent → (byte i : ℕ) → Counted → Type 0

@@ -44,6 +44,7 @@ pub every-call-ends : {M : Type 1}
     × calls.byte-stated.statement M × calls.run-stated.statement M × calls.span-stated.statement M
     × calls.count-stated.statement M × calls.find-stated.statement M × calls.row-stated.statement M
     × calls.places-stated.statement M
+    × calls.scanned-stated.statement M × calls.scan-words-stated.statement M
 every-call-ends = (
   calls.leftmost-met.met,
   calls.earlier-met.met,
@@ -57,6 +58,8 @@ every-call-ends = (
   calls.find-met.met,
   calls.row-met.met,
   calls.places-met.met,
+  calls.scanned-met.met,
+  calls.scan-words-met.met,
 )
 
 -- "trusts no caller to have checked a tree": what a call asks of its caller holds of any arguments.
@@ -74,6 +77,9 @@ pub trusts-no-caller :
     × ((κs : Lfts 1) (t : Lent) (byte j : ℕ) → calls.find-reads.Asked κs (t, (byte, (j, tt))))
     × ((κs : Lfts 2) (t : Lent) (q : ℕ) (buffer : Lent) → calls.row-reads.Asked κs (t, (q, (buffer, tt))))
     × ((κs : Lfts 3) (t pattern table : Lent) → calls.places-reads.Asked κs (t, (pattern, (table, tt))))
+    × ((κs : Lfts 4) (text : Lent) (leaf arity levels : ℕ) (counted words out : Lent)
+    → calls.scanned-reads.Asked κs (text, (leaf, (arity, (levels, (counted, (words, (out, tt))))))))
+    × ((κs : Lfts 0) (n leaf : ℕ) → calls.scan-words-reads.Asked κs (n, (leaf, tt)))
 trusts-no-caller = (
   λ κs text p len by. tt,
   λ κs text p len by. tt,
@@ -87,6 +93,8 @@ trusts-no-caller = (
   λ κs t byte j. tt,
   λ κs t q buffer. tt,
   λ κs t pattern table. tt,
+  λ κs text leaf arity levels counted words out. tt,
+  λ κs n leaf. tt,
 )
 
 -- "gives its answer or a numbered refusal of document 01": which numbers each call refuses with, for any arguments and any lent bytes.

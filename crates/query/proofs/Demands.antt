@@ -13,10 +13,12 @@ use Rattle.format.specs.Layout as at
 use Rattle.format.specs.Fits.{fits}
 use Rattle.accepted.specs.Accepting.{StandsFor}
 use Rattle.builder.specs.Answers.{given}
+use Rattle.scanner.specs.Scanning.{windowsOf}
 use Rattle.query.proofs.Calls as calls
-use Rattle.query.proofs.Calls.{Lent, Build, Check}
+use Rattle.query.proofs.Calls.{Lent, Build, BuildScanned, Check}
 use Rattle.query.proofs.Answering.{Answers, Refuses}
 use calls.built as built
+use calls.scanned as scanned
 -- Demand 1. "Every call ends, on every text, setting, tree and question; reads and writes only what was lent; ..
 pub use Rattle.query.proofs.Demand1.{every-call-ends}
 -- .. gives its answer or a numbered refusal of document 01; ..
@@ -68,8 +70,14 @@ pub use Rattle.patterns.proofs.Demands.{places-unread, places-length, places-br
 pub use Rattle.query.proofs.PatternPlaces.{places-numbers}
 -- .. the table is untouched either way."
 pub use Rattle.query.proofs.PatternPlaces.{places-unchanged}
+-- The builder with one scan a level: its numbers, the buffer and the table; ..
+pub use Rattle.query.proofs.Scanned.{scanned-answer, scanned-numbers, scanned-zeros, scanned-unchanged, scanned-table, scanned-short, scanned-has-table}
+-- .. "for every text, setting and buffer that both take, it and the first builder write the same bytes"; the windows that it reports; ..
+pub use Rattle.query.proofs.Scanned.{same-as-build, scanned-windows}
+-- .. demand 2, and the end of demand 3.
+pub use Rattle.query.proofs.Scanned.{scanned-writes, scanned-answers, scanned-refuses, scanned-accepted, scanned-one-text}
 
--- The two roads to a tree, each in one theorem.
+-- The roads to a tree, each in one theorem.
 
 -- A tree that check accepted, whoever made it: exactly one text fits it, and every question is answered from that text.
 pub any-tree : (κs : Lfts 1) (t : Lent) → Check κs t 0
@@ -95,4 +103,23 @@ built-tree κs text leaf arity levels counted out after size a t is =
       one .1,
       build-answers κs text leaf arity levels counted out after size a t is,
       build-refuses κs text leaf arity levels counted out after size a t is,
+    )
+
+-- A tree that build_scanned wrote: the same, and the windows that it reports are those of the text.
+pub scanned-tree :
+    (κs : Lfts 4) (text : Lent) (leaf arity levels : ℕ) (counted words table out after : Lent) (size windows : ℕ)
+    → BuildScanned κs text leaf arity levels counted words table out after (scanned.Size size windows) → (t : Lent) → now t ≡ take size (now after)
+    → (windows ≡ windowsOf (given leaf arity levels (now counted)) (now text))
+    × (now t ≡ treeOf (given leaf arity levels (now counted)) (now text)) × ((κ : Lfts 1) (r : ℕ) → Check κ t r → r ≡ 0)
+    × StandsFor (now t) (now text) × ((U : List ℕ) → fits U (now t) ≡ true → U ≡ now text)
+    × Answers t (given leaf arity levels (now counted)) (now text) × Refuses t (given leaf arity levels (now counted)) (now text)
+scanned-tree κs text leaf arity levels counted words table out after size windows a t is =
+    let one = scanned-one-text κs text leaf arity levels counted words table out after size windows a t is in (
+      scanned-windows κs text leaf arity levels counted words table out after size windows a,
+      is ∙ scanned-writes κs text leaf arity levels counted words table out after size windows a,
+      scanned-accepted κs text leaf arity levels counted words table out after size windows a t is,
+      one .0,
+      one .1,
+      scanned-answers κs text leaf arity levels counted words table out after size windows a t is,
+      scanned-refuses κs text leaf arity levels counted words table out after size windows a t is,
     )

@@ -11,6 +11,7 @@ use query::Found;
 use query::PlacesWritten;
 use query::RowCopied;
 use tree::Built;
+use tree::Scanned;
 
 // Build, into a lent buffer.
 pub fn build(text: &[u8], leaf: u32, arity: u32, levels: u32, counted: &[u8], out: &mut [u8]) {
@@ -18,6 +19,23 @@ pub fn build(text: &[u8], leaf: u32, arity: u32, levels: u32, counted: &[u8], ou
     match answer {
         Built::Size(n) => say::buffer(0, n as u64, out),
         Built::Refused(number) => say::buffer(number, 0, out),
+    }
+}
+
+// Build with one scan a level, in a lent table; what the table then holds is free, and is not printed.
+pub fn scan(
+    text: &[u8],
+    leaf: u32,
+    arity: u32,
+    levels: u32,
+    counted: &[u8],
+    work: &mut [u32],
+    out: &mut [u8],
+) {
+    let answer = tree::build_scanned(text, leaf, arity, levels, counted, work, out);
+    match answer {
+        Scanned::Size(n, windows) => say::two_and_buffer(0, n as u64, windows as u64, out),
+        Scanned::Refused(number) => say::two_and_buffer(number, 0, 0, out),
     }
 }
 

@@ -23,6 +23,17 @@ pub fn three(n: u32, a: u64, b: u64) {
 pub fn buffer(n: u32, a: u64, bytes: &[u8]) {
     number(n);
     figure(a);
+    held(bytes);
+}
+
+// A number, two figures, and what a lent buffer holds.
+pub fn two_and_buffer(n: u32, a: u64, b: u64, bytes: &[u8]) {
+    three(n, a, b);
+    held(bytes);
+}
+
+// What a lent buffer holds, `-` where it has no bytes.
+fn held(bytes: &[u8]) {
     io::write_all(1, b" ");
     if bytes.len() == 0 {
         io::write_all(1, b"-");

@@ -25,6 +25,7 @@ pub enum Question {
     Run,
     Row,
     Places,
+    Scan,
     Nothing,
 }
 
@@ -72,7 +73,8 @@ pub fn question_of(line: &[u8]) -> Question
     let asked = either(word, b"span", Question::Span, asked);
     let asked = either(word, b"run", Question::Run, asked);
     let asked = either(word, b"row", Question::Row, asked);
-    either(word, b"places", Question::Places, asked)
+    let asked = either(word, b"places", Question::Places, asked);
+    either(word, b"scan", Question::Scan, asked)
 }
 
 // Whether a line asks nothing and gives nothing: it is empty or begins with `#`.

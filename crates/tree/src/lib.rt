@@ -1,10 +1,13 @@
-// The tree layer's outside calls: build writes the block tree of a text, check asks any bytes lent as a tree.
+// The tree layer's outside calls: build and build_scanned write the block tree of a text, check asks any bytes lent as a tree.
 use borders::truth;
 pub use builder::Built;
 pub use builder::build;
 pub use enough::enough;
 use layout::header::Header;
 use layout::header::HeaderRead;
+pub use scanner::Scanned;
+pub use scanner::build_scanned;
+pub use scanner::scan_words;
 ghost use mathlib.Core.Path.{_≡_};
 ghost use Rattle.format.specs.Verdict.{verdict};
 ghost use Rattle.layout.specs.HeaderSays.{HeaderOf};

@@ -1,6 +1,7 @@
 //! Building: which blocks are kept, where the others point, and the tree's bytes.
 
 use super::*;
+use std::collections::BTreeSet;
 
 /// What becomes of a block above the last level.
 #[derive(Clone, Copy, Debug, PartialEq, Eq)]
@@ -193,4 +194,47 @@ pub fn build_with(text: &[u8], shape: Shape, counted: &[u8], buffer: &mut [u8], 
 pub fn largest(n: u64, shape: Shape, k: usize) -> u64 {
     let blocks: u64 = (0..shape.h as usize).map(|level| blocks_for(n, shape.block_length(level))).sum();
     HEADER as u64 + blocks * record_length(WITH_EDGES, shape.m, k) as u64 + n
+}
+
+/// Build with one scan a level, in a lent table of `words` words: the number, the tree's size and the windows looked up.
+pub fn scan(text: &[u8], shape: Shape, counted: &[u8], words: usize, buffer: &mut [u8]) -> (u32, u32, u32) {
+    scan_with(text, shape, counted, words, buffer, plain_tree)
+}
+
+pub fn scan_with(
+    text: &[u8],
+    shape: Shape,
+    counted: &[u8],
+    words: usize,
+    buffer: &mut [u8],
+    make: impl Fn(&[u8], Shape, &[u8]) -> Vec<u8>,
+) -> (u32, u32, u32) {
+    let n = text.len() as u64;
+    let number = refusal(n, shape, counted);
+    if number == 0 && (words as u64) < 4 * blocks_for(n, shape.m.into()) {
+        return (18, 0, 0);
+    }
+    match build_with(text, shape, counted, buffer, make) {
+        (0, size) => (0, size, windows(text.len(), shape, buffer)),
+        (number, _) => (number, 0, 0),
+    }
+}
+
+/// How many windows a scan of each level above the last looks up, with the level's blocks read off the tree: for each different length of a block or
+/// a pair, kept or not, one at every place from which the text holds that many bytes.
+pub fn windows(n: usize, shape: Shape, tree: &[u8]) -> u32 {
+    let levels = 0..shape.h as usize;
+    let blocks: Vec<usize> = levels.clone().map(|level| word(tree, 28 + 8 * level) as usize).collect();
+    let record = (word(tree, 92) as usize - HEADER) / blocks.iter().sum::<usize>();
+    let mut looked = 0;
+    for level in levels.rev().skip(1) {
+        let b = shape.block_length(level) as usize;
+        let offset = word(tree, 32 + 8 * level) as usize;
+        let starts: Vec<usize> = (0..blocks[level]).map(|block| word(tree, offset + block * record) as usize).collect();
+        let single = starts.iter().map(|&start| b.min(n - start));
+        let double = starts.windows(2).filter(|pair| pair[1] == pair[0] + b).map(|pair| (2 * b).min(n - pair[0]));
+        let lengths: BTreeSet<usize> = single.chain(double).collect();
+        looked += lengths.iter().map(|length| (n + 1 - length) as u32).sum::<u32>();
+    }
+    looked
 }

@@ -1,0 +1,4 @@
+pub mod Heads
+pub mod Entries
+pub mod Entering
+pub mod Looking

@@ -1,0 +1,5 @@
+pub mod Measuring
+pub mod Noting
+pub mod Taking
+pub mod Stepping
+pub mod Answering

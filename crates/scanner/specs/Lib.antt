@@ -1,0 +1,4 @@
+pub mod Scanning
+pub mod Answers
+pub mod Tables
+pub mod ScanWorked
