@@ -11,8 +11,8 @@
  *  - Every pointer is non-null, also where its length is 0 (pass the address of any byte), and points to as many bytes, or words of a table, as its
  *    length says; pointers to figures and to words are aligned.
  *  - Nobody has to check a tree first: each call is safe on any bytes, reads nothing outside them and ends. On a tree that bt_check refuses, bt_find may
- *    answer any place below n with any number of blocks, and bt_row any bytes, or either may answer BT_PATH (bt_row also BT_BUFFER). All other answers
- *    are settled on any bytes. On a tree that bt_check accepts BT_PATH is never the answer.
+ *    answer any place below n with any number of blocks, bt_row any bytes, and bt_next_match any row after the mark or none, or each of them may
+ *    answer BT_PATH (bt_row also BT_BUFFER). All other answers are settled on any bytes. On a tree that bt_check accepts BT_PATH is never the answer.
  *  - Places in the text start at 0; occurrences and rows are numbered from 1.
  */
 #ifndef BLOCKTREE_H
@@ -33,6 +33,7 @@ extern "C" {
 #define BT_MAX_LEVELS 8u   /* levels: 1 to this */
 #define BT_MAX_COUNTED 4u  /* counted bytes: 0 to this */
 #define BT_MAX_PATTERN 256u /* bytes of a pattern: 1 to this */
+#define BT_MAX_CUTS 10u    /* cuts of a worn key: 1 to this */
 #define BT_LIST_LENGTH 512u /* a buffer of so many bytes holds all that bt_list writes */
 
 /* What the numbers mean. */
@@ -55,7 +56,8 @@ enum bt_number {
     BT_INPUT = 15,      /* list only: the tree has more than 65,536 bytes */
     BT_PATTERN = 16,    /* the pattern does not have 1 to 256 bytes */
     BT_TABLE = 17,      /* the table has fewer words than the pattern has places */
-    BT_WORK = 18        /* bt_build_scanned only: the table has fewer than four words for each leaf length of text, a begun one counting whole */
+    BT_WORK = 18,       /* bt_build_scanned only: the table has fewer than four words for each leaf length of text, a begun one counting whole */
+    BT_RANGES = 19      /* a worn key does not have 1 to 10 cuts, a depth is above 9, or a low depth above its high one */
 };
 
 /* Build the tree of a text, in layout 2. Trees of layout 1 are read and checked all the same.
@@ -141,6 +143,17 @@ uint32_t bt_row(const uint8_t *tree, size_t tree_len, uint32_t q, uint8_t *buffe
  * BT_TABLE where it does, BT_OK where it does not. The text is read once, and once more where there are more than 256 places; for each byte read the
  * search takes two steps on average at most, whatever the pattern. */
 uint32_t bt_places(const uint8_t *tree, size_t tree_len, const uint8_t *pattern, size_t pattern_len, uint32_t *table, size_t words, uint32_t *number);
+
+/* A worn key: move a mark on to the next row that matches. A row is a key if it is a code of 1 to 12 bytes other than space, one space, and 1 to 10
+ * cuts, a digit each; rows are those of bt_row. It matches if it has as many cuts as there are ranges, each of a depth in its range.
+ *   lent      tree, ranges: for each cut its low and its high depth, 0 to 9, a byte each; 2 to 2 * BT_MAX_CUTS bytes
+ *   written   *mark is in and out: the number of the row shown last, 0 before the first. It goes to the row that is shown; if no row after it matches,
+ *             to the number of rows, or it stays if it stands there or beyond. A refusal leaves it as it was
+ *             *row: the row that is shown; 0 with BT_OK means that there is no further match
+ *   answers   0, 5, 6, 7, 19, 11 (byte 10 is not counted), 14
+ * Called again and again from mark 0, with the same ranges, until *row is 0, it shows each match once, in row order. The text after the mark is read once,
+ * up to the match. */
+uint32_t bt_next_match(const uint8_t *tree, size_t tree_len, const uint8_t *ranges, size_t ranges_len, uint32_t *mark, uint32_t *row);
 
 /* The lines of the list program: one for each level, "level blocks kept pointing", or one line "refused N".
  *   lent      tree

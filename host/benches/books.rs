@@ -12,7 +12,7 @@ mod model;
 mod support;
 
 use codebook::{calls, SHORT_LIST};
-use model::{check, fast, read, Shape};
+use model::{check, fast, keys, read, Shape};
 use std::hint::black_box;
 use std::io::Write;
 use std::process::{Command, Stdio};
@@ -47,6 +47,10 @@ fn main() {
             time_patterns(text, name, shape, &book_patterns(text));
         }
         time_patterns(&vec![b'A'; size], "all A", shape, &letter_patterns());
+        println!("\n| Book | Worn key | Matches | Library, all calls | A call | Model | Whole text by span |\n|---|---|---:|---:|---:|---:|---:|");
+        for (text, name) in &texts {
+            time_matches(text, name, shape);
+        }
         println!("\n| Book | Text | Tree above | Smallest tree of the tool's list | gzip -9 | xz -9e |\n|---|---:|---:|---|---:|---:|");
         for (text, name) in &texts {
             size_row(text, name, shape);
@@ -149,6 +153,34 @@ fn equal_blocks(size: usize) -> Vec<u8> {
     let mut rng = Rng::new(9);
     let blocks: Vec<Vec<u8>> = (0..2).map(|_| (0..512).map(|_| rng.next() as u8).collect()).collect();
     (0..size / 512).flat_map(|_| blocks[rng.below(2)].clone()).collect()
+}
+
+/// All matches of worn keys, a call for each and one that answers none: by the library; by the model, which reads the text back once and tests each
+/// row; and, beside them, the whole text read by one span.
+fn time_matches(text: &[u8], name: &str, shape: Shape) {
+    let tree = fast::tree(text, shape, COUNTED);
+    let tree = || black_box(tree.as_slice());
+    let mut buffer = vec![0; text.len()];
+    let span = fastest(9, &mut || {
+        black_box(calls::span(tree(), 0, text.len() as u32, &mut buffer));
+    });
+    // as many cuts as the row in the middle has
+    let rows: Vec<&[u8]> = text.split(|&byte| byte == 10).collect();
+    let many = rows[rows.len() / 2].split(|&byte| byte == b' ').nth(1).expect("cuts").len();
+    for (words, range, cuts) in [("ten cuts of 9", [9, 9], 10), ("its cuts, 2 to 4", [2, 4], many), ("its cuts, any depth", [0, 9], many)] {
+        let ranges = range.repeat(cuts);
+        let all = || {
+            let (mut mark, mut matches) = (0, 0);
+            while calls::next_match(tree(), &ranges, &mut mark).1 != 0 {
+                matches += 1;
+            }
+            matches
+        };
+        let plain = || keys::matches_in(&read::text(&read::Tree::open(tree()).expect("a tree")), &ranges).len();
+        let [library, model] = both(5, all, plain);
+        let call = library / (all() as u32 + 1);
+        println!("| {name} | {words} | {} | {} | {} | {} | {} |", plain(), shown(library), shown(call), shown(model), shown(span));
+    }
 }
 
 /// The time of one run.

@@ -2,7 +2,7 @@
 
 use crate::help::Topic;
 use crate::Failure;
-use codebook::Settings;
+use codebook::{Range, Settings};
 
 /// A question put to a tree.
 #[derive(Clone, Debug, PartialEq, Eq)]
@@ -15,6 +15,8 @@ pub enum Question {
     Count(u8, u32),
     Find(u8, u32),
     Places(Vec<u8>),
+    /// The ranges, and the mark to start from.
+    Match(Vec<Range>, u32),
     Text,
     Stats,
 }
@@ -70,6 +72,7 @@ struct Given {
     arity: Option<u32>,
     levels: Option<u32>,
     count: Option<Vec<u8>>,
+    from: Option<u32>,
     unchecked: bool,
     help: bool,
 }
@@ -101,6 +104,7 @@ impl Given {
                 "--arity" => self.arity = Some(number(topic, &name, &value()?)?),
                 "--levels" => self.levels = Some(number(topic, &name, &value()?)?),
                 "--count" => self.count = Some(bytes(topic, &value()?)?),
+                "--from" => self.from = Some(number(topic, &name, &value()?)?),
                 "--unchecked" => self.unchecked = true,
                 _ => self.help = true,
             }
@@ -128,6 +132,7 @@ impl Given {
             "count" => Question::Count(byte(topic, &self.plain[0])?, figure(1)?),
             "find" => Question::Find(byte(topic, &self.plain[0])?, figure(1)?),
             "places" => Question::Places(pattern(topic, &self.plain[0])?),
+            "match" => Question::Match(ranges(topic, &self.plain[0])?, self.from.unwrap_or(1).saturating_sub(1)),
             "text" => Question::Text,
             _ => Question::Stats,
         };
@@ -185,6 +190,35 @@ fn escaped(topic: &Topic, letters: &[u8]) -> Result<(u8, usize), Failure> {
         _ => None,
     };
     byte.ok_or_else(|| usage(topic, "in a pattern a backslash begins \\n, \\r, \\\\ or \\xHH, a byte in hexadecimal"))
+}
+
+/// A depth, or a range of depths, for each cut: `4`, `3-5`, `[3-5]`, or `?` for any; commas and spaces between them may be left out.
+fn ranges(topic: &Topic, word: &str) -> Result<Vec<Range>, Failure> {
+    let range = |low: &u8, high: &u8| Range { low: low - b'0', high: high - b'0' };
+    let mut ranges = Vec::new();
+    let mut rest = word.as_bytes();
+    while let [first, others @ ..] = rest {
+        rest = match rest {
+            [b',' | b' ', ..] => others,
+            [b'?', ..] => {
+                ranges.push(range(&b'0', &b'9'));
+                others
+            }
+            [b'[', low @ b'0'..=b'9', b'-', high @ b'0'..=b'9', b']', others @ ..] | [low @ b'0'..=b'9', b'-', high @ b'0'..=b'9', others @ ..] => {
+                ranges.push(range(low, high));
+                others
+            }
+            [b'0'..=b'9', ..] => {
+                ranges.push(range(first, first));
+                others
+            }
+            _ => {
+                let rest = String::from_utf8_lossy(rest);
+                return Err(usage(topic, &format!("a cut is a depth from 0 to 9, a range such as [3-5], or ?, not '{rest}'")));
+            }
+        };
+    }
+    Ok(ranges)
 }
 
 /// Bytes parted by commas, or `none`.

@@ -31,6 +31,7 @@ mod declared {
             words: usize,
             number: *mut u32,
         ) -> u32;
+        pub fn bt_next_match(tree: *const u8, tree_len: usize, ranges: *const u8, ranges_len: usize, mark: *mut u32, row: *mut u32) -> u32;
         pub fn bt_list(tree: *const u8, tree_len: usize, out: *mut u8, out_len: usize, length: *mut u32) -> u32;
         pub fn bt_build_scanned(
             text: *const u8,
@@ -123,6 +124,13 @@ pub fn places(tree: &[u8], pattern: &[u8], table: &mut [u32]) -> (u32, u32) {
     let number =
         unsafe { declared::bt_places(tree.as_ptr(), tree.len(), pattern.as_ptr(), pattern.len(), table.as_mut_ptr(), table.len(), &mut places) };
     (number, places)
+}
+
+/// The number and the row that is shown, 0 for none; the mark is moved.
+pub fn next_match(tree: &[u8], ranges: &[u8], mark: &mut u32) -> (u32, u32) {
+    let mut row = 0;
+    let number = unsafe { declared::bt_next_match(tree.as_ptr(), tree.len(), ranges.as_ptr(), ranges.len(), mark, &mut row) };
+    (number, row)
 }
 
 /// The number and the lines' length.

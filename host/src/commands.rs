@@ -3,7 +3,7 @@
 use crate::args::{Call, Question};
 use crate::files::{self, Input};
 use crate::{help, messages, trials, Failure};
-use codebook::{list, Reached, Refusal, Settings, Tree, MAX_TEXT};
+use codebook::{list, Range, Reached, Refusal, Settings, Tree, MAX_TEXT};
 
 pub fn run(call: Call) -> Result<(), Failure> {
     match call {
@@ -68,9 +68,21 @@ fn answer(question: &Question, name: &str, tree: Tree) -> Result<Vec<u8>, Refusa
             figure(&value.to_string(), entered)
         }
         Question::Places(ref pattern) => tree.places(pattern)?.iter().map(|place| format!("{place}\n")).collect::<String>().into(),
+        Question::Match(ref ranges, mark) => matches(tree, ranges, mark)?,
         Question::Text => tree.text()?,
         Question::Stats => messages::stats(name, tree).into(),
     })
+}
+
+/// The rows that match, each with its number.
+fn matches(tree: Tree, ranges: &[Range], mark: u32) -> Result<Vec<u8>, Refusal> {
+    let mut output = Vec::new();
+    for row in tree.matches(ranges, mark)? {
+        output.extend_from_slice(format!("row {row}: ").as_bytes());
+        output.extend(tree.row(row)?);
+        output.push(b'\n');
+    }
+    Ok(if output.is_empty() { b"no row matches\n".to_vec() } else { output })
 }
 
 /// A figure, first on its line, and the blocks entered for it.

@@ -14,7 +14,7 @@ pub struct Topic {
 
 const UNCHECKED: &[&str] = &["--unchecked"];
 
-static TOPICS: [Topic; 11] = [
+static TOPICS: [Topic; 12] = [
     Topic {
         name: "build",
         usage: "codebook build [BOOK] [-o TREE] [--leaf M --arity R --levels H] [--count BYTES]",
@@ -100,6 +100,19 @@ another book. Status 1 where it is refused.",
         details: "\
 PATTERN is 1 to 256 bytes, as they stand in the book; \\n is byte 10, \\r byte 13, \\xHH the byte of that hexadecimal number, \\\\ a backslash. Places may
 overlap. Nothing is printed where it stands nowhere. A PATTERN that begins with - goes after --.",
+    },
+    Topic {
+        name: "match",
+        usage: "codebook match CUTS [TREE] [--from ROW] [--unchecked]",
+        figures: &["CUTS"],
+        options: &["--from", "--unchecked"],
+        summary: "print the rows that match a worn key",
+        details: "\
+CUTS is, for each of 1 to 10 cuts, a depth from 0 to 9, a range of depths such as [3-5], or ? for any: 44[3-5]22? or 4,4,3-5,2,2,0-9. A row is a key
+if it is a code of 1 to 12 bytes other than space, one space, and 1 to 10 digits. It matches with as many cuts as are asked for, each in its range.
+The tree must count byte 10. Prints each row that matches with its number, or 'no row matches'.
+
+  --from ROW   start at this row, from 1",
     },
     Topic {
         name: "text",

@@ -42,6 +42,13 @@ pub struct Reached<T> {
     pub entered: u32,
 }
 
+/// The depths that a cut of a worn key may have, 0 to 9, both included.
+#[derive(Clone, Copy, Debug, PartialEq, Eq)]
+pub struct Range {
+    pub low: u8,
+    pub high: u8,
+}
+
 /// The blocks of a level.
 #[derive(Clone, Copy, Debug, PartialEq, Eq)]
 pub struct Level {
@@ -171,6 +178,24 @@ impl<'a> Tree<'a> {
         }
         table.truncate(places as usize);
         answer(number, table)
+    }
+
+    /// The first row after `mark` that is a key, has as many cuts as there are ranges, and each in its range: a code of 1 to 12 bytes other than
+    /// space, one space, and 1 to 10 digits. The mark is moved on to it; if there is none, to the number of rows, unless it stands there or beyond.
+    pub fn next_match(&self, ranges: &[Range], mark: &mut u32) -> Result<Option<u32>, Refusal> {
+        let lent: Vec<u8> = ranges.iter().flat_map(|range| [range.low, range.high]).collect();
+        let (number, row) = calls::next_match(self.bytes, &lent, mark);
+        answer(number, (row != 0).then_some(row))
+    }
+
+    /// All rows after `mark` that match, in row order.
+    pub fn matches(&self, ranges: &[Range], mark: u32) -> Result<Vec<u32>, Refusal> {
+        let mut mark = mark;
+        let mut rows = Vec::new();
+        while let Some(row) = self.next_match(ranges, &mut mark)? {
+            rows.push(row);
+        }
+        Ok(rows)
     }
 
     /// The whole text.

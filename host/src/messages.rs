@@ -2,7 +2,7 @@
 
 use crate::args::Question;
 use crate::trials::Trial;
-use codebook::{Refusal, Settings, Tree, MAX_TEXT};
+use codebook::{Range, Refusal, Settings, Tree, MAX_TEXT};
 
 /// A number with its thousands parted.
 pub fn grouped(number: u64) -> String {
@@ -79,6 +79,7 @@ impl Question {
             Question::Count(byte, length) => Some(format!("count {byte} {length}")),
             Question::Find(byte, number) => Some(format!("find {byte} {number}")),
             Question::Places(_) => Some("places".to_owned()),
+            Question::Match(..) => Some("match".to_owned()),
             Question::Check | Question::List | Question::Text | Question::Stats => None,
         }
     }
@@ -96,12 +97,21 @@ fn hint(refusal: Refusal, question: &Question, tree: Tree) -> Option<String> {
     match (refusal, question) {
         (Refusal::Short | Refusal::Input, _) => Some(format!("it has {} bytes", grouped(tree.size() as u64))),
         (Refusal::Place, _) => Some(format!("the text has {} bytes", grouped(tree.text_length().into()))),
-        (Refusal::NotCounted, Question::Row(_)) => Some("rows end in byte 10, so build must count it".to_owned()),
+        (Refusal::NotCounted, Question::Row(_) | Question::Match(..)) => Some("rows end in byte 10, so build must count it".to_owned()),
         (Refusal::NotCounted, _) => Some(format!("it counts: {}", counted(&tree.settings().counted))),
         (Refusal::NoSuch, Question::Row(_)) => tree.rows().ok().map(|rows| format!("the book has {} rows", grouped(rows))),
         (Refusal::NoSuch, Question::Find(byte, _)) => Some(format!("its total is {}", grouped(total(*byte)))),
+        (Refusal::Ranges, Question::Match(ranges, _)) => Some(wrong_range(ranges)),
         (Refusal::Pattern, Question::Places(pattern)) => Some(format!("this one has {}", grouped(pattern.len() as u64))),
         _ => None,
+    }
+}
+
+/// What is wrong with the ranges of a worn key.
+fn wrong_range(ranges: &[Range]) -> String {
+    match ranges.iter().find(|range| range.low > range.high) {
+        Some(range) => format!("given: {}-{}", range.low, range.high),
+        None => format!("this one has {}", ranges.len()),
     }
 }
 

@@ -10,9 +10,9 @@ mod model;
 mod support;
 
 use codebook::calls;
-use judge::{find_agrees, row_agrees, FILL, FILL_WORD};
+use judge::{find_agrees, match_agrees, row_agrees, FILL, FILL_WORD};
 use model::read::Answer;
-use model::{build, check, fast, read, Shape};
+use model::{build, check, fast, keys, read, Shape};
 use std::collections::{BTreeMap, BTreeSet};
 use support::books::{book, Kind};
 use support::{to_hex, Rng};
@@ -112,11 +112,22 @@ fn scans() {
         let needed = calls::scan_words(text.len() as u32, shape.m) as usize;
         assert_eq!(needed, 4 * text.len().div_ceil(shape.m as usize));
         let enough = needed + rng.below(9);
-        let cases = [(needed, tree.len()), (enough, tree.len() + rng.below(9)), (enough, rng.below(tree.len())), (needed - 1, tree.len()), (rng.below(needed), rng.below(tree.len()))];
+        let cases = [
+            (needed, tree.len()),
+            (enough, tree.len() + rng.below(9)),
+            (enough, rng.below(tree.len())),
+            (needed - 1, tree.len()),
+            (rng.below(needed), rng.below(tree.len())),
+        ];
         for (words, length) in cases {
             let (mut expected, mut got) = (lent(length), lent(length));
             let answer = build::scan_with(&text, shape, &counted, words, &mut expected, |_, _, _| tree.clone());
-            assert_eq!(library_scan(rng, &text, shape, &counted, words, &mut got), answer, "{shape:?} {counted:?} {words} {length} {}", to_hex(&text));
+            assert_eq!(
+                library_scan(rng, &text, shape, &counted, words, &mut got),
+                answer,
+                "{shape:?} {counted:?} {words} {length} {}",
+                to_hex(&text)
+            );
             assert!(got == expected, "{shape:?} {counted:?} {} in {length}", to_hex(&text));
         }
     });
@@ -145,7 +156,9 @@ fn scan_refusals() {
 
 #[test]
 fn scan_words() {
-    for (n, leaf, words) in [(0, 1, 0), (1, 1, 4), (20, 2, 40), (21, 2, 44), (1_048_576, 1, 4_194_304), (5, 0, 0), (u32::MAX, 1, 17_179_869_180), (u32::MAX, u32::MAX, 4)] {
+    for (n, leaf, words) in
+        [(0, 1, 0), (1, 1, 4), (20, 2, 40), (21, 2, 44), (1_048_576, 1, 4_194_304), (5, 0, 0), (u32::MAX, 1, 17_179_869_180), (u32::MAX, u32::MAX, 4)]
+    {
         assert_eq!(calls::scan_words(n, leaf), words, "{n} {leaf}");
     }
 }
@@ -252,6 +265,9 @@ fn ask(rng: &mut Rng, tree: &[u8], questions: usize) {
     for _ in 0..questions.div_ceil(10) {
         let pattern = pattern(rng, tree);
         ask_places(rng, tree, &pattern);
+        let ranges = ranges(rng);
+        let mark = if rng.one_in(8) { damage::odd_word(rng, n as u32) } else { rng.below(6) as u32 };
+        ask_match(tree, &ranges, mark);
     }
 }
 
@@ -278,6 +294,81 @@ fn ask_places(rng: &mut Rng, tree: &[u8], pattern: &[u8]) {
         assert_eq!(calls::places(tree, pattern, &mut got), answer, "places {} in {words} words {}", to_hex(pattern), to_hex(tree));
         assert!(got == expected, "places {} in {words} words {}", to_hex(pattern), to_hex(tree));
     }
+}
+
+/// The ranges of a worn key, now and then ones that are refused.
+fn ranges(rng: &mut Rng) -> Vec<u8> {
+    let cuts = if rng.one_in(10) { *rng.pick(&[0, 9, 10, 11, 130]) } else { rng.within(1, 3) };
+    let mut ranges: Vec<u8> = (0..cuts).flat_map(|_| [rng.below(5) as u8, rng.within(4, 9) as u8]).collect();
+    match rng.below(20) {
+        0 => ranges.push(9),
+        1 if cuts > 0 => ranges[0] = *rng.pick(&[10, 255, b'3']),
+        2 if cuts > 0 => ranges.swap(0, 1),
+        _ => {}
+    }
+    ranges
+}
+
+/// The next match after a mark.
+fn ask_match(tree: &[u8], ranges: &[u8], mark: u32) -> (u32, u32, u32) {
+    let mut after = mark;
+    let (number, row) = calls::next_match(tree, ranges, &mut after);
+    let (expected, got) = (keys::next_match(tree, ranges, mark), (number, row, after));
+    assert!(match_agrees(expected, mark, got), "match {} {mark} gives {got:?}, not {expected:?} {}", to_hex(ranges), to_hex(tree));
+    got
+}
+
+/// Rows of keys, of rows that are nearly keys, and of others: from mark 0 to none each match is shown, once, in order, and a wider question shows no fewer.
+#[test]
+fn worn_keys() {
+    rounds(4000, |rng| {
+        let mut text = Vec::new();
+        for _ in 0..rng.below(12) {
+            text.extend_from_slice(&key_row(rng));
+            let end: &&[u8] = rng.pick(&[b"\n", b"\n", b"\r\n", b"\r\r\n", b"\n\n"]);
+            text.extend_from_slice(end);
+        }
+        if text.is_empty() || rng.one_in(2) {
+            text.extend_from_slice(&key_row(rng));
+            let end: &&[u8] = rng.pick(&[b"", b"", b"\r"]);
+            text.extend_from_slice(end);
+        }
+        text.resize(text.len().max(1), b' ');
+        let shape = damage::shape(rng);
+        let tree = damage::other_tree(rng, &text, shape, b"\n").into_boxed_slice();
+        let cuts = rng.within(1, 3);
+        let narrow: Vec<u8> = (0..cuts).flat_map(|_| [rng.within(1, 4) as u8, rng.within(4, 8) as u8]).collect();
+        let wide: Vec<u8> = narrow.chunks(2).flat_map(|pair| [rng.below(pair[0] as usize + 1) as u8, rng.within(pair[1].into(), 9) as u8]).collect();
+        let all = [&narrow, &wide].map(|ranges| all_matches(&tree, ranges));
+        assert_eq!(all, [&narrow, &wide].map(|ranges| keys::matches_in(&text, ranges)));
+        assert!(all[0].iter().all(|row| all[1].contains(row)));
+    });
+}
+
+/// The rows that are shown from mark 0 to none.
+fn all_matches(tree: &[u8], ranges: &[u8]) -> Vec<u32> {
+    let mut shown = Vec::new();
+    loop {
+        match ask_match(tree, ranges, shown.last().copied().unwrap_or(0)) {
+            (0, 0, _) => return shown,
+            (0, row, _) => shown.push(row),
+            other => panic!("{other:?} {}", to_hex(tree)),
+        }
+    }
+}
+
+/// A row, mostly a key.
+fn key_row(rng: &mut Rng) -> Vec<u8> {
+    let code = if rng.one_in(6) { *rng.pick(&[0, 11, 12, 13]) } else { rng.within(1, 3) };
+    let cuts = if rng.one_in(6) { *rng.pick(&[0, 10, 11]) } else { rng.within(1, 3) };
+    let mut row: Vec<u8> = (0..code).map(|_| *rng.pick(b"AB7\r")).collect();
+    row.push(b' ');
+    row.extend((0..cuts).map(|_| b'0' + rng.below(10) as u8));
+    if rng.one_in(8) {
+        let at = rng.below(row.len());
+        row[at] = *rng.pick(b" /:A\0");
+    }
+    row
 }
 
 fn ask_at(rng: &mut Rng, tree: &[u8], p: u32) {
@@ -345,7 +436,11 @@ fn compare_scan(rng: &mut Rng, text: &[u8], shape: Shape, counted: &[u8], expect
     let mut tree = lent(expected.len());
     let mut work = table(rng, 4 * text.len().div_ceil(shape.m as usize));
     let windows = build::windows(text.len(), shape, expected);
-    assert_eq!(calls::build_scanned(text, shape.m, shape.r, shape.h, counted, &mut work, &mut tree), (0, expected.len() as u32, windows), "{shape:?}");
+    assert_eq!(
+        calls::build_scanned(text, shape.m, shape.r, shape.h, counted, &mut work, &mut tree),
+        (0, expected.len() as u32, windows),
+        "{shape:?}"
+    );
     assert!(*tree == *expected, "{shape:?}");
 }
 
@@ -437,10 +532,11 @@ fn every_number_is_reached() {
             note("count", read::count(&tree, 10, p).0);
             note("find", if let Answer::Settled(answer) = read::find(&tree, 10, j) { answer.0 } else { FREE });
             note("places", read::places(&tree, &text[..text.len().min(p as usize % 3)], &mut [0; 2]).0);
+            note("match", if let Answer::Settled(answer) = keys::next_match(&tree, &ranges(rng), j) { answer.0 } else { FREE });
             note("row", if let Answer::Settled(answer) = read::row(&tree, j, &mut buffer) { answer.0 } else { FREE });
         }
     }
-    let expected: [(&str, &[u32]); 9] = [
+    let expected: [(&str, &[u32]); 10] = [
         ("check", &[0, 5, 6, 7, 8, 9]),
         ("list", &[0, 5, 6, 7, 8, 9]),
         ("byte", &[0, 5, 6, 7, 10, 14]),
@@ -450,6 +546,7 @@ fn every_number_is_reached() {
         ("find", &[0, 5, 6, 7, 11, 12, FREE]),
         ("row", &[0, 5, 6, 7, 11, 12, 13, 14, FREE]),
         ("places", &[0, 5, 6, 7, 14, 16, 17]),
+        ("match", &[0, 5, 6, 7, 11, 19, FREE]),
     ];
     for (question, numbers) in expected {
         assert_eq!(reached[question], numbers.iter().copied().collect(), "{question}");
@@ -461,6 +558,9 @@ fn every_number_is_reached() {
 fn free_answers_are_judged() {
     assert!(find_agrees(Answer::Free(20), (0, 19, 7)) && find_agrees(Answer::Free(20), (14, 0, 0)));
     assert!(!find_agrees(Answer::Free(20), (0, 20, 1)) && !find_agrees(Answer::Free(20), (14, 1, 0)) && !find_agrees(Answer::Free(20), (12, 0, 0)));
+    let shown = |got| match_agrees(Answer::Free(5), 3, got);
+    assert!([(14, 0, 3), (0, 0, 3), (0, 0, 5), (0, 4, 4), (0, 5, 5)].into_iter().all(shown));
+    assert!(![(14, 0, 4), (0, 0, 2), (0, 0, 6), (0, 3, 3), (0, 6, 6), (0, 4, 5), (11, 0, 3)].into_iter().any(shown));
     let free = (Answer::Free(3), [].as_slice());
     assert!(row_agrees(free, ((0, 2), &[1, 2, FILL])) && row_agrees(free, ((14, 0), &[0, 0, FILL])) && row_agrees(free, ((13, 0), &[FILL])));
     assert!(!row_agrees(free, ((0, 1), &[1, 2, FILL])) && !row_agrees(free, ((14, 0), &[0, 1])) && !row_agrees(free, ((0, 4), &[1; 4])));

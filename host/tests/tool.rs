@@ -204,6 +204,42 @@ fn places_that_are_refused() {
 }
 
 #[test]
+fn matches() {
+    let folder = Folder::with_tree("matches");
+    let last = "row 159: HON1011 52161\nrow 160: HON1012 52162\nrow 199: HON1011 52161\nrow 200: HON1012 52162\n";
+    for cuts in ["5216[1-5]", "5,2,1,6,1-5", "52161-2", "5,[2-2],1,6[1-2]"] {
+        folder.run(&format!("match {cuts} small.tree --from 121")).succeeds().prints(last).says("");
+    }
+    folder.run("match ????? small.tree --from 200 --unchecked").succeeds().prints("row 200: HON1012 52162\n");
+    for none in ["9", "???", "44422[6-9]", "????? --from 201", "????? --from 4294967295"] {
+        folder.run(&format!("match {none} small.tree")).succeeds().prints("no row matches\n");
+    }
+    // the last row has no end byte, and a byte 13 at its end is no cut
+    folder.write("open.txt", b"A 12\r\nB 12\nC 12\r");
+    folder.run("build open.txt -o open.tree --leaf 4 --arity 2 --levels 2").succeeds();
+    folder.run("match 1? open.tree").succeeds().prints("row 1: A 12\nrow 2: B 12\n");
+}
+
+#[test]
+fn matches_that_are_refused() {
+    let folder = Folder::with_tree("refused-matches");
+    let refused = "refused (19): a worn key must have 1 to 10 cuts, each with a low and a high depth of 0 to 9, the low one not above the high one";
+    for (cuts, hint) in [("12345678901", "this one has 11"), (",", "this one has 0"), ("4[5-3]", "given: 5-3")] {
+        let says = format!("codebook: small.tree: match: {refused}; {hint}\n");
+        folder.run(&format!("match {cuts} small.tree")).status(1).prints("").says(&says);
+    }
+    folder.run("build small.txt -o none.tree --leaf 16 --arity 4 --levels 2 --count none").succeeds();
+    let uncounted = "refused (11): the tree does not count this byte; rows end in byte 10, so build must count it";
+    folder.run("match 444224 none.tree").status(1).says(&format!("codebook: none.tree: match: {uncounted}\n"));
+    let usage = "usage: codebook match CUTS [TREE] [--from ROW] [--unchecked]";
+    folder.run("match").status(2).says(&format!("codebook: CUTS is missing\n{usage}\n"));
+    for (cuts, rest) in [("44x", "x"), ("4[35]", "[35]"), ("3-", "-"), ("4[1-2", "[1-2")] {
+        let says = format!("codebook: a cut is a depth from 0 to 9, a range such as [3-5], or ?, not '{rest}'\n{usage}\n");
+        folder.run(&format!("match {cuts} small.tree")).status(2).prints("").says(&says);
+    }
+}
+
+#[test]
 fn every_row() {
     let folder = Folder::with_tree("rows");
     let text = String::from_utf8(folder.read("small.txt")).expect("a text");
@@ -367,7 +403,7 @@ fn help() {
     let folder = Folder::new("help");
     let overview = folder.run("--help");
     overview.succeeds().says("");
-    let commands = ["build", "check", "list", "row", "byte", "span", "count", "find", "places", "text", "stats"];
+    let commands = ["build", "check", "list", "row", "byte", "span", "count", "find", "places", "match", "text", "stats"];
     for command in commands {
         assert!(String::from_utf8_lossy(&overview.output.stdout).contains(&format!("\n  {command:<7}")));
         let help = folder.run(&format!("{command} --help"));

@@ -6,9 +6,9 @@ mod model;
 mod support;
 
 use codebook::calls;
-use judge::{find_agrees, row_agrees, FILL, FILL_WORD};
+use judge::{find_agrees, match_agrees, row_agrees, FILL, FILL_WORD};
 use model::read::Answer;
-use model::{build, check, read, Shape};
+use model::{build, check, keys, read, Shape};
 use std::collections::HashMap;
 use std::fmt::Display;
 use support::{from_hex, to_hex};
@@ -31,6 +31,7 @@ struct Calls {
     find: fn(&[u8], u32, u32) -> Answer<(u32, u32, u32)>,
     row: fn(&[u8], u32, &mut [u8]) -> Answer<(u32, u32)>,
     places: fn(&[u8], &[u8], &mut [u32]) -> (u32, u32),
+    next_match: fn(&[u8], &[u8], u32) -> Answer<(u32, u32, u32)>,
 }
 
 #[test]
@@ -47,6 +48,11 @@ fn library() {
         find: |tree, byte, j| Answer::Settled(calls::find(tree, byte, j)),
         row: |tree, q, buffer| Answer::Settled(calls::row(tree, q, buffer)),
         places: calls::places,
+        next_match: |tree, ranges, mark| {
+            let mut after = mark;
+            let (number, row) = calls::next_match(tree, ranges, &mut after);
+            Answer::Settled((number, row, after))
+        },
     });
 }
 
@@ -64,6 +70,7 @@ fn model() {
         find: read::find,
         row: read::row,
         places: read::places,
+        next_match: keys::next_match,
     });
 }
 
@@ -77,7 +84,7 @@ fn library_scan(text: &[u8], shape: Shape, counted: &[u8], words: usize, out: &m
 }
 
 /// Items of requests that are not in force in this format are passed over by name.
-const LATER: [&str; 11] = ["match", "columns", "rows", "column", "open", "left", "renew", "guide", "guidecheck", "guided", "order"];
+const LATER: [&str; 10] = ["columns", "rows", "column", "open", "left", "renew", "guide", "guidecheck", "guided", "order"];
 
 fn run_all(calls: &Calls) {
     run_file(calls, VECTORS);
@@ -91,7 +98,7 @@ fn run_file(calls: &Calls, file: &str) {
     for line in file.lines().filter(|line| !line.is_empty() && !line.starts_with('#') && !line.contains(" => wrong: ")) {
         let tokens: Vec<&str> = line.split(' ').collect();
         match tokens[..] {
-            ["landed", request] => in_force = request == "106",
+            ["landed", request] => in_force = request == "107",
             ["text" | "tree", name, hex] => {
                 bytes.insert(name, from_hex(hex));
             }
@@ -150,6 +157,7 @@ fn item(calls: &Calls, bytes: &HashMap<&str, Vec<u8>>, item: &[&str], expected: 
             let (refusal, places) = (calls.places)(subject, &from_hex(item[2]), &mut table);
             format!("{refusal} {places} {}", words(&table))
         }
+        "match" => return next_match(calls, subject, &ranges(item[2]), number(3), expected),
         "find" => return find(calls, subject, number(2), number(3), expected),
         "row" => return row(calls, subject, number(2), lent(3), expected),
         other => panic!("no such item: {other}"),
@@ -206,5 +214,30 @@ fn row(calls: &Calls, tree: &[u8], q: u32, mut buffer: Vec<u8>, expected: &[&str
         Ok(())
     } else {
         Err(format!("{got:?} {}", to_hex(&buffer)))
+    }
+}
+
+/// The ranges of a worn key as they are lent: in hexadecimal, or as LOW-HIGH,LOW-HIGH,..
+fn ranges(token: &str) -> Vec<u8> {
+    let pair = |range: &str| range.split_once('-').and_then(|(low, high)| Some([low.parse().ok()?, high.parse().ok()?]));
+    let pairs: Option<Vec<[u8; 2]>> = token.split(',').map(pair).collect();
+    pairs.map_or_else(|| from_hex(token), |pairs| pairs.concat())
+}
+
+fn next_match(calls: &Calls, tree: &[u8], ranges: &[u8], mark: u32, expected: &[&str]) -> Result<(), String> {
+    let number = |at: usize| expected[at].parse::<u32>().expect("a number");
+    let expected = match expected {
+        ["free"] => Answer::Free(u64::MAX),
+        _ => Answer::Settled((number(0), number(1), number(2))),
+    };
+    let got = (calls.next_match)(tree, ranges, mark);
+    let agrees = match got {
+        Answer::Settled(got) => match_agrees(expected, mark, got),
+        Answer::Free(_) => matches!(expected, Answer::Free(_)),
+    };
+    if agrees {
+        Ok(())
+    } else {
+        Err(format!("{got:?}"))
     }
 }

@@ -6,7 +6,7 @@ mod support;
 use model::build::{build, plain_tree, plain_tree_in};
 use model::check::{check, list};
 use model::read::{byte, count, find, places, row, run, span, Answer};
-use model::{fast, Shape};
+use model::{fast, keys, Shape};
 use support::books::{book, Kind};
 use support::Rng;
 
@@ -133,6 +133,27 @@ fn places_of_patterns() {
     assert_eq!(ask(&broken, &[b'Q'; 256], 2), (14, 0, vec![9, 9]));
     assert_eq!(ask(&broken, b"", 0).0, 16);
     assert_eq!((ask(&tree[..99], b"", 0).0, ask(&tree[1..], b"", 0).0, ask(&tree[..479], b"", 0).0), (5, 6, 7));
+}
+
+/// The next match after a mark: its questions in order, forms of rows, and where the mark goes.
+#[test]
+fn matches_of_worn_keys() {
+    let tree_of = |text: &[u8], counted: &[u8]| plain_tree(text, Shape::new(2, 2, 3), counted);
+    let book = tree_of(b"A 12\nB 13\r\nC 4\r\nD 12", b"\n");
+    let ask = |tree: &[u8], ranges: &[u8], mark| keys::next_match(tree, ranges, mark);
+    let worn = [1, 1, 2, 3];
+    for (mark, row, after) in [(0, 1, 1), (1, 2, 2), (2, 4, 4), (4, 0, 4), (5, 0, 5)] {
+        assert_eq!(ask(&book, &worn, mark), Answer::Settled((0, row, after)));
+    }
+    assert_eq!(ask(&book, &[9, 9], 0), Answer::Settled((0, 0, 4)));
+    for wrong in [vec![], vec![1, 1, 2], vec![5, 4], vec![0, 10], vec![0; 22]] {
+        assert_eq!(ask(&book, &wrong, 1), Answer::Settled((19, 0, 1)));
+    }
+    assert_eq!(keys::matches_in(b"A 1\r", &[1, 1]), []);
+    assert_eq!(keys::matches_in(b"A 1\r\r\nA\r 1\n 1\nA  1\nA 1 \nA \nA1\nA 11\nABCDEFGHIJKL 1\nABCDEFGHIJKLM 1", &[1, 1]), [2, 9]);
+    let other = tree_of(b"A 1\n", b"A");
+    assert_eq!((ask(&other, &[2, 1], 7), ask(&other, &[1, 1], 7)), (Answer::Settled((19, 0, 7)), Answer::Settled((11, 0, 7))));
+    assert_eq!(ask(&other[..99], &[], 7), Answer::Settled((5, 0, 7)));
 }
 
 #[test]

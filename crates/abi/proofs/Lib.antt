@@ -3,3 +3,4 @@ pub mod CountLaws
 pub mod ListLaws
 pub mod PlaceLaws
 pub mod ScanLaws
+pub mod MatchLaws

@@ -13,6 +13,7 @@ use rank::Counted;
 use rows::RowCopied;
 use scanner::Scanned;
 use select::Found;
+use worn_keys::Shown;
 ghost use mathlib.Core.Path.{_≡_};
 ghost use Prim.Native.Nat.{_≤_};
 ghost use lib.ListN.{length};
@@ -29,6 +30,7 @@ ghost use Rattle.listing.specs.Lines.{listed};
 ghost use Rattle.listing.specs.Written.{Put};
 ghost use Rattle.patterns.specs.Places.{placesSays, placesLeaves};
 ghost use Rattle.scanner.specs.Scanning.{tableWords, scanNumber, scanSize, scanWindows, scanLeaves, TableLeft};
+ghost use Rattle.worn_keys.specs.Says.{MatchSays};
 ghost use Rattle.abi.specs.Answers.{saying, roomNumber, roomSize, uncountedNumber, inputNumber, listNumber, listSize, listLeaves};
 
 // The shortest buffer that list writes to.
@@ -298,6 +300,31 @@ pub extern "C" fn bt_places(tree: &[u8], pattern: &[u8], table: &mut [u32], numb
         PlacesWritten::Refused(q) => {
             *number = 0;
             q
+        }
+    }
+}
+
+// Moves the mark on to the next row that matches, and answers that row, 0 for none. A refusal leaves the mark.
+#[no_mangle]
+pub extern "C" fn bt_next_match(tree: &[u8], ranges: &[u8], mark: &mut u32, row: &mut u32) -> u32
+    ensures { λ r. ⌜ MatchSays (now (tree .entry)) (now (ranges .entry)) (now (mark .entry)) (record { number = r; row = now (row .exit); mark = now (mark .exit) }) ⌝ }
+{
+    let at = *mark;
+    let shown = worn_keys::next_match(tree, ranges, at);
+    match shown {
+        Shown::Row(q) => {
+            *row = q;
+            *mark = q;
+            0
+        }
+        Shown::Nothing(m) => {
+            *row = 0;
+            *mark = m;
+            0
+        }
+        Shown::Refused(number) => {
+            *row = 0;
+            number
         }
     }
 }

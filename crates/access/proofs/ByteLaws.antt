@@ -14,7 +14,6 @@ use Rattle.format.specs.HeaderLaws.{leaf-inside}
 use Rattle.format.specs.Said.{Said, refused}
 use Rattle.format.specs.SaidLaws.{unless-refused}
 use Rattle.format.specs.Reading.{byteSays, leftOver, runSays}
-use Rattle.paths.specs.Visits.{goes, goes-long}
 use Rattle.layout.specs.declared.header.Header.{Header}
 use Rattle.layout.specs.declared.header.HeaderRead.{HeaderRead}
 use Rattle.layout.specs.declared.header.HeaderRead.the-variants.{Refused}
@@ -69,11 +68,6 @@ run-none t p k q q-is e =
     }
 
 module _ (t : List ℕ) (p : ℕ) where
-  -- any path has entered a block
-  pub path-long : (q : Path) → pathOf t p ≡ some q → 1 ≤ length (q .visits)
-  unfolding pathOf
-  path-long q e = omega (arith, goes-long t (goes t (at.settings t .levels - 1) 0 (p / at.fullLength t 0) (p % at.fullLength t 0) q e))
-
   module _ (h : Header) (k : HeaderOf t h) where
     pub byte-past : h .length ≤ p → refused 10 ≡ byteSays t p
     unfolding byteSays

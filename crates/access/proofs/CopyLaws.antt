@@ -1,28 +1,25 @@
 -- The loop that copies bytes to a buffer, span's and row's: each byte's answer is taken apart, and where one is refused the part asked for
 -- is cleared.
 use mathlib.Core.List.{List, [], _∷_, _++_}
-use mathlib.Core.Option.{Option, none, some}
 use mathlib.Core.Bool.{true, false, _&&_}
 use mathlib.Core.Path.{_≡_, refl, sym, ap, _∙_}
 use Prim.Native.Nat.{ℕ, zero, suc, _+_, _-_, _≤_, _<_}
 use native.Mathlib.Omega.{arith}
 use native.Mathlib.Nat.{add-assoc, not-suc-le-zero, le-of-suc-le-suc}
 use native.Mathlib.Numerals.{add-one}
-use borrow.Author.Tests.{lt-ltb}
 use lib.Dec.{eqb}
 use lib.ListN.{length, set, drop, replicate, length-set}
 use lib.Seq.{drop-set-lt}
 use Rattle.text.specs.Lists.{tabulate}
 use Rattle.format.specs.Layout as at
-use Rattle.format.specs.Path.{Path, pathOf}
 use Rattle.format.specs.Said.{Said, refused}
-use Rattle.format.specs.Reading.{byteOf, byteSays, pathsHold}
+use Rattle.format.specs.Reading.{byteSays, pathsHold}
 use Rattle.layout.specs.declared.header.Header.{Header}
 use Rattle.layout.specs.HeaderSays.{HeaderOf}
 use Rattle.access.specs.declared.Answer.{Answer}
 use Rattle.access.specs.declared.Answer.the-variants.{Byte, Refused}
 use Rattle.access.specs.Answers.{said}
-use Rattle.access.proofs.ByteLaws.{path-long}
+use Rattle.paths.specs.Bytes.{only-14}
 use Rattle.access.proofs.SpanLaws.{ByPaths, values, span-copied, span-broken}
 
 -- f 0, .., f (n - 1) and then the rest of d: one more by a store at n
@@ -67,24 +64,14 @@ module _ (t : List ℕ) (p len : ℕ) where
     rest-broken z = rw (open-rest, z)
 
 -- a byte's answer: the span's byte, or a refusal by 14
-refused-14 : (t : List ℕ) (o : Option Path) (q : ℕ) → ((r : Path) → o ≡ some r → 1 ≤ length (r .visits)) → refused q ≡ byteOf t o → q ≡ 14
-refused-14 t none q long e = ap (λ (s : Said). s .number) e
-refused-14 t (some r) q long e = absurd (let z = ap (λ (s : Said). s .entered) e in omega (arith, long r refl))
-
 module _ (t : List ℕ) (h : Header) (p : ℕ) (k : HeaderOf t h) (i : ℕ) (low : p + i < h .length) (a : Answer) (a-is : said a ≡ byteSays t (p + i)) where
   byte-good : (v n : ℕ) → a ≡ Byte v n → (byteSays t (p + i) .number ≡ 0) × (v ≡ values t p i)
   byte-good v n e =
       let z : record { number = 0; value = v; entered = n } ≡ byteSays t (p + i) = ap said (sym e) ∙ a-is in
       (sym (ap (λ (s : Said). s .number) z), ap (λ (s : Said). s .value) z)
 
-  byte-path : byteSays t (p + i) ≡ byteOf t (pathOf t (p + i))
-  unfolding byteSays
-  byte-path = rw (k .passes, lt-ltb (p + i) (at.textLength t) (omega (arith, k .length-is)))
-
   byte-refused : (q : ℕ) → a ≡ Refused q → byteSays t (p + i) .number ≡ 14
-  byte-refused q e =
-      let z : refused q ≡ byteSays t (p + i) = ap said (sym e) ∙ a-is in
-      sym (ap (λ (s : Said). s .number) z) ∙ refused-14 t (pathOf t (p + i)) q (path-long t (p + i)) (z ∙ byte-path)
+  byte-refused q e = only-14 t (k .passes) (p + i) (omega (arith, k .length-is)) q (ap said (sym e) ∙ a-is)
 
 -- Buffer e, where i of the len bytes from p were copied to buffer d.
 pub record Copying (t : List ℕ) (p len : ℕ) (d e : List ℕ) (i : ℕ) : Type 0 where

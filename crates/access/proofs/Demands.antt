@@ -25,7 +25,7 @@ use Rattle.access.specs.declared.Answer.the-variants.{Byte, Refused}
 use Rattle.access.specs.declared.Copied.{Copied}
 use Rattle.access.specs.declared.Copied.the-variants as copied
 use Rattle.access.specs.Answers.{said, copiedSaid, Numbered}
-use Rattle.access.proofs.ByteLaws.{path-long}
+use Rattle.paths.specs.Visits.{path-long}
 use Rattle.access.proofs.byte.Reads as byte-reads
 use Rattle.access.proofs.run.Reads as run-reads
 use Rattle.access.proofs.span.Reads as span-reads

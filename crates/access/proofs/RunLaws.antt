@@ -1,24 +1,25 @@
 -- Reading by runs: a part of the tree's own bytes that are bytes of its text, with all their paths holding, on any tree that passes
 -- questions 5 to 7.
 use mathlib.Core.List.{List}
-use mathlib.Core.Option.{Option, none, some}
-use mathlib.Core.Path.{_≡_, refl, sym, ap, _∙_}
+use mathlib.Core.Option.{some}
+use mathlib.Core.Path.{_≡_, sym, ap, _∙_}
 use Prim.Native.Nat.{ℕ, _+_, _-_, _≤_, _<_, min}
 use native.Mathlib.Omega.{arith}
 use native.Mathlib.Nat.{add-assoc}
-use borrow.Author.Tests.{lt-ltb}
 use lib.ListN.{length, getD}
 use Rattle.text.specs.Text.{stretch}
-use Rattle.text.specs.TextLaws.{stretch-at}
+use Rattle.text.specs.TextLaws.{stretch-ext, stretch-at}
 use Rattle.format.specs.Layout as at
 use Rattle.format.specs.Path.{Path, pathOf}
 use Rattle.format.specs.Fits.{textOf}
 use Rattle.format.specs.Verdict.{readable}
 use Rattle.format.specs.HeaderLaws.{Readable, readable-facts}
 use Rattle.format.specs.Said.{Said}
-use Rattle.format.specs.Reading.{byteOf, byteSays, leftOver, runSays}
+use Rattle.format.specs.Reading.{byteSays, leftOver, runSays}
+use Rattle.paths.specs.OneText.{text-length}
 use Rattle.paths.specs.Shift.{left-most, left-within, path-further}
 use Rattle.paths.specs.Reads as reads
+use Rattle.paths.specs.Bytes.{path-there, byte-broken}
 use Rattle.layout.specs.declared.header.Header.{Header}
 use Rattle.layout.specs.HeaderSays.{HeaderOf}
 use Rattle.access.specs.declared.reading.Part.{Part}
@@ -36,6 +37,11 @@ reads-none t p from h k = record {
   bytes = λ x l. absurd (let z : ⊥ = omega arith in z);
 }
 
+-- the bytes in one stretch
+pub reads-stretch : (t : List ℕ) (p from size : ℕ) → ReadsOn t p from size → stretch t from size ≡ stretch (textOf t) p size
+reads-stretch t p from size a =
+    stretch-ext t (textOf t) from p size (a .in-tree) (omega (arith, a .in-text, text-length t)) (a .bytes)
+
 -- what is left of it after some bytes
 pub reads-rest : (t : List ℕ) (p from size k : ℕ) → ReadsOn t p from size → k ≤ size → ReadsOn t (p + k) (from + k) (size - k)
 reads-rest t p from size k a h = record {
@@ -46,32 +52,6 @@ reads-rest t p from size k a h = record {
 }
 
 module _ (t : List ℕ) (r : readable t ≡ 0) (p : ℕ) (low : p < at.textLength t) where
-  -- byte answers only where the path holds
-  pub byte-path : byteSays t p ≡ byteOf t (pathOf t p)
-  unfolding byteSays
-  byte-path = rw (r, lt-ltb p (at.textLength t) low)
-
-  pub path-there : byteSays t p .number ≡ 0 → (q : Path) × (pathOf t p ≡ some q)
-  path-there z = go (pathOf t p) refl (ap (λ (s : Said). s .number) (sym byte-path) ∙ z)
-    where
-      go : (o : Option Path) → pathOf t p ≡ o → byteOf t o .number ≡ 0 → (q : Path) × (pathOf t p ≡ some q)
-      go none e y = absurd (let x : ⊥ = omega arith in x)
-      go (some q) e y = (q, e)
-
-  -- a byte that is answered is the text's
-  pub byte-text : byteSays t p .number ≡ 0 → byteSays t p .value ≡ getD (textOf t) p 0
-  byte-text z =
-      let w = path-there z in
-      ap (λ (s : Said). s .value) (reads.byte-of-path t (readable-facts t r) r p low (w .0) (w .1)) ∙ sym (reads.text-of-path t (readable-facts t r) r p low (w .0) (w .1))
-
-  -- the number of a byte is 0 or 14
-  pub byte-broken : (q : ℕ) → 1 ≤ q → byteSays t p .number ≡ q → q ≡ 14
-  byte-broken q pos z = go (pathOf t p) refl (ap (λ (s : Said). s .number) (sym byte-path) ∙ z)
-    where
-      go : (o : Option Path) → pathOf t p ≡ o → byteOf t o .number ≡ q → q ≡ 14
-      go none e y = sym y
-      go (some x) e y = absurd (let w : ⊥ = omega arith in w)
-
   -- the paths of a run's places hold
   module _ (q : Path) (e : pathOf t p ≡ some q) where
     k : Readable t
@@ -93,7 +73,7 @@ module _ (t : List ℕ) (r : readable t ≡ 0) (p : ℕ) (low : p < at.textLengt
   pub run-reads : byteSays t p .number ≡ 0 → ReadsOn t p (runSays t p .0) (runSays t p .1)
   unfolding stretch
   run-reads z =
-      let w = path-there z in
+      let w = path-there t r p low z in
       let part = reads.run-part t (readable-facts t r) r p low (w .0) (w .1) in record {
         in-text = part .in-text;
         in-tree = part .in-tree;
@@ -103,7 +83,7 @@ module _ (t : List ℕ) (r : readable t ≡ 0) (p : ℕ) (low : p < at.textLengt
 
   pub run-some : byteSays t p .number ≡ 0 → 1 ≤ runSays t p .1
   run-some z =
-      let w = path-there z in
+      let w = path-there t r p low z in
       reads.run-part t (readable-facts t r) r p low (w .0) (w .1) .some-byte
 
 -- the answer of `part_at`
@@ -120,5 +100,5 @@ module _ (t : List ℕ) (h : Header) (k : HeaderOf t h) (p : ℕ) (low : p < h .
   pub part-broken : (q : ℕ) → r ≡ ran.Refused q → (q ≡ 14) × (byteSays t p .number ≡ 14)
   part-broken q e =
       let z : RunAnswer t p (ran.Refused q) = rw e at a in
-      let y = byte-broken t (k .passes) p low-text q (z .numbered) (sym (z .number-is)) in
-      (y, sym (z .number-is) ∙ y)
+      let y = byte-broken t (k .passes) p low-text (λ x. omega (arith, z .number-is, z .numbered)) in
+      (z .number-is ∙ y, y)

@@ -1,5 +1,5 @@
 // What a line asks, put to the library.
-use crate::pattern;
+use crate::beside;
 use crate::wrong;
 use script::Gift;
 use script::Question;
@@ -23,7 +23,7 @@ pub fn line(script: &[u8], line: &[u8], bytes: &mut [u8], lent: &mut [u8]) {
     match question {
         Question::Nothing => wrong::say(b"no such word"),
         Question::Build | Question::Scan => build(script, line, question, bytes, lent),
-        Question::Places => pattern::places(script, line, bytes),
+        Question::Places | Question::Match => beside::ask(script, line, question, bytes),
         _ => of_tree(script, line, question, bytes, lent),
     }
 }

@@ -9,3 +9,4 @@ pub mod Fitting
 pub mod OneText
 pub mod Reads
 pub mod Demands
+pub mod Bytes

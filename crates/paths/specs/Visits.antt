@@ -4,14 +4,14 @@ use mathlib.Core.Option.{Option, none, some}
 use mathlib.Core.Bool.{Bool, true, false, cond, _&&_}
 use mathlib.Core.Path.{_≡_, refl, sym, _∙_}
 use mathlib.Core.Logic.{_⊎_, inl, inr}
-use Prim.Native.Nat.{ℕ, zero, suc, _+_, _*_, _/_, _%_, _≤_, _<_}
+use Prim.Native.Nat.{ℕ, zero, suc, _+_, _-_, _*_, _/_, _%_, _≤_, _<_}
 use native.Mathlib.Omega.{arith}
 use borrow.Author.Tests.{ltb-true}
 use lib.ListN.{length}
 use lib.Dec.{ltb}
 use Rattle.text.specs.ListLaws.{and-left, and-right, bool-cases}
 use Rattle.format.specs.Layout as at
-use Rattle.format.specs.Path.{Path, Visit, visit, entered, provided, keptBlock, pointingBlock, targetBlock, targetPlace, lands, pathFrom}
+use Rattle.format.specs.Path.{Path, Visit, visit, entered, provided, keptBlock, pointingBlock, targetBlock, targetPlace, lands, pathFrom, pathOf}
 use Rattle.paths.specs.Links.{b}
 use Rattle.paths.specs.Landing.{from-last, from-kept, from-points}
 
@@ -113,3 +113,8 @@ module _ (t : List ℕ) where
 
   pub goes-long : {below l i o x : ℕ} {vs : List Visit} → Goes below l i o vs x → below + 1 ≤ length vs
   goes-long g = omega (arith, goes-length g)
+
+  -- so a path has entered a block
+  pub path-long : (p : ℕ) (q : Path) → pathOf t p ≡ some q → 1 ≤ length (q .visits)
+  unfolding pathOf
+  path-long p q e = omega (arith, goes-long (goes (at.settings t .levels - 1) 0 (p / at.fullLength t 0) (p % at.fullLength t 0) q e))

@@ -12,7 +12,7 @@ use denote.Ref.{RefT, now}
 use borrow.Author.Tests.{le-leb, lt-leb, leb-true, ne-eqb}
 use lib.ListN.{length, drop}
 use lib.Dec.{leb, eqb}
-use Rattle.text.specs.ListLaws.{bool-cases, and-left, and-right}
+use Rattle.text.specs.ListLaws.{bool-cases, and-left, and-right, and-false}
 use Rattle.format.specs.Layout as at
 use Rattle.format.specs.Path.{Path, pathOf}
 use Rattle.format.specs.Fits.{textOf}
@@ -21,7 +21,7 @@ use Rattle.format.specs.HeaderLaws.{readable-facts}
 use Rattle.format.specs.Said.{Said, refused}
 use Rattle.format.specs.Reading.{byteOf, byteSays, pathsHold}
 use Rattle.paths.specs.Reads.{paths-hold}
-use Rattle.access.proofs.RunLaws.{byte-path}
+use Rattle.paths.specs.Bytes.{byte-path}
 use Rattle.patterns.specs.declared.PlacesWritten.{PlacesWritten}
 use Rattle.patterns.specs.declared.PlacesWritten.the-variants as written
 use Rattle.patterns.specs.Places.{maxPattern, patternOk, placesIn, placesOf, placesNumber, placesSays, placesLeaves}
@@ -50,11 +50,7 @@ one-breaks t (suc len) p zero h e =
     rw z
 one-breaks t (suc len) p (suc x) h e =
     let y : p + 1 + x ≡ p + suc x = omega arith in
-    rw (one-breaks t len (p + 1) x (omega arith) (rw y e)) (go (eqb (byteSays t p .number) 0))
-  where
-    go : (b : Bool) → (b && false) ≡ false
-    go true = refl
-    go false = refl
+    rw (one-breaks t len (p + 1) x (omega arith) (rw y e)) (and-false (eqb (byteSays t p .number) 0))
 
 -- a pattern of other length
 other-length : (P : List ℕ) → (1 ≤ length P → length P ≤ maxPattern → ⊥) → patternOk P ≡ false

@@ -40,6 +40,11 @@ pub use Rattle.rows.proofs.row.Met as row-met
 pub use Rattle.patterns.proofs.places.Reads as places-reads
 pub use Rattle.patterns.proofs.places.Statement as places-stated
 pub use Rattle.patterns.proofs.places.Met as places-met
+pub use Rattle.worn_keys.proofs.next_match.Reads as next-match-reads
+pub use Rattle.worn_keys.proofs.next_match.Statement as next-match-stated
+pub use Rattle.worn_keys.proofs.next_match.Met as next-match-met
+pub use Rattle.worn_keys.proofs.show.Statement as show-stated
+pub use Rattle.worn_keys.proofs.show.Met as show-met
 pub use Rattle.builder.specs.declared.Built.{Built}
 pub use Rattle.builder.specs.declared.Built.the-variants as built
 pub use Rattle.enough.specs.declared.Room.{Room}
@@ -64,6 +69,8 @@ pub use Rattle.scanner.proofs.scan_words.Statement as scan-words-stated
 pub use Rattle.scanner.proofs.scan_words.Met as scan-words-met
 pub use Rattle.scanner.specs.declared.Scanned.{Scanned}
 pub use Rattle.scanner.specs.declared.Scanned.the-variants as scanned
+pub use Rattle.worn_keys.specs.declared.Shown.{Shown}
+pub use Rattle.worn_keys.specs.declared.Shown.the-variants as shown
 -- what an answer says in document 01's terms, and that a refusal's number is not 0
 pub use Rattle.access.specs.Answers.{said, copiedSaid}
 pub use Rattle.rank.specs.Counts.{saidCount, Numbered as CountNumbered}
@@ -74,6 +81,9 @@ pub use Rattle.tree.proofs.Demands.{Answer as Build, Checked as Check}
 pub use Rattle.access.proofs.Demands.{Asked as Byte, Run, Span}
 -- places(tree, pattern, table)
 pub use Rattle.patterns.proofs.Demands.{Places}
+-- next_match(tree, ranges, mark); `show` moves a lent mark by it, and its contract is `Moved`
+pub use Rattle.worn_keys.proofs.Demands.{NextMatch}
+pub use Rattle.worn_keys.specs.Searches.{Moved}
 
 -- lent bytes
 abbrev pub Lent : Type 0

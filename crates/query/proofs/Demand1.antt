@@ -23,7 +23,7 @@ use Rattle.format.specs.Finding.{selectNumber}
 use Rattle.paths.specs.Demands as paths
 use Rattle.layout.specs.Settings.{sizes}
 use Rattle.enough.specs.Enough.{enoughFor, enoughSays}
-use Rattle.access.proofs.ByteLaws.{path-long}
+use Rattle.paths.specs.Visits.{path-long}
 use Rattle.query.proofs.Calls as calls
 use Rattle.query.proofs.Calls.{Lent, Fingerprint, Check, Enough, Byte, Run, Count, Find}
 use Rattle.query.proofs.Numbers.{OneOf, of-right, not-zero, verdict-one, byte-one, count-one, select-first}
@@ -45,6 +45,7 @@ pub every-call-ends : {M : Type 1}
     × calls.count-stated.statement M × calls.find-stated.statement M × calls.row-stated.statement M
     × calls.places-stated.statement M
     × calls.scanned-stated.statement M × calls.scan-words-stated.statement M
+    × calls.next-match-stated.statement M × calls.show-stated.statement M
 every-call-ends = (
   calls.leftmost-met.met,
   calls.earlier-met.met,
@@ -60,6 +61,8 @@ every-call-ends = (
   calls.places-met.met,
   calls.scanned-met.met,
   calls.scan-words-met.met,
+  calls.next-match-met.met,
+  calls.show-met.met,
 )
 
 -- "trusts no caller to have checked a tree": what a call asks of its caller holds of any arguments.
@@ -80,6 +83,7 @@ pub trusts-no-caller :
     × ((κs : Lfts 4) (text : Lent) (leaf arity levels : ℕ) (counted words out : Lent)
     → calls.scanned-reads.Asked κs (text, (leaf, (arity, (levels, (counted, (words, (out, tt))))))))
     × ((κs : Lfts 0) (n leaf : ℕ) → calls.scan-words-reads.Asked κs (n, (leaf, tt)))
+    × ((κs : Lfts 2) (t ranges : Lent) (mark : ℕ) → calls.next-match-reads.Asked κs (t, (ranges, (mark, tt))))
 trusts-no-caller = (
   λ κs text p len by. tt,
   λ κs text p len by. tt,
@@ -95,6 +99,7 @@ trusts-no-caller = (
   λ κs t pattern table. tt,
   λ κs text leaf arity levels counted words out. tt,
   λ κs n leaf. tt,
+  λ κs t ranges mark. tt,
 )
 
 -- "gives its answer or a numbered refusal of document 01": which numbers each call refuses with, for any arguments and any lent bytes.

@@ -76,6 +76,20 @@ pub use Rattle.query.proofs.Scanned.{scanned-answer, scanned-numbers, s
 pub use Rattle.query.proofs.Scanned.{same-as-build, scanned-windows}
 -- .. demand 2, and the end of demand 3.
 pub use Rattle.query.proofs.Scanned.{scanned-writes, scanned-answers, scanned-refuses, scanned-accepted, scanned-one-text}
+-- Worn keys. "the mark that the machine lends is moved on to the next match .. If no row after it matches, the answer is none and the mark goes to the
+-- number of rows; a mark already there or beyond stays": `match-of` of `Answers`; of the lent mark, ..
+pub use Rattle.worn_keys.proofs.Demands.{row-rises, none-moves}
+-- .. "On an accepted tree, from mark 0 to none, with the question kept and the mark moved by nothing else, each match and no other row is shown,
+-- once, in row order (`matches-rise`: the list rises; `match-shown`, `shown-match`: it has exactly the rows that match), ..
+pub use Rattle.worn_keys.proofs.Demands.{all-matches}
+pub use Rattle.keys.specs.MatchLaws.{all-shown, matches-rise, match-shown, shown-match}
+-- .. and widening a range loses no match. ..
+pub use Rattle.worn_keys.proofs.Demands.{wider-loses-none}
+-- .. It refuses a number of cuts outside 1 to 10, a depth above 9 or a low above its high with 19, after question 7 and before 11; ..
+pub use Rattle.worn_keys.proofs.Demands.{match-unread, match-ranges, match-uncounted}
+pub use Rattle.query.proofs.WornKeys.{match-numbers}
+-- .. any refusal leaves the mark. On a tree the check refuses, the match shown is left free as row is": what holds of it all the same.
+pub use Rattle.worn_keys.proofs.Demands.{refusal-leaves, row-after, none-after}
 
 -- The roads to a tree, each in one theorem.
 

@@ -11,4 +11,5 @@ pub mod Demand2
 pub mod Demand3
 pub mod PatternPlaces
 pub mod Scanned
+pub mod WornKeys
 pub mod Demands

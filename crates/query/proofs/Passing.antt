@@ -21,6 +21,7 @@ use Rattle.format.specs.SaidLaws.{unless-passes, then-is}
 use Rattle.format.specs.Building.{buildNumber}
 use Rattle.format.specs.Reading.{byteOf, byteSays, asksSpan, spanReached, spanNumber}
 use Rattle.format.specs.Counting.{added, taken, leavesReached, countOf, isCounted, numberOfByte, countSays}
+use Rattle.paths.specs.Bytes.{path-there}
 
 -- build answers only where the tree fits the buffer
 pub build-fits : (S : Settings) (T out : List ℕ) → buildNumber S T out ≡ 0 → length (treeOf S T) ≤ length out
@@ -44,11 +45,9 @@ byte-reached t p h =
     let ten = ask 10 (ltb p (at.textLength t)) 0 in
     let a = unless-passes (readable t) (unless ten (byteOf t (pathOf t p))) h in
     let b = unless-passes ten (byteOf t (pathOf t p)) (a .1) in
-    go (a .0) (ltb-true p (at.textLength t) (ask-test 9 (ltb p (at.textLength t)) 0 (b .0))) (pathOf t p) refl (b .1)
-  where
-    go : readable t ≡ 0 → p < at.textLength t → (o : Option Path) → pathOf t p ≡ o → byteOf t o .number ≡ 0 → Reached t p
-    go r l none e k = absurd (let z : ⊥ = omega arith in z)
-    go r l (some q) e k = record { pass = r; low = l; path = q; path-is = e }
+    let low = ltb-true p (at.textLength t) (ask-test 9 (ltb p (at.textLength t)) 0 (b .0)) in
+    let w = path-there t (a .0) p low h in
+    record { pass = a .0; low = low; path = w .0; path-is = w .1 }
 
 -- count answers nothing of no bytes, or by the path of the last one
 pub record Summed (t : List ℕ) (i e : ℕ) : Type 0 where

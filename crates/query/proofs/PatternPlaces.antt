@@ -20,7 +20,7 @@ use Rattle.format.specs.Said.{Said, refused}
 use Rattle.format.specs.SaidLaws.{unless-passes, unless-number, then-is}
 use Rattle.format.specs.Reading.{byteSays, pathsHold}
 use Rattle.paths.specs.Reads.{text-of-path}
-use Rattle.access.proofs.RunLaws.{path-there}
+use Rattle.paths.specs.Bytes.{path-there}
 use Rattle.patterns.specs.Places.{maxPattern, patternOk, placesIn, placesOf, placesNumber, placesSays, placesLeaves}
 use Rattle.patterns.specs.PlacesLaws.{AllPlaces, places-all}
 use Rattle.query.proofs.Calls as calls

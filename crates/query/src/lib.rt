@@ -13,3 +13,7 @@ pub use rows::RowCopied;
 pub use rows::row;
 pub use select::Found;
 pub use select::find;
+pub use worn_keys::Mark;
+pub use worn_keys::Shown;
+pub use worn_keys::next_match;
+pub use worn_keys::show;

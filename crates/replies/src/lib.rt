@@ -10,6 +10,7 @@ use query::Counted;
 use query::Found;
 use query::PlacesWritten;
 use query::RowCopied;
+use query::Shown;
 use tree::Built;
 use tree::Scanned;
 
@@ -106,5 +107,15 @@ pub fn places(tree: &[u8], pattern: &[u8], table: &mut [u32]) {
     match answer {
         PlacesWritten::Number(n) => say::table(0, n as u64, table),
         PlacesWritten::Refused(number) => say::table(number, 0, table),
+    }
+}
+
+// The row shown, 0 for none, and where the mark then stands.
+pub fn next_match(tree: &[u8], ranges: &[u8], mark: u32) {
+    let answer = query::next_match(tree, ranges, mark);
+    match answer {
+        Shown::Row(q) => say::three(0, q as u64, q as u64),
+        Shown::Nothing(m) => say::three(0, 0, m as u64),
+        Shown::Refused(number) => say::three(number, 0, mark as u64),
     }
 }

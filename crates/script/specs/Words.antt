@@ -22,10 +22,11 @@ giftWord word =
 unfoldable pub giftOf : List ℕ → Gift
 giftOf line = giftWord (tokenOf line 0)
 
--- what a line that begins with this word asks: scan, places, row, run, span, find, count, byte, list, check, build
+-- what a line that begins with this word asks: match, scan, places, row, run, span, find, count, byte, list, check, build
 unfoldable pub questionWord : List ℕ → Question
 questionWord word =
-    cond (sameList word (115 ∷ 99 ∷ 97 ∷ 110 ∷ [])) question.Scan
+    cond (sameList word (109 ∷ 97 ∷ 116 ∷ 99 ∷ 104 ∷ [])) question.Match
+    (cond (sameList word (115 ∷ 99 ∷ 97 ∷ 110 ∷ [])) question.Scan
     (cond (sameList word (112 ∷ 108 ∷ 97 ∷ 99 ∷ 101 ∷ 115 ∷ [])) question.Places
     (cond (sameList word (114 ∷ 111 ∷ 119 ∷ [])) question.Row
     (cond (sameList word (114 ∷ 117 ∷ 110 ∷ [])) question.Run
@@ -36,7 +37,7 @@ questionWord word =
     (cond (sameList word (108 ∷ 105 ∷ 115 ∷ 116 ∷ [])) question.List
     (cond (sameList word (99 ∷ 104 ∷ 101 ∷ 99 ∷ 107 ∷ [])) question.Check
     (cond (sameList word (98 ∷ 117 ∷ 105 ∷ 108 ∷ 100 ∷ [])) question.Build
-    question.Nothing))))))))))
+    question.Nothing)))))))))))
 
 unfoldable pub questionOf : List ℕ → Question
 questionOf line = questionWord (tokenOf line 0)

@@ -26,6 +26,7 @@ pub enum Question {
     Row,
     Places,
     Scan,
+    Match,
     Nothing,
 }
 
@@ -74,7 +75,8 @@ pub fn question_of(line: &[u8]) -> Question
     let asked = either(word, b"run", Question::Run, asked);
     let asked = either(word, b"row", Question::Row, asked);
     let asked = either(word, b"places", Question::Places, asked);
-    either(word, b"scan", Question::Scan, asked)
+    let asked = either(word, b"scan", Question::Scan, asked);
+    either(word, b"match", Question::Match, asked)
 }
 
 // Whether a line asks nothing and gives nothing: it is empty or begins with `#`.

@@ -1,3 +1,4 @@
 pub mod SeekLaws
 pub mod LandLaws
 pub mod FindingLaws
+pub mod FoundLaws

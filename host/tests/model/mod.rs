@@ -7,6 +7,7 @@
 pub mod build;
 pub mod check;
 pub mod fast;
+pub mod keys;
 pub mod read;
 
 /// The longest text, and the longest block of level 0.

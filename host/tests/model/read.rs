@@ -373,7 +373,7 @@ fn try_count(bytes: &[u8], byte: u32, i: u32) -> Result<(u64, u32), u32> {
 #[derive(Clone, Copy, Debug, PartialEq, Eq)]
 pub enum Answer<T> {
     Settled(T),
-    /// A text of that many bytes: any place or length that the format lets pass.
+    /// A text of that many bytes, or so many rows: any place, length or row that the format lets pass.
     Free(u64),
 }
 

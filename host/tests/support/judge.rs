@@ -1,4 +1,4 @@
-//! Which answers the format lets pass where it leaves them open: find and row on a tree that the check refuses.
+//! Which answers the format lets pass where it leaves them open: find, row and match on a tree that the check refuses.
 
 use crate::model::read::Answer;
 
@@ -27,6 +27,17 @@ pub fn row_agrees(expected: (Answer<(u32, u32)>, &[u8]), got: ((u32, u32), &[u8]
             14 => length == 0 && filled(&buffer[buffer.iter().take_while(|&&byte| byte == 0).count()..]),
             _ => false,
         },
+    }
+}
+
+/// Does `got` (number, row, mark afterwards) agree, of a search from `mark`?
+pub fn match_agrees(expected: Answer<(u32, u32, u32)>, mark: u32, got: (u32, u32, u32)) -> bool {
+    match (expected, got) {
+        (Answer::Settled(answer), _) => got == answer,
+        (Answer::Free(_), (14, row, after)) => (row, after) == (0, mark),
+        (Answer::Free(most), (0, 0, after)) => after == mark || (mark < after && u64::from(after) <= most),
+        (Answer::Free(most), (0, row, after)) => mark < row && u64::from(row) <= most && after == row,
+        _ => false,
     }
 }
 

@@ -33,6 +33,8 @@ question-of-spec =
     (λ c κs. search needs)
     (λ c. search needs)
     (λ c κs. search needs)
+    (λ c. search needs)
+    (λ c κs. search needs)
     -- the last word first; each stands two places before the next
     (λ c. let c1 = c in
     let c2 = c1 .before .before in
@@ -45,15 +47,17 @@ question-of-spec =
     let c9 = c8 .before .before in
     let c10 = c9 .before .before in
     let c11 = c10 .before .before in
-    let t = c11 .before .before .token .ensures in
-    word-more _ _ t (c1 .either11 .ensures)
-    (word-more _ _ t (c2 .either10 .ensures)
-    (word-more _ _ t (c3 .either9 .ensures)
-    (word-more _ _ t (c4 .either8 .ensures)
-    (word-more _ _ t (c5 .either7 .ensures)
-    (word-more _ _ t (c6 .either6 .ensures)
-    (word-more _ _ t (c7 .either5 .ensures)
-    (word-more _ _ t (c8 .either4 .ensures)
-    (word-more _ _ t (c9 .either3 .ensures)
-    (word-more _ _ t (c10 .either2 .ensures)
-    (word-more _ _ t (c11 .either .ensures) refl))))))))))))
+    let c12 = c11 .before .before in
+    let t = c12 .before .before .token .ensures in
+    word-more _ _ t (c1 .either12 .ensures)
+    (word-more _ _ t (c2 .either11 .ensures)
+    (word-more _ _ t (c3 .either10 .ensures)
+    (word-more _ _ t (c4 .either9 .ensures)
+    (word-more _ _ t (c5 .either8 .ensures)
+    (word-more _ _ t (c6 .either7 .ensures)
+    (word-more _ _ t (c7 .either6 .ensures)
+    (word-more _ _ t (c8 .either5 .ensures)
+    (word-more _ _ t (c9 .either4 .ensures)
+    (word-more _ _ t (c10 .either3 .ensures)
+    (word-more _ _ t (c11 .either2 .ensures)
+    (word-more _ _ t (c12 .either .ensures) refl)))))))))))))

@@ -3,11 +3,11 @@ use native.Mathlib.Omega.{arith}
 use lib.Seq.{length-take-le}
 use Rattle.tokens.proofs.HexLaws.{hex-inside}
 use borrow.Author.Needs.{needs}
-use Rattle.cases.proofs.pattern.places_of.Statement.{statement}
-use Rattle.cases.proofs.pattern.places_of.Tie as tie
+use Rattle.cases.proofs.beside.of_tree.Statement.{statement}
+use Rattle.cases.proofs.beside.of_tree.Tie as tie
 
-pub places-of-spec : {M : Type 1} → statement M
-places-of-spec =
+pub of-tree-spec : {M : Type 1} → statement M
+of-tree-spec =
     tie.close
     (tie.spec
     (λ c κs. search needs)
@@ -17,7 +17,6 @@ places-of-spec =
     (λ c. let h = c .before .before .before .before .hex in omega (arith, hex-inside _ 300 _ _ (h .ensures .0) (c .before .made .given .1), h .kept .1 .0))
     (λ c. let h = c .before .before .before .before .before .hex in sym (length-take-le (c .before .before .made .given .0 .0) (h .last .1 .0) (omega (arith, hex-inside _ 300 _ _ (h .ensures .0) (c .before .before .made .given .1), h .kept .1 .0))))
     (λ c κs. search needs)
-    (λ c. search needs)
     (λ c κs. search needs)
     (λ c. search needs)
     (λ c κs. search needs)

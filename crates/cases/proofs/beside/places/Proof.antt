@@ -3,11 +3,11 @@ use native.Mathlib.Omega.{arith}
 use lib.ListN.{replicate}
 use lib.Seq.{length-take-le}
 use borrow.Author.Needs.{needs}
-use Rattle.cases.proofs.pattern.put.Statement.{statement}
-use Rattle.cases.proofs.pattern.put.Tie as tie
+use Rattle.cases.proofs.beside.places.Statement.{statement}
+use Rattle.cases.proofs.beside.places.Tie as tie
 
-pub put-spec : {M : Type 1} → statement M
-put-spec =
+pub places-spec : {M : Type 1} → statement M
+places-spec =
     tie.close
     (tie.spec
     (λ c κs. search needs)

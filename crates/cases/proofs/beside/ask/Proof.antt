@@ -2,11 +2,11 @@ use mathlib.Core.Path.{sym}
 use lib.Seq.{length-take-le}
 use Rattle.script.proofs.MakeLaws.{gives-inside}
 use borrow.Author.Needs.{needs}
-use Rattle.cases.proofs.pattern.places.Statement.{statement}
-use Rattle.cases.proofs.pattern.places.Tie as tie
+use Rattle.cases.proofs.beside.ask.Statement.{statement}
+use Rattle.cases.proofs.beside.ask.Tie as tie
 
-pub places-spec : {M : Type 1} → statement M
-places-spec =
+pub ask-spec : {M : Type 1} → statement M
+ask-spec =
     tie.close
     (tie.spec
     (λ c κs. search needs)
