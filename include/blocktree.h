@@ -13,7 +13,7 @@
  *  - Nobody has to check a tree first: each call is safe on any bytes, reads nothing outside them and ends. On a tree that bt_check refuses, bt_find may
  *    answer any place below n with any number of blocks, bt_row any bytes, and bt_next_match any row after the mark or none, or each of them may
  *    answer BT_PATH (bt_row also BT_BUFFER). All other answers are settled on any bytes. On a tree that bt_check accepts BT_PATH is never the answer.
- *  - Places in the text start at 0; occurrences and rows are numbered from 1.
+ *  - Places in the text start at 0; occurrences and rows are numbered from 1, but the rows that bt_column_row reads from 0.
  */
 #ifndef BLOCKTREE_H
 #define BLOCKTREE_H
@@ -57,7 +57,9 @@ enum bt_number {
     BT_PATTERN = 16,    /* the pattern does not have 1 to 256 bytes */
     BT_TABLE = 17,      /* the table has fewer words than the pattern has places */
     BT_WORK = 18,       /* bt_build_scanned only: the table has fewer than four words for each leaf length of text, a begun one counting whole */
-    BT_RANGES = 19      /* a worn key does not have 1 to 10 cuts, a depth is above 9, or a low depth above its high one */
+    BT_RANGES = 19,     /* a worn key does not have 1 to 10 cuts, a depth is above 9, or a low depth above its high one */
+    BT_WIDTH = 20,      /* the width of rows is 0, or does not divide the text's length */
+    BT_OUTPUT = 21      /* bt_to_columns and bt_from_columns only: the output is shorter than the text */
 };
 
 /* Build the tree of a text, in layout 2. Trees of layout 1 are read and checked all the same.
@@ -154,6 +156,25 @@ uint32_t bt_places(const uint8_t *tree, size_t tree_len, const uint8_t *pattern,
  * Called again and again from mark 0, with the same ranges, until *row is 0, it shows each match once, in row order. The text after the mark is read once,
  * up to the match. */
 uint32_t bt_next_match(const uint8_t *tree, size_t tree_len, const uint8_t *ranges, size_t ranges_len, uint32_t *mark, uint32_t *row);
+
+/* Columns before rows: a text of rows of one width, end byte included, rearranged; the byte in column b of row a goes to place b * rows + a, both counted
+ * from 0. In books with rows of one width columns repeat more than rows, and the tree of the rearranged text can be smaller.
+ *   lent      text, of any length
+ *   written   out: the rearranged text in its first text_len bytes, the rest as it was; a refusal leaves it as it was
+ *   answers   0, 20 (also width 0 of an empty text), 21
+ * text and out must not overlap. */
+uint32_t bt_to_columns(const uint8_t *text, size_t text_len, uint32_t width, uint8_t *out, size_t out_len);
+
+/* And back: for the same width the inverse of bt_to_columns. The same is lent, written and answered. */
+uint32_t bt_from_columns(const uint8_t *text, size_t text_len, uint32_t width, uint8_t *out, size_t out_len);
+
+/* Row a, counted from 0, read by columns from the tree of a text that bt_to_columns rearranged for this width: all width bytes, the end byte included. A
+ * tree does not say whether its text is rearranged.
+ *   lent      tree
+ *   written   buffer: the row in its first width bytes, the rest as it was. BT_PATH leaves zeros in the first width bytes; any other refusal leaves it as
+ *             it was
+ *   answers   0, 5, 6, 7, 20 (by the tree's text length), 10 (a is not below the number of rows), 13, 14 (the path of one of the row's bytes breaks) */
+uint32_t bt_column_row(const uint8_t *tree, size_t tree_len, uint32_t width, uint32_t a, uint8_t *buffer, size_t buffer_len);
 
 /* The lines of the list program: one for each level, "level blocks kept pointing", or one line "refused N".
  *   lent      tree

@@ -3,6 +3,7 @@
 //!     cargo bench               books of 64 KiB and 1 MiB
 //!     cargo bench -- quick      books of 64 KiB only
 //!     cargo bench -- builders   the two builders only
+//!     cargo bench -- columns    columns before rows only
 //!
 //! Prints the tables of docs/BENCHMARKS.md. Nothing is asserted about time; that both give the same answers is.
 
@@ -12,12 +13,12 @@ mod model;
 mod support;
 
 use codebook::{calls, SHORT_LIST};
-use model::{check, fast, keys, read, Shape};
+use model::{check, columns, fast, keys, read, Shape};
 use std::hint::black_box;
 use std::io::Write;
 use std::process::{Command, Stdio};
 use std::time::{Duration, Instant};
-use support::books::{book, Kind};
+use support::books::{book, even_book, Kind, EVEN_WIDTH};
 use support::Rng;
 
 const KINDS: [(Kind, &str); 3] = [(Kind::Repetitive, "highly repetitive"), (Kind::Mixed, "mixed"), (Kind::NearlyRandom, "nearly random")];
@@ -27,6 +28,9 @@ fn main() {
     let told = |wanted: &str| std::env::args().any(|word| word == wanted);
     let (quick, builders) = (told("quick"), told("builders"));
     describe_machine();
+    if told("columns") {
+        return by_columns(quick);
+    }
     for &size in &[65_536, 1_048_576][..if quick { 1 } else { 2 }] {
         time_builders(size);
     }
@@ -56,6 +60,80 @@ fn main() {
             size_row(text, name, shape);
         }
     }
+    by_columns(quick);
+}
+
+/// Books with rows of one width: what columns do to the size of the tree, and the times of rearranging and of reading a row.
+fn by_columns(quick: bool) {
+    let sizes = &[65_536, 1_048_576][..if quick { 1 } else { 2 }];
+    println!("\n## Columns before rows: books with rows of {EVEN_WIDTH} bytes, byte 10 counted\n");
+    println!("| Book | Text | Smallest tree of the tool's list, by rows | By columns | Ratio |\n|---|---:|---|---|---:|");
+    for &size in sizes {
+        for (kind, name) in EVEN_KINDS {
+            let text = even_book(kind, size, 1);
+            let turned = columns::columns_of(&text, EVEN_WIDTH as u32).expect("rows of one width");
+            let [(rows, by_rows), (cells, by_cells)] = [&text, &turned].map(|text| smallest(text));
+            let ratio = cells as f64 / rows as f64;
+            println!("| {name} | {} | {rows} with {by_rows} | {cells} with {by_cells} | {ratio:.2} |", text.len());
+        }
+    }
+    println!("\n| Text | Width | To columns | From columns | Model, to columns |\n|---:|---:|---:|---:|---:|");
+    for &size in sizes {
+        for width in [4, 16, 64, 1024] {
+            time_rearranging(&even_book(Kind::Mixed, size, 1), width);
+        }
+    }
+    println!("\n| Book | Text | Row by columns | Model | Ratio | A row's bytes by span, from the tree by rows |\n|---|---:|---:|---:|---:|---:|");
+    for &size in sizes {
+        for (kind, name) in EVEN_KINDS {
+            time_rows(&even_book(kind, size, 1), name);
+        }
+    }
+}
+
+const EVEN_KINDS: [(Kind, &str); 3] =
+    [(Kind::Repetitive, "500 rows listed again"), (Kind::Mixed, "one series, cuts rising"), (Kind::NearlyRandom, "one series, cuts drawn")];
+
+/// The size of the smallest tree of the tool's list, and its settings.
+fn smallest(text: &[u8]) -> (usize, String) {
+    let size = |(m, r, h): (u32, u32, u32)| (fast::tree(text, Shape::new(m, r, h), COUNTED).len(), format!("{m}/{r}/{h}"));
+    SHORT_LIST.into_iter().map(size).min_by_key(|(size, _)| *size).expect("a list")
+}
+
+fn time_rearranging(text: &[u8], width: u32) {
+    let [mut ours, mut theirs, mut back] = [vec![0; text.len()], vec![0; text.len()], vec![0; text.len()]];
+    let [there, model] =
+        both(9, || calls::to_columns(black_box(text), width, &mut ours), || columns::to_columns(black_box(text), width, &mut theirs));
+    assert!(ours == theirs, "both rearrange the same");
+    let from = fastest(9, &mut || {
+        black_box(calls::from_columns(black_box(&ours), width, &mut back));
+    });
+    assert!(back == text);
+    println!("| {} | {width} | {} | {} | {} |", text.len(), shown(there), shown(from), shown(model));
+}
+
+/// Row by columns next to the model's, and, beside them, the same bytes by one span of the tree of the text as it stands.
+fn time_rows(text: &[u8], name: &str) {
+    let shape = Shape { m: 64, r: 2, h: 4 };
+    let width = EVEN_WIDTH as u32;
+    let turned = columns::columns_of(text, width).expect("rows of one width");
+    let [by_rows, by_columns] = [text, &turned].map(|text| fast::tree(text, shape, COUNTED));
+    let [by_rows, by_columns] = [&by_rows, &by_columns].map(|tree| move || black_box(tree.as_slice()));
+    let mut rng = Rng::new(text.len() as u64);
+    let rows: Vec<u32> = (0..1000).map(|_| rng.below(text.len() / EVEN_WIDTH) as u32).collect();
+    let [mut ours, mut theirs, mut span] = [[0; EVEN_WIDTH]; 3];
+    let [library, model] = each(
+        &rows,
+        |a| (calls::column_row(by_columns(), width, a, &mut ours), ours),
+        |a| (columns::row(by_columns(), width, a, &mut theirs).0, theirs),
+    );
+    let [plain, _] = each(
+        &rows,
+        |a| (calls::span(by_rows(), a * width, width, &mut span).0, span),
+        |a| (0, text[(a * width) as usize..][..EVEN_WIDTH].try_into().expect("a row")),
+    );
+    let ratio = library.as_secs_f64() / model.as_secs_f64();
+    println!("| {name} | {} | {} | {} | {ratio:.2} | {} |", text.len(), shown(library), shown(model), shown(plain));
 }
 
 fn time_book(text: &[u8], name: &str, shape: Shape) {

@@ -17,8 +17,18 @@ pub enum Question {
     Places(Vec<u8>),
     /// The ranges, and the mark to start from.
     Match(Vec<Range>, u32),
+    /// The row, from 0, and the width.
+    ColumnRow(u32, u32),
     Text,
     Stats,
+}
+
+/// The width of a book's rows, end byte included.
+#[derive(Clone, Copy, Debug)]
+pub enum Width {
+    Given(u32),
+    /// To be found.
+    Auto,
 }
 
 /// What the call asks for.
@@ -31,6 +41,13 @@ pub enum Call {
         /// None: try the short list.
         settings: Option<Settings>,
         counted: Vec<u8>,
+        columns: Option<Width>,
+    },
+    Columns {
+        width: Width,
+        book: Option<String>,
+        out: Option<String>,
+        back: bool,
     },
     Ask {
         question: Question,
@@ -73,6 +90,9 @@ struct Given {
     levels: Option<u32>,
     count: Option<Vec<u8>>,
     from: Option<u32>,
+    columns: Option<Width>,
+    width: Option<u32>,
+    back: bool,
     unchecked: bool,
     help: bool,
 }
@@ -105,6 +125,9 @@ impl Given {
                 "--levels" => self.levels = Some(number(topic, &name, &value()?)?),
                 "--count" => self.count = Some(bytes(topic, &value()?)?),
                 "--from" => self.from = Some(number(topic, &name, &value()?)?),
+                "--columns" => self.columns = Some(width(topic, &name, &value()?)?),
+                "--width" => self.width = Some(number(topic, &name, &value()?)?),
+                "--back" => self.back = true,
                 "--unchecked" => self.unchecked = true,
                 _ => self.help = true,
             }
@@ -124,6 +147,7 @@ impl Given {
         let figure = |at: usize| number(topic, topic.figures[at], &self.plain[at]);
         let question = match topic.name {
             "build" => return self.build(topic, file),
+            "columns" => return self.columns(topic, file),
             "check" => Question::Check,
             "list" => Question::List,
             "row" => Question::Row(figure(0)?),
@@ -133,6 +157,7 @@ impl Given {
             "find" => Question::Find(byte(topic, &self.plain[0])?, figure(1)?),
             "places" => Question::Places(pattern(topic, &self.plain[0])?),
             "match" => Question::Match(ranges(topic, &self.plain[0])?, self.from.unwrap_or(1).saturating_sub(1)),
+            "column-row" => Question::ColumnRow(figure(0)?, self.width.ok_or_else(|| usage(topic, "--width is missing"))?),
             "text" => Question::Text,
             _ => Question::Stats,
         };
@@ -146,7 +171,15 @@ impl Given {
             (Some(leaf), Some(arity), Some(levels)) => Some(Settings { leaf, arity, levels, counted: counted.clone() }),
             _ => return Err(usage(topic, "--leaf, --arity and --levels go together: give all three, or none to have a short list tried")),
         };
-        Ok(Call::Build { book, out: self.out, settings, counted })
+        Ok(Call::Build { book, out: self.out, settings, counted, columns: self.columns })
+    }
+
+    fn columns(self, topic: &Topic, book: Option<String>) -> Result<Call, Failure> {
+        let width = width(topic, topic.figures[0], &self.plain[0])?;
+        if self.back && matches!(width, Width::Auto) {
+            return Err(usage(topic, "with --back the width must be given: a book by columns does not show it"));
+        }
+        Ok(Call::Columns { width, book, out: self.out, back: self.back })
     }
 }
 
@@ -156,6 +189,14 @@ fn usage(topic: &Topic, words: &str) -> Failure {
 
 fn number(topic: &Topic, what: &str, word: &str) -> Result<u32, Failure> {
     word.parse().map_err(|_| usage(topic, &format!("{what} is a number from 0 to 4294967295, not '{word}'")))
+}
+
+/// A width, or `auto`.
+fn width(topic: &Topic, what: &str, word: &str) -> Result<Width, Failure> {
+    if word == "auto" {
+        return Ok(Width::Auto);
+    }
+    word.parse().map(Width::Given).map_err(|_| usage(topic, &format!("{what} is a number from 0 to 4294967295, or auto, not '{word}'")))
 }
 
 /// A byte: its number, or one character that is no digit.

@@ -32,6 +32,9 @@ mod declared {
             number: *mut u32,
         ) -> u32;
         pub fn bt_next_match(tree: *const u8, tree_len: usize, ranges: *const u8, ranges_len: usize, mark: *mut u32, row: *mut u32) -> u32;
+        pub fn bt_to_columns(text: *const u8, text_len: usize, width: u32, out: *mut u8, out_len: usize) -> u32;
+        pub fn bt_from_columns(text: *const u8, text_len: usize, width: u32, out: *mut u8, out_len: usize) -> u32;
+        pub fn bt_column_row(tree: *const u8, tree_len: usize, width: u32, a: u32, buffer: *mut u8, buffer_len: usize) -> u32;
         pub fn bt_list(tree: *const u8, tree_len: usize, out: *mut u8, out_len: usize, length: *mut u32) -> u32;
         pub fn bt_build_scanned(
             text: *const u8,
@@ -131,6 +134,21 @@ pub fn next_match(tree: &[u8], ranges: &[u8], mark: &mut u32) -> (u32, u32) {
     let mut row = 0;
     let number = unsafe { declared::bt_next_match(tree.as_ptr(), tree.len(), ranges.as_ptr(), ranges.len(), mark, &mut row) };
     (number, row)
+}
+
+/// The number; the text rearranged by columns.
+pub fn to_columns(text: &[u8], width: u32, out: &mut [u8]) -> u32 {
+    unsafe { declared::bt_to_columns(text.as_ptr(), text.len(), width, out.as_mut_ptr(), out.len()) }
+}
+
+/// The number; and back.
+pub fn from_columns(text: &[u8], width: u32, out: &mut [u8]) -> u32 {
+    unsafe { declared::bt_from_columns(text.as_ptr(), text.len(), width, out.as_mut_ptr(), out.len()) }
+}
+
+/// The number; row `a` read by columns.
+pub fn column_row(tree: &[u8], width: u32, a: u32, buffer: &mut [u8]) -> u32 {
+    unsafe { declared::bt_column_row(tree.as_ptr(), tree.len(), width, a, buffer.as_mut_ptr(), buffer.len()) }
 }
 
 /// The number and the lines' length.

@@ -2,14 +2,19 @@
 
 use crate::args::{Call, Question};
 use crate::files::{self, Input};
-use crate::{help, messages, trials, Failure};
+use crate::trials::Trial;
+use crate::{by_columns, help, messages, trials, Failure};
 use codebook::{list, Range, Reached, Refusal, Settings, Tree, MAX_TEXT};
 
 pub fn run(call: Call) -> Result<(), Failure> {
     match call {
         Call::Help(None) => files::print(help::overview().as_bytes()),
         Call::Help(Some(topic)) => files::print(topic.text().as_bytes()),
-        Call::Build { book, out, settings, counted } => build(book.as_deref(), out.as_deref(), settings.as_ref(), &counted),
+        Call::Build { book, out, settings, counted, columns: None } => build(book.as_deref(), out.as_deref(), settings.as_ref(), &counted),
+        Call::Build { book, out, settings, counted, columns: Some(width) } => {
+            by_columns::build(book.as_deref(), out.as_deref(), settings.as_ref(), &counted, width)
+        }
+        Call::Columns { width, book, out, back } => by_columns::rearrange(width, book.as_deref(), out.as_deref(), back),
         Call::Ask { question, tree, unchecked } => ask(&question, tree.as_deref(), unchecked),
     }
 }
@@ -18,14 +23,18 @@ fn build(book: Option<&str>, out: Option<&str>, settings: Option<&Settings>, cou
     files::refuse_terminal(out)?;
     // one byte more than the longest text is enough to be refused
     let text = files::read(book, MAX_TEXT as u64 + 1)?;
-    let tried = match settings {
-        Some(settings) => trials::one(&text.bytes, settings).map(|trial| vec![trial]),
-        None => trials::all(&text.bytes, counted),
-    };
-    let tried = tried.map_err(|refusal| Failure::Refused(messages::build_refusal(refusal, &text.name, text.bytes.len(), settings, counted)))?;
+    let tried = trees(&text.name, &text.bytes, settings, counted)?;
     let chosen = trials::smallest(&tried);
-    let name = out.filter(|&path| path != "-").unwrap_or("standard output");
-    files::write_tree(out, &chosen.tree, &messages::build_report(&text.name, text.bytes.len(), &tried, chosen, name))
+    files::write_tree(out, &chosen.tree, &messages::build_report(&text.name, text.bytes.len(), &tried, chosen, files::name(out)))
+}
+
+/// The tree with the settings, or the trees of the short list.
+pub fn trees(name: &str, text: &[u8], settings: Option<&Settings>, counted: &[u8]) -> Result<Vec<Trial>, Failure> {
+    let tried = match settings {
+        Some(settings) => trials::one(text, settings).map(|trial| vec![trial]),
+        None => trials::all(text, counted),
+    };
+    tried.map_err(|refusal| Failure::Refused(messages::build_refusal(refusal, name, text.len(), settings, counted)))
 }
 
 fn ask(question: &Question, path: Option<&str>, unchecked: bool) -> Result<(), Failure> {
@@ -69,6 +78,7 @@ fn answer(question: &Question, name: &str, tree: Tree) -> Result<Vec<u8>, Refusa
         }
         Question::Places(ref pattern) => tree.places(pattern)?.iter().map(|place| format!("{place}\n")).collect::<String>().into(),
         Question::Match(ref ranges, mark) => matches(tree, ranges, mark)?,
+        Question::ColumnRow(a, width) => tree.row_by_columns(width, a)?,
         Question::Text => tree.text()?,
         Question::Stats => messages::stats(name, tree).into(),
     })

@@ -53,6 +53,11 @@ pub fn write_tree(path: Option<&str>, tree: &[u8], report: &str) -> Result<(), F
     }
 }
 
+/// What to call a file that is written.
+pub fn name(path: Option<&str>) -> &str {
+    path.filter(|&path| path != "-").unwrap_or("standard output")
+}
+
 /// A tree is not for the eye.
 pub fn refuse_terminal(path: Option<&str>) -> Result<(), Failure> {
     if path.is_none() && io::stdout().is_terminal() {

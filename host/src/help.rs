@@ -14,12 +14,12 @@ pub struct Topic {
 
 const UNCHECKED: &[&str] = &["--unchecked"];
 
-static TOPICS: [Topic; 12] = [
+static TOPICS: [Topic; 14] = [
     Topic {
         name: "build",
-        usage: "codebook build [BOOK] [-o TREE] [--leaf M --arity R --levels H] [--count BYTES]",
+        usage: "codebook build [BOOK] [-o TREE] [--leaf M --arity R --levels H] [--count BYTES] [--columns W]",
         figures: &[],
-        options: &["-o", "--leaf", "--arity", "--levels", "--count"],
+        options: &["-o", "--leaf", "--arity", "--levels", "--count", "--columns"],
         summary: "build the tree of a book",
         details: "\
 BOOK is any text of 1 to 1,048,576 bytes. Without -o the tree goes to standard output.
@@ -31,7 +31,9 @@ kept, and what each gave is printed.
   --leaf M       bytes of a block of the last level, 1 to 256
   --arity R      children of a block, 2 to 16
   --levels H     levels, 1 to 8; M x R^(H-1) is at most 1,048,576
-  --count BYTES  the bytes to count and find, at most 4, rising, parted by commas, as 10,65 or \\n,A; or none. Otherwise 10, which ends a row",
+  --count BYTES  the bytes to count and find, at most 4, rising, parted by commas, as 10,65 or \\n,A; or none. Otherwise 10, which ends a row
+  --columns W    rearrange rows of W bytes, end byte included, by columns first, and say whether that makes the tree smaller; auto finds the width
+                 of rows that all have one. Such a tree is read by column-row; it does not say itself that its text is rearranged",
     },
     Topic {
         name: "check",
@@ -115,6 +117,30 @@ The tree must count byte 10. Prints each row that matches with its number, or 'n
   --from ROW   start at this row, from 1",
     },
     Topic {
+        name: "columns",
+        usage: "codebook columns WIDTH [BOOK] [-o FILE] [--back]",
+        figures: &["WIDTH"],
+        options: &["-o", "--back"],
+        summary: "rearrange a book's rows of one width by columns, or back",
+        details: "\
+WIDTH counts the byte that ends a row; auto finds it, where all rows have one. The byte in column b of row a goes to place b x rows + a, both counted
+from 0. Without -o the bytes go to standard output.
+
+  -o FILE  the file to write
+  --back   from columns back to rows of WIDTH bytes",
+    },
+    Topic {
+        name: "column-row",
+        usage: "codebook column-row A --width W [TREE] [--unchecked]",
+        figures: &["A"],
+        options: &["--width", "--unchecked"],
+        summary: "print row A, from 0, of a book whose tree was built by columns",
+        details: "\
+All W bytes of the row as they are, its end byte included, and nothing else. That the tree was built by columns, of rows of W bytes, is yours to know.
+
+  --width W    bytes of a row, end byte included",
+    },
+    Topic {
         name: "text",
         usage: "codebook text [TREE] [--unchecked]",
         figures: &[],
@@ -158,7 +184,7 @@ No file, or -, is standard input. Status: 0 done, 1 refused, 2 a call or a file 
 pub fn overview() -> String {
     let mut text = "codebook: block trees of code books\n\n".to_owned();
     for topic in &TOPICS {
-        text += &format!("  {:<7}{}\n", topic.name, topic.summary);
+        text += &format!("  {:<12}{}\n", topic.name, topic.summary);
     }
     text + "\ncodebook COMMAND --help says more.\n" + ENDING
 }

@@ -11,8 +11,10 @@
 //! ```
 
 pub mod calls;
+mod columns;
 mod refusal;
 
+pub use columns::{from_columns, row_width, to_columns};
 use refusal::answer;
 pub use refusal::Refusal;
 

@@ -1,6 +1,7 @@
 //! codebook: builds, checks and reads block trees of code books.
 
 mod args;
+mod by_columns;
 mod commands;
 mod files;
 mod help;

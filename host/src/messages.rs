@@ -80,6 +80,7 @@ impl Question {
             Question::Find(byte, number) => Some(format!("find {byte} {number}")),
             Question::Places(_) => Some("places".to_owned()),
             Question::Match(..) => Some("match".to_owned()),
+            Question::ColumnRow(a, width) => Some(format!("column-row {a} --width {width}")),
             Question::Check | Question::List | Question::Text | Question::Stats => None,
         }
     }
@@ -96,7 +97,10 @@ fn hint(refusal: Refusal, question: &Question, tree: Tree) -> Option<String> {
     let total = |byte: u8| tree.count(byte, tree.text_length()).map_or(0, |count| count.value);
     match (refusal, question) {
         (Refusal::Short | Refusal::Input, _) => Some(format!("it has {} bytes", grouped(tree.size() as u64))),
-        (Refusal::Place, _) => Some(format!("the text has {} bytes", grouped(tree.text_length().into()))),
+        (Refusal::Place, Question::ColumnRow(_, width)) => {
+            Some(format!("the text has {} rows of {width}", grouped((tree.text_length() / width).into())))
+        }
+        (Refusal::Place | Refusal::Width, _) => Some(format!("the text has {} bytes", grouped(tree.text_length().into()))),
         (Refusal::NotCounted, Question::Row(_) | Question::Match(..)) => Some("rows end in byte 10, so build must count it".to_owned()),
         (Refusal::NotCounted, _) => Some(format!("it counts: {}", counted(&tree.settings().counted))),
         (Refusal::NoSuch, Question::Row(_)) => tree.rows().ok().map(|rows| format!("the book has {} rows", grouped(rows))),

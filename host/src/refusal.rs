@@ -47,6 +47,8 @@ refusals! {
     Table = 17: "the table has fewer words than the pattern has places",
     Work = 18: "the table of words is too short: four words are needed for each leaf length of text, a begun one counting whole",
     Ranges = 19: "a worn key must have 1 to 10 cuts, each with a low and a high depth of 0 to 9, the low one not above the high one",
+    Width = 20: "the width must be above 0 and divide the text's length",
+    Output = 21: "the output is shorter than the text",
 }
 
 impl Refusal {
@@ -84,13 +86,13 @@ mod tests {
     #[test]
     fn numbers_are_those_of_the_header() {
         let header = include_str!("../../include/blocktree.h");
-        for number in 1..=19 {
+        for number in 1..=21 {
             let refusal = Refusal::from_number(number).expect("a refusal");
             assert_eq!(refusal.number(), number);
             assert!(refusal.to_string().starts_with(&format!("refused ({number}): ")));
             let lines = header.lines().filter(|line| line.trim_start().starts_with("BT_") && declares(line, number));
             assert_eq!(lines.count(), 1);
         }
-        assert!(Refusal::from_number(0).is_none() && Refusal::from_number(20).is_none());
+        assert!(Refusal::from_number(0).is_none() && Refusal::from_number(22).is_none());
     }
 }

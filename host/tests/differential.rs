@@ -15,19 +15,7 @@ use model::read::Answer;
 use model::{build, check, fast, keys, read, Shape};
 use std::collections::{BTreeMap, BTreeSet};
 use support::books::{book, Kind};
-use support::{to_hex, Rng};
-
-fn setting(name: &str, otherwise: u64) -> u64 {
-    std::env::var(name).ok().map_or(otherwise, |value| value.parse().expect("a number"))
-}
-
-/// Run `round` so many times, each with numbers of its own.
-fn rounds(otherwise: u64, mut round: impl FnMut(&mut Rng)) {
-    let seed = setting("SEED", 1);
-    for i in 0..setting("ROUNDS", otherwise) {
-        round(&mut Rng::new(seed << 32 | i));
-    }
-}
+use support::{rounds, setting, to_hex, Rng};
 
 /// A buffer of exactly this length, every byte filled.
 fn lent(length: usize) -> Box<[u8]> {

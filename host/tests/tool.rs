@@ -239,6 +239,76 @@ fn matches_that_are_refused() {
     }
 }
 
+/// The book's rows all have 14 bytes.
+#[test]
+fn by_columns() {
+    let folder = Folder::new("columns");
+    let report = "\
+small.txt, 200 rows of 14 bytes by columns: 2,800 bytes
+leaf  arity  levels  tree's bytes
+ 256      2       1         8,840
+  64      4       3        11,948
+  48      2       5        17,144
+  32      4       4        13,756
+  24      8       3        13,084
+  16      4       4        16,348
+chosen: leaf 256, arity 2, levels 1, since its tree is the smallest of these 6
+columns.tree: 8,840 bytes, 315.7 % of the text; leaf 256, arity 2, levels 1; bytes counted: 10
+The tree is no smaller than the text: the book is short, or repeats itself too little.
+by columns 8,840 bytes, by rows 5,884 (leaf 24, arity 8, levels 3): columns do not make it smaller
+";
+    folder.run("build small.txt -o columns.tree --columns auto").succeeds().prints(report).says("");
+    folder.run("build small.txt -o given.tree --columns 14").succeeds().prints(&report.replace("columns.tree", "given.tree"));
+    assert_eq!(folder.read("columns.tree"), folder.read("given.tree"));
+    let text = String::from_utf8(folder.read("small.txt")).expect("a text");
+    for (a, row) in text.lines().enumerate().step_by(7) {
+        folder.run(&format!("column-row {a} --width 14 columns.tree")).succeeds().prints(&format!("{row}\n"));
+    }
+    folder.run("columns auto small.txt -o turned.txt").succeeds().prints("").says("");
+    assert_eq!(folder.run("text columns.tree").output.stdout, folder.read("turned.txt"));
+    assert_eq!(folder.run("columns --back 14 turned.txt").succeeds().output.stdout, folder.read("small.txt"));
+    folder.pipe("columns 4", b"AB1\nAB2\nAC3\n").succeeds().prints("AAABBC123\n\n\n").says("");
+    folder.pipe("columns 3", b"").succeeds().prints("");
+    // rows that all differ in a number, in columns that repeat
+    let series: Vec<String> = (0..300).map(|row| format!("SERIES-A {:05} 44444\n", row * 7919 % 100_000)).collect();
+    folder.write("series.txt", series.concat().as_bytes());
+    let printed = folder.run("build series.txt -o series.tree --columns auto --leaf 16 --arity 4 --levels 3").succeeds().output.stdout.clone();
+    let report = String::from_utf8_lossy(&printed);
+    assert!(
+        report.starts_with("series.txt, 300 rows of 21 bytes by columns: 6,300 bytes\n") && report.ends_with(": columns make it smaller\n"),
+        "{report}"
+    );
+    folder.run("column-row 299 --width 21 series.tree").succeeds().prints(&series[299]);
+}
+
+#[test]
+fn by_columns_that_is_refused() {
+    let folder = Folder::new("refused-columns");
+    folder.run("build small.txt -o columns.tree --columns 14 --leaf 16 --arity 4 --levels 3").succeeds();
+    let width = "refused (20): the width must be above 0 and divide the text's length";
+    for given in [0, 13, 2801] {
+        let says = format!("codebook: small.txt: {width}; given: {given}, of 2,800 bytes\n");
+        folder.run(&format!("columns {given} small.txt")).status(1).prints("").says(&says);
+        folder.run(&format!("build small.txt -o no.tree --columns {given}")).status(1).prints("").says(&says);
+        let says = format!("codebook: columns.tree: column-row 0 --width {given}: {width}; the text has 2,800 bytes\n");
+        folder.run(&format!("column-row 0 --width {given} columns.tree")).status(1).prints("").says(&says);
+    }
+    let past = "column-row 200 --width 14: refused (10): this lies past the text's end; the text has 200 rows of 14";
+    folder.run("column-row 200 --width 14 columns.tree").status(1).says(&format!("codebook: columns.tree: {past}\n"));
+    folder.write("uneven.txt", b"AB\nABC\n");
+    let uneven = "codebook: uneven.txt: its rows do not all have one width; give it\n";
+    folder.run("columns auto uneven.txt").status(2).prints("").says(uneven);
+    folder.run("build uneven.txt -o no.tree --columns auto").status(2).prints("").says(uneven);
+    let usage = "usage: codebook columns WIDTH [BOOK] [-o FILE] [--back]";
+    folder.run("columns").status(2).says(&format!("codebook: WIDTH is missing\n{usage}\n"));
+    folder.run("columns wide small.txt").status(2).says(&format!("codebook: WIDTH is a number from 0 to 4294967295, or auto, not 'wide'\n{usage}\n"));
+    let back = "with --back the width must be given: a book by columns does not show it";
+    folder.run("columns auto --back small.txt").status(2).says(&format!("codebook: {back}\n{usage}\n"));
+    let row = "usage: codebook column-row A --width W [TREE] [--unchecked]";
+    folder.run("column-row 0 columns.tree").status(2).says(&format!("codebook: --width is missing\n{row}\n"));
+    assert!(!folder.0.join("no.tree").exists());
+}
+
 #[test]
 fn every_row() {
     let folder = Folder::with_tree("rows");
@@ -389,7 +459,7 @@ fn calls_that_are_not_right() {
         "count 256 4 x",
         "a byte is a number from 0 to 255 or one character that is no digit, not '256'\nusage: codebook count BYTE LENGTH [TREE] [--unchecked]",
     );
-    let build = "usage: codebook build [BOOK] [-o TREE] [--leaf M --arity R --levels H] [--count BYTES]";
+    let build = "usage: codebook build [BOOK] [-o TREE] [--leaf M --arity R --levels H] [--count BYTES] [--columns W]";
     usage("build small.txt -o", &format!("-o needs a value\n{build}"));
     usage("build --leaf 64", &format!("--leaf, --arity and --levels go together: give all three, or none to have a short list tried\n{build}"));
     usage("check none.tree", "none.tree cannot be read: No such file or directory (os error 2)");
@@ -403,7 +473,7 @@ fn help() {
     let folder = Folder::new("help");
     let overview = folder.run("--help");
     overview.succeeds().says("");
-    let commands = ["build", "check", "list", "row", "byte", "span", "count", "find", "places", "match", "text", "stats"];
+    let commands = ["build", "check", "list", "row", "byte", "span", "count", "find", "places", "match", "columns", "column-row", "text", "stats"];
     for command in commands {
         assert!(String::from_utf8_lossy(&overview.output.stdout).contains(&format!("\n  {command:<7}")));
         let help = folder.run(&format!("{command} --help"));

@@ -8,7 +8,7 @@ mod support;
 use codebook::calls;
 use judge::{find_agrees, match_agrees, row_agrees, FILL, FILL_WORD};
 use model::read::Answer;
-use model::{build, check, keys, read, Shape};
+use model::{build, check, columns, keys, read, Shape};
 use std::collections::HashMap;
 use std::fmt::Display;
 use support::{from_hex, to_hex};
@@ -32,6 +32,9 @@ struct Calls {
     row: fn(&[u8], u32, &mut [u8]) -> Answer<(u32, u32)>,
     places: fn(&[u8], &[u8], &mut [u32]) -> (u32, u32),
     next_match: fn(&[u8], &[u8], u32) -> Answer<(u32, u32, u32)>,
+    to_columns: fn(&[u8], u32, &mut [u8]) -> u32,
+    from_columns: fn(&[u8], u32, &mut [u8]) -> u32,
+    column_row: fn(&[u8], u32, u32, &mut [u8]) -> (u32, u32),
 }
 
 #[test]
@@ -53,6 +56,13 @@ fn library() {
             let (number, row) = calls::next_match(tree, ranges, &mut after);
             Answer::Settled((number, row, after))
         },
+        to_columns: calls::to_columns,
+        from_columns: calls::from_columns,
+        // the call reports no length: it is the width
+        column_row: |tree, width, a, buffer| match calls::column_row(tree, width, a, buffer) {
+            0 => (0, width),
+            number => (number, 0),
+        },
     });
 }
 
@@ -71,6 +81,9 @@ fn model() {
         row: read::row,
         places: read::places,
         next_match: keys::next_match,
+        to_columns: columns::to_columns,
+        from_columns: columns::from_columns,
+        column_row: columns::row,
     });
 }
 
@@ -84,7 +97,7 @@ fn library_scan(text: &[u8], shape: Shape, counted: &[u8], words: usize, out: &m
 }
 
 /// Items of requests that are not in force in this format are passed over by name.
-const LATER: [&str; 10] = ["columns", "rows", "column", "open", "left", "renew", "guide", "guidecheck", "guided", "order"];
+const LATER: [&str; 7] = ["open", "left", "renew", "guide", "guidecheck", "guided", "order"];
 
 fn run_all(calls: &Calls) {
     run_file(calls, VECTORS);
@@ -98,7 +111,7 @@ fn run_file(calls: &Calls, file: &str) {
     for line in file.lines().filter(|line| !line.is_empty() && !line.starts_with('#') && !line.contains(" => wrong: ")) {
         let tokens: Vec<&str> = line.split(' ').collect();
         match tokens[..] {
-            ["landed", request] => in_force = request == "107",
+            ["landed", request] => in_force = request == "108",
             ["text" | "tree", name, hex] => {
                 bytes.insert(name, from_hex(hex));
             }
@@ -156,6 +169,20 @@ fn item(calls: &Calls, bytes: &HashMap<&str, Vec<u8>>, item: &[&str], expected: 
             let mut table = vec![FILL_WORD; item[3].parse().expect("a length")];
             let (refusal, places) = (calls.places)(subject, &from_hex(item[2]), &mut table);
             format!("{refusal} {places} {}", words(&table))
+        }
+        "columns" | "rows" => {
+            let mut out = lent(3);
+            let refusal = if item[0] == "columns" {
+                (calls.to_columns)(subject, number(2), &mut out)
+            } else {
+                (calls.from_columns)(subject, number(2), &mut out)
+            };
+            format!("{refusal} {}", to_hex(&out))
+        }
+        "column" => {
+            let mut buffer = lent(4);
+            let (refusal, length) = (calls.column_row)(subject, number(2), number(3), &mut buffer);
+            format!("{refusal} {length} {}", to_hex(&buffer))
         }
         "match" => return next_match(calls, subject, &ranges(item[2]), number(3), expected),
         "find" => return find(calls, subject, number(2), number(3), expected),

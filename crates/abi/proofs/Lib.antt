@@ -4,3 +4,4 @@ pub mod ListLaws
 pub mod PlaceLaws
 pub mod ScanLaws
 pub mod MatchLaws
+pub mod ColumnLaws

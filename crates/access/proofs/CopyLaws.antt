@@ -1,16 +1,16 @@
 -- The loop that copies bytes to a buffer, span's and row's: each byte's answer is taken apart, and where one is refused the part asked for
 -- is cleared.
-use mathlib.Core.List.{List, [], _∷_, _++_}
+use mathlib.Core.List.{List, _++_}
 use mathlib.Core.Bool.{true, false, _&&_}
 use mathlib.Core.Path.{_≡_, refl, sym, ap, _∙_}
-use Prim.Native.Nat.{ℕ, zero, suc, _+_, _-_, _≤_, _<_}
+use Prim.Native.Nat.{ℕ, suc, _+_, _-_, _≤_, _<_}
 use native.Mathlib.Omega.{arith}
-use native.Mathlib.Nat.{add-assoc, not-suc-le-zero, le-of-suc-le-suc}
-use native.Mathlib.Numerals.{add-one}
+use native.Mathlib.Nat.{add-assoc}
 use lib.Dec.{eqb}
 use lib.ListN.{length, set, drop, replicate, length-set}
 use lib.Seq.{drop-set-lt}
 use Rattle.text.specs.Lists.{tabulate}
+use Rattle.text.specs.ListLaws.{tab-none, tab-more}
 use Rattle.format.specs.Layout as at
 use Rattle.format.specs.Said.{Said, refused}
 use Rattle.format.specs.Reading.{byteSays, pathsHold}
@@ -21,20 +21,6 @@ use Rattle.access.specs.declared.Answer.the-variants.{Byte, Refused}
 use Rattle.access.specs.Answers.{said}
 use Rattle.paths.specs.Bytes.{only-14}
 use Rattle.access.proofs.SpanLaws.{ByPaths, values, span-copied, span-broken}
-
--- f 0, .., f (n - 1) and then the rest of d: one more by a store at n
-tab-suc : (n : ℕ) (f : ℕ → ℕ) (d : List ℕ) → n < length d → set (tabulate n f ++ drop n d) n (f n) ≡ tabulate (suc n) f ++ drop (suc n) d
-unfolding tabulate
-tab-suc n f [] l = absurd (not-suc-le-zero l)
-tab-suc zero f (x ∷ d) l = refl
-tab-suc (suc n) f (x ∷ d) l = ap (λ (s : List ℕ). f 0 ∷ s) (tab-suc n (λ i. f (suc i)) d (le-of-suc-le-suc l))
-
-tab-none : (f : ℕ → ℕ) (d : List ℕ) → d ≡ tabulate 0 f ++ drop 0 d
-unfolding tabulate
-tab-none f d = refl
-
-tab-more : (n v : ℕ) (f : ℕ → ℕ) (d e : List ℕ) → n < length d → v ≡ f n → e ≡ tabulate n f ++ drop n d → set e n v ≡ tabulate (n + 1) f ++ drop (n + 1) d
-tab-more n v f d e l v-is is = rw (v-is, is, add-one) (tab-suc n f d l)
 
 -- the paths of what is left of a span, and of the whole
 module _ (t : List ℕ) (p len : ℕ) where
@@ -63,15 +49,15 @@ module _ (t : List ℕ) (p len : ℕ) where
     rest-broken : byteSays t (p + i) .number ≡ 14 → false ≡ pathsHold t (p + i) (len - i)
     rest-broken z = rw (open-rest, z)
 
--- a byte's answer: the span's byte, or a refusal by 14
-module _ (t : List ℕ) (h : Header) (p : ℕ) (k : HeaderOf t h) (i : ℕ) (low : p + i < h .length) (a : Answer) (a-is : said a ≡ byteSays t (p + i)) where
-  byte-good : (v n : ℕ) → a ≡ Byte v n → (byteSays t (p + i) .number ≡ 0) × (v ≡ values t p i)
+-- a byte's answer: the byte of its place, or a refusal by 14
+module _ (t : List ℕ) (h : Header) (k : HeaderOf t h) (p : ℕ) (low : p < h .length) (a : Answer) (a-is : said a ≡ byteSays t p) where
+  pub byte-good : (v n : ℕ) → a ≡ Byte v n → (byteSays t p .number ≡ 0) × (v ≡ byteSays t p .value)
   byte-good v n e =
-      let z : record { number = 0; value = v; entered = n } ≡ byteSays t (p + i) = ap said (sym e) ∙ a-is in
+      let z : record { number = 0; value = v; entered = n } ≡ byteSays t p = ap said (sym e) ∙ a-is in
       (sym (ap (λ (s : Said). s .number) z), ap (λ (s : Said). s .value) z)
 
-  byte-refused : (q : ℕ) → a ≡ Refused q → byteSays t (p + i) .number ≡ 14
-  byte-refused q e = only-14 t (k .passes) (p + i) (omega (arith, k .length-is)) q (ap said (sym e) ∙ a-is)
+  pub byte-refused : (q : ℕ) → a ≡ Refused q → byteSays t p .number ≡ 14
+  byte-refused q e = only-14 t (k .passes) p (omega (arith, k .length-is)) q (ap said (sym e) ∙ a-is)
 
 -- Buffer e, where i of the len bytes from p were copied to buffer d.
 pub record Copying (t : List ℕ) (p len : ℕ) (d e : List ℕ) (i : ℕ) : Type 0 where
@@ -87,7 +73,7 @@ module _ (t : List ℕ) (h : Header) (p len : ℕ) (k : HeaderOf t h) (low : p +
   -- the byte at i is answered, and stored
   pub copy-more : i < len → (a : Answer) → said a ≡ byteSays t (p + i) → (v n : ℕ) → a ≡ Byte v n → Copying t p len d (set e i v) (i + 1)
   copy-more more a a-is v n is =
-      let z = byte-good t h p k i (omega arith) a a-is v n is in record {
+      let z = byte-good t h k (p + i) (omega arith) a a-is v n is in record {
         same-length = simp length-set (c .same-length);
         bytes = tab-more i v (values t p) d e (omega arith) (z .1) (c .bytes);
         past = drop-set-lt len e i v more ∙ c .past;
@@ -98,7 +84,7 @@ module _ (t : List ℕ) (h : Header) (p len : ℕ) (k : HeaderOf t h) (low : p +
   pub copy-broken : i < len → (a : Answer) → said a ≡ byteSays t (p + i) → (q : ℕ) → a ≡ Refused q → (n : ℕ) → n ≡ said a .number → (z : List ℕ)
       → z ≡ replicate len 0 ++ drop len e → (1 ≤ n) × ByPaths t p len d (refused n) z
   copy-broken more a a-is q is n n-is z z-is =
-      let b = byte-refused t h p k i (omega arith) a a-is q is in
+      let b = byte-refused t h k (p + i) (omega arith) a a-is q is in
       let n-14 : n ≡ 14 = n-is ∙ ap (λ (s : Said). s .number) a-is ∙ b in
       (omega arith, span-broken t p len d (pathsHold t p len) (tabulate len (values t p)) 0 (k .passes) (omega (arith, k .length-is)) room z n n-14 (rest-broken t p len i more b ∙ c .hold) (rw (c .past) at z-is))
 

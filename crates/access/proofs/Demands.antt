@@ -4,7 +4,7 @@ use mathlib.Core.List.{List, _++_}
 use mathlib.Core.Option.{some}
 use mathlib.Core.Bool.{true}
 use mathlib.Core.Path.{_≡_, ap, _∙_}
-use Prim.Native.Nat.{ℕ, _+_, _-_, _*_, _≤_, _<_}
+use Prim.Native.Nat.{ℕ, suc, _+_, _-_, _*_, _≤_, _<_}
 use native.Mathlib.Omega.{arith}
 use contract.Lifetimes.{Lfts}
 use denote.Ref.{RefT}
@@ -17,7 +17,7 @@ use Rattle.format.specs.Fits.{linksOk, textOf, fits}
 use Rattle.format.specs.Verdict.{readable, verdict}
 use Rattle.format.specs.VerdictLaws.{accepted-readable}
 use Rattle.margins.specs.Demands as margins
-use Rattle.format.specs.Said.{Said}
+use Rattle.format.specs.Said.{Said, refused}
 use Rattle.format.specs.Reading.{runSays, spanBlocks, spanSays}
 use Rattle.paths.specs.Demands as paths
 use Rattle.access.specs.declared.Answer.{Answer}
@@ -50,12 +50,16 @@ byte-is (Byte w m) v n low e =
     cc
 byte-is (Refused q) v n low e = absurd (let z : 0 ≡ n = ap (λ (s : Said). s .entered) e in omega arith)
 
-copied-is : (r : Copied) (len n : ℕ) → Numbered r → copiedSaid r ≡ record { number = 0; value = len; entered = n } → r ≡ copied.Bytes len n
+pub copied-is : (r : Copied) (len n : ℕ) → Numbered r → copiedSaid r ≡ record { number = 0; value = len; entered = n } → r ≡ copied.Bytes len n
 copied-is (copied.Bytes m b) len n k e =
     let z : m ≡ len = ap (λ (s : Said). s .value) e in
     let y : b ≡ n = ap (λ (s : Said). s .entered) e in
     cc
 copied-is (copied.Refused q) len n k e = absurd (let z : q ≡ 0 = ap (λ (s : Said). s .number) e in omega arith)
+
+pub copied-no : (r : Copied) (n : ℕ) → copiedSaid r ≡ refused (suc n) → r ≡ copied.Refused (suc n)
+copied-no (copied.Bytes m e) n s = absurd (let z : _≡_ {A = ℕ} 0 (suc n) = ap (λ (x : Said). x .number) s in omega arith)
+copied-no (copied.Refused m) n s = ap (λ (x : Said). copied.Refused (x .number)) s
 
 -- Any lent bytes.
 

@@ -1,5 +1,6 @@
 // What a line asks, put to the library.
 use crate::beside;
+use crate::by_columns;
 use crate::wrong;
 use script::Gift;
 use script::Question;
@@ -21,11 +22,19 @@ pub fn line(script: &[u8], line: &[u8], bytes: &mut [u8], lent: &mut [u8]) {
     }
     let question = script::question_of(line);
     match question {
-        Question::Nothing => wrong::say(b"no such word"),
+        Question::Nothing => other(script, line, bytes, lent),
         Question::Build | Question::Scan => build(script, line, question, bytes, lent),
         Question::Places | Question::Match => beside::ask(script, line, question, bytes),
         _ => of_tree(script, line, question, bytes, lent),
     }
+}
+
+// A line with a word of another file, or with no such word.
+fn other(script: &[u8], line: &[u8], bytes: &mut [u8], lent: &mut [u8]) {
+    if by_columns::line(script, line, bytes, lent) {
+        return;
+    }
+    wrong::say(b"no such word");
 }
 
 // How many tokens a line has that gives bytes a name.

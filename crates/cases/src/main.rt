@@ -2,6 +2,7 @@
 // the line. The lines are those of the cases file of an independent model; the file stdout has that model's answers.
 mod ask;
 mod beside;
+mod by_columns;
 mod wrong;
 
 ghost use Prim.Native.Nat.{_≤_};

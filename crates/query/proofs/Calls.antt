@@ -45,6 +45,15 @@ pub use Rattle.worn_keys.proofs.next_match.Statement as next-match-stated
 pub use Rattle.worn_keys.proofs.next_match.Met as next-match-met
 pub use Rattle.worn_keys.proofs.show.Statement as show-stated
 pub use Rattle.worn_keys.proofs.show.Met as show-met
+pub use Rattle.columns.proofs.to_columns.Reads as to-columns-reads
+pub use Rattle.columns.proofs.to_columns.Statement as to-columns-stated
+pub use Rattle.columns.proofs.to_columns.Met as to-columns-met
+pub use Rattle.columns.proofs.from_columns.Reads as from-columns-reads
+pub use Rattle.columns.proofs.from_columns.Statement as from-columns-stated
+pub use Rattle.columns.proofs.from_columns.Met as from-columns-met
+pub use Rattle.column_rows.proofs.row_by_columns.Reads as by-columns-reads
+pub use Rattle.column_rows.proofs.row_by_columns.Statement as by-columns-stated
+pub use Rattle.column_rows.proofs.row_by_columns.Met as by-columns-met
 pub use Rattle.builder.specs.declared.Built.{Built}
 pub use Rattle.builder.specs.declared.Built.the-variants as built
 pub use Rattle.enough.specs.declared.Room.{Room}
@@ -84,6 +93,9 @@ pub use Rattle.patterns.proofs.Demands.{Places}
 -- next_match(tree, ranges, mark); `show` moves a lent mark by it, and its contract is `Moved`
 pub use Rattle.worn_keys.proofs.Demands.{NextMatch}
 pub use Rattle.worn_keys.specs.Searches.{Moved}
+-- to_columns(text, width, out), from_columns(text, width, out) and row_by_columns(tree, width, a, buffer)
+pub use Rattle.columns.proofs.Demands.{ToColumns, FromColumns}
+pub use Rattle.column_rows.proofs.Demands.{ByColumns}
 
 -- lent bytes
 abbrev pub Lent : Type 0

@@ -46,6 +46,7 @@ pub every-call-ends : {M : Type 1}
     × calls.places-stated.statement M
     × calls.scanned-stated.statement M × calls.scan-words-stated.statement M
     × calls.next-match-stated.statement M × calls.show-stated.statement M
+    × calls.to-columns-stated.statement M × calls.from-columns-stated.statement M × calls.by-columns-stated.statement M
 every-call-ends = (
   calls.leftmost-met.met,
   calls.earlier-met.met,
@@ -63,6 +64,9 @@ every-call-ends = (
   calls.scan-words-met.met,
   calls.next-match-met.met,
   calls.show-met.met,
+  calls.to-columns-met.met,
+  calls.from-columns-met.met,
+  calls.by-columns-met.met,
 )
 
 -- "trusts no caller to have checked a tree": what a call asks of its caller holds of any arguments.
@@ -84,6 +88,9 @@ pub trusts-no-caller :
     → calls.scanned-reads.Asked κs (text, (leaf, (arity, (levels, (counted, (words, (out, tt))))))))
     × ((κs : Lfts 0) (n leaf : ℕ) → calls.scan-words-reads.Asked κs (n, (leaf, tt)))
     × ((κs : Lfts 2) (t ranges : Lent) (mark : ℕ) → calls.next-match-reads.Asked κs (t, (ranges, (mark, tt))))
+    × ((κs : Lfts 2) (text : Lent) (w : ℕ) (out : Lent) → calls.to-columns-reads.Asked κs (text, (w, (out, tt))))
+    × ((κs : Lfts 2) (text : Lent) (w : ℕ) (out : Lent) → calls.from-columns-reads.Asked κs (text, (w, (out, tt))))
+    × ((κs : Lfts 2) (t : Lent) (w a : ℕ) (buffer : Lent) → calls.by-columns-reads.Asked κs (t, (w, (a, (buffer, tt)))))
 trusts-no-caller = (
   λ κs text p len by. tt,
   λ κs text p len by. tt,
@@ -100,6 +107,9 @@ trusts-no-caller = (
   λ κs text leaf arity levels counted words out. tt,
   λ κs n leaf. tt,
   λ κs t ranges mark. tt,
+  λ κs text w out. tt,
+  λ κs text w out. tt,
+  λ κs t w a buffer. tt,
 )
 
 -- "gives its answer or a numbered refusal of document 01": which numbers each call refuses with, for any arguments and any lent bytes.

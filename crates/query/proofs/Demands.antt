@@ -90,6 +90,22 @@ pub use Rattle.worn_keys.proofs.Demands.{match-unread, match-ranges, match-unco
 pub use Rattle.query.proofs.WornKeys.{match-numbers}
 -- .. any refusal leaves the mark. On a tree the check refuses, the match shown is left free as row is": what holds of it all the same.
 pub use Rattle.worn_keys.proofs.Demands.{refusal-leaves, row-after, none-after}
+-- Columns. "the byte in column b of row a goes to b × rows + a, both counted from 0. Its inverse restores the text, ..
+pub use Rattle.columns.specs.ColumnLaws.{columns-at, columns-moves, uncolumns-moves, restored, rearranged}
+pub use Rattle.columns.proofs.Demands.{there-and-back, back-and-there}
+-- .. each is a permutation of the places, and an empty text stays empty. ..
+pub use Rattle.columns.specs.ColumnLaws.{goes-below, goes-back, comes-below, comes-back, empty-columns, empty-uncolumns}
+pub use Rattle.columns.proofs.Demands.{empty-stays}
+-- .. Row a read by columns from the tree of a rearranged text is row a of the text; ..
+pub use Rattle.query.proofs.ByColumns.{accepted-rows, built-rows, scanned-rows}
+-- .. the reading asks 5 to 7, 20, 10 (a below rows), 13, 14, ..
+pub use Rattle.column_rows.proofs.Demands.{column-unread, column-width, column-past, column-short, column-broken, column-read}
+pub use Rattle.query.proofs.ByColumns.{column-numbers}
+-- .. and a 14 leaves the w bytes zero. ..
+pub use Rattle.query.proofs.ByColumns.{column-answer, column-zeros, column-unchanged}
+-- .. It refuses a width of 0 or one that does not divide the length with 20, then an output shorter than the input with 21, output untouched."
+pub use Rattle.columns.proofs.Demands.{to-columns, from-columns}
+pub use Rattle.query.proofs.ByColumns.{to-columns-numbers, from-columns-numbers}
 
 -- The roads to a tree, each in one theorem.
 

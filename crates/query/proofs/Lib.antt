@@ -12,4 +12,5 @@ pub mod Demand3
 pub mod PatternPlaces
 pub mod Scanned
 pub mod WornKeys
+pub mod ByColumns
 pub mod Demands

@@ -5,6 +5,7 @@ pub use access::Copied;
 pub use access::byte;
 pub use access::run;
 pub use access::span;
+pub use column_rows::row_by_columns;
 pub use patterns::PlacesWritten;
 pub use patterns::places;
 pub use rank::Counted;

@@ -33,7 +33,7 @@ pub fn two_and_buffer(n: u32, a: u64, b: u64, bytes: &[u8]) {
 }
 
 // What a lent buffer holds, `-` where it has no bytes.
-fn held(bytes: &[u8]) {
+pub fn held(bytes: &[u8]) {
     io::write_all(1, b" ");
     if bytes.len() == 0 {
         io::write_all(1, b"-");

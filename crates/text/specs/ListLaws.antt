@@ -1,12 +1,14 @@
 -- Laws of the definitions of `Lists`, and of tests joined by `&&` and `||`.
-use mathlib.Core.List.{List, [], _∷_}
+use mathlib.Core.List.{List, [], _∷_, _++_}
 use mathlib.Core.Bool.{Bool, true, false, not, _&&_, _||_}
 use mathlib.Core.Path.{_≡_, refl, ap, _∙_}
 use mathlib.Core.Logic.{_⊎_, inl, inr}
 use Prim.Native.Nat.{ℕ, zero, suc, _+_, _-_, _≤_, _<_}
 use native.Mathlib.Omega.{arith}
+use native.Mathlib.Nat.{not-suc-le-zero, le-of-suc-le-suc}
+use native.Mathlib.Numerals.{add-one}
 use native.Mathlib.Decide.{decLt}
-use lib.ListN.{length, getD}
+use lib.ListN.{length, getD, set, drop}
 use lib.Dec.{eqb}
 use borrow.Author.Tests.{eqb-true, eq-eqb}
 use Rattle.text.specs.Lists.{tabulate, sumBelow, allBelow, sameList}
@@ -67,6 +69,10 @@ below-suc i n h = go (lt-or-ge i n)
     go : (i < n) ⊎ (n ≤ i) → (i < n) ⊎ (i ≡ n)
     go (inl l) = inl l
     go (inr g) = inr (omega arith)
+
+pub pos-of-ne : (n : ℕ) → (n ≡ 0 → ⊥) → 0 < n
+pos-of-ne zero h = absurd (h refl)
+pos-of-ne (suc n) h = omega arith
 
 -- `allBelow` holds exactly where the test holds at each number.
 
@@ -142,6 +148,21 @@ unfolding tabulate
 tabulate-ext zero f g h = refl
 tabulate-ext (suc n) f g h =
     rw (h 0 (omega arith)) (ap (λ r. g 0 ∷ r) (tabulate-ext n (λ i. f (suc i)) (λ i. g (suc i)) (λ i l. h (suc i) (omega arith))))
+
+-- f 0, .., f (n - 1) written over the start of d: none, and one more by a store at n
+pub tab-none : (f : ℕ → ℕ) (d : List ℕ) → d ≡ tabulate 0 f ++ drop 0 d
+unfolding tabulate
+tab-none f d = refl
+
+tab-suc : (n : ℕ) (f : ℕ → ℕ) (d : List ℕ) → n < length d → set (tabulate n f ++ drop n d) n (f n) ≡ tabulate (suc n) f ++ drop (suc n) d
+unfolding tabulate
+tab-suc n f [] l = absurd (not-suc-le-zero l)
+tab-suc zero f (x ∷ d) l = refl
+tab-suc (suc n) f (x ∷ d) l = ap (λ (s : List ℕ). f 0 ∷ s) (tab-suc n (λ i. f (suc i)) d (le-of-suc-le-suc l))
+
+pub tab-more : (n v : ℕ) (f : ℕ → ℕ) (d e : List ℕ) → n < length d → v ≡ f n → e ≡ tabulate n f ++ drop n d
+    → set e n v ≡ tabulate (n + 1) f ++ drop (n + 1) d
+tab-more n v f d e l v-is is = rw (v-is, is, add-one) (tab-suc n f d l)
 
 -- `sameList` holds exactly of equal lists.
 

@@ -6,6 +6,7 @@
 
 pub mod build;
 pub mod check;
+pub mod columns;
 pub mod fast;
 pub mod keys;
 pub mod read;

@@ -30,6 +30,37 @@ impl Row {
 
 const PREFIXES: [&str; 16] = ["", "A", "B", "X", "V", "K", "HON", "CH", "FR", "UM", "KA-", "5K", "GM", "T2", "S/", "Z10"];
 
+/// A book with rows of one width, 16 with the end: a code of eight bytes, a space and six cuts. `Repetitive` lists one series of 500 rows again and again,
+/// a row in 500 corrected; `Mixed` counts on in one series, with cuts in rising order; in `NearlyRandom` the cuts are drawn one by one. No longer than `size`.
+pub fn even_book(kind: Kind, size: usize, seed: u64) -> Vec<u8> {
+    let mut rng = Rng::new(seed ^ ((kind as u64 + 1) << 33));
+    let rule = Rule { low: 1, high: 6, step: 3 };
+    let mut cuts = rule.draw(&mut rng, 6);
+    let mut text: Vec<u8> = Vec::with_capacity(size);
+    for number in 0..size / EVEN_WIDTH {
+        if kind == Kind::Repetitive && number >= 500 {
+            let from = text.len() - 500 * EVEN_WIDTH;
+            text.extend_from_within(from..from + EVEN_WIDTH);
+            if rng.one_in(500) {
+                let at = text.len() - 2 - rng.below(6);
+                text[at] = b'0' + rng.within(1, 6) as u8;
+            }
+            continue;
+        }
+        text.extend_from_slice(format!("CH{number:06} ").as_bytes());
+        text.extend(cuts.iter().map(|cut| b'0' + cut));
+        text.push(b'\n');
+        match kind {
+            Kind::NearlyRandom => cuts = rule.draw(&mut rng, 6),
+            _ => rule.rise(&mut cuts),
+        }
+    }
+    text
+}
+
+/// Bytes of a row of `even_book`, its end included.
+pub const EVEN_WIDTH: usize = 16;
+
 /// A book of exactly `size` bytes; `size` is at least 4.
 pub fn book(kind: Kind, size: usize, seed: u64) -> Vec<u8> {
     let mut rng = Rng::new(seed ^ ((kind as u64 + 1) << 32));

@@ -39,6 +39,19 @@ impl Rng {
     }
 }
 
+/// A number that the environment sets.
+pub fn setting(name: &str, otherwise: u64) -> u64 {
+    std::env::var(name).ok().map_or(otherwise, |value| value.parse().expect("a number"))
+}
+
+/// Run `round` so many times, or ROUNDS, each with numbers of its own; SEED starts them elsewhere.
+pub fn rounds(otherwise: u64, mut round: impl FnMut(&mut Rng)) {
+    let seed = setting("SEED", 1);
+    for i in 0..setting("ROUNDS", otherwise) {
+        round(&mut Rng::new(seed << 32 | i));
+    }
+}
+
 pub fn from_hex(hex: &str) -> Vec<u8> {
     if hex == "-" {
         return Vec::new();

@@ -1,0 +1,2 @@
+pub mod ColumnRows
+pub mod Worked

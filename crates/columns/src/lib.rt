@@ -1,0 +1,83 @@
+// Columns before rows: a text of rows of one width, rearranged by columns, and back.
+ghost use mathlib.Core.List.{_++_};
+ghost use mathlib.Core.Path.{_≡_};
+ghost use Prim.Native.Nat.{_*_, _≤_, _<_};
+ghost use lib.ListN.{length, drop};
+ghost use lib.Seq.{paste};
+ghost use Rattle.columns.specs.Columns.{transposed, widthOk, refusalOf, columnsNumber, columnsLeaves, uncolumnsLeaves};
+
+// Writes a text of rows of a width, end byte included, column by column: questions 20 and 21.
+pub fn to_columns(text: &[u8], width: u32, out: &mut [u8]) -> u32
+    ensures { λ r. ⌜ r ≡ columnsNumber width (now (text .entry)) (now (out .entry)) ⌝ }
+    ensures { λ _. ⌜ now (out .exit) ≡ columnsLeaves width (now (text .entry)) (now (out .entry)) ⌝ }
+{
+    let number = refusal(text.len(), width, out.len());
+    if number != 0 {
+        return number;
+    }
+    let w = width as usize;
+    transpose(text, text.len() / w, w, out);
+    0
+}
+
+// Writes such a text back row by row: questions 20 and 21.
+pub fn from_columns(text: &[u8], width: u32, out: &mut [u8]) -> u32
+    ensures { λ r. ⌜ r ≡ columnsNumber width (now (text .entry)) (now (out .entry)) ⌝ }
+    ensures { λ _. ⌜ now (out .exit) ≡ uncolumnsLeaves width (now (text .entry)) (now (out .entry)) ⌝ }
+{
+    let number = refusal(text.len(), width, out.len());
+    if number != 0 {
+        return number;
+    }
+    let w = width as usize;
+    transpose(text, w, text.len() / w, out);
+    0
+}
+
+// Questions 20 and 21, of a text of n bytes and room for so many.
+fn refusal(n: usize, width: u32, room: usize) -> u32
+    ensures { λ r. ⌜ r ≡ refusalOf width n room ⌝ }
+{
+    if !divides(width, n) {
+        return 20;
+    }
+    if room < n {
+        return 21;
+    }
+    0
+}
+
+// Question 20: a width above 0 that divides a length.
+pub fn divides(width: u32, n: usize) -> bool
+    ensures { λ r. ⌜ r ≡ widthOk width n ⌝ }
+{
+    if width == 0 {
+        return false;
+    }
+    n % width as usize == 0
+}
+
+// Writes the columns of a text of rows of a width, one after the other.
+fn transpose(text: &[u8], rows: usize, width: usize, out: &mut [u8])
+    requires { ⌜ (length (now text) ≡ rows * width) × (length (now text) ≤ length (now out)) ⌝ }
+    ensures { λ _. ⌜ now (out .exit) ≡ transposed rows width (now (text .entry)) ++ drop (length (now (text .entry))) (now (out .entry)) ⌝ }
+{
+    let mut b = 0;
+    while b < width {
+        put_column(text, rows, width, b, out);
+        b += 1;
+    }
+}
+
+// Writes column b.
+fn put_column(text: &[u8], rows: usize, width: usize, b: usize, out: &mut [u8])
+    requires { ⌜ (length (now text) ≡ rows * width) × (length (now text) ≤ length (now out)) × (b < width) ⌝ }
+    ensures { λ _. ⌜ now (out .exit) ≡ paste (now (out .entry)) (b * rows) (drop (b * rows) (transposed rows width (now (text .entry)))) rows ⌝ }
+{
+    let to = b * rows;
+    let mut a = 0;
+    while a < rows {
+        out[to + a] = text[a * width + b];
+        a += 1;
+    }
+}
