@@ -26,7 +26,7 @@ extern "C" {
 #endif
 
 /* Bounds. */
-#define BT_MAX_TEXT 1048576u /* bytes of a text, and of a block of level 0 */
+#define BT_MAX_TEXT 8388608u /* bytes of a text, and of a block of level 0 */
 #define BT_MAX_LEAF 256u     /* leaf length: 1 to this */
 #define BT_MIN_ARITY 2u      /* arity: this to BT_MAX_ARITY */
 #define BT_MAX_ARITY 16u
@@ -39,8 +39,8 @@ extern "C" {
 /* What the numbers mean. */
 enum bt_number {
     BT_OK = 0,
-    BT_TEXT = 1,        /* the text does not have 1 to 1,048,576 bytes */
-    BT_SETTINGS = 2,    /* leaf is not 1 to 256, arity not 2 to 16, levels not 1 to 8, or leaf * arity^(levels-1) is above 1,048,576 */
+    BT_TEXT = 1,        /* the text does not have 1 to BT_MAX_TEXT bytes */
+    BT_SETTINGS = 2,    /* leaf is not 1 to 256, arity not 2 to 16, levels not 1 to 8, or leaf * arity^(levels-1) is above BT_MAX_TEXT */
     BT_COUNTED = 3,     /* more than 4 counted bytes, or one that is not above the one before */
     BT_SPACE = 4,       /* the tree does not fit the buffer */
     BT_SHORT = 5,       /* the tree has fewer than 100 bytes */

@@ -4,6 +4,7 @@
 //!     cargo bench -- quick      books of 64 KiB only
 //!     cargo bench -- builders   the two builders only
 //!     cargo bench -- columns    columns before rows only
+//!     cargo bench -- sizes      the library's calls on books of 64 KiB, 1 MiB and 8 MiB, and the first builder on 8 MiB (slow)
 //!
 //! Prints the tables of docs/BENCHMARKS.md. Nothing is asserted about time; that both give the same answers is.
 
@@ -12,7 +13,7 @@ mod model;
 #[path = "../tests/support/mod.rs"]
 mod support;
 
-use codebook::{calls, SHORT_LIST};
+use codebook::{calls, MAX_TEXT, SHORT_LIST};
 use model::{check, columns, fast, keys, read, Shape};
 use std::hint::black_box;
 use std::io::Write;
@@ -30,6 +31,11 @@ fn main() {
     describe_machine();
     if told("columns") {
         return by_columns(quick);
+    }
+    if told("sizes") {
+        time_sizes();
+        time_longest();
+        return;
     }
     for &size in &[65_536, 1_048_576][..if quick { 1 } else { 2 }] {
         time_builders(size);
@@ -223,6 +229,75 @@ fn time_builders(size: usize) {
         assert!(first == expected && tree == expected, "all build the same tree");
         let ratio = |other: Duration| scanned.as_secs_f64() / other.as_secs_f64();
         println!("| {name} | {} | {} | {windows} | {} | {:.4} | {:.2} |", shown(build), shown(scanned), shown(model), ratio(build), ratio(model));
+    }
+}
+
+/// Each call on books of three sizes, the longest among them.
+fn time_sizes() {
+    let shape = Shape { m: 64, r: 2, h: 4 };
+    let sizes = [65_536, 1_048_576, MAX_TEXT];
+    println!("\n## Calls by the size of the book: leaf {}, arity {}, levels {}, byte 10 counted\n", shape.m, shape.r, shape.h);
+    println!("| Book | Call | 64 KiB | 1 MiB | 8 MiB |\n|---|---|---:|---:|---:|");
+    for (kind, name) in KINDS {
+        let columns = sizes.map(|size| time_calls(&book(kind, size, 1), shape));
+        for call in 0..columns[0].len() {
+            let [small, middle, large] = [0, 1, 2].map(|column: usize| shown(columns[column][call].1));
+            println!("| {name} | {} | {small} | {middle} | {large} |", columns[0][call].0);
+        }
+    }
+}
+
+fn time_calls(text: &[u8], shape: Shape) -> Vec<(&'static str, Duration)> {
+    let expected = fast::tree(text, shape, COUNTED);
+    let mut tree = vec![0; expected.len()];
+    let mut work = vec![0; calls::scan_words(text.len() as u32, shape.m) as usize];
+    let build = fastest(3, &mut || used(calls::build_scanned(text, shape.m, shape.r, shape.h, COUNTED, &mut work, &mut tree)));
+    assert!(tree == expected, "the model builds the same tree");
+    let tree = || black_box(tree.as_slice());
+    let check = fastest(5, &mut || assert_eq!(calls::check(tree()), 0));
+    let mut whole = vec![0; text.len()];
+    let read = fastest(3, &mut || used(calls::span(tree(), 0, text.len() as u32, &mut whole)));
+    assert!(whole == text, "the whole text is read back");
+    let rows = text.iter().filter(|&&byte| byte == 10).count();
+    let mut rng = Rng::new(text.len() as u64);
+    let places: Vec<u32> = (0..4000).map(|_| rng.below(text.len() - 100) as u32).collect();
+    let numbers: Vec<u32> = (0..1000).map(|_| rng.within(1, rows) as u32).collect();
+    let mut buffer = [0; 100];
+    vec![
+        ("build_scanned", build),
+        ("check", check),
+        ("span of the whole text", read),
+        ("byte", alone(&places, |p| used(calls::byte(tree(), p)))),
+        ("span of 16 bytes", alone(&places, |p| used(calls::span(tree(), p, 16, &mut buffer)))),
+        ("count", alone(&places, |i| used(calls::count(tree(), 10, i)))),
+        ("find", alone(&numbers, |j| used(calls::find(tree(), 10, j)))),
+        ("row", alone(&numbers, |q| used(calls::row(tree(), q, &mut buffer)))),
+    ]
+}
+
+/// An answer that is asked for alone.
+fn used<T>(answer: T) {
+    black_box(answer);
+}
+
+/// The time of one question, from the shortest of ten runs through all arguments.
+fn alone(arguments: &[u32], mut question: impl FnMut(u32)) -> Duration {
+    fastest(10, &mut || arguments.iter().for_each(|&argument| question(black_box(argument)))) / arguments.len() as u32
+}
+
+/// The first builder on the longest book, with large blocks.
+fn time_longest() {
+    let shape = Shape { m: 256, r: 16, h: 3 };
+    println!("\n## The first builder, 8 MiB: leaf {}, arity {}, levels {}, byte 10 counted\n", shape.m, shape.r, shape.h);
+    println!("| Book | `build` | `build_scanned` |\n|---|---:|---:|");
+    for (text, name) in [(vec![b'A'; MAX_TEXT], "one byte repeated"), (book(Kind::Repetitive, MAX_TEXT, 1), "highly repetitive")] {
+        let expected = fast::tree(&text, shape, COUNTED);
+        let [mut first, mut tree] = [vec![0; expected.len()], vec![0; expected.len()]];
+        let mut work = vec![0; calls::scan_words(text.len() as u32, shape.m) as usize];
+        let build = once(|| calls::build(&text, shape.m, shape.r, shape.h, COUNTED, &mut first));
+        let scanned = once(|| calls::build_scanned(&text, shape.m, shape.r, shape.h, COUNTED, &mut work, &mut tree));
+        assert!(first == expected && tree == expected, "all build the same tree");
+        println!("| {name} | {} | {} |", shown(build), shown(scanned));
     }
 }
 

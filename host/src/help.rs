@@ -21,8 +21,10 @@ static TOPICS: [Topic; 14] = [
         figures: &[],
         options: &["-o", "--leaf", "--arity", "--levels", "--count", "--columns"],
         summary: "build the tree of a book",
-        details: "\
-BOOK is any text of 1 to 1,048,576 bytes. Without -o the tree goes to standard output.
+        details: concat!(
+            "BOOK is any text of 1 to ",
+            codebook::longest!(),
+            " bytes. Without -o the tree goes to standard output.
 
 Where no settings are given, a short list is tried (256/2/1, 64/4/3, 48/2/5, 32/4/4, 24/8/3 and 16/4/4 as leaf/arity/levels), the smallest tree is
 kept, and what each gave is printed.
@@ -30,10 +32,13 @@ kept, and what each gave is printed.
   -o TREE        the file to write
   --leaf M       bytes of a block of the last level, 1 to 256
   --arity R      children of a block, 2 to 16
-  --levels H     levels, 1 to 8; M x R^(H-1) is at most 1,048,576
+  --levels H     levels, 1 to 8; M x R^(H-1) is at most ",
+            codebook::longest!(),
+            "
   --count BYTES  the bytes to count and find, at most 4, rising, parted by commas, as 10,65 or \\n,A; or none. Otherwise 10, which ends a row
   --columns W    rearrange rows of W bytes, end byte included, by columns first, and say whether that makes the tree smaller; auto finds the width
-                 of rows that all have one. Such a tree is read by column-row; it does not say itself that its text is rearranged",
+                 of rows that all have one. Such a tree is read by column-row; it does not say itself that its text is rearranged"
+        ),
     },
     Topic {
         name: "check",

@@ -10,19 +10,15 @@
 //! # Ok::<(), codebook::Refusal>(())
 //! ```
 
+mod bounds;
 pub mod calls;
 mod columns;
 mod refusal;
 
+pub use bounds::{MAX_PATTERN, MAX_TEXT};
 pub use columns::{from_columns, row_width, to_columns};
 use refusal::answer;
 pub use refusal::Refusal;
-
-/// The longest text.
-pub const MAX_TEXT: usize = 1_048_576;
-
-/// The longest pattern.
-pub const MAX_PATTERN: usize = 256;
 
 /// Settings worth trying on a book, as leaf length, arity and levels: from few and large blocks to many and small ones.
 pub const SHORT_LIST: [(u32, u32, u32); 6] = [(256, 2, 1), (64, 4, 3), (48, 2, 5), (32, 4, 4), (24, 8, 3), (16, 4, 4)];

@@ -3,7 +3,7 @@
 use std::fmt;
 
 macro_rules! refusals {
-    ($($name:ident = $number:literal: $words:literal,)*) => {
+    ($($name:ident = $number:literal: $words:expr,)*) => {
         /// The question that failed. Its number is the library's.
         #[derive(Clone, Copy, Debug, PartialEq, Eq)]
         pub enum Refusal {
@@ -28,8 +28,11 @@ macro_rules! refusals {
 }
 
 refusals! {
-    Text = 1: "a text must have 1 to 1,048,576 bytes",
-    Settings = 2: "the leaf length must be 1 to 256, the arity 2 to 16, the levels 1 to 8, and leaf x arity^(levels-1) at most 1,048,576",
+    Text = 1: concat!("a text must have 1 to ", crate::longest!(), " bytes"),
+    Settings = 2: concat!(
+        "the leaf length must be 1 to 256, the arity 2 to 16, the levels 1 to 8, and leaf x arity^(levels-1) at most ",
+        crate::longest!()
+    ),
     Counted = 3: "at most 4 bytes can be counted, and each must be above the one before",
     Space = 4: "the tree does not fit the buffer",
     Short = 5: "a tree has at least 100 bytes; this is no tree, or cut off",

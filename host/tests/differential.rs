@@ -9,7 +9,7 @@ mod judge;
 mod model;
 mod support;
 
-use codebook::calls;
+use codebook::{calls, MAX_TEXT};
 use judge::{find_agrees, match_agrees, row_agrees, FILL, FILL_WORD};
 use model::read::Answer;
 use model::{build, check, fast, keys, read, Shape};
@@ -409,7 +409,7 @@ fn long_books() {
 }
 
 #[test]
-fn longest_books() {
+fn books_of_a_megabyte() {
     let mut rng = Rng::new(setting("SEED", 1));
     let text = book(Kind::Mixed, 1_048_576, 3);
     compare_book(&mut rng, &text, Shape::new(256, 16, 3), b"\n", 300);
@@ -453,6 +453,79 @@ fn scanned_books() {
     }
 }
 
+/// A book of the longest length: its tree is the model's, is accepted, and gives the book back; one block of level 0 may hold all of it.
+#[test]
+fn longest_book() {
+    let mut rng = Rng::new(setting("SEED", 1));
+    let text = book(Kind::Repetitive, MAX_TEXT, 8);
+    for shape in [Shape::new(64, 2, 4), Shape::new(256, 8, 6)] {
+        let tree = fast::tree(&text, shape, b"\n");
+        compare_scan(&mut rng, &text, shape, b"\n", &tree);
+        ask_book(&mut rng, &text, shape, b"\n", &tree, 100);
+        let mut read = lent(text.len());
+        assert_eq!(calls::span(&tree, 0, text.len() as u32, &mut read), (0, 0), "{shape:?}");
+        assert!(*read == *text, "{shape:?}");
+    }
+}
+
+/// One byte more is refused, and so are blocks of level 0 that are longer.
+#[test]
+fn past_the_longest() {
+    let text = vec![b'A'; MAX_TEXT + 1];
+    let (mut out, mut work) = (lent(4), vec![0; 4 * text.len()]);
+    assert_eq!(calls::build(&text, 2, 2, 2, b"A", &mut out), (1, 0));
+    assert_eq!(calls::build_scanned(&text, 2, 2, 2, b"A", &mut work, &mut out), (1, 0, 0));
+    assert!(*out == *lent(4));
+    assert_eq!(calls::build(&text[1..], 256, 16, 5, b"A", &mut out), (2, 0));
+    assert_eq!(calls::build(&text[1..], 256, 8, 6, b"A", &mut out), (4, 0));
+    let largest = MAX_TEXT as u32;
+    for (n, shape, answer) in [
+        (largest, Shape::new(1, 2, 8), (0, 1_111_359_588)),
+        (largest + 1, Shape::new(1, 2, 8), (1, 0)),
+        (1, Shape::new(256, 8, 6), (0, 3_557)),
+        (1, Shape::new(128, 16, 5), (0, 1_701)),
+        (1, Shape::new(256, 8, 7), (2, 0)),
+        (1, Shape::new(129, 16, 5), (2, 0)),
+        (1, Shape::new(256, 16, 5), (2, 0)),
+    ] {
+        assert_eq!(calls::enough(n, shape.m, shape.r, shape.h, 4), answer, "{n} {shape:?}");
+    }
+}
+
+/// The tree of this text is accepted, and answers from it.
+fn ask_book(rng: &mut Rng, text: &[u8], shape: Shape, counted: &[u8], tree: &[u8], questions: usize) {
+    assert_eq!(calls::check(tree), 0);
+    for _ in 0..questions {
+        let p = rng.below(text.len()) as u32;
+        let (number, value, entered) = calls::byte(tree, p);
+        assert_eq!((number, value), (0, u32::from(text[p as usize])));
+        assert_eq!(entered, read::byte(tree, p).2);
+        assert_eq!(calls::run(tree, p), read::run(tree, p));
+        let length = rng.below(200.min(text.len() - p as usize));
+        let mut span = lent(length);
+        let (number, entered) = calls::span(tree, p, length as u32, &mut span);
+        assert!(number == 0 && entered <= 2 * shape.h);
+        assert!(*span == text[p as usize..p as usize + length]);
+        let byte = *rng.pick(counted);
+        let before = text[..p as usize].iter().filter(|&&here| here == byte).count();
+        let count = calls::count(tree, byte.into(), p);
+        assert_eq!((count.0, count.1), (0, before as u64));
+        assert_eq!(count, read::count(tree, byte.into(), p));
+        let j = before as u32 + 1;
+        assert_eq!(calls::find(tree, byte.into(), j), fast::find(tree, byte.into(), j));
+        let (mut expected, mut row) = (lent(60), lent(60));
+        assert_eq!(calls::row(tree, j, &mut row), fast::row(tree, j, &mut expected));
+        assert!(row == expected);
+    }
+    for length in [1, 2, 6, 40, 256] {
+        let from = rng.below(text.len() - length);
+        let places = read::places_in(text, &text[from..from + length]);
+        let mut table = lent_words(places.len());
+        assert_eq!(calls::places(tree, &text[from..from + length], &mut table), (0, places.len() as u32), "{shape:?}");
+        assert!(*table == *places, "{shape:?}");
+    }
+}
+
 /// The book's tree, once it is compared and asked.
 fn compare_book(rng: &mut Rng, text: &[u8], shape: Shape, counted: &[u8], questions: usize) -> Vec<u8> {
     let expected = fast::tree(text, shape, counted);
@@ -460,36 +533,7 @@ fn compare_book(rng: &mut Rng, text: &[u8], shape: Shape, counted: &[u8], questi
     assert_eq!(library_build(text, shape, counted, &mut tree), (0, expected.len() as u32));
     assert!(*tree == *expected, "{shape:?}");
     compare_scan(rng, text, shape, counted, &expected);
-    assert_eq!(calls::check(&tree), 0);
-    for _ in 0..questions {
-        let p = rng.below(text.len()) as u32;
-        let (number, value, entered) = calls::byte(&tree, p);
-        assert_eq!((number, value), (0, u32::from(text[p as usize])));
-        assert_eq!(entered, read::byte(&tree, p).2);
-        assert_eq!(calls::run(&tree, p), read::run(&tree, p));
-        let length = rng.below(200.min(text.len() - p as usize));
-        let mut span = lent(length);
-        let (number, entered) = calls::span(&tree, p, length as u32, &mut span);
-        assert!(number == 0 && entered <= 2 * shape.h);
-        assert!(*span == text[p as usize..p as usize + length]);
-        let byte = *rng.pick(counted);
-        let before = text[..p as usize].iter().filter(|&&here| here == byte).count();
-        let count = calls::count(&tree, byte.into(), p);
-        assert_eq!((count.0, count.1), (0, before as u64));
-        assert_eq!(count, read::count(&tree, byte.into(), p));
-        let j = before as u32 + 1;
-        assert_eq!(calls::find(&tree, byte.into(), j), fast::find(&tree, byte.into(), j));
-        let (mut expected, mut row) = (lent(60), lent(60));
-        assert_eq!(calls::row(&tree, j, &mut row), fast::row(&tree, j, &mut expected));
-        assert!(row == expected);
-    }
-    for length in [1, 2, 6, 40, 256] {
-        let from = rng.below(text.len() - length);
-        let places = read::places_in(text, &text[from..from + length]);
-        let mut table = lent_words(places.len());
-        assert_eq!(calls::places(&tree, &text[from..from + length], &mut table), (0, places.len() as u32), "{shape:?}");
-        assert!(*table == *places, "{shape:?}");
-    }
+    ask_book(rng, text, shape, counted, &tree, questions);
     let mut damaged = expected.clone();
     damage::damage(rng, &mut damaged);
     assert_eq!(calls::check(&damaged), check::check(&damaged), "{shape:?}");

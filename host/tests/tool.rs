@@ -408,15 +408,15 @@ fn damaged_trees() {
 #[test]
 fn texts_that_are_refused() {
     let folder = Folder::new("texts");
-    let bounds = "refused (1): a text must have 1 to 1,048,576 bytes";
+    let bounds = "refused (1): a text must have 1 to 8,388,608 bytes";
     folder.write("empty.txt", b"");
     folder.run("build empty.txt -o no.tree").status(1).prints("").says(&format!("codebook: empty.txt: {bounds}; it is empty\n"));
     folder.run("build -o no.tree").status(1).says(&format!("codebook: standard input: {bounds}; it is empty\n"));
-    folder.write("long.txt", &vec![b'A'; 1_048_577]);
+    folder.write("long.txt", &vec![b'A'; 8_388_609]);
     folder.run("build long.txt -o no.tree").status(1).says(&format!("codebook: long.txt: {bounds}; it has more\n"));
     folder.run("build long.txt -o no.tree --leaf 256 --arity 16 --levels 3").status(1).says(&format!("codebook: long.txt: {bounds}; it has more\n"));
     let settings =
-        "refused (2): the leaf length must be 1 to 256, the arity 2 to 16, the levels 1 to 8, and leaf x arity^(levels-1) at most 1,048,576";
+        "refused (2): the leaf length must be 1 to 256, the arity 2 to 16, the levels 1 to 8, and leaf x arity^(levels-1) at most 8,388,608";
     folder
         .run("build small.txt -o no.tree --leaf 256 --arity 16 --levels 5")
         .status(1)
@@ -430,10 +430,10 @@ fn texts_that_are_refused() {
 #[test]
 fn longest_book() {
     let folder = Folder::new("longest");
-    let text = folder.read("small.txt").repeat(375)[..1_048_576].to_vec();
+    let text = folder.read("small.txt").repeat(2996)[..8_388_608].to_vec();
     folder.write("long.txt", &text);
     folder.run("build long.txt -o long.tree --leaf 256 --arity 16 --levels 3").succeeds();
-    folder.run("row 74000 long.tree").succeeds();
+    folder.run("row 599000 long.tree").succeeds();
     let read = folder.run("text long.tree");
     read.succeeds();
     assert!(read.output.stdout == text);

@@ -74,7 +74,7 @@ fn lent_buffers() {
     assert_eq!(build(WORKED, shape, b"A", &mut short), (4, 0));
     assert_eq!(short, [0; 531]);
     assert_eq!(build(WORKED, Shape::new(256, 16, 5), b"", &mut short), (2, 0));
-    assert_eq!(build(&vec![65; 1_048_577], shape, b"A", &mut short), (1, 0));
+    assert_eq!(build(&vec![65; 8_388_609], shape, b"A", &mut short), (1, 0));
 }
 
 /// Sides taken where the format's words could be read in two ways, on damaged worked trees.

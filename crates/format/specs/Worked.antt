@@ -1,4 +1,5 @@
 -- The worked book of document 01 and two more texts, computed from the definitions; trees are of layout 2.
+use mathlib.Core.Bool.{true, false}
 use mathlib.Core.List.{List, [], _∷_, _++_}
 use mathlib.Core.Option.{some}
 use mathlib.Core.Path.{_≡_, refl}
@@ -28,6 +29,10 @@ two = record { leaf = 2; arity = 2; levels = 2; counted = 65 ∷ [] }
 
 plain : Settings
 plain = record { leaf = 2; arity = 2; levels = 2; counted = [] }
+
+-- settings without counted bytes
+shape : ℕ → ℕ → ℕ → Settings
+shape m r levels = record { leaf = m; arity = r; levels = levels; counted = [] }
 
 abcd : List ℕ
 abcd = 65 ∷ 66 ∷ 67 ∷ 68 ∷ 65 ∷ 66 ∷ 67 ∷ 68 ∷ 65 ∷ []
@@ -108,9 +113,13 @@ pub record Marked : Type 0 where
   older-counts : (countSays older 65 17 ≡ said 0 4 3) × (countSays older 65 0 ≡ said 0 0 0) × (found older 65 4 ≡ said 0 16 3) × (selectNumber older 65 5 ≡ 12)
   older-span : spanned older 3 2 ≡ (said 0 2 0, 67 ∷ 68 ∷ 1 ∷ [])
   older-m9 : (length older-twelve ≡ 220) × (textOf older-twelve ≡ replicate 12 65) × (verdict older-twelve ≡ 0)
+  -- the longest text, and the longest block of level 0: 256 × 8^5, 128 × 16^4
+  longest : (lengthOk 8388608 ≡ true) × (lengthOk 8388609 ≡ false)
+  largest-blocks : (sizesOk (shape 256 8 6) ≡ true) × (sizesOk (shape 128 16 5) ≡ true) × (sizesOk (shape 256 16 4) ≡ true)
+  blocks-too-large : (sizesOk (shape 256 8 7) ≡ false) × (sizesOk (shape 129 16 5) ≡ false) × (sizesOk (shape 256 16 5) ≡ false)
 
 pub marked : Marked
-unfolding spanned other-kinds other-start words older older-twelve abcd said book two plain tabulate concat sumBelow countBelow allBelow sameList setWord wordAt wordsBytes wordBytes stretch leftmost firstFrom countIn placeOf placeIn blockLength pieces lengthOk sizesOk countedOk rising risingAfter treeOf header leafBytes levelPairs recordBytes recordLength edgesOf filledOut levelBytes recordIn recordOf target occurrence width isKept startsAt cut keptByPairs firstPairAt pairAt lengthOf startOf pathOf pathFrom targetPlace targetBlock pointingBlock keptBlock lands landBlock landPlace landVisits shortOf shortFrom byEdges inLeaf linksOk textOf fits countsTrue edgesTrue blockEdgesTrue lastLevel widthAt keptRight pointingRight blockRight countBelowRight blockFits blockCountsTrue verdict readable at.leafByte byteSays countSays runSays asksSpan leavesSpan isShort spanReached spanBytes spanBlocks spanNumber spanSays spanLeaves selectNumber indexOf leftOver pathsHold added addedAfter taken takenAfter lastPlace leavesReached isCounted numberOfByte total found at.blockLengthAt at.levelCount at.levelOffset
+unfolding shape spanned other-kinds other-start words older older-twelve abcd said book two plain tabulate concat sumBelow countBelow allBelow sameList setWord wordAt wordsBytes wordBytes stretch leftmost firstFrom countIn placeOf placeIn blockLength pieces lengthOk sizesOk countedOk rising risingAfter treeOf header leafBytes levelPairs recordBytes recordLength edgesOf filledOut levelBytes recordIn recordOf target occurrence width isKept startsAt cut keptByPairs firstPairAt pairAt lengthOf startOf pathOf pathFrom targetPlace targetBlock pointingBlock keptBlock lands landBlock landPlace landVisits shortOf shortFrom byEdges inLeaf linksOk textOf fits countsTrue edgesTrue blockEdgesTrue lastLevel widthAt keptRight pointingRight blockRight countBelowRight blockFits blockCountsTrue verdict readable at.leafByte byteSays countSays runSays asksSpan leavesSpan isShort spanReached spanBytes spanBlocks spanNumber spanSays spanLeaves selectNumber indexOf leftOver pathsHold added addedAfter taken takenAfter lastPlace leavesReached isCounted numberOfByte total found at.blockLengthAt at.levelCount at.levelOffset
 marked = record {
   level0 = refl;
   level1 = (refl, refl);
@@ -146,4 +155,7 @@ marked = record {
   older-counts = (refl, refl, refl, refl);
   older-span = refl;
   older-m9 = (refl, refl, refl);
+  longest = (refl, refl);
+  largest-blocks = (refl, refl, refl);
+  blocks-too-large = (refl, refl, refl);
 }

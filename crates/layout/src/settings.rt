@@ -23,7 +23,7 @@ pub enum Checked {
 
 impl Settings {
     // of a text's length, and of the length of a level 0 block
-    pub const MAX_TEXT: u32 = 1048576;
+    pub const MAX_TEXT: u32 = 8388608;
 
     pub const MAX_LEAF: u32 = 256;
 

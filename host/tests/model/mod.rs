@@ -12,7 +12,7 @@ pub mod keys;
 pub mod read;
 
 /// The longest text, and the longest block of level 0.
-pub const MAX_TEXT: u64 = 1_048_576;
+pub const MAX_TEXT: u64 = 8_388_608;
 pub const HEADER: usize = 100;
 pub const MAX_LEVELS: usize = 8;
 pub const MAX_COUNTED: usize = 4;
