@@ -39,7 +39,7 @@ extern "C" {
 /* What the numbers mean. */
 enum bt_number {
     BT_OK = 0,
-    BT_TEXT = 1,        /* the text does not have 1 to BT_MAX_TEXT bytes */
+    BT_TEXT = 1,        /* the text has more than BT_MAX_TEXT bytes */
     BT_SETTINGS = 2,    /* leaf is not 1 to 256, arity not 2 to 16, levels not 1 to 8, or leaf * arity^(levels-1) is above BT_MAX_TEXT */
     BT_COUNTED = 3,     /* more than 4 counted bytes, or one that is not above the one before */
     BT_SPACE = 4,       /* the tree does not fit the buffer */

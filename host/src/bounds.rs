@@ -39,7 +39,7 @@ mod tests {
         assert_eq!((calls::enough(longest, 2, 2, 2, 1).0, calls::enough(longest + 1, 2, 2, 2, 1).0), (0, 1));
         assert!(include_str!("../../include/blocktree.h").contains(&format!("#define BT_MAX_TEXT {longest}u ")));
         let page = include_str!("../../docs/FORMAT.md");
-        assert!(page.contains(concat!("| n | bytes of the text | 1 to ", longest!(), " |")));
+        assert!(page.contains(concat!("| n | bytes of the text | 0 to ", longest!(), " |")));
         assert!(page.contains(concat!("`b(0)` is at most the longest text, ", longest!(), " bytes.")));
     }
 }

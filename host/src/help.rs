@@ -22,7 +22,7 @@ static TOPICS: [Topic; 14] = [
         options: &["-o", "--leaf", "--arity", "--levels", "--count", "--columns"],
         summary: "build the tree of a book",
         details: concat!(
-            "BOOK is any text of 1 to ",
+            "BOOK is any text of up to ",
             codebook::longest!(),
             " bytes. Without -o the tree goes to standard output.
 

@@ -29,9 +29,12 @@ pub fn counted(bytes: &[u8]) -> String {
     bytes.iter().map(u8::to_string).collect::<Vec<_>>().join(", ")
 }
 
-/// One size as a share of another.
-pub fn share(part: usize, whole: usize) -> String {
-    format!("{:.1} %", 100.0 * part as f64 / whole as f64)
+/// A tree's size beside its text's; no bytes have no share.
+pub fn share(tree: usize, text: usize) -> String {
+    if text == 0 {
+        return "an empty text".to_owned();
+    }
+    format!("{:.1} % of the text", 100.0 * tree as f64 / text as f64)
 }
 
 /// What a build says: what was tried, what was chosen and why, and the tree beside the text.
@@ -45,13 +48,15 @@ pub fn build_report(book: &str, length: usize, tried: &[Trial], chosen: &Trial, 
         text += &format!("chosen: {}, since its tree is the smallest of these {}\n", shape(&chosen.settings), tried.len());
     }
     text += &format!(
-        "{tree}: {} bytes, {} of the text; {}; bytes counted: {}\n",
+        "{tree}: {} bytes, {}; {}; bytes counted: {}\n",
         grouped(chosen.tree.len() as u64),
         share(chosen.tree.len(), length),
         shape(&chosen.settings),
         counted(&chosen.settings.counted)
     );
-    if chosen.tree.len() >= length {
+    if length == 0 {
+        text += "The book has no rows yet.\n";
+    } else if chosen.tree.len() >= length {
         text += "The tree is no smaller than the text: the book is short, or repeats itself too little.\n";
     }
     text
@@ -60,7 +65,6 @@ pub fn build_report(book: &str, length: usize, tried: &[Trial], chosen: &Trial, 
 /// Why no tree was built, with the input that caused it.
 pub fn build_refusal(refusal: Refusal, book: &str, length: usize, settings: Option<&Settings>, counted_bytes: &[u8]) -> String {
     let cause = match (refusal, settings) {
-        (Refusal::Text, _) if length == 0 => "it is empty".to_owned(),
         (Refusal::Text, _) if length > MAX_TEXT => "it has more".to_owned(),
         (Refusal::Settings, Some(settings)) => format!("given: {}", shape(settings)),
         (Refusal::Counted, _) => format!("given: {}", counted(counted_bytes)),
@@ -122,7 +126,7 @@ fn wrong_range(ranges: &[Range]) -> String {
 /// What `stats` prints of a tree that the check accepts.
 pub fn stats(name: &str, tree: Tree) -> String {
     let (settings, length) = (tree.settings(), tree.text_length());
-    let mut text = format!("{name}: {} bytes, {} of the text\n", grouped(tree.size() as u64), share(tree.size(), length as usize));
+    let mut text = format!("{name}: {} bytes, {}\n", grouped(tree.size() as u64), share(tree.size(), length as usize));
     text += &format!("text        {} bytes\n", grouped(length.into()));
     text += &format!("layout      {}\n", tree.layout());
     text += &format!("settings    {}\n", shape(&settings));

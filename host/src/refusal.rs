@@ -28,7 +28,7 @@ macro_rules! refusals {
 }
 
 refusals! {
-    Text = 1: concat!("a text must have 1 to ", crate::longest!(), " bytes"),
+    Text = 1: concat!("a text must have at most ", crate::longest!(), " bytes"),
     Settings = 2: concat!(
         "the leaf length must be 1 to 256, the arity 2 to 16, the levels 1 to 8, and leaf x arity^(levels-1) at most ",
         crate::longest!()

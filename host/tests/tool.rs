@@ -408,10 +408,7 @@ fn damaged_trees() {
 #[test]
 fn texts_that_are_refused() {
     let folder = Folder::new("texts");
-    let bounds = "refused (1): a text must have 1 to 8,388,608 bytes";
-    folder.write("empty.txt", b"");
-    folder.run("build empty.txt -o no.tree").status(1).prints("").says(&format!("codebook: empty.txt: {bounds}; it is empty\n"));
-    folder.run("build -o no.tree").status(1).says(&format!("codebook: standard input: {bounds}; it is empty\n"));
+    let bounds = "refused (1): a text must have at most 8,388,608 bytes";
     folder.write("long.txt", &vec![b'A'; 8_388_609]);
     folder.run("build long.txt -o no.tree").status(1).says(&format!("codebook: long.txt: {bounds}; it has more\n"));
     folder.run("build long.txt -o no.tree --leaf 256 --arity 16 --levels 3").status(1).says(&format!("codebook: long.txt: {bounds}; it has more\n"));
@@ -425,6 +422,35 @@ fn texts_that_are_refused() {
     folder.run("build small.txt -o no.tree --count 65,10").status(1).says(&format!("codebook: small.txt: {counted}; given: 65, 10\n"));
     folder.run("build small.txt -o no.tree --count 1,2,3,4,5").status(1).says(&format!("codebook: small.txt: {counted}; given: 1, 2, 3, 4, 5\n"));
     assert!(!folder.0.join("no.tree").exists());
+}
+
+#[test]
+fn book_without_rows() {
+    let folder = Folder::new("empty");
+    folder.write("empty.txt", b"");
+    folder.run("build empty.txt -o empty.tree --leaf 2 --arity 2 --levels 2").succeeds().prints(
+        "empty.txt: 0 bytes\nempty.tree: 100 bytes, an empty text; leaf 2, arity 2, levels 2; bytes counted: 10\nThe book has no rows yet.\n",
+    );
+    folder.run("check empty.tree").succeeds().prints("empty.tree: a good tree of 0 bytes of text\n");
+    folder.run("list empty.tree").succeeds().prints("0 0 0 0\n1 0 0 0\n");
+    folder.run("text empty.tree").succeeds().prints("");
+    folder.run("count 10 0 empty.tree").succeeds().prints("0 (0 blocks entered)\n");
+    folder.run("match 4 empty.tree").succeeds().prints("no row matches\n");
+    folder.run("places A empty.tree").succeeds().prints("");
+    folder.run("stats empty.tree").succeeds().prints(
+        "empty.tree: 100 bytes, an empty text\ntext        0 bytes\nlayout      2\nsettings    leaf 2, arity 2, levels 2\n\
+         counted     10 '\\n': 0 times\nrows        0\nleaf bytes  0\n\
+         level  block length    blocks      kept  pointing\n    0             4         0         0         0\n    1             2         0         0         0\n",
+    );
+    let none = "refused (12): the text has no occurrence or row of this number; numbers start at 1; the book has 0 rows\n";
+    folder.run("row 1 empty.tree").status(1).says(&format!("codebook: empty.tree: row 1: {none}"));
+    folder
+        .run("byte 0 empty.tree")
+        .status(1)
+        .says("codebook: empty.tree: byte 0: refused (10): this lies past the text's end; the text has 0 bytes\n");
+    // all of the short list: the header alone each time
+    folder.pipe("build -o piped.tree", b"").succeeds();
+    assert_eq!(folder.read("piped.tree").len(), 100);
 }
 
 #[test]

@@ -111,7 +111,7 @@ fn run_file(calls: &Calls, file: &str) {
     for line in file.lines().filter(|line| !line.is_empty() && !line.starts_with('#') && !line.contains(" => wrong: ")) {
         let tokens: Vec<&str> = line.split(' ').collect();
         match tokens[..] {
-            ["landed", request] => in_force = request == "109",
+            ["landed", request] => in_force = request == "110",
             ["text" | "tree", name, hex] => {
                 bytes.insert(name, from_hex(hex));
             }

@@ -77,17 +77,13 @@ module _ (S : Settings) (T out : List ℕ) where
 
 -- Questions 1 to 3.
 
-pub no-bytes : (T : List ℕ) → length T < 1 → lengthOk (length T) ≡ false
+pub many-bytes : (T : List ℕ) → maxText < length T → lengthOk (length T) ≡ false
 unfolding lengthOk
-no-bytes T l = rw (lt-leb 1 (length T) l)
+many-bytes T m = lt-leb (length T) maxText m
 
-pub many-bytes : (T : List ℕ) → 1 ≤ length T → maxText < length T → lengthOk (length T) ≡ false
+pub few-bytes : (T : List ℕ) → length T ≤ maxText → lengthOk (length T) ≡ true
 unfolding lengthOk
-many-bytes T l m = rw (le-leb 1 (length T) l, lt-leb (length T) maxText m)
-
-pub some-bytes : (T : List ℕ) → 1 ≤ length T → length T ≤ maxText → lengthOk (length T) ≡ true
-unfolding lengthOk
-some-bytes T l m = rw (le-leb 1 (length T) l, le-leb (length T) maxText m)
+few-bytes T m = le-leb (length T) maxText m
 
 module _ (m r H : ℕ) (cs T out : List ℕ) (ok : lengthOk (length T) ≡ true) (x : Checked) (is : x ≡ checked m r H cs) where
   abbrev S : Settings

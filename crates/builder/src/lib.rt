@@ -30,9 +30,6 @@ pub fn build(
     ensures size { λ r. ⌜ sizeOf r ≡ buildSize (given leaf arity levels (now (counted .entry))) (now (text .entry)) (now (out .entry)) ⌝ }
     ensures buffer { λ _. ⌜ now (out .exit) ≡ buildLeaves (given leaf arity levels (now (counted .entry))) (now (text .entry)) (now (out .entry)) ⌝ }
 {
-    if text.len() < 1 {
-        return Built::Refused(1);
-    }
     if (Settings::MAX_TEXT as usize) < text.len() {
         return Built::Refused(1);
     }

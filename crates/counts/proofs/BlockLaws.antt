@@ -21,10 +21,10 @@ use Rattle.counts.specs.Asked.{InTable, InBlock, InKept, TrueBelow}
 use Rattle.counts.specs.Hand.{handOf}
 use Rattle.counts.proofs.HeaderFacts as facts
 
-up-pos : (t : List ℕ) → Readable t → (l : ℕ) → 0 < upLength t l
+up-pos : (t : List ℕ) → Readable t → 0 < at.textLength t → (l : ℕ) → 0 < upLength t l
 unfolding upLength
-up-pos t k zero = omega (arith, k .text-low)
-up-pos t k (suc l) = full-pos t k l
+up-pos t k some zero = omega arith
+up-pos t k some (suc l) = full-pos t k l
 
 module _ (t : List ℕ) (h : Header) (level i c : ℕ) (w : InTable t h level i c) where
   k : Readable t
@@ -53,7 +53,7 @@ module _ (t : List ℕ) (h : Header) (level i c : ℕ) (w : InTable t h level i 
 
   module _ (up v x : ℕ) (up-is : up ≡ upLength t level) (v-is : v ≡ at.before t level i c) (x-is : x ≡ at.start t level i) where
     pub up-above : 0 < up
-    up-above = rw up-is (up-pos t k level)
+    up-above = rw up-is (up-pos t k (omega (arith, start-below t k d level i (w .level-in) (w .block-in))) level)
 
     pub before-start : x % up ≡ 0 → eqb v 0 ≡ eqb (at.before t level i c) (beforeLocal t level i c)
     unfolding beforeLocal

@@ -58,15 +58,11 @@ none-first f = refl
 
 -- the answers
 module _ (n m r H k : ℕ) where
-  pub no-length : n < 1 → Refused 1 ≡ enoughSays n m r H k
+  pub long : maxText < n → Refused 1 ≡ enoughSays n m r H k
   unfolding enoughSays lengthOk
-  no-length l = rw (lt-leb 1 n l)
+  long h = rw (lt-leb n maxText h)
 
-  pub long : 1 ≤ n → maxText < n → Refused 1 ≡ enoughSays n m r H k
-  unfolding enoughSays lengthOk
-  long l h = rw (le-leb 1 n l, lt-leb n maxText h)
-
-  module _ (low : 1 ≤ n) (high : n ≤ maxText) (x : Checked) (is : x ≡ checked m r H []) where
+  module _ (high : n ≤ maxText) (x : Checked) (is : x ≡ checked m r H []) where
     nothing-counted : countedOk [] ≡ true
     unfolding countedOk rising
     nothing-counted = refl
@@ -78,7 +74,7 @@ module _ (n m r H k : ℕ) where
     module _ (y : Bool) (e : sizesOk (sizes m r H) ≡ y) where
       said : enoughSays n m r H k ≡ cond y (cond (leb k 4) (Bytes (enoughFor n m r H k)) (Refused 3)) (Refused 2)
       unfolding enoughSays lengthOk
-      said = rw (le-leb 1 n low, le-leb n maxText high, e)
+      said = rw (le-leb n maxText high, e)
 
     pub sizes-refused : (q : ℕ) → x ≡ checked-is.Refused q → Refused 2 ≡ enoughSays n m r H k
     sizes-refused q e = go (sizesOk (sizes m r H)) refl

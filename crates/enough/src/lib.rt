@@ -18,9 +18,6 @@ pub enum Room {
 pub fn enough(n: u32, leaf: u32, arity: u32, levels: u32, counted: u32) -> Room
     ensures { λ r. ⌜ r ≡ enoughSays n leaf arity levels counted ⌝ }
 {
-    if n < 1 {
-        return Room::Refused(1);
-    }
     if Settings::MAX_TEXT < n {
         return Room::Refused(1);
     }

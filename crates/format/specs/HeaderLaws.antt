@@ -22,7 +22,6 @@ use Rattle.format.specs.Verdict.{ask, readable}
 pub record Readable (t : List ℕ) : Type 0 where
   pub long : 100 ≤ length t
   pub layout : (layout t ≡ 1) ⊎ (layout t ≡ 2)
-  pub text-low : 1 ≤ textLength t
   pub text-high : textLength t ≤ maxText
   pub leaf-low : 1 ≤ settings t .leaf
   pub leaf-high : settings t .leaf ≤ maxLeaf
@@ -123,8 +122,7 @@ readable-facts t h =
     λ l lo hi. (let e : H + (l - H) ≡ l = omega arith in rw e at (d .zero-levels (l - H) (omega arith))) in record {
       long = long;
       layout = layout-cases t six;
-      text-low = leb-true 1 (textLength t) (and-left (leb 1 (textLength t)) (leb (textLength t) maxText) (d .text));
-      text-high = leb-true (textLength t) maxText (and-right (leb 1 (textLength t)) (leb (textLength t) maxText) (d .text));
+      text-high = leb-true (textLength t) maxText (d .text);
       leaf-low = z .leaf-low;
       leaf-high = z .leaf-high;
       arity-low = z .arity-low;

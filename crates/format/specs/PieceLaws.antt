@@ -1,7 +1,8 @@
 -- Laws of `pieces`: x bytes cut into blocks of b bytes, the last cut short.
-use Prim.Native.Nat.{ℕ, suc, _+_, _-_, _*_, _/_, _≤_, _<_}
+use mathlib.Core.Path.{_≡_, refl}
+use Prim.Native.Nat.{ℕ, zero, suc, _+_, _-_, _*_, _/_, _≤_, _<_}
 use native.Mathlib.Omega.{arith}
-use native.Mathlib.Nat.{lt-div-mul-add, div-lt-iff-lt-mul, suc-mul, le-div-iff-mul-le, lt-of-mul-lt-mul-left, mul-comm, mul-le-mul-right}
+use native.Mathlib.Nat.{lt-div-mul-add, div-lt-iff-lt-mul, suc-mul, le-div-iff-mul-le, lt-of-mul-lt-mul-left, mul-comm, mul-le-mul-right, div-eq-of-lt}
 use Rattle.format.specs.Settings.{pieces}
 
 -- the blocks hold all x bytes
@@ -26,3 +27,9 @@ lt-pieces x b j pos h = le-div-iff-mul-le {k = b} {x = suc j} {y = x + (b - 1)} 
 pub whole-left : (j r b : ℕ) → j * b < r * b → j * b + b ≤ r * b
 whole-left j r b h =
     omega (arith, suc-mul j b, mul-le-mul-right {m = suc j} {n = r} b (lt-of-mul-lt-mul-left b (rw (mul-comm b j, mul-comm b r) h)))
+
+-- no bytes are cut into no blocks
+pub pieces-none : (b : ℕ) → pieces 0 b ≡ 0
+unfolding pieces
+pieces-none zero = refl
+pieces-none (suc b) = div-eq-of-lt {n = 0 + (suc b - 1)} {m = suc b} (omega arith)

@@ -1,4 +1,4 @@
--- The worked book of document 01 and two more texts, computed from the definitions; trees are of layout 2.
+-- The worked book of document 01, two more texts and the empty one, computed from the definitions; trees are of layout 2 where nothing else is said.
 use mathlib.Core.Bool.{true, false}
 use mathlib.Core.List.{List, [], _∷_, _++_}
 use mathlib.Core.Option.{some}
@@ -158,4 +158,48 @@ marked = record {
   longest = (refl, refl);
   largest-blocks = (refl, refl, refl);
   blocks-too-large = (refl, refl, refl);
+}
+
+-- a header with n 0 and the settings `two`: so many blocks on level 0 and on level 1, and leaf bytes from `leaf` on; what follows it
+laid-out : ℕ → ℕ → ℕ → ℕ → List ℕ → List ℕ
+laid-out first second leaf leaves rest =
+    wordsBytes (1 ∷ 0 ∷ 2 ∷ 2 ∷ 2 ∷ 1 ∷ 65 ∷ first ∷ 100 ∷ second ∷ 100 ∷ []) ++ replicate 48 0 ++ wordsBytes (leaf ∷ leaves ∷ []) ++ rest
+
+no-bytes-tree : List ℕ
+no-bytes-tree = treeOf two []
+
+-- The tree of a text of no bytes: the header alone.
+pub record Empty : Type 0 where
+  bytes : no-bytes-tree ≡
+      wordsBytes (2 ∷ 0 ∷ 2 ∷ 2 ∷ 2 ∷ 1 ∷ 65 ∷ 0 ∷ 100 ∷ 0 ∷ 100 ∷ []) ++ replicate 48 0 ++ wordsBytes (100 ∷ 0 ∷ [])
+  size : length no-bytes-tree ≡ 100
+  accepted : verdict no-bytes-tree ≡ 0
+  text : textOf no-bytes-tree ≡ []
+  no-byte : (byteSays no-bytes-tree 0 ≡ said 10 0 0) × (runSays no-bytes-tree 0 ≡ (0, 0))
+  spans : (spanned no-bytes-tree 0 0 ≡ (said 0 0 0, 1 ∷ 1 ∷ 1 ∷ [])) × (spanned no-bytes-tree 0 1 ≡ (said 10 0 0, 1 ∷ 1 ∷ 1 ∷ []))
+      × (spanned no-bytes-tree 1 0 ≡ (said 10 0 0, 1 ∷ 1 ∷ 1 ∷ []))
+  counts : (countSays no-bytes-tree 65 0 ≡ said 0 0 0) × (countSays no-bytes-tree 65 1 ≡ said 10 0 0) × (countSays no-bytes-tree 66 0 ≡ said 11 0 0)
+  totals : (total no-bytes-tree 0 ≡ 0) × (selectNumber no-bytes-tree 65 0 ≡ 12) × (selectNumber no-bytes-tree 65 1 ≡ 12)
+  -- in layout 1; a leaf byte; a block on level 1, whose before and inside are no total; a block on level 0
+  older-empty : verdict (laid-out 0 0 100 0 []) ≡ 0
+  leaf-byte : verdict (laid-out 0 0 100 1 (65 ∷ [])) ≡ 8
+  child : (verdict (laid-out 0 1 128 0 (wordsBytes (0 ∷ 0 ∷ 0 ∷ 0 ∷ 3 ∷ 5 ∷ 0 ∷ []))) ≡ 8)
+      × (selectNumber (laid-out 0 1 128 0 (wordsBytes (0 ∷ 0 ∷ 0 ∷ 0 ∷ 3 ∷ 5 ∷ 0 ∷ []))) 65 1 ≡ 12)
+  block : verdict (laid-out 1 0 128 0 (replicate 28 0)) ≡ 7
+
+pub empty : Empty
+unfolding spanned no-bytes-tree laid-out said two tabulate concat sumBelow countBelow allBelow sameList setWord wordAt wordsBytes wordBytes stretch leftmost firstFrom countIn placeOf placeIn blockLength pieces lengthOk sizesOk countedOk rising risingAfter treeOf header leafBytes levelPairs recordBytes recordLength edgesOf filledOut levelBytes recordIn recordOf target occurrence width isKept startsAt cut keptByPairs firstPairAt pairAt lengthOf startOf pathOf pathFrom targetPlace targetBlock pointingBlock keptBlock lands landBlock landPlace landVisits shortOf shortFrom byEdges inLeaf linksOk textOf fits countsTrue edgesTrue blockEdgesTrue lastLevel widthAt keptRight pointingRight blockRight countBelowRight blockFits blockCountsTrue verdict readable at.leafByte byteSays countSays runSays asksSpan leavesSpan isShort spanReached spanBytes spanBlocks spanNumber spanSays spanLeaves selectNumber indexOf leftOver pathsHold added addedAfter taken takenAfter lastPlace leavesReached isCounted numberOfByte total found at.blockLengthAt at.levelCount at.levelOffset
+empty = record {
+  bytes = refl;
+  size = refl;
+  accepted = refl;
+  text = refl;
+  no-byte = (refl, refl);
+  spans = (refl, refl, refl);
+  counts = (refl, refl, refl);
+  totals = (refl, refl, refl);
+  older-empty = refl;
+  leaf-byte = refl;
+  child = (refl, refl);
+  block = refl;
 }

@@ -91,9 +91,9 @@ module _ (t : List ℕ) (n : ℕ) (n-is : n ≡ wordAt t 4) where
   pub header-length : format.lengthOk n ≡ false → false ≡ at.headerOk t
   header-length p = seven-length t (length-here false p)
 
-length-fine : (n : ℕ) → 1 ≤ n → n ≤ maxText → format.lengthOk n ≡ true
+length-fine : (n : ℕ) → n ≤ maxText → format.lengthOk n ≡ true
 unfolding format.lengthOk
-length-fine n low high = and-both (le-leb 1 n low) (le-leb n maxText high)
+length-fine n high = le-leb n maxText high
 
 -- the counted bytes as the code takes them are those of the header's settings
 counted-part : (t : List ℕ) (k : ℕ) → k ≡ wordAt t 20 → k ≤ 4 → take (24 + k - 24) (drop 24 t) ≡ at.settings t .counted
@@ -162,7 +162,7 @@ module _ (t : List ℕ) (m r H k : ℕ) (m-is : m ≡ wordAt t 8) (r-is : r ≡ 
     unfolding given.checked
     header-refused q x e f = ⊎-elim header-sizes header-counted (refused-is q sizes-fit (format.countedOk part) there (sym f ∙ e))
 
-    module _ (n : ℕ) (n-is : n ≡ wordAt t 4) (low : 1 ≤ n) (high : n ≤ maxText) (s : Settings) (x : Checked) (said : x ≡ given.checked m r H part) (is : x ≡ Fine s) where
+    module _ (n : ℕ) (n-is : n ≡ wordAt t 4) (high : n ≤ maxText) (s : Settings) (x : Checked) (said : x ≡ given.checked m r H part) (is : x ≡ Fine s) where
       fine : Fine s ≡ cond sizes-fit (cond (format.countedOk part) (Fine there) (Refused 3)) (Refused 2)
       unfolding given.checked
       fine = sym is ∙ said
@@ -172,7 +172,7 @@ module _ (t : List ℕ) (m r H k : ℕ) (m-is : m ≡ wordAt t 8) (r-is : r ≡ 
 
       pub header-rest : (y : Bool) → y ≡ restRight t → y ≡ at.headerOk t
       header-rest y e =
-          seven-rest t y (length-here t n n-is true (length-fine n low high)) (sizes-here true fit)
+          seven-rest t y (length-here t n n-is true (length-fine n high)) (sizes-here true fit)
           (both-here true (fine-counted s sizes-fit (format.countedOk part) there fine)) e
 
       pub has-settings : 100 ≤ length t → HasSettings t n s

@@ -89,9 +89,6 @@ fn header_right(t: &[u8]) -> bool
     ensures { λ r. ⌜ r ≡ headerOk (now (t .entry)) ⌝ }
 {
     let n = word::read(t, 4);
-    if n < 1 {
-        return false;
-    }
     if Settings::MAX_TEXT < n {
         return false;
     }

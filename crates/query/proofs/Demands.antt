@@ -106,6 +106,11 @@ pub use Rattle.query.proofs.ByColumns.{column-answer, column-zeros, col
 -- .. It refuses a width of 0 or one that does not divide the length with 20, then an output shorter than the input with 21, output untouched."
 pub use Rattle.columns.proofs.Demands.{to-columns, from-columns}
 pub use Rattle.query.proofs.ByColumns.{to-columns-numbers, from-columns-numbers}
+-- A text of no bytes "builds a tree of the header alone .. and the check accepts it. Its counts of 0 bytes are 0, its totals are 0, it has no row, and
+-- a byte is refused with 10": `built-tree` and `scanned-tree` below hold of it as of any text; of a tree with n 0 that the check accepts, whoever made it, ..
+pub use Rattle.query.proofs.Empty.{empty-header, empty-text, empty-answers}
+-- .. and of what is answered from the empty text: ..
+pub use Rattle.query.proofs.Empty.{empty-byte, empty-run, empty-span, empty-span-past, empty-count, empty-count-past, empty-find, empty-row}
 
 -- The roads to a tree, each in one theorem.
 

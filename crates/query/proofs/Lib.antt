@@ -13,4 +13,5 @@ pub mod PatternPlaces
 pub mod Scanned
 pub mod WornKeys
 pub mod ByColumns
+pub mod Empty
 pub mod Demands

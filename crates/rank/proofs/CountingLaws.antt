@@ -3,13 +3,12 @@ use mathlib.Core.List.{List}
 use mathlib.Core.Option.{Option, none, some}
 use mathlib.Core.Bool.{true, false}
 use mathlib.Core.Path.{_≡_, refl, ap, _∙_}
+use mathlib.Core.Logic.{_⊎_, inl, inr}
 use Prim.Native.Nat.{ℕ, _+_, _-_, _≤_, _<_}
 use native.Mathlib.Omega.{arith}
-use native.Mathlib.Nat.{zero-mul}
 use borrow.Author.Tests.{lt-ltb, le-ltb, lt-leb, le-leb, ne-eqb}
 use lib.ListN.{length}
-use Rattle.format.specs.PieceLaws.{lt-pieces}
-use Rattle.format.specs.HeaderLaws.{full-pos}
+use Rattle.text.specs.ListLaws.{lt-or-ge}
 use Rattle.format.specs.Layout as at
 use Rattle.format.specs.Path.{Path, pathOf}
 use Rattle.format.specs.Verdict.{readable}
@@ -60,16 +59,23 @@ module _ (t : List ℕ) (h : Header) (k : HeaderOf t h) (byte number : ℕ) (is 
   pub number-in : number < h .settings .counted → number < at.countedCount t
   number-in low = omega (arith, k .counted-is)
 
--- level 0 has a block
-pub some-block : (t : List ℕ) (h : Header) → HeaderOf t h → 0 < at.levelCount t 0
-some-block t h r =
-    let f = r .facts in
-    rw (f .level0) (lt-pieces (at.textLength t) (at.fullLength t 0) 0 (full-pos t f 0) (omega (arith, zero-mul (at.fullLength t 0), f .text-low)))
+-- where a byte stands, level 0 has a block
+pub some-block : (t : List ℕ) (c : ℕ) → 1 ≤ total t c → 0 < at.levelCount t 0
+unfolding total
+some-block t c h = go (lt-or-ge 0 (at.levelCount t 0))
+  where
+    go : (0 < at.levelCount t 0) ⊎ (at.levelCount t 0 ≤ 0) → 0 < at.levelCount t 0
+    go (inl l) = l
+    go (inr l) = absurd (let e : at.levelCount t 0 ≡ 0 = omega arith in let z : 1 ≤ 0 = rw e at h in let y : ⊥ = omega arith in y)
 
 -- the total
-pub total-is : (t : List ℕ) (c n before inside : ℕ) → n ≡ at.levelCount t 0 → before ≡ at.before t 0 (n - 1) c → inside ≡ at.inside t 0 (n - 1) c → before + inside ≡ total t c
+pub total-none : (t : List ℕ) (c n : ℕ) → n ≡ at.levelCount t 0 → n ≡ 0 → 0 ≡ total t c
 unfolding total
-total-is t c n before inside e b i = rw (← e, b, i)
+total-none t c n e z = rw (← e, z)
+
+pub total-is : (t : List ℕ) (c n before inside : ℕ) → n ≡ at.levelCount t 0 → (n ≡ 0 → ⊥) → before ≡ at.before t 0 (n - 1) c → inside ≡ at.inside t 0 (n - 1) c → before + inside ≡ total t c
+unfolding total
+total-is t c n before inside e full b i = rw (← e, ne-eqb n 0 full, b, i)
 
 -- each way out of count
 module _ (t : List ℕ) (h : Header) (k : HeaderOf t h) (byte i : ℕ) where

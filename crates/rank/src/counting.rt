@@ -46,12 +46,16 @@ fn settle(summed: Summed) -> Counted
     Counted::Times(sum.plus - sum.minus, sum.entered)
 }
 
-// How often a counted byte stands in the text: before and inside of the last block of level 0.
+// How often a counted byte stands in the text: before and inside of the last block of level 0, or 0 where no block is.
 pub fn total(t: &[u8], h: Header, number: u32) -> u64
     requires { ⌜ (HeaderOf (now t) h) × (number < at.countedCount (now t)) ⌝ }
     ensures { λ r. ⌜ r ≡ find.total (now (t .entry)) number ⌝ }
 {
-    let last = BlockNumber(record::level_count(t, 0) - 1);
+    let count = record::level_count(t, 0);
+    if count == 0 {
+        return 0;
+    }
+    let last = BlockNumber(count - 1);
     let before = record::before(t, h.record_size, 0, last, number) as u64;
     before + record::inside(t, h.record_size, 0, last, number) as u64
 }

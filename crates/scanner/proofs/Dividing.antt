@@ -32,13 +32,6 @@ module _ (S : Settings) (T : List ℕ) (h : Taken S T) (l : ℕ) (k : suc l < S 
   pub order : InOrder (length T) (size S T l) (count S T l) (start S T l)
   order = level-at S T h l (omega arith)
 
-  -- the text's first byte stands in some block
-  pub count-pos : 1 ≤ count S T l
-  count-pos =
-      let f : First (byteAt T) (length T) 0 1 = record { within = omega (arith, limits .text-low); none = λ q lt same. let z : ⊥ = omega arith in z } in
-      let r = landing S T h l (omega arith) 0 1 f (omega arith) (omega (arith, size-pos S T h l)) in
-      omega (arith, r .1 .below)
-
   start-far : (i : ℕ) → i < count S T l → i * size S T l ≤ start S T l i
   start-far zero il = omega (arith, zero-mul (size S T l))
   start-far (suc i) il = omega (arith, start-far i (omega arith), order .rising i (suc i) (omega arith) il, suc-mul i (size S T l))
@@ -51,11 +44,11 @@ module _ (S : Settings) (T : List ℕ) (h : Taken S T) (l : ℕ) (k : suc l < S 
       omega (arith, m, size-falls S T h l k)
 
   -- blocks and pairs are at most as many as the leaf lengths of the text
-  pub few-items : count S T l + count S T l ≤ pieces (length T) (S .leaf) + 1
-  few-items =
+  pub few-items : 1 ≤ count S T l → count S T l + count S T l ≤ pieces (length T) (S .leaf) + 1
+  few-items some =
       let i : ℕ = count S T l - 1 in
-      let il : i < count S T l = omega (arith, count-pos) in
+      let il : i < count S T l = omega (arith, some) in
       let a : i * (2 * S .leaf) ≤ i * size S T l = mul-le-mul-left i two-leaves in
       let e : i * 2 * S .leaf ≡ i * (2 * S .leaf) = mul-assoc i 2 (S .leaf) in
       let b : i * 2 * S .leaf < length T = omega (arith, a, e, start-far i il, order .within i il) in
-      omega (arith, lt-pieces (length T) (S .leaf) (i * 2) (omega (arith, limits .leaf-low)) b, count-pos)
+      omega (arith, lt-pieces (length T) (S .leaf) (i * 2) (omega (arith, limits .leaf-low)) b, some)

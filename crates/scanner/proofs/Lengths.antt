@@ -10,7 +10,7 @@ use lib.ListN.{length}
 use lib.Dec.{eqb, ltb}
 use borrow.Author.Tests.{lt-ltb, eq-eqb, ne-eqb, eqb-true}
 use Rattle.text.specs.Lists.{sumBelow}
-use Rattle.text.specs.ListLaws.{bool-cases, bool-clash, and-left, and-right, and-both, or-cases, or-left, or-right, lt-or-ge, below-suc, sumBelow-ext}
+use Rattle.text.specs.ListLaws.{bool-cases, bool-clash, and-left, and-right, and-both, or-cases, or-left, or-right, lt-or-ge, below-suc, sumBelow-ext, sumBelow-none}
 use Rattle.format.specs.Settings.{Settings, blockLength, maxText}
 use Rattle.format.specs.Blocks.{recordBytes, startsAt, startOf, lengthOf, pairAt}
 use Rattle.built.specs.Structure.{count, start, bytesIn}
@@ -86,17 +86,12 @@ module _ (n : ℕ) where
   unfolding share
   share-own v x d e = rw (ne-eqb v 0 d, eq-eqb x v e)
 
-  zeros : (k : ℕ) → sumBelow k (λ x. 0) ≡ 0
-  unfolding sumBelow
-  zeros zero = refl
-  zeros (suc k) = omega (arith, zeros k)
-
   share-sum : (v : ℕ) → v ≤ n → sumBelow (suc n) (share v) ≡ placesOf n v
   unfolding share at-v
   share-sum v l = go (ℕ-discrete v 0)
     where
       go : Dec (v ≡ 0) → sumBelow (suc n) (share v) ≡ placesOf n v
-      go (yes e) = sumBelow-ext (suc n) (share v) (λ x. 0) (λ x m. share-none v x (inl e)) ∙ zeros (suc n) ∙ rw (eq-eqb v 0 e)
+      go (yes e) = sumBelow-none (suc n) (share v) (λ x m. share-none v x (inl e)) ∙ rw (eq-eqb v 0 e)
       go (no d) = sumBelow-ext (suc n) (share v) (at-v v (λ x. suc n - x)) (λ x m. ap (λ (t : Bool). cond t 0 (cond (eqb x v) (suc n - x) 0)) (ne-eqb v 0 d))
           ∙ one-below v (λ x. suc n - x) (suc n) (omega arith) ∙ rw (ne-eqb v 0 d) (omega arith)
 
@@ -105,7 +100,7 @@ unfolding sumBelow
 sum-add zero f g = refl
 sum-add (suc k) f g = omega (arith, sum-add k f g)
 
-module _ (T out cs : List ℕ) (level : Level) (r : Ready (settingsOf (level .settings) cs) T out level) (k : level .number + 1 < level .settings .levels) where
+module _ (T out cs : List ℕ) (level : Level) (r : Ready (settingsOf (level .settings) cs) T out level) (k : level .number + 1 < level .settings .levels) (some : 1 ≤ level .count) where
   abbrev S : Settings
   S = settingsOf (level .settings) cs
 
@@ -116,7 +111,7 @@ module _ (T out cs : List ℕ) (level : Level) (r : Ready (settingsOf (level .se
   it = itemsSay (length T) (recordBytes S) level
 
   o : Ordered T out it
-  o = lev.ordered T out cs level r k
+  o = lev.ordered T out cs level r k some
 
   count-is : level .count ≡ count S T l
   count-is = r .level-is .count-is
@@ -133,27 +128,27 @@ module _ (T out cs : List ℕ) (level : Level) (r : Ready (settingsOf (level .se
       i = x / 2
 
       il : x / 2 < count S T l
-      il = omega (arith, lev.half-in T out cs level r k x xl, count-is)
+      il = omega (arith, lev.half-in T out cs level r k some x xl, count-is)
 
       even : x % 2 ≡ 0 → test n (x / 2) ≡ true
       even z =
           let q : x ≡ 2 * (x / 2) = omega arith in
           or-left (pairAt T (blockLength S l) (startsAt S T l) (x / 2) && eqb (pairBytes S T l (x / 2)) n)
-          (eq-eqb (bytesIn S T l (x / 2)) n (sym (lev.block-bytes T out cs level r k (x / 2) il) ∙ sym (ap (lengthAt T out it) q) ∙ e))
+          (eq-eqb (bytesIn S T l (x / 2)) n (sym (lev.block-bytes T out cs level r k some (x / 2) il) ∙ sym (ap (lengthAt T out it) q) ∙ e))
 
       pair : x % 2 ≡ 1 → startAt T out it (x + 1) ≡ startAt T out it x + it .size → pairAt T (blockLength S l) (startsAt S T l) (x / 2) ≡ true
       pair z f =
-          let xn : x + 1 < it .items = next-in T out it o (lev.placed T out cs level r k) x z xl f in
-          let a : startAt T out it (x + 1) ≡ start S T l (suc (x / 2)) = lev.start-is T out cs level r k (x + 1) xn ∙ ap (start S T l) (let q : (x + 1) / 2 ≡ suc (x / 2) = omega arith in q) in
-          and-both (lt-ltb (suc (x / 2)) (count S T l) (omega (arith, lev.half-in T out cs level r k (x + 1) xn, count-is)))
-          (eq-eqb (start S T l (suc (x / 2))) (start S T l (x / 2) + blockLength S l) (omega (arith, a, f, lev.start-is T out cs level r k x xl, r .level-is .size-is)))
+          let xn : x + 1 < it .items = next-in T out it o (lev.placed T out cs level r k some) x z xl f in
+          let a : startAt T out it (x + 1) ≡ start S T l (suc (x / 2)) = lev.start-is T out cs level r k some (x + 1) xn ∙ ap (start S T l) (let q : (x + 1) / 2 ≡ suc (x / 2) = omega arith in q) in
+          and-both (lt-ltb (suc (x / 2)) (count S T l) (omega (arith, lev.half-in T out cs level r k some (x + 1) xn, count-is)))
+          (eq-eqb (start S T l (suc (x / 2))) (start S T l (x / 2) + blockLength S l) (omega (arith, a, f, lev.start-is T out cs level r k some x xl, r .level-is .size-is)))
 
       odd : x % 2 ≡ 1 → Present T out it x → test n (x / 2) ≡ true
       odd z (inl a) = absurd (let w : ⊥ = omega arith in w)
       odd z (inr f) =
           let q : x ≡ 2 * (x / 2) + 1 = omega arith in
           or-right (eqb (bytesIn S T l (x / 2)) n) (and-both (pair z f)
-          (eq-eqb (pairBytes S T l (x / 2)) n (sym (lev.pair-bytes T out cs level r k (x / 2) il (pair z f)) ∙ sym (ap (lengthAt T out it) q) ∙ e)))
+          (eq-eqb (pairBytes S T l (x / 2)) n (sym (lev.pair-bytes T out cs level r k some (x / 2) il (pair z f)) ∙ sym (ap (lengthAt T out it) q) ∙ e)))
 
       go : (x % 2 < 1) ⊎ (1 ≤ x % 2) → test n (x / 2) ≡ true
       go (inl a) = even (omega arith)
@@ -161,20 +156,20 @@ module _ (T out cs : List ℕ) (level : Level) (r : Ready (settingsOf (level .se
 
   pub has-length : (n : ℕ) → Has T out it (it .items) n → hasLength S T l n ≡ true
   unfolding hasLength
-  has-length n (x, xl, p, e) = any-at (count S T l) (test n) (x / 2) (omega (arith, lev.half-in T out cs level r k x xl, count-is)) (has-test n x xl p e)
+  has-length n (x, xl, p, e) = any-at (count S T l) (test n) (x / 2) (omega (arith, lev.half-in T out cs level r k some x xl, count-is)) (has-test n x xl p e)
 
   pub length-has : (n : ℕ) → hasLength S T l n ≡ true → Has T out it (it .items) n
   unfolding hasLength
   length-has n y = go (any-find (count S T l) (test n) y)
     where
       by : (i : ℕ) → i < count S T l → (eqb (bytesIn S T l i) n ≡ true) ⊎ ((pairAt T (blockLength S l) (startsAt S T l) i && eqb (pairBytes S T l i) n) ≡ true) → Has T out it (it .items) n
-      by i il (inl a) = (2 * i, omega (arith, count-is), inl (omega arith), lev.block-bytes T out cs level r k i il ∙ eqb-true _ _ a)
+      by i il (inl a) = (2 * i, omega (arith, count-is), inl (omega arith), lev.block-bytes T out cs level r k some i il ∙ eqb-true _ _ a)
       by i il (inr a) =
           let p = and-left (pairAt T (blockLength S l) (startsAt S T l) i) (eqb (pairBytes S T l i) n) a in (
             2 * i + 1,
-            lev.pair-item T out cs level r k i il p,
-            lev.pair-there T out cs level r k i il p,
-            lev.pair-bytes T out cs level r k i il p ∙ eqb-true _ _ (and-right (pairAt T (blockLength S l) (startsAt S T l) i) (eqb (pairBytes S T l i) n) a),
+            lev.pair-item T out cs level r k some i il p,
+            lev.pair-there T out cs level r k some i il p,
+            lev.pair-bytes T out cs level r k some i il p ∙ eqb-true _ _ (and-right (pairAt T (blockLength S l) (startsAt S T l) i) (eqb (pairBytes S T l i) n) a),
           )
 
       go : (i : ℕ) × (i < count S T l) × (test n i ≡ true) → Has T out it (it .items) n
@@ -294,8 +289,8 @@ module _ (T out cs : List ℕ) (level : Level) (r : Ready (settingsOf (level .se
       where
         here : Has T out it (it .items) x → all x ≡ suc n - x
         here (y, yl, p, e) = with-length x
-            (omega (arith, e, length-low T out it o (lev.placed T out cs level r k) y yl))
-            (omega (arith, e, length-most T out it o (lev.placed T out cs level r k) y))
+            (omega (arith, e, length-low T out it o (lev.placed T out cs level r k some) y yl))
+            (omega (arith, e, length-most T out it o (lev.placed T out cs level r k some) y))
             (subst (Among b g) e (s .covers y yl p))
 
         go : (hasLength S T l x ≡ true) ⊎ (hasLength S T l x ≡ false) → cond (hasLength S T l x) (suc n - x) 0 ≡ all x
@@ -303,7 +298,7 @@ module _ (T out cs : List ℕ) (level : Level) (r : Ready (settingsOf (level .se
         go (inr f) = ap (λ (c : Bool). cond c (suc n - x) 0) f ∙ sym (no-length x (λ q. bool-clash (hasLength S T l x) (has-length x q) f))
 
     in-text : (v : ℕ) → Has T out it (it .items) v → v ≤ n
-    in-text v (x, xl, p, e) = omega (arith, e, length-high T out it o (lev.placed T out cs level r k) x xl)
+    in-text v (x, xl, p, e) = omega (arith, e, length-high T out it o (lev.placed T out cs level r k some) x xl)
 
     block-in : (g .block ≡ 0) ⊎ ((g .block ≡ b) × Has T out it (it .items) (g .block)) → g .block ≤ n
     block-in (inl e) = omega arith
@@ -351,7 +346,7 @@ module _ (T out cs : List ℕ) (level : Level) (r : Ready (settingsOf (level .se
       omega (
         arith,
         c .sum,
-        lev.placed T out cs level r k .few,
+        lev.placed T out cs level r k some .few,
         places-most (g .block) (block-in g s (s .block-is)),
         places-most (g .pair) (pair-in g s (s .pair-is)),
         places-most (g .last) (last-in g s (s .last-is)),
@@ -360,3 +355,13 @@ module _ (T out cs : List ℕ) (level : Level) (r : Ready (settingsOf (level .se
 
   pub counted-by : (made : Items) → made ≡ it → (w : ℕ) → Counted T out made w → (w ≡ windowsAt S T l) × (w ≤ 4 * maxText)
   counted-by made e w c = let d = subst (λ (i : Items). Counted T out i w) e c in (counted w d, counted-few w d)
+
+-- A level without blocks has no windows.
+module _ (S : Settings) (T : List ℕ) (l : ℕ) (none : count S T l ≡ 0) where
+  length-none : (n : ℕ) → hasLength S T l n ≡ false
+  unfolding hasLength anyBelow
+  length-none n = rw none
+
+  pub windows-none : windowsAt S T l ≡ 0
+  unfolding windowsAt
+  windows-none = sumBelow-none (suc (length T)) _ (λ n nl. ap (λ (t : Bool). cond t (suc (length T) - n) 0) (length-none n))

@@ -26,9 +26,9 @@ use Rattle.entries.specs.Entries.{Placed, Laid, startAt, lengthAt, placeIn}
 use Rattle.passes.specs.Passes.{Present, Ordered, Answered, placeOut}
 use Rattle.passes.proofs.Measuring.{block-length, pair-length}
 use Rattle.scanner.specs.Tables.{itemsSay, pairBytes, Told}
-use Rattle.scanner.proofs.Dividing.{pieces-few, order, count-pos, few-items}
+use Rattle.scanner.proofs.Dividing.{pieces-few, order, few-items}
 
-module _ (T out cs : List ℕ) (level : Level) (r : Ready (settingsOf (level .settings) cs) T out level) (k : level .number + 1 < level .settings .levels) where
+module _ (T out cs : List ℕ) (level : Level) (r : Ready (settingsOf (level .settings) cs) T out level) (k : level .number + 1 < level .settings .levels) (some-blocks : 1 ≤ level .count) where
   abbrev S : Settings
   S = settingsOf (level .settings) cs
 
@@ -50,11 +50,8 @@ module _ (T out cs : List ℕ) (level : Level) (r : Ready (settingsOf (level .se
   limits : Bounds S T
   limits = bounds S T (h .taken)
 
-  pub some-blocks : 1 ≤ level .count
-  some-blocks = omega (arith, count-pos S T (h .taken) l upper, h .count-is)
-
   pub items-fit : level .count + level .count ≤ pieces (length T) (level .settings .leaf) + 1
-  items-fit = omega (arith, few-items S T (h .taken) l upper, h .count-is)
+  items-fit = omega (arith, few-items S T (h .taken) l upper (omega (arith, some-blocks, h .count-is)), h .count-is)
 
   on : On S T out level 0
   on = record { level-is = h; filled = r .filled; block-in = omega (arith, some-blocks) }
@@ -154,3 +151,17 @@ module _ (T out cs : List ℕ) (level : Level) (r : Ready (settingsOf (level .se
   pub items-asks : (length cs ≤ 4) × (1 ≤ level .count) × (1 ≤ level .settings .leaf) × (level .settings .leaf ≤ 256) × (length T ≤ maxText)
       × (level .count + level .count ≤ pieces (length T) (level .settings .leaf) + 1)
   items-asks = (small .counted-few, some-blocks, limits .leaf-low, limits .leaf-high, limits .text-high, items-fit)
+
+-- of a level without blocks there is nothing to tell
+pub told-none : (S : Settings) (T W : List ℕ) (l : ℕ) → suc l < S .levels → count S T l ≡ 0 → Told S T l W
+told-none S T W l upper none = record {
+  upper = upper;
+  room = omega (arith, none);
+  place = λ i il. absurd (no-block i il);
+  twins = λ i il. absurd (no-block i il);
+  first = λ i il. absurd (no-block i il);
+  again = λ i il. absurd (no-block i il);
+}
+  where
+    no-block : (i : ℕ) → i < count S T l → ⊥
+    no-block i il = omega (arith, none)

@@ -90,6 +90,20 @@ fn fill_scanned(out: &mut [u8], words: &[u32], text: &[u8], counted: &[u8], leve
     link
 }
 
+// Scans for a level above the last, and answers how many windows were looked up; the level of a text without bytes has no block, and none.
+fn scan_level(words: &mut [u32], text: &[u8], counted: &[u8], out: &[u8], level: Level) -> u32
+    requires { ⌜ Ready (settingsOf (level .settings) (now counted)) (now text) (now out) level × (level .number + 1 < level .settings .levels)
+        × (4 * pieces (length (now text)) (level .settings .leaf) ≤ length (now words)) ⌝ }
+    ensures { λ _. ⌜ Told (settingsOf (level .settings) (now (counted .entry))) (now (text .entry)) (level .number) (now (words .exit)) ⌝ }
+    ensures { λ r. ⌜ (r ≡ windowsAt (settingsOf (level .settings) (now (counted .entry))) (now (text .entry)) (level .number)) × (r ≤ 4 * maxText) ⌝ }
+{
+    if level.count == 0 {
+        return 0;
+    }
+    let it = table::items_of(text, counted, level);
+    passes::scan(words, text, out, it)
+}
+
 // Scans for a level above the last, and writes its records.
 pub fn put_level(
     out: &mut [u8],
@@ -104,8 +118,7 @@ pub fn put_level(
     ensures { λ r. ⌜ Written (settingsOf (level .settings) (now (counted .entry))) (now (text .entry)) (now (out .exit)) level (r .below) ⌝ }
     ensures { λ r. ⌜ (r .windows ≡ windowsAt (settingsOf (level .settings) (now (counted .entry))) (now (text .entry)) (level .number)) × (r .windows ≤ 4 * maxText) ⌝ }
 {
-    let it = table::items_of(text, counted, level);
-    let windows = passes::scan(words, text, out, it);
+    let windows = scan_level(words, text, counted, out, level);
     Put {
         below: fill_scanned(out, words, text, counted, level),
         windows,

@@ -47,9 +47,6 @@ pub fn build_scanned(
     ensures buffer { λ _. ⌜ now (out .exit) ≡ scanLeaves (given leaf arity levels (now (counted .entry))) (now (text .entry)) (now (out .entry)) (length (now (words .entry))) ⌝ }
     ensures table { λ r. ⌜ TableLeft (numberOf r) (now (words .entry)) (now (words .exit)) ⌝ }
 {
-    if text.len() < 1 {
-        return Scanned::Refused(1);
-    }
     if (Settings::MAX_TEXT as usize) < text.len() {
         return Scanned::Refused(1);
     }

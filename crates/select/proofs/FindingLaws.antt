@@ -42,12 +42,12 @@ use Rattle.select.specs.Found.{placedIn, Sought}
 use Rattle.rank.proofs.CountingLaws.{some-block, not-counted, is-counted}
 use Rattle.select.proofs.LandLaws.{Picked, k, d, a, picked-kept, picked-points, picked-off, one-of}
 
-pub top-siblings : (t : List ℕ) (h : Header) (c n : ℕ) → HeaderOf t h → c < at.countedCount t → n ≡ at.levelCount t 0 → Siblings t h c 0 0 n
-top-siblings t h c n r hc e = record {
+pub top-siblings : (t : List ℕ) (h : Header) (c n : ℕ) → HeaderOf t h → c < at.countedCount t → 1 ≤ total t c → n ≡ at.levelCount t 0 → Siblings t h c 0 0 n
+top-siblings t h c n r hc some e = record {
   header = r;
   level-in = omega (arith, r .facts .levels-low);
   number-in = hc;
-  some = omega (arith, some-block t h r);
+  some = omega (arith, some-block t c some);
   end-in = omega arith;
 }
 
@@ -90,7 +90,7 @@ module _ (t : List ℕ) (h : Header) (w : Wanted) (j b block : ℕ) (r : HeaderO
 
   first-none : verdict t ≡ 0 → at.before t 0 block c < j
   first-none v =
-      let z = finds.top-before t (k t v) (d t v) (a t v) c hc 0 (some-block t h r) in
+      let z = finds.top-before t (k t v) (d t v) (a t v) c hc 0 (omega (arith, last .high)) in
       let e : at.before t 0 0 c ≡ 0 = z ∙ rw (zero-mul (at.fullLength t 0)) (tally-none t c 0) in
       last .here (omega arith)
 

@@ -269,7 +269,7 @@ fn pointing_step(
 
 // The block of level 0 that holds the j-th byte of the text.
 fn first_block(t: &[u8], h: Header, number: u32, j: u64) -> BlockNumber
-    requires { ⌜ (HeaderOf (now t) h) × (number < at.countedCount (now t)) ⌝ }
+    requires { ⌜ (HeaderOf (now t) h) × (number < at.countedCount (now t)) × (1 ≤ total (now t) number) ⌝ }
     ensures { λ r. ⌜ LastBefore (now (t .entry)) number 0 0 (at.levelCount (now (t .entry)) 0) j (r .0) ⌝ }
 {
     last_before(t, h, number, 0, 0, record::level_count(t, 0), j)

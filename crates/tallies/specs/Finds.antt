@@ -3,12 +3,13 @@
 use mathlib.Core.List.{List, [], _∷_}
 use mathlib.Core.Option.{Option, some}
 use mathlib.Core.Bool.{true, false}
-use mathlib.Core.Path.{_≡_, refl, ap, _∙_}
+use mathlib.Core.Path.{_≡_, refl, sym, ap, _∙_}
 use mathlib.Core.Logic.{_⊎_, inl, inr}
 use Prim.Native.Nat.{ℕ, zero, suc, _+_, _-_, _*_, _≤_, _<_}
 use native.Mathlib.Omega.{arith}
 use native.Mathlib.Nat.{add-mul, one-mul, zero-mul, add-zero, mul-div-cancel, mul-le-mul-right}
 use lib.Arith.{digits-div, digits-mod}
+use borrow.Author.Tests.{ne-eqb}
 use Rattle.text.specs.ListLaws.{lt-or-ge}
 use Rattle.text.specs.Text.{stretch, countIn, placeOf}
 use Rattle.text.specs.CountLaws.{count-whole, count-mono, Nth, nth-earlier, nth-later, nth-past, nth-before, nth-place}
@@ -68,18 +69,20 @@ module _ (t : List ℕ) (k : Readable t) (d : Linked t) (a : (m : ℕ) → m < H
   unfolding tally
   whole-text = count-whole (byteOf t c) (textOf t) (at.textLength t) (omega (arith, text-length t))
 
-  -- The total is the text's count.
+  -- The total is the text's count; a text of no bytes has no block.
   pub total-is : total t c ≡ countIn (byteOf t c) (textOf t)
   unfolding total
-  total-is =
-      let cover = rw (← k .level0) at (pieces-cover (at.textLength t) (b t 0) (full-pos t k 0)) in
-      let some-block : 0 < N t 0 = pos-factor (N t 0) (b t 0) (omega (arith, k .text-low)) in
-      let hi : N t 0 - 1 < N t 0 = omega arith in
-      top-both (N t 0 - 1) hi ∙ rw (top-end (N t 0 - 1) hi (omega arith)) whole-text
+  total-is = go (lt-or-ge 0 (N t 0))
     where
-      pos-factor : (x y : ℕ) → 0 < x * y → 0 < x
-      pos-factor zero y h = absurd (let z : ⊥ = omega (arith, zero-mul y) in z)
-      pos-factor (suc x) y h = omega arith
+      go : (0 < N t 0) ⊎ (N t 0 ≤ 0) → total t c ≡ countIn (byteOf t c) (textOf t)
+      go (inl some-block) =
+          let hi : N t 0 - 1 < N t 0 = omega arith in
+          rw (ne-eqb (N t 0) 0 (λ e. omega arith)) (top-both (N t 0 - 1) hi ∙ rw (top-end (N t 0 - 1) hi (omega arith)) whole-text)
+      go (inr none) =
+          let e : N t 0 ≡ 0 = omega arith in
+          let cover = rw (← k .level0, e, zero-mul) at (pieces-cover (at.textLength t) (b t 0) (full-pos t k 0)) in
+          let few : at.textLength t ≡ 0 = omega arith in
+          rw e (sym (tally-none t c 0) ∙ rw few at whole-text)
 
   -- befores do not fall along the list
   pub top-rises : (i j : ℕ) → i ≤ j → j < N t 0 → at.before t 0 i c ≤ at.before t 0 j c

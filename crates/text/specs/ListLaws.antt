@@ -105,6 +105,11 @@ unfolding sumBelow
 sumBelow-ext zero f g h = refl
 sumBelow-ext (suc n) f g h = rw (sumBelow-ext n f g (λ i l. h i (omega arith)), h n (omega arith))
 
+pub sumBelow-none : (n : ℕ) (f : ℕ → ℕ) → ((i : ℕ) → i < n → f i ≡ 0) → sumBelow n f ≡ 0
+unfolding sumBelow
+sumBelow-none zero f h = refl
+sumBelow-none (suc n) f h = omega (arith, sumBelow-none n f (λ i l. h i (omega arith)), h n (omega arith))
+
 -- a part of a sum, with one more, is within the whole
 pub sumBelow-part : (n : ℕ) (f : ℕ → ℕ) (i : ℕ) → i < n → sumBelow i f + f i ≤ sumBelow n f
 unfolding sumBelow

@@ -225,7 +225,8 @@ pub fn scan_with(
 pub fn windows(n: usize, shape: Shape, tree: &[u8]) -> u32 {
     let levels = 0..shape.h as usize;
     let blocks: Vec<usize> = levels.clone().map(|level| word(tree, 28 + 8 * level) as usize).collect();
-    let record = (word(tree, 92) as usize - HEADER) / blocks.iter().sum::<usize>();
+    // a tree without blocks has no record, and no windows
+    let record = (word(tree, 92) as usize - HEADER).checked_div(blocks.iter().sum()).unwrap_or(0);
     let mut looked = 0;
     for level in levels.rev().skip(1) {
         let b = shape.block_length(level) as usize;

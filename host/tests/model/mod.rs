@@ -46,7 +46,7 @@ impl Shape {
 }
 
 pub fn text_in_bounds(n: u64) -> bool {
-    (1..=MAX_TEXT).contains(&n)
+    n <= MAX_TEXT
 }
 
 /// At most four counted bytes, each above the one before.

@@ -140,10 +140,10 @@ impl<'a> Tree<'a> {
         self.bytes[24..24 + self.k].iter().position(|&counted| u32::from(counted) == byte)
     }
 
-    /// How often counted byte number c stands in the text, as the tree has it.
+    /// How often counted byte number c stands in the text, as the tree has it: by the last block of level 0, and 0 times where there is none.
     #[inline]
     pub fn total(&self, c: usize) -> u64 {
-        let last = self.blocks[0] - 1;
+        let Some(last) = self.blocks[0].checked_sub(1) else { return 0 };
         self.field(0, last, BEFORE + 3 * c) + self.field(0, last, INSIDE + 3 * c)
     }
 }
@@ -464,11 +464,11 @@ pub fn row(bytes: &[u8], q: u32, buffer: &mut [u8]) -> Answer<(u32, u32)> {
     Answer::Settled((0, row.len() as u32))
 }
 
-/// Questions 5 to 7, 11 and 12. Where q is the total of byte 10 plus one, and there alone, the last byte is read: its 14, or 12 where it is 10.
+/// Questions 5 to 7, 11 and 12. Where q is the total of byte 10 plus one, and there alone, the last byte is read, if there is one: its 14, or 12 where it is 10.
 pub fn row_questions(bytes: &[u8], q: u32) -> Result<Tree<'_>, u32> {
     let tree = Tree::open(bytes)?;
     let c = tree.counted(10).ok_or(11u32)?;
-    if u64::from(q) != tree.total(c) + 1 {
+    if tree.n == 0 || u64::from(q) != tree.total(c) + 1 {
         return find_questions(bytes, 10, q).map(|(tree, _)| tree);
     }
     match byte_at(&tree, tree.n - 1) {

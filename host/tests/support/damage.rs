@@ -4,9 +4,9 @@ use super::Rng;
 use crate::model::build::{assemble, Choice};
 use crate::model::{blocks_for, record_length, word, Shape, HEADER, LAYOUTS, WITH_EDGES};
 
-/// A text of 1 to `longest` bytes over a few letters, with stretches that come again.
+/// A text of up to `longest` bytes over a few letters, with stretches that come again; now and then an empty one.
 pub fn text(rng: &mut Rng, longest: usize) -> Vec<u8> {
-    let length = rng.within(1, longest);
+    let length = if rng.one_in(40) { 0 } else { rng.within(1, longest) };
     let letters = *rng.pick(&[b"A".as_slice(), b"AB", b"ABC\n", b"A\r\n", b"AB\n\0\xFF", b"0123456789 \n"]);
     let copies = rng.below(4);
     let mut text: Vec<u8> = Vec::new();

@@ -8,5 +8,5 @@ first-block-spec =
     tie.close
     (tie.spec
     (λ c κs. search needs)
-    (λ c κs. laws.top-siblings _ _ _ _ (c .before .before .pre .0) (c .before .before .pre .1) (c .level-count .ensures))
+    (λ c κs. laws.top-siblings _ _ _ _ (c .before .before .pre .0) (c .before .before .pre .1) (c .before .before .pre .2) (c .level-count .ensures))
     (λ c. rw (c .before .level-count .ensures) at (c .last-before .ensures)))

@@ -10,7 +10,7 @@ pub seek-spec : {M : Type 1} → statement M
 seek-spec =
     tie.close
     (tie.spec
-    (λ c κs. search needs)
+    (λ c κs. (c .before .pre .0, c .before .pre .1, omega (arith, c .before .pre .3, c .before .pre .4)))
     (λ c κs. (laws.block-there _ _ _ _ _ _ (c .before .before .pre .0) (c .before .before .pre .1) (c .before .before .pre .2) (c .before .before .pre .3) (c .before .before .pre .4) (query.on-top _ _ (c .before .before .pre .0)) (c .first-block .ensures), c .before .before .pre .1))
     (λ c. search needs)
     (λ c κs. laws.top-kept _ _ _ _ _ _ (c .before .before .before .before .before .before .pre .0) (c .before .before .before .before .before .before .pre .1) (c .before .before .before .before .before .before .pre .2) (c .before .before .before .before .before .before .pre .3) (c .before .before .before .before .before .before .pre .4) (query.on-top _ _ (c .before .before .before .before .before .before .pre .0)) (c .before .before .before .before .first-block .ensures) _ (c .before .before .before .pick .ensures) _ _ _ (c .before .next .given .1) (omega arith))
