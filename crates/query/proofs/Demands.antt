@@ -111,6 +111,11 @@ pub use Rattle.query.proofs.ByColumns.{to-columns-numbers, from-columns
 pub use Rattle.query.proofs.Empty.{empty-header, empty-text, empty-answers}
 -- .. and of what is answered from the empty text: ..
 pub use Rattle.query.proofs.Empty.{empty-byte, empty-run, empty-span, empty-span-past, empty-count, empty-count-past, empty-find, empty-row}
+-- One byte corrected. "two texts of equal length that differ in one place": `OneByte`. "each count over the first i bytes differs by at most one, and not at
+-- all where i does not pass that place. A j-th place that lies before it is the same in both": of the texts, ..
+pub use Rattle.query.proofs.OneByte.{OneByte, one-byte-back, count-near, count-before, count-past, place-same}
+-- .. "This holds for the answers read from any two accepted trees that these texts fit and that count the byte, whoever built them."
+pub use Rattle.query.proofs.Corrections.{CountingTree, CountsNear, counts-near, FoundAt, place-before}
 
 -- The roads to a tree, each in one theorem.
 

@@ -14,4 +14,6 @@ pub mod Scanned
 pub mod WornKeys
 pub mod ByColumns
 pub mod Empty
+pub mod OneByte
+pub mod Corrections
 pub mod Demands

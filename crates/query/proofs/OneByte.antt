@@ -1,0 +1,99 @@
+-- Request 111, of texts: how far the correction of one byte reaches into counts and places.
+use mathlib.Core.List.{List}
+use mathlib.Core.Bool.{Bool, true, false, cond}
+use mathlib.Core.Path.{_≡_, sym, ap, _∙_}
+use mathlib.Core.Logic.{_⊎_, inl, inr}
+use Prim.Native.Nat.{ℕ, _+_, _-_, _≤_, _<_}
+use native.Mathlib.Omega.{arith}
+use lib.ListN.{length, getD, take}
+use lib.Dec.{eqb}
+use Rattle.text.specs.ListLaws.{lt-or-ge}
+use Rattle.text.specs.Text.{stretch, countIn, placeOf}
+use Rattle.text.specs.TextLaws.{stretch-ext}
+use Rattle.text.specs.CountLaws.{one, count-start, count-add, count-next, Nth, place-nth, nth-place, nth-high}
+
+-- "two texts of equal length that differ in one place", place d
+pub record OneByte (T U : List ℕ) (d : ℕ) : Type 0 where
+  pub same-length : length T ≡ length U
+  pub within : d < length T
+  pub differ : getD T d 0 ≡ getD U d 0 → ⊥
+  pub elsewhere : (p : ℕ) → p < length T → (p ≡ d → ⊥) → getD T p 0 ≡ getD U p 0
+
+-- so does each from the other
+pub one-byte-back : (T U : List ℕ) (d : ℕ) → OneByte T U d → OneByte U T d
+one-byte-back T U d k = record {
+  same-length = sym (k .same-length);
+  within = omega (arith, k .within, k .same-length);
+  differ = λ e. k .differ (sym e);
+  elsewhere = λ p h other. sym (k .elsewhere p (omega (arith, k .same-length)) other);
+}
+
+one-small : (c x : ℕ) → one c x ≤ 1
+one-small c x = go (eqb c x)
+  where
+    go : (y : Bool) → cond y 1 0 ≤ 1
+    go true = omega arith
+    go false = omega arith
+
+module _ (T U : List ℕ) (d : ℕ) (k : OneByte T U d) (c : ℕ) where
+  -- up to the place the texts are the same
+  same-before : (i : ℕ) → i ≤ d → stretch T 0 i ≡ stretch U 0 i
+  same-before i h =
+      stretch-ext T U 0 0 i (omega (arith, k .within)) (omega (arith, k .within, k .same-length))
+      (λ x l. k .elsewhere (0 + x) (omega (arith, k .within)) (λ e. omega arith))
+
+  -- and past it
+  same-past : (x : ℕ) → d + 1 + x ≤ length T → stretch T (d + 1) x ≡ stretch U (d + 1) x
+  same-past x h =
+      stretch-ext T U (d + 1) (d + 1) x h (omega (arith, k .same-length))
+      (λ y l. k .elsewhere (d + 1 + y) (omega arith) (λ e. omega arith))
+
+  -- "not at all where i does not pass that place": the first i bytes are the places below i
+  pub count-before : (i : ℕ) → i ≤ d → countIn c (take i T) ≡ countIn c (take i U)
+  count-before i h = sym (count-start c T i) ∙ ap (countIn c) (same-before i h) ∙ count-start c U i
+
+  -- where it does, the byte taken out stands once less and the byte put in once more
+  pub count-past : (i : ℕ) → d < i → i ≤ length T → countIn c (take i T) + one c (getD U d 0) ≡ countIn c (take i U) + one c (getD T d 0)
+  count-past i past h =
+      let x = i - (d + 1) in
+      let e : i ≡ d + 1 + x = omega arith in
+      rw e (omega (
+        arith,
+        parts T x (k .within),
+        parts U x (omega (arith, k .within, k .same-length)),
+        ap (countIn c) (same-past x (omega arith)),
+        ap (countIn c) (same-before d (omega arith)),
+      ))
+    where
+      -- what stands before the place, at it, and past it
+      parts : (X : List ℕ) (x : ℕ) → d < length X
+          → countIn c (take (d + 1 + x) X) ≡ countIn c (stretch X 0 d) + one c (getD X d 0) + countIn c (stretch X (d + 1) x)
+      parts X x l =
+          let e : 0 + d ≡ d = omega arith in
+          let f : 0 + (d + 1) ≡ d + 1 = omega arith in
+          omega (arith, count-start c X (d + 1 + x), rw f at (count-add c X 0 (d + 1) x), rw e at (count-next c X 0 d (omega arith)))
+
+  -- "each count over the first i bytes differs by at most one"
+  pub count-near : (i : ℕ) → i ≤ length T → (countIn c (take i T) ≤ countIn c (take i U) + 1) × (countIn c (take i U) ≤ countIn c (take i T) + 1)
+  count-near i h = go (lt-or-ge d i)
+    where
+      go : (d < i) ⊎ (i ≤ d) → (countIn c (take i T) ≤ countIn c (take i U) + 1) × (countIn c (take i U) ≤ countIn c (take i T) + 1)
+      go (inl past) =
+          let e = count-past i past h in
+          (omega (arith, one-small c (getD T d 0)), omega (arith, one-small c (getD U d 0)))
+      go (inr low) =
+          let e = count-before i low in
+          (omega arith, omega arith)
+
+  nth-same : (j o : ℕ) → o < d → Nth c j T 0 o → Nth c j U 0 o
+  nth-same j o low h = record {
+    within = omega (arith, h .within, k .same-length);
+    byte-is = sym (k .elsewhere (0 + o) (omega (arith, k .within)) (λ e. omega arith)) ∙ h .byte-is;
+    rank = omega (arith, h .rank, ap (countIn c) (same-before o (omega arith)));
+  }
+
+  -- "A j-th place that lies before it is the same in both": the other text has a j-th, and there
+  pub place-same : (j : ℕ) → 1 ≤ j → j ≤ countIn c T → placeOf c j T < d → (j ≤ countIn c U) × (placeOf c j U ≡ placeOf c j T)
+  place-same j low high before =
+      let h = nth-same j (placeOf c j T) before (place-nth c j T low high) in
+      (nth-high c j U (placeOf c j T) h, nth-place c j U (placeOf c j T) h)
