@@ -59,7 +59,9 @@ enum bt_number {
     BT_WORK = 18,       /* bt_build_scanned only: the table has fewer than four words for each leaf length of text, a begun one counting whole */
     BT_RANGES = 19,     /* a worn key does not have 1 to 10 cuts, a depth is above 9, or a low depth above its high one */
     BT_WIDTH = 20,      /* the width of rows is 0, or does not divide the text's length */
-    BT_OUTPUT = 21      /* bt_to_columns and bt_from_columns only: the output is shorter than the text */
+    BT_OUTPUT = 21,     /* bt_to_columns and bt_from_columns only: the output is shorter than the text */
+    BT_DATE = 22,       /* a day is no date of the years 2000 to 2099 in eight digits, or its renewal passes 2099 */
+    BT_TERM = 23        /* the last day lies before the first */
 };
 
 /* Build the tree of a text, in layout 2. Trees of layout 1 are read and checked all the same.
@@ -181,6 +183,27 @@ uint32_t bt_column_row(const uint8_t *tree, size_t tree_len, uint32_t width, uin
  *   written   out: the lines in its first *length bytes, at most BT_LIST_LENGTH; *length: their length
  *   answers   0, 5 to 9 and 15 as in the line, 13 if out is shorter than BT_LIST_LENGTH: then nothing is written and *length is 0 */
 uint32_t bt_list(const uint8_t *tree, size_t tree_len, uint8_t *out, size_t out_len, uint32_t *length);
+
+/* The term of a licence. No tree is involved. A day is lent as eight bytes '0' to '9', year, month and day (ISO 8601, basic form), of the Gregorian
+ * calendar and of the years 2000 to 2099: "20240229". Anything else, of any length, is refused with BT_DATE. */
+
+/* Is a book licensed from a first to a last day, both included, open on a day?
+ *   lent      first, last, today
+ *   written   *is_open: 1 for open, 0 for closed
+ *   answers   0, 22 (one of the three is no date), 23 (all three are, and the last is before the first) */
+uint32_t bt_open_on(const uint8_t *first, size_t first_len, const uint8_t *last, size_t last_len, const uint8_t *today, size_t today_len,
+                    uint32_t *is_open);
+
+/* The days left, last minus today.
+ *   lent      last, today
+ *   written   *days: 0 on the last day, below zero after it; -36,524 to 36,524
+ *   answers   0, 22 */
+uint32_t bt_days_left(const uint8_t *last, size_t last_len, const uint8_t *today, size_t today_len, int32_t *days);
+
+/* Renew: move a day by one year, 29 February to 28 February.
+ *   written   day is in and out: as it was on a refusal
+ *   answers   0, 22 (it is no date, or its year is 2099) */
+uint32_t bt_renew(uint8_t *day, size_t day_len);
 
 #ifdef __cplusplus
 }

@@ -5,6 +5,7 @@
 //!     cargo bench -- builders   the two builders only
 //!     cargo bench -- columns    columns before rows only
 //!     cargo bench -- sizes      the library's calls on books of 64 KiB, 1 MiB and 8 MiB, and the first builder on 8 MiB (slow)
+//!     cargo bench -- licence    the term of a licence only
 //!
 //! Prints the tables of docs/BENCHMARKS.md. Nothing is asserted about time; that both give the same answers is.
 
@@ -14,7 +15,7 @@ mod model;
 mod support;
 
 use codebook::{calls, MAX_TEXT, SHORT_LIST};
-use model::{check, columns, fast, keys, read, Shape};
+use model::{check, columns, dates, fast, keys, read, Shape};
 use std::hint::black_box;
 use std::io::Write;
 use std::process::{Command, Stdio};
@@ -36,6 +37,9 @@ fn main() {
         time_sizes();
         time_longest();
         return;
+    }
+    if told("licence") {
+        return time_licences();
     }
     for &size in &[65_536, 1_048_576][..if quick { 1 } else { 2 }] {
         time_builders(size);
@@ -67,6 +71,7 @@ fn main() {
         }
     }
     by_columns(quick);
+    time_licences();
 }
 
 /// Books with rows of one width: what columns do to the size of the tree, and the times of rearranging and of reading a row.
@@ -140,6 +145,42 @@ fn time_rows(text: &[u8], name: &str) {
     );
     let ratio = library.as_secs_f64() / model.as_secs_f64();
     println!("| {name} | {} | {} | {} | {ratio:.2} | {} |", text.len(), shown(library), shown(model), shown(plain));
+}
+
+/// The term of a licence, over days of the whole range.
+fn time_licences() {
+    println!("\n## The term of a licence\n\n| Question | Library | Model | Ratio |\n|---|---:|---:|---:|");
+    let mut rng = Rng::new(112);
+    let numbers: Vec<u32> = (0..10_000).map(|_| rng.below(36_525) as u32).collect();
+    let day = |number: u32| dates::calendar()[number as usize % 36_525].as_bytes();
+    // a first, a last and another day
+    let days = |number: u32| (day(number / 2), day(number), day(number.wrapping_mul(31)));
+    let row = |question: &str, [library, model]: [Duration; 2]| {
+        println!("| {question} | {} | {} | {:.2} |", shown(library), shown(model), library.as_secs_f64() / model.as_secs_f64());
+    };
+    let open = each(
+        &numbers,
+        |number| {
+            let (first, last, today) = days(number);
+            calls::open_on(first, last, today)
+        },
+        |number| {
+            let (first, last, today) = days(number);
+            dates::open_on(first, last, today)
+        },
+    );
+    row("open", open);
+    let left = each(&numbers, |number| calls::days_left(days(number).1, days(number).2), |number| dates::days_left(days(number).1, days(number).2));
+    row("left", left);
+    let library = |number| {
+        let mut lent: [u8; 8] = day(number).try_into().expect("eight digits");
+        (calls::renew(&mut lent), lent)
+    };
+    let model = |number| {
+        let (refusal, renewed) = dates::renew(day(number));
+        (refusal, renewed.try_into().expect("eight digits"))
+    };
+    row("renew", each(&numbers, library, model));
 }
 
 fn time_book(text: &[u8], name: &str, shape: Shape) {

@@ -1,6 +1,7 @@
 //! The words of a call, taken apart.
 
 use crate::help::Topic;
+use crate::licence::{self, Licence};
 use crate::Failure;
 use codebook::{Range, Settings};
 
@@ -54,6 +55,7 @@ pub enum Call {
         tree: Option<String>,
         unchecked: bool,
     },
+    Licence(Licence),
 }
 
 pub fn parse(words: Vec<String>) -> Result<Call, Failure> {
@@ -136,6 +138,9 @@ impl Given {
     }
 
     fn call(self, topic: &Topic) -> Result<Call, Failure> {
+        if topic.name == "licence" {
+            return licence::parse(&self.plain).map(Call::Licence).map_err(|words| usage(topic, &words));
+        }
         let least = topic.figures.len();
         if self.plain.len() < least {
             return Err(usage(topic, &format!("{} is missing", topic.figures[self.plain.len()])));

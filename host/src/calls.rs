@@ -52,6 +52,17 @@ mod declared {
             windows: *mut u32,
         ) -> u32;
         pub fn bt_scan_words(n: u32, leaf: u32) -> u64;
+        pub fn bt_open_on(
+            first: *const u8,
+            first_len: usize,
+            last: *const u8,
+            last_len: usize,
+            today: *const u8,
+            today_len: usize,
+            is_open: *mut u32,
+        ) -> u32;
+        pub fn bt_days_left(last: *const u8, last_len: usize, today: *const u8, today_len: usize, days: *mut i32) -> u32;
+        pub fn bt_renew(day: *mut u8, day_len: usize) -> u32;
     }
 }
 
@@ -184,4 +195,23 @@ pub fn build_scanned(text: &[u8], leaf: u32, arity: u32, levels: u32, counted: &
 /// The words of the table that `build_scanned` needs.
 pub fn scan_words(n: u32, leaf: u32) -> u64 {
     unsafe { declared::bt_scan_words(n, leaf) }
+}
+
+/// The number, and 1 for open, else 0.
+pub fn open_on(first: &[u8], last: &[u8], today: &[u8]) -> (u32, u32) {
+    let mut open = 0;
+    let number = unsafe { declared::bt_open_on(first.as_ptr(), first.len(), last.as_ptr(), last.len(), today.as_ptr(), today.len(), &mut open) };
+    (number, open)
+}
+
+/// The number and the days left.
+pub fn days_left(last: &[u8], today: &[u8]) -> (u32, i32) {
+    let mut days = 0;
+    let number = unsafe { declared::bt_days_left(last.as_ptr(), last.len(), today.as_ptr(), today.len(), &mut days) };
+    (number, days)
+}
+
+/// The number; the day is moved.
+pub fn renew(day: &mut [u8]) -> u32 {
+    unsafe { declared::bt_renew(day.as_mut_ptr(), day.len()) }
 }

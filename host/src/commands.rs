@@ -3,7 +3,7 @@
 use crate::args::{Call, Question};
 use crate::files::{self, Input};
 use crate::trials::Trial;
-use crate::{by_columns, help, messages, trials, Failure};
+use crate::{by_columns, help, licence, messages, trials, Failure};
 use codebook::{list, Range, Reached, Refusal, Settings, Tree, MAX_TEXT};
 
 pub fn run(call: Call) -> Result<(), Failure> {
@@ -16,6 +16,7 @@ pub fn run(call: Call) -> Result<(), Failure> {
         }
         Call::Columns { width, book, out, back } => by_columns::rearrange(width, book.as_deref(), out.as_deref(), back),
         Call::Ask { question, tree, unchecked } => ask(&question, tree.as_deref(), unchecked),
+        Call::Licence(licence) => licence::run(&licence),
     }
 }
 

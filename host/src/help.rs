@@ -14,7 +14,7 @@ pub struct Topic {
 
 const UNCHECKED: &[&str] = &["--unchecked"];
 
-static TOPICS: [Topic; 14] = [
+static TOPICS: [Topic; 15] = [
     Topic {
         name: "build",
         usage: "codebook build [BOOK] [-o TREE] [--leaf M --arity R --levels H] [--count BYTES] [--columns W]",
@@ -160,6 +160,19 @@ All W bytes of the row as they are, its end byte included, and nothing else. Tha
         options: &[],
         summary: "describe a tree",
         details: "Sizes, settings, rows, what is counted, and the blocks of each level.",
+    },
+    Topic {
+        name: "licence",
+        usage: "codebook licence open FIRST LAST [TODAY] | left LAST [TODAY] | renew DAY",
+        figures: &[],
+        options: &[],
+        summary: "the term of a licence: is a book open, days left, renewal",
+        details: "\
+A day is eight digits, year, month and day, as 20240229, from 20000101 to 20991231. Without TODAY it is the clock's day in universal time. No tree is read.
+
+  open FIRST LAST [TODAY]   open from the first day to the last, both included, with the days left; or closed, and why
+  left LAST [TODAY]         the days from today to the last: 0 on the last day, below zero after it
+  renew DAY                 the same day one year later; 29 February becomes 28 February",
     },
 ];
 

@@ -13,10 +13,12 @@
 mod bounds;
 pub mod calls;
 mod columns;
+mod days;
 mod refusal;
 
 pub use bounds::{MAX_PATTERN, MAX_TEXT};
 pub use columns::{from_columns, row_width, to_columns};
+pub use days::{days_left, open_on, renew};
 use refusal::answer;
 pub use refusal::Refusal;
 

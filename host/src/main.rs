@@ -5,6 +5,7 @@ mod by_columns;
 mod commands;
 mod files;
 mod help;
+mod licence;
 mod messages;
 mod progress;
 mod trials;

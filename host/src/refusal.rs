@@ -52,6 +52,8 @@ refusals! {
     Ranges = 19: "a worn key must have 1 to 10 cuts, each with a low and a high depth of 0 to 9, the low one not above the high one",
     Width = 20: "the width must be above 0 and divide the text's length",
     Output = 21: "the output is shorter than the text",
+    Date = 22: "a day is eight digits, year, month and day, from 20000101 to 20991231, and a renewal does not pass 2099",
+    Term = 23: "the last day lies before the first",
 }
 
 impl Refusal {
@@ -89,13 +91,13 @@ mod tests {
     #[test]
     fn numbers_are_those_of_the_header() {
         let header = include_str!("../../include/blocktree.h");
-        for number in 1..=21 {
+        for number in 1..=23 {
             let refusal = Refusal::from_number(number).expect("a refusal");
             assert_eq!(refusal.number(), number);
             assert!(refusal.to_string().starts_with(&format!("refused ({number}): ")));
             let lines = header.lines().filter(|line| line.trim_start().starts_with("BT_") && declares(line, number));
             assert_eq!(lines.count(), 1);
         }
-        assert!(Refusal::from_number(0).is_none() && Refusal::from_number(22).is_none());
+        assert!(Refusal::from_number(0).is_none() && Refusal::from_number(24).is_none());
     }
 }

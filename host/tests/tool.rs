@@ -499,7 +499,8 @@ fn help() {
     let folder = Folder::new("help");
     let overview = folder.run("--help");
     overview.succeeds().says("");
-    let commands = ["build", "check", "list", "row", "byte", "span", "count", "find", "places", "match", "columns", "column-row", "text", "stats"];
+    let commands =
+        ["build", "check", "list", "row", "byte", "span", "count", "find", "places", "match", "columns", "column-row", "text", "stats", "licence"];
     for command in commands {
         assert!(String::from_utf8_lossy(&overview.output.stdout).contains(&format!("\n  {command:<7}")));
         let help = folder.run(&format!("{command} --help"));
@@ -534,4 +535,43 @@ fn output_that_nobody_reads() {
     drop(child.stdout.take());
     let output = child.wait_with_output().expect("the tool ends");
     assert_eq!((output.status.code(), output.stderr.as_slice()), (Some(0), b"".as_slice()));
+}
+
+/// The term of a licence: no file is read, and today is always given here.
+#[test]
+fn licences() {
+    let folder = Folder::new("licences");
+    let prints = |words: &str, line: &str| {
+        folder.run(&format!("licence {words}")).succeeds().prints(&format!("{line}\n")).says("");
+    };
+    prints("open 20240101 20241231 20240101", "open, 365 days left");
+    prints("open 20240101 20241231 20241230", "open, 1 day left");
+    prints("open 20240101 20241231 20241231", "open, 0 days left");
+    prints("open 20240101 20241231 20250101", "closed, 1 day past");
+    prints("open 20240101 20241231 20231231", "closed: it opens on 20240101");
+    prints("left 20240301 20240228", "2");
+    prints("left 20191231 20300101", "-3654");
+    prints("left 20240229 20240229", "0");
+    prints("renew 20240229", "20250228");
+    prints("renew 20230228", "20240228");
+    let refused = |words: &str, says: &str| {
+        folder.run(&format!("licence {words}")).status(1).prints("").says(&format!("codebook: licence: refused {says}\n"));
+    };
+    let date = "(22): a day is eight digits, year, month and day, from 20000101 to 20991231, and a renewal does not pass 2099; given: ";
+    refused("left 20010229 20240101", &format!("{date}'20010229'"));
+    refused("open 20240102 20240101 2024010", &format!("{date}'2024010'"));
+    refused("renew 20991231", &format!("{date}20991231"));
+    refused("open 20240102 20240101 20240101", "(23): the last day lies before the first; given: 20240102 20240101 20240101");
+    let usage = "usage: codebook licence open FIRST LAST [TODAY] | left LAST [TODAY] | renew DAY";
+    for (words, says) in [
+        ("", "open, left or renew is missing"),
+        ("close 20240101", "a licence is asked with open, left or renew, not 'close'"),
+        ("open 20240101", "LAST is missing"),
+        ("renew", "DAY is missing"),
+        ("renew 20240101 20240101", "'20240101' is one word too many"),
+        ("left 20240101 20240101 x", "'x' is one word too many"),
+        ("left 20240101 --unchecked", "there is no option '--unchecked'"),
+    ] {
+        folder.run(&format!("licence {words}")).status(2).prints("").says(&format!("codebook: {says}\n{usage}\n"));
+    }
 }

@@ -8,7 +8,7 @@ mod support;
 use codebook::calls;
 use judge::{find_agrees, match_agrees, row_agrees, FILL, FILL_WORD};
 use model::read::Answer;
-use model::{build, check, columns, keys, read, Shape};
+use model::{build, check, columns, dates, keys, read, Shape};
 use std::collections::HashMap;
 use std::fmt::Display;
 use support::{from_hex, to_hex};
@@ -35,6 +35,9 @@ struct Calls {
     to_columns: fn(&[u8], u32, &mut [u8]) -> u32,
     from_columns: fn(&[u8], u32, &mut [u8]) -> u32,
     column_row: fn(&[u8], u32, u32, &mut [u8]) -> (u32, u32),
+    open_on: fn(&[u8], &[u8], &[u8]) -> (u32, u32),
+    days_left: fn(&[u8], &[u8]) -> (u32, i32),
+    renew: fn(&[u8]) -> (u32, Vec<u8>),
 }
 
 #[test]
@@ -63,6 +66,13 @@ fn library() {
             0 => (0, width),
             number => (number, 0),
         },
+        open_on: calls::open_on,
+        days_left: calls::days_left,
+        renew: |day| {
+            let mut lent = day.to_vec();
+            let number = calls::renew(&mut lent);
+            (number, lent)
+        },
     });
 }
 
@@ -84,6 +94,9 @@ fn model() {
         to_columns: columns::to_columns,
         from_columns: columns::from_columns,
         column_row: columns::row,
+        open_on: dates::open_on,
+        days_left: dates::days_left,
+        renew: dates::renew,
     });
 }
 
@@ -97,7 +110,7 @@ fn library_scan(text: &[u8], shape: Shape, counted: &[u8], words: usize, out: &m
 }
 
 /// Items of requests that are not in force in this format are passed over by name.
-const LATER: [&str; 7] = ["open", "left", "renew", "guide", "guidecheck", "guided", "order"];
+const LATER: [&str; 4] = ["guide", "guidecheck", "guided", "order"];
 
 fn run_all(calls: &Calls) {
     run_file(calls, VECTORS);
@@ -111,7 +124,7 @@ fn run_file(calls: &Calls, file: &str) {
     for line in file.lines().filter(|line| !line.is_empty() && !line.starts_with('#') && !line.contains(" => wrong: ")) {
         let tokens: Vec<&str> = line.split(' ').collect();
         match tokens[..] {
-            ["landed", request] => in_force = request == "110",
+            ["landed", request] => in_force = request == "112",
             ["text" | "tree", name, hex] => {
                 bytes.insert(name, from_hex(hex));
             }
@@ -142,6 +155,9 @@ fn run_file(calls: &Calls, file: &str) {
 fn item(calls: &Calls, bytes: &HashMap<&str, Vec<u8>>, item: &[&str], expected: &[&str]) -> Result<(), String> {
     let number = |at: usize| item[at].parse::<u32>().expect("a number");
     let lent = |at: usize| vec![FILL; item[at].parse().expect("a length")];
+    if let Some(got) = on_days(calls, item) {
+        return if got == expected.join(" ") { Ok(()) } else { Err(got) };
+    }
     let subject = &bytes[item[1]];
     let got = match item[0] {
         "build" => {
@@ -194,6 +210,28 @@ fn item(calls: &Calls, bytes: &HashMap<&str, Vec<u8>>, item: &[&str], expected: 
     } else {
         Err(got)
     }
+}
+
+/// An item on the term of a licence: its days are given in hexadecimal, and no tree.
+fn on_days(calls: &Calls, item: &[&str]) -> Option<String> {
+    let day = |at: usize| from_hex(item[at]);
+    Some(match item[0] {
+        "open" => {
+            let (number, open) = (calls.open_on)(&day(1), &day(2), &day(3));
+            format!("{number} {open}")
+        }
+        "left" => {
+            let (number, days) = (calls.days_left)(&day(1), &day(2));
+            format!("{number} {days}")
+        }
+        // a refusal leaves the lent day as it was, and the item has `-`
+        "renew" => match (calls.renew)(&day(1)) {
+            (0, after) => format!("0 {}", to_hex(&after)),
+            (number, after) if after == day(1) => format!("{number} -"),
+            (number, after) => format!("{number} {}", to_hex(&after)),
+        },
+        _ => return None,
+    })
 }
 
 fn figures((number, first, second): (u32, impl Display, u32)) -> String {

@@ -5,3 +5,4 @@ pub mod PlaceLaws
 pub mod ScanLaws
 pub mod MatchLaws
 pub mod ColumnLaws
+pub mod TermLaws

@@ -2,6 +2,8 @@
 // references, 0 on a refusal. Any bytes may be lent as a tree.
 mod by_columns;
 
+pub mod licence;
+
 use access::Answer;
 use access::Copied;
 use access::reading::Ran;

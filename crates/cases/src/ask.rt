@@ -1,6 +1,7 @@
 // What a line asks, put to the library.
 use crate::beside;
 use crate::by_columns;
+use crate::licence;
 use crate::wrong;
 use script::Gift;
 use script::Question;
@@ -32,6 +33,9 @@ pub fn line(script: &[u8], line: &[u8], bytes: &mut [u8], lent: &mut [u8]) {
 // A line with a word of another file, or with no such word.
 fn other(script: &[u8], line: &[u8], bytes: &mut [u8], lent: &mut [u8]) {
     if by_columns::line(script, line, bytes, lent) {
+        return;
+    }
+    if licence::line(line) {
         return;
     }
     wrong::say(b"no such word");

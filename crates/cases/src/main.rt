@@ -3,6 +3,7 @@
 mod ask;
 mod beside;
 mod by_columns;
+mod licence;
 mod wrong;
 
 ghost use Prim.Native.Nat.{_≤_};

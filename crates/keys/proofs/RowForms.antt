@@ -9,11 +9,12 @@ use lib.ListN.{length, getD}
 use lib.Dec.{ltb, leb, eqb, leb·suc-suc}
 use borrow.Author.Tests.{ltb-true, leb-true, le-leb, lt-leb, lt-ltb, le-ltb, eqb-true, eqb-false, eq-eqb, ne-eqb, leb-false}
 use Rattle.text.specs.Lists.{allBelow}
+use Rattle.text.specs.Text.{isDigit}
 use Rattle.text.specs.ListLaws.{and-left, and-right, and-both, and-false, lt-or-ge, allBelow-at, allBelow-make}
 use Rattle.text.specs.Conjunctions.{parts}
 use Rattle.keys.specs.declared.form.Form.{Form}
 use Rattle.keys.specs.declared.form.Form.the-variants.{Code, Cuts, Ended, Wrong}
-use Rattle.keys.specs.Keys.{cutCount, low, high, rangesOk, codeOf, cutsOf, isDigit, isKey, depth, matches}
+use Rattle.keys.specs.Keys.{cutCount, low, high, rangesOk, codeOf, cutsOf, isKey, depth, matches}
 use Rattle.keys.specs.Forms.{inCode, cutFits, inCuts, stepOf, isWhole, isDone, runFrom}
 
 bool-same : (a b : Bool) → (a ≡ true → b ≡ true) → (b ≡ true → a ≡ true) → a ≡ b

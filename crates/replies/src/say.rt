@@ -7,7 +7,7 @@ pub fn number(number: u32) {
 }
 
 // A figure.
-fn figure(figure: u64) {
+pub fn figure(figure: u64) {
     io::write_all(1, b" ");
     io::print_decimal(1, figure);
 }

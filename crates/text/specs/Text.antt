@@ -1,9 +1,9 @@
 -- What is asked of a text, a list of bytes.
 use mathlib.Core.List.{List, [], _∷_}
-use mathlib.Core.Bool.{cond}
+use mathlib.Core.Bool.{Bool, cond, _&&_}
 use Prim.Native.Nat.{ℕ, zero, suc, _+_, _-_}
 use lib.ListN.{take, drop}
-use lib.Dec.{eqb}
+use lib.Dec.{leb, eqb}
 use Rattle.text.specs.Lists.{sameList}
 
 -- the len bytes from place p
@@ -20,6 +20,10 @@ firstFrom T s len (suc more) p =
 -- the leftmost occurrence of the len bytes at s
 unfoldable pub leftmost : List ℕ → ℕ → ℕ → ℕ
 leftmost T s len = firstFrom T s len s 0
+
+-- a byte '0' to '9'
+unfoldable pub isDigit : ℕ → Bool
+isDigit x = leb 48 x && leb x 57
 
 -- how often c stands in xs (rank, of the first bytes of a text)
 unfoldable pub countIn : ℕ → List ℕ → ℕ

@@ -7,6 +7,7 @@
 pub mod build;
 pub mod check;
 pub mod columns;
+pub mod dates;
 pub mod fast;
 pub mod keys;
 pub mod read;

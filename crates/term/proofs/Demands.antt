@@ -1,0 +1,193 @@
+-- Request 112, as theorems over what the calls promise, for any lent bytes. The calendar's own laws: the day after a day has the next number
+-- (`next-number`) and is a day (`next-date`), the order of dates is the order of their numbers (`in-order`), a number is one day's (`one-day`).
+use mathlib.Core.List.{List}
+use mathlib.Core.Bool.{Bool, true, false, cond, not, _&&_}
+use mathlib.Core.Path.{_≡_, refl, sym, ap, _∙_}
+use mathlib.Core.Logic.{_⊎_, inl, inr}
+use Prim.Native.Nat.{ℕ, zero, suc, _+_, _-_, _≤_, _<_}
+use native.Mathlib.Omega.{arith}
+use contract.Lifetimes.{Lfts}
+use denote.Ref.{RefT, now}
+use lib.IntN.{ℤ, pos, negsuc, _-ℤ_}
+use lib.Dec.{ltb, leb, eqb}
+use borrow.Author.Tests.{le-leb, lt-leb, lt-ltb, le-ltb, ltb-true}
+use Rattle.text.specs.ListLaws.{and-left, and-right, and-false, bool-cases, bool-clash, lt-or-ge}
+use Rattle.term.specs.declared.Opened.{Opened}
+use Rattle.term.specs.declared.Opened.the-variants as opened
+use Rattle.term.specs.declared.Left.{Left}
+use Rattle.term.specs.declared.Left.the-variants as left
+use Rattle.term.specs.Calendar.{dayNumber, earlier, renewed}
+use Rattle.term.specs.Days.{isDay, dateIn, written}
+use Rattle.term.specs.WrittenLaws.{date-back, day-back}
+use Rattle.term.specs.Term.{numberIn, openNumber, openOn, leftNumber, daysLeft, renewNumber, renewLeaves}
+use Rattle.term.specs.Answers.{openedNumber, saysOpen, OpenedNumbered, saysNumber, saysDays, LeftNumbered}
+use Rattle.term.proofs.DayLaws.{day-date}
+use Rattle.term.proofs.open_on.Reads as open-reads
+use Rattle.term.proofs.open_on.Statement as open-stated
+use Rattle.term.proofs.open_on.Met as open-met
+use Rattle.term.proofs.days_left.Reads as left-reads
+use Rattle.term.proofs.days_left.Statement as left-stated
+use Rattle.term.proofs.days_left.Met as left-met
+use Rattle.term.proofs.renew.Reads as renew-reads
+use Rattle.term.proofs.renew.Statement as renew-stated
+use Rattle.term.proofs.renew.Met as renew-met
+pub use Rattle.term.specs.CalendarLaws.{next-number, next-date, in-order, one-day}
+pub use Rattle.term.specs.RenewalLaws.{renewed-date, renewed-later}
+
+abbrev pub Lent : Type 0
+Lent = RefT (List ℕ)
+
+-- an answer that the contract of `open_on` allows
+abbrev pub OpenOn : (κs : Lfts 3) → (first last today : Lent) → Opened → Type 0
+OpenOn κs first last today r = open-reads.Post κs (first, (last, (today, tt))) r (first, (last, (today, tt)))
+
+-- the same of `days_left`
+abbrev pub DaysLeft : (κs : Lfts 2) → (last today : Lent) → Left → Type 0
+DaysLeft κs last today r = left-reads.Post κs (last, (today, tt)) r (last, (today, tt))
+
+-- the same of `renew`, which leaves the day as `after`
+abbrev pub Renew : (κs : Lfts 1) → (day after : Lent) → ℕ → Type 0
+Renew κs day after r = renew-reads.Post κs (day, tt) r (after, tt)
+
+-- Every call ends, and reads and writes only what was lent: each meets its contract. What it asks of its caller holds of any arguments.
+pub every-call-ends : {M : Type 1} → open-stated.statement M × left-stated.statement M × renew-stated.statement M
+every-call-ends = (open-met.met, left-met.met, renew-met.met)
+
+pub trusts-no-caller :
+    ((κs : Lfts 3) (first last today : Lent) → open-reads.Asked κs (first, (last, (today, tt))))
+    × ((κs : Lfts 2) (last today : Lent) → left-reads.Asked κs (last, (today, tt)))
+    × ((κs : Lfts 1) (day : Lent) → renew-reads.Asked κs (day, tt))
+trusts-no-caller = (λ κs first last today. tt, λ κs last today. tt, λ κs day. tt)
+
+-- The numbers of two written days compare as the days do.
+module _ (xs ys : List ℕ) (a : isDay xs ≡ true) (b : isDay ys ≡ true) where
+  order-by : (e : Bool) → earlier (dateIn ys) (dateIn xs) ≡ e → (ltb (numberIn ys) (numberIn xs) ≡ e) × (leb (numberIn xs) (numberIn ys) ≡ not e)
+  order-by true e =
+      let l = in-order (dateIn ys) (dateIn xs) (day-date ys b) (day-date xs a) .0 e in
+      (lt-ltb (numberIn ys) (numberIn xs) l, lt-leb (numberIn xs) (numberIn ys) l)
+  order-by false e = go (lt-or-ge (numberIn ys) (numberIn xs))
+    where
+      go : (numberIn ys < numberIn xs) ⊎ (numberIn xs ≤ numberIn ys) → (ltb (numberIn ys) (numberIn xs) ≡ false) × (leb (numberIn xs) (numberIn ys) ≡ true)
+      go (inl l) = bool-clash _ (in-order (dateIn ys) (dateIn xs) (day-date ys b) (day-date xs a) .1 l) e
+      go (inr g) = (le-ltb (numberIn ys) (numberIn xs) g, le-leb (numberIn xs) (numberIn ys) g)
+
+  order-is :
+      (ltb (numberIn ys) (numberIn xs) ≡ earlier (dateIn ys) (dateIn xs))
+      × (leb (numberIn xs) (numberIn ys) ≡ not (earlier (dateIn ys) (dateIn xs)))
+  order-is = order-by (earlier (dateIn ys) (dateIn xs)) refl
+
+-- an answer of `open_on` by its number and figure
+refused-open : (r : Opened) (n : ℕ) → openedNumber r ≡ suc n → r ≡ opened.Refused (suc n)
+refused-open opened.Open n e = absurd (let x : ⊥ = omega arith in x)
+refused-open opened.Closed n e = absurd (let x : ⊥ = omega arith in x)
+refused-open (opened.Refused number) n e = ap opened.Refused e
+
+told-open : (r : Opened) (b : Bool) → OpenedNumbered r → openedNumber r ≡ 0 → saysOpen r ≡ b → r ≡ cond b opened.Open opened.Closed
+told-open opened.Open true k e g = refl
+told-open opened.Open false k e g = bool-clash true refl g
+told-open opened.Closed true k e g = bool-clash false g refl
+told-open opened.Closed false k e g = refl
+told-open (opened.Refused number) b k e g = absurd (let x : ⊥ = omega arith in x)
+
+module _ (κs : Lfts 3) (first last today : Lent) (r : Opened) (a : OpenOn κs first last today r) where
+  -- "It refuses what is no such date .. with 22, ..
+  pub open-no-date : (isDay (now first) && isDay (now last) && isDay (now today)) ≡ false → r ≡ opened.Refused 22
+  unfolding openNumber
+  open-no-date h = refused-open r 21 (a .number-is ∙ rw h)
+
+  module _ (f : isDay (now first) ≡ true) (l : isDay (now last) ≡ true) (t : isDay (now today) ≡ true) where
+    number-is : openNumber (now first) (now last) (now today) ≡ cond (earlier (dateIn (now last)) (dateIn (now first))) 23 0
+    unfolding openNumber
+    number-is = rw (f, l, t, order-is (now first) (now last) f l .0)
+
+    -- .. and then, where both days are given, a last day before the first with 23."
+    pub open-turned : earlier (dateIn (now last)) (dateIn (now first)) ≡ true → r ≡ opened.Refused 23
+    open-turned h = refused-open r 22 (a .number-is ∙ number-is ∙ rw h)
+
+    -- today stands neither before the first day nor after the last
+    abbrev fromTo : Bool
+    fromTo = not (earlier (dateIn (now today)) (dateIn (now first))) && not (earlier (dateIn (now last)) (dateIn (now today)))
+
+    -- "A book is open on a day from the first to the last, both included."
+    pub open-from-to : earlier (dateIn (now last)) (dateIn (now first)) ≡ false → r ≡ cond fromTo opened.Open opened.Closed
+    unfolding openOn
+    open-from-to h =
+        let n : openNumber (now first) (now last) (now today) ≡ 0 = number-is ∙ rw h in
+        let e : openOn (now first) (now last) (now today) ≡ fromTo =
+        rw (n, order-is (now first) (now today) f t .1, order-is (now today) (now last) t l .1) in
+        told-open r fromTo (a .numbered) (a .number-is ∙ n) (a .open-is ∙ e)
+
+-- an answer of `days_left` by its number and figure
+refused-left : (r : Left) (n : ℕ) → saysNumber r ≡ suc n → r ≡ left.Refused (suc n)
+refused-left (left.Days z) n e = absurd (let x : ⊥ = omega arith in x)
+refused-left (left.Refused number) n e = ap left.Refused e
+
+told-left : (r : Left) (z : ℤ) → LeftNumbered r → saysNumber r ≡ 0 → saysDays r ≡ z → r ≡ left.Days z
+told-left (left.Days y) z k e g = ap left.Days g
+told-left (left.Refused number) z k e g = absurd (let x : ⊥ = omega arith in x)
+
+minus-le : (a b : ℕ) → b ≤ a → pos a -ℤ pos b ≡ pos (a - b)
+minus-le a zero h = ap pos (omega arith)
+minus-le a (suc b) h = rw (le-ltb a (suc b) h)
+
+minus-lt : (a b : ℕ) → a < b → pos a -ℤ pos b ≡ negsuc (b - a - 1)
+minus-lt a zero h = absurd (let x : ⊥ = omega arith in x)
+minus-lt a (suc b) h = rw (lt-ltb a (suc b) h) (ap negsuc (omega arith))
+
+module _ (κs : Lfts 2) (last today : Lent) (r : Left) (a : DaysLeft κs last today r) where
+  pub left-no-date : (isDay (now last) && isDay (now today)) ≡ false → r ≡ left.Refused 22
+  unfolding leftNumber
+  left-no-date h = refused-left r 21 (a .number-is ∙ rw h)
+
+  module _ (l : isDay (now last) ≡ true) (t : isDay (now today) ≡ true) where
+    -- "The days left are last minus today, ..
+    pub days-minus : r ≡ left.Days (pos (numberIn (now last)) -ℤ pos (numberIn (now today)))
+    unfolding daysLeft leftNumber
+    days-minus = told-left r _ (a .numbered) (a .number-is ∙ rw (l, t)) (a .days-is ∙ rw (l, t))
+
+    pub days-before : numberIn (now today) ≤ numberIn (now last) → r ≡ left.Days (pos (numberIn (now last) - numberIn (now today)))
+    days-before h = days-minus ∙ ap left.Days (minus-le (numberIn (now last)) (numberIn (now today)) h)
+
+    -- .. so 0 on the last day ..
+    pub days-last : dateIn (now today) ≡ dateIn (now last) → r ≡ left.Days (pos 0)
+    days-last e =
+        let z : numberIn (now today) ≡ numberIn (now last) = ap dayNumber e in
+        days-before (omega (arith, z)) ∙ ap (λ (k : ℕ). left.Days (pos k)) (omega (arith, z))
+
+    -- .. and negative after it": below zero by as many days as have gone; `negsuc k` is -(k + 1)
+    pub days-after : numberIn (now last) < numberIn (now today) → r ≡ left.Days (negsuc (numberIn (now today) - numberIn (now last) - 1))
+    days-after h = days-minus ∙ ap left.Days (minus-lt (numberIn (now last)) (numberIn (now today)) h)
+
+module _ (κs : Lfts 1) (day after : Lent) where
+  -- "A renewal moves a day by one year; 29 February goes to 28 February": what it leaves is that day, written, and 365 or 366 days on
+  pub renew-moves : Renew κs day after 0
+      → (isDay (now after) ≡ true) × (dateIn (now after) ≡ renewed (dateIn (now day)))
+      × ((numberIn (now after) ≡ numberIn (now day) + 365) ⊎ (numberIn (now after) ≡ numberIn (now day) + 366))
+  unfolding renewNumber renewLeaves
+  renew-moves a = by (isDay (now day) && ltb (dateIn (now day) .year) 2099) refl (a .0) (a .1)
+    where
+      by : (b : Bool) → (isDay (now day) && ltb (dateIn (now day) .year) 2099) ≡ b → _≡_ {A = ℕ} 0 (cond b 0 22)
+          → now after ≡ cond (eqb (cond b 0 22) 0) (written (renewed (dateIn (now day)))) (now day)
+          → (isDay (now after) ≡ true) × (dateIn (now after) ≡ renewed (dateIn (now day)))
+          × ((numberIn (now after) ≡ numberIn (now day) + 365) ⊎ (numberIn (now after) ≡ numberIn (now day) + 366))
+      by true e n k =
+          let facts = day-date (now day) (and-left (isDay (now day)) _ e) in
+          let low = ltb-true _ 2099 (and-right (isDay (now day)) _ e) in
+          let f = renewed-date (dateIn (now day)) facts low in
+          let back = date-back (renewed (dateIn (now day))) f in
+          (rw k (day-back (renewed (dateIn (now day))) f), rw k back, rw (k, back) (renewed-later (dateIn (now day)) facts low))
+      by false e n k = absurd (let x : ⊥ = omega arith in x)
+
+  -- it moves every day before 2099
+  pub renew-answers : (r : ℕ) → Renew κs day after r → isDay (now day) ≡ true → dateIn (now day) .year < 2099 → r ≡ 0
+  unfolding renewNumber
+  renew-answers r a d low = a .0 ∙ rw (d, lt-ltb (dateIn (now day) .year) 2099 low)
+
+  -- "It refuses what is no such date, also a renewal past 2099, with 22": and leaves the day as it was
+  pub renew-refuses : (r : ℕ) → Renew κs day after r → (isDay (now day) ≡ false) ⊎ (2099 ≤ dateIn (now day) .year) → (r ≡ 22) × (now after ≡ now day)
+  unfolding renewNumber renewLeaves
+  renew-refuses r a h = let e = none h in (a .0 ∙ rw e, a .1 ∙ rw e)
+    where
+      none : (isDay (now day) ≡ false) ⊎ (2099 ≤ dateIn (now day) .year) → (isDay (now day) && ltb (dateIn (now day) .year) 2099) ≡ false
+      none (inl b) = rw b
+      none (inr late) = rw (le-ltb (dateIn (now day) .year) 2099 late) (and-false (isDay (now day)))

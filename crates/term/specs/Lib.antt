@@ -1,0 +1,10 @@
+-- The term of a licence: the calendar, days written as eight digits, what is asked of them; and their laws.
+pub mod Calendar
+pub mod MonthLaws
+pub mod CalendarLaws
+pub mod RenewalLaws
+pub mod Days
+pub mod WrittenLaws
+pub mod Term
+pub mod Answers
+pub mod Worked
