@@ -61,7 +61,9 @@ enum bt_number {
     BT_WIDTH = 20,      /* the width of rows is 0, or does not divide the text's length */
     BT_OUTPUT = 21,     /* bt_to_columns and bt_from_columns only: the output is shorter than the text */
     BT_DATE = 22,       /* a day is no date of the years 2000 to 2099 in eight digits, or its renewal passes 2099 */
-    BT_TERM = 23        /* the last day lies before the first */
+    BT_TERM = 23,       /* the last day lies before the first */
+    BT_GUIDE = 24,      /* a guide of another length, or an entry that is not the tree's */
+    BT_GUIDE_TABLE = 25 /* the table is too short for the guide */
 };
 
 /* Build the tree of a text, in layout 2. Trees of layout 1 are read and checked all the same.
@@ -177,6 +179,42 @@ uint32_t bt_from_columns(const uint8_t *text, size_t text_len, uint32_t width, u
  *             it was
  *   answers   0, 5, 6, 7, 20 (by the tree's text length), 10 (a is not below the number of rows), 13, 14 (the path of one of the row's bytes breaks) */
 uint32_t bt_column_row(const uint8_t *tree, size_t tree_len, uint32_t width, uint32_t a, uint8_t *buffer, size_t buffer_len);
+
+/* A guide to the level 0 blocks, kept beside a tree: for each counted byte in order, the number of the level 0 block that holds its 1st, 65th, 129th
+ * occurrence and so on, a word each, four bytes, lowest first. bt_find and bt_row step through level 0 from its first block; with a guide they start at
+ * an entry. How many words the guide of a tree has:
+ *   lent      tree
+ *   written   *words: for each counted byte its total / 64, rounded up, summed; the guide has four bytes for each
+ *   answers   0, 5, 6, 7 */
+uint32_t bt_guide_words(const uint8_t *tree, size_t tree_len, uint64_t *words);
+
+/* Make the guide of a tree that bt_check accepts.
+ *   lent      tree, table
+ *   written   table: the guide in its first 4 * *words bytes, the rest as it was; as it was on any refusal. *words: its words
+ *   answers   0, 5 to 9, 25 */
+uint32_t bt_make_guide(const uint8_t *tree, size_t tree_len, uint8_t *table, size_t table_len, uint64_t *words);
+
+/* Check a tree and its guide: 0 exactly for a tree that bt_check accepts and the bytes that bt_make_guide writes for it.
+ *   lent      tree, guide
+ *   answers   0, 5 to 9, 24 */
+uint32_t bt_check_guide(const uint8_t *tree, size_t tree_len, const uint8_t *guide, size_t guide_len);
+
+/* Find with a guide. For a tree and a guide that bt_check_guide accepts, the place and the blocks are bt_find's. Any bytes may be lent as a guide: with
+ * another one, or on a tree that bt_check refuses, the answer may be any place below n with any figures, or BT_PATH.
+ *   lent      tree, guide
+ *   written   *place, *entered as bt_find; *steps: the steps on level 0, counted on the way: with an accepted guide the number of the level 0 block that
+ *             holds the place less the entry of the last listed occurrence not after the j-th
+ *   answers   0, 5, 6, 7, 11, 12, 14 */
+uint32_t bt_find_guided(const uint8_t *tree, size_t tree_len, const uint8_t *guide, size_t guide_len, uint32_t byte, uint32_t j, uint32_t *place,
+                        uint32_t *entered, uint32_t *steps);
+
+/* Row with a guide, by such finds. For a tree and a guide that bt_check_guide accepts it is bt_row's; else free as bt_row is on a tree that bt_check
+ * refuses.
+ *   lent      tree, guide, buffer
+ *   written   buffer, *length as bt_row
+ *   answers   0, 5, 6, 7, 11, 12, 13, 14 */
+uint32_t bt_row_guided(const uint8_t *tree, size_t tree_len, const uint8_t *guide, size_t guide_len, uint32_t q, uint8_t *buffer, size_t buffer_len,
+                       uint32_t *length);
 
 /* The lines of the list program: one for each level, "level blocks kept pointing", or one line "refused N".
  *   lent      tree

@@ -4,6 +4,7 @@
 //!     cargo bench -- quick      books of 64 KiB only
 //!     cargo bench -- builders   the two builders only
 //!     cargo bench -- columns    columns before rows only
+//!     cargo bench -- guides     find and row with a guide and without, on books of 1 MiB
 //!     cargo bench -- sizes      the library's calls on books of 64 KiB, 1 MiB and 8 MiB, and the first builder on 8 MiB (slow)
 //!     cargo bench -- licence    the term of a licence only
 //!
@@ -15,7 +16,7 @@ mod model;
 mod support;
 
 use codebook::{calls, MAX_TEXT, SHORT_LIST};
-use model::{check, columns, dates, fast, keys, read, Shape};
+use model::{check, columns, dates, fast, guides, keys, read, Shape};
 use std::hint::black_box;
 use std::io::Write;
 use std::process::{Command, Stdio};
@@ -32,6 +33,10 @@ fn main() {
     describe_machine();
     if told("columns") {
         return by_columns(quick);
+    }
+    if told("guides") {
+        time_guides();
+        return;
     }
     if told("sizes") {
         time_sizes();
@@ -72,6 +77,9 @@ fn main() {
     }
     by_columns(quick);
     time_licences();
+    if !quick {
+        time_guides();
+    }
 }
 
 /// Books with rows of one width: what columns do to the size of the tree, and the times of rearranging and of reading a row.
@@ -374,6 +382,47 @@ fn time_matches(text: &[u8], name: &str, shape: Shape) {
         let [library, model] = both(5, all, plain);
         let call = library / (all() as u32 + 1);
         println!("| {name} | {words} | {} | {} | {} | {} | {} |", plain(), shown(library), shown(call), shown(model), shown(span));
+    }
+}
+
+/// Find and row with a guide and without, next to the model's find with a binary search over level 0; and making and checking a guide.
+fn time_guides() {
+    let shape = Shape { m: 64, r: 2, h: 4 };
+    println!("\n## Guides: books of 1 MiB, leaf 64, arity 2, levels 4, byte 10 counted\n");
+    println!("| Book | Entries | Make | Check | Find | Find with a guide | Binary search | Ratio | Row | Row with a guide |\n|---|---:|---:|---:|---:|---:|---:|---:|---:|---:|");
+    for (kind, name) in KINDS {
+        let text = book(kind, 1_048_576, 1);
+        let tree = fast::tree(&text, shape, COUNTED);
+        let guide = guides::guide(&tree).expect("an accepted tree");
+        let (tree, guide) = (|| black_box(tree.as_slice()), || black_box(guide.as_slice()));
+        let mut table = vec![0; guide().len()];
+        let make = fastest(5, &mut || {
+            black_box(calls::make_guide(tree(), &mut table));
+        });
+        assert!(table == guide(), "both make the same guide");
+        let right = fastest(5, &mut || {
+            black_box(calls::check_guide(tree(), guide()));
+        });
+        let rows = text.iter().filter(|&&byte| byte == 10).count();
+        let mut rng = Rng::new(rows as u64);
+        let numbers: Vec<u32> = (0..4000).map(|_| rng.within(1, rows) as u32).collect();
+        let found = |(number, place, entered, _): (u32, u32, u32, u32)| (number, place, entered);
+        let [guided, bisected] = each(&numbers, |j| found(calls::find_guided(tree(), guide(), 10, j)), |j| fast::find_bisected(tree(), 10, j));
+        let [find, _] = each(&numbers, |j| calls::find(tree(), 10, j), |j| fast::find(tree(), 10, j));
+        let [mut ours, mut theirs] = [[0; 200]; 2];
+        let [row, row_guided] = each(&numbers, |q| calls::row(tree(), q, &mut ours), |q| calls::row_guided(tree(), guide(), q, &mut theirs));
+        println!(
+            "| {name} | {} | {} | {} | {} | {} | {} | {:.2} | {} | {} |",
+            guide().len() / 4,
+            shown(make),
+            shown(right),
+            shown(find),
+            shown(guided),
+            shown(bisected),
+            guided.as_secs_f64() / bisected.as_secs_f64(),
+            shown(row),
+            shown(row_guided)
+        );
     }
 }
 

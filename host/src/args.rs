@@ -50,9 +50,15 @@ pub enum Call {
         out: Option<String>,
         back: bool,
     },
+    Guide {
+        tree: Option<String>,
+        out: Option<String>,
+    },
     Ask {
         question: Question,
         tree: Option<String>,
+        /// The file of a guide.
+        guide: Option<String>,
         unchecked: bool,
     },
     Licence(Licence),
@@ -95,6 +101,7 @@ struct Given {
     columns: Option<Width>,
     width: Option<u32>,
     back: bool,
+    guide: Option<String>,
     unchecked: bool,
     help: bool,
 }
@@ -126,6 +133,7 @@ impl Given {
                 "--arity" => self.arity = Some(number(topic, &name, &value()?)?),
                 "--levels" => self.levels = Some(number(topic, &name, &value()?)?),
                 "--count" => self.count = Some(bytes(topic, &value()?)?),
+                "--guide" => self.guide = Some(value()?),
                 "--from" => self.from = Some(number(topic, &name, &value()?)?),
                 "--columns" => self.columns = Some(width(topic, &name, &value()?)?),
                 "--width" => self.width = Some(number(topic, &name, &value()?)?),
@@ -153,6 +161,7 @@ impl Given {
         let question = match topic.name {
             "build" => return self.build(topic, file),
             "columns" => return self.columns(topic, file),
+            "guide" => return Ok(Call::Guide { tree: file, out: self.out }),
             "check" => Question::Check,
             "list" => Question::List,
             "row" => Question::Row(figure(0)?),
@@ -166,7 +175,7 @@ impl Given {
             "text" => Question::Text,
             _ => Question::Stats,
         };
-        Ok(Call::Ask { question, tree: file, unchecked: self.unchecked })
+        Ok(Call::Ask { question, tree: file, guide: self.guide, unchecked: self.unchecked })
     }
 
     fn build(self, topic: &Topic, book: Option<String>) -> Result<Call, Failure> {

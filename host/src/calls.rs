@@ -35,6 +35,30 @@ mod declared {
         pub fn bt_to_columns(text: *const u8, text_len: usize, width: u32, out: *mut u8, out_len: usize) -> u32;
         pub fn bt_from_columns(text: *const u8, text_len: usize, width: u32, out: *mut u8, out_len: usize) -> u32;
         pub fn bt_column_row(tree: *const u8, tree_len: usize, width: u32, a: u32, buffer: *mut u8, buffer_len: usize) -> u32;
+        pub fn bt_guide_words(tree: *const u8, tree_len: usize, words: *mut u64) -> u32;
+        pub fn bt_make_guide(tree: *const u8, tree_len: usize, table: *mut u8, table_len: usize, words: *mut u64) -> u32;
+        pub fn bt_check_guide(tree: *const u8, tree_len: usize, guide: *const u8, guide_len: usize) -> u32;
+        pub fn bt_find_guided(
+            tree: *const u8,
+            tree_len: usize,
+            guide: *const u8,
+            guide_len: usize,
+            byte: u32,
+            j: u32,
+            place: *mut u32,
+            entered: *mut u32,
+            steps: *mut u32,
+        ) -> u32;
+        pub fn bt_row_guided(
+            tree: *const u8,
+            tree_len: usize,
+            guide: *const u8,
+            guide_len: usize,
+            q: u32,
+            buffer: *mut u8,
+            buffer_len: usize,
+            length: *mut u32,
+        ) -> u32;
         pub fn bt_list(tree: *const u8, tree_len: usize, out: *mut u8, out_len: usize, length: *mut u32) -> u32;
         pub fn bt_build_scanned(
             text: *const u8,
@@ -160,6 +184,40 @@ pub fn from_columns(text: &[u8], width: u32, out: &mut [u8]) -> u32 {
 /// The number; row `a` read by columns.
 pub fn column_row(tree: &[u8], width: u32, a: u32, buffer: &mut [u8]) -> u32 {
     unsafe { declared::bt_column_row(tree.as_ptr(), tree.len(), width, a, buffer.as_mut_ptr(), buffer.len()) }
+}
+
+/// The number and the words of a guide.
+pub fn guide_words(tree: &[u8]) -> (u32, u64) {
+    let mut words = 0;
+    let number = unsafe { declared::bt_guide_words(tree.as_ptr(), tree.len(), &mut words) };
+    (number, words)
+}
+
+/// The number and the words of the guide that is written.
+pub fn make_guide(tree: &[u8], table: &mut [u8]) -> (u32, u64) {
+    let mut words = 0;
+    let number = unsafe { declared::bt_make_guide(tree.as_ptr(), tree.len(), table.as_mut_ptr(), table.len(), &mut words) };
+    (number, words)
+}
+
+pub fn check_guide(tree: &[u8], guide: &[u8]) -> u32 {
+    unsafe { declared::bt_check_guide(tree.as_ptr(), tree.len(), guide.as_ptr(), guide.len()) }
+}
+
+/// The number, the place, the length of its path and the steps on level 0.
+pub fn find_guided(tree: &[u8], guide: &[u8], byte: u32, j: u32) -> (u32, u32, u32, u32) {
+    let (mut place, mut entered, mut steps) = (0, 0, 0);
+    let number =
+        unsafe { declared::bt_find_guided(tree.as_ptr(), tree.len(), guide.as_ptr(), guide.len(), byte, j, &mut place, &mut entered, &mut steps) };
+    (number, place, entered, steps)
+}
+
+/// The number and the row's length.
+pub fn row_guided(tree: &[u8], guide: &[u8], q: u32, buffer: &mut [u8]) -> (u32, u32) {
+    let mut length = 0;
+    let number =
+        unsafe { declared::bt_row_guided(tree.as_ptr(), tree.len(), guide.as_ptr(), guide.len(), q, buffer.as_mut_ptr(), buffer.len(), &mut length) };
+    (number, length)
 }
 
 /// The number and the lines' length.

@@ -4,7 +4,7 @@ use crate::args::{Call, Question};
 use crate::files::{self, Input};
 use crate::trials::Trial;
 use crate::{by_columns, help, licence, messages, trials, Failure};
-use codebook::{list, Range, Reached, Refusal, Settings, Tree, MAX_TEXT};
+use codebook::{list, Guided, Range, Reached, Refusal, Settings, Tree, MAX_TEXT};
 
 pub fn run(call: Call) -> Result<(), Failure> {
     match call {
@@ -15,7 +15,8 @@ pub fn run(call: Call) -> Result<(), Failure> {
             by_columns::build(book.as_deref(), out.as_deref(), settings.as_ref(), &counted, width)
         }
         Call::Columns { width, book, out, back } => by_columns::rearrange(width, book.as_deref(), out.as_deref(), back),
-        Call::Ask { question, tree, unchecked } => ask(&question, tree.as_deref(), unchecked),
+        Call::Guide { tree, out } => guide(tree.as_deref(), out.as_deref()),
+        Call::Ask { question, tree, guide, unchecked } => ask(&question, tree.as_deref(), guide.as_deref(), unchecked),
         Call::Licence(licence) => licence::run(&licence),
     }
 }
@@ -38,8 +39,18 @@ pub fn trees(name: &str, text: &[u8], settings: Option<&Settings>, counted: &[u8
     tried.map_err(|refusal| Failure::Refused(messages::build_refusal(refusal, name, text.len(), settings, counted)))
 }
 
-fn ask(question: &Question, path: Option<&str>, unchecked: bool) -> Result<(), Failure> {
+/// The guide of a tree.
+fn guide(tree: Option<&str>, out: Option<&str>) -> Result<(), Failure> {
+    files::refuse_terminal(out)?;
+    let Input { name, bytes } = files::read(tree, u64::MAX)?;
+    let guide = Tree::unchecked(&bytes).make_guide().map_err(|refusal| refused(refusal, &Question::Check, &name, &bytes))?;
+    let written = out.filter(|&path| path != "-").unwrap_or("standard output");
+    files::write_tree(out, &guide, &messages::guide_report(&name, guide.len() / 4, written))
+}
+
+fn ask(question: &Question, path: Option<&str>, guide: Option<&str>, unchecked: bool) -> Result<(), Failure> {
     let Input { name, bytes } = files::read(path, u64::MAX)?;
+    let guide = guide.map(|path| files::read(Some(path), u64::MAX)).transpose()?;
     if *question == Question::List {
         let (lines, answer) = list(&bytes);
         files::print(lines.as_bytes())?;
@@ -47,7 +58,11 @@ fn ask(question: &Question, path: Option<&str>, unchecked: bool) -> Result<(), F
     }
     let tree = if unchecked { Ok(Tree::unchecked(&bytes)) } else { Tree::checked(&bytes) };
     let tree = tree.map_err(|refusal| refused(refusal, &Question::Check, &name, &bytes))?;
-    let output = answer(question, &name, tree).map_err(|refusal| refused(refusal, question, &name, &bytes))?;
+    if let Some(guide) = guide.as_ref().filter(|_| !unchecked) {
+        tree.check_guide(&guide.bytes).map_err(|refusal| refused(refusal, &Question::Check, &guide.name, &bytes))?;
+    }
+    let guide = guide.as_ref().map(|guide| guide.bytes.as_slice());
+    let output = answer(question, &name, tree, guide).map_err(|refusal| refused(refusal, question, &name, &bytes))?;
     files::print(&output)
 }
 
@@ -56,11 +71,14 @@ fn refused(refusal: Refusal, question: &Question, name: &str, bytes: &[u8]) -> F
 }
 
 /// What is printed.
-fn answer(question: &Question, name: &str, tree: Tree) -> Result<Vec<u8>, Refusal> {
+fn answer(question: &Question, name: &str, tree: Tree, guide: Option<&[u8]>) -> Result<Vec<u8>, Refusal> {
     Ok(match *question {
-        Question::Check | Question::List => format!("{name}: a good tree of {} bytes of text\n", messages::grouped(tree.text_length().into())).into(),
+        Question::Check | Question::List => {
+            let with = if guide.is_some() { ", and its guide" } else { "" };
+            format!("{name}: a good tree of {} bytes of text{with}\n", messages::grouped(tree.text_length().into())).into()
+        }
         Question::Row(q) => {
-            let mut row = tree.row(q)?;
+            let mut row = guide.map_or_else(|| tree.row(q), |guide| tree.row_guided(guide, q))?;
             row.push(b'\n');
             row
         }
@@ -73,10 +91,13 @@ fn answer(question: &Question, name: &str, tree: Tree) -> Result<Vec<u8>, Refusa
             let Reached { value, entered } = tree.count(byte, length)?;
             figure(&value.to_string(), entered)
         }
-        Question::Find(byte, number) => {
-            let Reached { value, entered } = tree.find(byte, number)?;
-            figure(&value.to_string(), entered)
-        }
+        Question::Find(byte, number) => match guide {
+            Some(guide) => guided(tree.find_guided(guide, byte, number)?),
+            None => {
+                let Reached { value, entered } = tree.find(byte, number)?;
+                figure(&value.to_string(), entered)
+            }
+        },
         Question::Places(ref pattern) => tree.places(pattern)?.iter().map(|place| format!("{place}\n")).collect::<String>().into(),
         Question::Match(ref ranges, mark) => matches(tree, ranges, mark)?,
         Question::ColumnRow(a, width) => tree.row_by_columns(width, a)?,
@@ -98,6 +119,11 @@ fn matches(tree: Tree, ranges: &[Range], mark: u32) -> Result<Vec<u8>, Refusal> 
 
 /// A figure, first on its line, and the blocks entered for it.
 fn figure(figure: &str, entered: u32) -> Vec<u8> {
-    let blocks = if entered == 1 { "block" } else { "blocks" };
-    format!("{figure} ({entered} {blocks} entered)\n").into()
+    format!("{figure} ({} entered)\n", messages::several(entered, "block")).into()
+}
+
+/// A place, the blocks that lead to it, and the steps on level 0.
+fn guided(found: Guided) -> Vec<u8> {
+    let Guided { place, entered, steps } = found;
+    format!("{place} ({} entered, {} on level 0)\n", messages::several(entered, "block"), messages::several(steps, "step")).into()
 }

@@ -61,7 +61,7 @@ pub fn name(path: Option<&str>) -> &str {
 /// A tree is not for the eye.
 pub fn refuse_terminal(path: Option<&str>) -> Result<(), Failure> {
     if path.is_none() && io::stdout().is_terminal() {
-        return Err(Failure::Usage("the tree would go to the terminal; give -o TREE, or -o - if that is meant".to_owned()));
+        return Err(Failure::Usage("this would go to the terminal; give -o FILE, or -o - if that is meant".to_owned()));
     }
     Ok(())
 }

@@ -13,8 +13,9 @@ pub struct Topic {
 }
 
 const UNCHECKED: &[&str] = &["--unchecked"];
+const GUIDED: &[&str] = &["--guide", "--unchecked"];
 
-static TOPICS: [Topic; 15] = [
+static TOPICS: [Topic; 16] = [
     Topic {
         name: "build",
         usage: "codebook build [BOOK] [-o TREE] [--leaf M --arity R --levels H] [--count BYTES] [--columns W]",
@@ -42,13 +43,13 @@ kept, and what each gave is printed.
     },
     Topic {
         name: "check",
-        usage: "codebook check [TREE]",
+        usage: "codebook check [TREE] [--guide GUIDE]",
         figures: &[],
-        options: &[],
+        options: &["--guide"],
         summary: "check a tree, from anyone",
         details: "\
 Says whether the tree is right in all its parts and its counts and edges are true. It is no checksum: a tree whose leaf bytes were changed is the tree of
-another book. Status 1 where it is refused.",
+another book. Status 1 where it is refused. With a guide, it is checked too.",
     },
     Topic {
         name: "list",
@@ -60,9 +61,9 @@ another book. Status 1 where it is refused.",
     },
     Topic {
         name: "row",
-        usage: "codebook row N [TREE] [--unchecked]",
+        usage: "codebook row N [TREE] [--guide GUIDE] [--unchecked]",
         figures: &["N"],
-        options: UNCHECKED,
+        options: GUIDED,
         summary: "print row N of the book, from 1",
         details: "A row ends in byte 10, or in bytes 13 and 10; the tree must count byte 10 (it does unless build was told otherwise). It is printed with a plain line end, without the 13. If the book's last byte is another one, what stands after the last byte 10 is a row too.",
     },
@@ -92,9 +93,9 @@ another book. Status 1 where it is refused.",
     },
     Topic {
         name: "find",
-        usage: "codebook find BYTE NUMBER [TREE] [--unchecked]",
+        usage: "codebook find BYTE NUMBER [TREE] [--guide GUIDE] [--unchecked]",
         figures: &["BYTE", "NUMBER"],
-        options: UNCHECKED,
+        options: GUIDED,
         summary: "print the place where a byte stands for the NUMBER-th time, from 1",
         details: "BYTE is a number from 0 to 255, or one character that is no digit; the tree must count it. Prints the place, and how many blocks lead to it.",
     },
@@ -146,6 +147,18 @@ All W bytes of the row as they are, its end byte included, and nothing else. Tha
   --width W    bytes of a row, end byte included",
     },
     Topic {
+        name: "guide",
+        usage: "codebook guide [TREE] [-o GUIDE]",
+        figures: &[],
+        options: &["-o"],
+        summary: "make the guide of a tree",
+        details: "\
+A guide has the number of the level 0 block that holds the 1st, 65th, 129th occurrence and so on of each byte that the tree counts. find and row with
+--guide start there and not at the first block. Without -o the guide goes to standard output.
+
+  -o GUIDE     the file to write",
+    },
+    Topic {
         name: "text",
         usage: "codebook text [TREE] [--unchecked]",
         figures: &[],
@@ -183,6 +196,9 @@ impl Topic {
 
     pub fn text(&self) -> String {
         let mut text = format!("{}\n\n{}.\n{}\n", self.usage, capital(self.summary), self.details);
+        if self.options.contains(&"--guide") {
+            text.push_str("\n  --guide GUIDE  the tree's guide, made by codebook guide\n");
+        }
         if self.options.contains(&"--unchecked") {
             text.push_str("\n  --unchecked  do not check the tree first; on a tree that the check refuses the answer can be wrong\n");
         }

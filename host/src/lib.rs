@@ -14,11 +14,13 @@ mod bounds;
 pub mod calls;
 mod columns;
 mod days;
+mod guides;
 mod refusal;
 
 pub use bounds::{MAX_PATTERN, MAX_TEXT};
 pub use columns::{from_columns, row_width, to_columns};
 pub use days::{days_left, open_on, renew};
+pub use guides::Guided;
 use refusal::answer;
 pub use refusal::Refusal;
 

@@ -62,6 +62,20 @@ pub fn build_report(book: &str, length: usize, tried: &[Trial], chosen: &Trial, 
     text
 }
 
+/// What is said of a guide that was written.
+pub fn guide_report(tree: &str, words: usize, guide: &str) -> String {
+    format!("{tree}: a guide of {} to {guide}\n", several(words as u32, "entry"))
+}
+
+/// So many of them.
+pub fn several(number: u32, one: &str) -> String {
+    match (number, one) {
+        (1, _) => format!("1 {one}"),
+        (_, "entry") => format!("{} entries", grouped(number.into())),
+        _ => format!("{} {one}s", grouped(number.into())),
+    }
+}
+
 /// Why no tree was built, with the input that caused it.
 pub fn build_refusal(refusal: Refusal, book: &str, length: usize, settings: Option<&Settings>, counted_bytes: &[u8]) -> String {
     let cause = match (refusal, settings) {

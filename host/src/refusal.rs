@@ -54,6 +54,8 @@ refusals! {
     Output = 21: "the output is shorter than the text",
     Date = 22: "a day is eight digits, year, month and day, from 20000101 to 20991231, and a renewal does not pass 2099",
     Term = 23: "the last day lies before the first",
+    Guide = 24: "this is no guide of this tree: it has too few or too many words, or an entry is wrong",
+    GuideTable = 25: "the table is too short for the guide",
 }
 
 impl Refusal {
@@ -91,13 +93,13 @@ mod tests {
     #[test]
     fn numbers_are_those_of_the_header() {
         let header = include_str!("../../include/blocktree.h");
-        for number in 1..=23 {
+        for number in 1..=25 {
             let refusal = Refusal::from_number(number).expect("a refusal");
             assert_eq!(refusal.number(), number);
             assert!(refusal.to_string().starts_with(&format!("refused ({number}): ")));
             let lines = header.lines().filter(|line| line.trim_start().starts_with("BT_") && declares(line, number));
             assert_eq!(lines.count(), 1);
         }
-        assert!(Refusal::from_number(0).is_none() && Refusal::from_number(24).is_none());
+        assert!(Refusal::from_number(0).is_none() && Refusal::from_number(26).is_none());
     }
 }

@@ -10,17 +10,12 @@ mod model;
 mod support;
 
 use codebook::{calls, MAX_TEXT};
-use judge::{find_agrees, match_agrees, row_agrees, FILL, FILL_WORD};
+use judge::{find_agrees, lent, match_agrees, row_agrees, FILL, FILL_WORD};
 use model::read::Answer;
 use model::{build, check, fast, keys, read, Shape};
 use std::collections::{BTreeMap, BTreeSet};
 use support::books::{book, Kind};
 use support::{rounds, setting, to_hex, Rng};
-
-/// A buffer of exactly this length, every byte filled.
-fn lent(length: usize) -> Box<[u8]> {
-    vec![FILL; length].into_boxed_slice()
-}
 
 /// A table of so many words, every one filled.
 fn lent_words(words: usize) -> Box<[u32]> {

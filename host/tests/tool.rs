@@ -309,6 +309,33 @@ fn by_columns_that_is_refused() {
     assert!(!folder.0.join("no.tree").exists());
 }
 
+/// A guide is made, checked, and leads finds and rows to the same answers.
+#[test]
+fn guides() {
+    let folder = Folder::with_tree("guides");
+    folder.run("guide small.tree -o small.guide").succeeds().prints("small.tree: a guide of 4 entries to small.guide\n").says("");
+    folder.run("check small.tree --guide small.guide").succeeds().prints("small.tree: a good tree of 2,800 bytes of text, and its guide\n");
+    let row = "HON1012 52162\n";
+    folder.run("row 120 small.tree --guide small.guide").succeeds().prints(row);
+    folder.run("row 120 small.tree --guide=small.guide --unchecked").succeeds().prints(row);
+    for number in [1, 64, 65, 200] {
+        let plain = folder.run(&format!("find 10 {number} small.tree"));
+        let plain = String::from_utf8_lossy(&plain.output.stdout).into_owned();
+        let guided = folder.run(&format!("find 10 {number} small.tree --guide small.guide"));
+        let guided = String::from_utf8_lossy(&guided.output.stdout).into_owned();
+        assert!(guided.starts_with(plain.trim_end_matches(")\n")) && guided.ends_with(" on level 0)\n"), "{plain}{guided}");
+    }
+    // a guide with a word too many, of another tree, and none
+    let wrong = "refused (24): this is no guide of this tree: it has too few or too many words, or an entry is wrong";
+    folder.write("wrong.guide", &[0; 20]);
+    for question in ["check", "row 120", "find 10 1"] {
+        let says = format!("codebook: wrong.guide: {wrong}\n");
+        folder.run(&format!("{question} small.tree --guide wrong.guide")).status(1).prints("").says(&says);
+    }
+    folder.run("row 1 small.tree --guide none.guide").status(2);
+    folder.run("guide small.txt -o none.guide").status(1).prints("");
+}
+
 #[test]
 fn every_row() {
     let folder = Folder::with_tree("rows");
@@ -476,11 +503,11 @@ fn calls_that_are_not_right() {
     };
     usage("", "no command given; see codebook --help");
     usage("print small.tree", "there is no command 'print'; see codebook --help");
-    usage("row", "N is missing\nusage: codebook row N [TREE] [--unchecked]");
-    usage("row one small.tree", "N is a number from 0 to 4294967295, not 'one'\nusage: codebook row N [TREE] [--unchecked]");
-    usage("row 4294967296 x", "N is a number from 0 to 4294967295, not '4294967296'\nusage: codebook row N [TREE] [--unchecked]");
-    usage("check a.tree b.tree", "'b.tree' is one word too many\nusage: codebook check [TREE]");
-    usage("check --all", "there is no option '--all'\nusage: codebook check [TREE]");
+    usage("row", "N is missing\nusage: codebook row N [TREE] [--guide GUIDE] [--unchecked]");
+    usage("row one small.tree", "N is a number from 0 to 4294967295, not 'one'\nusage: codebook row N [TREE] [--guide GUIDE] [--unchecked]");
+    usage("row 4294967296 x", "N is a number from 0 to 4294967295, not '4294967296'\nusage: codebook row N [TREE] [--guide GUIDE] [--unchecked]");
+    usage("check a.tree b.tree", "'b.tree' is one word too many\nusage: codebook check [TREE] [--guide GUIDE]");
+    usage("check --all", "there is no option '--all'\nusage: codebook check [TREE] [--guide GUIDE]");
     usage(
         "count 256 4 x",
         "a byte is a number from 0 to 255 or one character that is no digit, not '256'\nusage: codebook count BYTE LENGTH [TREE] [--unchecked]",
@@ -499,8 +526,24 @@ fn help() {
     let folder = Folder::new("help");
     let overview = folder.run("--help");
     overview.succeeds().says("");
-    let commands =
-        ["build", "check", "list", "row", "byte", "span", "count", "find", "places", "match", "columns", "column-row", "text", "stats", "licence"];
+    let commands = [
+        "build",
+        "check",
+        "list",
+        "row",
+        "byte",
+        "span",
+        "count",
+        "find",
+        "places",
+        "match",
+        "columns",
+        "column-row",
+        "guide",
+        "text",
+        "stats",
+        "licence",
+    ];
     for command in commands {
         assert!(String::from_utf8_lossy(&overview.output.stdout).contains(&format!("\n  {command:<7}")));
         let help = folder.run(&format!("{command} --help"));

@@ -8,7 +8,7 @@ mod support;
 use codebook::calls;
 use judge::{find_agrees, match_agrees, row_agrees, FILL, FILL_WORD};
 use model::read::Answer;
-use model::{build, check, columns, dates, keys, read, Shape};
+use model::{build, check, columns, dates, guides, keys, read, Shape};
 use std::collections::HashMap;
 use std::fmt::Display;
 use support::{from_hex, to_hex};
@@ -38,6 +38,9 @@ struct Calls {
     open_on: fn(&[u8], &[u8], &[u8]) -> (u32, u32),
     days_left: fn(&[u8], &[u8]) -> (u32, i32),
     renew: fn(&[u8]) -> (u32, Vec<u8>),
+    make_guide: fn(&[u8], &mut [u8]) -> (u32, u64),
+    check_guide: fn(&[u8], &[u8]) -> u32,
+    find_guided: fn(&[u8], &[u8], u32, u32) -> Answer<(u32, u32, u32, u32)>,
 }
 
 #[test]
@@ -73,6 +76,9 @@ fn library() {
             let number = calls::renew(&mut lent);
             (number, lent)
         },
+        make_guide: calls::make_guide,
+        check_guide: calls::check_guide,
+        find_guided: |tree, guide, byte, j| Answer::Settled(calls::find_guided(tree, guide, byte, j)),
     });
 }
 
@@ -97,6 +103,9 @@ fn model() {
         open_on: dates::open_on,
         days_left: dates::days_left,
         renew: dates::renew,
+        make_guide: guides::make,
+        check_guide: guides::check_guide,
+        find_guided: guides::find,
     });
 }
 
@@ -110,7 +119,7 @@ fn library_scan(text: &[u8], shape: Shape, counted: &[u8], words: usize, out: &m
 }
 
 /// Items of requests that are not in force in this format are passed over by name.
-const LATER: [&str; 4] = ["guide", "guidecheck", "guided", "order"];
+const LATER: [&str; 1] = ["order"];
 
 fn run_all(calls: &Calls) {
     run_file(calls, VECTORS);
@@ -124,7 +133,7 @@ fn run_file(calls: &Calls, file: &str) {
     for line in file.lines().filter(|line| !line.is_empty() && !line.starts_with('#') && !line.contains(" => wrong: ")) {
         let tokens: Vec<&str> = line.split(' ').collect();
         match tokens[..] {
-            ["landed", request] => in_force = request == "112",
+            ["landed", request] => in_force = request == "113",
             ["text" | "tree", name, hex] => {
                 bytes.insert(name, from_hex(hex));
             }
@@ -200,6 +209,13 @@ fn item(calls: &Calls, bytes: &HashMap<&str, Vec<u8>>, item: &[&str], expected: 
             let (refusal, length) = (calls.column_row)(subject, number(2), number(3), &mut buffer);
             format!("{refusal} {length} {}", to_hex(&buffer))
         }
+        "guide" => {
+            let mut table = vec![FILL; 4 * number(2) as usize];
+            let (refusal, entries) = (calls.make_guide)(subject, &mut table);
+            format!("{refusal} {entries} {}", words(&table.chunks(4).map(|word| model::word(word, 0)).collect::<Vec<u32>>()))
+        }
+        "guidecheck" => (calls.check_guide)(subject, &guide(item[2])).to_string(),
+        "guided" => return find_guided(calls, subject, &guide(item[2]), number(3), number(4), expected),
         "match" => return next_match(calls, subject, &ranges(item[2]), number(3), expected),
         "find" => return find(calls, subject, number(2), number(3), expected),
         "row" => return row(calls, subject, number(2), lent(3), expected),
@@ -299,6 +315,30 @@ fn next_match(calls: &Calls, tree: &[u8], ranges: &[u8], mark: u32, expected: &[
     let agrees = match got {
         Answer::Settled(got) => match_agrees(expected, mark, got),
         Answer::Free(_) => matches!(expected, Answer::Free(_)),
+    };
+    if agrees {
+        Ok(())
+    } else {
+        Err(format!("{got:?}"))
+    }
+}
+
+/// The bytes of a guide: its words in decimal, parted by commas, or `-`.
+fn guide(token: &str) -> Vec<u8> {
+    let words = token.split(',').filter(|&word| word != "-");
+    words.flat_map(|word| word.parse::<u32>().expect("a word").to_le_bytes()).collect()
+}
+
+fn find_guided(calls: &Calls, tree: &[u8], guide: &[u8], byte: u32, j: u32, expected: &[&str]) -> Result<(), String> {
+    let number = |at: usize| expected[at].parse::<u32>().expect("a number");
+    let got = (calls.find_guided)(tree, guide, byte, j);
+    let agrees = match (expected[0], got) {
+        ("free", Answer::Settled((refusal, place, entered, steps))) => {
+            find_agrees(Answer::Free(number(1).into()), (refusal, place, entered)) && (refusal == 0 || steps == 0)
+        }
+        ("free", Answer::Free(n)) => u64::from(number(1)) == n,
+        (_, Answer::Settled(got)) => got == (number(0), number(1), number(2), number(3)),
+        _ => false,
     };
     if agrees {
         Ok(())

@@ -108,11 +108,11 @@ module _ (t : List ℕ) (bytes : (k : ℕ) → getD t k 0 < 256) (byte : ℕ) (h
   unfolding countSays uncountedNumber
   count-above i r e = rw e (above-said (readable t) (leb i (at.textLength t)) (isCounted t byte) _ not-counted)
 
-  select-above : (j : ℕ) → uncountedNumber t 0 ≡ selectNumber t byte j
+  pub select-above : (j : ℕ) → uncountedNumber t 0 ≡ selectNumber t byte j
   unfolding selectNumber uncountedNumber
   select-above j = above-asked (readable t) (leb 0 (at.textLength t)) (isCounted t byte) _ (le-leb 0 (at.textLength t) (omega arith)) not-counted
 
-  refuses-above : (j : ℕ) → 0 < selectNumber t byte j
+  pub refuses-above : (j : ℕ) → 0 < selectNumber t byte j
   unfolding uncountedNumber
   refuses-above j = rw (← select-above j) (above-refused (readable t) (leb 0 (at.textLength t)))
 

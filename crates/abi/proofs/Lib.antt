@@ -6,3 +6,4 @@ pub mod ScanLaws
 pub mod MatchLaws
 pub mod ColumnLaws
 pub mod TermLaws
+pub mod GuideLaws

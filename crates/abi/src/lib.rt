@@ -4,6 +4,8 @@ mod by_columns;
 
 pub mod licence;
 
+pub mod guides;
+
 use access::Answer;
 use access::Copied;
 use access::reading::Ran;

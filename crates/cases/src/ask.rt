@@ -1,6 +1,7 @@
 // What a line asks, put to the library.
 use crate::beside;
 use crate::by_columns;
+use crate::guides;
 use crate::licence;
 use crate::wrong;
 use script::Gift;
@@ -36,6 +37,9 @@ fn other(script: &[u8], line: &[u8], bytes: &mut [u8], lent: &mut [u8]) {
         return;
     }
     if licence::line(line) {
+        return;
+    }
+    if guides::line(script, line, bytes) {
         return;
     }
     wrong::say(b"no such word");

@@ -3,6 +3,7 @@
 mod ask;
 mod beside;
 mod by_columns;
+mod guides;
 mod licence;
 mod wrong;
 

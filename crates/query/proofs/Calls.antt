@@ -54,6 +54,21 @@ pub use Rattle.columns.proofs.from_columns.Met as from-columns-met
 pub use Rattle.column_rows.proofs.row_by_columns.Reads as by-columns-reads
 pub use Rattle.column_rows.proofs.row_by_columns.Statement as by-columns-stated
 pub use Rattle.column_rows.proofs.row_by_columns.Met as by-columns-met
+pub use Rattle.guide.proofs.guide_words.Reads as guide-words-reads
+pub use Rattle.guide.proofs.guide_words.Statement as guide-words-stated
+pub use Rattle.guide.proofs.guide_words.Met as guide-words-met
+pub use Rattle.guide.proofs.make_guide.Reads as make-guide-reads
+pub use Rattle.guide.proofs.make_guide.Statement as make-guide-stated
+pub use Rattle.guide.proofs.make_guide.Met as make-guide-met
+pub use Rattle.guide.proofs.check_guide.Reads as check-guide-reads
+pub use Rattle.guide.proofs.check_guide.Statement as check-guide-stated
+pub use Rattle.guide.proofs.check_guide.Met as check-guide-met
+pub use Rattle.guided.proofs.find_guided.Reads as find-guided-reads
+pub use Rattle.guided.proofs.find_guided.Statement as find-guided-stated
+pub use Rattle.guided.proofs.find_guided.Met as find-guided-met
+pub use Rattle.rows.proofs.row_guided.Reads as row-guided-reads
+pub use Rattle.rows.proofs.row_guided.Statement as row-guided-stated
+pub use Rattle.rows.proofs.row_guided.Met as row-guided-met
 pub use Rattle.builder.specs.declared.Built.{Built}
 pub use Rattle.builder.specs.declared.Built.the-variants as built
 pub use Rattle.enough.specs.declared.Room.{Room}
@@ -80,6 +95,10 @@ pub use Rattle.scanner.specs.declared.Scanned.{Scanned}
 pub use Rattle.scanner.specs.declared.Scanned.the-variants as scanned
 pub use Rattle.worn_keys.specs.declared.Shown.{Shown}
 pub use Rattle.worn_keys.specs.declared.Shown.the-variants as shown
+pub use Rattle.guide.specs.declared.Size.{Size}
+pub use Rattle.guide.specs.declared.Size.the-variants as size
+pub use Rattle.guided.specs.declared.Guided.{Guided}
+pub use Rattle.guided.specs.declared.Guided.the-variants as guided
 -- what an answer says in document 01's terms, and that a refusal's number is not 0
 pub use Rattle.access.specs.Answers.{said, copiedSaid}
 pub use Rattle.rank.specs.Counts.{saidCount, Numbered as CountNumbered}
@@ -96,6 +115,11 @@ pub use Rattle.worn_keys.specs.Searches.{Moved}
 -- to_columns(text, width, out), from_columns(text, width, out) and row_by_columns(tree, width, a, buffer)
 pub use Rattle.columns.proofs.Demands.{ToColumns, FromColumns}
 pub use Rattle.column_rows.proofs.Demands.{ByColumns}
+-- guide_words(tree), make_guide(tree, table), which leaves the table as `after`, and check_guide(tree, guide); find_guided(tree, guide, byte, j) and
+-- row_guided(tree, guide, q, buffer), which leaves the buffer as `after`
+pub use Rattle.guide.proofs.Demands.{GuideWords, MakeGuide, CheckGuide}
+pub use Rattle.guided.proofs.Demands.{FindGuided}
+pub use Rattle.rows.proofs.Demands.{RowGuided}
 
 -- lent bytes
 abbrev pub Lent : Type 0

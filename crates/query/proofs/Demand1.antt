@@ -3,7 +3,7 @@
 use mathlib.Core.List.{[], _∷_}
 use mathlib.Core.Bool.{Bool, true, false, cond}
 use mathlib.Core.Option.{some}
-use mathlib.Core.Path.{_≡_, sym, ap, _∙_}
+use mathlib.Core.Path.{_≡_, refl, sym, ap, _∙_}
 use mathlib.Core.Logic.{_⊎_, inl, inr}
 use Prim.Native.Nat.{ℕ, zero, suc, _+_, _-_, _≤_, _<_}
 use native.Mathlib.Omega.{arith}
@@ -16,21 +16,22 @@ use Rattle.text.specs.declared.TextPlace.{TextPlace}
 use Rattle.format.specs.Settings.{lengthOk, sizesOk}
 use Rattle.format.specs.Layout as at
 use Rattle.format.specs.Path.{Path, pathOf}
+use Rattle.format.specs.Verdict.{verdict}
 use Rattle.format.specs.Said.{Said, refused}
 use Rattle.format.specs.Reading.{byteSays, runSays}
 use Rattle.format.specs.Counting.{countSays}
-use Rattle.format.specs.Finding.{selectNumber}
+use Rattle.format.specs.Finding.{FindSays}
 use Rattle.paths.specs.Demands as paths
 use Rattle.layout.specs.Settings.{sizes}
 use Rattle.enough.specs.Enough.{enoughFor, enoughSays}
+use Rattle.select.proofs.FoundLaws.{find-by}
 use Rattle.paths.specs.Visits.{path-long}
 use Rattle.query.proofs.Calls as calls
 use Rattle.query.proofs.Calls.{Lent, Fingerprint, Check, Enough, Byte, Run, Count, Find}
-use Rattle.query.proofs.Numbers.{OneOf, of-right, not-zero, verdict-one, byte-one, count-one, select-first}
+use Rattle.query.proofs.Numbers.{OneOf, not-zero, verdict-one, byte-one, count-one}
 use Rattle.query.proofs.Passing.{byte-reached, Summed, count-summed}
 use Rattle.query.proofs.Answering.{LengthOfPath, length-of-path}
-use Rattle.query.proofs.Ways.{FindWay, find-way}
-use Rattle.query.proofs.Ways as ways
+use Rattle.query.proofs.Ways.{FindWay, find-way, way-below, way-numbers}
 use calls.room as room
 use calls.answer as answer
 use calls.counted as counted
@@ -47,6 +48,8 @@ pub every-call-ends : {M : Type 1}
     × calls.scanned-stated.statement M × calls.scan-words-stated.statement M
     × calls.next-match-stated.statement M × calls.show-stated.statement M
     × calls.to-columns-stated.statement M × calls.from-columns-stated.statement M × calls.by-columns-stated.statement M
+    × calls.guide-words-stated.statement M × calls.make-guide-stated.statement M × calls.check-guide-stated.statement M
+    × calls.find-guided-stated.statement M × calls.row-guided-stated.statement M
 every-call-ends = (
   calls.leftmost-met.met,
   calls.earlier-met.met,
@@ -67,6 +70,11 @@ every-call-ends = (
   calls.to-columns-met.met,
   calls.from-columns-met.met,
   calls.by-columns-met.met,
+  calls.guide-words-met.met,
+  calls.make-guide-met.met,
+  calls.check-guide-met.met,
+  calls.find-guided-met.met,
+  calls.row-guided-met.met,
 )
 
 -- "trusts no caller to have checked a tree": what a call asks of its caller holds of any arguments.
@@ -91,6 +99,11 @@ pub trusts-no-caller :
     × ((κs : Lfts 2) (text : Lent) (w : ℕ) (out : Lent) → calls.to-columns-reads.Asked κs (text, (w, (out, tt))))
     × ((κs : Lfts 2) (text : Lent) (w : ℕ) (out : Lent) → calls.from-columns-reads.Asked κs (text, (w, (out, tt))))
     × ((κs : Lfts 2) (t : Lent) (w a : ℕ) (buffer : Lent) → calls.by-columns-reads.Asked κs (t, (w, (a, (buffer, tt)))))
+    × ((κs : Lfts 1) (t : Lent) → calls.guide-words-reads.Asked κs (t, tt))
+    × ((κs : Lfts 2) (t table : Lent) → calls.make-guide-reads.Asked κs (t, (table, tt)))
+    × ((κs : Lfts 2) (t guide : Lent) → calls.check-guide-reads.Asked κs (t, (guide, tt)))
+    × ((κs : Lfts 2) (t guide : Lent) (byte j : ℕ) → calls.find-guided-reads.Asked κs (t, (guide, (byte, (j, tt)))))
+    × ((κs : Lfts 3) (t guide : Lent) (q : ℕ) (buffer : Lent) → calls.row-guided-reads.Asked κs (t, (guide, (q, (buffer, tt)))))
 trusts-no-caller = (
   λ κs text p len by. tt,
   λ κs text p len by. tt,
@@ -110,6 +123,11 @@ trusts-no-caller = (
   λ κs text w out. tt,
   λ κs text w out. tt,
   λ κs t w a buffer. tt,
+  λ κs t. tt,
+  λ κs t table. tt,
+  λ κs t guide. tt,
+  λ κs t guide byte j. tt,
+  λ κs t guide q buffer. tt,
 )
 
 -- "gives its answer or a numbered refusal of document 01": which numbers each call refuses with, for any arguments and any lent bytes.
@@ -182,23 +200,16 @@ count-numbers κs t byte i n a =
     not-zero (5 ∷ 6 ∷ 7 ∷ 10 ∷ 11 ∷ 14 ∷ []) n (a .numbered) (rw e (count-one (now t) byte i))
 
 module _ (κs : Lfts 1) (t : Lent) (byte j : ℕ) where
+  way : (s : Said) → FindSays (now t) byte j s → FindWay (now t) byte j s
+  way s f = find-way (now t) byte j (verdict (now t)) (λ v. v) s (find-by (now t) byte j s f)
+
   -- Find: an answer is a place of the text; ..
   pub find-answer : (p : TextPlace) (e : ℕ) → Find κs t byte j (found.At p e) → p .0 < at.textLength (now t)
-  find-answer p e a = go (find-way (now t) byte j _ (a .says))
-    where
-      go : FindWay (now t) byte j (record { number = 0; value = p .0; entered = e }) → p .0 < at.textLength (now t)
-      go (ways.asked low is) = absurd (let z : 0 ≡ selectNumber (now t) byte j = ap (λ (s : Said). s .number) is in omega arith)
-      go (ways.broken is) = absurd (let z : _≡_ {A = ℕ} 0 14 = ap (λ (s : Said). s .number) is in omega arith)
-      go (ways.placed z low) = low
+  find-answer p e a = way-below (now t) byte j (record { number = 0; value = p .0; entered = e }) refl (way _ (a .says))
 
   -- .. a refusal is 5, 6, 7, 11, 12 or 14.
   pub find-numbers : (n : ℕ) → Find κs t byte j (found.Refused n) → OneOf (5 ∷ 6 ∷ 7 ∷ 11 ∷ 12 ∷ 14 ∷ []) n
-  find-numbers n a = go (find-way (now t) byte j _ (a .says))
-    where
-      go : FindWay (now t) byte j (refused n) → OneOf (5 ∷ 6 ∷ 7 ∷ 11 ∷ 12 ∷ 14 ∷ []) n
-      go (ways.asked low is) = select-first (now t) byte j n (14 ∷ []) (a .numbered) (ap (λ (s : Said). s .number) is)
-      go (ways.broken is) = of-right (5 ∷ 6 ∷ 7 ∷ 11 ∷ 12 ∷ []) (14 ∷ []) n (inl (ap (λ (s : Said). s .number) is))
-      go (ways.placed z low) = absurd (let y : ⊥ = omega (arith, a .numbered) in y)
+  find-numbers n a = way-numbers (now t) byte j n (a .numbered) (way _ (a .says))
 
 -- Enough: a refusal is 1, 2 or 3.
 pub enough-numbers : (n leaf arity levels k m : ℕ) → Enough n leaf arity levels k (room.Refused m) → OneOf (1 ∷ 2 ∷ 3 ∷ []) m

@@ -116,6 +116,22 @@ pub use Rattle.query.proofs.Empty.{empty-byte, empty-run, empty-span, e
 pub use Rattle.query.proofs.OneByte.{OneByte, one-byte-back, count-near, count-before, count-past, place-same}
 -- .. "This holds for the answers read from any two accepted trees that these texts fit and that count the byte, whoever built them."
 pub use Rattle.query.proofs.Corrections.{CountingTree, CountsNear, counts-near, FoundAt, place-before}
+-- A guide to the level 0 blocks. "for each counted byte in order, the number of the level 0 block holding its 1st, 65th, 129th occurrence and so on, a
+-- word each": so many entries, and what each is; ..
+pub use Rattle.guide.proofs.Demands.{guide-entries, guide-holds}
+-- .. "in making one after the tree's check, a table too short with 25, untouched"; else the words, which the check accepts, and their number, ..
+pub use Rattle.guide.proofs.Demands.{make-unread, make-short, make-writes, made-accepted, size-of-guide, size-refused}
+-- .. "in checking a guide after the tree, a wrong length or entry with 24": it accepts the guide of an accepted tree and nothing else. ..
+pub use Rattle.guide.proofs.Demands.{check-guide-accepts, check-guide-unread, check-guide-wrong}
+-- .. "for an accepted tree and guide its answer and blocks entered are those without. It also reports its steps on level 0, counted on the way: for an
+-- accepted tree and guide, the number of the level 0 block holding the place less that entry"; a row by such finds is row's. ..
+pub use Rattle.guided.proofs.Demands.{guided-as-find, guided-steps}
+pub use Rattle.query.proofs.Guides.{guided-of-text}
+pub use Rattle.rows.proofs.Demands.{guided-as-row}
+-- .. "A guide never checked may at worst lead to a wrong place below n or to 14; that is left free": the questions before are settled for any bytes.
+pub use Rattle.guided.proofs.Demands.{guided-asked, guided-worst}
+pub use Rattle.query.proofs.Guides.{guided-below, guided-numbers, row-guided-answer, row-guided-numbers, row-guided-leaves}
+pub use Rattle.query.proofs.Guides.{check-guide-numbers, make-guide-numbers, guide-words-numbers}
 
 -- The roads to a tree, each in one theorem.
 

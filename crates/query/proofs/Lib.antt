@@ -16,4 +16,5 @@ pub mod ByColumns
 pub mod Empty
 pub mod OneByte
 pub mod Corrections
+pub mod Guides
 pub mod Demands

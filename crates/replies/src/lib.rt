@@ -1,6 +1,7 @@
 // The library's answers, printed in the format of the cases: ` => `, the number of the question that refuses or 0, the figures, and what
 // a lent buffer holds, in hexadecimal.
 pub mod by_columns;
+pub mod guides;
 pub mod licence;
 mod say;
 

@@ -62,7 +62,7 @@ fn words(table: &[u32]) {
 }
 
 // A word, after a comma where it is not the first.
-fn word(i: usize, value: u32) {
+pub fn word(i: usize, value: u32) {
     if 0 < i {
         io::write_all(1, b",");
     }

@@ -13,7 +13,7 @@ use Rattle.format.specs.Settings.{maxText}
 use Rattle.format.specs.Layout as at
 use Rattle.format.specs.Path.{pathOf}
 use Rattle.format.specs.Fits.{textOf}
-use Rattle.format.specs.Verdict.{ask, verdict}
+use Rattle.format.specs.Verdict.{ask, readable, verdict}
 use Rattle.format.specs.Said.{Said, refused}
 use Rattle.format.specs.Counting.{numberOfByte}
 use Rattle.format.specs.Finding.{total, selectNumber, pathLength, found, FindSays}
@@ -38,7 +38,7 @@ use Rattle.select.specs.declared.seek.Placed.the-variants as placed
 use Rattle.select.specs.declared.seek.Child.{Child}
 use Rattle.select.specs.declared.seek.Child.the-variants as child
 use Rattle.select.specs.Seeks.{KeptIn, PointsIn, Siblings, LastBefore, picked, Seeking, FoundIn}
-use Rattle.select.specs.Found.{placedIn, Sought}
+use Rattle.select.specs.Found.{placedIn, Sought, Stopped, SoughtIn}
 use Rattle.rank.proofs.CountingLaws.{some-block, not-counted, is-counted}
 use Rattle.select.proofs.LandLaws.{Picked, k, d, a, picked-kept, picked-points, picked-off, one-of}
 
@@ -81,23 +81,17 @@ placed-free n b i (placed.At o q) s e = go (ltb (i * b + o .0) n) refl e
 
 -- from level 0 on
 module _ (t : List ℕ) (h : Header) (w : Wanted) (j b block : ℕ) (r : HeaderOf t h) (hc : w .number < at.countedCount t) (byte-is : w .byte ≡ byteOf t (w .number)) (low : 1 ≤ j)
-    (high : j ≤ total t (w .number)) (on : OnLevel t h 0 b) (last : LastBefore t (w .number) 0 0 (at.levelCount t 0) j block) where
+    (high : j ≤ total t (w .number)) (on : OnLevel t h 0 b) (last : Stopped t (w .number) j block) where
   abbrev c : ℕ
   c = w .number
 
   pub block-there : InTable t h 0 b block
-  block-there = record { on = on; block-in = last .high }
-
-  first-none : verdict t ≡ 0 → at.before t 0 block c < j
-  first-none v =
-      let z = finds.top-before t (k t v) (d t v) (a t v) c hc 0 (omega (arith, last .high)) in
-      let e : at.before t 0 0 c ≡ 0 = z ∙ rw (zero-mul (at.fullLength t 0)) (tally-none t c 0) in
-      last .here (omega arith)
+  block-there = record { on = on; block-in = last .block-in }
 
   module _ (x : Child) (x-is : x ≡ picked t c 0 block 0 j) where
-    pub no-block : x ≡ child.Off → Sought t (w .byte) j (refused 14)
+    pub no-block : x ≡ child.Off → SoughtIn t (w .byte) c j block (refused 14)
     no-block e = record {
-      accepted = λ v. absurd (picked-off t c 0 block 0 j (sym x-is ∙ e) (first-none v) (one-of t v 0 block (on .level-in) (last .high)));
+      accepted = λ v under. absurd (picked-off t c 0 block 0 j (sym x-is ∙ e) under (one-of t v 0 block (on .level-in) (last .block-in)));
       free = inl refl;
     }
 
@@ -124,7 +118,7 @@ module _ (t : List ℕ) (h : Header) (w : Wanted) (j b block : ℕ) (r : HeaderO
     right : (i o rest m : ℕ) (q : Placed) (s : Said) → Picked t c 0 block 0 j i o rest → FoundIn t c 0 i rest m q → s ≡ placedIn (h .length) b i q → verdict t ≡ 0 → s ≡ found t (w .byte) j
     right i o rest m q s p f s-is v =
         let same = p .block-is in
-        let hi : i < at.levelCount t 0 = omega (arith, last .high) in
+        let hi : i < at.levelCount t 0 = omega (arith, last .block-in) in
         let under : at.before t 0 i c < j = rw same (p .low) in
         let rest-is : rest ≡ j - at.before t 0 i c = rw same (p .rest-is) in
         let next : i + 1 < at.levelCount t 0 → j ≤ at.before t 0 (i + 1) c = rw same (last .next) in
@@ -132,8 +126,8 @@ module _ (t : List ℕ) (h : Header) (w : Wanted) (j b block : ℕ) (r : HeaderO
         let z = f .right v hc (omega arith) in
         at-end i q s s-is v hi under (z .place) (z .entered) (z .is) (moved-on v i rest (j - at.before t 0 i c) (z .place .0) (z .entered) rest-is (z .lands))
 
-    sought : (i o rest m : ℕ) (q : Placed) (s : Said) → Picked t c 0 block 0 j i o rest → FoundIn t c 0 i rest m q → s ≡ placedIn (h .length) b i q → Sought t (w .byte) j s
-    sought i o rest m q s p f s-is = record { accepted = right i o rest m q s p f s-is; free = rw (r .length-is) at (placed-free (h .length) b i q s s-is) }
+    sought : (i o rest m : ℕ) (q : Placed) (s : Said) → Picked t c 0 block 0 j i o rest → FoundIn t c 0 i rest m q → s ≡ placedIn (h .length) b i q → SoughtIn t (w .byte) c j block s
+    sought i o rest m q s p f s-is = record { accepted = λ v under. right i o rest m q s p f s-is v; free = rw (r .length-is) at (placed-free (h .length) b i q s s-is) }
 
     module _ (i : BlockNumber) (o : BlockPlace) (rest : ℕ) where
       pub top-kept : x ≡ child.Kept i o rest → j < 4294967296 → (KeptIn t h 0 b (i .0)) × (Seeking t h w 0 b rest 2)
@@ -147,11 +141,25 @@ module _ (t : List ℕ) (h : Header) (w : Wanted) (j b block : ℕ) (r : HeaderO
           (record { on = on; points = rw (z .0 .block-is) (z .1) }, seeking (i .0) (o .0) rest 1 (omega arith) small (z .0))
 
       module _ (m : ℕ) (q : Placed) (s : Said) (f : FoundIn t c 0 (i .0) rest m q) (s-is : s ≡ placedIn (h .length) b (i .0) q) where
-        pub sought-kept : x ≡ child.Kept i o rest → Sought t (w .byte) j s
+        pub sought-kept : x ≡ child.Kept i o rest → SoughtIn t (w .byte) c j block s
         sought-kept e = sought (i .0) (o .0) rest m q s (picked-kept t c 0 block 0 j i o rest (sym x-is ∙ e) .0) f s-is
 
-        pub sought-points : x ≡ child.Points i o rest → Sought t (w .byte) j s
+        pub sought-points : x ≡ child.Points i o rest → SoughtIn t (w .byte) c j block s
         sought-points e = sought (i .0) (o .0) rest m q s (picked-points t c 0 block 0 j i o rest (sym x-is ∙ e) .0) f s-is
+
+-- the first block's before is 0, so the steps from there stop at a block with fewer than j before it
+module _ (t : List ℕ) (c j block : ℕ) (hc : c < at.countedCount t) (low : 1 ≤ j) (last : LastBefore t c 0 0 (at.levelCount t 0) j block) where
+  pub stopped : Stopped t c j block
+  stopped = record { block-in = last .high; next = last .next }
+
+  pub from-first : (byte : ℕ) (s : Said) → SoughtIn t byte c j block s → Sought t byte j s
+  from-first byte s z = record { accepted = λ v. z .accepted v (under v); free = z .free }
+    where
+      under : verdict t ≡ 0 → at.before t 0 block c < j
+      under v =
+          let f = finds.top-before t (k t v) (d t v) (a t v) c hc 0 (omega (arith, last .high)) in
+          let e : at.before t 0 0 c ≡ 0 = f ∙ rw (zero-mul (at.fullLength t 0)) (tally-none t c 0) in
+          last .here (omega arith)
 
 -- the questions before the walk
 
@@ -163,9 +171,12 @@ find-refused t byte j q e = record {
 }
 
 module _ (t : List ℕ) (h : Header) (r : HeaderOf t h) (byte j number : ℕ) (is : number ≡ numberOfByte t byte) where
-  pub find-none : h .settings .counted ≤ number → FindSays t byte j (refused 11)
+  pub number-none : h .settings .counted ≤ number → selectNumber t byte j ≡ 11
   unfolding selectNumber
-  find-none past = find-refused t byte j 10 (rw (r .passes, not-counted t h r byte number is past))
+  number-none past = rw (r .passes, not-counted t h r byte number is past)
+
+  pub find-none : h .settings .counted ≤ number → FindSays t byte j (refused 11)
+  find-none past = find-refused t byte j 10 (number-none past)
 
   module _ (counted : number < h .settings .counted) where
     range-none : (low high : Bool) → low ≡ false → ask 12 (low && high) 0 ≡ 12
@@ -175,21 +186,28 @@ module _ (t : List ℕ) (h : Header) (r : HeaderOf t h) (byte j number : ℕ) (i
     range-past true high e = rw e
     range-past false high e = refl
 
-    pub find-zero : j ≡ 0 → FindSays t byte j (refused 12)
+    pub number-zero : j ≡ 0 → selectNumber t byte j ≡ 12
     unfolding selectNumber
-    find-zero z = find-refused t byte j 11
-        (rw (r .passes, is-counted t h r byte number is counted) (range-none (leb 1 j) (leb j (total t (numberOfByte t byte))) (lt-leb 1 j (omega arith))))
+    number-zero z =
+        rw (r .passes, is-counted t h r byte number is counted) (range-none (leb 1 j) (leb j (total t (numberOfByte t byte))) (lt-leb 1 j (omega arith)))
+
+    pub find-zero : j ≡ 0 → FindSays t byte j (refused 12)
+    find-zero z = find-refused t byte j 11 (number-zero z)
 
     module _ (all : ℕ) (all-is : all ≡ total t number) where
       all-of : all ≡ total t (numberOfByte t byte)
       all-of = rw is at all-is
 
-      pub find-past : all < j → FindSays t byte j (refused 12)
+      pub number-past : all < j → selectNumber t byte j ≡ 12
       unfolding selectNumber
-      find-past past = find-refused t byte j 11
-          (rw (r .passes, is-counted t h r byte number is counted) (range-past (leb 1 j) (leb j (total t (numberOfByte t byte))) (lt-leb j (total t (numberOfByte t byte)) (omega (arith, all-of)))))
+      number-past past =
+          rw (r .passes, is-counted t h r byte number is counted)
+          (range-past (leb 1 j) (leb j (total t (numberOfByte t byte))) (lt-leb j (total t (numberOfByte t byte)) (omega (arith, all-of))))
 
-      asked-none : 1 ≤ j → j ≤ all → selectNumber t byte j ≡ 0
+      pub find-past : all < j → FindSays t byte j (refused 12)
+      find-past past = find-refused t byte j 11 (number-past past)
+
+      pub asked-none : 1 ≤ j → j ≤ all → selectNumber t byte j ≡ 0
       asked-none low high = select-lets t byte j (record { pass = r .passes; counted = is-counted t h r byte number is counted; low = low; high = omega (arith, all-of) })
 
       pub find-sought : (s : Said) → 1 ≤ j → j ≤ all → Sought t byte j s → FindSays t byte j s
@@ -203,9 +221,11 @@ module _ (t : List ℕ) (h : Header) (r : HeaderOf t h) (byte j number : ℕ) (i
       seek-ready low high =
           (r, omega (arith, r .counted-is), rw is (sym (ranks.counted t (r .facts) byte (is-counted t h r byte number is counted) .byte-is)), low, omega arith)
 
-pub find-unread : (t : List ℕ) (byte j : ℕ) (x : HeaderRead) → x ≡ headerSays t → (q : ℕ) → x ≡ Refused q → FindSays t byte j (refused q)
+pub number-unread : (t : List ℕ) (byte j k : ℕ) → readable t ≡ suc k → selectNumber t byte j ≡ suc k
 unfolding selectNumber
+number-unread t byte j k e = rw (e, ne-eqb (suc k) 0 (λ y. omega arith))
+
+pub find-unread : (t : List ℕ) (byte j : ℕ) (x : HeaderRead) → x ≡ headerSays t → (q : ℕ) → x ≡ Refused q → FindSays t byte j (refused q)
 find-unread t byte j x x-is q e =
     let z = header-refused t x x-is q e in
-    let n : selectNumber t byte j ≡ suc (z .0) = rw (z .1, ne-eqb (suc (z .0)) 0 (λ y. omega arith)) in
-    rw (z .2) (find-refused t byte j (z .0) n)
+    rw (z .2) (find-refused t byte j (z .0) (number-unread t byte j (z .0) (z .1)))

@@ -1,6 +1,6 @@
 // Find (select): where a counted byte stands for the j-th time. It asks 5 to 7 first, of any bytes lent as a tree.
 pub mod finding;
-mod seek;
+pub mod seek;
 
 use layout::header;
 use layout::header::HeaderRead;

@@ -18,13 +18,19 @@ ghost use Rattle.format.specs.Finding.{total};
 ghost use Rattle.layout.specs.HeaderSays.{HeaderOf};
 ghost use Rattle.steps.specs.Steps.{OnLevel, InTable};
 ghost use Rattle.tallies.specs.Local.{byteOf};
-ghost use Rattle.select.specs.Found.{saidFind, Numbered, placedIn, Sought};
+ghost use Rattle.select.specs.Found.{saidFind, Numbered, placedIn, Sought, Stopped, SoughtIn};
 ghost use Rattle.select.specs.Seeks.{Near, moved, Siblings, LastBefore, picked, KeptIn, PointsIn, ChildWith, targetAt, TargetWith, Seeking, FoundIn};
 
 // A place in a block, and how many blocks its path enters from that block on.
 pub enum Placed {
     At(BlockPlace, u32),
     Off,
+}
+
+// A block of a list, and how many steps lead to it.
+pub struct Along {
+    pub block: BlockNumber,
+    pub steps: u32,
 }
 
 // A block, where it starts in its parent, and what is left of j in it.
@@ -40,7 +46,39 @@ pub enum Target {
     Off,
 }
 
-// Of the blocks from first on, before end: the last one before any whose before is j or more.
+// Of the blocks from first on, before end: the last one before any whose before is j or more, with the steps to it, counted on the way.
+pub fn step_along(
+    t: &[u8],
+    h: Header,
+    number: u32,
+    level: u32,
+    first: u32,
+    end: u32,
+    j: u64,
+) -> Along
+    requires { ⌜ Siblings (now t) h number level first end ⌝ }
+    ensures { λ r. ⌜ (LastBefore (now (t .entry)) number level first end j (r .block .0)) × (first + r .steps ≡ r .block .0) ⌝ }
+{
+    let mut i: u32 = first;
+    let mut steps: u32 = 0;
+    while i + 1 < end {
+        let next = record::before(t, h.record_size, level, BlockNumber(i + 1), number) as u64;
+        if j <= next {
+            return Along {
+                block: BlockNumber(i),
+                steps,
+            };
+        }
+        i += 1;
+        steps += 1;
+    }
+    Along {
+        block: BlockNumber(i),
+        steps,
+    }
+}
+
+// The same without the steps.
 fn last_before(
     t: &[u8],
     h: Header,
@@ -53,15 +91,7 @@ fn last_before(
     requires { ⌜ Siblings (now t) h number level first end ⌝ }
     ensures { λ r. ⌜ LastBefore (now (t .entry)) number level first end j (r .0) ⌝ }
 {
-    let mut i: u32 = first;
-    while i + 1 < end {
-        let next = record::before(t, h.record_size, level, BlockNumber(i + 1), number) as u64;
-        if j <= next {
-            return BlockNumber(i);
-        }
-        i += 1;
-    }
-    BlockNumber(i)
+    step_along(t, h, number, level, first, end, j).block
 }
 
 // What a block is, with what is left of j past its before; no block where its before is j or more.
@@ -290,13 +320,13 @@ fn text_place(n: u32, b: u32, block: BlockNumber, found: Placed) -> Found
     Found::Refused(14)
 }
 
-// The place of the j-th byte of the text.
-pub fn seek(t: &[u8], h: Header, wanted: Wanted, j: u32) -> Found
+// The place of the j-th byte of the text, from the block of level 0 that was stepped to.
+pub fn seek_in(t: &[u8], h: Header, wanted: Wanted, j: u32, block: BlockNumber) -> Found
     requires { ⌜ (HeaderOf (now t) h) × (wanted .number < at.countedCount (now t)) × (wanted .byte ≡ byteOf (now t) (wanted .number)) × (1 ≤ j) × (j ≤ total (now t) (wanted .number)) ⌝ }
-    ensures { λ r. ⌜ (Sought (now (t .entry)) (wanted .byte) j (saidFind r)) × (Numbered r) ⌝ }
+    requires { ⌜ Stopped (now t) (wanted .number) j (block .0) ⌝ }
+    ensures { λ r. ⌜ (SoughtIn (now (t .entry)) (wanted .byte) (wanted .number) j (block .0) (saidFind r)) × (Numbered r) ⌝ }
 {
     let b = h.block;
-    let block = first_block(t, h, wanted.number, j as u64);
     let next = pick(t, h, wanted.number, 0, b, block, BlockPlace(0), j as u64);
     match next {
         Child::Kept(i, _, rest) => text_place(
@@ -313,4 +343,13 @@ pub fn seek(t: &[u8], h: Header, wanted: Wanted, j: u32) -> Found
         ),
         Child::Off => Found::Refused(14),
     }
+}
+
+// The place of the j-th byte of the text.
+pub fn seek(t: &[u8], h: Header, wanted: Wanted, j: u32) -> Found
+    requires { ⌜ (HeaderOf (now t) h) × (wanted .number < at.countedCount (now t)) × (wanted .byte ≡ byteOf (now t) (wanted .number)) × (1 ≤ j) × (j ≤ total (now t) (wanted .number)) ⌝ }
+    ensures { λ r. ⌜ (Sought (now (t .entry)) (wanted .byte) j (saidFind r)) × (Numbered r) ⌝ }
+{
+    let block = first_block(t, h, wanted.number, j as u64);
+    seek_in(t, h, wanted, j, block)
 }

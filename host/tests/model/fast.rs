@@ -68,13 +68,44 @@ fn window_hashes(text: &[u8], length: usize) -> Vec<u64> {
 
 /// Find, by the walk that the format describes, on a tree that the check accepts.
 pub fn find(bytes: &[u8], byte: u32, j: u32) -> (u32, u32, u32) {
-    match try_find(bytes, byte, j) {
+    told(try_find(bytes, byte, j, stepped))
+}
+
+/// The same, with a binary search over the blocks of level 0.
+pub fn find_bisected(bytes: &[u8], byte: u32, j: u32) -> (u32, u32, u32) {
+    told(try_find(bytes, byte, j, bisected))
+}
+
+fn told(found: Result<(u64, u32), u32>) -> (u32, u32, u32) {
+    match found {
         Ok((place, entered)) => (0, place as u32, entered),
         Err(number) => (number, 0, 0),
     }
 }
 
-fn try_find(bytes: &[u8], byte: u32, j: u32) -> Result<(u64, u32), u32> {
+/// The block of level 0 that holds the j-th of a counted byte, step by step.
+#[inline]
+fn stepped(tree: &Tree, c: usize, j: u64) -> u64 {
+    last_before(tree, 0, c, 0, tree.blocks(0), j)
+}
+
+/// And by halves.
+#[inline]
+pub fn bisected(tree: &Tree, c: usize, j: u64) -> u64 {
+    let (mut low, mut high) = (0, tree.blocks(0));
+    while high - low > 1 {
+        let middle = (low + high) / 2;
+        if tree.field(0, middle, BEFORE + 3 * c) < j {
+            low = middle;
+        } else {
+            high = middle;
+        }
+    }
+    low
+}
+
+#[inline]
+fn try_find(bytes: &[u8], byte: u32, j: u32, top: impl Fn(&Tree, usize, u64) -> u64) -> Result<(u64, u32), u32> {
     let (tree, c) = find_questions(bytes, byte, j)?;
     let mut j = u64::from(j);
     let mut entered = 0;
@@ -83,7 +114,7 @@ fn try_find(bytes: &[u8], byte: u32, j: u32) -> Result<(u64, u32), u32> {
     for level in 0..tree.levels {
         let b = tree.block_length(level);
         let figure = |block: u64, field: usize| tree.field(level, block, field + 3 * c);
-        let mut block = last_before(&tree, level, c, first, end, j);
+        let mut block = if level == 0 { top(&tree, c, j) } else { last_before(&tree, level, c, first, end, j) };
         base += (block - first) * b;
         j -= figure(block, BEFORE);
         entered += 1;
@@ -131,8 +162,8 @@ pub fn row(bytes: &[u8], q: u32, buffer: &mut [u8]) -> (u32, u32) {
 fn try_row(bytes: &[u8], q: u32, buffer: &mut [u8]) -> Result<u32, u32> {
     let tree = row_questions(bytes, q)?;
     let total = tree.total(tree.counted(10).ok_or(11u32)?);
-    let end = if u64::from(q) > total { tree.n } else { try_find(bytes, 10, q)?.0 };
-    let start = if q == 1 { 0 } else { try_find(bytes, 10, q - 1)?.0 + 1 };
+    let end = if u64::from(q) > total { tree.n } else { try_find(bytes, 10, q, stepped)?.0 };
+    let start = if q == 1 { 0 } else { try_find(bytes, 10, q - 1, stepped)?.0 + 1 };
     let marked = end < tree.n && end > start && byte_at(&tree, end - 1).ok_or(14u32)?.0 == b'\r';
     let length = (end - start) as u32 - u32::from(marked);
     if length as usize > buffer.len() {

@@ -9,6 +9,7 @@ pub mod check;
 pub mod columns;
 pub mod dates;
 pub mod fast;
+pub mod guides;
 pub mod keys;
 pub mod read;
 

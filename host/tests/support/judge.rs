@@ -8,6 +8,12 @@ pub const FILL: u8 = 0xEE;
 /// And every word of a lent table.
 pub const FILL_WORD: u32 = 0xEEEE_EEEE;
 
+/// A buffer of exactly this length, every byte filled.
+#[allow(dead_code)] // not every test lends by length alone
+pub fn lent(length: usize) -> Box<[u8]> {
+    vec![FILL; length].into_boxed_slice()
+}
+
 /// Does `got` (number, place, blocks entered) agree?
 pub fn find_agrees(expected: Answer<(u32, u32, u32)>, got: (u32, u32, u32)) -> bool {
     match expected {

@@ -1,0 +1,3 @@
+pub mod Guides
+pub mod Making
+pub mod Worked

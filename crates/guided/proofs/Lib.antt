@@ -1,0 +1,2 @@
+pub mod GuidedLaws
+pub mod Demands

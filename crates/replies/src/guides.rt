@@ -1,0 +1,54 @@
+// The answers of a guide's calls.
+use crate::say;
+use layout::word;
+use query::Guided;
+use query::Size;
+
+// How many words the guide has, and the words of the lent table.
+pub fn make(tree: &[u8], table: &mut [u8]) {
+    let answer = query::make_guide(tree, table);
+    match answer {
+        Size::Words(n) => told(0, n, table),
+        Size::Refused(number) => told(number, 0, table),
+    }
+}
+
+pub fn check(tree: &[u8], guide: &[u8]) {
+    say::number(query::check_guide(tree, guide));
+}
+
+// The place, the blocks entered, and the steps on level 0.
+pub fn find(tree: &[u8], guide: &[u8], byte: u8, j: u32) {
+    let answer = query::find_guided(tree, guide, byte, j);
+    match answer {
+        Guided::At(place, entered, steps) => four(0, place.0, entered, steps),
+        Guided::Refused(number) => four(number, 0, 0, 0),
+    }
+}
+
+// A number and three figures.
+fn four(n: u32, a: u32, b: u32, c: u32) {
+    say::three(n, a as u64, b as u64);
+    say::figure(c as u64);
+}
+
+// A number, a figure, and the words of a lent table, `-` where it has none.
+fn told(n: u32, a: u64, table: &[u8]) {
+    say::number(n);
+    say::figure(a);
+    io::write_all(1, b" ");
+    if table.len() == 0 {
+        io::write_all(1, b"-");
+    }
+    words(table);
+}
+
+// The words that bytes are, in decimal, parted by commas.
+fn words(bytes: &[u8]) {
+    let count = bytes.len() / 4;
+    let mut i: usize = 0;
+    while i < count {
+        say::word(i, word::read(bytes, 4 * i));
+        i += 1;
+    }
+}

@@ -1,0 +1,45 @@
+//! A guide to the level 0 blocks, kept beside a tree: finds and rows with it start near the block that they look for.
+
+use crate::refusal::answer;
+use crate::{calls, Refusal, Tree, MAX_TEXT};
+
+/// A place, the blocks on its path, and the steps on level 0 that led to it.
+#[derive(Clone, Copy, Debug, PartialEq, Eq)]
+pub struct Guided {
+    pub place: u32,
+    pub entered: u32,
+    pub steps: u32,
+}
+
+impl Tree<'_> {
+    /// The guide of a tree that the check accepts: for each counted byte in order the number of the level 0 block that holds its 1st, 65th, 129th
+    /// occurrence and so on, a word each, lowest byte first.
+    pub fn make_guide(&self) -> Result<Vec<u8>, Refusal> {
+        let (number, words) = calls::guide_words(self.bytes);
+        // no accepted tree has more, and one that the check refuses needs no table
+        let most = words.min(4 * (MAX_TEXT as u64).div_ceil(64));
+        let mut guide = vec![0; 4 * answer(number, most)? as usize];
+        let (number, words) = calls::make_guide(self.bytes, &mut guide);
+        guide.truncate(4 * words as usize);
+        answer(number, guide)
+    }
+
+    /// Is this the guide of the tree?
+    pub fn check_guide(&self, guide: &[u8]) -> Result<(), Refusal> {
+        answer(calls::check_guide(self.bytes, guide), ())
+    }
+
+    /// The place of the j-th `byte`, j from 1. Safe with any bytes as a guide; one that is not the tree's can lead to a wrong place.
+    pub fn find_guided(&self, guide: &[u8], byte: u8, j: u32) -> Result<Guided, Refusal> {
+        let (number, place, entered, steps) = calls::find_guided(self.bytes, guide, byte.into(), j);
+        answer(number, Guided { place, entered, steps })
+    }
+
+    /// Row `q`, from 1, as `row` has it. Safe with any bytes as a guide; one that is not the tree's can lead to a wrong row.
+    pub fn row_guided(&self, guide: &[u8], q: u32) -> Result<Vec<u8>, Refusal> {
+        let mut buffer = vec![0; MAX_TEXT.min(self.text_length() as usize)];
+        let (number, length) = calls::row_guided(self.bytes, guide, q, &mut buffer);
+        buffer.truncate(length as usize);
+        answer(number, buffer)
+    }
+}
