@@ -216,6 +216,19 @@ uint32_t bt_find_guided(const uint8_t *tree, size_t tree_len, const uint8_t *gui
 uint32_t bt_row_guided(const uint8_t *tree, size_t tree_len, const uint8_t *guide, size_t guide_len, uint32_t q, uint8_t *buffer, size_t buffer_len,
                        uint32_t *length);
 
+/* Where the first of two trees stands, by bt_order. */
+enum bt_standing { BT_BEFORE = 1, BT_SAME = 2, BT_AFTER = 3 };
+
+/* The order of two trees' texts: by the first byte that differs, unsigned; where one text is the beginning of the other, the shorter stands first. The
+ * trees may have any settings and layouts, and may be the same memory.
+ *   lent      one, other
+ *   written   *order: where one stands, BT_BEFORE, BT_SAME or BT_AFTER; *shared: the length of the shared beginning
+ *             *first: the tree that stands first, 1 for one (also if they are the same) or 2 for other
+ *   answers   0, 5, 6, 7 of one, 5, 6, 7 of other, 14
+ * On trees that bt_check accepts it is a total order on the texts, so that a shelf can be sorted by it. Both are read from their start, up to the first
+ * difference or the shorter end and no further: BT_PATH is met there or not at all. */
+uint32_t bt_order(const uint8_t *one, size_t one_len, const uint8_t *other, size_t other_len, uint32_t *order, uint32_t *shared, uint32_t *first);
+
 /* The lines of the list program: one for each level, "level blocks kept pointing", or one line "refused N".
  *   lent      tree
  *   written   out: the lines in its first *length bytes, at most BT_LIST_LENGTH; *length: their length

@@ -7,6 +7,7 @@
 //!     cargo bench -- guides     find and row with a guide and without, on books of 1 MiB
 //!     cargo bench -- sizes      the library's calls on books of 64 KiB, 1 MiB and 8 MiB, and the first builder on 8 MiB (slow)
 //!     cargo bench -- licence    the term of a licence only
+//!     cargo bench -- orders     the order of two trees only
 //!
 //! Prints the tables of docs/BENCHMARKS.md. Nothing is asserted about time; that both give the same answers is.
 
@@ -16,7 +17,7 @@ mod model;
 mod support;
 
 use codebook::{calls, MAX_TEXT, SHORT_LIST};
-use model::{check, columns, dates, fast, guides, keys, read, Shape};
+use model::{check, columns, dates, fast, guides, keys, order, read, Shape};
 use std::hint::black_box;
 use std::io::Write;
 use std::process::{Command, Stdio};
@@ -45,6 +46,10 @@ fn main() {
     }
     if told("licence") {
         return time_licences();
+    }
+    if told("orders") {
+        time_orders();
+        return;
     }
     for &size in &[65_536, 1_048_576][..if quick { 1 } else { 2 }] {
         time_builders(size);
@@ -79,6 +84,7 @@ fn main() {
     time_licences();
     if !quick {
         time_guides();
+        time_orders();
     }
 }
 
@@ -189,6 +195,45 @@ fn time_licences() {
         (refusal, renewed.try_into().expect("eight digits"))
     };
     row("renew", each(&numbers, library, model));
+}
+
+/// Two trees of one book of 1 MiB by two settings compared, next to reading one of them by span; and two that differ at the first place.
+fn time_orders() {
+    let (one, others) = (Shape::new(64, 2, 4), [Shape::new(64, 2, 4), Shape::new(128, 4, 3), Shape::new(32, 4, 4), Shape::new(16, 4, 4)]);
+    println!("\n## The order of two trees of one book of 1024 KiB: leaf {}, arity {}, levels {} beside others\n", one.m, one.r, one.h);
+    println!("| Book | Beside leaf/arity/levels | Library | One by span | The other by span | Ratio to the faster | Model | First byte differs |");
+    println!("|---|---|---:|---:|---:|---:|---:|---:|");
+    for (kind, name) in KINDS {
+        let text = book(kind, 1_048_576, 1);
+        let mut changed = text.clone();
+        changed[0] ^= 1;
+        for other in others {
+            let trees = [fast::tree(&text, one, COUNTED), fast::tree(&text, other, b""), fast::tree(&changed, other, b"")];
+            let tree = |at: usize| black_box(trees[at].as_slice());
+            let [library, model] = both(9, || calls::order(tree(0), tree(1)), || order::order(tree(0), tree(1)));
+            let mut buffer = vec![0; text.len()];
+            let spans = [0, 1].map(|at| {
+                fastest(9, &mut || {
+                    black_box(calls::span(tree(at), 0, text.len() as u32, &mut buffer));
+                })
+            });
+            let early = fastest(1000, &mut || {
+                black_box(calls::order(tree(0), tree(2)));
+            });
+            let ratio = library.as_secs_f64() / spans[0].min(spans[1]).as_secs_f64();
+            println!(
+                "| {name} | {}/{}/{} | {} | {} | {} | {ratio:.2} | {} | {} |",
+                other.m,
+                other.r,
+                other.h,
+                shown(library),
+                shown(spans[0]),
+                shown(spans[1]),
+                shown(model),
+                shown(early)
+            );
+        }
+    }
 }
 
 fn time_book(text: &[u8], name: &str, shape: Shape) {

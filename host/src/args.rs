@@ -62,6 +62,14 @@ pub enum Call {
         unchecked: bool,
     },
     Licence(Licence),
+    Compare {
+        one: String,
+        other: String,
+        unchecked: bool,
+    },
+    Shelf {
+        trees: Vec<String>,
+    },
 }
 
 pub fn parse(words: Vec<String>) -> Result<Call, Failure> {
@@ -153,6 +161,11 @@ impl Given {
         if self.plain.len() < least {
             return Err(usage(topic, &format!("{} is missing", topic.figures[self.plain.len()])));
         }
+        match topic.name {
+            "compare" => return self.compare(topic),
+            "shelf" => return Ok(Call::Shelf { trees: self.plain }),
+            _ => {}
+        }
         if self.plain.len() > least + 1 {
             return Err(usage(topic, &format!("'{}' is one word too many", self.plain[least + 1])));
         }
@@ -176,6 +189,13 @@ impl Given {
             _ => Question::Stats,
         };
         Ok(Call::Ask { question, tree: file, guide: self.guide, unchecked: self.unchecked })
+    }
+
+    fn compare(self, topic: &Topic) -> Result<Call, Failure> {
+        match &self.plain[..] {
+            [one, other] => Ok(Call::Compare { one: one.clone(), other: other.clone(), unchecked: self.unchecked }),
+            more => Err(usage(topic, &format!("'{}' is one word too many", more[2]))),
+        }
     }
 
     fn build(self, topic: &Topic, book: Option<String>) -> Result<Call, Failure> {

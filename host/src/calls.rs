@@ -59,6 +59,15 @@ mod declared {
             buffer_len: usize,
             length: *mut u32,
         ) -> u32;
+        pub fn bt_order(
+            one: *const u8,
+            one_len: usize,
+            other: *const u8,
+            other_len: usize,
+            order: *mut u32,
+            shared: *mut u32,
+            first: *mut u32,
+        ) -> u32;
         pub fn bt_list(tree: *const u8, tree_len: usize, out: *mut u8, out_len: usize, length: *mut u32) -> u32;
         pub fn bt_build_scanned(
             text: *const u8,
@@ -218,6 +227,13 @@ pub fn row_guided(tree: &[u8], guide: &[u8], q: u32, buffer: &mut [u8]) -> (u32,
     let number =
         unsafe { declared::bt_row_guided(tree.as_ptr(), tree.len(), guide.as_ptr(), guide.len(), q, buffer.as_mut_ptr(), buffer.len(), &mut length) };
     (number, length)
+}
+
+/// The number, where the first stands (1 before, 2 same, 3 after), the length of the shared beginning, and which stands first (1 or 2).
+pub fn order(one: &[u8], other: &[u8]) -> (u32, u32, u32, u32) {
+    let (mut order, mut shared, mut first) = (0, 0, 0);
+    let number = unsafe { declared::bt_order(one.as_ptr(), one.len(), other.as_ptr(), other.len(), &mut order, &mut shared, &mut first) };
+    (number, order, shared, first)
 }
 
 /// The number and the lines' length.

@@ -3,7 +3,7 @@
 use crate::args::{Call, Question};
 use crate::files::{self, Input};
 use crate::trials::Trial;
-use crate::{by_columns, help, licence, messages, trials, Failure};
+use crate::{by_columns, help, licence, messages, shelf, trials, Failure};
 use codebook::{list, Guided, Range, Reached, Refusal, Settings, Tree, MAX_TEXT};
 
 pub fn run(call: Call) -> Result<(), Failure> {
@@ -18,6 +18,8 @@ pub fn run(call: Call) -> Result<(), Failure> {
         Call::Guide { tree, out } => guide(tree.as_deref(), out.as_deref()),
         Call::Ask { question, tree, guide, unchecked } => ask(&question, tree.as_deref(), guide.as_deref(), unchecked),
         Call::Licence(licence) => licence::run(&licence),
+        Call::Compare { one, other, unchecked } => shelf::compare(&one, &other, unchecked),
+        Call::Shelf { trees } => shelf::sort(&trees),
     }
 }
 

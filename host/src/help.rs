@@ -15,7 +15,7 @@ pub struct Topic {
 const UNCHECKED: &[&str] = &["--unchecked"];
 const GUIDED: &[&str] = &["--guide", "--unchecked"];
 
-static TOPICS: [Topic; 16] = [
+static TOPICS: [Topic; 18] = [
     Topic {
         name: "build",
         usage: "codebook build [BOOK] [-o TREE] [--leaf M --arity R --levels H] [--count BYTES] [--columns W]",
@@ -157,6 +157,24 @@ A guide has the number of the level 0 block that holds the 1st, 65th, 129th occu
 --guide start there and not at the first block. Without -o the guide goes to standard output.
 
   -o GUIDE     the file to write",
+    },
+    Topic {
+        name: "compare",
+        usage: "codebook compare ONE OTHER [--unchecked]",
+        figures: &["ONE", "OTHER"],
+        options: UNCHECKED,
+        summary: "say which of two trees' books stands first",
+        details: "\
+Books are ordered by the first byte that differs; where one is the beginning of the other, the shorter stands first. The trees may have any settings
+and layouts. Prints where ONE stands, and how many bytes both books share from their start on.",
+    },
+    Topic {
+        name: "shelf",
+        usage: "codebook shelf TREE..",
+        figures: &["TREE"],
+        options: &[],
+        summary: "print trees' names in the order of their books",
+        details: "One name to a line, ordered as compare says; trees of the same book stay as given.",
     },
     Topic {
         name: "text",

@@ -15,12 +15,14 @@ pub mod calls;
 mod columns;
 mod days;
 mod guides;
+mod order;
 mod refusal;
 
 pub use bounds::{MAX_PATTERN, MAX_TEXT};
 pub use columns::{from_columns, row_width, to_columns};
 pub use days::{days_left, open_on, renew};
 pub use guides::Guided;
+pub use order::Compared;
 use refusal::answer;
 pub use refusal::Refusal;
 

@@ -8,6 +8,7 @@ mod help;
 mod licence;
 mod messages;
 mod progress;
+mod shelf;
 mod trials;
 
 use std::process::ExitCode;

@@ -522,6 +522,54 @@ fn calls_that_are_not_right() {
 }
 
 #[test]
+fn orders() {
+    let folder = Folder::with_tree("orders");
+    folder.run("build small.txt -o other.tree --leaf 16 --arity 4 --levels 2 --count none").succeeds();
+    let small = folder.read("small.txt");
+    folder.write("short.txt", &small[..2000]);
+    folder.run("build short.txt -o short.tree --leaf 8 --arity 2 --levels 3").succeeds();
+    folder.write("late.txt", b"D");
+    folder.run("build late.txt -o late.tree --leaf 1 --arity 2 --levels 1").succeeds();
+    folder.write("near.txt", b"CI");
+    folder.run("build near.txt -o near.tree --leaf 1 --arity 2 --levels 1").succeeds();
+    folder.run("compare small.tree other.tree").succeeds().prints("small.tree holds the same book as other.tree; 2,800 bytes shared\n").says("");
+    folder.run("compare small.tree short.tree").succeeds().prints("small.tree stands after short.tree; 2,000 bytes shared\n");
+    folder.run("compare small.tree near.tree").succeeds().prints("small.tree stands before near.tree; 1 byte shared\n");
+    folder.run("compare late.tree small.tree --unchecked").succeeds().prints("late.tree stands after small.tree; 0 bytes shared\n");
+    folder.pipe("compare - short.tree", &folder.read("small.tree")).succeeds().prints("standard input stands after short.tree; 2,000 bytes shared\n");
+    folder
+        .run("shelf late.tree small.tree near.tree short.tree other.tree")
+        .succeeds()
+        .prints("short.tree\nsmall.tree\nother.tree\nnear.tree\nlate.tree\n")
+        .says("");
+    folder.write("empty.txt", b"");
+    folder.run("build empty.txt -o empty.tree --leaf 1 --arity 2 --levels 1").succeeds();
+    folder.run("compare empty.tree small.tree").succeeds().prints("empty.tree stands before small.tree; 0 bytes shared\n");
+    folder.run("shelf late.tree empty.tree small.tree").succeeds().prints("empty.tree\nsmall.tree\nlate.tree\n");
+    folder.run("shelf other.tree").succeeds().prints("other.tree\n");
+}
+
+#[test]
+fn orders_that_are_refused() {
+    let folder = Folder::with_tree("refused-orders");
+    let mut damaged = folder.read("small.tree");
+    damaged[104] = 2;
+    folder.write("damaged.tree", &damaged);
+    let links = "refused (8): the blocks are not right: a start, kind, link or gap, or the number of blocks or leaf bytes";
+    for words in ["compare small.tree damaged.tree", "compare damaged.tree small.tree", "shelf small.tree damaged.tree small.tree"] {
+        folder.run(words).status(1).prints("").says(&format!("codebook: damaged.tree: {links}\n"));
+    }
+    let path = "refused (14): the tree is damaged: the way to a byte breaks off, or a count comes out below zero";
+    folder.run("compare small.tree damaged.tree --unchecked").status(1).says(&format!("codebook: small.tree and damaged.tree: {path}\n"));
+    let usage = "usage: codebook compare ONE OTHER [--unchecked]";
+    folder.run("compare small.tree").status(2).says(&format!("codebook: OTHER is missing\n{usage}\n"));
+    folder.run("compare a b c").status(2).says(&format!("codebook: 'c' is one word too many\n{usage}\n"));
+    folder.run("shelf").status(2).says("codebook: TREE is missing\nusage: codebook shelf TREE..\n");
+    folder.run("shelf --unchecked small.tree").status(2).says("codebook: there is no option '--unchecked'\nusage: codebook shelf TREE..\n");
+    folder.run("shelf small.tree none.tree").status(2).says("codebook: none.tree cannot be read: No such file or directory (os error 2)\n");
+}
+
+#[test]
 fn help() {
     let folder = Folder::new("help");
     let overview = folder.run("--help");
@@ -540,12 +588,14 @@ fn help() {
         "columns",
         "column-row",
         "guide",
+        "compare",
+        "shelf",
         "text",
         "stats",
         "licence",
     ];
     for command in commands {
-        assert!(String::from_utf8_lossy(&overview.output.stdout).contains(&format!("\n  {command:<7}")));
+        assert!(String::from_utf8_lossy(&overview.output.stdout).contains(&format!("\n  {command:<8}")));
         let help = folder.run(&format!("{command} --help"));
         help.succeeds().says("");
         assert!(help.output.stdout.starts_with(format!("codebook {command} ").as_bytes()));

@@ -8,7 +8,7 @@ mod support;
 use codebook::calls;
 use judge::{find_agrees, match_agrees, row_agrees, FILL, FILL_WORD};
 use model::read::Answer;
-use model::{build, check, columns, dates, guides, keys, read, Shape};
+use model::{build, check, columns, dates, guides, keys, order, read, Shape};
 use std::collections::HashMap;
 use std::fmt::Display;
 use support::{from_hex, to_hex};
@@ -41,6 +41,7 @@ struct Calls {
     make_guide: fn(&[u8], &mut [u8]) -> (u32, u64),
     check_guide: fn(&[u8], &[u8]) -> u32,
     find_guided: fn(&[u8], &[u8], u32, u32) -> Answer<(u32, u32, u32, u32)>,
+    order: fn(&[u8], &[u8]) -> (u32, u32, u32, u32),
 }
 
 #[test]
@@ -79,6 +80,7 @@ fn library() {
         make_guide: calls::make_guide,
         check_guide: calls::check_guide,
         find_guided: |tree, guide, byte, j| Answer::Settled(calls::find_guided(tree, guide, byte, j)),
+        order: calls::order,
     });
 }
 
@@ -106,6 +108,7 @@ fn model() {
         make_guide: guides::make,
         check_guide: guides::check_guide,
         find_guided: guides::find,
+        order: order::order,
     });
 }
 
@@ -117,9 +120,6 @@ fn library_scan(text: &[u8], shape: Shape, counted: &[u8], words: usize, out: &m
     assert!(answer.0 == 0 || answer.0 == 4 || work.iter().all(|&word| word == filled));
     answer
 }
-
-/// Items of requests that are not in force in this format are passed over by name.
-const LATER: [&str; 1] = ["order"];
 
 fn run_all(calls: &Calls) {
     run_file(calls, VECTORS);
@@ -133,7 +133,7 @@ fn run_file(calls: &Calls, file: &str) {
     for line in file.lines().filter(|line| !line.is_empty() && !line.starts_with('#') && !line.contains(" => wrong: ")) {
         let tokens: Vec<&str> = line.split(' ').collect();
         match tokens[..] {
-            ["landed", request] => in_force = request == "113",
+            ["landed", request] => in_force = request == "114",
             ["text" | "tree", name, hex] => {
                 bytes.insert(name, from_hex(hex));
             }
@@ -145,7 +145,7 @@ fn run_file(calls: &Calls, file: &str) {
                 padded.resize(length.parse().expect("a number"), 0);
                 bytes.insert(name, padded);
             }
-            _ if !in_force || LATER.contains(&tokens[0]) => {}
+            _ if !in_force => {}
             _ => {
                 let arrow = tokens.iter().position(|&token| token == "=>").expect("every item has an answer");
                 let got = item(calls, &bytes, &tokens[..arrow], &tokens[arrow + 1..]);
@@ -216,6 +216,7 @@ fn item(calls: &Calls, bytes: &HashMap<&str, Vec<u8>>, item: &[&str], expected: 
         }
         "guidecheck" => (calls.check_guide)(subject, &guide(item[2])).to_string(),
         "guided" => return find_guided(calls, subject, &guide(item[2]), number(3), number(4), expected),
+        "order" => order::words((calls.order)(subject, &bytes[item[2]])),
         "match" => return next_match(calls, subject, &ranges(item[2]), number(3), expected),
         "find" => return find(calls, subject, number(2), number(3), expected),
         "row" => return row(calls, subject, number(2), lent(3), expected),

@@ -7,3 +7,4 @@ pub mod MatchLaws
 pub mod ColumnLaws
 pub mod TermLaws
 pub mod GuideLaws
+pub mod OrderLaws

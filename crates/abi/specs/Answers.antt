@@ -1,7 +1,7 @@
 -- What the exported calls answer and write, as numbers.
 use mathlib.Core.List.{List, _++_}
 use mathlib.Core.Bool.{cond}
-use Prim.Native.Nat.{ℕ}
+use Prim.Native.Nat.{ℕ, zero, suc}
 use lib.ListN.{length, drop}
 use lib.Dec.{leb, eqb}
 use Rattle.format.specs.Said.{Said}
@@ -40,3 +40,10 @@ listSize t room = cond (leb 512 room) (length (listed t)) 0
 
 unfoldable pub listLeaves : List ℕ → List ℕ → List ℕ
 listLeaves t out = cond (leb 512 (length out)) (listed t ++ drop (length (listed t)) out) out
+
+-- which of two trees stands first, by the order of the first one: 1 or 2, and 0 where the comparison is refused
+abbrev pub firstGiven : ℕ → ℕ
+firstGiven zero = 0
+firstGiven (suc zero) = 1
+firstGiven (suc (suc zero)) = 1
+firstGiven (suc (suc (suc n))) = 2

@@ -6,6 +6,8 @@ pub mod licence;
 
 pub mod guides;
 
+pub mod order;
+
 use access::Answer;
 use access::Copied;
 use access::reading::Ran;

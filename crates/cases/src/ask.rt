@@ -3,6 +3,7 @@ use crate::beside;
 use crate::by_columns;
 use crate::guides;
 use crate::licence;
+use crate::order;
 use crate::wrong;
 use script::Gift;
 use script::Question;
@@ -40,6 +41,9 @@ fn other(script: &[u8], line: &[u8], bytes: &mut [u8], lent: &mut [u8]) {
         return;
     }
     if guides::line(script, line, bytes) {
+        return;
+    }
+    if order::line(script, line, bytes) {
         return;
     }
     wrong::say(b"no such word");

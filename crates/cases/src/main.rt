@@ -5,6 +5,7 @@ mod beside;
 mod by_columns;
 mod guides;
 mod licence;
+mod order;
 mod wrong;
 
 ghost use Prim.Native.Nat.{_≤_};

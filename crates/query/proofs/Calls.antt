@@ -69,6 +69,12 @@ pub use Rattle.guided.proofs.find_guided.Met as find-guided-met
 pub use Rattle.rows.proofs.row_guided.Reads as row-guided-reads
 pub use Rattle.rows.proofs.row_guided.Statement as row-guided-stated
 pub use Rattle.rows.proofs.row_guided.Met as row-guided-met
+pub use Rattle.ordering.proofs.compare.Reads as compare-reads
+pub use Rattle.ordering.proofs.compare.Statement as compare-stated
+pub use Rattle.ordering.proofs.compare.Met as compare-met
+pub use Rattle.ordering.proofs.first.Reads as first-reads
+pub use Rattle.ordering.proofs.first.Statement as first-stated
+pub use Rattle.ordering.proofs.first.Met as first-met
 pub use Rattle.builder.specs.declared.Built.{Built}
 pub use Rattle.builder.specs.declared.Built.the-variants as built
 pub use Rattle.enough.specs.declared.Room.{Room}
@@ -99,6 +105,8 @@ pub use Rattle.guide.specs.declared.Size.{Size}
 pub use Rattle.guide.specs.declared.Size.the-variants as size
 pub use Rattle.guided.specs.declared.Guided.{Guided}
 pub use Rattle.guided.specs.declared.Guided.the-variants as guided
+pub use Rattle.ordering.specs.declared.Compared.{Compared}
+pub use Rattle.ordering.specs.declared.Compared.the-variants as compared
 -- what an answer says in document 01's terms, and that a refusal's number is not 0
 pub use Rattle.access.specs.Answers.{said, copiedSaid}
 pub use Rattle.rank.specs.Counts.{saidCount, Numbered as CountNumbered}
@@ -120,6 +128,8 @@ pub use Rattle.column_rows.proofs.Demands.{ByColumns}
 pub use Rattle.guide.proofs.Demands.{GuideWords, MakeGuide, CheckGuide}
 pub use Rattle.guided.proofs.Demands.{FindGuided}
 pub use Rattle.rows.proofs.Demands.{RowGuided}
+-- compare(one, other) and first(one, other, number, order, shared)
+pub use Rattle.ordering.proofs.Demands.{Compare, First}
 
 -- lent bytes
 abbrev pub Lent : Type 0

@@ -8,7 +8,7 @@ use mathlib.Core.Logic.{_⊎_, inl, inr}
 use Prim.Native.Nat.{ℕ, zero, suc, _+_, _-_, _≤_, _<_}
 use native.Mathlib.Omega.{arith}
 use contract.Lifetimes.{Lfts}
-use denote.Ref.{now}
+use denote.Ref.{RefT, now}
 use lib.ListN.{length, take, drop}
 use lib.Dec.{leb}
 use borrow.Author.Tests.{ne-eqb}
@@ -50,6 +50,7 @@ pub every-call-ends : {M : Type 1}
     × calls.to-columns-stated.statement M × calls.from-columns-stated.statement M × calls.by-columns-stated.statement M
     × calls.guide-words-stated.statement M × calls.make-guide-stated.statement M × calls.check-guide-stated.statement M
     × calls.find-guided-stated.statement M × calls.row-guided-stated.statement M
+    × calls.compare-stated.statement M × calls.first-stated.statement M
 every-call-ends = (
   calls.leftmost-met.met,
   calls.earlier-met.met,
@@ -75,6 +76,8 @@ every-call-ends = (
   calls.check-guide-met.met,
   calls.find-guided-met.met,
   calls.row-guided-met.met,
+  calls.compare-met.met,
+  calls.first-met.met,
 )
 
 -- "trusts no caller to have checked a tree": what a call asks of its caller holds of any arguments.
@@ -104,6 +107,8 @@ pub trusts-no-caller :
     × ((κs : Lfts 2) (t guide : Lent) → calls.check-guide-reads.Asked κs (t, (guide, tt)))
     × ((κs : Lfts 2) (t guide : Lent) (byte j : ℕ) → calls.find-guided-reads.Asked κs (t, (guide, (byte, (j, tt)))))
     × ((κs : Lfts 3) (t guide : Lent) (q : ℕ) (buffer : Lent) → calls.row-guided-reads.Asked κs (t, (guide, (q, (buffer, tt)))))
+    × ((κs : Lfts 2) (one other : Lent) → calls.compare-reads.Asked κs (one, (other, tt)))
+    × ((κs : Lfts 4) (one other : Lent) (number order shared : RefT ℕ) → calls.first-reads.Asked κs (one, (other, (number, (order, (shared, tt))))))
 trusts-no-caller = (
   λ κs text p len by. tt,
   λ κs text p len by. tt,
@@ -128,6 +133,8 @@ trusts-no-caller = (
   λ κs t guide. tt,
   λ κs t guide byte j. tt,
   λ κs t guide q buffer. tt,
+  λ κs one other. tt,
+  λ κs one other number order shared. tt,
 )
 
 -- "gives its answer or a numbered refusal of document 01": which numbers each call refuses with, for any arguments and any lent bytes.

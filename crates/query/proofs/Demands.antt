@@ -132,6 +132,16 @@ pub use Rattle.rows.proofs.Demands.{guided-as-row}
 pub use Rattle.guided.proofs.Demands.{guided-asked, guided-worst}
 pub use Rattle.query.proofs.Guides.{guided-below, guided-numbers, row-guided-answer, row-guided-numbers, row-guided-leaves}
 pub use Rattle.query.proofs.Guides.{check-guide-numbers, make-guide-numbers, guide-words-numbers}
+-- The order of books. "compared by reading: before, same or after, and the length of the shared beginning. Besides, the call hands back the tree that
+-- stands first, as lent, the first given if they are the same", whatever the settings and layouts: the answer depends on the texts alone. ..
+pub use Rattle.query.proofs.Orders.{compare-of, first-of, texts-alone, first-alone}
+-- .. "Two texts are ordered by the first byte that differs, unsigned; where one is the beginning of the other, the shorter stands first." ..
+pub use Rattle.query.proofs.Orders.{stands-by, shared-is, shared-flip, empty-first}
+-- .. "For accepted trees this is a total order on their texts." ..
+pub use Rattle.query.proofs.Orders.{tree-order, compare-flip, text-order, standing-flip, standing-refl, standing-same, standing-trans}
+-- .. "Questions 5 to 7 are put to the first tree, then to the second; after that each place .. where 14 may come": the numbers, for any lent bytes.
+pub use Rattle.query.proofs.Orders.{order-numbers}
+pub use Rattle.ordering.proofs.Demands.{order-unread, order-unread-2, order-broken, order-broken-2, order-below, order-above}
 
 -- The roads to a tree, each in one theorem.
 

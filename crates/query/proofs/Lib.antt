@@ -17,4 +17,5 @@ pub mod Empty
 pub mod OneByte
 pub mod Corrections
 pub mod Guides
+pub mod Orders
 pub mod Demands

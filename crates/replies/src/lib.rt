@@ -3,6 +3,7 @@
 pub mod by_columns;
 pub mod guides;
 pub mod licence;
+pub mod order;
 mod say;
 
 use access::reading::Ran;

@@ -11,6 +11,7 @@ pub mod dates;
 pub mod fast;
 pub mod guides;
 pub mod keys;
+pub mod order;
 pub mod read;
 
 /// The longest text, and the longest block of level 0.

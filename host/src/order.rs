@@ -1,0 +1,32 @@
+//! Books in order: two trees compared by their texts.
+
+use crate::refusal::answer;
+use crate::{calls, Refusal, Tree};
+use std::cmp::Ordering;
+
+/// Where a tree's text stands beside another's, and how many bytes they share from their start on.
+#[derive(Clone, Copy, Debug, PartialEq, Eq)]
+pub struct Compared {
+    pub ordering: Ordering,
+    pub shared: u32,
+}
+
+impl Tree<'_> {
+    /// The texts are ordered by the first byte that differs; where one is the beginning of the other, the shorter stands first. Settings and layouts play
+    /// no part. Of trees that the check accepts this is a total order, and it is never refused.
+    ///
+    /// ```
+    /// use codebook::{build, Settings, Tree};
+    /// use std::cmp::Ordering;
+    ///
+    /// let wide = build(b"CH0501 1423", &Settings { leaf: 8, arity: 2, levels: 1, counted: vec![] })?;
+    /// let deep = build(b"CH0501 1424", &Settings { leaf: 1, arity: 2, levels: 4, counted: vec![10] })?;
+    /// let compared = Tree::checked(&wide)?.compare(&Tree::checked(&deep)?)?;
+    /// assert_eq!((compared.ordering, compared.shared), (Ordering::Less, 10));
+    /// # Ok::<(), codebook::Refusal>(())
+    /// ```
+    pub fn compare(&self, other: &Tree) -> Result<Compared, Refusal> {
+        let (number, order, shared, _) = calls::order(self.bytes, other.bytes);
+        answer(number, Compared { ordering: order.cmp(&2), shared })
+    }
+}
