@@ -10,7 +10,7 @@ ghost use Rattle.built.specs.Targets.{placeOf};
 ghost use Rattle.records.specs.State.{settingsOf, On};
 ghost use Rattle.search.specs.Occurrences.{earlierSays};
 
-// Any base and modulus give the same tree.
+// Any base and modulus give the same tree: this function promises nothing, so that what is proved of marking is proved for all of them.
 fn fingerprint() -> Fingerprint {
     Fingerprint::new(257, 2147483647)
 }

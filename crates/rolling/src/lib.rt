@@ -18,14 +18,14 @@ pub struct Window {
 }
 
 // The fingerprint of bytes with one byte more at their end.
-pub fn push(h: u32, enters: u8) -> u32
+fn push(h: u32, enters: u8) -> u32
     ensures { λ r. ⌜ r ≡ (h * 1540483477 + enters) % 4294967296 ⌝ }
 {
     ((h as u64 * 1540483477 + enters as u64) % 4294967296) as u32
 }
 
 // The fingerprint of a window moved on by one byte.
-pub fn roll(h: u32, top: u32, leaves: u8, enters: u8) -> u32
+fn roll(h: u32, top: u32, leaves: u8, enters: u8) -> u32
     ensures { λ r. ⌜ r ≡ (h * 1540483477 + enters + (255 * 4294967296 - top * leaves)) % 4294967296 ⌝ }
 {
     ((h as u64 * 1540483477 + enters as u64 + (1095216660480 - top as u64 * leaves as u64))

@@ -8,7 +8,7 @@ ghost use Rattle.text.specs.Text.{stretch};
 ghost use Rattle.search.specs.Fingers.{Ready, finger};
 
 // The fingerprint of bytes with one byte more at their end.
-pub fn push(by: Fingerprint, h: u64, enters: u8) -> u64
+fn push(by: Fingerprint, h: u64, enters: u8) -> u64
     requires { ⌜ (Ready (by .base) (by .modulus)) × (h < by .modulus) ⌝ }
     ensures { λ r. ⌜ r ≡ (h * by .base + enters) % by .modulus ⌝ }
 {
