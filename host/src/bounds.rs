@@ -14,6 +14,9 @@ pub const MAX_TEXT: usize = ungrouped(longest!());
 /// The longest pattern.
 pub const MAX_PATTERN: usize = 256;
 
+/// A buffer of so many bytes holds all lines that list writes.
+pub const LIST_LENGTH: usize = 352;
+
 /// The number that is written with its thousands parted.
 const fn ungrouped(digits: &str) -> usize {
     let digits = digits.as_bytes();

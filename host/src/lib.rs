@@ -18,7 +18,7 @@ mod guides;
 mod order;
 mod refusal;
 
-pub use bounds::{MAX_PATTERN, MAX_TEXT};
+pub use bounds::{LIST_LENGTH, MAX_PATTERN, MAX_TEXT};
 pub use columns::{from_columns, row_width, to_columns};
 pub use days::{days_left, open_on, renew};
 pub use guides::Guided;
@@ -101,9 +101,12 @@ pub fn build_scanned(text: &[u8], settings: &Settings) -> Result<Scanned, Refusa
 
 /// The lines of the list program, one for each level; or its line `refused N`, and the refusal.
 pub fn list(tree: &[u8]) -> (String, Result<(), Refusal>) {
-    let mut out = [0; 512];
+    let mut out = [0; LIST_LENGTH];
     let (number, length) = calls::list(tree, &mut out);
-    let lines = String::from_utf8_lossy(&out[..length as usize]).into_owned();
+    let lines = match number {
+        0 => String::from_utf8_lossy(&out[..length as usize]).into_owned(),
+        _ => format!("refused {number}\n"),
+    };
     (lines, answer(number, ()))
 }
 
