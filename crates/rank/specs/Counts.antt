@@ -2,8 +2,8 @@
 use mathlib.Core.Bool.{cond}
 use mathlib.Core.List.{List}
 use mathlib.Core.Path.{_≡_}
-use Prim.Native.Nat.{ℕ, _-_, _≤_}
-use lib.Dec.{leb}
+use Prim.Native.Nat.{ℕ, _-_, _/_, _%_, _≤_}
+use lib.Dec.{eqb, leb}
 use Rattle.format.specs.Said.{Said, refused}
 use Rattle.format.specs.Counting.{countSays}
 use Rattle.rank.specs.declared.Counted.{Counted}
@@ -29,3 +29,7 @@ pub record CountAnswer (t : List ℕ) (byte i : ℕ) (r : Counted) : Type 0 wher
 unfoldable pub settled : Summed → Said
 settled Broken = refused 14
 settled (At s) = cond (leb (s .minus) (s .plus)) (record { number = 0; value = s .plus - s .minus; entered = s .entered }) (refused 14)
+
+-- what a count's word says: how often, and 2^48 times the blocks entered; all ones where the path breaks or the count is below zero
+unfoldable pub saidIn : ℕ → Said
+saidIn w = cond (eqb w 18446744073709551615) (refused 14) (record { number = 0; value = w % 281474976710656; entered = w / 281474976710656 })

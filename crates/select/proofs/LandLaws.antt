@@ -26,9 +26,11 @@ use Rattle.layout.specs.declared.header.Header.{Header}
 use Rattle.layout.specs.declared.place.BlockNumber.{BlockNumber}
 use Rattle.layout.specs.declared.place.BlockPlace.{BlockPlace}
 use Rattle.steps.specs.declared.Next.the-variants as next
-use Rattle.steps.specs.Steps.{OnLevel, InTable, nextAt}
-use Rattle.steps.proofs.StepLaws.{kept-in, pointing-in, b-small, b-pos}
-use Rattle.walk.proofs.WalkLaws.{pointing-not-kept}
+use Rattle.steps.specs.Levels.{OnLevel, InTable}
+use Rattle.steps.specs.Steps.{nextAt}
+use Rattle.steps.proofs.NextLaws.{pointing-not-kept}
+use Rattle.steps.proofs.StepLaws.{kept-in, pointing-in}
+use Rattle.steps.proofs.LevelLaws.{b-small, b-pos}
 use Rattle.tallies.specs.Level.{Level, tally}
 use Rattle.tallies.specs.Local.{byteOf, inLeaves}
 use Rattle.tallies.specs.Stretches.{leaves-end, leaves-tally}

@@ -15,7 +15,8 @@ use Rattle.layout.specs.declared.place.BlockPlace.{BlockPlace}
 use Rattle.steps.specs.declared.Next.{Next}
 use Rattle.steps.specs.declared.Next.the-variants as next
 use Rattle.layout.specs.HeaderSays.{HeaderOf}
-use Rattle.steps.specs.Steps.{OnLevel, nextAt}
+use Rattle.steps.specs.Levels.{OnLevel}
+use Rattle.steps.specs.Steps.{nextAt}
 use Rattle.tallies.specs.Local.{byteOf}
 use Rattle.tallies.specs.Finds.{Lands}
 use Rattle.tallies.specs.Demands as demands

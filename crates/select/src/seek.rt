@@ -16,7 +16,7 @@ ghost use Rattle.format.specs.Settings.{maxText};
 ghost use Rattle.format.specs.Layout as at;
 ghost use Rattle.format.specs.Finding.{total};
 ghost use Rattle.layout.specs.HeaderSays.{HeaderOf};
-ghost use Rattle.steps.specs.Steps.{OnLevel, InTable};
+ghost use Rattle.steps.specs.Levels.{OnLevel, InTable};
 ghost use Rattle.tallies.specs.Local.{byteOf};
 ghost use Rattle.select.specs.Found.{saidFind, Numbered, placedIn, Sought, Stopped, SoughtIn};
 ghost use Rattle.select.specs.Seeks.{Near, moved, Siblings, LastBefore, picked, KeptIn, PointsIn, ChildWith, targetAt, TargetWith, Seeking, FoundIn};
@@ -112,7 +112,7 @@ fn pick(
     if j <= before {
         return Child::Off;
     }
-    match steps::look(t, h, level, b, block, place) {
+    match steps::look(t, h.record_size, level, b, block, place) {
         Next::Kept(i, o) => Child::Kept(i, o, j - before),
         Next::Points(i, o) => Child::Points(i, o, j - before),
         Next::Off => Child::Off,
@@ -151,7 +151,10 @@ fn child_with(
     ensures { λ r. ⌜ ChildWith (now (t .entry)) number level (block .0) below j r ⌝ }
 {
     let link = record::link(t, h.record_size, level, block);
-    let count = header::pieces(steps::block_length(t, h, level, b, block), below);
+    let count = header::pieces(
+        steps::block_length(t, h.record_size, level, b, block),
+        below,
+    );
     let table = record::level_count(t, level + 1) as u64;
     if table < link as u64 + count as u64 {
         return Child::Off;
@@ -227,7 +230,7 @@ fn leaf_place(
     ensures { λ r. ⌜ FoundIn (now (t .entry)) (wanted .number) level (block .0) j 1 r ⌝ }
 {
     let link = record::link(t, h.record_size, level, block) as u64;
-    let len = steps::block_length(t, h, level, b, block);
+    let len = steps::block_length(t, h.record_size, level, b, block);
     if (h.leaf_count as u64) < link + len as u64 {
         return Placed::Off;
     }
