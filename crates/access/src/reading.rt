@@ -63,7 +63,7 @@ pub fn next_byte(t: &[u8], h: Header, at: TextPlace, held: Reached) -> Read
     let leaf = h.leaf_offset as usize + reached.leaf as usize;
     Read {
         answer: Answer::Byte(t[leaf], reached.trail.entered),
-        held: held::ahead(h.leaf_count, reached),
+        held: held::ahead(reached),
     }
 }
 

@@ -25,7 +25,8 @@ use Rattle.layout.specs.HeaderSays.{HeaderOf}
 use Rattle.layout.specs.Record.{EdgesIn}
 use Rattle.steps.specs.declared.Next.{Next}
 use Rattle.steps.specs.declared.Next.the-variants as next
-use Rattle.steps.specs.Steps.{OnLevel, Pointing, nextAt}
+use Rattle.steps.specs.Steps.{nextAt}
+use Rattle.steps.specs.Levels.{OnLevel, Pointing}
 use Rattle.steps.proofs.StepLaws.{kept-in, pointing-gap}
 use Rattle.steps.proofs.NextLaws.{next-kept, next-points, next-off, pointing-not-kept}
 use Rattle.borders.specs.declared.gather.Gathered.{Gathered}

@@ -23,7 +23,7 @@ use Rattle.margins.specs.Demands.{edges-exact}
 use Rattle.layout.specs.declared.header.Header.{Header}
 use Rattle.layout.specs.HeaderSays.{HeaderOf}
 use Rattle.layout.specs.Record.{EdgesIn}
-use Rattle.steps.specs.Steps.{OnLevel}
+use Rattle.steps.specs.Levels.{OnLevel}
 use Rattle.borders.specs.declared.gather.Parts.{Parts}
 use Rattle.borders.specs.declared.gather.Gathered.{Gathered}
 use Rattle.borders.specs.declared.gather.Gathered.the-variants.{At, Broken}

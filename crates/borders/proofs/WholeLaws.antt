@@ -22,9 +22,9 @@ use Rattle.layout.specs.declared.header.Header.{Header}
 use Rattle.layout.specs.declared.place.BlockNumber.{BlockNumber}
 use Rattle.layout.specs.declared.place.BlockPlace.{BlockPlace}
 use Rattle.layout.specs.HeaderSays.{HeaderOf}
-use Rattle.steps.specs.Steps.{OnLevel}
-use Rattle.steps.proofs.StepLaws.{b-small}
-use Rattle.steps.proofs.NextLaws.{level-below, on-top}
+use Rattle.steps.specs.Levels.{OnLevel}
+use Rattle.steps.proofs.LevelLaws.{b-small}
+use Rattle.steps.proofs.LevelLaws.{level-below, on-top}
 use Rattle.borders.specs.declared.gather.Gathered.{Gathered}
 use Rattle.borders.specs.declared.gather.Gathered.the-variants.{At, Broken}
 use Rattle.borders.specs.declared.gather.Land.{Land}

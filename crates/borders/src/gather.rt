@@ -14,7 +14,7 @@ ghost use Rattle.format.specs.Layout as at;
 ghost use Rattle.format.specs.Path.{keptBlock};
 ghost use Rattle.format.specs.Short.{byEdges, inLeaf, shortFrom, shortOf};
 ghost use Rattle.layout.specs.HeaderSays.{HeaderOf};
-ghost use Rattle.steps.specs.Steps.{OnLevel, Pointing};
+ghost use Rattle.steps.specs.Levels.{OnLevel, Pointing};
 ghost use Rattle.borders.specs.Gathering.{gathered, downTo, pointedTo, landing, Crossing, Walking, Within};
 
 // Where the bytes of a span stand in the tree: `size` of them at `from`, the others at `next`; and how many blocks were entered.
@@ -116,7 +116,7 @@ fn last(
     requires { ⌜ (OnLevel (now t) h level b) × (entered ≤ 16) ⌝ }
     ensures { λ r. ⌜ r ≡ gathered entered (inLeaf (now (t .entry)) level (first .0 + steps) (place .0) len) ⌝ }
 {
-    let next = steps::look_after(t, h, level, b, first, steps, place);
+    let next = steps::look_after(t, h.record_size, level, b, first, steps, place);
     match next {
         Next::Kept(i, p) => leaf_part(t, h, level, i, p, len, entered),
         Next::Points(_, _) => Gathered::Broken,
@@ -177,7 +177,7 @@ fn pointed(
     if splits(b, sum, len) {
         return Land::Over(BlockNumber(link), sum);
     }
-    let next = steps::target(t, h, level, b, block, place);
+    let next = steps::target(t, h.record_size, level, b, block, place);
     match next {
         Next::Kept(i, p) => into(t, h, level, c, i, p, 2),
         Next::Points(_, _) => Land::Off,
@@ -200,7 +200,7 @@ fn settle(
     requires { ⌜ (OnLevel (now t) h level b) × (place .0 < b) × (place .0 + len ≤ b) × (c ≡ at.fullLength (now t) (level + 1)) ⌝ }
     ensures { λ r. ⌜ r ≡ landing (now (t .entry)) level (first .0 + steps) (place .0) len ⌝ }
 {
-    let next = steps::look_after(t, h, level, b, first, steps, place);
+    let next = steps::look_after(t, h.record_size, level, b, first, steps, place);
     match next {
         Next::Kept(i, p) => into(t, h, level, c, i, p, 1),
         Next::Points(i, p) => pointed(t, h, level, b, c, i, p, len),

@@ -38,7 +38,7 @@ fn block_right(t: &[u8], h: Header, level: u32, b: u32, block: BlockNumber) -> b
     ensures { λ r. ⌜ r ≡ edgesLocal (now (t .entry)) level (block .0) ⌝ }
 {
     let m = h.settings.leaf;
-    let length = steps::block_length(t, h, level, b, block);
+    let length = steps::block_length(t, h.record_size, level, b, block);
     let own = stretches::shorter(m, length);
     let at = record::edges(t, h.record_size, h.settings.counted, level, block);
     let first = gather::gather(t, h, level, b, block, 0, BlockPlace(0), own, 0);

@@ -21,15 +21,12 @@ use Rattle.guide.specs.Guides.{lastListed, blockOf, entriesOf, entriesBe
 book : List ℕ
 book = 81 ∷ 65 ∷ 66 ∷ 67 ∷ 68 ∷ 65 ∷ 66 ∷ 67 ∷ 68 ∷ 69 ∷ 70 ∷ 71 ∷ 65 ∷ 66 ∷ 67 ∷ 68 ∷ 65 ∷ 66 ∷ 67 ∷ 68 ∷ []
 
--- a block of level 0 has four bytes, or two
-four : List ℕ → List ℕ → List ℕ
-four cs T = treeOf (record { leaf = 2; arity = 2; levels = 2; counted = cs }) T
-
-two : List ℕ → List ℕ → List ℕ
-two cs T = treeOf (record { leaf = 1; arity = 2; levels = 2; counted = cs }) T
+-- the tree of one level: its blocks have b bytes
+blocks : ℕ → List ℕ → List ℕ → List ℕ
+blocks b cs T = treeOf (record { leaf = b; arity = 2; levels = 1; counted = cs }) T
 
 W : List ℕ
-W = four (65 ∷ []) book
+W = treeOf (record { leaf = 2; arity = 2; levels = 2; counted = 65 ∷ [] }) book
 
 -- A and B by turns
 both : ℕ → List ℕ
@@ -48,23 +45,23 @@ pub record Marked : Type 0 where
   made : (makeSays W (replicate 6 7) ≡ said 0 1) × (makeLeaves W (replicate 6 7) ≡ 0 ∷ 0 ∷ 0 ∷ 0 ∷ 7 ∷ 7 ∷ [])
       × (makeSays W (replicate 3 7) ≡ said 25 0) × (makeLeaves W (replicate 3 7) ≡ replicate 3 7)
   -- 200 letters A: the 1st, 65th, 129th and 193rd
-  long : (guideOf (four (65 ∷ []) (replicate 200 65)) ≡ 0 ∷ 16 ∷ 32 ∷ 48 ∷ []) × (guideOf (two (65 ∷ []) (replicate 200 65)) ≡ 0 ∷ 32 ∷ 64 ∷ 96 ∷ [])
+  long : (guideOf (blocks 4 (65 ∷ []) (replicate 200 65)) ≡ 0 ∷ 16 ∷ 32 ∷ 48 ∷ []) × (guideOf (blocks 2 (65 ∷ []) (replicate 200 65)) ≡ 0 ∷ 32 ∷ 64 ∷ 96 ∷ [])
   -- 64 of them have one entry, 65 two
-  begun : (guideOf (four (65 ∷ []) (replicate 64 65)) ≡ 0 ∷ []) × (guideOf (four (65 ∷ []) (replicate 65 65)) ≡ 0 ∷ 16 ∷ [])
+  begun : (guideOf (blocks 4 (65 ∷ []) (replicate 64 65)) ≡ 0 ∷ []) × (guideOf (blocks 4 (65 ∷ []) (replicate 65 65)) ≡ 0 ∷ 16 ∷ [])
   -- the hundredth A, in block 49, is 17 steps from the 65th, in block 32
-  seventeen : (lastListed 100 ≡ 65) × (blockOf (two (65 ∷ []) (replicate 200 65)) 0 100 ≡ 49) × (lastListed 64 ≡ 1) × (lastListed 65 ≡ 65)
+  seventeen : (lastListed 100 ≡ 65) × (blockOf (blocks 2 (65 ∷ []) (replicate 200 65)) 0 100 ≡ 49) × (lastListed 64 ≡ 1) × (lastListed 65 ≡ 65)
   -- two counted bytes, one after the other
-  pairs : (guideOf (two (65 ∷ 66 ∷ []) (both 100)) ≡ 0 ∷ 64 ∷ 0 ∷ 64 ∷ []) × (entriesBefore (two (65 ∷ 66 ∷ []) (both 100)) 1 ≡ 2)
+  pairs : (guideOf (blocks 2 (65 ∷ 66 ∷ []) (both 100)) ≡ 0 ∷ 64 ∷ 0 ∷ 64 ∷ []) × (entriesBefore (blocks 2 (65 ∷ 66 ∷ []) (both 100)) 1 ≡ 2)
   -- a text of no bytes
-  empty : (guideOf (two (65 ∷ []) []) ≡ []) × (guideNumber (two (65 ∷ []) []) [] ≡ 0) × (guideNumber (two (65 ∷ []) []) (replicate 4 0) ≡ 24) × (makeSays (two (65 ∷ []) []) [] ≡ said 0 0)
+  empty : (guideOf (blocks 2 (65 ∷ []) []) ≡ []) × (guideNumber (blocks 2 (65 ∷ []) []) [] ≡ 0) × (guideNumber (blocks 2 (65 ∷ []) []) (replicate 4 0) ≡ 24) × (makeSays (blocks 2 (65 ∷ []) []) [] ≡ said 0 0)
   -- none counted; none there
-  none : (guideOf (two [] book) ≡ []) × (guideOf (two (90 ∷ []) book) ≡ []) × (guideNumber (two [] book) [] ≡ 0) × (makeSays (two [] book) [] ≡ said 0 0)
+  none : (guideOf (blocks 2 [] book) ≡ []) × (guideOf (blocks 2 (90 ∷ []) book) ≡ []) × (guideNumber (blocks 2 [] book) [] ≡ 0) × (makeSays (blocks 2 [] book) [] ≡ said 0 0)
   -- trees that the check refuses: 5, and 8 before 24 and 25; the size asks 5 to 7 alone
   unread : (guideNumber (take 99 W) [] ≡ 5) × (makeSays (take 99 W) [] ≡ said 5 0) × (sizeSays (take 99 W) ≡ said 5 0)
   unlinked : (guideNumber (setWord W 112 1) [] ≡ 8) × (makeSays (setWord W 112 1) [] ≡ said 8 0) × (sizeSays (setWord W 112 1) ≡ said 0 1)
 
 pub marked : Marked
-unfolding book four two W both said blockOf entriesOf entriesBefore guideWords guideOf guideBytes guideNumber sizeSays makeNumber makeSays makeLeaves total tabulate concat sumBelow countBelow allBelow sameList setWord wordAt wordsBytes wordBytes stretch leftmost firstFrom countIn placeOf placeIn blockLength pieces lengthOk sizesOk countedOk rising risingAfter treeOf header leafBytes levelPairs recordBytes recordLength edgesOf filledOut levelBytes recordIn recordOf target occurrence width isKept startsAt cut keptByPairs firstPairAt pairAt lengthOf startOf pathOf pathFrom targetPlace targetBlock pointingBlock keptBlock lands landBlock landPlace landVisits shortOf shortFrom byEdges inLeaf linksOk textOf fits countsTrue edgesTrue blockEdgesTrue lastLevel widthAt keptRight pointingRight blockRight countBelowRight blockFits blockCountsTrue verdict readable at.leafByte at.blockLengthAt at.levelCount at.levelOffset at.fullLength at.countedCount at.before at.inside
+unfolding book blocks W both said blockOf entriesOf entriesBefore guideWords guideOf guideBytes guideNumber sizeSays makeNumber makeSays makeLeaves total tabulate concat sumBelow countBelow allBelow sameList setWord wordAt wordsBytes wordBytes stretch leftmost firstFrom countIn placeOf placeIn blockLength pieces lengthOk sizesOk countedOk rising risingAfter treeOf header leafBytes levelPairs recordBytes recordLength edgesOf filledOut levelBytes recordIn recordOf target occurrence width isKept startsAt cut keptByPairs firstPairAt pairAt lengthOf startOf pathOf pathFrom targetPlace targetBlock pointingBlock keptBlock lands landBlock landPlace landVisits shortOf shortFrom byEdges inLeaf linksOk textOf fits countsTrue edgesTrue blockEdgesTrue lastLevel widthAt keptRight pointingRight blockRight countBelowRight blockFits blockCountsTrue verdict readable at.leafByte at.blockLengthAt at.levelCount at.levelOffset at.fullLength at.countedCount at.before at.inside
 marked = record {
   worked = (refl, refl, refl, refl);
   right = (refl, refl, refl, refl, refl, refl, refl);

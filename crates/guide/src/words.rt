@@ -1,5 +1,6 @@
 // The words of a guide: how many there are, and the block that each names.
 use layout::header::Header;
+use layout::place::BlockNumber;
 use layout::record;
 use rank::counting;
 use select::seek;
@@ -45,5 +46,13 @@ pub fn block_from(t: &[u8], h: Header, number: u32, from: u32, j: u64) -> Along
     requires { ⌜ (HeaderOf (now t) h) × (number < at.countedCount (now t)) × (from < at.levelCount (now t) 0) ⌝ }
     ensures { λ r. ⌜ (LastBefore (now (t .entry)) number 0 from (at.levelCount (now (t .entry)) 0) j (r .block .0)) × (from + r .steps ≡ r .block .0) ⌝ }
 {
-    seek::step_along(t, h, number, 0, from, record::level_count(t, 0), j)
+    seek::step_along(
+        t,
+        h,
+        number,
+        0,
+        BlockNumber(from),
+        BlockNumber(record::level_count(t, 0)),
+        j,
+    )
 }

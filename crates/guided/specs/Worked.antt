@@ -25,7 +25,7 @@ W = treeOf (record { leaf = 2; arity = 2; levels = 2; counted = 65 ∷ [] }) boo
 
 -- 200 letters A in blocks of two
 long : List ℕ
-long = treeOf (record { leaf = 1; arity = 2; levels = 2; counted = 65 ∷ [] }) (replicate 200 65)
+long = treeOf (record { leaf = 2; arity = 2; levels = 1; counted = 65 ∷ [] }) (replicate 200 65)
 
 pub record Marked : Type 0 where
   -- the fourth A of the worked book stands at 16, in block 4: three blocks entered, four steps from block 0

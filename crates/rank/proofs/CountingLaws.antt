@@ -2,9 +2,9 @@
 use mathlib.Core.List.{List}
 use mathlib.Core.Option.{Option, none, some}
 use mathlib.Core.Bool.{true, false}
-use mathlib.Core.Path.{_≡_, refl, ap, _∙_}
+use mathlib.Core.Path.{_≡_, refl, sym, ap, _∙_}
 use mathlib.Core.Logic.{_⊎_, inl, inr}
-use Prim.Native.Nat.{ℕ, _+_, _-_, _≤_, _<_}
+use Prim.Native.Nat.{ℕ, _+_, _-_, _/_, _%_, _≤_, _<_}
 use native.Mathlib.Omega.{arith}
 use borrow.Author.Tests.{lt-ltb, le-ltb, lt-leb, le-leb, ne-eqb}
 use lib.ListN.{length}
@@ -21,25 +21,18 @@ use Rattle.layout.specs.declared.header.HeaderRead.{HeaderRead}
 use Rattle.layout.specs.declared.header.HeaderRead.the-variants.{Refused}
 use Rattle.layout.specs.Header.{headerSays}
 use Rattle.layout.specs.HeaderSays.{HeaderOf, header-refused}
-use Rattle.rank.specs.declared.sums.Sum.{Sum}
-use Rattle.rank.specs.declared.sums.Summed.{Summed}
-use Rattle.rank.specs.declared.sums.Summed.the-variants.{At, Broken}
 use Rattle.rank.specs.Sums.{wholeSum}
-use Rattle.rank.specs.Counts.{settled}
+use Rattle.rank.specs.Counts.{settled, saidIn}
+use Rattle.rank.proofs.SumLaws.{broken-word}
 
 -- the finished count
 
-pub settled-broken : (x : Summed) → x ≡ Broken → refused 14 ≡ settled x
-unfolding settled
-settled-broken x e = rw e
+pub said-broken : (w : ℕ) → w ≡ 18446744073709551615 → refused 14 ≡ saidIn w
+said-broken w e = broken-word ∙ ap saidIn (sym e)
 
-pub settled-below : (x : Summed) (s : Sum) → x ≡ At s → s .plus < s .minus → refused 14 ≡ settled x
-unfolding settled
-settled-below x s e h = rw (e, lt-leb (s .minus) (s .plus) h)
-
-pub settled-at : (x : Summed) (s : Sum) → x ≡ At s → s .minus ≤ s .plus → record { number = 0; value = s .plus - s .minus; entered = s .entered } ≡ settled x
-unfolding settled
-settled-at x s e h = rw (e, le-leb (s .minus) (s .plus) h)
+pub said-word : (w : ℕ) → (w ≡ 18446744073709551615 → ⊥) → record { number = 0; value = w % 281474976710656; entered = w / 281474976710656 } ≡ saidIn w
+unfolding saidIn
+said-word w ne = rw (ne-eqb w 18446744073709551615 ne)
 
 settled-whole : (t : List ℕ) (byte c : ℕ) (r : Option Path) → settled (wholeSum t byte c r) ≡ countOf t byte c r
 unfolding settled wholeSum
@@ -93,11 +86,11 @@ module _ (t : List ℕ) (h : Header) (k : HeaderOf t h) (byte i : ℕ) where
       unfolding countSays
       count-nothing z = rw (k .passes, le-leb i (at.textLength t) (omega (arith, k .length-is)), is-counted t h k byte number is counted, z)
 
-      pub count-walked : (i ≡ 0 → ⊥) → (x : Summed) → x ≡ wholeSum t byte number (pathOf t (i - 1)) → (s : Said) → s ≡ settled x → s ≡ countSays t byte i
+      pub count-walked : (i ≡ 0 → ⊥) → (s : Said) → s ≡ settled (wholeSum t byte number (pathOf t (i - 1))) → s ≡ countSays t byte i
       unfolding countSays
-      count-walked n x x-is s e =
+      count-walked n s e =
           rw (k .passes, le-leb i (at.textLength t) (omega (arith, k .length-is)), is-counted t h k byte number is counted, ne-eqb i 0 n)
-          (e ∙ ap settled x-is ∙ settled-whole t byte number (pathOf t (i - 1)) ∙ rw is)
+          (e ∙ settled-whole t byte number (pathOf t (i - 1)) ∙ rw is)
 
 -- a tree that does not pass questions 5 to 7
 pub count-unread : (t : List ℕ) (byte i : ℕ) (x : HeaderRead) → x ≡ headerSays t → (q : ℕ) → x ≡ Refused q → refused q ≡ countSays t byte i

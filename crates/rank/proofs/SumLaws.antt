@@ -6,7 +6,7 @@ use mathlib.Core.Path.{_≡_, refl, sym, ap, _∙_}
 use mathlib.Core.Logic.{_⊎_, inl, inr}
 use Prim.Native.Nat.{ℕ, suc, _+_, _-_, _*_, _/_, _%_, _≤_, _<_}
 use native.Mathlib.Omega.{arith}
-use borrow.Author.Tests.{eq-eqb, ne-eqb}
+use borrow.Author.Tests.{eq-eqb, ne-eqb, lt-leb, le-leb}
 use lib.ListN.{length}
 use lib.Dec.{eqb}
 use Rattle.text.specs.ListLaws.{lt-or-ge}
@@ -24,17 +24,23 @@ use Rattle.layout.specs.Record.{FieldIn, field-in}
 use Rattle.steps.specs.declared.Next.{Next}
 use Rattle.steps.specs.declared.Next.the-variants.{Kept, Points, Off}
 use Rattle.layout.specs.HeaderSays.{HeaderOf}
-use Rattle.steps.specs.Steps.{OnLevel, Pointing, nextAt}
-use Rattle.walk.specs.Walk.{KeptAt}
+use Rattle.steps.specs.declared.Part.{Part}
+use Rattle.steps.specs.declared.Arrived.{Arrived}
+use Rattle.steps.specs.declared.Arrived.the-variants as arrived
+use Rattle.steps.specs.Steps.{OnLevel, nextAt, childAt, landAt}
+use Rattle.walk.specs.Walk.{KeptAt, MayPoint}
 use Rattle.walk.specs.declared.Trail.{Trail}
 use Rattle.walk.specs.Walk.{onward as trailed}
-use Rattle.steps.proofs.StepLaws.{kept-in, pointing-in}
+use Rattle.steps.proofs.NextLaws.{next-points, next-off, child-at, child-off, land-at}
+use Rattle.steps.proofs.StepLaws.{kept-in}
 use Rattle.walk.proofs.WalkLaws as walk
-use Rattle.walk.proofs.WalkLaws.{next-kept, next-points, next-off, from-off, from-last-points, from-no-leaf, from-no-target, pointing-not-kept}
+use Rattle.walk.proofs.WalkLaws.{from-off, from-past, from-no-leaf}
 use Rattle.tallies.specs.Ranks.{goes-head, added-target, taken-target}
 use Rattle.rank.specs.declared.sums.Sum.{Sum}
 use Rattle.rank.specs.declared.sums.Summed.{Summed}
 use Rattle.rank.specs.declared.sums.Summed.the-variants.{At, Broken}
+use Rattle.format.specs.Said.{Said, refused}
+use Rattle.rank.specs.Counts.{settled, saidIn}
 use Rattle.rank.specs.Sums.{onward, addedRest, summed, startSum, wholeSum, Carried, Across}
 
 -- every field of every record can be read
@@ -45,6 +51,9 @@ pub field-there : (t : List ℕ) (h : Header) (level i c f : ℕ) → HeaderOf t
     → f ≤ 6 + 3 * c → FieldIn t (h .«record_size») level i f
 field-there t h level i c f k hl hi hc hf =
     field-in t (facts t h k) (h .«record_size») level i f (k .size-is) hl hi (omega arith)
+
+pub field-on : (t : List ℕ) (size level b i c f : ℕ) → OnLevel t size level b → i < at.levelCount t level → c < at.countedCount t → f ≤ 6 + 3 * c → FieldIn t size level i f
+field-on t size level b i c f k hi hc hf = field-in t (k .facts) size level i f (k .size-is) (k .level-in) hi (omega arith)
 
 -- what is carried
 
@@ -62,6 +71,10 @@ carried-on t c s r plus minus k e hp hm = rw e (record {
 
 pub carried-small : (t : List ℕ) (c : ℕ) (s : Sum) → Carried t c s → s .entered ≤ 16 → (s .plus ≤ 1099511627776) × (s .minus ≤ 1099511627776)
 carried-small t c s k few = (omega (arith, k .plus-few), omega (arith, k .minus-few))
+
+pub carried-word : (t : List ℕ) (c : ℕ) (s r : Sum) (plus : ℕ) → Carried t c s → s .entered ≤ 16 → r ≡ onward s plus 0 → plus < 4294967296 → (r .entered ≤ 17) × (r .plus ≤ 1099511627776)
+unfolding onward
+carried-word t c s r plus k few e small = rw e (omega arith, omega (arith, k .plus-few))
 
 -- a block entered first is carried on
 
@@ -112,73 +125,6 @@ module _ (t : List ℕ) (byte c : ℕ) (s : Sum) where
       let z : at.link t l i + o - o ≡ at.link t l i = omega arith in
       rw (from-last t l i o kept h, z, f, e) (same _ _ _ _ _ _ (omega arith) (omega arith) (omega arith))
 
-  pub sum-no-leaf : (l i o : ℕ) → keptBlock t l i ≡ true → at.leafCount t ≤ at.link t l i + o → Broken ≡ summed t byte c s (pathFrom t 0 l i o)
-  unfolding summed
-  sum-no-leaf l i o kept h = rw (from-no-leaf t l i o h kept)
-
--- the ways on
-
--- a step from a kept block to a child, by what was arrived at
-module _ (t : List ℕ) (h : Header) (level below i o : ℕ) (kept : keptBlock t level i ≡ true) (lower : OnLevel t h (level + 1) below)
-    (x : Next) (x-is : x ≡ nextAt t (level + 1) (at.link t level i + o / below) (o % below)) where
-  left : at.settings t .levels - 1 - level ≡ suc (at.settings t .levels - 1 - (level + 1))
-  left = omega (arith, lower .level-in)
-
-  child-way : pathFrom t (at.settings t .levels - 1 - level) level i o
-      ≡ entered (visit level i o ∷ []) (pathFrom t (at.settings t .levels - 1 - (level + 1)) (level + 1) (at.link t level i + o / below) (o % below))
-  child-way = rw (left, lower .b-is) (from-kept t (at.settings t .levels - 1 - (level + 1)) level i o kept)
-
-  pub way-kept : (j : BlockNumber) (p : BlockPlace) → x ≡ Kept j p → pathFrom t (at.settings t .levels - 1 - level) level i o
-      ≡ entered (visit level i o ∷ []) (pathFrom t (at.settings t .levels - 1 - (level + 1)) (level + 1) (j .0) (p .0))
-  way-kept j p e =
-      let z = next-kept t (level + 1) (at.link t level i + o / below) (o % below) x x-is j p e in
-      rw (z .1, z .2) child-way
-
-  pub way-points : (j : BlockNumber) (p : BlockPlace) → x ≡ Points j p → pathFrom t (at.settings t .levels - 1 - level) level i o
-      ≡ entered (visit level i o ∷ []) (pathFrom t (at.settings t .levels - 1 - (level + 1)) (level + 1) (j .0) (p .0))
-  way-points j p e =
-      let z = next-points t (level + 1) (at.link t level i + o / below) (o % below) x x-is j p e in
-      rw (z .2, z .3) child-way
-
-  pub way-off : x ≡ Off → pathFrom t (at.settings t .levels - 1 - level) level i o ≡ none
-  way-off e =
-      let n = at.settings t .levels - 1 - (level + 1) in
-      let j = at.link t level i + o / below in
-      let z = next-off t (level + 1) j (o % below) x x-is e in
-      child-way ∙ rw (from-off t n (level + 1) j (o % below) (z .0) (z .1))
-
--- a step from a pointing block to its target
-module _ (t : List ℕ) (level i o : ℕ) (points : pointingBlock t level i ≡ true) (more : level + 1 < at.settings t .levels)
-    (x : Next) (x-is : x ≡ nextAt t level (targetBlock t level i o) (targetPlace t level i o)) where
-  above : at.settings t .levels - 1 - level ≡ suc (at.settings t .levels - 1 - (level + 1))
-  above = omega arith
-
-  pub way-target : (j : BlockNumber) (p : BlockPlace) → x ≡ Kept j p → pathFrom t (at.settings t .levels - 1 - level) level i o
-      ≡ entered (visit level i o ∷ []) (pathFrom t (at.settings t .levels - 1 - level) level (j .0) (p .0))
-  way-target j p e =
-      let z = next-kept t level (targetBlock t level i o) (targetPlace t level i o) x x-is j p e in
-      rw (above, z .1, z .2) (from-pointing t (at.settings t .levels - 1 - (level + 1)) level i o (pointing-not-kept t level i points) points (z .0))
-
-  no-target : keptBlock t level (targetBlock t level i o) ≡ false → pathFrom t (at.settings t .levels - 1 - level) level i o ≡ none
-  no-target z = rw above (from-no-target t (at.settings t .levels - 1 - (level + 1)) level i o (pointing-not-kept t level i points) z points)
-
-  pub way-target-points : (j : BlockNumber) (p : BlockPlace) → x ≡ Points j p → pathFrom t (at.settings t .levels - 1 - level) level i o ≡ none
-  way-target-points j p e = no-target (next-points t level (targetBlock t level i o) (targetPlace t level i o) x x-is j p e .0)
-
-  pub way-target-off : x ≡ Off → pathFrom t (at.settings t .levels - 1 - level) level i o ≡ none
-  way-target-off e = no-target (next-off t level (targetBlock t level i o) (targetPlace t level i o) x x-is e .0)
-
--- on the last level no block points
-pub way-last : (t : List ℕ) (h : Header) (level b i o : ℕ) → Pointing t h level b i o → level + 1 ≡ h .settings .levels
-    → pathFrom t (at.settings t .levels - 1 - level) level i o ≡ none
-way-last t h level b i o k last =
-    let z : at.settings t .levels - 1 - level ≡ 0 = omega (arith, k .on .header .levels-is) in
-    rw z (from-last-points t level i o (pointing-not-kept t level i (k .points)))
-
-pub sum-broken : (t : List ℕ) (byte c : ℕ) (s : Sum) (r : Option Path) → r ≡ none → Broken ≡ summed t byte c s r
-unfolding summed
-sum-broken t byte c s r e = rw e
-
 -- what a target adds
 
 pub across-first : (s r : Sum) (j link at-link inside skip at-skip : ℕ) → j ≡ link → link ≡ at-link → skip ≡ at-skip → r ≡ onward s 0 skip
@@ -189,23 +135,47 @@ pub across-second : (s r : Sum) (j link at-link inside at-inside skip at-skip : 
     → r ≡ onward s (cond (eqb j at-link) 0 at-inside) at-skip
 across-second s r j link at-link inside at-inside skip at-skip e l i k f = rw (ne-eqb j at-link (λ x. e (x ∙ sym l)), ← k, ← i) f
 
+-- a count's word
+
+pub broken-word : refused 14 ≡ saidIn 18446744073709551615
+unfolding saidIn
+broken-word = refl
+
+pub below-word : (s : Sum) → s .plus < s .minus → saidIn 18446744073709551615 ≡ settled (At s)
+unfolding settled
+below-word s h = sym broken-word ∙ rw (lt-leb (s .minus) (s .plus) h)
+
+pub packed-word : (s : Sum) → s .entered ≤ 17 → s .plus ≤ 1099511627776 → s .minus ≤ s .plus
+    → saidIn (s .plus - s .minus + 281474976710656 * s .entered) ≡ settled (At s)
+unfolding saidIn settled
+packed-word s few small low =
+    let x = s .plus - s .minus in
+    let y : x ≤ 1099511627776 = omega arith in
+    let w = x + 281474976710656 * s .entered in
+    let a : w % 281474976710656 ≡ x = omega arith in
+    let b : w / 281474976710656 ≡ s .entered = omega arith in
+    rw (ne-eqb w 18446744073709551615 (λ e. omega arith), a, b, le-leb (s .minus) (s .plus) low)
+
+pub settled-none : (t : List ℕ) (byte c : ℕ) (s : Sum) (r : Option Path) → r ≡ none → saidIn 18446744073709551615 ≡ settled (summed t byte c s r)
+unfolding summed settled
+settled-none t byte c s r e = sym broken-word ∙ rw e
+
 -- on the last level, as the code reads it
 
-pub entered-small : (t : List ℕ) (h : Header) (level b i o e : ℕ) → KeptAt t h level b i o e → e ≤ 16
-entered-small t h level b i o e k = omega (arith, k .few, k .on .level-in, facts t h (k .on .header) .levels-high)
+pub entered-small : (t : List ℕ) (size level b i o e : ℕ) → KeptAt t size level b i o e → e ≤ 16
+entered-small t size level b i o e k = walk.entered-fits t size level b i o e k
 
-pub leaf-fits : (t : List ℕ) (h : Header) (level i link o : ℕ) → HeaderOf t h → link ≡ at.link t level i → link + o < h .«leaf_count»
-    → h .«leaf_offset» + link + (o + 1) ≤ length t
-leaf-fits t h level i link o k e s = omega (arith, facts t h k .size, k .offset-is, k .count-is)
+pub leaf-fits : (t : List ℕ) (size level b i link o offset count : ℕ) → OnLevel t size level b → link ≡ at.link t level i → offset ≡ at.leafOffset t → count ≡ at.leafCount t
+    → link + o < count → offset + link + (o + 1) ≤ length t
+leaf-fits t size level b i link o offset count k e a c s = omega (arith, k .facts .size)
 
-module _ (t : List ℕ) (h : Header) (byte c level b i o e : ℕ) (s : Sum) (k : KeptAt t h level b i o e) (link : ℕ) (link-is : link ≡ at.link t level i) where
-  pub leaf-sum : (r : Sum) → link + o < h .«leaf_count» → {n : ℕ} → n ≡ countIn byte (stretch t (h .«leaf_offset» + link) (o + 1)) → r ≡ onward s n 0
-      → At r ≡ summed t byte c s (pathFrom t 0 level i o)
-  leaf-sum r small {n} e f =
-      sum-leaf t byte c s level i o n r (k .kept) (omega (arith, k .on .header .count-is)) (rw (k .on .header .offset-is, link-is) at e) f
+module _ (t : List ℕ) (size byte c level b i o e : ℕ) (s : Sum) (k : KeptAt t size level b i o e) (link : ℕ) (link-is : link ≡ at.link t level i) where
+  pub leaf-sum : (offset : ℕ) (r : Sum) → offset ≡ at.leafOffset t → link + o < at.leafCount t → {n : ℕ} → n ≡ countIn byte (stretch t (offset + link) (o + 1)) → r ≡ onward s n 0
+      → settled (At r) ≡ settled (summed t byte c s (pathFrom t 0 level i o))
+  leaf-sum offset r a small {n} e f = ap settled (sum-leaf t byte c s level i o n r (k .kept) (omega arith) (rw (a, link-is) at e) f)
 
-  pub leaf-none : h .«leaf_count» ≤ link + o → Broken ≡ summed t byte c s (pathFrom t 0 level i o)
-  leaf-none large = sum-no-leaf t byte c s level i o (k .kept) (omega (arith, k .on .header .count-is))
+  pub leaf-none : at.leafCount t ≤ link + o → saidIn 18446744073709551615 ≡ settled (summed t byte c s (pathFrom t 0 level i o))
+  leaf-none large = settled-none t byte c s _ (from-no-leaf t level i o (omega (arith, link-is)) (k .kept))
 
 -- The steps.
 
@@ -213,66 +183,51 @@ entered-on : (s on : Sum) (plus minus : ℕ) → on ≡ onward s plus minus → 
 unfolding onward
 entered-on s on plus minus e = ap (λ (y : Sum). y .entered) e
 
--- from a kept block to a child
-module _ (t : List ℕ) (h : Header) (level b i o : ℕ) (s : Sum) (k : KeptAt t h level b i o (s .entered)) (more : level + 1 ≡ h .settings .levels → ⊥)
-    (x : Next) (x-is : x ≡ nextAt t (level + 1) (at.link t level i + o / (b / h .settings .arity)) (o % (b / h .settings .arity))) where
-  abbrev trail : Trail
-  trail = record { entered = s .entered; left = 0 }
-
-  child-kept : (j : BlockNumber) (p : BlockPlace) → x ≡ Kept j p → KeptAt t h (level + 1) (b / h .settings .arity) (j .0) (p .0) (s .entered + 1)
-  unfolding trailed
-  child-kept j p e = walk.kept-to t h level b i o trail k more (b / h .settings .arity) refl (trailed trail (b - o)) refl x x-is j p e
-
-  child-points : (j : BlockNumber) (p : BlockPlace) → x ≡ Points j p
-      → (Pointing t h (level + 1) (b / h .settings .arity) (j .0) (p .0)) × (s .entered + 1 ≤ 2 * (level + 1))
-  unfolding trailed
-  child-points j p e = walk.points-to t h level b i o trail k more (b / h .settings .arity) refl (trailed trail (b - o)) refl x x-is j p e
-
-  -- what is asked where its before is read
-  module _ (c : ℕ) (w : Carried t c s) (j : BlockNumber) (p : BlockPlace) where
-    asked : j .0 < at.levelCount t (level + 1)
-        → (HeaderOf t h) × (level + 1 < at.settings t .levels) × (j .0 < at.levelCount t (level + 1)) × (s .entered ≤ 16) × (Carried t c s)
-    asked small = (k .on .header, walk.level-below t h level b (k .on) more .level-in, small, entered-small t h level b i o (s .entered) k, w)
-
-    pub down-kept : x ≡ Kept j p
-        → (HeaderOf t h) × (level + 1 < at.settings t .levels) × (j .0 < at.levelCount t (level + 1)) × (s .entered ≤ 16) × (Carried t c s)
-    down-kept e = asked (kept-in t (level + 1) (j .0) (child-kept j p e .kept))
-
-    pub down-points : x ≡ Points j p
-        → (HeaderOf t h) × (level + 1 < at.settings t .levels) × (j .0 < at.levelCount t (level + 1)) × (s .entered ≤ 16) × (Carried t c s)
-    down-points e = asked (pointing-in t (level + 1) (j .0) (child-points j p e .0 .points))
-
-  module _ (byte c : ℕ) (j : BlockNumber) (p : BlockPlace) (on : Sum) (on-is : on ≡ onward s (at.before t (level + 1) (j .0) c) 0) where
-    abbrev n : ℕ
-    n = at.settings t .levels - 1 - (level + 1)
-
-    pub to-kept : x ≡ Kept j p → KeptAt t h (level + 1) (b / h .settings .arity) (j .0) (p .0) (on .entered)
-    to-kept e = rw (entered-on s on (at.before t (level + 1) (j .0) c) 0 on-is) (child-kept j p e)
-
-    pub to-points : Carried t c on → x ≡ Points j p
-        → (Pointing t h (level + 1) (b / h .settings .arity) (j .0) (p .0)) × (on .entered ≤ 2 * (level + 1)) × (Carried t c on)
-    to-points w e =
-        let z = child-points j p e in
-        (z .0, omega (arith, entered-on s on (at.before t (level + 1) (j .0) c) 0 on-is, z .1), w)
-
-    module _ (r : Summed) (f : r ≡ summed t byte c on (pathFrom t n (level + 1) (j .0) (p .0))) where
-      carried : r ≡ summed t byte c s (entered (visit level i o ∷ []) (pathFrom t n (level + 1) (j .0) (p .0)))
-      carried = rw on-is at f ∙ sum-child t byte c s n level i o (j .0) (p .0)
-
-      pub by-kept : x ≡ Kept j p → r ≡ summed t byte c s (pathFrom t (at.settings t .levels - 1 - level) level i o)
-      by-kept e = rw (way-kept t h level (b / h .settings .arity) i o (k .kept) (walk.level-below t h level b (k .on) more) x x-is j p e) carried
-
-      pub by-points : x ≡ Points j p → r ≡ summed t byte c s (pathFrom t (at.settings t .levels - 1 - level) level i o)
-      by-points e = rw (way-points t h level (b / h .settings .arity) i o (k .kept) (walk.level-below t h level b (k .on) more) x x-is j p e) carried
-
-  pub by-off : (byte c : ℕ) → x ≡ Off → Broken ≡ summed t byte c s (pathFrom t (at.settings t .levels - 1 - level) level i o)
-  by-off byte c e = sum-broken t byte c s _ (way-off t h level (b / h .settings .arity) i o (k .kept) (walk.level-below t h level b (k .on) more) x x-is e)
-
-pub by-last : (t : List ℕ) (h : Header) (byte c level b i o : ℕ) (s : Sum) (r : Summed) → KeptAt t h level b i o (s .entered) → level + 1 ≡ h .settings .levels
-    → r ≡ summed t byte c s (pathFrom t 0 level i o) → r ≡ summed t byte c s (pathFrom t (at.settings t .levels - 1 - level) level i o)
-by-last t h byte c level b i o s r k last e =
-    let z : at.settings t .levels - 1 - level ≡ 0 = omega (arith, k .on .header .levels-is) in
+pub by-last : (t : List ℕ) (size byte c level b i o : ℕ) (s : Sum) (r : Said) → KeptAt t size level b i o (s .entered) → level + 1 ≡ at.settings t .levels
+    → r ≡ settled (summed t byte c s (pathFrom t 0 level i o)) → r ≡ settled (summed t byte c s (pathFrom t (at.settings t .levels - 1 - level) level i o))
+by-last t size byte c level b i o s r k last e =
+    let z : at.settings t .levels - 1 - level ≡ 0 = omega arith in
     rw z e
+
+-- from a kept block to a child
+module _ (t : List ℕ) (size level b i o : ℕ) (s : Sum) (k : KeptAt t size level b i o (s .entered)) (more : level + 1 ≡ at.settings t .levels → ⊥)
+    (below : ℕ) (b-is : below ≡ b / at.settings t .arity) (x : Arrived) (x-is : x ≡ childAt t (level + 1) (at.link t level i + o / below) (o % below)) where
+  lower : OnLevel t size (level + 1) below
+  lower = walk.asks-child t size level b i o (s .entered) k more below b-is .0
+
+  abbrev n : ℕ
+  n = at.settings t .levels - 1 - (level + 1)
+
+  way-child : pathFrom t (at.settings t .levels - 1 - level) level i o ≡ entered (visit level i o ∷ []) (pathFrom t n (level + 1) (at.link t level i + o / below) (o % below))
+  way-child =
+      let z : at.settings t .levels - 1 - level ≡ suc n = omega (arith, lower .level-in) in
+      rw (z, lower .b-is) (from-kept t n level i o (k .kept))
+
+  pub by-off : (byte c : ℕ) → x ≡ arrived.Off → saidIn 18446744073709551615 ≡ settled (summed t byte c s (pathFrom t (at.settings t .levels - 1 - level) level i o))
+  by-off byte c e =
+      let j = at.link t level i + o / below in
+      settled-none t byte c s _ (way-child ∙ rw (from-past t n (level + 1) j (o % below) (child-off t (level + 1) j (o % below) x x-is e)))
+
+  module _ (c : ℕ) (j : BlockNumber) (p : BlockPlace) (e : x ≡ arrived.At j p) where
+    -- what is asked where its before is read
+    pub down-asks : Carried t c s → (OnLevel t size (level + 1) (at.fullLength t (level + 1))) × (j .0 < at.levelCount t (level + 1)) × (s .entered ≤ 16) × (Carried t c s)
+    down-asks w =
+        let z = child-at t (level + 1) (at.link t level i + o / below) (o % below) x x-is j p e in
+        (rw (← lower .b-is) lower, rw (z .1) (z .0), entered-small t size level b i o (s .entered) k, w)
+
+    module _ (on : Sum) (on-is : on ≡ onward s (at.before t (level + 1) (j .0) c) 0) where
+      pub to-child : Carried t c on → (MayPoint t size (level + 1) below (j .0) (p .0) (on .entered)) × (Carried t c on)
+      unfolding trailed
+      to-child w =
+          let trail : Trail = record { entered = s .entered; left = 0 } in
+          (rw (entered-on s on (at.before t (level + 1) (j .0) c) 0 on-is) (walk.child-may t size level b i o trail k more below b-is (trailed trail (b - o)) refl x x-is j p e), w)
+
+      pub by-child : (byte : ℕ) (r : Said) → r ≡ settled (summed t byte c on (pathFrom t n (level + 1) (j .0) (p .0)))
+          → r ≡ settled (summed t byte c s (pathFrom t (at.settings t .levels - 1 - level) level i o))
+      by-child byte r f =
+          let z = child-at t (level + 1) (at.link t level i + o / below) (o % below) x x-is j p e in
+          let way : pathFrom t (at.settings t .levels - 1 - level) level i o ≡ entered (visit level i o ∷ []) (pathFrom t n (level + 1) (j .0) (p .0)) = rw (z .1, z .2) way-child in
+          rw way (rw on-is at f ∙ ap settled (sum-child t byte c s n level i o (j .0) (p .0)))
 
 -- a target is the block linked to, or the next
 link-low : (t : List ℕ) (level i o : ℕ) → at.link t level i ≤ targetBlock t level i o
@@ -282,50 +237,52 @@ link-low t level i o = go (lt-or-ge (at.gap t level i + o) (at.fullLength t leve
     go (inl a) = omega (arith, target-first t level i o a .0)
     go (inr a) = omega (arith, target-second t level i o a .0)
 
--- from a pointing block to its target
-module _ (t : List ℕ) (h : Header) (level b i o : ℕ) (s : Sum) (k : Pointing t h level b i o) (few : s .entered ≤ 2 * level) (more : level + 1 ≡ h .settings .levels → ⊥)
-    (x : Next) (x-is : x ≡ nextAt t level (targetBlock t level i o) (targetPlace t level i o)) where
-  above-last : level + 1 < at.settings t .levels
-  above-last = omega (arith, k .on .level-in, k .on .header .levels-is, more)
+-- from a block at which a pointer may be followed
+module _ (t : List ℕ) (size level b i o : ℕ) (s : Sum) (k : MayPoint t size level b i o (s .entered)) (x : Next) (x-is : x ≡ nextAt t level i o) where
+  pub by-none : (byte c : ℕ) → x ≡ Off → saidIn 18446744073709551615 ≡ settled (summed t byte c s (pathFrom t (at.settings t .levels - 1 - level) level i o))
+  by-none byte c e =
+      let z = next-off t level i o x x-is e in
+      settled-none t byte c s _ (from-off t (at.settings t .levels - 1 - level) level i o (z .0) (z .1))
 
-  pub pointing-few : s .entered ≤ 16
-  pointing-few = omega (arith, k .on .level-in, facts t h (k .on .header) .levels-high)
+  module _ (j : BlockNumber) (p : BlockPlace) (e : x ≡ Points j p) (y : Arrived) (y-is : y ≡ landAt t level i o) where
+    points : pointingBlock t level i ≡ true
+    points = next-points t level i o x x-is j p e .1
 
-  module _ (j : BlockNumber) (p : BlockPlace) (e : x ≡ Kept j p) where
-    target-kept : KeptAt t h level b (j .0) (p .0) (s .entered + 1)
-    unfolding trailed
-    target-kept =
-        let trail : Trail = record { entered = s .entered; left = 0 } in
-        walk.target-to t h level b i o trail k more x x-is (trailed trail (b - o)) refl j p e few
+    apart : keptBlock t level i ≡ false
+    apart = next-points t level i o x x-is j p e .0
 
-    pub target-across : Across t h level i (j .0)
-    target-across = record {
-      header = k .on .header;
-      level-in = k .on .level-in;
-      block-in = pointing-in t level i (k .points);
-      target-in = kept-in t level (j .0) (target-kept .kept);
-      link-low = rw (next-kept t level (targetBlock t level i o) (targetPlace t level i o) x x-is j p e .1) (link-low t level i o);
-    }
+    abbrev trail : Trail
+    trail = record { entered = s .entered; left = 0 }
 
-    module _ (byte c : ℕ) (on : Sum) (on-is : on ≡ onward s (cond (eqb (j .0) (at.link t level i)) 0 (at.inside t level (at.link t level i) c)) (at.skip t level i c)) where
-      pub to-target : KeptAt t h level b (j .0) (p .0) (on .entered)
-      to-target = rw (entered-on s on (cond (eqb (j .0) (at.link t level i)) 0 (at.inside t level (at.link t level i) c)) (at.skip t level i c) on-is) target-kept
+    pub by-no-land : (byte c : ℕ) → y ≡ arrived.Off → saidIn 18446744073709551615 ≡ settled (summed t byte c s (pathFrom t (at.settings t .levels - 1 - level) level i o))
+    by-no-land byte c f = settled-none t byte c s _ (walk.land-breaks t size level b i o trail k x x-is j p e y y-is f)
 
-      pub by-target : (r : Summed) → r ≡ summed t byte c on (pathFrom t (at.settings t .levels - 1 - level) level (j .0) (p .0))
-          → r ≡ summed t byte c s (pathFrom t (at.settings t .levels - 1 - level) level i o)
-      by-target r f =
-          rw (way-target t level i o (k .points) above-last x x-is j p e)
-          (rw on-is at f ∙ sum-target t byte c s (at.settings t .levels - 1 - level) level i o (j .0) (p .0))
+    module _ (m : BlockNumber) (q : BlockPlace) (f : y ≡ arrived.At m q) where
+      landed : KeptAt t size level b (m .0) (q .0) (s .entered + 1)
+      unfolding trailed
+      landed = walk.land-to t size level b i o trail k x x-is j p e y y-is (trailed trail (b - o)) refl m q f
 
-  pub by-target-points : (byte c : ℕ) (j : BlockNumber) (p : BlockPlace) → x ≡ Points j p → Broken ≡ summed t byte c s (pathFrom t (at.settings t .levels - 1 - level) level i o)
-  by-target-points byte c j p e = sum-broken t byte c s _ (way-target-points t level i o (k .points) above-last x x-is j p e)
+      pub target-across : Across t size level i (m .0)
+      target-across = record {
+        on = rw (← k .on .b-is) (k .on);
+        block-in = k .block-in;
+        target-in = kept-in t level (m .0) (landed .kept);
+        link-low = rw (land-at t level i o y y-is m q f .2) (link-low t level i o);
+      }
 
-  pub by-target-off : (byte c : ℕ) → x ≡ Off → Broken ≡ summed t byte c s (pathFrom t (at.settings t .levels - 1 - level) level i o)
-  by-target-off byte c e = sum-broken t byte c s _ (way-target-off t level i o (k .points) above-last x x-is e)
+      module _ (byte c : ℕ) (on : Sum) (on-is : on ≡ onward s (cond (eqb (m .0) (at.link t level i)) 0 (at.inside t level (at.link t level i) c)) (at.skip t level i c)) where
+        pub to-target : KeptAt t size level b (m .0) (q .0) (on .entered)
+        to-target = rw (entered-on s on (cond (eqb (m .0) (at.link t level i)) 0 (at.inside t level (at.link t level i) c)) (at.skip t level i c) on-is) landed
 
-pub by-pointing-last : (t : List ℕ) (h : Header) (byte c level b i o : ℕ) (s : Sum) → Pointing t h level b i o → level + 1 ≡ h .settings .levels
-    → Broken ≡ summed t byte c s (pathFrom t (at.settings t .levels - 1 - level) level i o)
-by-pointing-last t h byte c level b i o s k last = sum-broken t byte c s _ (way-last t h level b i o k last)
+        pub by-target : (r : Said) → r ≡ settled (summed t byte c on (pathFrom t (at.settings t .levels - 1 - level) level (m .0) (q .0)))
+            → r ≡ settled (summed t byte c s (pathFrom t (at.settings t .levels - 1 - level) level i o))
+        by-target r g =
+            let z = land-at t level i o y y-is m q f in
+            let n = at.settings t .levels - 1 - (level + 1) in
+            let a : at.settings t .levels - 1 - level ≡ suc n = omega (arith, z .0) in
+            let way : pathFrom t (at.settings t .levels - 1 - level) level i o ≡ entered (visit level i o ∷ []) (pathFrom t (at.settings t .levels - 1 - level) level (m .0) (q .0)) =
+            rw (a, z .2, z .3) (from-pointing t n level i o apart points (z .1)) in
+            rw way (rw on-is at g ∙ ap settled (sum-target t byte c s (at.settings t .levels - 1 - level) level i o (m .0) (q .0)))
 
 -- The whole path.
 
@@ -343,40 +300,19 @@ whole t byte c n i o (some q) e =
     let g = goes-head t (goes t n 0 i o q e) in
     rw (g .1) (same _ _ _ _ _ _ (omega arith) (omega arith) (omega arith))
 
-module _ (t : List ℕ) (h : Header) (byte c b p : ℕ) (on : OnLevel t h 0 b) (x : Next) (x-is : x ≡ nextAt t 0 (p / b) (p % b)) where
+module _ (t : List ℕ) (size byte c b p : ℕ) (on : OnLevel t size 0 b) (x : Part) (x-is : x ≡ record { blocks = p / b; place = record { 0 = p % b } }) where
   top : pathOf t p ≡ pathFrom t (at.settings t .levels - 1 - 0) 0 (p / b) (p % b)
   unfolding pathOf
   top = let z : at.settings t .levels - 1 - 0 ≡ at.settings t .levels - 1 = omega arith in rw (z, on .b-is)
 
-  none-left : Trail
-  none-left = record { entered = 0; left = 0 }
+  pub first-may : (s : Sum) → s .entered ≡ 0 → p < at.textLength t → MayPoint t size 0 b (x .blocks) (x .place .0) (s .entered)
+  first-may s z low = rw z (walk.top-may t size b p on x x-is low)
 
-  module _ (j : BlockNumber) (q : BlockPlace) where
-    pub first-kept : x ≡ Kept j q → KeptAt t h 0 b (j .0) (q .0) 0
-    first-kept e = walk.top-kept t h b p none-left on x x-is j q e 0 refl
-
-    pub first-points : x ≡ Points j q → Pointing t h 0 b (j .0) (q .0)
-    first-points e = walk.top-points t h b p none-left on x x-is j q e
-
-    module _ (s : Sum) (s-is : s ≡ startSum t c (j .0)) (r : Summed) (f : r ≡ summed t byte c s (pathFrom t (at.settings t .levels - 1 - 0) 0 (j .0) (q .0))) where
-      by-whole : r ≡ wholeSum t byte c (pathFrom t (at.settings t .levels - 1 - 0) 0 (j .0) (q .0))
-      by-whole = rw s-is at f ∙ whole t byte c (at.settings t .levels - 1 - 0) (j .0) (q .0) (pathFrom t (at.settings t .levels - 1 - 0) 0 (j .0) (q .0)) refl
-
-      pub first-kept-by : x ≡ Kept j q → r ≡ wholeSum t byte c (pathOf t p)
-      first-kept-by e =
-          let w = next-kept t 0 (p / b) (p % b) x x-is j q e in
-          rw top (rw (w .1, w .2) at by-whole)
-
-      pub first-points-by : x ≡ Points j q → r ≡ wholeSum t byte c (pathOf t p)
-      first-points-by e =
-          let w = next-points t 0 (p / b) (p % b) x x-is j q e in
-          rw top (rw (w .2, w .3) at by-whole)
-
-  pub first-off-by : x ≡ Off → Broken ≡ wholeSum t byte c (pathOf t p)
-  unfolding wholeSum
-  first-off-by e =
-      let w = next-off t 0 (p / b) (p % b) x x-is e in
-      rw (top, from-off t (at.settings t .levels - 1 - 0) 0 (p / b) (p % b) (w .0) (w .1))
+  pub first-by : (s : Sum) (r : Said) → s ≡ startSum t c (x .blocks) → r ≡ settled (summed t byte c s (pathFrom t (at.settings t .levels - 1 - 0) 0 (x .blocks) (x .place .0)))
+      → r ≡ settled (wholeSum t byte c (pathOf t p))
+  first-by s r s-is f =
+      let g = rw (s-is, x-is) at f in
+      rw top (g ∙ ap settled (whole t byte c (at.settings t .levels - 1 - 0) (p / b) (p % b) (pathFrom t (at.settings t .levels - 1 - 0) 0 (p / b) (p % b)) refl))
 
 pub start-entered : (t : List ℕ) (c i : ℕ) (s : Sum) → s ≡ startSum t c i → s .entered ≡ 0
 unfolding startSum

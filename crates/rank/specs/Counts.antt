@@ -2,8 +2,8 @@
 use mathlib.Core.Bool.{cond}
 use mathlib.Core.List.{List}
 use mathlib.Core.Path.{_≡_}
-use Prim.Native.Nat.{ℕ, _-_, _≤_}
-use lib.Dec.{leb, eqb}
+use Prim.Native.Nat.{ℕ, _-_, _/_, _%_, _≤_}
+use lib.Dec.{eqb, leb}
 use Rattle.format.specs.Layout as at
 use Rattle.format.specs.Verdict.{ask, readable}
 use Rattle.format.specs.Said.{Said, refused}
@@ -35,3 +35,7 @@ settled (At s) = cond (leb (s .minus) (s .plus)) (record { number = 0; value = s
 -- Count and find of a number above 255, which is no byte and so not counted: questions 5 to 7, then 10 for what ends at i, then 11
 unfoldable pub uncountedNumber : List ℕ → ℕ → ℕ
 uncountedNumber t i = cond (eqb (readable t) 0) (ask 10 (leb i (at.textLength t)) 11) (readable t)
+
+-- what a count's word says: how often, and 2^48 times the blocks entered; all ones where the path breaks or the count is below zero
+unfoldable pub saidIn : ℕ → Said
+saidIn w = cond (eqb w 18446744073709551615) (refused 14) (record { number = 0; value = w % 281474976710656; entered = w / 281474976710656 })

@@ -7,8 +7,7 @@ use Rattle.text.specs.Text.{countIn}
 use Rattle.format.specs.Layout as at
 use Rattle.format.specs.Path.{Path, Visit}
 use Rattle.format.specs.Counting.{addedAfter, added, taken, leavesReached}
-use Rattle.layout.specs.declared.header.Header.{Header}
-use Rattle.layout.specs.HeaderSays.{HeaderOf}
+use Rattle.steps.specs.Steps.{OnLevel}
 use Rattle.rank.specs.declared.sums.Sum.{Sum}
 use Rattle.rank.specs.declared.sums.Summed.{Summed}
 use Rattle.rank.specs.declared.sums.Summed.the-variants.{At, Broken}
@@ -49,9 +48,8 @@ module _ (t : List ℕ) where
     pub minus-few : s .minus ≤ s .entered * 4294967295
 
   -- a pointing block and its target, the block linked to or one after it
-  pub record Across (h : Header) (level i j : ℕ) : Type 0 where
-    pub header : HeaderOf t h
-    pub level-in : level < at.settings t .levels
+  pub record Across (size level i j : ℕ) : Type 0 where
+    pub on : OnLevel t size level (at.fullLength t level)
     pub block-in : i < at.levelCount t level
     pub target-in : j < at.levelCount t level
     pub link-low : at.link t level i ≤ j

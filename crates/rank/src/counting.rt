@@ -3,7 +3,6 @@ use crate::Counted;
 use crate::scan;
 use crate::scan::Wanted;
 use crate::sums;
-use crate::sums::Summed;
 use layout::header::Header;
 use layout::place::BlockNumber;
 use layout::place::TextPlace;
@@ -13,7 +12,7 @@ ghost use Prim.Native.Nat.{_<_};
 ghost use Rattle.format.specs.Layout as at;
 ghost use Rattle.format.specs.Finding as find;
 ghost use Rattle.layout.specs.HeaderSays.{HeaderOf};
-ghost use Rattle.rank.specs.Counts.{saidCount, settled, Numbered, CountAnswer};
+ghost use Rattle.rank.specs.Counts.{saidCount, saidIn, Numbered, CountAnswer};
 
 // Questions 10, 11 and 14; the first i bytes end with place i - 1, and none of them need no path.
 pub fn count_at(t: &[u8], h: Header, byte: u8, i: u32) -> Counted
@@ -33,17 +32,14 @@ pub fn count_at(t: &[u8], h: Header, byte: u8, i: u32) -> Counted
     settle(sums::walk(t, h, Wanted { byte, number }, TextPlace(i - 1)))
 }
 
-// The finished count, which is not below zero.
-fn settle(summed: Summed) -> Counted
-    ensures { λ r. ⌜ (saidCount r ≡ settled summed) × (Numbered r) ⌝ }
+// What a count's word says.
+fn settle(word: u64) -> Counted
+    ensures { λ r. ⌜ (saidCount r ≡ saidIn word) × (Numbered r) ⌝ }
 {
-    let Summed::At(sum) = summed else {
-        return Counted::Refused(14);
-    };
-    if sum.plus < sum.minus {
+    if word == sums::BROKEN {
         return Counted::Refused(14);
     }
-    Counted::Times(sum.plus - sum.minus, sum.entered)
+    Counted::Times(word % 281474976710656, (word / 281474976710656) as u32)
 }
 
 // How often a counted byte stands in the text: before and inside of the last block of level 0, or 0 where no block is.

@@ -26,7 +26,7 @@ use Rattle.layout.specs.declared.place.BlockNumber.{BlockNumber}
 use Rattle.layout.specs.declared.place.BlockPlace.{BlockPlace}
 use Rattle.layout.specs.Header.{headerSays}
 use Rattle.layout.specs.HeaderSays.{HeaderOf}
-use Rattle.steps.specs.Steps.{OnLevel, InTable}
+use Rattle.steps.specs.Levels.{OnLevel, InTable}
 use Rattle.layout.specs.HeaderSays.{header-refused}
 use Rattle.tallies.specs.Local.{byteOf}
 use Rattle.tallies.specs.Stretches.{tally-none}

@@ -26,9 +26,11 @@ use Rattle.layout.specs.declared.header.Header.{Header}
 use Rattle.layout.specs.declared.place.BlockNumber.{BlockNumber}
 use Rattle.layout.specs.declared.place.BlockPlace.{BlockPlace}
 use Rattle.steps.specs.declared.Next.the-variants as next
-use Rattle.steps.specs.Steps.{OnLevel, InTable, nextAt}
-use Rattle.steps.proofs.StepLaws.{kept-in, pointing-in, b-small, b-pos}
-use Rattle.walk.proofs.WalkLaws.{pointing-not-kept}
+use Rattle.steps.specs.Levels.{OnLevel, InTable}
+use Rattle.steps.specs.Steps.{nextAt}
+use Rattle.steps.proofs.NextLaws.{pointing-not-kept}
+use Rattle.steps.proofs.StepLaws.{kept-in, pointing-in}
+use Rattle.steps.proofs.LevelLaws.{b-small, b-pos}
 use Rattle.tallies.specs.Level.{Level, tally}
 use Rattle.tallies.specs.Local.{byteOf, inLeaves}
 use Rattle.tallies.specs.Stretches.{leaves-end, leaves-tally}
@@ -194,16 +196,16 @@ module _ (t : List ℕ) (h : Header) (c level b i below j link count : ℕ) (kep
 
 -- The target that is chosen.
 
-case-target : (kept : Bool) (i f r : ℕ) (x : BlockNumber) (g q : ℕ) → cond kept (target.Kept (record { 0 = i }) f r) target.Off ≡ target.Kept x g q
-    → (kept ≡ true) × (x ≡ record { 0 = i }) × (g ≡ f) × (q ≡ r)
-case-target true i f r x g q e = (refl, cc, cc, cc)
+case-target : (kept : Bool) (i f r : ℕ) (x : BlockNumber) (g : BlockPlace) (q : ℕ) → cond kept (target.Kept (record { 0 = i }) (record { 0 = f }) r) target.Off ≡ target.Kept x g q
+    → (kept ≡ true) × (x ≡ record { 0 = i }) × (g .0 ≡ f) × (q ≡ r)
+case-target true i f r x g q e = let y : g ≡ record { 0 = f } = cc in (refl, cc, ap (λ (n : BlockPlace). n .0) y, cc)
 case-target false i f r x g q e = absurd (let z : _≡_ {A = ℕ} 0 1 = cc in omega arith)
 
-case-no-target : (kept : Bool) (i f r : ℕ) → cond kept (target.Kept (record { 0 = i }) f r) target.Off ≡ target.Off → kept ≡ true → ⊥
+case-no-target : (kept : Bool) (i f r : ℕ) → cond kept (target.Kept (record { 0 = i }) (record { 0 = f }) r) target.Off ≡ target.Off → kept ≡ true → ⊥
 case-no-target true i f r e k = let z : _≡_ {A = ℕ} 0 1 = cc in omega arith
 case-no-target false i f r e k = bool-clash false k refl
 
-pub target-kept : (t : List ℕ) (level i f r kind : ℕ) → i < N t level → kind ≡ at.kind t level i → kind ≡ 0 → target.Kept (record { 0 = i }) f r ≡ targetAt t level i f r
+pub target-kept : (t : List ℕ) (level i f r kind : ℕ) → i < N t level → kind ≡ at.kind t level i → kind ≡ 0 → target.Kept (record { 0 = i }) (record { 0 = f }) r ≡ targetAt t level i f r
 unfolding targetAt keptBlock at.isKept
 target-kept t level i f r kind hi is z = rw (lt-ltb _ _ hi, ← is, z)
 

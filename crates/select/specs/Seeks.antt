@@ -15,7 +15,8 @@ use Rattle.layout.specs.declared.place.BlockPlace.{BlockPlace}
 use Rattle.steps.specs.declared.Next.{Next}
 use Rattle.steps.specs.declared.Next.the-variants as next
 use Rattle.layout.specs.HeaderSays.{HeaderOf}
-use Rattle.steps.specs.Steps.{OnLevel, nextAt}
+use Rattle.steps.specs.Levels.{OnLevel}
+use Rattle.steps.specs.Steps.{nextAt}
 use Rattle.tallies.specs.Local.{byteOf}
 use Rattle.tallies.specs.Finds.{Lands}
 use Rattle.tallies.specs.Demands as demands
@@ -63,6 +64,12 @@ module _ (t : List ℕ) where
     pub some : first < end
     pub end-in : end ≤ at.levelCount t level
 
+  -- one of them that was stepped to
+  pub record Passed (c level first end j r : ℕ) : Type 0 where
+    pub low : first ≤ r
+    pub high : r < end
+    pub here : at.before t level first c < j → at.before t level r c < j
+
   -- the last of them before any whose before is j or more
   pub record LastBefore (c level first end j r : ℕ) : Type 0 where
     pub low : first ≤ r
@@ -102,10 +109,10 @@ module _ (t : List ℕ) where
 
   -- a block pointed to, if it is kept
   unfoldable pub targetAt : ℕ → ℕ → ℕ → ℕ → Target
-  targetAt level i forward rest = cond (keptBlock t level i) (target.Kept (record { 0 = i }) forward rest) target.Off
+  targetAt level i forward rest = cond (keptBlock t level i) (target.Kept (record { 0 = i }) (record { 0 = forward }) rest) target.Off
 
   pub record TargetWith (c level i b j : ℕ) (r : Target) : Type 0 where
-    pub kept : (x : BlockNumber) (forward rest : ℕ) → r ≡ target.Kept x forward rest → Aimed c level i b j (x .0) forward rest
+    pub kept : (x : BlockNumber) (forward : BlockPlace) (rest : ℕ) → r ≡ target.Kept x forward rest → Aimed c level i b j (x .0) (forward .0) rest
     pub off : r ≡ target.Off → verdict t ≡ 0 → j ≤ at.inside t level i c → ⊥
 
   -- a level, a counted byte, and the number of the one that is looked for

@@ -16,10 +16,10 @@ ghost use Rattle.format.specs.Settings.{maxText};
 ghost use Rattle.format.specs.Layout as at;
 ghost use Rattle.format.specs.Finding.{total};
 ghost use Rattle.layout.specs.HeaderSays.{HeaderOf};
-ghost use Rattle.steps.specs.Steps.{OnLevel, InTable};
+ghost use Rattle.steps.specs.Levels.{OnLevel, InTable};
 ghost use Rattle.tallies.specs.Local.{byteOf};
 ghost use Rattle.select.specs.Found.{saidFind, Numbered, placedIn, Sought, Stopped, SoughtIn};
-ghost use Rattle.select.specs.Seeks.{Near, moved, Siblings, LastBefore, picked, KeptIn, PointsIn, ChildWith, targetAt, TargetWith, Seeking, FoundIn};
+ghost use Rattle.select.specs.Seeks.{Near, moved, Siblings, Passed, LastBefore, picked, KeptIn, PointsIn, ChildWith, targetAt, TargetWith, Seeking, FoundIn};
 
 // A place in a block, and how many blocks its path enters from that block on.
 pub enum Placed {
@@ -40,10 +40,58 @@ pub enum Child {
     Off,
 }
 
-// A kept block, the bytes between the first target's start and its own, and what is left of j in it.
+// A kept block, the place of its start counted from the first target's, and what is left of j in it.
 pub enum Target {
-    Kept(BlockNumber, u32, u64),
+    Kept(BlockNumber, BlockPlace, u64),
     Off,
+}
+
+// The larger of two numbers.
+fn larger(a: u32, b: u32) -> u32
+    ensures { λ r. ⌜ (a ≤ r) × (b ≤ r) ⌝ }
+{
+    if a < b {
+        return b;
+    }
+    a
+}
+
+// The largest before of the four blocks after a block.
+fn largest_before(t: &[u8], h: Header, number: u32, level: u32, block: BlockNumber) -> u32
+    requires { ⌜ (HeaderOf (now t) h) × (level < at.settings (now t) .levels) × (number < at.countedCount (now t)) × (block .0 + 4 < at.levelCount (now t) level) × (block .0 + 4 < 4294967296) ⌝ }
+    ensures { λ r. ⌜ (at.before (now (t .entry)) level (block .0 + 1) number ≤ r) × (at.before (now (t .entry)) level (block .0 + 2) number ≤ r) × (at.before (now (t .entry)) level (block .0 + 3) number ≤ r) × (at.before (now (t .entry)) level (block .0 + 4) number ≤ r) ⌝ }
+{
+    let size = h.record_size;
+    let a = record::before(t, size, level, BlockNumber(block.0 + 1), number);
+    let b = record::before(t, size, level, BlockNumber(block.0 + 2), number);
+    let c = record::before(t, size, level, BlockNumber(block.0 + 3), number);
+    let d = record::before(t, size, level, BlockNumber(block.0 + 4), number);
+    larger(larger(a, b), larger(c, d))
+}
+
+// Steps by fours, as long as no before of the four is j or more.
+fn by_fours(
+    t: &[u8],
+    h: Header,
+    number: u32,
+    level: u32,
+    first: BlockNumber,
+    end: BlockNumber,
+    j: u64,
+) -> BlockNumber
+    requires { ⌜ Siblings (now t) h number level (first .0) (end .0) ⌝ }
+    ensures { λ r. ⌜ Passed (now (t .entry)) number level (first .0) (end .0) j (r .0) ⌝ }
+{
+    let last = end.0;
+    let mut i: u32 = first.0;
+    while 4 < last - i {
+        let most = largest_before(t, h, number, level, BlockNumber(i)) as u64;
+        if j <= most {
+            return BlockNumber(i);
+        }
+        i += 4;
+    }
+    BlockNumber(i)
 }
 
 // Of the blocks from first on, before end: the last one before any whose before is j or more, with the steps to it, counted on the way.
@@ -52,16 +100,18 @@ pub fn step_along(
     h: Header,
     number: u32,
     level: u32,
-    first: u32,
-    end: u32,
+    first: BlockNumber,
+    end: BlockNumber,
     j: u64,
 ) -> Along
-    requires { ⌜ Siblings (now t) h number level first end ⌝ }
-    ensures { λ r. ⌜ (LastBefore (now (t .entry)) number level first end j (r .block .0)) × (first + r .steps ≡ r .block .0) ⌝ }
+    requires { ⌜ Siblings (now t) h number level (first .0) (end .0) ⌝ }
+    ensures { λ r. ⌜ (LastBefore (now (t .entry)) number level (first .0) (end .0) j (r .block .0)) × (first .0 + r .steps ≡ r .block .0) ⌝ }
 {
-    let mut i: u32 = first;
-    let mut steps: u32 = 0;
-    while i + 1 < end {
+    let near = by_fours(t, h, number, level, first, end, j);
+    let last = end.0;
+    let mut i: u32 = near.0;
+    let mut steps: u32 = near.0 - first.0;
+    while i + 1 < last {
         let next = record::before(t, h.record_size, level, BlockNumber(i + 1), number) as u64;
         if j <= next {
             return Along {
@@ -84,12 +134,12 @@ fn last_before(
     h: Header,
     number: u32,
     level: u32,
-    first: u32,
-    end: u32,
+    first: BlockNumber,
+    end: BlockNumber,
     j: u64,
 ) -> BlockNumber
-    requires { ⌜ Siblings (now t) h number level first end ⌝ }
-    ensures { λ r. ⌜ LastBefore (now (t .entry)) number level first end j (r .0) ⌝ }
+    requires { ⌜ Siblings (now t) h number level (first .0) (end .0) ⌝ }
+    ensures { λ r. ⌜ LastBefore (now (t .entry)) number level (first .0) (end .0) j (r .0) ⌝ }
 {
     step_along(t, h, number, level, first, end, j).block
 }
@@ -112,7 +162,7 @@ fn pick(
     if j <= before {
         return Child::Off;
     }
-    match steps::look(t, h, level, b, block, place) {
+    match steps::look(t, h.record_size, level, b, block, place) {
         Next::Kept(i, o) => Child::Kept(i, o, j - before),
         Next::Points(i, o) => Child::Points(i, o, j - before),
         Next::Off => Child::Off,
@@ -120,17 +170,17 @@ fn pick(
 }
 
 // A place moved on by the bytes before it and back by a gap, with one more block entered.
-fn shift(found: Placed, forward: u32, back: u32) -> Placed
-    requires { ⌜ (Near found 16) × (forward ≤ maxText) ⌝ }
-    ensures { λ r. ⌜ r ≡ moved found forward back ⌝ }
+fn shift(found: Placed, forward: BlockPlace, back: BlockPlace) -> Placed
+    requires { ⌜ (Near found 16) × (forward .0 ≤ maxText) ⌝ }
+    ensures { λ r. ⌜ r ≡ moved found (forward .0) (back .0) ⌝ }
 {
     match found {
         Placed::At(o, entered) => {
-            let place = forward + o.0;
-            if place < back {
+            let place = forward.0 + o.0;
+            if place < back.0 {
                 return Placed::Off;
             }
-            Placed::At(BlockPlace(place - back), entered + 1)
+            Placed::At(BlockPlace(place - back.0), entered + 1)
         }
         Placed::Off => Placed::Off,
     }
@@ -151,7 +201,10 @@ fn child_with(
     ensures { λ r. ⌜ ChildWith (now (t .entry)) number level (block .0) below j r ⌝ }
 {
     let link = record::link(t, h.record_size, level, block);
-    let count = header::pieces(steps::block_length(t, h, level, b, block), below);
+    let count = header::pieces(
+        steps::block_length(t, h.record_size, level, b, block),
+        below,
+    );
     let table = record::level_count(t, level + 1) as u64;
     if table < link as u64 + count as u64 {
         return Child::Off;
@@ -159,7 +212,15 @@ fn child_with(
     if count == 0 {
         return Child::Off;
     }
-    let i = last_before(t, h, number, level + 1, link, link + count, j);
+    let i = last_before(
+        t,
+        h,
+        number,
+        level + 1,
+        BlockNumber(link),
+        BlockNumber(link + count),
+        j,
+    );
     let place = BlockPlace((i.0 - link) * below);
     pick(t, h, number, level + 1, below, i, place, j)
 }
@@ -170,11 +231,11 @@ fn kept_target(
     h: Header,
     level: u32,
     block: BlockNumber,
-    forward: u32,
+    forward: BlockPlace,
     rest: u64,
 ) -> Target
     requires { ⌜ (HeaderOf (now t) h) × (level < at.settings (now t) .levels) × (block .0 < at.levelCount (now t) level) ⌝ }
-    ensures { λ r. ⌜ r ≡ targetAt (now (t .entry)) level (block .0) forward rest ⌝ }
+    ensures { λ r. ⌜ r ≡ targetAt (now (t .entry)) level (block .0) (forward .0) rest ⌝ }
 {
     let kind = record::kind(t, h.record_size, level, block);
     if kind == 0 {
@@ -205,12 +266,19 @@ fn target_with(
     let rank = j + record::skip(t, h.record_size, level, block, number) as u64;
     let inside = record::inside(t, h.record_size, level, BlockNumber(link), number) as u64;
     if rank <= inside {
-        return kept_target(t, h, level, BlockNumber(link), 0, rank);
+        return kept_target(t, h, level, BlockNumber(link), BlockPlace(0), rank);
     }
     if count - link == 1 {
         return Target::Off;
     }
-    kept_target(t, h, level, BlockNumber(link + 1), b, rank - inside)
+    kept_target(
+        t,
+        h,
+        level,
+        BlockNumber(link + 1),
+        BlockPlace(b),
+        rank - inside,
+    )
 }
 
 // The j-th byte among the leaf bytes of a block of the last level.
@@ -227,7 +295,7 @@ fn leaf_place(
     ensures { λ r. ⌜ FoundIn (now (t .entry)) (wanted .number) level (block .0) j 1 r ⌝ }
 {
     let link = record::link(t, h.record_size, level, block) as u64;
-    let len = steps::block_length(t, h, level, b, block);
+    let len = steps::block_length(t, h.record_size, level, b, block);
     if (h.leaf_count as u64) < link + len as u64 {
         return Placed::Off;
     }
@@ -259,11 +327,15 @@ fn kept_step(
     let below = b / h.settings.arity;
     let next = child_with(t, h, wanted.number, level, b, below, block, j);
     match next {
-        Child::Kept(i, o, rest) => shift(kept_step(t, h, wanted, under, below, i, rest), o.0, 0),
+        Child::Kept(i, o, rest) => shift(
+            kept_step(t, h, wanted, under, below, i, rest),
+            o,
+            BlockPlace(0),
+        ),
         Child::Points(i, o, rest) => shift(
             pointing_step(t, h, wanted, under, below, i, rest),
-            o.0,
-            0,
+            o,
+            BlockPlace(0),
         ),
         Child::Off => Placed::Off,
     }
@@ -291,7 +363,7 @@ fn pointing_step(
         Target::Kept(i, forward, rest) => shift(
             kept_step(t, h, wanted, level, b, i, rest),
             forward,
-            gap.0,
+            gap,
         ),
         Target::Off => Placed::Off,
     }
@@ -302,7 +374,15 @@ fn first_block(t: &[u8], h: Header, number: u32, j: u64) -> BlockNumber
     requires { ⌜ (HeaderOf (now t) h) × (number < at.countedCount (now t)) × (1 ≤ total (now t) number) ⌝ }
     ensures { λ r. ⌜ LastBefore (now (t .entry)) number 0 0 (at.levelCount (now (t .entry)) 0) j (r .0) ⌝ }
 {
-    last_before(t, h, number, 0, 0, record::level_count(t, 0), j)
+    last_before(
+        t,
+        h,
+        number,
+        0,
+        BlockNumber(0),
+        BlockNumber(record::level_count(t, 0)),
+        j,
+    )
 }
 
 // The place of the text that a place in a block of level 0 is, if it is one.

@@ -2,14 +2,14 @@
 use mathlib.Core.List.{List}
 use mathlib.Core.Bool.{Bool, true, false, cond, _&&_}
 use mathlib.Core.Path.{_≡_, refl, sym, ap, _∙_}
-use Prim.Native.Nat.{ℕ, _+_, _/_, _<_}
+use Prim.Native.Nat.{ℕ, _+_, _/_, _≤_, _<_}
 use native.Mathlib.Omega.{arith}
 use native.Mathlib.Nat.{mul-div-cancel}
-use borrow.Author.Tests.{eqb-true, ne-eqb}
+use borrow.Author.Tests.{eqb-true, ne-eqb, ltb-true, ltb-false}
 use lib.Dec.{ltb, eqb}
 use Rattle.text.specs.ListLaws.{and-left, and-right}
 use Rattle.format.specs.Layout as at
-use Rattle.format.specs.Path.{keptBlock, pointingBlock}
+use Rattle.format.specs.Path.{keptBlock, pointingBlock, targetBlock, targetPlace}
 use Rattle.format.specs.HeaderLaws.{full-step}
 use Rattle.layout.specs.declared.header.Header.{Header}
 use Rattle.layout.specs.declared.place.BlockNumber.{BlockNumber}
@@ -17,7 +17,9 @@ use Rattle.layout.specs.declared.place.BlockPlace.{BlockPlace}
 use Rattle.layout.specs.HeaderSays.{HeaderOf}
 use Rattle.steps.specs.declared.Next.{Next}
 use Rattle.steps.specs.declared.Next.the-variants.{Kept, Points, Off}
-use Rattle.steps.specs.Steps.{OnLevel, nextAt}
+use Rattle.steps.specs.declared.Arrived.{Arrived}
+use Rattle.steps.specs.declared.Arrived.the-variants as arrived
+use Rattle.steps.specs.Steps.{OnLevel, nextAt, childAt, landAt, arriving}
 
 abbrev next-cases : (kept points : Bool) (i o : ℕ) → Next
 next-cases kept points i o = cond kept (Kept (record { 0 = i }) (record { 0 = o })) (cond points (Points (record { 0 = i }) (record { 0 = o })) Off)
@@ -65,23 +67,61 @@ module _ (t : List ℕ) where
       rw (ne-eqb (at.kind t l i) 0 (λ z. omega arith), and-left within (eqb (at.kind t l i) 1) (and-left (within && eqb (at.kind t l i) 1) (ltb (at.gap t l i) (at.fullLength t l)) p))
 
 -- the next level's block length is this one's by the arity
-pub level-below : (t : List ℕ) (h : Header) (level b : ℕ) → OnLevel t h level b → (level + 1 ≡ h .settings .levels → ⊥)
-    → OnLevel t h (level + 1) (b / h .settings .arity)
-level-below t h level b on more =
-    let k = on .header .facts in
-    let down : level + 1 < at.settings t .levels = omega (arith, on .level-in, on .header .levels-is, more) in record {
-      header = on .header;
+pub level-below : (t : List ℕ) (size level b : ℕ) → OnLevel t size level b → (level + 1 ≡ at.settings t .levels → ⊥)
+    → OnLevel t size (level + 1) (b / at.settings t .arity)
+level-below t size level b on more =
+    let k = on .facts in
+    let down : level + 1 < at.settings t .levels = omega (arith, on .level-in, more) in record {
+      facts = k;
+      size-is = on .size-is;
       level-in = down;
-      b-is = rw (on .b-is, on .header .arity-is, full-step t k level down) (mul-div-cancel (at.fullLength t (level + 1)) (omega (arith, k .arity-low)));
+      b-is = rw (on .b-is, full-step t k level down) (mul-div-cancel (at.fullLength t (level + 1)) (omega (arith, k .arity-low)));
     }
 
-pub arity-pos : (t : List ℕ) (h : Header) → HeaderOf t h → 0 < h .settings .arity
-arity-pos t h k = omega (arith, k .arity-is, k .facts .arity-low)
-
--- level 0
-pub on-top : (t : List ℕ) (h : Header) → HeaderOf t h → OnLevel t h 0 (h .block)
+-- level 0, and any level, by the header
+pub on-top : (t : List ℕ) (h : Header) → HeaderOf t h → OnLevel t (h .«record_size») 0 (h .block)
 on-top t h k = record {
-  header = k;
+  facts = k .facts;
+  size-is = k .size-is;
   level-in = omega (arith, k .facts .levels-low);
   b-is = k .block-is;
 }
+
+-- what was arrived at
+
+case-at : (x : Bool) (i o : ℕ) (j : BlockNumber) (p : BlockPlace) → arriving x i o ≡ arrived.At j p → (x ≡ true) × (j .0 ≡ i) × (p .0 ≡ o)
+case-at true i o j p e =
+    let f : j ≡ record { 0 = i } = cc in
+    let g : p ≡ record { 0 = o } = cc in
+    (refl, ap (λ (n : BlockNumber). n .0) f, ap (λ (n : BlockPlace). n .0) g)
+case-at false i o j p e = absurd (let z : _≡_ {A = ℕ} 0 1 = cc in omega arith)
+
+case-none : (x : Bool) (i o : ℕ) → arriving x i o ≡ arrived.Off → x ≡ false
+case-none true i o e = absurd (let z : _≡_ {A = ℕ} 0 1 = cc in omega arith)
+case-none false i o e = refl
+
+module _ (t : List ℕ) (l i o : ℕ) (x : Arrived) where
+  module _ (is : x ≡ childAt t l i o) where
+    pub child-at : (j : BlockNumber) (p : BlockPlace) → x ≡ arrived.At j p → (i < at.levelCount t l) × (j .0 ≡ i) × (p .0 ≡ o)
+    unfolding childAt
+    child-at j p e =
+        let z = case-at (ltb i (at.levelCount t l)) i o j p (sym is ∙ e) in
+        (ltb-true _ _ (z .0), z .1, z .2)
+
+    pub child-off : x ≡ arrived.Off → at.levelCount t l ≤ i
+    unfolding childAt
+    child-off e = ltb-false _ _ (case-none (ltb i (at.levelCount t l)) i o (sym is ∙ e))
+
+  module _ (is : x ≡ landAt t l i o) where
+    pub land-at : (j : BlockNumber) (p : BlockPlace) → x ≡ arrived.At j p
+        → (l + 1 < at.settings t .levels) × (keptBlock t l (targetBlock t l i o) ≡ true) × (j .0 ≡ targetBlock t l i o) × (p .0 ≡ targetPlace t l i o)
+    unfolding landAt
+    land-at j p e =
+        let more = ltb (l + 1) (at.settings t .levels) in
+        let kept = keptBlock t l (targetBlock t l i o) in
+        let z = case-at (more && kept) (targetBlock t l i o) (targetPlace t l i o) j p (sym is ∙ e) in
+        (ltb-true _ _ (and-left more kept (z .0)), and-right more kept (z .0), z .1, z .2)
+
+    pub land-off : x ≡ arrived.Off → (ltb (l + 1) (at.settings t .levels) && keptBlock t l (targetBlock t l i o)) ≡ false
+    unfolding landAt
+    land-off e = case-none (ltb (l + 1) (at.settings t .levels) && keptBlock t l (targetBlock t l i o)) (targetBlock t l i o) (targetPlace t l i o) (sym is ∙ e)

@@ -1,12 +1,9 @@
 -- Reading on, from one place's path to the next one's.
 use mathlib.Core.List.{List}
-use mathlib.Core.Path.{_≡_, ap, _∙_}
-use mathlib.Core.Logic.{_⊎_, inl, inr}
-use Prim.Native.Nat.{ℕ, _+_, _-_, _≤_, _<_}
+use mathlib.Core.Path.{_≡_, ap}
+use Prim.Native.Nat.{ℕ, _+_, _-_, _≤_, _<_, min}
 use native.Mathlib.Omega.{arith}
 use native.Mathlib.Nat.{add-assoc}
-use borrow.Author.Tests.{eq-eqb, ne-eqb}
-use Rattle.text.specs.ListLaws.{lt-or-ge}
 use Rattle.format.specs.Layout as at
 use Rattle.format.specs.Path.{pathOf}
 use Rattle.format.specs.Reading.{leftOver}
@@ -14,9 +11,10 @@ use Rattle.paths.specs.Shift.{further, length-further, left-within, path-furthe
 use Rattle.layout.specs.declared.header.Header.{Header}
 use Rattle.layout.specs.HeaderSays.{HeaderOf}
 use Rattle.walk.specs.declared.Reached.{Reached}
-use Rattle.walk.specs.declared.Walked.the-variants.{At}
+use Rattle.walk.specs.declared.Walked.{Walked}
+use Rattle.walk.specs.declared.Walked.the-variants.{At, Broken}
 use Rattle.walk.specs.Walk.{walked}
-use Rattle.walk.specs.Held.{Held, unknown, aheadOf}
+use Rattle.walk.specs.Held.{Standing, Held, ReachedAt, unknown, withinOf, aheadOf}
 use Rattle.walk.proofs.EndLaws.{Ends, ends, end-leaf, path-left}
 
 -- nothing known is held of any place
@@ -54,29 +52,34 @@ module _ (t : List ℕ) (h : Header) (k : HeaderOf t h) (p : ℕ) (low : p < h .
   pub leaf-low : r .leaf < h .«leaf_count»
   leaf-low = omega (arith, end-leaf t (record { entered = 0; left = h .length - p }) p r (end t (h .length) p r e), k .count-is)
 
-  pub left-low : 0 < r .trail .left
+  left-low : 0 < r .trail .left
   left-low = let z = end t (h .length) p r e in omega (arith, path-left t p (z .path) (z .is) (k .facts) (h .length - p) (omega arith), z .left-is)
 
-  -- what is held of the place after it
-  pub held-ahead : (x : Reached) → x ≡ aheadOf (h .«leaf_count») r → Held t h (p + 1) x
-  unfolding aheadOf
-  held-ahead x x-is = go (lt-or-ge (r .leaf + 1) (h .«leaf_count»))
-    where
-      on : Reached
-      on = record { leaf = r .leaf + 1; trail = record { entered = r .trail .entered; left = r .trail .left - 1 } }
+  -- the end of a walk is reached
+  pub reached-end : (x : Reached) → x ≡ withinOf (h .«leaf_count») r → ReachedAt t h p (At x)
+  unfolding withinOf
+  reached-end x x-is =
+      rw x-is (omega (arith, left-low, leaf-low), record { more = r .trail .left; is = e; left-in = omega arith; leaves-in = omega (arith, leaf-low) })
 
-      go : (r .leaf + 1 < h .«leaf_count») ⊎ (h .«leaf_count» ≤ r .leaf + 1) → Held t h (p + 1) x
-      go (inl fits) =
-          let z : x ≡ on = x-is ∙ rw (ne-eqb (r .leaf + 1) (h .«leaf_count») (λ y. omega arith)) in
-          record { is = λ more. (rw z (walked-on t (h .length) p r e (omega (arith, ap (λ (y : Reached). y .trail .left) z)) (omega (arith, k .count-is)))) }
-      go (inr past) = held-unknown t h (p + 1) x (x-is ∙ rw (eq-eqb (r .leaf + 1) (h .«leaf_count») (omega (arith, leaf-low))))
+pub reached-at : (t : List ℕ) (h : Header) (p : ℕ) (x : Walked) → ReachedAt t h p x → (r : Reached) → x ≡ At r → (0 < r .trail .left) × (Standing t h p r)
+reached-at t h p x k r e = rw e at k
 
--- the code's two ways on
-pub ahead-end : (count : ℕ) (r x : Reached) → r .leaf + 1 ≡ count → x ≡ unknown → x ≡ aheadOf count r
+pub reached-broken : (t : List ℕ) (h : Header) (p : ℕ) (x : Walked) → ReachedAt t h p x → x ≡ Broken → Broken ≡ walked t (record { entered = 0; left = h .length - p }) (pathOf t p)
+reached-broken t h p x k e = rw e at k
+
+-- what is held of the place after it
+pub held-ahead : (t : List ℕ) (h : Header) (k : HeaderOf t h) (p : ℕ) (r x : Reached) → Standing t h p r → 0 < r .trail .left → x ≡ aheadOf r → Held t h (p + 1) x
 unfolding aheadOf
-ahead-end count r x e x-is = rw (eq-eqb (r .leaf + 1) count e) x-is
+held-ahead t h k p r x s low x-is = rw x-is (record {
+  is = λ more. record {
+    more = s .more - 1;
+    is = walked-on t (h .length) p (record { leaf = r .leaf; trail = record { entered = r .trail .entered; left = s .more } }) (s .is) (omega (arith, s .left-in)) (omega (arith, s .leaves-in, k .count-is));
+    left-in = omega (arith, s .left-in);
+    leaves-in = omega (arith, s .leaves-in);
+  };
+})
 
-pub ahead-on : (count : ℕ) (r : Reached) → (r .leaf + 1 ≡ count → ⊥)
-    → record { leaf = r .leaf + 1; trail = record { entered = r .trail .entered; left = r .trail .left - 1 } } ≡ aheadOf count r
-unfolding aheadOf
-ahead-on count r e = rw (ne-eqb (r .leaf + 1) count e)
+pub within-is : (count : ℕ) (r : Reached) (left : ℕ) → left ≡ min (r .trail .left) (count - r .leaf)
+    → record { leaf = r .leaf; trail = record { entered = r .trail .entered; left = left } } ≡ withinOf count r
+unfolding withinOf
+within-is count r left e = rw e

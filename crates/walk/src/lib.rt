@@ -1,5 +1,5 @@
 // The walk down the path of a place. The step for a kept block and the step for a pointing block call each other: twice the
-// levels left, plus one if a pointer may still be followed, falls.
+// levels left, plus one if a pointer may still be followed, falls. A step carries no header, and its answer is one word.
 pub mod held;
 
 use layout::header::Header;
@@ -7,14 +7,16 @@ use layout::place::BlockNumber;
 use layout::place::BlockPlace;
 use layout::place::TextPlace;
 use layout::record;
+use steps::Arrived;
 use steps::Next;
+use steps::fields;
 ghost use mathlib.Core.Path.{_≡_};
 ghost use Prim.Native.Nat.{_+_, _-_, _*_, _≤_, _<_};
 ghost use Rattle.format.specs.Layout as at;
 ghost use Rattle.format.specs.Path.{pathFrom, pathOf};
 ghost use Rattle.layout.specs.HeaderSays.{HeaderOf};
-ghost use Rattle.steps.specs.Steps.{Pointing};
-ghost use Rattle.walk.specs.Walk.{KeptAt, walked, onward};
+ghost use Rattle.format.specs.Settings.{maxText};
+ghost use Rattle.walk.specs.Walk.{KeptAt, MayPoint, walked, walkedIn, onward};
 
 // What is carried down a path: how many blocks were entered, and the bytes left from the place on in every one of them.
 pub struct Trail {
@@ -46,79 +48,110 @@ impl Trail {
     }
 }
 
+// The word of a path that breaks.
+const BROKEN: u64 = 18446744073709551615;
+
+// A walk in one word: the leaf byte, 2^32 times the blocks entered, and 2^37 times what is left.
+fn packed(leaf: u32, trail: Trail) -> u64
+    requires { ⌜ (trail .entered ≤ 16) × (trail .left ≤ maxText) ⌝ }
+    ensures { λ r. ⌜ walkedIn r ≡ Walked.At (record { leaf = leaf; trail = trail }) ⌝ }
+{
+    leaf as u64 + 4294967296 * (trail.entered as u64 + 32 * trail.left as u64)
+}
+
+// What such a word says.
+fn unpacked(word: u64) -> Walked
+    ensures { λ r. ⌜ r ≡ walkedIn word ⌝ }
+{
+    if word == BROKEN {
+        return Walked::Broken;
+    }
+    Walked::At(Reached {
+        leaf: (word % 4294967296) as u32,
+        trail: Trail {
+            entered: (word / 4294967296 % 32) as u32,
+            left: (word / 137438953472) as u32,
+        },
+    })
+}
+
 // The leaf byte that a kept block of the last level hands a place to.
 fn leaf(
     t: &[u8],
-    h: Header,
+    size: u32,
     level: u32,
     b: u32,
     block: BlockNumber,
     place: BlockPlace,
     trail: Trail,
-) -> Walked
-    requires { ⌜ KeptAt (now t) h level b (block .0) (place .0) (trail .entered) ⌝ }
-    ensures { λ r. ⌜ r ≡ walked (now (t .entry)) trail (pathFrom (now (t .entry)) 0 level (block .0) (place .0)) ⌝ }
+) -> u64
+    requires { ⌜ KeptAt (now t) size level b (block .0) (place .0) (trail .entered) ⌝ }
+    ensures { λ r. ⌜ walkedIn r ≡ walked (now (t .entry)) trail (pathFrom (now (t .entry)) 0 level (block .0) (place .0)) ⌝ }
 {
-    let link = record::link(t, h.record_size, level, block) as u64;
+    let link = record::link(t, size, level, block) as u64;
     let number = link + place.0 as u64;
-    if number < h.leaf_count as u64 {
-        return Walked::At(Reached {
-            leaf: number as u32,
-            trail: trail.enter(b, place),
-        });
+    let shape = fields::shape_of(t);
+    if number < shape.leaf_count as u64 {
+        return packed(number as u32, trail.enter(b, place));
     }
-    Walked::Broken
+    BROKEN
 }
 
 // From a kept block, which hands the place to a child.
-pub fn kept_step(
+fn kept_step(
     t: &[u8],
-    h: Header,
+    size: u32,
     level: u32,
     b: u32,
     block: BlockNumber,
     place: BlockPlace,
     trail: Trail,
-) -> Walked
-    requires { ⌜ KeptAt (now t) h level b (block .0) (place .0) (trail .entered) ⌝ }
-    ensures { λ r. ⌜ r ≡ walked (now (t .entry)) trail (pathFrom (now (t .entry)) (at.settings (now (t .entry)) .levels - 1 - level) level (block .0) (place .0)) ⌝ }
+) -> u64
+    requires { ⌜ KeptAt (now t) size level b (block .0) (place .0) (trail .entered) ⌝ }
+    ensures { λ r. ⌜ walkedIn r ≡ walked (now (t .entry)) trail (pathFrom (now (t .entry)) (at.settings (now (t .entry)) .levels - 1 - level) level (block .0) (place .0)) ⌝ }
 {
+    let tree = fields::whole(t);
+    let shape = fields::shape_of(tree);
     let down = level + 1;
-    if down == h.settings.levels {
-        return leaf(t, h, level, b, block, place, trail);
+    if down == shape.levels {
+        return leaf(tree, size, level, b, block, place, trail);
     }
-    let below = b / h.settings.arity;
+    let below = steps::quotient(b, shape.arity);
     let on = trail.enter(b, place);
-    let next = steps::child(t, h, level, below, block, place);
-    match next {
-        Next::Kept(i, p) => kept_step(t, h, down, below, i, p, on),
-        Next::Points(i, p) => pointing_step(t, h, down, below, i, p, on),
-        Next::Off => Walked::Broken,
-    }
+    let child = steps::child(tree, size, level, below, block, place);
+    let Arrived::At(i, p) = child else {
+        return BROKEN;
+    };
+    pointing_step(tree, size, down, below, i, p, on)
 }
 
-// From a pointing block, which hands the place to a kept block of its level; on the last level no block points.
-pub fn pointing_step(
+// From a block at which a pointer may still be followed: a pointing one hands the place to a kept block of its level, on the last level
+// no block points.
+fn pointing_step(
     t: &[u8],
-    h: Header,
+    size: u32,
     level: u32,
     b: u32,
     block: BlockNumber,
     place: BlockPlace,
     trail: Trail,
-) -> Walked
-    requires { ⌜ (Pointing (now t) h level b (block .0) (place .0)) × (trail .entered ≤ 2 * level) ⌝ }
-    ensures { λ r. ⌜ r ≡ walked (now (t .entry)) trail (pathFrom (now (t .entry)) (at.settings (now (t .entry)) .levels - 1 - level) level (block .0) (place .0)) ⌝ }
+) -> u64
+    requires { ⌜ MayPoint (now t) size level b (block .0) (place .0) (trail .entered) ⌝ }
+    ensures { λ r. ⌜ walkedIn r ≡ walked (now (t .entry)) trail (pathFrom (now (t .entry)) (at.settings (now (t .entry)) .levels - 1 - level) level (block .0) (place .0)) ⌝ }
 {
-    if level + 1 == h.settings.levels {
-        return Walked::Broken;
-    }
-    let on = trail.enter(b, place);
-    let next = steps::target(t, h, level, b, block, place);
-    match next {
-        Next::Kept(i, p) => kept_step(t, h, level, b, i, p, on),
-        Next::Points(_, _) => Walked::Broken,
-        Next::Off => Walked::Broken,
+    let tree = fields::whole(t);
+    let here = steps::look(tree, size, level, b, block, place);
+    match here {
+        Next::Kept(_, _) => kept_step(tree, size, level, b, block, place, trail),
+        Next::Points(_, _) => {
+            let on = trail.enter(b, place);
+            let there = steps::land(tree, size, level, b, block, place);
+            let Arrived::At(i, p) = there else {
+                return BROKEN;
+            };
+            kept_step(tree, size, level, b, i, p, on)
+        }
+        Next::Off => BROKEN,
     }
 }
 
@@ -131,10 +164,15 @@ pub fn walk(t: &[u8], h: Header, at: TextPlace) -> Walked
         entered: 0,
         left: h.length - at.0,
     };
-    let b = h.block;
-    match steps::first(t, h, b, at) {
-        Next::Kept(i, p) => kept_step(t, h, 0, b, i, p, trail),
-        Next::Points(i, p) => pointing_step(t, h, 0, b, i, p, trail),
-        Next::Off => Walked::Broken,
-    }
+    let part = steps::part_of(at.0, h.block);
+    let rest = part.place;
+    unpacked(pointing_step(
+        t,
+        h.record_size,
+        0,
+        h.block,
+        BlockNumber(part.blocks),
+        rest,
+        trail,
+    ))
 }

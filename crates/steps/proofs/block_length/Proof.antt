@@ -1,5 +1,5 @@
-use borrow.Author.Needs.{needs}
 use native.Mathlib.Omega.{arith}
+use borrow.Author.Needs.{needs}
 use Rattle.steps.proofs.StepLaws as laws
 use Rattle.steps.proofs.block_length.Statement.{statement}
 use Rattle.steps.proofs.block_length.Tie as tie
@@ -8,8 +8,9 @@ pub block-length-spec : {M : Type 1} → statement M
 block-length-spec =
     tie.close
     (tie.spec
-    (λ c κs. laws.field-there _ _ _ _ 0 (c .before .pre .on .header) (c .before .pre .on .level-in) (c .before .pre .block-in) (omega arith))
-    (λ c. laws.length-none _ _ _ _ _ _ (c .before .before .before .before .before .pre) (c .before .before .before .start .ensures) (c .if1 .taken))
+    (λ c κs. laws.field-there _ _ _ _ _ 0 (c .before .pre .on) (c .before .pre .block-in) (omega arith))
+    (λ c κs. search needs)
+    (λ c. laws.length-none _ _ _ _ _ _ _ (c .before .before .before .before .before .before .pre) (c .before .before .before .before .start .ensures) (laws.shapes _ _ (c .before .before .before .shape-of .ensures) .length-is) (c .if1 .taken))
     (λ c. search needs)
     (λ c κs. search needs)
-    (λ c. laws.length-some _ _ _ _ _ _ (c .before .before .before .before .before .before .before .before .pre) (c .before .before .before .before .before .before .start .ensures) _ (c .before .before .before .if1 .left) (c .shorter .ensures)))
+    (λ c. laws.length-some _ _ _ _ _ _ _ (c .before .before .before .before .before .before .before .before .before .pre) (c .before .before .before .before .before .before .before .start .ensures) (laws.shapes _ _ (c .before .before .before .before .before .before .shape-of .ensures) .length-is) _ (c .before .before .before .if1 .left) (c .shorter .ensures)))

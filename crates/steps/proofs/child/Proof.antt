@@ -1,5 +1,6 @@
-use borrow.Author.Needs.{needs}
+use mathlib.Core.Path.{refl}
 use native.Mathlib.Omega.{arith}
+use borrow.Author.Needs.{needs}
 use Rattle.steps.proofs.StepLaws as laws
 use Rattle.steps.proofs.child.Statement.{statement}
 use Rattle.steps.proofs.child.Tie as tie
@@ -10,7 +11,12 @@ child-spec =
     (tie.spec
     (λ c κs. laws.link-there _ _ _ _ _ (c .before .pre .0) (c .before .pre .1))
     (λ c. search needs)
-    (λ c. omega (arith, laws.b-pos _ _ _ _ (c .before .before .before .pre .0)))
-    (λ c. omega (arith, laws.b-pos _ _ _ _ (c .before .before .before .before .pre .0)))
+    (λ c. search needs)
     (λ c κs. search needs)
-    (λ c. rw (c .before .before .before .link .ensures) at (c .look-after .ensures)))
+    (λ c. search needs)
+    (λ c κs. laws.b-pos _ _ _ _ (c .before .before .before .pre .0))
+    (λ c. search needs)
+    (λ c. search needs)
+    (λ c. laws.child-past _ _ _ _ _ _ _ _ (c .before .before .before .before .link .ensures) (c .before .before .before .level-count .ensures) (c .before .before .part-of .ensures) (c .if1 .taken))
+    (λ c. search needs)
+    (λ c. laws.child-there _ _ _ _ _ _ _ _ (c .before .before .before .before .before .link .ensures) (c .before .before .before .before .level-count .ensures) (c .before .before .before .part-of .ensures) _ refl (c .before .if1 .left)))

@@ -7,9 +7,9 @@ pub look-spec : {M : Type 1} → statement M
 look-spec =
     tie.close
     (tie.spec
-    (λ c κs. laws.field-there _ _ _ _ 1 (c .before .pre .on .header) (c .before .pre .on .level-in) (c .before .pre .block-in) (omega arith))
+    (λ c κs. laws.field-there _ _ _ _ _ 1 (c .before .pre .on) (c .before .pre .block-in) (omega arith))
     (λ c. laws.look-kept _ _ _ _ _ _ _ (c .before .before .before .pre) (c .before .kind .ensures) (c .if1 .taken))
     (λ c. laws.look-other _ _ _ _ _ _ _ (c .before .before .before .before .pre) (c .before .before .kind .ensures) (c .before .if1 .left) (c .if2 .taken))
-    (λ c κs. laws.field-there _ _ _ _ 3 (c .before .before .before .before .pre .on .header) (c .before .before .before .before .pre .on .level-in) (c .before .before .before .before .pre .block-in) (omega arith))
+    (λ c κs. laws.field-there _ _ _ _ _ 3 (c .before .before .before .before .pre .on) (c .before .before .before .before .pre .block-in) (omega arith))
     (λ c. laws.look-points _ _ _ _ _ _ _ (c .before .before .before .before .before .before .before .pre) (c .before .before .before .before .before .kind .ensures) _ (c .before .before .gap .ensures) (c .before .before .before .before .if1 .left) (c .before .before .before .if2 .left) (c .if3 .taken))
     (λ c. laws.look-wide _ _ _ _ _ _ _ (c .before .before .before .before .before .before .before .pre) (c .before .before .before .before .before .kind .ensures) _ (c .before .before .gap .ensures) (c .before .before .before .before .if1 .left) (c .before .before .before .if2 .left) (c .if3 .left)))

@@ -1,5 +1,5 @@
-use borrow.Author.Needs.{needs}
 use native.Mathlib.Omega.{arith}
+use borrow.Author.Needs.{needs}
 use Rattle.steps.proofs.StepLaws as laws
 use Rattle.steps.proofs.target.Statement.{statement}
 use Rattle.steps.proofs.target.Tie as tie
@@ -12,6 +12,7 @@ target-spec =
     (λ c κs. laws.pointing-there _ _ _ _ _ _ (c .before .before .pre) 3 (omega arith))
     (λ c. omega (arith, laws.sum-small _ _ _ _ _ _ (c .before .before .before .before .before .pre) _ (c .before .before .gap .ensures)))
     (λ c κs. search needs)
-    (λ c. laws.target-here _ _ _ _ _ _ (c .before .before .before .before .before .before .before .pre) _ _ (c .before .before .before .before .before .link .ensures) (c .before .before .before .before .gap .ensures) _ (c .before .if1 .taken) (c .look-after .ensures))
+    (λ c. record { fits = omega (arith, c .past .ensures .2, laws.sum-small _ _ _ _ _ _ (c .before .before .before .before .before .before .pre) _ (c .before .before .before .gap .ensures)) })
+    (λ c. search needs)
     (λ c κs. search needs)
-    (λ c. laws.target-next _ _ _ _ _ _ (c .before .before .before .before .before .before .before .pre) _ _ (c .before .before .before .before .before .link .ensures) (c .before .before .before .before .gap .ensures) _ (c .before .if1 .left) (c .look-after2 .ensures)))
+    (λ c. laws.target-by _ _ _ _ _ _ (c .before .before .before .before .before .before .before .pre) _ _ (c .before .before .before .before .before .link .ensures) (c .before .before .before .before .gap .ensures) _ _ (c .before .past .ensures .0) (c .look-after .ensures)))

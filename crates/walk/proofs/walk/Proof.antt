@@ -1,6 +1,8 @@
-use borrow.Author.Needs.{needs}
-use mathlib.Core.Path.{refl}
+use mathlib.Core.Path.{sym, _∙_}
 use native.Mathlib.Omega.{arith}
+use borrow.Author.Needs.{needs}
+use Rattle.steps.proofs.NextLaws.{on-top}
+use Rattle.steps.proofs.StepLaws.{b-pos}
 use Rattle.walk.proofs.WalkLaws as laws
 use Rattle.walk.proofs.walk.Statement.{statement}
 use Rattle.walk.proofs.walk.Tie as tie
@@ -10,12 +12,7 @@ walk-spec =
     tie.close
     (tie.spec
     (λ c. search needs)
-    (λ c κs. (laws.on-top _ _ (c .before .before .before .pre .0), c .before .before .before .pre .1))
-    (λ c. search needs)
-    (λ c κs. laws.top-kept _ _ _ _ (record { entered = 0; left = 0 }) (laws.on-top _ _ (c .before .before .before .before .before .before .before .pre .0)) _ (c .before .before .before .first .ensures) _ _ (c .before .i .given .1) _ refl)
-    (λ c. search needs)
-    (λ c κs. (laws.top-points _ _ _ _ (record { entered = 0; left = 0 }) (laws.on-top _ _ (c .before .before .before .before .before .before .before .pre .0)) _ (c .before .before .before .first .ensures) _ _ (c .before .i2 .given .1), omega arith))
-    (λ c. search needs)
-    (λ c. laws.top-kept-by _ _ _ _ _ (laws.on-top _ _ (c .before .before .before .before .before .before .before .before .pre .0)) _ (c .before .before .before .before .first .ensures) _ _ (c .before .before .i .given .1) _ (c .kept-step .ensures))
-    (λ c. laws.top-points-by _ _ _ _ _ (laws.on-top _ _ (c .before .before .before .before .before .before .before .before .pre .0)) _ (c .before .before .before .before .first .ensures) _ _ (c .before .before .i2 .given .1) _ (c .pointing-step .ensures))
-    (λ c. laws.top-off _ _ _ _ _ (laws.on-top _ _ (c .before .before .before .before .before .before .pre .0)) _ (c .before .before .first .ensures) (c .enum-told .given .1)))
+    (λ c κs. b-pos _ _ _ _ (on-top _ _ (c .before .before .before .pre .0)))
+    (λ c κs. let s = c .before .before .before .before .before in laws.top-may _ _ _ _ (on-top _ _ (s .pre .0)) _ (c .before .part-of .ensures) (omega (arith, s .pre .0 .length-is, s .pre .1)))
+    (λ c κs. search needs)
+    (λ c. let s = c .before .before .before .before .before .before .before in c .unpacked .ensures ∙ laws.top-by _ _ _ _ (on-top _ _ (s .pre .0)) _ (c .before .before .before .part-of .ensures) _ _ (c .before .pointing-step .ensures)))

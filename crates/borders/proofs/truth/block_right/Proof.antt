@@ -1,6 +1,7 @@
 use borrow.Author.Needs.{needs}
 use native.Mathlib.Omega.{arith}
 use Rattle.layout.proofs.Tests.{failed, held}
+use Rattle.steps.proofs.LevelLaws.{plain}
 use Rattle.borders.proofs.TruthLaws as laws
 use Rattle.borders.proofs.truth.block_right.Statement.{statement}
 use Rattle.borders.proofs.truth.block_right.Tie as tie
@@ -9,7 +10,7 @@ pub block-right-spec : {M : Type 1} → statement M
 block-right-spec =
     tie.close
     (tie.spec
-    (λ c κs. let k = c .before .pre in record { on = k .on; block-in = k .block-in })
+    (λ c κs. let k = c .before .pre in record { on = plain _ _ _ _ (k .on); block-in = k .block-in })
     (λ c κs. search needs)
     (λ c κs. laws.edges-asked _ _ _ _ _ (c .before .before .before .pre))
     (λ c κs. laws.walk-asks _ _ _ _ _ (c .before .before .before .before .pre) _ _ _ (c .before .before .block-length .ensures .0) (c .before .shorter .ensures) (c .edges .ensures .0) 0 (laws.front-in _ _ _ _ _ (c .before .before .before .before .pre) _ _ _ (c .before .before .block-length .ensures .0) (c .before .shorter .ensures) (c .edges .ensures .0)))

@@ -1,3 +1,4 @@
+use mathlib.Core.Path.{_∙_}
 use native.Mathlib.Omega.{arith}
 use borrow.Author.Needs.{needs}
 use Rattle.rank.proofs.CountingLaws as laws
@@ -15,4 +16,4 @@ count-at-spec =
     (λ c. search needs)
     (λ c κs. search needs)
     (λ c κs. search needs)
-    (λ c. record { says = laws.count-walked _ _ (c .before .before .before .before .before .before .before .before .before .pre) _ _ (c .before .before .before .before .before .before .if1 .left) _ (c .before .before .before .before .before .number-of .ensures .0) (c .before .before .before .if2 .left) (c .before .before .if3 .left) _ (c .before .walk .ensures) _ (c .settle .ensures .0); numbered = c .settle .ensures .1 }))
+    (λ c. record { says = laws.count-walked _ _ (c .before .before .before .before .before .before .before .before .before .pre) _ _ (c .before .before .before .before .before .before .if1 .left) _ (c .before .before .before .before .before .number-of .ensures .0) (c .before .before .before .if2 .left) (c .before .before .if3 .left) _ (c .settle .ensures .0 ∙ c .before .walk .ensures); numbered = c .settle .ensures .1 }))

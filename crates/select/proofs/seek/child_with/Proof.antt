@@ -1,7 +1,8 @@
 use borrow.Author.Needs.{needs}
 use native.Mathlib.Omega.{arith}
 use Rattle.format.specs.Settings.{pieces}
-use Rattle.steps.proofs.StepLaws.{field-there, kept-in, b-small, b-pos}
+use Rattle.steps.proofs.StepLaws.{kept-in}
+use Rattle.steps.proofs.LevelLaws.{field-there, b-small, b-pos, plain-block}
 use Rattle.select.proofs.LandLaws as laws
 use Rattle.select.proofs.seek.child_with.Statement.{statement}
 use Rattle.select.proofs.seek.child_with.Tie as tie
@@ -11,7 +12,7 @@ child-with-spec =
     tie.close
     (tie.spec
     (λ c κs. field-there _ _ _ _ 2 (c .before .pre .0 .on .header) (c .before .pre .0 .on .level-in) (kept-in _ _ _ (c .before .pre .0 .kept)) (omega arith))
-    (λ c κs. record { on = c .before .before .pre .0 .on; block-in = kept-in _ _ _ (c .before .before .pre .0 .kept) })
+    (λ c κs. plain-block _ _ _ _ _ (record { on = c .before .before .pre .0 .on; block-in = kept-in _ _ _ (c .before .before .pre .0 .kept) }))
     (λ c κs. (omega (arith, c .block-length .ensures .1, b-small _ _ _ _ (c .before .before .before .pre .0 .on)), b-pos _ _ _ _ (c .before .before .before .pre .1), b-small _ _ _ _ (c .before .before .before .pre .1)))
     (λ c. search needs)
     (λ c κs. search needs)

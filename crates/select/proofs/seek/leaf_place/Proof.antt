@@ -1,6 +1,7 @@
 use borrow.Author.Needs.{needs}
 use native.Mathlib.Omega.{arith}
-use Rattle.steps.proofs.StepLaws.{field-there, kept-in}
+use Rattle.steps.proofs.StepLaws.{kept-in}
+use Rattle.steps.proofs.LevelLaws.{field-there, plain-block}
 use Rattle.select.proofs.LandLaws as laws
 use Rattle.select.proofs.seek.leaf_place.Statement.{statement}
 use Rattle.select.proofs.seek.leaf_place.Tie as tie
@@ -11,7 +12,7 @@ leaf-place-spec =
     (tie.spec
     (λ c κs. field-there _ _ _ _ 2 (c .before .pre .0 .on .header) (c .before .pre .0 .on .level-in) (kept-in _ _ _ (c .before .pre .0 .kept)) (omega arith))
     (λ c. search needs)
-    (λ c κs. record { on = c .before .before .pre .0 .on; block-in = kept-in _ _ _ (c .before .before .pre .0 .kept) })
+    (λ c κs. plain-block _ _ _ _ _ (record { on = c .before .before .pre .0 .on; block-in = kept-in _ _ _ (c .before .before .pre .0 .kept) }))
     (λ c. search needs)
     (λ c. search needs)
     (λ c. search needs)

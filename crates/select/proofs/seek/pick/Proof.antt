@@ -1,5 +1,6 @@
 use borrow.Author.Needs.{needs}
 use native.Mathlib.Omega.{arith}
+use Rattle.steps.proofs.LevelLaws.{plain-block}
 use Rattle.select.proofs.SeekLaws as laws
 use Rattle.rank.proofs.SumLaws as sums
 use Rattle.select.proofs.seek.pick.Statement.{statement}
@@ -12,7 +13,7 @@ pick-spec =
     (λ c κs. sums.field-there _ _ _ _ _ _ (c .before .pre .0 .on .header) (c .before .pre .0 .on .level-in) (c .before .pre .0 .block-in) (c .before .pre .1) (omega arith))
     (λ c. search needs)
     (λ c. laws.pick-none _ _ _ _ _ _ _ (c .before .before2 .ensures) (c .if1 .taken))
-    (λ c κs. c .before .before .before .pre .0)
+    (λ c κs. plain-block _ _ _ _ _ (c .before .before .before .pre .0))
     (λ c. search needs)
     (λ c. search needs)
     (λ c. search needs)

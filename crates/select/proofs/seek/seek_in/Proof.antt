@@ -1,7 +1,7 @@
 use borrow.Author.Needs.{needs}
 use native.Mathlib.Omega.{arith}
-use Rattle.steps.proofs.StepLaws.{b-small}
-use Rattle.walk.proofs.WalkLaws as query
+use Rattle.steps.proofs.LevelLaws.{b-small}
+use Rattle.steps.proofs.LevelLaws as query
 use Rattle.select.proofs.FindingLaws as laws
 use Rattle.select.proofs.seek.seek_in.Statement.{statement}
 use Rattle.select.proofs.seek.seek_in.Tie as tie
