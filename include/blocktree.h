@@ -13,6 +13,8 @@
  *  - Nobody has to check a tree first: each call is safe on any bytes, reads nothing outside them and ends. On a tree that bt_check refuses, bt_find may
  *    answer any place below n with any number of blocks, bt_row any bytes, and bt_next_match any row after the mark or none, or each of them may
  *    answer BT_PATH (bt_row also BT_BUFFER). All other answers are settled on any bytes. On a tree that bt_check accepts BT_PATH is never the answer.
+ *  - A tree carries no checksum of its maker's text: bt_check says that it stands for a text, not for which. A flipped leaf byte, with the counts and edges
+ *    that it is in, makes a good tree of another text, and a wrong key. Keep a digest of the tree beside it.
  *  - Places in the text start at 0; occurrences and rows are numbered from 1, but the rows that bt_column_row reads from 0.
  */
 #ifndef BLOCKTREE_H
