@@ -62,8 +62,8 @@ class Refused(Exception):
         self.number = number
 
 
-# What each call is lent, in order. bytes: read; buffer: a bytearray, written; words: a list of numbers, written; n32: a number; out32, out64, outi32: a figure
-# that is written; mark: one that is read and written.
+# What each call is lent, in order. bytes: read; buffer: a bytearray, written; words: an array of _words, written; n32: a number; out32, out64, outi32: a
+# figure that is written; mark: one that is read and written.
 _CALLS = {
     "bt_build": "bytes n32 n32 n32 bytes buffer out32",
     "bt_build_scanned": "bytes n32 n32 n32 bytes words buffer out32 out32",
@@ -121,9 +121,14 @@ def _number(value):
     return ctypes.c_uint32(value)
 
 
+def _words(number):
+    """A table of so many words."""
+    return (ctypes.c_uint32 * number)()
+
+
 def _call(name, *given):
     """The answer's number and all figures, in order. Buffers and words are written in place; no pointer is null, also where its length is 0."""
-    words, figures, given, copies = [], [], iter(given), []
+    words, figures, given = [], [], iter(given)
     for kind in _CALLS[name].split():
         if kind == "n32":
             words.append(_number(next(given)))
@@ -136,15 +141,11 @@ def _call(name, *given):
             words += [room, ctypes.c_size_t(len(lent))]
         elif kind == "words":
             lent = next(given)
-            room = (ctypes.c_uint32 * max(1, len(lent)))(*lent)
-            copies.append((lent, room))
-            words += [room, ctypes.c_size_t(len(lent))]
+            words += [lent if len(lent) else _words(1), ctypes.c_size_t(len(lent))]
         else:
             figures.append(_FIGURES[kind](next(given) if kind == "mark" else 0))
             words.append(ctypes.byref(figures[-1]))
     number = getattr(_LIBRARY, name)(*words)
-    for lent, room in copies:
-        lent[:] = room[: len(lent)]
     return (number, *(figure.value for figure in figures))
 
 
@@ -169,7 +170,7 @@ def scan_words(n, leaf):
 def build(text, leaf, arity, levels, counted=b"\n"):
     """The tree of a text; `counted` are the bytes that it can count and find, rising."""
     room = bytearray(enough(min(len(text), 0xFFFFFFFF), leaf, arity, levels, counted))
-    size, _ = _ask("bt_build_scanned", text, leaf, arity, levels, counted, [0] * scan_words(len(text), leaf), room)
+    size, _ = _ask("bt_build_scanned", text, leaf, arity, levels, counted, _words(scan_words(len(text), leaf)), room)
     return bytes(room[:size])
 
 
@@ -229,7 +230,8 @@ class Tree:
 
     def span(self, place, length):
         """`length` bytes from a place on."""
-        room = bytearray(min(length, MAX_TEXT))
+        # what lies past the text's end is refused whatever the buffer
+        room = bytearray(length if place + length <= min(len(self), MAX_TEXT) else 0)
         _ask("bt_span", self.bytes, place, length, room)
         return bytes(room)
 
@@ -249,11 +251,15 @@ class Tree:
 
     def row(self, number, guide=None):
         """Row `number`, from 1, without its end."""
-        room = bytearray(min(len(self), MAX_TEXT))
-        if guide is None:
-            length = _ask("bt_row", self.bytes, number, room)
-        else:
-            length = _ask("bt_row_guided", self.bytes, guide, number, room)
+        name, lent = ("bt_row", []) if guide is None else ("bt_row_guided", [guide])
+        # a short buffer is enough mostly, and one as long as the text always
+        room = bytearray(min(len(self), 256))
+        refusal, length = _call(name, self.bytes, *lent, number, room)
+        if refusal == 13:
+            room = bytearray(min(len(self), MAX_TEXT))
+            refusal, length = _call(name, self.bytes, *lent, number, room)
+        if refusal:
+            raise Refused(refusal)
         return bytes(room[:length])
 
     def rows(self):
@@ -263,10 +269,10 @@ class Tree:
 
     def places(self, pattern):
         """All places of a pattern of 1 to 256 bytes, rising."""
-        table = [0] * min(4096, len(self))
+        table = _words(min(4096, len(self)))
         number, places = _call("bt_places", self.bytes, pattern, table)
         if number == 17:
-            table = [0] * min(len(self), MAX_TEXT)
+            table = _words(min(len(self), MAX_TEXT))
             number, places = _call("bt_places", self.bytes, pattern, table)
         if number:
             raise Refused(number)
@@ -286,7 +292,7 @@ class Tree:
 
     def row_by_columns(self, width, a):
         """Row a, from 0, all `width` bytes of it, from the tree of a text by columns."""
-        room = bytearray(min(width, MAX_TEXT))
+        room = bytearray(min(width, len(self), MAX_TEXT))
         _ask("bt_column_row", self.bytes, width, a, room)
         return bytes(room)
 

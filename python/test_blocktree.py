@@ -12,7 +12,7 @@ HERE = os.path.dirname(os.path.abspath(__file__))
 sys.path.insert(0, HERE)
 
 import blocktree  # noqa: E402
-from blocktree import _call  # noqa: E402
+from blocktree import _call, _words  # noqa: E402
 
 FILES = ["../host/tests/vectors.txt", "../crates/cases/stdout"]
 
@@ -29,6 +29,12 @@ def filled(length):
     return bytearray(b"\xee" * length)
 
 
+def filled_words(number):
+    table = _words(number)
+    table[:] = [0xEEEEEEEE] * number
+    return table
+
+
 def with_buffer(name, *given, room):
     """The answer, and what the buffer holds afterwards."""
     lent = filled(room)
@@ -36,14 +42,14 @@ def with_buffer(name, *given, room):
 
 
 def places(tree, pattern, words):
-    table = [0xEEEEEEEE] * words
+    table = filled_words(words)
     answer = _call("bt_places", tree, pattern, table)
     return (*answer, ",".join(map(str, table)) or "-")
 
 
 def scan(text, m, r, h, counted, words, room):
     lent = filled(room)
-    return (*_call("bt_build_scanned", text, m, r, h, counted, [0xEEEEEEEE] * words, lent), to_hex(lent))
+    return (*_call("bt_build_scanned", text, m, r, h, counted, filled_words(words), lent), to_hex(lent))
 
 
 def ranges(word):
