@@ -10,7 +10,7 @@ SHARED = target/libblocktree.so
 
 root = $(DESTDIR)$(PREFIX)
 installed = bin/codebook share/man/man1/codebook.1 share/bash-completion/completions/codebook share/zsh/site-functions/_codebook \
-	include/blocktree.h lib/libblocktree.a lib/libblocktree.so.0 lib/libblocktree.so lib/pkgconfig/blocktree.pc share/blocktree/blocktree.py
+	include/blocktree.h lib/libblocktree.a lib/libblocktree.so.0 lib/libblocktree.so lib/pkgconfig/blocktree.pc share/blocktree/blocktree.py share/blocktree/blocktree.magic
 
 all:
 	host/needs rt cargo gcc
@@ -35,7 +35,7 @@ install: $(SHARED)
 	install -D -m 644 $(ARCHIVE) $(root)/lib/libblocktree.a
 	install -D $(SHARED) $(root)/lib/libblocktree.so.0
 	ln -sf libblocktree.so.0 $(root)/lib/libblocktree.so
-	install -D -m 644 python/blocktree.py $(root)/share/blocktree/blocktree.py
+	install -D -m 644 python/blocktree.py $(root)/share/blocktree/blocktree.py share/blocktree/blocktree.magic
 	mkdir -p $(root)/lib/pkgconfig
 	sed 's|@PREFIX@|$(PREFIX)|; s|@VERSION@|$(VERSION)|' blocktree.pc.in > $(root)/lib/pkgconfig/blocktree.pc
 

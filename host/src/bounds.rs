@@ -48,6 +48,7 @@ mod tests {
             }
         }
         assert_eq!(largest, MAX_TREE);
+        assert!(include_str!("../../docs/FORMAT.md").contains(" has 1,111,359,588 bytes: n 8,388,608, m 1, r 2, H 8, k 4,"));
     }
 
     /// The library, its header and its format's page have the same bound.

@@ -52,7 +52,7 @@ fn files(folder: &Path) -> Vec<String> {
 fn install_and_uninstall() {
     let root = folder("installed");
     make(&root, "install");
-    let installed = ["_codebook", "blocktree.h", "blocktree.pc", "blocktree.py", "built.so", "codebook", "codebook", "codebook.1"];
+    let installed = ["_codebook", "blocktree.h", "blocktree.magic", "blocktree.pc", "blocktree.py", "built.so", "codebook", "codebook", "codebook.1"];
     assert_eq!(files(&root), [installed.as_slice(), &["libblocktree.a", "libblocktree.so", "libblocktree.so.0"]].concat());
     assert!(output(Command::new(root.join("bin/codebook")).arg("--version")).stdout.starts_with(b"codebook "));
     c_program(&root);
@@ -86,6 +86,23 @@ fn python_module(path: &Path) {
     match Command::new("python3").args(["-B", "-c", line]).env("PYTHONPATH", path).env_remove("BLOCKTREE_LIBRARY").output() {
         Err(_) => println!("python3 is not installed: not tried"),
         Ok(output) => assert_eq!(output.stdout, b"B 2\n", "{}", String::from_utf8_lossy(&output.stderr)),
+    }
+}
+
+/// What file(1) says of a tree, of a book, and of other trees.
+#[test]
+fn the_kind_of_file() {
+    let magic = repository().join("host/share/blocktree.magic");
+    let kind = |path: &str| Command::new("file").arg("-b").arg("-m").arg(&magic).arg(repository().join(path)).output();
+    let Ok(told) = kind("conformance/build.txt") else {
+        println!("file is not installed: not tried");
+        return;
+    };
+    assert!(!told.stdout.starts_with(b"block tree"));
+    let build = std::fs::read_to_string(repository().join("conformance/build.txt")).expect("a file");
+    for tree in build.lines().filter_map(|line| line.split(" => ").nth(1)).filter(|answer| answer.starts_with("good/")) {
+        let told = kind(&format!("conformance/{tree}")).expect("file").stdout;
+        assert!(told.starts_with(b"block tree of layout 2, "), "{tree}: {}", String::from_utf8_lossy(&told));
     }
 }
 
