@@ -35,7 +35,8 @@ install: $(SHARED)
 	install -D -m 644 $(ARCHIVE) $(root)/lib/libblocktree.a
 	install -D $(SHARED) $(root)/lib/libblocktree.so.0
 	ln -sf libblocktree.so.0 $(root)/lib/libblocktree.so
-	install -D -m 644 python/blocktree.py $(root)/share/blocktree/blocktree.py share/blocktree/blocktree.magic
+	install -D -m 644 python/blocktree.py $(root)/share/blocktree/blocktree.py
+	install -D -m 644 host/share/blocktree.magic $(root)/share/blocktree/blocktree.magic
 	mkdir -p $(root)/lib/pkgconfig
 	sed 's|@PREFIX@|$(PREFIX)|; s|@VERSION@|$(VERSION)|' blocktree.pc.in > $(root)/lib/pkgconfig/blocktree.pc
 
