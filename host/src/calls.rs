@@ -209,6 +209,7 @@ pub fn make_guide(tree: &[u8], table: &mut [u8]) -> (u32, u64) {
     (number, words)
 }
 
+/// The number.
 pub fn check_guide(tree: &[u8], guide: &[u8]) -> u32 {
     unsafe { declared::bt_check_guide(tree.as_ptr(), tree.len(), guide.as_ptr(), guide.len()) }
 }

@@ -10,6 +10,8 @@
 //! # Ok::<(), codebook::Refusal>(())
 //! ```
 
+#![deny(missing_docs)]
+
 mod bounds;
 pub mod calls;
 mod columns;
@@ -34,24 +36,31 @@ pub const SHORT_LIST: [(u32, u32, u32); 6] = [(256, 2, 1), (64, 4, 3), (48, 2, 5
 /// How a tree is laid out, and which bytes it can count and find.
 #[derive(Clone, Debug, PartialEq, Eq)]
 pub struct Settings {
+    /// Bytes of a full block of the last level, 1 to 256.
     pub leaf: u32,
+    /// Children of a full block, 2 to 16.
     pub arity: u32,
+    /// Levels, 1 to 8.
     pub levels: u32,
-    /// Rising, at most four.
+    /// The bytes that the tree counts, rising, at most four.
     pub counted: Vec<u8>,
 }
 
 /// An answer, and how many blocks were entered for it.
 #[derive(Clone, Copy, Debug, PartialEq, Eq)]
 pub struct Reached<T> {
+    /// The answer.
     pub value: T,
+    /// Blocks entered on the way.
     pub entered: u32,
 }
 
 /// The depths that a cut of a worn key may have, 0 to 9, both included.
 #[derive(Clone, Copy, Debug, PartialEq, Eq)]
 pub struct Range {
+    /// The lowest depth.
     pub low: u8,
+    /// The highest depth.
     pub high: u8,
 }
 
@@ -75,7 +84,9 @@ pub fn build(text: &[u8], settings: &Settings) -> Result<Vec<u8>, Refusal> {
 /// A tree, and how many windows of the text were looked up to build it.
 #[derive(Clone, Debug, PartialEq, Eq)]
 pub struct Scanned {
+    /// The tree's bytes.
     pub tree: Vec<u8>,
+    /// Windows looked up.
     pub windows: u32,
 }
 

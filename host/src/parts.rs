@@ -7,6 +7,7 @@ use crate::{Settings, Tree};
 pub struct Level {
     /// Bytes of a full block.
     pub block_length: u64,
+    /// Blocks of the level.
     pub blocks: u32,
     /// Blocks that point; the others are kept.
     pub pointing: u32,
@@ -15,7 +16,9 @@ pub struct Level {
 /// A block of a level, as its record has it.
 #[derive(Clone, Copy, Debug, PartialEq, Eq)]
 pub struct Block {
+    /// Its first place in the text.
     pub start: u32,
+    /// Its bytes; the last block of a text can be shorter than a full one.
     pub length: u32,
     /// The place in the text where the same bytes stand, for a block that points.
     pub points_to: Option<u32>,

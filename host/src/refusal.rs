@@ -11,6 +11,7 @@ macro_rules! refusals {
         }
 
         impl Refusal {
+            /// The refusal of a number; None where there is none.
             pub fn from_number(number: u32) -> Option<Self> {
                 match number {
                     $($number => Some(Refusal::$name),)*
@@ -59,6 +60,7 @@ refusals! {
 }
 
 impl Refusal {
+    /// Its number, as `include/blocktree.h` has it.
     pub fn number(self) -> u32 {
         self as u32
     }

@@ -109,6 +109,7 @@ fn an_unwritable_place_is_told_at_once() {
         assert_eq!(errors, format!("codebook: {out}: {words}\n"));
     };
     says("none/x.tree", "cannot be written: No such file or directory (os error 2)");
+    says("none/", "cannot be written: No such file or directory (os error 2)");
     says("small.txt/x.tree", "cannot be written: Not a directory (os error 20)");
     says("small.txt", "exists; --force overwrites it");
     symlink("nothing", folder.0.join("link")).expect("a link");
@@ -121,6 +122,8 @@ fn devices_are_written_as_they_are() {
     folder.run("build small.txt -o /dev/null").succeeds();
     folder.run("build small.txt -o /dev/full").status(2).says("codebook: /dev/full: cannot be written: No space left on device (os error 28)\n");
     assert_eq!(folder.names(), ["small.txt"]);
+    folder.shell("codebook build small.txt -q -o /dev/stdout | codebook check -q").succeeds();
+    folder.shell("codebook build small.txt -q -o /dev/stdout > small.tree && codebook check -q small.tree").succeeds();
 }
 
 // 2: what is read is not written, and nothing is overwritten unless told

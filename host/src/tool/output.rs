@@ -32,7 +32,7 @@ impl Output {
     /// A file, or standard output where it is `-` or none. It must not be the file that is read.
     pub fn create(path: Option<&Path>, force: bool, source: &Source) -> Result<Self, Failure> {
         match path {
-            Some(path) if path != Path::new("-") => Output::file(path, force, source),
+            Some(path) if path != Path::new("-") && path != Path::new("/dev/stdout") => Output::file(path, force, source),
             _ => Output::standard(path.is_some(), source),
         }
     }
@@ -54,6 +54,10 @@ impl Output {
         let name = path.to_string_lossy().into_owned();
         let unwritten = |error: io::Error| Failure::file(&name, format!("cannot be written: {error}"));
         let (target, old) = match fs::metadata(path) {
+            Ok(old) if !old.is_file() => {
+                let file = OpenOptions::new().write(true).open(path).map_err(unwritten)?;
+                return Ok(Output { name, place: Place::Special(file) });
+            }
             Ok(old) => {
                 apart(&name, &old, source)?;
                 // a link stays, and what it leads to is replaced
@@ -62,15 +66,14 @@ impl Output {
             Err(error) if error.kind() == ErrorKind::NotFound && path.is_symlink() => {
                 return Err(Failure::file(&name, "cannot be written: it is a link to nothing"));
             }
-            Err(error) if error.kind() == ErrorKind::NotFound => (path.to_path_buf(), None),
+            Err(error) if error.kind() == ErrorKind::NotFound && !name.ends_with('/') => (path.to_path_buf(), None),
             Err(error) => return Err(unwritten(error)),
         };
-        let place = match old {
-            Some(old) if !old.is_file() => Place::Special(OpenOptions::new().write(true).open(&target).map_err(unwritten)?),
-            Some(_) if !force => return Err(Failure::file(&name, "exists; --force overwrites it")),
-            old => Place::File(Spool::create(target, old.map(|old| old.permissions())).map_err(unwritten)?),
-        };
-        Ok(Output { name, place })
+        if old.is_some() && !force {
+            return Err(Failure::file(&name, "exists; --force overwrites it"));
+        }
+        let spool = Spool::create(target, old.map(|old| old.permissions())).map_err(unwritten)?;
+        Ok(Output { name, place: Place::File(spool) })
     }
 
     pub fn is_standard(&self) -> bool {
