@@ -2,8 +2,10 @@
 
 #[path = "support/folder.rs"]
 mod folder;
+mod support;
 
 use folder::Folder;
+use support::books::{book, Kind};
 
 const NO_SMALLER: &str = "the tree is no smaller than the text: the book is short, or repeats itself too little";
 
@@ -456,6 +458,22 @@ fn book_without_rows() {
     // all of the short list: the header alone each time
     folder.pipe("build -o piped.tree", b"").succeeds();
     assert_eq!(folder.read("piped.tree").len(), 100);
+}
+
+/// On a terminal a long build says how far it is, and takes that away at its end.
+#[test]
+fn progress() {
+    let folder = Folder::new("progress");
+    folder.write("long.txt", &book(Kind::NearlyRandom, 8 << 20, 1));
+    let done = folder.shell("script -qec 'codebook build long.txt' /dev/null < /dev/null");
+    if done.output.status.code() == Some(127) {
+        println!("script is not installed: not tried");
+        return;
+    }
+    let shown = done.succeeds().printed();
+    let lines: Vec<&str> = shown.split('\r').filter(|line| line.starts_with("building: ")).collect();
+    assert!(lines.iter().any(|line| line.contains(" of 6 trees done, ") && line.contains(" s left")), "{shown}");
+    folder.shell("script -qec 'codebook build -qf long.txt' /dev/null < /dev/null").succeeds().prints("");
 }
 
 #[test]

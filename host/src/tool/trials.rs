@@ -92,7 +92,7 @@ fn enter(results: &mut [Option<Tried>], at: usize, tried: Tried) {
     }
 }
 
-/// What a candidate takes, to measure progress by: the builder passes over the text once for each level.
+/// What a candidate takes, to measure progress by: the builder passes over the text once for each level above the last.
 fn cost(text: &[u8], settings: &Settings) -> u64 {
-    text.len() as u64 * u64::from(settings.levels.clamp(1, 8))
+    text.len() as u64 * u64::from(settings.levels.clamp(1, 8) - 1)
 }
