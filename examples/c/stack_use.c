@@ -1,7 +1,7 @@
 /* Measures how much stack each call uses: it runs on a stack of its own that was filled with a pattern before, and what was overwritten is counted. The
  * trees have eight levels, the most that there are. Prints a line for each call: its name and bytes of stack.
  *
- *   gcc -std=gnu99 -Iinclude examples/c/stack_use.c target/staticlib/libabi.a -o stack_use && ./stack_use
+ *   gcc -std=gnu99 -Iinclude examples/c/stack_use.c target/libblocktree.a -o stack_use && ./stack_use
  */
 #include <stdio.h>
 #include <stdlib.h>

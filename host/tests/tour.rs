@@ -20,11 +20,11 @@ fn compared(page: &str, folder: &str) -> usize {
     let repository = Path::new(env!("CARGO_MANIFEST_DIR")).join("..");
     let folder = Path::new(env!("CARGO_TARGET_TMPDIR")).join(folder);
     let _ = fs::remove_dir_all(&folder);
-    fs::create_dir_all(folder.join("target/staticlib")).expect("a folder");
+    fs::create_dir_all(folder.join("target")).expect("a folder");
     for name in ["books", "include", "examples"] {
         symlink(repository.join(name), folder.join(name)).expect("a link");
     }
-    symlink(env!("BLOCKTREE_ARCHIVE"), folder.join("target/staticlib/libabi.a")).expect("a link");
+    symlink(env!("BLOCKTREE_ARCHIVE"), folder.join("target/libblocktree.a")).expect("a link");
     let tool = Path::new(env!("CARGO_BIN_EXE_codebook")).parent().expect("a folder");
     let path = format!("{}:{}", tool.display(), std::env::var("PATH").unwrap_or_default());
 
