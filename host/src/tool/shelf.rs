@@ -9,6 +9,8 @@ use crate::table::UNCHECKED;
 use crate::Failure;
 use codebook::Tree;
 use std::cmp::Ordering;
+use std::ffi::OsString;
+use std::os::unix::ffi::OsStrExt;
 use std::path::Path;
 
 /// Say where one tree's book stands beside the other's.
@@ -31,22 +33,31 @@ pub fn compare(given: &Given) -> Result<(), Failure> {
     say::print(format!("{one} {stands} {other}; {} shared\n", several(compared.shared, "byte")).as_bytes())
 }
 
-/// Print the names of trees in the order of their books, one to a line. Trees of the same book stay as given; those that are refused are told.
+/// Print the names of trees in the order of their books, one to a line, as they were given. Trees of the same book stay as given; those that are refused
+/// are told.
 pub fn sort(given: &Given) -> Result<(), Failure> {
     let mut inputs = Vec::new();
     let read = given.words.iter().map(|path| {
         let input = input::read(Some(Path::new(path)), &TREE)?;
         open(&input, false)?;
-        inputs.push(input);
+        inputs.push((path, input));
         Ok(())
     });
     let all = match given.words.len() {
         1 => read.collect::<Result<(), Failure>>(),
         _ => given.all(read),
     };
-    let mut shelf: Vec<(&str, Tree)> = inputs.iter().map(|input| (input.name.as_str(), Tree::unchecked(&input.bytes))).collect();
-    shelf.sort_by(|(_, one), (_, other)| one.compare(other).map_or(Ordering::Equal, |compared| compared.ordering));
-    let line = |name: &str| if given.json() { Object::new().text("tree", name).line() } else { format!("{name}\n") };
-    say::print(shelf.iter().map(|(name, _)| line(name)).collect::<String>().as_bytes())?;
+    inputs.sort_by(|(_, one), (_, other)| ordering(one, other));
+    let line = |(path, input): &(&OsString, Input)| match given.json() {
+        true => Object::new().text("tree", &input.name).line().into_bytes(),
+        false => [path.as_bytes(), b"\n"].concat(),
+    };
+    say::print(&inputs.iter().flat_map(line).collect::<Vec<u8>>())?;
     all
+}
+
+/// Trees that the check accepts are never refused, and this is a total order on them.
+fn ordering(one: &Input, other: &Input) -> Ordering {
+    let compared = Tree::unchecked(&one.bytes).compare(&Tree::unchecked(&other.bytes));
+    compared.map_or(Ordering::Equal, |compared| compared.ordering)
 }
