@@ -227,10 +227,11 @@ fn a_pipe_that_closes() {
     folder.write("long.txt", &book);
     folder.run("build long.txt -o long.tree --leaf 256 --arity 2 --levels 1").succeeds();
     let run = |words: &[&str]| {
-        let mut child =
-            folder.tool().args(words).stdout(Stdio::piped()).stderr(Stdio::piped()).stdin(Stdio::null()).spawn().expect("the tool starts");
-        drop(child.stdout.take());
-        let output = child.wait_with_output().expect("the tool ends");
+        // a pipe whose reader has ended
+        let mut reader = std::process::Command::new("true").stdin(Stdio::piped()).spawn().expect("true");
+        let pipe = reader.stdin.take().expect("a pipe");
+        reader.wait().expect("true ends");
+        let output = folder.tool().args(words).stdout(pipe).stdin(Stdio::null()).output().expect("the tool ends");
         (output.status.code(), String::from_utf8_lossy(&output.stderr).into_owned())
     };
     let broken = "codebook: standard output: cannot be written: Broken pipe (os error 32)\n".to_owned();
