@@ -498,6 +498,7 @@ fn calls_that_are_not_right() {
         folder.run(words).status(2).prints("").says(&format!("codebook: {says}\n"));
     };
     usage("", "no command given; see codebook --help");
+    usage("--json stats x", "'--json' stands before the command; options stand after it; see codebook --help");
     usage("print small.tree", "there is no command 'print'; see codebook --help");
     let row = "usage: codebook row ROWS [TREE] [--guide GUIDE] [--columns W] [--json] [--unchecked]";
     usage("row", &format!("ROWS is missing\n{row}"));

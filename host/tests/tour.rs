@@ -8,6 +8,22 @@ use std::process::Command;
 #[test]
 fn the_tour_prints_what_it_says() {
     assert!(compared("README.md", "tour") > 20);
+    in_python(&Path::new(env!("CARGO_TARGET_TMPDIR")).join("tour"));
+}
+
+/// The page's lines of Python, after `>>>`, in the folder of the tour.
+fn in_python(folder: &Path) {
+    let repository = Path::new(env!("CARGO_MANIFEST_DIR")).join("..");
+    let library = folder.join("libblocktree.so");
+    let set = [format!("ARCHIVE={}", env!("BLOCKTREE_ARCHIVE")), format!("SHARED={}", library.display())];
+    assert!(Command::new("make").arg("-s").arg("-C").arg(&repository).args(set).arg("shared").status().expect("make").success());
+    let line = "import doctest, sys; failed, tried = doctest.testfile(sys.argv[1], module_relative=False); sys.exit(failed or not tried)";
+    let mut python = Command::new("python3");
+    python.args(["-B", "-c", line]).arg(repository.join("README.md")).current_dir(folder);
+    match python.env("PYTHONPATH", repository.join("python")).env("BLOCKTREE_LIBRARY", library).output() {
+        Err(_) => println!("python3 is not installed: not tried"),
+        Ok(output) => assert!(output.status.success(), "{}{}", String::from_utf8_lossy(&output.stdout), String::from_utf8_lossy(&output.stderr)),
+    }
 }
 
 #[test]

@@ -181,6 +181,9 @@ fn command(words: &[OsString]) -> Result<(&'static Command, &[OsString]), Failur
         return Ok((command, rest));
     }
     let seconds = Command::group(&name);
+    if name.starts_with('-') {
+        return Err(Failure::usage(format!("'{name}' stands before the command; options stand after it; see codebook --help")));
+    }
     if seconds.is_empty() {
         return Err(Failure::usage(format!("there is no command '{name}'; see codebook --help")));
     }
