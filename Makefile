@@ -26,7 +26,10 @@ $(SHARED): $(ARCHIVE)
 	mkdir -p $(dir $@)
 	gcc -shared -Wl,-z,defs -Wl,-soname,libblocktree.so.0 -Wl,--whole-archive $(ARCHIVE) -Wl,--no-whole-archive -o $@
 
-install: $(SHARED)
+$(TOOL) $(ARCHIVE):
+	@echo "$@ is not there: run make first" >&2; false
+
+install: $(TOOL) $(SHARED)
 	install -D $(TOOL) $(root)/bin/codebook
 	install -D -m 644 host/share/codebook.1 $(root)/share/man/man1/codebook.1
 	install -D -m 644 host/share/codebook.bash $(root)/share/bash-completion/completions/codebook

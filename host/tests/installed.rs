@@ -152,3 +152,34 @@ fn needs() {
     let done = Command::new(repository().join("host/needs")).arg("rt").env("PATH", &empty).output().expect("a script");
     assert!(done.status.success() && done.stderr.starts_with(b"warning: rt is 'another'; "), "{done:?}");
 }
+
+/// Proofs are made again where a crate changed, and only there; with an `rt` that writes down that it was called.
+#[test]
+fn the_archive_is_made_of_the_crates_as_they_stand() {
+    let root = folder("archive");
+    for name in ["host", "tools", "crates/abi/src"] {
+        fs::create_dir_all(root.join(name)).expect("a folder");
+    }
+    fs::copy(repository().join("host/make-archive"), root.join("host/make-archive")).expect("the script");
+    fs::write(root.join("crates.txt"), "text:\nabi: text # the calls\nother: abi\n").expect("a file");
+    fs::write(root.join("crates/abi/src/lib.rt"), "1").expect("a file");
+    let rt = "#!/bin/sh\n[ \"$1\" = version ] && exec echo one\necho proved >> calls\n[ -e fails ] && { echo no proof; exit 1; }\n\
+              mkdir -p target/staticlib && cp crates/abi/src/lib.rt target/staticlib/libabi.a\n";
+    fs::write(root.join("tools/rt"), rt).expect("a file");
+    fs::set_permissions(root.join("tools/rt"), std::os::unix::fs::PermissionsExt::from_mode(0o755)).expect("permissions");
+    let path = format!("{}:{}", root.join("tools").display(), std::env::var("PATH").unwrap_or_default());
+    let run = || Command::new(root.join("host/make-archive")).env("PATH", &path).env_remove("BLOCKTREE_ARCHIVE").output().expect("the script");
+    let calls = || fs::read_to_string(root.join("calls")).unwrap_or_default().lines().count();
+    let archive = || fs::read_to_string(root.join("target/libblocktree.a")).unwrap_or_default();
+    let said = String::from_utf8_lossy(&run().stderr).into_owned();
+    assert!(said.starts_with("the library is proved: 2 crates, "), "{said}");
+    assert!(run().stderr.is_empty());
+    assert_eq!((calls(), archive()), (1, "1".to_owned()));
+    fs::write(root.join("crates/abi/src/lib.rt"), "2").expect("a file");
+    assert!(run().status.success());
+    assert_eq!((calls(), archive()), (2, "2".to_owned()));
+    fs::write(root.join("crates/abi/src/lib.rt"), "3").expect("a file");
+    fs::write(root.join("fails"), "").expect("a file");
+    let failed = run();
+    assert!(!failed.status.success() && String::from_utf8_lossy(&failed.stderr).ends_with("no proof\n"), "{failed:?}");
+}

@@ -35,6 +35,9 @@ fn builds() {
     folder.run("build small.txt late.txt -q -o trees").succeeds();
     assert_eq!((folder.read("trees/small.tree"), folder.read("trees/late.tree")), (folder.read("small.tree"), folder.read("late.tree")));
     folder.run("build small.txt late.txt -o one.tree").status(2);
+    let both = folder.run("build small.txt late.txt trees/../small.csv ./small.txt --force");
+    let says = format!("codebook: small.txt and trees/../small.csv would both be written to {}", folder.0.join("small.tree").display());
+    assert!(both.status(2).errors().starts_with(&says), "{}", both.errors());
     assert!(!folder.0.join("one.tree").exists());
 }
 

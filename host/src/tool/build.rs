@@ -9,6 +9,7 @@ use crate::table::{ARITY, COLUMNS, COUNT, FORCE, LEAF, LEVELS, OUTPUT};
 use crate::trials::{self, Chosen, Trial};
 use crate::{book, by_columns, sha256, values, Failure};
 use codebook::{Refusal, Settings};
+use std::ffi::OsString;
 use std::path::{Path, PathBuf};
 
 /// What was built, and what there is to say of it.
@@ -23,9 +24,7 @@ pub struct Built {
 pub fn build(given: &Given) -> Result<(), Failure> {
     let counted = counted(given)?;
     let settings = settings(given, &counted)?;
-    if given.words.len() > 1 && given.path(&OUTPUT).is_some_and(|path| !path.is_dir()) {
-        return Err(given.usage("-o is a folder where several books are built"));
-    }
+    apart(given)?;
     given.each(|path| {
         let source = Source::open(path)?;
         let output = Output::create(target(given, path)?.as_deref(), given.has(&FORCE), &source)?;
@@ -36,6 +35,30 @@ pub fn build(given: &Given) -> Result<(), Failure> {
         };
         write(given, &text, &built, output)
     })
+}
+
+/// Several books go to several files.
+fn apart(given: &Given) -> Result<(), Failure> {
+    if given.words.len() > 1 && given.path(&OUTPUT).is_some_and(|path| !path.is_dir()) {
+        return Err(given.usage("-o is a folder where several books are built"));
+    }
+    let mut targets: Vec<(PathBuf, &OsString)> = Vec::new();
+    for book in &given.words {
+        let Some(target) = target(given, Some(Path::new(book)))? else { continue };
+        let target = spelled_out(&target);
+        if let Some((_, other)) = targets.iter().find(|(path, _)| *path == target) {
+            let (one, other) = (other.to_string_lossy(), book.to_string_lossy());
+            return Err(given.usage(format!("{one} and {other} would both be written to {}", target.display())));
+        }
+        targets.push((target, book));
+    }
+    Ok(())
+}
+
+/// One spelling for one place.
+fn spelled_out(path: &Path) -> PathBuf {
+    let folder = path.parent().filter(|folder| !folder.as_os_str().is_empty()).unwrap_or(Path::new("."));
+    folder.canonicalize().map_or(path.to_path_buf(), |folder| folder.join(path.file_name().unwrap_or_default()))
 }
 
 /// The bytes to count.

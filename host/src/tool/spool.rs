@@ -51,7 +51,8 @@ impl Spool {
         }
         self.file.sync_all()?;
         self.take_name()?;
-        File::open(folder(&self.target))?.sync_all()
+        // a folder that may be written need not be one that may be read
+        File::open(folder(&self.target)).map_or(Ok(()), |folder| folder.sync_all())
     }
 
     fn take_name(&mut self) -> io::Result<()> {
