@@ -9,6 +9,7 @@ ARCHIVE = target/staticlib/libabi.a
 SHARED = target/libblocktree.so
 
 root = $(DESTDIR)$(PREFIX)
+documents = README.md LICENSE CHANGELOG.md docs/FORMAT.md docs/JSON.md
 installed = bin/codebook share/man/man1/codebook.1 share/bash-completion/completions/codebook share/zsh/site-functions/_codebook \
 	include/blocktree.h lib/libblocktree.a lib/libblocktree.so.0 lib/libblocktree.so lib/pkgconfig/blocktree.pc share/blocktree/blocktree.py share/blocktree/blocktree.magic
 
@@ -40,11 +41,12 @@ install: $(TOOL) $(SHARED)
 	ln -sf libblocktree.so.0 $(root)/lib/libblocktree.so
 	install -D -m 644 python/blocktree.py $(root)/share/blocktree/blocktree.py
 	install -D -m 644 host/share/blocktree.magic $(root)/share/blocktree/blocktree.magic
+	install -D -m 644 -t $(root)/share/doc/codebook $(documents)
 	mkdir -p $(root)/lib/pkgconfig
 	sed 's|@PREFIX@|$(PREFIX)|; s|@VERSION@|$(VERSION)|' blocktree.pc.in > $(root)/lib/pkgconfig/blocktree.pc
 
 uninstall:
-	rm -f $(addprefix $(root)/,$(installed))
-	-rmdir $(root)/share/blocktree
+	rm -f $(addprefix $(root)/,$(installed)) $(addprefix $(root)/share/doc/codebook/,$(notdir $(documents)))
+	-rmdir $(root)/share/blocktree $(root)/share/doc/codebook
 
 .PHONY: all check shared install uninstall

@@ -52,7 +52,22 @@ fn files(folder: &Path) -> Vec<String> {
 fn install_and_uninstall() {
     let root = folder("installed");
     make(&root, "install");
-    let installed = ["_codebook", "blocktree.h", "blocktree.magic", "blocktree.pc", "blocktree.py", "built.so", "codebook", "codebook", "codebook.1"];
+    let installed = [
+        "CHANGELOG.md",
+        "FORMAT.md",
+        "JSON.md",
+        "LICENSE",
+        "README.md",
+        "_codebook",
+        "blocktree.h",
+        "blocktree.magic",
+        "blocktree.pc",
+        "blocktree.py",
+        "built.so",
+        "codebook",
+        "codebook",
+        "codebook.1",
+    ];
     assert_eq!(files(&root), [installed.as_slice(), &["libblocktree.a", "libblocktree.so", "libblocktree.so.0"]].concat());
     assert!(output(Command::new(root.join("bin/codebook")).arg("--version")).stdout.starts_with(b"codebook "));
     c_program(&root);

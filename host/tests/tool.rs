@@ -340,8 +340,13 @@ fn rows_that_end_in_two_bytes() {
     let folder = Folder::new("seller");
     folder.write("seller.txt", b"CH1 12\r\nCH2 34\r\r\n\r\nCH3 56\r");
     folder.run("build seller.txt -o seller.tree --leaf 4 --arity 2 --levels 2").succeeds();
-    for (q, row) in ["CH1 12", "CH2 34\r", "", "CH3 56\r"].into_iter().enumerate() {
-        folder.run(&format!("row {} seller.tree", q + 1)).succeeds().prints(&format!("{row}\n"));
+    let rows = ["CH1 12\n", "CH2 34\r\n", "\n", "CH3 56\r\n"];
+    for first in 1..=4 {
+        folder.run(&format!("row {first} seller.tree")).succeeds().prints(rows[first - 1]);
+        for last in first..=4 {
+            folder.run(&format!("row {first}..{last} seller.tree")).succeeds().prints(&rows[first - 1..last].concat());
+        }
+        folder.run(&format!("row {first}..5 seller.tree")).status(1).prints("");
     }
 }
 

@@ -59,7 +59,7 @@ impl Failure {
             if let Some(number) = self.number {
                 object = object.number("refused", number);
             }
-            // the answer's reader may be gone, as the call has failed already there is no more to say
+            // where nobody reads it there is no more to say: the call has failed already
             let _ = say::print(object.text("words", &self.words).line().as_bytes());
         }
     }

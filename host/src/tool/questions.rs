@@ -6,7 +6,7 @@ use crate::input::{self, GUIDE, TREE};
 use crate::json::Object;
 use crate::say::{self, several};
 use crate::table::{self, AFTER, FROM, ROW_COLUMNS, UNCHECKED};
-use crate::{reasons, values, Failure};
+use crate::{book, reasons, values, Failure};
 use codebook::{Range, Reached, Refusal, Tree};
 
 /// A question.
@@ -106,18 +106,25 @@ impl Question {
 
     fn answers(&self, tree: Tree, guide: Option<&[u8]>) -> Result<Vec<Answer>, Refusal> {
         match *self {
+            Question::Rows(first, Some(last)) if first == last => Ok(vec![row(first, &one_row(tree, guide, first)?)]),
             Question::Rows(first, last) => {
                 let last = last.map_or_else(|| to_the_end(first, tree.rows()?).ok_or(Refusal::NoSuch), Ok)?;
-                (first..=last).map(|q| Ok(row(q, guide.map_or_else(|| tree.row(q), |guide| tree.row_guided(guide, q))?))).collect()
+                let text = stretch(tree, guide, first, last)?;
+                Ok(book::rows(&text).zip(first..).map(|(bytes, q)| row(q, bytes)).collect())
             }
             Question::ColumnRows(first, last, width) => {
                 let rows = tree.text_length().checked_div(width).ok_or(Refusal::Width)?;
                 let last = last.map_or_else(|| to_the_end(first, rows.into()).ok_or(Refusal::Place), Ok)?;
-                (first..=last).map(|q| Ok(row(q, column_row(tree, width, q)?))).collect()
+                (first..=last).map(|q| Ok(row(q, &column_row(tree, width, q)?))).collect()
             }
             Question::Places(ref pattern) => Ok(tree.places(pattern)?.into_iter().map(place).collect()),
-            Question::Match(ref ranges, mark) => tree.matches(ranges, mark)?.into_iter().map(|q| matching(tree, q)).collect(),
-            Question::Next(ref ranges, mut mark) => tree.next_match(ranges, &mut mark)?.into_iter().map(|q| matching(tree, q)).collect(),
+            Question::Match(ref ranges, mark) => {
+                let rows = tree.matches(ranges, mark)?;
+                // a guide pays where there are many rows to read
+                let guide = if rows.len() > 64 { tree.make_guide().ok() } else { None };
+                rows.into_iter().map(|q| matching(tree, guide.as_deref(), q)).collect()
+            }
+            Question::Next(ref ranges, mut mark) => tree.next_match(ranges, &mut mark)?.into_iter().map(|q| matching(tree, None, q)).collect(),
             _ => Ok(vec![self.answer(tree, guide)?]),
         }
     }
@@ -156,9 +163,32 @@ fn to_the_end(first: u32, rows: u64) -> Option<u32> {
     (first <= last.max(1)).then_some(last)
 }
 
-fn row(q: u32, row: Vec<u8>) -> Answer {
-    let object = Object::new().number("row", q).bytes("text", &row);
-    Answer::new([row.as_slice(), b"\n"].concat(), object)
+fn row(q: u32, row: &[u8]) -> Answer {
+    let object = Object::new().number("row", q).bytes("text", row);
+    Answer::new([row, b"\n"].concat(), object)
+}
+
+fn one_row(tree: Tree, guide: Option<&[u8]>, q: u32) -> Result<Vec<u8>, Refusal> {
+    guide.map_or_else(|| tree.row(q), |guide| tree.row_guided(guide, q))
+}
+
+/// The text from the first row to the last, ends included: two finds and a span, and not two finds for each row.
+fn stretch(tree: Tree, guide: Option<&[u8]>, first: u32, last: u32) -> Result<Vec<u8>, Refusal> {
+    let (length, rows) = (tree.text_length(), tree.rows()?);
+    // all rows of a book that has none
+    if last < first {
+        return Ok(Vec::new());
+    }
+    if first == 0 || u64::from(last) > rows {
+        return Err(Refusal::NoSuch);
+    }
+    let after = |number: u32| match guide {
+        None => tree.find(10, number).map(|found| found.value + 1),
+        Some(guide) => tree.find_guided(guide, 10, number).map(|found| found.place + 1),
+    };
+    let start = if first == 1 { 0 } else { after(first - 1)? };
+    let end = if u64::from(last) <= tree.count(10, length)?.value { after(last)? } else { length };
+    tree.span(start, end.checked_sub(start).ok_or(Refusal::Path)?).map(|span| span.value)
 }
 
 /// Row `q`, from 1, of a book by columns, without its end: byte 10, and one byte 13 directly before it.
@@ -179,8 +209,8 @@ fn place(place: u32) -> Answer {
 }
 
 /// A row that matches, with its number.
-fn matching(tree: Tree, q: u32) -> Result<Answer, Refusal> {
-    let Answer { plain, object } = row(q, tree.row(q)?);
+fn matching(tree: Tree, guide: Option<&[u8]>, q: u32) -> Result<Answer, Refusal> {
+    let Answer { plain, object } = row(q, &one_row(tree, guide, q)?);
     Ok(Answer::new([format!("row {q}: ").into_bytes(), plain].concat(), object))
 }
 
