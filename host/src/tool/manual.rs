@@ -1,7 +1,7 @@
 //! The manual page, in the form of man(7).
 
 use crate::help::{capital, ENDING, LAYOUTS};
-use crate::table::{Command, COMMANDS};
+use crate::table::{Command, Opt, COMMANDS, COMMON};
 
 const HEAD: &str = "\
 .SH NAME
@@ -18,6 +18,14 @@ builds the trees of code books, checks trees from anyone, and answers from them,
 ";
 
 const TAIL: &str = "\
+.SH EXAMPLES
+.nf
+codebook build book.txt                     # book.tree, and its SHA\\-256
+codebook check \\-\\-sha256 HEX book.tree      # is it that tree, and a good one?
+codebook row 5..20 book.tree
+codebook worn 43221 45223 book.tree         # rows with cuts 4, 3 to 5, 2, 2, 1 to 3
+codebook picture book.tree \\-o book.svg
+.fi
 .SH FILES
 A tree's file ends in
 .BR .tree ,
@@ -39,7 +47,11 @@ or hold the tree against its book with
 
 /// All of codebook.1.
 pub fn page() -> String {
-    let mut page = format!(".TH CODEBOOK 1 \"\" \"codebook {}\" \"User Commands\"\n{HEAD}.SH COMMANDS\n", env!("CARGO_PKG_VERSION"));
+    let common: String = COMMON.iter().copied().map(option).collect();
+    let mut page = format!(".TH CODEBOOK 1 \"\" \"codebook {}\" \"User Commands\"\n{HEAD}", env!("CARGO_PKG_VERSION"));
+    page += &format!(
+        ".SH OPTIONS\nOf every command:\n{common}.PP\nThose of one command stand with it. A word after \\-\\- is no option.\n.SH COMMANDS\n"
+    );
     for command in &COMMANDS {
         page += &section(command);
     }
@@ -51,10 +63,11 @@ fn section(command: &Command) -> String {
     for paragraph in command.details.lines() {
         section += &format!("{}\n.PP\n", plain(paragraph));
     }
-    for option in command.all_options() {
-        section += &format!(".TP\n.B {}\n{}\n", plain(&option.forms()), plain(option.help));
-    }
-    section
+    section + &command.options.iter().copied().map(option).collect::<String>()
+}
+
+fn option(option: &Opt) -> String {
+    format!(".TP\n.B {}\n{}\n", plain(&option.forms()), plain(option.help))
 }
 
 /// Words without the meaning that some bytes have in a page.

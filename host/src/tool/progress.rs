@@ -34,7 +34,7 @@ pub fn show(costs: &[u64], quiet: bool, work: impl FnOnce(&(dyn Fn(usize) + Sync
     };
     let (finished, wait) = mpsc::channel::<()>();
     thread::scope(|scope| {
-        scope.spawn(|| tick(start, line, wait));
+        let _ = thread::Builder::new().spawn_scoped(scope, || tick(start, line, wait));
         work(&count);
         drop(finished);
     });

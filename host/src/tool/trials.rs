@@ -66,7 +66,13 @@ fn all(text: &[u8], list: &[Settings], quiet: bool) -> Vec<Tried> {
             enter(&mut results.lock().expect("no build panics"), at, tried);
             done(at);
         };
-        thread::scope(|scope| (0..workers).for_each(|_| drop(scope.spawn(work))));
+        thread::scope(|scope| {
+            for _ in 1..workers {
+                // a helper that the system does not give is done without
+                let _ = thread::Builder::new().spawn_scoped(scope, work);
+            }
+            work();
+        });
     });
     let results = results.into_inner().expect("no build panics");
     results.into_iter().map(|tried| tried.expect("each was tried")).collect()
