@@ -38,7 +38,7 @@ extern "C" {
 #define BT_MAX_COUNTED 4u  /* counted bytes: 0 to this */
 #define BT_MAX_PATTERN 256u /* bytes of a pattern: 1 to this */
 #define BT_MAX_CUTS 10u    /* cuts of a worn key: 1 to this */
-#define BT_LIST_LENGTH 512u /* a buffer of so many bytes holds all that bt_list writes */
+#define BT_LIST_LENGTH 352u /* a buffer of so many bytes holds all that bt_list writes */
 
 /* What the numbers mean. */
 enum bt_number {
@@ -233,10 +233,10 @@ enum bt_standing { BT_BEFORE = 1, BT_SAME = 2, BT_AFTER = 3 };
  * difference or the shorter end and no further: BT_PATH is met there or not at all. */
 uint32_t bt_order(const uint8_t *one, size_t one_len, const uint8_t *other, size_t other_len, uint32_t *order, uint32_t *shared, uint32_t *first);
 
-/* The lines of the list program: one for each level, "level blocks kept pointing", or one line "refused N".
+/* The lines of the list program: one for each level, "level blocks kept pointing".
  *   lent      tree
- *   written   out: the lines in its first *length bytes, at most BT_LIST_LENGTH; *length: their length
- *   answers   0, 5 to 9 and 15 as in the line, 13 if out is shorter than BT_LIST_LENGTH: then nothing is written and *length is 0 */
+ *   written   out: the lines in its first *length bytes, at most BT_LIST_LENGTH; *length: their length. A refusal leaves out unchanged
+ *   answers   0, 15, 5 to 9, 13 if the lines do not fit out */
 uint32_t bt_list(const uint8_t *tree, size_t tree_len, uint8_t *out, size_t out_len, uint32_t *length);
 
 /* The term of a licence. No tree is involved. A day is lent as eight bytes '0' to '9', year, month and day (ISO 8601, basic form), of the Gregorian

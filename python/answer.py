@@ -54,9 +54,11 @@ def order(one, other):
 
 
 def levels(tree):
-    room = bytearray(512)
-    _, length = _call("bt_list", tree.bytes, room)
-    return (room[:length].decode().replace("\n", "/"),)
+    try:
+        lines = tree.list()
+    except Refused as refused:
+        lines = "refused %d\n" % refused.number
+    return (lines.replace("\n", "/"),)
 
 
 def tables(read):

@@ -51,6 +51,7 @@ REASONS = {
 }
 
 MAX_TEXT = 8_388_608
+LIST_LENGTH = 512
 BEFORE, SAME, AFTER = 1, 2, 3
 
 
@@ -305,6 +306,12 @@ class Tree:
     def check_guide(self, guide):
         """Refused where it is not exactly the guide of this tree."""
         _ask("bt_check_guide", self.bytes, guide)
+
+    def list(self):
+        """The lines of the list program, one for each level: level, blocks, kept, pointing."""
+        room = bytearray(LIST_LENGTH)
+        length = _ask("bt_list", self.bytes, room)
+        return room[:length].decode("ascii")
 
     def compare(self, other):
         """BEFORE, SAME or AFTER, where this tree's text stands beside the other's, and how many bytes they share from their start on."""

@@ -65,9 +65,11 @@ def match(tree, lent, mark):
 
 
 def listed(tree):
-    room = filled(512)
-    _, length = _call("bt_list", tree, room)
-    return (room[:length].decode().replace("\n", "/"),)
+    try:
+        lines = blocktree.Tree(tree, checked=False).list()
+    except blocktree.Refused as refused:
+        lines = "refused %d\n" % refused.number
+    return (lines.replace("\n", "/"),)
 
 
 def guide(word):
@@ -161,6 +163,7 @@ def own_functions():
     assert book.places(b"4") == [place for place in range(2800) if text[place] == ord("4")]
     assert list(book.matches([(5, 5), (2, 2), (1, 1), (6, 6), (1, 2)])) == [39, 40, 79, 80, 119, 120, 159, 160, 199, 200]
     assert (book.byte(14), book.count(10, 1400), book.span(14, 6), book.run(14)[:3]) == (67, 100, b"CH0502", b"CH0")
+    assert book.list() == "0 2 2 0\n1 15 6 9\n2 45 45 0\n"
     turned = blocktree.to_columns(text, 14)
     assert blocktree.from_columns(turned, 14) == text
     columns = blocktree.Tree(blocktree.build(turned, 256, 2, 1))

@@ -17,6 +17,9 @@ pub const MAX_TREE: u64 = 1_111_359_588;
 /// The longest pattern.
 pub const MAX_PATTERN: usize = 256;
 
+/// A buffer of so many bytes holds all lines that list writes.
+pub const LIST_LENGTH: usize = 352;
+
 /// The number that is written with its thousands parted.
 const fn ungrouped(digits: &str) -> usize {
     let digits = digits.as_bytes();

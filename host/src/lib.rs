@@ -21,7 +21,7 @@ mod order;
 mod parts;
 mod refusal;
 
-pub use bounds::{MAX_PATTERN, MAX_TEXT, MAX_TREE};
+pub use bounds::{LIST_LENGTH, MAX_PATTERN, MAX_TEXT, MAX_TREE};
 pub use columns::{from_columns, row_width, to_columns};
 pub use days::{days_left, open_on, renew};
 pub use guides::Guided;
@@ -118,9 +118,12 @@ pub fn one_level_size(n: usize, settings: &Settings) -> Result<Option<usize>, Re
 
 /// The lines of the list program, one for each level; or its line `refused N`, and the refusal.
 pub fn list(tree: &[u8]) -> (String, Result<(), Refusal>) {
-    let mut out = [0; 512];
+    let mut out = [0; LIST_LENGTH];
     let (number, length) = calls::list(tree, &mut out);
-    let lines = String::from_utf8_lossy(&out[..length as usize]).into_owned();
+    let lines = match number {
+        0 => String::from_utf8_lossy(&out[..length as usize]).into_owned(),
+        _ => format!("refused {number}\n"),
+    };
     (lines, answer(number, ()))
 }
 

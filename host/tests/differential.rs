@@ -220,19 +220,25 @@ fn patterns() {
     });
 }
 
+/// 13 is asked of the lines' own length, after 15 and 5 to 9; a refusal has length 0 and leaves the buffer.
 #[test]
-fn list_without_room() {
+fn list_and_its_room() {
     let tree = build::plain_tree(b"ABCD", Shape::new(2, 2, 2), b"");
-    for length in [0, 1, 16, 511] {
-        let mut out = lent(length);
-        assert_eq!(calls::list(&tree, &mut out), (13, 0), "{length}");
-        assert_eq!(calls::list(b"", &mut out), (13, 0), "{length}");
-        assert_eq!(out, lent(length));
+    let lines = b"0 1 1 0\n1 2 2 0\n";
+    for room in 0..lines.len() {
+        let mut out = lent(room);
+        assert_eq!(calls::list(&tree, &mut out), (13, 0), "{room}");
+        assert_eq!(calls::list(&tree[..99], &mut out), (5, 0), "{room}");
+        assert_eq!(calls::list(&[0; 65537], &mut out), (15, 0), "{room}");
+        assert_eq!(out, lent(room));
     }
-    let mut out = lent(512);
-    let (number, length) = calls::list(&tree, &mut out);
-    assert_eq!((number, &out[..length as usize]), (0, b"0 1 1 0\n1 2 2 0\n".as_slice()));
-    assert_eq!(out[length as usize..], *lent(512 - length as usize));
+    for room in [lines.len(), lines.len() + 1, codebook::LIST_LENGTH] {
+        let mut out = lent(room);
+        assert_eq!(calls::list(&tree, &mut out), (0, lines.len() as u32), "{room}");
+        assert_eq!(out[..], [lines.as_slice(), &lent(room - lines.len())].concat());
+        assert_eq!(calls::list(&tree[..99], &mut out), (5, 0), "{room}");
+        assert_eq!(out[..], [lines.as_slice(), &lent(room - lines.len())].concat());
+    }
 }
 
 /// Put the check, the list and `questions` of each other kind to a tree.

@@ -17,22 +17,17 @@ use Rattle.format.specs.Finding.{selectNumber, FindSays}
 use Rattle.format.specs.RowSays.{RowSays}
 use Rattle.tallies.specs.Local.{byteOf}
 use Rattle.tallies.specs.Ranks as tally
-use Rattle.layout.specs.declared.header.Header.{Header}
-use Rattle.layout.specs.declared.header.HeaderRead.{HeaderRead}
-use Rattle.layout.specs.declared.header.HeaderRead.the-variants as read
-use Rattle.layout.specs.Header.{headerSays}
-use Rattle.layout.specs.HeaderSays.{header-good, header-refused}
 use Rattle.rank.specs.declared.Counted.{Counted}
 use Rattle.rank.specs.declared.Counted.the-variants as count
 use Rattle.select.specs.declared.Found.{Found}
 use Rattle.select.specs.declared.Found.the-variants as found
 use Rattle.rows.specs.declared.RowCopied.{RowCopied}
 use Rattle.rows.specs.declared.RowCopied.the-variants as row
-use Rattle.rank.specs.Counts.{saidCount}
+use Rattle.rank.specs.Counts.{saidCount, uncountedNumber}
 use Rattle.select.specs.Found.{saidFind}
 use Rattle.rows.specs.Rows.{saidRow}
 use Rattle.text.specs.declared.TextPlace.{TextPlace}
-use Rattle.abi.specs.Answers.{saying, uncountedNumber}
+use Rattle.abi.specs.Answers.{saying}
 
 module _ (r : Counted) (s : Said) (is : saidCount r ≡ s) where
   pub count-told : (times entered : ℕ) → r ≡ count.Times times entered → saying 0 times entered ≡ s
@@ -55,22 +50,10 @@ module _ (t : List ℕ) (q : ℕ) (buffer after : List ℕ) (r : RowCopied) (k :
   pub row-refused : (number : ℕ) → r ≡ row.Refused number → RowSays t q buffer number 0 after
   row-refused number e = subst (λ (x : RowCopied). RowSays t q buffer (saidRow x .number) (saidRow x .value) after) e k
 
--- the questions that a number above 255 is asked
+-- of a number above 255
 
 not-zero : (n : ℕ) → eqb (suc n) 0 ≡ false
 not-zero n = ne-eqb (suc n) 0 (λ e. omega arith)
-
-module _ (t : List ℕ) (i : ℕ) (x : HeaderRead) (x-is : x ≡ headerSays t) where
-  passed : (n r : ℕ) → readable t ≡ 0 → n ≡ at.textLength t → r ≡ ask 10 (leb i n) 11 → r ≡ uncountedNumber t i
-  unfolding uncountedNumber
-  passed n r z e f = rw (z, ← e, f)
-
-  pub uncounted-good : (h : Header) → x ≡ read.Good h → (r : ℕ) → r ≡ ask 10 (leb i (h .length)) 11 → r ≡ uncountedNumber t i
-  uncounted-good h e r f = let k = header-good t x x-is h e in passed (h .length) r (k .passes) (k .length-is) f
-
-  pub uncounted-unread : (q : ℕ) → x ≡ read.Refused q → q ≡ uncountedNumber t i
-  unfolding uncountedNumber
-  uncounted-unread q e = let z = header-refused t x x-is q e in rw (z .1, not-zero (z .0)) (z .2)
 
 above-said : (n : ℕ) (b c : Bool) (s : Said) → (n ≡ 0 → c ≡ false) → refused (cond (eqb n 0) (ask 10 b 11) n) ≡ unless n (unless (ask 10 b (ask 11 c 0)) s)
 above-said zero true c s h = rw (h refl)

@@ -14,8 +14,10 @@ use Rattle.guided.specs.declared.Guided.the-variants as guided
 use Rattle.guided.specs.Guided.{GuidedSays, saidGuided, stepsOf}
 use Rattle.rows.specs.declared.RowCopied.{RowCopied}
 use Rattle.rows.specs.declared.RowCopied.the-variants as row
-use Rattle.rows.specs.Rows.{saidRow, RowBy}
-use Rattle.abi.specs.Answers.{saying, uncountedNumber}
+use Rattle.format.specs.RowSays.{RowBy}
+use Rattle.rows.specs.Rows.{saidRow}
+use Rattle.rank.specs.Counts.{uncountedNumber}
+use Rattle.abi.specs.Answers.{saying}
 use Rattle.abi.proofs.CountLaws.{select-above, refuses-above}
 
 module _ (r : Size) (s : Said) (is : saidSize r ≡ s) where

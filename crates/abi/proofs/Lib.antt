@@ -1,6 +1,5 @@
 pub mod AnswerLaws
 pub mod CountLaws
-pub mod ListLaws
 pub mod PlaceLaws
 pub mod ScanLaws
 pub mod MatchLaws
@@ -8,3 +7,4 @@ pub mod ColumnLaws
 pub mod TermLaws
 pub mod GuideLaws
 pub mod OrderLaws
+pub mod Demands

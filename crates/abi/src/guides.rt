@@ -1,12 +1,11 @@
 // A guide to the level 0 blocks: its size, making one, checking one, and find and row with one. Any bytes may be lent as a guide.
-use crate::uncounted;
-use guide::Size;
-use guided::Guided;
-use rows::RowCopied;
+use query::Guided;
+use query::RowCopied;
+use query::Size;
 ghost use mathlib.Core.Path.{_≡_};
 ghost use Rattle.guide.specs.Guides.{guideNumber, sizeSays, makeSays, makeLeaves};
 ghost use Rattle.guided.specs.Guided.{GuidedSays};
-ghost use Rattle.rows.specs.Rows.{RowBy};
+ghost use Rattle.format.specs.RowSays.{RowBy};
 ghost use Rattle.abi.specs.Answers.{saying};
 
 // How many words the guide of a tree has.
@@ -14,7 +13,7 @@ ghost use Rattle.abi.specs.Answers.{saying};
 pub extern "C" fn bt_guide_words(tree: &[u8], words: &mut u64) -> u32
     ensures { λ r. ⌜ saying r (now (words .exit)) 0 ≡ sizeSays (now (tree .entry)) ⌝ }
 {
-    let size = guide::guide_words(tree);
+    let size = query::guide_words(tree);
     match size {
         Size::Words(n) => {
             *words = n;
@@ -33,7 +32,7 @@ pub extern "C" fn bt_make_guide(tree: &[u8], table: &mut [u8], words: &mut u64) 
     ensures { λ r. ⌜ saying r (now (words .exit)) 0 ≡ makeSays (now (tree .entry)) (now (table .entry)) ⌝ }
     ensures { λ _. ⌜ now (table .exit) ≡ makeLeaves (now (tree .entry)) (now (table .entry)) ⌝ }
 {
-    let size = guide::make_guide(tree, table);
+    let size = query::make_guide(tree, table);
     match size {
         Size::Words(n) => {
             *words = n;
@@ -51,7 +50,7 @@ pub extern "C" fn bt_make_guide(tree: &[u8], table: &mut [u8], words: &mut u64) 
 pub extern "C" fn bt_check_guide(tree: &[u8], guide: &[u8]) -> u32
     ensures { λ r. ⌜ r ≡ guideNumber (now (tree .entry)) (now (guide .entry)) ⌝ }
 {
-    guide::check_guide(tree, guide)
+    query::check_guide(tree, guide)
 }
 
 // The place of the j-th such byte, the blocks on its path, and the steps on level 0.
@@ -71,9 +70,9 @@ pub extern "C" fn bt_find_guided(
         *place = 0;
         *entered = 0;
         *steps = 0;
-        return uncounted(tree, 0);
+        return query::uncounted(tree, 0);
     }
-    let found = guided::find_guided(tree, guide, byte as u8, j);
+    let found = query::find_guided(tree, guide, byte as u8, j);
     match found {
         Guided::At(at, path, walked) => {
             *place = at.0;
@@ -101,7 +100,7 @@ pub extern "C" fn bt_row_guided(
 ) -> u32
     ensures { λ r. ⌜ RowBy (now (tree .entry)) (guideNumber (now (tree .entry)) (now (guide .entry))) q (now (buffer .entry)) r (now (len .exit)) (now (buffer .exit)) ⌝ }
 {
-    let copied = rows::row_guided(tree, guide, q, buffer);
+    let copied = query::row_guided(tree, guide, q, buffer);
     match copied {
         RowCopied::Bytes(size) => {
             *len = size;

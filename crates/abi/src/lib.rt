@@ -5,44 +5,34 @@ pub mod guides;
 pub mod licence;
 pub mod order;
 
-use access::Answer;
-use access::Copied;
-use access::reading::Ran;
-use builder::Built;
-use enough::Room;
-use layout::header;
-use layout::header::HeaderRead;
-use layout::place::TextPlace;
-use patterns::PlacesWritten;
-use rank::Counted;
-use rows::RowCopied;
-use scanner::Scanned;
-use select::Found;
-use worn_keys::Shown;
+use listing::Listed;
+use query::Answer;
+use query::Copied;
+use query::Counted;
+use query::Found;
+use query::PlacesWritten;
+use query::Ran;
+use query::RowCopied;
+use query::Shown;
+use query::TextPlace;
+use tree::Built;
+use tree::Room;
+use tree::Scanned;
 ghost use mathlib.Core.Path.{_≡_};
-ghost use Prim.Native.Nat.{_≤_};
 ghost use lib.ListN.{length};
-ghost use lib.Dec.{leb};
 ghost use Rattle.format.specs.Building.{buildNumber, buildSize, buildLeaves};
 ghost use Rattle.format.specs.Reading.{byteSays, runSays, spanSays, spanLeaves};
 ghost use Rattle.format.specs.Counting.{countSays};
 ghost use Rattle.format.specs.Finding.{FindSays};
 ghost use Rattle.format.specs.RowSays.{RowSays};
-ghost use Rattle.format.specs.Verdict.{ask, verdict};
+ghost use Rattle.format.specs.Verdict.{verdict};
 ghost use Rattle.builder.specs.Answers.{given};
 ghost use Rattle.enough.specs.Enough.{enoughSays};
-ghost use Rattle.listing.specs.Lines.{listed};
-ghost use Rattle.listing.specs.Written.{Put};
+ghost use Rattle.listing.specs.Says.{listSays, listLeaves};
 ghost use Rattle.patterns.specs.Places.{placesSays, placesLeaves};
 ghost use Rattle.scanner.specs.Scanning.{tableWords, scanNumber, scanSize, scanWindows, scanLeaves, TableLeft};
 ghost use Rattle.worn_keys.specs.Says.{MatchSays};
-ghost use Rattle.abi.specs.Answers.{saying, roomNumber, roomSize, uncountedNumber, inputNumber, listNumber, listSize, listLeaves};
-
-// The shortest buffer that list writes to.
-pub const LIST_LENGTH: usize = 512;
-
-// The longest tree that list reads.
-pub const LIST_INPUT: usize = 65536;
+ghost use Rattle.abi.specs.Answers.{saying, roomNumber, roomSize, listedNumber, listedSize};
 
 // Builds the tree of a text.
 #[no_mangle]
@@ -153,7 +143,7 @@ pub extern "C" fn bt_check(tree: &[u8]) -> u32
 pub extern "C" fn bt_byte(tree: &[u8], place: u32, value: &mut u32, entered: &mut u32) -> u32
     ensures { λ r. ⌜ saying r (now (value .exit)) (now (entered .exit)) ≡ byteSays (now (tree .entry)) place ⌝ }
 {
-    let answer = access::byte(tree, TextPlace(place));
+    let answer = query::byte(tree, TextPlace(place));
     match answer {
         Answer::Byte(byte, blocks) => {
             *value = byte as u32;
@@ -175,7 +165,7 @@ pub extern "C" fn bt_run(tree: &[u8], place: u32, offset: &mut u64, len: &mut u3
     ensures { λ _. ⌜ now (offset .exit) ≡ runSays (now (tree .entry)) place .0 ⌝ }
     ensures { λ _. ⌜ now (len .exit) ≡ runSays (now (tree .entry)) place .1 ⌝ }
 {
-    let ran = access::run_part(tree, TextPlace(place));
+    let ran = query::run_part(tree, TextPlace(place));
     match ran {
         Ran::At(part) => {
             *offset = part.from as u64;
@@ -203,7 +193,7 @@ pub extern "C" fn bt_span(
     ensures { λ _. ⌜ now (entered .exit) ≡ spanSays (now (tree .entry)) place len (length (now (buffer .entry))) .entered ⌝ }
     ensures { λ _. ⌜ now (buffer .exit) ≡ spanLeaves (now (tree .entry)) place len (now (buffer .entry)) ⌝ }
 {
-    let copied = access::span(tree, TextPlace(place), len, buffer);
+    let copied = query::span(tree, TextPlace(place), len, buffer);
     match copied {
         Copied::Bytes(_, blocks) => {
             *entered = blocks;
@@ -230,9 +220,9 @@ pub extern "C" fn bt_count(
     if 255 < byte {
         *times = 0;
         *entered = 0;
-        return uncounted(tree, i);
+        return query::uncounted(tree, i);
     }
-    let counted = rank::count(tree, byte as u8, i);
+    let counted = query::count(tree, byte as u8, i);
     match counted {
         Counted::Times(count, visits) => {
             *times = count;
@@ -255,9 +245,9 @@ pub extern "C" fn bt_find(tree: &[u8], byte: u32, j: u32, place: &mut u32, enter
     if 255 < byte {
         *place = 0;
         *entered = 0;
-        return uncounted(tree, 0);
+        return query::uncounted(tree, 0);
     }
-    let found = select::find(tree, byte as u8, j);
+    let found = query::find(tree, byte as u8, j);
     match found {
         Found::At(at, path) => {
             *place = at.0;
@@ -277,7 +267,7 @@ pub extern "C" fn bt_find(tree: &[u8], byte: u32, j: u32, place: &mut u32, enter
 pub extern "C" fn bt_row(tree: &[u8], q: u32, buffer: &mut [u8], len: &mut u32) -> u32
     ensures { λ r. ⌜ RowSays (now (tree .entry)) q (now (buffer .entry)) r (now (len .exit)) (now (buffer .exit)) ⌝ }
 {
-    let copied = rows::row(tree, q, buffer);
+    let copied = query::row(tree, q, buffer);
     match copied {
         RowCopied::Bytes(size) => {
             *len = size;
@@ -296,7 +286,7 @@ pub extern "C" fn bt_places(tree: &[u8], pattern: &[u8], table: &mut [u32], numb
     ensures { λ r. ⌜ saying r (now (number .exit)) 0 ≡ placesSays (now (tree .entry)) (now (pattern .entry)) (length (now (table .entry))) ⌝ }
     ensures { λ _. ⌜ now (table .exit) ≡ placesLeaves (now (tree .entry)) (now (pattern .entry)) (now (table .entry)) ⌝ }
 {
-    let written = patterns::places(tree, pattern, table);
+    let written = query::places(tree, pattern, table);
     match written {
         PlacesWritten::Number(n) => {
             *number = n;
@@ -315,7 +305,7 @@ pub extern "C" fn bt_next_match(tree: &[u8], ranges: &[u8], mark: &mut u32, row:
     ensures { λ r. ⌜ MatchSays (now (tree .entry)) (now (ranges .entry)) (now (mark .entry)) (record { number = r; row = now (row .exit); mark = now (mark .exit) }) ⌝ }
 {
     let at = *mark;
-    let shown = worn_keys::next_match(tree, ranges, at);
+    let shown = query::next_match(tree, ranges, at);
     match shown {
         Shown::Row(q) => {
             *row = q;
@@ -334,61 +324,22 @@ pub extern "C" fn bt_next_match(tree: &[u8], ranges: &[u8], mark: &mut u32, row:
     }
 }
 
-// The question that refuses a number above 255, which no tree counts: 5 to 7, 10 for what ends at i, 11.
-fn uncounted(tree: &[u8], i: u32) -> u32
-    ensures { λ r. ⌜ r ≡ uncountedNumber (now (tree .entry)) i ⌝ }
-{
-    let read = header::read_header(tree);
-    match read {
-        HeaderRead::Good(h) => past_or_uncounted(h.length, i),
-        HeaderRead::Refused(number) => number,
-    }
-}
-
-// Question 10 of a text of n bytes, then 11.
-fn past_or_uncounted(n: u32, i: u32) -> u32
-    ensures { λ r. ⌜ r ≡ ask 10 (leb i n) 11 ⌝ }
-{
-    if n < i {
-        return 10;
-    }
-    11
-}
-
-// The lines of the list program.
+// A line for each level of a tree.
 #[no_mangle]
 pub extern "C" fn bt_list(tree: &[u8], out: &mut [u8], len: &mut u32) -> u32
-    ensures { λ r. ⌜ r ≡ listNumber (now (tree .entry)) (length (now (out .entry))) ⌝ }
-    ensures { λ _. ⌜ now (len .exit) ≡ listSize (now (tree .entry)) (length (now (out .entry))) ⌝ }
+    ensures { λ r. ⌜ r ≡ listedNumber (listSays (now (tree .entry)) (length (now (out .entry)))) ⌝ }
+    ensures { λ _. ⌜ now (len .exit) ≡ listedSize (listSays (now (tree .entry)) (length (now (out .entry)))) ⌝ }
     ensures { λ _. ⌜ now (out .exit) ≡ listLeaves (now (tree .entry)) (now (out .entry)) ⌝ }
 {
-    if out.len() < LIST_LENGTH {
-        *len = 0;
-        return 13;
+    let listed = listing::list(tree, out);
+    match listed {
+        Listed::Bytes(n) => {
+            *len = n;
+            0
+        }
+        Listed::Refused(number) => {
+            *len = 0;
+            number
+        }
     }
-    let number = input_number(tree);
-    let end = lines(tree, number, out);
-    *len = end as u32;
-    number
-}
-
-// Question 15, then the check's.
-fn input_number(tree: &[u8]) -> u32
-    ensures { λ r. ⌜ r ≡ inputNumber (now (tree .entry)) ⌝ }
-{
-    if LIST_INPUT < tree.len() {
-        return 15;
-    }
-    tree::check(tree)
-}
-
-// Puts the lines at the start of a buffer.
-fn lines(tree: &[u8], number: u32, out: &mut [u8]) -> usize
-    requires { ⌜ (number ≡ inputNumber (now tree)) × (512 ≤ length (now out)) ⌝ }
-    ensures { λ r. ⌜ Put (now (out .entry)) (now (out .exit)) 0 r (listed (now (tree .entry))) 512 ⌝ }
-{
-    if LIST_INPUT < tree.len() {
-        return listing::refused(15, out);
-    }
-    listing::listing(tree, number, out)
 }

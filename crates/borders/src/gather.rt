@@ -147,14 +147,14 @@ fn into(
 }
 
 // Whether the end of a block of b bytes falls between the first and the last of some bytes.
-fn splits(b: u32, place: u32, len: u32) -> bool
+fn splits(b: u32, place: BlockPlace, len: u32) -> bool
     requires { ⌜ (b ≤ maxText) × (len ≤ maxText) ⌝ }
-    ensures { λ r. ⌜ r ≡ (ltb place b && ltb b (place + len)) ⌝ }
+    ensures { λ r. ⌜ r ≡ (ltb (place .0) b && ltb b (place .0 + len)) ⌝ }
 {
-    if b <= place {
+    if b <= place.0 {
         return false;
     }
-    b < place + len
+    b < place.0 + len
 }
 
 // Where a pointing block hands a span: to a kept block that holds it, or over the border of its two targets.
@@ -173,9 +173,9 @@ fn pointed(
 {
     let link = record::link(t, h.record_size, level, block);
     let gap = record::gap(t, h.record_size, level, block);
-    let sum = gap.0 + place.0;
+    let sum = BlockPlace(gap.0 + place.0);
     if splits(b, sum, len) {
-        return Land::Over(BlockNumber(link), BlockPlace(sum));
+        return Land::Over(BlockNumber(link), sum);
     }
     let next = steps::target(t, h, level, b, block, place);
     match next {

@@ -1,8 +1,10 @@
 // The records of one level, written in order.
+use layout::place::BlockNumber;
 use marking::pair;
 use marking::pair::Pair;
 use records::level::Level;
 use records::record;
+use records::record::Link;
 ghost use Rattle.format.specs.Blocks.{treeOf};
 ghost use Rattle.records.specs.Growing.{Grown};
 ghost use Rattle.records.specs.State.{settingsOf};
@@ -18,10 +20,10 @@ pub fn fill_level(out: &mut [u8], text: &[u8], counted: &[u8], level: Level) -> 
     let mut link: u32 = 0;
     let mut i: u32 = 0;
     while i < level.count {
-        let right = pair::pair_after(text, counted, out, level, i);
+        let right = pair::pair_after(text, counted, out, level, BlockNumber(i));
         let kept = pair::keeps(left, right);
-        let block = marking::block_at(text, counted, out, level, i, kept, link);
-        link = link + record::put_block(out, text, counted, level, i, block);
+        let block = marking::block_at(text, counted, out, level, BlockNumber(i), kept, Link(link));
+        link = link + record::put_block(out, text, counted, level, BlockNumber(i), block);
         left = right;
         i += 1;
     }

@@ -4,9 +4,9 @@ ghost use mathlib.Core.Path.{_≡_};
 ghost use Rattle.format.specs.Fits.{textOf, countsTrue};
 ghost use Rattle.counts.specs.Asked.{Linking};
 
-pub mod block;
-pub mod level;
-pub mod prefix;
+mod block;
+mod level;
+mod prefix;
 
 // Of a tree that passes questions 5 to 8, with its header: are its counts true of the one text that fits it? The levels are looked at
 // from the last one up.

@@ -30,7 +30,7 @@ module _ (T out : List ℕ) (it : Items) (h : Placed T out it) (x : ℕ) (l : x 
     unfolding startAt
     start-in = omega (arith, s-is, h .within x l)
 
-    pub run-is : (n : ℕ) → n ≡ min (it .size * (x % 2 + 1)) (length T - s) → RunIs T out it x (record { start = s; length = n })
+    pub run-is : (n : ℕ) → n ≡ min (it .size * (x % 2 + 1)) (length T - s) → RunIs T out it x (record { start = record { 0 = s }; length = n })
     unfolding startAt lengthAt
     run-is n n-is = record {
       start-is = s-is;

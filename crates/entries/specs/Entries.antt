@@ -55,9 +55,9 @@ module _ (T out : List ℕ) (it : Items) where
 
   -- the bytes of an item, as the code reads them
   pub record RunIs (x : ℕ) (r : Run) : Type 0 where
-    pub start-is : r .start ≡ startAt x
+    pub start-is : r .start .0 ≡ startAt x
     pub length-is : r .length ≡ lengthAt x
-    pub fits : r .start + r .length ≤ length T
+    pub fits : r .start .0 + r .length ≤ length T
 
   module _ (W : List ℕ) where
     -- an item in a chain has a place of the text; any other has the text's length or more there

@@ -2,6 +2,7 @@
 use crate::Items;
 use crate::head;
 use crate::item;
+use text::TextPlace;
 ghost use mathlib.Core.Path.{_≡_};
 ghost use Prim.Native.Nat.{_+_, _*_, _≤_, _<_};
 ghost use lib.ListN.{length};
@@ -30,12 +31,12 @@ fn twin(
     it: Items,
     x: u32,
     h: u32,
-    p: u32,
+    p: TextPlace,
     n: u32,
     link: u32,
 ) -> u32
-    requires { ⌜ Turn (now text) (now out) it (now words) x × Leads (now text) (now out) it (now words) x link × (p + n ≤ length (now text)) ⌝ }
-    ensures { λ r. ⌜ Twin (now (text .entry)) (now (out .entry)) it (now (words .entry)) x p n r ⌝ }
+    requires { ⌜ Turn (now text) (now out) it (now words) x × Leads (now text) (now out) it (now words) x link × (p .0 + n ≤ length (now text)) ⌝ }
+    ensures { λ r. ⌜ Twin (now (text .entry)) (now (out .entry)) it (now (words .entry)) x (p .0) n r ⌝ }
 {
     let mut e = link;
     while e != 0 {
@@ -51,16 +52,16 @@ fn twin(
 }
 
 // Puts item x in front of the chain with number g.
-fn put(words: &mut [u32], it: Items, x: u32, h: u32, start: u32, g: u32)
+fn put(words: &mut [u32], it: Items, x: u32, h: u32, start: TextPlace, g: u32)
     requires { ⌜ (3 * it .items + it .heads ≤ length (now words)) × (it .items ≤ maxItems) × (x < it .items) × (g < it .heads) ⌝ }
-    ensures { λ _. ⌜ Put (it .items) (now (words .entry)) (now (words .exit)) x h start g ⌝ }
+    ensures { λ _. ⌜ Put (it .items) (now (words .entry)) (now (words .exit)) x h (start .0) g ⌝ }
 {
     let head = 3 * it.items as usize + g as usize;
     let at = 3 * x as usize;
     let w = words[head];
     words[at] = w % 16777216;
     words[at + 1] = h;
-    words[at + 2] = start;
+    words[at + 2] = start.0;
     words[head] = head::pushed(w, h, x);
 }
 

@@ -4,6 +4,8 @@ mod head;
 pub mod item;
 pub mod lookup;
 
+use text::TextPlace;
+
 // The items of a level, its blocks and pairs, and how the table is divided. Item 2 i is block i, item 2 i + 1 the pair of blocks
 // i and i + 1.
 pub struct Items {
@@ -19,6 +21,6 @@ pub struct Items {
 
 // The bytes of an item: where they start, and how many they are.
 pub struct Run {
-    pub start: u32,
+    pub start: TextPlace,
     pub length: u32,
 }

@@ -2,32 +2,51 @@
 use crate::Items;
 use crate::head;
 use crate::item;
+use text::TextPlace;
 ghost use Prim.Native.Nat.{_<_};
 ghost use Rattle.entries.specs.Heads.{bucketOf};
 ghost use Rattle.entries.specs.Entries.{Listed, Link, Looked};
 ghost use Rattle.entries.specs.Looking.{Asks, Touched, Visited};
 
 // The window of n bytes at p, whose fingerprint is h, at item x of its chain.
-fn touch(words: &mut [u32], text: &[u8], out: &[u8], it: Items, x: u32, h: u32, p: u32, n: u32)
-    requires { ⌜ Asks (now text) (now out) it (now words) h p n × (x < it .items) × Listed (now text) (now out) it (now words) x ⌝ }
-    ensures { λ _. ⌜ Touched (now (text .entry)) (now (out .entry)) it (now (words .entry)) (now (words .exit)) x p n ⌝ }
+fn touch(
+    words: &mut [u32],
+    text: &[u8],
+    out: &[u8],
+    it: Items,
+    x: u32,
+    h: u32,
+    p: TextPlace,
+    n: u32,
+)
+    requires { ⌜ Asks (now text) (now out) it (now words) h (p .0) n × (x < it .items) × Listed (now text) (now out) it (now words) x ⌝ }
+    ensures { λ _. ⌜ Touched (now (text .entry)) (now (out .entry)) it (now (words .entry)) (now (words .exit)) x (p .0) n ⌝ }
 {
     let at = 3 * x as usize;
     if words[at + 1] != h {
         return;
     }
-    if words[at + 2] <= p {
+    if words[at + 2] <= p.0 {
         return;
     }
     if item::stands(text, out, it, x, p, n) {
-        words[at + 2] = p;
+        words[at + 2] = p.0;
     }
 }
 
 // At every item of the chain from a link.
-fn visit(words: &mut [u32], text: &[u8], out: &[u8], it: Items, h: u32, p: u32, n: u32, link: u32)
-    requires { ⌜ Asks (now text) (now out) it (now words) h p n × Link (now text) (now out) it (now words) (bucketOf (it .heads) h) (it .items) link ⌝ }
-    ensures { λ _. ⌜ Visited (now (text .entry)) (now (out .entry)) it (now (words .entry)) (now (words .exit)) (bucketOf (it .heads) h) p n ⌝ }
+fn visit(
+    words: &mut [u32],
+    text: &[u8],
+    out: &[u8],
+    it: Items,
+    h: u32,
+    p: TextPlace,
+    n: u32,
+    link: u32,
+)
+    requires { ⌜ Asks (now text) (now out) it (now words) h (p .0) n × Link (now text) (now out) it (now words) (bucketOf (it .heads) h) (it .items) link ⌝ }
+    ensures { λ _. ⌜ Visited (now (text .entry)) (now (out .entry)) it (now (words .entry)) (now (words .exit)) (bucketOf (it .heads) h) (p .0) n ⌝ }
 {
     let mut e = link;
     while e != 0 {
@@ -38,9 +57,9 @@ fn visit(words: &mut [u32], text: &[u8], out: &[u8], it: Items, h: u32, p: u32, 
 }
 
 // Looks up the window of n bytes at p, whose fingerprint is h.
-pub fn look(words: &mut [u32], text: &[u8], out: &[u8], it: Items, h: u32, p: u32, n: u32)
-    requires { ⌜ Asks (now text) (now out) it (now words) h p n ⌝ }
-    ensures { λ _. ⌜ Looked (now (text .entry)) (now (out .entry)) it (now (words .entry)) (now (words .exit)) p n ⌝ }
+pub fn look(words: &mut [u32], text: &[u8], out: &[u8], it: Items, h: u32, p: TextPlace, n: u32)
+    requires { ⌜ Asks (now text) (now out) it (now words) h (p .0) n ⌝ }
+    ensures { λ _. ⌜ Looked (now (text .entry)) (now (out .entry)) it (now (words .entry)) (now (words .exit)) (p .0) n ⌝ }
 {
     let w = words[3 * it.items as usize + head::bucket(h, it.heads) as usize];
     if head::marked(w, h) {

@@ -6,7 +6,7 @@ use lib.ListN.{length, getD, take, drop}
 use lib.Dec.{leb, eqb}
 use Rattle.text.specs.Lists.{allBelow, sumBelow}
 use Rattle.format.specs.Words.{wordAt}
-use Rattle.format.specs.Settings.{Settings, blockLength, pieces, recordLength, lengthOk, sizesOk, countedOk}
+use Rattle.format.specs.Settings.{Settings, maxCounted, maxLevels, blockLength, pieces, recordLength, lengthOk, sizesOk, countedOk}
 
 module _ (t : List ℕ) where
   -- 1, or 2: then records have edges
@@ -25,7 +25,7 @@ module _ (t : List ℕ) where
     leaf = wordAt t 8;
     arity = wordAt t 12;
     levels = wordAt t 16;
-    counted = take countedCount (take 4 (drop 24 t));
+    counted = take countedCount (take maxCounted (drop 24 t));
   }
 
   unfoldable pub levelCount : ℕ → ℕ
@@ -121,9 +121,9 @@ module _ (t : List ℕ) where
   headerOk =
       let H = settings .levels in
       lengthOk textLength && sizesOk settings
-      && (leb countedCount 4 && countedOk (settings .counted))
-      && allBelow (4 - countedCount) (λ x. eqb (getD t (24 + countedCount + x) 0) 0)
-      && allBelow (8 - H) (λ x. eqb (levelCount (H + x)) 0 && eqb (levelOffset (H + x)) 0)
+      && (leb countedCount maxCounted && countedOk (settings .counted))
+      && allBelow (maxCounted - countedCount) (λ x. eqb (getD t (24 + countedCount + x) 0) 0)
+      && allBelow (maxLevels - H) (λ x. eqb (levelCount (H + x)) 0 && eqb (levelOffset (H + x)) 0)
       && eqb (levelCount 0) (pieces textLength (fullLength 0))
       && allBelow H (λ l. eqb (levelOffset l) (100 + sumBelow l levelCount * recordSize))
       && eqb leafOffset (100 + sumBelow H levelCount * recordSize)

@@ -4,6 +4,7 @@ use mathlib.Core.List.{List, [], _∷_, _++_}
 use mathlib.Core.Option.{some}
 use mathlib.Core.Path.{_≡_, refl}
 use Prim.Native.Nat.{ℕ}
+use native.Mathlib.Omega.{arith}
 use lib.ListN.{length, replicate, take, drop}
 use Rattle.text.specs.Lists.{tabulate, concat, sumBelow, countBelow, allBelow, sameList}
 use Rattle.format.specs.Words.{setWord, wordAt, wordsBytes, wordBytes}
@@ -16,10 +17,10 @@ use Rattle.format.specs.Path.{pathOf, pathFrom, visit, targetPlace, targ
 use Rattle.format.specs.Short.{shortOf, shortFrom, byEdges, inLeaf}
 use Rattle.format.specs.Fits.{linksOk, textOf, fits, countsTrue, edgesTrue, blockEdgesTrue, lastLevel, widthAt, keptRight, pointingRight, blockRight, countBelowRight, blockFits, blockCountsTrue}
 use Rattle.format.specs.Verdict.{verdict, readable}
-use Rattle.format.specs.Said.{Said}
+use Rattle.format.specs.Said.{Said, refused}
 use Rattle.format.specs.Reading.{byteSays, runSays, asksSpan, leavesSpan, isShort, spanReached, spanBytes, spanBlocks, spanNumber, spanSays, spanLeaves, leftOver, pathsHold}
 use Rattle.format.specs.Counting.{countSays, indexOf, added, addedAfter, taken, takenAfter, lastPlace, leavesReached, isCounted, numberOfByte}
-use Rattle.format.specs.Finding.{selectNumber, total, found}
+use Rattle.format.specs.Finding.{selectNumber, total, found, FindSays}
 
 book : List ℕ
 book = 81 ∷ 65 ∷ 66 ∷ 67 ∷ 68 ∷ 65 ∷ 66 ∷ 67 ∷ 68 ∷ 69 ∷ 70 ∷ 71 ∷ 65 ∷ 66 ∷ 67 ∷ 68 ∷ 65 ∷ 66 ∷ 67 ∷ 68 ∷ []
@@ -81,17 +82,17 @@ pub record Marked : Type 0 where
   m3 : byteSays (treeOf two book) 19 ≡ said 0 68 3
   m4 : countSays (treeOf two book) 65 17 ≡ said 0 4 3
   m5 : countSays (treeOf two book) 65 0 ≡ said 0 0 0
-  m6 : (selectNumber (treeOf two book) 65 4 ≡ 0) × (found (treeOf two book) 65 4 ≡ said 0 16 3)
-  m7 : selectNumber (treeOf two book) 65 5 ≡ 12
+  m6 : (s : Said) → FindSays (treeOf two book) 65 4 s → s ≡ said 0 16 3
+  m7 : (s : Said) → FindSays (treeOf two book) 65 5 s → s ≡ said 12 0 0
   m8 : (runSays (treeOf two book) 17 ≡ (518, 2)) × (stretch (treeOf two book) 518 2 ≡ 66 ∷ 67 ∷ [])
   m9 : (length (treeOf plain (replicate 12 65)) ≡ 248)
       × (recordOf plain (replicate 12 65) 0 (startsAt plain (replicate 12 65) 0) 2 ≡ 8 ∷ 1 ∷ 0 ∷ 0 ∷ [])
-  m10 : (at.blockLengthAt (treeOf plain abcd) 0 2 ≡ 1) × (recordOf plain abcd 0 (startsAt plain abcd 0) 2 ≡ 8 ∷ 1 ∷ 0 ∷ 0 ∷ [])
+  m10 : (at.blockLengthAt (treeOf two abcd) 0 2 ≡ 1) × (recordOf two abcd 0 (startsAt two abcd 0) 2 ≡ 8 ∷ 1 ∷ 0 ∷ 0 ∷ 2 ∷ 1 ∷ 0 ∷ [])
   path : pathOf (treeOf two book) 18 ≡ some (record { visits = visit 0 4 2 ∷ visit 0 0 3 ∷ visit 1 1 1 ∷ []; leaf = 3 })
   text : textOf (treeOf two book) ≡ book
   accepted : verdict (treeOf two book) ≡ 0
   -- the edges of block 0, QABC, and of M10's last block, of one byte
-  edges : (stretch (treeOf two book) 128 4 ≡ 81 ∷ 65 ∷ 66 ∷ 67 ∷ []) × (stretch (treeOf plain abcd) 156 4 ≡ 65 ∷ 0 ∷ 65 ∷ 0 ∷ [])
+  edges : (stretch (treeOf two book) 128 4 ≡ 81 ∷ 65 ∷ 66 ∷ 67 ∷ []) × (stretch (treeOf two abcd) 192 4 ≡ 65 ∷ 0 ∷ 65 ∷ 0 ∷ [])
   -- over a level 0 border; over a border of level 1; in a leaf; through a pointing block, and over the border of its two targets
   over-top : spanned (treeOf two book) 3 2 ≡ (said 0 2 2, 67 ∷ 68 ∷ 1 ∷ [])
   over-child : spanned (treeOf two book) 1 2 ≡ (said 0 2 3, 65 ∷ 66 ∷ 1 ∷ [])
@@ -129,8 +130,8 @@ marked = record {
   m3 = refl;
   m4 = refl;
   m5 = refl;
-  m6 = (refl, refl);
-  m7 = refl;
+  m6 = λ s says. says .accepted refl refl;
+  m7 = λ s says. says .asked (omega arith);
   m8 = (refl, refl);
   m9 = (refl, refl);
   m10 = (refl, refl);

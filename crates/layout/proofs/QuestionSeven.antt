@@ -20,7 +20,7 @@ use Rattle.layout.specs.declared.settings.Settings.{Settings}
 use Rattle.layout.specs.declared.settings.Checked.{Checked}
 use Rattle.layout.specs.declared.settings.Checked.the-variants.{Fine, Refused}
 use Rattle.layout.specs.Settings as given
-use Rattle.layout.specs.Header.{follows, tablesMeet, restRight, spareCounted, spareLevels, HasSettings}
+use Rattle.layout.specs.Header.{settingsOf, settingsSay, follows, tablesMeet, restRight, spareCounted, spareLevels, HasSettings}
 
 -- Question 7 as a chain of tests.
 abbrev chain : (a b c d e f g h i : Bool) → Bool
@@ -82,6 +82,11 @@ module _ (t : List ℕ) where
       apply (λ a b c d e f g h i. a ≡ true → b ≡ true → c ≡ true → r ≡ (d && e && f && (g && h) && i) → r ≡ chain a b c d e f g h i)
       (λ a b c d e f g h i. chain-rest a b c d e f g h i r) p q s e
       ∙ sym header-is
+
+-- a header that is not right has no settings
+pub wrong : (t : List ℕ) → false ≡ at.headerOk t → Refused 7 ≡ settingsSay t
+unfolding settingsSay
+wrong t e = rw (← e)
 
 module _ (t : List ℕ) (n : ℕ) (n-is : n ≡ wordAt t 4) where
   length-here : (r : Bool) → format.lengthOk n ≡ r → format.lengthOk (at.textLength t) ≡ r
@@ -170,7 +175,7 @@ module _ (t : List ℕ) (m r H k : ℕ) (m-is : m ≡ wordAt t 8) (r-is : r ≡ 
       fit : sizes-fit ≡ true
       fit = fine-sizes s sizes-fit (format.countedOk part) there fine
 
-      pub header-rest : (y : Bool) → y ≡ restRight t → y ≡ at.headerOk t
+      header-rest : (y : Bool) → y ≡ restRight t → y ≡ at.headerOk t
       header-rest y e =
           seven-rest t y (length-here t n n-is true (length-fine n high)) (sizes-here true fit)
           (both-here true (fine-counted s sizes-fit (format.countedOk part) there fine)) e
@@ -196,3 +201,14 @@ module _ (t : List ℕ) (m r H k : ℕ) (m-is : m ≡ wordAt t 8) (r-is : r ≡ 
             block-high = z .top-high;
             counted-high = rw size few;
           })
+
+      settings-are : HasSettings t n s → s ≡ settingsOf t
+      settings-are h = λ i. record { leaf = h .leaf-is i; arity = h .arity-is i; levels = h .levels-is i; counted = h .counted-is i }
+
+      -- the rest is not right, and it is
+      pub rest-wrong : (y : Bool) → y ≡ restRight t → y ≡ false → Refused 7 ≡ settingsSay t
+      rest-wrong y e f = wrong t (sym f ∙ header-rest y e)
+
+      pub rest-fine : 100 ≤ length t → (y : Bool) → y ≡ restRight t → y ≡ true → Fine s ≡ settingsSay t
+      unfolding settingsSay
+      rest-fine long y e f = rw (sym (header-rest y e) ∙ f, settings-are (has-settings long))

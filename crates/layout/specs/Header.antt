@@ -1,6 +1,6 @@
 -- What reading a header answers, and the parts of question 7 as the code asks them.
 use mathlib.Core.List.{List}
-use mathlib.Core.Bool.{Bool, _&&_}
+use mathlib.Core.Bool.{Bool, cond, _&&_}
 use mathlib.Core.Path.{_≡_}
 use Prim.Native.Nat.{ℕ, zero, suc, _+_, _-_, _*_, _^_, _≤_}
 use lib.ListN.{length, getD}
@@ -11,16 +11,27 @@ use Rattle.format.specs.Settings.{pieces, maxText}
 use Rattle.format.specs.Layout as at
 use Rattle.format.specs.Verdict.{readable}
 use Rattle.layout.specs.declared.settings.Settings.{Settings}
+use Rattle.layout.specs.declared.settings.Checked.{Checked}
+use Rattle.layout.specs.declared.settings.Checked.the-variants as settings
+use Rattle.layout.specs.declared.settings.Checked.the-variants.{Fine}
 use Rattle.layout.specs.declared.header.Header.{Header}
 use Rattle.layout.specs.declared.header.HeaderRead.{HeaderRead}
 use Rattle.layout.specs.declared.header.HeaderRead.the-variants.{Good, Refused}
+
+-- the settings as the header's words have them
+abbrev pub settingsOf : List ℕ → Settings
+settingsOf t = record { leaf = wordAt t 8; arity = wordAt t 12; levels = wordAt t 16; counted = wordAt t 20 }
+
+-- these, if question 7 lets the header through
+unfoldable pub settingsSay : List ℕ → Checked
+settingsSay t = cond (at.headerOk t) (Fine (settingsOf t)) (settings.Refused 7)
 
 -- the header's words, and the lengths of a level 0 block and of a record
 abbrev pub fieldsOf : List ℕ → Header
 fieldsOf t = record {
   layout = wordAt t 0;
   length = wordAt t 4;
-  settings = record { leaf = wordAt t 8; arity = wordAt t 12; levels = wordAt t 16; counted = wordAt t 20 };
+  settings = settingsOf t;
   «leaf_offset» = wordAt t 92;
   «leaf_count» = wordAt t 96;
   block = at.fullLength t 0;

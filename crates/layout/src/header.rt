@@ -9,9 +9,9 @@ ghost use lib.ListN.{length};
 ghost use lib.Dec.{eqb};
 ghost use Rattle.format.specs.Settings.{maxText};
 ghost use Rattle.format.specs.Settings as cut;
-ghost use Rattle.format.specs.Layout.{headerOk, recordSize};
+ghost use Rattle.format.specs.Layout.{recordSize};
 ghost use Rattle.format.specs.HeaderLaws.{Readable};
-ghost use Rattle.layout.specs.Header.{headerSays, restRight, spareCounted, spareLevels, tablesMeet, HasSettings, fieldsOf};
+ghost use Rattle.layout.specs.Header.{headerSays, restRight, spareCounted, spareLevels, tablesMeet, HasSettings, settingsOf, settingsSay, fieldsOf};
 
 // What a tree's header says. The levels' counts and offsets stay in the tree, and are read there.
 pub struct Header {
@@ -44,10 +44,11 @@ pub fn read_header(t: &[u8]) -> HeaderRead
     if !known(word::read(t, 0)) {
         return HeaderRead::Refused(6);
     }
-    if !header_right(t) {
+    let checked = header_settings(t);
+    let Checked::Fine(settings) = checked else {
         return HeaderRead::Refused(7);
-    }
-    HeaderRead::Good(fields(t))
+    };
+    HeaderRead::Good(fields(t, settings))
 }
 
 // The layouts that are read.
@@ -60,18 +61,12 @@ fn known(layout: u32) -> bool
     layout == Settings::EDGED
 }
 
-// The header's words, and what they make the length of a level 0 block and of a record.
-pub fn fields(t: &[u8]) -> Header
-    requires { ⌜ Readable (now t) ⌝ }
+// The header's words, of which the settings were checked, and what they make the length of a level 0 block and of a record.
+fn fields(t: &[u8], settings: Settings) -> Header
+    requires { ⌜ Readable (now t) × (settings ≡ settingsOf (now t)) ⌝ }
     ensures { λ r. ⌜ r ≡ fieldsOf (now (t .entry)) ⌝ }
 {
     let layout = word::read(t, 0);
-    let settings = Settings {
-        leaf: word::read(t, 8),
-        arity: word::read(t, 12),
-        levels: word::read(t, 16),
-        counted: word::read(t, 20),
-    };
     Header {
         layout,
         length: word::read(t, 4),
@@ -83,18 +78,18 @@ pub fn fields(t: &[u8]) -> Header
     }
 }
 
-// Question 7.
-fn header_right(t: &[u8]) -> bool
+// Question 7: the settings as the checking constructor made them, if the header is right.
+fn header_settings(t: &[u8]) -> Checked
     requires { ⌜ 100 ≤ length (now t) ⌝ }
-    ensures { λ r. ⌜ r ≡ headerOk (now (t .entry)) ⌝ }
+    ensures { λ r. ⌜ r ≡ settingsSay (now (t .entry)) ⌝ }
 {
     let n = word::read(t, 4);
     if Settings::MAX_TEXT < n {
-        return false;
+        return Checked::Refused(7);
     }
     let k = word::read(t, 20) as usize;
     if Settings::MAX_COUNTED < k {
-        return false;
+        return Checked::Refused(7);
     }
     let end = 24 + k;
     let checked = Settings::new(
@@ -104,9 +99,12 @@ fn header_right(t: &[u8]) -> bool
         &t[24..end],
     );
     let Checked::Fine(settings) = checked else {
-        return false;
+        return Checked::Refused(7);
     };
-    rest_right(t, n, settings)
+    if !rest_right(t, n, settings) {
+        return Checked::Refused(7);
+    }
+    Checked::Fine(settings)
 }
 
 // What question 7 asks besides the settings and n: unused places, level 0's count, offsets and the length.

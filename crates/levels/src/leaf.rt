@@ -1,4 +1,5 @@
 // The leaf bytes: those of the last level's blocks, one block after the other.
+use layout::place::BlockNumber;
 use records::level;
 use records::level::Level;
 ghost use mathlib.Core.Path.{_≡_};
@@ -11,9 +12,16 @@ ghost use Rattle.levels.specs.Leaves.{Leafing};
 ghost use Rattle.records.specs.State.{settingsOf};
 
 // Puts the leaf bytes of a block in place, and answers how many they are.
-fn put_leaf(out: &mut [u8], text: &[u8], counted: &[u8], level: Level, to: u32, i: u32) -> u32
-    requires { ⌜ Leafing (settingsOf (level .settings) (now counted)) (now text) (now out) level to i × (i < level .count) ⌝ }
-    ensures { λ r. ⌜ r ≡ widthOf (settingsOf (level .settings) (now (counted .entry))) (now (text .entry)) (level .number) i ⌝ }
+fn put_leaf(
+    out: &mut [u8],
+    text: &[u8],
+    counted: &[u8],
+    level: Level,
+    to: u32,
+    i: BlockNumber,
+) -> u32
+    requires { ⌜ Leafing (settingsOf (level .settings) (now counted)) (now text) (now out) level to (i .0) × (i .0 < level .count) ⌝ }
+    ensures { λ r. ⌜ r ≡ widthOf (settingsOf (level .settings) (now (counted .entry))) (now (text .entry)) (level .number) (i .0) ⌝ }
     ensures { λ _. ⌜ Grown (treeOf (settingsOf (level .settings) (now (counted .entry))) (now (text .entry))) (now (out .entry)) (now (out .exit)) ⌝ }
     ensures { λ r. ⌜ Within (treeOf (settingsOf (level .settings) (now (counted .entry))) (now (text .entry))) (now (out .exit)) to (to + r) ⌝ }
 {
@@ -38,7 +46,7 @@ pub fn put_leaves(out: &mut [u8], text: &[u8], counted: &[u8], level: Level, at:
     let mut to: u32 = at;
     let mut i: u32 = 0;
     while i < level.count {
-        to = to + put_leaf(out, text, counted, level, to, i);
+        to = to + put_leaf(out, text, counted, level, to, BlockNumber(i));
         i += 1;
     }
 }

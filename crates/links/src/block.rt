@@ -69,17 +69,17 @@ fn kept_right(t: &[u8], v: Level, block: BlockNumber, before: u32, width: u32) -
         return true;
     }
     let start = record::start(t, v.size, v.number, block);
-    children_right(t, v, start, link, width)
+    children_right(t, v, start, BlockNumber(link), width)
 }
 
-// The children of a block that starts at `start` start as cut; the first is number `link`.
-fn children_right(t: &[u8], v: Level, start: TextPlace, link: u32, width: u32) -> bool
-    requires { ⌜ LevelOf (now t) v × (v .number ≡ v .last → ⊥) × (link + width ≤ v .room) ⌝ }
-    ensures { λ r. ⌜ r ≡ allBelow width (childAsCut (now (t .entry)) (v .number) link (start .0)) ⌝ }
+// The children of a block that starts at `start` start as cut; `first` is the first of them.
+fn children_right(t: &[u8], v: Level, start: TextPlace, first: BlockNumber, width: u32) -> bool
+    requires { ⌜ LevelOf (now t) v × (v .number ≡ v .last → ⊥) × (first .0 + width ≤ v .room) ⌝ }
+    ensures { λ r. ⌜ r ≡ allBelow width (childAsCut (now (t .entry)) (v .number) (first .0) (start .0)) ⌝ }
 {
     let mut j: u32 = 0;
     while j < width {
-        let child = record::start(t, v.size, v.number + 1, BlockNumber(link + j));
+        let child = record::start(t, v.size, v.number + 1, BlockNumber(first.0 + j));
         if child.0 as u64 != start.0 as u64 + j as u64 * v.part as u64 {
             return false;
         }

@@ -1,3 +1,5 @@
-mod WrittenLaws
+pub mod WrittenLaws
 mod DigitLaws
-pub mod LineLaws
+mod LineLaws
+mod ListLaws
+pub mod Demands

@@ -7,17 +7,19 @@ use native.Mathlib.Omega.{arith}
 use native.Mathlib.Numerals.{add-one}
 use borrow.Author.Tests.{eq-eqb, ne-eqb, le-leb, lt-leb}
 use lib.ListN.{length}
-use lib.Dec.{eqb}
+use lib.Dec.{eqb, leb}
 use Rattle.text.specs.Lists.{countBelow}
 use Rattle.format.specs.Layout as at
-use Rattle.format.specs.HeaderLaws.{Readable, readable-facts}
 use Rattle.format.specs.Verdict.{verdict}
 use Rattle.format.specs.VerdictLaws.{accepted-readable}
 use Rattle.layout.specs.Record.{FieldIn, field-in}
-use Rattle.layout.specs.Header.{fieldsOf}
+use Rattle.layout.specs.Header.{headerSays}
+use Rattle.layout.specs.HeaderSays.{HeaderOf, header-refused}
 use Rattle.layout.specs.declared.header.Header.{Header}
+use Rattle.layout.specs.declared.header.HeaderRead.{HeaderRead}
+use Rattle.layout.specs.declared.header.HeaderRead.the-variants as header
 use Rattle.listing.specs.Written.{Put}
-use Rattle.listing.specs.Lines.{figure, line, hasKind, levelLine, linesBelow, refusedLine, linesOf, listLines, listed}
+use Rattle.listing.specs.Lines.{figure, line, hasKind, levelLine, linesBelow, refusedLine, linesOf, maxInput, inputNumber, printed}
 use Rattle.listing.specs.Tables.{Level}
 use Rattle.listing.proofs.WrittenLaws.{then-put, put-nothing, put-within}
 
@@ -77,49 +79,53 @@ module _ (t : List ℕ) where
   unfolding linesBelow
   lines-more l h p q = rw add-one (put-within (44 * suc l) (omega arith) (then-put (omega arith) p q))
 
-  module _ (k : Readable t) (h : Header) (h-is : h ≡ fieldsOf t) where
+  module _ (h : Header) (k : HeaderOf t h) where
     abbrev count : ℕ
     count = h .settings .levels
 
-    levels-are : count ≡ at.settings t .levels
-    unfolding at.settings
-    levels-are = ap (λ (x : Header). x .settings .levels) h-is
-
     pub levels-few : count ≤ 8
-    levels-few = omega (arith, levels-are, k .levels-high)
+    levels-few = omega (arith, k .levels-is, k .facts .levels-high)
 
     pub level-there : (l : ℕ) → l < count → Level t (h .«record_size») l
-    level-there l low = record { readable = k; size-is = ap (λ (x : Header). x .«record_size») h-is; level-in = omega (arith, levels-are) }
+    level-there l low = record { readable = k .facts; size-is = k .size-is; level-in = omega (arith, k .levels-is) }
 
     pub lines-done : {d e : List ℕ} {end : ℕ} (l : ℕ) → l ≤ count → count ≤ l → Put d e 0 end (linesBelow t l) (44 * l) → Put d e 0 end (linesBelow t (at.settings t .levels)) 352
-    lines-done l a b p = let q : l ≡ at.settings t .levels = omega (arith, levels-are) in put-within 352 (omega (arith, levels-few)) (rw q at p)
+    lines-done l a b p = let q : l ≡ at.settings t .levels = omega (arith, k .levels-is) in put-within 352 (omega (arith, levels-few)) (rw q at p)
 
-  -- the verdict decides
-  module _ (v : ℕ) (v-is : v ≡ verdict t) where
-    pub list-refused : {d e : List ℕ} {end : ℕ} → (v ≡ 0 → ⊥) → Put d e 0 end (refusedLine v) 19 → Put d e 0 end (listLines t) 512
-    unfolding listLines
-    list-refused n p = put-within 512 (omega arith) (rw (lines-of v n ∙ ap (λ (x : ℕ). linesOf x t) v-is) at p)
-      where
-        lines-of : (x : ℕ) → (x ≡ 0 → ⊥) → refusedLine x ≡ linesOf x t
-        lines-of zero m = absurd (m refl)
-        lines-of (suc x) m = refl
+  -- Question 15 first, then the check's.
+  pub input-long : maxInput < length t → 15 ≡ inputNumber t
+  unfolding inputNumber
+  input-long h = rw (lt-leb (length t) maxInput h)
 
-    pub list-accepted : {d e : List ℕ} {end : ℕ} → v ≡ 0 → Put d e 0 end (linesBelow t (at.settings t .levels)) 352 → Put d e 0 end (listLines t) 512
-    unfolding listLines
-    list-accepted z p = put-within 512 (omega arith) (rw (ap (λ (x : ℕ). linesOf x t) (sym z ∙ v-is)) at p)
+  pub input-short : length t ≤ maxInput → verdict t ≡ inputNumber t
+  unfolding inputNumber
+  input-short h = rw (le-leb (length t) maxInput h)
 
-    pub list-readable : v ≡ 0 → Readable t
-    list-readable z = readable-facts t (accepted-readable t (sym v-is ∙ z))
+  -- the number decides what is printed
+  pub print-refused : {d e : List ℕ} {end : ℕ} (n : ℕ) → n ≡ inputNumber t → (n ≡ 0 → ⊥) → Put d e 0 end (refusedLine n) 19 → Put d e 0 end (printed t) 352
+  unfolding printed
+  print-refused n is m p = put-within 352 (omega arith) (rw (lines-of n m ∙ ap (λ (x : ℕ). linesOf x t) is) at p)
+    where
+      lines-of : (x : ℕ) → (x ≡ 0 → ⊥) → refusedLine x ≡ linesOf x t
+      lines-of zero m = absurd (m refl)
+      lines-of (suc x) m = refl
+
+  module _ (passed : inputNumber t ≡ 0) where
+    pub print-lines : {d e : List ℕ} {end : ℕ} → Put d e 0 end (linesBelow t (at.settings t .levels)) 352 → Put d e 0 end (printed t) 352
+    unfolding printed
+    print-lines p = rw (ap (λ (x : ℕ). linesOf x t) (sym passed)) at p
+
+    passes : (b : Bool) (v : ℕ) → cond b v 15 ≡ 0 → v ≡ 0
+    passes true v e = e
+    passes false v e = absurd (let z : ⊥ = omega arith in z)
+
+    accepted : verdict t ≡ 0
+    unfolding inputNumber
+    accepted = passes (leb (length t) maxInput) (verdict t) passed
+
+    -- the header of an accepted tree is not refused
+    pub never-refused : (x : HeaderRead) → x ≡ headerSays t → (q : ℕ) → x ≡ header.Refused q → ⊥
+    never-refused x is q e = let z = header-refused t x is q e in omega (arith, z .1, accepted-readable t accepted)
 
 pub count-done : (p : ℕ → Bool) (i count n found : ℕ) → i ≤ count → count ≤ i → count ≡ n → found ≡ countBelow i p → found ≡ countBelow n p
 count-done p i count n found a b e f = let q : i ≡ n = omega arith in rw q at f
-
--- Question 15 first.
-
-pub listed-long : {d e : List ℕ} {end : ℕ} (input : List ℕ) → 65536 < length input → Put d e 0 end (refusedLine 15) 19 → Put d e 0 end (listed input) 512
-unfolding listed
-listed-long input h p = rw (lt-leb (length input) 65536 h) (put-within 512 (omega arith) p)
-
-pub listed-short : {d e : List ℕ} {end : ℕ} (input : List ℕ) → length input ≤ 65536 → Put d e 0 end (listLines input) 512 → Put d e 0 end (listed input) 512
-unfolding listed
-listed-short input h p = rw (le-leb (length input) 65536 h) p

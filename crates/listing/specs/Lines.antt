@@ -42,15 +42,19 @@ module _ (t : List ℕ) where
 unfoldable pub refusedLine : ℕ → List ℕ
 refusedLine q = 114 ∷ 101 ∷ 102 ∷ 117 ∷ 115 ∷ 101 ∷ 100 ∷ 32 ∷ [] ++ figure q 10
 
--- the lines of all levels if the verdict is 0, else its number
+-- the longest tree that is listed
+abbrev pub maxInput : ℕ
+maxInput = 65536
+
+-- question 15, then the check's
+unfoldable pub inputNumber : List ℕ → ℕ
+inputNumber input = cond (leb (length input) maxInput) (verdict input) 15
+
+-- the lines of all levels if no question refuses, else the question's number
 abbrev pub linesOf : ℕ → List ℕ → List ℕ
 linesOf zero t = linesBelow t (at.settings t .levels)
 linesOf (suc q) t = refusedLine (suc q)
 
--- what is printed of any tree
-unfoldable pub listLines : List ℕ → List ℕ
-listLines t = linesOf (verdict t) t
-
--- what is printed of any input: question 15 comes first
-unfoldable pub listed : List ℕ → List ℕ
-listed input = cond (leb (length input) 65536) (listLines input) (refusedLine 15)
+-- what the list program prints of any input
+unfoldable pub printed : List ℕ → List ℕ
+printed input = linesOf (inputNumber input) input

@@ -1,4 +1,5 @@
 // Occurrences in the text, by the contract of the search alone.
+use layout::place::BlockNumber;
 use records::level;
 use records::level::Level;
 use search::Fingerprint;
@@ -9,15 +10,21 @@ ghost use Rattle.built.specs.Targets.{placeOf};
 ghost use Rattle.records.specs.State.{settingsOf, On};
 ghost use Rattle.search.specs.Occurrences.{earlierSays};
 
-// Any base and modulus give the same tree.
+// Any base and modulus give the same tree: this function promises nothing, so that what is proved of marking is proved for all of them.
 fn fingerprint() -> Fingerprint {
     Fingerprint::new(257, 2147483647)
 }
 
 // Where the bytes of a block first occur.
-pub fn first_place(text: &[u8], counted: &[u8], out: &[u8], level: Level, i: u32) -> TextPlace
-    requires { ⌜ On (settingsOf (level .settings) (now counted)) (now text) (now out) level i ⌝ }
-    ensures { λ r. ⌜ r .0 ≡ placeOf (settingsOf (level .settings) (now (counted .entry))) (now (text .entry)) (level .number) i ⌝ }
+pub fn first_place(
+    text: &[u8],
+    counted: &[u8],
+    out: &[u8],
+    level: Level,
+    i: BlockNumber,
+) -> TextPlace
+    requires { ⌜ On (settingsOf (level .settings) (now counted)) (now text) (now out) level (i .0) ⌝ }
+    ensures { λ r. ⌜ r .0 ≡ placeOf (settingsOf (level .settings) (now (counted .entry))) (now (text .entry)) (level .number) (i .0) ⌝ }
 {
     let own = level::stretch_of(text, counted, out, level, i);
     match search::leftmost(text, own.start, own.length, fingerprint()) {

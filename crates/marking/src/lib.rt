@@ -3,8 +3,10 @@ mod finding;
 pub mod pair;
 pub mod target;
 
+use layout::place::BlockNumber;
 use records::level::Level;
 use records::record::Block;
+use records::record::Link;
 ghost use Rattle.records.specs.State.{settingsOf, BlockIs};
 ghost use Rattle.marking.specs.Marking.{Next};
 
@@ -14,12 +16,12 @@ pub fn block_at(
     counted: &[u8],
     out: &[u8],
     level: Level,
-    i: u32,
+    i: BlockNumber,
     kept: bool,
-    link: u32,
+    link: Link,
 ) -> Block
-    requires { ⌜ Next (settingsOf (level .settings) (now counted)) (now text) (now out) level i kept link ⌝ }
-    ensures { λ r. ⌜ BlockIs (settingsOf (level .settings) (now (counted .entry))) (now (text .entry)) (level .number) i r ⌝ }
+    requires { ⌜ Next (settingsOf (level .settings) (now counted)) (now text) (now out) level (i .0) kept (link .0) ⌝ }
+    ensures { λ r. ⌜ BlockIs (settingsOf (level .settings) (now (counted .entry))) (now (text .entry)) (level .number) (i .0) r ⌝ }
 {
     if kept {
         return target::kept_block(text, counted, out, level, i, link);

@@ -50,18 +50,18 @@ fn pair_at(text: &[u8], start: TextPlace, size: u32) -> Pair
 }
 
 // How a block and the next one stand. On the last level, where all blocks are kept, no pair is looked for.
-pub fn pair_after(text: &[u8], counted: &[u8], out: &[u8], level: Level, i: u32) -> Pair
-    requires { ⌜ On (settingsOf (level .settings) (now counted)) (now text) (now out) level i ⌝ }
-    ensures { λ r. ⌜ r ≡ pairOf (settingsOf (level .settings) (now (counted .entry))) (now (text .entry)) (level .number) i ⌝ }
+pub fn pair_after(text: &[u8], counted: &[u8], out: &[u8], level: Level, i: BlockNumber) -> Pair
+    requires { ⌜ On (settingsOf (level .settings) (now counted)) (now text) (now out) level (i .0) ⌝ }
+    ensures { λ r. ⌜ r ≡ pairOf (settingsOf (level .settings) (now (counted .entry))) (now (text .entry)) (level .number) (i .0) ⌝ }
 {
     if level.number + 1 == level.settings.levels {
         return Pair::Apart;
     }
-    if i + 1 == level.count {
+    if i.0 + 1 == level.count {
         return Pair::Apart;
     }
-    let start = level::start(counted, out, level, BlockNumber(i));
-    let next = level::start(counted, out, level, BlockNumber(i + 1));
+    let start = level::start(counted, out, level, i);
+    let next = level::start(counted, out, level, BlockNumber(i.0 + 1));
     if next.0 != start.0 + level.size {
         return Pair::Apart;
     }

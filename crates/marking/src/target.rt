@@ -1,9 +1,11 @@
 // Where a pointing block points.
 use layout::place::BlockNumber;
+use layout::place::BlockPlace;
 use layout::place::TextPlace;
 use records::level;
 use records::level::Level;
 use records::record::Block;
+use records::record::Link;
 ghost use mathlib.Core.Bool.{true, false};
 ghost use mathlib.Core.Path.{_≡_};
 ghost use Prim.Native.Nat.{_+_, _-_, _<_};
@@ -15,8 +17,8 @@ ghost use Rattle.marking.specs.Targets.{parentSays, Sorted, Between};
 
 // Blocks from `low` to just before `high`.
 pub struct Range {
-    pub low: u32,
-    pub high: u32,
+    pub low: BlockNumber,
+    pub high: BlockNumber,
 }
 
 // The start of a block's parent; the text's start on level 0.
@@ -33,23 +35,19 @@ fn parent(level: Level, start: TextPlace) -> TextPlace
 // One step of the search for the last block that starts at a place or before it.
 fn narrow(counted: &[u8], out: &[u8], level: Level, place: TextPlace, range: Range) -> Range
     requires { ⌜ Sorted (now out) (level .table) (level .count) (settingsOf (level .settings) (now counted)) ⌝ }
-    requires { ⌜ Between (now out) (level .table) (level .count) (settingsOf (level .settings) (now counted)) (place .0) (range .low) (range .high) ⌝ }
-    requires { ⌜ range .low + 1 < range .high ⌝ }
-    ensures { λ r. ⌜ Between (now (out .entry)) (level .table) (level .count) (settingsOf (level .settings) (now (counted .entry))) (place .0) (r .low) (r .high) ⌝ }
-    ensures { λ r. ⌜ r .high - r .low < range .high - range .low ⌝ }
+    requires { ⌜ Between (now out) (level .table) (level .count) (settingsOf (level .settings) (now counted)) (place .0) (range .low .0) (range .high .0) ⌝ }
+    requires { ⌜ range .low .0 + 1 < range .high .0 ⌝ }
+    ensures { λ r. ⌜ Between (now (out .entry)) (level .table) (level .count) (settingsOf (level .settings) (now (counted .entry))) (place .0) (r .low .0) (r .high .0) ⌝ }
+    ensures { λ r. ⌜ r .high .0 - r .low .0 < range .high .0 - range .low .0 ⌝ }
 {
-    let middle = range.low + (range.high - range.low) / 2;
-    let start = level::start(counted, out, level, BlockNumber(middle));
+    let low = range.low;
+    let high = range.high;
+    let middle = BlockNumber(low.0 + (high.0 - low.0) / 2);
+    let start = level::start(counted, out, level, middle);
     if place.0 < start.0 {
-        return Range {
-            low: range.low,
-            high: middle,
-        };
+        return Range { low, high: middle };
     }
-    Range {
-        low: middle,
-        high: range.high,
-    }
+    Range { low: middle, high }
 }
 
 // The last block that starts at a place or before it.
@@ -59,31 +57,39 @@ fn holder(counted: &[u8], out: &[u8], level: Level, place: TextPlace) -> BlockNu
     ensures { λ r. ⌜ Between (now (out .entry)) (level .table) (level .count) (settingsOf (level .settings) (now (counted .entry))) (place .0) (r .0) (r .0 + 1) ⌝ }
 {
     let mut range = Range {
-        low: 0,
-        high: level.count,
+        low: BlockNumber(0),
+        high: BlockNumber(level.count),
     };
-    while range.low + 1 < range.high {
+    while range.low.0 + 1 < range.high.0 {
         range = narrow(counted, out, level, place, range);
     }
-    BlockNumber(range.low)
+    range.low
 }
 
 // A block that is kept, with its link.
-pub fn kept_block(text: &[u8], counted: &[u8], out: &[u8], level: Level, i: u32, link: u32) -> Block
-    requires { ⌜ On (settingsOf (level .settings) (now counted)) (now text) (now out) level i ⌝ }
-    requires { ⌜ keptAt (settingsOf (level .settings) (now counted)) (now text) (level .number) i ≡ true ⌝ }
-    requires { ⌜ link ≡ sumBelow i (widthOf (settingsOf (level .settings) (now counted)) (now text) (level .number)) ⌝ }
-    ensures { λ r. ⌜ BlockIs (settingsOf (level .settings) (now (counted .entry))) (now (text .entry)) (level .number) i r ⌝ }
+pub fn kept_block(
+    text: &[u8],
+    counted: &[u8],
+    out: &[u8],
+    level: Level,
+    i: BlockNumber,
+    link: Link,
+) -> Block
+    requires { ⌜ On (settingsOf (level .settings) (now counted)) (now text) (now out) level (i .0) ⌝ }
+    requires { ⌜ keptAt (settingsOf (level .settings) (now counted)) (now text) (level .number) (i .0) ≡ true ⌝ }
+    requires { ⌜ link .0 ≡ sumBelow (i .0) (widthOf (settingsOf (level .settings) (now counted)) (now text) (level .number)) ⌝ }
+    ensures { λ r. ⌜ BlockIs (settingsOf (level .settings) (now (counted .entry))) (now (text .entry)) (level .number) (i .0) r ⌝ }
 {
     let own = level::stretch_of(text, counted, out, level, i);
+    let start = own.start;
     Block {
-        start: own.start.0,
+        start,
         length: own.length,
-        parent: parent(level, own.start).0,
+        parent: parent(level, start),
         kind: 0,
         link,
-        from: 0,
-        gap: 0,
+        from: TextPlace(0),
+        gap: BlockPlace(0),
     }
 }
 
@@ -93,24 +99,25 @@ pub fn pointing_block(
     counted: &[u8],
     out: &[u8],
     level: Level,
-    i: u32,
+    i: BlockNumber,
     place: TextPlace,
 ) -> Block
-    requires { ⌜ On (settingsOf (level .settings) (now counted)) (now text) (now out) level i ⌝ }
-    requires { ⌜ keptAt (settingsOf (level .settings) (now counted)) (now text) (level .number) i ≡ false ⌝ }
-    requires { ⌜ place .0 ≡ placeOf (settingsOf (level .settings) (now counted)) (now text) (level .number) i ⌝ }
-    ensures { λ r. ⌜ BlockIs (settingsOf (level .settings) (now (counted .entry))) (now (text .entry)) (level .number) i r ⌝ }
+    requires { ⌜ On (settingsOf (level .settings) (now counted)) (now text) (now out) level (i .0) ⌝ }
+    requires { ⌜ keptAt (settingsOf (level .settings) (now counted)) (now text) (level .number) (i .0) ≡ false ⌝ }
+    requires { ⌜ place .0 ≡ placeOf (settingsOf (level .settings) (now counted)) (now text) (level .number) (i .0) ⌝ }
+    ensures { λ r. ⌜ BlockIs (settingsOf (level .settings) (now (counted .entry))) (now (text .entry)) (level .number) (i .0) r ⌝ }
 {
     let own = level::stretch_of(text, counted, out, level, i);
-    let link = holder(counted, out, level, place);
-    let from = level::start(counted, out, level, link);
+    let start = own.start;
+    let target = holder(counted, out, level, place);
+    let from = level::start(counted, out, level, target);
     Block {
-        start: own.start.0,
+        start,
         length: own.length,
-        parent: parent(level, own.start).0,
+        parent: parent(level, start),
         kind: 1,
-        link: link.0,
-        from: from.0,
-        gap: place.0 - from.0,
+        link: Link(target.0),
+        from,
+        gap: BlockPlace(place.0 - from.0),
     }
 }

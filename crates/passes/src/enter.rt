@@ -3,6 +3,7 @@ use crate::Lengths;
 use entries::Items;
 use entries::entry;
 use entries::item;
+use layout::place::BlockNumber;
 ghost use mathlib.Core.Path.{_≡_};
 ghost use Prim.Native.Nat.{_+_, _-_, _*_, _%_, _^_, _≤_, _<_};
 ghost use lib.ListN.{length};
@@ -53,11 +54,11 @@ fn noted(l: Lengths, size: u32, n: u32) -> Lengths
 }
 
 // The fingerprint of block i.
-fn block_print(text: &[u8], out: &[u8], it: Items, i: u32) -> u32
-    requires { ⌜ Placed (now text) (now out) it × (2 * i < it .items) ⌝ }
-    ensures { λ r. ⌜ r ≡ print (bytesAt (now (text .entry)) (now (out .entry)) it (2 * i)) ⌝ }
+fn block_print(text: &[u8], out: &[u8], it: Items, i: BlockNumber) -> u32
+    requires { ⌜ Placed (now text) (now out) it × (2 * i .0 < it .items) ⌝ }
+    ensures { λ r. ⌜ r ≡ print (bytesAt (now (text .entry)) (now (out .entry)) it (2 * i .0)) ⌝ }
 {
-    let own = item::run_of(text, out, it, 2 * i);
+    let own = item::run_of(text, out, it, 2 * i.0);
     rolling::fingerprint_at(text, own.start, own.length)
 }
 
@@ -78,21 +79,21 @@ fn enter_pair(
     text: &[u8],
     out: &[u8],
     it: Items,
-    i: u32,
+    i: BlockNumber,
     h: u32,
     next: u32,
     top: u32,
 ) -> u32
-    requires { ⌜ Turn (now text) (now out) it (now words) (2 * i + 1) × Ordered (now text) (now out) it × (2 * i + 2 < it .items) ⌝ }
-    requires { ⌜ (h ≡ print (bytesAt (now text) (now out) it (2 * i))) × (next ≡ print (bytesAt (now text) (now out) it (2 * i + 2)))
+    requires { ⌜ Turn (now text) (now out) it (now words) (2 * i .0 + 1) × Ordered (now text) (now out) it × (2 * i .0 + 2 < it .items) ⌝ }
+    requires { ⌜ (h ≡ print (bytesAt (now text) (now out) it (2 * i .0))) × (next ≡ print (bytesAt (now text) (now out) it (2 * i .0 + 2)))
         × (top ≡ 1540483477 ^ it .size % 4294967296) ⌝ }
-    ensures { λ _. ⌜ Took (now (text .entry)) (now (out .entry)) it (now (words .entry)) (now (words .exit)) (2 * i + 1) ⌝ }
-    ensures { λ r. ⌜ PairSays (now (text .entry)) (now (out .entry)) it (2 * i + 1) r ⌝ }
+    ensures { λ _. ⌜ Took (now (text .entry)) (now (out .entry)) it (now (words .entry)) (now (words .exit)) (2 * i .0 + 1) ⌝ }
+    ensures { λ r. ⌜ PairSays (now (text .entry)) (now (out .entry)) it (2 * i .0 + 1) r ⌝ }
 {
-    let x = 2 * i + 1;
+    let x = 2 * i.0 + 1;
     let own = item::run_of(text, out, it, x);
     let second = item::run_of(text, out, it, x + 1);
-    if second.start != own.start + it.size {
+    if second.start.0 != own.start.0 + it.size {
         entry::skip(words, text, out, it, x);
         return 0;
     }
@@ -107,18 +108,18 @@ fn enter_both(
     text: &[u8],
     out: &[u8],
     it: Items,
-    i: u32,
+    i: BlockNumber,
     h: u32,
     next: u32,
     top: u32,
 ) -> u32
-    requires { ⌜ Entrants (now text) (now out) it (now words) (2 * i) × Ordered (now text) (now out) it × (2 * i + 2 < it .items) ⌝ }
-    requires { ⌜ (h ≡ print (bytesAt (now text) (now out) it (2 * i))) × (next ≡ print (bytesAt (now text) (now out) it (2 * i + 2)))
+    requires { ⌜ Entrants (now text) (now out) it (now words) (2 * i .0) × Ordered (now text) (now out) it × (2 * i .0 + 2 < it .items) ⌝ }
+    requires { ⌜ (h ≡ print (bytesAt (now text) (now out) it (2 * i .0))) × (next ≡ print (bytesAt (now text) (now out) it (2 * i .0 + 2)))
         × (top ≡ 1540483477 ^ it .size % 4294967296) ⌝ }
-    ensures { λ _. ⌜ Entrants (now (text .entry)) (now (out .entry)) it (now (words .exit)) (2 * i + 2) ⌝ }
-    ensures { λ r. ⌜ PairSays (now (text .entry)) (now (out .entry)) it (2 * i + 1) r ⌝ }
+    ensures { λ _. ⌜ Entrants (now (text .entry)) (now (out .entry)) it (now (words .exit)) (2 * i .0 + 2) ⌝ }
+    ensures { λ r. ⌜ PairSays (now (text .entry)) (now (out .entry)) it (2 * i .0 + 1) r ⌝ }
 {
-    entry::enter(words, text, out, it, 2 * i, h);
+    entry::enter(words, text, out, it, 2 * i.0, h);
     enter_pair(words, text, out, it, i, h, next, top)
 }
 
@@ -135,11 +136,11 @@ pub fn enter_level(words: &mut [u32], text: &[u8], out: &[u8], it: Items) -> Len
         last: 0,
         ending: 0,
     };
-    let mut h = block_print(text, out, it, 0);
+    let mut h = block_print(text, out, it, BlockNumber(0));
     let mut i: u32 = 0;
     while 2 * i + 1 < it.items {
-        let next = block_print(text, out, it, i + 1);
-        let n = enter_both(words, text, out, it, i, h, next, top);
+        let next = block_print(text, out, it, BlockNumber(i + 1));
+        let n = enter_both(words, text, out, it, BlockNumber(i), h, next, top);
         l = noted(noted(l, it.size, it.size), it.size, n);
         h = next;
         i += 1;

@@ -3,6 +3,7 @@ mod enter;
 mod pass;
 
 use entries::Items;
+use text::TextPlace;
 ghost use mathlib.Core.Path.{_≡_};
 ghost use Prim.Native.Nat.{_+_, _*_, _≤_, _<_};
 ghost use lib.ListN.{length};
@@ -29,13 +30,13 @@ pub fn scan(words: &mut [u32], text: &[u8], out: &[u8], it: Items) -> u32
 }
 
 // Where item x first stands, by the table.
-pub fn place_of(words: &[u32], n: u32, x: u32) -> u32
+pub fn place_of(words: &[u32], n: u32, x: u32) -> TextPlace
     requires { ⌜ (3 * x + 3 ≤ length (now words)) × (n ≤ placeIn (now words) x → placeIn (now words) x < n + x) ⌝ }
-    ensures { λ r. ⌜ r ≡ placeOut n (now (words .entry)) x ⌝ }
+    ensures { λ r. ⌜ r .0 ≡ placeOut n (now (words .entry)) x ⌝ }
 {
     let w = words[3 * x as usize + 2];
     if w < n {
-        return w;
+        return TextPlace(w);
     }
-    words[3 * (w - n) as usize + 2]
+    TextPlace(words[3 * (w - n) as usize + 2])
 }

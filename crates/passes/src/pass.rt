@@ -3,6 +3,7 @@ use crate::Lengths;
 use entries::Items;
 use entries::lookup;
 use rolling::Window;
+use text::TextPlace;
 ghost use mathlib.Core.Path.{_≡_};
 ghost use Prim.Native.Nat.{_+_, _≤_, _<_};
 ghost use lib.ListN.{length};
@@ -10,12 +11,12 @@ ghost use Rattle.rolling.specs.Windows.{Standing, placesOf};
 ghost use Rattle.passes.specs.Passes.{Asked, Stepped, Covers, Passed, Entrants, Ordered};
 
 // Looks a window up at p, where it stands there, and moves it on.
-fn step(words: &mut [u32], text: &[u8], out: &[u8], it: Items, w: Window, p: u32) -> Window
-    requires { ⌜ Asked (now text) (now out) it (now words) × Standing (now text) (w .len) p w × (p < length (now text)) ⌝ }
-    ensures { λ r. ⌜ Standing (now (text .entry)) (w .len) (p + 1) r ⌝ }
-    ensures { λ _. ⌜ Stepped (now (text .entry)) (now (out .entry)) it (now (words .entry)) (now (words .exit)) (w .len) p ⌝ }
+fn step(words: &mut [u32], text: &[u8], out: &[u8], it: Items, w: Window, p: TextPlace) -> Window
+    requires { ⌜ Asked (now text) (now out) it (now words) × Standing (now text) (w .len) (p .0) w × (p .0 < length (now text)) ⌝ }
+    ensures { λ r. ⌜ Standing (now (text .entry)) (w .len) (p .0 + 1) r ⌝ }
+    ensures { λ _. ⌜ Stepped (now (text .entry)) (now (out .entry)) it (now (words .entry)) (now (words .exit)) (w .len) (p .0) ⌝ }
 {
-    if w.places <= p {
+    if w.places <= p.0 {
         return w;
     }
     lookup::look(words, text, out, it, w.print, p, w.len);
@@ -35,10 +36,10 @@ pub fn pass(words: &mut [u32], text: &[u8], out: &[u8], it: Items, l: Lengths) -
     let mut d = rolling::opened(text, l.ending);
     let mut p: u32 = 0;
     while p < text.len() as u32 {
-        a = step(words, text, out, it, a, p);
-        b = step(words, text, out, it, b, p);
-        c = step(words, text, out, it, c, p);
-        d = step(words, text, out, it, d, p);
+        a = step(words, text, out, it, a, TextPlace(p));
+        b = step(words, text, out, it, b, TextPlace(p));
+        c = step(words, text, out, it, c, TextPlace(p));
+        d = step(words, text, out, it, d, TextPlace(p));
         p += 1;
     }
     a.looked + b.looked + c.looked + d.looked

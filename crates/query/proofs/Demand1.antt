@@ -26,6 +26,8 @@ use Rattle.layout.specs.Settings.{sizes}
 use Rattle.enough.specs.Enough.{enoughFor, enoughSays}
 use Rattle.select.proofs.FoundLaws.{find-by}
 use Rattle.paths.specs.Visits.{path-long}
+use Rattle.runs.specs.Runs.{Ends, ends}
+use Rattle.query.proofs.Functions as f
 use Rattle.query.proofs.Calls as calls
 use Rattle.query.proofs.Calls.{Lent, Fingerprint, Check, Enough, Byte, Run, Count, Find}
 use Rattle.query.proofs.Numbers.{OneOf, not-zero, verdict-one, byte-one, count-one}
@@ -37,47 +39,44 @@ use calls.answer as answer
 use calls.counted as counted
 use calls.found as found
 
--- "Every call ends, on every text, setting, tree and question; reads and writes only what was lent": each call meets its contract. That is
--- a theorem of the logic, for any arguments: from a memory that holds what is lent, the call returns, and any other memory is as it was.
-pub every-call-ends : {M : Type 1}
-    → calls.leftmost-stated.statement M × calls.earlier-stated.statement M
-    × calls.build-stated.statement M × calls.check-stated.statement M × calls.enough-stated.statement M
-    × calls.byte-stated.statement M × calls.run-stated.statement M × calls.span-stated.statement M
-    × calls.count-stated.statement M × calls.find-stated.statement M × calls.row-stated.statement M
-    × calls.places-stated.statement M
-    × calls.scanned-stated.statement M × calls.scan-words-stated.statement M
-    × calls.next-match-stated.statement M × calls.show-stated.statement M
-    × calls.to-columns-stated.statement M × calls.from-columns-stated.statement M × calls.by-columns-stated.statement M
-    × calls.guide-words-stated.statement M × calls.make-guide-stated.statement M × calls.check-guide-stated.statement M
-    × calls.find-guided-stated.statement M × calls.row-guided-stated.statement M
-    × calls.compare-stated.statement M × calls.first-stated.statement M
+-- "Every call ends, on every text, setting, tree and question; reads and writes only what was lent" (`Ends`): from any memory that holds what is lent, and anything
+-- else beside it, the machine's run of the call ends after so many steps, in a memory that holds what the contract says of the value returned, and all else as it was.
+pub every-call-ends :
+    Ends f.leftmost × Ends f.occurs-earlier × Ends f.build × Ends f.check × Ends f.enough
+    × Ends f.byte × Ends f.run × Ends f.run-part × Ends f.span × Ends f.count
+    × Ends f.uncounted × Ends f.find × Ends f.row × Ends f.places × Ends f.build-scanned
+    × Ends f.scan-words × Ends f.next-match × Ends f.show × Ends f.to-columns × Ends f.from-columns
+    × Ends f.row-by-columns × Ends f.guide-words × Ends f.make-guide × Ends f.check-guide × Ends f.find-guided
+    × Ends f.row-guided × Ends f.compare × Ends f.first
 every-call-ends = (
-  calls.leftmost-met.met,
-  calls.earlier-met.met,
-  calls.build-met.met,
-  calls.check-met.met,
-  calls.enough-met.met,
-  calls.byte-met.met,
-  calls.run-met.met,
-  calls.span-met.met,
-  calls.count-met.met,
-  calls.find-met.met,
-  calls.row-met.met,
-  calls.places-met.met,
-  calls.scanned-met.met,
-  calls.scan-words-met.met,
-  calls.next-match-met.met,
-  calls.show-met.met,
-  calls.to-columns-met.met,
-  calls.from-columns-met.met,
-  calls.by-columns-met.met,
-  calls.guide-words-met.met,
-  calls.make-guide-met.met,
-  calls.check-guide-met.met,
-  calls.find-guided-met.met,
-  calls.row-guided-met.met,
-  calls.compare-met.met,
-  calls.first-met.met,
+  ends f.leftmost calls.leftmost-met.met,
+  ends f.occurs-earlier calls.earlier-met.met,
+  ends f.build calls.build-met.met,
+  ends f.check calls.check-met.met,
+  ends f.enough calls.enough-met.met,
+  ends f.byte calls.byte-met.met,
+  ends f.run calls.run-met.met,
+  ends f.run-part calls.run-part-met.met,
+  ends f.span calls.span-met.met,
+  ends f.count calls.count-met.met,
+  ends f.uncounted calls.uncounted-met.met,
+  ends f.find calls.find-met.met,
+  ends f.row calls.row-met.met,
+  ends f.places calls.places-met.met,
+  ends f.build-scanned calls.scanned-met.met,
+  ends f.scan-words calls.scan-words-met.met,
+  ends f.next-match calls.next-match-met.met,
+  ends f.show calls.show-met.met,
+  ends f.to-columns calls.to-columns-met.met,
+  ends f.from-columns calls.from-columns-met.met,
+  ends f.row-by-columns calls.by-columns-met.met,
+  ends f.guide-words calls.guide-words-met.met,
+  ends f.make-guide calls.make-guide-met.met,
+  ends f.check-guide calls.check-guide-met.met,
+  ends f.find-guided calls.find-guided-met.met,
+  ends f.row-guided calls.row-guided-met.met,
+  ends f.compare calls.compare-met.met,
+  ends f.first calls.first-met.met,
 )
 
 -- "trusts no caller to have checked a tree": what a call asks of its caller holds of any arguments.
@@ -90,8 +89,10 @@ pub trusts-no-caller :
     × ((κs : Lfts 0) (n leaf arity levels counted : ℕ) → calls.enough-reads.Asked κs (n, (leaf, (arity, (levels, (counted, tt))))))
     × ((κs : Lfts 1) (t : Lent) (p : TextPlace) → calls.byte-reads.Asked κs (t, (p, tt)))
     × ((κs : Lfts 1) (t : Lent) (p : TextPlace) → calls.run-reads.Asked κs (t, (p, tt)))
+    × ((κs : Lfts 1) (t : Lent) (p : TextPlace) → calls.run-part-reads.Asked κs (t, (p, tt)))
     × ((κs : Lfts 2) (t : Lent) (p : TextPlace) (len : ℕ) (buffer : Lent) → calls.span-reads.Asked κs (t, (p, (len, (buffer, tt)))))
     × ((κs : Lfts 1) (t : Lent) (byte i : ℕ) → calls.count-reads.Asked κs (t, (byte, (i, tt))))
+    × ((κs : Lfts 1) (t : Lent) (i : ℕ) → calls.uncounted-reads.Asked κs (t, (i, tt)))
     × ((κs : Lfts 1) (t : Lent) (byte j : ℕ) → calls.find-reads.Asked κs (t, (byte, (j, tt))))
     × ((κs : Lfts 2) (t : Lent) (q : ℕ) (buffer : Lent) → calls.row-reads.Asked κs (t, (q, (buffer, tt))))
     × ((κs : Lfts 3) (t pattern table : Lent) → calls.places-reads.Asked κs (t, (pattern, (table, tt))))
@@ -117,8 +118,10 @@ trusts-no-caller = (
   λ κs n leaf arity levels counted. tt,
   λ κs t p. tt,
   λ κs t p. tt,
+  λ κs t p. tt,
   λ κs t p len buffer. tt,
   λ κs t byte i. tt,
+  λ κs t i. tt,
   λ κs t byte j. tt,
   λ κs t q buffer. tt,
   λ κs t pattern table. tt,

@@ -2,20 +2,25 @@
 -- row, count and place is the text's." And the end of demand 3: "What the builder writes is accepted, and its one text is the input."
 use mathlib.Core.List.{List}
 use mathlib.Core.Bool.{true}
-use mathlib.Core.Path.{_≡_, refl, sym, _∙_}
-use Prim.Native.Nat.{ℕ}
+use mathlib.Core.Path.{_≡_, refl, sym, ap, _∙_}
+use Prim.Native.Nat.{ℕ, _≤_}
+use native.Mathlib.Omega.{arith}
 use contract.Lifetimes.{Lfts}
 use denote.Ref.{now}
-use lib.ListN.{take}
-use Rattle.format.specs.Settings.{Settings}
+use lib.ListN.{length, take}
+use borrow.Author.Tests.{le-leb}
+use Rattle.format.specs.Settings.{Settings, lengthOk, sizesOk, countedOk}
+use Rattle.format.specs.HeaderLaws.{readable-facts}
+use Rattle.built.specs.Readable.{built-readable}
 use Rattle.format.specs.Blocks.{treeOf}
 use Rattle.format.specs.Layout as at
 use Rattle.format.specs.Fits.{textOf, fits}
 use Rattle.format.specs.Verdict.{verdict}
-use Rattle.format.specs.Building.{buildNumber}
+use Rattle.format.specs.Building.{buildNumber, buildSize}
 use Rattle.built.specs.ReadBack.{read-settings}
 use Rattle.accepted.specs.Accepting.{StandsFor, accepted-stands, one-text}
-use Rattle.builder.specs.Answers.{given}
+use Rattle.builder.specs.Answers.{given, sizeOf}
+use Rattle.builder.specs.declared.Built.{Built}
 use Rattle.tree.proofs.Demands as tree
 use Rattle.query.proofs.Calls as calls
 use Rattle.query.proofs.Calls.{Lent, Build, Check}
@@ -70,3 +75,22 @@ module _ (κs : Lfts 3) (text : Lent) (leaf arity levels : ℕ) (counted out aft
     build-one-text =
         let s = accepted-stands (now t) accepted in
         (rw text-is at s, λ U f. one-text (now t) (s .readable-is) (s .linked) U f ∙ text-is)
+
+-- which answer has a size
+size-is : (r : Built) (n : ℕ) → 1 ≤ n → sizeOf r ≡ n → r ≡ built.Size n
+size-is (built.Size m) n low e = ap built.Size e
+size-is (built.Refused q) n low e = absurd (let z : ⊥ = omega arith in z)
+
+-- "For every text, setting and buffer that questions 1 to 4 let through, the builder writes the tree": no buffer that holds it is refused.
+pub build-lets-through :
+    (κs : Lfts 3) (text : Lent) (leaf arity levels : ℕ) (counted out after : Lent) (r : Built) → Build κs text leaf arity levels counted out after r
+    → lengthOk (length (now text)) ≡ true → sizesOk (given leaf arity levels (now counted)) ≡ true → countedOk (now counted) ≡ true
+    → length (treeOf (given leaf arity levels (now counted)) (now text)) ≤ length (now out)
+    → r ≡ built.Size (length (treeOf (given leaf arity levels (now counted)) (now text)))
+unfolding buildNumber buildSize
+build-lets-through κs text leaf arity levels counted out after r a one two three four =
+    let S = given leaf arity levels (now counted) in
+    let passed : buildNumber S (now text) (now out) ≡ 0 = rw (one, two, three, le-leb (length (treeOf S (now text))) (length (now out)) four) in
+    let long = readable-facts (treeOf S (now text)) (built-readable S (now text) (record { length-ok = one; sizes-ok = two; counted-ok = three })) .long in
+    let size : sizeOf r ≡ length (treeOf S (now text)) = a .1 .0 ∙ rw passed in
+    size-is r (length (treeOf S (now text))) (omega (arith, long)) size

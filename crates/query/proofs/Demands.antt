@@ -44,6 +44,8 @@ pub use Rattle.query.proofs.Demand3.{check-one-text}
 pub use Rattle.query.proofs.Demand3.{check-answers, check-refuses}
 -- .. What the builder writes is accepted, and its one text is the input."
 pub use Rattle.query.proofs.Demand2.{build-accepted, build-one-text}
+-- .. "For every text, setting and buffer that questions 1 to 4 let through, the builder writes the tree": no buffer that holds it is refused.
+pub use Rattle.query.proofs.Demand2.{build-lets-through}
 -- Rows. "If the text's last byte is not 10, the bytes after the last byte 10 (or all the text, where none stands) are one more row. Its number
 -- is the total of byte 10 plus one. ..
 pub use Rattle.text.specs.RowLaws.{rows-count, row-last}

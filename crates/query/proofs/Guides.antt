@@ -30,6 +30,7 @@ use Rattle.guided.specs.Guided.{stepsTo, saidGuided, stepsOf, Numbered}
 use Rattle.query.proofs.Calls as calls
 use Rattle.query.proofs.Calls.{Lent, Guided, CheckGuide, MakeGuide, GuideWords, FindGuided, RowGuided}
 use Rattle.query.proofs.Numbers.{OneOf, not-zero, then-one, asks-one, readable-one, verdict-one}
+use Rattle.format.specs.RowSays.{rowMost}
 use Rattle.query.proofs.Ways.{FindWay, find-way, way-below, way-numbers, Zeros, RowWay, row-way, way-copied, row-way-numbers, row-way-leaves}
 use Rattle.query.proofs.Answering.{LengthOfPath, length-of-path, Among}
 use Rattle.query.proofs.Accepted.{let-through}
@@ -83,7 +84,7 @@ module _ (κs : Lfts 3) (t guide : Lent) (q : ℕ) (buffer after : Lent) where
     row-guided-numbers = row-way-numbers (now t) q (now buffer) n (now after) (a .numbered) ends
 
     -- .. it leaves the buffer as row does.
-    pub row-guided-leaves : (now after ≡ now buffer) ⊎ ((n ≡ 14) × Zeros (now buffer) (now after))
+    pub row-guided-leaves : (now after ≡ now buffer) ⊎ ((n ≡ 14) × Zeros (rowMost (now t) q) (now buffer) (now after))
     row-guided-leaves = row-way-leaves (now t) q (now buffer) n (now after) (a .numbered) ends
 
 -- A tree and a guide that check_guide accepts: find with the guide answers from the tree's text, with the length of the place's path and the steps

@@ -1,4 +1,5 @@
 pub mod Calls
+mod Functions
 pub mod Numbers
 pub mod Passing
 pub mod Ways

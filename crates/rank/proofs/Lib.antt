@@ -1,3 +1,4 @@
 pub mod ScanLaws
 pub mod SumLaws
 pub mod CountingLaws
+mod UncountedLaws

@@ -3,7 +3,9 @@ use mathlib.Core.Bool.{cond}
 use mathlib.Core.List.{List}
 use mathlib.Core.Path.{_≡_}
 use Prim.Native.Nat.{ℕ, _-_, _≤_}
-use lib.Dec.{leb}
+use lib.Dec.{leb, eqb}
+use Rattle.format.specs.Layout as at
+use Rattle.format.specs.Verdict.{ask, readable}
 use Rattle.format.specs.Said.{Said, refused}
 use Rattle.format.specs.Counting.{countSays}
 use Rattle.rank.specs.declared.Counted.{Counted}
@@ -29,3 +31,7 @@ pub record CountAnswer (t : List ℕ) (byte i : ℕ) (r : Counted) : Type 0 wher
 unfoldable pub settled : Summed → Said
 settled Broken = refused 14
 settled (At s) = cond (leb (s .minus) (s .plus)) (record { number = 0; value = s .plus - s .minus; entered = s .entered }) (refused 14)
+
+-- Count and find of a number above 255, which is no byte and so not counted: questions 5 to 7, then 10 for what ends at i, then 11
+unfoldable pub uncountedNumber : List ℕ → ℕ → ℕ
+uncountedNumber t i = cond (eqb (readable t) 0) (ask 10 (leb i (at.textLength t)) 11) (readable t)

@@ -2,6 +2,7 @@
 pub mod counting;
 pub mod scan;
 mod sums;
+pub mod uncounted;
 
 use layout::header;
 use layout::header::HeaderRead;

@@ -113,7 +113,7 @@ module _ (S : Settings) (T out : List ℕ) (level : Level) (i : ℕ) (block : Bl
     own-in : own ≤ bytesIn S T l i
     own-in = omega (arith, own-is, w .block-is .length-is)
 
-    pub first-asks : (at + 16 + 12 * length (S .counted) + m ≤ length out) × (block .start + own ≤ length T) × (own ≤ m)
+    pub first-asks : (at + 16 + 12 * length (S .counted) + m ≤ length out) × (block .start .0 + own ≤ length T) × (own ≤ m)
     first-asks = (omega (arith, here, room), omega (arith, w .block-is .start-is, own-in, fit), few)
 
     first-bytes : (j : ℕ) → j < own → getD D (A + j) 0 ≡ getD T (start S T l i + j) 0
@@ -130,7 +130,7 @@ module _ (S : Settings) (T out : List ℕ) (level : Level) (i : ℕ) (block : Bl
     last-zeros : (j : ℕ) → own ≤ j → j < m → getD D (A + m + j) 0 ≡ 0
     last-zeros j lo hi = rw (add-assoc A m j) (edge-at (m + j) (omega arith) ∙ last-none T m (start S T l i) (bytesIn S T l i) fit j hi (omega (arith, own-is, w .block-is .length-is)))
 
-    module _ (one : List ℕ) (one-is : one ≡ edgeWritten out (at + 16 + 12 * length (S .counted)) T (block .start) own m) where
+    module _ (one : List ℕ) (one-is : one ≡ edgeWritten out (at + 16 + 12 * length (S .counted)) T (block .start .0) own m) where
       one-right : one ≡ edgeWritten out A T (start S T l i) own m
       one-right = one-is ∙ rw (here, w .block-is .start-is)
 
@@ -141,7 +141,7 @@ module _ (S : Settings) (T out : List ℕ) (level : Level) (i : ℕ) (block : Bl
       one-within = rw one-right (edge-within D out T A (start S T l i) own m few (omega (arith, room)) (omega (arith, in-tree)) first-bytes first-zeros)
 
       abbrev last : ℕ
-      last = block .start + (block .length - own)
+      last = block .start .0 + (block .length - own)
 
       pub last-asks : (at + 16 + 12 * length (S .counted) + m + m ≤ length one) × (last + own ≤ length T) × (own ≤ m)
       last-asks = (omega (arith, here, room, one-grown .same-length), omega (arith, w .block-is .start-is, w .block-is .length-is, own-in, fit), few)

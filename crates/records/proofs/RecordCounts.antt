@@ -68,7 +68,7 @@ module _ (S : Settings) (T out : List ℕ) (level : Level) (i : ℕ) (block : Bl
   record-in-tree : P + recordBytes S ≤ length D
   record-in-tree = omega (arith, record-inside-table S T l i i-in, table-inside S T taken l l-in)
 
-  pub inside-text : block .start + block .length ≤ length T
+  pub inside-text : block .start .0 + block .length ≤ length T
   inside-text = rw (w .block-is .start-is, w .block-is .length-is) (bytes-fit S T taken l i l-in i-in)
 
   -- the counts of counted byte number c
@@ -118,21 +118,21 @@ module _ (S : Settings) (T out : List ℕ) (level : Level) (i : ℕ) (block : Bl
       left-fits : left + 8 ≤ length out
       left-fits = omega (arith, left-is, P-is, record-size S T, record-fits)
 
-    apart : (block .start ≡ block .parent → ⊥) → (j : ℕ) × LeftOf S T l i j
+    apart : (block .start .0 ≡ block .parent .0 → ⊥) → (j : ℕ) × LeftOf S T l i j
     apart n = left-of S T taken l i l-in i-in (λ e. n (w .block-is .start-is ∙ e ∙ sym (w .block-is .parent-is)))
 
-    pub left-needs : (block .start ≡ block .parent → ⊥) → (size ≤ at + 16 + 12 * c) × (left + 8 ≤ length out) × (wordAt out left + wordAt out (left + 4) < 4294967296)
+    pub left-needs : (block .start .0 ≡ block .parent .0 → ⊥) → (size ≤ at + 16 + 12 * c) × (left + 8 ≤ length out) × (wordAt out left + wordAt out (left + 4) < 4294967296)
     left-needs n = let j = apart n in (left-low (j .0) (j .1), left-fits (j .0) (j .1), small (j .0) (j .1))
 
-    before-is : beforeSays out left (block .start) (block .parent) ≡ beforeOf S T l i x
-    before-is = go (bool-cases (eqb (block .start) (block .parent)))
+    before-is : beforeSays out left (block .start .0) (block .parent .0) ≡ beforeOf S T l i x
+    before-is = go (bool-cases (eqb (block .start .0) (block .parent .0)))
       where
-        go : (eqb (block .start) (block .parent) ≡ true) ⊎ (eqb (block .start) (block .parent) ≡ false)
-            → beforeSays out left (block .start) (block .parent) ≡ beforeOf S T l i x
+        go : (eqb (block .start .0) (block .parent .0) ≡ true) ⊎ (eqb (block .start .0) (block .parent .0) ≡ false)
+            → beforeSays out left (block .start .0) (block .parent .0) ≡ beforeOf S T l i x
         go (inl y) = rw y (sym (before-first S T taken l i x (sym (w .block-is .start-is) ∙ eqb-true _ _ y ∙ w .block-is .parent-is)))
         go (inr y) = let j = apart (eqb-false _ _ y) in rw y (words (j .0) (j .1))
 
-    inside-is : countIn x (stretch T (block .start) (block .length)) ≡ insideOf S T l i x
+    inside-is : countIn x (stretch T (block .start .0) (block .length)) ≡ insideOf S T l i x
     unfolding insideOf
     inside-is = rw (w .block-is .start-is, w .block-is .length-is)
 
@@ -143,8 +143,8 @@ module _ (S : Settings) (T out : List ℕ) (level : Level) (i : ℕ) (block : Bl
     count-fits = omega (arith, record-size S T, record-fits)
 
     -- the three counts are written
-    module _ (new : List ℕ) (b : ℕ) (b-is : b ≡ beforeSays out left (block .start) (block .parent))
-        (new-is : new ≡ putThree out (at + 16 + 12 * c) b (countIn x (stretch T (block .start) (block .length))) (countIn x (stretch T (block .from) (block .gap)))) where
+    module _ (new : List ℕ) (b : ℕ) (b-is : b ≡ beforeSays out left (block .start .0) (block .parent .0))
+        (new-is : new ≡ putThree out (at + 16 + 12 * c) b (countIn x (stretch T (block .start .0) (block .length))) (countIn x (stretch T (block .from .0) (block .gap .0)))) where
       new-right : new ≡ putThree out (P + 16 + 12 * c) (beforeOf S T l i x) (insideOf S T l i x) (skipOf S T l i x)
       new-right = new-is ∙ rw (here, b-is ∙ before-is, inside-is, w .block-is .skip-is x)
 
@@ -167,7 +167,7 @@ module _ (S : Settings) (T out : List ℕ) (level : Level) (i : ℕ) (block : Bl
   counted-all new c a b h = within-part D new (P + 16) (P + 16 + 12 * c) (P + 16) (P + 16 + 12 * length (S .counted)) h (omega arith) (omega arith)
 
   -- kind, link and gap are written
-  module _ (new : List ℕ) (at : ℕ) (at-is : at ≡ recordPlace (level .table) i (settingsOf (level .settings) (S .counted))) (new-is : new ≡ putThree out (at + 4) (block .kind) (block .link) (block .gap)) where
+  module _ (new : List ℕ) (at : ℕ) (at-is : at ≡ recordPlace (level .table) i (settingsOf (level .settings) (S .counted))) (new-is : new ≡ putThree out (at + 4) (block .kind) (block .link .0) (block .gap .0)) where
     fields-are : new ≡ putThree out (P + 4) (kindOf S T l i) (linkOf S T l i) (gapOf S T l i)
     fields-are = new-is ∙ rw (at-is ∙ here-is, w .block-is .kind-is, w .block-is .link-is, w .block-is .gap-is)
 

@@ -52,14 +52,14 @@ module _ (S : Settings) (T : List ℕ) where
 
   -- what the code knows of block i of level l, whose record it is about to write
   pub record BlockIs (l i : ℕ) (block : Block) : Type 0 where
-    pub start-is : block .start ≡ start S T l i
+    pub start-is : block .start .0 ≡ start S T l i
     pub length-is : block .length ≡ bytesIn S T l i
-    pub parent-is : block .parent ≡ parentOf S T l (start S T l i)
+    pub parent-is : block .parent .0 ≡ parentOf S T l (start S T l i)
     pub kind-is : block .kind ≡ kindOf S T l i
-    pub link-is : block .link ≡ linkOf S T l i
-    pub gap-is : block .gap ≡ gapOf S T l i
-    pub skip-is : (c : ℕ) → countIn c (stretch T (block .from) (block .gap)) ≡ skipOf S T l i c
-    pub skip-in : block .from + block .gap ≤ length T
+    pub link-is : block .link .0 ≡ linkOf S T l i
+    pub gap-is : block .gap .0 ≡ gapOf S T l i
+    pub skip-is : (c : ℕ) → countIn c (stretch T (block .from .0) (block .gap .0)) ≡ skipOf S T l i c
+    pub skip-in : block .from .0 + block .gap .0 ≤ length T
 
   -- the record of block i of a level is about to be written
   pub record Writing (out : List ℕ) (level : Level) (i : ℕ) (block : Block) : Type 0 where

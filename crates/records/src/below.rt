@@ -3,6 +3,7 @@ use crate::level;
 use crate::level::Level;
 use layout::header;
 use layout::place::BlockNumber;
+use layout::place::TextPlace;
 use layout::word;
 ghost use mathlib.Core.Path.{_≡_};
 ghost use Prim.Native.Nat.{suc, _+_, _<_};
@@ -14,36 +15,43 @@ ghost use Rattle.records.specs.Starts.{startsWritten, StartsAsk};
 ghost use Rattle.records.specs.State.{settingsOf, Below, Started, Filled};
 
 // Writes the starts of n blocks of a size, one in each record from a place on.
-pub fn put_starts(out: &mut [u8], at: usize, step: usize, start: u32, size: u32, n: u32)
-    requires { ⌜ StartsAsk (now out) at step start size n ⌝ }
-    ensures { λ _. ⌜ now (out .exit) ≡ startsWritten (now (out .entry)) at step start size n ⌝ }
+pub fn put_starts(out: &mut [u8], at: usize, step: usize, start: TextPlace, size: u32, n: u32)
+    requires { ⌜ StartsAsk (now out) at step (start .0) size n ⌝ }
+    ensures { λ _. ⌜ now (out .exit) ≡ startsWritten (now (out .entry)) at step (start .0) size n ⌝ }
 {
     let mut j: u32 = 0;
     while j < n {
-        word::write(out, at + j as usize * step, start + j * size);
+        word::write(out, at + j as usize * step, start.0 + j * size);
         j += 1;
     }
 }
 
 // Puts the starts of the children of a block in place.
-fn put_children_of(out: &mut [u8], text: &[u8], counted: &[u8], level: Level, next: Level, i: u32)
-    requires { ⌜ Below (settingsOf (level .settings) (now counted)) (now text) (now out) level next i × (i < level .count) ⌝ }
+fn put_children_of(
+    out: &mut [u8],
+    text: &[u8],
+    counted: &[u8],
+    level: Level,
+    next: Level,
+    i: BlockNumber,
+)
+    requires { ⌜ Below (settingsOf (level .settings) (now counted)) (now text) (now out) level next (i .0) × (i .0 < level .count) ⌝ }
     ensures { λ _. ⌜ Grown (treeOf (settingsOf (level .settings) (now (counted .entry))) (now (text .entry))) (now (out .entry)) (now (out .exit)) ⌝ }
     ensures { λ _. ⌜ Started (settingsOf (level .settings) (now (counted .entry))) (now (text .entry)) (now (out .exit)) (suc (level .number)) 0
-        (sumBelow (i + 1) (widthOf (settingsOf (level .settings) (now (counted .entry))) (now (text .entry)) (level .number))) ⌝ }
+        (sumBelow (i .0 + 1) (widthOf (settingsOf (level .settings) (now (counted .entry))) (now (text .entry)) (level .number))) ⌝ }
 {
-    let at = level::place(counted, level, BlockNumber(i));
+    let at = level::place(counted, level, i);
     if word::read(out, at + 4) != 0 {
         return;
     }
-    let link = word::read(out, at + 8);
+    let first = BlockNumber(word::read(out, at + 8));
     let own = level::stretch_of(text, counted, out, level, i);
     let children = header::pieces(own.length, next.size);
     put_starts(
         out,
-        level::place(counted, next, BlockNumber(link)),
+        level::place(counted, next, first),
         level::record_size(counted, level.settings),
-        own.start.0,
+        own.start,
         next.size,
         children,
     );
@@ -57,7 +65,7 @@ pub fn put_children(out: &mut [u8], text: &[u8], counted: &[u8], level: Level, n
 {
     let mut i: u32 = 0;
     while i < level.count {
-        put_children_of(out, text, counted, level, next, i);
+        put_children_of(out, text, counted, level, next, BlockNumber(i));
         i += 1;
     }
 }

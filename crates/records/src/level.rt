@@ -71,11 +71,11 @@ pub fn start(counted: &[u8], out: &[u8], level: Level, block: BlockNumber) -> Te
 }
 
 // The bytes of a block of a level whose starts stand in place.
-pub fn stretch_of(text: &[u8], counted: &[u8], out: &[u8], level: Level, i: u32) -> Stretch
-    requires { ⌜ On (settingsOf (level .settings) (now counted)) (now text) (now out) level i ⌝ }
-    ensures { λ r. ⌜ StretchIs (settingsOf (level .settings) (now (counted .entry))) (now (text .entry)) (level .number) i r ⌝ }
+pub fn stretch_of(text: &[u8], counted: &[u8], out: &[u8], level: Level, i: BlockNumber) -> Stretch
+    requires { ⌜ On (settingsOf (level .settings) (now counted)) (now text) (now out) level (i .0) ⌝ }
+    ensures { λ r. ⌜ StretchIs (settingsOf (level .settings) (now (counted .entry))) (now (text .entry)) (level .number) (i .0) r ⌝ }
 {
-    let start = start(counted, out, level, BlockNumber(i));
+    let start = start(counted, out, level, i);
     Stretch {
         start,
         length: bytes(text, level, start),

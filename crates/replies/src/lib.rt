@@ -6,15 +6,15 @@ pub mod licence;
 pub mod order;
 mod say;
 
-use access::reading::Ran;
-use layout::place::TextPlace;
 use query::Answer;
 use query::Copied;
 use query::Counted;
 use query::Found;
 use query::PlacesWritten;
+use query::Ran;
 use query::RowCopied;
 use query::Shown;
+use query::TextPlace;
 use tree::Built;
 use tree::Scanned;
 
@@ -50,8 +50,8 @@ pub fn check(tree: &[u8]) {
 
 // What the list program prints.
 pub fn list(tree: &[u8]) {
-    let mut out = [0u8; 512];
-    let n = lister::list(tree, &mut out);
+    let mut out = [0u8; listing::MAX_LINES];
+    let n = listing::print(tree, &mut out);
     say::lines(&out[..n]);
 }
 
@@ -65,7 +65,7 @@ pub fn byte(tree: &[u8], at: u32) {
 
 // Where the run is in the tree's bytes, and its length.
 pub fn run(tree: &[u8], at: u32) {
-    let ran = access::run_part(tree, TextPlace(at));
+    let ran = query::run_part(tree, TextPlace(at));
     match ran {
         Ran::At(part) => say::three(0, part.from as u64, part.length as u64),
         Ran::Refused(number) => say::three(number, 0, 0),

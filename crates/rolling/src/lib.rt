@@ -1,4 +1,5 @@
 // Windows that roll over a text, with fingerprints of one base modulo 2^32.
+use text::TextPlace;
 ghost use mathlib.Core.Path.{_≡_};
 ghost use Prim.Native.Nat.{_+_, _-_, _*_, _%_, _^_, _≤_, _<_};
 ghost use lib.ListN.{length};
@@ -17,14 +18,14 @@ pub struct Window {
 }
 
 // The fingerprint of bytes with one byte more at their end.
-pub fn push(h: u32, enters: u8) -> u32
+fn push(h: u32, enters: u8) -> u32
     ensures { λ r. ⌜ r ≡ (h * 1540483477 + enters) % 4294967296 ⌝ }
 {
     ((h as u64 * 1540483477 + enters as u64) % 4294967296) as u32
 }
 
 // The fingerprint of a window moved on by one byte.
-pub fn roll(h: u32, top: u32, leaves: u8, enters: u8) -> u32
+fn roll(h: u32, top: u32, leaves: u8, enters: u8) -> u32
     ensures { λ r. ⌜ r ≡ (h * 1540483477 + enters + (255 * 4294967296 - top * leaves)) % 4294967296 ⌝ }
 {
     ((h as u64 * 1540483477 + enters as u64 + (1095216660480 - top as u64 * leaves as u64))
@@ -70,11 +71,11 @@ pub fn fingerprint(s: &[u8]) -> u32
 }
 
 // The fingerprint of the n bytes at p.
-pub fn fingerprint_at(text: &[u8], p: u32, n: u32) -> u32
-    requires { ⌜ p + n ≤ length (now text) ⌝ }
-    ensures { λ r. ⌜ r ≡ print (stretch (now (text .entry)) p n) ⌝ }
+pub fn fingerprint_at(text: &[u8], p: TextPlace, n: u32) -> u32
+    requires { ⌜ p .0 + n ≤ length (now text) ⌝ }
+    ensures { λ r. ⌜ r ≡ print (stretch (now (text .entry)) (p .0) n) ⌝ }
 {
-    let from = p as usize;
+    let from = p.0 as usize;
     let end = from + n as usize;
     fingerprint(&text[from..end])
 }
@@ -96,32 +97,32 @@ pub fn opened(text: &[u8], n: u32) -> Window
     Window {
         len: n,
         top: power(n),
-        print: fingerprint_at(text, 0, n),
+        print: fingerprint_at(text, TextPlace(0), n),
         places: text.len() as u32 - n + 1,
         looked: 0,
     }
 }
 
 // The fingerprint of a window at p moved on, as far as it can be.
-fn moved(text: &[u8], w: Window, p: u32) -> u32
-    requires { ⌜ Standing (now text) (w .len) p w × (p < w .places) ⌝ }
-    ensures { λ r. ⌜ (p + 1 < w .places → r ≡ print (stretch (now (text .entry)) (p + 1) (w .len))) ⌝ }
+fn moved(text: &[u8], w: Window, p: TextPlace) -> u32
+    requires { ⌜ Standing (now text) (w .len) (p .0) w × (p .0 < w .places) ⌝ }
+    ensures { λ r. ⌜ (p .0 + 1 < w .places → r ≡ print (stretch (now (text .entry)) (p .0 + 1) (w .len))) ⌝ }
 {
-    if w.places <= p + 1 {
+    if w.places <= p.0 + 1 {
         return w.print;
     }
     roll(
         w.print,
         w.top,
-        text[p as usize],
-        text[p as usize + w.len as usize],
+        text[p.0 as usize],
+        text[p.0 as usize + w.len as usize],
     )
 }
 
 // A window that was looked up at p, moved on.
-pub fn looked(text: &[u8], w: Window, p: u32) -> Window
-    requires { ⌜ Standing (now text) (w .len) p w × (p < w .places) ⌝ }
-    ensures { λ r. ⌜ Standing (now (text .entry)) (w .len) (p + 1) r ⌝ }
+pub fn looked(text: &[u8], w: Window, p: TextPlace) -> Window
+    requires { ⌜ Standing (now text) (w .len) (p .0) w × (p .0 < w .places) ⌝ }
+    ensures { λ r. ⌜ Standing (now (text .entry)) (w .len) (p .0 + 1) r ⌝ }
 {
     Window {
         len: w.len,

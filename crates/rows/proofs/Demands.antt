@@ -11,7 +11,7 @@ use Rattle.text.specs.ListLaws.{lt-or-ge}
 use Rattle.text.specs.Rows.{rowOf}
 use Rattle.format.specs.Fits.{textOf}
 use Rattle.format.specs.Verdict.{verdict}
-use Rattle.format.specs.RowSays.{rowNumber, RowSays}
+use Rattle.format.specs.RowSays.{rowNumber}
 use Rattle.guide.specs.Guides.{guideNumber}
 use Rattle.guide.proofs.GuideList.{guide-verdict}
 use Rattle.guide.proofs.Demands.{CheckGuide}

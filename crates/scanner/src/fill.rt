@@ -1,7 +1,6 @@
 // The records of a level above the last, written in order from what the table says.
 use crate::table;
 use layout::place::BlockNumber;
-use layout::place::TextPlace;
 use marking::pair;
 use marking::pair::Pair;
 use marking::target;
@@ -9,6 +8,7 @@ use records::level;
 use records::level::Level;
 use records::record;
 use records::record::Block;
+use records::record::Link;
 ghost use mathlib.Core.Path.{_≡_};
 ghost use Prim.Native.Nat.{_+_, _*_, _≤_, _<_};
 ghost use lib.ListN.{length};
@@ -28,20 +28,27 @@ pub struct Put {
 }
 
 // How a block and the next one stand, by the table.
-fn pair_in(words: &[u32], text: &[u8], counted: &[u8], out: &[u8], level: Level, i: u32) -> Pair
-    requires { ⌜ On (settingsOf (level .settings) (now counted)) (now text) (now out) level i
+fn pair_in(
+    words: &[u32],
+    text: &[u8],
+    counted: &[u8],
+    out: &[u8],
+    level: Level,
+    i: BlockNumber,
+) -> Pair
+    requires { ⌜ On (settingsOf (level .settings) (now counted)) (now text) (now out) level (i .0)
         × Told (settingsOf (level .settings) (now counted)) (now text) (level .number) (now words) ⌝ }
-    ensures { λ r. ⌜ r ≡ pairOf (settingsOf (level .settings) (now (counted .entry))) (now (text .entry)) (level .number) i ⌝ }
+    ensures { λ r. ⌜ r ≡ pairOf (settingsOf (level .settings) (now (counted .entry))) (now (text .entry)) (level .number) (i .0) ⌝ }
 {
-    if i + 1 == level.count {
+    if i.0 + 1 == level.count {
         return Pair::Apart;
     }
-    let start = level::start(counted, out, level, BlockNumber(i));
-    let next = level::start(counted, out, level, BlockNumber(i + 1));
+    let start = level::start(counted, out, level, i);
+    let next = level::start(counted, out, level, BlockNumber(i.0 + 1));
     if next.0 != start.0 + level.size {
         return Pair::Apart;
     }
-    if words[3 * (2 * i as usize + 1) + 2] != start.0 {
+    if words[3 * (2 * i.0 as usize + 1) + 2] != start.0 {
         return Pair::Again;
     }
     Pair::First
@@ -54,19 +61,19 @@ fn block_in(
     counted: &[u8],
     out: &[u8],
     level: Level,
-    i: u32,
+    i: BlockNumber,
     kept: bool,
-    link: u32,
+    link: Link,
 ) -> Block
-    requires { ⌜ Next (settingsOf (level .settings) (now counted)) (now text) (now out) level i kept link
+    requires { ⌜ Next (settingsOf (level .settings) (now counted)) (now text) (now out) level (i .0) kept (link .0)
         × Told (settingsOf (level .settings) (now counted)) (now text) (level .number) (now words) ⌝ }
-    ensures { λ r. ⌜ BlockIs (settingsOf (level .settings) (now (counted .entry))) (now (text .entry)) (level .number) i r ⌝ }
+    ensures { λ r. ⌜ BlockIs (settingsOf (level .settings) (now (counted .entry))) (now (text .entry)) (level .number) (i .0) r ⌝ }
 {
     if kept {
         return target::kept_block(text, counted, out, level, i, link);
     }
-    let place = passes::place_of(words, text.len() as u32, 2 * i);
-    target::pointing_block(text, counted, out, level, i, TextPlace(place))
+    let place = passes::place_of(words, text.len() as u32, 2 * i.0);
+    target::pointing_block(text, counted, out, level, i, place)
 }
 
 // Writes the records of a level whose starts stand in place, and answers how many blocks stand below.
@@ -80,10 +87,19 @@ fn fill_scanned(out: &mut [u8], words: &[u32], text: &[u8], counted: &[u8], leve
     let mut link: u32 = 0;
     let mut i: u32 = 0;
     while i < level.count {
-        let right = pair_in(words, text, counted, out, level, i);
+        let right = pair_in(words, text, counted, out, level, BlockNumber(i));
         let kept = pair::keeps(left, right);
-        let block = block_in(words, text, counted, out, level, i, kept, link);
-        link = link + record::put_block(out, text, counted, level, i, block);
+        let block = block_in(
+            words,
+            text,
+            counted,
+            out,
+            level,
+            BlockNumber(i),
+            kept,
+            Link(link),
+        );
+        link = link + record::put_block(out, text, counted, level, BlockNumber(i), block);
         left = right;
         i += 1;
     }

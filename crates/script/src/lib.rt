@@ -1,7 +1,7 @@
 // Cases written as lines: what each line asks, and the bytes of the texts and trees that lines give a name.
-pub mod making;
-pub mod naming;
-pub mod words;
+mod making;
+mod naming;
+mod words;
 
 pub use making::fill;
 pub use making::make;

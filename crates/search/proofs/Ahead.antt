@@ -1,6 +1,6 @@
 -- The search, a place at a time.
 use mathlib.Core.List.{List}
-use mathlib.Core.Bool.{true, false}
+use mathlib.Core.Bool.{Bool, true, false}
 use mathlib.Core.Path.{_≡_, sym, ap, _∙_}
 use Prim.Native.Nat.{ℕ, suc, _+_, _-_, _≤_, _<_}
 use native.Mathlib.Omega.{arith}
@@ -22,21 +22,23 @@ pub ahead-start : (T : List ℕ) (at n : ℕ) → ahead T at n 0 ≡ leftmost T 
 unfolding ahead leftmost
 ahead-start T at n = rw (sub-zero at)
 
-pub ahead-hit : (T : List ℕ) (at n p : ℕ) → p < at → sameList (stretch T p n) (stretch T at n) ≡ true → ahead T at n p ≡ p
-unfolding ahead firstFrom
-ahead-hit T at n p l e =
-    let s : at - p ≡ suc (at - (p + 1)) = omega arith in
-    rw (s, firstFrom, e)
+-- a place at which the search from it gives what the whole gives, and whether the bytes stand there
+module _ (T : List ℕ) (at n p : ℕ) (whole : ahead T at n p ≡ leftmost T at n) where
+  module _ (r : Bool) (is : r ≡ sameList (stretch T p n) (stretch T at n)) where
+    pub ahead-hit : r ≡ true → p < at → p ≡ leftmost T at n
+    unfolding ahead firstFrom
+    ahead-hit e l =
+        let s : at - p ≡ suc (at - (p + 1)) = omega arith in
+        rw (s, firstFrom, sym is ∙ e) at whole
 
-pub ahead-miss :
-    (T : List ℕ) (at n p : ℕ) → p < at → sameList (stretch T p n) (stretch T at n) ≡ false → ahead T at n p ≡ ahead T at n (p + 1)
-unfolding ahead firstFrom
-ahead-miss T at n p l e =
-    let s : at - p ≡ suc (at - (p + 1)) = omega arith in
-    rw (s, firstFrom, e)
+    pub ahead-miss : r ≡ false → p < at → ahead T at n (p + 1) ≡ leftmost T at n
+    unfolding ahead firstFrom
+    ahead-miss e l =
+        let s : at - p ≡ suc (at - (p + 1)) = omega arith in
+        rw (s, firstFrom, sym is ∙ e) at whole
 
-pub ahead-end : (T : List ℕ) (at n p : ℕ) → at ≤ p → ahead T at n p ≡ p
-unfolding ahead firstFrom
-ahead-end T at n p l =
-    let s : at - p ≡ 0 = omega arith in
-    rw (s, firstFrom)
+  pub ahead-end : at ≤ p → p ≡ leftmost T at n
+  unfolding ahead firstFrom
+  ahead-end l =
+      let s : at - p ≡ 0 = omega arith in
+      rw (s, firstFrom) at whole

@@ -16,9 +16,9 @@ pub says-outside : (T : List ℕ) (at len : ℕ) → length T < at + len → Out
 unfolding leftmostSays
 says-outside T at len l = rw (lt-leb (at + len) (length T) l)
 
-pub says-at : (T : List ℕ) (at len r : ℕ) → at + len ≤ length T → r ≡ leftmost T at len → At (record { 0 = r }) ≡ leftmostSays T at len
+pub says-at : (T : List ℕ) (at len : ℕ) (r : TextPlace) → at + len ≤ length T → r .0 ≡ leftmost T at len → At r ≡ leftmostSays T at len
 unfolding leftmostSays
-says-at T at len r l e = rw (le-leb (at + len) (length T) l, e)
+says-at T at len r l e = ap (λ (k : ℕ). At (record { 0 = k })) e ∙ rw (le-leb (at + len) (length T) l)
 
 -- the test of an answer
 abbrev isEarlier : Occurrence → ℕ → Bool

@@ -1,5 +1,6 @@
 // Fingerprints of bytes, and of a window that rolls over them.
 use crate::Fingerprint;
+use text::TextPlace;
 ghost use mathlib.Core.Path.{_≡_};
 ghost use Prim.Native.Nat.{_+_, _-_, _*_, _%_, _^_, _≤_, _<_};
 ghost use lib.ListN.{length};
@@ -7,7 +8,7 @@ ghost use Rattle.text.specs.Text.{stretch};
 ghost use Rattle.search.specs.Fingers.{Ready, finger};
 
 // The fingerprint of bytes with one byte more at their end.
-pub fn push(by: Fingerprint, h: u64, enters: u8) -> u64
+fn push(by: Fingerprint, h: u64, enters: u8) -> u64
     requires { ⌜ (Ready (by .base) (by .modulus)) × (h < by .modulus) ⌝ }
     ensures { λ r. ⌜ r ≡ (h * by .base + enters) % by .modulus ⌝ }
 {
@@ -53,10 +54,11 @@ pub fn fingerprint(by: Fingerprint, s: &[u8]) -> u64
 }
 
 // The fingerprint of the n bytes at p.
-pub fn fingerprint_at(by: Fingerprint, text: &[u8], p: usize, n: usize) -> u64
-    requires { ⌜ (Ready (by .base) (by .modulus)) × (p + n ≤ length (now text)) ⌝ }
-    ensures { λ r. ⌜ r ≡ finger (by .base) (by .modulus) (stretch (now (text .entry)) p n) ⌝ }
+pub fn fingerprint_at(by: Fingerprint, text: &[u8], p: TextPlace, n: usize) -> u64
+    requires { ⌜ (Ready (by .base) (by .modulus)) × (p .0 + n ≤ length (now text)) ⌝ }
+    ensures { λ r. ⌜ r ≡ finger (by .base) (by .modulus) (stretch (now (text .entry)) (p .0) n) ⌝ }
 {
-    let end = p + n;
-    fingerprint(by, &text[p..end])
+    let from = p.0 as usize;
+    let end = from + n;
+    fingerprint(by, &text[from..end])
 }

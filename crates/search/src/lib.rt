@@ -57,8 +57,8 @@ pub fn leftmost(text: &[u8], at: TextPlace, len: u32, by: Fingerprint) -> Occurr
     if text.len() < start + n {
         return Occurrence::Outside;
     }
-    let found = scan::scan(text, start, n, Fingerprint::new(by.base, by.modulus));
-    Occurrence::At(TextPlace(found as u32))
+    let place = scan::scan(text, at, n, Fingerprint::new(by.base, by.modulus));
+    Occurrence::At(place)
 }
 
 // Whether the len bytes at a place of the text lie in it and stand at an earlier place too.

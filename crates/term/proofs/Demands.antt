@@ -11,6 +11,7 @@ use denote.Ref.{RefT, now}
 use lib.IntN.{ℤ, pos, negsuc, _-ℤ_}
 use lib.Dec.{ltb, leb, eqb}
 use borrow.Author.Tests.{le-leb, lt-leb, lt-ltb, le-ltb, ltb-true}
+use Rattle.runs.specs.Runs.{Function, Ends, ends}
 use Rattle.text.specs.ListLaws.{and-left, and-right, and-false, bool-cases, bool-clash, lt-or-ge}
 use Rattle.term.specs.declared.Opened.{Opened}
 use Rattle.term.specs.declared.Opened.the-variants as opened
@@ -23,13 +24,16 @@ use Rattle.term.specs.Term.{numberIn, openNumber, openOn, leftNumber, da
 use Rattle.term.specs.Answers.{openedNumber, saysOpen, OpenedNumbered, saysNumber, saysDays, LeftNumbered}
 use Rattle.term.proofs.DayLaws.{day-date}
 use Rattle.term.proofs.open_on.Reads as open-reads
-use Rattle.term.proofs.open_on.Statement as open-stated
+use Rattle.term.proofs.open_on as open-on
+use Rattle.term.proofs.open_on.Symbol as open-at
 use Rattle.term.proofs.open_on.Met as open-met
 use Rattle.term.proofs.days_left.Reads as left-reads
-use Rattle.term.proofs.days_left.Statement as left-stated
+use Rattle.term.proofs.days_left as days-left
+use Rattle.term.proofs.days_left.Symbol as left-at
 use Rattle.term.proofs.days_left.Met as left-met
 use Rattle.term.proofs.renew.Reads as renew-reads
-use Rattle.term.proofs.renew.Statement as renew-stated
+use Rattle.term.proofs.renew as renew
+use Rattle.term.proofs.renew.Symbol as renew-at
 use Rattle.term.proofs.renew.Met as renew-met
 pub use Rattle.term.specs.CalendarLaws.{next-number, next-date, in-order, one-day}
 pub use Rattle.term.specs.RenewalLaws.{renewed-date, renewed-later}
@@ -49,9 +53,18 @@ DaysLeft κs last today r = left-reads.Post κs (last, (today, tt)) r (last, (to
 abbrev pub Renew : (κs : Lfts 1) → (day after : Lent) → ℕ → Type 0
 Renew κs day after r = renew-reads.Post κs (day, tt) r (after, tt)
 
--- Every call ends, and reads and writes only what was lent: each meets its contract. What it asks of its caller holds of any arguments.
-pub every-call-ends : {M : Type 1} → open-stated.statement M × left-stated.statement M × renew-stated.statement M
-every-call-ends = (open-met.met, left-met.met, renew-met.met)
+abbrev opening : Function
+opening = record { routine = open-at.routine; signature = open-on.signature; clauses = open-on.spec }
+
+abbrev leaving : Function
+leaving = record { routine = left-at.routine; signature = days-left.signature; clauses = days-left.spec }
+
+abbrev renewing : Function
+renewing = record { routine = renew-at.routine; signature = renew.signature; clauses = renew.spec }
+
+-- Every call ends, and reads and writes only what was lent (`Ends`). What it asks of its caller holds of any arguments.
+pub every-call-ends : Ends opening × Ends leaving × Ends renewing
+every-call-ends = (ends opening open-met.met, ends leaving left-met.met, ends renewing renew-met.met)
 
 pub trusts-no-caller :
     ((κs : Lfts 3) (first last today : Lent) → open-reads.Asked κs (first, (last, (today, tt))))

@@ -1,7 +1,7 @@
 // Lines of text cut into tokens, and what a token says: a number, or bytes in hexadecimal.
 pub mod decimal;
 pub mod hexadecimal;
-pub mod parts;
+mod parts;
 
 pub use decimal::figure;
 pub use decimal::figures;

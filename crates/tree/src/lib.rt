@@ -2,6 +2,7 @@
 use borders::truth;
 pub use builder::Built;
 pub use builder::build;
+pub use enough::Room;
 pub use enough::enough;
 use layout::header::Header;
 use layout::header::HeaderRead;

@@ -1,5 +1,5 @@
 // A worn key: the rows of a book that match a range of depths for each cut, one at a time.
-pub mod search;
+mod search;
 
 use layout::header;
 use layout::header::HeaderRead;

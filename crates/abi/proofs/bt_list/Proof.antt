@@ -1,15 +1,22 @@
 use borrow.Author.Needs.{needs}
-use Rattle.abi.proofs.ListLaws as laws
+use mathlib.Core.Path.{_≡_, ap, sym, _∙_}
+use Rattle.listing.specs.declared.Listed.{Listed}
+use Rattle.abi.specs.Answers.{listedNumber, listedSize}
 use Rattle.abi.proofs.bt_list.Statement.{statement}
 use Rattle.abi.proofs.bt_list.Tie as tie
+
+-- number and length of an answer
+told : (r s : Listed) → r ≡ s → {B : Type 0} → B → (listedNumber r ≡ listedNumber s) × ((listedSize r ≡ listedSize s) × B)
+told r s e b = (ap listedNumber e, (ap listedSize e, b))
 
 pub bt-list-spec : {M : Type 1} → statement M
 bt-list-spec =
     tie.close
     (tie.spec
-    (λ c. laws.list-tight _ _ (c .if1 .taken))
-    (λ c κs. search needs)
     (λ c κs. search needs)
     (λ c. search needs)
     (λ c. search needs)
-    (λ c. laws.list-put _ _ (c .before .before .before .before .before .if1 .left) _ _ _ (c .before .before .before .before .input-number .ensures) (c .before .before .lines .ensures)))
+    (λ c. search needs)
+    (λ c. let l = c .before .before .before .before .before .list .ensures in told _ _ (sym (c .before .listed .given .1) ∙ l .0) (l .1))
+    (λ c. search needs)
+    (λ c. let l = c .before .before .before .before .before .list .ensures in told _ _ (sym (c .before .listed2 .given .1) ∙ l .0) (l .1)))

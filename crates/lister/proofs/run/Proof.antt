@@ -2,6 +2,7 @@ use borrow.Author.Needs.{needs}
 use lib.Seq.{length-take-le}
 use mathlib.Core.Path.{sym}
 use native.Mathlib.Omega.{arith}
+use Rattle.listing.proofs.WrittenLaws.{length-put}
 use Rattle.lister.proofs.run.Statement.{statement}
 use Rattle.lister.proofs.run.Tie as tie
 
@@ -13,9 +14,8 @@ run-spec =
     (λ c κs. search needs)
     (λ c. search needs)
     (λ c. search needs)
-    (λ c. search needs)
     (λ c κs. search needs)
-    (λ c. search needs)
-    (λ c. sym (length-take-le (c .before .before .list .result) (c .before .before .list .last .1 .0) (omega (arith, c .before .before .list .ensures .short, c .before .before .list .kept .1 .0))))
+    (λ c. omega (arith, c .print .ensures .short, length-put (search needs) (c .print .ensures)))
+    (λ c. sym (length-take-le (c .before .print .result) (c .before .print .last .1 .0) (omega (arith, c .before .print .ensures .short, length-put (search needs) (c .before .print .ensures)))))
     (λ c κs. search needs)
     (λ c. search needs))

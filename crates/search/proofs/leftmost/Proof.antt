@@ -1,7 +1,6 @@
--- `leftmost` meets its contract: it makes the fingerprint usable, and the place found fits 32 bits as it is at most the place asked for.
+-- `leftmost` meets its contract: it makes the fingerprint usable.
 use native.Mathlib.Omega.{arith}
 use borrow.Author.Needs.{needs}
-use Rattle.text.specs.TextLaws.{leftmost-le}
 use Rattle.search.proofs.Usable.{ready}
 use Rattle.search.proofs.Cases.{says-outside, says-at}
 use Rattle.search.proofs.leftmost.Statement.{statement}
@@ -16,5 +15,4 @@ leftmost-spec =
     (λ c. says-outside _ _ _ (c .if1 .taken))
     (λ c κs. search needs)
     (λ c κs. (omega arith, rw (c .new .ensures) (ready _ _)))
-    (λ c. let a = c .before .before .before .before .before .args in omega (arith, c .scan .ensures, leftmost-le (a .text .now) (a .at .0) (a .len)))
     (λ c. says-at _ _ _ _ (c .before .before .if1 .left) (c .scan .ensures)))

@@ -10,4 +10,4 @@ splits-spec =
     (tie.spec
     (λ c. rw (le-ltb _ _ (c .if1 .taken)))
     (λ c. search needs)
-    (λ c. rw (lt-ltb _ _ (c .if1 .left))))
+    (λ c. rw (lt-ltb _ _ (c .before .if1 .left))))

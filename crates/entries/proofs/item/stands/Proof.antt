@@ -12,5 +12,6 @@ stands-spec =
     (λ c κs. (c .before .before .pre .0, c .before .before .pre .1))
     (λ c. laws.other-length _ _ _ _ _ _ (λ e. c .if1 .taken (c .before .before .run-of .ensures .length-is ∙ e)))
     (λ c. search needs)
-    (λ c κs. (omega (arith, c .before .before .before .run-of .ensures .fits, c .before .if1 .left), c .before .before .before .before .before .before .pre .2))
-    (λ c. laws.same-length _ _ _ _ _ _ _ _ (c .before .before .before .before .run-of .ensures .start-is) (sym (c .before .before .before .before .run-of .ensures .length-is) ∙ c .before .before .if1 .left) (c .same-at .ensures)))
+    (λ c. search needs)
+    (λ c κs. (omega (arith, c .before .before .before .before .run-of .ensures .fits, c .before .before .if1 .left), c .before .before .before .before .before .before .before .pre .2))
+    (λ c. laws.same-length _ _ _ _ _ _ _ _ (c .before .before .before .before .before .run-of .ensures .start-is) (sym (c .before .before .before .before .before .run-of .ensures .length-is) ∙ c .before .before .before .if1 .left) (c .same-at .ensures)))

@@ -6,7 +6,7 @@ use Rattle.entries.proofs.lookup.visit.Statement.{statement}
 use Rattle.entries.proofs.lookup.visit.Tie as tie
 
 abbrev Inv-loop : tie.InvT-loop
-Inv-loop words₀ text out it h p n link e₀ words e = laws.Visiting text out it words₀ h p n words e
+Inv-loop words₀ text out it h p n link e₀ words e = laws.Visiting text out it words₀ h (p .0) n words e
 
 abbrev μ-loop : tie.MeasureT-loop
 μ-loop words₀ text out it h p n link e₀ words e = e

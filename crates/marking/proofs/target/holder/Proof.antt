@@ -7,10 +7,10 @@ use Rattle.marking.specs.Targets.{Between}
 use Rattle.records.specs.State.{settingsOf}
 
 abbrev Inv-loop : tie.InvT-loop
-Inv-loop counted out level place range₀ range = Between out (level .table) (level .count) (settingsOf (level .settings) counted) (place .0) (range .low) (range .high)
+Inv-loop counted out level place range₀ range = Between out (level .table) (level .count) (settingsOf (level .settings) counted) (place .0) (range .low .0) (range .high .0)
 
 abbrev μ-loop : tie.MeasureT-loop
-μ-loop counted out level place range₀ range = range .high - range .low
+μ-loop counted out level place range₀ range = range .high .0 - range .low .0
 
 pub holder-spec : {M : Type 1} → statement M
 holder-spec =
@@ -21,4 +21,4 @@ holder-spec =
     (λ c κs. (c .before .before .before .before .before .before .pre .0, (c .before .before .before .loop .inv, c .if1 .taken)))
     (λ c. c .narrow .ensures .1)
     (λ c. c .narrow .ensures .0)
-    (λ c. let a = c .before .before .before .before .before .before .args in one-left (a .out .now) (a .level .table) (a .level .count) (settingsOf (a .level .settings) (a .counted .now)) _ _ _ (c .before .before .before .loop .inv) (c .if1 .left)))
+    (λ c. let a = c .before .before .before .before .before .before .before .args in one-left (a .out .now) (a .level .table) (a .level .count) (settingsOf (a .level .settings) (a .counted .now)) _ _ _ (c .before .before .before .before .loop .inv) (c .before .if1 .left)))

@@ -9,8 +9,8 @@ pointing-block-spec =
     tie.close
     (tie.spec
     (λ c κs. c .before .before .before .pre .0)
-    (λ c κs. (laws.sorted _ _ _ _ _ (c .before .before .before .before .pre .0), laws.whole-range _ _ _ _ _ (c .before .before .before .before .pre .0) (c .before .before .before .before .pre .1 .0) _ (c .before .before .before .before .pre .1 .1)))
-    (λ c κs. let f = few _ _ _ (c .before .before .before .before .before .pre .0 .level-is) in (f .counted-few, f .table-few, omega (arith, c .holder .ensures .within, f .count-few), f .leaf-few, laws.target-fits _ _ _ _ _ (c .before .before .before .before .before .pre .0) (c .before .before .before .before .before .pre .1 .0) _ (c .before .before .before .before .before .pre .1 .1) _ (c .holder .ensures)))
-    (λ c κs. c .before .before .before .before .before .before .pre .0 .level-is .above-low)
-    (λ c. laws.from-le _ _ _ _ _ (c .before .before .before .before .before .before .before .before .before .pre .0) (c .before .before .before .before .before .before .before .before .before .pre .1 .0) _ (c .before .before .before .before .before .before .before .before .before .pre .1 .1) _ (c .before .before .before .before .holder .ensures) _ (c .before .before .before .start .ensures))
-    (λ c. laws.pointing-is _ _ _ _ _ (c .before .before .before .before .before .before .before .before .before .pre .0) (c .before .before .before .before .before .before .before .before .before .pre .1 .0) _ (c .before .before .before .before .before .before .before .before .before .pre .1 .1) _ (c .before .before .before .before .holder .ensures) _ (c .before .before .before .start .ensures) _ (c .before .before .before .before .before .stretch-of .ensures) _ (c .before .before .parent .ensures)))
+    (λ c κs. (laws.sorted _ _ _ _ _ (c .before .before .before .before .before .pre .0), laws.whole-range _ _ _ _ _ (c .before .before .before .before .before .pre .0) (c .before .before .before .before .before .pre .1 .0) _ (c .before .before .before .before .before .pre .1 .1)))
+    (λ c κs. let f = few _ _ _ (c .before .before .before .before .before .before .pre .0 .level-is) in (f .counted-few, f .table-few, omega (arith, c .holder .ensures .within, f .count-few), f .leaf-few, laws.target-fits _ _ _ _ _ (c .before .before .before .before .before .before .pre .0) (c .before .before .before .before .before .before .pre .1 .0) _ (c .before .before .before .before .before .before .pre .1 .1) _ (c .holder .ensures)))
+    (λ c κs. c .before .before .before .before .before .before .before .pre .0 .level-is .above-low)
+    (λ c. laws.from-le _ _ _ _ _ (c .before .before .before .before .before .before .before .before .before .before .pre .0) (c .before .before .before .before .before .before .before .before .before .before .pre .1 .0) _ (c .before .before .before .before .before .before .before .before .before .before .pre .1 .1) _ (c .before .before .before .before .holder .ensures) _ (c .before .before .before .start2 .ensures))
+    (λ c. laws.pointing-is _ _ _ _ _ (c .before .before .before .before .before .before .before .before .before .before .pre .0) (c .before .before .before .before .before .before .before .before .before .before .pre .1 .0) _ (c .before .before .before .before .before .before .before .before .before .before .pre .1 .1) _ (c .before .before .before .before .holder .ensures) _ (c .before .before .before .start2 .ensures) _ (c .before .before .before .before .before .before .stretch-of .ensures) _ (c .before .before .parent .ensures)))

@@ -10,7 +10,7 @@ use Rattle.records.specs.Starts.{startsWritten}
 use Rattle.format.specs.WordLaws.{length-setWord}
 
 abbrev Inv-loop : tie.InvT-loop
-Inv-loop out₀ at step start size n j₀ out j = (j ≤ n) × ((length out ≡ length out₀) × (out ≡ startsWritten out₀ at step start size j))
+Inv-loop out₀ at step start size n j₀ out j = (j ≤ n) × ((length out ≡ length out₀) × (out ≡ startsWritten out₀ at step (start .0) size j))
 
 abbrev μ-loop : tie.MeasureT-loop
 μ-loop out₀ at step start size n j₀ out j = n - j
@@ -24,10 +24,10 @@ put-starts-spec =
     (λ c. omega (arith, few-steps (c .before .before .loop .j) (c .before .before .before .before .args .n) (c .before .before .before .before .args .step) (c .before .loop-test .taken) (c .before .before .before .before .pre .count-few) (c .before .before .before .before .pre .step-few)))
     (λ c. omega (arith, c .before .before .before .before .pre .at-few, few-steps (c .before .before .loop .j) (c .before .before .before .before .args .n) (c .before .before .before .before .args .step) (c .before .loop-test .taken) (c .before .before .before .before .pre .count-few) (c .before .before .before .before .pre .step-few)))
     (λ c. omega (arith, c .before .before .before .before .pre .ends, part-below (c .before .before .loop .j) (c .before .before .before .before .args .n) (c .before .before .before .before .args .size) (c .before .loop-test .taken)))
-    (λ c. omega (arith, c .before .before .before .before .pre .ends, part-below (c .before .before .loop .j) (c .before .before .before .before .args .n) (c .before .before .before .before .args .size) (c .before .loop-test .taken)))
-    (λ c κs. omega (arith, c .before .before .loop .inv .1 .0, c .before .before .before .before .pre .room, c .before .before .before .before .pre .step-low, part-below (c .before .before .loop .j) (c .before .before .before .before .args .n) (c .before .before .before .before .args .step) (c .before .loop-test .taken)))
+    (λ c. omega (arith, c .before .before .before .before .before .pre .ends, part-below (c .before .before .before .loop .j) (c .before .before .before .before .before .args .n) (c .before .before .before .before .before .args .size) (c .before .before .loop-test .taken)))
+    (λ c κs. omega (arith, c .before .before .before .loop .inv .1 .0, c .before .before .before .before .before .pre .room, c .before .before .before .before .before .pre .step-low, part-below (c .before .before .before .loop .j) (c .before .before .before .before .before .args .n) (c .before .before .before .before .before .args .step) (c .before .before .loop-test .taken)))
     (λ c. omega arith)
     (λ c. omega arith)
-    (λ c. let a = c .before .before .before .before .before .before .before .args in let v = c .before .before .before .before .before .loop .inv in (omega arith, (ap (λ x. length x) (c .before .before .write .ensures) ∙ length-setWord _ _ _ ∙ v .1 .0, starts-more (a .out .now) _ _ (a .at) (a .step) (a .start) (a .size) (c .before .before .before .before .before .loop .j) (v .1 .1) (c .before .before .write .ensures))))
+    (λ c. let a = c .before .before .before .before .before .before .before .before .args in let v = c .before .before .before .before .before .before .loop .inv in (omega arith, (ap (λ x. length x) (c .before .before .write .ensures) ∙ length-setWord _ _ _ ∙ v .1 .0, starts-more (a .out .now) _ _ (a .at) (a .step) (a .start .0) (a .size) (c .before .before .before .before .before .before .loop .j) (v .1 .1) (c .before .before .write .ensures))))
     (λ c. c .before .loop .inv .1 .0)
-    (λ c. let a = c .before .before .before .args in let e : c .before .loop .j ≡ a .n = omega arith in c .before .loop .inv .1 .1 ∙ ap (λ (k : ℕ). startsWritten (a .out .now) (a .at) (a .step) (a .start) (a .size) k) e))
+    (λ c. let a = c .before .before .before .args in let e : c .before .loop .j ≡ a .n = omega arith in c .before .loop .inv .1 .1 ∙ ap (λ (k : ℕ). startsWritten (a .out .now) (a .at) (a .step) (a .start .0) (a .size) k) e))

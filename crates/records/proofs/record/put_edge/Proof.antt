@@ -7,9 +7,10 @@ pub put-edge-spec : {M : Type 1} → statement M
 put-edge-spec =
     tie.close
     (tie.spec
-    (λ c κs. search needs)
-    (λ c. search needs)
     (λ c. search needs)
     (λ c κs. search needs)
     (λ c. search needs)
-    (λ c. let a = c .before .before .before .before .before .before .before .before .before .before .args in edge-then (a .out .now) _ _ (a .text .now) (a .at) (a .from) (a .own) (a .m) (c .before .before .before .before .before .before .copy .ensures) (c .before .before .clear-at .ensures)))
+    (λ c. search needs)
+    (λ c κs. search needs)
+    (λ c. search needs)
+    (λ c. let a = c .before .before .before .before .before .before .before .before .before .before .before .args in edge-then (a .out .now) _ _ (a .text .now) (a .at) (a .from .0) (a .own) (a .m) (c .before .before .before .before .before .before .copy .ensures) (c .before .before .clear-at .ensures)))

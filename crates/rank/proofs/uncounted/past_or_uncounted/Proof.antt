@@ -1,6 +1,6 @@
 use borrow.Author.Tests.{lt-leb, le-leb}
-use Rattle.abi.proofs.past_or_uncounted.Statement.{statement}
-use Rattle.abi.proofs.past_or_uncounted.Tie as tie
+use Rattle.rank.proofs.uncounted.past_or_uncounted.Statement.{statement}
+use Rattle.rank.proofs.uncounted.past_or_uncounted.Tie as tie
 
 pub past-or-uncounted-spec : {M : Type 1} → statement M
 past-or-uncounted-spec =

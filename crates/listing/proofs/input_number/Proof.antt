@@ -1,8 +1,8 @@
 use borrow.Author.Needs.{needs}
 use mathlib.Core.Path.{_∙_}
-use Rattle.abi.proofs.ListLaws as laws
-use Rattle.abi.proofs.input_number.Statement.{statement}
-use Rattle.abi.proofs.input_number.Tie as tie
+use Rattle.listing.proofs.LineLaws as laws
+use Rattle.listing.proofs.input_number.Statement.{statement}
+use Rattle.listing.proofs.input_number.Tie as tie
 
 pub input-number-spec : {M : Type 1} → statement M
 input-number-spec =

@@ -1,7 +1,7 @@
 use borrow.Author.Needs.{needs}
-use Rattle.abi.proofs.CountLaws as laws
-use Rattle.abi.proofs.uncounted.Statement.{statement}
-use Rattle.abi.proofs.uncounted.Tie as tie
+use Rattle.rank.proofs.UncountedLaws as laws
+use Rattle.rank.proofs.uncounted.uncounted.Statement.{statement}
+use Rattle.rank.proofs.uncounted.uncounted.Tie as tie
 
 pub uncounted-spec : {M : Type 1} → statement M
 uncounted-spec =

@@ -1,0 +1,31 @@
+use borrow.Author.Needs.{needs}
+use borrow.Author.Tests.{lt-leb, le-leb, not-true, not-false}
+use Rattle.format.specs.Settings.{lengthOk, maxText}
+use Rattle.layout.proofs.QuestionSeven as laws
+use Rattle.layout.proofs.header.header_settings.Statement.{statement}
+use Rattle.layout.proofs.header.header_settings.Tie as tie
+
+pub header-settings-spec : {M : Type 1} → statement M
+unfolding lengthOk
+header-settings-spec =
+    tie.close
+    (tie.spec
+    (λ c κs. search needs)
+    (λ c. laws.wrong _ (laws.header-length _ _ (c .before .read .ensures) (simp (lt-leb _ maxText (c .if1 .taken)))))
+    (λ c κs. search needs)
+    (λ c. search needs)
+    (λ c. laws.wrong _ (laws.header-many (c .before .before .before .before .before .args .t .now) _ (c .before .read2 .ensures) (c .if2 .taken)))
+    (λ c. search needs)
+    (λ c κs. search needs)
+    (λ c κs. search needs)
+    (λ c κs. search needs)
+    (λ c. search needs)
+    (λ c. search needs)
+    (λ c. search needs)
+    (λ c κs. search needs)
+    (λ c. search needs)
+    (λ c. search needs)
+    (λ c. laws.wrong _ (laws.header-refused (c .before .before .before .before .before .before .before .before .before .before .before .before .args .t .now) _ _ _ _ (c .before .before .before .before .before .before .read3 .ensures) (c .before .before .before .before .before .read4 .ensures) (c .before .before .before .before .read5 .ensures) (c .before .before .before .before .before .before .before .before .read2 .ensures) (c .before .before .before .before .before .before .before .if2 .left) _ _ (c .before .before .new .ensures) (c .enum-told .given .1)))
+    (λ c κs. laws.has-settings (c .before .before .before .before .before .before .before .before .before .before .before .before .before .args .t .now) _ _ _ _ (c .before .before .before .before .before .before .before .read3 .ensures) (c .before .before .before .before .before .before .read4 .ensures) (c .before .before .before .before .before .read5 .ensures) (c .before .before .before .before .before .before .before .before .before .read2 .ensures) (c .before .before .before .before .before .before .before .before .if2 .left) _ (c .before .before .before .before .before .before .before .before .before .before .before .read .ensures) (c .before .before .before .before .before .before .before .before .before .before .if1 .left) _ _ (c .before .before .before .new .ensures) (c .before .checked .given .1) (c .before .before .before .before .before .before .before .before .before .before .before .before .before .pre))
+    (λ c. laws.rest-wrong (c .before .before .before .before .before .before .before .before .before .before .before .before .before .before .before .args .t .now) _ _ _ _ (c .before .before .before .before .before .before .before .before .before .read3 .ensures) (c .before .before .before .before .before .before .before .before .read4 .ensures) (c .before .before .before .before .before .before .before .read5 .ensures) (c .before .before .before .before .before .before .before .before .before .before .before .read2 .ensures) (c .before .before .before .before .before .before .before .before .before .before .if2 .left) _ (c .before .before .before .before .before .before .before .before .before .before .before .before .before .read .ensures) (c .before .before .before .before .before .before .before .before .before .before .before .before .if1 .left) _ _ (c .before .before .before .before .before .new .ensures) (c .before .before .before .checked .given .1) _ (c .before .rest-right .ensures) (not-true _ (c .if3 .taken)))
+    (λ c. laws.rest-fine (c .before .before .before .before .before .before .before .before .before .before .before .before .before .before .before .args .t .now) _ _ _ _ (c .before .before .before .before .before .before .before .before .before .read3 .ensures) (c .before .before .before .before .before .before .before .before .read4 .ensures) (c .before .before .before .before .before .before .before .read5 .ensures) (c .before .before .before .before .before .before .before .before .before .before .before .read2 .ensures) (c .before .before .before .before .before .before .before .before .before .before .if2 .left) _ (c .before .before .before .before .before .before .before .before .before .before .before .before .before .read .ensures) (c .before .before .before .before .before .before .before .before .before .before .before .before .if1 .left) _ _ (c .before .before .before .before .before .new .ensures) (c .before .before .before .checked .given .1) (c .before .before .before .before .before .before .before .before .before .before .before .before .before .before .before .pre) _ (c .before .rest-right .ensures) (not-false _ (c .if3 .left))))
