@@ -1,7 +1,7 @@
 /* blocktree.h - block trees of code books: build them, check them, ask them.
  *
  * C99 and C++, x86-64 Linux. Link with libblocktree.a: -lblocktree after `make install` (pkg-config knows it as blocktree), target/libblocktree.a in the
- * repository after `make` or ./demo. It needs memcpy and memset and no other symbol, is position independent, and no call uses more than 3.3 KB of stack.
+ * repository after `make` or ./demo. It needs memcpy and memset and no other symbol, is position independent, and no call uses more than 4 KB of stack.
  * The format and every question are in docs/FORMAT.md.
  *
  * What all calls have in common

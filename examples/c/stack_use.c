@@ -14,8 +14,8 @@
 #define TEXT 200000
 #define TREE 40000000
 
-static uint8_t stack[STACK], text[TEXT], turned[TEXT], row[TEXT], *tree, *guide;
-static uint32_t *table, size, place, number, third, words32;
+static uint8_t stack[STACK], text[TEXT], turned[TEXT], row[TEXT], small[65536], *tree, *guide;
+static uint32_t *table, small_size, size, place, number, third, words32;
 static uint64_t large, words;
 static ucontext_t here, there;
 static const uint8_t counted[] = {10, 48, 49, 50}, ranges[] = {1, 5, 1, 5, 0, 9, 0, 9, 0, 9};
@@ -44,7 +44,7 @@ static void check_guide(void) { bt_check_guide(tree, size, guide, 4 * words); }
 static void find_guided(void) { for (uint32_t j = 1; j < 6000; j += 7) bt_find_guided(tree, size, guide, 4 * words, 10, j, &place, &third, &number); }
 static void row_guided(void) { for (uint32_t q = 1; q < 6000; q += 7) bt_row_guided(tree, size, guide, 4 * words, q, row, TEXT, &third); }
 static void order(void) { bt_order(tree, size, tree, size, &place, &third, &number); }
-static void list(void) { bt_list(tree, 65536, row, TEXT, &third); }
+static void list(void) { bt_list(small, small_size, row, TEXT, &third); }
 static void open_on(void) { bt_open_on(day, 8, day, 8, day, 8, &number); }
 static void days_left(void) { int32_t left; bt_days_left(day, 8, day, 8, &left); }
 static void renew(void) { uint8_t lent[8]; memcpy(lent, day, 8); bt_renew(lent, 8); }
@@ -103,6 +103,7 @@ int main(void)
     table = malloc(sizeof *table * 2 * TEXT);
     if (!tree || !guide || !table) return 1;
     write_text();
+    if (bt_build(text, 600, 2, 3, 8, counted, 4, small, sizeof small, &small_size) != BT_OK) return 1;
     const size_t none = used(nothing);
     for (size_t i = 0; i < sizeof calls / sizeof *calls; i++) {
         const size_t bytes = used(calls[i].function);
