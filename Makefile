@@ -5,7 +5,7 @@ DESTDIR =
 VERSION = $(shell sed -n 's/^version = "\(.*\)"/\1/p' host/Cargo.toml)
 # other builds of the tool and of the archive can be named here
 TOOL = host/target/release/codebook
-ARCHIVE = target/staticlib/libabi.a
+ARCHIVE = $(or $(BLOCKTREE_ARCHIVE),target/staticlib/libabi.a)
 SHARED = target/libblocktree.so
 
 root = $(DESTDIR)$(PREFIX)
@@ -14,7 +14,7 @@ installed = bin/codebook share/man/man1/codebook.1 share/bash-completion/complet
 	include/blocktree.h lib/libblocktree.a lib/libblocktree.so.0 lib/libblocktree.so lib/pkgconfig/blocktree.pc share/blocktree/blocktree.py share/blocktree/blocktree.magic
 
 all:
-	host/needs rt cargo gcc
+	host/needs $(if $(BLOCKTREE_ARCHIVE),,rt) cargo gcc
 	host/make-archive
 	cargo build --quiet --release --manifest-path host/Cargo.toml
 
