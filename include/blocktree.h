@@ -1,6 +1,8 @@
 /* blocktree.h - block trees of code books: build them, check them, ask them.
  *
- * C99 and C++. Link with target/staticlib/libabi.a (made by `rt staticlib abi`), x86-64. The format and every question are in docs/FORMAT.md.
+ * C99 and C++, x86-64 Linux. Link with libblocktree.a: -lblocktree after `make install` (pkg-config knows it as blocktree), target/libblocktree.a in the
+ * repository after `make` or ./demo. It needs memcpy and memset and no other symbol, is position independent, and no call uses more than 4 KB of stack.
+ * The format and every question are in docs/FORMAT.md.
  *
  * What all calls have in common
  *
@@ -11,8 +13,10 @@
  *  - Every pointer is non-null, also where its length is 0 (pass the address of any byte), and points to as many bytes, or words of a table, as its
  *    length says; pointers to figures and to words are aligned.
  *  - Nobody has to check a tree first: each call is safe on any bytes, reads nothing outside them and ends. On a tree that bt_check refuses, bt_find may
- *    answer any place below n with any number of blocks, bt_row any bytes, and bt_next_match any row after the mark or none, or each of them may
+ *    answer any place below n with any number of blocks, bt_row any bytes, bt_row_length any length up to n, and bt_next_match any row after the mark or none, or each of them may
  *    answer BT_PATH (bt_row also BT_BUFFER). All other answers are settled on any bytes. On a tree that bt_check accepts BT_PATH is never the answer.
+ *  - A tree carries no checksum of its maker's text: bt_check says that it stands for a text, not for which. A flipped leaf byte, with the counts and edges
+ *    that it is in, makes a good tree of another text, and a wrong key. Keep a digest of the tree beside it.
  *  - Places in the text start at 0; occurrences and rows are numbered from 1, but the rows that bt_column_row reads from 0.
  */
 #ifndef BLOCKTREE_H
@@ -35,6 +39,11 @@ extern "C" {
 #define BT_MAX_PATTERN 256u /* bytes of a pattern: 1 to this */
 #define BT_MAX_CUTS 10u    /* cuts of a worn key: 1 to this */
 #define BT_LIST_LENGTH 352u /* a buffer of so many bytes holds all that bt_list writes */
+#define BT_FIGURES 23u     /* figures that bt_info writes */
+
+/* The version of this header: major * 10000 + minor * 100 + patch. bt_version answers that of the archive. */
+#define BT_VERSION 11400u
+uint32_t bt_version(void);
 
 /* What the numbers mean. */
 enum bt_number {
@@ -99,6 +108,27 @@ uint32_t bt_enough(uint32_t n, uint32_t leaf, uint32_t arity, uint32_t levels, u
  *   answers   0, 5 to 9 */
 uint32_t bt_check(const uint8_t *tree, size_t tree_len);
 
+/* Which of bt_info's figures is which. */
+enum bt_figure {
+    BT_FIGURE_LAYOUT = 0,    /* 1 or 2 */
+    BT_FIGURE_LENGTH = 1,    /* n, the bytes of the text */
+    BT_FIGURE_LEAF = 2,      /* the settings: leaf length, arity, levels */
+    BT_FIGURE_ARITY = 3,
+    BT_FIGURE_LEVELS = 4,
+    BT_FIGURE_LEAF_BYTES = 5, /* leaf bytes that are stored */
+    BT_FIGURE_COUNTED = 6,   /* how many bytes are counted */
+    BT_FIGURE_BYTE = 7,      /* the first counted byte, the others after it, rising: BT_MAX_COUNTED figures */
+    BT_FIGURE_TOTAL = 11,    /* the total of the first counted byte, the others after it: BT_MAX_COUNTED figures */
+    BT_FIGURE_BLOCKS = 15    /* the blocks of level 0, the other levels after it: BT_MAX_LEVELS figures */
+};
+
+/* What a tree's header says, and how often each counted byte stands in the text by the tree's totals: true of any tree that bt_check accepts. Figures of
+ * counted bytes and levels that the tree does not have are 0. The number of rows is bt_row_count's.
+ *   lent      tree
+ *   written   figures: BT_FIGURES of them, by enum bt_figure; all 0 on a refusal
+ *   answers   0, 5, 6, 7 */
+uint32_t bt_info(const uint8_t *tree, size_t tree_len, uint64_t *figures);
+
 /* The byte at a place of the text.
  *   lent      tree
  *   written   *value: the byte; *entered: the blocks entered on the way
@@ -140,15 +170,34 @@ uint32_t bt_find(const uint8_t *tree, size_t tree_len, uint32_t byte, uint32_t j
  *   answers   0, 5, 6, 7, 11, 12, 13, 14 */
 uint32_t bt_row(const uint8_t *tree, size_t tree_len, uint32_t q, uint8_t *buffer, size_t buffer_len, uint32_t *length);
 
+/* How long row q is, without a buffer: on a tree that bt_check accepts a buffer of *length bytes is enough for bt_row.
+ *   lent      tree
+ *   written   *length: the row's length
+ *   answers   0, 5, 6, 7, 11, 12, 14 */
+uint32_t bt_row_length(const uint8_t *tree, size_t tree_len, uint32_t q, uint32_t *length);
+
+/* How many rows the text has: the total of byte 10, and one more if the text's last byte is another one.
+ *   lent      tree
+ *   written   *rows: how many
+ *   answers   0, 5, 6, 7, 11 (byte 10 is not counted), 14 (the last byte's path breaks) */
+uint32_t bt_row_count(const uint8_t *tree, size_t tree_len, uint64_t *rows);
+
 /* All places of a pattern of 1 to BT_MAX_PATTERN bytes of any value: each place of the text from which its bytes stand there, overlaps included.
  *   lent      tree, pattern
  *   written   table: the places in its first *number words, rising, the rest as it was; as it was on any refusal
  *             *number: how many places there are, 0 where the pattern stands nowhere
  *   answers   0, 5, 6, 7, 16, 14, 17
- * n words, as many as the text has bytes (the tree's word at 4), are always enough. With 0 words the call says whether the pattern stands in the text:
+ * As many words as bt_places_words says are always enough. With 0 words the call says whether the pattern stands in the text:
  * BT_TABLE where it does, BT_OK where it does not. The text is read once, and once more where there are more than 256 places; for each byte read the
  * search takes two steps on average at most, whatever the pattern. */
 uint32_t bt_places(const uint8_t *tree, size_t tree_len, const uint8_t *pattern, size_t pattern_len, uint32_t *table, size_t words, uint32_t *number);
+
+/* How many words hold all places of any pattern of `length` bytes: n - length + 1, or 0 where it is longer than the text. With a table of so many words
+ * bt_places never answers BT_TABLE.
+ *   lent      tree
+ *   written   *words: that many
+ *   answers   0, 5, 6, 7, 16 */
+uint32_t bt_places_words(const uint8_t *tree, size_t tree_len, uint32_t length, uint32_t *words);
 
 /* A worn key: move a mark on to the next row that matches. A row is a key if it is a code of 1 to 12 bytes other than space, one space, and 1 to 10
  * cuts, a digit each; rows are those of bt_row. It matches if it has as many cuts as there are ranges, each of a depth in its range.

@@ -1,7 +1,7 @@
 /* Builds the tree of a book twice, by bt_build and by one scan a level, and compares.
  *
- *   rt staticlib abi
- *   gcc -std=c99 -Iinclude examples/c/build_scanned.c target/staticlib/libabi.a -o build_scanned && ./build_scanned
+ *   make
+ *   gcc -std=c99 -Iinclude examples/c/build_scanned.c target/libblocktree.a -o build_scanned && ./build_scanned
  */
 #include <stdio.h>
 #include <stdlib.h>

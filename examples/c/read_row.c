@@ -1,7 +1,7 @@
 /* Builds the tree of a small book, checks it and reads a row.
  *
- *   rt staticlib abi
- *   gcc -std=c99 -Iinclude examples/c/read_row.c target/staticlib/libabi.a -o read_row && ./read_row
+ *   make
+ *   gcc -std=c99 -Iinclude examples/c/read_row.c target/libblocktree.a -o read_row && ./read_row
  */
 #include <stdio.h>
 #include <string.h>

@@ -334,9 +334,9 @@ fn time_sizes() {
     println!("| Book | Call | 64 KiB | 1 MiB | 8 MiB |\n|---|---|---:|---:|---:|");
     for (kind, name) in KINDS {
         let columns = sizes.map(|size| time_calls(&book(kind, size, 1), shape));
-        for call in 0..columns[0].len() {
+        for (call, (title, _)) in columns[0].iter().enumerate() {
             let [small, middle, large] = [0, 1, 2].map(|column: usize| shown(columns[column][call].1));
-            println!("| {name} | {} | {small} | {middle} | {large} |", columns[0][call].0);
+            println!("| {name} | {title} | {small} | {middle} | {large} |");
         }
     }
 }

@@ -11,6 +11,9 @@ macro_rules! longest {
 /// The longest text, and the longest block of level 0.
 pub const MAX_TEXT: usize = ungrouped(longest!());
 
+/// The largest tree: of the longest text with blocks of one byte, every block kept, and four bytes counted.
+pub const MAX_TREE: u64 = 1_111_359_588;
+
 /// The longest pattern.
 pub const MAX_PATTERN: usize = 256;
 
@@ -32,8 +35,24 @@ const fn ungrouped(digits: &str) -> usize {
 
 #[cfg(test)]
 mod tests {
-    use super::MAX_TEXT;
+    use super::{MAX_TEXT, MAX_TREE};
     use crate::calls;
+
+    /// No settings allow a larger tree.
+    #[test]
+    fn the_largest_tree() {
+        let mut largest = 0;
+        for leaf in 1..=256 {
+            for arity in 2..=16 {
+                for levels in 1..=8 {
+                    let (number, size) = calls::enough(MAX_TEXT as u32, leaf, arity, levels, 4);
+                    largest = largest.max(if number == 0 { size } else { 0 });
+                }
+            }
+        }
+        assert_eq!(largest, MAX_TREE);
+        assert!(include_str!("../../docs/FORMAT.md").contains(" has 1,111,359,588 bytes: n 8,388,608, m 1, r 2, H 8, k 4,"));
+    }
 
     /// The library, its header and its format's page have the same bound.
     #[test]

@@ -1,5 +1,8 @@
 //! The library's C calls, declared as in include/blocktree.h, each with a safe function that lends slices and hands back the number and all figures.
 
+/// How many figures `info` writes.
+pub const FIGURES: usize = 23;
+
 mod declared {
     extern "C" {
         pub fn bt_build(
@@ -96,6 +99,11 @@ mod declared {
         ) -> u32;
         pub fn bt_days_left(last: *const u8, last_len: usize, today: *const u8, today_len: usize, days: *mut i32) -> u32;
         pub fn bt_renew(day: *mut u8, day_len: usize) -> u32;
+        pub fn bt_version() -> u32;
+        pub fn bt_info(tree: *const u8, tree_len: usize, figures: *mut u64) -> u32;
+        pub fn bt_row_count(tree: *const u8, tree_len: usize, rows: *mut u64) -> u32;
+        pub fn bt_row_length(tree: *const u8, tree_len: usize, q: u32, length: *mut u32) -> u32;
+        pub fn bt_places_words(tree: *const u8, tree_len: usize, length: u32, words: *mut u32) -> u32;
     }
 }
 
@@ -209,6 +217,7 @@ pub fn make_guide(tree: &[u8], table: &mut [u8]) -> (u32, u64) {
     (number, words)
 }
 
+/// The number.
 pub fn check_guide(tree: &[u8], guide: &[u8]) -> u32 {
     unsafe { declared::bt_check_guide(tree.as_ptr(), tree.len(), guide.as_ptr(), guide.len()) }
 }
@@ -288,4 +297,35 @@ pub fn days_left(last: &[u8], today: &[u8]) -> (u32, i32) {
 /// The number; the day is moved.
 pub fn renew(day: &mut [u8]) -> u32 {
     unsafe { declared::bt_renew(day.as_mut_ptr(), day.len()) }
+}
+
+/// The version as one number.
+pub fn version() -> u32 {
+    unsafe { declared::bt_version() }
+}
+
+/// The number; the figures are written, in the order of the header's enum bt_figure.
+pub fn info(tree: &[u8], figures: &mut [u64; FIGURES]) -> u32 {
+    unsafe { declared::bt_info(tree.as_ptr(), tree.len(), figures.as_mut_ptr()) }
+}
+
+/// The number and how many rows there are.
+pub fn row_count(tree: &[u8]) -> (u32, u64) {
+    let mut rows = 0;
+    let number = unsafe { declared::bt_row_count(tree.as_ptr(), tree.len(), &mut rows) };
+    (number, rows)
+}
+
+/// The number and the row's length.
+pub fn row_length(tree: &[u8], q: u32) -> (u32, u32) {
+    let mut length = 0;
+    let number = unsafe { declared::bt_row_length(tree.as_ptr(), tree.len(), q, &mut length) };
+    (number, length)
+}
+
+/// The number and the words that hold all places of any pattern of that length.
+pub fn places_words(tree: &[u8], length: u32) -> (u32, u32) {
+    let mut words = 0;
+    let number = unsafe { declared::bt_places_words(tree.as_ptr(), tree.len(), length, &mut words) };
+    (number, words)
 }

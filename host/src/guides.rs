@@ -6,8 +6,11 @@ use crate::{calls, Refusal, Tree, MAX_TEXT};
 /// A place, the blocks on its path, and the steps on level 0 that led to it.
 #[derive(Clone, Copy, Debug, PartialEq, Eq)]
 pub struct Guided {
+    /// Where the byte stands.
     pub place: u32,
+    /// Blocks on the path of that place.
     pub entered: u32,
+    /// Steps on level 0.
     pub steps: u32,
 }
 

@@ -10,19 +10,25 @@
 //! # Ok::<(), codebook::Refusal>(())
 //! ```
 
+#![deny(missing_docs)]
+
 mod bounds;
 pub mod calls;
 mod columns;
 mod days;
+mod facts;
 mod guides;
 mod order;
+mod parts;
 mod refusal;
 
-pub use bounds::{LIST_LENGTH, MAX_PATTERN, MAX_TEXT};
+pub use bounds::{LIST_LENGTH, MAX_PATTERN, MAX_TEXT, MAX_TREE};
 pub use columns::{from_columns, row_width, to_columns};
 pub use days::{days_left, open_on, renew};
+pub use facts::{version, Info};
 pub use guides::Guided;
 pub use order::Compared;
+pub use parts::{Block, Level};
 use refusal::answer;
 pub use refusal::Refusal;
 
@@ -32,35 +38,32 @@ pub const SHORT_LIST: [(u32, u32, u32); 6] = [(256, 2, 1), (64, 4, 3), (48, 2, 5
 /// How a tree is laid out, and which bytes it can count and find.
 #[derive(Clone, Debug, PartialEq, Eq)]
 pub struct Settings {
+    /// Bytes of a full block of the last level, 1 to 256.
     pub leaf: u32,
+    /// Children of a full block, 2 to 16.
     pub arity: u32,
+    /// Levels, 1 to 8.
     pub levels: u32,
-    /// Rising, at most four.
+    /// The bytes that the tree counts, rising, at most four.
     pub counted: Vec<u8>,
 }
 
 /// An answer, and how many blocks were entered for it.
 #[derive(Clone, Copy, Debug, PartialEq, Eq)]
 pub struct Reached<T> {
+    /// The answer.
     pub value: T,
+    /// Blocks entered on the way.
     pub entered: u32,
 }
 
 /// The depths that a cut of a worn key may have, 0 to 9, both included.
 #[derive(Clone, Copy, Debug, PartialEq, Eq)]
 pub struct Range {
+    /// The lowest depth.
     pub low: u8,
+    /// The highest depth.
     pub high: u8,
-}
-
-/// The blocks of a level.
-#[derive(Clone, Copy, Debug, PartialEq, Eq)]
-pub struct Level {
-    /// Bytes of a full block.
-    pub block_length: u64,
-    pub blocks: u32,
-    /// Blocks that point; the others are kept.
-    pub pointing: u32,
 }
 
 /// A buffer of so many bytes is enough for the tree of any text of `n` bytes.
@@ -83,7 +86,9 @@ pub fn build(text: &[u8], settings: &Settings) -> Result<Vec<u8>, Refusal> {
 /// A tree, and how many windows of the text were looked up to build it.
 #[derive(Clone, Debug, PartialEq, Eq)]
 pub struct Scanned {
+    /// The tree's bytes.
     pub tree: Vec<u8>,
+    /// Windows looked up.
     pub windows: u32,
 }
 
@@ -97,6 +102,20 @@ pub fn build_scanned(text: &[u8], settings: &Settings) -> Result<Scanned, Refusa
     let (number, size, windows) = calls::build_scanned(text, settings.leaf, settings.arity, settings.levels, &settings.counted, &mut work, &mut tree);
     tree.truncate(size as usize);
     answer(number, Scanned { tree, windows })
+}
+
+/// The words of the table that a scan of a text of `n` bytes works in; 0 where the leaf length is 0.
+pub fn scan_words(n: u32, leaf: u32) -> u64 {
+    calls::scan_words(n, leaf)
+}
+
+/// The size of the tree of any text of `n` bytes, where the settings have one level: no block points, so that the text itself plays no part. None for
+/// settings with more levels.
+pub fn one_level_size(n: usize, settings: &Settings) -> Result<Option<usize>, Refusal> {
+    enough(n, settings)?;
+    let (leaf, counted) = (settings.leaf as usize, settings.counted.len());
+    let record = 16 + 12 * counted + 2 * leaf;
+    Ok((settings.levels == 1).then(|| 100 + n.div_ceil(leaf) * record + n))
 }
 
 /// The lines of the list program, one for each level; or its line `refused N`, and the refusal.
@@ -127,6 +146,7 @@ impl<'a> Tree<'a> {
         Tree { bytes }
     }
 
+    /// The byte at a place, from 0.
     pub fn byte(&self, place: u32) -> Result<Reached<u8>, Refusal> {
         let (number, value, entered) = calls::byte(self.bytes, place);
         answer(number, Reached { value: value as u8, entered })
@@ -134,8 +154,13 @@ impl<'a> Tree<'a> {
 
     /// The text's bytes from `place` on that lie side by side in the tree.
     pub fn run(&self, place: u32) -> Result<&'a [u8], Refusal> {
+        self.run_at(place).map(|(_, run)| run)
+    }
+
+    /// The same, and where in the tree they begin.
+    pub fn run_at(&self, place: u32) -> Result<(u64, &'a [u8]), Refusal> {
         let (number, offset, length) = calls::run(self.bytes, place);
-        answer(number, &self.bytes[offset as usize..][..length as usize])
+        answer(number, (offset, &self.bytes[offset as usize..][..length as usize]))
     }
 
     /// `length` bytes from `place` on. The blocks entered are those of a short span, of at most the leaf length, in a tree of layout 2; else 0.
@@ -167,10 +192,8 @@ impl<'a> Tree<'a> {
 
     /// How many rows there are: the total of byte 10, and one more if the text's last byte is another one.
     pub fn rows(&self) -> Result<u64, Refusal> {
-        let length = self.text_length();
-        let ended = self.count(10, length)?.value;
-        let open = length > 0 && self.byte(length - 1)?.value != 10;
-        Ok(ended + u64::from(open))
+        let (number, rows) = calls::row_count(self.bytes);
+        answer(number, rows)
     }
 
     /// All places of `pattern`, 1 to `MAX_PATTERN` bytes, in rising order; one may overlap the next.
@@ -208,50 +231,5 @@ impl<'a> Tree<'a> {
     /// The whole text.
     pub fn text(&self) -> Result<Vec<u8>, Refusal> {
         self.span(0, self.text_length()).map(|span| span.value)
-    }
-
-    /// Bytes of the tree.
-    pub fn size(&self) -> usize {
-        self.bytes.len()
-    }
-
-    /// The layout, as the header has it: 1, or 2, which has edges.
-    pub fn layout(&self) -> u32 {
-        self.word(0)
-    }
-
-    /// Bytes of the text, as the header has it.
-    pub fn text_length(&self) -> u32 {
-        self.word(4)
-    }
-
-    /// The settings, as the header has them.
-    pub fn settings(&self) -> Settings {
-        let counted = self.bytes.iter().skip(24).take(4.min(self.word(20) as usize)).copied().collect();
-        Settings { leaf: self.word(8), arity: self.word(12), levels: self.word(16), counted }
-    }
-
-    /// The levels of a tree that the check accepts.
-    pub fn levels(&self) -> Vec<Level> {
-        let Settings { leaf, arity, levels, counted } = self.settings();
-        let record = 16 + 12 * counted.len() + if self.layout() == 2 { 2 * leaf as usize } else { 0 };
-        (0..levels.min(8))
-            .map(|level| {
-                let at = 28 + 8 * level as usize;
-                let (blocks, offset) = (self.word(at), self.word(at + 4) as usize);
-                let pointing = (0..blocks as usize).filter(|block| self.word(offset + block * record + 4) == 1).count();
-                Level { block_length: u64::from(leaf) * u64::from(arity).pow(levels - 1 - level), blocks, pointing: pointing as u32 }
-            })
-            .collect()
-    }
-
-    /// The number of leaf bytes, as the header has it.
-    pub fn leaf_bytes(&self) -> u32 {
-        self.word(96)
-    }
-
-    /// The word at `at`; 0 where the bytes are too short to have one.
-    fn word(&self, at: usize) -> u32 {
-        self.bytes.get(at..at + 4).and_then(|word| word.try_into().ok()).map_or(0, u32::from_le_bytes)
     }
 }

@@ -7,7 +7,9 @@ use std::cmp::Ordering;
 /// Where a tree's text stands beside another's, and how many bytes they share from their start on.
 #[derive(Clone, Copy, Debug, PartialEq, Eq)]
 pub struct Compared {
+    /// Where the first stands beside the other.
     pub ordering: Ordering,
+    /// The length of the shared beginning.
     pub shared: u32,
 }
 

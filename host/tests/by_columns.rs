@@ -34,7 +34,7 @@ fn worked() {
 
 /// A width: mostly one that divides the length.
 fn width(rng: &mut Rng, n: usize) -> u32 {
-    let divisors: Vec<u32> = (1..=n as u32).filter(|width| (n as u32).is_multiple_of(*width)).collect();
+    let divisors: Vec<u32> = (1..=n as u32).filter(|width| n as u32 % *width == 0).collect();
     match rng.below(8) {
         0 => damage::odd_word(rng, n as u32),
         1 => rng.below(n + 3) as u32,

@@ -18,10 +18,14 @@ fn output(command: &mut Command) -> Output {
 
 /// What an example prints, compiled without a warning.
 fn printed(example: &str) -> String {
+    printed_by("-std=c99", example)
+}
+
+fn printed_by(standard: &str, example: &str) -> String {
     let program = Path::new(env!("CARGO_TARGET_TMPDIR")).join(example);
     output(
         Command::new("gcc")
-            .arg("-std=c99")
+            .arg(standard)
             .args(STRICT)
             .arg("-I")
             .arg(repository().join("include"))
@@ -41,6 +45,26 @@ fn reads_a_row() {
 #[test]
 fn builds_with_one_scan_a_level() {
     assert_eq!(printed("build_scanned"), "table of 56 words, 470 windows looked up\nboth trees are the same\n");
+}
+
+/// Each call's stack is as small as README.md says.
+#[test]
+fn stack_use() {
+    let lines = printed_by("-std=gnu99", "stack_use");
+    assert!(lines.lines().count() > 25);
+    for line in lines.lines() {
+        let bytes: usize = line.split_whitespace().nth(1).and_then(|word| word.parse().ok()).expect("a number");
+        assert!(bytes <= 4096, "{line}");
+    }
+}
+
+/// The symbols that the archive needs are those that README.md names.
+#[test]
+fn symbols_needed() {
+    let listed = output(Command::new("nm").args(["--undefined-only", "--format=posix", ARCHIVE]));
+    let listed = String::from_utf8_lossy(&listed.stdout).into_owned();
+    let needed: Vec<&str> = listed.lines().filter_map(|line| line.split_once(" U").map(|(name, _)| name)).collect();
+    assert!(!needed.is_empty() && needed.iter().all(|name| ["memcpy", "memset"].contains(name)), "{listed}");
 }
 
 /// The header alone, as C99 and as C++.

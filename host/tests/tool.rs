@@ -1,95 +1,17 @@
 //! The tool from end to end: what it prints, and its status.
 
-use std::fs;
-use std::io::Write;
-use std::path::{Path, PathBuf};
-use std::process::{Command, Output, Stdio};
+#[path = "support/folder.rs"]
+mod folder;
+mod support;
 
-/// The book that ships with the repository.
-fn book() -> PathBuf {
-    Path::new(env!("CARGO_MANIFEST_DIR")).join("../books/small.txt")
-}
+use folder::Folder;
+use support::books::{book, Kind};
 
-/// A folder of this test's own, with the book and its tree in it.
-struct Folder(PathBuf);
+const NO_SMALLER: &str = "the tree is no smaller than the text: the book is short, or repeats itself too little";
 
-impl Folder {
-    fn new(name: &str) -> Self {
-        let path = Path::new(env!("CARGO_TARGET_TMPDIR")).join(name);
-        let _ = fs::remove_dir_all(&path);
-        fs::create_dir_all(&path).expect("a folder");
-        fs::copy(book(), path.join("small.txt")).expect("the book");
-        Folder(path)
-    }
-
-    fn with_tree(name: &str) -> Self {
-        let folder = Folder::new(name);
-        folder.run("build small.txt -o small.tree").succeeds();
-        folder
-    }
-
-    /// Run the tool with words parted by spaces, and nothing on standard input.
-    fn run(&self, words: &str) -> Done {
-        self.pipe(words, b"")
-    }
-
-    fn pipe(&self, words: &str, input: &[u8]) -> Done {
-        let mut child = Command::new(env!("CARGO_BIN_EXE_codebook"))
-            .args(words.split_whitespace())
-            .current_dir(&self.0)
-            .stdin(Stdio::piped())
-            .stdout(Stdio::piped())
-            .stderr(Stdio::piped())
-            .spawn()
-            .expect("the tool starts");
-        // a tool that stops early closes its end
-        let mut stdin = child.stdin.take().expect("a pipe");
-        let input = input.to_vec();
-        let writer = std::thread::spawn(move || {
-            let _ = stdin.write_all(&input);
-        });
-        let output = child.wait_with_output().expect("the tool ends");
-        writer.join().expect("the input is written");
-        Done { words: words.to_owned(), output }
-    }
-
-    fn read(&self, name: &str) -> Vec<u8> {
-        fs::read(self.0.join(name)).expect("a file")
-    }
-
-    fn write(&self, name: &str, bytes: &[u8]) {
-        fs::write(self.0.join(name), bytes).expect("a file");
-    }
-}
-
-struct Done {
-    words: String,
-    output: Output,
-}
-
-impl Done {
-    fn status(&self, status: i32) -> &Self {
-        assert_eq!(self.output.status.code(), Some(status), "{}: {}", self.words, self.errors());
-        self
-    }
-
-    fn succeeds(&self) -> &Self {
-        self.status(0)
-    }
-
-    fn prints(&self, text: &str) -> &Self {
-        assert_eq!(String::from_utf8_lossy(&self.output.stdout), text, "{}", self.words);
-        self
-    }
-
-    fn says(&self, text: &str) -> &Self {
-        assert_eq!(self.errors(), text, "{}", self.words);
-        self
-    }
-
-    fn errors(&self) -> String {
-        String::from_utf8_lossy(&self.output.stderr).into_owned()
-    }
+/// What is printed before the digest.
+fn before_digest(done: &folder::Done) -> String {
+    done.printed().split("sha256 ").next().unwrap_or_default().to_owned()
 }
 
 #[test]
@@ -107,41 +29,62 @@ leaf  arity  levels  tree's bytes
 chosen: leaf 24, arity 8, levels 3, since its tree is the smallest of these 6
 ";
     let ending = "5,884 bytes, 210.1 % of the text; leaf 24, arity 8, levels 3; bytes counted: 10\n\
-                  The tree is no smaller than the text: the book is short, or repeats itself too little.\n";
-    folder.run("build small.txt -o small.tree").succeeds().prints(&format!("{report}small.tree: {ending}")).says("");
+                  sha256 52b68fb8c050a721ad41325cbab54baa513f37c762b2e90bffd1283ca2b82927\n";
+    let warning = |book: &str| format!("codebook: {book}: warning: {NO_SMALLER}\n");
+    folder.run("build small.txt -o small.tree").succeeds().prints(&format!("{report}small.tree: {ending}")).says(&warning("small.txt"));
     assert_eq!(folder.read("small.tree").len(), 5884);
     // in a pipe the tree goes to standard output and the report to standard error
     let piped = folder.pipe("build", &folder.read("small.txt"));
-    piped.succeeds().says(&format!("{}standard output: {ending}", report.replace("small.txt", "standard input")));
+    piped.succeeds().says(&format!("{}standard output: {ending}{}", report.replace("small.txt", "standard input"), warning("standard input")));
     assert_eq!(piped.output.stdout, folder.read("small.tree"));
 }
 
 #[test]
 fn builds_with_given_settings() {
     let folder = Folder::new("given");
-    folder.run("build small.txt -o small.tree --leaf 16 --arity=4 --levels 2 --count none").succeeds().prints(
-        "small.txt: 2,800 bytes\nsmall.tree: 5,476 bytes, 195.6 % of the text; leaf 16, arity 4, levels 2; bytes counted: none\n\
-             The tree is no smaller than the text: the book is short, or repeats itself too little.\n",
-    );
-    folder
-        .run("row 1 small.tree")
-        .status(1)
-        .says("codebook: small.tree: row 1: refused (11): the tree does not count this byte; rows end in byte 10, so build must count it\n");
+    let done = folder.run("build small.txt -o small.tree --leaf 16 --arity=4 --levels 2 --count none");
+    let sizes = "small.tree: 5,476 bytes, 195.6 % of the text; leaf 16, arity 4, levels 2; bytes counted: none\n";
+    assert_eq!(before_digest(done.succeeds()), format!("small.txt: 2,800 bytes\n{sizes}"));
+    let uncounted = "refused (11): the tree does not count byte 10, which ends a row; build must count it";
+    folder.run("row 1 small.tree").status(1).says(&format!("codebook: small.tree: row 1: {uncounted}\n"));
     folder.run("build small.txt -o two.tree --leaf 16 --arity 4 --levels 2 --count \\n,C").succeeds();
-    folder.run("build small.txt -o large.tree --leaf 1 --arity 2 --levels 1").succeeds().prints(
-        "small.txt: 2,800 bytes\nlarge.tree: 86,900 bytes, 3103.6 % of the text; leaf 1, arity 2, levels 1; bytes counted: 10\n\
-         The tree is no smaller than the text: the book is short, or repeats itself too little.\n",
-    );
+    let done = folder.run("build small.txt --output large.tree --leaf 1 --arity 2 --levels 1");
+    let sizes = "large.tree: 86,900 bytes, 3103.6 % of the text; leaf 1, arity 2, levels 1; bytes counted: 10\n";
+    assert_eq!(before_digest(done.succeeds()), format!("small.txt: 2,800 bytes\n{sizes}"));
     folder.run("find C 41 two.tree").succeeds().prints("728 (3 blocks entered)\n");
+    // named after the book, or into a folder
+    folder.run("build small.txt -q -f").succeeds().prints("").says("");
+    std::fs::create_dir(folder.0.join("trees")).expect("a folder");
+    folder.run("build small.txt -q -o trees").succeeds();
+    assert_eq!(folder.read("small.tree"), folder.read("trees/small.tree"));
+}
+
+/// Settings of one level: the size is computed, and is the tree's.
+#[test]
+fn one_level() {
+    for (leaf, counted) in [(1, 0), (2, 4), (64, 1), (255, 2), (256, 4)] {
+        for length in [0, 1, 2, 63, 64, 65, 255, 256, 257, 5000] {
+            let settings = codebook::Settings { leaf, arity: 2, levels: 1, counted: (0..counted).collect() };
+            let tree = codebook::build_scanned(&vec![b'A'; length], &settings).expect("a tree").tree;
+            assert_eq!(codebook::one_level_size(length, &settings), Ok(Some(tree.len())));
+        }
+    }
+    let settings = codebook::Settings { leaf: 2, arity: 2, levels: 2, counted: vec![] };
+    assert_eq!(codebook::one_level_size(10, &settings), Ok(None));
+    assert_eq!(codebook::one_level_size(10, &codebook::Settings { leaf: 0, ..settings }), Err(codebook::Refusal::Settings));
 }
 
 #[test]
 fn answers() {
     let folder = Folder::with_tree("answers");
-    folder.run("check small.tree").succeeds().prints("small.tree: a good tree of 2,800 bytes of text\n").says("");
     folder.run("list small.tree").succeeds().prints("0 2 2 0\n1 15 6 9\n2 45 45 0\n");
     folder.run("row 1 small.tree").succeeds().prints("CH0501 444224\n");
     folder.run("row 200 small.tree").succeeds().prints("HON1012 52162\n");
+    folder.run("row 199.. small.tree").succeeds().prints("HON1011 52161\nHON1012 52162\n");
+    folder.run("row ..2 small.tree").succeeds().prints("CH0501 444224\nCH0502 444225\n");
+    folder.run("row 5..7 small.tree").succeeds().prints("CH0505 444233\nCH0506 444234\nCH0507 444235\n");
+    assert_eq!(folder.run("row .. small.tree").output.stdout, folder.read("small.txt"));
+    folder.run("run 14 small.tree").succeeds().prints("offset 4826, 10 bytes: 'CH0502 444'\n");
     folder.run("byte 0 small.tree").succeeds().prints("67 'C' (3 blocks entered)\n");
     folder.run("byte 13 small.tree").succeeds().prints("10 '\\n' (3 blocks entered)\n");
     folder.run("span 14 6 small.tree").succeeds().prints("CH0502");
@@ -160,7 +103,11 @@ layout      2
 settings    leaf 24, arity 8, levels 3
 counted     10 '\\n': 200 times
 rows        200
-leaf bytes  1,072
+the tree's bytes
+  header             100    1.7 %
+  records          1,736   29.5 %
+  edges            2,976   50.6 %
+  leaf bytes       1,072   18.2 %
 level  block length    blocks      kept  pointing
     0         1,536         2         2         0
     1           192        15         6         9
@@ -195,10 +142,10 @@ fn places_that_are_refused() {
     folder.write("kind.tree", &tree);
     let path = "refused (14): the tree is damaged: the way to a byte breaks off, or a count comes out below zero";
     folder.run("places CH0502 kind.tree --unchecked").status(1).prints("").says(&format!("codebook: kind.tree: places: {path}\n"));
-    let usage = "usage: codebook places PATTERN [TREE] [--unchecked]";
-    folder.run("places").status(2).says(&format!("codebook: PATTERN is missing\n{usage}\n"));
-    for pattern in ["CH\\", "CH\\t", "\\x4", "\\x+4", "\\xg0"] {
-        let escapes = "in a pattern a backslash begins \\n, \\r, \\\\ or \\xHH, a byte in hexadecimal";
+    let usage = "usage: codebook places TEXT [TREE] [--json] [--unchecked]";
+    folder.run("places").status(2).says(&format!("codebook: TEXT is missing\n{usage}\n"));
+    for pattern in ["CH\\", "CH\\q", "\\x4", "\\x+4", "\\xg0"] {
+        let escapes = "a backslash begins \\n, \\r, \\t, \\\\ or \\xHH, a byte in hexadecimal";
         folder.run(&format!("places {pattern} small.tree")).status(2).prints("").says(&format!("codebook: {escapes}\n{usage}\n"));
     }
 }
@@ -210,6 +157,10 @@ fn matches() {
     for cuts in ["5216[1-5]", "5,2,1,6,1-5", "52161-2", "5,[2-2],1,6[1-2]"] {
         folder.run(&format!("match {cuts} small.tree --from 121")).succeeds().prints(last).says("");
     }
+    folder.run("worn 52161 52165 small.tree --from 121").succeeds().prints(last);
+    folder.run("worn 52161 52165 small.tree --after 121").succeeds().prints("row 159: HON1011 52161\n");
+    folder.run("match 5216[1-5] small.tree --after 159").succeeds().prints("row 160: HON1012 52162\n");
+    folder.run("worn 52161 52165 small.tree --after 200").succeeds().prints("no row matches\n");
     folder.run("match ????? small.tree --from 200 --unchecked").succeeds().prints("row 200: HON1012 52162\n");
     for none in ["9", "???", "44422[6-9]", "????? --from 201", "????? --from 4294967295"] {
         folder.run(&format!("match {none} small.tree")).succeeds().prints("no row matches\n");
@@ -223,15 +174,20 @@ fn matches() {
 #[test]
 fn matches_that_are_refused() {
     let folder = Folder::with_tree("refused-matches");
-    let refused = "refused (19): a worn key must have 1 to 10 cuts, each with a low and a high depth of 0 to 9, the low one not above the high one";
-    for (cuts, hint) in [("12345678901", "this one has 11"), (",", "this one has 0"), ("4[5-3]", "given: 5-3")] {
-        let says = format!("codebook: small.tree: match: {refused}; {hint}\n");
+    let (many, above) = ("a worn key has 1 to 10 cuts; this one has", "the low depth of a cut must not be above the high one, as 5-3 is");
+    for (cuts, why) in [("12345678901", format!("{many} 11")), (",", format!("{many} 0")), ("4[5-3]", above.to_owned())] {
+        let says = format!("codebook: small.tree: match: refused (19): {why}\n");
         folder.run(&format!("match {cuts} small.tree")).status(1).prints("").says(&says);
     }
     folder.run("build small.txt -o none.tree --leaf 16 --arity 4 --levels 2 --count none").succeeds();
-    let uncounted = "refused (11): the tree does not count this byte; rows end in byte 10, so build must count it";
+    let uncounted = "refused (11): the tree does not count byte 10, which ends a row; build must count it";
     folder.run("match 444224 none.tree").status(1).says(&format!("codebook: none.tree: match: {uncounted}\n"));
-    let usage = "usage: codebook match CUTS [TREE] [--from ROW] [--unchecked]";
+    folder.run("worn 53 33 small.tree").status(1).says(&format!("codebook: small.tree: match: refused (19): {above}\n"));
+    let usage = "usage: codebook worn LOWS HIGHS [TREE] [--from ROW] [--after ROW] [--json] [--unchecked]";
+    folder.run("worn 12 123 small.tree").status(2).says(&format!("codebook: LOWS and HIGHS have a digit for each cut; they have 2 and 3\n{usage}\n"));
+    folder.run("worn 12 1x small.tree").status(2).says(&format!("codebook: HIGHS has a digit for each cut, not '1x'\n{usage}\n"));
+    folder.run("worn 1 1 --from 1 --after 1").status(2).says(&format!("codebook: --from and --after do not go together\n{usage}\n"));
+    let usage = "usage: codebook match CUTS [TREE] [--from ROW] [--after ROW] [--json] [--unchecked]";
     folder.run("match").status(2).says(&format!("codebook: CUTS is missing\n{usage}\n"));
     for (cuts, rest) in [("44x", "x"), ("4[35]", "[35]"), ("3-", "-"), ("4[1-2", "[1-2")] {
         let says = format!("codebook: a cut is a depth from 0 to 9, a range such as [3-5], or ?, not '{rest}'\n{usage}\n");
@@ -254,31 +210,42 @@ leaf  arity  levels  tree's bytes
   16      4       4        16,348
 chosen: leaf 256, arity 2, levels 1, since its tree is the smallest of these 6
 columns.tree: 8,840 bytes, 315.7 % of the text; leaf 256, arity 2, levels 1; bytes counted: 10
-The tree is no smaller than the text: the book is short, or repeats itself too little.
-by columns 8,840 bytes, by rows 5,884 (leaf 24, arity 8, levels 3): columns do not make it smaller
 ";
-    folder.run("build small.txt -o columns.tree --columns auto").succeeds().prints(report).says("");
-    folder.run("build small.txt -o given.tree --columns 14").succeeds().prints(&report.replace("columns.tree", "given.tree"));
+    let compared = "by columns 8,840 bytes, by rows 5,884 (leaf 24, arity 8, levels 3): columns do not make it smaller\n";
+    let built = folder.run("build small.txt -o columns.tree --columns auto");
+    assert_eq!(before_digest(built.succeeds()), report);
+    assert!(built.printed().ends_with(compared));
+    folder.run("build small.txt -o given.tree --columns 14").succeeds();
     assert_eq!(folder.read("columns.tree"), folder.read("given.tree"));
     let text = String::from_utf8(folder.read("small.txt")).expect("a text");
-    for (a, row) in text.lines().enumerate().step_by(7) {
-        folder.run(&format!("column-row {a} --width 14 columns.tree")).succeeds().prints(&format!("{row}\n"));
+    for (at, row) in text.lines().enumerate().step_by(17) {
+        folder.run(&format!("row {} --columns 14 columns.tree", at + 1)).succeeds().prints(&format!("{row}\n"));
     }
-    folder.run("columns auto small.txt -o turned.txt").succeeds().prints("").says("");
+    folder.run("row .. --columns 14 columns.tree").succeeds().prints(&text);
+    folder.run("row 3..2 --columns 14 columns.tree").status(2);
+    folder.run("to-columns auto small.txt -o turned.txt").succeeds().prints("").says("");
     assert_eq!(folder.run("text columns.tree").output.stdout, folder.read("turned.txt"));
-    assert_eq!(folder.run("columns --back 14 turned.txt").succeeds().output.stdout, folder.read("small.txt"));
-    folder.pipe("columns 4", b"AB1\nAB2\nAC3\n").succeeds().prints("AAABBC123\n\n\n").says("");
-    folder.pipe("columns 3", b"").succeeds().prints("");
-    // rows that all differ in a number, in columns that repeat
+    assert_eq!(folder.run("from-columns 14 turned.txt").succeeds().output.stdout, folder.read("small.txt"));
+    folder.pipe("to-columns 4", b"AB1\nAB2\nAC3\n").succeeds().prints("AAABBC123\n\n\n").says("");
+    folder.pipe("to-columns 3", b"").succeeds().prints("");
+    // a row's end is left out as row has it
+    folder.write("ends.txt", b"AB\r\nA\r\r\nABC\nABCD");
+    folder.run("build ends.txt --columns 4 --leaf 4 --arity 2 --levels 1").succeeds();
+    folder.run("row .. --columns 4 ends.tree").succeeds().prints("AB\nA\r\nABC\nABCD\n");
+}
+
+/// Rows that all differ in a number, in columns that repeat.
+#[test]
+fn columns_that_make_it_smaller() {
+    let folder = Folder::new("series");
     let series: Vec<String> = (0..300).map(|row| format!("SERIES-A {:05} 44444\n", row * 7919 % 100_000)).collect();
     folder.write("series.txt", series.concat().as_bytes());
-    let printed = folder.run("build series.txt -o series.tree --columns auto --leaf 16 --arity 4 --levels 3").succeeds().output.stdout.clone();
-    let report = String::from_utf8_lossy(&printed);
+    let report = folder.run("build series.txt -o series.tree --columns auto --leaf 16 --arity 4 --levels 3").succeeds().printed();
     assert!(
         report.starts_with("series.txt, 300 rows of 21 bytes by columns: 6,300 bytes\n") && report.ends_with(": columns make it smaller\n"),
         "{report}"
     );
-    folder.run("column-row 299 --width 21 series.tree").succeeds().prints(&series[299]);
+    folder.run("row 300 --columns 21 series.tree").succeeds().prints(&series[299]);
 }
 
 #[test]
@@ -288,24 +255,30 @@ fn by_columns_that_is_refused() {
     let width = "refused (20): the width must be above 0 and divide the text's length";
     for given in [0, 13, 2801] {
         let says = format!("codebook: small.txt: {width}; given: {given}, of 2,800 bytes\n");
-        folder.run(&format!("columns {given} small.txt")).status(1).prints("").says(&says);
+        folder.run(&format!("to-columns {given} small.txt")).status(1).prints("").says(&says);
         folder.run(&format!("build small.txt -o no.tree --columns {given}")).status(1).prints("").says(&says);
-        let says = format!("codebook: columns.tree: column-row 0 --width {given}: {width}; the text has 2,800 bytes\n");
-        folder.run(&format!("column-row 0 --width {given} columns.tree")).status(1).prints("").says(&says);
+        let says = format!("codebook: columns.tree: row 1 --columns {given}: {width}, 2,800\n");
+        folder.run(&format!("row 1 --columns {given} columns.tree")).status(1).prints("").says(&says);
     }
-    let past = "column-row 200 --width 14: refused (10): this lies past the text's end; the text has 200 rows of 14";
-    folder.run("column-row 200 --width 14 columns.tree").status(1).says(&format!("codebook: columns.tree: {past}\n"));
+    let past = "refused (10): rows of 14 bytes go from 1 to 200";
+    for row in ["0", "201", "199..201", "201.."] {
+        folder
+            .run(&format!("row {row} --columns 14 columns.tree"))
+            .status(1)
+            .prints("")
+            .says(&format!("codebook: columns.tree: row {row} --columns 14: {past}\n"));
+    }
     folder.write("uneven.txt", b"AB\nABC\n");
     let uneven = "codebook: uneven.txt: its rows do not all have one width; give it\n";
-    folder.run("columns auto uneven.txt").status(2).prints("").says(uneven);
+    folder.run("to-columns auto uneven.txt").status(2).prints("").says(uneven);
     folder.run("build uneven.txt -o no.tree --columns auto").status(2).prints("").says(uneven);
-    let usage = "usage: codebook columns WIDTH [BOOK] [-o FILE] [--back]";
-    folder.run("columns").status(2).says(&format!("codebook: WIDTH is missing\n{usage}\n"));
-    folder.run("columns wide small.txt").status(2).says(&format!("codebook: WIDTH is a number from 0 to 4294967295, or auto, not 'wide'\n{usage}\n"));
-    let back = "with --back the width must be given: a book by columns does not show it";
-    folder.run("columns auto --back small.txt").status(2).says(&format!("codebook: {back}\n{usage}\n"));
-    let row = "usage: codebook column-row A --width W [TREE] [--unchecked]";
-    folder.run("column-row 0 columns.tree").status(2).says(&format!("codebook: --width is missing\n{row}\n"));
+    let usage = "usage: codebook to-columns WIDTH [BOOK] [-o FILE] [-f]";
+    folder.run("to-columns").status(2).says(&format!("codebook: WIDTH is missing\n{usage}\n"));
+    folder
+        .run("to-columns wide small.txt")
+        .status(2)
+        .says(&format!("codebook: WIDTH is a number from 0 to 4294967295, or auto, not 'wide'\n{usage}\n"));
+    folder.run("from-columns auto small.txt").status(2);
     assert!(!folder.0.join("no.tree").exists());
 }
 
@@ -313,27 +286,30 @@ fn by_columns_that_is_refused() {
 #[test]
 fn guides() {
     let folder = Folder::with_tree("guides");
-    folder.run("guide small.tree -o small.guide").succeeds().prints("small.tree: a guide of 4 entries to small.guide\n").says("");
-    folder.run("check small.tree --guide small.guide").succeeds().prints("small.tree: a good tree of 2,800 bytes of text, and its guide\n");
+    folder.run("guide make small.tree -o small.guide").succeeds().prints("small.tree: a guide of 4 entries to small.guide\n").says("");
+    folder.run("guide check small.guide small.tree").succeeds().prints("small.tree: a good tree, and small.guide is its guide\n");
+    assert_eq!(folder.run("guide make small.tree").output.stdout, folder.read("small.guide"));
     let row = "HON1012 52162\n";
     folder.run("row 120 small.tree --guide small.guide").succeeds().prints(row);
     folder.run("row 120 small.tree --guide=small.guide --unchecked").succeeds().prints(row);
     for number in [1, 64, 65, 200] {
-        let plain = folder.run(&format!("find 10 {number} small.tree"));
-        let plain = String::from_utf8_lossy(&plain.output.stdout).into_owned();
-        let guided = folder.run(&format!("find 10 {number} small.tree --guide small.guide"));
-        let guided = String::from_utf8_lossy(&guided.output.stdout).into_owned();
+        let plain = folder.run(&format!("find 10 {number} small.tree")).printed();
+        let guided = folder.run(&format!("find 10 {number} small.tree --guide small.guide")).printed();
         assert!(guided.starts_with(plain.trim_end_matches(")\n")) && guided.ends_with(" on level 0)\n"), "{plain}{guided}");
     }
     // a guide with a word too many, of another tree, and none
     let wrong = "refused (24): this is no guide of this tree: it has too few or too many words, or an entry is wrong";
     folder.write("wrong.guide", &[0; 20]);
-    for question in ["check", "row 120", "find 10 1"] {
-        let says = format!("codebook: wrong.guide: {wrong}\n");
+    let says = format!("codebook: wrong.guide: {wrong}\n");
+    folder.run("guide check wrong.guide small.tree").status(1).prints("").says(&says);
+    for question in ["row 120", "find 10 1"] {
         folder.run(&format!("{question} small.tree --guide wrong.guide")).status(1).prints("").says(&says);
     }
     folder.run("row 1 small.tree --guide none.guide").status(2);
-    folder.run("guide small.txt -o none.guide").status(1).prints("");
+    folder.run("guide make small.txt -o none.guide").status(1).prints("");
+    folder.run("guide").status(2).says("codebook: make or check is missing; see codebook help guide\n");
+    folder.run("guide small.tree").status(2).says("codebook: guide is followed by make or check, not 'small.tree'; see codebook help guide\n");
+    assert_eq!(folder.run("guide --help").output.stdout, folder.run("help guide").output.stdout);
 }
 
 #[test]
@@ -349,12 +325,11 @@ fn every_row() {
 #[test]
 fn last_row_without_end() {
     let folder = Folder::new("open");
-    let no_such = "refused (12): the text has no occurrence or row of this number; numbers start at 1";
     folder.write("open.txt", b"CH1 12\nCH2 34");
     folder.run("build open.txt -o open.tree --leaf 4 --arity 2 --levels 2").succeeds();
     folder.run("row 1 open.tree").succeeds().prints("CH1 12\n");
     folder.run("row 2 open.tree").succeeds().prints("CH2 34\n");
-    folder.run("row 3 open.tree").status(1).says(&format!("codebook: open.tree: row 3: {no_such}; the book has 2 rows\n"));
+    folder.run("row 3 open.tree").status(1).says("codebook: open.tree: row 3: refused (12): rows go from 1 to 2\n");
     let printed = folder.run("stats open.tree").succeeds().output.stdout.clone();
     assert!(String::from_utf8_lossy(&printed).contains("counted     10 '\\n': 1 times\nrows        2\n"));
 }
@@ -365,8 +340,13 @@ fn rows_that_end_in_two_bytes() {
     let folder = Folder::new("seller");
     folder.write("seller.txt", b"CH1 12\r\nCH2 34\r\r\n\r\nCH3 56\r");
     folder.run("build seller.txt -o seller.tree --leaf 4 --arity 2 --levels 2").succeeds();
-    for (q, row) in ["CH1 12", "CH2 34\r", "", "CH3 56\r"].into_iter().enumerate() {
-        folder.run(&format!("row {} seller.tree", q + 1)).succeeds().prints(&format!("{row}\n"));
+    let rows = ["CH1 12\n", "CH2 34\r\n", "\n", "CH3 56\r\n"];
+    for first in 1..=4 {
+        folder.run(&format!("row {first} seller.tree")).succeeds().prints(rows[first - 1]);
+        for last in first..=4 {
+            folder.run(&format!("row {first}..{last} seller.tree")).succeeds().prints(&rows[first - 1..last].concat());
+        }
+        folder.run(&format!("row {first}..5 seller.tree")).status(1).prints("");
     }
 }
 
@@ -376,7 +356,7 @@ fn trees_from_standard_input() {
     let tree = folder.read("small.tree");
     folder.pipe("row 2", &tree).succeeds().prints("CH0502 444225\n");
     folder.pipe("row 2 -", &tree).succeeds().prints("CH0502 444225\n");
-    folder.pipe("check", &tree).succeeds().prints("standard input: a good tree of 2,800 bytes of text\n");
+    assert!(folder.pipe("check", &tree).succeeds().printed().starts_with("standard input: a good tree of 2,800 bytes of text; sha256 "));
     folder
         .pipe("check", b"")
         .status(1)
@@ -389,12 +369,13 @@ fn refused_questions() {
     let refused = |words: &str, says: &str| {
         folder.run(words).status(1).prints("").says(&format!("codebook: small.tree: {says}\n"));
     };
-    let no_such = "refused (12): the text has no occurrence or row of this number; numbers start at 1";
     let past = "refused (10): this lies past the text's end; the text has 2,800 bytes";
-    refused("row 201 small.tree", &format!("row 201: {no_such}; the book has 200 rows"));
-    refused("row 0 small.tree", &format!("row 0: {no_such}; the book has 200 rows"));
-    refused("find 10 201 small.tree", &format!("find 10 201: {no_such}; its total is 200"));
-    refused("byte 2800 small.tree", &format!("byte 2800: {past}"));
+    for row in ["0", "201", "0..3", "199..201", "201.."] {
+        refused(&format!("row {row} small.tree"), &format!("row {row}: refused (12): rows go from 1 to 200"));
+    }
+    refused("find 10 201 small.tree", "find 10 201: refused (12): numbers of byte 10 go from 1 to 200");
+    refused("byte 2800 small.tree", "byte 2800: refused (10): places go from 0 to 2,799");
+    refused("run 2800 small.tree", "run 2800: refused (10): places go from 0 to 2,799");
     refused("span 2799 2 small.tree", &format!("span 2799 2: {past}"));
     refused("span 4294967295 4294967295 small.tree", &format!("span 4294967295 4294967295: {past}"));
     refused("count 10 2801 small.tree", &format!("count 10 2801: {past}"));
@@ -437,8 +418,11 @@ fn texts_that_are_refused() {
     let folder = Folder::new("texts");
     let bounds = "refused (1): a text must have at most 8,388,608 bytes";
     folder.write("long.txt", &vec![b'A'; 8_388_609]);
-    folder.run("build long.txt -o no.tree").status(1).says(&format!("codebook: long.txt: {bounds}; it has more\n"));
-    folder.run("build long.txt -o no.tree --leaf 256 --arity 16 --levels 3").status(1).says(&format!("codebook: long.txt: {bounds}; it has more\n"));
+    folder.run("build long.txt -o no.tree").status(1).says(&format!("codebook: long.txt: {bounds}; it has 8,388,609\n"));
+    folder
+        .run("build long.txt -o no.tree --leaf 256 --arity 16 --levels 3")
+        .status(1)
+        .says(&format!("codebook: long.txt: {bounds}; it has 8,388,609\n"));
     let settings =
         "refused (2): the leaf length must be 1 to 256, the arity 2 to 16, the levels 1 to 8, and leaf x arity^(levels-1) at most 8,388,608";
     folder
@@ -455,10 +439,10 @@ fn texts_that_are_refused() {
 fn book_without_rows() {
     let folder = Folder::new("empty");
     folder.write("empty.txt", b"");
-    folder.run("build empty.txt -o empty.tree --leaf 2 --arity 2 --levels 2").succeeds().prints(
-        "empty.txt: 0 bytes\nempty.tree: 100 bytes, an empty text; leaf 2, arity 2, levels 2; bytes counted: 10\nThe book has no rows yet.\n",
-    );
-    folder.run("check empty.tree").succeeds().prints("empty.tree: a good tree of 0 bytes of text\n");
+    let built = folder.run("build empty.txt -o empty.tree --leaf 2 --arity 2 --levels 2");
+    let sizes = "empty.txt: 0 bytes\nempty.tree: 100 bytes, an empty text; leaf 2, arity 2, levels 2; bytes counted: 10\n";
+    assert_eq!(before_digest(built.succeeds()), sizes);
+    assert!(folder.run("check empty.tree").succeeds().printed().starts_with("empty.tree: a good tree of 0 bytes of text; "));
     folder.run("list empty.tree").succeeds().prints("0 0 0 0\n1 0 0 0\n");
     folder.run("text empty.tree").succeeds().prints("");
     folder.run("count 10 0 empty.tree").succeeds().prints("0 (0 blocks entered)\n");
@@ -466,11 +450,12 @@ fn book_without_rows() {
     folder.run("places A empty.tree").succeeds().prints("");
     folder.run("stats empty.tree").succeeds().prints(
         "empty.tree: 100 bytes, an empty text\ntext        0 bytes\nlayout      2\nsettings    leaf 2, arity 2, levels 2\n\
-         counted     10 '\\n': 0 times\nrows        0\nleaf bytes  0\n\
-         level  block length    blocks      kept  pointing\n    0             4         0         0         0\n    1             2         0         0         0\n",
+         counted     10 '\\n': 0 times\nrows        0\nthe tree's bytes\n  header             100  100.0 %\n  records              0    0.0 %\n\
+         \x20 edges                0    0.0 %\n  leaf bytes           0    0.0 %\nlevel  block length    blocks      kept  pointing\n    0             4         0         0         0\n    1             2         0         0         0\n",
     );
-    let none = "refused (12): the text has no occurrence or row of this number; numbers start at 1; the book has 0 rows\n";
-    folder.run("row 1 empty.tree").status(1).says(&format!("codebook: empty.tree: row 1: {none}"));
+    folder.run("row 1 empty.tree").status(1).says("codebook: empty.tree: row 1: refused (12): the book has no rows\n");
+    folder.run("row .. empty.tree").succeeds().prints("");
+    folder.run("picture empty.tree -o empty.svg").succeeds();
     folder
         .run("byte 0 empty.tree")
         .status(1)
@@ -478,6 +463,24 @@ fn book_without_rows() {
     // all of the short list: the header alone each time
     folder.pipe("build -o piped.tree", b"").succeeds();
     assert_eq!(folder.read("piped.tree").len(), 100);
+}
+
+/// On a terminal a long build says how far it is, and takes that away at its end.
+#[test]
+fn progress() {
+    let folder = Folder::new("progress");
+    folder.write("long.txt", &book(Kind::NearlyRandom, 8 << 20, 1));
+    let start = std::time::Instant::now();
+    let done = folder.shell("script -qec 'codebook build long.txt' /dev/null < /dev/null");
+    let quick = start.elapsed() < std::time::Duration::from_millis(1500);
+    if done.output.status.code() == Some(127) {
+        println!("script is not installed: not tried");
+        return;
+    }
+    let shown = done.succeeds().printed();
+    let lines: Vec<&str> = shown.split('\r').filter(|line| line.starts_with("building: ")).collect();
+    assert!(quick || lines.iter().any(|line| line.contains(" of 6 trees done, ") && line.contains(" s left")), "{shown}");
+    folder.shell("script -qec 'codebook build -qf long.txt' /dev/null < /dev/null").succeeds().prints("");
 }
 
 #[test]
@@ -502,23 +505,30 @@ fn calls_that_are_not_right() {
         folder.run(words).status(2).prints("").says(&format!("codebook: {says}\n"));
     };
     usage("", "no command given; see codebook --help");
+    usage("--json stats x", "'--json' stands before the command; options stand after it; see codebook --help");
     usage("print small.tree", "there is no command 'print'; see codebook --help");
-    usage("row", "N is missing\nusage: codebook row N [TREE] [--guide GUIDE] [--unchecked]");
-    usage("row one small.tree", "N is a number from 0 to 4294967295, not 'one'\nusage: codebook row N [TREE] [--guide GUIDE] [--unchecked]");
-    usage("row 4294967296 x", "N is a number from 0 to 4294967295, not '4294967296'\nusage: codebook row N [TREE] [--guide GUIDE] [--unchecked]");
-    usage("check a.tree b.tree", "'b.tree' is one word too many\nusage: codebook check [TREE] [--guide GUIDE]");
-    usage("check --all", "there is no option '--all'\nusage: codebook check [TREE] [--guide GUIDE]");
-    usage(
-        "count 256 4 x",
-        "a byte is a number from 0 to 255 or one character that is no digit, not '256'\nusage: codebook count BYTE LENGTH [TREE] [--unchecked]",
-    );
-    let build = "usage: codebook build [BOOK] [-o TREE] [--leaf M --arity R --levels H] [--count BYTES] [--columns W]";
+    let row = "usage: codebook row ROWS [TREE] [--guide GUIDE] [--columns W] [--json] [--unchecked]";
+    usage("row", &format!("ROWS is missing\n{row}"));
+    usage("row one small.tree", &format!("ROWS is a row's number, or a range such as 5..20, not 'one'\n{row}"));
+    usage("row 4294967296 x", &format!("ROWS is a row's number, or a range such as 5..20, not '4294967296'\n{row}"));
+    usage("row -1 small.tree", &format!("rows go from 1; -1 is negative\n{row}"));
+    usage("row 20..5 x", &format!("20..5: row 20 stands after row 5\n{row}"));
+    let byte = "usage: codebook byte PLACE [TREE] [--json] [--unchecked]";
+    usage("byte -14 x", &format!("PLACE is a number from 0 to 4294967295; -14 is negative\n{byte}"));
+    usage("byte 1 a.tree b.tree", &format!("'b.tree' is one word too many\n{byte}"));
+    usage("check --all", "there is no option '--all'\nusage: codebook check [TREE]... [--sha256 HEX] [--json]");
+    usage("check --json=1", "--json has no value\nusage: codebook check [TREE]... [--sha256 HEX] [--json]");
+    usage("text -x", "there is no option '-x'\nusage: codebook text [TREE] [--unchecked]");
+    let count = "usage: codebook count BYTE LENGTH [TREE] [--json] [--unchecked]";
+    usage("count 256 4 x", &format!("a byte is a number from 0 to 255 or one character that is no digit, not '256'\n{count}"));
+    usage("count -1 4 x", &format!("a byte is a number from 0 to 255 or one character that is no digit; -1 is negative\n{count}"));
+    let build = "usage: codebook build [BOOK]... [-o FILE] [-f] [--leaf M] [--arity R] [--levels H] [--count BYTES] [--columns W] [--json]";
     usage("build small.txt -o", &format!("-o needs a value\n{build}"));
     usage("build --leaf 64", &format!("--leaf, --arity and --levels go together: give all three, or none to have a short list tried\n{build}"));
-    usage("check none.tree", "none.tree cannot be read: No such file or directory (os error 2)");
-    usage("build none.txt -o x", "none.txt cannot be read: No such file or directory (os error 2)");
-    usage("build small.txt -o none/x.tree", "none/x.tree cannot be written: No such file or directory (os error 2)");
-    usage("check .", ". cannot be read: Is a directory (os error 21)");
+    usage("build -o .", &format!("-o is a file where the book comes from standard input\n{build}"));
+    usage("check none.tree", "none.tree: cannot be read: No such file or directory (os error 2)");
+    usage("build none.txt -o x", "none.txt: cannot be read: No such file or directory (os error 2)");
+    usage("check .", ".: cannot be read: Is a directory (os error 21)");
 }
 
 #[test]
@@ -556,17 +566,18 @@ fn orders_that_are_refused() {
     damaged[104] = 2;
     folder.write("damaged.tree", &damaged);
     let links = "refused (8): the blocks are not right: a start, kind, link or gap, or the number of blocks or leaf bytes";
-    for words in ["compare small.tree damaged.tree", "compare damaged.tree small.tree", "shelf small.tree damaged.tree small.tree"] {
+    for words in ["compare small.tree damaged.tree", "compare damaged.tree small.tree", "shelf damaged.tree"] {
         folder.run(words).status(1).prints("").says(&format!("codebook: damaged.tree: {links}\n"));
     }
+    folder.run("shelf small.tree damaged.tree").status(1).prints("small.tree\n").says(&format!("codebook: damaged.tree: {links}\n"));
     let path = "refused (14): the tree is damaged: the way to a byte breaks off, or a count comes out below zero";
     folder.run("compare small.tree damaged.tree --unchecked").status(1).says(&format!("codebook: small.tree and damaged.tree: {path}\n"));
-    let usage = "usage: codebook compare ONE OTHER [--unchecked]";
+    let usage = "usage: codebook compare ONE OTHER [--json] [--unchecked]";
     folder.run("compare small.tree").status(2).says(&format!("codebook: OTHER is missing\n{usage}\n"));
     folder.run("compare a b c").status(2).says(&format!("codebook: 'c' is one word too many\n{usage}\n"));
-    folder.run("shelf").status(2).says("codebook: TREE is missing\nusage: codebook shelf TREE..\n");
-    folder.run("shelf --unchecked small.tree").status(2).says("codebook: there is no option '--unchecked'\nusage: codebook shelf TREE..\n");
-    folder.run("shelf small.tree none.tree").status(2).says("codebook: none.tree cannot be read: No such file or directory (os error 2)\n");
+    folder.run("shelf").status(2).says("codebook: TREE is missing\nusage: codebook shelf TREE... [--json]\n");
+    folder.run("shelf --unchecked small.tree").status(2).says("codebook: there is no option '--unchecked'\nusage: codebook shelf TREE... [--json]\n");
+    folder.run("shelf none.tree").status(2).says("codebook: none.tree: cannot be read: No such file or directory (os error 2)\n");
 }
 
 #[test]
@@ -574,33 +585,18 @@ fn help() {
     let folder = Folder::new("help");
     let overview = folder.run("--help");
     overview.succeeds().says("");
-    let commands = [
-        "build",
-        "check",
-        "list",
-        "row",
-        "byte",
-        "span",
-        "count",
-        "find",
-        "places",
-        "match",
-        "columns",
-        "column-row",
-        "guide",
-        "compare",
-        "shelf",
-        "text",
-        "stats",
-        "licence",
-    ];
+    let text = overview.printed();
+    let commands: Vec<&str> = text.lines().filter(|line| line.starts_with("  ")).map(|line| line[2..17].trim_end()).collect();
+    assert_eq!(commands.len(), 30);
     for command in commands {
-        assert!(String::from_utf8_lossy(&overview.output.stdout).contains(&format!("\n  {command:<8}")));
         let help = folder.run(&format!("{command} --help"));
         help.succeeds().says("");
-        assert!(help.output.stdout.starts_with(format!("codebook {command} ").as_bytes()));
+        assert!(help.printed().replace('\n', " ").starts_with(&format!("codebook {command} ")), "{command}");
         assert_eq!(folder.run(&format!("help {command}")).output.stdout, help.output.stdout);
     }
+    let version = folder.run("--version").succeeds().printed();
+    assert!(version.starts_with("codebook ") && version.ends_with("\nblock trees: builds layout 2, reads layouts 1 and 2\n"));
+    assert_eq!((folder.run("-V").printed(), folder.run("version").printed()), (version.clone(), version));
 }
 
 #[test]
@@ -609,25 +605,6 @@ fn help_names_the_short_list() {
     for (leaf, arity, levels) in codebook::SHORT_LIST {
         assert!(String::from_utf8_lossy(&help).contains(&format!("{leaf}/{arity}/{levels}")));
     }
-}
-
-/// A reader that stops early is no failure.
-#[test]
-fn output_that_nobody_reads() {
-    let folder = Folder::new("pipe");
-    let text = folder.read("small.txt").repeat(300);
-    folder.write("long.txt", &text);
-    folder.run("build long.txt -o long.tree --leaf 256 --arity 2 --levels 1").succeeds();
-    let mut child = Command::new(env!("CARGO_BIN_EXE_codebook"))
-        .args(["text", "long.tree"])
-        .current_dir(&folder.0)
-        .stdout(Stdio::piped())
-        .stderr(Stdio::piped())
-        .spawn()
-        .expect("the tool starts");
-    drop(child.stdout.take());
-    let output = child.wait_with_output().expect("the tool ends");
-    assert_eq!((output.status.code(), output.stderr.as_slice()), (Some(0), b"".as_slice()));
 }
 
 /// The term of a licence: no file is read, and today is always given here.
@@ -655,16 +632,17 @@ fn licences() {
     refused("open 20240102 20240101 2024010", &format!("{date}'2024010'"));
     refused("renew 20991231", &format!("{date}20991231"));
     refused("open 20240102 20240101 20240101", "(23): the last day lies before the first; given: 20240102 20240101 20240101");
-    let usage = "usage: codebook licence open FIRST LAST [TODAY] | left LAST [TODAY] | renew DAY";
+    let (open, left) = ("usage: codebook licence open FIRST LAST [TODAY] [--json]", "usage: codebook licence left LAST [TODAY] [--json]");
+    let renew = "usage: codebook licence renew DAY [--json]";
     for (words, says) in [
-        ("", "open, left or renew is missing"),
-        ("close 20240101", "a licence is asked with open, left or renew, not 'close'"),
-        ("open 20240101", "LAST is missing"),
-        ("renew", "DAY is missing"),
-        ("renew 20240101 20240101", "'20240101' is one word too many"),
-        ("left 20240101 20240101 x", "'x' is one word too many"),
-        ("left 20240101 --unchecked", "there is no option '--unchecked'"),
+        ("", "open, left or renew is missing; see codebook help licence".to_owned()),
+        ("close 20240101", "licence is followed by open, left or renew, not 'close'; see codebook help licence".to_owned()),
+        ("open 20240101", format!("LAST is missing\n{open}")),
+        ("renew", format!("DAY is missing\n{renew}")),
+        ("renew 20240101 20240101", format!("'20240101' is one word too many\n{renew}")),
+        ("left 20240101 20240101 x", format!("'x' is one word too many\n{left}")),
+        ("left 20240101 --unchecked", format!("there is no option '--unchecked'\n{left}")),
     ] {
-        folder.run(&format!("licence {words}")).status(2).prints("").says(&format!("codebook: {says}\n{usage}\n"));
+        folder.run(&format!("licence {words}")).status(2).prints("").says(&format!("codebook: {says}\n"));
     }
 }

@@ -12,6 +12,21 @@ use support::Rng;
 
 const WORKED: &[u8] = b"QABCDABCDEFGABCDABCD";
 
+/// The bytes of the tree as docs/FORMAT.md lists them: lines of an offset and of bytes in hexadecimal, two spaces before what they mean.
+#[test]
+fn bytes_on_the_page() {
+    let mut listed = Vec::new();
+    for line in include_str!("../../docs/FORMAT.md").lines().filter(|line| line.starts_with("    ")) {
+        let mut parts = line.trim_start().splitn(2, "  ");
+        let (offset, bytes) = (parts.next().and_then(|word| word.parse::<usize>().ok()), parts.next().unwrap_or_default());
+        if offset == Some(listed.len()) && bytes.len() >= 11 {
+            let bytes: Vec<&str> = bytes.split("  ").next().unwrap_or_default().split(' ').collect();
+            listed.extend(bytes.iter().map(|byte| u8::from_str_radix(byte, 16).expect("a byte")));
+        }
+    }
+    assert_eq!(listed, worked(2));
+}
+
 fn worked(layout: u32) -> Vec<u8> {
     plain_tree_in(layout, WORKED, Shape::new(2, 2, 2), b"A")
 }

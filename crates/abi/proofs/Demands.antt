@@ -78,6 +78,21 @@ use Rattle.abi.proofs.by_columns.bt_from_columns.Met as bt-from-columns
 use Rattle.abi.proofs.by_columns.bt_column_row as bt-column-row-of
 use Rattle.abi.proofs.by_columns.bt_column_row.Symbol as bt-column-row-at
 use Rattle.abi.proofs.by_columns.bt_column_row.Met as bt-column-row-met
+use Rattle.abi.proofs.figures.bt_version as bt-version-of
+use Rattle.abi.proofs.figures.bt_version.Symbol as bt-version-at
+use Rattle.abi.proofs.figures.bt_version.Met as bt-version-met
+use Rattle.abi.proofs.figures.bt_info as bt-info-of
+use Rattle.abi.proofs.figures.bt_info.Symbol as bt-info-at
+use Rattle.abi.proofs.figures.bt_info.Met as bt-info-met
+use Rattle.abi.proofs.figures.bt_row_count as bt-row-count-of
+use Rattle.abi.proofs.figures.bt_row_count.Symbol as bt-row-count-at
+use Rattle.abi.proofs.figures.bt_row_count.Met as bt-row-count-met
+use Rattle.abi.proofs.figures.bt_row_length as bt-row-length-of
+use Rattle.abi.proofs.figures.bt_row_length.Symbol as bt-row-length-at
+use Rattle.abi.proofs.figures.bt_row_length.Met as bt-row-length-met
+use Rattle.abi.proofs.figures.bt_places_words as bt-places-words-of
+use Rattle.abi.proofs.figures.bt_places_words.Symbol as bt-places-words-at
+use Rattle.abi.proofs.figures.bt_places_words.Met as bt-places-words-met
 
 abbrev bt-build : Function
 bt-build = record { routine = bt-build-at.routine; signature = bt-build-of.signature; clauses = bt-build-of.spec }
@@ -157,13 +172,29 @@ bt-from-columns = record { routine = bt-from-columns-at.routine; signature = bt-
 abbrev bt-column-row : Function
 bt-column-row = record { routine = bt-column-row-at.routine; signature = bt-column-row-of.signature; clauses = bt-column-row-of.spec }
 
+abbrev bt-version : Function
+bt-version = record { routine = bt-version-at.routine; signature = bt-version-of.signature; clauses = bt-version-of.spec }
+
+abbrev bt-info : Function
+bt-info = record { routine = bt-info-at.routine; signature = bt-info-of.signature; clauses = bt-info-of.spec }
+
+abbrev bt-row-count : Function
+bt-row-count = record { routine = bt-row-count-at.routine; signature = bt-row-count-of.signature; clauses = bt-row-count-of.spec }
+
+abbrev bt-row-length : Function
+bt-row-length = record { routine = bt-row-length-at.routine; signature = bt-row-length-of.signature; clauses = bt-row-length-of.spec }
+
+abbrev bt-places-words : Function
+bt-places-words = record { routine = bt-places-words-at.routine; signature = bt-places-words-of.signature; clauses = bt-places-words-of.spec }
+
 pub every-call-ends :
     Ends bt-build × Ends bt-build-scanned × Ends bt-scan-words × Ends bt-enough × Ends bt-check
     × Ends bt-byte × Ends bt-run × Ends bt-span × Ends bt-count × Ends bt-find
     × Ends bt-row × Ends bt-places × Ends bt-next-match × Ends bt-list × Ends bt-guide-words
     × Ends bt-make-guide × Ends bt-check-guide × Ends bt-find-guided × Ends bt-row-guided × Ends bt-open-on
     × Ends bt-days-left × Ends bt-renew × Ends bt-order × Ends bt-to-columns × Ends bt-from-columns
-    × Ends bt-column-row
+    × Ends bt-column-row × Ends bt-version × Ends bt-info × Ends bt-row-count × Ends bt-row-length
+    × Ends bt-places-words
 every-call-ends = (
   ends bt-build bt-build-met.met,
   ends bt-build-scanned bt-build-scanned-met.met,
@@ -191,4 +222,9 @@ every-call-ends = (
   ends bt-to-columns bt-to-columns-met.met,
   ends bt-from-columns bt-from-columns-met.met,
   ends bt-column-row bt-column-row-met.met,
+  ends bt-version bt-version-met.met,
+  ends bt-info bt-info-met.met,
+  ends bt-row-count bt-row-count-met.met,
+  ends bt-row-length bt-row-length-met.met,
+  ends bt-places-words bt-places-words-met.met,
 )

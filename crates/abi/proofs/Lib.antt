@@ -7,4 +7,5 @@ pub mod ColumnLaws
 pub mod TermLaws
 pub mod GuideLaws
 pub mod OrderLaws
+pub mod FactLaws
 pub mod Demands

@@ -1,6 +1,7 @@
 // The calls exported to C. Each answers a number: 0, or the number of the question that refuses. Figures are written behind
 // references, 0 on a refusal. Any bytes may be lent as a tree.
 mod by_columns;
+pub mod figures;
 pub mod guides;
 pub mod licence;
 pub mod order;

@@ -16,9 +16,10 @@ use Rattle.text.specs.ListLaws.{bool-cases, and-left, and-right, and-false}
 use Rattle.format.specs.Layout as at
 use Rattle.format.specs.Path.{Path, pathOf}
 use Rattle.format.specs.Fits.{textOf}
-use Rattle.format.specs.Verdict.{readable}
+use Rattle.format.specs.Verdict.{ask, readable}
 use Rattle.format.specs.HeaderLaws.{readable-facts}
 use Rattle.format.specs.Said.{Said, refused}
+use Rattle.format.specs.SaidLaws.{unless-number}
 use Rattle.format.specs.Reading.{byteOf, byteSays, pathsHold}
 use Rattle.paths.specs.Reads.{paths-hold}
 use Rattle.paths.specs.Bytes.{byte-path}
@@ -26,7 +27,11 @@ use Rattle.patterns.specs.declared.PlacesWritten.{PlacesWritten}
 use Rattle.patterns.specs.declared.PlacesWritten.the-variants as written
 use Rattle.patterns.specs.Places.{maxPattern, patternOk, placesIn, placesOf, placesNumber, placesSays, placesLeaves}
 use Rattle.patterns.specs.Answers.{placesSaid, Numbered}
+use Rattle.patterns.specs.declared.PlacesRoom.{PlacesRoom}
+use Rattle.patterns.specs.declared.PlacesRoom.the-variants as room
+use Rattle.patterns.proofs.RoomLaws.{places-few, roomy}
 use Rattle.patterns.proofs.places.Reads as places-reads
+use Rattle.patterns.proofs.places_words.Reads as words-reads
 
 -- r is an answer that the contract of `places` allows to a call with these arguments, with the table left as `after`
 abbrev pub Places : (κs : Lfts 3) → (t P table after : RefT (List ℕ)) → PlacesWritten → Type 0
@@ -108,3 +113,34 @@ module _ (κs : Lfts 3) (t P table after : RefT (List ℕ)) (r : PlacesWritten) 
             let z : placesNumber (now t) (now P) (length (now table)) ≡ 0 =
             rw (pass, le-leb 1 (length (now P)) low, le-leb (length (now P)) maxPattern high, hold, le-leb (length ps) (length (now table)) room) in
             (number-is r (length ps) (a .0 .numbered) (a .0 .says ∙ rw z), a .1 ∙ rw z)
+
+-- The size of a table.
+
+-- r is an answer that the contract of `places_words` allows to a call with these arguments
+abbrev pub PlacesWords : (κs : Lfts 1) → RefT (List ℕ) → (len : ℕ) → PlacesRoom → Type 0
+PlacesWords κs t len r = words-reads.Post κs (t, (len, tt)) r (t, (len, tt))
+
+-- A table of the words that are answered for a pattern's length holds all its places, on any tree that passes questions 5 to 7: ..
+module _ (κ : Lfts 1) (t P table : RefT (List ℕ)) (words : ℕ) (a : PlacesWords κ t (length (now P)) (room.Words words)) (enough : words ≤ length (now table)) where
+  pub room-holds : length (placesIn (now P) (textOf (now t))) ≤ length (now table)
+  unfolding placesOf
+  room-holds = let k = roomy (now t) (length (now P)) words (a .says) in omega (arith, k .words-are, places-few (now t) (now P) (k .low))
+
+  -- .. no answer is 17
+  pub room-enough : (κs : Lfts 3) (after : RefT (List ℕ)) → Places κs t P table after (written.Refused 17) → ⊥
+  unfolding placesSays placesNumber patternOk placesOf
+  room-enough κs after b = go (pathsHold (now t) 0 (at.textLength (now t))) refl
+    where
+      number-of : 17 ≡ placesSays (now t) (now P) (length (now table)) .number → 17 ≡ placesNumber (now t) (now P) (length (now table))
+      number-of e = e ∙ unless-number (placesNumber (now t) (now P) (length (now table))) (record { number = 0; value = length (placesOf (now t) (now P)); entered = 0 }) refl
+
+      other : (holds : Bool) → _≡_ {A = ℕ} 17 (ask 14 holds 0) → ⊥
+      other true e = omega arith
+      other false e = omega arith
+
+      go : (holds : Bool) → pathsHold (now t) 0 (at.textLength (now t)) ≡ holds → ⊥
+      go holds e =
+          let k = roomy (now t) (length (now P)) words (a .says) in
+          let z : placesNumber (now t) (now P) (length (now table)) ≡ ask 14 holds 0 =
+          rw (k .pass, le-leb 1 (length (now P)) (k .low), le-leb (length (now P)) maxPattern (k .high), e, le-leb (length (placesIn (now P) (textOf (now t)))) (length (now table)) room-holds) in
+          other holds (number-of (ap (λ (s : Said). s .number) (b .0 .says)) ∙ z)

@@ -79,7 +79,7 @@ below-same f k (suc n) h none = go (lt-or-ge n k) (below-same f k n)
     go (inl l) rest = let e : k ≡ suc n = omega arith in rw e
     go (inr l) rest = below-false n f (none n l (omega arith)) ∙ rest l (λ x a b. none x a (omega arith))
 
-below-few : (n : ℕ) (f : ℕ → Bool) → length (below n f) ≤ n
+pub below-few : (n : ℕ) (f : ℕ → Bool) → length (below n f) ≤ n
 unfolding below
 below-few zero f = omega arith
 below-few (suc n) f = go (f n) (below-few n f)
@@ -123,7 +123,7 @@ module _ (t P : List ℕ) where
             rw s (below-false (i + 1 - length P) (standsAt P T) (stands-not P T (i + 1) k l in-text other h))
 
   -- all was read
-  so-far-end : 1 ≤ length P → (i : ℕ) → i ≡ length T → soFar t P i ≡ placesOf t P
+  pub so-far-end : 1 ≤ length P → (i : ℕ) → i ≡ length T → soFar t P i ≡ placesOf t P
   unfolding soFar placesOf placesIn
   so-far-end some-byte i e =
       rw e (sym (below-same (standsAt P T) (length T + 1 - length P) (length T) (omega arith) (λ x a b. stands-past P T x some-byte (omega arith))))

@@ -1,7 +1,7 @@
 -- What is answered where a pattern is looked for in a tree, for any bytes lent as one, and what the lent table of words holds afterwards.
 use mathlib.Core.List.{List, [], _∷_, _++_}
 use mathlib.Core.Bool.{Bool, cond, _&&_}
-use Prim.Native.Nat.{ℕ, zero, suc}
+use Prim.Native.Nat.{ℕ, zero, suc, _+_, _-_}
 use lib.ListN.{length, drop}
 use lib.Dec.{leb, eqb}
 use Rattle.text.specs.Lists.{sameList}
@@ -30,8 +30,11 @@ abbrev pub maxPattern : ℕ
 maxPattern = 256
 
 -- question 16
+abbrev pub patternLength : ℕ → Bool
+patternLength len = leb 1 len && leb len maxPattern
+
 unfoldable pub patternOk : List ℕ → Bool
-patternOk P = leb 1 (length P) && leb (length P) maxPattern
+patternOk P = patternLength (length P)
 
 module _ (t P : List ℕ) where
   -- the places in the bytes that the tree's paths give
@@ -52,3 +55,13 @@ module _ (t P : List ℕ) where
   -- the table afterwards
   unfoldable pub placesLeaves : List ℕ → List ℕ
   placesLeaves table = cond (eqb (placesNumber (length table)) 0) (placesOf ++ drop (length placesOf) table) table
+
+-- How many words hold all places of any pattern of len bytes: question 16, then one for each place of a text of n bytes from which so many bytes
+-- are left
+unfoldable pub roomOf : ℕ → ℕ → Said
+roomOf n len = unless (ask 16 (patternLength len) 0) (record { number = 0; value = n + 1 - len; entered = 0 })
+
+-- questions 5 to 7 first
+unfoldable pub roomSays : List ℕ → ℕ → Said
+unfolding at.textLength
+roomSays t len = unless (readable t) (roomOf (at.textLength t) len)

@@ -15,7 +15,7 @@ use Rattle.format.specs.Fits.{textOf}
 use Rattle.format.specs.Verdict.{readable}
 use Rattle.format.specs.Said.{Said}
 use Rattle.format.specs.Reading.{byteSays, pathsHold}
-use Rattle.patterns.specs.Places.{standsAt, below, placesIn, patternOk, placesOf, placesNumber, placesSays, placesLeaves}
+use Rattle.patterns.specs.Places.{standsAt, below, placesIn, patternOk, placesOf, placesNumber, placesSays, placesLeaves, roomOf, roomSays}
 
 book : List ℕ
 book = 81 ∷ 65 ∷ 66 ∷ 67 ∷ 68 ∷ 65 ∷ 66 ∷ 67 ∷ 68 ∷ 69 ∷ 70 ∷ 71 ∷ 65 ∷ 66 ∷ 67 ∷ 68 ∷ 65 ∷ 66 ∷ 67 ∷ 68 ∷ []
@@ -53,10 +53,12 @@ pub record Marked : Type 0 where
   overlaps : (placesLeaves twelve (replicate 2 65) (nines 11) ≡ 0 ∷ 1 ∷ 2 ∷ 3 ∷ 4 ∷ 5 ∷ 6 ∷ 7 ∷ 8 ∷ 9 ∷ 10 ∷ []) × (placesSays twelve (replicate 2 65) 10 ≡ said 17 0)
   -- a path that breaks: after 16, before 17, and with the table unchanged
   broken : (placesSays (with tree 104 2) [] 8 ≡ said 16 0) × (placesSays (with tree 104 2) (68 ∷ []) 0 ≡ said 14 0) × (placesLeaves (with tree 104 2) (68 ∷ []) (nines 4) ≡ nines 4)
+  -- tables: AA has 11 places in twelve letters A; the whole text has one, and a longer pattern none
+  tables : (roomSays twelve 2 ≡ said 0 11) × (roomSays tree 20 ≡ said 0 1) × (roomSays tree 21 ≡ said 0 0) × (roomSays tree 0 ≡ said 16 0) × (roomSays tree 257 ≡ said 16 0)
   unread : (placesSays (take 99 tree) [] 0 ≡ said 5 0) × (placesSays (with tree 0 9) [] 0 ≡ said 6 0) × (placesSays (with tree 4 21) [] 0 ≡ said 7 0)
 
 pub marked : Marked
-unfolding book tree twelve with abcd said nines standsAt below placesIn patternOk placesOf placesNumber placesSays placesLeaves tabulate concat sumBelow countBelow allBelow sameList wordAt wordsBytes wordBytes stretch leftmost firstFrom countIn blockLength pieces recordLength lengthOk sizesOk countedOk rising risingAfter treeOf header leafBytes levelPairs recordBytes edgesOf filledOut levelBytes recordIn recordOf target occurrence width isKept startsAt cut keptByPairs firstPairAt pairAt lengthOf startOf pathOf pathFrom targetPlace targetBlock pointingBlock keptBlock lands landBlock landPlace landVisits textOf readable at.leafByte byteSays pathsHold at.blockLengthAt at.levelCount at.levelOffset
+unfolding book tree twelve with abcd said nines standsAt below placesIn patternOk placesOf placesNumber placesSays placesLeaves roomOf roomSays tabulate concat sumBelow countBelow allBelow sameList wordAt wordsBytes wordBytes stretch leftmost firstFrom countIn blockLength pieces recordLength lengthOk sizesOk countedOk rising risingAfter treeOf header leafBytes levelPairs recordBytes edgesOf filledOut levelBytes recordIn recordOf target occurrence width isKept startsAt cut keptByPairs firstPairAt pairAt lengthOf startOf pathOf pathFrom targetPlace targetBlock pointingBlock keptBlock lands landBlock landPlace landVisits textOf readable at.leafByte byteSays pathsHold at.blockLengthAt at.levelCount at.levelOffset
 marked = record {
   fragment = (refl, refl);
   room = (refl, refl, refl);
@@ -65,5 +67,6 @@ marked = record {
   lengths = (refl, refl, refl);
   overlaps = (refl, refl);
   broken = (refl, refl, refl);
+  tables = (refl, refl, refl, refl, refl);
   unread = (refl, refl, refl);
 }

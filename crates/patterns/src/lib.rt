@@ -1,4 +1,5 @@
 // Where a pattern stands: all its places in the bytes that a tree's paths give.
+mod room;
 mod seek;
 
 use crate::seek::Sought;
@@ -12,7 +13,7 @@ ghost use mathlib.Core.List.{_++_};
 ghost use Rattle.layout.specs.HeaderSays.{HeaderOf};
 ghost use Rattle.kmp.specs.Borders.{Borders};
 ghost use Rattle.patterns.specs.Places.{maxPattern, placesLeaves};
-ghost use Rattle.patterns.specs.Answers.{PlacesAnswer};
+ghost use Rattle.patterns.specs.Answers.{PlacesAnswer, RoomAnswer};
 
 // The longest pattern that is looked for.
 pub const MAX_PATTERN: usize = 256;
@@ -24,6 +25,23 @@ const FEW: usize = 256;
 pub enum PlacesWritten {
     Number(u32),
     Refused(u32),
+}
+
+// How many words are enough for a table, or the number of the question that refuses.
+pub enum PlacesRoom {
+    Words(u32),
+    Refused(u32),
+}
+
+// How many words hold all places of any pattern of so many bytes: those of a text that is nothing but places.
+pub fn places_words(t: &[u8], len: u32) -> PlacesRoom
+    ensures { λ r. ⌜ RoomAnswer (now (t .entry)) len r ⌝ }
+{
+    let read = header::read_header(t);
+    match read {
+        HeaderRead::Good(h) => room::of_length(h.length, len),
+        HeaderRead::Refused(number) => PlacesRoom::Refused(number),
+    }
 }
 
 // Writes all places of a pattern to the start of the table, in rising order.

@@ -51,6 +51,16 @@ pub use Rattle.guided.proofs.find_guided.Reads as find-guided-reads
 pub use Rattle.guided.proofs.find_guided.Met as find-guided-met
 pub use Rattle.rows.proofs.row_guided.Reads as row-guided-reads
 pub use Rattle.rows.proofs.row_guided.Met as row-guided-met
+pub use Rattle.rows.proofs.row_length.Reads as row-length-reads
+pub use Rattle.rows.proofs.row_length.Met as row-length-met
+pub use Rattle.rows.proofs.row_count.Reads as row-count-reads
+pub use Rattle.rows.proofs.row_count.Met as row-count-met
+pub use Rattle.patterns.proofs.places_words.Reads as places-words-reads
+pub use Rattle.patterns.proofs.places_words.Met as places-words-met
+pub use Rattle.facts.proofs.info.Reads as info-reads
+pub use Rattle.facts.proofs.info.Met as info-met
+pub use Rattle.facts.proofs.version.Reads as version-reads
+pub use Rattle.facts.proofs.version.Met as version-met
 pub use Rattle.ordering.proofs.compare.Reads as compare-reads
 pub use Rattle.ordering.proofs.compare.Met as compare-met
 pub use Rattle.ordering.proofs.first.Reads as first-reads
@@ -71,6 +81,12 @@ pub use Rattle.rows.specs.declared.RowCopied.{RowCopied}
 pub use Rattle.rows.specs.declared.RowCopied.the-variants as rows
 pub use Rattle.patterns.specs.declared.PlacesWritten.{PlacesWritten}
 pub use Rattle.patterns.specs.declared.PlacesWritten.the-variants as places
+pub use Rattle.rows.specs.declared.RowLength.{RowLength}
+pub use Rattle.rows.specs.declared.RowLength.the-variants as row-length
+pub use Rattle.rows.specs.declared.RowCount.{RowCount}
+pub use Rattle.rows.specs.declared.RowCount.the-variants as row-count
+pub use Rattle.patterns.specs.declared.PlacesRoom.{PlacesRoom}
+pub use Rattle.patterns.specs.declared.PlacesRoom.the-variants as places-room
 pub use Rattle.scanner.proofs.build_scanned.Reads as scanned-reads
 pub use Rattle.scanner.proofs.build_scanned.Met as scanned-met
 pub use Rattle.scanner.proofs.scan_words.Reads as scan-words-reads
@@ -93,8 +109,8 @@ pub use Rattle.rows.specs.Rows.{saidRow, Numbered as RowNumbered}
 -- build(text, leaf, arity, levels, counted, out) and check(tree); byte(tree, place), run(tree, place) and span(tree, place, len, buffer)
 pub use Rattle.tree.proofs.Demands.{Answer as Build, Checked as Check}
 pub use Rattle.access.proofs.Demands.{Asked as Byte, Run, Span}
--- places(tree, pattern, table)
-pub use Rattle.patterns.proofs.Demands.{Places}
+-- places(tree, pattern, table), and places_words(tree, len)
+pub use Rattle.patterns.proofs.Demands.{Places, PlacesWords}
 -- next_match(tree, ranges, mark); `show` moves a lent mark by it, and its contract is `Moved`
 pub use Rattle.worn_keys.proofs.Demands.{NextMatch}
 pub use Rattle.worn_keys.specs.Searches.{Moved}
@@ -106,6 +122,9 @@ pub use Rattle.column_rows.proofs.Demands.{ByColumns}
 pub use Rattle.guide.proofs.Demands.{GuideWords, MakeGuide, CheckGuide}
 pub use Rattle.guided.proofs.Demands.{FindGuided}
 pub use Rattle.rows.proofs.Demands.{RowGuided}
+-- row_length(tree, q) and row_count(tree); info(tree, figures), which leaves the figures as `after`, and version()
+pub use Rattle.rows.proofs.Demands.{LengthOf, CountOf}
+pub use Rattle.facts.proofs.Demands.{Info, Version}
 -- compare(one, other) and first(one, other, number, order, shared)
 pub use Rattle.ordering.proofs.Demands.{Compare, First}
 

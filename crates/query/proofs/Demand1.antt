@@ -47,7 +47,8 @@ pub every-call-ends :
     × Ends f.uncounted × Ends f.find × Ends f.row × Ends f.places × Ends f.build-scanned
     × Ends f.scan-words × Ends f.next-match × Ends f.show × Ends f.to-columns × Ends f.from-columns
     × Ends f.row-by-columns × Ends f.guide-words × Ends f.make-guide × Ends f.check-guide × Ends f.find-guided
-    × Ends f.row-guided × Ends f.compare × Ends f.first
+    × Ends f.row-guided × Ends f.compare × Ends f.first × Ends f.row-length × Ends f.row-count
+    × Ends f.places-words × Ends f.info × Ends f.version
 every-call-ends = (
   ends f.leftmost calls.leftmost-met.met,
   ends f.occurs-earlier calls.earlier-met.met,
@@ -77,6 +78,11 @@ every-call-ends = (
   ends f.row-guided calls.row-guided-met.met,
   ends f.compare calls.compare-met.met,
   ends f.first calls.first-met.met,
+  ends f.row-length calls.row-length-met.met,
+  ends f.row-count calls.row-count-met.met,
+  ends f.places-words calls.places-words-met.met,
+  ends f.info calls.info-met.met,
+  ends f.version calls.version-met.met,
 )
 
 -- "trusts no caller to have checked a tree": what a call asks of its caller holds of any arguments.
@@ -110,6 +116,11 @@ pub trusts-no-caller :
     × ((κs : Lfts 3) (t guide : Lent) (q : ℕ) (buffer : Lent) → calls.row-guided-reads.Asked κs (t, (guide, (q, (buffer, tt)))))
     × ((κs : Lfts 2) (one other : Lent) → calls.compare-reads.Asked κs (one, (other, tt)))
     × ((κs : Lfts 4) (one other : Lent) (number order shared : RefT ℕ) → calls.first-reads.Asked κs (one, (other, (number, (order, (shared, tt))))))
+    × ((κs : Lfts 1) (t : Lent) (q : ℕ) → calls.row-length-reads.Asked κs (t, (q, tt)))
+    × ((κs : Lfts 1) (t : Lent) → calls.row-count-reads.Asked κs (t, tt))
+    × ((κs : Lfts 1) (t : Lent) (len : ℕ) → calls.places-words-reads.Asked κs (t, (len, tt)))
+    × ((κs : Lfts 2) (t figures : Lent) → calls.info-reads.Asked κs (t, (figures, tt)))
+    × ((κs : Lfts 0) → calls.version-reads.Asked κs tt)
 trusts-no-caller = (
   λ κs text p len by. tt,
   λ κs text p len by. tt,
@@ -138,6 +149,11 @@ trusts-no-caller = (
   λ κs t guide q buffer. tt,
   λ κs one other. tt,
   λ κs one other number order shared. tt,
+  λ κs t q. tt,
+  λ κs t. tt,
+  λ κs t len. tt,
+  λ κs t figures. tt,
+  λ κs. tt,
 )
 
 -- "gives its answer or a numbered refusal of document 01": which numbers each call refuses with, for any arguments and any lent bytes.

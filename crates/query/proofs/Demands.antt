@@ -144,6 +144,16 @@ pub use Rattle.query.proofs.Orders.{tree-order, compare-flip, text-orde
 -- .. "Questions 5 to 7 are put to the first tree, then to the second; after that each place .. where 14 may come": the numbers, for any lent bytes.
 pub use Rattle.query.proofs.Orders.{order-numbers}
 pub use Rattle.ordering.proofs.Demands.{order-unread, order-unread-2, order-broken, order-broken-2, order-below, order-above}
+-- What a caller must know of a tree without reading its bytes. The figures: those of the header and the totals, or the number of questions 5 to 7 and every
+-- figure 0; on an accepted tree n is the text's length, and each total says how often its byte stands in the text. ..
+pub use Rattle.facts.proofs.Demands.{version-is, info-told, info-refused, info-length, info-totals}
+pub use Rattle.query.proofs.Figures.{info-numbers}
+-- .. The number of rows, and the length of each, on an accepted tree the text's; a buffer of that length is enough for row. ..
+pub use Rattle.rows.proofs.Demands.{rows-of-text, length-of-text, length-enough}
+pub use Rattle.query.proofs.Figures.{row-count-numbers, length-numbers}
+-- .. The words of a table for the places of any pattern of some length: on any tree that passes questions 5 to 7 they hold all places, and 17 is no answer.
+pub use Rattle.patterns.proofs.Demands.{room-holds, room-enough}
+pub use Rattle.query.proofs.Figures.{room-numbers}
 
 -- The roads to a tree, each in one theorem.
 

@@ -52,6 +52,16 @@ use Rattle.guided.proofs.find_guided as find-guided-of
 use Rattle.guided.proofs.find_guided.Symbol as find-guided-at
 use Rattle.rows.proofs.row_guided as row-guided-of
 use Rattle.rows.proofs.row_guided.Symbol as row-guided-at
+use Rattle.rows.proofs.row_length as row-length-of
+use Rattle.rows.proofs.row_length.Symbol as row-length-at
+use Rattle.rows.proofs.row_count as row-count-of
+use Rattle.rows.proofs.row_count.Symbol as row-count-at
+use Rattle.patterns.proofs.places_words as places-words-of
+use Rattle.patterns.proofs.places_words.Symbol as places-words-at
+use Rattle.facts.proofs.info as info-of
+use Rattle.facts.proofs.info.Symbol as info-at
+use Rattle.facts.proofs.version as version-of
+use Rattle.facts.proofs.version.Symbol as version-at
 use Rattle.ordering.proofs.compare as compare-of
 use Rattle.ordering.proofs.compare.Symbol as compare-at
 use Rattle.ordering.proofs.first as first-of
@@ -134,6 +144,21 @@ find-guided = record { routine = find-guided-at.routine; signature = find-guided
 
 abbrev pub row-guided : Function
 row-guided = record { routine = row-guided-at.routine; signature = row-guided-of.signature; clauses = row-guided-of.spec }
+
+abbrev pub row-length : Function
+row-length = record { routine = row-length-at.routine; signature = row-length-of.signature; clauses = row-length-of.spec }
+
+abbrev pub row-count : Function
+row-count = record { routine = row-count-at.routine; signature = row-count-of.signature; clauses = row-count-of.spec }
+
+abbrev pub places-words : Function
+places-words = record { routine = places-words-at.routine; signature = places-words-of.signature; clauses = places-words-of.spec }
+
+abbrev pub info : Function
+info = record { routine = info-at.routine; signature = info-of.signature; clauses = info-of.spec }
+
+abbrev pub version : Function
+version = record { routine = version-at.routine; signature = version-of.signature; clauses = version-of.spec }
 
 abbrev pub compare : Function
 compare = record { routine = compare-at.routine; signature = compare-of.signature; clauses = compare-of.spec }

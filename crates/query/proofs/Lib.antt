@@ -19,4 +19,5 @@ pub mod OneByte
 pub mod Corrections
 pub mod Guides
 pub mod Orders
+pub mod Figures
 pub mod Demands

@@ -1,23 +1,41 @@
--- What the request asks of row with a guide, as theorems over what the call promises.
+-- Row with a guide, a row's length and the number of rows: theorems over what the calls promise.
 use mathlib.Core.List.{List, _++_}
+use mathlib.Core.Bool.{true}
 use mathlib.Core.Path.{_≡_, sym, ap, _∙_}
 use mathlib.Core.Logic.{_⊎_, inl, inr}
-use Prim.Native.Nat.{ℕ, _≤_, _<_}
+use Prim.Native.Nat.{ℕ, _-_, _≤_, _<_}
 use native.Mathlib.Omega.{arith}
 use contract.Lifetimes.{Lfts}
 use denote.Ref.{RefT, now}
 use lib.ListN.{length, drop}
+use borrow.Author.Tests.{eq-eqb, ne-eqb, lt-ltb, le-ltb}
 use Rattle.text.specs.ListLaws.{lt-or-ge}
-use Rattle.text.specs.Rows.{rowOf}
+use Rattle.text.specs.Rows.{rowsOf, rowOf}
+use Rattle.text.specs.RowLaws.{endsOpen, rows-count}
+use Rattle.format.specs.Layout as at
 use Rattle.format.specs.Fits.{textOf}
 use Rattle.format.specs.Verdict.{verdict}
+use Rattle.format.specs.VerdictLaws.{accepted-readable, accepted-links}
+use Rattle.format.specs.Said.{Said}
+use Rattle.format.specs.Counting.{isCounted}
 use Rattle.format.specs.RowSays.{rowNumber}
+use Rattle.paths.specs.OneText.{text-length}
+use Rattle.paths.specs.Demands as paths
+use Rattle.tallies.specs.Demands as tallies
+use Rattle.tallies.specs.Rows.{row-lets}
 use Rattle.guide.specs.Guides.{guideNumber}
 use Rattle.guide.proofs.GuideList.{guide-verdict}
 use Rattle.guide.proofs.Demands.{CheckGuide}
 use Rattle.rows.specs.declared.RowCopied.{RowCopied}
 use Rattle.rows.specs.declared.RowCopied.the-variants as row
 use Rattle.rows.specs.Rows.{saidRow, Numbered, RowAnswer, RowAnswerBy}
+use Rattle.rows.specs.declared.RowLength.{RowLength}
+use Rattle.rows.specs.declared.RowLength.the-variants as size
+use Rattle.rows.specs.declared.RowCount.{RowCount}
+use Rattle.rows.specs.declared.RowCount.the-variants as count
+use Rattle.rows.specs.Lengths.{rowsNumber, lastOpen, rowsSays, saidLength, saidCount, LengthNumbered, CountNumbered}
+use Rattle.rows.proofs.row_length.Reads as length-reads
+use Rattle.rows.proofs.row_count.Reads as count-reads
 use Rattle.rows.proofs.row.Reads as row-reads
 use Rattle.rows.proofs.row_guided.Reads as guided-reads
 
@@ -63,3 +81,58 @@ guided-as-row κs t guide q buffer after r a κ ok κ′ left s b =
     let z = a .says in
     one-row (now t) v q (now buffer) r s (now after) (now left)
     (record { says = record { asked = z .asked; short = λ n w. z .short n g; accepted = λ n w. z .accepted n g; free = λ n w. absurd (w v) }; numbered = a .numbered }) b
+
+-- The length of a row, and the number of rows, on accepted trees.
+
+abbrev pub LengthOf : (κs : Lfts 1) → RefT (List ℕ) → (q : ℕ) → RowLength → Type 0
+LengthOf κs t q r = length-reads.Post κs (t, (q, tt)) r (t, (q, tt))
+
+abbrev pub CountOf : (κs : Lfts 1) → RefT (List ℕ) → RowCount → Type 0
+CountOf κs t r = count-reads.Post κs (t, tt) r (t, tt)
+
+bytes-are : (r : RowLength) (n : ℕ) → LengthNumbered r → saidLength r .number ≡ 0 → saidLength r .value ≡ n → r ≡ size.Bytes n
+bytes-are (size.Bytes m) n k e f = ap size.Bytes f
+bytes-are (size.Refused m) n k e f = absurd (let z : ⊥ = omega arith in z)
+
+rows-are : (r : RowCount) (n : ℕ) → CountNumbered r → saidCount r ≡ record { number = 0; value = n; entered = 0 } → r ≡ count.Rows n
+rows-are (count.Rows m) n k e = ap count.Rows (ap (λ (s : Said). s .value) e)
+rows-are (count.Refused m) n k e = absurd (let z : ⊥ = omega (arith, ap (λ (s : Said). s .number) e) in z)
+
+rows-say : (t : List ℕ) → verdict t ≡ 0 → isCounted t 10 ≡ true → rowsSays t ≡ record { number = 0; value = length (rowsOf (textOf t)); entered = 0 }
+unfolding rowsSays rowsNumber lastOpen endsOpen
+rows-say t v counted = go (lt-or-ge 0 (at.textLength t))
+  where
+    go : (0 < at.textLength t) ⊎ (at.textLength t ≤ 0) → rowsSays t ≡ record { number = 0; value = length (rowsOf (textOf t)); entered = 0 }
+    go (inl some) =
+        let w = paths.byte-of-text t (accepted-readable t v) (accepted-links t v) (at.textLength t - 1) (omega arith) in
+        rw (accepted-readable t v, counted, ne-eqb (at.textLength t) 0 (λ e. omega arith), w .2, rows-count (textOf t), tallies.total-of-text t v 10 counted, text-length t, lt-ltb 0 (at.textLength t) some)
+    go (inr none) =
+        let e : at.textLength t ≡ 0 = omega arith in
+        rw (accepted-readable t v, counted, eq-eqb (at.textLength t) 0 e, rows-count (textOf t), tallies.total-of-text t v 10 counted, text-length t, le-ltb 0 (at.textLength t) none)
+
+module _ (κs : Lfts 1) (t : RefT (List ℕ)) (v : verdict (now t) ≡ 0) where
+  -- "so many rows has the text"
+  pub rows-of-text : isCounted (now t) 10 ≡ true → (r : RowCount) → CountOf κs t r → r ≡ count.Rows (length (rowsOf (textOf (now t))))
+  rows-of-text counted r a = rows-are r (length (rowsOf (textOf (now t)))) (a .numbered) (a .says ∙ rows-say (now t) v counted)
+
+  module _ (q : ℕ) where
+    -- each of them has a length, ..
+    pub length-of-text : isCounted (now t) 10 ≡ true → 1 ≤ q → q ≤ length (rowsOf (textOf (now t))) → (r : RowLength) → LengthOf κs t q r
+        → r ≡ size.Bytes (length (rowOf (textOf (now t)) q))
+    length-of-text counted low high r a =
+        let z = a .says .accepted (row-lets (now t) v counted q low high) v in
+        bytes-are r (length (rowOf (textOf (now t)) q)) (a .numbered) (z .0) (z .1)
+
+    -- .. and a buffer of that length is enough for row: 13 is no answer
+    pub length-enough : (n : ℕ) → LengthOf κs t q (size.Bytes n) → (κ : Lfts 2) (buffer after : RefT (List ℕ)) (r : RowCopied) → Row κ t q buffer after r
+        → n ≤ length (now buffer) → (r ≡ row.Bytes n) × (now after ≡ rowOf (textOf (now t)) q ++ drop n (now buffer))
+    length-enough n a κ buffer after r b room = go (lt-or-ge 0 (rowNumber (now t) q))
+      where
+        go : (0 < rowNumber (now t) q) ⊎ (rowNumber (now t) q ≤ 0) → (r ≡ row.Bytes n) × (now after ≡ rowOf (textOf (now t)) q ++ drop n (now buffer))
+        go (inl l) = absurd (let z : ⊥ = omega (arith, a .says .asked l .0) in z)
+        go (inr l) =
+            let z : rowNumber (now t) q ≡ 0 = omega arith in
+            let size-is = a .says .accepted z v .1 in
+            let c = b .says .accepted z v (omega arith) in
+            let all : saidRow r .value ≡ n = c .1 ∙ sym size-is in
+            (same-copied r (row.Bytes n) (b .numbered) tt (c .0) all, rw all at (c .2))

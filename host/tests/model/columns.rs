@@ -5,7 +5,7 @@ use super::read::{byte_at, Tree};
 /// The rows of a text, each of the width; none where question 20 refuses.
 fn rows_of(text: &[u8], width: u32) -> Option<Vec<&[u8]>> {
     let width = usize::try_from(width).expect("a width");
-    (width > 0 && text.len().is_multiple_of(width)).then(|| text.chunks(width).collect())
+    (width > 0 && text.len() % width == 0).then(|| text.chunks(width).collect())
 }
 
 /// Column after column.

@@ -6,7 +6,7 @@ use super::read::{rows_of, text, Answer, Tree};
 /// Low and high depth of each cut, from the bytes that lend them; none where question 19 refuses.
 fn ranges(lent: &[u8]) -> Option<Vec<(u8, u8)>> {
     let ranges: Vec<(u8, u8)> = lent.chunks_exact(2).map(|pair| (pair[0], pair[1])).collect();
-    let good = lent.len().is_multiple_of(2) && (1..=10).contains(&ranges.len()) && ranges.iter().all(|&(low, high)| low <= high && high <= 9);
+    let good = lent.len() % 2 == 0 && (1..=10).contains(&ranges.len()) && ranges.iter().all(|&(low, high)| low <= high && high <= 9);
     good.then_some(ranges)
 }
 

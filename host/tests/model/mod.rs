@@ -8,6 +8,7 @@ pub mod build;
 pub mod check;
 pub mod columns;
 pub mod dates;
+pub mod facts;
 pub mod fast;
 pub mod guides;
 pub mod keys;

@@ -1,0 +1,52 @@
+# Installs the codebook tool and the library: `make`, then `make install PREFIX=/usr/local`; `make uninstall` takes away what was installed.
+
+PREFIX = /usr/local
+DESTDIR =
+VERSION = $(shell sed -n 's/^version = "\(.*\)"/\1/p' host/Cargo.toml)
+# other builds of the tool and of the archive can be named here
+TOOL = host/target/release/codebook
+ARCHIVE = $(or $(BLOCKTREE_ARCHIVE),target/staticlib/libabi.a)
+SHARED = target/libblocktree.so
+
+root = $(DESTDIR)$(PREFIX)
+documents = README.md LICENSE CHANGELOG.md docs/FORMAT.md docs/JSON.md
+installed = bin/codebook share/man/man1/codebook.1 share/bash-completion/completions/codebook share/zsh/site-functions/_codebook \
+	include/blocktree.h lib/libblocktree.a lib/libblocktree.so.0 lib/libblocktree.so lib/pkgconfig/blocktree.pc share/blocktree/blocktree.py share/blocktree/blocktree.magic
+
+all:
+	host/needs $(if $(BLOCKTREE_ARCHIVE),,rt) cargo gcc
+	host/make-archive
+	cargo build --quiet --release --manifest-path host/Cargo.toml
+
+check:
+	./test-host
+
+# The library, position independent as it is, as a shared one.
+shared: $(SHARED)
+$(SHARED): $(ARCHIVE)
+	mkdir -p $(dir $@)
+	gcc -shared -Wl,-z,defs -Wl,-soname,libblocktree.so.0 -Wl,--whole-archive $(ARCHIVE) -Wl,--no-whole-archive -o $@
+
+$(TOOL) $(ARCHIVE):
+	@echo "$@ is not there: run make first" >&2; false
+
+install: $(TOOL) $(SHARED)
+	install -D $(TOOL) $(root)/bin/codebook
+	install -D -m 644 host/share/codebook.1 $(root)/share/man/man1/codebook.1
+	install -D -m 644 host/share/codebook.bash $(root)/share/bash-completion/completions/codebook
+	install -D -m 644 host/share/_codebook $(root)/share/zsh/site-functions/_codebook
+	install -D -m 644 include/blocktree.h $(root)/include/blocktree.h
+	install -D -m 644 $(ARCHIVE) $(root)/lib/libblocktree.a
+	install -D $(SHARED) $(root)/lib/libblocktree.so.0
+	ln -sf libblocktree.so.0 $(root)/lib/libblocktree.so
+	install -D -m 644 python/blocktree.py $(root)/share/blocktree/blocktree.py
+	install -D -m 644 host/share/blocktree.magic $(root)/share/blocktree/blocktree.magic
+	install -D -m 644 -t $(root)/share/doc/codebook $(documents)
+	mkdir -p $(root)/lib/pkgconfig
+	sed 's|@PREFIX@|$(PREFIX)|; s|@VERSION@|$(VERSION)|' blocktree.pc.in > $(root)/lib/pkgconfig/blocktree.pc
+
+uninstall:
+	rm -f $(addprefix $(root)/,$(installed)) $(addprefix $(root)/share/doc/codebook/,$(notdir $(documents)))
+	-rmdir $(root)/share/blocktree $(root)/share/doc/codebook
+
+.PHONY: all check shared install uninstall

@@ -1,0 +1,172 @@
+#!/usr/bin/env python3
+"""Makes the files of this folder from the public cases, host/tests/vectors.txt and crates/cases/stdout: books, trees, and what is to be answered.
+
+    conformance/make.py            make them anew
+    conformance/make.py --check    say whether they are as they would be made; status 1 if not
+"""
+
+import os
+import shutil
+import sys
+
+HERE = os.path.dirname(os.path.abspath(__file__))
+SOURCES = [("cases", "../crates/cases/stdout"), ("model", "../host/tests/vectors.txt")]
+MADE = ["books", "good", "refused", "build.txt", "check.txt", "answers.txt", "answers-refused.txt"]
+HEADS = {
+    "build.txt": "# BOOK leaf arity levels COUNTED => TREE, byte for byte; or the number of the refusal. COUNTED is hexadecimal, - for none.",
+    "check.txt": "# The check's number for each tree: 0 for a good one, else 5 to 9.",
+    "answers.txt": "# Questions put to good trees. README.md says how a line is read.",
+    "answers-refused.txt": "# Questions put to trees that the check refuses, where the format settles the answer all the same.",
+}
+# Books and trees longer than this are left out: the bounds are in docs/FORMAT.md.
+LONGEST = 70_000
+
+
+def from_hex(word):
+    return b"" if word == "-" else bytes.fromhex(word)
+
+
+class Files:
+    """What is made: for each path its bytes."""
+
+    def __init__(self):
+        self.bytes = {}
+        self.lines = {name: [] for name in HEADS}
+
+    def enter(self, folder, name, lent):
+        """The path of a file with these bytes; one file serves all that are the same."""
+        for path, other in self.bytes.items():
+            if other == lent and path.startswith(folder + "/"):
+                return path
+        path = "%s/%s" % (folder, name)
+        self.bytes[path] = lent
+        return path
+
+    def line(self, name, words, answer):
+        line = "%s => %s" % (" ".join(words), answer)
+        if line not in self.lines[name]:
+            self.lines[name].append(line)
+
+    def all(self):
+        made = dict(self.bytes)
+        for name, lines in self.lines.items():
+            made[name] = "\n".join([HEADS[name]] + lines + [""]).encode()
+        return made
+
+
+def cases(path):
+    """The lines of a file of cases, each as its words and the words of its answer."""
+    for line in open(os.path.join(HERE, path), encoding="ascii"):
+        if line.startswith("#") or " => wrong" in line or not line.strip():
+            continue
+        question, _, answer = line.rstrip("\n").partition(" => ")
+        yield question.split(" "), answer.split(" ")
+
+
+def read(path):
+    """The texts and trees, the check's numbers by their place among them, and the questions; a name stands for its place, since names come again."""
+    lent, checks, asked, place = [], {}, [], {}
+    for words, answer in cases(path):
+        if words[0] in ("text", "tree", "repeat", "pad"):
+            if words[0] == "pad":
+                made = lent[place[words[2]]].ljust(int(words[3]), b"\0")
+            else:
+                made = from_hex(words[2]) * (int(words[3]) if words[0] == "repeat" else 1)
+            place[words[1]] = len(lent)
+            lent.append(made)
+        elif words[0] == "check":
+            checks[place[words[1]]] = (words[1], int(answer[0]))
+        elif words[0] in place_words:
+            many = place_words[words[0]]
+            asked.append((words[0], words[1 : 1 + many], [place[word] for word in words[1 : 1 + many]], words[1 + many :], answer))
+    return lent, checks, asked
+
+
+# how many of a question's words are names
+place_words = dict.fromkeys("build list byte run count find span row column places match guide guidecheck guided".split(), 1)
+place_words["order"] = 2
+
+
+def build(files, source, name, text, words, answer):
+    """A line of build.txt, unless the case is about the buffer or its book is long."""
+    leaf, arity, levels, counted, _ = words
+    if answer[0] == "4" or len(text) > LONGEST:
+        return
+    book = files.enter("books", "%s-%s.txt" % (source, name), text)
+    result = answer[0]
+    if result == "0":
+        tree = from_hex(answer[2])[: int(answer[1])]
+        result = files.enter("good", "%s-%s-%s-%s-%s-%s.tree" % (source, name, leaf, arity, levels, counted.strip("-") or "none"), tree)
+    files.line("build.txt", [book, leaf, arity, levels, counted], result)
+
+
+def shortened(kind, words, answer):
+    """A question's words and its answer without the lent buffer; None where the case is about the buffer, the table or what is left free."""
+    number = answer[0]
+    if number == "free" or number in ("13", "17", "25"):
+        return None
+    if kind in ("span", "row", "column"):
+        length = {"span": lambda: int(words[1]), "row": lambda: int(answer[1]), "column": lambda: int(words[0])}[kind]()
+        answered = answer[2][: 2 * length] or "-" if number == "0" else "-"
+        return words[:-1], " ".join([number, answer[1], answered] if kind == "span" else [number, answered])
+    if kind in ("places", "guide"):
+        count = int(answer[1])
+        return words[:-1], " ".join([number, ",".join(answer[2].split(",")[:count]) if count else "-"])
+    return words, " ".join(answer)
+
+
+def enter_trees(files, source, lent, checks):
+    """The trees that a check settles; the path of each by its place."""
+    paths = {}
+    for place, (name, number) in checks.items():
+        if len(lent[place]) <= LONGEST:
+            label = "%d-%s-%s-%d.tree" % (number, source, name, place) if number else "%s-%s-%d.tree" % (source, name, place)
+            paths[place] = files.enter("refused" if number else "good", label, lent[place])
+            files.line("check.txt", ["check", paths[place]], str(number))
+    return paths
+
+
+def made():
+    """All files."""
+    files = Files()
+    for source, path in SOURCES:
+        lent, checks, asked = read(path)
+        paths = enter_trees(files, source, lent, checks)
+        for kind, names, places, words, answer in asked:
+            if kind == "build":
+                build(files, source, names[0], lent[places[0]], words, answer)
+                continue
+            short = shortened(kind, words, answer) if all(place in paths for place in places) else None
+            if short:
+                trees = [paths[place] for place in places]
+                good = all(tree.startswith("good/") for tree in trees)
+                files.line("answers.txt" if good else "answers-refused.txt", [kind] + trees + short[0], short[1])
+    for path in sorted(files.bytes):
+        if path.startswith("good/"):
+            files.line("check.txt", ["check", path], "0")
+    return files.all()
+
+
+def main():
+    files = made()
+    if sys.argv[1:] == ["--check"]:
+        there = {os.path.relpath(os.path.join(folder, name), HERE) for part in MADE for folder, _, names in os.walk(os.path.join(HERE, part)) for name in names}
+        there |= {part for part in MADE if os.path.isfile(os.path.join(HERE, part))}
+        other = sorted(path for path in files if path not in there or open(os.path.join(HERE, path), "rb").read() != files[path])
+        other += sorted(there - set(files))
+        for path in other:
+            print("%s is not as it would be made" % path)
+        return 1 if other else 0
+    for part in MADE:
+        shutil.rmtree(os.path.join(HERE, part), ignore_errors=True)
+    for path, lent in files.items():
+        os.makedirs(os.path.dirname(os.path.join(HERE, path)), exist_ok=True)
+        with open(os.path.join(HERE, path), "wb") as file:
+            file.write(lent)
+    counts = [sum(path.startswith(part) for path in files) for part in ("books/", "good/", "refused/")]
+    print("%d books, %d good trees, %d refused trees" % tuple(counts))
+    return 0
+
+
+if __name__ == "__main__":
+    sys.exit(main())

@@ -1,0 +1,2 @@
+pub mod FactsLaws
+pub mod Demands

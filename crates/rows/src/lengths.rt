@@ -1,0 +1,48 @@
+// The length of a row and the number of rows, of a tree that passes questions 5 to 7, by its header.
+use crate::RowCount;
+use crate::RowLength;
+use crate::edges;
+use crate::edges::Edges;
+use access::Answer;
+use access::reading;
+use layout::header::Header;
+use layout::place::TextPlace;
+use rank::counting;
+use rank::scan;
+ghost use Rattle.layout.specs.HeaderSays.{HeaderOf};
+ghost use Rattle.rows.specs.Lengths.{LengthAnswer, CountAnswer};
+
+// Questions 11, 12 and 14, from the row's edges.
+pub fn length_at(t: &[u8], h: Header, q: u32) -> RowLength
+    requires { ⌜ HeaderOf (now t) h ⌝ }
+    ensures { λ r. ⌜ LengthAnswer (now (t .entry)) q r ⌝ }
+{
+    let found = edges::of_row(t, h, &t[0..0], false, q);
+    match found {
+        Edges::At(_, len) => RowLength::Bytes(len),
+        Edges::Refused(number) => RowLength::Refused(number),
+    }
+}
+
+// Questions 11 and 14: the total of byte 10, and one more where the last byte is another.
+pub fn count_at(t: &[u8], h: Header) -> RowCount
+    requires { ⌜ HeaderOf (now t) h ⌝ }
+    ensures { λ r. ⌜ CountAnswer (now (t .entry)) r ⌝ }
+{
+    let number = scan::number_of(t, h.settings.counted, 10);
+    if h.settings.counted <= number {
+        return RowCount::Refused(11);
+    }
+    let tens = counting::total(t, h, number);
+    if h.length == 0 {
+        return RowCount::Rows(tens);
+    }
+    let answer = reading::byte_at(t, h, TextPlace(h.length - 1));
+    let Answer::Byte(value, _) = answer else {
+        return RowCount::Refused(reading::number(answer));
+    };
+    if value == 10 {
+        return RowCount::Rows(tens);
+    }
+    RowCount::Rows(tens + 1)
+}

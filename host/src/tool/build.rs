@@ -1,0 +1,203 @@
+//! `build`: the trees of books.
+
+use crate::given::Given;
+use crate::input::{Input, Source, TEXT};
+use crate::json::Object;
+use crate::output::Output;
+use crate::say::{self, grouped};
+use crate::table::{ARITY, COLUMNS, COUNT, FORCE, LEAF, LEVELS, OUTPUT};
+use crate::trials::{self, Chosen, Trial};
+use crate::{book, by_columns, sha256, values, Failure};
+use codebook::{Refusal, Settings};
+use std::ffi::OsString;
+use std::path::{Path, PathBuf};
+
+/// What was built, and what there is to say of it.
+pub struct Built {
+    pub chosen: Chosen,
+    /// The book, and how it was rearranged.
+    pub title: String,
+    /// Said after the report.
+    pub besides: Option<by_columns::Compared>,
+}
+
+pub fn build(given: &Given) -> Result<(), Failure> {
+    let counted = counted(given)?;
+    let settings = settings(given, &counted)?;
+    apart(given)?;
+    given.each(|path| {
+        let source = Source::open(path)?;
+        let output = Output::create(target(given, path)?.as_deref(), given.has(&FORCE), &source)?;
+        let text = source.read(&TEXT)?;
+        let built = match given.value(&COLUMNS) {
+            None => plain(&text, settings.as_ref(), &counted, given.quiet())?,
+            Some(width) => by_columns::build(&text, settings.as_ref(), &counted, given.reading(values::width("--columns", width))?, given.quiet())?,
+        };
+        write(given, &text, &built, output)
+    })
+}
+
+/// Several books go to several files.
+fn apart(given: &Given) -> Result<(), Failure> {
+    if given.words.len() > 1 && given.path(&OUTPUT).is_some_and(|path| !path.is_dir()) {
+        return Err(given.usage("-o is a folder where several books are built"));
+    }
+    let mut targets: Vec<(PathBuf, &OsString)> = Vec::new();
+    for book in &given.words {
+        let Some(target) = target(given, Some(Path::new(book)))? else { continue };
+        let target = spelled_out(&target);
+        if let Some((_, other)) = targets.iter().find(|(path, _)| *path == target) {
+            let (one, other) = (other.to_string_lossy(), book.to_string_lossy());
+            return Err(given.usage(format!("{one} and {other} would both be written to {}", target.display())));
+        }
+        targets.push((target, book));
+    }
+    Ok(())
+}
+
+/// One spelling for one place.
+fn spelled_out(path: &Path) -> PathBuf {
+    let folder = path.parent().filter(|folder| !folder.as_os_str().is_empty()).unwrap_or(Path::new("."));
+    folder.canonicalize().map_or(path.to_path_buf(), |folder| folder.join(path.file_name().unwrap_or_default()))
+}
+
+/// The bytes to count.
+pub fn counted(given: &Given) -> Result<Vec<u8>, Failure> {
+    given.value(&COUNT).map_or(Ok(vec![10]), |word| given.reading(values::bytes(word)))
+}
+
+/// The settings that are given; none to have the short list tried.
+pub fn settings(given: &Given, counted: &[u8]) -> Result<Option<Settings>, Failure> {
+    match (given.number(&LEAF)?, given.number(&ARITY)?, given.number(&LEVELS)?) {
+        (None, None, None) => Ok(None),
+        (Some(leaf), Some(arity), Some(levels)) => Ok(Some(Settings { leaf, arity, levels, counted: counted.to_vec() })),
+        _ => Err(given.usage("--leaf, --arity and --levels go together: give all three, or none to have a short list tried")),
+    }
+}
+
+/// The file to write: the one that is named, or one named after the book, in the folder that is named or beside it. None is standard output.
+fn target(given: &Given, book: Option<&Path>) -> Result<Option<PathBuf>, Failure> {
+    let book = book.filter(|&path| path != Path::new("-"));
+    match (given.path(&OUTPUT), book) {
+        (Some(folder), Some(book)) if folder.is_dir() => Ok(Some(folder.join(book.with_extension("tree").file_name().unwrap_or_default()))),
+        (Some(folder), None) if folder.is_dir() => Err(given.usage("-o is a file where the book comes from standard input")),
+        (Some(path), _) => Ok(Some(path.to_path_buf())),
+        (None, book) => Ok(book.map(|book| book.with_extension("tree"))),
+    }
+}
+
+fn plain(text: &Input, settings: Option<&Settings>, counted: &[u8], quiet: bool) -> Result<Built, Failure> {
+    let chosen = chosen(&text.name, &text.bytes, settings, counted, quiet)?;
+    Ok(Built { chosen, title: text.name.clone(), besides: None })
+}
+
+/// The tree with the settings, or the best of the short list.
+pub fn chosen(name: &str, text: &[u8], settings: Option<&Settings>, counted: &[u8], quiet: bool) -> Result<Chosen, Failure> {
+    let chosen = match settings {
+        Some(settings) => trials::one(text, settings, quiet),
+        None => trials::best(text, counted, quiet),
+    };
+    chosen.map_err(|refusal| Failure::library(name, refusal, format!("{refusal}{}", cause(refusal, settings, counted))))
+}
+
+/// What was given that is refused.
+fn cause(refusal: Refusal, settings: Option<&Settings>, counted: &[u8]) -> String {
+    match (refusal, settings) {
+        (Refusal::Settings, Some(settings)) => format!("; given: {}", shape(settings)),
+        (Refusal::Counted, _) => format!("; given: {}", listed(counted)),
+        _ => String::new(),
+    }
+}
+
+/// Write the tree; then say what there is to say, where the tree does not go.
+fn write(given: &Given, text: &Input, built: &Built, output: Output) -> Result<(), Failure> {
+    let chosen = &built.chosen;
+    let mut warnings = book::warnings(&text.bytes, &chosen.settings.counted);
+    if !text.bytes.is_empty() && chosen.tree.len() >= text.bytes.len() {
+        warnings.push("the tree is no smaller than the text: the book is short, or repeats itself too little".to_owned());
+    }
+    let (name, standard) = (output.name.clone(), output.is_standard());
+    let digest = sha256::hex(&chosen.tree);
+    output.write(&chosen.tree)?;
+    if given.quiet() {
+        return Ok(());
+    }
+    let report = match (given.json(), given.words.len() > 1) {
+        (true, _) => object(text, built, &name, &digest, &warnings).line(),
+        (false, true) => line(text.bytes.len(), chosen, &name, &digest),
+        (false, false) => report(text.bytes.len(), built, &name, &digest),
+    };
+    if standard {
+        say::tell(&report);
+    } else {
+        say::print(report.as_bytes())?;
+    }
+    for warning in warnings {
+        say::tell(&format!("codebook: {}: warning: {warning}\n", text.name));
+    }
+    Ok(())
+}
+
+/// What was tried, what was chosen and why, and the tree beside the text.
+fn report(length: usize, built: &Built, name: &str, digest: &str) -> String {
+    let Built { chosen, title, besides } = built;
+    let mut text = format!("{title}: {} bytes\n", grouped(length as u64));
+    if chosen.tried.len() > 1 {
+        text += "leaf  arity  levels  tree's bytes\n";
+        for Trial { settings, size } in &chosen.tried {
+            text += &format!("{:>4}  {:>5}  {:>6}  {:>12}\n", settings.leaf, settings.arity, settings.levels, grouped(*size as u64));
+        }
+        text += &format!("chosen: {}, since its tree is the smallest of these {}\n", shape(&chosen.settings), chosen.tried.len());
+    }
+    let compared = besides.as_ref().map_or(String::new(), |compared| compared.words(chosen.tree.len()));
+    text + &format!("{}sha256 {digest}\n{compared}", sizes(length, chosen, name))
+}
+
+/// One of several.
+fn line(length: usize, chosen: &Chosen, name: &str, digest: &str) -> String {
+    format!("{}; sha256 {digest}\n", sizes(length, chosen, name).trim_end())
+}
+
+fn sizes(length: usize, chosen: &Chosen, name: &str) -> String {
+    let Chosen { settings, tree, .. } = chosen;
+    format!(
+        "{name}: {} bytes, {}; {}; bytes counted: {}\n",
+        grouped(tree.len() as u64),
+        share(tree.len(), length),
+        shape(settings),
+        listed(&settings.counted)
+    )
+}
+
+fn object(text: &Input, built: &Built, name: &str, digest: &str, warnings: &[String]) -> Object {
+    let Chosen { settings, tree, tried } = &built.chosen;
+    let tried = tried.iter().map(|trial| shaped(Object::new(), &trial.settings).number("size", trial.size));
+    let object = Object::new().text("book", &text.name).number("length", text.bytes.len()).text("tree", name).number("size", tree.len());
+    let object = shaped(object, settings).numbers("counted", &settings.counted).text("sha256", digest).objects("tried", tried);
+    let object = built.besides.as_ref().map_or(object.clone(), |compared| compared.members(object));
+    object.texts("warnings", warnings)
+}
+
+fn shaped(object: Object, settings: &Settings) -> Object {
+    object.number("leaf", settings.leaf).number("arity", settings.arity).number("levels", settings.levels)
+}
+
+pub fn shape(settings: &Settings) -> String {
+    format!("leaf {}, arity {}, levels {}", settings.leaf, settings.arity, settings.levels)
+}
+
+/// Bytes by their numbers.
+pub fn listed(bytes: &[u8]) -> String {
+    if bytes.is_empty() {
+        return "none".to_owned();
+    }
+    bytes.iter().map(u8::to_string).collect::<Vec<_>>().join(", ")
+}
+
+/// A tree's size beside its text's; no bytes have no share.
+pub fn share(tree: usize, text: usize) -> String {
+    if text == 0 {
+        return "an empty text".to_owned();
+    }
+    format!("{:.1} % of the text", 100.0 * tree as f64 / text as f64)
+}

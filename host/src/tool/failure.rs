@@ -1,0 +1,66 @@
+//! Why the tool stops.
+
+use crate::json::Object;
+use crate::say;
+use codebook::Refusal;
+
+/// What is said, and the status that the tool ends with.
+#[derive(Debug)]
+pub struct Failure {
+    /// 1 for a refusal, 2 for a call or a file that is not right.
+    status: u8,
+    /// The library's number.
+    number: Option<u32>,
+    /// The file that it is about; empty for none.
+    name: String,
+    /// Empty where all has been said.
+    words: String,
+}
+
+impl Failure {
+    /// The call, or a file that it names, is not right.
+    pub fn usage(words: impl Into<String>) -> Self {
+        Failure { status: 2, number: None, name: String::new(), words: words.into() }
+    }
+
+    /// A file that cannot be read or written, or must not be.
+    pub fn file(name: &str, words: impl Into<String>) -> Self {
+        Failure { name: name.to_owned(), ..Failure::usage(words) }
+    }
+
+    /// The tool refuses what the library was not asked.
+    pub fn refused(name: &str, words: impl Into<String>) -> Self {
+        Failure { status: 1, ..Failure::file(name, words) }
+    }
+
+    /// The library refused; `words` say what was asked, and why it could not be answered.
+    pub fn library(name: &str, refusal: Refusal, words: impl Into<String>) -> Self {
+        Failure { number: Some(refusal.number()), ..Failure::refused(name, words) }
+    }
+
+    /// Some of many files failed, and each has been told.
+    pub fn told() -> Self {
+        Failure::refused("", "")
+    }
+
+    pub fn status(&self) -> u8 {
+        self.status
+    }
+
+    /// Say it on standard error, and as an object on standard output where objects are asked for.
+    pub fn tell(&self, json: bool) {
+        if self.words.is_empty() {
+            return;
+        }
+        let name = if self.name.is_empty() { String::new() } else { format!("{}: ", self.name) };
+        say::tell(&format!("codebook: {name}{}\n", self.words));
+        if json {
+            let mut object = Object::new().text("failed", &self.name).number("status", self.status);
+            if let Some(number) = self.number {
+                object = object.number("refused", number);
+            }
+            // where nobody reads it there is no more to say: the call has failed already
+            let _ = say::print(object.text("words", &self.words).line().as_bytes());
+        }
+    }
+}

@@ -1,0 +1,93 @@
+//! What `help`, `--version`, `manual` and `completion` print, all from the table.
+
+use crate::given::Given;
+use crate::table::{Command, COMMANDS};
+use crate::{completion, manual, say, Failure};
+
+/// Bytes of a line of help.
+const LINE: usize = 110;
+
+/// Where an option's help begins.
+const OPTION: usize = 22;
+
+/// The format, as the library builds and reads it.
+pub const LAYOUTS: &str = "block trees: builds layout 2, reads layouts 1 and 2";
+
+/// The last words of every help.
+pub const ENDING: &str =
+    "No file, or -, is standard input. Status: 0 done, 1 refused, or one of several files failed, 2 a call or a file that is not right.";
+
+/// The tool, or a command.
+pub fn show(given: &Given) -> Result<(), Failure> {
+    let name = given.words.iter().map(|word| word.to_string_lossy()).collect::<Vec<_>>().join(" ");
+    if name.is_empty() {
+        return say::print(overview().as_bytes());
+    }
+    let commands: Vec<&Command> = COMMANDS.iter().filter(|command| command.name == name || command.name.split(' ').next() == Some(&name)).collect();
+    if commands.is_empty() {
+        return Err(Failure::usage(format!("there is no command '{name}'; see codebook --help")));
+    }
+    say::print(commands.iter().map(|command| text(command)).collect::<Vec<_>>().join("\n").as_bytes())
+}
+
+/// The text of `codebook --help`.
+fn overview() -> String {
+    let mut text = "codebook: block trees of code books\n\n".to_owned();
+    for command in &COMMANDS {
+        text += &format!("  {:<15}{}\n", command.name, command.summary);
+    }
+    text + "\ncodebook COMMAND --help says more.\n\n" + &folded(ENDING, "")
+}
+
+/// The text of `codebook COMMAND --help`.
+pub fn text(command: &Command) -> String {
+    let mut text = folded(&command.usage(), "    ").replacen("    ", "", 1) + "\n";
+    text += &folded(&format!("{}.", capital(command.summary)), "");
+    for paragraph in command.details.lines() {
+        text += &folded(paragraph, "");
+    }
+    text.push('\n');
+    for option in command.all_options() {
+        let help = folded(option.help, &" ".repeat(OPTION));
+        text += &format!("  {:<width$}{}", option.forms(), &help[OPTION..], width = OPTION - 2);
+    }
+    text + "\n" + &folded(ENDING, "")
+}
+
+/// The first letter in capitals.
+pub fn capital(words: &str) -> String {
+    let mut letters = words.chars();
+    letters.next().map_or(String::new(), |first| first.to_uppercase().chain(letters).collect())
+}
+
+/// Words in lines, each after `indent`.
+fn folded(words: &str, indent: &str) -> String {
+    let mut text = String::new();
+    let mut line = String::new();
+    for word in words.split(' ') {
+        if !line.trim().is_empty() && indent.len() + line.len() + word.len() > LINE {
+            text += &format!("{indent}{}\n", line.trim_end());
+            line.clear();
+        }
+        line += word;
+        line.push(' ');
+    }
+    text + indent + line.trim_end() + "\n"
+}
+
+pub fn version(_: &Given) -> Result<(), Failure> {
+    say::print(format!("codebook {}\n{LAYOUTS}\n", env!("CARGO_PKG_VERSION")).as_bytes())
+}
+
+pub fn manual(_: &Given) -> Result<(), Failure> {
+    say::print(manual::page().as_bytes())
+}
+
+pub fn completion(given: &Given) -> Result<(), Failure> {
+    let script = match given.words[0].to_string_lossy().as_ref() {
+        "bash" => completion::bash(),
+        "zsh" => completion::zsh(),
+        other => return Err(given.usage(format!("SHELL is bash or zsh, not '{other}'"))),
+    };
+    say::print(script.as_bytes())
+}

@@ -1,0 +1,109 @@
+//! Files and standard input.
+
+use crate::say::grouped;
+use crate::Failure;
+use codebook::{Refusal, MAX_TEXT, MAX_TREE};
+use std::fs::{File, Metadata};
+use std::io::{self, IsTerminal, Read};
+use std::os::fd::AsFd;
+use std::os::unix::fs::MetadataExt;
+use std::path::Path;
+
+/// What was read, and what to call it.
+pub struct Input {
+    pub name: String,
+    pub bytes: Vec<u8>,
+}
+
+/// How many bytes a file may have; a longer one is not read.
+pub struct Limit {
+    most: u64,
+    what: &'static str,
+    refusal: Option<Refusal>,
+}
+
+pub static TEXT: Limit = Limit { most: MAX_TEXT as u64, what: "a text", refusal: Some(Refusal::Text) };
+pub static TREE: Limit = Limit { most: MAX_TREE, what: "a tree", refusal: None };
+/// An entry for each 64 bytes of text, and one begun for each counted byte.
+pub static GUIDE: Limit = Limit { most: 4 * (MAX_TEXT as u64 / 64 + 4), what: "a guide", refusal: None };
+
+impl Limit {
+    /// Why a file is not read.
+    fn refuse(&self, name: &str, length: Option<u64>) -> Failure {
+        let has = length.map_or("it has more".to_owned(), |length| format!("it has {}", grouped(length)));
+        match self.refusal {
+            Some(refusal) => Failure::library(name, refusal, format!("{refusal}; {has}")),
+            None => Failure::refused(name, format!("{} has at most {} bytes; {has}", self.what, grouped(self.most))),
+        }
+    }
+}
+
+/// An open file or standard input, not read yet.
+pub struct Source {
+    pub name: String,
+    file: File,
+}
+
+/// A file on its device: what two names of it have in common.
+#[derive(PartialEq, Eq)]
+pub struct Identity(u64, u64);
+
+impl Identity {
+    /// None where it is not an ordinary file.
+    pub fn of(metadata: &Metadata) -> Option<Self> {
+        metadata.is_file().then(|| Identity(metadata.dev(), metadata.ino()))
+    }
+}
+
+impl Source {
+    /// Open a file; standard input where it is `-` or none.
+    pub fn open(path: Option<&Path>) -> Result<Self, Failure> {
+        match path {
+            Some(path) if path != Path::new("-") => {
+                let name = path.to_string_lossy().into_owned();
+                File::open(path).map_err(|error| unread(&name, &error)).map(|file| Source { name, file })
+            }
+            _ => Source::standard(path.is_some()),
+        }
+    }
+
+    fn standard(told: bool) -> Result<Self, Failure> {
+        let stdin = io::stdin();
+        if !told && stdin.is_terminal() {
+            return Err(Failure::usage("no file is given, and nothing is piped in; - reads from the terminal"));
+        }
+        let name = "standard input".to_owned();
+        match stdin.as_fd().try_clone_to_owned() {
+            Ok(file) => Ok(Source { name, file: file.into() }),
+            Err(error) => Err(unread(&name, &error)),
+        }
+    }
+
+    pub fn identity(&self) -> Option<Identity> {
+        self.file.metadata().ok().and_then(|metadata| Identity::of(&metadata))
+    }
+
+    /// Read all of it, unless it is longer than it may be.
+    pub fn read(self, limit: &Limit) -> Result<Input, Failure> {
+        let Source { name, file } = self;
+        let length = file.metadata().ok().filter(Metadata::is_file).map(|metadata| metadata.len());
+        if length.is_some_and(|length| length > limit.most) {
+            return Err(limit.refuse(&name, length));
+        }
+        let mut bytes = Vec::new();
+        file.take(limit.most + 1).read_to_end(&mut bytes).map_err(|error| unread(&name, &error))?;
+        if bytes.len() as u64 > limit.most {
+            return Err(limit.refuse(&name, None));
+        }
+        Ok(Input { name, bytes })
+    }
+}
+
+fn unread(name: &str, error: &io::Error) -> Failure {
+    Failure::file(name, format!("cannot be read: {error}"))
+}
+
+/// Open and read.
+pub fn read(path: Option<&Path>, limit: &Limit) -> Result<Input, Failure> {
+    Source::open(path)?.read(limit)
+}

@@ -1,0 +1,98 @@
+//! `licence`: is a book open, how many days are left, the same day a year later.
+
+use crate::given::Given;
+use crate::json::Object;
+use crate::say::{self, several};
+use crate::Failure;
+use codebook::{days_left, open_on, renew, Refusal};
+use std::ffi::OsString;
+use std::os::unix::ffi::OsStrExt;
+use std::time::{SystemTime, UNIX_EPOCH};
+
+/// Open, with the days left; or closed, and why.
+pub fn open(given: &Given) -> Result<(), Failure> {
+    let days = days(given, 2);
+    let [first, last, today] = [0, 1, 2].map(|at| days[at].as_bytes());
+    let open = open_on(first, last, today).map_err(|refusal| refused(refusal, &days))?;
+    let left = days_left(last, today).map_err(|refusal| refused(refusal, &days))?;
+    let words = match (open, left) {
+        (true, _) => format!("open, {} left", several(left.unsigned_abs(), "day")),
+        (false, 0..) => format!("closed: it opens on {}", days[0].to_string_lossy()),
+        (false, _) => format!("closed, {} past", several(left.unsigned_abs(), "day")),
+    };
+    print(given, Object::new().flag("open", open).number("left", left), &words)
+}
+
+pub fn left(given: &Given) -> Result<(), Failure> {
+    let days = days(given, 1);
+    let left = days_left(days[0].as_bytes(), days[1].as_bytes()).map_err(|refusal| refused(refusal, &days))?;
+    print(given, Object::new().number("left", left), &left.to_string())
+}
+
+pub fn renewed(given: &Given) -> Result<(), Failure> {
+    let day = renew(given.words[0].as_bytes()).map_err(|refusal| refused(refusal, &given.words))?;
+    let day = String::from_utf8_lossy(&day).into_owned();
+    print(given, Object::new().text("day", &day), &day)
+}
+
+fn print(given: &Given, object: Object, words: &str) -> Result<(), Failure> {
+    let line = if given.json() { object.line() } else { format!("{words}\n") };
+    say::print(line.as_bytes())
+}
+
+/// The days that are given, and today's, by the clock where it is not given.
+fn days(given: &Given, due: usize) -> Vec<OsString> {
+    let mut days = given.words.clone();
+    if days.len() == due {
+        days.push(today().into());
+    }
+    days
+}
+
+/// The first that is no date is named, or else all of them.
+fn refused(refusal: Refusal, days: &[OsString]) -> Failure {
+    let wrong = days.iter().find(|day| days_left(day.as_bytes(), day.as_bytes()).is_err());
+    let given = match (refusal, wrong) {
+        (Refusal::Date, Some(day)) => format!("'{}'", day.to_string_lossy()),
+        _ => days.iter().map(|day| day.to_string_lossy()).collect::<Vec<_>>().join(" "),
+    };
+    Failure::library("licence", refusal, format!("{refusal}; given: {given}"))
+}
+
+/// Today's date, by the clock, in universal time.
+fn today() -> String {
+    let seconds = SystemTime::now().duration_since(UNIX_EPOCH).map_or(0, |since| since.as_secs());
+    date_of(seconds / 86_400)
+}
+
+/// The date so many days after 1 January 1970.
+fn date_of(days: u64) -> String {
+    let leap = |year: u64| year % 4 == 0 && (year % 100 != 0 || year % 400 == 0);
+    let (mut rest, mut year, mut month) = (days, 1970, 1);
+    loop {
+        let length = match month {
+            2 => 28 + u64::from(leap(year)),
+            4 | 6 | 9 | 11 => 30,
+            _ => 31,
+        };
+        if rest < length {
+            return format!("{year:04}{month:02}{:02}", rest + 1);
+        }
+        rest -= length;
+        (year, month) = if month == 12 { (year + 1, 1) } else { (year, month + 1) };
+    }
+}
+
+#[cfg(test)]
+mod tests {
+    use super::{date_of, days_left};
+
+    /// The clock's dates, day by day, are those of the library.
+    #[test]
+    fn dates_of_the_clock() {
+        assert_eq!([0, 58, 59, 789, 10_957, 19_782].map(date_of), ["19700101", "19700228", "19700301", "19720229", "20000101", "20240229"]);
+        for day in 0..36_525 {
+            assert_eq!(days_left(date_of(10_957 + day).as_bytes(), b"20000101"), Ok(day as i32));
+        }
+    }
+}

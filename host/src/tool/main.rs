@@ -1,0 +1,50 @@
+//! codebook: builds, checks and reads block trees of code books.
+
+mod book;
+mod build;
+mod by_columns;
+mod check;
+mod completion;
+mod failure;
+mod given;
+mod guide;
+mod help;
+mod input;
+mod json;
+mod licence;
+mod manual;
+mod output;
+mod picture;
+mod progress;
+mod questions;
+mod reasons;
+mod say;
+mod sha256;
+mod shelf;
+mod signals;
+mod spool;
+mod stats;
+mod table;
+mod trials;
+mod values;
+
+use failure::Failure;
+use given::Given;
+use std::process::ExitCode;
+
+fn main() -> ExitCode {
+    let given = match Given::read(std::env::args_os().skip(1).collect()) {
+        Ok(given) => given,
+        Err(failure) => return stop(&failure, false),
+    };
+    let done = if given.has(&table::HELP) { say::print(help::text(given.command).as_bytes()) } else { (given.command.run)(&given) };
+    match done {
+        Ok(()) => ExitCode::SUCCESS,
+        Err(failure) => stop(&failure, given.json()),
+    }
+}
+
+fn stop(failure: &Failure, json: bool) -> ExitCode {
+    failure.tell(json);
+    ExitCode::from(failure.status())
+}

@@ -1,0 +1,80 @@
+//! The manual page, in the form of man(7).
+
+use crate::help::{capital, ENDING, LAYOUTS};
+use crate::table::{Command, Opt, COMMANDS, COMMON};
+
+const HEAD: &str = "\
+.SH NAME
+codebook \\- build, check and read block trees of code books
+.SH SYNOPSIS
+.B codebook
+.I COMMAND
+.RI [ word ]...
+.RI [ option ]...
+.SH DESCRIPTION
+A block tree stores once what repeats in a text and answers questions without unpacking it.
+.B codebook
+builds the trees of code books, checks trees from anyone, and answers from them, over a library whose every function is proved.
+";
+
+const TAIL: &str = "\
+.SH EXAMPLES
+.nf
+codebook build book.txt                     # book.tree, and its SHA\\-256
+codebook check \\-\\-sha256 HEX book.tree      # is it that tree, and a good one?
+codebook row 5..20 book.tree
+codebook worn 43221 45223 book.tree         # rows with cuts 4, 3 to 5, 2, 2, 1 to 3
+codebook picture book.tree \\-o book.svg
+.fi
+.SH FILES
+A tree's file ends in
+.BR .tree ,
+a guide's in
+.BR .guide .
+A file that is written is made under no name, or under a hidden one, in the same folder, and takes its name when it is whole and stored; so an interrupt or a full disk leaves an older file as it was.
+.SH ENVIRONMENT
+.TP
+.B CODEBOOK_NAMED
+If set, files are made under a hidden name, as on file systems that have no nameless files.
+.SH NOTES
+A tree carries no checksum of its text: a tree with one leaf byte changed, and its edges with it, is a good tree of another text, and gives a wrong key. Keep the SHA-256 that
+.B build
+prints, and give it to
+.BR \"check \\-\\-sha256\" ;
+or hold the tree against its book with
+.BR verify .
+";
+
+/// All of codebook.1.
+pub fn page() -> String {
+    let common: String = COMMON.iter().copied().map(option).collect();
+    let mut page = format!(".TH CODEBOOK 1 \"\" \"codebook {}\" \"User Commands\"\n{HEAD}", env!("CARGO_PKG_VERSION"));
+    page += &format!(
+        ".SH OPTIONS\nOf every command:\n{common}.PP\nThose of one command stand with it. A word after \\-\\- is no option.\n.SH COMMANDS\n"
+    );
+    for command in &COMMANDS {
+        page += &section(command);
+    }
+    page + &format!("{TAIL}.SH EXIT STATUS\n{}\n.SH FORMAT\n{}.\n", plain(ENDING), plain(&capital(LAYOUTS)))
+}
+
+fn section(command: &Command) -> String {
+    let mut section = format!(".SS \"{}\"\n{}.\n.PP\n", plain(&command.usage()), plain(&capital(command.summary)));
+    for paragraph in command.details.lines() {
+        section += &format!("{}\n.PP\n", plain(paragraph));
+    }
+    section + &command.options.iter().copied().map(option).collect::<String>()
+}
+
+fn option(option: &Opt) -> String {
+    format!(".TP\n.B {}\n{}\n", plain(&option.forms()), plain(option.help))
+}
+
+/// Words without the meaning that some bytes have in a page.
+fn plain(words: &str) -> String {
+    let words = words.replace('\\', "\\e").replace('-', "\\-").replace('"', "\\(dq");
+    if words.starts_with(['.', '\'']) {
+        return format!("\\&{words}");
+    }
+    words
+}

@@ -1,0 +1,101 @@
+//! Where a command writes: made ready before the work begins, so that a place that cannot be written is told at once, and filled at its end.
+
+use crate::given::Given;
+use crate::input::{Identity, Source};
+use crate::spool::Spool;
+use crate::table::{FORCE, OUTPUT};
+use crate::{say, Failure};
+use std::fs::{self, File, Metadata, OpenOptions};
+use std::io::{self, ErrorKind, IsTerminal, Write};
+use std::os::fd::AsFd;
+use std::path::Path;
+
+pub struct Output {
+    /// What to call it.
+    pub name: String,
+    place: Place,
+}
+
+enum Place {
+    Standard,
+    /// A device or a pipe.
+    Special(File),
+    File(Spool),
+}
+
+impl Output {
+    /// The file that the call names, or standard output.
+    pub fn of(given: &Given, source: &Source) -> Result<Self, Failure> {
+        Output::create(given.path(&OUTPUT), given.has(&FORCE), source)
+    }
+
+    /// A file, or standard output where it is `-` or none. It must not be the file that is read.
+    pub fn create(path: Option<&Path>, force: bool, source: &Source) -> Result<Self, Failure> {
+        match path {
+            Some(path) if path != Path::new("-") && path != Path::new("/dev/stdout") => Output::file(path, force, source),
+            _ => Output::standard(path.is_some(), source),
+        }
+    }
+
+    fn standard(told: bool, source: &Source) -> Result<Self, Failure> {
+        let stdout = io::stdout();
+        if !told && stdout.is_terminal() {
+            return Err(Failure::usage("this would go to the terminal; give -o FILE, or -o - if that is meant"));
+        }
+        let name = "standard output".to_owned();
+        let metadata = stdout.as_fd().try_clone_to_owned().and_then(|file| File::from(file).metadata());
+        if let Ok(metadata) = metadata {
+            apart(&name, &metadata, source)?;
+        }
+        Ok(Output { name, place: Place::Standard })
+    }
+
+    fn file(path: &Path, force: bool, source: &Source) -> Result<Self, Failure> {
+        let name = path.to_string_lossy().into_owned();
+        let unwritten = |error: io::Error| Failure::file(&name, format!("cannot be written: {error}"));
+        let (target, old) = match fs::metadata(path) {
+            Ok(old) if !old.is_file() => {
+                let file = OpenOptions::new().write(true).open(path).map_err(unwritten)?;
+                return Ok(Output { name, place: Place::Special(file) });
+            }
+            Ok(old) => {
+                apart(&name, &old, source)?;
+                // a link stays, and what it leads to is replaced
+                (path.canonicalize().map_err(unwritten)?, Some(old))
+            }
+            Err(error) if error.kind() == ErrorKind::NotFound && path.is_symlink() => {
+                return Err(Failure::file(&name, "cannot be written: it is a link to nothing"));
+            }
+            Err(error) if error.kind() == ErrorKind::NotFound && !name.ends_with('/') => (path.to_path_buf(), None),
+            Err(error) => return Err(unwritten(error)),
+        };
+        if old.is_some() && !force {
+            return Err(Failure::file(&name, "exists; --force overwrites it"));
+        }
+        let spool = Spool::create(target, old.map(|old| old.permissions())).map_err(unwritten)?;
+        Ok(Output { name, place: Place::File(spool) })
+    }
+
+    pub fn is_standard(&self) -> bool {
+        matches!(self.place, Place::Standard)
+    }
+
+    /// Write all of it, or leave a file as it was.
+    pub fn write(self, bytes: &[u8]) -> Result<(), Failure> {
+        let written = match self.place {
+            Place::Standard => return say::print_whole(bytes),
+            Place::Special(mut file) => file.write_all(bytes),
+            Place::File(spool) => spool.finish(bytes),
+        };
+        written.map_err(|error| Failure::file(&self.name, format!("cannot be written: {error}")))
+    }
+}
+
+/// What is read must not be written, under whatever name.
+fn apart(name: &str, metadata: &Metadata, source: &Source) -> Result<(), Failure> {
+    let identity = Identity::of(metadata);
+    if identity.is_some() && identity == source.identity() {
+        return Err(Failure::file(name, format!("is the file that is read ({}); it is left as it is", source.name)));
+    }
+    Ok(())
+}

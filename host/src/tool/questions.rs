@@ -1,0 +1,227 @@
+//! The questions put to one tree.
+
+use crate::check::{open, refused};
+use crate::given::Given;
+use crate::input::{self, GUIDE, TREE};
+use crate::json::Object;
+use crate::say::{self, several};
+use crate::table::{self, AFTER, FROM, ROW_COLUMNS, UNCHECKED};
+use crate::{book, reasons, values, Failure};
+use codebook::{Range, Reached, Refusal, Tree};
+
+/// A question.
+#[derive(Clone, Debug, PartialEq, Eq)]
+pub enum Question {
+    /// The first and the last row, from 1; the last one of the book where none is given.
+    Rows(u32, Option<u32>),
+    /// The same of a book by columns, and the width of its rows.
+    ColumnRows(u32, Option<u32>, u32),
+    Byte(u32),
+    Run(u32),
+    Span(u32, u32),
+    Count(u8, u32),
+    Find(u8, u32),
+    Places(Vec<u8>),
+    /// The ranges, and the mark to start from.
+    Match(Vec<Range>, u32),
+    /// The first match alone.
+    Next(Vec<Range>, u32),
+    Text,
+}
+
+/// A part of an answer: for the eye, and for programs.
+struct Answer {
+    plain: Vec<u8>,
+    object: Object,
+}
+
+impl Answer {
+    fn new(plain: impl Into<Vec<u8>>, object: Object) -> Self {
+        Answer { plain: plain.into(), object }
+    }
+
+    /// A figure, first on its line, and the blocks entered for it.
+    fn figure(figure: &str, entered: u32, object: Object) -> Self {
+        Answer::new(format!("{figure} ({} entered)\n", several(entered, "block")), object.number("entered", entered))
+    }
+}
+
+/// Ask what the call asks.
+pub fn ask(given: &Given) -> Result<(), Failure> {
+    let question = Question::of(given)?;
+    let unchecked = given.has(&UNCHECKED);
+    let file = given.command.words.iter().position(|word| word.name == "TREE").and_then(|at| given.file(at));
+    let input = input::read(file, &TREE)?;
+    let guide = given.path(&table::GUIDE).map(|path| input::read(Some(path), &GUIDE)).transpose()?;
+    let tree = open(&input, unchecked)?;
+    if let Some(guide) = guide.as_ref().filter(|_| !unchecked) {
+        tree.check_guide(&guide.bytes).map_err(|refusal| refused(guide, refusal))?;
+    }
+    let guide = guide.as_ref().map(|guide| guide.bytes.as_slice());
+    let answers = question.answers(tree, guide).map_err(|refusal| reasons::failure(&input.name, refusal, &question, tree))?;
+    let printed: Vec<u8> = if given.json() {
+        answers.iter().flat_map(|answer| answer.object.line().into_bytes()).collect()
+    } else {
+        answers.into_iter().flat_map(|answer| answer.plain).collect()
+    };
+    if printed.is_empty() && matches!(question, Question::Match(..) | Question::Next(..)) && !given.json() {
+        return say::print(b"no row matches\n");
+    }
+    say::print(&printed)
+}
+
+impl Question {
+    fn of(given: &Given) -> Result<Self, Failure> {
+        let word = |at: usize| given.words[at].as_os_str();
+        Ok(match given.command.name {
+            "row" => Question::rows(given)?,
+            "byte" => Question::Byte(given.figure(0)?),
+            "run" => Question::Run(given.figure(0)?),
+            "span" => Question::Span(given.figure(0)?, given.figure(1)?),
+            "count" => Question::Count(given.reading(values::byte(word(0)))?, given.figure(1)?),
+            "find" => Question::Find(given.reading(values::byte(word(0)))?, given.figure(1)?),
+            "places" => Question::Places(given.reading(values::pattern(word(0)))?),
+            "match" => Question::matching(given, given.reading(values::cuts(word(0)))?)?,
+            "worn" => Question::matching(given, given.reading(values::depths(word(0), word(1)))?)?,
+            _ => Question::Text,
+        })
+    }
+
+    fn rows(given: &Given) -> Result<Self, Failure> {
+        let (first, last) = given.reading(values::rows(&given.words[0]))?;
+        match given.number(&ROW_COLUMNS)? {
+            Some(_) if given.has(&table::GUIDE) => Err(given.usage("--guide is of no use with --columns")),
+            Some(width) => Ok(Question::ColumnRows(first, last, width)),
+            None => Ok(Question::Rows(first, last)),
+        }
+    }
+
+    fn matching(given: &Given, ranges: Vec<Range>) -> Result<Self, Failure> {
+        match (given.number(&FROM)?, given.number(&AFTER)?) {
+            (Some(_), Some(_)) => Err(given.usage("--from and --after do not go together")),
+            (_, Some(mark)) => Ok(Question::Next(ranges, mark)),
+            (from, None) => Ok(Question::Match(ranges, from.unwrap_or(1).saturating_sub(1))),
+        }
+    }
+
+    fn answers(&self, tree: Tree, guide: Option<&[u8]>) -> Result<Vec<Answer>, Refusal> {
+        match *self {
+            Question::Rows(first, Some(last)) if first == last => Ok(vec![row(first, &one_row(tree, guide, first)?)]),
+            Question::Rows(first, last) => {
+                let last = last.map_or_else(|| to_the_end(first, tree.rows()?).ok_or(Refusal::NoSuch), Ok)?;
+                let text = stretch(tree, guide, first, last)?;
+                Ok(book::rows(&text).zip(first..).map(|(bytes, q)| row(q, bytes)).collect())
+            }
+            Question::ColumnRows(first, last, width) => {
+                let rows = tree.text_length().checked_div(width).ok_or(Refusal::Width)?;
+                let last = last.map_or_else(|| to_the_end(first, rows.into()).ok_or(Refusal::Place), Ok)?;
+                (first..=last).map(|q| Ok(row(q, &column_row(tree, width, q)?))).collect()
+            }
+            Question::Places(ref pattern) => Ok(tree.places(pattern)?.into_iter().map(place).collect()),
+            Question::Match(ref ranges, mark) => {
+                let rows = tree.matches(ranges, mark)?;
+                // a guide pays where there are many rows to read
+                let guide = if rows.len() > 64 { tree.make_guide().ok() } else { None };
+                rows.into_iter().map(|q| matching(tree, guide.as_deref(), q)).collect()
+            }
+            Question::Next(ref ranges, mut mark) => tree.next_match(ranges, &mut mark)?.into_iter().map(|q| matching(tree, None, q)).collect(),
+            _ => Ok(vec![self.answer(tree, guide)?]),
+        }
+    }
+
+    /// The answer of a question that has one.
+    fn answer(&self, tree: Tree, guide: Option<&[u8]>) -> Result<Answer, Refusal> {
+        Ok(match *self {
+            Question::Byte(place) => {
+                let Reached { value, entered } = tree.byte(place)?;
+                let object = Object::new().number("place", place).number("byte", value);
+                Answer::figure(&format!("{value} '{}'", [value].escape_ascii()), entered, object)
+            }
+            Question::Run(place) => {
+                let (offset, run) = tree.run_at(place)?;
+                let object = Object::new().number("place", place).number("offset", offset).number("length", run.len()).bytes("text", run);
+                Answer::new(format!("offset {offset}, {}: '{}'\n", several(run.len() as u64, "byte"), run.escape_ascii()), object)
+            }
+            Question::Span(place, length) => {
+                let Reached { value, entered } = tree.span(place, length)?;
+                let object = Object::new().number("place", place).number("length", length).bytes("text", &value).number("entered", entered);
+                Answer::new(value, object)
+            }
+            Question::Count(byte, length) => {
+                let Reached { value, entered } = tree.count(byte, length)?;
+                Answer::figure(&value.to_string(), entered, Object::new().number("byte", byte).number("length", length).number("count", value))
+            }
+            Question::Find(byte, number) => found(tree, guide, byte, number)?,
+            _ => Answer::new(tree.text()?, Object::new()),
+        })
+    }
+}
+
+/// The last of so many rows, where the first one asked for is among them; a book of no rows has all of them.
+fn to_the_end(first: u32, rows: u64) -> Option<u32> {
+    let last = u32::try_from(rows).unwrap_or(u32::MAX);
+    (first <= last.max(1)).then_some(last)
+}
+
+fn row(q: u32, row: &[u8]) -> Answer {
+    let object = Object::new().number("row", q).bytes("text", row);
+    Answer::new([row, b"\n"].concat(), object)
+}
+
+fn one_row(tree: Tree, guide: Option<&[u8]>, q: u32) -> Result<Vec<u8>, Refusal> {
+    guide.map_or_else(|| tree.row(q), |guide| tree.row_guided(guide, q))
+}
+
+/// The text from the first row to the last, ends included: two finds and a span, and not two finds for each row.
+fn stretch(tree: Tree, guide: Option<&[u8]>, first: u32, last: u32) -> Result<Vec<u8>, Refusal> {
+    let (length, rows) = (tree.text_length(), tree.rows()?);
+    // all rows of a book that has none
+    if last < first {
+        return Ok(Vec::new());
+    }
+    if first == 0 || u64::from(last) > rows {
+        return Err(Refusal::NoSuch);
+    }
+    let after = |number: u32| match guide {
+        None => tree.find(10, number).map(|found| found.value + 1),
+        Some(guide) => tree.find_guided(guide, 10, number).map(|found| found.place + 1),
+    };
+    let start = if first == 1 { 0 } else { after(first - 1)? };
+    let end = if u64::from(last) <= tree.count(10, length)?.value { after(last)? } else { length };
+    tree.span(start, end.checked_sub(start).ok_or(Refusal::Path)?).map(|span| span.value)
+}
+
+/// Row `q`, from 1, of a book by columns, without its end: byte 10, and one byte 13 directly before it.
+fn column_row(tree: Tree, width: u32, q: u32) -> Result<Vec<u8>, Refusal> {
+    let a = q.checked_sub(1).ok_or(Refusal::Place)?;
+    let mut row = tree.row_by_columns(width, a)?;
+    let end = match row[..] {
+        [.., 13, 10] => 2,
+        [.., 10] => 1,
+        _ => 0,
+    };
+    row.truncate(row.len() - end);
+    Ok(row)
+}
+
+fn place(place: u32) -> Answer {
+    Answer::new(format!("{place}\n"), Object::new().number("place", place))
+}
+
+/// A row that matches, with its number.
+fn matching(tree: Tree, guide: Option<&[u8]>, q: u32) -> Result<Answer, Refusal> {
+    let Answer { plain, object } = row(q, &one_row(tree, guide, q)?);
+    Ok(Answer::new([format!("row {q}: ").into_bytes(), plain].concat(), object))
+}
+
+fn found(tree: Tree, guide: Option<&[u8]>, byte: u8, number: u32) -> Result<Answer, Refusal> {
+    let object = |place: u32| Object::new().number("byte", byte).number("number", number).number("place", place);
+    let Some(guide) = guide else {
+        let Reached { value, entered } = tree.find(byte, number)?;
+        return Ok(Answer::figure(&value.to_string(), entered, object(value)));
+    };
+    let found = tree.find_guided(guide, byte, number)?;
+    let (blocks, steps) = (several(found.entered, "block"), several(found.steps, "step"));
+    let object = object(found.place).number("entered", found.entered).number("steps", found.steps);
+    Ok(Answer::new(format!("{} ({blocks} entered, {steps} on level 0)\n", found.place), object))
+}

@@ -1,0 +1,82 @@
+//! Why a question was refused, in the words of the question.
+
+use crate::build::listed;
+use crate::questions::Question;
+use crate::say::{grouped, several};
+use crate::Failure;
+use codebook::{Range, Refusal, Tree};
+
+/// What was asked, and what would have been good.
+pub fn failure(name: &str, refusal: Refusal, question: &Question, tree: Tree) -> Failure {
+    let asked = asked(question).map_or(String::new(), |words| format!("{words}: "));
+    let why = match why(refusal, question, tree) {
+        Some(words) => format!("refused ({}): {words}", refusal.number()),
+        None => refusal.to_string(),
+    };
+    Failure::library(name, refusal, format!("{asked}{why}"))
+}
+
+/// The question in words.
+fn asked(question: &Question) -> Option<String> {
+    let rows = |first: &u32, last: &Option<u32>| match last {
+        Some(last) if first == last => format!("row {first}"),
+        Some(last) => format!("row {first}..{last}"),
+        None => format!("row {first}.."),
+    };
+    match question {
+        Question::Rows(first, last) => Some(rows(first, last)),
+        Question::ColumnRows(first, last, width) => Some(format!("{} --columns {width}", rows(first, last))),
+        Question::Byte(place) => Some(format!("byte {place}")),
+        Question::Run(place) => Some(format!("run {place}")),
+        Question::Span(place, length) => Some(format!("span {place} {length}")),
+        Question::Count(byte, length) => Some(format!("count {byte} {length}")),
+        Question::Find(byte, number) => Some(format!("find {byte} {number}")),
+        Question::Places(_) => Some("places".to_owned()),
+        Question::Match(..) | Question::Next(..) => Some("match".to_owned()),
+        Question::Text => None,
+    }
+}
+
+fn why(refusal: Refusal, question: &Question, tree: Tree) -> Option<String> {
+    let length = tree.text_length();
+    match (refusal, question) {
+        (Refusal::NoSuch, Question::Rows(..)) => tree.rows().ok().map(|rows| numbers("rows", rows, "the book has no rows")),
+        (Refusal::Place, Question::ColumnRows(_, _, width)) => {
+            Some(numbers(&format!("rows of {width} bytes"), (length / width).into(), "the book has no rows"))
+        }
+        (Refusal::NoSuch, Question::Find(byte, _)) => Some(total(tree, *byte)),
+        (Refusal::Place, Question::Byte(_) | Question::Run(_)) if length > 0 => Some(format!("places go from 0 to {}", grouped(length - 1))),
+        (Refusal::Place, _) => Some(format!("this lies past the text's end; the text has {}", several(length, "byte"))),
+        (Refusal::Width, _) => Some(format!("the width must be above 0 and divide the text's length, {}", grouped(length))),
+        (Refusal::NotCounted, Question::Rows(..) | Question::Match(..) | Question::Next(..)) => {
+            Some("the tree does not count byte 10, which ends a row; build must count it".to_owned())
+        }
+        (Refusal::NotCounted, _) => Some(format!("the tree does not count this byte; it counts: {}", listed(&tree.settings().counted))),
+        (Refusal::Ranges, Question::Match(ranges, _) | Question::Next(ranges, _)) => Some(wrong_range(ranges)),
+        (Refusal::Pattern, Question::Places(pattern)) => {
+            Some(format!("a pattern must have 1 to 256 bytes; this one has {}", grouped(pattern.len() as u64)))
+        }
+        _ => None,
+    }
+}
+
+/// From 1 to the last.
+fn numbers(what: &str, last: u64, none: &str) -> String {
+    match last {
+        0 => none.to_owned(),
+        last => format!("{what} go from 1 to {}", grouped(last)),
+    }
+}
+
+fn total(tree: Tree, byte: u8) -> String {
+    let total = tree.count(byte, tree.text_length()).map_or(0, |count| count.value);
+    numbers(&format!("numbers of byte {byte}"), total, &format!("byte {byte} does not stand in the text"))
+}
+
+/// What is wrong with the ranges of a worn key.
+fn wrong_range(ranges: &[Range]) -> String {
+    match ranges.iter().find(|range| range.low > range.high) {
+        Some(range) => format!("the low depth of a cut must not be above the high one, as {}-{} is", range.low, range.high),
+        None => format!("a worn key has 1 to 10 cuts; this one has {}", ranges.len()),
+    }
+}

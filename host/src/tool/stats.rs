@@ -1,0 +1,120 @@
+//! `stats`, `list` and `sizes`.
+
+use crate::build::{self, listed, shape, share};
+use crate::check::{open, refused};
+use crate::given::Given;
+use crate::input::{self, TREE};
+use crate::json::Object;
+use crate::say::{self, grouped};
+use crate::Failure;
+use codebook::{enough, scan_words, Tree};
+
+pub fn stats(given: &Given) -> Result<(), Failure> {
+    given.each(|path| {
+        let input = input::read(path, &TREE)?;
+        let tree = open(&input, false)?;
+        let text = match (given.json(), given.words.len() > 1) {
+            (true, _) => object(&input.name, tree).line(),
+            (false, true) => line(&input.name, tree),
+            (false, false) => table(&input.name, tree),
+        };
+        say::print(text.as_bytes())
+    })
+}
+
+/// Where a tree's bytes go.
+pub fn parts(tree: Tree) -> [(&'static str, u64); 4] {
+    let blocks: u64 = tree.levels().iter().map(|level| u64::from(level.blocks)).sum();
+    let settings = tree.settings();
+    let edges = if tree.layout() == 2 { blocks * 2 * u64::from(settings.leaf) } else { 0 };
+    let records = blocks * (16 + 12 * settings.counted.len() as u64);
+    [("header", 100), ("records", records), ("edges", edges), ("leaf bytes", tree.leaf_bytes().into())]
+}
+
+/// How often each counted byte stands.
+fn totals(tree: Tree) -> Vec<(u8, u64)> {
+    let total = |&byte: &u8| (byte, tree.count(byte, tree.text_length()).map_or(0, |count| count.value));
+    tree.settings().counted.iter().map(total).collect()
+}
+
+/// One of several.
+fn line(name: &str, tree: Tree) -> String {
+    let rows = tree.rows().map_or(String::new(), |rows| format!(", {}", say::several(rows, "row")));
+    let (size, length) = (tree.size(), tree.text_length());
+    format!(
+        "{name}: {} bytes, {}; {} bytes of text{rows}; {}\n",
+        grouped(size as u64),
+        share(size, length as usize),
+        grouped(length),
+        shape(&tree.settings())
+    )
+}
+
+fn table(name: &str, tree: Tree) -> String {
+    let (settings, length) = (tree.settings(), tree.text_length());
+    let mut text = format!("{name}: {} bytes, {}\n", grouped(tree.size() as u64), share(tree.size(), length as usize));
+    text += &format!("text        {} bytes\nlayout      {}\nsettings    {}\n", grouped(length), tree.layout(), shape(&settings));
+    for (byte, total) in totals(tree) {
+        text += &format!("counted     {byte} '{}': {} times\n", [byte].escape_ascii(), grouped(total));
+    }
+    if let Ok(rows) = tree.rows() {
+        text += &format!("rows        {}\n", grouped(rows));
+    }
+    text += "the tree's bytes\n";
+    for (part, bytes) in parts(tree) {
+        text += &format!("  {part:<10}{:>12}  {:>5.1} %\n", grouped(bytes), 100.0 * bytes as f64 / tree.size() as f64);
+    }
+    text + &levels(tree)
+}
+
+fn levels(tree: Tree) -> String {
+    let mut text = "level  block length    blocks      kept  pointing\n".to_owned();
+    for (number, level) in tree.levels().iter().enumerate() {
+        let kept = level.blocks - level.pointing;
+        let (length, blocks) = (grouped(level.block_length), grouped(level.blocks));
+        text += &format!("{number:>5}  {length:>12}  {blocks:>8}  {:>8}  {:>8}\n", grouped(kept), grouped(level.pointing));
+    }
+    text
+}
+
+fn object(name: &str, tree: Tree) -> Object {
+    let settings = tree.settings();
+    let counted = totals(tree).into_iter().map(|(byte, times)| Object::new().number("byte", byte).number("times", times));
+    let bytes = parts(tree).iter().fold(Object::new(), |object, (part, bytes)| object.number(&part.replace(' ', "_"), bytes));
+    let levels = tree.levels().into_iter().map(|level| {
+        let object = Object::new().number("block_length", level.block_length).number("blocks", level.blocks);
+        object.number("kept", level.blocks - level.pointing).number("pointing", level.pointing)
+    });
+    let object = Object::new().text("tree", name).number("size", tree.size()).number("length", tree.text_length()).number("layout", tree.layout());
+    let object = object.number("leaf", settings.leaf).number("arity", settings.arity).objects("counted", counted);
+    let object = tree.rows().map_or(object.clone(), |rows| object.number("rows", rows));
+    object.object("bytes", &bytes).objects("levels", levels)
+}
+
+/// The lines of the list program; one line a tree where there are several.
+pub fn list(given: &Given) -> Result<(), Failure> {
+    given.each(|path| {
+        let input = input::read(path, &TREE)?;
+        let (lines, answer) = codebook::list(&input.bytes);
+        let lines = if given.words.len() > 1 { format!("{}: {}\n", input.name, lines.trim_end().replace('\n', " / ")) } else { lines };
+        say::print(lines.as_bytes())?;
+        answer.map_err(|refusal| refused(&input, refusal))
+    })
+}
+
+/// The sizes of what a caller of the library lends.
+pub fn sizes(given: &Given) -> Result<(), Failure> {
+    let length = given.figure(0)?;
+    let counted = build::counted(given)?;
+    let settings = build::settings(given, &counted)?.ok_or_else(|| given.usage("--leaf, --arity and --levels are missing"))?;
+    let told = format!("{}; bytes counted: {}", shape(&settings), listed(&counted));
+    let tree = enough(length as usize, &settings)
+        .map_err(|refusal| Failure::library("", refusal, format!("{refusal}; given: {} bytes, {told}", grouped(length))))?;
+    let words = scan_words(length, settings.leaf);
+    if given.json() {
+        return say::print(Object::new().number("length", length).number("tree", tree).number("table_words", words).line().as_bytes());
+    }
+    say::print(
+        format!("a text of {} bytes; {told}\ntree   at most {} bytes\ntable  {} words\n", grouped(length), grouped(tree), grouped(words)).as_bytes(),
+    )
+}

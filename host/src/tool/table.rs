@@ -1,0 +1,415 @@
+//! The one table of commands and options: calls are read by it, and help, the manual page and the completions are printed from it.
+
+use crate::{build, by_columns, check, given::Given, guide, help, licence, picture, questions, shelf, stats, Failure};
+
+/// What the commands on licences share.
+macro_rules! licence_days {
+    ($words:literal) => {
+        concat!(
+            $words,
+            " A day is eight digits, year, month and day, as 20240229, from 20000101 to 20991231. Without TODAY it is the clock's day in universal time. No tree is read."
+        )
+    };
+}
+
+/// An option.
+#[derive(Debug)]
+pub struct Opt {
+    pub long: &'static str,
+    pub short: Option<char>,
+    /// What its value is called; None for a flag.
+    pub value: Option<&'static str>,
+    /// The value is a file.
+    pub file: bool,
+    pub help: &'static str,
+}
+
+/// How often a word is due.
+#[derive(Clone, Copy, Debug, PartialEq, Eq)]
+pub enum Due {
+    Once,
+    AtMostOnce,
+    AnyTimes,
+    AtLeastOnce,
+}
+
+/// A word of a call that is no option.
+#[derive(Debug)]
+pub struct Word {
+    pub name: &'static str,
+    pub due: Due,
+}
+
+/// A command; those of a group have two words in their name.
+pub struct Command {
+    pub name: &'static str,
+    pub words: &'static [Word],
+    pub options: &'static [&'static Opt],
+    pub summary: &'static str,
+    pub details: &'static str,
+    pub run: fn(&Given) -> Result<(), Failure>,
+}
+
+const fn flag(long: &'static str, short: Option<char>, help: &'static str) -> Opt {
+    Opt { long, short, value: None, file: false, help }
+}
+
+const fn valued(long: &'static str, value: &'static str, help: &'static str) -> Opt {
+    Opt { long, short: None, value: Some(value), file: false, help }
+}
+
+pub static HELP: Opt = flag("--help", Some('h'), "say how the command is called");
+pub static QUIET: Opt = flag("--quiet", Some('q'), "no report, warning or progress; answers and failures are still told");
+pub static JSON: Opt = flag("--json", None, "one JSON object a line; docs/JSON.md describes them");
+pub static OUTPUT: Opt = Opt { long: "--output", short: Some('o'), value: Some("FILE"), file: true, help: "the file to write; - is standard output" };
+pub static FORCE: Opt = flag("--force", Some('f'), "overwrite a file that exists");
+pub static LEAF: Opt = valued("--leaf", "M", "bytes of a block of the last level, 1 to 256");
+pub static ARITY: Opt = valued("--arity", "R", "children of a block, 2 to 16");
+pub static LEVELS: Opt = valued("--levels", "H", concat!("levels, 1 to 8; M x R^(H-1) is at most ", codebook::longest!()));
+pub static COUNT: Opt = valued(
+    "--count",
+    "BYTES",
+    "the bytes to count and find, at most 4, rising, parted by commas, as 10,65 or \\n,A; or none. Otherwise 10, which ends a row",
+);
+pub static COLUMNS: Opt =
+    valued("--columns", "W", "the rows of W bytes, end byte included, stand by columns; auto finds the width of rows that all have one");
+pub static ROW_COLUMNS: Opt =
+    valued("--columns", "W", "the tree is of a book by columns, of rows of W bytes, end byte included; that is yours to know");
+pub static SHA256: Opt = valued("--sha256", "HEX", "the digest that the tree must have");
+pub static GUIDE: Opt = Opt {
+    long: "--guide",
+    short: None,
+    value: Some("GUIDE"),
+    file: true,
+    help: "the tree's guide, made by guide make: start there, not at the first block",
+};
+pub static FROM: Opt = valued("--from", "ROW", "start at this row, from 1");
+pub static AFTER: Opt = valued("--after", "ROW", "the next match after this row, and no other; 0 is before the first row");
+pub static UNCHECKED: Opt = flag("--unchecked", None, "do not check the tree first; on a tree that the check refuses the answer can be wrong");
+
+/// Options of every command.
+pub static COMMON: [&Opt; 2] = [&QUIET, &HELP];
+
+const fn one(name: &'static str) -> Word {
+    Word { name, due: Due::Once }
+}
+
+const fn maybe(name: &'static str) -> Word {
+    Word { name, due: Due::AtMostOnce }
+}
+
+const fn any(name: &'static str) -> Word {
+    Word { name, due: Due::AnyTimes }
+}
+
+static TREE: [Word; 1] = [maybe("TREE")];
+static TREES: [Word; 1] = [any("TREE")];
+
+pub static COMMANDS: [Command; 30] = [
+    Command {
+        name: "build",
+        words: &[any("BOOK")],
+        options: &[&OUTPUT, &FORCE, &LEAF, &ARITY, &LEVELS, &COUNT, &COLUMNS, &JSON],
+        summary: "build the trees of books",
+        details: concat!(
+            "A BOOK is any text of up to ",
+            codebook::longest!(),
+            " bytes. Its tree goes to a file with the book's name and the ending .tree, or to FILE; where FILE is a folder, into that one. The tree of standard input goes to standard output. \
+             An existing file is left alone unless --force is given, and is replaced whole or not at all.\n\
+             Where no settings are given, a short list is tried (256/2/1, 64/4/3, 48/2/5, 32/4/4, 24/8/3 and 16/4/4 as leaf/arity/levels), the smallest tree is kept, and what each gave is printed. \
+             The SHA-256 of the tree is printed, to be kept with it: a tree carries no checksum.\n\
+             Warnings tell what a reader would miss: rows that are not code, space, cuts; a byte order mark; no row at all; a tree that is no smaller than its text.\n\
+             With --columns the tree is that of the book by columns, and it is said whether that makes it smaller. Such a tree is read by row --columns; it does not say itself that its text is rearranged."
+        ),
+        run: build::build,
+    },
+    Command {
+        name: "check",
+        words: &TREES,
+        options: &[&SHA256, &JSON],
+        summary: "check trees, from anyone",
+        details: "Says whether a tree is right in all its parts and its counts and edges are true, and prints its SHA-256. The check alone is no checksum: a tree with one leaf byte changed, and its edges with it, is a good tree of another book, and gives a wrong key. \
+                  So hold the tree against the digest that its maker gave with --sha256, or against the book with verify.",
+        run: check::check,
+    },
+    Command {
+        name: "verify",
+        words: &[one("BOOK"), one("TREE"), any("BOOK TREE")],
+        options: &[&COLUMNS, &JSON],
+        summary: "hold trees against their books",
+        details: "Says whether TREE is a good tree of the text BOOK, and whether it is the one that build makes, byte for byte; where it is not of that text, which byte differs first.",
+        run: check::verify,
+    },
+    Command {
+        name: "list",
+        words: &TREES,
+        options: &[],
+        summary: "list a tree's levels",
+        details: "One line for each level: level, blocks, kept, pointing. A refused tree gives the line 'refused N'. With several trees, one line for each, the levels parted by /. For trees of at most 65,536 bytes; stats is for all.",
+        run: stats::list,
+    },
+    Command {
+        name: "stats",
+        words: &TREES,
+        options: &[&JSON],
+        summary: "describe trees",
+        details: "Sizes, settings, rows, what is counted, where the tree's bytes go, and the blocks of each level. With several trees, one line for each.",
+        run: stats::stats,
+    },
+    Command {
+        name: "picture",
+        words: &TREE,
+        options: &[&OUTPUT, &FORCE],
+        summary: "draw a tree's levels as an SVG file",
+        details: "Each level is a bar of its blocks in the text's order. Kept blocks are tall and dark; pointing blocks are low, in the colour of the place that they point to, which the strip at the top shows. Few pointing blocks have an arrow besides. Blocks narrower than a pixel are merged.",
+        run: picture::picture,
+    },
+    Command {
+        name: "row",
+        words: &[one("ROWS"), maybe("TREE")],
+        options: &[&GUIDE, &ROW_COLUMNS, &JSON, &UNCHECKED],
+        summary: "print a row of the book, or several",
+        details: "ROWS is a number from 1 to the number of rows, or a range such as 5..20, both included, 5.. or ..20. A row ends in byte 10, or in bytes 13 and 10; the tree must count byte 10 (it does unless build was told otherwise). \
+                  It is printed with a plain line end, without the 13. If the book's last byte is another one, what stands after the last byte 10 is a row too.",
+        run: questions::ask,
+    },
+    Command {
+        name: "byte",
+        words: &[one("PLACE"), maybe("TREE")],
+        options: &[&JSON, &UNCHECKED],
+        summary: "print the byte at a place",
+        details: "Places go from 0 to the text's length less one. Prints the byte's number, the byte, and how many blocks were entered to reach it.",
+        run: questions::ask,
+    },
+    Command {
+        name: "run",
+        words: &[one("PLACE"), maybe("TREE")],
+        options: &[&JSON, &UNCHECKED],
+        summary: "print where a place's bytes lie in the tree",
+        details: "Prints the offset in the tree and the length of the longest part of its leaf bytes that is the text from this place on without a break, and these bytes.",
+        run: questions::ask,
+    },
+    Command {
+        name: "span",
+        words: &[one("PLACE"), one("LENGTH"), maybe("TREE")],
+        options: &[&JSON, &UNCHECKED],
+        summary: "print LENGTH bytes from a place",
+        details: "Places start at 0. The bytes as they are, and nothing else.",
+        run: questions::ask,
+    },
+    Command {
+        name: "count",
+        words: &[one("BYTE"), one("LENGTH"), maybe("TREE")],
+        options: &[&JSON, &UNCHECKED],
+        summary: "print how often a byte stands in the first LENGTH bytes",
+        details: "BYTE is a number from 0 to 255, one character that is no digit, or \\n, \\r, \\t, \\\\ or \\xHH; the tree must count it. Prints how often, and how many blocks were entered.",
+        run: questions::ask,
+    },
+    Command {
+        name: "find",
+        words: &[one("BYTE"), one("NUMBER"), maybe("TREE")],
+        options: &[&GUIDE, &JSON, &UNCHECKED],
+        summary: "print the place where a byte stands for the NUMBER-th time",
+        details: "NUMBER goes from 1 to how often the byte stands in the book. BYTE is a number from 0 to 255, one character that is no digit, or \\n, \\r, \\t, \\\\ or \\xHH; the tree must count it. Prints the place, and how many blocks lead to it.",
+        run: questions::ask,
+    },
+    Command {
+        name: "places",
+        words: &[one("TEXT"), maybe("TREE")],
+        options: &[&JSON, &UNCHECKED],
+        summary: "print all places of a code fragment, one to a line",
+        details: "TEXT is 1 to 256 bytes, as they stand in the book; \\n is byte 10, \\r byte 13, \\t byte 9, \\xHH the byte of that hexadecimal number, \\\\ a backslash. Places start at 0 and may overlap. Nothing is printed where it stands nowhere. \
+                  A TEXT that begins with - goes after --.",
+        run: questions::ask,
+    },
+    Command {
+        name: "match",
+        words: &[one("CUTS"), maybe("TREE")],
+        options: &[&FROM, &AFTER, &JSON, &UNCHECKED],
+        summary: "print the rows that match a worn key",
+        details: "CUTS is, for each of 1 to 10 cuts, a depth from 0 to 9, a range of depths such as [3-5], or ? for any: 44[3-5]22? or 4,4,3-5,2,2,0-9. A row is a key if it is a code of 1 to 12 bytes other than space, one space, and 1 to 10 digits. \
+                  It matches with as many cuts as are asked for, each in its range. The tree must count byte 10. Prints each row that matches with its number, or 'no row matches'.",
+        run: questions::ask,
+    },
+    Command {
+        name: "worn",
+        words: &[one("LOWS"), one("HIGHS"), maybe("TREE")],
+        options: &[&FROM, &AFTER, &JSON, &UNCHECKED],
+        summary: "print the rows that match a worn key, by the lowest and highest depths",
+        details: "LOWS and HIGHS have a digit for each of 1 to 10 cuts: the lowest and the highest depth that it may have. The rows are those of match.",
+        run: questions::ask,
+    },
+    Command {
+        name: "text",
+        words: &TREE,
+        options: &[&UNCHECKED],
+        summary: "print the whole book",
+        details: "The bytes as they are, and nothing else.",
+        run: questions::ask,
+    },
+    Command {
+        name: "to-columns",
+        words: &[one("WIDTH"), maybe("BOOK")],
+        options: &[&OUTPUT, &FORCE],
+        summary: "rearrange a book's rows of one width by columns",
+        details: "WIDTH counts the byte that ends a row; auto finds it, where all rows have one. The byte in column b of row a goes to place b x rows + a, both counted from 0. Without -o the bytes go to standard output.",
+        run: by_columns::to_columns,
+    },
+    Command {
+        name: "from-columns",
+        words: &[one("WIDTH"), maybe("FILE")],
+        options: &[&OUTPUT, &FORCE],
+        summary: "rearrange a book by columns back to rows",
+        details: "The inverse of to-columns for the same width, which a book by columns does not show. Without -o the bytes go to standard output.",
+        run: by_columns::from_columns,
+    },
+    Command {
+        name: "guide make",
+        words: &TREE,
+        options: &[&OUTPUT, &FORCE, &JSON],
+        summary: "make the guide of a tree",
+        details: "A guide has the number of the level 0 block that holds the 1st, 65th, 129th occurrence and so on of each byte that the tree counts. find and row with --guide start there and not at the first block. Without -o the guide goes to standard output.",
+        run: guide::make,
+    },
+    Command {
+        name: "guide check",
+        words: &[one("GUIDE"), maybe("TREE")],
+        options: &[&JSON],
+        summary: "check a tree and its guide",
+        details: "Says whether GUIDE is exactly the guide of TREE, and TREE is a good one. find and row do this first unless they are told --unchecked.",
+        run: guide::check,
+    },
+    Command {
+        name: "compare",
+        words: &[one("ONE"), one("OTHER")],
+        options: &[&JSON, &UNCHECKED],
+        summary: "say which of two trees' books stands first",
+        details: "Books are ordered by the first byte that differs; where one is the beginning of the other, the shorter stands first. The trees may have any settings and layouts. Prints where ONE stands, and how many bytes both books share from their start on.",
+        run: shelf::compare,
+    },
+    Command {
+        name: "shelf",
+        words: &[Word { name: "TREE", due: Due::AtLeastOnce }],
+        options: &[&JSON],
+        summary: "print trees' names in the order of their books",
+        details: "One name to a line, ordered as compare says; trees of the same book stay as given. A tree that the check refuses is told and left out, and the status is 1.",
+        run: shelf::sort,
+    },
+    Command {
+        name: "licence open",
+        words: &[one("FIRST"), one("LAST"), maybe("TODAY")],
+        options: &[&JSON],
+        summary: "say whether a book is open, with the days left",
+        details: licence_days!("Open from the first day to the last, both included; or closed, and why."),
+        run: licence::open,
+    },
+    Command {
+        name: "licence left",
+        words: &[one("LAST"), maybe("TODAY")],
+        options: &[&JSON],
+        summary: "print the days left",
+        details: licence_days!("The days from today to the last: 0 on the last day, below zero after it."),
+        run: licence::left,
+    },
+    Command {
+        name: "licence renew",
+        words: &[one("DAY")],
+        options: &[&JSON],
+        summary: "print the same day one year later",
+        details: "29 February becomes 28 February. A day is eight digits, year, month and day, as 20240229, from 20000101 to 20991231. No tree is read.",
+        run: licence::renewed,
+    },
+    Command {
+        name: "sizes",
+        words: &[one("LENGTH")],
+        options: &[&LEAF, &ARITY, &LEVELS, &COUNT, &JSON],
+        summary: "print the sizes of what a caller lends",
+        details: "For a text of LENGTH bytes: bytes that are enough for its tree, and words of the table that the builder with one scan a level works in. --leaf, --arity and --levels are due.",
+        run: stats::sizes,
+    },
+    Command {
+        name: "help",
+        words: &[any("COMMAND")],
+        options: &[],
+        summary: "say how the tool, or a command, is called",
+        details: "The same as COMMAND --help.",
+        run: help::show,
+    },
+    Command {
+        name: "version",
+        words: &[],
+        options: &[],
+        summary: "print the tool's version and the layouts that it knows",
+        details: "The same as codebook --version.",
+        run: help::version,
+    },
+    Command {
+        name: "manual",
+        words: &[],
+        options: &[],
+        summary: "print the manual page, codebook.1",
+        details: "In the form of man(7).",
+        run: help::manual,
+    },
+    Command {
+        name: "completion",
+        words: &[one("SHELL")],
+        options: &[],
+        summary: "print the completion for a shell",
+        details: "SHELL is bash or zsh.",
+        run: help::completion,
+    },
+];
+
+impl Command {
+    pub fn named(name: &str) -> Option<&'static Command> {
+        COMMANDS.iter().find(|command| command.name == name)
+    }
+
+    /// The second words of a group's commands.
+    pub fn group(first: &str) -> Vec<&'static str> {
+        COMMANDS.iter().filter_map(|command| command.name.split_once(' ')).filter(|(group, _)| *group == first).map(|(_, second)| second).collect()
+    }
+
+    /// Its own options and those of every command.
+    pub fn all_options(&self) -> impl Iterator<Item = &'static Opt> {
+        self.options.iter().chain(&COMMON).copied()
+    }
+
+    /// How it is called.
+    pub fn usage(&self) -> String {
+        let mut usage = format!("codebook {}", self.name);
+        for Word { name, due } in self.words {
+            usage += &match due {
+                Due::Once => format!(" {name}"),
+                Due::AtMostOnce => format!(" [{name}]"),
+                Due::AnyTimes => format!(" [{name}]..."),
+                Due::AtLeastOnce => format!(" {name}..."),
+            };
+        }
+        for option in self.options {
+            usage += &format!(" [{}]", option.shape());
+        }
+        usage
+    }
+}
+
+impl Opt {
+    /// The option and its value, the short form first.
+    pub fn shape(&self) -> String {
+        let short = self.short.map_or(String::new(), |short| format!("-{short}"));
+        match (self.value, self.short) {
+            (Some(value), Some(_)) => format!("{short} {value}"),
+            (None, Some(_)) => short,
+            (Some(value), None) => format!("{} {value}", self.long),
+            (None, None) => self.long.to_owned(),
+        }
+    }
+
+    /// All its forms.
+    pub fn forms(&self) -> String {
+        let short = self.short.map_or(String::new(), |short| format!("-{short}, "));
+        let value = self.value.map_or(String::new(), |value| format!(" {value}"));
+        format!("{short}{}{value}", self.long)
+    }
+}

@@ -1,0 +1,104 @@
+//! Which settings suit a book: a short list is tried, each once, and the smallest tree is kept.
+
+use crate::progress;
+use codebook::{build_scanned, one_level_size, Refusal, Settings, SHORT_LIST};
+use std::sync::atomic::{AtomicUsize, Ordering};
+use std::sync::Mutex;
+use std::thread;
+
+/// Settings, and the size of the tree that they give.
+pub struct Trial {
+    pub settings: Settings,
+    pub size: usize,
+}
+
+/// A tree, and what was tried for it.
+pub struct Chosen {
+    pub settings: Settings,
+    pub tree: Vec<u8>,
+    /// In the order of the list.
+    pub tried: Vec<Trial>,
+}
+
+/// The smallest tree of the short list; of equal ones the first.
+pub fn best(text: &[u8], counted: &[u8], quiet: bool) -> Result<Chosen, Refusal> {
+    let list = SHORT_LIST.map(|(leaf, arity, levels)| Settings { leaf, arity, levels, counted: counted.to_vec() });
+    choose(text, &list, quiet)
+}
+
+/// The tree with these settings.
+pub fn one(text: &[u8], settings: &Settings, quiet: bool) -> Result<Chosen, Refusal> {
+    choose(text, std::slice::from_ref(settings), quiet)
+}
+
+/// What a candidate gave: its size, and its tree where it was built.
+type Tried = Result<(usize, Option<Vec<u8>>), Refusal>;
+
+fn choose(text: &[u8], list: &[Settings], quiet: bool) -> Result<Chosen, Refusal> {
+    let mut sizes = Vec::new();
+    let mut smallest: Option<(usize, Option<Vec<u8>>)> = None;
+    for (at, tried) in all(text, list, quiet).into_iter().enumerate() {
+        let (size, tree) = tried?;
+        match &smallest {
+            Some((best, _)) if sizes[*best] <= size => {}
+            _ => smallest = Some((at, tree)),
+        }
+        sizes.push(size);
+    }
+    let (at, tree) = smallest.expect("the list is not empty");
+    let settings = list[at].clone();
+    let tree = tree.map_or_else(|| build_scanned(text, &settings).map(|scanned| scanned.tree), Ok)?;
+    let tried = list.iter().zip(sizes).map(|(settings, size)| Trial { settings: settings.clone(), size }).collect();
+    Ok(Chosen { settings, tree, tried })
+}
+
+/// Try each settings, as many at a time as there are processors. Of trees that are built only the smallest is kept.
+fn all(text: &[u8], list: &[Settings], quiet: bool) -> Vec<Tried> {
+    let next = AtomicUsize::new(0);
+    let results: Mutex<Vec<Option<Tried>>> = Mutex::new(list.iter().map(|_| None).collect());
+    let workers = thread::available_parallelism().map_or(1, usize::from).min(list.len());
+    let costs: Vec<u64> = list.iter().map(|settings| cost(text, settings)).collect();
+    progress::show(&costs, quiet, |done| {
+        let work = || loop {
+            let at = next.fetch_add(1, Ordering::Relaxed);
+            let Some(settings) = list.get(at) else { return };
+            let tried = attempt(text, settings, list.len() > 1);
+            enter(&mut results.lock().expect("no build panics"), at, tried);
+            done(at);
+        };
+        thread::scope(|scope| {
+            for _ in 1..workers {
+                // a helper that the system does not give is done without
+                let _ = thread::Builder::new().spawn_scoped(scope, work);
+            }
+            work();
+        });
+    });
+    let results = results.into_inner().expect("no build panics");
+    results.into_iter().map(|tried| tried.expect("each was tried")).collect()
+}
+
+/// A tree of one level has no blocks that point: its size is computed.
+fn attempt(text: &[u8], settings: &Settings, computed: bool) -> Tried {
+    match one_level_size(text.len(), settings)? {
+        Some(size) if computed => Ok((size, None)),
+        _ => build_scanned(text, settings).map(|scanned| (scanned.tree.len(), Some(scanned.tree))),
+    }
+}
+
+/// Enter a result, and let go of the trees that are not the smallest.
+fn enter(results: &mut [Option<Tried>], at: usize, tried: Tried) {
+    results[at] = Some(tried);
+    let size = |tried: &Option<Tried>| tried.as_ref().and_then(|tried| tried.as_ref().ok()).map_or(usize::MAX, |(size, _)| *size);
+    let best = (0..results.len()).min_by_key(|&at| size(&results[at]));
+    for (at, tried) in results.iter_mut().enumerate() {
+        if let (Some(Ok((_, tree))), true) = (tried, Some(at) != best) {
+            *tree = None;
+        }
+    }
+}
+
+/// What a candidate takes, to measure progress by: the builder passes over the text once for each level above the last.
+fn cost(text: &[u8], settings: &Settings) -> u64 {
+    text.len() as u64 * u64::from(settings.levels.clamp(1, 8) - 1)
+}

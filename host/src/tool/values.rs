@@ -1,0 +1,187 @@
+//! Words of a call as numbers, bytes and ranges; what is wrong with one is said in words.
+
+use codebook::Range;
+use std::ffi::OsStr;
+use std::os::unix::ffi::OsStrExt;
+
+/// The width of a book's rows, end byte included.
+#[derive(Clone, Copy, Debug, PartialEq, Eq)]
+pub enum Width {
+    Given(u32),
+    /// To be found.
+    Auto,
+}
+
+pub fn number(what: &str, word: &OsStr) -> Result<u32, String> {
+    let text = word.to_string_lossy();
+    let negative = text.strip_prefix('-').is_some_and(|digits| !digits.is_empty() && digits.bytes().all(|byte| byte.is_ascii_digit()));
+    match text.parse() {
+        // a sign before it is let pass by the library's reading of numbers alone
+        Ok(number) if !text.starts_with('+') => Ok(number),
+        _ if negative => Err(format!("{what} is a number from 0 to 4294967295; {text} is negative")),
+        _ => Err(format!("{what} is a number from 0 to 4294967295, not '{text}'")),
+    }
+}
+
+/// A width, or `auto`.
+pub fn width(what: &str, word: &OsStr) -> Result<Width, String> {
+    match word.as_bytes() {
+        b"auto" => Ok(Width::Auto),
+        _ => number(what, word).map(Width::Given).map_err(|words| words.replace("4294967295", "4294967295, or auto")),
+    }
+}
+
+/// The first and the last row of `7`, `5..20`, `5..` or `..20`; a last one that is not given is none.
+pub fn rows(word: &OsStr) -> Result<(u32, Option<u32>), String> {
+    let text = word.to_string_lossy();
+    let read = |part: &str| {
+        number("a row", OsStr::new(part)).map_err(|words| match words.ends_with("is negative") {
+            true => format!("rows go from 1; {part} is negative"),
+            false => format!("ROWS is a row's number, or a range such as 5..20, not '{text}'"),
+        })
+    };
+    let Some((first, last)) = text.split_once("..") else {
+        return read(&text).map(|row| (row, Some(row)));
+    };
+    let first = if first.is_empty() { 1 } else { read(first)? };
+    let last = if last.is_empty() { None } else { Some(read(last)?) };
+    match last {
+        Some(last) if first > last => Err(format!("{text}: row {first} stands after row {last}")),
+        _ => Ok((first, last)),
+    }
+}
+
+/// A byte: its number, one character that is no digit, or an escape.
+pub fn byte(word: &OsStr) -> Result<u8, String> {
+    match word.as_bytes() {
+        [b'\\', letters @ ..] if !letters.is_empty() => match escaped(letters) {
+            Some((byte, length)) if length == letters.len() => Ok(byte),
+            _ => Err(format!("a byte is one of \\n, \\r, \\t, \\\\ and \\xHH, not '{}'", word.to_string_lossy())),
+        },
+        [one] if !one.is_ascii_digit() => Ok(*one),
+        _ => number("a byte", word).ok().and_then(|number| u8::try_from(number).ok()).ok_or_else(|| not_a_byte(word)),
+    }
+}
+
+fn not_a_byte(word: &OsStr) -> String {
+    let negative = number("a byte", word).is_err_and(|words| words.ends_with("is negative"));
+    let word = word.to_string_lossy();
+    let given = if negative { format!("; {word} is negative") } else { format!(", not '{word}'") };
+    format!("a byte is a number from 0 to 255 or one character that is no digit{given}")
+}
+
+/// Bytes parted by commas, or `none`.
+pub fn bytes(word: &OsStr) -> Result<Vec<u8>, String> {
+    if word == "none" {
+        return Ok(Vec::new());
+    }
+    word.as_bytes().split(|&byte| byte == b',').map(|part| byte(OsStr::from_bytes(part))).collect()
+}
+
+/// The bytes of a word, in which `\n`, `\r`, `\t`, `\\` and `\xHH` stand for one byte.
+pub fn pattern(word: &OsStr) -> Result<Vec<u8>, String> {
+    let mut bytes = Vec::new();
+    let mut rest = word.as_bytes();
+    while let [first, others @ ..] = rest {
+        let (byte, length) = match first {
+            b'\\' => escaped(others).ok_or("a backslash begins \\n, \\r, \\t, \\\\ or \\xHH, a byte in hexadecimal")?,
+            _ => (*first, 0),
+        };
+        bytes.push(byte);
+        rest = &others[length..];
+    }
+    Ok(bytes)
+}
+
+/// What stands after a backslash: the byte, and how many letters name it.
+fn escaped(letters: &[u8]) -> Option<(u8, usize)> {
+    let hexadecimal = |digit: &u8| char::from(*digit).to_digit(16);
+    match letters {
+        [b'n', ..] => Some((10, 1)),
+        [b'r', ..] => Some((13, 1)),
+        [b't', ..] => Some((9, 1)),
+        [b'\\', ..] => Some((b'\\', 1)),
+        [b'x', high, low, ..] => Some(((16 * hexadecimal(high)? + hexadecimal(low)?) as u8, 3)),
+        _ => None,
+    }
+}
+
+/// A depth, or a range of depths, for each cut: `4`, `3-5`, `[3-5]`, or `?` for any; commas and spaces between them may be left out.
+pub fn cuts(word: &OsStr) -> Result<Vec<Range>, String> {
+    let range = |low: &u8, high: &u8| Range { low: low - b'0', high: high - b'0' };
+    let mut ranges = Vec::new();
+    let mut rest = word.as_bytes();
+    while let [first, others @ ..] = rest {
+        rest = match rest {
+            [b',' | b' ', ..] => others,
+            [b'?', ..] => {
+                ranges.push(range(&b'0', &b'9'));
+                others
+            }
+            [b'[', low @ b'0'..=b'9', b'-', high @ b'0'..=b'9', b']', others @ ..] | [low @ b'0'..=b'9', b'-', high @ b'0'..=b'9', others @ ..] => {
+                ranges.push(range(low, high));
+                others
+            }
+            [b'0'..=b'9', ..] => {
+                ranges.push(range(first, first));
+                others
+            }
+            _ => return Err(format!("a cut is a depth from 0 to 9, a range such as [3-5], or ?, not '{}'", String::from_utf8_lossy(rest))),
+        };
+    }
+    Ok(ranges)
+}
+
+/// A low and a high depth for each cut.
+pub fn depths(lows: &OsStr, highs: &OsStr) -> Result<Vec<Range>, String> {
+    let digits = |what: &str, word: &OsStr| match word.as_bytes().iter().all(u8::is_ascii_digit) {
+        true => Ok(word.as_bytes().to_vec()),
+        false => Err(format!("{what} has a digit for each cut, not '{}'", word.to_string_lossy())),
+    };
+    let (lows, highs) = (digits("LOWS", lows)?, digits("HIGHS", highs)?);
+    if lows.len() != highs.len() {
+        return Err(format!("LOWS and HIGHS have a digit for each cut; they have {} and {}", lows.len(), highs.len()));
+    }
+    Ok(lows.iter().zip(&highs).map(|(low, high)| Range { low: low - b'0', high: high - b'0' }).collect())
+}
+
+#[cfg(test)]
+mod tests {
+    use super::{byte, number, pattern, rows};
+    use std::ffi::OsStr;
+
+    #[test]
+    fn numbers() {
+        let read = |word: &str| number("N", OsStr::new(word));
+        assert_eq!((read("0"), read("4294967295")), (Ok(0), Ok(u32::MAX)));
+        assert_eq!(read("-12"), Err("N is a number from 0 to 4294967295; -12 is negative".to_owned()));
+        for word in ["", "-", "--1", "-x", "1x", "+1", "4294967296", " 1"] {
+            assert_eq!(read(word), Err(format!("N is a number from 0 to 4294967295, not '{word}'")));
+        }
+    }
+
+    #[test]
+    fn ranges_of_rows() {
+        let read = |word: &str| rows(OsStr::new(word));
+        assert_eq!((read("7"), read("5..20"), read("5..5")), (Ok((7, Some(7))), Ok((5, Some(20))), Ok((5, Some(5)))));
+        assert_eq!((read("5.."), read("..20"), read("..")), (Ok((5, None)), Ok((1, Some(20))), Ok((1, None))));
+        assert_eq!(read("5..4"), Err("5..4: row 5 stands after row 4".to_owned()));
+        for word in ["x", "1..x", "-1..2", "1..2..3", "1...2"] {
+            assert!(read(word).is_err(), "{word}");
+        }
+    }
+
+    #[test]
+    fn bytes_and_patterns() {
+        let one = |word: &str| byte(OsStr::new(word)).ok();
+        assert_eq!(
+            (one("65"), one("A"), one("\\n"), one("\\r"), one("\\t"), one("\\x7f"), one("\\\\"), one("\\")),
+            (Some(65), Some(65), Some(10), Some(13), Some(9), Some(127), Some(92), Some(92))
+        );
+        for word in ["256", "-1", "AB", "", "\\x7", "\\nn", "\\q", "\\x+1"] {
+            assert_eq!(one(word), None, "{word}");
+        }
+        assert_eq!(pattern(OsStr::new("A\\t\\x20\\\\\\nB")), Ok(b"A\t \\\nB".to_vec()));
+        assert!(pattern(OsStr::new("A\\")).is_err() && pattern(OsStr::new("\\xg0")).is_err());
+    }
+}

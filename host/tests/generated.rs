@@ -1,0 +1,76 @@
+//! The manual page and the completions, as they are kept in the repository, are what the tool prints of its table; and help names all that they name.
+
+#[path = "support/folder.rs"]
+mod folder;
+
+use folder::Folder;
+use std::fs;
+use std::path::Path;
+use std::process::Command;
+
+fn kept(name: &str) -> String {
+    fs::read_to_string(Path::new(env!("CARGO_MANIFEST_DIR")).join(name)).expect("a file")
+}
+
+/// `host/generate` makes them anew.
+#[test]
+fn files_are_current() {
+    let folder = Folder::new("generated");
+    for (words, file) in [("manual", "share/codebook.1"), ("completion bash", "share/codebook.bash"), ("completion zsh", "share/_codebook")] {
+        assert_eq!(folder.run(words).succeeds().printed(), kept(file), "{file}: run host/generate");
+    }
+    folder.run("completion fish").status(2);
+}
+
+/// Each command and option of the help is in the page and in both completions.
+#[test]
+fn nothing_is_missing() {
+    let folder = Folder::new("named");
+    let overview = folder.run("--help").printed();
+    let files = ["share/codebook.1", "share/codebook.bash", "share/_codebook"].map(kept);
+    for command in overview.lines().filter(|line| line.starts_with("  ")).map(|line| line[2..17].trim_end()) {
+        let help = folder.run(&format!("help {command}")).printed();
+        let options: Vec<&str> = help.split([' ', '\n', ',']).filter(|word| word.starts_with("--") && word.len() > 2).collect();
+        assert!(options.contains(&"--help"));
+        for file in &files {
+            let page = file.replace("\\-", "-");
+            assert!(command.split(' ').all(|word| page.contains(word)), "{command}");
+            assert!(options.iter().all(|option| page.contains(option.trim_matches(['[', ']', ';', '.']))), "{command}: {options:?}");
+        }
+    }
+}
+
+/// What a shell or groff says of its own file, where it is installed.
+fn accepted(program: &str, words: &[&str], file: &str) {
+    let path = Path::new(env!("CARGO_MANIFEST_DIR")).join(file);
+    match Command::new(program).args(words).arg(path).output() {
+        Err(_) => println!("{program} is not installed: not tried"),
+        Ok(output) => assert!(output.status.success() && output.stderr.is_empty(), "{file}: {}", String::from_utf8_lossy(&output.stderr)),
+    }
+}
+
+#[test]
+fn shells_and_groff_accept_them() {
+    accepted("bash", &["-n"], "share/codebook.bash");
+    accepted("zsh", &["-n"], "share/_codebook");
+    accepted("groff", &["-man", "-Tutf8", "-ww", "-z"], "share/codebook.1");
+}
+
+/// What bash would offer.
+#[test]
+fn bash_completes() {
+    let script = Path::new(env!("CARGO_MANIFEST_DIR")).join("share/codebook.bash");
+    let offered = |words: &[&str]| {
+        let list = words.iter().map(|word| format!("'{word}'")).collect::<Vec<_>>().join(" ");
+        let line =
+            format!("source '{}'; COMP_WORDS=({list}); COMP_CWORD={}; _codebook; echo \"${{COMPREPLY[*]}}\"", script.display(), words.len() - 1);
+        let output = Command::new("bash").args(["-c", &line]).output().expect("bash");
+        String::from_utf8_lossy(&output.stdout).trim_end().to_owned()
+    };
+    assert_eq!(offered(&["codebook", "sh"]), "shelf");
+    assert_eq!(offered(&["codebook", "licence", ""]), "open left renew");
+    assert_eq!(offered(&["codebook", "row", "--g"]), "--guide");
+    assert_eq!(offered(&["codebook", "guide", "make", "--f"]), "--force");
+    assert_eq!(offered(&["codebook", "completion", ""]), "bash zsh");
+    assert_eq!(offered(&["codebook", "row", "1"]), "");
+}

@@ -1,0 +1,200 @@
+//! `make install` and `make uninstall`, the library as C and Python find it then, and the scripts around them.
+
+use std::fs;
+use std::path::{Path, PathBuf};
+use std::process::{Command, Output};
+
+fn repository() -> PathBuf {
+    Path::new(env!("CARGO_MANIFEST_DIR")).join("..")
+}
+
+/// A folder of this test's own.
+fn folder(name: &str) -> PathBuf {
+    let folder = Path::new(env!("CARGO_TARGET_TMPDIR")).join(name);
+    let _ = fs::remove_dir_all(&folder);
+    fs::create_dir_all(&folder).expect("a folder");
+    folder
+}
+
+fn output(command: &mut Command) -> Output {
+    let output = command.output().unwrap_or_else(|error| panic!("{command:?}: {error}"));
+    assert!(output.status.success(), "{command:?}: {}{}", String::from_utf8_lossy(&output.stdout), String::from_utf8_lossy(&output.stderr));
+    output
+}
+
+/// make, with the tool and the archive that are tested.
+fn make(root: &Path, target: &str) {
+    let set = |name: &str, value: &Path| format!("{name}={}", value.display());
+    let values = [
+        set("PREFIX", root),
+        set("TOOL", Path::new(env!("CARGO_BIN_EXE_codebook"))),
+        set("ARCHIVE", Path::new(env!("BLOCKTREE_ARCHIVE"))),
+        set("SHARED", &root.join("built.so")),
+    ];
+    output(Command::new("make").arg("-s").arg("-C").arg(repository()).args(values).arg(target));
+}
+
+/// All files below a folder, by name.
+fn files(folder: &Path) -> Vec<String> {
+    let mut names = Vec::new();
+    for entry in fs::read_dir(folder).expect("a folder").map(|entry| entry.expect("an entry").path()) {
+        if entry.is_dir() {
+            names.extend(files(&entry));
+        } else {
+            names.push(entry.file_name().unwrap_or_default().to_string_lossy().into_owned());
+        }
+    }
+    names.sort();
+    names
+}
+
+#[test]
+fn install_and_uninstall() {
+    let root = folder("installed");
+    make(&root, "install");
+    let installed = [
+        "CHANGELOG.md",
+        "FORMAT.md",
+        "JSON.md",
+        "LICENSE",
+        "README.md",
+        "_codebook",
+        "blocktree.h",
+        "blocktree.magic",
+        "blocktree.pc",
+        "blocktree.py",
+        "built.so",
+        "codebook",
+        "codebook",
+        "codebook.1",
+    ];
+    assert_eq!(files(&root), [installed.as_slice(), &["libblocktree.a", "libblocktree.so", "libblocktree.so.0"]].concat());
+    assert!(output(Command::new(root.join("bin/codebook")).arg("--version")).stdout.starts_with(b"codebook "));
+    c_program(&root);
+    python_module(&root.join("share/blocktree"));
+    make(&root, "uninstall");
+    assert_eq!(files(&root), ["built.so"]);
+}
+
+/// The example in C, by the names that pkg-config gives, with the static library and with the shared one.
+fn c_program(root: &Path) {
+    let told = Command::new("pkg-config").args(["--cflags", "--libs", "blocktree"]).env("PKG_CONFIG_PATH", root.join("lib/pkgconfig")).output();
+    let Ok(told) = told else {
+        println!("pkg-config is not installed: not tried");
+        return;
+    };
+    let flags = String::from_utf8_lossy(&told.stdout).into_owned();
+    assert!(flags.contains("-lblocktree") && flags.contains("/include"), "{flags}");
+    for (name, more) in [("shared", "-Wl,-rpath"), ("static", "-static")] {
+        let more = if name == "shared" { format!("{more},{}", root.join("lib").display()) } else { more.to_owned() };
+        let program = root.join(name);
+        let source = repository().join("examples/c/read_row.c");
+        output(Command::new("gcc").arg("-std=c99").arg(source).args(flags.split_whitespace()).arg(more).arg("-o").arg(&program));
+        assert_eq!(output(&mut Command::new(&program)).stdout, b"text 112 bytes, tree 1060 bytes\nrow 7: CH0503 324122\n");
+        fs::remove_file(program).expect("a file");
+    }
+}
+
+/// The module finds the library that was installed with it.
+fn python_module(path: &Path) {
+    let line = "import blocktree; print(blocktree.Tree(blocktree.build(b'A 1\\nB 2\\n', 2, 2, 2)).row(2).decode())";
+    match Command::new("python3").args(["-B", "-c", line]).env("PYTHONPATH", path).env_remove("BLOCKTREE_LIBRARY").output() {
+        Err(_) => println!("python3 is not installed: not tried"),
+        Ok(output) => assert_eq!(output.stdout, b"B 2\n", "{}", String::from_utf8_lossy(&output.stderr)),
+    }
+}
+
+/// What file(1) says of a tree, of a book, and of other trees.
+#[test]
+fn the_kind_of_file() {
+    let magic = repository().join("host/share/blocktree.magic");
+    let kind = |path: &str| Command::new("file").arg("-b").arg("-m").arg(&magic).arg(repository().join(path)).output();
+    let Ok(told) = kind("conformance/build.txt") else {
+        println!("file is not installed: not tried");
+        return;
+    };
+    assert!(!told.stdout.starts_with(b"block tree"));
+    let build = std::fs::read_to_string(repository().join("conformance/build.txt")).expect("a file");
+    for tree in build.lines().filter_map(|line| line.split(" => ").nth(1)).filter(|answer| answer.starts_with("good/")) {
+        let told = kind(&format!("conformance/{tree}")).expect("file").stdout;
+        assert!(told.starts_with(b"block tree of layout 2, "), "{tree}: {}", String::from_utf8_lossy(&told));
+    }
+}
+
+/// The module against the public cases.
+#[test]
+fn python_cases() {
+    let root = folder("python");
+    make(&root, "shared");
+    let test = repository().join("python/test_blocktree.py");
+    match Command::new("python3").arg("-B").arg(test).env("BLOCKTREE_LIBRARY", root.join("built.so")).output() {
+        Err(_) => println!("python3 is not installed: not tried"),
+        Ok(output) => {
+            let said = String::from_utf8_lossy(&output.stdout).into_owned();
+            assert!(output.status.success() && said.ends_with("cases, all as they should be\n"), "{said}{}", String::from_utf8_lossy(&output.stderr));
+        }
+    }
+}
+
+/// The module has the words of every refusal.
+#[test]
+fn python_reasons() {
+    let module = fs::read_to_string(repository().join("python/blocktree.py")).expect("the module");
+    for refusal in (1..).map_while(codebook::Refusal::from_number) {
+        let words = refusal.to_string();
+        let (_, words) = words.split_once("): ").expect("words");
+        assert!(module.contains(&format!("    {}: \"{words}\",\n", refusal.number())), "{words}");
+    }
+}
+
+/// What is missing is told at once.
+#[test]
+fn needs() {
+    let empty = folder("no-tools");
+    for tool in ["sed", "dirname", "cat", "bash", "env"] {
+        let path = output(Command::new("sh").args(["-c", &format!("command -v {tool}")])).stdout;
+        std::os::unix::fs::symlink(String::from_utf8_lossy(&path).trim(), empty.join(tool)).expect("a link");
+    }
+    let done = Command::new(repository().join("host/needs")).args(["rt", "cargo", "gcc"]).env("PATH", &empty).output().expect("a script");
+    let said = String::from_utf8_lossy(&done.stderr).into_owned();
+    assert_eq!(done.status.code(), Some(1), "{said}");
+    for tool in ["rt", "cargo", "gcc"] {
+        assert!(said.contains(&format!("{tool} is not installed: ")), "{said}");
+    }
+    // another version of rt is told, and is no failure
+    fs::write(empty.join("rt"), "#!/bin/sh\necho another\n").expect("a file");
+    fs::set_permissions(empty.join("rt"), std::os::unix::fs::PermissionsExt::from_mode(0o755)).expect("permissions");
+    let done = Command::new(repository().join("host/needs")).arg("rt").env("PATH", &empty).output().expect("a script");
+    assert!(done.status.success() && done.stderr.starts_with(b"warning: rt is 'another'; "), "{done:?}");
+}
+
+/// Proofs are made again where a crate changed, and only there; with an `rt` that writes down that it was called.
+#[test]
+fn the_archive_is_made_of_the_crates_as_they_stand() {
+    let root = folder("archive");
+    for name in ["host", "tools", "crates/abi/src"] {
+        fs::create_dir_all(root.join(name)).expect("a folder");
+    }
+    fs::copy(repository().join("host/make-archive"), root.join("host/make-archive")).expect("the script");
+    fs::write(root.join("crates.txt"), "text:\nabi: text # the calls\nother: abi\n").expect("a file");
+    fs::write(root.join("crates/abi/src/lib.rt"), "1").expect("a file");
+    let rt = "#!/bin/sh\n[ \"$1\" = version ] && exec echo one\necho proved >> calls\n[ -e fails ] && { echo no proof; exit 1; }\n\
+              mkdir -p target/staticlib && cp crates/abi/src/lib.rt target/staticlib/libabi.a\n";
+    fs::write(root.join("tools/rt"), rt).expect("a file");
+    fs::set_permissions(root.join("tools/rt"), std::os::unix::fs::PermissionsExt::from_mode(0o755)).expect("permissions");
+    let path = format!("{}:{}", root.join("tools").display(), std::env::var("PATH").unwrap_or_default());
+    let run = || Command::new(root.join("host/make-archive")).env("PATH", &path).env_remove("BLOCKTREE_ARCHIVE").output().expect("the script");
+    let calls = || fs::read_to_string(root.join("calls")).unwrap_or_default().lines().count();
+    let archive = || fs::read_to_string(root.join("target/libblocktree.a")).unwrap_or_default();
+    let said = String::from_utf8_lossy(&run().stderr).into_owned();
+    assert!(said.starts_with("the library is proved: 2 crates, "), "{said}");
+    assert!(run().stderr.is_empty());
+    assert_eq!((calls(), archive()), (1, "1".to_owned()));
+    fs::write(root.join("crates/abi/src/lib.rt"), "2").expect("a file");
+    assert!(run().status.success());
+    assert_eq!((calls(), archive()), (2, "2".to_owned()));
+    fs::write(root.join("crates/abi/src/lib.rt"), "3").expect("a file");
+    fs::write(root.join("fails"), "").expect("a file");
+    let failed = run();
+    assert!(!failed.status.success() && String::from_utf8_lossy(&failed.stderr).ends_with("no proof\n"), "{failed:?}");
+}

@@ -1,0 +1,352 @@
+"""Block trees of code books: build them, check them, ask them.
+
+    >>> import blocktree
+    >>> tree = blocktree.build(b"CH0501 1423\\nCH0502 1424\\n", leaf=64, arity=2, levels=4)
+    >>> book = blocktree.Tree(tree)
+    >>> book.row(2)
+    b'CH0502 1424'
+    >>> book.row(3)
+    Traceback (most recent call last):
+    blocktree.Refused: refused (12): the text has no occurrence or row of this number; numbers start at 1
+
+Over the proved library, by ctypes, from libblocktree.so: the one that BLOCKTREE_LIBRARY names, or beside this file, in ../../lib or ../target, or where
+the system finds it (`make shared`, `make install`). Python 3.8 or later, Linux on x86-64.
+
+Texts, trees, rows and patterns are bytes. Places start at 0; rows and occurrences are numbered from 1. What the library refuses raises Refused, whose
+`number` is the library's; docs/FORMAT.md says what each means. A tree carries no checksum of its maker's text: keep a digest beside it (hashlib.sha256).
+"""
+
+import ctypes
+import ctypes.util
+import os
+
+__all__ = ["Refused", "Tree", "build", "enough", "scan_words", "to_columns", "from_columns", "open_on", "days_left", "renew"]
+
+REASONS = {
+    1: "a text must have at most 8,388,608 bytes",
+    2: "the leaf length must be 1 to 256, the arity 2 to 16, the levels 1 to 8, and leaf x arity^(levels-1) at most 8,388,608",
+    3: "at most 4 bytes can be counted, and each must be above the one before",
+    4: "the tree does not fit the buffer",
+    5: "a tree has at least 100 bytes; this is no tree, or cut off",
+    6: "the layout is neither 1 nor 2; this is no block tree, or one of another version",
+    7: "the header is not right: its settings, unused places or offsets, or the file is longer or shorter than it says",
+    8: "the blocks are not right: a start, kind, link or gap, or the number of blocks or leaf bytes",
+    9: "a count or an edge in the tree is not true",
+    10: "this lies past the text's end",
+    11: "the tree does not count this byte",
+    12: "the text has no occurrence or row of this number; numbers start at 1",
+    13: "the answer does not fit the buffer",
+    14: "the tree is damaged: the way to a byte breaks off, or a count comes out below zero",
+    15: "only trees of at most 65,536 bytes are listed",
+    16: "a pattern must have 1 to 256 bytes",
+    17: "the table has fewer words than the pattern has places",
+    18: "the table of words is too short: four words are needed for each leaf length of text, a begun one counting whole",
+    19: "a worn key must have 1 to 10 cuts, each with a low and a high depth of 0 to 9, the low one not above the high one",
+    20: "the width must be above 0 and divide the text's length",
+    21: "the output is shorter than the text",
+    22: "a day is eight digits, year, month and day, from 20000101 to 20991231, and a renewal does not pass 2099",
+    23: "the last day lies before the first",
+    24: "this is no guide of this tree: it has too few or too many words, or an entry is wrong",
+    25: "the table is too short for the guide",
+}
+
+MAX_TEXT = 8_388_608
+LIST_LENGTH = 512
+BEFORE, SAME, AFTER = 1, 2, 3
+
+
+class Refused(Exception):
+    """The library refused; `number` says why."""
+
+    def __init__(self, number):
+        super().__init__("refused (%d): %s" % (number, REASONS.get(number, "a number that this module does not know")))
+        self.number = number
+
+
+# What each call is lent, in order. bytes: read; buffer: a bytearray, written; words: an array of _words, written; n32: a number; out32, out64, outi32: a
+# figure that is written; mark: one that is read and written.
+_CALLS = {
+    "bt_build": "bytes n32 n32 n32 bytes buffer out32",
+    "bt_build_scanned": "bytes n32 n32 n32 bytes words buffer out32 out32",
+    "bt_enough": "n32 n32 n32 n32 n32 out64",
+    "bt_check": "bytes",
+    "bt_byte": "bytes n32 out32 out32",
+    "bt_run": "bytes n32 out64 out32",
+    "bt_span": "bytes n32 n32 buffer out32",
+    "bt_count": "bytes n32 n32 out64 out32",
+    "bt_find": "bytes n32 n32 out32 out32",
+    "bt_row": "bytes n32 buffer out32",
+    "bt_row_length": "bytes n32 out32",
+    "bt_row_count": "bytes out64",
+    "bt_places": "bytes bytes words out32",
+    "bt_places_words": "bytes n32 out32",
+    "bt_next_match": "bytes bytes mark out32",
+    "bt_to_columns": "bytes n32 buffer",
+    "bt_from_columns": "bytes n32 buffer",
+    "bt_column_row": "bytes n32 n32 buffer",
+    "bt_guide_words": "bytes out64",
+    "bt_make_guide": "bytes buffer out64",
+    "bt_check_guide": "bytes bytes",
+    "bt_find_guided": "bytes bytes n32 n32 out32 out32 out32",
+    "bt_row_guided": "bytes bytes n32 buffer out32",
+    "bt_order": "bytes bytes out32 out32 out32",
+    "bt_list": "bytes buffer out32",
+    "bt_open_on": "bytes bytes bytes out32",
+    "bt_days_left": "bytes bytes outi32",
+    "bt_renew": "buffer",
+}
+
+_FIGURES = {"out32": ctypes.c_uint32, "out64": ctypes.c_uint64, "outi32": ctypes.c_int32, "mark": ctypes.c_uint32}
+
+
+def _library():
+    here = os.path.dirname(os.path.abspath(__file__))
+    name = "libblocktree.so"
+    paths = [os.path.join(here, place, name) for place in (".", "../../lib", "../target")]
+    found = [path for path in paths if os.path.exists(path)]
+    path = os.environ.get("BLOCKTREE_LIBRARY") or (found[0] if found else ctypes.util.find_library("blocktree"))
+    if not path:
+        raise OSError("%s is not found; build it with `make shared`, or name it in BLOCKTREE_LIBRARY" % name)
+    library = ctypes.CDLL(path)
+    for call in _CALLS:
+        getattr(library, call).restype = ctypes.c_uint32
+    library.bt_version.restype = ctypes.c_uint32
+    library.bt_info.restype = ctypes.c_uint32
+    library.bt_scan_words.restype = ctypes.c_uint64
+    library.bt_scan_words.argtypes = [ctypes.c_uint32, ctypes.c_uint32]
+    return library
+
+
+_LIBRARY = _library()
+
+
+def _number(value):
+    """A number that the library can be lent: one below 0 or past 32 bits is the caller's mistake."""
+    if not 0 <= value < 1 << 32:
+        raise OverflowError("%d is not a number from 0 to 4294967295" % value)
+    return ctypes.c_uint32(value)
+
+
+def _words(number):
+    """A table of so many words."""
+    return (ctypes.c_uint32 * number)()
+
+
+def _call(name, *given):
+    """The answer's number and all figures, in order. Buffers and words are written in place; no pointer is null, also where its length is 0."""
+    words, figures, given = [], [], iter(given)
+    for kind in _CALLS[name].split():
+        if kind == "n32":
+            words.append(_number(next(given)))
+        elif kind == "bytes":
+            lent = bytes(next(given))
+            words += [ctypes.c_char_p(lent), ctypes.c_size_t(len(lent))]
+        elif kind == "buffer":
+            lent = next(given)
+            room = (ctypes.c_uint8 * len(lent)).from_buffer(lent) if lent else (ctypes.c_uint8 * 1)()
+            words += [room, ctypes.c_size_t(len(lent))]
+        elif kind == "words":
+            lent = next(given)
+            words += [lent if len(lent) else _words(1), ctypes.c_size_t(len(lent))]
+        else:
+            figures.append(_FIGURES[kind](next(given) if kind == "mark" else 0))
+            words.append(ctypes.byref(figures[-1]))
+    number = getattr(_LIBRARY, name)(*words)
+    return (number, *(figure.value for figure in figures))
+
+
+def _ask(name, *given):
+    """The figures: none, one, or all of them in a tuple. Refused where the number is not 0."""
+    number, *figures = _call(name, *given)
+    if number:
+        raise Refused(number)
+    return figures[0] if len(figures) == 1 else tuple(figures)
+
+
+def version():
+    """The library's version: major, minor, patch."""
+    number = _LIBRARY.bt_version()
+    return number // 10000, number // 100 % 100, number % 100
+
+
+def enough(n, leaf, arity, levels, counted=b"\n"):
+    """A size that holds the tree of any text of n bytes."""
+    return _ask("bt_enough", n, leaf, arity, levels, len(counted))
+
+
+def scan_words(n, leaf):
+    """The words of the table that build works in."""
+    return _LIBRARY.bt_scan_words(_number(n), _number(leaf))
+
+
+def build(text, leaf, arity, levels, counted=b"\n"):
+    """The tree of a text; `counted` are the bytes that it can count and find, rising."""
+    room = bytearray(enough(min(len(text), 0xFFFFFFFF), leaf, arity, levels, counted))
+    size, _ = _ask("bt_build_scanned", text, leaf, arity, levels, counted, _words(scan_words(len(text), leaf)), room)
+    return bytes(room[:size])
+
+
+def _turned(name, text, width):
+    out = bytearray(len(text))
+    _ask(name, text, width, out)
+    return bytes(out)
+
+
+def to_columns(text, width):
+    """A text of rows of `width` bytes, end byte included, by columns."""
+    return _turned("bt_to_columns", text, width)
+
+
+def from_columns(text, width):
+    """And back."""
+    return _turned("bt_from_columns", text, width)
+
+
+def open_on(first, last, today):
+    """Is a book licensed from `first` to `last`, both included, open on `today`? Days are eight digits, as b"20240229"."""
+    return _ask("bt_open_on", first, last, today) == 1
+
+
+def days_left(last, today):
+    """Days from `today` to `last`; below 0 after it."""
+    return _ask("bt_days_left", last, today)
+
+
+def renew(day):
+    """The same day one year later; 29 February becomes 28 February."""
+    lent = bytearray(day)
+    _ask("bt_renew", lent)
+    return bytes(lent)
+
+
+class Tree:
+    """A tree's bytes. They are checked unless told otherwise: on a tree that the check refuses answers can be wrong, though nothing outside it is read."""
+
+    def __init__(self, tree, checked=True):
+        self.bytes = bytes(tree)
+        if checked:
+            _ask("bt_check", self.bytes)
+
+    def __len__(self):
+        """Bytes of the text, as the header has it."""
+        return int.from_bytes(self.bytes[4:8], "little")
+
+    def info(self):
+        """What the tree says of itself: layout, text length, settings, leaf bytes, the counted bytes with their totals, the blocks of each level."""
+        figures = (ctypes.c_uint64 * 23)()
+        number = _LIBRARY.bt_info(ctypes.c_char_p(self.bytes), ctypes.c_size_t(len(self.bytes)), figures)
+        if number:
+            raise Refused(number)
+        layout, length, leaf, arity, levels, leaf_bytes, counted = figures[:7]
+        totals = dict(zip(figures[7 : 7 + counted], figures[11 : 11 + counted]))
+        return {
+            "layout": layout,
+            "length": length,
+            "leaf": leaf,
+            "arity": arity,
+            "levels": levels,
+            "leaf_bytes": leaf_bytes,
+            "totals": totals,
+            "blocks": figures[15 : 15 + levels],
+        }
+
+    def byte(self, place):
+        """The byte at a place."""
+        return _ask("bt_byte", self.bytes, place)[0]
+
+    def run(self, place):
+        """The bytes of the text from a place on that lie side by side in the tree."""
+        offset, length = _ask("bt_run", self.bytes, place)
+        return self.bytes[offset : offset + length]
+
+    def span(self, place, length):
+        """`length` bytes from a place on."""
+        # what lies past the text's end is refused whatever the buffer
+        room = bytearray(length if place + length <= min(len(self), MAX_TEXT) else 0)
+        _ask("bt_span", self.bytes, place, length, room)
+        return bytes(room)
+
+    def text(self):
+        """The whole text."""
+        return self.span(0, len(self))
+
+    def count(self, byte, length):
+        """How often a counted byte stands in the first `length` bytes."""
+        return _ask("bt_count", self.bytes, byte, length)[0]
+
+    def find(self, byte, number, guide=None):
+        """Where a counted byte stands for the number-th time, from 1."""
+        if guide is None:
+            return _ask("bt_find", self.bytes, byte, number)[0]
+        return _ask("bt_find_guided", self.bytes, guide, byte, number)[0]
+
+    def row(self, number, guide=None):
+        """Row `number`, from 1, without its end."""
+        name, lent = ("bt_row", []) if guide is None else ("bt_row_guided", [guide])
+        # a short buffer is enough mostly, and one as long as the text always
+        room = bytearray(min(len(self), 256))
+        refusal, length = _call(name, self.bytes, *lent, number, room)
+        if refusal == 13:
+            room = bytearray(min(len(self), MAX_TEXT))
+            refusal, length = _call(name, self.bytes, *lent, number, room)
+        if refusal:
+            raise Refused(refusal)
+        return bytes(room[:length])
+
+    def row_length(self, number):
+        """Bytes of row `number`, from 1, without its end."""
+        return _ask("bt_row_length", self.bytes, number)
+
+    def rows(self):
+        """How many rows there are."""
+        return _ask("bt_row_count", self.bytes)
+
+    def places(self, pattern):
+        """All places of a pattern of 1 to 256 bytes, rising."""
+        table = _words(min(4096, len(self)))
+        number, places = _call("bt_places", self.bytes, pattern, table)
+        if number == 17:
+            table = _words(_ask("bt_places_words", self.bytes, len(pattern)))
+            number, places = _call("bt_places", self.bytes, pattern, table)
+        if number:
+            raise Refused(number)
+        return table[:places]
+
+    def next_match(self, ranges, mark=0):
+        """The first row after `mark` that matches a worn key; None where there is none. A range is a low and a high depth for each cut: [(4, 4), (3, 5)]."""
+        lent = bytes(depth for low_high in ranges for depth in low_high)
+        return _ask("bt_next_match", self.bytes, lent, mark)[1] or None
+
+    def matches(self, ranges):
+        """All rows that match, in row order."""
+        row = self.next_match(ranges)
+        while row:
+            yield row
+            row = self.next_match(ranges, row)
+
+    def row_by_columns(self, width, a):
+        """Row a, from 0, all `width` bytes of it, from the tree of a text by columns."""
+        room = bytearray(min(width, len(self), MAX_TEXT))
+        _ask("bt_column_row", self.bytes, width, a, room)
+        return bytes(room)
+
+    def make_guide(self):
+        """The guide to the level 0 blocks."""
+        room = bytearray(4 * min(_ask("bt_guide_words", self.bytes), MAX_TEXT // 16 + 4))
+        words = _ask("bt_make_guide", self.bytes, room)
+        return bytes(room[: 4 * words])
+
+    def check_guide(self, guide):
+        """Refused where it is not exactly the guide of this tree."""
+        _ask("bt_check_guide", self.bytes, guide)
+
+    def list(self):
+        """The lines of the list program, one for each level: level, blocks, kept, pointing."""
+        room = bytearray(LIST_LENGTH)
+        length = _ask("bt_list", self.bytes, room)
+        return room[:length].decode("ascii")
+
+    def compare(self, other):
+        """BEFORE, SAME or AFTER, where this tree's text stands beside the other's, and how many bytes they share from their start on."""
+        order, shared, _ = _ask("bt_order", self.bytes, other.bytes)
+        return order, shared

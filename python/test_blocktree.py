@@ -1,0 +1,219 @@
+"""The module against the public cases: each line of host/tests/vectors.txt and crates/cases/stdout that a call answers, and the module's own functions.
+
+    python3 python/test_blocktree.py
+"""
+
+import doctest
+import os
+import re
+import sys
+
+HERE = os.path.dirname(os.path.abspath(__file__))
+sys.path.insert(0, HERE)
+
+import blocktree  # noqa: E402
+from blocktree import _call, _words  # noqa: E402
+
+FILES = ["../host/tests/vectors.txt", "../crates/cases/stdout"]
+
+
+def from_hex(word):
+    return b"" if word == "-" else bytes.fromhex(word)
+
+
+def to_hex(lent):
+    return bytes(lent).hex() or "-"
+
+
+def filled(length):
+    return bytearray(b"\xee" * length)
+
+
+def filled_words(number):
+    table = _words(number)
+    table[:] = [0xEEEEEEEE] * number
+    return table
+
+
+def with_buffer(name, *given, room):
+    """The answer, and what the buffer holds afterwards."""
+    lent = filled(room)
+    return (*_call(name, *given, lent), to_hex(lent))
+
+
+def places(tree, pattern, words):
+    table = filled_words(words)
+    answer = _call("bt_places", tree, pattern, table)
+    return (*answer, ",".join(map(str, table)) or "-")
+
+
+def scan(text, m, r, h, counted, words, room):
+    lent = filled(room)
+    return (*_call("bt_build_scanned", text, m, r, h, counted, filled_words(words), lent), to_hex(lent))
+
+
+def ranges(word):
+    """LOW-HIGH,LOW-HIGH,.. or hexadecimal."""
+    if "-" in word[1:]:
+        return bytes(int(depth) for pair in word.split(",") for depth in pair.split("-"))
+    return from_hex(word)
+
+
+def match(tree, lent, mark):
+    number, after, row = _call("bt_next_match", tree, lent, mark)
+    return number, row, after
+
+
+def listed(tree):
+    try:
+        lines = blocktree.Tree(tree, checked=False).list()
+    except blocktree.Refused as refused:
+        lines = "refused %d\n" % refused.number
+    return (lines.replace("\n", "/"),)
+
+
+def guide(word):
+    return b"" if word == "-" else b"".join(int(entry).to_bytes(4, "little") for entry in word.split(","))
+
+
+def make_guide(tree, words):
+    room = filled(4 * words)
+    answer = _call("bt_make_guide", tree, room)
+    return (*answer, ",".join(str(int.from_bytes(room[at : at + 4], "little")) for at in range(0, len(room), 4)) or "-")
+
+
+def column(tree, width, a, room):
+    number, left = with_buffer("bt_column_row", tree, width, a, room=room)
+    return number, 0 if number else width, left
+
+
+def order(one, other):
+    number, where, shared, first = _call("bt_order", one, other)
+    return number, ["-", "before", "same", "after"][where], shared, first
+
+
+def renew(day):
+    lent = bytearray(day)
+    (number,) = _call("bt_renew", lent)
+    return number, "-" if number and lent == day else to_hex(lent)
+
+
+# what a case's words are, and the call
+ASKED = {
+    "build": lambda named, t, m, r, h, c, room: with_buffer("bt_build", named[t], int(m), int(r), int(h), from_hex(c), room=int(room)),
+    "scan": lambda named, t, m, r, h, c, words, room: scan(named[t], int(m), int(r), int(h), from_hex(c), int(words), int(room)),
+    "check": lambda named, t: _call("bt_check", named[t]),
+    "list": lambda named, t: listed(named[t]),
+    "byte": lambda named, t, p: _call("bt_byte", named[t], int(p)),
+    "run": lambda named, t, p: _call("bt_run", named[t], int(p)),
+    "count": lambda named, t, b, i: _call("bt_count", named[t], int(b), int(i)),
+    "find": lambda named, t, b, j: _call("bt_find", named[t], int(b), int(j)),
+    "span": lambda named, t, p, n, room: with_buffer("bt_span", named[t], int(p), int(n), room=int(room)),
+    "row": lambda named, t, q, room: with_buffer("bt_row", named[t], int(q), room=int(room)),
+    "places": lambda named, t, pattern, words: places(named[t], from_hex(pattern), int(words)),
+    "match": lambda named, t, word, mark: match(named[t], ranges(word), int(mark)),
+    "columns": lambda named, t, width, room: with_buffer("bt_to_columns", named[t], int(width), room=int(room)),
+    "rows": lambda named, t, width, room: with_buffer("bt_from_columns", named[t], int(width), room=int(room)),
+    "column": lambda named, t, width, a, room: column(named[t], int(width), int(a), int(room)),
+    "guide": lambda named, t, words: make_guide(named[t], int(words)),
+    "guidecheck": lambda named, t, word: _call("bt_check_guide", named[t], guide(word)),
+    "guided": lambda named, t, word, b, j: _call("bt_find_guided", named[t], guide(word), int(b), int(j)),
+    "order": lambda named, t, other: order(named[t], named[other]),
+    "renew": lambda named, day: renew(from_hex(day)),
+    "open": lambda named, *days: _call("bt_open_on", *map(from_hex, days)),
+    "left": lambda named, *days: _call("bt_days_left", *map(from_hex, days)),
+}
+
+
+def run_file(path):
+    named, done, wrong = {}, 0, []
+    for line in open(os.path.join(HERE, path), encoding="ascii"):
+        question, _, answer = line.strip().partition(" => ")
+        words = question.split(" ")
+        # answers that are left free, and lines that are wrong on purpose
+        if re.match("free|wrong", answer):
+            continue
+        if words[0] in ("text", "tree") and len(words) == 3:
+            named[words[1]] = from_hex(words[2])
+        elif words[0] == "repeat":
+            named[words[1]] = from_hex(words[2]) * int(words[3])
+        elif words[0] == "pad":
+            named[words[1]] = named[words[2]].ljust(int(words[3]), b"\0")
+        elif words[0] in ASKED and answer:
+            done += 1
+            got = " ".join(map(str, ASKED[words[0]](named, *words[1:])))
+            if got != answer:
+                wrong.append("%s => %s, not %s" % (question[:200], got[:200], answer[:200]))
+    assert not wrong, "\n".join(wrong[:10])
+    return done
+
+
+def own_functions():
+    """The tree of the small book, asked by the module's own functions."""
+    text = open(os.path.join(HERE, "../books/small.txt"), "rb").read()
+    rows = text.split(b"\n")[:-1]
+    book = blocktree.Tree(blocktree.build(text, 24, 8, 3))
+    assert (len(book), len(book.bytes), book.rows(), book.text()) == (2800, 5884, 200, text)
+    assert book.info() == {"layout": 2, "length": 2800, "leaf": 24, "arity": 8, "levels": 3, "leaf_bytes": 1072, "totals": {10: 200}, "blocks": [2, 15, 45]}
+    assert [book.row_length(number) for number in (1, 40, 200)] == [13, 13, 13]
+    assert blocktree.version() == (1, 14, 0)
+    guide = book.make_guide()
+    book.check_guide(guide)
+    for number in range(1, 201, 7):
+        assert book.row(number) == book.row(number, guide) == rows[number - 1]
+        assert book.find(10, number) == book.find(10, number, guide) == 14 * number - 1
+    assert book.places(b"CH0502") == [14, 574, 1134, 1694, 2254]
+    assert book.places(b"4") == [place for place in range(2800) if text[place] == ord("4")]
+    assert list(book.matches([(5, 5), (2, 2), (1, 1), (6, 6), (1, 2)])) == [39, 40, 79, 80, 119, 120, 159, 160, 199, 200]
+    assert (book.byte(14), book.count(10, 1400), book.span(14, 6), book.run(14)[:3]) == (67, 100, b"CH0502", b"CH0")
+    assert book.list() == "0 2 2 0\n1 15 6 9\n2 45 45 0\n"
+    turned = blocktree.to_columns(text, 14)
+    assert blocktree.from_columns(turned, 14) == text
+    columns = blocktree.Tree(blocktree.build(turned, 256, 2, 1))
+    assert columns.row_by_columns(14, 119) == rows[119] + b"\n"
+    assert book.compare(columns) == (blocktree.AFTER, 1) and book.compare(book) == (blocktree.SAME, 2800)
+    assert blocktree.open_on(b"20240101", b"20241231", b"20240301") and blocktree.days_left(b"20191231", b"20300101") == -3654
+    assert blocktree.renew(b"20240229") == b"20250228"
+
+
+def refusals():
+    """Every refusal raises its number, and a number that is none is not lent."""
+    book = blocktree.Tree(blocktree.build(b"A 1\n", 2, 2, 2))
+    for number, ask in [
+        (1, lambda: blocktree.build(bytes(8388609), 2, 2, 2)),
+        (2, lambda: blocktree.build(b"", 0, 2, 2)),
+        (3, lambda: blocktree.build(b"", 2, 2, 2, b"BA")),
+        (5, lambda: blocktree.Tree(b"")),
+        (7, lambda: blocktree.Tree(book.bytes + b"\0")),
+        (10, lambda: book.byte(4)),
+        (11, lambda: book.count(65, 1)),
+        (12, lambda: book.row(2)),
+        (12, lambda: book.row_length(2)),
+        (5, lambda: blocktree.Tree(b"", checked=False).info()),
+        (16, lambda: book.places(b"")),
+        (19, lambda: book.next_match([])),
+        (20, lambda: blocktree.to_columns(b"ABC", 2)),
+        (22, lambda: blocktree.renew(b"2024")),
+        (24, lambda: book.check_guide(b"")),
+    ]:
+        try:
+            ask()
+        except blocktree.Refused as refused:
+            assert refused.number == number and str(refused).startswith("refused (%d): " % number)
+        else:
+            raise AssertionError("%d did not come" % number)
+    for number in (-1, 1 << 32):
+        try:
+            book.row(number)
+        except OverflowError:
+            continue
+        raise AssertionError("%d was lent" % number)
+
+
+if __name__ == "__main__":
+    counts = [run_file(path) for path in FILES]
+    own_functions()
+    refusals()
+    failed, tried = doctest.testmod(blocktree)
+    assert (failed, tried > 3) == (0, True)
+    print("%s cases, all as they should be" % " and ".join(map(str, counts)))
