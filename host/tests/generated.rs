@@ -22,6 +22,16 @@ fn files_are_current() {
     folder.run("completion fish").status(2);
 }
 
+/// The drawings and the table of lines are those that their scripts make; each has `--check`.
+#[test]
+fn drawings_and_lines_are_current() {
+    for script in ["../docs/drawings/draw.py", "../docs/lines.py"] {
+        let path = Path::new(env!("CARGO_MANIFEST_DIR")).join(script);
+        let output = Command::new("python3").arg(path).arg("--check").output().expect("python3");
+        assert!(output.status.success(), "{}", String::from_utf8_lossy(&output.stderr));
+    }
+}
+
 /// Each command and option of the help is in the page and in both completions.
 #[test]
 fn nothing_is_missing() {

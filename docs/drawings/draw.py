@@ -1,0 +1,241 @@
+#!/usr/bin/env python3
+"""Draws docs/drawings/*.svg: the crates by layer, from crates.txt; a tree with a path through a pointing block, from its bytes; a header and a record
+byte by byte, from the same tree.
+
+    docs/drawings/draw.py            # write the drawings
+    docs/drawings/draw.py --check    # status 1 if one of them is not what would be written
+
+Needs python3 and nothing else."""
+
+import html
+import struct
+import sys
+from pathlib import Path
+
+ROOT = Path(__file__).resolve().parents[2]
+HERE = Path(__file__).resolve().parent
+INK, LINE, KEPT, POINTS, PATH, SOFT = "#1c2430", "#8a94a3", "#cfe3f5", "#f9dcc0", "#c0392b", "#f4f6f9"
+STYLE = f"text{{font:13px system-ui,sans-serif;fill:{INK}}} .s{{font-size:11px}} .m{{font:12px ui-monospace,monospace}} .h{{font-weight:600}}"
+
+
+class Svg:
+    """Shapes, in the order in which they are drawn."""
+
+    def __init__(self, width, height, title):
+        self.size, self.title, self.parts = (width, height), title, []
+
+    def box(self, x, y, w, h, fill, dash=False, stroke=LINE, wide=1):
+        dashed = ' stroke-dasharray="4 3"' if dash else ""
+        self.parts.append(f'<rect x="{x:g}" y="{y:g}" width="{w:g}" height="{h:g}" rx="3" fill="{fill}" stroke="{stroke}" stroke-width="{wide}"{dashed}/>')
+
+    def text(self, x, y, words, kind="", anchor="start"):
+        self.parts.append(f'<text x="{x:g}" y="{y:g}" class="{kind}" text-anchor="{anchor}">{html.escape(words)}</text>')
+
+    def line(self, x1, y1, x2, y2, colour=LINE, wide=1, arrow=False):
+        head = ' marker-end="url(#a)"' if arrow else ""
+        self.parts.append(f'<path d="M{x1:g} {y1:g}L{x2:g} {y2:g}" stroke="{colour}" stroke-width="{wide}" fill="none"{head}/>')
+
+    def curve(self, x1, y1, x2, y2, bend, colour, wide):
+        self.parts.append(f'<path d="M{x1:g} {y1:g}C{x1:g} {y1 + bend:g} {x2:g} {y2 + bend:g} {x2:g} {y2:g}" stroke="{colour}" stroke-width="{wide}" fill="none" marker-end="url(#a)"/>')
+
+    def done(self):
+        w, h = self.size
+        arrow = f'<marker id="a" viewBox="0 0 8 8" refX="7" refY="4" markerWidth="7" markerHeight="7" orient="auto"><path d="M0 0L8 4L0 8z" fill="{PATH}"/></marker>'
+        head = f'<svg xmlns="http://www.w3.org/2000/svg" viewBox="0 0 {w} {h}" width="{w}" height="{h}" role="img"><title>{html.escape(self.title)}</title>'
+        return "\n".join([head, f"<style>{STYLE}</style><defs>{arrow}</defs>", f'<rect width="{w}" height="{h}" fill="white"/>', *self.parts, "</svg>", ""])
+
+
+# ---- the crates
+
+def crates():
+    """Each crate with what it depends on, and the heading that stands above it in crates.txt."""
+    heads, found, heading, fresh = [], {}, "", False
+    for line in (ROOT / "crates.txt").read_text().splitlines():
+        if line.startswith("# ") and (not fresh or not heads):
+            heading, fresh = line[2:], True
+            heads.append(heading)
+        elif not line.strip():
+            fresh = False
+        elif not line.startswith("#"):
+            name, _, below = line.partition(":")
+            found[name] = (heading, below.split())
+    return found
+
+
+def depths(found):
+    """How far above the lowest crates each one stands; a circle is an error."""
+    depth = {}
+
+    def of(name, above):
+        if name in above:
+            raise SystemExit(f"crates.txt goes in a circle: {' '.join([*above, name])}")
+        if name not in depth:
+            depth[name] = 1 + max((of(below, [*above, name]) for below in found[name][1] if below in found), default=-1)
+        return depth[name]
+
+    for name in found:
+        of(name, [])
+    return depth
+
+
+def draw_crates():
+    found = crates()
+    depth = depths(found)
+    rows = [sorted(name for name in found if depth[name] == d) for d in range(max(depth.values()) + 1)]
+    width, step, top = 1080, 46, 56
+    svg = Svg(width, top + step * len(rows) + 16, "The crates: each stands above all that it depends on")
+    svg.text(16, 26, "The crates: each stands above all that it depends on; no arrow goes up", "h")
+    svg.text(16, 44, "theories and definitions have dashed frames: they have no code", "s")
+    for level, row in enumerate(reversed(rows)):
+        y = top + level * step
+        svg.box(8, y, width - 16, step - 8, SOFT, stroke=SOFT)
+        room = (width - 32) / len(row)
+        for at, name in enumerate(row):
+            w = min(room - 6, 12 + 7.2 * len(name))
+            x = 16 + room * at + (room - w) / 2
+            source = ROOT / "crates" / name / "src"
+            code = any(" fn " in f" {line}" for f in source.glob("*.rt") for line in f.read_text().splitlines() if not line.lstrip().startswith("//"))
+            svg.box(x, y + 6, w, step - 20, "white" if code else KEPT, dash=not code)
+            svg.text(x + w / 2, y + 23, name, "s", "middle")
+    return svg.done()
+
+
+# ---- a tree
+
+class Tree:
+    """A tree's bytes, read by docs/FORMAT.md."""
+
+    def __init__(self, data):
+        self.data = data
+        self.layout, self.n, self.m, self.r, self.levels, self.k = (self.word(4 * i) for i in range(6))
+        self.counted = data[24:24 + self.k]
+        self.counts = [(self.word(28 + 8 * i), self.word(32 + 8 * i)) for i in range(self.levels)]
+        self.leaf, self.leaves = self.word(92), self.word(96)
+        self.record = 16 + 12 * self.k + (2 * self.m if self.layout == 2 else 0)
+
+    def word(self, at):
+        return struct.unpack_from("<I", self.data, at)[0]
+
+    def length(self, level):
+        return self.m * self.r ** (self.levels - 1 - level)
+
+    def fields(self, level, i):
+        return [self.word(self.counts[level][1] + i * self.record + 4 * f) for f in range(4 + 3 * self.k)]
+
+    def path(self, p):
+        """The blocks that are entered on the way to place p: level, block, place in it."""
+        level, block, place, steps = 0, p // self.length(0), p % self.length(0), []
+        while True:
+            steps.append((level, block, place))
+            _, kind, link, gap = self.fields(level, block)[:4]
+            if kind == 1:
+                block, place = (link, gap + place) if gap + place < self.length(level) else (link + 1, gap + place - self.length(level))
+                steps.append((level, block, place))
+                link = self.fields(level, block)[2]
+            if level + 1 == self.levels:
+                return steps, link + place
+            below = self.length(level + 1)
+            level, block, place = level + 1, link + place // below, place % below
+
+    def text(self):
+        return bytes(self.data[self.leaf + self.path(p)[1]] for p in range(self.n))
+
+
+def draw_tree(tree, place):
+    cell, left, top, gap = 40, 120, 92, 92
+    svg = Svg(left + cell * tree.n + 24, top + gap * tree.levels + 130, "The worked book's tree, and the path of a place")
+    steps, leaf = tree.path(place)
+    text = tree.text().decode("latin-1")
+    svg.text(16, 26, f"The tree of {text} (leaf {tree.m}, arity {tree.r}, levels {tree.levels}), and the path of place {place}, byte {text[place]}", "h")
+    svg.text(16, 46, "kept blocks: blue; blocks that point: orange, dashed. Red: the blocks entered, in their order", "s")
+    for p, byte in enumerate(text):
+        x = left + cell * p
+        svg.text(x + cell / 2, top - 8, byte, "m", "middle")
+        svg.text(x + cell / 2, top - 24, str(p), "s", "middle")
+    entered = {(level, block): number for number, (level, block, _) in enumerate(steps)}
+    centre = {}
+    for level in range(tree.levels):
+        y = top + gap * level
+        svg.text(16, y + 24, f"level {level}", "h")
+        svg.text(16, y + 40, f"b = {tree.length(level)}", "s")
+        for i in range(tree.counts[level][0]):
+            start, kind, link, gap_in = tree.fields(level, i)[:4]
+            size = min(tree.length(level), tree.n - start)
+            x = left + cell * start
+            on = (level, i) in entered
+            svg.box(x + 2, y, cell * size - 4, 48, POINTS if kind else KEPT, dash=bool(kind), stroke=PATH if on else LINE, wide=2.5 if on else 1)
+            svg.text(x + cell * size / 2, y + 20, f"block {i}", "s", "middle")
+            svg.text(x + cell * size / 2, y + 36, f"to {link} + {gap_in}" if kind else f"link {link}", "s", "middle")
+            centre[level, i] = (x + cell * size / 2, y)
+    for (level, block, _), (level2, block2, _) in zip(steps, steps[1:]):
+        (x1, y1), (x2, y2) = centre[level, block], centre[level2, block2]
+        if level == level2:
+            svg.curve(x1, y1 + 48, x2, y2 + 50, 34, PATH, 2)
+        else:
+            svg.line(x1, y1 + 48, x2, y2 - 2, PATH, 2, True)
+    y = top + gap * tree.levels
+    svg.text(16, y + 24, "leaf bytes", "h")
+    for i in range(tree.leaves):
+        on = i == leaf
+        svg.box(left + cell * i + 2, y, cell - 4, 34, "white", stroke=PATH if on else LINE, wide=2.5 if on else 1)
+        svg.text(left + cell * i + cell / 2, y + 22, chr(tree.data[tree.leaf + i]), "m", "middle")
+    level, block, _ = steps[-1]
+    svg.line(centre[level, block][0], centre[level, block][1] + 48, left + cell * leaf + cell / 2, y - 2, PATH, 2, True)
+    svg.text(16, y + 68, f"{len(steps)} blocks entered: " + ", ".join(f"level {l} block {b} at {o}" for l, b, o in steps) + f"; leaf byte {leaf}", "s")
+    return svg.done()
+
+
+# ---- the header and a record, byte by byte
+
+def draw_bytes(tree):
+    header = [("layout", 4), ("n", 4), ("m leaf", 4), ("r arity", 4), ("H levels", 4), ("k", 4), ("counted", 4)]
+    for level in range(8):
+        header += [(f"blocks {level}", 4), (f"offset {level}", 4)]
+    header += [("leaf offset", 4), ("leaf count", 4)]
+    record = [("start", 4), ("kind", 4), ("link", 4), ("gap", 4)]
+    for c in range(tree.k):
+        record += [(f"before {c}", 4), (f"inside {c}", 4), (f"skip {c}", 4)]
+    if tree.layout == 2:
+        record += [("first edge", tree.m), ("last edge", tree.m)]
+    width, height = 1080, 84
+    per = 100
+    rows = -(-len(header) // 10)
+    svg = Svg(width, 72 + height * rows + 70 + height * -(-len(record) // 10) + 24, "The header and a record, byte by byte")
+    svg.text(16, 26, "The header of the worked book's tree: 100 bytes, words of four bytes, lowest first", "h")
+
+    def strip(fields, base, y, first):
+        at = first
+        for i, (name, size) in enumerate(fields):
+            x, row = 16 + per * (i % 10) * 1.05, y + height * (i // 10)
+            svg.box(x, row, per, 58, KEPT if i % 2 else SOFT)
+            svg.text(x + per / 2, row + 17, name, "h s", "middle")
+            raw = tree.data[base + at - first:base + at - first + size]
+            svg.text(x + per / 2, row + 35, " ".join(f"{b:02x}" for b in raw), "m", "middle")
+            value = f"= {int.from_bytes(raw, 'little')}" if size == 4 and name != "counted" and "edge" not in name else repr(bytes(raw).rstrip(b'\0').decode("latin-1"))
+            svg.text(x + per / 2, row + 51, value, "s", "middle")
+            svg.text(x, row - 3, str(at), "s")
+            at += size
+        return y + height * -(-len(fields) // 10)
+
+    y = strip(header, 0, 52, 0)
+    last = tree.counts[0][0] - 1
+    svg.text(16, y + 26, f"The record of block {last} of level 0, which points: {tree.record} bytes, from {tree.counts[0][1] + last * tree.record}", "h")
+    strip(record, tree.counts[0][1] + last * tree.record, y + 50, 0)
+    return svg.done()
+
+
+def main():
+    tree = Tree((ROOT / "conformance/good/cases-T2-1.tree").read_bytes())
+    drawings = {"crates.svg": draw_crates(), "tree.svg": draw_tree(tree, 18), "bytes.svg": draw_bytes(tree)}
+    stale = [name for name, svg in drawings.items() if not (HERE / name).exists() or (HERE / name).read_text() != svg]
+    if "--check" in sys.argv:
+        if stale:
+            raise SystemExit(f"not current: {', '.join(stale)}; run docs/drawings/draw.py")
+        return
+    for name in stale:
+        (HERE / name).write_text(drawings[name])
+        print(f"docs/drawings/{name}")
+
+
+if __name__ == "__main__":
+    main()
