@@ -87,16 +87,11 @@ fn good_trees() {
 #[test]
 fn damaged_and_wild_trees() {
     rounds(6000, |rng| {
-        let mut tree = if rng.one_in(4) {
-            damage::wild_tree(rng)
-        } else {
+        let tree = damage::hurt_tree(rng, |rng| {
             let (text, shape, counted) = (text(rng), damage::shape(rng), damage::counted(rng));
             fast::tree(&text, shape, &counted)
-        };
-        for _ in 0..rng.below(3) {
-            damage::damage(rng, &mut tree);
-        }
-        ask(rng, &tree.into_boxed_slice());
+        });
+        ask(rng, &tree);
     });
 }
 

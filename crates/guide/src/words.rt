@@ -42,16 +42,16 @@ pub fn entries_before(t: &[u8], h: Header, number: u32) -> u64
 }
 
 // From a block of level 0 on: the last one before any whose before is j or more, with the steps to it.
-pub fn block_from(t: &[u8], h: Header, number: u32, from: u32, j: u64) -> Along
-    requires { ⌜ (HeaderOf (now t) h) × (number < at.countedCount (now t)) × (from < at.levelCount (now t) 0) ⌝ }
-    ensures { λ r. ⌜ (LastBefore (now (t .entry)) number 0 from (at.levelCount (now (t .entry)) 0) j (r .block .0)) × (from + r .steps ≡ r .block .0) ⌝ }
+pub fn block_from(t: &[u8], h: Header, number: u32, from: BlockNumber, j: u64) -> Along
+    requires { ⌜ (HeaderOf (now t) h) × (number < at.countedCount (now t)) × (from .0 < at.levelCount (now t) 0) ⌝ }
+    ensures { λ r. ⌜ (LastBefore (now (t .entry)) number 0 (from .0) (at.levelCount (now (t .entry)) 0) j (r .block .0)) × (from .0 + r .steps ≡ r .block .0) ⌝ }
 {
     seek::step_along(
         t,
         h,
         number,
         0,
-        BlockNumber(from),
+        from,
         BlockNumber(record::level_count(t, 0)),
         j,
     )

@@ -2,6 +2,7 @@
 use crate::Guided;
 use guide::words;
 use layout::header::Header;
+use layout::place::BlockNumber;
 use layout::record;
 use layout::word;
 use rank::counting;
@@ -49,7 +50,7 @@ fn guided(t: &[u8], h: Header, guide: &[u8], wanted: Wanted, j: u32) -> Guided
     if record::level_count(t, 0) <= entry {
         return Guided::Refused(14);
     }
-    let along = words::block_from(t, h, wanted.number, entry, j as u64);
+    let along = words::block_from(t, h, wanted.number, BlockNumber(entry), j as u64);
     let found = seek::seek_in(t, h, wanted, j, along.block);
     with_steps(found, along.steps)
 }

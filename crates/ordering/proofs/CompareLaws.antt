@@ -105,7 +105,7 @@ module _ (t u : List ℕ) where
 -- Run by run.
 
 pub comparing-start : (t u : List ℕ) → readable t ≡ 0 → readable u ≡ 0
-    → Comparing t u (record { place = 0; one = record { from = 0; length = 0 }; other = record { from = 0; length = 0 } })
+    → Comparing t u (record { place = record { 0 = 0 }; one = record { from = 0; length = 0 }; other = record { from = 0; length = 0 } })
 unfolding orderSays
 comparing-start t u r s = record {
   passes = r;
@@ -129,41 +129,41 @@ module _ (t u : List ℕ) (h g : Header) (k : HeaderOf t h) (l : HeaderOf u g) (
 
 module _ (t u : List ℕ) (m : Progress) (c : Comparing t u m) where
   -- at the shorter end
-  pub compare-end : shortest t u ≤ m .place → (n k : ℕ) → n ≡ at.textLength t → k ≡ at.textLength u
-      → (x : Compared) → orderSaid x ≡ byLength n k (m .place) → OrderAnswer t u x
+  pub compare-end : shortest t u ≤ m .place .0 → (n k : ℕ) → n ≡ at.textLength t → k ≡ at.textLength u
+      → (x : Compared) → orderSaid x ≡ byLength n k (m .place .0) → OrderAnswer t u x
   unfolding comparedFrom
   compare-end past n k n-is k-is x x-is =
-      let z : shortest t u - m .place ≡ 0 = omega arith in
-      let e : byLength (at.textLength t) (at.textLength u) (m .place) ≡ orderSays t u = rw z at (c .left) in
+      let z : shortest t u - m .place .0 ≡ 0 = omega arith in
+      let e : byLength (at.textLength t) (at.textLength u) (m .place .0) ≡ orderSays t u = rw z at (c .left) in
       record { says = x-is ∙ rw (n-is, k-is) e }
 
-  module _ (low : m .place < shortest t u) (v : Ran) (first : ReadsFrom t (m .place) v) where
+  module _ (low : m .place .0 < shortest t u) (v : Ran) (first : ReadsFrom t (m .place .0) v) where
     -- the first tree's path breaks, ..
     pub compare-broken : (q : ℕ) → v ≡ ran.Refused q → OrderAnswer t u (compared.Refused 14)
     compare-broken q e =
-        let z : ReadsFrom t (m .place) (ran.Refused q) = rw e at first in
-        record { says = sym (first-broken t u (m .place) low z) ∙ c .left }
+        let z : ReadsFrom t (m .place .0) (ran.Refused q) = rw e at first in
+        record { says = sym (first-broken t u (m .place .0) low z) ∙ c .left }
 
-    module _ (x : Part) (x-is : v ≡ ran.At x) (w : Ran) (second : ReadsFrom u (m .place) w) where
-      here : ReadsFrom t (m .place) (ran.At x)
+    module _ (x : Part) (x-is : v ≡ ran.At x) (w : Ran) (second : ReadsFrom u (m .place .0) w) where
+      here : ReadsFrom t (m .place .0) (ran.At x)
       here = rw x-is at first
 
       -- .. then the second's
       pub compare-broken-2 : (q : ℕ) → w ≡ ran.Refused q → OrderAnswer t u (compared.Refused 14)
       compare-broken-2 q e =
-          let z : ReadsFrom u (m .place) (ran.Refused q) = rw e at second in
-          let holds = first-holds t (m .place) (x .from) (x .length) (here .0) (here .1) in
-          record { says = sym (second-broken t u (m .place) low holds z) ∙ c .left }
+          let z : ReadsFrom u (m .place .0) (ran.Refused q) = rw e at second in
+          let holds = first-holds t (m .place .0) (x .from) (x .length) (here .0) (here .1) in
+          record { says = sym (second-broken t u (m .place .0) low holds z) ∙ c .left }
 
       -- both hold: there is a byte of each
       pub compare-runs : (y : Part) → w ≡ ran.At y
           → Comparing t u (record { place = m .place; one = x; other = y }) × (1 ≤ x .length) × (1 ≤ y .length)
       compare-runs y e =
-          let z : ReadsFrom u (m .place) (ran.At y) = rw e at second in
+          let z : ReadsFrom u (m .place .0) (ran.At y) = rw e at second in
           (record { passes = c .passes; other-passes = c .other-passes; low = c .low; reads = here .0; other-reads = z .0; left = c .left }, here .1, z .1)
 
 -- two runs, of which n bytes are compared
-module _ (t u : List ℕ) (x y : Part) (p : ℕ) (c : Comparing t u (record { place = p; one = x; other = y }))
+module _ (t u : List ℕ) (x y : Part) (p : ℕ) (c : Comparing t u (record { place = record { 0 = p }; one = x; other = y }))
     (n : ℕ) (n-is : n ≡ min (x .length) (y .length)) where
   in-both : p + n ≤ shortest t u
   in-both = omega (arith, c .reads .in-text, c .other-reads .in-text)
@@ -214,7 +214,7 @@ module _ (t u : List ℕ) (x y : Part) (p : ℕ) (c : Comparing t u (record { pl
     -- all do
     pub compare-on : 1 ≤ x .length → 1 ≤ y .length → n ≤ k
         → (a b : Part) → a ≡ record { from = x .from + n; length = x .length - n } → b ≡ record { from = y .from + n; length = y .length - n }
-        → RoundSays t u p (round.On (record { place = p + n; one = a; other = b }))
+        → RoundSays t u p (round.On (record { place = record { 0 = p + n }; one = a; other = b }))
     compare-on some-byte other-byte all a b a-is b-is =
         let e : k ≡ n = omega (arith, g .most) in
         rw (a-is, b-is) (
@@ -231,7 +231,7 @@ module _ (t u : List ℕ) (x y : Part) (p : ℕ) (c : Comparing t u (record { pl
 
 -- what a round says, by its outcome
 module _ (t u : List ℕ) (p : ℕ) (r : Round) (a : RoundSays t u p r) where
-  pub round-on : (m : Progress) → r ≡ round.On m → Comparing t u m × (p < m .place)
+  pub round-on : (m : Progress) → r ≡ round.On m → Comparing t u m × (p < m .place .0)
   round-on m e = let z : RoundSays t u p (round.On m) = rw e at a in z
 
   pub round-settled : (x : Compared) → r ≡ round.Settled x → OrderAnswer t u x

@@ -41,12 +41,12 @@ shortest t u = min (at.textLength t) (at.textLength u)
 pub record Comparing (t u : List ℕ) (m : Progress) : Type 0 where
   pub passes : readable t ≡ 0
   pub other-passes : readable u ≡ 0
-  pub low : m .place ≤ shortest t u
-  pub reads : ReadsOn t (m .place) (m .one .from) (m .one .length)
-  pub other-reads : ReadsOn u (m .place) (m .other .from) (m .other .length)
-  pub left : comparedFrom t u (shortest t u - m .place) (m .place) ≡ orderSays t u
+  pub low : m .place .0 ≤ shortest t u
+  pub reads : ReadsOn t (m .place .0) (m .one .from) (m .one .length)
+  pub other-reads : ReadsOn u (m .place .0) (m .other .from) (m .other .length)
+  pub left : comparedFrom t u (shortest t u - m .place .0) (m .place .0) ≡ orderSays t u
 
 -- a place or more further than p, or the answer
 abbrev pub RoundSays : List ℕ → List ℕ → ℕ → Round → Type 0
-RoundSays t u p (round.On m) = Comparing t u m × (p < m .place)
+RoundSays t u p (round.On m) = Comparing t u m × (p < m .place .0)
 RoundSays t u p (round.Settled r) = OrderAnswer t u r

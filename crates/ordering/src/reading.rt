@@ -16,7 +16,7 @@ ghost use Rattle.ordering.specs.Comparing.{ReadsFrom, Agrees, byByte, Co
 
 // How far two trees were compared: the next place, and what is left of the run of each.
 pub struct Progress {
-    pub place: u32,
+    pub place: TextPlace,
     pub one: Part,
     pub other: Part,
 }
@@ -34,11 +34,11 @@ pub fn by_places(one: &[u8], h: Header, other: &[u8], g: Header) -> Compared
 {
     let most = stretches::shorter(h.length, g.length);
     let mut m = Progress {
-        place: 0,
+        place: TextPlace(0),
         one: Part { from: 0, length: 0 },
         other: Part { from: 0, length: 0 },
     };
-    while m.place < most {
+    while m.place.0 < most {
         let round = read_on(one, h, other, g, m);
         match round {
             Round::On(next) => {
@@ -49,13 +49,13 @@ pub fn by_places(one: &[u8], h: Header, other: &[u8], g: Header) -> Compared
             }
         }
     }
-    by_length(h.length, g.length, m.place)
+    by_length(h.length, g.length, m.place.0)
 }
 
 // Reads the next place in the first tree and then in the second, and compares on along their runs.
 fn read_on(one: &[u8], h: Header, other: &[u8], g: Header, m: Progress) -> Round
-    requires { ⌜ (HeaderOf (now one) h) × (HeaderOf (now other) g) × (Comparing (now one) (now other) m) × (m .place < min (h .length) (g .length)) ⌝ }
-    ensures { λ r. ⌜ RoundSays (now (one .entry)) (now (other .entry)) (m .place) r ⌝ }
+    requires { ⌜ (HeaderOf (now one) h) × (HeaderOf (now other) g) × (Comparing (now one) (now other) m) × (m .place .0 < min (h .length) (g .length)) ⌝ }
+    ensures { λ r. ⌜ RoundSays (now (one .entry)) (now (other .entry)) (m .place .0) r ⌝ }
 {
     let first = run_from(one, h, m.place, m.one);
     let Ran::At(x) = first else {
@@ -69,20 +69,20 @@ fn read_on(one: &[u8], h: Header, other: &[u8], g: Header, m: Progress) -> Round
 }
 
 // The run of a place, or what is left of one that was read.
-fn run_from(t: &[u8], h: Header, at: u32, held: Part) -> Ran
-    requires { ⌜ (HeaderOf (now t) h) × (at < h .length) × ReadsOn (now t) at (held .from) (held .length) ⌝ }
-    ensures { λ r. ⌜ ReadsFrom (now (t .entry)) at r ⌝ }
+fn run_from(t: &[u8], h: Header, at: TextPlace, held: Part) -> Ran
+    requires { ⌜ (HeaderOf (now t) h) × (at .0 < h .length) × ReadsOn (now t) (at .0) (held .from) (held .length) ⌝ }
+    ensures { λ r. ⌜ ReadsFrom (now (t .entry)) (at .0) r ⌝ }
 {
     if 0 < held.length {
         return Ran::At(held);
     }
-    reading::part_at(t, h, TextPlace(at))
+    reading::part_at(t, h, at)
 }
 
 // Compares as many bytes as both runs have.
-fn compare_runs(one: &[u8], x: Part, other: &[u8], y: Part, place: u32) -> Round
+fn compare_runs(one: &[u8], x: Part, other: &[u8], y: Part, place: TextPlace) -> Round
     requires { ⌜ (Comparing (now one) (now other) (record { place = place; one = x; other = y })) × (1 ≤ x .length) × (1 ≤ y .length) ⌝ }
-    ensures { λ r. ⌜ RoundSays (now (one .entry)) (now (other .entry)) place r ⌝ }
+    ensures { λ r. ⌜ RoundSays (now (one .entry)) (now (other .entry)) (place .0) r ⌝ }
 {
     let n = shorter(x.length, y.length);
     let same = agree(one, x.from, other, y.from, n);
@@ -92,7 +92,7 @@ fn compare_runs(one: &[u8], x: Part, other: &[u8], y: Part, place: u32) -> Round
     let first = rest(x, n);
     let second = rest(y, n);
     Round::On(Progress {
-        place: place + n as u32,
+        place: TextPlace(place.0 + n as u32),
         one: first,
         other: second,
     })
@@ -135,11 +135,11 @@ fn agree(one: &[u8], from: usize, other: &[u8], at: usize, n: usize) -> usize
 }
 
 // By the first byte that differs: the k-th of two parts, which stand at a place of the text.
-fn by_byte(one: &[u8], from: usize, other: &[u8], at: usize, k: usize, place: u32) -> Compared
-    requires { ⌜ (from + k < length (now one)) × (at + k < length (now other)) × (place + k < 4294967296) ⌝ }
-    ensures { λ r. ⌜ orderSaid r ≡ byByte (getD (now (one .entry)) (from + k) 0) (getD (now (other .entry)) (at + k) 0) (place + k) ⌝ }
+fn by_byte(one: &[u8], from: usize, other: &[u8], at: usize, k: usize, place: TextPlace) -> Compared
+    requires { ⌜ (from + k < length (now one)) × (at + k < length (now other)) × (place .0 + k < 4294967296) ⌝ }
+    ensures { λ r. ⌜ orderSaid r ≡ byByte (getD (now (one .entry)) (from + k) 0) (getD (now (other .entry)) (at + k) 0) (place .0 + k) ⌝ }
 {
-    let length = place + k as u32;
+    let length = place.0 + k as u32;
     if one[from + k] < other[at + k] {
         return Compared::Before(length);
     }

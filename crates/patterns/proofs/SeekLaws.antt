@@ -131,7 +131,7 @@ module _ (t P : List ℕ) where
   -- The pass.
 
   module _ (room : ℕ) (before : List ℕ) where
-    pub seeking-start : 1 ≤ length P → room ≤ length before → (m : Progress) → m .place ≡ 0 → m .state ≡ 0 → m .found ≡ 0 → Seeking t P room before m before
+    pub seeking-start : 1 ≤ length P → room ≤ length before → (m : Progress) → m .place .0 ≡ 0 → m .state ≡ 0 → m .found ≡ 0 → Seeking t P room before m before
     seeking-start some-byte fits m a b c = record {
       in-text = omega arith;
       fits = fits;
@@ -149,24 +149,24 @@ module _ (t P : List ℕ) where
       seeking-even some-byte = record {
         short = s .longest .ends .short;
         state-low = omega (arith, s .longest .ends .room);
-        found-low = omega (arith, s .found-is, so-far-few some-byte (m .place));
+        found-low = omega (arith, s .found-is, so-far-few some-byte (m .place .0));
       }
 
       pub seeking-length : length table ≡ length before
-      seeking-length = ap length (s .table-is) ∙ filled-length (soFar t P (m .place)) room before (s .fits)
+      seeking-length = ap length (s .table-is) ∙ filled-length (soFar t P (m .place .0)) room before (s .fits)
 
       -- one byte more
       seeking-step : (r : Progress) (after : List ℕ) (byte : ℕ) → Stepped P byte room m table r after
-          → byte ≡ getD T (m .place) 0 → m .place < length T → Seeking t P room before r after
+          → byte ≡ getD T (m .place .0) 0 → m .place .0 < length T → Seeking t P room before r after
       seeking-step r after byte e is low = go (bool-cases (eqb (r .state) (length P)))
         where
           i : ℕ
-          i = m .place
+          i = m .place .0
 
           on : Longest P (λ p. getD T p 0) 0 (i + 1) (r .state)
           on = e .next .next (λ p. getD T p 0) 0 i (s .longest) (sym is)
 
-          in-text : r .place ≤ at.textLength t
+          in-text : r .place .0 ≤ at.textLength t
           in-text = omega (arith, e .place-is, text-length t)
 
           go : (eqb (r .state) (length P) ≡ true) ⊎ (eqb (r .state) (length P) ≡ false) → Seeking t P room before r after
@@ -181,7 +181,7 @@ module _ (t P : List ℕ) where
               }
             where
               put : (m .found < room) ⊎ (room ≤ m .found)
-                  → cond (ltb (m .found) room) (set table (m .found) (m .place + 1 - length P)) table ≡ filled (soFar t P i ++ (i + 1 - length P) ∷ []) room before
+                  → cond (ltb (m .found) room) (set table (m .found) (m .place .0 + 1 - length P)) table ≡ filled (soFar t P i ++ (i + 1 - length P) ∷ []) room before
               put (inl h) = rw (lt-ltb (m .found) room h, s .table-is, s .found-is) (filled-more (soFar t P i) room before (s .fits) (i + 1 - length P) (omega (arith, s .found-is)))
               put (inr h) = rw (le-ltb (m .found) room h) (s .table-is ∙ sym (filled-full (soFar t P i) room before (s .fits) (i + 1 - length P) (omega (arith, s .found-is))))
           go (inr y) =
@@ -194,7 +194,7 @@ module _ (t P : List ℕ) where
               }
 
       -- the next byte of a part that is read
-      pub seeking-byte : (m₀ : Progress) (from size j byte : ℕ) (r : Progress) (after : List ℕ) → ReadsOn t (m₀ .place) from size → j < size → m .place ≡ m₀ .place + j
+      pub seeking-byte : (m₀ : Progress) (from size j byte : ℕ) (r : Progress) (after : List ℕ) → ReadsOn t (m₀ .place .0) from size → j < size → m .place .0 ≡ m₀ .place .0 + j
           → byte ≡ getD t (from + j) 0 → Stepped P byte room m table r after → Seeking t P room before r after
       seeking-byte m₀ from size j byte r after a low at-is byte-is e =
           seeking-step r after byte e (byte-is ∙ a .bytes j low ∙ ap (λ (p : ℕ). getD T p 0) (sym at-is)) (omega (arith, a .in-text, text-length t))
@@ -225,32 +225,32 @@ holds-run t p (suc x) rest h = step (holds-run t (p + 1) x rest (λ d l. rw (add
         rw (a, b, pathsHold, z) e
 
 module _ (t P : List ℕ) (room : ℕ) (before : List ℕ) (m : Progress) (table : List ℕ) (s : Seeking t P room before m table)
-    (hold : pathsHold t (m .place) (at.textLength t - m .place) ≡ pathsHold t 0 (at.textLength t)) where
+    (hold : pathsHold t (m .place .0) (at.textLength t - m .place .0) ≡ pathsHold t 0 (at.textLength t)) where
   -- a run was read
-  pub seek-on : (from size next : ℕ) → ReadsOn t (m .place) from size → next ≡ m .place + size
+  pub seek-on : (from size next : ℕ) → ReadsOn t (m .place .0) from size → next ≡ m .place .0 + size
       → pathsHold t next (at.textLength t - next) ≡ pathsHold t 0 (at.textLength t)
   seek-on from size next a e =
-      let z : at.textLength t - m .place ≡ size + (at.textLength t - (m .place + size)) = omega (arith, a .in-text) in
-      rw e (sym (holds-run t (m .place) size (at.textLength t - (m .place + size)) (a .holds)) ∙ rw z at hold)
+      let z : at.textLength t - m .place .0 ≡ size + (at.textLength t - (m .place .0 + size)) = omega (arith, a .in-text) in
+      rw e (sym (holds-run t (m .place .0) size (at.textLength t - (m .place .0 + size)) (a .holds)) ∙ rw z at hold)
 
   -- a path breaks
-  pub seek-broken : m .place < at.textLength t → byteSays t (m .place) .number ≡ 14 → SeekSays t P room before Broken table
+  pub seek-broken : m .place .0 < at.textLength t → byteSays t (m .place .0) .number ≡ 14 → SeekSays t P room before Broken table
   unfolding pathsHold
   seek-broken low b =
-      let z : at.textLength t - m .place ≡ suc (at.textLength t - m .place - 1) = omega arith in
-      let no-more : pathsHold t (m .place) (suc (at.textLength t - m .place - 1)) ≡ false = rw b in
+      let z : at.textLength t - m .place .0 ≡ suc (at.textLength t - m .place .0 - 1) = omega arith in
+      let no-more : pathsHold t (m .place .0) (suc (at.textLength t - m .place .0 - 1)) ≡ false = rw b in
       let not-all : pathsHold t 0 (at.textLength t) ≡ false = sym (rw z at hold) ∙ no-more in record {
         says = rw not-all;
         table-is = λ y. bool-clash _ y not-all;
       }
 
   -- all was read
-  pub seek-end : 1 ≤ length P → at.textLength t ≤ m .place → SeekSays t P room before (All (m .found)) table
+  pub seek-end : 1 ≤ length P → at.textLength t ≤ m .place .0 → SeekSays t P room before (All (m .found)) table
   unfolding pathsHold
   seek-end some-byte past =
-      let z : at.textLength t - m .place ≡ 0 = omega arith in
+      let z : at.textLength t - m .place .0 ≡ 0 = omega arith in
       let all : pathsHold t 0 (at.textLength t) ≡ true = sym (rw z at hold) in
-      let e : soFar t P (m .place) ≡ placesOf t P = so-far-end t P some-byte (m .place) (omega (arith, s .in-text, text-length t)) in record {
+      let e : soFar t P (m .place .0) ≡ placesOf t P = so-far-end t P some-byte (m .place .0) (omega (arith, s .in-text, text-length t)) in record {
         says = rw all (rw e at (ap All (s .found-is)));
         table-is = λ y. s .table-is ∙ ap (λ (ps : List ℕ). filled ps room before) e;
       }

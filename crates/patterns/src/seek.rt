@@ -16,7 +16,7 @@ ghost use Rattle.patterns.specs.Seeking.{Stepped, Seeking, Even, SeekSay
 
 // How far the text was read: the place to be read next, the state of the match there, and how many places were found.
 pub struct Progress {
-    pub place: u32,
+    pub place: TextPlace,
     pub state: usize,
     pub found: u32,
 }
@@ -28,12 +28,12 @@ pub enum Sought {
 }
 
 // Puts down a place that was found, if there is room for so many.
-fn note(table: &mut [u32], room: u32, found: u32, place: u32)
+fn note(table: &mut [u32], room: u32, found: u32, place: TextPlace)
     requires { ⌜ room ≤ length (now table) ⌝ }
-    ensures { λ _. ⌜ now (table .exit) ≡ cond (ltb found room) (set (now (table .entry)) found place) (now (table .entry)) ⌝ }
+    ensures { λ _. ⌜ now (table .exit) ≡ cond (ltb found room) (set (now (table .entry)) found (place .0)) (now (table .entry)) ⌝ }
 {
     if found < room {
-        table[found as usize] = place;
+        table[found as usize] = place.0;
     }
 }
 
@@ -46,22 +46,22 @@ fn step(
     room: u32,
     table: &mut [u32],
 ) -> Progress
-    requires { ⌜ (Even (now pattern) m) × (m .place + 1 < 4294967296) × (room ≤ length (now table)) ⌝ }
+    requires { ⌜ (Even (now pattern) m) × (m .place .0 + 1 < 4294967296) × (room ≤ length (now table)) ⌝ }
     requires { ⌜ (length (now pattern) ≤ length (now borders)) × Borders (now pattern) (now borders) (length (now pattern)) ⌝ }
     ensures { λ r. ⌜ Stepped (now (pattern .entry)) byte room m (now (table .entry)) r (now (table .exit)) ⌝ }
 {
     let state = kmp::advance(pattern, borders, m.state, byte);
-    let next = m.place + 1;
+    let next = m.place.0 + 1;
     if state != pattern.len() {
         return Progress {
-            place: next,
+            place: TextPlace(next),
             state,
             found: m.found,
         };
     }
-    note(table, room, m.found, next - pattern.len() as u32);
+    note(table, room, m.found, TextPlace(next - pattern.len() as u32));
     Progress {
-        place: next,
+        place: TextPlace(next),
         state,
         found: m.found + 1,
     }
@@ -78,9 +78,9 @@ fn feed(
     room: u32,
     table: &mut [u32],
 ) -> Progress
-    requires { ⌜ (ReadsOn (now t) (m .place) from size) × (m .place + size < 4294967296) × (Even (now pattern) m) × (room ≤ length (now table)) ⌝ }
+    requires { ⌜ (ReadsOn (now t) (m .place .0) from size) × (m .place .0 + size < 4294967296) × (Even (now pattern) m) × (room ≤ length (now table)) ⌝ }
     requires { ⌜ (length (now pattern) ≤ length (now borders)) × Borders (now pattern) (now borders) (length (now pattern)) ⌝ }
-    ensures { λ r. ⌜ (r .place ≡ m .place + size) × ((before : List ℕ) → Seeking (now (t .entry)) (now (pattern .entry)) room before m (now (table .entry)) → Seeking (now (t .entry)) (now (pattern .entry)) room before r (now (table .exit))) ⌝ }
+    ensures { λ r. ⌜ (r .place .0 ≡ m .place .0 + size) × ((before : List ℕ) → Seeking (now (t .entry)) (now (pattern .entry)) room before m (now (table .entry)) → Seeking (now (t .entry)) (now (pattern .entry)) room before r (now (table .exit))) ⌝ }
 {
     let mut at = m;
     let mut i: usize = 0;
@@ -105,12 +105,12 @@ pub fn seek(
     ensures { λ r. ⌜ SeekSays (now (t .entry)) (now (pattern .entry)) room (now (table .entry)) r (now (table .exit)) ⌝ }
 {
     let mut m = Progress {
-        place: 0,
+        place: TextPlace(0),
         state: 0,
         found: 0,
     };
-    while m.place < h.length {
-        let ran = reading::part_at(t, h, TextPlace(m.place));
+    while m.place.0 < h.length {
+        let ran = reading::part_at(t, h, m.place);
         let Ran::At(part) = ran else {
             return Sought::Broken;
         };

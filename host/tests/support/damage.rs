@@ -269,3 +269,12 @@ fn record(rng: &mut Rng, tree: &mut Vec<u8>, number: usize, b: u32, k: usize) {
         tree.extend_from_slice(&value.to_le_bytes());
     }
 }
+
+/// A wild tree, or more often a good one, damaged up to twice.
+pub fn hurt_tree(rng: &mut Rng, good: impl FnOnce(&mut Rng) -> Vec<u8>) -> Box<[u8]> {
+    let mut tree = if rng.one_in(4) { wild_tree(rng) } else { good(rng) };
+    for _ in 0..rng.below(3) {
+        damage(rng, &mut tree);
+    }
+    tree.into_boxed_slice()
+}

@@ -10,7 +10,7 @@ abbrev Inv-loop : tie.InvT-loop
 Inv-loop one h other g most m₀ m = Comparing one other m
 
 abbrev μ-loop : tie.MeasureT-loop
-μ-loop one h other g most m₀ m = shortest one other - m .place
+μ-loop one h other g most m₀ m = shortest one other - m .place .0
 
 pub by-places-spec : {M : Type 1} → statement M
 by-places-spec =

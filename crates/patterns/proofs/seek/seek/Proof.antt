@@ -13,10 +13,10 @@ use Rattle.patterns.proofs.seek.seek.Tie as tie
 
 abbrev Inv-loop : tie.InvT-loop
 Inv-loop t h pattern borders room table₀ m₀ table m =
-    Seeking t pattern room table₀ m table × (pathsHold t (m .place) (at.textLength t - m .place) ≡ pathsHold t 0 (at.textLength t))
+    Seeking t pattern room table₀ m table × (pathsHold t (m .place .0) (at.textLength t - m .place .0) ≡ pathsHold t 0 (at.textLength t))
 
 abbrev μ-loop : tie.MeasureT-loop
-μ-loop t h pattern borders room table₀ m₀ table m = at.textLength t - m .place
+μ-loop t h pattern borders room table₀ m₀ table m = at.textLength t - m .place .0
 
 pub seek-spec : {M : Type 1} → statement M
 seek-spec =
