@@ -172,14 +172,14 @@ fn needs() {
 #[test]
 fn the_archive_is_made_of_the_crates_as_they_stand() {
     let root = folder("archive");
-    for name in ["host", "tools", "crates/abi/src"] {
+    for name in ["host", "tools", "crates/abi"] {
         fs::create_dir_all(root.join(name)).expect("a folder");
     }
     fs::copy(repository().join("host/make-archive"), root.join("host/make-archive")).expect("the script");
     fs::write(root.join("crates.txt"), "text:\nabi: text # the calls\nother: abi\n").expect("a file");
-    fs::write(root.join("crates/abi/src/lib.rt"), "1").expect("a file");
+    fs::write(root.join("crates/abi/source"), "1").expect("a file");
     let rt = "#!/bin/sh\n[ \"$1\" = version ] && exec echo one\necho proved >> calls\n[ -e fails ] && { echo no proof; exit 1; }\n\
-              mkdir -p target/staticlib && cp crates/abi/src/lib.rt target/staticlib/libabi.a\n";
+              mkdir -p target/staticlib && cp crates/abi/source target/staticlib/libabi.a\n";
     fs::write(root.join("tools/rt"), rt).expect("a file");
     fs::set_permissions(root.join("tools/rt"), std::os::unix::fs::PermissionsExt::from_mode(0o755)).expect("permissions");
     let path = format!("{}:{}", root.join("tools").display(), std::env::var("PATH").unwrap_or_default());
@@ -190,10 +190,10 @@ fn the_archive_is_made_of_the_crates_as_they_stand() {
     assert!(said.starts_with("the library is proved: 2 crates, "), "{said}");
     assert!(run().stderr.is_empty());
     assert_eq!((calls(), archive()), (1, "1".to_owned()));
-    fs::write(root.join("crates/abi/src/lib.rt"), "2").expect("a file");
+    fs::write(root.join("crates/abi/source"), "2").expect("a file");
     assert!(run().status.success());
     assert_eq!((calls(), archive()), (2, "2".to_owned()));
-    fs::write(root.join("crates/abi/src/lib.rt"), "3").expect("a file");
+    fs::write(root.join("crates/abi/source"), "3").expect("a file");
     fs::write(root.join("fails"), "").expect("a file");
     let failed = run();
     assert!(!failed.status.success() && String::from_utf8_lossy(&failed.stderr).ends_with("no proof\n"), "{failed:?}");
