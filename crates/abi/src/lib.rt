@@ -1,10 +1,10 @@
 // The calls exported to C. Each answers a number: 0, or the number of the question that refuses. Figures are written behind
 // references, 0 on a refusal. Any bytes may be lent as a tree.
-mod by_columns;
-pub mod figures;
-pub mod guides;
-pub mod licence;
-pub mod order;
+mod column_exports;
+pub mod figure_exports;
+pub mod guide_exports;
+pub mod licence_exports;
+pub mod order_exports;
 
 use listing::Listed;
 use query::Answer;
@@ -21,19 +21,19 @@ use tree::Room;
 use tree::Scanned;
 ghost use mathlib.Core.Path.{_≡_};
 ghost use lib.ListN.{length};
-ghost use Rattle.format.specs.Building.{buildNumber, buildSize, buildLeaves};
-ghost use Rattle.format.specs.Reading.{byteSays, runSays, spanSays, spanLeaves};
-ghost use Rattle.format.specs.Counting.{countSays};
-ghost use Rattle.format.specs.Finding.{FindSays};
+ghost use Rattle.format.specs.BuildSays.{buildNumber, buildSize, buildLeaves};
+ghost use Rattle.format.specs.ReadSays.{byteSays, runSays, spanSays, spanLeaves};
+ghost use Rattle.format.specs.CountSays.{countSays};
+ghost use Rattle.format.specs.FindSays.{FindSays};
 ghost use Rattle.format.specs.RowSays.{RowSays};
 ghost use Rattle.format.specs.Verdict.{verdict};
-ghost use Rattle.builder.specs.Answers.{given};
+ghost use Rattle.builder.specs.BuildAnswer.{given};
 ghost use Rattle.enough.specs.Enough.{enoughSays};
-ghost use Rattle.listing.specs.Says.{listSays, listLeaves};
+ghost use Rattle.listing.specs.ListSays.{listSays, listLeaves};
 ghost use Rattle.patterns.specs.Places.{placesSays, placesLeaves};
-ghost use Rattle.scanner.specs.Scanning.{tableWords, scanNumber, scanSize, scanWindows, scanLeaves, TableLeft};
-ghost use Rattle.worn_keys.specs.Says.{MatchSays};
-ghost use Rattle.abi.specs.Answers.{saying, roomNumber, roomSize, listedNumber, listedSize};
+ghost use Rattle.scanner.specs.ScannedSays.{tableWords, scanNumber, scanSize, scanWindows, scanLeaves, TableLeft};
+ghost use Rattle.worn_keys.specs.MatchSays.{MatchSays};
+ghost use Rattle.abi.specs.ExportAnswers.{saying, roomNumber, roomSize, listedNumber, listedSize};
 
 // Builds the tree of a text.
 #[no_mangle]

@@ -10,10 +10,10 @@ use lib.ListN.{length, getD, take, drop}
 use Rattle.format.specs.Layout as at
 use Rattle.format.specs.Path.{Path, Visit, pathOf}
 use Rattle.format.specs.Verdict.{readable}
-use Rattle.format.specs.HeaderLaws.{leaf-inside}
+use Rattle.format.specs.LayoutLaws.{leaf-inside}
 use Rattle.format.specs.Said.{Said, refused}
 use Rattle.format.specs.SaidLaws.{unless-refused}
-use Rattle.format.specs.Reading.{byteSays, leftOver, runSays}
+use Rattle.format.specs.ReadSays.{byteSays, leftOver, runSays}
 use Rattle.layout.specs.declared.header.Header.{Header}
 use Rattle.layout.specs.declared.header.HeaderRead.{HeaderRead}
 use Rattle.layout.specs.declared.header.HeaderRead.the-variants.{Refused}
@@ -22,13 +22,13 @@ use Rattle.walk.specs.declared.Trail.{Trail}
 use Rattle.walk.specs.declared.Reached.{Reached}
 use Rattle.walk.specs.declared.Walked.{Walked}
 use Rattle.walk.specs.declared.Walked.the-variants.{At, Broken}
-use Rattle.access.specs.declared.reading.Part.{Part}
-use Rattle.access.specs.declared.reading.Ran.{Ran}
-use Rattle.access.specs.declared.reading.Ran.the-variants as ran
+use Rattle.access.specs.declared.read_by_header.Part.{Part}
+use Rattle.access.specs.declared.read_by_header.Ran.{Ran}
+use Rattle.access.specs.declared.read_by_header.Ran.the-variants as ran
 use Rattle.layout.specs.HeaderSays.{HeaderOf}
 use Rattle.walk.specs.Walk.{walked}
 use Rattle.walk.proofs.EndLaws.{Ends, ends, broken, end-leaf}
-use Rattle.access.specs.Answers.{RunAnswer}
+use Rattle.access.specs.ReadAnswers.{RunAnswer}
 use Rattle.layout.specs.HeaderSays.{header-refused}
 
 -- a bound that is put in at the start may as well be put in at the end

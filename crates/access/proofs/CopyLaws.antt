@@ -13,13 +13,13 @@ use Rattle.text.specs.Lists.{tabulate}
 use Rattle.text.specs.ListLaws.{tab-none, tab-more}
 use Rattle.format.specs.Layout as at
 use Rattle.format.specs.Said.{Said, refused}
-use Rattle.format.specs.Reading.{byteSays, pathsHold}
+use Rattle.format.specs.ReadSays.{byteSays, pathsHold}
 use Rattle.layout.specs.declared.header.Header.{Header}
 use Rattle.layout.specs.HeaderSays.{HeaderOf}
 use Rattle.access.specs.declared.Answer.{Answer}
 use Rattle.access.specs.declared.Answer.the-variants.{Byte, Refused}
-use Rattle.access.specs.Answers.{said}
-use Rattle.paths.specs.Bytes.{only-14}
+use Rattle.access.specs.ReadAnswers.{said}
+use Rattle.paths.specs.PlaceBytes.{only-14}
 use Rattle.access.proofs.SpanLaws.{ByPaths, values, span-copied, span-broken}
 
 -- the paths of what is left of a span, and of the whole

@@ -18,13 +18,13 @@ use Rattle.format.specs.Verdict.{readable, verdict}
 use Rattle.format.specs.VerdictLaws.{accepted-readable}
 use Rattle.margins.specs.Demands as margins
 use Rattle.format.specs.Said.{Said, refused}
-use Rattle.format.specs.Reading.{runSays, spanBlocks, spanSays}
+use Rattle.format.specs.ReadSays.{runSays, spanBlocks, spanSays}
 use Rattle.paths.specs.Demands as paths
 use Rattle.access.specs.declared.Answer.{Answer}
 use Rattle.access.specs.declared.Answer.the-variants.{Byte, Refused}
 use Rattle.access.specs.declared.Copied.{Copied}
 use Rattle.access.specs.declared.Copied.the-variants as copied
-use Rattle.access.specs.Answers.{said, copiedSaid, Numbered}
+use Rattle.access.specs.ReadAnswers.{said, copiedSaid, Numbered}
 use Rattle.paths.specs.Visits.{path-long}
 use Rattle.access.proofs.byte.Reads as byte-reads
 use Rattle.access.proofs.run.Reads as run-reads

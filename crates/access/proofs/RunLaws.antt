@@ -13,20 +13,20 @@ use Rattle.format.specs.Layout as at
 use Rattle.format.specs.Path.{Path, pathOf}
 use Rattle.format.specs.Fits.{textOf}
 use Rattle.format.specs.Verdict.{readable}
-use Rattle.format.specs.HeaderLaws.{Readable, readable-facts}
+use Rattle.format.specs.LayoutLaws.{Readable, readable-facts}
 use Rattle.format.specs.Said.{Said}
-use Rattle.format.specs.Reading.{byteSays, leftOver, runSays}
+use Rattle.format.specs.ReadSays.{byteSays, leftOver, runSays}
 use Rattle.paths.specs.OneText.{text-length}
 use Rattle.paths.specs.Shift.{left-most, left-within, path-further}
 use Rattle.paths.specs.Reads as reads
-use Rattle.paths.specs.Bytes.{path-there, byte-broken}
+use Rattle.paths.specs.PlaceBytes.{path-there, byte-broken}
 use Rattle.layout.specs.declared.header.Header.{Header}
 use Rattle.layout.specs.HeaderSays.{HeaderOf}
-use Rattle.access.specs.declared.reading.Part.{Part}
-use Rattle.access.specs.declared.reading.Ran.{Ran}
-use Rattle.access.specs.declared.reading.Ran.the-variants as ran
-use Rattle.access.specs.Answers.{RunAnswer}
-use Rattle.access.specs.Runs.{ReadsOn}
+use Rattle.access.specs.declared.read_by_header.Part.{Part}
+use Rattle.access.specs.declared.read_by_header.Ran.{Ran}
+use Rattle.access.specs.declared.read_by_header.Ran.the-variants as ran
+use Rattle.access.specs.ReadAnswers.{RunAnswer}
+use Rattle.access.specs.ReadByRuns.{ReadsOn}
 
 -- nothing read
 pub reads-none : (t : List ℕ) (p from : ℕ) → p ≤ at.textLength t → from ≤ length t → ReadsOn t p from 0

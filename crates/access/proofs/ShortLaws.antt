@@ -13,15 +13,15 @@ use Rattle.text.specs.Text.{stretch}
 use Rattle.format.specs.Layout as at
 use Rattle.format.specs.Said.{Said, refused}
 use Rattle.format.specs.Short.{Short, shortOf, shortBytes}
-use Rattle.format.specs.ReadingLaws.{short-span}
-use Rattle.format.specs.Reading.{isShort, holds, blocksOf, spanReached, spanBytes, spanBlocks}
+use Rattle.format.specs.ReadSaysLaws.{short-span}
+use Rattle.format.specs.ReadSays.{isShort, holds, blocksOf, spanReached, spanBytes, spanBlocks}
 use Rattle.stretches.specs.Stretches.{bytesWritten}
 use Rattle.layout.specs.declared.header.Header.{Header}
 use Rattle.layout.specs.HeaderSays.{HeaderOf}
 use Rattle.borders.specs.declared.gather.Parts.{Parts}
 use Rattle.borders.specs.declared.gather.Gathered.{Gathered}
 use Rattle.borders.specs.declared.gather.Gathered.the-variants.{At, Broken}
-use Rattle.borders.specs.Gathering.{gathered, Within}
+use Rattle.borders.specs.Gathered.{gathered, Within}
 use Rattle.access.proofs.SpanLaws.{Whole, span-copied, span-broken}
 
 -- by the header

@@ -11,13 +11,13 @@ use Rattle.text.specs.Lists.{tabulate}
 use Rattle.format.specs.Layout as at
 use Rattle.format.specs.Verdict.{ask, readable}
 use Rattle.format.specs.Said.{Said, refused, unless}
-use Rattle.format.specs.Reading.{byteSays, pathsHold, asksSpan, leavesSpan, isShort, spanReached, spanBytes, spanBlocks, spanNumber, spanSays, spanLeaves, copyNumber, copySays, copyLeaves}
+use Rattle.format.specs.ReadSays.{byteSays, pathsHold, asksSpan, leavesSpan, isShort, spanReached, spanBytes, spanBlocks, spanNumber, spanSays, spanLeaves, copyNumber, copySays, copyLeaves}
 use Rattle.layout.specs.declared.header.HeaderRead.{HeaderRead}
 use Rattle.layout.specs.declared.header.HeaderRead.the-variants as read
 use Rattle.layout.specs.Header.{headerSays}
 use Rattle.layout.specs.HeaderSays.{header-refused, readable-small}
 use Rattle.access.specs.declared.Copied.{Copied}
-use Rattle.access.specs.Answers.{copiedSaid, Numbered, SpanAnswer, CopyAnswer}
+use Rattle.access.specs.ReadAnswers.{copiedSaid, Numbered, SpanAnswer, CopyAnswer}
 
 -- s and what is left of buffer d are what a span says and leaves, whose bytes are reached or not and which reports so many blocks
 pub record Spanned (t : List ℕ) (p len : ℕ) (d : List ℕ) (reached : Bool) (bytes : List ℕ) (blocks : ℕ) (s : Said) (after : List ℕ) : Type 0 where

@@ -1,15 +1,15 @@
 // The questions put to a tree. Each asks 5 to 7 first, of any bytes lent as a tree.
-pub mod reading;
+pub mod read_by_header;
 
-use crate::reading::Ran;
+use crate::read_by_header::Ran;
 use layout::header;
 use layout::header::HeaderRead;
 use layout::place::TextPlace;
 ghost use mathlib.Core.Path.{_≡_};
 ghost use Prim.Native.Nat.{_+_};
 ghost use lib.ListN.{length, take, drop};
-ghost use Rattle.format.specs.Reading.{byteSays, runSays, spanLeaves};
-ghost use Rattle.access.specs.Answers.{said, RunAnswer, SpanAnswer};
+ghost use Rattle.format.specs.ReadSays.{byteSays, runSays, spanLeaves};
+ghost use Rattle.access.specs.ReadAnswers.{said, RunAnswer, SpanAnswer};
 
 // A byte of the text with the number of blocks entered, or the number of the question that refuses.
 pub enum Answer {
@@ -30,7 +30,7 @@ pub fn byte(t: &[u8], at: TextPlace) -> Answer
 {
     let read = header::read_header(t);
     match read {
-        HeaderRead::Good(h) => reading::byte_at(t, h, at),
+        HeaderRead::Good(h) => read_by_header::byte_at(t, h, at),
         HeaderRead::Refused(number) => Answer::Refused(number),
     }
 }
@@ -56,7 +56,7 @@ pub fn run_part(t: &[u8], at: TextPlace) -> Ran
 {
     let read = header::read_header(t);
     match read {
-        HeaderRead::Good(h) => reading::part_at(t, h, at),
+        HeaderRead::Good(h) => read_by_header::part_at(t, h, at),
         HeaderRead::Refused(number) => Ran::Refused(number),
     }
 }
@@ -68,7 +68,7 @@ pub fn span(t: &[u8], at: TextPlace, len: u32, buffer: &mut [u8]) -> Copied
 {
     let read = header::read_header(t);
     match read {
-        HeaderRead::Good(h) => reading::span_at(t, h, at, len, buffer),
+        HeaderRead::Good(h) => read_by_header::span_at(t, h, at, len, buffer),
         HeaderRead::Refused(number) => Copied::Refused(number),
     }
 }

@@ -13,11 +13,11 @@ use lib.ListN.{length, length-append}
 use Rattle.text.specs.ListLaws.{lt-or-ge, and-left, and-right}
 use Rattle.format.specs.Layout as at
 use Rattle.format.specs.Path.{Visit, visit, keptBlock, pointingBlock, targetBlock, targetPlace, lands, landBlock, landPlace, landVisits}
-use Rattle.format.specs.HeaderLaws.{Readable, size-high, full-pos}
+use Rattle.format.specs.LayoutLaws.{Readable, size-high, full-pos}
 use Rattle.format.specs.Short.{Short, led, byEdges, inLeaf, shortFrom, shortOf}
-use Rattle.margins.specs.Steps as margins
-use Rattle.margins.specs.Places.{short-in}
-use Rattle.paths.specs.Landing.{target-first, target-second}
+use Rattle.margins.specs.SpanSteps as margins
+use Rattle.margins.specs.SpanPlaces.{short-in}
+use Rattle.paths.specs.PlacesLand.{target-first, target-second}
 use Rattle.layout.specs.declared.header.Header.{Header}
 use Rattle.layout.specs.declared.place.BlockNumber.{BlockNumber}
 use Rattle.layout.specs.declared.place.BlockPlace.{BlockPlace}
@@ -26,14 +26,14 @@ use Rattle.layout.specs.Record.{EdgesIn}
 use Rattle.steps.specs.declared.Next.{Next}
 use Rattle.steps.specs.declared.Next.the-variants as next
 use Rattle.steps.specs.Steps.{nextAt}
-use Rattle.steps.specs.Levels.{OnLevel, Pointing}
+use Rattle.steps.specs.QuestionStands.{OnLevel, Pointing}
 use Rattle.steps.proofs.StepLaws.{kept-in, pointing-gap}
 use Rattle.steps.proofs.NextLaws.{next-kept, next-points, next-off, pointing-not-kept}
 use Rattle.borders.specs.declared.gather.Gathered.{Gathered}
 use Rattle.borders.specs.declared.gather.Gathered.the-variants.{At, Broken}
 use Rattle.borders.specs.declared.gather.Land.{Land}
 use Rattle.borders.specs.declared.gather.Land.the-variants as land
-use Rattle.borders.specs.Gathering.{gathered, downTo, pointedTo, landing, Crossing, Walking, Within}
+use Rattle.borders.specs.Gathered.{gathered, downTo, pointedTo, landing, Crossing, Walking, Within}
 
 -- blocks entered before are counted with those entered after
 pub gathered-led : (vs : List Visit) (n k : ℕ) (r : Option Short) → length vs ≡ k → gathered (n + k) r ≡ gathered n (led vs r)

@@ -15,19 +15,19 @@ use Rattle.text.specs.Text.{stretch}
 use Rattle.format.specs.Layout as at
 use Rattle.format.specs.Fits.{textOf, edgesTrue}
 use Rattle.format.specs.Short.{Short, shortFrom}
-use Rattle.format.specs.HeaderLaws.{Readable, size-high, edges-inside, leaf-start-inside, full-pos}
+use Rattle.format.specs.LayoutLaws.{Readable, size-high, edges-inside, leaf-start-inside, full-pos}
 use Rattle.paths.specs.Links.{Linked, linked-facts}
-use Rattle.paths.specs.Starts.{len-pos, len-small}
-use Rattle.margins.specs.Local.{edgeIs, ownBytes, edgesLocal, levelEdges, allEdges}
+use Rattle.paths.specs.BlockStarts.{len-pos, len-small}
+use Rattle.margins.specs.EdgesLocal.{edgeIs, ownBytes, edgesLocal, levelEdges, allEdges}
 use Rattle.margins.specs.Demands.{edges-exact}
 use Rattle.layout.specs.declared.header.Header.{Header}
 use Rattle.layout.specs.HeaderSays.{HeaderOf}
 use Rattle.layout.specs.Record.{EdgesIn}
-use Rattle.steps.specs.Levels.{OnLevel}
+use Rattle.steps.specs.QuestionStands.{OnLevel}
 use Rattle.borders.specs.declared.gather.Parts.{Parts}
 use Rattle.borders.specs.declared.gather.Gathered.{Gathered}
 use Rattle.borders.specs.declared.gather.Gathered.the-variants.{At, Broken}
-use Rattle.borders.specs.Gathering.{gathered, Walking, Within}
+use Rattle.borders.specs.Gathered.{gathered, Walking, Within}
 use Rattle.borders.specs.Truths.{Linking, Edged, foundIs}
 use Rattle.borders.proofs.WholeLaws.{within-tree}
 

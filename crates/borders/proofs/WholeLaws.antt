@@ -13,23 +13,23 @@ use Rattle.text.specs.ListLaws.{lt-or-ge, bool-cases}
 use Rattle.format.specs.Settings.{maxText}
 use Rattle.format.specs.Layout as at
 use Rattle.format.specs.Path.{Visit, visit, keptBlock, pointingBlock, targetBlock, targetPlace}
-use Rattle.format.specs.HeaderLaws.{Readable, full-pos}
+use Rattle.format.specs.LayoutLaws.{Readable, full-pos}
 use Rattle.format.specs.Short.{Short, led, byEdges, inLeaf, shortFrom, shortOf}
-use Rattle.margins.specs.Steps as margins
-use Rattle.margins.specs.Places as places
+use Rattle.margins.specs.SpanSteps as margins
+use Rattle.margins.specs.SpanPlaces as places
 use Rattle.paths.specs.Shift.{target-small}
 use Rattle.layout.specs.declared.header.Header.{Header}
 use Rattle.layout.specs.declared.place.BlockNumber.{BlockNumber}
 use Rattle.layout.specs.declared.place.BlockPlace.{BlockPlace}
 use Rattle.layout.specs.HeaderSays.{HeaderOf}
-use Rattle.steps.specs.Levels.{OnLevel}
-use Rattle.steps.proofs.LevelLaws.{b-small}
-use Rattle.steps.proofs.LevelLaws.{level-below, on-top}
+use Rattle.steps.specs.QuestionStands.{OnLevel}
+use Rattle.steps.proofs.QuestionStandsLaws.{b-small}
+use Rattle.steps.proofs.QuestionStandsLaws.{level-below, on-top}
 use Rattle.borders.specs.declared.gather.Gathered.{Gathered}
 use Rattle.borders.specs.declared.gather.Gathered.the-variants.{At, Broken}
 use Rattle.borders.specs.declared.gather.Land.{Land}
 use Rattle.borders.specs.declared.gather.Land.the-variants as land
-use Rattle.borders.specs.Gathering.{gathered, downTo, pointedTo, landing, Crossing, Walking, Within}
+use Rattle.borders.specs.Gathered.{gathered, downTo, pointedTo, landing, Crossing, Walking, Within}
 use Rattle.borders.proofs.GatherLaws.{gathered-led, child-pos}
 
 gathered-none : (n : ℕ) → Broken ≡ gathered n none

@@ -10,7 +10,7 @@ use Rattle.format.specs.Layout as at
 use Rattle.format.specs.Fits.{linksOk}
 use Rattle.layout.specs.declared.header.Header.{Header}
 use Rattle.layout.specs.HeaderSays.{HeaderOf}
-use Rattle.steps.specs.Levels.{OnLevel}
+use Rattle.steps.specs.QuestionStands.{OnLevel}
 use Rattle.borders.specs.declared.gather.Gathered.{Gathered}
 use Rattle.borders.specs.declared.gather.Gathered.the-variants.{At, Broken}
 

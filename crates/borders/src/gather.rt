@@ -14,8 +14,8 @@ ghost use Rattle.format.specs.Layout as at;
 ghost use Rattle.format.specs.Path.{keptBlock};
 ghost use Rattle.format.specs.Short.{byEdges, inLeaf, shortFrom, shortOf};
 ghost use Rattle.layout.specs.HeaderSays.{HeaderOf};
-ghost use Rattle.steps.specs.Levels.{OnLevel, Pointing};
-ghost use Rattle.borders.specs.Gathering.{gathered, downTo, pointedTo, landing, Crossing, Walking, Within};
+ghost use Rattle.steps.specs.QuestionStands.{OnLevel, Pointing};
+ghost use Rattle.borders.specs.Gathered.{gathered, downTo, pointedTo, landing, Crossing, Walking, Within};
 
 // Where the bytes of a span stand in the tree: `size` of them at `from`, the others at `next`; and how many blocks were entered.
 pub struct Parts {

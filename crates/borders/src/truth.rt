@@ -10,8 +10,8 @@ ghost use Prim.Native.Nat.{_+_, _≤_, _<_};
 ghost use lib.ListN.{length};
 ghost use Rattle.format.specs.Layout as at;
 ghost use Rattle.format.specs.Fits.{textOf, edgesTrue};
-ghost use Rattle.margins.specs.Local.{edgesLocal, levelEdges};
-ghost use Rattle.borders.specs.Gathering.{Within};
+ghost use Rattle.margins.specs.EdgesLocal.{edgesLocal, levelEdges};
+ghost use Rattle.borders.specs.Gathered.{Within};
 ghost use Rattle.borders.specs.Truths.{Linking, Edged, foundIs};
 
 // An edge, the m bytes at a place: `own` bytes that were found, then zeros.

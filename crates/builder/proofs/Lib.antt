@@ -1,3 +1,3 @@
-pub mod Filling
-pub mod Levelling
-pub mod Outcomes
+pub mod LevelFillLaws
+pub mod AllLevelsLaws
+pub mod BuildOutcomes

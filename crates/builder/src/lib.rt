@@ -1,13 +1,13 @@
 // The builder: byte for byte the block tree of its text, written into a lent buffer.
-pub mod fill;
-mod whole;
+pub mod level_fill;
+mod all_levels;
 
 use layout::settings::Checked;
 use layout::settings::Settings;
 ghost use mathlib.Core.Path.{_≡_};
-ghost use Rattle.format.specs.Building.{buildNumber, buildSize, buildLeaves};
-ghost use Rattle.built.specs.Sizes.{Taken};
-ghost use Rattle.builder.specs.Answers.{numberOf, sizeOf, given};
+ghost use Rattle.format.specs.BuildSays.{buildNumber, buildSize, buildLeaves};
+ghost use Rattle.built.specs.BlockSizes.{Taken};
+ghost use Rattle.builder.specs.BuildAnswer.{numberOf, sizeOf, given};
 ghost use Rattle.records.specs.State.{settingsOf};
 
 // The tree's size, or the number of the question that refuses it.
@@ -47,7 +47,7 @@ fn build_with(text: &[u8], counted: &[u8], s: Settings, out: &mut [u8]) -> Built
     ensures { λ r. ⌜ sizeOf r ≡ buildSize (settingsOf s (now (counted .entry))) (now (text .entry)) (now (out .entry)) ⌝ }
     ensures { λ _. ⌜ now (out .exit) ≡ buildLeaves (settingsOf s (now (counted .entry))) (now (text .entry)) (now (out .entry)) ⌝ }
 {
-    let size = whole::write_tree(out, text, counted, s);
+    let size = all_levels::write_tree(out, text, counted, s);
     if size == 0 {
         let all = out.len();
         stretches::clear(out, all);

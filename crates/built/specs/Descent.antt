@@ -10,8 +10,8 @@ use borrow.Author.Tests.{le-leb, lt-leb}
 use Rattle.text.specs.Lists.{sumBelow, countBelow}
 use Rattle.text.specs.ListLaws.{lt-or-ge, bool-clash}
 use Rattle.format.specs.PieceLaws.{lt-pieces, pieces-cover}
-use Rattle.built.specs.Levels.{Level, Cut, child-below, child-ends, start-le, le-of-start}
-use Rattle.built.specs.Landing.{Holds, Pair}
+use Rattle.built.specs.LevelBlocks.{Level, Cut, child-below, child-ends, start-le, le-of-start}
+use Rattle.built.specs.OccurrencesLand.{Holds, Pair}
 
 module _ (at : ℕ → ℕ) (n b N : ℕ) (start : ℕ → ℕ) (kept : ℕ → Bool) (width : ℕ → ℕ) (c M : ℕ) (lower : ℕ → ℕ)
     (up : Level n b N start) (cut : Cut n b N start kept width c M lower) (p len i : ℕ) (some-bytes : 0 < len) (fits : p + len ≤ n)

@@ -12,10 +12,10 @@ use Rattle.text.specs.Lists.{sumBelow}
 use Rattle.text.specs.ListLaws.{bool-cases}
 use Rattle.format.specs.Settings.{Settings}
 use Rattle.built.specs.Gather.{Placed, placed}
-use Rattle.built.specs.Levels.{child-inside}
-use Rattle.built.specs.Sizes.{Taken}
+use Rattle.built.specs.LevelBlocks.{child-inside}
+use Rattle.built.specs.BlockSizes.{Taken}
 use Rattle.built.specs.Structure.{size, count, start, keptAt, widthOf, level-at, cut-at, count-below, start-below}
-use Rattle.built.specs.Records.{parentOf}
+use Rattle.built.specs.BuiltRecords.{parentOf}
 
 module _ (S : Settings) (T : List ℕ) (h : Taken S T) (l : ℕ) (up : suc l < S .levels) where
   -- block x of the level below is child `place` of block `part`

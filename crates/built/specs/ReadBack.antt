@@ -11,12 +11,12 @@ use Rattle.format.specs.Words.{wordAt}
 use Rattle.format.specs.Settings.{Settings}
 use Rattle.format.specs.Blocks.{treeOf, leafBytes, recordBytes, builtLayout}
 use Rattle.format.specs.Layout as at
-use Rattle.built.specs.Sizes.{Taken, Bounds, bounds}
+use Rattle.built.specs.BlockSizes.{Taken, Bounds, bounds}
 use Rattle.built.specs.Structure.{size, count, start, bytesIn, keptAt, bytesIn-is, level-at}
-use Rattle.built.specs.Leaves.{leaves-le}
+use Rattle.built.specs.BuiltLeaves.{leaves-le}
 use Rattle.built.specs.Pairs.{offset, levelWordsOf, word-count, word-offset, word-none, word-leaf-offset, word-leaf-count}
-use Rattle.built.specs.Bytes.{stands-word, record-stands}
-use Rattle.built.specs.Records.{recordAt, recordWords, record-start, record-kind, record-link, record-gap, record-before, record-inside, record-skip, kindOf, linkOf, gapOf, beforeOf, insideOf, skipOf}
+use Rattle.built.specs.BuiltBytes.{stands-word, record-stands}
+use Rattle.built.specs.BuiltRecords.{recordAt, recordWords, record-start, record-kind, record-link, record-gap, record-before, record-inside, record-skip, kindOf, linkOf, gapOf, beforeOf, insideOf, skipOf}
 use Rattle.built.specs.Shape.{sixWords, six-word, countedPlaces, counted-places, level-word, leaf-place}
 use Rattle.built.specs.Small.{blocks-le, link-le, gap-le, kind-le, before-le, inside-le, skip-le, offset-le}
 

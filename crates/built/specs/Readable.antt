@@ -14,7 +14,7 @@ use Rattle.format.specs.Settings.{Settings, lengthOk, sizesOk, countedOk, piece
 use Rattle.format.specs.Blocks.{treeOf, leafBytes}
 use Rattle.format.specs.Layout as at
 use Rattle.format.specs.Verdict.{readable}
-use Rattle.built.specs.Sizes.{Taken, Bounds, bounds}
+use Rattle.built.specs.BlockSizes.{Taken, Bounds, bounds}
 use Rattle.built.specs.Structure.{count, count-top}
 use Rattle.built.specs.Pairs.{offset}
 use Rattle.built.specs.Shape.{countedPlaces, counted-place, length-places, tree-length}

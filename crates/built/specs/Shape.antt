@@ -11,9 +11,9 @@ use Rattle.format.specs.Settings.{Settings}
 use Rattle.format.specs.Blocks.{treeOf, header, leafBytes, levelPairs, builtLayout}
 use Rattle.format.specs.WordLaws.{word-at, length-words}
 use Rattle.built.specs.Pairs.{levelWordsOf, offset, length-levelWordsOf}
-use Rattle.built.specs.Records.{records, length-records}
+use Rattle.built.specs.BuiltRecords.{records, length-records}
 use Rattle.built.specs.Structure.{count}
-use Rattle.built.specs.Sizes.{Taken, Bounds, bounds}
+use Rattle.built.specs.BlockSizes.{Taken, Bounds, bounds}
 
 parts : (a c w r l : List ℕ) → a ++ c ++ w ++ r ++ l ≡ a ++ (c ++ (w ++ (r ++ l)))
 parts a c w r l = simp append-assoc

@@ -14,11 +14,11 @@ use Rattle.format.specs.Settings.{Settings, blockLength, pieces}
 use Rattle.format.specs.Blocks.{startsAt, startOf, lengthOf, keptByPairs, isKept, width, cut}
 use Rattle.built.specs.Gather.{length-concat, getD-concat}
 use Rattle.format.specs.PieceLaws.{lt-pieces}
-use Rattle.built.specs.Sizes.{Taken, size-pos, size-falls, size-le}
-use Rattle.built.specs.Landing.{First, Holds, Pair, holds-kept, holds-next}
-use Rattle.built.specs.Levels.{Level, Cut, level-top, level-below}
+use Rattle.built.specs.BlockSizes.{Taken, size-pos, size-falls, size-le}
+use Rattle.built.specs.OccurrencesLand.{First, Holds, Pair, holds-kept, holds-next}
+use Rattle.built.specs.LevelBlocks.{Level, Cut, level-top, level-below}
 use Rattle.built.specs.Descent.{holds-below}
-use Rattle.built.specs.Marking.{byteAt, marks}
+use Rattle.built.specs.KeptRule.{byteAt, marks}
 
 module _ (S : Settings) (T : List ℕ) where
   -- the block length of level l, its number of blocks, where its block i starts

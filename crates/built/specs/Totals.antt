@@ -6,7 +6,7 @@ use native.Mathlib.Omega.{arith}
 use native.Mathlib.Nat.{suc-mul, add-mul, mul-add, mul-assoc, mul-comm, mul-one, mul-le-mul, mul-le-mul-right, mul-le-mul-left}
 use Rattle.text.specs.Lists.{sumBelow}
 use Rattle.text.specs.ListLaws.{lt-or-ge}
-use Rattle.built.specs.Levels.{Level}
+use Rattle.built.specs.LevelBlocks.{Level}
 
 -- the blocks of one level stand one after the other before the text's end, the last of them begun there
 module _ (n b N : ℕ) (start : ℕ → ℕ) (lv : Level n b N start) where

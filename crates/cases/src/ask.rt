@@ -1,9 +1,9 @@
 // What a line asks, put to the library.
 use crate::beside;
-use crate::by_columns;
-use crate::guides;
-use crate::licence;
-use crate::order;
+use crate::column_cases;
+use crate::guide_cases;
+use crate::licence_cases;
+use crate::order_cases;
 use crate::wrong;
 use script::Gift;
 use script::Question;
@@ -34,16 +34,16 @@ pub fn line(script: &[u8], line: &[u8], bytes: &mut [u8], lent: &mut [u8]) {
 
 // A line with a word of another file, or with no such word.
 fn other(script: &[u8], line: &[u8], bytes: &mut [u8], lent: &mut [u8]) {
-    if by_columns::line(script, line, bytes, lent) {
+    if column_cases::line(script, line, bytes, lent) {
         return;
     }
-    if licence::line(line) {
+    if licence_cases::line(line) {
         return;
     }
-    if guides::line(script, line, bytes) {
+    if guide_cases::line(script, line, bytes) {
         return;
     }
-    if order::line(script, line, bytes) {
+    if order_cases::line(script, line, bytes) {
         return;
     }
     wrong::say(b"no such word");

@@ -2,10 +2,10 @@
 // the line. The lines are those of the cases file of an independent model; the file stdout has that model's answers.
 mod ask;
 mod beside;
-mod by_columns;
-mod guides;
-mod licence;
-mod order;
+mod column_cases;
+mod guide_cases;
+mod licence_cases;
+mod order_cases;
 mod wrong;
 
 ghost use Prim.Native.Nat.{_≤_};

@@ -21,7 +21,7 @@ use Rattle.format.specs.Fits.{textOf}
 use Rattle.format.specs.Verdict.{readable, verdict}
 use Rattle.format.specs.VerdictLaws.{accepted-readable, accepted-links}
 use Rattle.format.specs.Said.{Said}
-use Rattle.format.specs.Reading.{byteSays}
+use Rattle.format.specs.ReadSays.{byteSays}
 use Rattle.paths.specs.Demands as paths
 use Rattle.access.specs.declared.Copied.{Copied}
 use Rattle.access.specs.declared.Copied.the-variants as copied

@@ -10,11 +10,11 @@ use Rattle.columns.specs.Columns.{widthOk}
 use Rattle.format.specs.Layout as at
 use Rattle.format.specs.Verdict.{ask, readable}
 use Rattle.format.specs.Said.{Said, unless}
-use Rattle.format.specs.Reading.{byteSays}
+use Rattle.format.specs.ReadSays.{byteSays}
 use Rattle.layout.specs.declared.header.Header.{Header}
 use Rattle.layout.specs.HeaderSays.{HeaderOf}
 use Rattle.access.specs.declared.Copied.{Copied}
-use Rattle.access.specs.Answers.{copiedSaid, Numbered}
+use Rattle.access.specs.ReadAnswers.{copiedSaid, Numbered}
 
 module _ (t : List ℕ) (w a : ℕ) where
   -- the place of column b of row a

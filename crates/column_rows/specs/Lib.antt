@@ -1,2 +1,2 @@
 pub mod ColumnRows
-pub mod Worked
+pub mod ColumnRowExamples

@@ -1,7 +1,7 @@
 // A row read by columns from the tree of a rearranged text. It asks 5 to 7 first, of any bytes lent as a tree.
 use access::Answer;
 use access::Copied;
-use access::reading;
+use access::read_by_header;
 use layout::header;
 use layout::header::Header;
 use layout::header::HeaderRead;
@@ -50,10 +50,10 @@ fn copy(t: &[u8], h: Header, width: u32, rows: u32, a: u32, buffer: &mut [u8]) -
 {
     let mut b: u32 = 0;
     while b < width {
-        let answer = reading::byte_at(t, h, TextPlace(b * rows + a));
+        let answer = read_by_header::byte_at(t, h, TextPlace(b * rows + a));
         let Answer::Byte(value, _) = answer else {
             stretches::clear(buffer, width as usize);
-            return Copied::Refused(reading::number(answer));
+            return Copied::Refused(read_by_header::number(answer));
         };
         buffer[b as usize] = value;
         b += 1;

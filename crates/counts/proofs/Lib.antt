@@ -1,4 +1,4 @@
-pub mod HeaderFacts
+pub mod CountsHeader
 pub mod PrefixLaws
-pub mod BlockLaws
-pub mod LevelLaws
+pub mod BlockCountsLaws
+pub mod LevelCountsLaws

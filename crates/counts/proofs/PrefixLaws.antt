@@ -9,22 +9,22 @@ use lib.ListN.{length, getD}
 use Rattle.text.specs.Text.{stretch, countIn}
 use Rattle.format.specs.Settings.{maxText}
 use Rattle.format.specs.Layout as at
-use Rattle.format.specs.HeaderLaws.{Readable, full-pos, full-small}
+use Rattle.format.specs.LayoutLaws.{Readable, full-pos, full-small}
 use Rattle.paths.specs.Links.{Linked, Pointing}
-use Rattle.paths.specs.Starts.{len-small, child}
-use Rattle.paths.specs.Landing.{target-first, target-second}
+use Rattle.paths.specs.BlockStarts.{len-small, child}
+use Rattle.paths.specs.PlacesLand.{target-first, target-second}
 use Rattle.layout.specs.declared.place.BlockNumber.{BlockNumber}
 use Rattle.layout.specs.declared.place.BlockPlace.{BlockPlace}
 use Rattle.layout.specs.declared.header.Header.{Header}
-use Rattle.tallies.specs.Level.{tally, Level}
-use Rattle.tallies.specs.Exact.{up-to}
-use Rattle.tallies.specs.Stretches.{leaves-end, tally-le}
-use Rattle.tallies.specs.Targets.{Handed, handed}
-use Rattle.tallies.specs.Local.{handBlock, handPlace, handPlus, handMinus, inLeaves, upTo}
+use Rattle.tallies.specs.LevelTrue.{tally, Level}
+use Rattle.tallies.specs.CountsExact.{up-to}
+use Rattle.tallies.specs.CountedStretches.{leaves-end, tally-le}
+use Rattle.tallies.specs.PointedCounts.{Handed, handed}
+use Rattle.tallies.specs.CountsLocal.{handBlock, handPlace, handPlus, handMinus, inLeaves, upTo}
 use Rattle.counts.specs.declared.prefix.Hand.{Hand}
-use Rattle.counts.specs.Asked.{Linking, InTable, InBlock, InKept}
+use Rattle.counts.specs.CountsAsked.{Linking, InTable, InBlock, InKept}
 use Rattle.counts.specs.Hand.{handOf, stepOf}
-use Rattle.counts.proofs.HeaderFacts as facts
+use Rattle.counts.proofs.CountsHeader as facts
 
 -- Handing a place on.
 

@@ -4,7 +4,7 @@ use mathlib.Core.Bool.{cond}
 use Prim.Native.Nat.{ℕ, _+_, _-_, _*_, _/_, _%_, _^_}
 use lib.Dec.{eqb}
 use Rattle.format.specs.Layout as at
-use Rattle.tallies.specs.Local.{handBlock, handPlace, handPlus, handMinus}
+use Rattle.tallies.specs.CountsLocal.{handBlock, handPlace, handPlus, handMinus}
 use Rattle.layout.specs.declared.header.Header.{Header}
 use Rattle.counts.specs.declared.prefix.Hand.{Hand}
 

@@ -2,10 +2,10 @@
 use layout::header::Header;
 ghost use mathlib.Core.Path.{_≡_};
 ghost use Rattle.format.specs.Fits.{textOf, countsTrue};
-ghost use Rattle.counts.specs.Asked.{Linking};
+ghost use Rattle.counts.specs.CountsAsked.{Linking};
 
-mod block;
-mod level;
+mod block_counts;
+mod level_counts;
 mod prefix;
 
 // Of a tree that passes questions 5 to 8, with its header: are its counts true of the one text that fits it? The levels are looked at
@@ -16,7 +16,7 @@ pub fn counts_right(t: &[u8], h: Header) -> bool
 {
     let mut left = h.settings.levels;
     while left != 0 {
-        if !level::level_right(t, h, left - 1) {
+        if !level_counts::level_right(t, h, left - 1) {
             return false;
         }
         left = left - 1;

@@ -6,8 +6,8 @@ use layout::record;
 ghost use mathlib.Core.Path.{_≡_};
 ghost use Prim.Native.Nat.{_+_, _-_, _≤_, _<_};
 ghost use Rattle.format.specs.Layout as at;
-ghost use Rattle.tallies.specs.Local.{inLeaves, upTo};
-ghost use Rattle.counts.specs.Asked.{InTable, InBlock, InKept};
+ghost use Rattle.tallies.specs.CountsLocal.{inLeaves, upTo};
+ghost use Rattle.counts.specs.CountsAsked.{InTable, InBlock, InKept};
 ghost use Rattle.counts.specs.Hand.{handOf, stepOf};
 
 // The kept block of a level that a place is handed to, and what is added and taken off on the way.

@@ -6,7 +6,7 @@ use lib.Dec.{leb}
 use Rattle.text.specs.Lists.{sumBelow}
 use Rattle.format.specs.Settings.{pieces, recordLength, lengthOk, sizesOk}
 use Rattle.format.specs.Blocks.{builtLayout}
-use Rattle.layout.specs.Settings.{sizes}
+use Rattle.layout.specs.CheckedSettings.{sizes}
 use Rattle.enough.specs.declared.Room.{Room}
 use Rattle.enough.specs.declared.Room.the-variants.{Bytes, Refused}
 

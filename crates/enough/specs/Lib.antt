@@ -1,3 +1,3 @@
 pub mod Enough
-pub mod Order
-pub mod Sizes
+pub mod BlocksInOrder
+pub mod EnoughHolds

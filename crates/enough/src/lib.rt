@@ -4,7 +4,7 @@ use layout::settings::Checked;
 use layout::settings::Settings;
 ghost use mathlib.Core.Path.{_≡_};
 ghost use Prim.Native.Nat.{_*_, _≤_};
-ghost use Rattle.layout.specs.Settings.{Sized};
+ghost use Rattle.layout.specs.CheckedSettings.{Sized};
 ghost use Rattle.enough.specs.Enough.{blocksAtMost, enoughSays};
 ghost use Rattle.format.specs.Settings.{maxText};
 

@@ -13,9 +13,9 @@ use Rattle.rolling.specs.Prints.{print}
 use Rattle.rolling.proofs.PrintLaws.{print-below}
 use Rattle.entries.proofs.Marks.{bucket-lt}
 use Rattle.entries.specs.declared.Items.{Items}
-use Rattle.entries.specs.Heads.{linkOf, markOf, bucketOf}
+use Rattle.entries.specs.ChainHeads.{linkOf, markOf, bucketOf}
 use Rattle.entries.specs.Entries.{Laid, Listed, Link, Chained, Found, Searched, startAt, lengthAt, bytesAt, chainAt, nextIn, printIn, placeIn, headIn}
-use Rattle.entries.specs.Looking.{Asks, Touched}
+use Rattle.entries.specs.LookedUp.{Asks, Touched}
 
 module _ (T out : List ℕ) (it : Items) where
   abbrev Is : List ℕ → ℕ → Type 0

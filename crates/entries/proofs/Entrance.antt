@@ -11,9 +11,9 @@ use Rattle.text.specs.ListLaws.{lt-or-ge}
 use Rattle.text.specs.Text.{stretch}
 use Rattle.rolling.specs.Prints.{print}
 use Rattle.entries.specs.declared.Items.{Items}
-use Rattle.entries.specs.Heads.{linkOf, markOf, bucketOf, Pushed}
+use Rattle.entries.specs.ChainHeads.{linkOf, markOf, bucketOf, Pushed}
 use Rattle.entries.specs.Entries.{Laid, Listed, Link, Chained, startAt, lengthAt, bytesAt, chainAt, nextIn, printIn, placeIn, headIn}
-use Rattle.entries.specs.Entering.{Cleared, Put, Turn, Leads, Twin, Entered, Skipped}
+use Rattle.entries.specs.ItemsEntered.{Cleared, Put, Turn, Leads, Twin, Entered, Skipped}
 use Rattle.entries.proofs.Chains.{chain-lt}
 
 module _ (T out : List ℕ) (it : Items) where

@@ -1,6 +1,6 @@
 pub mod Marks
 pub mod ItemLaws
-pub mod Putting
+pub mod EntryWrites
 pub mod Chains
 pub mod Entrance
-pub mod Visits
+pub mod ChainVisits

@@ -9,7 +9,7 @@ use Rattle.format.specs.Settings.{maxText}
 use Rattle.rolling.specs.Prints.{print}
 use Rattle.entries.specs.declared.Items.{Items}
 use Rattle.entries.specs.declared.Run.{Run}
-use Rattle.entries.specs.Heads.{maxItems, linkOf, markOf, bucketOf}
+use Rattle.entries.specs.ChainHeads.{maxItems, linkOf, markOf, bucketOf}
 
 -- The three words of item x: the link to the next item of its chain, its fingerprint, the place where its bytes were found; and, after
 -- the words of all items, the heads of the chains.

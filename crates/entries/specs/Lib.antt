@@ -1,4 +1,4 @@
-pub mod Heads
+pub mod ChainHeads
 pub mod Entries
-pub mod Entering
-pub mod Looking
+pub mod ItemsEntered
+pub mod LookedUp

@@ -1,15 +1,15 @@
 // Items entered in the table.
 use crate::Items;
-use crate::head;
+use crate::chain_head;
 use crate::item;
 use text::TextPlace;
 ghost use mathlib.Core.Path.{_≡_};
 ghost use Prim.Native.Nat.{_+_, _*_, _≤_, _<_};
 ghost use lib.ListN.{length};
 ghost use Rattle.rolling.specs.Prints.{print};
-ghost use Rattle.entries.specs.Heads.{maxItems};
+ghost use Rattle.entries.specs.ChainHeads.{maxItems};
 ghost use Rattle.entries.specs.Entries.{bytesAt};
-ghost use Rattle.entries.specs.Entering.{Cleared, Put, Turn, Leads, Twin, Entered, Skipped};
+ghost use Rattle.entries.specs.ItemsEntered.{Cleared, Put, Turn, Leads, Twin, Entered, Skipped};
 
 // Makes the heads of the chains empty.
 pub fn clear(words: &mut [u32], from: usize, n: usize)
@@ -62,7 +62,7 @@ fn put(words: &mut [u32], it: Items, x: u32, h: u32, start: TextPlace, g: u32)
     words[at] = w % 16777216;
     words[at + 1] = h;
     words[at + 2] = start.0;
-    words[head] = head::pushed(w, h, x);
+    words[head] = chain_head::pushed(w, h, x);
 }
 
 // Enters item x, whose fingerprint is h: in its chain, or as a twin of an item that is there.
@@ -71,7 +71,7 @@ pub fn enter(words: &mut [u32], text: &[u8], out: &[u8], it: Items, x: u32, h: u
     ensures { λ _. ⌜ Entered (now (text .entry)) (now (out .entry)) it (now (words .entry)) (now (words .exit)) x ⌝ }
 {
     let own = item::run_of(text, out, it, x);
-    let g = head::bucket(h, it.heads);
+    let g = chain_head::bucket(h, it.heads);
     let link = words[3 * it.items as usize + g as usize] % 16777216;
     let e = twin(words, text, out, it, x, h, own.start, own.length, link);
     if e != 0 {

@@ -1,12 +1,12 @@
 // Windows of the text looked up in the table.
 use crate::Items;
-use crate::head;
+use crate::chain_head;
 use crate::item;
 use text::TextPlace;
 ghost use Prim.Native.Nat.{_<_};
-ghost use Rattle.entries.specs.Heads.{bucketOf};
+ghost use Rattle.entries.specs.ChainHeads.{bucketOf};
 ghost use Rattle.entries.specs.Entries.{Listed, Link, Looked};
-ghost use Rattle.entries.specs.Looking.{Asks, Touched, Visited};
+ghost use Rattle.entries.specs.LookedUp.{Asks, Touched, Visited};
 
 // The window of n bytes at p, whose fingerprint is h, at item x of its chain.
 fn touch(
@@ -61,8 +61,8 @@ pub fn look(words: &mut [u32], text: &[u8], out: &[u8], it: Items, h: u32, p: Te
     requires { ⌜ Asks (now text) (now out) it (now words) h (p .0) n ⌝ }
     ensures { λ _. ⌜ Looked (now (text .entry)) (now (out .entry)) it (now (words .entry)) (now (words .exit)) (p .0) n ⌝ }
 {
-    let w = words[3 * it.items as usize + head::bucket(h, it.heads) as usize];
-    if head::marked(w, h) {
+    let w = words[3 * it.items as usize + chain_head::bucket(h, it.heads) as usize];
+    if chain_head::marked(w, h) {
         visit(words, text, out, it, h, p, n, w % 16777216);
     }
 }

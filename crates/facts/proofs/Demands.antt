@@ -14,11 +14,11 @@ use Rattle.format.specs.Layout as at
 use Rattle.format.specs.Fits.{textOf}
 use Rattle.format.specs.Verdict.{readable, verdict}
 use Rattle.format.specs.VerdictLaws.{accepted-readable, accepted-links}
-use Rattle.format.specs.HeaderLaws.{readable-facts}
-use Rattle.format.specs.Finding.{total}
+use Rattle.format.specs.LayoutLaws.{readable-facts}
+use Rattle.format.specs.FindSays.{total}
 use Rattle.paths.specs.Links.{linked-facts}
 use Rattle.paths.specs.OneText.{text-length}
-use Rattle.tallies.specs.Local.{byteOf}
+use Rattle.tallies.specs.CountsLocal.{byteOf}
 use Rattle.tallies.specs.Demands as tallies
 use Rattle.tallies.specs.Finds as finds
 use Rattle.facts.specs.Facts.{countedByte, totalOf, figuresOf, infoLeaves, versionNumber}

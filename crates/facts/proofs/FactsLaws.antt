@@ -9,7 +9,7 @@ use lib.Dec.{eqb}
 use Rattle.text.specs.Lists.{tabulate}
 use Rattle.format.specs.Layout as at
 use Rattle.format.specs.Verdict.{readable}
-use Rattle.format.specs.Finding.{total}
+use Rattle.format.specs.FindSays.{total}
 use Rattle.layout.specs.declared.header.Header.{Header}
 use Rattle.layout.specs.declared.header.HeaderRead.{HeaderRead}
 use Rattle.layout.specs.declared.header.HeaderRead.the-variants as header

@@ -8,7 +8,7 @@ use Rattle.text.specs.Lists.{tabulate}
 use Rattle.format.specs.Settings.{maxCounted, maxLevels}
 use Rattle.format.specs.Layout as at
 use Rattle.format.specs.Verdict.{readable}
-use Rattle.format.specs.Finding.{total}
+use Rattle.format.specs.FindSays.{total}
 
 -- major, minor and patch, two digits each after the first
 abbrev pub versionNumber : ℕ

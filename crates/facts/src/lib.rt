@@ -3,7 +3,7 @@ use layout::header;
 use layout::header::Header;
 use layout::header::HeaderRead;
 use layout::record;
-use rank::counting;
+use rank::count_by_header;
 ghost use mathlib.Core.Path.{_≡_};
 ghost use Prim.Native.Nat.{_≤_};
 ghost use lib.ListN.{length};
@@ -118,7 +118,7 @@ fn total_of(t: &[u8], h: Header, c: u32) -> u64
     if h.settings.counted <= c {
         return 0;
     }
-    counting::total(t, h, c)
+    count_by_header::total(t, h, c)
 }
 
 // How many blocks each level has, then zeros: the header's eight words.

@@ -8,7 +8,7 @@ use Rattle.text.specs.ListLaws.{and-left, and-right}
 use Rattle.format.specs.Layout.{layout, hasEdges, longEnough, layoutOk, headerOk}
 use Rattle.format.specs.Fits.{linksOk, textOf, countsTrue, edgesTrue}
 use Rattle.format.specs.Verdict.{ask, readable, verdict}
-use Rattle.format.specs.HeaderLaws.{ask-test, ask-rest}
+use Rattle.format.specs.LayoutLaws.{ask-test, ask-rest}
 
 refused-first : (a b c : Bool) (q rest : ℕ) → ask 5 a (ask 6 b (ask 7 c 0)) ≡ suc q → ask 5 a (ask 6 b (ask 7 c rest)) ≡ suc q
 refused-first true true true q rest h = absurd (let z : ⊥ = omega arith in z)

@@ -18,9 +18,9 @@ use Rattle.format.specs.Short.{shortOf, shortFrom, byEdges, inLeaf}
 use Rattle.format.specs.Fits.{linksOk, textOf, fits, countsTrue, edgesTrue, blockEdgesTrue, lastLevel, widthAt, keptRight, pointingRight, blockRight, countBelowRight, blockFits, blockCountsTrue}
 use Rattle.format.specs.Verdict.{verdict, readable}
 use Rattle.format.specs.Said.{Said, refused}
-use Rattle.format.specs.Reading.{byteSays, runSays, asksSpan, leavesSpan, isShort, spanReached, spanBytes, spanBlocks, spanNumber, spanSays, spanLeaves, leftOver, pathsHold}
-use Rattle.format.specs.Counting.{countSays, indexOf, added, addedAfter, taken, takenAfter, lastPlace, leavesReached, isCounted, numberOfByte}
-use Rattle.format.specs.Finding.{selectNumber, total, found, FindSays}
+use Rattle.format.specs.ReadSays.{byteSays, runSays, asksSpan, leavesSpan, isShort, spanReached, spanBytes, spanBlocks, spanNumber, spanSays, spanLeaves, leftOver, pathsHold}
+use Rattle.format.specs.CountSays.{countSays, indexOf, added, addedAfter, taken, takenAfter, lastPlace, leavesReached, isCounted, numberOfByte}
+use Rattle.format.specs.FindSays.{selectNumber, total, found, FindSays}
 
 book : List ℕ
 book = 81 ∷ 65 ∷ 66 ∷ 67 ∷ 68 ∷ 65 ∷ 66 ∷ 67 ∷ 68 ∷ 69 ∷ 70 ∷ 71 ∷ 65 ∷ 66 ∷ 67 ∷ 68 ∷ 65 ∷ 66 ∷ 67 ∷ 68 ∷ []

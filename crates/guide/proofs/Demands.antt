@@ -19,19 +19,19 @@ use Rattle.format.specs.Fits.{textOf}
 use Rattle.format.specs.Verdict.{readable, verdict}
 use Rattle.format.specs.Said.{Said, refused, unless}
 use Rattle.format.specs.SaidLaws.{unless-passes}
-use Rattle.format.specs.HeaderLaws.{readable-facts}
+use Rattle.format.specs.LayoutLaws.{readable-facts}
 use Rattle.format.specs.VerdictLaws.{accepted-readable, accepted-links}
-use Rattle.format.specs.Finding.{total}
+use Rattle.format.specs.FindSays.{total}
 use Rattle.paths.specs.Links.{linked-facts}
 use Rattle.tallies.specs.Finds as finds
-use Rattle.tallies.specs.Local.{byteOf}
+use Rattle.tallies.specs.CountsLocal.{byteOf}
 use Rattle.tallies.specs.Demands as tallies
 use Rattle.guide.specs.declared.Size.{Size}
 use Rattle.guide.specs.declared.Size.the-variants.{Words, Refused}
 use Rattle.guide.specs.Guides.{listedEvery, blockOf, entriesOf, entriesBefore, guideWords, guideOf, guideBytes, guideNumber, sizeSays, makeNumber, makeSays, makeLeaves}
-use Rattle.guide.specs.Making.{saidSize, Numbered}
+use Rattle.guide.specs.GuideAnswers.{saidSize, Numbered}
 use Rattle.guide.proofs.GuideList.{guide-size, guide-entry, entry-below, entry-word, guide-verdict, guide-same}
-use Rattle.guide.proofs.MakingLaws as laws
+use Rattle.guide.proofs.GuideWrittenLaws as laws
 use Rattle.guide.proofs.make_guide.Reads as make-reads
 use Rattle.guide.proofs.check_guide.Reads as check-reads
 use Rattle.guide.proofs.guide_words.Reads as words-reads

@@ -15,7 +15,7 @@ use Rattle.format.specs.Settings.{pieces, maxText}
 use Rattle.format.specs.PieceLaws.{pieces-start, lt-pieces}
 use Rattle.format.specs.Layout as at
 use Rattle.format.specs.Verdict.{ask, verdict}
-use Rattle.format.specs.Finding.{total}
+use Rattle.format.specs.FindSays.{total}
 use Rattle.built.specs.Gather.{Placed, placed, length-concat, getD-concat}
 use Rattle.guide.specs.Guides.{lastEntry, lastListed, blockOf, entriesOf, entriesBefore, guideWords, guideOf, guideBytes, guideNumber}
 use Rattle.guide.proofs.WordLists.{word-of}

@@ -12,16 +12,16 @@ use Rattle.text.specs.Text.{placeOf}
 use Rattle.text.specs.CountLaws.{Nth, nth-past, nth-before, place-nth, count-le, count-mono}
 use Rattle.format.specs.Settings.{maxText}
 use Rattle.format.specs.PieceLaws.{pieces-cover, lt-pieces}
-use Rattle.format.specs.HeaderLaws.{Readable, readable-facts, full-pos}
+use Rattle.format.specs.LayoutLaws.{Readable, readable-facts, full-pos}
 use Rattle.format.specs.VerdictLaws.{accepted-readable, accepted-links}
 use Rattle.format.specs.Layout as at
 use Rattle.format.specs.Fits.{textOf}
 use Rattle.format.specs.Verdict.{verdict}
-use Rattle.format.specs.Finding.{total}
+use Rattle.format.specs.FindSays.{total}
 use Rattle.paths.specs.Links.{H, N, b, Linked, linked-facts}
 use Rattle.paths.specs.OneText.{text-length}
-use Rattle.tallies.specs.Local.{byteOf}
-use Rattle.tallies.specs.Level.{Level, tally}
+use Rattle.tallies.specs.CountsLocal.{byteOf}
+use Rattle.tallies.specs.LevelTrue.{Level, tally}
 use Rattle.tallies.specs.Finds as finds
 use Rattle.tallies.specs.Demands as demands
 use Rattle.guide.specs.Guides.{blockOf}

@@ -1,5 +1,5 @@
 pub mod WordLists
 pub mod Holders
 pub mod GuideList
-pub mod MakingLaws
+pub mod GuideWrittenLaws
 pub mod Demands

@@ -13,7 +13,7 @@ use Rattle.format.specs.Layout as at
 use Rattle.format.specs.Fits.{textOf}
 use Rattle.format.specs.Verdict.{ask, readable, verdict}
 use Rattle.format.specs.Said.{Said, unless}
-use Rattle.format.specs.Finding.{total}
+use Rattle.format.specs.FindSays.{total}
 
 -- one occurrence in so many is listed: the 1st, the 65th, the 129th
 abbrev pub listedEvery : ℕ

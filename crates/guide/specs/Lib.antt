@@ -1,3 +1,3 @@
 pub mod Guides
-pub mod Making
-pub mod Worked
+pub mod GuideAnswers
+pub mod GuideExamples

@@ -1,14 +1,14 @@
 // A guide to the level 0 blocks, kept beside a tree: for each counted byte in order, the number of the level 0 block that holds its 1st,
 // 65th, 129th occurrence and so on, a word each. Its size, making one and checking one.
-mod checking;
-mod making;
-pub mod words;
+mod guide_checked;
+mod guide_written;
+pub mod entry_words;
 
 use layout::header;
 use layout::header::HeaderRead;
 ghost use mathlib.Core.Path.{_≡_};
 ghost use Rattle.guide.specs.Guides.{guideNumber, sizeSays, makeSays, makeLeaves};
-ghost use Rattle.guide.specs.Making.{saidSize, Numbered};
+ghost use Rattle.guide.specs.GuideAnswers.{saidSize, Numbered};
 
 // How many words a guide has, or the number of the question that refuses.
 pub enum Size {
@@ -22,7 +22,7 @@ pub fn guide_words(t: &[u8]) -> Size
 {
     let read = header::read_header(t);
     match read {
-        HeaderRead::Good(h) => Size::Words(words::entries_before(t, h, h.settings.counted)),
+        HeaderRead::Good(h) => Size::Words(entry_words::entries_before(t, h, h.settings.counted)),
         HeaderRead::Refused(number) => Size::Refused(number),
     }
 }
@@ -36,7 +36,7 @@ pub fn make_guide(t: &[u8], table: &mut [u8]) -> Size
     if number != 0 {
         return Size::Refused(number);
     }
-    making::put_guide(t, table)
+    guide_written::put_guide(t, table)
 }
 
 // Questions 5 to 9 of the tree, then 24: 0 for the guide of an accepted tree, else the number of the first that fails.
@@ -47,7 +47,7 @@ pub fn check_guide(t: &[u8], guide: &[u8]) -> u32
     if number != 0 {
         return number;
     }
-    if checking::guide_right(t, guide) {
+    if guide_checked::guide_right(t, guide) {
         return 0;
     }
     24

@@ -10,8 +10,8 @@ use Rattle.text.specs.ListLaws.{lt-or-ge}
 use Rattle.format.specs.Layout as at
 use Rattle.format.specs.Verdict.{verdict}
 use Rattle.format.specs.Said.{Said, refused}
-use Rattle.format.specs.Counting.{numberOfByte}
-use Rattle.format.specs.Finding.{selectNumber, found, FindSays}
+use Rattle.format.specs.CountSays.{numberOfByte}
+use Rattle.format.specs.FindSays.{selectNumber, found, FindSays}
 use Rattle.select.specs.declared.Found.{Found}
 use Rattle.select.specs.declared.Found.the-variants as find
 use Rattle.select.specs.Found.{saidFind, FindAnswer}

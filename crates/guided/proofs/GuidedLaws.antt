@@ -10,8 +10,8 @@ use Rattle.format.specs.Words.{wordAt}
 use Rattle.format.specs.Layout as at
 use Rattle.format.specs.Verdict.{verdict}
 use Rattle.format.specs.Said.{Said, refused}
-use Rattle.format.specs.Counting.{numberOfByte}
-use Rattle.format.specs.Finding.{total, selectNumber, found}
+use Rattle.format.specs.CountSays.{numberOfByte}
+use Rattle.format.specs.FindSays.{total, selectNumber, found}
 use Rattle.select.specs.declared.Found.{Found}
 use Rattle.select.specs.declared.Found.the-variants as find
 use Rattle.select.specs.Found as select

@@ -6,8 +6,8 @@ use mathlib.Core.Logic.{_⊎_}
 use Prim.Native.Nat.{ℕ, _-_, _≤_, _<_}
 use Rattle.format.specs.Layout as at
 use Rattle.format.specs.Said.{Said, refused}
-use Rattle.format.specs.Counting.{numberOfByte}
-use Rattle.format.specs.Finding.{selectNumber, found}
+use Rattle.format.specs.CountSays.{numberOfByte}
+use Rattle.format.specs.FindSays.{selectNumber, found}
 use Rattle.select.specs.declared.Found.{Found}
 use Rattle.select.specs.declared.Found.the-variants as find
 use Rattle.select.specs.Found.{FindBy}

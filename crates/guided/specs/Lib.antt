@@ -1,2 +1,2 @@
 pub mod Guided
-pub mod Worked
+pub mod GuidedExamples

@@ -1,8 +1,8 @@
-mod Asked
+mod HeaderQuestions
 pub mod Demands
 mod HeaderLaws
 mod QuestionSeven
 mod RecordLaws
-mod Rising
+mod RisingLaws
 pub mod Scan
 pub mod Tests

@@ -19,7 +19,7 @@ use Rattle.format.specs.SizeLaws.{sizes}
 use Rattle.layout.specs.declared.settings.Settings.{Settings}
 use Rattle.layout.specs.declared.settings.Checked.{Checked}
 use Rattle.layout.specs.declared.settings.Checked.the-variants.{Fine, Refused}
-use Rattle.layout.specs.Settings as given
+use Rattle.layout.specs.CheckedSettings as given
 use Rattle.layout.specs.Header.{settingsOf, settingsSay, follows, tablesMeet, restRight, spareCounted, spareLevels, HasSettings}
 
 -- Question 7 as a chain of tests.

@@ -7,11 +7,11 @@ use native.Mathlib.Omega.{arith}
 use Rattle.format.specs.Settings.{blockLength}
 use Rattle.format.specs.Layout as at
 use Rattle.format.specs.Verdict.{ask, readable}
-use Rattle.format.specs.HeaderLaws.{Readable, readable-facts}
+use Rattle.format.specs.LayoutLaws.{Readable, readable-facts}
 use Rattle.layout.specs.declared.header.Header.{Header}
 use Rattle.layout.specs.declared.header.HeaderRead.{HeaderRead}
 use Rattle.layout.specs.declared.header.HeaderRead.the-variants.{Good, Refused}
-use Rattle.layout.specs.Settings.{Sized}
+use Rattle.layout.specs.CheckedSettings.{Sized}
 use Rattle.layout.specs.Header.{fieldsOf, goodUnless, headerSays}
 
 -- t passes questions 5 to 7, and h is its header

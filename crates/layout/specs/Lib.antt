@@ -1,4 +1,4 @@
-pub mod Settings
+pub mod CheckedSettings
 pub mod Header
 pub mod HeaderSays
 pub mod Record

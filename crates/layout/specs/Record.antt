@@ -6,7 +6,7 @@ use lib.ListN.{length, getD}
 use native.Mathlib.Omega.{arith}
 use Rattle.format.specs.Layout.{settings, layout, levelCount, levelOffset, countedCount, recordSize, field}
 use Rattle.format.specs.WordLaws.{wordAt-agree}
-use Rattle.format.specs.HeaderLaws.{Readable, word-inside}
+use Rattle.format.specs.LayoutLaws.{Readable, word-inside}
 
 pub record FieldIn (t : List ℕ) (size level block f : ℕ) : Type 0 where
   pub header : 100 ≤ length t

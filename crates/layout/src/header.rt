@@ -10,7 +10,7 @@ ghost use lib.Dec.{eqb};
 ghost use Rattle.format.specs.Settings.{maxText};
 ghost use Rattle.format.specs.Settings as cut;
 ghost use Rattle.format.specs.Layout.{recordSize};
-ghost use Rattle.format.specs.HeaderLaws.{Readable};
+ghost use Rattle.format.specs.LayoutLaws.{Readable};
 ghost use Rattle.layout.specs.Header.{headerSays, restRight, spareCounted, spareLevels, tablesMeet, HasSettings, settingsOf, settingsSay, fieldsOf};
 
 // What a tree's header says. The levels' counts and offsets stay in the tree, and are read there.

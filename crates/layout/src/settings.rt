@@ -2,7 +2,7 @@
 ghost use mathlib.Core.Path.{_≡_};
 ghost use Prim.Native.Nat.{_+_, _*_, _^_, _-_, _≤_, _<_};
 ghost use Rattle.format.specs.Settings.{sizesOk, rising, recordLength};
-ghost use Rattle.layout.specs.Settings.{sizes, checked, Sized};
+ghost use Rattle.layout.specs.CheckedSettings.{sizes, checked, Sized};
 
 // The settings that a tree is built with: of the counted bytes their number; the bytes themselves stay where they are lent.
 pub struct Settings {

@@ -8,20 +8,20 @@ use Rattle.text.specs.Lists.{sumBelow}
 use Rattle.text.specs.ListLaws.{sumBelow-suc, sumBelow-part}
 use Rattle.format.specs.Settings.{Settings}
 use Rattle.format.specs.Blocks.{treeOf}
-use Rattle.built.specs.Sizes.{Taken, maxTree}
+use Rattle.built.specs.BlockSizes.{Taken, maxTree}
 use Rattle.built.specs.Structure.{count, widthOf}
-use Rattle.built.specs.Leaves.{width-last, leaf-count, leaf-at}
+use Rattle.built.specs.BuiltLeaves.{width-last, leaf-count, leaf-at}
 use Rattle.built.specs.Pairs.{offset}
 use Rattle.built.specs.Shape.{leaf-place, tree-length}
 use Rattle.built.specs.Built.{tree-small}
 use Rattle.stretches.specs.Stretches.{bytesWritten}
-use Rattle.records.specs.declared.level.Level.{Level}
-use Rattle.records.specs.declared.level.Stretch.{Stretch}
-use Rattle.records.specs.Growing.{Grown, Within}
-use Rattle.levels.specs.Leaves.{Leafing}
+use Rattle.records.specs.declared.level_written.Level.{Level}
+use Rattle.records.specs.declared.level_written.Stretch.{Stretch}
+use Rattle.records.specs.Grown.{Grown, Within}
+use Rattle.levels.specs.LeavesWritten.{Leafing}
 use Rattle.records.specs.State.{On, StretchIs}
 use Rattle.records.proofs.Growth.{within-grown, within-part, within-join, bytes-grown, bytes-within}
-use Rattle.records.proofs.Reading.{on-written}
+use Rattle.records.proofs.RecordsRead.{on-written}
 use Rattle.records.proofs.StateLaws.{table-inside}
 
 module _ (S : Settings) (T out : List ℕ) (level : Level) (to i : ℕ) (w : Leafing S T out level to i) where

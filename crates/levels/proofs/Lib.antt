@@ -1,5 +1,5 @@
 pub mod Leafs
-pub mod Heads
-pub mod Beginning
-pub mod Descending
+pub mod HeaderWrittenLaws
+pub mod LevelZero
+pub mod LevelBelow
 pub mod Whole

@@ -9,9 +9,9 @@ use lib.Seq.{getD-append-add, getD-drop, ext-getD}
 use Rattle.text.specs.ListLaws.{lt-or-ge}
 use Rattle.format.specs.Settings.{Settings}
 use Rattle.format.specs.Blocks.{treeOf}
-use Rattle.built.specs.Sizes.{Taken}
+use Rattle.built.specs.BlockSizes.{Taken}
 use Rattle.built.specs.Shape.{tree-length}
-use Rattle.records.specs.Growing.{Grown, Within}
+use Rattle.records.specs.Grown.{Grown, Within}
 use Rattle.records.proofs.StateLaws.{offset-low}
 use Rattle.levels.specs.Trees.{Finished}
 

@@ -1,3 +1,3 @@
 pub mod Head
-pub mod Leaves
+pub mod LeavesWritten
 pub mod Trees

@@ -10,11 +10,11 @@ use Rattle.format.specs.Blocks.{treeOf}
 use Rattle.built.specs.Structure.{widthOf}
 use Rattle.built.specs.Pairs.{offset}
 use Rattle.layout.specs.declared.settings.Settings as code
-use Rattle.records.specs.declared.level.Level.{Level}
+use Rattle.records.specs.declared.level_written.Level.{Level}
 use Rattle.levels.specs.declared.step.Step.{Step}
 use Rattle.levels.specs.declared.step.Step.the-variants.{To, Full}
-use Rattle.records.specs.Growing.{Within}
-use Rattle.records.specs.Levels.{recordPlace}
+use Rattle.records.specs.Grown.{Within}
+use Rattle.records.specs.RecordPlaces.{recordPlace}
 use Rattle.records.specs.State.{settingsOf, LevelIs, Filled}
 
 -- level 0 of a text of n bytes

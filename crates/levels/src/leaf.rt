@@ -1,14 +1,14 @@
 // The leaf bytes: those of the last level's blocks, one block after the other.
 use layout::place::BlockNumber;
-use records::level;
-use records::level::Level;
+use records::level_written;
+use records::level_written::Level;
 ghost use mathlib.Core.Path.{_≡_};
 ghost use Prim.Native.Nat.{_+_, _<_};
 ghost use lib.ListN.{length};
 ghost use Rattle.format.specs.Blocks.{treeOf};
 ghost use Rattle.built.specs.Structure.{widthOf};
-ghost use Rattle.records.specs.Growing.{Grown, Within};
-ghost use Rattle.levels.specs.Leaves.{Leafing};
+ghost use Rattle.records.specs.Grown.{Grown, Within};
+ghost use Rattle.levels.specs.LeavesWritten.{Leafing};
 ghost use Rattle.records.specs.State.{settingsOf};
 
 // Puts the leaf bytes of a block in place, and answers how many they are.
@@ -25,7 +25,7 @@ fn put_leaf(
     ensures { λ _. ⌜ Grown (treeOf (settingsOf (level .settings) (now (counted .entry))) (now (text .entry))) (now (out .entry)) (now (out .exit)) ⌝ }
     ensures { λ r. ⌜ Within (treeOf (settingsOf (level .settings) (now (counted .entry))) (now (text .entry))) (now (out .exit)) to (to + r) ⌝ }
 {
-    let own = level::stretch_of(text, counted, out, level, i);
+    let own = level_written::stretch_of(text, counted, out, level, i);
     stretches::copy(
         out,
         to as usize,

@@ -1,3 +1,3 @@
-mod BlockLaws
+mod BlockLinksLaws
 mod TreeLaws
-mod LevelLaws
+mod LevelReadLaws

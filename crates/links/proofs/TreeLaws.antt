@@ -11,10 +11,10 @@ use Rattle.text.specs.ListLaws.{sumBelow-part, sumBelow-suc, allBelow-not}
 use Rattle.format.specs.Layout as at
 use Rattle.format.specs.Fits.{widthAt, blockRight, countBelowRight, linksOk}
 use Rattle.layout.specs.declared.header.Header.{Header}
-use Rattle.links.specs.declared.level.Level.{Level}
+use Rattle.links.specs.declared.level_read.Level.{Level}
 use Rattle.layout.specs.HeaderSays.{HeaderOf}
-use Rattle.links.specs.Level.{LevelOf, roomBelow, startAsCut, levelRight}
-use Rattle.links.proofs.LevelLaws.{levels-is}
+use Rattle.links.specs.LevelAsked.{LevelOf, roomBelow, startAsCut, levelRight}
+use Rattle.links.proofs.LevelReadLaws.{levels-is}
 
 pub none-before : (f : ℕ → ℕ) → 0 ≡ sumBelow 0 f
 unfolding sumBelow

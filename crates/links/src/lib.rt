@@ -1,8 +1,8 @@
 // Question 8: whether starts, kinds, links, gaps, the counts of levels and the leaf count of a tree are right.
-mod block;
-mod level;
+mod block_links;
+mod level_read;
 
-use crate::level::Level;
+use crate::level_read::Level;
 use layout::header::Header;
 use layout::place::BlockNumber;
 use layout::record;
@@ -11,19 +11,19 @@ ghost use Prim.Native.Nat.{_<_};
 ghost use Rattle.text.specs.Lists.{allBelow};
 ghost use Rattle.format.specs.Fits.{linksOk};
 ghost use Rattle.layout.specs.HeaderSays.{HeaderOf};
-ghost use Rattle.links.specs.Level.{LevelOf, startAsCut, levelRight};
+ghost use Rattle.links.specs.LevelAsked.{LevelOf, startAsCut, levelRight};
 
 // Question 8, of a tree that passes questions 5 to 7 and has the header h.
 pub fn links_right(t: &[u8], h: Header) -> bool
     requires { ⌜ HeaderOf (now t) h ⌝ }
     ensures { λ r. ⌜ r ≡ linksOk (now (t .entry)) ⌝ }
 {
-    if !starts_right(t, level::level_of(t, h, 0)) {
+    if !starts_right(t, level_read::level_of(t, h, 0)) {
         return false;
     }
     let mut l: u32 = 0;
     while l < h.settings.levels {
-        if !level_right(t, level::level_of(t, h, l)) {
+        if !level_right(t, level_read::level_of(t, h, l)) {
             return false;
         }
         l += 1;
@@ -56,11 +56,11 @@ fn level_right(t: &[u8], v: Level) -> bool
     let mut passed: u32 = 0;
     let mut i: u32 = 0;
     while i < v.count {
-        let width = block::width(t, v, BlockNumber(i));
+        let width = block_links::width(t, v, BlockNumber(i));
         if v.room - passed < width {
             return false;
         }
-        if !block::block_right(t, v, BlockNumber(i), passed, width) {
+        if !block_links::block_right(t, v, BlockNumber(i), passed, width) {
             return false;
         }
         passed += width;

@@ -1,5 +1,5 @@
 -- Demand 1 of list and of the list program's print: each ends, and reads and writes only what was lent (`Ends`).
-use Rattle.runs.specs.Runs.{Function, Ends, ends}
+use Rattle.runs.specs.Ends.{Function, Ends, ends}
 use Rattle.listing.proofs.list as list-of
 use Rattle.listing.proofs.list.Symbol as list-at
 use Rattle.listing.proofs.list.Met as list-met

@@ -1,5 +1,5 @@
 pub mod WrittenLaws
 mod DigitLaws
 mod LineLaws
-mod ListLaws
+mod ListAnswerLaws
 pub mod Demands

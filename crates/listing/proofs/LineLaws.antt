@@ -20,7 +20,7 @@ use Rattle.layout.specs.declared.header.HeaderRead.{HeaderRead}
 use Rattle.layout.specs.declared.header.HeaderRead.the-variants as header
 use Rattle.listing.specs.Written.{Put}
 use Rattle.listing.specs.Lines.{figure, line, hasKind, levelLine, linesBelow, refusedLine, linesOf, maxInput, inputNumber, printed}
-use Rattle.listing.specs.Tables.{Level}
+use Rattle.listing.specs.LevelTable.{Level}
 use Rattle.listing.proofs.WrittenLaws.{then-put, put-nothing, put-within}
 
 -- Counting.

@@ -1,5 +1,5 @@
 pub mod Written
 pub mod Lines
-pub mod Tables
-pub mod Worked
-pub mod Says
+pub mod LevelTable
+pub mod ListExamples
+pub mod ListSays

@@ -8,7 +8,7 @@ ghost use lib.Dec.{eqb};
 ghost use Rattle.text.specs.Lists.{countBelow};
 ghost use Rattle.format.specs.Layout as at;
 ghost use Rattle.listing.specs.Lines.{hasKind};
-ghost use Rattle.listing.specs.Tables.{Level};
+ghost use Rattle.listing.specs.LevelTable.{Level};
 
 // How many blocks of a level have the given kind.
 pub fn count_of(t: &[u8], size: u32, level: u32, kind: u32) -> u32

@@ -13,8 +13,8 @@ ghost use Rattle.format.specs.Layout as at;
 ghost use Rattle.layout.specs.HeaderSays.{HeaderOf};
 ghost use Rattle.listing.specs.Written.{Put};
 ghost use Rattle.listing.specs.Lines.{line, levelLine, linesBelow, refusedLine, inputNumber, printed};
-ghost use Rattle.listing.specs.Says.{listSays, listLeaves};
-ghost use Rattle.listing.specs.Tables.{Level};
+ghost use Rattle.listing.specs.ListSays.{listSays, listLeaves};
+ghost use Rattle.listing.specs.LevelTable.{Level};
 
 // The longest tree that is listed.
 pub const MAX_INPUT: usize = 65536;

@@ -15,18 +15,18 @@ use Rattle.format.specs.Layout as at
 use Rattle.format.specs.Fits.{linksOk, textOf, edgesTrue}
 use Rattle.format.specs.Verdict.{readable, verdict}
 use Rattle.format.specs.VerdictLaws.{accepted-readable, accepted-links, accepted-edges}
-use Rattle.format.specs.HeaderLaws.{Readable, readable-facts}
+use Rattle.format.specs.LayoutLaws.{Readable, readable-facts}
 use Rattle.format.specs.Short.{Short, shortOf, shortBytes}
-use Rattle.format.specs.Reading.{byteSays, pathsHold, asksSpan, leavesSpan, isShort, holds, blocksOf, spanReached, spanBytes, spanBlocks, spanNumber, spanLeaves}
-use Rattle.format.specs.ReadingLaws.{ShortSpan, short-span}
+use Rattle.format.specs.ReadSays.{byteSays, pathsHold, asksSpan, leavesSpan, isShort, holds, blocksOf, spanReached, spanBytes, spanBlocks, spanNumber, spanLeaves}
+use Rattle.format.specs.ReadSaysLaws.{ShortSpan, short-span}
 use Rattle.text.specs.Lists.{tabulate}
 use Rattle.paths.specs.Links.{Linked, linked-facts}
 use Rattle.paths.specs.Demands as paths
-use Rattle.margins.specs.Local.{allEdges}
-use Rattle.margins.specs.Exact as exact
-use Rattle.margins.specs.Walk as walks
-use Rattle.margins.specs.Entered.{short-entered}
-use Rattle.margins.specs.Places.{Inside, short-inside}
+use Rattle.margins.specs.EdgesLocal.{allEdges}
+use Rattle.margins.specs.EdgesExact as exact
+use Rattle.margins.specs.SpanWalk as walks
+use Rattle.margins.specs.BlocksEntered.{short-entered}
+use Rattle.margins.specs.SpanPlaces.{Inside, short-inside}
 
 -- Any tree that passes questions 5 to 8: the local equations that the check looks at hold exactly where the edges are true of the one text
 -- that fits.

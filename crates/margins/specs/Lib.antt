@@ -1,8 +1,8 @@
 pub mod Truth
-pub mod Steps
-pub mod Walk
-pub mod Entered
-pub mod Places
-pub mod Local
-pub mod Exact
+pub mod SpanSteps
+pub mod SpanWalk
+pub mod BlocksEntered
+pub mod SpanPlaces
+pub mod EdgesLocal
+pub mod EdgesExact
 pub mod Demands

@@ -1,4 +1,4 @@
-pub mod Findings
-pub mod Pairing
-pub mod Halving
-pub mod Targeting
+pub mod OccurrencesLaws
+pub mod PairLaws
+pub mod TargetStep
+pub mod TargetLaws

@@ -1,2 +1,2 @@
-pub mod Marking
-pub mod Targets
+pub mod MarkingRule
+pub mod TargetSearch

@@ -1,14 +1,14 @@
 // Marking: which blocks of a level are kept, and where the others point.
-mod finding;
+mod occurrences;
 pub mod pair;
 pub mod target;
 
 use layout::place::BlockNumber;
-use records::level::Level;
-use records::record::Block;
-use records::record::Link;
+use records::level_written::Level;
+use records::record_written::Block;
+use records::record_written::Link;
 ghost use Rattle.records.specs.State.{settingsOf, BlockIs};
-ghost use Rattle.marking.specs.Marking.{Next};
+ghost use Rattle.marking.specs.MarkingRule.{Next};
 
 // What the record of a block is to say.
 pub fn block_at(
@@ -26,6 +26,6 @@ pub fn block_at(
     if kept {
         return target::kept_block(text, counted, out, level, i, link);
     }
-    let place = finding::first_place(text, counted, out, level, i);
+    let place = occurrences::first_place(text, counted, out, level, i);
     target::pointing_block(text, counted, out, level, i, place)
 }

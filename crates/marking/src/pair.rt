@@ -1,14 +1,14 @@
 // The marking rule: pairs of blocks that follow each other in the list and in the text.
-use crate::finding;
+use crate::occurrences;
 use layout::place::BlockNumber;
 use layout::place::TextPlace;
-use records::level;
-use records::level::Level;
+use records::level_written;
+use records::level_written::Level;
 ghost use mathlib.Core.Path.{_≡_};
 ghost use Prim.Native.Nat.{_+_, _-_, _≤_, min};
 ghost use lib.ListN.{length};
 ghost use Rattle.records.specs.State.{settingsOf, On};
-ghost use Rattle.marking.specs.Marking.{keptBy, pairSays, pairOf};
+ghost use Rattle.marking.specs.MarkingRule.{keptBy, pairSays, pairOf};
 ghost use Rattle.format.specs.Settings.{maxText};
 
 // A block and the next: no pair; a pair whose bytes occur here first; a pair whose bytes occur earlier.
@@ -43,7 +43,7 @@ fn pair_at(text: &[u8], start: TextPlace, size: u32) -> Pair
     ensures { λ r. ⌜ r ≡ pairSays (now (text .entry)) (start .0) (min (size + size) (length (now (text .entry)) - start .0)) ⌝ }
 {
     let len = stretches::shorter(size + size, text.len() as u32 - start.0);
-    if finding::occurs_earlier(text, start, len) {
+    if occurrences::occurs_earlier(text, start, len) {
         return Pair::Again;
     }
     Pair::First
@@ -60,8 +60,8 @@ pub fn pair_after(text: &[u8], counted: &[u8], out: &[u8], level: Level, i: Bloc
     if i.0 + 1 == level.count {
         return Pair::Apart;
     }
-    let start = level::start(counted, out, level, i);
-    let next = level::start(counted, out, level, BlockNumber(i.0 + 1));
+    let start = level_written::start(counted, out, level, i);
+    let next = level_written::start(counted, out, level, BlockNumber(i.0 + 1));
     if next.0 != start.0 + level.size {
         return Pair::Apart;
     }

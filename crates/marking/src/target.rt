@@ -2,18 +2,18 @@
 use layout::place::BlockNumber;
 use layout::place::BlockPlace;
 use layout::place::TextPlace;
-use records::level;
-use records::level::Level;
-use records::record::Block;
-use records::record::Link;
+use records::level_written;
+use records::level_written::Level;
+use records::record_written::Block;
+use records::record_written::Link;
 ghost use mathlib.Core.Bool.{true, false};
 ghost use mathlib.Core.Path.{_≡_};
 ghost use Prim.Native.Nat.{_+_, _-_, _<_};
 ghost use Rattle.text.specs.Lists.{sumBelow};
 ghost use Rattle.built.specs.Structure.{keptAt, widthOf};
-ghost use Rattle.built.specs.Targets.{placeOf};
+ghost use Rattle.built.specs.BuiltTargets.{placeOf};
 ghost use Rattle.records.specs.State.{settingsOf, On, BlockIs};
-ghost use Rattle.marking.specs.Targets.{parentSays, Sorted, Between};
+ghost use Rattle.marking.specs.TargetSearch.{parentSays, Sorted, Between};
 
 // Blocks from `low` to just before `high`.
 pub struct Range {
@@ -43,7 +43,7 @@ fn narrow(counted: &[u8], out: &[u8], level: Level, place: TextPlace, range: Ran
     let low = range.low;
     let high = range.high;
     let middle = BlockNumber(low.0 + (high.0 - low.0) / 2);
-    let start = level::start(counted, out, level, middle);
+    let start = level_written::start(counted, out, level, middle);
     if place.0 < start.0 {
         return Range { low, high: middle };
     }
@@ -80,7 +80,7 @@ pub fn kept_block(
     requires { ⌜ link .0 ≡ sumBelow (i .0) (widthOf (settingsOf (level .settings) (now counted)) (now text) (level .number)) ⌝ }
     ensures { λ r. ⌜ BlockIs (settingsOf (level .settings) (now (counted .entry))) (now (text .entry)) (level .number) (i .0) r ⌝ }
 {
-    let own = level::stretch_of(text, counted, out, level, i);
+    let own = level_written::stretch_of(text, counted, out, level, i);
     let start = own.start;
     Block {
         start,
@@ -107,10 +107,10 @@ pub fn pointing_block(
     requires { ⌜ place .0 ≡ placeOf (settingsOf (level .settings) (now counted)) (now text) (level .number) (i .0) ⌝ }
     ensures { λ r. ⌜ BlockIs (settingsOf (level .settings) (now (counted .entry))) (now (text .entry)) (level .number) (i .0) r ⌝ }
 {
-    let own = level::stretch_of(text, counted, out, level, i);
+    let own = level_written::stretch_of(text, counted, out, level, i);
     let start = own.start;
     let target = holder(counted, out, level, place);
-    let from = level::start(counted, out, level, target);
+    let from = level_written::start(counted, out, level, target);
     Block {
         start,
         length: own.length,

@@ -18,15 +18,15 @@ use Rattle.format.specs.Layout as at
 use Rattle.format.specs.Fits.{linksOk, textOf}
 use Rattle.format.specs.Verdict.{readable}
 use Rattle.format.specs.Said.{Said}
-use Rattle.format.specs.Reading.{byteSays}
+use Rattle.format.specs.ReadSays.{byteSays}
 use Rattle.paths.specs.Demands as paths
 use Rattle.ordering.specs.declared.Compared.{Compared}
 use Rattle.ordering.specs.declared.Compared.the-variants as compared
 use Rattle.ordering.specs.Order.{Standing, before, same, after, standing, shared, Ordered, code, stands, refusedOrder, orElse, byLength, comparedFrom, orderSays}
 use Rattle.ordering.specs.OrderLaws.{Which, below, equal, above, which, standing-below, standing-equal, standing-above, shared-equal, shared-other}
-use Rattle.ordering.specs.Answers.{outcome, firstOf, orderSaid, Handed}
-use Rattle.ordering.specs.Comparing.{shortest, byByte}
-use Rattle.ordering.proofs.CompareLaws.{SameAt, From, first-broken, second-broken, place-differs, places-same}
+use Rattle.ordering.specs.OrderAnswers.{outcome, firstOf, orderSaid, Handed}
+use Rattle.ordering.specs.Compared.{shortest, byByte}
+use Rattle.ordering.proofs.SideBySideLaws.{SameAt, From, first-broken, second-broken, place-differs, places-same}
 use Rattle.ordering.proofs.compare.Reads as compare-reads
 use Rattle.ordering.proofs.first.Reads as first-reads
 

@@ -8,11 +8,11 @@ use denote.Ref.{RefT, now}
 use lib.Dec.{ltb, eqb}
 use Rattle.format.specs.Layout as at
 use Rattle.format.specs.Verdict.{readable}
-use Rattle.format.specs.Reading.{byteSays}
+use Rattle.format.specs.ReadSays.{byteSays}
 use Rattle.ordering.specs.declared.Compared.{Compared}
 use Rattle.ordering.specs.declared.Compared.the-variants as compared
 use Rattle.ordering.specs.Order.{Standing, before, same, after, Ordered, code, stands, refusedOrder, orElse, byLength, comparedFrom, orderSays}
-use Rattle.ordering.specs.Answers.{outcome, firstOf, orderSaid, OrderAnswer, Handed}
+use Rattle.ordering.specs.OrderAnswers.{outcome, firstOf, orderSaid, OrderAnswer, Handed}
 
 -- An order is never 0, so that a refusal's number is not 0.
 

@@ -1,5 +1,5 @@
-pub mod Measuring
-pub mod Noting
-pub mod Taking
-pub mod Stepping
-pub mod Answering
+pub mod ItemLengths
+pub mod LengthsNoted
+pub mod ItemsTaken
+pub mod PassLaws
+pub mod AfterPass

@@ -10,7 +10,7 @@ ghost use lib.ListN.{length};
 ghost use Rattle.format.specs.Settings.{maxText};
 ghost use Rattle.rolling.specs.Prints.{print};
 ghost use Rattle.entries.specs.Entries.{Laid, Placed, bytesAt};
-ghost use Rattle.entries.specs.Entering.{Turn};
+ghost use Rattle.entries.specs.ItemsEntered.{Turn};
 ghost use Rattle.passes.specs.Passes.{Ordered, Entrants, Noted, notedBy, Took, PairSays};
 
 // The lengths with one more; 0 is none.

@@ -11,12 +11,12 @@ use Rattle.format.specs.Layout as at
 use Rattle.format.specs.Path.{Path, Visit, entered, pathFrom, pathOf}
 use Rattle.format.specs.Fits.{linksOk, textOf, fits}
 use Rattle.format.specs.Verdict.{readable}
-use Rattle.format.specs.HeaderLaws.{Readable, readable-facts}
-use Rattle.format.specs.Reading.{byteSays, runSays, pathsHold, copyNumber, copyLeaves}
+use Rattle.format.specs.LayoutLaws.{Readable, readable-facts}
+use Rattle.format.specs.ReadSays.{byteSays, runSays, pathsHold, copyNumber, copyLeaves}
 use Rattle.text.specs.Lists.{tabulate}
 use Rattle.paths.specs.Links.{Linked, linked-facts}
 use Rattle.paths.specs.Visits.{Goes, goes, goes-length, goes-short, pointers}
-use Rattle.paths.specs.Walk.{path-holds}
+use Rattle.paths.specs.PathWalk.{path-holds}
 use Rattle.paths.specs.Reach.{reach}
 use Rattle.paths.specs.OneText as one
 use Rattle.paths.specs.Reads as reads

@@ -1,12 +1,12 @@
 pub mod Links
-pub mod Starts
-pub mod Landing
+pub mod BlockStarts
+pub mod PlacesLand
 pub mod Visits
 pub mod Shift
-pub mod Walk
+pub mod PathWalk
 pub mod Reach
-pub mod Fitting
+pub mod FitsFacts
 pub mod OneText
 pub mod Reads
 pub mod Demands
-pub mod Bytes
+pub mod PlaceBytes

@@ -7,16 +7,16 @@ use native.Mathlib.Omega.{arith}
 use lib.ListN.{length, getD}
 use lib.Seq.{ext-getD}
 use Rattle.text.specs.ListLaws.{length-tabulate, getD-tabulate}
-use Rattle.format.specs.HeaderLaws.{Readable}
+use Rattle.format.specs.LayoutLaws.{Readable}
 use Rattle.format.specs.Layout as at
 use Rattle.format.specs.Path.{visit, targetBlock, targetPlace, pathFrom, pathOf}
 use Rattle.format.specs.Fits.{leafOf, textOf, fits}
 use Rattle.paths.specs.Links.{H, N, s, len, pointing-not-kept, Linked}
-use Rattle.paths.specs.Starts.{len-inside, last-kept, leaf-below}
-use Rattle.paths.specs.Landing.{leaf-entered, from-last, kept-block, kept-not, pointing-block, from-pointing, target}
-use Rattle.paths.specs.Walk.{Carries, walk-text}
+use Rattle.paths.specs.BlockStarts.{len-inside, last-kept, leaf-below}
+use Rattle.paths.specs.PlacesLand.{leaf-entered, from-last, kept-block, kept-not, pointing-block, from-pointing, target}
+use Rattle.paths.specs.PathWalk.{Carries, walk-text}
 use Rattle.paths.specs.Reach.{reach-leaf}
-use Rattle.paths.specs.Fitting.{fits-facts, fits-make}
+use Rattle.paths.specs.FitsFacts.{fits-facts, fits-make}
 
 -- The text of a tree has n bytes, at each place the byte at the end of its path.
 

@@ -4,13 +4,13 @@ use mathlib.Core.Path.{_≡_, sym, ap, _∙_}
 use Prim.Native.Nat.{ℕ, zero, suc, _+_, _-_, _*_, _<_}
 use native.Mathlib.Omega.{arith}
 use lib.Arith.{digits-div, digits-mod}
-use Rattle.format.specs.HeaderLaws.{Readable}
+use Rattle.format.specs.LayoutLaws.{Readable}
 use Rattle.format.specs.Layout as at
 use Rattle.format.specs.Path.{Visit, visit, entered, pathFrom, pathOf}
 use Rattle.format.specs.Fits.{leafOf}
 use Rattle.paths.specs.Links.{H, N, b, s, len, Linked}
-use Rattle.paths.specs.Starts.{len-small, Parent, parent, in-parent}
-use Rattle.paths.specs.Landing.{entered-none, entered-twice, leaf-entered, kept-block, from-kept}
+use Rattle.paths.specs.BlockStarts.{len-small, Parent, parent, in-parent}
+use Rattle.paths.specs.PlacesLand.{entered-none, entered-twice, leaf-entered, kept-block, from-kept}
 
 module _ (t : List ℕ) where
   -- the visits that lead to place o of block i of level l: of its ancestors, all kept, at the place of the text that this is

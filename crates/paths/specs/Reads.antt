@@ -16,13 +16,13 @@ use Rattle.format.specs.Layout as at
 use Rattle.format.specs.Path.{Path, pathOf}
 use Rattle.format.specs.Fits.{leafOf, textOf}
 use Rattle.format.specs.Verdict.{readable}
-use Rattle.format.specs.HeaderLaws.{Readable, full-pos}
+use Rattle.format.specs.LayoutLaws.{Readable, full-pos}
 use Rattle.format.specs.Said.{Said}
-use Rattle.format.specs.Reading.{byteSays, leftOver, runSays, pathsHold, asksSpan, leavesSpan, copyNumber, copyLeaves}
+use Rattle.format.specs.ReadSays.{byteSays, leftOver, runSays, pathsHold, asksSpan, leavesSpan, copyNumber, copyLeaves}
 use Rattle.paths.specs.Links.{H, b}
 use Rattle.paths.specs.Visits.{Goes, goes, goes-leaf}
 use Rattle.paths.specs.Shift.{left-most, left-within, within-left, goes-within, path-further}
-use Rattle.paths.specs.Fitting.{stretch-tabulate}
+use Rattle.paths.specs.FitsFacts.{stretch-tabulate}
 use Rattle.paths.specs.OneText.{text-length, text-at}
 
 -- the x bytes from a of the tree are x bytes of the tree's text, from place p

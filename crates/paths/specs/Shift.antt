@@ -14,9 +14,9 @@ use lib.ListN.{length}
 use Rattle.text.specs.ListLaws.{and-right, lt-or-ge}
 use Rattle.format.specs.Layout as at
 use Rattle.format.specs.Path.{Path, Visit, visit, pointingBlock, targetBlock, targetPlace, pathOf}
-use Rattle.format.specs.Reading.{leftOver}
+use Rattle.format.specs.ReadSays.{leftOver}
 use Rattle.paths.specs.Links.{H, b, N}
-use Rattle.paths.specs.Landing.{target-first, target-second}
+use Rattle.paths.specs.PlacesLand.{target-first, target-second}
 use Rattle.paths.specs.Visits.{Goes, ends, down, points, goes, goes-path}
 
 -- a step that stays within a block of c bytes

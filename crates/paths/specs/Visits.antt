@@ -13,7 +13,7 @@ use Rattle.text.specs.ListLaws.{and-left, and-right, bool-cases}
 use Rattle.format.specs.Layout as at
 use Rattle.format.specs.Path.{Path, Visit, visit, entered, provided, keptBlock, pointingBlock, targetBlock, targetPlace, lands, pathFrom, pathOf}
 use Rattle.paths.specs.Links.{b}
-use Rattle.paths.specs.Landing.{from-last, from-kept, from-points}
+use Rattle.paths.specs.PlacesLand.{from-last, from-kept, from-points}
 
 module _ (t : List ℕ) where
   -- from place o of block i of level l, with `below` levels under it, these blocks are entered and leaf byte x is reached

@@ -17,16 +17,16 @@ use Rattle.format.specs.Layout as at
 use Rattle.format.specs.Path.{Path, pathOf}
 use Rattle.format.specs.Fits.{textOf}
 use Rattle.format.specs.Verdict.{ask, readable}
-use Rattle.format.specs.HeaderLaws.{readable-facts}
+use Rattle.format.specs.LayoutLaws.{readable-facts}
 use Rattle.format.specs.Said.{Said, refused}
 use Rattle.format.specs.SaidLaws.{unless-number}
-use Rattle.format.specs.Reading.{byteOf, byteSays, pathsHold}
+use Rattle.format.specs.ReadSays.{byteOf, byteSays, pathsHold}
 use Rattle.paths.specs.Reads.{paths-hold}
-use Rattle.paths.specs.Bytes.{byte-path}
+use Rattle.paths.specs.PlaceBytes.{byte-path}
 use Rattle.patterns.specs.declared.PlacesWritten.{PlacesWritten}
 use Rattle.patterns.specs.declared.PlacesWritten.the-variants as written
 use Rattle.patterns.specs.Places.{maxPattern, patternOk, placesIn, placesOf, placesNumber, placesSays, placesLeaves}
-use Rattle.patterns.specs.Answers.{placesSaid, Numbered}
+use Rattle.patterns.specs.PlacesAnswer.{placesSaid, Numbered}
 use Rattle.patterns.specs.declared.PlacesRoom.{PlacesRoom}
 use Rattle.patterns.specs.declared.PlacesRoom.the-variants as room
 use Rattle.patterns.proofs.RoomLaws.{places-few, roomy}

@@ -13,7 +13,7 @@ use Rattle.format.specs.Fits.{textOf}
 use Rattle.format.specs.Said.{Said, refused, unless}
 use Rattle.format.specs.SaidLaws.{unless-refused, unless-passes}
 use Rattle.format.specs.Verdict.{ask, readable}
-use Rattle.format.specs.HeaderLaws.{ask-test}
+use Rattle.format.specs.LayoutLaws.{ask-test}
 use Rattle.paths.specs.OneText.{text-length}
 use Rattle.layout.specs.declared.header.Header.{Header}
 use Rattle.layout.specs.declared.header.HeaderRead.{HeaderRead}
@@ -23,9 +23,9 @@ use Rattle.layout.specs.HeaderSays.{HeaderOf, header-refused}
 use Rattle.patterns.specs.declared.PlacesRoom.{PlacesRoom}
 use Rattle.patterns.specs.declared.PlacesRoom.the-variants as room
 use Rattle.patterns.specs.Places.{maxPattern, standsAt, placesOf, roomOf, roomSays}
-use Rattle.patterns.specs.Seeking.{soFar}
-use Rattle.patterns.specs.Answers.{roomSaid, RoomNumbered, RoomAnswer}
-use Rattle.patterns.proofs.SeekLaws.{below-few, so-far-end}
+use Rattle.patterns.specs.TableFilled.{soFar}
+use Rattle.patterns.specs.PlacesAnswer.{roomSaid, RoomNumbered, RoomAnswer}
+use Rattle.patterns.proofs.PatternSeekLaws.{below-few, so-far-end}
 
 module _ (n len : ℕ) where
   pub no-byte : len < 1 → refused 16 ≡ roomOf n len

@@ -10,7 +10,7 @@ use Rattle.format.specs.Layout as at
 use Rattle.format.specs.Fits.{textOf}
 use Rattle.format.specs.Verdict.{ask, readable}
 use Rattle.format.specs.Said.{Said, unless}
-use Rattle.format.specs.Reading.{pathsHold}
+use Rattle.format.specs.ReadSays.{pathsHold}
 
 -- the pattern stands in the text at place p
 unfoldable pub standsAt : List ℕ → List ℕ → ℕ → Bool

@@ -1,8 +1,8 @@
 // Where a pattern stands: all its places in the bytes that a tree's paths give.
 mod room;
-mod seek;
+mod pattern_seek;
 
-use crate::seek::Sought;
+use crate::pattern_seek::Sought;
 use layout::header;
 use layout::header::Header;
 use layout::header::HeaderRead;
@@ -13,7 +13,7 @@ ghost use mathlib.Core.List.{_++_};
 ghost use Rattle.layout.specs.HeaderSays.{HeaderOf};
 ghost use Rattle.kmp.specs.Borders.{Borders};
 ghost use Rattle.patterns.specs.Places.{maxPattern, placesLeaves};
-ghost use Rattle.patterns.specs.Answers.{PlacesAnswer, RoomAnswer};
+ghost use Rattle.patterns.specs.PlacesAnswer.{PlacesAnswer, RoomAnswer};
 
 // The longest pattern that is looked for.
 pub const MAX_PATTERN: usize = 256;
@@ -80,7 +80,7 @@ fn fill(t: &[u8], h: Header, pattern: &[u8], borders: &[u8], table: &mut [u32]) 
     ensures { λ _. ⌜ now (table .exit) ≡ placesLeaves (now (t .entry)) (now (pattern .entry)) (now (table .entry)) ⌝ }
 {
     let mut few = [0u32; FEW];
-    let counted = seek::seek(t, h, pattern, borders, FEW as u32, &mut few);
+    let counted = pattern_seek::seek(t, h, pattern, borders, FEW as u32, &mut few);
     let Sought::All(number) = counted else {
         return PlacesWritten::Refused(14);
     };
@@ -92,7 +92,7 @@ fn fill(t: &[u8], h: Header, pattern: &[u8], borders: &[u8], table: &mut [u32]) 
         copy(&few, words, table);
         return PlacesWritten::Number(number);
     }
-    seek::seek(t, h, pattern, borders, number, table);
+    pattern_seek::seek(t, h, pattern, borders, number, table);
     PlacesWritten::Number(number)
 }
 

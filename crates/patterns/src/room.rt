@@ -2,7 +2,7 @@
 use crate::PlacesRoom;
 ghost use mathlib.Core.Path.{_≡_};
 ghost use Rattle.patterns.specs.Places.{roomOf};
-ghost use Rattle.patterns.specs.Answers.{roomSaid, RoomNumbered};
+ghost use Rattle.patterns.specs.PlacesAnswer.{roomSaid, RoomNumbered};
 
 // Question 16; a text of n bytes has a place for each byte from which the whole pattern is left.
 pub fn of_length(n: u32, len: u32) -> PlacesRoom

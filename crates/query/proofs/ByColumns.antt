@@ -23,11 +23,11 @@ use Rattle.format.specs.Settings.{Settings}
 use Rattle.format.specs.Layout as at
 use Rattle.format.specs.Fits.{fits}
 use Rattle.format.specs.Verdict.{ask, readable}
-use Rattle.format.specs.HeaderLaws.{ask-test, ask-rest}
+use Rattle.format.specs.LayoutLaws.{ask-test, ask-rest}
 use Rattle.format.specs.Said.{refused}
 use Rattle.format.specs.SaidLaws.{unless-passes, then-is}
-use Rattle.format.specs.Reading.{byteSays}
-use Rattle.builder.specs.Answers.{given}
+use Rattle.format.specs.ReadSays.{byteSays}
+use Rattle.builder.specs.BuildAnswer.{given}
 use Rattle.column_rows.specs.ColumnRows.{cell, cellsHold, columnNumber, columnSays, columnLeaves}
 use Rattle.query.proofs.Calls as calls
 use Rattle.query.proofs.Calls.{Lent, Copied, ToColumns, FromColumns, ByColumns, Build, BuildScanned, Check}

@@ -102,10 +102,10 @@ pub use Rattle.guided.specs.declared.Guided.the-variants as guided
 pub use Rattle.ordering.specs.declared.Compared.{Compared}
 pub use Rattle.ordering.specs.declared.Compared.the-variants as compared
 -- what an answer says in document 01's terms, and that a refusal's number is not 0
-pub use Rattle.access.specs.Answers.{said, copiedSaid}
+pub use Rattle.access.specs.ReadAnswers.{said, copiedSaid}
 pub use Rattle.rank.specs.Counts.{saidCount, Numbered as CountNumbered}
 pub use Rattle.select.specs.Found.{saidFind, Numbered as FindNumbered}
-pub use Rattle.rows.specs.Rows.{saidRow, Numbered as RowNumbered}
+pub use Rattle.rows.specs.RowAnswers.{saidRow, Numbered as RowNumbered}
 -- build(text, leaf, arity, levels, counted, out) and check(tree); byte(tree, place), run(tree, place) and span(tree, place, len, buffer)
 pub use Rattle.tree.proofs.Demands.{Answer as Build, Checked as Check}
 pub use Rattle.access.proofs.Demands.{Asked as Byte, Run, Span}

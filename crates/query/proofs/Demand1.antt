@@ -18,15 +18,15 @@ use Rattle.format.specs.Layout as at
 use Rattle.format.specs.Path.{Path, pathOf}
 use Rattle.format.specs.Verdict.{verdict}
 use Rattle.format.specs.Said.{Said, refused}
-use Rattle.format.specs.Reading.{byteSays, runSays}
-use Rattle.format.specs.Counting.{countSays}
-use Rattle.format.specs.Finding.{FindSays}
+use Rattle.format.specs.ReadSays.{byteSays, runSays}
+use Rattle.format.specs.CountSays.{countSays}
+use Rattle.format.specs.FindSays.{FindSays}
 use Rattle.paths.specs.Demands as paths
-use Rattle.layout.specs.Settings.{sizes}
+use Rattle.layout.specs.CheckedSettings.{sizes}
 use Rattle.enough.specs.Enough.{enoughFor, enoughSays}
 use Rattle.select.proofs.FoundLaws.{find-by}
 use Rattle.paths.specs.Visits.{path-long}
-use Rattle.runs.specs.Runs.{Ends, ends}
+use Rattle.runs.specs.Ends.{Ends, ends}
 use Rattle.query.proofs.Functions as f
 use Rattle.query.proofs.Calls as calls
 use Rattle.query.proofs.Calls.{Lent, Fingerprint, Check, Enough, Byte, Run, Count, Find}

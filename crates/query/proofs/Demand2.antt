@@ -10,16 +10,16 @@ use denote.Ref.{now}
 use lib.ListN.{length, take}
 use borrow.Author.Tests.{le-leb}
 use Rattle.format.specs.Settings.{Settings, lengthOk, sizesOk, countedOk}
-use Rattle.format.specs.HeaderLaws.{readable-facts}
+use Rattle.format.specs.LayoutLaws.{readable-facts}
 use Rattle.built.specs.Readable.{built-readable}
 use Rattle.format.specs.Blocks.{treeOf}
 use Rattle.format.specs.Layout as at
 use Rattle.format.specs.Fits.{textOf, fits}
 use Rattle.format.specs.Verdict.{verdict}
-use Rattle.format.specs.Building.{buildNumber, buildSize}
+use Rattle.format.specs.BuildSays.{buildNumber, buildSize}
 use Rattle.built.specs.ReadBack.{read-settings}
-use Rattle.accepted.specs.Accepting.{StandsFor, accepted-stands, one-text}
-use Rattle.builder.specs.Answers.{given, sizeOf}
+use Rattle.accepted.specs.AcceptedTrees.{StandsFor, accepted-stands, one-text}
+use Rattle.builder.specs.BuildAnswer.{given, sizeOf}
 use Rattle.builder.specs.declared.Built.{Built}
 use Rattle.tree.proofs.Demands as tree
 use Rattle.query.proofs.Calls as calls

@@ -11,9 +11,9 @@ use lib.ListN.{take}
 use Rattle.format.specs.Blocks.{treeOf}
 use Rattle.format.specs.Layout as at
 use Rattle.format.specs.Fits.{fits}
-use Rattle.accepted.specs.Accepting.{StandsFor}
-use Rattle.builder.specs.Answers.{given}
-use Rattle.scanner.specs.Scanning.{windowsOf}
+use Rattle.accepted.specs.AcceptedTrees.{StandsFor}
+use Rattle.builder.specs.BuildAnswer.{given}
+use Rattle.scanner.specs.ScannedSays.{windowsOf}
 use Rattle.query.proofs.Calls as calls
 use Rattle.query.proofs.Calls.{Lent, Build, BuildScanned, Check}
 use Rattle.query.proofs.Answering.{Answers, Refuses}
@@ -50,7 +50,7 @@ pub use Rattle.query.proofs.Demand2.{build-lets-through}
 -- is the total of byte 10 plus one. ..
 pub use Rattle.text.specs.RowLaws.{rows-count, row-last}
 -- .. and question 12 counts the added row." ..
-pub use Rattle.tallies.specs.Rows.{row-lets, row-twelve, row-eleven}
+pub use Rattle.tallies.specs.RowsOfText.{row-lets, row-twelve, row-eleven}
 -- .. "One byte 13 directly before the ending byte 10 now belongs to the end and not to the row. A byte 13 anywhere else stays in the row, also at
 -- the end of a row that has no byte 10" (`row-last`).
 pub use Rattle.text.specs.RowLaws.{row-between, trimmed-mark, trimmed-plain, trimmed-none}

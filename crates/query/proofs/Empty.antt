@@ -15,13 +15,13 @@ use Rattle.text.specs.Rows.{rowsOf}
 use Rattle.text.specs.declared.TextPlace.{TextPlace}
 use Rattle.format.specs.Settings.{Settings, pieces}
 use Rattle.format.specs.PieceLaws.{pieces-none}
-use Rattle.format.specs.HeaderLaws.{readable-facts}
+use Rattle.format.specs.LayoutLaws.{readable-facts}
 use Rattle.format.specs.Layout as at
 use Rattle.format.specs.Fits.{textOf, fits}
 use Rattle.format.specs.VerdictLaws.{accepted-readable, accepted-links}
-use Rattle.accepted.specs.Accepting.{one-text}
+use Rattle.accepted.specs.AcceptedTrees.{one-text}
 use Rattle.enough.specs.Enough.{blocksAtMost}
-use Rattle.enough.specs.Sizes.{accepted-enough}
+use Rattle.enough.specs.EnoughHolds.{accepted-enough}
 use Rattle.query.proofs.Calls as calls
 use Rattle.query.proofs.Calls.{Lent, Check, Answer, Copied, Counted, Found, RowCopied, Byte, Run, Span, Count, Find, Row}
 use Rattle.query.proofs.Answering.{Answers, Refuses, Among}

@@ -15,12 +15,12 @@ use Rattle.format.specs.Path.{pathOf}
 use Rattle.format.specs.Verdict.{ask, readable, verdict}
 use Rattle.format.specs.Said.{Said}
 use Rattle.format.specs.SaidLaws.{unless-number}
-use Rattle.format.specs.Reading.{byteSays}
-use Rattle.format.specs.Counting.{isCounted, numberOfByte}
-use Rattle.format.specs.Finding.{total}
+use Rattle.format.specs.ReadSays.{byteSays}
+use Rattle.format.specs.CountSays.{isCounted, numberOfByte}
+use Rattle.format.specs.FindSays.{total}
 use Rattle.format.specs.RowSays.{rowNumber, rowMost}
-use Rattle.paths.specs.Bytes.{byte-path}
-use Rattle.rows.specs.Lengths.{rowsNumber, lastOpen, rowsSays}
+use Rattle.paths.specs.PlaceBytes.{byte-path}
+use Rattle.rows.specs.RowLengths.{rowsNumber, lastOpen, rowsSays}
 use Rattle.patterns.specs.Places.{maxPattern, roomOf, roomSays}
 use Rattle.query.proofs.Calls as calls
 use Rattle.query.proofs.Calls.{Lent, LengthOf, CountOf, PlacesWords, Info}

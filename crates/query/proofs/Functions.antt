@@ -1,5 +1,5 @@
 -- The calls as functions of the machine: the routine that a call of one runs, and what is promised of it.
-use Rattle.runs.specs.Runs.{Function}
+use Rattle.runs.specs.Ends.{Function}
 use Rattle.search.proofs.leftmost as leftmost-of
 use Rattle.search.proofs.leftmost.Symbol as leftmost-at
 use Rattle.search.proofs.occurs_earlier as occurs-earlier-of

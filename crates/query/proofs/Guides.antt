@@ -19,9 +19,9 @@ use Rattle.format.specs.Verdict.{readable, verdict}
 use Rattle.format.specs.VerdictLaws.{accepted-readable, accepted-links}
 use Rattle.format.specs.Said.{Said}
 use Rattle.format.specs.SaidLaws.{unless-number}
-use Rattle.format.specs.Counting.{numberOfByte}
-use Rattle.format.specs.Finding.{found, pathLength}
-use Rattle.format.specs.FindingLaws.{select-passes}
+use Rattle.format.specs.CountSays.{numberOfByte}
+use Rattle.format.specs.FindSays.{found, pathLength}
+use Rattle.format.specs.FindSaysLaws.{select-passes}
 use Rattle.paths.specs.Demands as paths
 use Rattle.tallies.specs.Demands as tallies
 use Rattle.guide.specs.Guides.{guideBytes, guideWords, guideNumber, sizeSays, makeNumber, makeSays}

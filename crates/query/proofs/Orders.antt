@@ -15,12 +15,12 @@ use Rattle.format.specs.Layout as at
 use Rattle.format.specs.Fits.{linksOk, textOf, fits}
 use Rattle.format.specs.Verdict.{readable}
 use Rattle.format.specs.VerdictLaws.{accepted-readable, accepted-links}
-use Rattle.format.specs.Reading.{byteSays}
-use Rattle.paths.specs.Bytes.{byte-broken}
-use Rattle.accepted.specs.Accepting.{one-text}
+use Rattle.format.specs.ReadSays.{byteSays}
+use Rattle.paths.specs.PlaceBytes.{byte-broken}
+use Rattle.accepted.specs.AcceptedTrees.{one-text}
 use Rattle.ordering.specs.Order.{Standing, before, same, after, Ordered, stands, orElse, byLength, comparedFrom, orderSays, standing, shared}
 use Rattle.ordering.specs.OrderLaws.{clash, flip, Upto, shared-itself}
-use Rattle.ordering.specs.Answers.{outcome, firstOf}
+use Rattle.ordering.specs.OrderAnswers.{outcome, firstOf}
 use Rattle.ordering.proofs.HandLaws.{refused-low}
 use Rattle.ordering.proofs.Demands as orders
 use Rattle.query.proofs.Calls as calls

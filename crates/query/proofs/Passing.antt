@@ -15,13 +15,13 @@ use Rattle.format.specs.Blocks.{treeOf}
 use Rattle.format.specs.Layout as at
 use Rattle.format.specs.Path.{Path, pathOf}
 use Rattle.format.specs.Verdict.{ask, readable}
-use Rattle.format.specs.HeaderLaws.{ask-test, ask-rest}
+use Rattle.format.specs.LayoutLaws.{ask-test, ask-rest}
 use Rattle.format.specs.Said.{refused, unless}
 use Rattle.format.specs.SaidLaws.{unless-passes, then-is}
-use Rattle.format.specs.Building.{buildNumber}
-use Rattle.format.specs.Reading.{byteOf, byteSays, asksSpan, spanReached, spanNumber}
-use Rattle.format.specs.Counting.{added, taken, leavesReached, countOf, isCounted, numberOfByte, countSays}
-use Rattle.paths.specs.Bytes.{path-there}
+use Rattle.format.specs.BuildSays.{buildNumber}
+use Rattle.format.specs.ReadSays.{byteOf, byteSays, asksSpan, spanReached, spanNumber}
+use Rattle.format.specs.CountSays.{added, taken, leavesReached, countOf, isCounted, numberOfByte, countSays}
+use Rattle.paths.specs.PlaceBytes.{path-there}
 
 -- build answers only where the tree fits the buffer
 pub build-fits : (S : Settings) (T out : List ℕ) → buildNumber S T out ≡ 0 → length (treeOf S T) ≤ length out

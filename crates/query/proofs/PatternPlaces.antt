@@ -15,12 +15,12 @@ use Rattle.format.specs.Layout as at
 use Rattle.format.specs.Path.{Path, pathOf}
 use Rattle.format.specs.Fits.{textOf}
 use Rattle.format.specs.Verdict.{ask, readable}
-use Rattle.format.specs.HeaderLaws.{ask-test, ask-rest, readable-facts}
+use Rattle.format.specs.LayoutLaws.{ask-test, ask-rest, readable-facts}
 use Rattle.format.specs.Said.{Said, refused}
 use Rattle.format.specs.SaidLaws.{unless-passes, unless-number, then-is}
-use Rattle.format.specs.Reading.{byteSays, pathsHold}
+use Rattle.format.specs.ReadSays.{byteSays, pathsHold}
 use Rattle.paths.specs.Reads.{text-of-path}
-use Rattle.paths.specs.Bytes.{path-there}
+use Rattle.paths.specs.PlaceBytes.{path-there}
 use Rattle.patterns.specs.Places.{maxPattern, patternOk, placesIn, placesOf, placesNumber, placesSays, placesLeaves}
 use Rattle.patterns.specs.PlacesLaws.{AllPlaces, places-all}
 use Rattle.query.proofs.Calls as calls

@@ -16,12 +16,12 @@ use Rattle.format.specs.Settings.{Settings, lengthOk, sizesOk, countedOk}
 use Rattle.format.specs.Blocks.{treeOf}
 use Rattle.format.specs.Fits.{fits}
 use Rattle.format.specs.Verdict.{ask}
-use Rattle.format.specs.Building.{buildNumber, buildSize, buildLeaves}
-use Rattle.accepted.specs.Accepting.{StandsFor}
-use Rattle.builder.specs.Answers.{given, numberOf as numberBuilt, sizeOf as sizeBuilt}
-use Rattle.scanner.specs.Answers.{numberOf, sizeOf}
-use Rattle.scanner.specs.Scanning.{windowsOf, tableWords, scanNumber, scanWindows, scanLeaves}
-use Rattle.scanner.proofs.Outcomes.{number-same, size-same, leaves-same}
+use Rattle.format.specs.BuildSays.{buildNumber, buildSize, buildLeaves}
+use Rattle.accepted.specs.AcceptedTrees.{StandsFor}
+use Rattle.builder.specs.BuildAnswer.{given, numberOf as numberBuilt, sizeOf as sizeBuilt}
+use Rattle.scanner.specs.ScannedAnswer.{numberOf, sizeOf}
+use Rattle.scanner.specs.ScannedSays.{windowsOf, tableWords, scanNumber, scanWindows, scanLeaves}
+use Rattle.scanner.proofs.ScannedOutcomes.{number-same, size-same, leaves-same}
 use Rattle.query.proofs.Calls as calls
 use Rattle.query.proofs.Calls.{Lent, Built, Scanned, Build, BuildScanned, ScanWords, Check}
 use Rattle.query.proofs.Numbers.{OneOf, asks-one}

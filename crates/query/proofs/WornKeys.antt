@@ -7,9 +7,9 @@ use Prim.Native.Nat.{ℕ}
 use contract.Lifetimes.{Lfts}
 use denote.Ref.{now}
 use Rattle.format.specs.Verdict.{readable, verdict}
-use Rattle.format.specs.Counting.{isCounted}
+use Rattle.format.specs.CountSays.{isCounted}
 use Rattle.keys.specs.Keys.{rangesOk}
-use Rattle.worn_keys.specs.Says.{matchNumber}
+use Rattle.worn_keys.specs.MatchSays.{matchNumber}
 use Rattle.worn_keys.proofs.Demands.{refusal-is}
 use Rattle.query.proofs.Calls as calls
 use Rattle.query.proofs.Calls.{Lent, NextMatch}

@@ -3,8 +3,8 @@
 pub use access::Answer;
 pub use access::Copied;
 pub use access::byte;
-pub use access::reading::Part;
-pub use access::reading::Ran;
+pub use access::read_by_header::Part;
+pub use access::read_by_header::Ran;
 pub use access::run;
 pub use access::run_part;
 pub use access::span;

@@ -1,4 +1,4 @@
-pub mod ScanLaws
+pub mod CountedNumberLaws
 pub mod SumLaws
-pub mod CountingLaws
+pub mod CountByHeaderLaws
 mod UncountedLaws

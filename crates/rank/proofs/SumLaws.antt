@@ -12,10 +12,10 @@ use lib.Dec.{eqb}
 use Rattle.text.specs.ListLaws.{lt-or-ge}
 use Rattle.text.specs.Text.{stretch, countIn}
 use Rattle.format.specs.Layout as at
-use Rattle.format.specs.HeaderLaws.{Readable}
+use Rattle.format.specs.LayoutLaws.{Readable}
 use Rattle.format.specs.Path.{Path, Visit, visit, entered, keptBlock, pointingBlock, targetBlock, targetPlace, pathFrom, pathOf}
-use Rattle.format.specs.Counting.{addedAfter, added, takenAfter, taken, lastPlace, leavesReached}
-use Rattle.paths.specs.Landing.{from-last, from-kept, from-pointing, target-first, target-second}
+use Rattle.format.specs.CountSays.{addedAfter, added, takenAfter, taken, lastPlace, leavesReached}
+use Rattle.paths.specs.PlacesLand.{from-last, from-kept, from-pointing, target-first, target-second}
 use Rattle.paths.specs.Visits.{goes}
 use Rattle.layout.specs.declared.header.Header.{Header}
 use Rattle.layout.specs.declared.place.BlockNumber.{BlockNumber}

@@ -7,7 +7,7 @@ use lib.Dec.{eqb, leb}
 use Rattle.format.specs.Layout as at
 use Rattle.format.specs.Verdict.{ask, readable}
 use Rattle.format.specs.Said.{Said, refused}
-use Rattle.format.specs.Counting.{countSays}
+use Rattle.format.specs.CountSays.{countSays}
 use Rattle.rank.specs.declared.Counted.{Counted}
 use Rattle.rank.specs.declared.Counted.the-variants.{Times, Refused}
 use Rattle.rank.specs.declared.sums.Summed.{Summed}

@@ -1,3 +1,3 @@
-pub mod Scans
+pub mod CountedNumber
 pub mod Sums
 pub mod Counts

@@ -6,7 +6,7 @@ use lib.ListN.{length}
 use Rattle.text.specs.Text.{countIn}
 use Rattle.format.specs.Layout as at
 use Rattle.format.specs.Path.{Path, Visit}
-use Rattle.format.specs.Counting.{addedAfter, added, taken, leavesReached}
+use Rattle.format.specs.CountSays.{addedAfter, added, taken, leavesReached}
 use Rattle.steps.specs.Steps.{OnLevel}
 use Rattle.rank.specs.declared.sums.Sum.{Sum}
 use Rattle.rank.specs.declared.sums.Summed.{Summed}

@@ -1,6 +1,6 @@
 // Count (rank): how often a counted byte stands in a prefix. It asks 5 to 7 first, of any bytes lent as a tree.
-pub mod counting;
-pub mod scan;
+pub mod count_by_header;
+pub mod counted_number;
 mod sums;
 pub mod uncounted;
 
@@ -20,7 +20,7 @@ pub fn count(t: &[u8], byte: u8, i: u32) -> Counted
 {
     let read = header::read_header(t);
     match read {
-        HeaderRead::Good(h) => counting::count_at(t, h, byte, i),
+        HeaderRead::Good(h) => count_by_header::count_at(t, h, byte, i),
         HeaderRead::Refused(number) => Counted::Refused(number),
     }
 }

@@ -1,7 +1,7 @@
 // The sums down the path of a place: what is added and what is taken off, apart. The step for a kept block and the step for a
 // pointing block call each other: twice the levels left, plus one if a pointer may still be followed, falls. A step carries no header,
 // and its answer is one word.
-use crate::scan::Wanted;
+use crate::counted_number::Wanted;
 use layout::header::Header;
 use layout::place::BlockNumber;
 use layout::place::BlockPlace;

@@ -12,23 +12,23 @@ use Rattle.text.specs.ListLaws.{lt-or-ge, sumBelow-suc, sumBelow-part}
 use Rattle.format.specs.Words.{wordAt}
 use Rattle.format.specs.Settings.{Settings, blockLength, pieces, maxText}
 use Rattle.format.specs.Blocks.{treeOf, recordBytes}
-use Rattle.built.specs.Bytes.{Stands}
-use Rattle.built.specs.Linked.{link-kept}
-use Rattle.built.specs.Sizes.{Taken, Bounds, bounds, size-pos, maxTable}
+use Rattle.built.specs.BuiltBytes.{Stands}
+use Rattle.built.specs.BuiltLinks.{link-kept}
+use Rattle.built.specs.BlockSizes.{Taken, Bounds, bounds, size-pos, maxTable}
 use Rattle.built.specs.Structure.{size, count, start, keptAt, widthOf, bytesIn-is, cut-at, count-below, start-below}
-use Rattle.built.specs.Leaves.{widths-le}
+use Rattle.built.specs.BuiltLeaves.{widths-le}
 use Rattle.built.specs.Pairs.{offset}
-use Rattle.built.specs.Records.{kindOf, linkOf}
+use Rattle.built.specs.BuiltRecords.{kindOf, linkOf}
 use Rattle.built.specs.Small.{kind-le, link-le}
-use Rattle.records.specs.declared.level.Level.{Level}
-use Rattle.records.specs.declared.level.Stretch.{Stretch}
-use Rattle.records.specs.Growing.{Grown, Within}
-use Rattle.records.specs.Levels.{recordPlace}
-use Rattle.records.specs.Starts.{startsWritten, StartsAsk}
+use Rattle.records.specs.declared.level_written.Level.{Level}
+use Rattle.records.specs.declared.level_written.Stretch.{Stretch}
+use Rattle.records.specs.Grown.{Grown, Within}
+use Rattle.records.specs.RecordPlaces.{recordPlace}
+use Rattle.records.specs.WrittenStarts.{startsWritten, StartsAsk}
 use Rattle.records.specs.State.{settingsOf, Filled, Below, Started, On, StretchIs, placeAt}
 use Rattle.records.proofs.Growth.{read-right, within-grown, within-part}
-use Rattle.records.proofs.Reading.{on-written}
-use Rattle.records.proofs.Starting.{starts-grown, starts-within}
+use Rattle.records.proofs.RecordsRead.{on-written}
+use Rattle.records.proofs.WrittenStartsLaws.{starts-grown, starts-within}
 use Rattle.records.proofs.StateLaws.{record-size, place-is, place-le, place-end, record-inside-table, table-inside, offset-low, offset-rises, size-high, start-stands, kind-stands, link-stands}
 use Rattle.records.proofs.Widths.{kept-by-kind, points-by-kind}
 

@@ -9,17 +9,17 @@ use lib.ListN.{length, getD}
 use Rattle.format.specs.Settings.{Settings}
 use Rattle.format.specs.Blocks.{treeOf, recordBytes}
 use Rattle.format.specs.EdgeLaws.{first-own, first-none, last-own, last-none}
-use Rattle.built.specs.Sizes.{Taken, Bounds, bounds}
+use Rattle.built.specs.BlockSizes.{Taken, Bounds, bounds}
 use Rattle.built.specs.Structure.{count, start, bytesIn}
-use Rattle.built.specs.Leaves.{bytes-fit}
-use Rattle.built.specs.Records.{edgesIn, recordWords}
-use Rattle.built.specs.Bytes.{edge-stands}
+use Rattle.built.specs.BuiltLeaves.{bytes-fit}
+use Rattle.built.specs.BuiltRecords.{edgesIn, recordWords}
+use Rattle.built.specs.BuiltBytes.{edge-stands}
 use Rattle.stretches.specs.Stretches.{bytesWritten}
-use Rattle.records.specs.declared.level.Level.{Level}
-use Rattle.records.specs.declared.record.Block.{Block}
-use Rattle.records.specs.Growing.{Grown, Within}
-use Rattle.records.specs.Levels.{recordPlace}
-use Rattle.records.specs.Records.{edgeWritten}
+use Rattle.records.specs.declared.level_written.Level.{Level}
+use Rattle.records.specs.declared.record_written.Block.{Block}
+use Rattle.records.specs.Grown.{Grown, Within}
+use Rattle.records.specs.RecordPlaces.{recordPlace}
+use Rattle.records.specs.RecordWords.{edgeWritten}
 use Rattle.records.specs.State.{settingsOf, Writing, placeAt}
 use Rattle.records.proofs.Growth.{grown-then, within-grown, within-join, bytes-grown, bytes-within}
 use Rattle.records.proofs.StateLaws.{record-size, place-is, place-next, record-inside-table, table-inside}

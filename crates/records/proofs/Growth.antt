@@ -10,10 +10,10 @@ use native.Mathlib.Decide.{ℕ-discrete}
 use Rattle.text.specs.ListLaws.{lt-or-ge, below-suc}
 use Rattle.format.specs.Words.{wordAt, wordBytes, setWord}
 use Rattle.format.specs.WordLaws.{length-setWord, getD-setWord-other, setWord-eq}
-use Rattle.built.specs.Bytes.{Stands, stands-word}
+use Rattle.built.specs.BuiltBytes.{Stands, stands-word}
 use Rattle.stretches.specs.Stretches.{bytesWritten}
-use Rattle.records.specs.Growing.{Grown, Within}
-use Rattle.records.specs.Records.{putThree}
+use Rattle.records.specs.Grown.{Grown, Within}
+use Rattle.records.specs.RecordWords.{putThree}
 
 length-wordBytes : (v : ℕ) → length (wordBytes v) ≡ 4
 unfolding wordBytes

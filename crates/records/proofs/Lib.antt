@@ -1,11 +1,11 @@
-pub mod Places
+pub mod RecordPlacesLaws
 pub mod RecordWrites
 pub mod Growth
 pub mod Neighbours
 pub mod StateLaws
-pub mod Reading
+pub mod RecordsRead
 pub mod Widths
 pub mod RecordCounts
 pub mod EdgeBytes
-pub mod Starting
+pub mod WrittenStartsLaws
 pub mod Children

@@ -8,10 +8,10 @@ use Rattle.text.specs.Lists.{sumBelow}
 use Rattle.text.specs.Text.{stretch, countIn}
 use Rattle.text.specs.CountLaws.{count-add}
 use Rattle.format.specs.Settings.{Settings}
-use Rattle.built.specs.Sizes.{Taken}
+use Rattle.built.specs.BlockSizes.{Taken}
 use Rattle.built.specs.Structure.{size, count, start, bytesIn, widthOf, bytesIn-is, level-at, start-top, start-below}
 use Rattle.built.specs.Parents.{parent, parent-start}
-use Rattle.built.specs.Records.{parentOf, beforeOf, insideOf}
+use Rattle.built.specs.BuiltRecords.{parentOf, beforeOf, insideOf}
 
 -- block j stands on the left of block i, in the same parent
 pub record LeftOf (S : Settings) (T : List ℕ) (l i j : ℕ) : Type 0 where

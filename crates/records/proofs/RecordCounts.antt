@@ -13,16 +13,16 @@ use Rattle.text.specs.Text.{stretch, countIn}
 use Rattle.format.specs.Words.{wordAt}
 use Rattle.format.specs.Settings.{Settings}
 use Rattle.format.specs.Blocks.{treeOf, recordBytes}
-use Rattle.built.specs.Sizes.{Taken, Bounds, bounds}
+use Rattle.built.specs.BlockSizes.{Taken, Bounds, bounds}
 use Rattle.built.specs.Structure.{count}
-use Rattle.built.specs.Leaves.{bytes-fit}
+use Rattle.built.specs.BuiltLeaves.{bytes-fit}
 use Rattle.built.specs.Small.{before-le, inside-le}
-use Rattle.built.specs.Records.{kindOf, linkOf, gapOf, beforeOf, insideOf, skipOf}
-use Rattle.records.specs.declared.level.Level.{Level}
-use Rattle.records.specs.declared.record.Block.{Block}
-use Rattle.records.specs.Growing.{Grown, Within}
-use Rattle.records.specs.Levels.{recordPlace}
-use Rattle.records.specs.Records.{putThree, beforeSays}
+use Rattle.built.specs.BuiltRecords.{kindOf, linkOf, gapOf, beforeOf, insideOf, skipOf}
+use Rattle.records.specs.declared.level_written.Level.{Level}
+use Rattle.records.specs.declared.record_written.Block.{Block}
+use Rattle.records.specs.Grown.{Grown, Within}
+use Rattle.records.specs.RecordPlaces.{recordPlace}
+use Rattle.records.specs.RecordWords.{putThree, beforeSays}
 use Rattle.records.specs.State.{settingsOf, Writing, placeAt}
 use Rattle.records.proofs.Growth.{read-right, within-grown, within-join, grown-then, within-part, three-grown, three-within}
 use Rattle.records.proofs.Neighbours.{LeftOf, left-of, before-left, before-first}

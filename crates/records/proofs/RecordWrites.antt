@@ -3,7 +3,7 @@ use mathlib.Core.List.{List}
 use mathlib.Core.Path.{_≡_}
 use Prim.Native.Nat.{ℕ, _+_}
 use Rattle.format.specs.Words.{wordAt, setWord}
-use Rattle.records.specs.Records.{putThree}
+use Rattle.records.specs.RecordWords.{putThree}
 
 pub three-written : (t t1 t2 t3 : List ℕ) (at a b c : ℕ) → t1 ≡ setWord t at a → t2 ≡ setWord t1 (at + 4) b → t3 ≡ setWord t2 (at + 8) c
     → t3 ≡ putThree t at a b c

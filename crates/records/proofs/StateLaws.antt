@@ -9,18 +9,18 @@ use Rattle.text.specs.Lists.{sumBelow}
 use Rattle.format.specs.Settings.{Settings, blockLength, maxText}
 use Rattle.format.specs.SizeLaws.{Sizes, sizes, length-top, length-falls, record-edged}
 use Rattle.format.specs.Blocks.{treeOf, recordBytes, builtLayout}
-use Rattle.built.specs.Bytes.{Stands, record-stands}
+use Rattle.built.specs.BuiltBytes.{Stands, record-stands}
 use Rattle.built.specs.Gather.{sumBelow-le}
-use Rattle.built.specs.Sizes.{Taken, Bounds, bounds, maxTable}
+use Rattle.built.specs.BlockSizes.{Taken, Bounds, bounds, maxTable}
 use Rattle.built.specs.Structure.{count, start}
 use Rattle.built.specs.Pairs.{offset}
 use Rattle.built.specs.Shape.{tree-length}
 use Rattle.built.specs.Small.{offset-le, blocks-le}
-use Rattle.built.specs.Records.{recordWords, record-start, record-kind, record-link, record-gap, record-before, record-inside, record-skip, kindOf, linkOf, gapOf, beforeOf, insideOf, skipOf}
-use Rattle.records.specs.declared.level.Level.{Level}
-use Rattle.records.specs.declared.record.Block.{Block}
-use Rattle.records.specs.Growing.{Grown}
-use Rattle.records.specs.Levels.{recordPlace}
+use Rattle.built.specs.BuiltRecords.{recordWords, record-start, record-kind, record-link, record-gap, record-before, record-inside, record-skip, kindOf, linkOf, gapOf, beforeOf, insideOf, skipOf}
+use Rattle.records.specs.declared.level_written.Level.{Level}
+use Rattle.records.specs.declared.record_written.Block.{Block}
+use Rattle.records.specs.Grown.{Grown}
+use Rattle.records.specs.RecordPlaces.{recordPlace}
 use Rattle.records.specs.State.{settingsOf, LevelIs, Filled, Writing, placeAt}
 use Rattle.records.proofs.Growth.{within-grown}
 

@@ -8,13 +8,13 @@ use native.Mathlib.Omega.{arith}
 use native.Mathlib.Numerals.{add-one}
 use Rattle.text.specs.ListLaws.{lt-or-ge, bool-cases, bool-clash}
 use Rattle.format.specs.Settings.{Settings, pieces, maxText}
-use Rattle.built.specs.Leaves.{bytes-fit, kept-last, width-last}
-use Rattle.built.specs.Linked.{kind-points}
-use Rattle.built.specs.Records.{kindOf}
-use Rattle.built.specs.Sizes.{Taken, Bounds, bounds, size-pos}
+use Rattle.built.specs.BuiltLeaves.{bytes-fit, kept-last, width-last}
+use Rattle.built.specs.BuiltLinks.{kind-points}
+use Rattle.built.specs.BuiltRecords.{kindOf}
+use Rattle.built.specs.BlockSizes.{Taken, Bounds, bounds, size-pos}
 use Rattle.built.specs.Structure.{keptAt, widthOf, bytesIn-is, cut-at}
-use Rattle.records.specs.declared.level.Level.{Level}
-use Rattle.records.specs.declared.record.Block.{Block}
+use Rattle.records.specs.declared.level_written.Level.{Level}
+use Rattle.records.specs.declared.record_written.Block.{Block}
 use Rattle.records.specs.State.{Writing}
 use Rattle.records.proofs.StateLaws.{size-high}
 

@@ -1,5 +1,5 @@
-pub mod Levels
-pub mod Growing
+pub mod RecordPlaces
+pub mod Grown
 pub mod State
-pub mod Records
-pub mod Starts
+pub mod RecordWords
+pub mod WrittenStarts

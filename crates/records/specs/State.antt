@@ -8,14 +8,14 @@ use Rattle.text.specs.Text.{stretch, countIn}
 use Rattle.format.specs.Settings.{Settings, blockLength}
 use Rattle.format.specs.Blocks.{treeOf, recordBytes}
 use Rattle.layout.specs.declared.settings.Settings as code
-use Rattle.built.specs.Sizes.{Taken}
+use Rattle.built.specs.BlockSizes.{Taken}
 use Rattle.built.specs.Structure.{count, start, bytesIn, widthOf}
 use Rattle.built.specs.Pairs.{offset}
-use Rattle.built.specs.Records.{parentOf, kindOf, linkOf, gapOf, skipOf}
-use Rattle.records.specs.declared.level.Level.{Level}
-use Rattle.records.specs.declared.level.Stretch.{Stretch}
-use Rattle.records.specs.declared.record.Block.{Block}
-use Rattle.records.specs.Growing.{Within}
+use Rattle.built.specs.BuiltRecords.{parentOf, kindOf, linkOf, gapOf, skipOf}
+use Rattle.records.specs.declared.level_written.Level.{Level}
+use Rattle.records.specs.declared.level_written.Stretch.{Stretch}
+use Rattle.records.specs.declared.record_written.Block.{Block}
+use Rattle.records.specs.Grown.{Within}
 
 -- the settings that the code holds, with the counted bytes that it was lent
 abbrev pub settingsOf : code.Settings → List ℕ → Settings

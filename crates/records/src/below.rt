@@ -1,6 +1,6 @@
 // The starts of a level's blocks, put in place from the kept blocks above.
-use crate::level;
-use crate::level::Level;
+use crate::level_written;
+use crate::level_written::Level;
 use layout::header;
 use layout::place::BlockNumber;
 use layout::place::TextPlace;
@@ -10,8 +10,8 @@ ghost use Prim.Native.Nat.{suc, _+_, _<_};
 ghost use Rattle.text.specs.Lists.{sumBelow};
 ghost use Rattle.format.specs.Blocks.{treeOf};
 ghost use Rattle.built.specs.Structure.{widthOf};
-ghost use Rattle.records.specs.Growing.{Grown};
-ghost use Rattle.records.specs.Starts.{startsWritten, StartsAsk};
+ghost use Rattle.records.specs.Grown.{Grown};
+ghost use Rattle.records.specs.WrittenStarts.{startsWritten, StartsAsk};
 ghost use Rattle.records.specs.State.{settingsOf, Below, Started, Filled};
 
 // Writes the starts of n blocks of a size, one in each record from a place on.
@@ -40,17 +40,17 @@ fn put_children_of(
     ensures { λ _. ⌜ Started (settingsOf (level .settings) (now (counted .entry))) (now (text .entry)) (now (out .exit)) (suc (level .number)) 0
         (sumBelow (i .0 + 1) (widthOf (settingsOf (level .settings) (now (counted .entry))) (now (text .entry)) (level .number))) ⌝ }
 {
-    let at = level::place(counted, level, i);
+    let at = level_written::place(counted, level, i);
     if word::read(out, at + 4) != 0 {
         return;
     }
     let first = BlockNumber(word::read(out, at + 8));
-    let own = level::stretch_of(text, counted, out, level, i);
+    let own = level_written::stretch_of(text, counted, out, level, i);
     let children = header::pieces(own.length, next.size);
     put_starts(
         out,
-        level::place(counted, next, first),
-        level::record_size(counted, level.settings),
+        level_written::place(counted, next, first),
+        level_written::record_size(counted, level.settings),
         own.start,
         next.size,
         children,

@@ -1,9 +1,9 @@
 // The library's answers, printed in the format of the cases: ` => `, the number of the question that refuses or 0, the figures, and what
 // a lent buffer holds, in hexadecimal.
-pub mod by_columns;
-pub mod guides;
-pub mod licence;
-pub mod order;
+pub mod column_replies;
+pub mod guide_replies;
+pub mod licence_replies;
+pub mod order_replies;
 mod say;
 
 use query::Answer;

@@ -17,23 +17,23 @@ use Rattle.format.specs.Fits.{textOf}
 use Rattle.format.specs.Verdict.{verdict}
 use Rattle.format.specs.VerdictLaws.{accepted-readable, accepted-links}
 use Rattle.format.specs.Said.{Said}
-use Rattle.format.specs.Counting.{isCounted}
+use Rattle.format.specs.CountSays.{isCounted}
 use Rattle.format.specs.RowSays.{rowNumber}
 use Rattle.paths.specs.OneText.{text-length}
 use Rattle.paths.specs.Demands as paths
 use Rattle.tallies.specs.Demands as tallies
-use Rattle.tallies.specs.Rows.{row-lets}
+use Rattle.tallies.specs.RowsOfText.{row-lets}
 use Rattle.guide.specs.Guides.{guideNumber}
 use Rattle.guide.proofs.GuideList.{guide-verdict}
 use Rattle.guide.proofs.Demands.{CheckGuide}
 use Rattle.rows.specs.declared.RowCopied.{RowCopied}
 use Rattle.rows.specs.declared.RowCopied.the-variants as row
-use Rattle.rows.specs.Rows.{saidRow, Numbered, RowAnswer, RowAnswerBy}
+use Rattle.rows.specs.RowAnswers.{saidRow, Numbered, RowAnswer, RowAnswerBy}
 use Rattle.rows.specs.declared.RowLength.{RowLength}
 use Rattle.rows.specs.declared.RowLength.the-variants as size
 use Rattle.rows.specs.declared.RowCount.{RowCount}
 use Rattle.rows.specs.declared.RowCount.the-variants as count
-use Rattle.rows.specs.Lengths.{rowsNumber, lastOpen, rowsSays, saidLength, saidCount, LengthNumbered, CountNumbered}
+use Rattle.rows.specs.RowLengths.{rowsNumber, lastOpen, rowsSays, saidLength, saidCount, LengthNumbered, CountNumbered}
 use Rattle.rows.proofs.row_length.Reads as length-reads
 use Rattle.rows.proofs.row_count.Reads as count-reads
 use Rattle.rows.proofs.row.Reads as row-reads

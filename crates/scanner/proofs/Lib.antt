@@ -1,6 +1,6 @@
-pub mod Dividing
-pub mod Levelled
-pub mod Lengths
-pub mod Telling
-pub mod Along
-pub mod Outcomes
+pub mod TableRoom
+pub mod ScannedLevel
+pub mod WindowsCounted
+pub mod TableTold
+pub mod ScannedLevelsLaws
+pub mod ScannedOutcomes

@@ -1,4 +1,4 @@
-pub mod Scanning
-pub mod Answers
-pub mod Tables
-pub mod ScanWorked
+pub mod ScannedSays
+pub mod ScannedAnswer
+pub mod ItemTable
+pub mod ScanExamples

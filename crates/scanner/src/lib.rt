@@ -1,18 +1,18 @@
 // The builder with one scan a level: it enters the blocks and pairs of a level in a lent table of words and passes once over the text.
 // It writes what the first builder writes.
-mod fill;
+mod scanned_fill;
 mod table;
-mod whole;
+mod scanned_levels;
 
 use layout::settings::Checked;
 use layout::settings::Settings;
 ghost use mathlib.Core.Path.{_≡_};
 ghost use lib.ListN.{length};
-ghost use Rattle.built.specs.Sizes.{Taken};
-ghost use Rattle.builder.specs.Answers.{given};
+ghost use Rattle.built.specs.BlockSizes.{Taken};
+ghost use Rattle.builder.specs.BuildAnswer.{given};
 ghost use Rattle.records.specs.State.{settingsOf};
-ghost use Rattle.scanner.specs.Answers.{numberOf, sizeOf, windowsSaid};
-ghost use Rattle.scanner.specs.Scanning.{tableWords, scanNumber, scanSize, scanWindows, scanLeaves, TableLeft};
+ghost use Rattle.scanner.specs.ScannedAnswer.{numberOf, sizeOf, windowsSaid};
+ghost use Rattle.scanner.specs.ScannedSays.{tableWords, scanNumber, scanSize, scanWindows, scanLeaves, TableLeft};
 
 // How many words the table must have for a text of n bytes.
 pub fn scan_words(n: u32, leaf: u32) -> u64
@@ -69,7 +69,7 @@ fn scan_with(text: &[u8], counted: &[u8], s: Settings, words: &mut [u32], out: &
     if (words.len() as u64) < scan_words(text.len() as u32, s.leaf) {
         return Scanned::Refused(18);
     }
-    let wrote = whole::write_tree(out, words, text, counted, s);
+    let wrote = scanned_levels::write_tree(out, words, text, counted, s);
     if wrote.size == 0 {
         let all = out.len();
         stretches::clear(out, all);

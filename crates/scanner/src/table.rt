@@ -1,15 +1,15 @@
 // How the table is divided for a level.
 use entries::Items;
 use layout::header;
-use records::level;
-use records::level::Level;
+use records::level_written;
+use records::level_written::Level;
 ghost use mathlib.Core.Path.{_≡_};
 ghost use Prim.Native.Nat.{_+_, _*_, _≤_, _<_};
 ghost use lib.ListN.{length};
 ghost use Rattle.format.specs.Settings.{maxText, pieces};
 ghost use Rattle.format.specs.Blocks.{recordBytes};
 ghost use Rattle.records.specs.State.{settingsOf};
-ghost use Rattle.scanner.specs.Tables.{itemsSay};
+ghost use Rattle.scanner.specs.ItemTable.{itemsSay};
 
 // The items of a level. More than 16 heads to an item would only spread them over more memory.
 pub fn items_of(text: &[u8], counted: &[u8], level: Level) -> Items
@@ -21,7 +21,7 @@ pub fn items_of(text: &[u8], counted: &[u8], level: Level) -> Items
     let words = 4 * header::pieces(text.len() as u32, level.settings.leaf);
     Items {
         records: level.table,
-        step: level::record_size(counted, level.settings) as u32,
+        step: level_written::record_size(counted, level.settings) as u32,
         size: level.size,
         items,
         heads: stretches::shorter(words - 3 * items, 16 * items),

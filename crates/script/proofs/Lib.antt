@@ -1,3 +1,3 @@
-pub mod WordLaws
-pub mod NameLaws
-pub mod MakeLaws
+pub mod LineWordsLaws
+pub mod NameLineLaws
+pub mod GivenBytesLaws

@@ -1,3 +1,3 @@
-pub mod Words
-pub mod Naming
-pub mod Making
+pub mod LineWords
+pub mod NameLine
+pub mod GivenBytes

@@ -1,14 +1,14 @@
 // Cases written as lines: what each line asks, and the bytes of the texts and trees that lines give a name.
-mod making;
-mod naming;
-mod words;
+mod given_bytes;
+mod name_line;
+mod line_words;
 
-pub use making::fill;
-pub use making::make;
-pub use making::named;
-pub use naming::gives_bytes;
-pub use words::Gift;
-pub use words::Question;
-pub use words::gift_of;
-pub use words::is_comment;
-pub use words::question_of;
+pub use given_bytes::fill;
+pub use given_bytes::make;
+pub use given_bytes::named;
+pub use name_line::gives_bytes;
+pub use line_words::Gift;
+pub use line_words::Question;
+pub use line_words::gift_of;
+pub use line_words::is_comment;
+pub use line_words::question_of;

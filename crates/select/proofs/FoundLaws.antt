@@ -13,8 +13,8 @@ use Rattle.format.specs.Fits.{textOf}
 use Rattle.format.specs.Verdict.{verdict}
 use Rattle.format.specs.VerdictLaws.{accepted-readable, accepted-links}
 use Rattle.format.specs.Said.{Said, refused}
-use Rattle.format.specs.Finding.{selectNumber, pathLength, found, FindSays}
-use Rattle.format.specs.FindingLaws.{Selected, select-passes}
+use Rattle.format.specs.FindSays.{selectNumber, pathLength, found, FindSays}
+use Rattle.format.specs.FindSaysLaws.{Selected, select-passes}
 use Rattle.paths.specs.Visits.{path-long}
 use Rattle.paths.specs.Demands as paths
 use Rattle.tallies.specs.Demands as tallies

@@ -13,30 +13,30 @@ use Rattle.text.specs.ListLaws.{bool-cases, bool-clash, and-right}
 use Rattle.text.specs.Text.{stretch, countIn}
 use Rattle.format.specs.Settings.{pieces, maxText}
 use Rattle.format.specs.PieceLaws.{pieces-start, lt-pieces}
-use Rattle.format.specs.HeaderLaws.{Readable, readable-facts, full-pos}
+use Rattle.format.specs.LayoutLaws.{Readable, readable-facts, full-pos}
 use Rattle.format.specs.VerdictLaws.{accepted-readable, accepted-links}
 use Rattle.format.specs.Layout as at
 use Rattle.format.specs.Path.{keptBlock, pointingBlock}
 use Rattle.format.specs.Verdict.{verdict}
 use Rattle.paths.specs.Links.{H, N, s, len, Linked, linked-facts}
 use Rattle.paths.specs.Links as links
-use Rattle.paths.specs.Starts.{len-small, len-pos}
-use Rattle.paths.specs.Landing.{kept-block, pointing-block}
+use Rattle.paths.specs.BlockStarts.{len-small, len-pos}
+use Rattle.paths.specs.PlacesLand.{kept-block, pointing-block}
 use Rattle.layout.specs.declared.header.Header.{Header}
 use Rattle.layout.specs.declared.place.BlockNumber.{BlockNumber}
 use Rattle.layout.specs.declared.place.BlockPlace.{BlockPlace}
 use Rattle.steps.specs.declared.Next.the-variants as next
-use Rattle.steps.specs.Levels.{OnLevel, InTable}
+use Rattle.steps.specs.QuestionStands.{OnLevel, InTable}
 use Rattle.steps.specs.Steps.{nextAt}
 use Rattle.steps.proofs.NextLaws.{pointing-not-kept}
 use Rattle.steps.proofs.StepLaws.{kept-in, pointing-in}
-use Rattle.steps.proofs.LevelLaws.{b-small, b-pos}
-use Rattle.tallies.specs.Level.{Level, tally}
-use Rattle.tallies.specs.Local.{byteOf, inLeaves}
-use Rattle.tallies.specs.Stretches.{leaves-end, leaves-tally}
+use Rattle.steps.proofs.QuestionStandsLaws.{b-small, b-pos}
+use Rattle.tallies.specs.LevelTrue.{Level, tally}
+use Rattle.tallies.specs.CountsLocal.{byteOf, inLeaves}
+use Rattle.tallies.specs.CountedStretches.{leaves-end, leaves-tally}
 use Rattle.tallies.specs.Finds as finds
 use Rattle.tallies.specs.Demands as demands
-use Rattle.rank.specs.declared.scan.Wanted.{Wanted}
+use Rattle.rank.specs.declared.counted_number.Wanted.{Wanted}
 use Rattle.select.specs.declared.seek.Placed.{Placed}
 use Rattle.select.specs.declared.seek.Placed.the-variants as placed
 use Rattle.select.specs.declared.seek.Child.{Child}

@@ -1,4 +1,4 @@
 pub mod SeekLaws
 pub mod LandLaws
-pub mod FindingLaws
+pub mod FindByHeaderLaws
 pub mod FoundLaws

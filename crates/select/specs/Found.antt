@@ -8,7 +8,7 @@ use lib.Dec.{ltb}
 use Rattle.format.specs.Layout as at
 use Rattle.format.specs.Verdict.{verdict}
 use Rattle.format.specs.Said.{Said, refused}
-use Rattle.format.specs.Finding as find
+use Rattle.format.specs.FindSays as find
 use Rattle.select.specs.declared.Found.{Found}
 use Rattle.select.specs.declared.Found.the-variants.{At, Refused}
 use Rattle.select.specs.declared.seek.Placed.{Placed}

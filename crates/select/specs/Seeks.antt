@@ -15,15 +15,15 @@ use Rattle.layout.specs.declared.place.BlockPlace.{BlockPlace}
 use Rattle.steps.specs.declared.Next.{Next}
 use Rattle.steps.specs.declared.Next.the-variants as next
 use Rattle.layout.specs.HeaderSays.{HeaderOf}
-use Rattle.steps.specs.Levels.{OnLevel}
+use Rattle.steps.specs.QuestionStands.{OnLevel}
 use Rattle.steps.specs.Steps.{nextAt}
-use Rattle.tallies.specs.Local.{byteOf}
+use Rattle.tallies.specs.CountsLocal.{byteOf}
 use Rattle.tallies.specs.Finds.{Lands}
 use Rattle.tallies.specs.Demands as demands
-use Rattle.format.specs.HeaderLaws.{readable-facts}
+use Rattle.format.specs.LayoutLaws.{readable-facts}
 use Rattle.format.specs.VerdictLaws.{accepted-readable, accepted-links}
 use Rattle.paths.specs.Links.{linked-facts}
-use Rattle.rank.specs.declared.scan.Wanted.{Wanted}
+use Rattle.rank.specs.declared.counted_number.Wanted.{Wanted}
 use Rattle.select.specs.declared.seek.Placed.{Placed}
 use Rattle.select.specs.declared.seek.Placed.the-variants as placed
 use Rattle.select.specs.declared.seek.Child.{Child}

@@ -1,5 +1,5 @@
 // Find (select): where a counted byte stands for the j-th time. It asks 5 to 7 first, of any bytes lent as a tree.
-pub mod finding;
+pub mod find_by_header;
 pub mod seek;
 
 use layout::header;
@@ -19,7 +19,7 @@ pub fn find(t: &[u8], byte: u8, j: u32) -> Found
 {
     let read = header::read_header(t);
     match read {
-        HeaderRead::Good(h) => finding::find_at(t, h, byte, j),
+        HeaderRead::Good(h) => find_by_header::find_at(t, h, byte, j),
         HeaderRead::Refused(number) => Found::Refused(number),
     }
 }

@@ -10,7 +10,7 @@ use lib.Dec.{ltb, eqb}
 use Rattle.text.specs.ListLaws.{and-left, and-right}
 use Rattle.format.specs.Layout as at
 use Rattle.format.specs.Path.{keptBlock, pointingBlock, targetBlock, targetPlace}
-use Rattle.format.specs.HeaderLaws.{full-step}
+use Rattle.format.specs.LayoutLaws.{full-step}
 use Rattle.layout.specs.declared.header.Header.{Header}
 use Rattle.layout.specs.declared.place.BlockNumber.{BlockNumber}
 use Rattle.layout.specs.declared.place.BlockPlace.{BlockPlace}

@@ -13,8 +13,8 @@ use Rattle.format.specs.Settings.{maxText}
 use Rattle.format.specs.Words.{wordAt}
 use Rattle.format.specs.Layout as at
 use Rattle.format.specs.Path.{keptBlock, pointingBlock, targetBlock, targetPlace}
-use Rattle.format.specs.HeaderLaws.{full-pos, full-small, level0-holds}
-use Rattle.paths.specs.Landing.{target-first, target-second}
+use Rattle.format.specs.LayoutLaws.{full-pos, full-small, level0-holds}
+use Rattle.paths.specs.PlacesLand.{target-first, target-second}
 use Rattle.layout.specs.Record.{FieldIn, field-in}
 use Rattle.layout.specs.declared.place.BlockNumber.{BlockNumber}
 use Rattle.layout.specs.declared.place.BlockPlace.{BlockPlace}

@@ -5,7 +5,7 @@ use mathlib.Core.Path.{_≡_}
 use Prim.Native.Nat.{ℕ, _+_, _<_}
 use lib.Dec.{ltb}
 use Rattle.format.specs.Layout as at
-use Rattle.format.specs.HeaderLaws.{Readable}
+use Rattle.format.specs.LayoutLaws.{Readable}
 use Rattle.format.specs.Path.{keptBlock, pointingBlock, targetBlock, targetPlace}
 use Rattle.steps.specs.declared.fields.Shape.{Shape}
 use Rattle.steps.specs.declared.Next.{Next}

@@ -13,15 +13,15 @@ use Rattle.format.specs.Path.{pathOf}
 use Rattle.format.specs.Fits.{linksOk, textOf, countsTrue}
 use Rattle.format.specs.Verdict.{readable, verdict}
 use Rattle.format.specs.VerdictLaws.{accepted-readable, accepted-links, accepted-counts}
-use Rattle.format.specs.HeaderLaws.{readable-facts}
-use Rattle.format.specs.Counting.{isCounted, numberOfByte, countSays}
-use Rattle.format.specs.Finding.{total, pathLength}
-use Rattle.format.specs.FindingLaws.{Selected}
+use Rattle.format.specs.LayoutLaws.{readable-facts}
+use Rattle.format.specs.CountSays.{isCounted, numberOfByte, countSays}
+use Rattle.format.specs.FindSays.{total, pathLength}
+use Rattle.format.specs.FindSaysLaws.{Selected}
 use Rattle.paths.specs.Links.{Linked, linked-facts}
 use Rattle.paths.specs.OneText.{text-length}
-use Rattle.tallies.specs.Local.{countsLocal}
-use Rattle.tallies.specs.Level.{Level, counts-facts}
-use Rattle.tallies.specs.Exact as exact
+use Rattle.tallies.specs.CountsLocal.{countsLocal}
+use Rattle.tallies.specs.LevelTrue.{Level, counts-facts}
+use Rattle.tallies.specs.CountsExact as exact
 use Rattle.tallies.specs.Ranks as ranks
 use Rattle.tallies.specs.Finds as finds
 

@@ -10,14 +10,14 @@ use native.Mathlib.Nat.{pos-of-ne-zero, div-add-mod', mod-eq-of-lt, add-mul, mul
 use lib.Arith.{mul-pred, digits-mod}
 use Rattle.text.specs.ListLaws.{lt-or-ge}
 use Rattle.format.specs.PieceLaws.{lt-pieces}
-use Rattle.format.specs.HeaderLaws.{Readable, full-pos, full-step}
+use Rattle.format.specs.LayoutLaws.{Readable, full-pos, full-step}
 use Rattle.format.specs.Layout as at
 use Rattle.format.specs.Fits.{widthAt}
 use Rattle.paths.specs.Links.{H, N, b, s, len, width-kept, Linked}
-use Rattle.paths.specs.Starts.{len-small, len-end, Parent, parent, parent-start, start-below, start-multiple, len-pos, Child, child}
-use Rattle.tallies.specs.Local.{upLength, lastChild}
-use Rattle.tallies.specs.Level.{tally, parentPlace, Block}
-use Rattle.tallies.specs.Stretches.{tally-parts}
+use Rattle.paths.specs.BlockStarts.{len-small, len-end, Parent, parent, parent-start, start-below, start-multiple, len-pos, Child, child}
+use Rattle.tallies.specs.CountsLocal.{upLength, lastChild}
+use Rattle.tallies.specs.LevelTrue.{tally, parentPlace, Block}
+use Rattle.tallies.specs.CountedStretches.{tally-parts}
 
 module _ (t : List ℕ) where
   pub place-under : (l p : ℕ) → parentPlace t (l + 1) p ≡ p / b t l * b t l

@@ -15,21 +15,21 @@ use Rattle.text.specs.Text.{stretch, countIn, placeOf}
 use Rattle.text.specs.CountLaws.{count-whole, count-mono, Nth, nth-earlier, nth-later, nth-past, nth-before, nth-place}
 use Rattle.format.specs.Settings.{pieces}
 use Rattle.format.specs.PieceLaws.{pieces-cover, pieces-start}
-use Rattle.format.specs.HeaderLaws.{Readable, full-pos}
+use Rattle.format.specs.LayoutLaws.{Readable, full-pos}
 use Rattle.format.specs.Layout as at
 use Rattle.format.specs.Path.{Path, Visit, visit, entered, targetBlock, targetPlace, pathFrom, pathOf}
 use Rattle.format.specs.Fits.{textOf}
-use Rattle.format.specs.Finding.{total, pathLength}
+use Rattle.format.specs.FindSays.{total, pathLength}
 use Rattle.paths.specs.Links.{H, N, b, s, len, Pointing, Follows, Linked}
-use Rattle.paths.specs.Starts.{len-small, len-inside, len-pos, start-below, Parent, in-parent, child, last-kept, leaf-below, target-full, second-inside}
-use Rattle.paths.specs.Landing.{kept-block, kept-not, pointing-block, from-last, from-kept, from-pointing, target, target-first, target-second}
-use Rattle.paths.specs.Walk.{path-from-holds}
+use Rattle.paths.specs.BlockStarts.{len-small, len-inside, len-pos, start-below, Parent, in-parent, child, last-kept, leaf-below, target-full, second-inside}
+use Rattle.paths.specs.PlacesLand.{kept-block, kept-not, pointing-block, from-last, from-kept, from-pointing, target, target-first, target-second}
+use Rattle.paths.specs.PathWalk.{path-from-holds}
 use Rattle.paths.specs.OneText.{text-length}
-use Rattle.tallies.specs.Local.{byteOf, inLeaves}
-use Rattle.tallies.specs.Level.{tally, parentPlace, Block, Level}
-use Rattle.tallies.specs.Stretches.{tally-none, tally-parts, fitting, points-tally, leaves-tally}
+use Rattle.tallies.specs.CountsLocal.{byteOf, inLeaves}
+use Rattle.tallies.specs.LevelTrue.{tally, parentPlace, Block, Level}
+use Rattle.tallies.specs.CountedStretches.{tally-none, tally-parts, fitting, points-tally, leaves-tally}
 use Rattle.tallies.specs.Families.{child-of, child-tally}
-use Rattle.tallies.specs.Targets.{skip-points}
+use Rattle.tallies.specs.PointedCounts.{skip-points}
 
 module _ (t : List ℕ) (k : Readable t) (d : Linked t) (a : (m : ℕ) → m < H t → Level t m) (c : ℕ) (hc : c < at.countedCount t) where
   tally-mono : (p x y : ℕ) → x ≤ y → tally t c p x ≤ tally t c p y

@@ -14,23 +14,23 @@ use lib.Dec.{eqb, ltb}
 use Rattle.text.specs.ListLaws.{bool-cases, bool-clash, lt-or-ge, and-right}
 use Rattle.text.specs.Text.{countIn}
 use Rattle.text.specs.CountLaws.{count-start, count-nil}
-use Rattle.format.specs.HeaderLaws.{Readable, readable-facts, full-pos, level0-holds}
+use Rattle.format.specs.LayoutLaws.{Readable, readable-facts, full-pos, level0-holds}
 use Rattle.format.specs.Layout as at
 use Rattle.format.specs.Path.{Path, Visit, visit, keptBlock, targetBlock, targetPlace, pathOf}
 use Rattle.format.specs.Fits.{textOf}
 use Rattle.format.specs.Verdict.{readable}
-use Rattle.format.specs.Finding.{pathLength}
-use Rattle.format.specs.Counting.{indexOf, addedAfter, added, takenAfter, taken, lastPlace, leavesReached, countOf, isCounted, numberOfByte, countSays}
+use Rattle.format.specs.FindSays.{pathLength}
+use Rattle.format.specs.CountSays.{indexOf, addedAfter, added, takenAfter, taken, lastPlace, leavesReached, countOf, isCounted, numberOfByte, countSays}
 use Rattle.paths.specs.Links.{H, N, b, s, len, Linked}
-use Rattle.paths.specs.Starts.{child, len-reach}
-use Rattle.paths.specs.Landing.{kept-block, target, target-first, target-second}
+use Rattle.paths.specs.BlockStarts.{child, len-reach}
+use Rattle.paths.specs.PlacesLand.{kept-block, target, target-first, target-second}
 use Rattle.paths.specs.Visits.{Goes, goes}
-use Rattle.paths.specs.Walk.{path-holds}
-use Rattle.tallies.specs.Local.{byteOf, inLeaves}
-use Rattle.tallies.specs.Level.{tally, parentPlace, Level}
-use Rattle.tallies.specs.Stretches.{tally-parts, leaves-tally}
+use Rattle.paths.specs.PathWalk.{path-holds}
+use Rattle.tallies.specs.CountsLocal.{byteOf, inLeaves}
+use Rattle.tallies.specs.LevelTrue.{tally, parentPlace, Level}
+use Rattle.tallies.specs.CountedStretches.{tally-parts, leaves-tally}
 use Rattle.tallies.specs.Families.{kept-step}
-use Rattle.tallies.specs.Targets.{points-hand, skip-points}
+use Rattle.tallies.specs.PointedCounts.{points-hand, skip-points}
 
 module _ (t : List ℕ) where
   -- the last level's count that a path's end gives

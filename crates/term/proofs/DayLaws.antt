@@ -17,7 +17,7 @@ use Rattle.term.specs.declared.days.DayRead.the-variants.{Good, Bad}
 use Rattle.term.specs.Calendar.{isDate, DateFacts}
 use Rattle.term.specs.CalendarLaws.{date-facts}
 use Rattle.term.specs.Days.{pairAt, dateIn, isDay, ones, written}
-use Rattle.term.specs.Answers.{dayRead}
+use Rattle.term.specs.TermAnswers.{dayRead}
 
 -- a digit is 48 to 57
 pub digit-low : (x : ℕ) → isDigit x ≡ true → 48 ≤ x

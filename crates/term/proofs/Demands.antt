@@ -11,7 +11,7 @@ use denote.Ref.{RefT, now}
 use lib.IntN.{ℤ, pos, negsuc, _-ℤ_}
 use lib.Dec.{ltb, leb, eqb}
 use borrow.Author.Tests.{le-leb, lt-leb, lt-ltb, le-ltb, ltb-true}
-use Rattle.runs.specs.Runs.{Function, Ends, ends}
+use Rattle.runs.specs.Ends.{Function, Ends, ends}
 use Rattle.text.specs.ListLaws.{and-left, and-right, and-false, bool-cases, bool-clash, lt-or-ge}
 use Rattle.term.specs.declared.Opened.{Opened}
 use Rattle.term.specs.declared.Opened.the-variants as opened
@@ -19,9 +19,9 @@ use Rattle.term.specs.declared.Left.{Left}
 use Rattle.term.specs.declared.Left.the-variants as left
 use Rattle.term.specs.Calendar.{dayNumber, earlier, renewed}
 use Rattle.term.specs.Days.{isDay, dateIn, written}
-use Rattle.term.specs.WrittenLaws.{date-back, day-back}
+use Rattle.term.specs.DateWrittenLaws.{date-back, day-back}
 use Rattle.term.specs.Term.{numberIn, openNumber, openOn, leftNumber, daysLeft, renewNumber, renewLeaves}
-use Rattle.term.specs.Answers.{openedNumber, saysOpen, OpenedNumbered, saysNumber, saysDays, LeftNumbered}
+use Rattle.term.specs.TermAnswers.{openedNumber, saysOpen, OpenedNumbered, saysNumber, saysDays, LeftNumbered}
 use Rattle.term.proofs.DayLaws.{day-date}
 use Rattle.term.proofs.open_on.Reads as open-reads
 use Rattle.term.proofs.open_on as open-on

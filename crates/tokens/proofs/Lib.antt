@@ -1,3 +1,3 @@
-pub mod PartLaws
-pub mod NumberLaws
-pub mod HexLaws
+pub mod PartsLaws
+pub mod DecimalLaws
+pub mod HexadecimalLaws

@@ -2,7 +2,7 @@
 use crate::parts::token;
 ghost use mathlib.Core.Path.{_≡_};
 ghost use Rattle.tokens.specs.Parts.{tokenOf};
-ghost use Rattle.tokens.specs.Numbers.{moreOf, numberOf, valueOf, isNumber, figuresRight};
+ghost use Rattle.tokens.specs.Decimals.{moreOf, numberOf, valueOf, isNumber, figuresRight};
 
 // A number, or none.
 pub enum Number {

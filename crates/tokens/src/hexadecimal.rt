@@ -4,7 +4,7 @@ ghost use mathlib.Core.Bool.{true};
 ghost use Prim.Native.Nat.{_+_, _*_, _/_, _≤_, _<_};
 ghost use lib.ListN.{length};
 ghost use lib.Seq.{paste};
-ghost use Rattle.tokens.specs.Hex.{digitOf, byteAt, allHex, hexBytes, hexOf, madeSize};
+ghost use Rattle.tokens.specs.Hexadecimals.{digitOf, byteAt, allHex, hexBytes, hexOf, madeSize};
 
 // Why a line gives no bytes.
 pub enum Fault {

@@ -17,15 +17,15 @@ use Rattle.format.specs.Layout as at
 use Rattle.format.specs.Path.{Path, pathOf}
 use Rattle.format.specs.Fits.{textOf, fits}
 use Rattle.format.specs.Verdict.{ask, verdict}
-use Rattle.format.specs.HeaderLaws.{ask-test, ask-rest}
-use Rattle.format.specs.Building.{buildNumber, buildSize, buildLeaves}
-use Rattle.format.specs.Reading.{byteSays, spanNumber, spanLeaves}
-use Rattle.built.specs.Sizes.{Taken}
-use Rattle.accepted.specs.Accepting.{StandsFor, accepts, one-text, built-text, built-verdict, accepted-stands}
+use Rattle.format.specs.LayoutLaws.{ask-test, ask-rest}
+use Rattle.format.specs.BuildSays.{buildNumber, buildSize, buildLeaves}
+use Rattle.format.specs.ReadSays.{byteSays, spanNumber, spanLeaves}
+use Rattle.built.specs.BlockSizes.{Taken}
+use Rattle.accepted.specs.AcceptedTrees.{StandsFor, accepts, one-text, built-text, built-verdict, accepted-stands}
 use Rattle.paths.specs.Demands as paths
 use Rattle.margins.specs.Demands as margins
 use Rattle.builder.specs.declared.Built.{Built}
-use Rattle.builder.specs.Answers.{numberOf, sizeOf, given}
+use Rattle.builder.specs.BuildAnswer.{numberOf, sizeOf, given}
 use Rattle.builder.proofs.build.Reads as build-reads
 use Rattle.tree.proofs.check.Reads as check-reads
 

@@ -8,8 +8,8 @@ use native.Mathlib.Nat.{mod-lt}
 use lib.ListN.{length}
 use Rattle.format.specs.Layout as at
 use Rattle.format.specs.Path.{Path, pathOf}
-use Rattle.format.specs.HeaderLaws.{Readable, full-pos}
-use Rattle.format.specs.Reading.{leftOver}
+use Rattle.format.specs.LayoutLaws.{Readable, full-pos}
+use Rattle.format.specs.ReadSays.{leftOver}
 use Rattle.paths.specs.Visits.{Goes, goes, goes-leaf}
 use Rattle.paths.specs.Shift.{goes-within, within-left}
 use Rattle.walk.specs.declared.Trail.{Trail}

@@ -6,7 +6,7 @@ use native.Mathlib.Omega.{arith}
 use native.Mathlib.Nat.{add-assoc}
 use Rattle.format.specs.Layout as at
 use Rattle.format.specs.Path.{pathOf}
-use Rattle.format.specs.Reading.{leftOver}
+use Rattle.format.specs.ReadSays.{leftOver}
 use Rattle.paths.specs.Shift.{further, length-further, left-within, path-further, left-further}
 use Rattle.layout.specs.declared.header.Header.{Header}
 use Rattle.layout.specs.HeaderSays.{HeaderOf}

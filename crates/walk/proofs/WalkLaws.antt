@@ -13,8 +13,8 @@ use Rattle.text.specs.ListLaws.{lt-or-ge}
 use Rattle.format.specs.Settings.{maxText}
 use Rattle.format.specs.Layout as at
 use Rattle.format.specs.Path.{Path, visit, entered, keptBlock, pointingBlock, targetBlock, targetPlace, lands, pathFrom, pathOf}
-use Rattle.format.specs.Reading.{leftOver}
-use Rattle.paths.specs.Landing.{from-last, from-kept, from-pointing}
+use Rattle.format.specs.ReadSays.{leftOver}
+use Rattle.paths.specs.PlacesLand.{from-last, from-kept, from-pointing}
 use Rattle.paths.specs.Shift.{target-small}
 use Rattle.layout.specs.declared.place.BlockNumber.{BlockNumber}
 use Rattle.layout.specs.declared.place.BlockPlace.{BlockPlace}

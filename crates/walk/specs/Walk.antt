@@ -8,7 +8,7 @@ use lib.Dec.{eqb}
 use lib.ListN.{length}
 use Rattle.format.specs.Layout as at
 use Rattle.format.specs.Path.{Path, keptBlock}
-use Rattle.format.specs.Reading.{leftOver}
+use Rattle.format.specs.ReadSays.{leftOver}
 use Rattle.walk.specs.declared.Trail.{Trail}
 use Rattle.walk.specs.declared.Walked.{Walked}
 use Rattle.walk.specs.declared.Walked.the-variants.{At, Broken}

@@ -14,17 +14,17 @@ use Rattle.text.specs.ListLaws.{lt-or-ge}
 use Rattle.text.specs.Rows.{rowsOf}
 use Rattle.format.specs.Fits.{textOf}
 use Rattle.format.specs.Verdict.{ask, readable, verdict}
-use Rattle.format.specs.HeaderLaws.{ask-test, ask-rest}
+use Rattle.format.specs.LayoutLaws.{ask-test, ask-rest}
 use Rattle.format.specs.Said.{refused}
 use Rattle.format.specs.SaidLaws.{unless-passes, then-is}
-use Rattle.format.specs.Counting.{isCounted}
-use Rattle.tallies.specs.Rows.{rows-total}
+use Rattle.format.specs.CountSays.{isCounted}
+use Rattle.tallies.specs.RowsOfText.{rows-total}
 use Rattle.keys.specs.Keys.{rangesOk}
 use Rattle.keys.specs.Matches.{matchesOf, nextMatch, ShownSaid, shownFor}
 use Rattle.keys.specs.MatchLaws.{Next, no-more, next, next-of, Shows, shown-all, In, Wider, wider-shown}
 use Rattle.worn_keys.specs.declared.Shown.{Shown}
 use Rattle.worn_keys.specs.declared.Shown.the-variants.{Row, Nothing, Refused}
-use Rattle.worn_keys.specs.Says.{refusedAt, matchNumber, mostRows, FreeShown}
+use Rattle.worn_keys.specs.MatchSays.{refusedAt, matchNumber, mostRows, FreeShown}
 use Rattle.worn_keys.specs.Searches.{saidShown, Numbered, MatchAnswer, Moved}
 use Rattle.worn_keys.proofs.next_match.Reads as next-match-reads
 

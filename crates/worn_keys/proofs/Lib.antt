@@ -1,4 +1,4 @@
 pub mod RowScans
 pub mod SearchLaws
-pub mod AnswerLaws
+pub mod MatchAnswerLaws
 pub mod Demands

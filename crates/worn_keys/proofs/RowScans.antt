@@ -16,11 +16,11 @@ use Rattle.worn_keys.specs.declared.Shown.{Shown}
 use Rattle.worn_keys.specs.declared.Shown.the-variants.{Row, Nothing}
 use Rattle.keys.specs.declared.form.Form.{Form}
 use Rattle.keys.specs.declared.form.Form.the-variants.{Code, Cuts, Ended, Wrong}
-use Rattle.keys.specs.declared.scan.Scanned.the-variants.{Found, On}
+use Rattle.keys.specs.declared.row_scan.Scanned.the-variants.{Found, On}
 use Rattle.keys.specs.Keys.{cutCount, rangesOk, matches}
 use Rattle.keys.specs.Matches.{firstFrom}
 use Rattle.keys.specs.Forms.{inCode, inCuts, cutFits, stepOf, isWhole, isDone, isNone, runFrom}
-use Rattle.keys.specs.Scans.{onward, turnOf, scanOf}
+use Rattle.keys.specs.RowScanned.{onward, turnOf, scanOf}
 use Rattle.worn_keys.specs.Searches.{atEnd, finished}
 use Rattle.keys.proofs.RowForms.{whole-is, few-run, step-13}
 

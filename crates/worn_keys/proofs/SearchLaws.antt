@@ -15,23 +15,23 @@ use Rattle.text.specs.RowLaws.{rows-past}
 use Rattle.format.specs.Layout as at
 use Rattle.format.specs.Fits.{textOf}
 use Rattle.format.specs.Verdict.{verdict}
-use Rattle.format.specs.Counting.{isCounted, numberOfByte}
-use Rattle.format.specs.Finding.{total}
-use Rattle.format.specs.FindingLaws.{Selected}
+use Rattle.format.specs.CountSays.{isCounted, numberOfByte}
+use Rattle.format.specs.FindSays.{total}
+use Rattle.format.specs.FindSaysLaws.{Selected}
 use Rattle.layout.specs.declared.header.Header.{Header}
 use Rattle.layout.specs.HeaderSays.{HeaderOf}
 use Rattle.tallies.specs.Demands as tallies
-use Rattle.access.specs.Runs.{ReadsOn}
+use Rattle.access.specs.ReadByRuns.{ReadsOn}
 use Rattle.access.proofs.RunLaws.{reads-stretch}
 use Rattle.worn_keys.specs.declared.Shown.{Shown}
 use Rattle.worn_keys.specs.declared.Shown.the-variants.{Row, Nothing, Refused}
 use Rattle.keys.specs.declared.form.Form.{Form}
 use Rattle.keys.specs.declared.form.Form.the-variants.{Code}
-use Rattle.keys.specs.declared.scan.Scanned.{Scanned}
-use Rattle.keys.specs.declared.scan.Scanned.the-variants.{Found, On}
+use Rattle.keys.specs.declared.row_scan.Scanned.{Scanned}
+use Rattle.keys.specs.declared.row_scan.Scanned.the-variants.{Found, On}
 use Rattle.worn_keys.specs.declared.search.Begins.the-variants as begins
 use Rattle.keys.specs.Forms.{isWhole, isNone}
-use Rattle.keys.specs.Scans.{onward, turnOf, scanOf, OnLow}
+use Rattle.keys.specs.RowScanned.{onward, turnOf, scanOf, OnLow}
 use Rattle.worn_keys.specs.Searches.{atEnd, finished, StartOf, FromRow, Searched, within, foundOr}
 
 -- a stretch in two parts

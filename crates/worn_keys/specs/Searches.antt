@@ -18,11 +18,11 @@ use Rattle.keys.specs.declared.form.Form.the-variants.{Code}
 use Rattle.keys.specs.Forms.{isWhole, isNone}
 use Rattle.worn_keys.specs.declared.search.Begins.{Begins}
 use Rattle.worn_keys.specs.declared.search.Begins.the-variants as begins
-use Rattle.keys.specs.declared.scan.Scanned.{Scanned}
-use Rattle.keys.specs.declared.scan.Scanned.the-variants.{Found, On}
+use Rattle.keys.specs.declared.row_scan.Scanned.{Scanned}
+use Rattle.keys.specs.declared.row_scan.Scanned.the-variants.{Found, On}
 use Rattle.keys.specs.Matches.{ShownSaid}
-use Rattle.worn_keys.specs.Says.{refusedAt, MatchSays}
-use Rattle.keys.specs.Scans.{scanOf}
+use Rattle.worn_keys.specs.MatchSays.{refusedAt, MatchSays}
+use Rattle.keys.specs.RowScanned.{scanOf}
 
 -- the answer of a search from a mark
 abbrev pub saidShown : ℕ → Shown → ShownSaid

@@ -1,24 +1,24 @@
 // The search for a match, of a tree that passes questions 5 to 7, by its header.
 use crate::Shown;
-use access::reading;
-use access::reading::Ran;
+use access::read_by_header;
+use access::read_by_header::Ran;
 use keys::form;
 use keys::form::Form;
 use keys::ranges;
-use keys::scan;
-use keys::scan::Scanned;
+use keys::row_scan;
+use keys::row_scan::Scanned;
 use layout::header::Header;
 use layout::place::TextPlace;
-use rank::counting;
+use rank::count_by_header;
 use select::Found;
-use select::finding;
+use select::find_by_header;
 ghost use mathlib.Core.Path.{_≡_};
 ghost use mathlib.Core.Bool.{true};
 ghost use Prim.Native.Nat.{_+_, _≤_, _<_};
 ghost use lib.ListN.{length};
 ghost use lib.Dec.{ltb};
-ghost use Rattle.format.specs.Counting.{isCounted, numberOfByte};
-ghost use Rattle.format.specs.Finding.{total};
+ghost use Rattle.format.specs.CountSays.{isCounted, numberOfByte};
+ghost use Rattle.format.specs.FindSays.{total};
 ghost use Rattle.layout.specs.HeaderSays.{HeaderOf};
 ghost use Rattle.keys.specs.Keys.{rangesOk};
 ghost use Rattle.worn_keys.specs.Searches.{StartOf, Searched, MatchAnswer, atEnd, within, foundOr};
@@ -37,14 +37,14 @@ pub fn match_at(t: &[u8], h: Header, question: &[u8], mark: u32) -> Shown
     if !ranges::good(question) {
         return Shown::Refused(19);
     }
-    let number = rank::scan::number_of(t, h.settings.counted, 10);
+    let number = rank::counted_number::number_of(t, h.settings.counted, 10);
     if h.settings.counted <= number {
         return Shown::Refused(11);
     }
     if h.length <= mark {
         return Shown::Nothing(mark);
     }
-    let tens = counting::total(t, h, number);
+    let tens = count_by_header::total(t, h, number);
     if tens < mark as u64 {
         return Shown::Nothing(mark);
     }
@@ -63,7 +63,7 @@ fn start(t: &[u8], h: Header, mark: u32) -> Begins
     if mark == 0 {
         return Begins::At(TextPlace(0));
     }
-    let found = finding::find_at(t, h, 10, mark);
+    let found = find_by_header::find_at(t, h, 10, mark);
     let Found::At(end, _) = found else {
         return Begins::Broken;
     };
@@ -79,13 +79,13 @@ fn from(t: &[u8], h: Header, question: &[u8], place: TextPlace, q: u32) -> Shown
     let mut row = q;
     let mut at = place.0;
     while at < h.length {
-        let ran = reading::part_at(t, h, TextPlace(at));
+        let ran = read_by_header::part_at(t, h, TextPlace(at));
         let Ran::At(part) = ran else {
             return Shown::Refused(14);
         };
         let begin = part.from;
         let end = begin + part.length;
-        let scanned = scan::scan(question, &t[begin..end], so_far, row);
+        let scanned = row_scan::scan(question, &t[begin..end], so_far, row);
         let Scanned::On(form, number) = scanned else {
             return found(scanned);
         };

@@ -1,5 +1,5 @@
 use borrow.Author.Needs.{needs}
-use Rattle.abi.proofs.ScanLaws as laws
+use Rattle.abi.proofs.ScanExportsLaws as laws
 use Rattle.abi.proofs.bt_build_scanned.Statement.{statement}
 use Rattle.abi.proofs.bt_build_scanned.Tie as tie
 

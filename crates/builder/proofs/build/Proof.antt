@@ -1,8 +1,8 @@
 use borrow.Author.Needs.{needs}
-use Rattle.builder.proofs.Outcomes as laws
+use Rattle.builder.proofs.BuildOutcomes as laws
 use Rattle.builder.proofs.build.Statement.{statement}
 use Rattle.builder.proofs.build.Tie as tie
-use Rattle.builder.specs.Answers.{given}
+use Rattle.builder.specs.BuildAnswer.{given}
 
 pub build-spec : {M : Type 1} → statement M
 build-spec =

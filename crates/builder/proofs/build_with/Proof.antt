@@ -1,5 +1,5 @@
 use borrow.Author.Needs.{needs}
-use Rattle.builder.proofs.Outcomes as laws
+use Rattle.builder.proofs.BuildOutcomes as laws
 use Rattle.builder.proofs.build_with.Statement.{statement}
 use Rattle.builder.proofs.build_with.Tie as tie
 use Rattle.records.specs.State.{settingsOf}

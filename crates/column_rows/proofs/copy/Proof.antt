@@ -2,7 +2,7 @@ use mathlib.Core.Path.{_∙_}
 use Prim.Native.Nat.{_-_, _≤_}
 use native.Mathlib.Omega.{arith}
 use borrow.Author.Needs.{needs}
-use Rattle.column_rows.proofs.Reading as laws
+use Rattle.column_rows.proofs.ColumnRowLaws as laws
 use Rattle.column_rows.proofs.copy.Statement.{statement}
 use Rattle.column_rows.proofs.copy.Tie as tie
 

@@ -2,7 +2,7 @@ use mathlib.Core.Path.{refl, sym, _∙_}
 use borrow.Author.Needs.{needs}
 use borrow.Author.Tests.{not-true, not-false}
 use Rattle.columns.specs.ColumnLaws.{width-low}
-use Rattle.column_rows.proofs.Reading as laws
+use Rattle.column_rows.proofs.ColumnRowLaws as laws
 use Rattle.column_rows.proofs.row_at.Statement.{statement}
 use Rattle.column_rows.proofs.row_at.Tie as tie
 

@@ -1,13 +1,13 @@
 use Prim.Native.Nat.{ℕ, _≤_, _<_}
 use borrow.Author.Needs.{needs}
 use native.Mathlib.Omega.{arith}
-use Rattle.counts.proofs.HeaderFacts as facts
-use Rattle.counts.proofs.LevelLaws as laws
+use Rattle.counts.proofs.CountsHeader as facts
+use Rattle.counts.proofs.LevelCountsLaws as laws
 use Rattle.layout.proofs.Tests.{failed, held}
 use Rattle.counts.proofs.counts_right.Statement.{statement}
 use Rattle.counts.proofs.counts_right.Tie as tie
 use Rattle.format.specs.Layout as at
-use Rattle.tallies.specs.Level.{Level}
+use Rattle.tallies.specs.LevelTrue.{Level}
 
 abbrev Inv-loop : tie.InvT-loop
 Inv-loop t h left₀ left = (left ≤ at.settings t .levels) × ((m : ℕ) → left ≤ m → m < at.settings t .levels → Level t m)

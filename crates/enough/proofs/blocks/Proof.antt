@@ -2,7 +2,7 @@ use Prim.Native.Nat.{ℕ, _*_, _^_, _≤_, _-_}
 use borrow.Author.Needs.{needs}
 use mathlib.Core.Path.{_≡_, ap, _∙_}
 use native.Mathlib.Omega.{arith}
-use Rattle.enough.proofs.Answering as laws
+use Rattle.enough.proofs.EnoughLaws as laws
 use Rattle.enough.proofs.blocks.Statement.{statement}
 use Rattle.enough.proofs.blocks.Tie as tie
 use Rattle.enough.specs.Enough.{blocksAtMost}

@@ -1,6 +1,6 @@
 use borrow.Author.Needs.{needs}
 use native.Mathlib.Omega.{arith}
-use Rattle.enough.proofs.Answering as laws
+use Rattle.enough.proofs.EnoughLaws as laws
 use Rattle.enough.proofs.enough.Statement.{statement}
 use Rattle.enough.proofs.enough.Tie as tie
 

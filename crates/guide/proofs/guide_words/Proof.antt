@@ -2,7 +2,7 @@ use borrow.Author.Needs.{needs}
 use native.Mathlib.Omega.{arith}
 use Rattle.layout.specs.HeaderSays.{header-good, header-refused}
 use Rattle.guide.proofs.GuideList as list
-use Rattle.guide.proofs.MakingLaws as laws
+use Rattle.guide.proofs.GuideWrittenLaws as laws
 use Rattle.guide.proofs.guide_words.Statement.{statement}
 use Rattle.guide.proofs.guide_words.Tie as tie
 

@@ -2,7 +2,7 @@ use borrow.Author.Needs.{needs}
 use mathlib.Core.Path.{_∙_, sym}
 use native.Mathlib.Omega.{arith}
 use Rattle.layout.specs.HeaderSays.{header-good, header-refused}
-use Rattle.select.proofs.FindingLaws as first
+use Rattle.select.proofs.FindByHeaderLaws as first
 use Rattle.guided.proofs.GuidedLaws as laws
 use Rattle.guided.proofs.find_guided.Statement.{statement}
 use Rattle.guided.proofs.find_guided.Tie as tie

@@ -8,7 +8,7 @@ use Rattle.layout.proofs.Tests.{failed, held}
 use Rattle.links.proofs.TreeLaws as tree
 use Rattle.links.proofs.links_right.Statement.{statement}
 use Rattle.links.proofs.links_right.Tie as tie
-use Rattle.links.specs.Level.{levelRight}
+use Rattle.links.specs.LevelAsked.{levelRight}
 use Rattle.text.specs.Lists.{allBelow}
 
 abbrev Inv-loop : tie.InvT-loop

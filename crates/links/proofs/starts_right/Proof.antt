@@ -5,11 +5,11 @@ use mathlib.Core.Path.{_≡_}
 use native.Mathlib.Nat.{mul-le-mul}
 use native.Mathlib.Omega.{arith}
 use Rattle.layout.proofs.Scan.{scan-none, scan-more, scan-done, scan-fails}
-use Rattle.links.proofs.BlockLaws as laws
+use Rattle.links.proofs.BlockLinksLaws as laws
 use Rattle.links.proofs.TreeLaws as tree
 use Rattle.links.proofs.starts_right.Statement.{statement}
 use Rattle.links.proofs.starts_right.Tie as tie
-use Rattle.links.specs.Level.{startAsCut}
+use Rattle.links.specs.LevelAsked.{startAsCut}
 use Rattle.text.specs.Lists.{allBelow}
 use Rattle.format.specs.Settings.{maxText}
 

@@ -1,6 +1,6 @@
 use borrow.Author.Needs.{needs}
-use Rattle.passes.proofs.Noting.{covers-all}
-use Rattle.passes.proofs.Answering.{answered}
+use Rattle.passes.proofs.LengthsNoted.{covers-all}
+use Rattle.passes.proofs.AfterPass.{answered}
 use Rattle.passes.proofs.scan.Statement.{statement}
 use Rattle.passes.proofs.scan.Tie as tie
 

@@ -1,7 +1,7 @@
 use borrow.Author.Needs.{needs}
 use native.Mathlib.Omega.{arith}
 use Rattle.patterns.specs.declared.PlacesWritten.the-variants.{Number, Refused}
-use Rattle.patterns.proofs.AnswerLaws as laws
+use Rattle.patterns.proofs.PlacesAnswerLaws as laws
 use Rattle.patterns.proofs.fill.Statement.{statement}
 use Rattle.patterns.proofs.fill.Tie as tie
 

@@ -1,7 +1,7 @@
 use native.Mathlib.Omega.{arith}
 use borrow.Author.Needs.{needs}
 use Rattle.layout.specs.HeaderSays.{header-good, header-refused}
-use Rattle.rank.proofs.CountingLaws as laws
+use Rattle.rank.proofs.CountByHeaderLaws as laws
 use Rattle.rank.proofs.count.Statement.{statement}
 use Rattle.rank.proofs.count.Tie as tie
 

@@ -1,7 +1,7 @@
 use borrow.Author.Needs.{needs}
 use Rattle.layout.specs.HeaderSays.{header-good}
-use Rattle.rows.specs.Rows.{settledBy}
-use Rattle.rows.proofs.RowLaws as laws
+use Rattle.rows.specs.RowAnswers.{settledBy}
+use Rattle.rows.proofs.RowAnswerLaws as laws
 use Rattle.rows.proofs.row_guided.Statement.{statement}
 use Rattle.rows.proofs.row_guided.Tie as tie
 

@@ -1,7 +1,7 @@
 use borrow.Author.Needs.{needs}
-use Rattle.builder.proofs.Outcomes as first
-use Rattle.builder.specs.Answers.{given}
-use Rattle.scanner.proofs.Outcomes as laws
+use Rattle.builder.proofs.BuildOutcomes as first
+use Rattle.builder.specs.BuildAnswer.{given}
+use Rattle.scanner.proofs.ScannedOutcomes as laws
 use Rattle.scanner.proofs.build_scanned.Statement.{statement}
 use Rattle.scanner.proofs.build_scanned.Tie as tie
 

@@ -1,10 +1,10 @@
 use borrow.Author.Needs.{needs}
 use native.Mathlib.Omega.{arith}
 use mathlib.Core.Path.{refl, _∙_}
-use Rattle.built.specs.Sizes.{bounds}
+use Rattle.built.specs.BlockSizes.{bounds}
 use Rattle.records.specs.State.{settingsOf}
-use Rattle.scanner.specs.Scanning.{tableWords}
-use Rattle.scanner.proofs.Outcomes as laws
+use Rattle.scanner.specs.ScannedSays.{tableWords}
+use Rattle.scanner.proofs.ScannedOutcomes as laws
 use Rattle.scanner.proofs.scan_with.Statement.{statement}
 use Rattle.scanner.proofs.scan_with.Tie as tie
 

@@ -4,8 +4,8 @@ use native.Mathlib.Nat.{div-le-self}
 use mathlib.Core.Path.{refl}
 use Prim.Native.Nat.{_+_, _-_}
 use Rattle.format.specs.Settings.{pieces}
-use Rattle.scanner.specs.Scanning.{tableWords}
-use Rattle.scanner.proofs.Dividing.{no-words}
+use Rattle.scanner.specs.ScannedSays.{tableWords}
+use Rattle.scanner.proofs.TableRoom.{no-words}
 use Rattle.scanner.proofs.scan_words.Statement.{statement}
 use Rattle.scanner.proofs.scan_words.Tie as tie
 

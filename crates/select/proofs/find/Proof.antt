@@ -1,7 +1,7 @@
 use native.Mathlib.Omega.{arith}
 use borrow.Author.Needs.{needs}
 use Rattle.layout.specs.HeaderSays.{header-good, header-refused}
-use Rattle.select.proofs.FindingLaws as laws
+use Rattle.select.proofs.FindByHeaderLaws as laws
 use Rattle.select.proofs.find.Statement.{statement}
 use Rattle.select.proofs.find.Tie as tie
 

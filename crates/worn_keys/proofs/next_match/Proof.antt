@@ -1,6 +1,6 @@
 use borrow.Author.Needs.{needs}
 use Rattle.layout.specs.HeaderSays.{header-good}
-use Rattle.worn_keys.proofs.AnswerLaws.{match-unread}
+use Rattle.worn_keys.proofs.MatchAnswerLaws.{match-unread}
 use Rattle.worn_keys.proofs.next_match.Statement.{statement}
 use Rattle.worn_keys.proofs.next_match.Tie as tie
 

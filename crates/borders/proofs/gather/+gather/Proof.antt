@@ -10,7 +10,7 @@ use Rattle.borders.proofs.gather.+gather.Lts-gather as gather-lts
 use Rattle.borders.proofs.gather.last.Reads as last-reads
 use Rattle.borders.proofs.gather.over.Reads as over-reads
 use Rattle.borders.proofs.gather.settle.Reads as settle-reads
-use Rattle.steps.proofs.LevelLaws.{arity-pos}
+use Rattle.steps.proofs.QuestionStandsLaws.{arity-pos}
 use Rattle.borders.proofs.WholeLaws as laws
 use Rattle.borders.proofs.gather.+gather.{statement}
 use Rattle.borders.proofs.gather.+gather.Tie.{close}

@@ -1,6 +1,6 @@
 use borrow.Author.Needs.{needs}
 use native.Mathlib.Omega.{arith}
-use Rattle.steps.proofs.LevelLaws.{field-there}
+use Rattle.steps.proofs.QuestionStandsLaws.{field-there}
 use Rattle.borders.proofs.GatherLaws as laws
 use Rattle.borders.proofs.gather.into.Statement.{statement}
 use Rattle.borders.proofs.gather.into.Tie as tie

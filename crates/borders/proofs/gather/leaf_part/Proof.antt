@@ -1,7 +1,7 @@
 use borrow.Author.Needs.{needs}
 use native.Mathlib.Omega.{arith}
 use Rattle.steps.proofs.StepLaws.{kept-in}
-use Rattle.steps.proofs.LevelLaws.{field-there}
+use Rattle.steps.proofs.QuestionStandsLaws.{field-there}
 use Rattle.borders.proofs.GatherLaws as laws
 use Rattle.borders.proofs.gather.leaf_part.Statement.{statement}
 use Rattle.borders.proofs.gather.leaf_part.Tie as tie

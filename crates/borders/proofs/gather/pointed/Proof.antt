@@ -1,7 +1,7 @@
 use borrow.Author.Needs.{needs}
 use native.Mathlib.Omega.{arith}
-use Rattle.steps.proofs.LevelLaws.{pointing-there, sum-small, b-small, b-pos, plain-pointing}
-use Rattle.steps.proofs.LevelLaws.{level-below}
+use Rattle.steps.proofs.QuestionStandsLaws.{pointing-there, sum-small, b-small, b-pos, plain-pointing}
+use Rattle.steps.proofs.QuestionStandsLaws.{level-below}
 use Rattle.borders.proofs.GatherLaws as laws
 use Rattle.borders.proofs.gather.pointed.Statement.{statement}
 use Rattle.borders.proofs.gather.pointed.Tie as tie

@@ -1,7 +1,7 @@
 use borrow.Author.Needs.{needs}
 use native.Mathlib.Omega.{arith}
 use Rattle.layout.proofs.Tests.{failed, held}
-use Rattle.steps.proofs.LevelLaws.{plain}
+use Rattle.steps.proofs.QuestionStandsLaws.{plain}
 use Rattle.borders.proofs.TruthLaws as laws
 use Rattle.borders.proofs.truth.block_right.Statement.{statement}
 use Rattle.borders.proofs.truth.block_right.Tie as tie

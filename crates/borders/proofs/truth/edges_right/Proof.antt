@@ -5,7 +5,7 @@ use mathlib.Core.Bool.{true}
 use mathlib.Core.Path.{_≡_}
 use native.Mathlib.Omega.{arith}
 use Rattle.layout.proofs.Tests.{failed, held}
-use Rattle.margins.specs.Local.{levelEdges}
+use Rattle.margins.specs.EdgesLocal.{levelEdges}
 use Rattle.borders.proofs.TruthLaws as laws
 use Rattle.borders.proofs.truth.edges_right.Statement.{statement}
 use Rattle.borders.proofs.truth.edges_right.Tie as tie

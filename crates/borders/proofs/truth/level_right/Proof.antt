@@ -7,7 +7,7 @@ use native.Mathlib.Omega.{arith}
 use Rattle.layout.proofs.Tests.{failed, held}
 use Rattle.borders.proofs.TruthLaws as laws
 use Rattle.layout.specs.HeaderSays as header
-use Rattle.margins.specs.Local.{edgesLocal}
+use Rattle.margins.specs.EdgesLocal.{edgesLocal}
 use Rattle.borders.proofs.truth.level_right.Statement.{statement}
 use Rattle.borders.proofs.truth.level_right.Tie as tie
 

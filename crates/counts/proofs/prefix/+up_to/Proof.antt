@@ -2,7 +2,7 @@ use Prim.Native.Nat.{ℕ, _-_, _<_}
 use native.Mathlib.Omega.{arith}
 use borrow.Fn.Kinds.{In}
 use borrow.Fn.PlainCycle.{Measures, is, falls, and}
-use Rattle.counts.proofs.HeaderFacts as facts
+use Rattle.counts.proofs.CountsHeader as facts
 use Rattle.counts.proofs.PrefixLaws as laws
 use Rattle.counts.proofs.prefix.up_to.Reads as up-to
 use Rattle.counts.proofs.prefix.up_to.Kinds as up-to-kinds

@@ -1,6 +1,6 @@
 use borrow.Author.Needs.{needs}
 use native.Mathlib.Omega.{arith}
-use Rattle.counts.proofs.HeaderFacts as facts
+use Rattle.counts.proofs.CountsHeader as facts
 use Rattle.counts.proofs.PrefixLaws as laws
 use Rattle.counts.proofs.prefix.hand_on.Statement.{statement}
 use Rattle.counts.proofs.prefix.hand_on.Tie as tie

@@ -1,7 +1,7 @@
 use Prim.Native.Nat.{_+_}
 use borrow.Author.Needs.{needs}
 use native.Mathlib.Omega.{arith}
-use Rattle.counts.proofs.HeaderFacts as facts
+use Rattle.counts.proofs.CountsHeader as facts
 use Rattle.counts.proofs.PrefixLaws as laws
 use Rattle.counts.proofs.prefix.step.Statement.{statement}
 use Rattle.counts.proofs.prefix.step.Tie as tie

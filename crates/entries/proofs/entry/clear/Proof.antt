@@ -2,7 +2,7 @@ use native.Mathlib.Omega.{arith}
 use Prim.Native.Nat.{ℕ, _+_, _-_, _≤_, _<_}
 use mathlib.Core.Path.{_≡_, refl}
 use lib.ListN.{length, getD, length-set}
-use Rattle.entries.proofs.Putting as laws
+use Rattle.entries.proofs.EntryWrites as laws
 use Rattle.entries.proofs.entry.clear.Statement.{statement}
 use Rattle.entries.proofs.entry.clear.Tie as tie
 

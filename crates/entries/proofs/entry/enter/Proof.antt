@@ -1,7 +1,7 @@
 use borrow.Author.Needs.{needs}
 use native.Mathlib.Omega.{arith}
 use mathlib.Core.Path.{refl}
-use Rattle.entries.specs.Heads.{linkOf}
+use Rattle.entries.specs.ChainHeads.{linkOf}
 use Rattle.entries.specs.Entries.{headIn}
 use Rattle.entries.proofs.Entrance as laws
 use Rattle.entries.proofs.entry.enter.Statement.{statement}

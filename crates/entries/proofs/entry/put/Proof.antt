@@ -2,9 +2,9 @@ use borrow.Author.Needs.{needs}
 use native.Mathlib.Omega.{arith}
 use lib.ListN.{length-set}
 use mathlib.Core.Path.{refl}
-use Rattle.entries.specs.Heads.{linkOf}
+use Rattle.entries.specs.ChainHeads.{linkOf}
 use Rattle.entries.specs.Entries.{headIn}
-use Rattle.entries.proofs.Putting as laws
+use Rattle.entries.proofs.EntryWrites as laws
 use Rattle.entries.proofs.entry.put.Statement.{statement}
 use Rattle.entries.proofs.entry.put.Tie as tie
 

@@ -1,7 +1,7 @@
 use borrow.Author.Needs.{needs}
 use native.Mathlib.Omega.{arith}
 use Rattle.entries.specs.Entries.{nextIn}
-use Rattle.entries.specs.Entering.{Leads}
+use Rattle.entries.specs.ItemsEntered.{Leads}
 use Rattle.entries.proofs.ItemLaws as items
 use Rattle.entries.proofs.Entrance as laws
 use Rattle.entries.proofs.entry.twin.Statement.{statement}

@@ -1,8 +1,8 @@
 use borrow.Author.Needs.{needs}
 use native.Mathlib.Omega.{arith}
-use Rattle.entries.specs.Heads.{linkOf}
+use Rattle.entries.specs.ChainHeads.{linkOf}
 use Rattle.entries.specs.Entries.{headIn}
-use Rattle.entries.proofs.Visits as laws
+use Rattle.entries.proofs.ChainVisits as laws
 use Rattle.entries.proofs.lookup.look.Statement.{statement}
 use Rattle.entries.proofs.lookup.look.Tie as tie
 

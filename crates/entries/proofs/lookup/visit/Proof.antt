@@ -1,7 +1,7 @@
 use borrow.Author.Needs.{needs}
 use native.Mathlib.Omega.{arith}
 use Rattle.entries.specs.Entries.{nextIn}
-use Rattle.entries.proofs.Visits as laws
+use Rattle.entries.proofs.ChainVisits as laws
 use Rattle.entries.proofs.lookup.visit.Statement.{statement}
 use Rattle.entries.proofs.lookup.visit.Tie as tie
 

@@ -5,12 +5,12 @@ use native.Mathlib.Omega.{arith}
 use Rattle.format.specs.Words.{wordAt}
 use Rattle.format.specs.Settings.{blockLength, recordLength}
 use Rattle.format.specs.Layout as at
-use Rattle.format.specs.HeaderLaws.{Readable}
+use Rattle.format.specs.LayoutLaws.{Readable}
 use Rattle.layout.proofs.header.fields.Statement.{statement}
 use Rattle.layout.proofs.header.fields.Tie as tie
 use Rattle.layout.specs.declared.settings.Settings.{Settings}
 use Rattle.layout.specs.declared.header.Header.{Header}
-use Rattle.layout.specs.Settings.{Sized}
+use Rattle.layout.specs.CheckedSettings.{Sized}
 use Rattle.layout.specs.Header.{settingsOf}
 
 -- a header is equal to another whose words are

@@ -4,8 +4,8 @@ use Rattle.records.proofs.Growth.{grown-none, grown-then}
 use Rattle.levels.proofs.Leafs as laws
 use Rattle.levels.proofs.leaf.put_leaves.Statement.{statement}
 use Rattle.levels.proofs.leaf.put_leaves.Tie as tie
-use Rattle.records.specs.Growing.{Grown}
-use Rattle.levels.specs.Leaves.{Leafing}
+use Rattle.records.specs.Grown.{Grown}
+use Rattle.levels.specs.LeavesWritten.{Leafing}
 use Rattle.records.specs.State.{settingsOf}
 use Rattle.format.specs.Blocks.{treeOf}
 

@@ -1,7 +1,7 @@
 use native.Mathlib.Omega.{arith}
-use Rattle.levels.proofs.Beginning as laws
+use Rattle.levels.proofs.LevelZero as laws
 use Rattle.records.proofs.Growth.{grown-none}
-use Rattle.built.specs.Sizes.{bounds}
+use Rattle.built.specs.BlockSizes.{bounds}
 use Rattle.levels.proofs.step.begin.Statement.{statement}
 use Rattle.levels.proofs.step.begin.Tie as tie
 

@@ -1,7 +1,7 @@
 use native.Mathlib.Omega.{arith}
-use Rattle.levels.proofs.Descending as laws
+use Rattle.levels.proofs.LevelBelow as laws
 use Rattle.records.proofs.StateLaws.{few}
-use Rattle.built.specs.Sizes.{bounds}
+use Rattle.built.specs.BlockSizes.{bounds}
 use Rattle.levels.proofs.step.finish.Statement.{statement}
 use Rattle.levels.proofs.step.finish.Tie as tie
 

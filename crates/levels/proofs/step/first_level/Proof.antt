@@ -1,7 +1,7 @@
 use borrow.Author.Needs.{needs}
 use lib.ListN.{length}
 use native.Mathlib.Omega.{arith}
-use Rattle.levels.proofs.Beginning.{sized-pos, sized-high, first-made}
+use Rattle.levels.proofs.LevelZero.{sized-pos, sized-high, first-made}
 use Rattle.levels.proofs.step.first_level.Statement.{statement}
 use Rattle.levels.proofs.step.first_level.Tie as tie
 

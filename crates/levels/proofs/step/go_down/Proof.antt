@@ -1,8 +1,8 @@
 use native.Mathlib.Omega.{arith}
-use Rattle.levels.proofs.Descending as laws
+use Rattle.levels.proofs.LevelBelow as laws
 use Rattle.records.proofs.Growth.{grown-then}
 use Rattle.records.proofs.StateLaws.{few}
-use Rattle.built.specs.Sizes.{bounds}
+use Rattle.built.specs.BlockSizes.{bounds}
 use Rattle.levels.proofs.step.go_down.Statement.{statement}
 use Rattle.levels.proofs.step.go_down.Tie as tie
 

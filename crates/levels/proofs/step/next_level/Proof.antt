@@ -1,6 +1,6 @@
 use borrow.Author.Needs.{needs}
 use native.Mathlib.Omega.{arith}
-use Rattle.levels.proofs.Descending.{next-made}
+use Rattle.levels.proofs.LevelBelow.{next-made}
 use Rattle.levels.proofs.step.next_level.Statement.{statement}
 use Rattle.levels.proofs.step.next_level.Tie as tie
 

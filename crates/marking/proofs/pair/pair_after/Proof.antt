@@ -1,7 +1,7 @@
 use borrow.Author.Needs.{needs}
 use native.Mathlib.Omega.{arith}
-use Rattle.marking.proofs.Pairing as laws
-use Rattle.records.proofs.Reading.{start-fits, start-read, start-in}
+use Rattle.marking.proofs.PairLaws as laws
+use Rattle.records.proofs.RecordsRead.{start-fits, start-read, start-in}
 use Rattle.records.proofs.StateLaws.{few}
 use Rattle.marking.proofs.pair.pair_after.Statement.{statement}
 use Rattle.marking.proofs.pair.pair_after.Tie as tie

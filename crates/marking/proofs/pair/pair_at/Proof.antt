@@ -1,5 +1,5 @@
 use borrow.Author.Needs.{needs}
-use Rattle.marking.proofs.Pairing.{again-here, first-here}
+use Rattle.marking.proofs.PairLaws.{again-here, first-here}
 use Rattle.marking.proofs.pair.pair_at.Statement.{statement}
 use Rattle.marking.proofs.pair.pair_at.Tie as tie
 

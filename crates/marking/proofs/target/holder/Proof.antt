@@ -1,9 +1,9 @@
 use Prim.Native.Nat.{_-_}
 use native.Mathlib.Omega.{arith}
-use Rattle.marking.proofs.Halving.{one-left}
+use Rattle.marking.proofs.TargetStep.{one-left}
 use Rattle.marking.proofs.target.holder.Statement.{statement}
 use Rattle.marking.proofs.target.holder.Tie as tie
-use Rattle.marking.specs.Targets.{Between}
+use Rattle.marking.specs.TargetSearch.{Between}
 use Rattle.records.specs.State.{settingsOf}
 
 abbrev Inv-loop : tie.InvT-loop

@@ -1,4 +1,4 @@
-use Rattle.marking.proofs.Targeting as laws
+use Rattle.marking.proofs.TargetLaws as laws
 use Rattle.marking.proofs.target.kept_block.Statement.{statement}
 use Rattle.marking.proofs.target.kept_block.Tie as tie
 

@@ -1,6 +1,6 @@
 use borrow.Author.Needs.{needs}
 use native.Mathlib.Omega.{arith}
-use Rattle.marking.proofs.Halving.{lower-half, upper-half, middle-in}
+use Rattle.marking.proofs.TargetStep.{lower-half, upper-half, middle-in}
 use Rattle.records.specs.State.{settingsOf}
 use Rattle.marking.proofs.target.narrow.Statement.{statement}
 use Rattle.marking.proofs.target.narrow.Tie as tie

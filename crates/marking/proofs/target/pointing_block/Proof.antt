@@ -1,5 +1,5 @@
 use native.Mathlib.Omega.{arith}
-use Rattle.marking.proofs.Targeting as laws
+use Rattle.marking.proofs.TargetLaws as laws
 use Rattle.records.proofs.StateLaws.{few}
 use Rattle.marking.proofs.target.pointing_block.Statement.{statement}
 use Rattle.marking.proofs.target.pointing_block.Tie as tie

@@ -1,7 +1,7 @@
 use native.Mathlib.Omega.{arith}
 use mathlib.Core.Path.{_∙_}
 use mathlib.Core.Logic.{inl}
-use Rattle.passes.proofs.Taking as laws
+use Rattle.passes.proofs.ItemsTaken as laws
 use Rattle.passes.proofs.enter.enter_both.Statement.{statement}
 use Rattle.passes.proofs.enter.enter_both.Tie as tie
 

@@ -2,7 +2,7 @@ use borrow.Author.Needs.{needs}
 use native.Mathlib.Omega.{arith}
 use mathlib.Core.Path.{refl}
 use mathlib.Core.Logic.{inr}
-use Rattle.passes.proofs.Taking as laws
+use Rattle.passes.proofs.ItemsTaken as laws
 use Rattle.passes.proofs.enter.enter_pair.Statement.{statement}
 use Rattle.passes.proofs.enter.enter_pair.Tie as tie
 

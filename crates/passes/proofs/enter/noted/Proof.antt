@@ -1,5 +1,5 @@
 use native.Mathlib.Omega.{arith}
-use Rattle.passes.proofs.Noting as laws
+use Rattle.passes.proofs.LengthsNoted as laws
 use Rattle.passes.proofs.enter.noted.Statement.{statement}
 use Rattle.passes.proofs.enter.noted.Tie as tie
 

@@ -1,7 +1,7 @@
 use native.Mathlib.Omega.{arith}
 use Prim.Native.Nat.{_-_}
 use lib.ListN.{length}
-use Rattle.passes.proofs.Stepping as laws
+use Rattle.passes.proofs.PassLaws as laws
 use Rattle.passes.proofs.pass.pass.Statement.{statement}
 use Rattle.passes.proofs.pass.pass.Tie as tie
 

@@ -1,4 +1,4 @@
-use Rattle.passes.proofs.Stepping as laws
+use Rattle.passes.proofs.PassLaws as laws
 use Rattle.passes.proofs.pass.step.Statement.{statement}
 use Rattle.passes.proofs.pass.step.Tie as tie
 

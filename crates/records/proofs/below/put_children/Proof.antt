@@ -4,7 +4,7 @@ use Rattle.records.proofs.Children.{below-more, below-all}
 use Rattle.records.proofs.Growth.{grown-none, grown-then}
 use Rattle.records.proofs.below.put_children.Statement.{statement}
 use Rattle.records.proofs.below.put_children.Tie as tie
-use Rattle.records.specs.Growing.{Grown}
+use Rattle.records.specs.Grown.{Grown}
 use Rattle.records.specs.State.{settingsOf, Below}
 use Rattle.format.specs.Blocks.{treeOf}
 

@@ -3,10 +3,10 @@ use borrow.Author.Needs.{needs}
 use lib.ListN.{length}
 use mathlib.Core.Path.{_≡_, refl, ap, _∙_}
 use native.Mathlib.Omega.{arith}
-use Rattle.records.proofs.Starting.{starts-more, part-below, few-steps}
+use Rattle.records.proofs.WrittenStartsLaws.{starts-more, part-below, few-steps}
 use Rattle.records.proofs.below.put_starts.Statement.{statement}
 use Rattle.records.proofs.below.put_starts.Tie as tie
-use Rattle.records.specs.Starts.{startsWritten}
+use Rattle.records.specs.WrittenStarts.{startsWritten}
 use Rattle.format.specs.WordLaws.{length-setWord}
 
 abbrev Inv-loop : tie.InvT-loop

@@ -3,8 +3,8 @@ use native.Mathlib.Omega.{arith}
 use lib.ListN.{length}
 use Rattle.format.specs.Blocks.{recordBytes}
 use Rattle.records.specs.State.{settingsOf}
-use Rattle.scanner.proofs.Dividing.{pieces-few}
-use Rattle.scanner.proofs.Telling.{same-items}
+use Rattle.scanner.proofs.TableRoom.{pieces-few}
+use Rattle.scanner.proofs.TableTold.{same-items}
 use Rattle.scanner.proofs.table.items_of.Statement.{statement}
 use Rattle.scanner.proofs.table.items_of.Tie as tie
 

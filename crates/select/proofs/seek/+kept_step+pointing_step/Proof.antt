@@ -6,8 +6,8 @@ use borrow.Fn.PlainCycle.{Measures, is, falls, and}
 use native.Mathlib.Omega.{arith}
 use Rattle.layout.proofs.record.gap.Reads as gap-reads
 use Rattle.steps.proofs.StepLaws.{pointing-in}
-use Rattle.steps.proofs.LevelLaws.{field-there, b-small}
-use Rattle.steps.proofs.LevelLaws as walk
+use Rattle.steps.proofs.QuestionStandsLaws.{field-there, b-small}
+use Rattle.steps.proofs.QuestionStandsLaws as walk
 use Rattle.select.proofs.LandLaws as laws
 use Rattle.select.proofs.seek.+kept_step+pointing_step.Lts-kept_step as kept-step-lts
 use Rattle.select.proofs.seek.+kept_step+pointing_step.Lts-pointing_step as pointing-step-lts

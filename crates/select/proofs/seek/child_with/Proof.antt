@@ -2,7 +2,7 @@ use borrow.Author.Needs.{needs}
 use native.Mathlib.Omega.{arith}
 use Rattle.format.specs.Settings.{pieces}
 use Rattle.steps.proofs.StepLaws.{kept-in}
-use Rattle.steps.proofs.LevelLaws.{field-there, b-small, b-pos, plain-block}
+use Rattle.steps.proofs.QuestionStandsLaws.{field-there, b-small, b-pos, plain-block}
 use Rattle.select.proofs.LandLaws as laws
 use Rattle.select.proofs.seek.child_with.Statement.{statement}
 use Rattle.select.proofs.seek.child_with.Tie as tie

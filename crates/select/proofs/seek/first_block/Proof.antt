@@ -1,5 +1,5 @@
 use borrow.Author.Needs.{needs}
-use Rattle.select.proofs.FindingLaws as laws
+use Rattle.select.proofs.FindByHeaderLaws as laws
 use Rattle.select.proofs.seek.first_block.Statement.{statement}
 use Rattle.select.proofs.seek.first_block.Tie as tie
 

@@ -1,5 +1,5 @@
 use native.Mathlib.Omega.{arith}
-use Rattle.steps.proofs.LevelLaws.{field-there}
+use Rattle.steps.proofs.QuestionStandsLaws.{field-there}
 use Rattle.select.proofs.LandLaws as laws
 use Rattle.select.proofs.seek.kept_target.Statement.{statement}
 use Rattle.select.proofs.seek.kept_target.Tie as tie

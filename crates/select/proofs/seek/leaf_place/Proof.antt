@@ -1,7 +1,7 @@
 use borrow.Author.Needs.{needs}
 use native.Mathlib.Omega.{arith}
 use Rattle.steps.proofs.StepLaws.{kept-in}
-use Rattle.steps.proofs.LevelLaws.{field-there, plain-block}
+use Rattle.steps.proofs.QuestionStandsLaws.{field-there, plain-block}
 use Rattle.select.proofs.LandLaws as laws
 use Rattle.select.proofs.seek.leaf_place.Statement.{statement}
 use Rattle.select.proofs.seek.leaf_place.Tie as tie

@@ -1,6 +1,6 @@
 use borrow.Author.Needs.{needs}
 use native.Mathlib.Omega.{arith}
-use Rattle.steps.proofs.LevelLaws.{plain-block}
+use Rattle.steps.proofs.QuestionStandsLaws.{plain-block}
 use Rattle.select.proofs.SeekLaws as laws
 use Rattle.rank.proofs.SumLaws as sums
 use Rattle.select.proofs.seek.pick.Statement.{statement}

@@ -1,5 +1,5 @@
 use native.Mathlib.Omega.{arith}
-use Rattle.select.proofs.FindingLaws as laws
+use Rattle.select.proofs.FindByHeaderLaws as laws
 use Rattle.select.proofs.seek.seek.Statement.{statement}
 use Rattle.select.proofs.seek.seek.Tie as tie
 

@@ -1,8 +1,8 @@
 use borrow.Author.Needs.{needs}
 use native.Mathlib.Omega.{arith}
-use Rattle.steps.proofs.LevelLaws.{b-small}
-use Rattle.steps.proofs.LevelLaws as query
-use Rattle.select.proofs.FindingLaws as laws
+use Rattle.steps.proofs.QuestionStandsLaws.{b-small}
+use Rattle.steps.proofs.QuestionStandsLaws as query
+use Rattle.select.proofs.FindByHeaderLaws as laws
 use Rattle.select.proofs.seek.seek_in.Statement.{statement}
 use Rattle.select.proofs.seek.seek_in.Tie as tie
 

@@ -1,6 +1,6 @@
 use borrow.Author.Needs.{needs}
 use native.Mathlib.Omega.{arith}
-use Rattle.select.proofs.FindingLaws as laws
+use Rattle.select.proofs.FindByHeaderLaws as laws
 use Rattle.select.proofs.seek.text_place.Statement.{statement}
 use Rattle.select.proofs.seek.text_place.Tie as tie
 

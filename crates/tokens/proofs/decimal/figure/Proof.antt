@@ -1,6 +1,6 @@
 use borrow.Author.Needs.{needs}
-use Rattle.tokens.specs.Numbers.{valueOf}
-use Rattle.tokens.proofs.NumberLaws.{read-as}
+use Rattle.tokens.specs.Decimals.{valueOf}
+use Rattle.tokens.proofs.DecimalLaws.{read-as}
 use Rattle.tokens.proofs.decimal.figure.Statement.{statement}
 use Rattle.tokens.proofs.decimal.figure.Tie as tie
 

@@ -3,7 +3,7 @@ use Prim.Native.Nat.{_-_, _≤_}
 use native.Mathlib.Omega.{arith}
 use borrow.Author.Needs.{needs}
 use borrow.Author.Tests.{not-true, not-false}
-use Rattle.tokens.proofs.NumberLaws.{Numbers, numbers-none, numbers-more, numbers-all, numbers-not}
+use Rattle.tokens.proofs.DecimalLaws.{Numbers, numbers-none, numbers-more, numbers-all, numbers-not}
 use Rattle.tokens.proofs.decimal.figures.Statement.{statement}
 use Rattle.tokens.proofs.decimal.figures.Tie as tie
 

@@ -1,5 +1,5 @@
 use borrow.Author.Needs.{needs}
-use Rattle.tokens.proofs.NumberLaws.{is-number}
+use Rattle.tokens.proofs.DecimalLaws.{is-number}
 use Rattle.tokens.proofs.decimal.is_number.Statement.{statement}
 use Rattle.tokens.proofs.decimal.is_number.Tie as tie
 

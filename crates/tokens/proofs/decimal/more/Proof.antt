@@ -1,6 +1,6 @@
 use borrow.Author.Needs.{needs}
 use borrow.Author.Tests.{lt-ltb, le-ltb}
-use Rattle.tokens.specs.Numbers.{moreOf}
+use Rattle.tokens.specs.Decimals.{moreOf}
 use Rattle.tokens.proofs.decimal.more.Statement.{statement}
 use Rattle.tokens.proofs.decimal.more.Tie as tie
 

@@ -4,8 +4,8 @@ use mathlib.Core.Path.{_≡_, _∙_}
 use native.Mathlib.Omega.{arith}
 use borrow.Author.Needs.{needs}
 use lib.ListN.{length, drop}
-use Rattle.tokens.specs.Numbers.{numberFrom, numberOf}
-use Rattle.tokens.proofs.NumberLaws.{number-none, number-starts, number-stops, number-goes, number-ends}
+use Rattle.tokens.specs.Decimals.{numberFrom, numberOf}
+use Rattle.tokens.proofs.DecimalLaws.{number-none, number-starts, number-stops, number-goes, number-ends}
 use Rattle.tokens.proofs.decimal.read_number.Statement.{statement}
 use Rattle.tokens.proofs.decimal.read_number.Tie as tie
 

@@ -2,7 +2,7 @@
 use Prim.Native.Nat.{_-_, _≤_}
 use native.Mathlib.Omega.{arith}
 use borrow.Author.Needs.{needs}
-use Rattle.tokens.proofs.HexLaws.{Bytes, bytes-none, bytes-more, bytes-all, bytes-not}
+use Rattle.tokens.proofs.HexadecimalLaws.{Bytes, bytes-none, bytes-more, bytes-all, bytes-not}
 use Rattle.tokens.proofs.hexadecimal.all_bytes.Statement.{statement}
 use Rattle.tokens.proofs.hexadecimal.all_bytes.Tie as tie
 

@@ -1,5 +1,5 @@
 use borrow.Author.Needs.{needs}
-use Rattle.tokens.proofs.HexLaws.{byte-none, byte-some}
+use Rattle.tokens.proofs.HexadecimalLaws.{byte-none, byte-some}
 use Rattle.tokens.proofs.hexadecimal.byte.Statement.{statement}
 use Rattle.tokens.proofs.hexadecimal.byte.Tie as tie
 

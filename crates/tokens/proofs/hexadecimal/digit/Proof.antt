@@ -1,7 +1,7 @@
 use native.Mathlib.Omega.{arith}
 use borrow.Author.Needs.{needs}
 use borrow.Author.Tests.{lt-ltb, le-ltb, le-leb, lt-leb}
-use Rattle.tokens.specs.Hex.{digitOf}
+use Rattle.tokens.specs.Hexadecimals.{digitOf}
 use Rattle.tokens.proofs.hexadecimal.digit.Statement.{statement}
 use Rattle.tokens.proofs.hexadecimal.digit.Tie as tie
 

@@ -3,8 +3,8 @@ use borrow.Author.Needs.{needs}
 use borrow.Author.Tests.{not-true, not-false}
 use lib.ListN.{length}
 use lib.Seq.{paste-zero}
-use Rattle.tokens.specs.Hex.{hexBytes}
-use Rattle.tokens.proofs.HexLaws.{hex-dash, hex-odd, hex-empty, hex-other, hex-long, hex-fits}
+use Rattle.tokens.specs.Hexadecimals.{hexBytes}
+use Rattle.tokens.proofs.HexadecimalLaws.{hex-dash, hex-odd, hex-empty, hex-other, hex-long, hex-fits}
 use Rattle.tokens.proofs.hexadecimal.hex.Statement.{statement}
 use Rattle.tokens.proofs.hexadecimal.hex.Tie as tie
 

@@ -5,8 +5,8 @@ use native.Mathlib.Omega.{arith}
 use borrow.Author.Needs.{needs}
 use lib.ListN.{length, length-set}
 use lib.Seq.{paste, paste-zero}
-use Rattle.tokens.specs.Hex.{hexBytes}
-use Rattle.tokens.proofs.HexLaws.{byte-fits, put-more}
+use Rattle.tokens.specs.Hexadecimals.{hexBytes}
+use Rattle.tokens.proofs.HexadecimalLaws.{byte-fits, put-more}
 use Rattle.tokens.proofs.hexadecimal.put.Statement.{statement}
 use Rattle.tokens.proofs.hexadecimal.put.Tie as tie
 

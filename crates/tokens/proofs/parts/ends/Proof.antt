@@ -1,5 +1,5 @@
 use borrow.Author.Needs.{needs}
-use Rattle.tokens.proofs.PartLaws.{ends-is}
+use Rattle.tokens.proofs.PartsLaws.{ends-is}
 use Rattle.tokens.proofs.parts.ends.Statement.{statement}
 use Rattle.tokens.proofs.parts.ends.Tie as tie
 

@@ -1,5 +1,5 @@
 use borrow.Author.Needs.{needs}
-use Rattle.tokens.proofs.PartLaws.{past-some, past-none}
+use Rattle.tokens.proofs.PartsLaws.{past-some, past-none}
 use Rattle.tokens.proofs.parts.past.Statement.{statement}
 use Rattle.tokens.proofs.parts.past.Tie as tie
 

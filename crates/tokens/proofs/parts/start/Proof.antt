@@ -3,7 +3,7 @@ use Prim.Native.Nat.{_-_, _≤_}
 use native.Mathlib.Omega.{arith}
 use borrow.Author.Needs.{needs}
 use Rattle.tokens.specs.Parts.{Start}
-use Rattle.tokens.proofs.PartLaws.{start-none, start-next, start-all}
+use Rattle.tokens.proofs.PartsLaws.{start-none, start-next, start-all}
 use Rattle.tokens.proofs.parts.start.Statement.{statement}
 use Rattle.tokens.proofs.parts.start.Tie as tie
 

@@ -1,5 +1,5 @@
 use borrow.Author.Needs.{needs}
-use Rattle.tokens.proofs.PartLaws.{token-is}
+use Rattle.tokens.proofs.PartsLaws.{token-is}
 use Rattle.tokens.proofs.parts.token.Statement.{statement}
 use Rattle.tokens.proofs.parts.token.Tie as tie
 

@@ -1,5 +1,5 @@
 use borrow.Author.Needs.{needs}
-use Rattle.tokens.proofs.PartLaws.{until-is}
+use Rattle.tokens.proofs.PartsLaws.{until-is}
 use Rattle.tokens.proofs.parts.until.Statement.{statement}
 use Rattle.tokens.proofs.parts.until.Tie as tie
 

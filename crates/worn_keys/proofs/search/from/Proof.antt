@@ -5,9 +5,9 @@ use borrow.Author.Needs.{needs}
 use lib.ListN.{length, drop}
 use Rattle.format.specs.Fits.{textOf}
 use Rattle.paths.specs.OneText.{text-length}
-use Rattle.keys.specs.Scans.{scanOf}
+use Rattle.keys.specs.RowScanned.{scanOf}
 use Rattle.format.specs.VerdictLaws.{accepted-links}
-use Rattle.paths.specs.Bytes.{never-14}
+use Rattle.paths.specs.PlaceBytes.{never-14}
 use Rattle.access.proofs.RunLaws.{part-reads, part-broken}
 use Rattle.worn_keys.proofs.SearchLaws.{from-broken, from-on, from-found, from-end, part-short, part-cut, low-more}
 use Rattle.keys.proofs.RangeLaws.{range-short}

@@ -2,9 +2,9 @@ use mathlib.Core.Path.{sym, ap, _∙_}
 use native.Mathlib.Omega.{arith}
 use borrow.Author.Needs.{needs}
 use borrow.Author.Tests.{not-true, not-false}
-use Rattle.format.specs.Finding.{total}
-use Rattle.rank.proofs.CountingLaws.{is-counted, not-counted}
-use Rattle.worn_keys.proofs.AnswerLaws as laws
+use Rattle.format.specs.FindSays.{total}
+use Rattle.rank.proofs.CountByHeaderLaws.{is-counted, not-counted}
+use Rattle.worn_keys.proofs.MatchAnswerLaws as laws
 use Rattle.worn_keys.proofs.search.match_at.Statement.{statement}
 use Rattle.worn_keys.proofs.search.match_at.Tie as tie
 

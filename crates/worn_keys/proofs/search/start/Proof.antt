@@ -1,6 +1,6 @@
 use native.Mathlib.Omega.{arith}
 use borrow.Author.Needs.{needs}
-use Rattle.format.specs.FindingLaws.{select-lets}
+use Rattle.format.specs.FindSaysLaws.{select-lets}
 use Rattle.select.proofs.FoundLaws.{find-by, refused-not, place-is, place-in-text}
 use Rattle.worn_keys.proofs.SearchLaws.{start-first, start-broken, start-past, start-asked}
 use Rattle.worn_keys.proofs.search.start.Statement.{statement}

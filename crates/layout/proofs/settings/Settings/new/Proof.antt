@@ -4,7 +4,7 @@ use Rattle.format.specs.Settings.{countedOk}
 use Rattle.layout.proofs.Tests.{failed, held}
 use Rattle.layout.proofs.settings.Settings.new.Statement.{statement}
 use Rattle.layout.proofs.settings.Settings.new.Tie as tie
-use Rattle.layout.specs.Settings.{checked}
+use Rattle.layout.specs.CheckedSettings.{checked}
 
 pub new-spec : {M : Type 1} → statement M
 unfolding checked countedOk

@@ -1,0 +1,69 @@
+// Columns before rows: `columns` and `rows` take a text, a width and the length of the lent output; `column` takes a tree, a width, a row's number and the
+// length of the lent buffer.
+use crate::ask;
+use crate::wrong;
+use tokens::hexadecimal::Fault;
+use tokens::hexadecimal::Made;
+ghost use Prim.Native.Nat.{_≤_};
+
+// Answers a line that starts with one of these words; whether it does.
+pub fn line(script: &[u8], line: &[u8], bytes: &mut [u8], lent: &mut [u8]) -> bool {
+    let last = last(tokens::token(line, 0));
+    if last == 0 {
+        return false;
+    }
+    ask(script, line, last, bytes, lent);
+    true
+}
+
+// Which token of a line is the last, the length of what is lent; 0 where the word is none of these.
+fn last(word: &[u8]) -> u32
+    ensures { λ r. ⌜ r ≤ 4 ⌝ }
+{
+    if check::same(word, b"column") {
+        return 4;
+    }
+    if check::same(word, b"columns") {
+        return 3;
+    }
+    if check::same(word, b"rows") {
+        return 3;
+    }
+    0
+}
+
+// Finds the text or tree, and the bytes to lend.
+fn ask(script: &[u8], line: &[u8], last: u32, bytes: &mut [u8], lent: &mut [u8])
+    requires { ⌜ last ≤ 4 ⌝ }
+{
+    if !ask::numbers(line, 2, last + 1) {
+        wrong::fault(Fault::Number);
+        return;
+    }
+    let size = tokens::figure(line, last) as usize;
+    if lent.len() < size {
+        wrong::fault(Fault::Room);
+        return;
+    }
+    let made = script::named(script, tokens::token(line, 1), bytes);
+    match made {
+        Made::Bytes(n) => put(&bytes[..n], line, &mut lent[..size]),
+        Made::Wrong(f) => wrong::fault(f),
+    }
+}
+
+// The same of the text or tree; what is lent holds 238 in every byte.
+fn put(held: &[u8], line: &[u8], lent: &mut [u8]) {
+    script::fill(lent, 238);
+    let word = tokens::token(line, 0);
+    let width = tokens::figure(line, 2);
+    if check::same(word, b"columns") {
+        replies::column_replies::to_columns(held, width, lent);
+        return;
+    }
+    if check::same(word, b"rows") {
+        replies::column_replies::from_columns(held, width, lent);
+        return;
+    }
+    replies::column_replies::row(held, width, tokens::figure(line, 3), lent);
+}
