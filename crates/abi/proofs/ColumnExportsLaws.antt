@@ -4,10 +4,10 @@ use mathlib.Core.Path.{_≡_, refl, sym, ap, _∙_}
 use Prim.Native.Nat.{ℕ}
 use Rattle.format.specs.Said.{Said}
 use Rattle.format.specs.SaidLaws.{unless-number}
-use Rattle.access.specs.declared.Copied.{Copied}
-use Rattle.access.specs.declared.Copied.the-variants as copied
-use Rattle.access.specs.ReadAnswers.{copiedSaid}
-use Rattle.column_rows.specs.ColumnRows.{columnNumber, columnSays, ColumnAnswer}
+use Rattle.ask_access.specs.declared.Copied.{Copied}
+use Rattle.ask_access.specs.declared.Copied.the-variants as copied
+use Rattle.ask_access.specs.ReadAnswers.{copiedSaid}
+use Rattle.ask_columns.specs.ColumnRows.{columnNumber, columnSays, ColumnAnswer}
 
 module _ (t : List ℕ) (w a room : ℕ) (r : Copied) (k : ColumnAnswer t w a room r) where
   number-is : copiedSaid r .number ≡ columnNumber t w a room

@@ -15,17 +15,17 @@ use Rattle.format.specs.LayoutLaws.{readable-facts}
 use Rattle.format.specs.CountSays.{isCounted, numberOfByte, countSays}
 use Rattle.format.specs.FindSays.{selectNumber, FindSays}
 use Rattle.format.specs.RowSays.{RowSays}
-use Rattle.tallies.specs.CountsLocal.{byteOf}
-use Rattle.tallies.specs.Ranks as tally
-use Rattle.rank.specs.declared.Counted.{Counted}
-use Rattle.rank.specs.declared.Counted.the-variants as count
-use Rattle.select.specs.declared.Found.{Found}
-use Rattle.select.specs.declared.Found.the-variants as found
-use Rattle.rows.specs.declared.RowCopied.{RowCopied}
-use Rattle.rows.specs.declared.RowCopied.the-variants as row
-use Rattle.rank.specs.Counts.{saidCount, uncountedNumber}
-use Rattle.select.specs.Found.{saidFind}
-use Rattle.rows.specs.RowAnswers.{saidRow}
+use Rattle.theory_counts.specs.CountsLocal.{byteOf}
+use Rattle.theory_counts.specs.Ranks as tally
+use Rattle.ask_rank.specs.declared.Counted.{Counted}
+use Rattle.ask_rank.specs.declared.Counted.the-variants as count
+use Rattle.ask_select.specs.declared.Found.{Found}
+use Rattle.ask_select.specs.declared.Found.the-variants as found
+use Rattle.ask_rows.specs.declared.RowCopied.{RowCopied}
+use Rattle.ask_rows.specs.declared.RowCopied.the-variants as row
+use Rattle.ask_rank.specs.Counts.{saidCount, uncountedNumber}
+use Rattle.ask_select.specs.Found.{saidFind}
+use Rattle.ask_rows.specs.RowAnswers.{saidRow}
 use Rattle.text.specs.declared.TextPlace.{TextPlace}
 use Rattle.abi.specs.ExportAnswers.{saying}
 

@@ -15,17 +15,17 @@ use Rattle.format.specs.Path.{Path, pathOf}
 use Rattle.format.specs.Verdict.{readable}
 use Rattle.format.specs.LayoutLaws.{readable-facts}
 use Rattle.format.specs.ReadSays.{byteSays, runOf, runSays, spanSays}
-use Rattle.paths.specs.Shift.{left-most}
-use Rattle.access.specs.declared.Answer.{Answer}
-use Rattle.access.specs.declared.Answer.the-variants as answer
-use Rattle.access.specs.declared.Copied.{Copied}
-use Rattle.access.specs.declared.Copied.the-variants as copied
-use Rattle.access.specs.ReadAnswers.{said, copiedSaid, SpanAnswer}
-use Rattle.builder.specs.declared.Built.{Built}
-use Rattle.builder.specs.declared.Built.the-variants as built
-use Rattle.builder.specs.BuildAnswer.{numberOf, sizeOf}
-use Rattle.enough.specs.declared.Room.{Room}
-use Rattle.enough.specs.declared.Room.the-variants as room
+use Rattle.theory_paths.specs.Shift.{left-most}
+use Rattle.ask_access.specs.declared.Answer.{Answer}
+use Rattle.ask_access.specs.declared.Answer.the-variants as answer
+use Rattle.ask_access.specs.declared.Copied.{Copied}
+use Rattle.ask_access.specs.declared.Copied.the-variants as copied
+use Rattle.ask_access.specs.ReadAnswers.{said, copiedSaid, SpanAnswer}
+use Rattle.build_by_search.specs.declared.Built.{Built}
+use Rattle.build_by_search.specs.declared.Built.the-variants as built
+use Rattle.build_by_search.specs.BuildAnswer.{numberOf, sizeOf}
+use Rattle.build_enough.specs.declared.Room.{Room}
+use Rattle.build_enough.specs.declared.Room.the-variants as room
 use Rattle.abi.specs.ExportAnswers.{saying, roomNumber, roomSize}
 
 -- build and enough

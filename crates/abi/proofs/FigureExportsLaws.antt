@@ -3,14 +3,14 @@ use mathlib.Core.List.{List}
 use mathlib.Core.Path.{_≡_, sym, ap, subst, _∙_}
 use Prim.Native.Nat.{ℕ}
 use Rattle.format.specs.Said.{Said}
-use Rattle.rows.specs.declared.RowLength.{RowLength}
-use Rattle.rows.specs.declared.RowLength.the-variants as size
-use Rattle.rows.specs.declared.RowCount.{RowCount}
-use Rattle.rows.specs.declared.RowCount.the-variants as count
-use Rattle.rows.specs.RowLengths.{LengthSays, saidLength, saidCount}
-use Rattle.patterns.specs.declared.PlacesRoom.{PlacesRoom}
-use Rattle.patterns.specs.declared.PlacesRoom.the-variants as room
-use Rattle.patterns.specs.PlacesAnswer.{roomSaid}
+use Rattle.ask_rows.specs.declared.RowLength.{RowLength}
+use Rattle.ask_rows.specs.declared.RowLength.the-variants as size
+use Rattle.ask_rows.specs.declared.RowCount.{RowCount}
+use Rattle.ask_rows.specs.declared.RowCount.the-variants as count
+use Rattle.ask_rows.specs.RowLengths.{LengthSays, saidLength, saidCount}
+use Rattle.ask_patterns.specs.declared.PlacesRoom.{PlacesRoom}
+use Rattle.ask_patterns.specs.declared.PlacesRoom.the-variants as room
+use Rattle.ask_patterns.specs.PlacesAnswer.{roomSaid}
 use Rattle.abi.specs.ExportAnswers.{saying}
 
 module _ (r : RowCount) (s : Said) (is : saidCount r ≡ s) where

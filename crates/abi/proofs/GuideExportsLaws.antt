@@ -6,17 +6,17 @@ use native.Mathlib.Omega.{arith}
 use lib.ListN.{getD}
 use Rattle.format.specs.Said.{Said, refused}
 use Rattle.text.specs.declared.TextPlace.{TextPlace}
-use Rattle.guide.specs.declared.Size.{Size}
-use Rattle.guide.specs.declared.Size.the-variants as size
-use Rattle.guide.specs.GuideAnswers.{saidSize}
-use Rattle.guided.specs.declared.Guided.{Guided}
-use Rattle.guided.specs.declared.Guided.the-variants as guided
-use Rattle.guided.specs.Guided.{GuidedSays, saidGuided, stepsOf}
-use Rattle.rows.specs.declared.RowCopied.{RowCopied}
-use Rattle.rows.specs.declared.RowCopied.the-variants as row
+use Rattle.ask_guide.specs.declared.Size.{Size}
+use Rattle.ask_guide.specs.declared.Size.the-variants as size
+use Rattle.ask_guide.specs.GuideAnswers.{saidSize}
+use Rattle.ask_guided.specs.declared.Guided.{Guided}
+use Rattle.ask_guided.specs.declared.Guided.the-variants as guided
+use Rattle.ask_guided.specs.Guided.{GuidedSays, saidGuided, stepsOf}
+use Rattle.ask_rows.specs.declared.RowCopied.{RowCopied}
+use Rattle.ask_rows.specs.declared.RowCopied.the-variants as row
 use Rattle.format.specs.RowSays.{RowBy}
-use Rattle.rows.specs.RowAnswers.{saidRow}
-use Rattle.rank.specs.Counts.{uncountedNumber}
+use Rattle.ask_rows.specs.RowAnswers.{saidRow}
+use Rattle.ask_rank.specs.Counts.{uncountedNumber}
 use Rattle.abi.specs.ExportAnswers.{saying}
 use Rattle.abi.proofs.CountExportsLaws.{select-above, refuses-above}
 

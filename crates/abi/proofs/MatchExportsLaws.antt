@@ -2,10 +2,10 @@
 use mathlib.Core.List.{List}
 use mathlib.Core.Path.{_≡_}
 use Prim.Native.Nat.{ℕ}
-use Rattle.worn_keys.specs.declared.Shown.{Shown}
-use Rattle.worn_keys.specs.declared.Shown.the-variants as shown
-use Rattle.worn_keys.specs.MatchSays.{refusedAt, MatchSays}
-use Rattle.worn_keys.specs.Searches.{MatchAnswer}
+use Rattle.ask_worn_keys.specs.declared.Shown.{Shown}
+use Rattle.ask_worn_keys.specs.declared.Shown.the-variants as shown
+use Rattle.ask_worn_keys.specs.MatchSays.{refusedAt, MatchSays}
+use Rattle.ask_worn_keys.specs.Searches.{MatchAnswer}
 
 module _ (t ranges : List ℕ) (mark : ℕ) (r : Shown) (a : MatchAnswer t ranges mark r) where
   pub match-row : (q : ℕ) → r ≡ shown.Row q → MatchSays t ranges mark (record { number = 0; row = q; mark = q })

@@ -2,9 +2,9 @@
 use mathlib.Core.List.{List}
 use mathlib.Core.Path.{_≡_, ap}
 use Prim.Native.Nat.{ℕ}
-use Rattle.ordering.specs.declared.Compared.{Compared}
-use Rattle.ordering.specs.Order.{Ordered, orderSays}
-use Rattle.ordering.specs.OrderAnswers.{orderSaid, OrderAnswer}
+use Rattle.ask_order.specs.declared.Compared.{Compared}
+use Rattle.ask_order.specs.Order.{Ordered, orderSays}
+use Rattle.ask_order.specs.OrderAnswers.{orderSaid, OrderAnswer}
 use Rattle.abi.specs.ExportAnswers.{firstGiven}
 
 -- the figures of an answer, and which tree stands first

@@ -2,10 +2,10 @@
 use mathlib.Core.List.{List}
 use mathlib.Core.Path.{_≡_}
 use Prim.Native.Nat.{ℕ}
-use Rattle.patterns.specs.declared.PlacesWritten.{PlacesWritten}
-use Rattle.patterns.specs.declared.PlacesWritten.the-variants as written
-use Rattle.patterns.specs.Places.{placesSays}
-use Rattle.patterns.specs.PlacesAnswer.{PlacesAnswer}
+use Rattle.ask_patterns.specs.declared.PlacesWritten.{PlacesWritten}
+use Rattle.ask_patterns.specs.declared.PlacesWritten.the-variants as written
+use Rattle.ask_patterns.specs.Places.{placesSays}
+use Rattle.ask_patterns.specs.PlacesAnswer.{PlacesAnswer}
 use Rattle.abi.specs.ExportAnswers.{saying}
 
 module _ (t P : List ℕ) (room : ℕ) (r : PlacesWritten) (a : PlacesAnswer t P room r) where

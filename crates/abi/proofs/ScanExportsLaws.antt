@@ -2,10 +2,10 @@
 use mathlib.Core.List.{List}
 use mathlib.Core.Path.{_≡_, sym, ap, _∙_, subst}
 use Prim.Native.Nat.{ℕ}
-use Rattle.scanner.specs.declared.Scanned.{Scanned}
-use Rattle.scanner.specs.declared.Scanned.the-variants as scanned
-use Rattle.scanner.specs.ScannedAnswer.{numberOf, sizeOf, windowsSaid}
-use Rattle.scanner.specs.ScannedSays.{TableLeft}
+use Rattle.build_by_scan.specs.declared.Scanned.{Scanned}
+use Rattle.build_by_scan.specs.declared.Scanned.the-variants as scanned
+use Rattle.build_by_scan.specs.ScannedAnswer.{numberOf, sizeOf, windowsSaid}
+use Rattle.build_by_scan.specs.ScannedSays.{TableLeft}
 
 module _ (r : Scanned) (number size windows : ℕ) (n-is : numberOf r ≡ number) (s-is : sizeOf r ≡ size) (w-is : windowsSaid r ≡ windows) (old new : List ℕ) (left : TableLeft (numberOf r) old new) where
   pub scan-told : (n w : ℕ) → r ≡ scanned.Size n w → (0 ≡ number) × (n ≡ size) × (w ≡ windows) × TableLeft 0 old new

@@ -1,10 +1,10 @@
 -- What the exported calls answer and write, as numbers.
 use Prim.Native.Nat.{ℕ, zero, suc}
 use Rattle.format.specs.Said.{Said}
-use Rattle.enough.specs.declared.Room.{Room}
-use Rattle.enough.specs.declared.Room.the-variants.{Bytes, Refused}
-use Rattle.listing.specs.declared.Listed.{Listed}
-use Rattle.listing.specs.declared.Listed.the-variants as list
+use Rattle.build_enough.specs.declared.Room.{Room}
+use Rattle.build_enough.specs.declared.Room.the-variants.{Bytes, Refused}
+use Rattle.list_lines.specs.declared.Listed.{Listed}
+use Rattle.list_lines.specs.declared.Listed.the-variants as list
 
 -- a number and two figures
 abbrev pub saying : ℕ → ℕ → ℕ → Said

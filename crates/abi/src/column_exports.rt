@@ -3,7 +3,7 @@ use query::Copied;
 ghost use mathlib.Core.Path.{_≡_};
 ghost use lib.ListN.{length};
 ghost use Rattle.columns.specs.Columns.{columnsNumber, columnsLeaves, uncolumnsLeaves};
-ghost use Rattle.column_rows.specs.ColumnRows.{columnNumber, columnLeaves};
+ghost use Rattle.ask_columns.specs.ColumnRows.{columnNumber, columnLeaves};
 
 // A text of rows of a width, end byte included, rearranged by columns.
 #[no_mangle]

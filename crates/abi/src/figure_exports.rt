@@ -4,9 +4,9 @@ use query::RowCount;
 use query::RowLength;
 ghost use mathlib.Core.Path.{_≡_};
 ghost use Rattle.format.specs.Verdict.{readable};
-ghost use Rattle.rows.specs.RowLengths.{LengthSays, rowsSays};
-ghost use Rattle.patterns.specs.Places.{roomSays};
-ghost use Rattle.facts.specs.Facts.{infoLeaves, versionNumber};
+ghost use Rattle.ask_rows.specs.RowLengths.{LengthSays, rowsSays};
+ghost use Rattle.ask_patterns.specs.Places.{roomSays};
+ghost use Rattle.ask_facts.specs.Facts.{infoLeaves, versionNumber};
 ghost use Rattle.abi.specs.ExportAnswers.{saying};
 
 // The version as one number.

@@ -3,8 +3,8 @@ use query::Guided;
 use query::RowCopied;
 use query::Size;
 ghost use mathlib.Core.Path.{_≡_};
-ghost use Rattle.guide.specs.Guides.{guideNumber, sizeSays, makeSays, makeLeaves};
-ghost use Rattle.guided.specs.Guided.{GuidedSays};
+ghost use Rattle.ask_guide.specs.Guides.{guideNumber, sizeSays, makeSays, makeLeaves};
+ghost use Rattle.ask_guided.specs.Guided.{GuidedSays};
 ghost use Rattle.format.specs.RowSays.{RowBy};
 ghost use Rattle.abi.specs.ExportAnswers.{saying};
 

@@ -6,7 +6,7 @@ pub mod guide_exports;
 pub mod licence_exports;
 pub mod order_exports;
 
-use listing::Listed;
+use list_lines::Listed;
 use query::Answer;
 use query::Copied;
 use query::Counted;
@@ -27,12 +27,12 @@ ghost use Rattle.format.specs.CountSays.{countSays};
 ghost use Rattle.format.specs.FindSays.{FindSays};
 ghost use Rattle.format.specs.RowSays.{RowSays};
 ghost use Rattle.format.specs.Verdict.{verdict};
-ghost use Rattle.builder.specs.BuildAnswer.{given};
-ghost use Rattle.enough.specs.Enough.{enoughSays};
-ghost use Rattle.listing.specs.ListSays.{listSays, listLeaves};
-ghost use Rattle.patterns.specs.Places.{placesSays, placesLeaves};
-ghost use Rattle.scanner.specs.ScannedSays.{tableWords, scanNumber, scanSize, scanWindows, scanLeaves, TableLeft};
-ghost use Rattle.worn_keys.specs.MatchSays.{MatchSays};
+ghost use Rattle.build_by_search.specs.BuildAnswer.{given};
+ghost use Rattle.build_enough.specs.Enough.{enoughSays};
+ghost use Rattle.list_lines.specs.ListSays.{listSays, listLeaves};
+ghost use Rattle.ask_patterns.specs.Places.{placesSays, placesLeaves};
+ghost use Rattle.build_by_scan.specs.ScannedSays.{tableWords, scanNumber, scanSize, scanWindows, scanLeaves, TableLeft};
+ghost use Rattle.ask_worn_keys.specs.MatchSays.{MatchSays};
 ghost use Rattle.abi.specs.ExportAnswers.{saying, roomNumber, roomSize, listedNumber, listedSize};
 
 // Builds the tree of a text.
@@ -332,7 +332,7 @@ pub extern "C" fn bt_list(tree: &[u8], out: &mut [u8], len: &mut u32) -> u32
     ensures { λ _. ⌜ now (len .exit) ≡ listedSize (listSays (now (tree .entry)) (length (now (out .entry)))) ⌝ }
     ensures { λ _. ⌜ now (out .exit) ≡ listLeaves (now (tree .entry)) (now (out .entry)) ⌝ }
 {
-    let listed = listing::list(tree, out);
+    let listed = list_lines::list(tree, out);
     match listed {
         Listed::Bytes(n) => {
             *len = n;

@@ -1,7 +1,7 @@
 // The order of two trees' texts, exported to C.
 use query::Compared;
 ghost use mathlib.Core.Path.{_≡_};
-ghost use Rattle.ordering.specs.Order.{orderSays};
+ghost use Rattle.ask_order.specs.Order.{orderSays};
 ghost use Rattle.abi.specs.ExportAnswers.{firstGiven};
 
 // Compares two trees: where the first stands (1 before, 2 same, 3 after), the length of the shared beginning, and which tree stands first

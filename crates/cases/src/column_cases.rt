@@ -1,14 +1,14 @@
-// Columns before rows: `columns` and `rows` take a text, a width and the length of the lent output; `column` takes a tree, a width, a row's number and the
+// Columns before rows: `columns` and `ask_rows` take a text, a width and the length of the lent output; `column` takes a tree, a width, a row's number and the
 // length of the lent buffer.
 use crate::ask;
 use crate::wrong;
-use tokens::hexadecimal::Fault;
-use tokens::hexadecimal::Made;
+use cases_tokens::hexadecimal::Fault;
+use cases_tokens::hexadecimal::Made;
 ghost use Prim.Native.Nat.{_≤_};
 
 // Answers a line that starts with one of these words; whether it does.
 pub fn line(script: &[u8], line: &[u8], bytes: &mut [u8], lent: &mut [u8]) -> bool {
-    let last = last(tokens::token(line, 0));
+    let last = last(cases_tokens::token(line, 0));
     if last == 0 {
         return false;
     }
@@ -40,12 +40,12 @@ fn ask(script: &[u8], line: &[u8], last: u32, bytes: &mut [u8], lent: &mut [u8])
         wrong::fault(Fault::Number);
         return;
     }
-    let size = tokens::figure(line, last) as usize;
+    let size = cases_tokens::figure(line, last) as usize;
     if lent.len() < size {
         wrong::fault(Fault::Room);
         return;
     }
-    let made = script::named(script, tokens::token(line, 1), bytes);
+    let made = cases_script::named(script, cases_tokens::token(line, 1), bytes);
     match made {
         Made::Bytes(n) => put(&bytes[..n], line, &mut lent[..size]),
         Made::Wrong(f) => wrong::fault(f),
@@ -54,16 +54,16 @@ fn ask(script: &[u8], line: &[u8], last: u32, bytes: &mut [u8], lent: &mut [u8])
 
 // The same of the text or tree; what is lent holds 238 in every byte.
 fn put(held: &[u8], line: &[u8], lent: &mut [u8]) {
-    script::fill(lent, 238);
-    let word = tokens::token(line, 0);
-    let width = tokens::figure(line, 2);
+    cases_script::fill(lent, 238);
+    let word = cases_tokens::token(line, 0);
+    let width = cases_tokens::figure(line, 2);
     if check::same(word, b"columns") {
-        replies::column_replies::to_columns(held, width, lent);
+        cases_replies::column_replies::to_columns(held, width, lent);
         return;
     }
     if check::same(word, b"rows") {
-        replies::column_replies::from_columns(held, width, lent);
+        cases_replies::column_replies::from_columns(held, width, lent);
         return;
     }
-    replies::column_replies::row(held, width, tokens::figure(line, 3), lent);
+    cases_replies::column_replies::row(held, width, cases_tokens::figure(line, 3), lent);
 }

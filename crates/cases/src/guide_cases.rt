@@ -2,21 +2,21 @@
 use crate::ask;
 use crate::wrong;
 use layout::word;
-use tokens::decimal;
-use tokens::decimal::Number;
-use tokens::hexadecimal::Fault;
-use tokens::hexadecimal::Made;
+use cases_tokens::decimal;
+use cases_tokens::decimal::Number;
+use cases_tokens::hexadecimal::Fault;
+use cases_tokens::hexadecimal::Made;
 ghost use mathlib.Core.Path.{_≡_};
 ghost use Prim.Native.Nat.{ℕ, _≤_};
 ghost use lib.ListN.{length};
-ghost use Rattle.tokens.specs.declared.hexadecimal.Made.the-variants.{Bytes};
+ghost use Rattle.cases_tokens.specs.declared.hexadecimal.Made.the-variants.{Bytes};
 
 // Room for a guide's bytes.
 const ROOM: usize = 300;
 
 // Puts the question of a line whose word is one of these; no other line's.
 pub fn line(script: &[u8], line: &[u8], bytes: &mut [u8]) -> bool {
-    let word = tokens::token(line, 0);
+    let word = cases_tokens::token(line, 0);
     if check::same(word, b"guide") {
         make(script, line, bytes);
         return true;
@@ -38,9 +38,9 @@ fn make(script: &[u8], line: &[u8], bytes: &mut [u8]) {
         wrong::fault(Fault::Number);
         return;
     }
-    let made = script::named(script, tokens::token(line, 1), bytes);
+    let made = cases_script::named(script, cases_tokens::token(line, 1), bytes);
     match made {
-        Made::Bytes(n) => make_of(&bytes[..n], tokens::figure(line, 2) as usize),
+        Made::Bytes(n) => make_of(&bytes[..n], cases_tokens::figure(line, 2) as usize),
         Made::Wrong(f) => wrong::fault(f),
     }
 }
@@ -53,7 +53,7 @@ fn make_of(tree: &[u8], words: usize) {
     }
     let mut table = [238u8; ROOM];
     let size = 4 * words;
-    replies::guide_replies::make(tree, &mut table[..size]);
+    cases_replies::guide_replies::make(tree, &mut table[..size]);
 }
 
 // A question with a guide, on a line of so many tokens.
@@ -62,7 +62,7 @@ fn beside(script: &[u8], line: &[u8], last: u32, bytes: &mut [u8]) {
         wrong::fault(Fault::Number);
         return;
     }
-    let made = script::named(script, tokens::token(line, 1), bytes);
+    let made = cases_script::named(script, cases_tokens::token(line, 1), bytes);
     match made {
         Made::Bytes(n) => of_tree(&bytes[..n], line),
         Made::Wrong(f) => wrong::fault(f),
@@ -72,7 +72,7 @@ fn beside(script: &[u8], line: &[u8], last: u32, bytes: &mut [u8]) {
 // The same of the tree.
 fn of_tree(tree: &[u8], line: &[u8]) {
     let mut guide = [0u8; ROOM];
-    let made = guide_of(tokens::token(line, 2), &mut guide);
+    let made = guide_of(cases_tokens::token(line, 2), &mut guide);
     match made {
         Made::Bytes(n) => put(tree, &guide[..n], line),
         Made::Wrong(f) => wrong::fault(f),
@@ -81,16 +81,16 @@ fn of_tree(tree: &[u8], line: &[u8]) {
 
 // The same with the guide: check it, or find a byte by it.
 fn put(tree: &[u8], guide: &[u8], line: &[u8]) {
-    if check::same(tokens::token(line, 0), b"guidecheck") {
-        replies::guide_replies::check(tree, guide);
+    if check::same(cases_tokens::token(line, 0), b"guidecheck") {
+        cases_replies::guide_replies::check(tree, guide);
         return;
     }
-    let byte = tokens::figure(line, 3);
+    let byte = cases_tokens::figure(line, 3);
     if 255 < byte {
         wrong::fault(Fault::Number);
         return;
     }
-    replies::guide_replies::find(tree, guide, byte as u8, tokens::figure(line, 4));
+    cases_replies::guide_replies::find(tree, guide, byte as u8, cases_tokens::figure(line, 4));
 }
 
 // The bytes of a guide's words; `-` is none.
@@ -106,13 +106,13 @@ fn guide_of(said: &[u8], out: &mut [u8]) -> Made
         if out.len() - n < 4 {
             return Made::Wrong(Fault::Room);
         }
-        let number = decimal::read_number(tokens::until(said, at, 44));
+        let number = decimal::read_number(cases_tokens::until(said, at, 44));
         let Number::Is(value) = number else {
             return Made::Wrong(Fault::Number);
         };
         word::write(out, n, value);
         n += 4;
-        at = tokens::past(said, at, 44);
+        at = cases_tokens::past(said, at, 44);
     }
     Made::Bytes(n)
 }

@@ -1,7 +1,7 @@
 // The term of a licence: days in hexadecimal, and no tree.
 use crate::wrong;
-use tokens::hexadecimal::Fault;
-use tokens::hexadecimal::Made;
+use cases_tokens::hexadecimal::Fault;
+use cases_tokens::hexadecimal::Made;
 ghost use Prim.Native.Nat.{_≤_};
 
 // Room for a day, and for more bytes than a day has.
@@ -9,11 +9,11 @@ const ROOM: usize = 64;
 
 // Answers a line that begins with one of these words, and says whether it does.
 pub fn line(line: &[u8]) -> bool {
-    let days = days_of(tokens::token(line, 0));
+    let days = days_of(cases_tokens::token(line, 0));
     if days == 0 {
         return false;
     }
-    if tokens::ends(line, days + 1) {
+    if cases_tokens::ends(line, days + 1) {
         with_first(line, days);
     } else {
         wrong::fault(Fault::Number);
@@ -40,7 +40,7 @@ fn days_of(word: &[u8]) -> u32
 // Reads the first day.
 fn with_first(line: &[u8], days: u32) {
     let mut first = [0u8; ROOM];
-    let made = tokens::hex(tokens::token(line, 1), &mut first);
+    let made = cases_tokens::hex(cases_tokens::token(line, 1), &mut first);
     match made {
         Made::Bytes(n) => of_one(&mut first[..n], line, days),
         Made::Wrong(f) => wrong::fault(f),
@@ -49,7 +49,7 @@ fn with_first(line: &[u8], days: u32) {
 
 fn of_one(first: &mut [u8], line: &[u8], days: u32) {
     if days == 1 {
-        replies::licence_replies::renew(first);
+        cases_replies::licence_replies::renew(first);
     } else {
         with_second(first, line, days);
     }
@@ -58,7 +58,7 @@ fn of_one(first: &mut [u8], line: &[u8], days: u32) {
 // Reads the second day.
 fn with_second(first: &[u8], line: &[u8], days: u32) {
     let mut second = [0u8; ROOM];
-    let made = tokens::hex(tokens::token(line, 2), &mut second);
+    let made = cases_tokens::hex(cases_tokens::token(line, 2), &mut second);
     match made {
         Made::Bytes(n) => of_two(first, &second[..n], line, days),
         Made::Wrong(f) => wrong::fault(f),
@@ -67,7 +67,7 @@ fn with_second(first: &[u8], line: &[u8], days: u32) {
 
 fn of_two(first: &[u8], second: &[u8], line: &[u8], days: u32) {
     if days == 2 {
-        replies::licence_replies::days_left(first, second);
+        cases_replies::licence_replies::days_left(first, second);
     } else {
         with_third(first, second, line);
     }
@@ -76,9 +76,9 @@ fn of_two(first: &[u8], second: &[u8], line: &[u8], days: u32) {
 // Reads the third day.
 fn with_third(first: &[u8], second: &[u8], line: &[u8]) {
     let mut third = [0u8; ROOM];
-    let made = tokens::hex(tokens::token(line, 3), &mut third);
+    let made = cases_tokens::hex(cases_tokens::token(line, 3), &mut third);
     match made {
-        Made::Bytes(n) => replies::licence_replies::open_on(first, second, &third[..n]),
+        Made::Bytes(n) => cases_replies::licence_replies::open_on(first, second, &third[..n]),
         Made::Wrong(f) => wrong::fault(f),
     }
 }

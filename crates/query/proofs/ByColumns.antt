@@ -27,8 +27,8 @@ use Rattle.format.specs.LayoutLaws.{ask-test, ask-rest}
 use Rattle.format.specs.Said.{refused}
 use Rattle.format.specs.SaidLaws.{unless-passes, then-is}
 use Rattle.format.specs.ReadSays.{byteSays}
-use Rattle.builder.specs.BuildAnswer.{given}
-use Rattle.column_rows.specs.ColumnRows.{cell, cellsHold, columnNumber, columnSays, columnLeaves}
+use Rattle.build_by_search.specs.BuildAnswer.{given}
+use Rattle.ask_columns.specs.ColumnRows.{cell, cellsHold, columnNumber, columnSays, columnLeaves}
 use Rattle.query.proofs.Calls as calls
 use Rattle.query.proofs.Calls.{Lent, Copied, ToColumns, FromColumns, ByColumns, Build, BuildScanned, Check}
 use Rattle.query.proofs.Numbers.{OneOf, not-zero, then-one, asks-one, readable-one}

@@ -8,125 +8,125 @@ pub use Rattle.search.proofs.leftmost.Met as leftmost-met
 pub use Rattle.search.proofs.occurs_earlier.Reads as earlier-reads
 pub use Rattle.search.proofs.occurs_earlier.Met as earlier-met
 pub use Rattle.search.specs.declared.Fingerprint.{Fingerprint}
-pub use Rattle.builder.proofs.build.Reads as build-reads
-pub use Rattle.builder.proofs.build.Met as build-met
+pub use Rattle.build_by_search.proofs.build.Reads as build-reads
+pub use Rattle.build_by_search.proofs.build.Met as build-met
 pub use Rattle.tree.proofs.check.Reads as check-reads
 pub use Rattle.tree.proofs.check.Met as check-met
-pub use Rattle.enough.proofs.enough.Reads as enough-reads
-pub use Rattle.enough.proofs.enough.Met as enough-met
-pub use Rattle.access.proofs.byte.Reads as byte-reads
-pub use Rattle.access.proofs.byte.Met as byte-met
-pub use Rattle.access.proofs.run.Reads as run-reads
-pub use Rattle.access.proofs.run.Met as run-met
-pub use Rattle.access.proofs.run_part.Reads as run-part-reads
-pub use Rattle.access.proofs.run_part.Met as run-part-met
-pub use Rattle.access.proofs.span.Reads as span-reads
-pub use Rattle.access.proofs.span.Met as span-met
-pub use Rattle.rank.proofs.count.Reads as count-reads
-pub use Rattle.rank.proofs.count.Met as count-met
-pub use Rattle.rank.proofs.uncounted.uncounted.Reads as uncounted-reads
-pub use Rattle.rank.proofs.uncounted.uncounted.Met as uncounted-met
-pub use Rattle.select.proofs.find.Reads as find-reads
-pub use Rattle.select.proofs.find.Met as find-met
-pub use Rattle.rows.proofs.row.Reads as row-reads
-pub use Rattle.rows.proofs.row.Met as row-met
-pub use Rattle.patterns.proofs.places.Reads as places-reads
-pub use Rattle.patterns.proofs.places.Met as places-met
-pub use Rattle.worn_keys.proofs.next_match.Reads as next-match-reads
-pub use Rattle.worn_keys.proofs.next_match.Met as next-match-met
-pub use Rattle.worn_keys.proofs.show.Met as show-met
+pub use Rattle.build_enough.proofs.enough.Reads as enough-reads
+pub use Rattle.build_enough.proofs.enough.Met as enough-met
+pub use Rattle.ask_access.proofs.byte.Reads as byte-reads
+pub use Rattle.ask_access.proofs.byte.Met as byte-met
+pub use Rattle.ask_access.proofs.run.Reads as run-reads
+pub use Rattle.ask_access.proofs.run.Met as run-met
+pub use Rattle.ask_access.proofs.run_part.Reads as run-part-reads
+pub use Rattle.ask_access.proofs.run_part.Met as run-part-met
+pub use Rattle.ask_access.proofs.span.Reads as span-reads
+pub use Rattle.ask_access.proofs.span.Met as span-met
+pub use Rattle.ask_rank.proofs.count.Reads as count-reads
+pub use Rattle.ask_rank.proofs.count.Met as count-met
+pub use Rattle.ask_rank.proofs.uncounted.uncounted.Reads as uncounted-reads
+pub use Rattle.ask_rank.proofs.uncounted.uncounted.Met as uncounted-met
+pub use Rattle.ask_select.proofs.find.Reads as find-reads
+pub use Rattle.ask_select.proofs.find.Met as find-met
+pub use Rattle.ask_rows.proofs.row.Reads as row-reads
+pub use Rattle.ask_rows.proofs.row.Met as row-met
+pub use Rattle.ask_patterns.proofs.places.Reads as places-reads
+pub use Rattle.ask_patterns.proofs.places.Met as places-met
+pub use Rattle.ask_worn_keys.proofs.next_match.Reads as next-match-reads
+pub use Rattle.ask_worn_keys.proofs.next_match.Met as next-match-met
+pub use Rattle.ask_worn_keys.proofs.show.Met as show-met
 pub use Rattle.columns.proofs.to_columns.Reads as to-columns-reads
 pub use Rattle.columns.proofs.to_columns.Met as to-columns-met
 pub use Rattle.columns.proofs.from_columns.Reads as from-columns-reads
 pub use Rattle.columns.proofs.from_columns.Met as from-columns-met
-pub use Rattle.column_rows.proofs.row_by_columns.Reads as by-columns-reads
-pub use Rattle.column_rows.proofs.row_by_columns.Met as by-columns-met
-pub use Rattle.guide.proofs.guide_words.Reads as guide-words-reads
-pub use Rattle.guide.proofs.guide_words.Met as guide-words-met
-pub use Rattle.guide.proofs.make_guide.Reads as make-guide-reads
-pub use Rattle.guide.proofs.make_guide.Met as make-guide-met
-pub use Rattle.guide.proofs.check_guide.Reads as check-guide-reads
-pub use Rattle.guide.proofs.check_guide.Met as check-guide-met
-pub use Rattle.guided.proofs.find_guided.Reads as find-guided-reads
-pub use Rattle.guided.proofs.find_guided.Met as find-guided-met
-pub use Rattle.rows.proofs.row_guided.Reads as row-guided-reads
-pub use Rattle.rows.proofs.row_guided.Met as row-guided-met
-pub use Rattle.rows.proofs.row_length.Reads as row-length-reads
-pub use Rattle.rows.proofs.row_length.Met as row-length-met
-pub use Rattle.rows.proofs.row_count.Reads as row-count-reads
-pub use Rattle.rows.proofs.row_count.Met as row-count-met
-pub use Rattle.patterns.proofs.places_words.Reads as places-words-reads
-pub use Rattle.patterns.proofs.places_words.Met as places-words-met
-pub use Rattle.facts.proofs.info.Reads as info-reads
-pub use Rattle.facts.proofs.info.Met as info-met
-pub use Rattle.facts.proofs.version.Reads as version-reads
-pub use Rattle.facts.proofs.version.Met as version-met
-pub use Rattle.ordering.proofs.compare.Reads as compare-reads
-pub use Rattle.ordering.proofs.compare.Met as compare-met
-pub use Rattle.ordering.proofs.first.Reads as first-reads
-pub use Rattle.ordering.proofs.first.Met as first-met
-pub use Rattle.builder.specs.declared.Built.{Built}
-pub use Rattle.builder.specs.declared.Built.the-variants as built
-pub use Rattle.enough.specs.declared.Room.{Room}
-pub use Rattle.enough.specs.declared.Room.the-variants as room
-pub use Rattle.access.specs.declared.Answer.{Answer}
-pub use Rattle.access.specs.declared.Answer.the-variants as answer
-pub use Rattle.access.specs.declared.Copied.{Copied}
-pub use Rattle.access.specs.declared.Copied.the-variants as copied
-pub use Rattle.rank.specs.declared.Counted.{Counted}
-pub use Rattle.rank.specs.declared.Counted.the-variants as counted
-pub use Rattle.select.specs.declared.Found.{Found}
-pub use Rattle.select.specs.declared.Found.the-variants as found
-pub use Rattle.rows.specs.declared.RowCopied.{RowCopied}
-pub use Rattle.rows.specs.declared.RowCopied.the-variants as rows
-pub use Rattle.patterns.specs.declared.PlacesWritten.{PlacesWritten}
-pub use Rattle.patterns.specs.declared.PlacesWritten.the-variants as places
-pub use Rattle.rows.specs.declared.RowLength.{RowLength}
-pub use Rattle.rows.specs.declared.RowLength.the-variants as row-length
-pub use Rattle.rows.specs.declared.RowCount.{RowCount}
-pub use Rattle.rows.specs.declared.RowCount.the-variants as row-count
-pub use Rattle.patterns.specs.declared.PlacesRoom.{PlacesRoom}
-pub use Rattle.patterns.specs.declared.PlacesRoom.the-variants as places-room
-pub use Rattle.scanner.proofs.build_scanned.Reads as scanned-reads
-pub use Rattle.scanner.proofs.build_scanned.Met as scanned-met
-pub use Rattle.scanner.proofs.scan_words.Reads as scan-words-reads
-pub use Rattle.scanner.proofs.scan_words.Met as scan-words-met
-pub use Rattle.scanner.specs.declared.Scanned.{Scanned}
-pub use Rattle.scanner.specs.declared.Scanned.the-variants as scanned
-pub use Rattle.worn_keys.specs.declared.Shown.{Shown}
-pub use Rattle.worn_keys.specs.declared.Shown.the-variants as shown
-pub use Rattle.guide.specs.declared.Size.{Size}
-pub use Rattle.guide.specs.declared.Size.the-variants as size
-pub use Rattle.guided.specs.declared.Guided.{Guided}
-pub use Rattle.guided.specs.declared.Guided.the-variants as guided
-pub use Rattle.ordering.specs.declared.Compared.{Compared}
-pub use Rattle.ordering.specs.declared.Compared.the-variants as compared
+pub use Rattle.ask_columns.proofs.row_by_columns.Reads as by-columns-reads
+pub use Rattle.ask_columns.proofs.row_by_columns.Met as by-columns-met
+pub use Rattle.ask_guide.proofs.guide_words.Reads as guide-words-reads
+pub use Rattle.ask_guide.proofs.guide_words.Met as guide-words-met
+pub use Rattle.ask_guide.proofs.make_guide.Reads as make-guide-reads
+pub use Rattle.ask_guide.proofs.make_guide.Met as make-guide-met
+pub use Rattle.ask_guide.proofs.check_guide.Reads as check-guide-reads
+pub use Rattle.ask_guide.proofs.check_guide.Met as check-guide-met
+pub use Rattle.ask_guided.proofs.find_guided.Reads as find-guided-reads
+pub use Rattle.ask_guided.proofs.find_guided.Met as find-guided-met
+pub use Rattle.ask_rows.proofs.row_guided.Reads as row-guided-reads
+pub use Rattle.ask_rows.proofs.row_guided.Met as row-guided-met
+pub use Rattle.ask_rows.proofs.row_length.Reads as row-length-reads
+pub use Rattle.ask_rows.proofs.row_length.Met as row-length-met
+pub use Rattle.ask_rows.proofs.row_count.Reads as row-count-reads
+pub use Rattle.ask_rows.proofs.row_count.Met as row-count-met
+pub use Rattle.ask_patterns.proofs.places_words.Reads as places-words-reads
+pub use Rattle.ask_patterns.proofs.places_words.Met as places-words-met
+pub use Rattle.ask_facts.proofs.info.Reads as info-reads
+pub use Rattle.ask_facts.proofs.info.Met as info-met
+pub use Rattle.ask_facts.proofs.version.Reads as version-reads
+pub use Rattle.ask_facts.proofs.version.Met as version-met
+pub use Rattle.ask_order.proofs.compare.Reads as compare-reads
+pub use Rattle.ask_order.proofs.compare.Met as compare-met
+pub use Rattle.ask_order.proofs.first.Reads as first-reads
+pub use Rattle.ask_order.proofs.first.Met as first-met
+pub use Rattle.build_by_search.specs.declared.Built.{Built}
+pub use Rattle.build_by_search.specs.declared.Built.the-variants as built
+pub use Rattle.build_enough.specs.declared.Room.{Room}
+pub use Rattle.build_enough.specs.declared.Room.the-variants as room
+pub use Rattle.ask_access.specs.declared.Answer.{Answer}
+pub use Rattle.ask_access.specs.declared.Answer.the-variants as answer
+pub use Rattle.ask_access.specs.declared.Copied.{Copied}
+pub use Rattle.ask_access.specs.declared.Copied.the-variants as copied
+pub use Rattle.ask_rank.specs.declared.Counted.{Counted}
+pub use Rattle.ask_rank.specs.declared.Counted.the-variants as counted
+pub use Rattle.ask_select.specs.declared.Found.{Found}
+pub use Rattle.ask_select.specs.declared.Found.the-variants as found
+pub use Rattle.ask_rows.specs.declared.RowCopied.{RowCopied}
+pub use Rattle.ask_rows.specs.declared.RowCopied.the-variants as rows
+pub use Rattle.ask_patterns.specs.declared.PlacesWritten.{PlacesWritten}
+pub use Rattle.ask_patterns.specs.declared.PlacesWritten.the-variants as places
+pub use Rattle.ask_rows.specs.declared.RowLength.{RowLength}
+pub use Rattle.ask_rows.specs.declared.RowLength.the-variants as row-length
+pub use Rattle.ask_rows.specs.declared.RowCount.{RowCount}
+pub use Rattle.ask_rows.specs.declared.RowCount.the-variants as row-count
+pub use Rattle.ask_patterns.specs.declared.PlacesRoom.{PlacesRoom}
+pub use Rattle.ask_patterns.specs.declared.PlacesRoom.the-variants as places-room
+pub use Rattle.build_by_scan.proofs.build_scanned.Reads as scanned-reads
+pub use Rattle.build_by_scan.proofs.build_scanned.Met as scanned-met
+pub use Rattle.build_by_scan.proofs.scan_words.Reads as scan-words-reads
+pub use Rattle.build_by_scan.proofs.scan_words.Met as scan-words-met
+pub use Rattle.build_by_scan.specs.declared.Scanned.{Scanned}
+pub use Rattle.build_by_scan.specs.declared.Scanned.the-variants as scanned
+pub use Rattle.ask_worn_keys.specs.declared.Shown.{Shown}
+pub use Rattle.ask_worn_keys.specs.declared.Shown.the-variants as shown
+pub use Rattle.ask_guide.specs.declared.Size.{Size}
+pub use Rattle.ask_guide.specs.declared.Size.the-variants as size
+pub use Rattle.ask_guided.specs.declared.Guided.{Guided}
+pub use Rattle.ask_guided.specs.declared.Guided.the-variants as guided
+pub use Rattle.ask_order.specs.declared.Compared.{Compared}
+pub use Rattle.ask_order.specs.declared.Compared.the-variants as compared
 -- what an answer says in document 01's terms, and that a refusal's number is not 0
-pub use Rattle.access.specs.ReadAnswers.{said, copiedSaid}
-pub use Rattle.rank.specs.Counts.{saidCount, Numbered as CountNumbered}
-pub use Rattle.select.specs.Found.{saidFind, Numbered as FindNumbered}
-pub use Rattle.rows.specs.RowAnswers.{saidRow, Numbered as RowNumbered}
+pub use Rattle.ask_access.specs.ReadAnswers.{said, copiedSaid}
+pub use Rattle.ask_rank.specs.Counts.{saidCount, Numbered as CountNumbered}
+pub use Rattle.ask_select.specs.Found.{saidFind, Numbered as FindNumbered}
+pub use Rattle.ask_rows.specs.RowAnswers.{saidRow, Numbered as RowNumbered}
 -- build(text, leaf, arity, levels, counted, out) and check(tree); byte(tree, place), run(tree, place) and span(tree, place, len, buffer)
 pub use Rattle.tree.proofs.Demands.{Answer as Build, Checked as Check}
-pub use Rattle.access.proofs.Demands.{Asked as Byte, Run, Span}
+pub use Rattle.ask_access.proofs.Demands.{Asked as Byte, Run, Span}
 -- places(tree, pattern, table), and places_words(tree, len)
-pub use Rattle.patterns.proofs.Demands.{Places, PlacesWords}
+pub use Rattle.ask_patterns.proofs.Demands.{Places, PlacesWords}
 -- next_match(tree, ranges, mark); `show` moves a lent mark by it, and its contract is `Moved`
-pub use Rattle.worn_keys.proofs.Demands.{NextMatch}
-pub use Rattle.worn_keys.specs.Searches.{Moved}
+pub use Rattle.ask_worn_keys.proofs.Demands.{NextMatch}
+pub use Rattle.ask_worn_keys.specs.Searches.{Moved}
 -- to_columns(text, width, out), from_columns(text, width, out) and row_by_columns(tree, width, a, buffer)
 pub use Rattle.columns.proofs.Demands.{ToColumns, FromColumns}
-pub use Rattle.column_rows.proofs.Demands.{ByColumns}
+pub use Rattle.ask_columns.proofs.Demands.{ByColumns}
 -- guide_words(tree), make_guide(tree, table), which leaves the table as `after`, and check_guide(tree, guide); find_guided(tree, guide, byte, j) and
 -- row_guided(tree, guide, q, buffer), which leaves the buffer as `after`
-pub use Rattle.guide.proofs.Demands.{GuideWords, MakeGuide, CheckGuide}
-pub use Rattle.guided.proofs.Demands.{FindGuided}
-pub use Rattle.rows.proofs.Demands.{RowGuided}
+pub use Rattle.ask_guide.proofs.Demands.{GuideWords, MakeGuide, CheckGuide}
+pub use Rattle.ask_guided.proofs.Demands.{FindGuided}
+pub use Rattle.ask_rows.proofs.Demands.{RowGuided}
 -- row_length(tree, q) and row_count(tree); info(tree, figures), which leaves the figures as `after`, and version()
-pub use Rattle.rows.proofs.Demands.{LengthOf, CountOf}
-pub use Rattle.facts.proofs.Demands.{Info, Version}
+pub use Rattle.ask_rows.proofs.Demands.{LengthOf, CountOf}
+pub use Rattle.ask_facts.proofs.Demands.{Info, Version}
 -- compare(one, other) and first(one, other, number, order, shared)
-pub use Rattle.ordering.proofs.Demands.{Compare, First}
+pub use Rattle.ask_order.proofs.Demands.{Compare, First}
 
 -- lent bytes
 abbrev pub Lent : Type 0

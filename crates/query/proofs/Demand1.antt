@@ -21,12 +21,12 @@ use Rattle.format.specs.Said.{Said, refused}
 use Rattle.format.specs.ReadSays.{byteSays, runSays}
 use Rattle.format.specs.CountSays.{countSays}
 use Rattle.format.specs.FindSays.{FindSays}
-use Rattle.paths.specs.Demands as paths
+use Rattle.theory_paths.specs.Demands as paths
 use Rattle.layout.specs.CheckedSettings.{sizes}
-use Rattle.enough.specs.Enough.{enoughFor, enoughSays}
-use Rattle.select.proofs.FoundLaws.{find-by}
-use Rattle.paths.specs.Visits.{path-long}
-use Rattle.runs.specs.Ends.{Ends, ends}
+use Rattle.build_enough.specs.Enough.{enoughFor, enoughSays}
+use Rattle.ask_select.proofs.FoundLaws.{find-by}
+use Rattle.theory_paths.specs.Visits.{path-long}
+use Rattle.theory_machine.specs.Ends.{Ends, ends}
 use Rattle.query.proofs.Functions as f
 use Rattle.query.proofs.Calls as calls
 use Rattle.query.proofs.Calls.{Lent, Fingerprint, Check, Enough, Byte, Run, Count, Find}

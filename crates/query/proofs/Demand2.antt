@@ -11,16 +11,16 @@ use lib.ListN.{length, take}
 use borrow.Author.Tests.{le-leb}
 use Rattle.format.specs.Settings.{Settings, lengthOk, sizesOk, countedOk}
 use Rattle.format.specs.LayoutLaws.{readable-facts}
-use Rattle.built.specs.Readable.{built-readable}
+use Rattle.theory_built.specs.Readable.{built-readable}
 use Rattle.format.specs.Blocks.{treeOf}
 use Rattle.format.specs.Layout as at
 use Rattle.format.specs.Fits.{textOf, fits}
 use Rattle.format.specs.Verdict.{verdict}
 use Rattle.format.specs.BuildSays.{buildNumber, buildSize}
-use Rattle.built.specs.ReadBack.{read-settings}
-use Rattle.accepted.specs.AcceptedTrees.{StandsFor, accepted-stands, one-text}
-use Rattle.builder.specs.BuildAnswer.{given, sizeOf}
-use Rattle.builder.specs.declared.Built.{Built}
+use Rattle.theory_built.specs.ReadBack.{read-settings}
+use Rattle.theory_accepted.specs.AcceptedTrees.{StandsFor, accepted-stands, one-text}
+use Rattle.build_by_search.specs.BuildAnswer.{given, sizeOf}
+use Rattle.build_by_search.specs.declared.Built.{Built}
 use Rattle.tree.proofs.Demands as tree
 use Rattle.query.proofs.Calls as calls
 use Rattle.query.proofs.Calls.{Lent, Build, Check}

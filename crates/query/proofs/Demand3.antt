@@ -13,7 +13,7 @@ use denote.Ref.{now}
 use Rattle.format.specs.Layout as at
 use Rattle.format.specs.Fits.{textOf, fits, edgesTrue}
 use Rattle.format.specs.VerdictLaws.{no-edges, accepted-readable, accepted-links}
-use Rattle.accepted.specs.AcceptedTrees.{StandsFor, one-text}
+use Rattle.theory_accepted.specs.AcceptedTrees.{StandsFor, one-text}
 use Rattle.tree.proofs.Demands as tree
 use Rattle.query.proofs.Calls.{Lent, Check}
 use Rattle.query.proofs.Answering.{Answers, Refuses}

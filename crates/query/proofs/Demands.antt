@@ -11,9 +11,9 @@ use lib.ListN.{take}
 use Rattle.format.specs.Blocks.{treeOf}
 use Rattle.format.specs.Layout as at
 use Rattle.format.specs.Fits.{fits}
-use Rattle.accepted.specs.AcceptedTrees.{StandsFor}
-use Rattle.builder.specs.BuildAnswer.{given}
-use Rattle.scanner.specs.ScannedSays.{windowsOf}
+use Rattle.theory_accepted.specs.AcceptedTrees.{StandsFor}
+use Rattle.build_by_search.specs.BuildAnswer.{given}
+use Rattle.build_by_scan.specs.ScannedSays.{windowsOf}
 use Rattle.query.proofs.Calls as calls
 use Rattle.query.proofs.Calls.{Lent, Build, BuildScanned, Check}
 use Rattle.query.proofs.Answering.{Answers, Refuses}
@@ -50,25 +50,25 @@ pub use Rattle.query.proofs.Demand2.{build-lets-through}
 -- is the total of byte 10 plus one. ..
 pub use Rattle.text.specs.RowLaws.{rows-count, row-last}
 -- .. and question 12 counts the added row." ..
-pub use Rattle.tallies.specs.RowsOfText.{row-lets, row-twelve, row-eleven}
+pub use Rattle.theory_counts.specs.RowsOfText.{row-lets, row-twelve, row-eleven}
 -- .. "One byte 13 directly before the ending byte 10 now belongs to the end and not to the row. A byte 13 anywhere else stays in the row, also at
 -- the end of a row that has no byte 10" (`row-last`).
 pub use Rattle.text.specs.RowLaws.{row-between, trimmed-mark, trimmed-plain, trimmed-none}
 -- Edges. "question 9 also covers edges and their zeros": what the check looks at is exact. ..
-pub use Rattle.margins.specs.Demands.{edges-exact}
+pub use Rattle.theory_edges.specs.Demands.{edges-exact}
 -- .. "On a layout 2 tree a span of 1 to m bytes goes down only while it lies in one block, and where it crosses a border the two edges give it": on
 -- an accepted tree it is never refused with 14, and these are the text's bytes. ..
-pub use Rattle.margins.specs.Demands.{short-holds, short-text}
+pub use Rattle.theory_edges.specs.Demands.{short-holds, short-text}
 -- .. "It reports the blocks entered, on an accepted tree at most twice the number of levels": at least one, and so many on any tree that passes
 -- questions 5 to 7. "Any other span is read by its bytes' paths and reports 0."
-pub use Rattle.margins.specs.Demands.{span-walked, span-entered, span-other}
+pub use Rattle.theory_edges.specs.Demands.{span-walked, span-entered, span-other}
 -- Places. "all its places are written to a lent table of words in rising order, each once, overlaps included, with their number": of a
 -- tree that the check accepts and of what build writes, `places-of` of `Answers`. ..
 -- .. "They are the places in the bytes that its paths give, on an accepted tree its text; ..
 pub use Rattle.query.proofs.PatternPlaces.{places-answer}
 -- .. it gives 14 if the path of some place below n breaks. It refuses a pattern of other length with 16, after question 7, and a table that is
 -- too short with 17, after 14; ..
-pub use Rattle.patterns.proofs.Demands.{places-unread, places-length, places-broken, places-short, places-written}
+pub use Rattle.ask_patterns.proofs.Demands.{places-unread, places-length, places-broken, places-short, places-written}
 pub use Rattle.query.proofs.PatternPlaces.{places-numbers}
 -- .. the table is untouched either way."
 pub use Rattle.query.proofs.PatternPlaces.{places-unchanged}
@@ -80,18 +80,18 @@ pub use Rattle.query.proofs.Scanned.{same-as-build, scanned-windows}
 pub use Rattle.query.proofs.Scanned.{scanned-writes, scanned-answers, scanned-refuses, scanned-accepted, scanned-one-text}
 -- Worn keys. "the mark that the machine lends is moved on to the next match .. If no row after it matches, the answer is none and the mark goes to the
 -- number of rows; a mark already there or beyond stays": `match-of` of `Answers`; of the lent mark, ..
-pub use Rattle.worn_keys.proofs.Demands.{row-rises, none-moves}
+pub use Rattle.ask_worn_keys.proofs.Demands.{row-rises, none-moves}
 -- .. "On an accepted tree, from mark 0 to none, with the question kept and the mark moved by nothing else, each match and no other row is shown,
 -- once, in row order (`matches-rise`: the list rises; `match-shown`, `shown-match`: it has exactly the rows that match), ..
-pub use Rattle.worn_keys.proofs.Demands.{all-matches}
+pub use Rattle.ask_worn_keys.proofs.Demands.{all-matches}
 pub use Rattle.keys.specs.MatchLaws.{all-shown, matches-rise, match-shown, shown-match}
 -- .. and widening a range loses no match. ..
-pub use Rattle.worn_keys.proofs.Demands.{wider-loses-none}
+pub use Rattle.ask_worn_keys.proofs.Demands.{wider-loses-none}
 -- .. It refuses a number of cuts outside 1 to 10, a depth above 9 or a low above its high with 19, after question 7 and before 11; ..
-pub use Rattle.worn_keys.proofs.Demands.{match-unread, match-ranges, match-uncounted}
+pub use Rattle.ask_worn_keys.proofs.Demands.{match-unread, match-ranges, match-uncounted}
 pub use Rattle.query.proofs.WornKeys.{match-numbers}
 -- .. any refusal leaves the mark. On a tree the check refuses, the match shown is left free as row is": what holds of it all the same.
-pub use Rattle.worn_keys.proofs.Demands.{refusal-leaves, row-after, none-after}
+pub use Rattle.ask_worn_keys.proofs.Demands.{refusal-leaves, row-after, none-after}
 -- Columns. "the byte in column b of row a goes to b × rows + a, both counted from 0. Its inverse restores the text, ..
 pub use Rattle.columns.specs.ColumnLaws.{columns-at, columns-moves, uncolumns-moves, restored, rearranged}
 pub use Rattle.columns.proofs.Demands.{there-and-back, back-and-there}
@@ -101,7 +101,7 @@ pub use Rattle.columns.proofs.Demands.{empty-stays}
 -- .. Row a read by columns from the tree of a rearranged text is row a of the text; ..
 pub use Rattle.query.proofs.ByColumns.{accepted-rows, built-rows, scanned-rows}
 -- .. the reading asks 5 to 7, 20, 10 (a below rows), 13, 14, ..
-pub use Rattle.column_rows.proofs.Demands.{column-unread, column-width, column-past, column-short, column-broken, column-read}
+pub use Rattle.ask_columns.proofs.Demands.{column-unread, column-width, column-past, column-short, column-broken, column-read}
 pub use Rattle.query.proofs.ByColumns.{column-numbers}
 -- .. and a 14 leaves the w bytes zero. ..
 pub use Rattle.query.proofs.ByColumns.{column-answer, column-zeros, column-unchanged}
@@ -120,18 +120,18 @@ pub use Rattle.query.proofs.OneByte.{OneByte, one-byte-back, count-near
 pub use Rattle.query.proofs.Corrections.{CountingTree, CountsNear, counts-near, FoundAt, place-before}
 -- A guide to the level 0 blocks. "for each counted byte in order, the number of the level 0 block holding its 1st, 65th, 129th occurrence and so on, a
 -- word each": so many entries, and what each is; ..
-pub use Rattle.guide.proofs.Demands.{guide-entries, guide-holds}
+pub use Rattle.ask_guide.proofs.Demands.{guide-entries, guide-holds}
 -- .. "in making one after the tree's check, a table too short with 25, untouched"; else the words, which the check accepts, and their number, ..
-pub use Rattle.guide.proofs.Demands.{make-unread, make-short, make-writes, made-accepted, size-of-guide, size-refused}
+pub use Rattle.ask_guide.proofs.Demands.{make-unread, make-short, make-writes, made-accepted, size-of-guide, size-refused}
 -- .. "in checking a guide after the tree, a wrong length or entry with 24": it accepts the guide of an accepted tree and nothing else. ..
-pub use Rattle.guide.proofs.Demands.{check-guide-accepts, check-guide-unread, check-guide-wrong}
+pub use Rattle.ask_guide.proofs.Demands.{check-guide-accepts, check-guide-unread, check-guide-wrong}
 -- .. "for an accepted tree and guide its answer and blocks entered are those without. It also reports its steps on level 0, counted on the way: for an
 -- accepted tree and guide, the number of the level 0 block holding the place less that entry"; a row by such finds is row's. ..
-pub use Rattle.guided.proofs.Demands.{guided-as-find, guided-steps}
+pub use Rattle.ask_guided.proofs.Demands.{guided-as-find, guided-steps}
 pub use Rattle.query.proofs.Guides.{guided-of-text}
-pub use Rattle.rows.proofs.Demands.{guided-as-row}
+pub use Rattle.ask_rows.proofs.Demands.{guided-as-row}
 -- .. "A guide never checked may at worst lead to a wrong place below n or to 14; that is left free": the questions before are settled for any bytes.
-pub use Rattle.guided.proofs.Demands.{guided-asked, guided-worst}
+pub use Rattle.ask_guided.proofs.Demands.{guided-asked, guided-worst}
 pub use Rattle.query.proofs.Guides.{guided-below, guided-numbers, row-guided-answer, row-guided-numbers, row-guided-leaves}
 pub use Rattle.query.proofs.Guides.{check-guide-numbers, make-guide-numbers, guide-words-numbers}
 -- The order of books. "compared by reading: before, same or after, and the length of the shared beginning. Besides, the call hands back the tree that
@@ -143,16 +143,16 @@ pub use Rattle.query.proofs.Orders.{stands-by, shared-is, shared-flip, 
 pub use Rattle.query.proofs.Orders.{tree-order, compare-flip, text-order, standing-flip, standing-refl, standing-same, standing-trans}
 -- .. "Questions 5 to 7 are put to the first tree, then to the second; after that each place .. where 14 may come": the numbers, for any lent bytes.
 pub use Rattle.query.proofs.Orders.{order-numbers}
-pub use Rattle.ordering.proofs.Demands.{order-unread, order-unread-2, order-broken, order-broken-2, order-below, order-above}
+pub use Rattle.ask_order.proofs.Demands.{order-unread, order-unread-2, order-broken, order-broken-2, order-below, order-above}
 -- What a caller must know of a tree without reading its bytes. The figures: those of the header and the totals, or the number of questions 5 to 7 and every
 -- figure 0; on an accepted tree n is the text's length, and each total says how often its byte stands in the text. ..
-pub use Rattle.facts.proofs.Demands.{version-is, info-told, info-refused, info-length, info-totals}
+pub use Rattle.ask_facts.proofs.Demands.{version-is, info-told, info-refused, info-length, info-totals}
 pub use Rattle.query.proofs.Figures.{info-numbers}
 -- .. The number of rows, and the length of each, on an accepted tree the text's; a buffer of that length is enough for row. ..
-pub use Rattle.rows.proofs.Demands.{rows-of-text, length-of-text, length-enough}
+pub use Rattle.ask_rows.proofs.Demands.{rows-of-text, length-of-text, length-enough}
 pub use Rattle.query.proofs.Figures.{row-count-numbers, length-numbers}
 -- .. The words of a table for the places of any pattern of some length: on any tree that passes questions 5 to 7 they hold all places, and 17 is no answer.
-pub use Rattle.patterns.proofs.Demands.{room-holds, room-enough}
+pub use Rattle.ask_patterns.proofs.Demands.{room-holds, room-enough}
 pub use Rattle.query.proofs.Figures.{room-numbers}
 
 -- The roads to a tree, each in one theorem.

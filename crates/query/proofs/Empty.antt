@@ -19,9 +19,9 @@ use Rattle.format.specs.LayoutLaws.{readable-facts}
 use Rattle.format.specs.Layout as at
 use Rattle.format.specs.Fits.{textOf, fits}
 use Rattle.format.specs.VerdictLaws.{accepted-readable, accepted-links}
-use Rattle.accepted.specs.AcceptedTrees.{one-text}
-use Rattle.enough.specs.Enough.{blocksAtMost}
-use Rattle.enough.specs.EnoughHolds.{accepted-enough}
+use Rattle.theory_accepted.specs.AcceptedTrees.{one-text}
+use Rattle.build_enough.specs.Enough.{blocksAtMost}
+use Rattle.build_enough.specs.EnoughHolds.{accepted-enough}
 use Rattle.query.proofs.Calls as calls
 use Rattle.query.proofs.Calls.{Lent, Check, Answer, Copied, Counted, Found, RowCopied, Byte, Run, Span, Count, Find, Row}
 use Rattle.query.proofs.Answering.{Answers, Refuses, Among}

@@ -19,9 +19,9 @@ use Rattle.format.specs.ReadSays.{byteSays}
 use Rattle.format.specs.CountSays.{isCounted, numberOfByte}
 use Rattle.format.specs.FindSays.{total}
 use Rattle.format.specs.RowSays.{rowNumber, rowMost}
-use Rattle.paths.specs.PlaceBytes.{byte-path}
-use Rattle.rows.specs.RowLengths.{rowsNumber, lastOpen, rowsSays}
-use Rattle.patterns.specs.Places.{maxPattern, roomOf, roomSays}
+use Rattle.theory_paths.specs.PlaceBytes.{byte-path}
+use Rattle.ask_rows.specs.RowLengths.{rowsNumber, lastOpen, rowsSays}
+use Rattle.ask_patterns.specs.Places.{maxPattern, roomOf, roomSays}
 use Rattle.query.proofs.Calls as calls
 use Rattle.query.proofs.Calls.{Lent, LengthOf, CountOf, PlacesWords, Info}
 use Rattle.query.proofs.Numbers.{OneOf, of-left, of-right, not-zero, asks-one, unless-one, readable-one, byteOf-one, row-before}

@@ -1,5 +1,5 @@
 -- Request 113: the numbers with which the calls of a guide refuse, for any arguments and any lent bytes, and what an accepted guide's finds answer of
--- the text. What else holds of them stands in `guide`, `guided` and `rows`.
+-- the text. What else holds of them stands in `ask_guide`, `ask_guided` and `ask_rows`.
 use mathlib.Core.List.{List, [], _∷_}
 use mathlib.Core.Path.{_≡_, refl, sym, ap, _∙_}
 use mathlib.Core.Logic.{_⊎_}
@@ -22,11 +22,11 @@ use Rattle.format.specs.SaidLaws.{unless-number}
 use Rattle.format.specs.CountSays.{numberOfByte}
 use Rattle.format.specs.FindSays.{found, pathLength}
 use Rattle.format.specs.FindSaysLaws.{select-passes}
-use Rattle.paths.specs.Demands as paths
-use Rattle.tallies.specs.Demands as tallies
-use Rattle.guide.specs.Guides.{guideBytes, guideWords, guideNumber, sizeSays, makeNumber, makeSays}
-use Rattle.guide.proofs.GuideList.{guide-verdict}
-use Rattle.guided.specs.Guided.{stepsTo, saidGuided, stepsOf, Numbered}
+use Rattle.theory_paths.specs.Demands as paths
+use Rattle.theory_counts.specs.Demands as tallies
+use Rattle.ask_guide.specs.Guides.{guideBytes, guideWords, guideNumber, sizeSays, makeNumber, makeSays}
+use Rattle.ask_guide.proofs.GuideList.{guide-verdict}
+use Rattle.ask_guided.specs.Guided.{stepsTo, saidGuided, stepsOf, Numbered}
 use Rattle.query.proofs.Calls as calls
 use Rattle.query.proofs.Calls.{Lent, Guided, CheckGuide, MakeGuide, GuideWords, FindGuided, RowGuided}
 use Rattle.query.proofs.Numbers.{OneOf, not-zero, then-one, asks-one, readable-one, verdict-one}

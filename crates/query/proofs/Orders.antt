@@ -16,20 +16,20 @@ use Rattle.format.specs.Fits.{linksOk, textOf, fits}
 use Rattle.format.specs.Verdict.{readable}
 use Rattle.format.specs.VerdictLaws.{accepted-readable, accepted-links}
 use Rattle.format.specs.ReadSays.{byteSays}
-use Rattle.paths.specs.PlaceBytes.{byte-broken}
-use Rattle.accepted.specs.AcceptedTrees.{one-text}
-use Rattle.ordering.specs.Order.{Standing, before, same, after, Ordered, stands, orElse, byLength, comparedFrom, orderSays, standing, shared}
-use Rattle.ordering.specs.OrderLaws.{clash, flip, Upto, shared-itself}
-use Rattle.ordering.specs.OrderAnswers.{outcome, firstOf}
-use Rattle.ordering.proofs.HandLaws.{refused-low}
-use Rattle.ordering.proofs.Demands as orders
+use Rattle.theory_paths.specs.PlaceBytes.{byte-broken}
+use Rattle.theory_accepted.specs.AcceptedTrees.{one-text}
+use Rattle.ask_order.specs.Order.{Standing, before, same, after, Ordered, stands, orElse, byLength, comparedFrom, orderSays, standing, shared}
+use Rattle.ask_order.specs.OrderLaws.{clash, flip, Upto, shared-itself}
+use Rattle.ask_order.specs.OrderAnswers.{outcome, firstOf}
+use Rattle.ask_order.proofs.HandLaws.{refused-low}
+use Rattle.ask_order.proofs.Demands as orders
 use Rattle.query.proofs.Calls as calls
 use Rattle.query.proofs.Calls.{Lent, Check, Compared, Compare, First}
 use Rattle.query.proofs.Numbers.{OneOf, of-left, of-right, not-zero, readable-one}
 use calls.compared as compared
 -- the laws of the order of texts: at or before is a total order, the same only of equal texts; it goes by the first byte that differs, or by the
 -- shorter end
-pub use Rattle.ordering.specs.OrderLaws.{text-order, standing-flip, standing-refl, standing-same, standing-trans, shared-is, shared-flip, stands-by, empty-first}
+pub use Rattle.ask_order.specs.OrderLaws.{text-order, standing-flip, standing-refl, standing-same, standing-trans, shared-is, shared-flip, stands-by, empty-first}
 
 -- the numbers that a comparison refuses with, for any lent bytes
 

@@ -21,7 +21,7 @@ use Rattle.format.specs.SaidLaws.{unless-passes, then-is}
 use Rattle.format.specs.BuildSays.{buildNumber}
 use Rattle.format.specs.ReadSays.{byteOf, byteSays, asksSpan, spanReached, spanNumber}
 use Rattle.format.specs.CountSays.{added, taken, leavesReached, countOf, isCounted, numberOfByte, countSays}
-use Rattle.paths.specs.PlaceBytes.{path-there}
+use Rattle.theory_paths.specs.PlaceBytes.{path-there}
 
 -- build answers only where the tree fits the buffer
 pub build-fits : (S : Settings) (T out : List ℕ) → buildNumber S T out ≡ 0 → length (treeOf S T) ≤ length out

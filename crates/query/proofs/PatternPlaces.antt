@@ -19,10 +19,10 @@ use Rattle.format.specs.LayoutLaws.{ask-test, ask-rest, readable-facts}
 use Rattle.format.specs.Said.{Said, refused}
 use Rattle.format.specs.SaidLaws.{unless-passes, unless-number, then-is}
 use Rattle.format.specs.ReadSays.{byteSays, pathsHold}
-use Rattle.paths.specs.Reads.{text-of-path}
-use Rattle.paths.specs.PlaceBytes.{path-there}
-use Rattle.patterns.specs.Places.{maxPattern, patternOk, placesIn, placesOf, placesNumber, placesSays, placesLeaves}
-use Rattle.patterns.specs.PlacesLaws.{AllPlaces, places-all}
+use Rattle.theory_paths.specs.Reads.{text-of-path}
+use Rattle.theory_paths.specs.PlaceBytes.{path-there}
+use Rattle.ask_patterns.specs.Places.{maxPattern, patternOk, placesIn, placesOf, placesNumber, placesSays, placesLeaves}
+use Rattle.ask_patterns.specs.PlacesLaws.{AllPlaces, places-all}
 use Rattle.query.proofs.Calls as calls
 use Rattle.query.proofs.Calls.{Lent, Places}
 use Rattle.query.proofs.Numbers.{OneOf, not-zero, then-one, asks-one, readable-one}

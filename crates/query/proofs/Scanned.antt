@@ -17,11 +17,11 @@ use Rattle.format.specs.Blocks.{treeOf}
 use Rattle.format.specs.Fits.{fits}
 use Rattle.format.specs.Verdict.{ask}
 use Rattle.format.specs.BuildSays.{buildNumber, buildSize, buildLeaves}
-use Rattle.accepted.specs.AcceptedTrees.{StandsFor}
-use Rattle.builder.specs.BuildAnswer.{given, numberOf as numberBuilt, sizeOf as sizeBuilt}
-use Rattle.scanner.specs.ScannedAnswer.{numberOf, sizeOf}
-use Rattle.scanner.specs.ScannedSays.{windowsOf, tableWords, scanNumber, scanWindows, scanLeaves}
-use Rattle.scanner.proofs.ScannedOutcomes.{number-same, size-same, leaves-same}
+use Rattle.theory_accepted.specs.AcceptedTrees.{StandsFor}
+use Rattle.build_by_search.specs.BuildAnswer.{given, numberOf as numberBuilt, sizeOf as sizeBuilt}
+use Rattle.build_by_scan.specs.ScannedAnswer.{numberOf, sizeOf}
+use Rattle.build_by_scan.specs.ScannedSays.{windowsOf, tableWords, scanNumber, scanWindows, scanLeaves}
+use Rattle.build_by_scan.proofs.ScannedOutcomes.{number-same, size-same, leaves-same}
 use Rattle.query.proofs.Calls as calls
 use Rattle.query.proofs.Calls.{Lent, Built, Scanned, Build, BuildScanned, ScanWords, Check}
 use Rattle.query.proofs.Numbers.{OneOf, asks-one}

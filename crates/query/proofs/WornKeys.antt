@@ -1,5 +1,5 @@
 -- Request 107: the numbers with which the search for a match refuses, for any arguments and any lent bytes. What holds of its other answers stands
--- in `worn_keys`, and of a tree that the check accepts `Answering` says more.
+-- in `ask_worn_keys`, and of a tree that the check accepts `Answering` says more.
 use mathlib.Core.List.{List, [], _∷_}
 use mathlib.Core.Path.{_≡_}
 use mathlib.Core.Logic.{_⊎_, inl, inr}
@@ -9,8 +9,8 @@ use denote.Ref.{now}
 use Rattle.format.specs.Verdict.{readable, verdict}
 use Rattle.format.specs.CountSays.{isCounted}
 use Rattle.keys.specs.Keys.{rangesOk}
-use Rattle.worn_keys.specs.MatchSays.{matchNumber}
-use Rattle.worn_keys.proofs.Demands.{refusal-is}
+use Rattle.ask_worn_keys.specs.MatchSays.{matchNumber}
+use Rattle.ask_worn_keys.proofs.Demands.{refusal-is}
 use Rattle.query.proofs.Calls as calls
 use Rattle.query.proofs.Calls.{Lent, NextMatch}
 use Rattle.query.proofs.Numbers.{OneOf, of-left, of-right, not-zero, then-one, asks-one, readable-one}

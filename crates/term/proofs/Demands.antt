@@ -11,7 +11,7 @@ use denote.Ref.{RefT, now}
 use lib.IntN.{ℤ, pos, negsuc, _-ℤ_}
 use lib.Dec.{ltb, leb, eqb}
 use borrow.Author.Tests.{le-leb, lt-leb, lt-ltb, le-ltb, ltb-true}
-use Rattle.runs.specs.Ends.{Function, Ends, ends}
+use Rattle.theory_machine.specs.Ends.{Function, Ends, ends}
 use Rattle.text.specs.ListLaws.{and-left, and-right, and-false, bool-cases, bool-clash, lt-or-ge}
 use Rattle.term.specs.declared.Opened.{Opened}
 use Rattle.term.specs.declared.Opened.the-variants as opened

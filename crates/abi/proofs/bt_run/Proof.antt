@@ -1,6 +1,6 @@
 use borrow.Author.Needs.{needs}
 use native.Mathlib.Omega.{arith}
-use Rattle.access.proofs.ByteLaws.{part-told, part-refused}
+use Rattle.ask_access.proofs.ByteLaws.{part-told, part-refused}
 use Rattle.abi.proofs.ExportsLaws as laws
 use Rattle.abi.proofs.bt_run.Statement.{statement}
 use Rattle.abi.proofs.bt_run.Tie as tie

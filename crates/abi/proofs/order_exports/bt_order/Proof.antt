@@ -1,5 +1,5 @@
 use borrow.Author.Needs.{needs}
-use Rattle.ordering.specs.declared.Compared.the-variants.{Before, Same, After, Refused}
+use Rattle.ask_order.specs.declared.Compared.the-variants.{Before, Same, After, Refused}
 use Rattle.abi.proofs.OrderExportsLaws as laws
 use Rattle.abi.proofs.order_exports.bt_order.Statement.{statement}
 use Rattle.abi.proofs.order_exports.bt_order.Tie as tie

@@ -1,7 +1,7 @@
 use mathlib.Core.Path.{sym}
 use native.Mathlib.Omega.{arith}
 use lib.Seq.{length-take-le}
-use Rattle.tokens.proofs.HexadecimalLaws.{hex-inside}
+use Rattle.cases_tokens.proofs.HexadecimalLaws.{hex-inside}
 use borrow.Author.Needs.{needs}
 use Rattle.cases.proofs.beside.of_tree.Statement.{statement}
 use Rattle.cases.proofs.beside.of_tree.Tie as tie

@@ -4,8 +4,8 @@ use mathlib.Core.Path.{_≡_, refl, _∙_}
 use native.Mathlib.Omega.{arith}
 use lib.ListN.{length}
 use borrow.Author.Needs.{needs}
-use Rattle.tokens.specs.declared.hexadecimal.Fault.{Fault}
-use Rattle.tokens.specs.declared.hexadecimal.Made.the-variants.{Bytes, Wrong}
+use Rattle.cases_tokens.specs.declared.hexadecimal.Fault.{Fault}
+use Rattle.cases_tokens.specs.declared.hexadecimal.Made.the-variants.{Bytes, Wrong}
 use Rattle.cases.proofs.guide_cases.guide_of.Statement.{statement}
 use Rattle.cases.proofs.guide_cases.guide_of.Tie as tie
 

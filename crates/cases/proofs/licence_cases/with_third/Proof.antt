@@ -2,7 +2,7 @@ use mathlib.Core.Path.{sym}
 use native.Mathlib.Omega.{arith}
 use lib.Seq.{length-take-le}
 use borrow.Author.Needs.{needs}
-use Rattle.tokens.proofs.HexadecimalLaws.{hex-inside}
+use Rattle.cases_tokens.proofs.HexadecimalLaws.{hex-inside}
 use Rattle.cases.proofs.licence_cases.with_third.Statement.{statement}
 use Rattle.cases.proofs.licence_cases.with_third.Tie as tie
 

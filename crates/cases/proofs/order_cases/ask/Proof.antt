@@ -1,6 +1,6 @@
 use mathlib.Core.Path.{sym}
 use lib.Seq.{length-take-le}
-use Rattle.script.proofs.GivenBytesLaws.{gives-inside}
+use Rattle.cases_script.proofs.GivenBytesLaws.{gives-inside}
 use borrow.Author.Needs.{needs}
 use Rattle.cases.proofs.order_cases.ask.Statement.{statement}
 use Rattle.cases.proofs.order_cases.ask.Tie as tie

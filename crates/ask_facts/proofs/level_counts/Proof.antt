@@ -1,0 +1,18 @@
+use borrow.Author.Needs.{needs}
+use Rattle.ask_facts.proofs.FactsLaws as laws
+use Rattle.ask_facts.proofs.level_counts.Statement.{statement}
+use Rattle.ask_facts.proofs.level_counts.Tie as tie
+
+pub level-counts-spec : {M : Type 1} → statement M
+level-counts-spec =
+    tie.close
+    (tie.spec
+    (λ c κs. search needs)
+    (λ c κs. search needs)
+    (λ c κs. search needs)
+    (λ c κs. search needs)
+    (λ c κs. search needs)
+    (λ c κs. search needs)
+    (λ c κs. search needs)
+    (λ c κs. search needs)
+    (λ c. laws.eight _ _ _ _ _ _ _ _ _ (c .before .before .before .before .before .before .before .blocks2 .ensures) (c .before .before .before .before .before .before .blocks3 .ensures) (c .before .before .before .before .before .blocks4 .ensures) (c .before .before .before .before .blocks5 .ensures) (c .before .before .before .blocks6 .ensures) (c .before .before .blocks7 .ensures) (c .before .blocks8 .ensures) (c .blocks9 .ensures)))

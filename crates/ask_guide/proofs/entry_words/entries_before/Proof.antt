@@ -1,0 +1,25 @@
+use native.Mathlib.Omega.{arith}
+use mathlib.Core.Path.{_≡_}
+use Prim.Native.Nat.{_-_, _*_, _≤_}
+use Rattle.ask_guide.specs.Guides.{entriesBefore}
+use Rattle.ask_guide.proofs.GuideList as laws
+use Rattle.ask_guide.proofs.entry_words.entries_before.Statement.{statement}
+use Rattle.ask_guide.proofs.entry_words.entries_before.Tie as tie
+
+abbrev Inv-loop : tie.InvT-loop
+Inv-loop t h number sum₀ c₀ sum c = (c ≤ number) × (sum ≡ entriesBefore t c) × (sum ≤ c * 288230376151711744)
+
+abbrev μ-loop : tie.MeasureT-loop
+μ-loop t h number sum₀ c₀ sum c = number - c
+
+pub entries-before-spec : {M : Type 1} → statement M
+entries-before-spec =
+    tie.close
+    (tie.spec Inv-loop μ-loop
+    (λ c. (omega arith, laws.none-before _, omega arith))
+    (λ c κs. (c .before .before .before .pre .0, omega (arith, c .before .before .before .pre .1, c .loop-test .taken)))
+    (λ c. omega (arith, c .before .before .loop .inv .2, c .entries-of .ensures .1, c .before .loop-test .taken, c .before .before .before .before .pre .1, c .before .before .before .before .pre .0 .facts .counted-high))
+    (λ c. omega (arith, c .before .loop-test .taken))
+    (λ c. omega (arith, c .before .loop-test .taken))
+    (λ c. (omega (arith, c .before .loop-test .taken), laws.one-more _ _ _ _ (c .before .before .loop .inv .1) (c .entries-of .ensures .0), omega (arith, c .before .before .loop .inv .2, c .entries-of .ensures .1)))
+    (λ c. let e : c .before .loop .c ≡ c .before .before .before .args .number = omega (arith, c .loop-test .left, c .before .loop .inv .0) in (rw e at (c .before .loop .inv .1), omega (arith, c .before .loop .inv .2, e, c .before .before .before .pre .1, c .before .before .before .pre .0 .facts .counted-high))))

@@ -1,0 +1,100 @@
+-- Count, from the sums of a path.
+use mathlib.Core.List.{List}
+use mathlib.Core.Option.{Option, none, some}
+use mathlib.Core.Bool.{true, false}
+use mathlib.Core.Path.{_≡_, refl, sym, ap, _∙_}
+use mathlib.Core.Logic.{_⊎_, inl, inr}
+use Prim.Native.Nat.{ℕ, _+_, _-_, _/_, _%_, _≤_, _<_}
+use native.Mathlib.Omega.{arith}
+use borrow.Author.Tests.{lt-ltb, le-ltb, lt-leb, le-leb, ne-eqb}
+use lib.ListN.{length}
+use Rattle.text.specs.ListLaws.{lt-or-ge}
+use Rattle.format.specs.Layout as at
+use Rattle.format.specs.Path.{Path, pathOf}
+use Rattle.format.specs.Verdict.{readable}
+use Rattle.format.specs.Said.{Said, refused}
+use Rattle.format.specs.SaidLaws.{unless-refused}
+use Rattle.format.specs.CountSays.{indexOf, countOf, isCounted, numberOfByte, countSays}
+use Rattle.format.specs.FindSays.{total}
+use Rattle.layout.specs.declared.header.Header.{Header}
+use Rattle.layout.specs.declared.header.HeaderRead.{HeaderRead}
+use Rattle.layout.specs.declared.header.HeaderRead.the-variants.{Refused}
+use Rattle.layout.specs.Header.{headerSays}
+use Rattle.layout.specs.HeaderSays.{HeaderOf, header-refused}
+use Rattle.ask_rank.specs.Sums.{wholeSum}
+use Rattle.ask_rank.specs.Counts.{settled, saidIn}
+use Rattle.ask_rank.proofs.SumLaws.{broken-word}
+
+-- the finished count
+
+pub said-broken : (w : ℕ) → w ≡ 18446744073709551615 → refused 14 ≡ saidIn w
+said-broken w e = broken-word ∙ ap saidIn (sym e)
+
+pub said-word : (w : ℕ) → (w ≡ 18446744073709551615 → ⊥) → record { number = 0; value = w % 281474976710656; entered = w / 281474976710656 } ≡ saidIn w
+unfolding saidIn
+said-word w ne = rw (ne-eqb w 18446744073709551615 ne)
+
+settled-whole : (t : List ℕ) (byte c : ℕ) (r : Option Path) → settled (wholeSum t byte c r) ≡ countOf t byte c r
+unfolding settled wholeSum
+settled-whole t byte c none = refl
+settled-whole t byte c (some q) = refl
+
+-- the number of a byte, and whether it is counted
+module _ (t : List ℕ) (h : Header) (k : HeaderOf t h) (byte number : ℕ) (is : number ≡ numberOfByte t byte) where
+  pub not-counted : h .settings .counted ≤ number → isCounted t byte ≡ false
+  unfolding isCounted numberOfByte
+  not-counted past = le-ltb (indexOf byte (at.settings t .counted)) (length (at.settings t .counted)) (omega (arith, k .facts .counted-size, k .counted-is))
+
+  pub is-counted : number < h .settings .counted → isCounted t byte ≡ true
+  unfolding isCounted numberOfByte
+  is-counted low = lt-ltb (indexOf byte (at.settings t .counted)) (length (at.settings t .counted)) (omega (arith, k .facts .counted-size, k .counted-is))
+
+  pub number-in : number < h .settings .counted → number < at.countedCount t
+  number-in low = omega (arith, k .counted-is)
+
+-- where a byte stands, level 0 has a block
+pub some-block : (t : List ℕ) (c : ℕ) → 1 ≤ total t c → 0 < at.levelCount t 0
+unfolding total
+some-block t c h = go (lt-or-ge 0 (at.levelCount t 0))
+  where
+    go : (0 < at.levelCount t 0) ⊎ (at.levelCount t 0 ≤ 0) → 0 < at.levelCount t 0
+    go (inl l) = l
+    go (inr l) = absurd (let e : at.levelCount t 0 ≡ 0 = omega arith in let z : 1 ≤ 0 = rw e at h in let y : ⊥ = omega arith in y)
+
+-- the total
+pub total-none : (t : List ℕ) (c n : ℕ) → n ≡ at.levelCount t 0 → n ≡ 0 → 0 ≡ total t c
+unfolding total
+total-none t c n e z = rw (← e, z)
+
+pub total-is : (t : List ℕ) (c n before inside : ℕ) → n ≡ at.levelCount t 0 → (n ≡ 0 → ⊥) → before ≡ at.before t 0 (n - 1) c → inside ≡ at.inside t 0 (n - 1) c → before + inside ≡ total t c
+unfolding total
+total-is t c n before inside e full b i = rw (← e, ne-eqb n 0 full, b, i)
+
+-- each way out of count
+module _ (t : List ℕ) (h : Header) (k : HeaderOf t h) (byte i : ℕ) where
+  pub count-past : h .length < i → refused 10 ≡ countSays t byte i
+  unfolding countSays
+  count-past past = rw (k .passes, lt-leb i (at.textLength t) (omega (arith, k .length-is)))
+
+  module _ (low : i ≤ h .length) (number : ℕ) (is : number ≡ numberOfByte t byte) where
+    pub count-none : h .settings .counted ≤ number → refused 11 ≡ countSays t byte i
+    unfolding countSays
+    count-none past = rw (k .passes, le-leb i (at.textLength t) (omega (arith, k .length-is)), not-counted t h k byte number is past)
+
+    module _ (counted : number < h .settings .counted) where
+      pub count-nothing : i ≡ 0 → record { number = 0; value = 0; entered = 0 } ≡ countSays t byte i
+      unfolding countSays
+      count-nothing z = rw (k .passes, le-leb i (at.textLength t) (omega (arith, k .length-is)), is-counted t h k byte number is counted, z)
+
+      pub count-walked : (i ≡ 0 → ⊥) → (s : Said) → s ≡ settled (wholeSum t byte number (pathOf t (i - 1))) → s ≡ countSays t byte i
+      unfolding countSays
+      count-walked n s e =
+          rw (k .passes, le-leb i (at.textLength t) (omega (arith, k .length-is)), is-counted t h k byte number is counted, ne-eqb i 0 n)
+          (e ∙ settled-whole t byte number (pathOf t (i - 1)) ∙ rw is)
+
+-- a tree that does not pass questions 5 to 7
+pub count-unread : (t : List ℕ) (byte i : ℕ) (x : HeaderRead) → x ≡ headerSays t → (q : ℕ) → x ≡ Refused q → refused q ≡ countSays t byte i
+unfolding countSays
+count-unread t byte i x x-is q e =
+    let z = header-refused t x x-is q e in
+    unless-refused (readable t) (z .0) q _ (z .1) (z .2)

@@ -1,0 +1,59 @@
+-- What find answers in document 01's terms, after the questions before the walk.
+use mathlib.Core.List.{List}
+use mathlib.Core.Bool.{cond}
+use mathlib.Core.Path.{_≡_}
+use mathlib.Core.Logic.{_⊎_}
+use Prim.Native.Nat.{ℕ, _+_, _*_, _≤_, _<_}
+use lib.Dec.{ltb}
+use Rattle.format.specs.Layout as at
+use Rattle.format.specs.Verdict.{verdict}
+use Rattle.format.specs.Said.{Said, refused}
+use Rattle.format.specs.FindSays as find
+use Rattle.ask_select.specs.declared.Found.{Found}
+use Rattle.ask_select.specs.declared.Found.the-variants.{At, Refused}
+use Rattle.ask_select.specs.declared.seek.Placed.{Placed}
+use Rattle.ask_select.specs.declared.seek.Placed.the-variants as placed
+
+-- a place with the blocks on its path
+abbrev pub saidFind : Found → Said
+saidFind (At place entered) = record { number = 0; value = place .0; entered = entered }
+saidFind (Refused number) = refused number
+
+-- a refusal's number is not 0
+abbrev pub Numbered : Found → Type 0
+Numbered (At place entered) = Unit {0}
+Numbered (Refused number) = 1 ≤ number
+
+pub record FindAnswer (t : List ℕ) (byte j : ℕ) (r : Found) : Type 0 where
+  pub says : find.FindSays t byte j (saidFind r)
+  pub numbered : Numbered r
+
+-- what a find may say that is settled where `ok` is 0: find's own is the check's number, that of a find with a guide the guide's
+pub record FindBy (t : List ℕ) (ok byte j : ℕ) (s : Said) : Type 0 where
+  pub asked : 0 < find.selectNumber t byte j → s ≡ refused (find.selectNumber t byte j)
+  pub accepted : find.selectNumber t byte j ≡ 0 → ok ≡ 0 → s ≡ find.found t byte j
+  pub free : find.selectNumber t byte j ≡ 0 → (ok ≡ 0 → ⊥) → (s ≡ refused 14) ⊎ ((s .number ≡ 0) × (s .value < at.textLength t))
+
+pub record FoundBy (t : List ℕ) (ok byte j : ℕ) (r : Found) : Type 0 where
+  pub says : FindBy t ok byte j (saidFind r)
+  pub numbered : Numbered r
+
+-- a place in block i of level 0, as a place of the text of n bytes
+unfoldable pub placedIn : ℕ → ℕ → ℕ → Placed → Said
+placedIn n b i placed.Off = refused 14
+placedIn n b i (placed.At o e) = cond (ltb (i * b + o .0) n) (record { number = 0; value = i * b + o .0; entered = e }) (refused 14)
+
+-- what the walk says: settled on accepted trees, free on the others
+pub record Sought (t : List ℕ) (byte j : ℕ) (s : Said) : Type 0 where
+  pub accepted : verdict t ≡ 0 → s ≡ find.found t byte j
+  pub free : (s ≡ refused 14) ⊎ ((s .number ≡ 0) × (s .value < at.textLength t))
+
+-- block i of level 0 is where the steps for j stop
+pub record Stopped (t : List ℕ) (c j i : ℕ) : Type 0 where
+  pub block-in : i < at.levelCount t 0
+  pub next : i + 1 < at.levelCount t 0 → j ≤ at.before t 0 (i + 1) c
+
+-- what the walk from there says: settled on accepted trees where fewer than j stand before the block, free on the others
+pub record SoughtIn (t : List ℕ) (byte c j i : ℕ) (s : Said) : Type 0 where
+  pub accepted : verdict t ≡ 0 → at.before t 0 i c < j → s ≡ find.found t byte j
+  pub free : (s ≡ refused 14) ⊎ ((s .number ≡ 0) × (s .value < at.textLength t))

@@ -1,0 +1,14 @@
+use borrow.Author.Needs.{needs}
+use Rattle.build_levels.proofs.HeaderWrittenLaws.{end-written}
+use Rattle.build_levels.proofs.header_written.put_end.Statement.{statement}
+use Rattle.build_levels.proofs.header_written.put_end.Tie as tie
+
+pub put-end-spec : {M : Type 1} → statement M
+put-end-spec =
+    tie.close
+    (tie.spec
+    (λ c κs. search needs)
+    (λ c κs. search needs)
+    (λ c κs. search needs)
+    (λ c. search needs)
+    (λ c. let a = c .before .before .before .before .before .before .before .before .before .before .before .before .before .args in end-written (a .out .now) _ _ _ (a .levels) (a .offset) (a .count) (c .before .before .before .before .before .before .before .before .before .before .put-unused .ensures) (c .before .before .before .before .before .before .write .ensures) (c .before .before .write2 .ensures)))

@@ -1,0 +1,16 @@
+use borrow.Author.Needs.{needs}
+use lib.ListN.{length}
+use native.Mathlib.Omega.{arith}
+use Rattle.build_levels.proofs.LevelZero.{sized-pos, sized-high, first-made}
+use Rattle.build_levels.proofs.step.first_level.Statement.{statement}
+use Rattle.build_levels.proofs.step.first_level.Tie as tie
+
+pub first-level-spec : {M : Type 1} → statement M
+first-level-spec =
+    tie.close
+    (tie.spec
+    (λ c κs. search needs)
+    (λ c. search needs)
+    (λ c. search needs)
+    (λ c κs. let a = c .before .before .before .args in (c .before .before .before .pre .2, omega (arith, c .before .block-length .ensures, sized-pos (a .s) (c .before .before .before .pre .0) (c .before .before .before .pre .1)), omega (arith, c .before .block-length .ensures, sized-high (a .s) (c .before .before .before .pre .0))))
+    (λ c. let a = c .before .before .before .before .args in first-made (a .s) (length (a .text .now)) _ _ (c .before .before .block-length .ensures) (c .pieces .ensures)))

@@ -1,0 +1,23 @@
+use borrow.Author.Needs.{needs}
+use native.Mathlib.Omega.{arith}
+use Rattle.check_counts.proofs.BlockCountsLaws as laws
+use Rattle.check_counts.proofs.CountsHeader as facts
+use Rattle.check_counts.proofs.block_counts.before_right.Statement.{statement}
+use Rattle.check_counts.proofs.block_counts.before_right.Tie as tie
+
+pub before-right-spec : {M : Type 1} → statement M
+before-right-spec =
+    tie.close
+    (tie.spec
+    (λ c κs. facts.before-there _ _ _ _ _ (c .before .pre .1))
+    (λ c κs. facts.plain-there _ _ _ _ _ (c .before .before .pre .1) 0 (omega arith))
+    (λ c. laws.up-above _ _ _ _ _ (c .before .before .before .before .pre .1) _ _ _ (c .before .before .before .before .pre .0) (c .before .before .before2 .ensures) (c .before .start .ensures))
+    (λ c. laws.before-start _ _ _ _ _ (c .before .before .before .before .before .pre .1) _ _ _ (c .before .before .before .before .before .pre .0) (c .before .before .before .before2 .ensures) (c .before .before .start .ensures) (c .if1 .taken))
+    (λ c. laws.left-low _ _ _ _ _ (c .before .before .before .before .before .before .pre .1) _ _ _ (c .before .before .before .before .before .before .pre .0) (c .before .before .before .before .before2 .ensures) (c .before .before .before .start .ensures) (c .before .if1 .left))
+    (λ c κs. facts.before-there _ _ _ _ _ (laws.left-there _ _ _ _ _ (c .before .before .before .before .before .before .pre .1) _ _ _ (c .before .before .before .before .before .before .pre .0) (c .before .before .before .before .before2 .ensures) (c .before .before .before .start .ensures) (c .before .if1 .left)))
+    (λ c. search needs)
+    (λ c κs. facts.inside-there _ _ _ _ _ (laws.left-there _ _ _ _ _ (c .before .before .before .before .before .before .before .pre .1) _ _ _ (c .before .before .before .before .before .before .before .pre .0) (c .before .before .before .before .before .before2 .ensures) (c .before .before .before .before .start .ensures) (c .before .before .if1 .left)))
+    (λ c. search needs)
+    (λ c. search needs)
+    (λ c. search needs)
+    (λ c. laws.before-left _ _ _ _ _ (c .before .before .before .before .before .before .before .before .pre .1) _ _ _ (c .before .before .before .before .before .before .before .before .pre .0) (c .before .before .before .before .before .before .before2 .ensures) (c .before .before .before .before .before .start .ensures) (c .before .before .before .if1 .left) _ _ (c .before .before3 .ensures) (c .inside .ensures)))

@@ -1,0 +1,34 @@
+use Prim.Native.Nat.{_-_, _≤_}
+use borrow.Author.Needs.{needs}
+use mathlib.Core.Bool.{true}
+use mathlib.Core.Path.{_≡_}
+use native.Mathlib.Omega.{arith}
+use Rattle.format.specs.Fits.{widthAt, blockRight}
+use Rattle.layout.proofs.Scan.{scan-none, scan-more}
+use Rattle.layout.proofs.Tests.{failed, held}
+use Rattle.check_links.proofs.TreeLaws as tree
+use Rattle.check_links.proofs.level_right.Statement.{statement}
+use Rattle.check_links.proofs.level_right.Tie as tie
+use Rattle.text.specs.Lists.{allBelow, sumBelow}
+
+abbrev Inv-loop : tie.InvT-loop
+Inv-loop t v passed₀ i₀ passed i = (i ≤ v .count) × (passed ≤ v .room) × (passed ≡ sumBelow i (widthAt t (v .number))) × (allBelow i (blockRight t (v .number)) ≡ true)
+
+abbrev μ-loop : tie.MeasureT-loop
+μ-loop t v passed₀ i₀ passed i = v .count - i
+
+pub level-right-spec : {M : Type 1} → statement M
+level-right-spec =
+    tie.close
+    (tie.spec Inv-loop μ-loop
+    (λ c. (omega arith, omega arith, tree.none-before _, scan-none _))
+    (λ c κs. search needs)
+    (λ c. search needs)
+    (λ c. tree.room-short _ _ (c .before .before .before .before .before .before .before .pre) _ _ _ (c .before .before .before .if1 .taken) (c .before .before .before .before .before .loop .inv .2) (c .before .before .width .ensures) (c .before .before .before .before .before .loop .inv .1) (c .if2 .taken))
+    (λ c κs. (c .before .before .before .before .before .before .before .pre, c .before .before .before .if1 .taken, c .before .before .before .before .before .loop .inv .2, c .before .before .width .ensures, omega (arith, c .before .before .before .before .before .loop .inv .1, c .if2 .left)))
+    (λ c. tree.block-off _ _ (c .before .before .before .before .before .before .before .before .before .pre) _ _ _ (c .before .before .before .before .before .if1 .taken) (c .before .before .before .before .before .before .before .loop .inv .2) (c .before .before .before .before .width .ensures) (failed (c .before .block-right .ensures) (c .if3 .taken)))
+    (λ c. search needs)
+    (λ c. search needs)
+    (λ c. search needs)
+    (λ c. let a = c .before .before .before .before .before .before .before .before .before .args in (omega arith, omega (arith, c .before .before .before .before .before .before .before .loop .inv .1, c .before .before .if2 .left), tree.before-more _ _ (c .before .before .before .before .before .before .before .before .before .pre) _ _ _ (c .before .before .before .before .before .if1 .taken) (c .before .before .before .before .before .before .before .loop .inv .2) (c .before .before .before .before .width .ensures), scan-more (blockRight (a .t .now) (a .v .number)) (c .before .before .before .before .before .before .before .loop .i) (c .before .before .before .before .before .before .before .loop .inv .3) (held (c .before .block-right .ensures) (c .if3 .left))))
+    (λ c. tree.level-done _ _ (c .before .before .before .before .before .pre) _ _ (c .before .before .before .loop .inv .0) (c .before .if1 .left) (c .before .before .before .loop .inv .2) (c .before .before .before .loop .inv .3)))

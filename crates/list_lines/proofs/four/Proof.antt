@@ -1,0 +1,15 @@
+use borrow.Author.Needs.{needs}
+use Rattle.list_lines.proofs.LineLaws as laws
+use Rattle.list_lines.proofs.four.Statement.{statement}
+use Rattle.list_lines.proofs.four.Tie as tie
+
+pub four-spec : {M : Type 1} → statement M
+four-spec =
+    tie.close
+    (tie.spec
+    (λ c κs. search needs)
+    (λ c κs. search needs)
+    (λ c κs. search needs)
+    (λ c κs. search needs)
+    (λ c. search needs)
+    (λ c. laws.line-put _ _ _ _ (c .before .before .before .before .before .before .before .before .before .before .before .before .before .before .before .before .before .pre) (c .before .before .before .before .before .before .before .before .before .before .before .before .before .before .number-and .ensures) (c .before .before .before .before .before .before .before .before .before .before .number-and2 .ensures) (c .before .before .before .before .before .before .number-and3 .ensures) (c .before .before .number-and4 .ensures)))

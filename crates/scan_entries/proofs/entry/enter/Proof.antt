@@ -1,0 +1,35 @@
+use borrow.Author.Needs.{needs}
+use native.Mathlib.Omega.{arith}
+use mathlib.Core.Path.{refl}
+use Rattle.scan_entries.specs.ChainHeads.{linkOf}
+use Rattle.scan_entries.specs.Entries.{headIn}
+use Rattle.scan_entries.proofs.Entrance as laws
+use Rattle.scan_entries.proofs.entry.enter.Statement.{statement}
+use Rattle.scan_entries.proofs.entry.enter.Tie as tie
+
+pub enter-spec : {M : Type 1} → statement M
+unfolding linkOf headIn
+enter-spec =
+    tie.close
+    (tie.spec
+    (λ c κs. (c .before .before .before .pre .0 .laid .placed, c .before .before .before .pre .0 .item-in))
+    (λ c κs. c .before .before .before .before .pre .0 .laid .heads-low)
+    (λ c. search needs)
+    (λ c. search needs)
+    (λ c. search needs)
+    (λ c. omega (arith, c .before .before .before .before .before .before .pre .0 .laid .room, c .before .bucket .ensures .1))
+    (λ c. omega (arith, c .before .before .before .before .before .before .pre .0 .laid .room, c .before .bucket .ensures .1))
+    (λ c. omega (arith, c .before .before .before .before .before .before .before .pre .0 .laid .room, c .before .before .bucket .ensures .1))
+    (λ c κs. let z = c .before .before .before .before .before .before .before .before in (z .pre .0, laws.head-leads _ _ _ _ _ (z .pre .0) _ (c .before .before .before .bucket .ensures .1), c .before .before .before .before .run-of .ensures .fits))
+    (λ c. omega (arith, c .before .before .before .before .before .before .before .before .before .before .pre .0 .laid .placed .few))
+    (λ c. search needs)
+    (λ c. omega (arith, c .before .before .before .before .before .before .before .before .before .before .pre .0 .laid .placed .few, c .before .before .before .before .before .before .before .before .before .before .pre .0 .laid .placed .items-few, c .before .before .before .before .before .before .before .before .before .before .pre .0 .item-in, c .before .twin .ensures .low))
+    (λ c. search needs)
+    (λ c. search needs)
+    (λ c. search needs)
+    (λ c. omega (arith, c .before .before .before .before .before .before .before .before .before .before .pre .0 .laid .room, c .before .before .before .before .before .before .before .before .before .before .pre .0 .item-in))
+    (λ c. search needs)
+    (λ c. let z = c .before .before .before .before .before .before .before .before .before .before in laws.is-twin _ _ _ _ _ _ (z .pre .0) (omega arith) _ (c .if1 .taken) (laws.twin-at _ _ _ _ _ (z .pre .0) _ _ _ (c .before .before .before .before .before .before .run-of .ensures .start-is) (c .before .before .before .before .before .before .run-of .ensures .length-is) (c .before .twin .ensures)) refl)
+    (λ c κs. let z = c .before .before .before .before .before .before .before .before .before .before .before in (z .pre .0 .laid .room, z .pre .0 .laid .placed .items-few, z .pre .0 .item-in, c .before .before .before .before .before .before .bucket .ensures .1))
+    (λ c. c .before .before .put .ensures .same-length)
+    (λ c. let z = c .before .before .before .before .before .before .before .before .before .before .before .before .before .before in laws.is-entered _ _ _ _ _ _ _ _ _ (z .pre .0) (c .before .before .put .ensures) (z .pre .1) (c .before .before .before .before .before .before .before .before .before .before .run-of .ensures .start-is) (laws.chain-of _ _ _ _ _ (z .pre .0) _ _ (z .pre .1) (c .before .before .before .before .before .before .before .before .before .bucket .ensures .0))))

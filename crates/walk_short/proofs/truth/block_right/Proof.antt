@@ -1,0 +1,24 @@
+use borrow.Author.Needs.{needs}
+use native.Mathlib.Omega.{arith}
+use Rattle.layout.proofs.Tests.{failed, held}
+use Rattle.walk_steps.proofs.QuestionStandsLaws.{plain}
+use Rattle.walk_short.proofs.TruthLaws as laws
+use Rattle.walk_short.proofs.truth.block_right.Statement.{statement}
+use Rattle.walk_short.proofs.truth.block_right.Tie as tie
+
+pub block-right-spec : {M : Type 1} → statement M
+block-right-spec =
+    tie.close
+    (tie.spec
+    (λ c κs. let k = c .before .pre in record { on = plain _ _ _ _ (k .on); block-in = k .block-in })
+    (λ c κs. search needs)
+    (λ c κs. laws.edges-asked _ _ _ _ _ (c .before .before .before .pre))
+    (λ c κs. laws.walk-asks _ _ _ _ _ (c .before .before .before .before .pre) _ _ _ (c .before .before .block-length .ensures .0) (c .before .shorter .ensures) (c .edges .ensures .0) 0 (laws.front-in _ _ _ _ _ (c .before .before .before .before .pre) _ _ _ (c .before .before .block-length .ensures .0) (c .before .shorter .ensures) (c .edges .ensures .0)))
+    (λ c κs. laws.first-asks _ _ _ _ _ (c .before .before .before .before .before .pre) _ _ _ (c .before .before .before .block-length .ensures .0) (c .before .before .shorter .ensures) (c .before .edges .ensures .0) (c .gather .result) (laws.within _ _ _ _ _ (c .before .before .before .before .before .pre) _ _ _ (c .before .before .before .block-length .ensures .0) (c .before .before .shorter .ensures) (c .before .edges .ensures .0) 0 (laws.front-in _ _ _ _ _ (c .before .before .before .before .before .pre) _ _ _ (c .before .before .before .block-length .ensures .0) (c .before .before .shorter .ensures) (c .before .edges .ensures .0)) _ (c .gather .ensures)))
+    (λ c. laws.first-fails-block _ _ _ _ _ (c .before .before .before .before .before .before .before .pre) _ _ _ (c .before .before .before .before .before .block-length .ensures .0) (c .before .before .before .before .shorter .ensures) (c .before .before .before .edges .ensures .0) _ (c .before .before .gather .ensures) (failed (c .before .edge-right .ensures) (c .if1 .taken)))
+    (λ c. search needs)
+    (λ c κs. laws.walk-asks _ _ _ _ _ (c .before .before .before .before .before .before .before .pre) _ _ _ (c .before .before .before .before .before .block-length .ensures .0) (c .before .before .before .before .shorter .ensures) (c .before .before .before .edges .ensures .0) _ (laws.back-in _ _ _ _ _ (c .before .before .before .before .before .before .before .pre) _ _ _ (c .before .before .before .before .before .block-length .ensures .0) (c .before .before .before .before .shorter .ensures) (c .before .before .before .edges .ensures .0)))
+    (λ c. search needs)
+    (λ c. search needs)
+    (λ c κs. laws.last-asks _ _ _ _ _ (c .before .before .before .before .before .before .before .before .pre) _ _ _ (c .before .before .before .before .before .before .block-length .ensures .0) (c .before .before .before .before .before .shorter .ensures) (c .before .before .before .before .edges .ensures .0) (c .gather2 .result) (laws.within _ _ _ _ _ (c .before .before .before .before .before .before .before .before .pre) _ _ _ (c .before .before .before .before .before .before .block-length .ensures .0) (c .before .before .before .before .before .shorter .ensures) (c .before .before .before .before .edges .ensures .0) _ (laws.back-in _ _ _ _ _ (c .before .before .before .before .before .before .before .before .pre) _ _ _ (c .before .before .before .before .before .before .block-length .ensures .0) (c .before .before .before .before .before .shorter .ensures) (c .before .before .before .before .edges .ensures .0)) _ (c .gather2 .ensures)))
+    (λ c. laws.last-decides _ _ _ _ _ (c .before .before .before .before .before .before .before .before .before .pre) _ _ _ (c .before .before .before .before .before .before .before .block-length .ensures .0) (c .before .before .before .before .before .before .shorter .ensures) (c .before .before .before .before .before .edges .ensures .0) _ (c .before .before .before .before .gather .ensures) (held (c .before .before .before .edge-right .ensures) (c .before .before .if1 .left)) _ (c .before .gather2 .ensures) _ (c .edge-right2 .ensures)))

@@ -1,0 +1,27 @@
+use borrow.Author.Needs.{needs}
+use native.Mathlib.Omega.{arith}
+use Rattle.layout.proofs.Tests.{failed, held}
+use Rattle.walk_short.proofs.TruthLaws as laws
+use Rattle.walk_short.proofs.truth.edge_right.Statement.{statement}
+use Rattle.walk_short.proofs.truth.edge_right.Tie as tie
+
+pub edge-right-spec : {M : Type 1} → statement M
+edge-right-spec =
+    tie.close
+    (tie.spec
+    (λ c. search needs)
+    (λ c. search needs)
+    (λ c. laws.none-found _ _ _ _ _ (c .enum-told .given .1))
+    (λ c. search needs)
+    (λ c κs. let p = c .before .before .before .before .before .pre in let q = laws.parts-in _ 0 0 _ _ _ (c .before .before .found .given .1) (p .3) in (omega (arith, p .0, p .1, q .0), q .1))
+    (λ c. laws.first-fails _ _ _ _ _ _ (c .before .before .before .before .found .given .1) (failed (c .before .same-at .ensures) (c .if1 .taken)))
+    (λ c. let p = c .before .before .before .before .before .before .before .before .pre in omega (arith, laws.parts-in _ 0 0 _ _ _ (c .before .before .before .before .before .found .given .1) (p .3) .0))
+    (λ c. search needs)
+    (λ c. search needs)
+    (λ c. search needs)
+    (λ c κs. let p = c .before .before .before .before .before .before .before .before .before .pre in let q = laws.parts-in _ 0 0 _ _ _ (c .before .before .before .before .before .before .found .given .1) (p .3) in (omega (arith, p .0, p .1, q .0), q .2))
+    (λ c. laws.second-fails _ _ _ _ _ _ (c .before .before .before .before .before .before .before .before .found .given .1) (held (c .before .before .before .before .before .same-at .ensures) (c .before .before .before .before .if1 .left)) (failed (c .before .same-at2 .ensures) (c .if2 .taken)))
+    (λ c. search needs)
+    (λ c. search needs)
+    (λ c κs. search needs)
+    (λ c. laws.third-decides _ _ _ _ _ _ (c .before .before .before .before .before .before .before .before .before .found .given .1) (held (c .before .before .before .before .before .before .same-at .ensures) (c .before .before .before .before .before .if1 .left)) (held (c .before .before .same-at2 .ensures) (c .before .if2 .left)) _ (c .zeros .ensures)))
