@@ -42,7 +42,8 @@ module _ (t : List ℕ) (ok q : ℕ) (buffer after : List ℕ) (r : RowCopied) (
   row-refused number e = subst (λ (x : RowCopied). RowBy t ok q buffer (saidRow x .number) (saidRow x .value) after) e k
 
 -- a number above 255
-pub guided-above : (t : List ℕ) → ((k : ℕ) → getD t k 0 < 256) → (byte : ℕ) → 255 < byte → (guide : List ℕ) (j r : ℕ) → r ≡ uncountedNumber t 0 → GuidedSays t guide byte j (saying r 0 0) 0
+pub guided-above : (t : List ℕ) → ((k : ℕ) → getD t k 0 < 256)
+    → (byte : ℕ) → 255 < byte → (guide : List ℕ) (j r : ℕ) → r ≡ uncountedNumber t 0 → GuidedSays t guide byte j (saying r 0 0) 0
 guided-above t bytes byte high guide j r e = record {
   finds = record {
     asked = λ h. ap refused (e ∙ select-above t bytes byte high j);

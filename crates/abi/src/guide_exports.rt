@@ -98,7 +98,8 @@ pub extern "C" fn bt_row_guided(
     buffer: &mut [u8],
     len: &mut u32,
 ) -> u32
-    ensures { λ r. ⌜ RowBy (now (tree .entry)) (guideNumber (now (tree .entry)) (now (guide .entry))) q (now (buffer .entry)) r (now (len .exit)) (now (buffer .exit)) ⌝ }
+    ensures { λ r. ⌜ RowBy (now (tree .entry))
+        (guideNumber (now (tree .entry)) (now (guide .entry))) q (now (buffer .entry)) r (now (len .exit)) (now (buffer .exit)) ⌝ }
 {
     let copied = query::row_guided(tree, guide, q, buffer);
     match copied {

@@ -77,9 +77,12 @@ pub extern "C" fn bt_build_scanned(
     windows: &mut u32,
 ) -> u32
     ensures number { λ r. ⌜ r ≡ scanNumber (given leaf arity levels (now (counted .entry))) (now (text .entry)) (now (out .entry)) (length (now (work .entry))) ⌝ }
-    ensures written { λ _. ⌜ now (size .exit) ≡ scanSize (given leaf arity levels (now (counted .entry))) (now (text .entry)) (now (out .entry)) (length (now (work .entry))) ⌝ }
-    ensures looked { λ _. ⌜ now (windows .exit) ≡ scanWindows (given leaf arity levels (now (counted .entry))) (now (text .entry)) (now (out .entry)) (length (now (work .entry))) ⌝ }
-    ensures buffer { λ _. ⌜ now (out .exit) ≡ scanLeaves (given leaf arity levels (now (counted .entry))) (now (text .entry)) (now (out .entry)) (length (now (work .entry))) ⌝ }
+    ensures written { λ _. ⌜ now (size .exit) ≡ scanSize
+        (given leaf arity levels (now (counted .entry))) (now (text .entry)) (now (out .entry)) (length (now (work .entry))) ⌝ }
+    ensures looked { λ _. ⌜ now (windows .exit) ≡ scanWindows
+        (given leaf arity levels (now (counted .entry))) (now (text .entry)) (now (out .entry)) (length (now (work .entry))) ⌝ }
+    ensures buffer { λ _. ⌜ now (out .exit) ≡ scanLeaves
+        (given leaf arity levels (now (counted .entry))) (now (text .entry)) (now (out .entry)) (length (now (work .entry))) ⌝ }
     ensures table { λ r. ⌜ TableLeft r (now (work .entry)) (now (work .exit)) ⌝ }
 {
     let scanned = tree::build_scanned(text, leaf, arity, levels, counted, work, out);
@@ -303,7 +306,8 @@ pub extern "C" fn bt_places(tree: &[u8], pattern: &[u8], table: &mut [u32], numb
 // Moves the mark on to the next row that matches, and answers that row, 0 for none. A refusal leaves the mark.
 #[no_mangle]
 pub extern "C" fn bt_next_match(tree: &[u8], ranges: &[u8], mark: &mut u32, row: &mut u32) -> u32
-    ensures { λ r. ⌜ MatchSays (now (tree .entry)) (now (ranges .entry)) (now (mark .entry)) (record { number = r; row = now (row .exit); mark = now (mark .exit) }) ⌝ }
+    ensures { λ r. ⌜ MatchSays
+        (now (tree .entry)) (now (ranges .entry)) (now (mark .entry)) (record { number = r; row = now (row .exit); mark = now (mark .exit) }) ⌝ }
 {
     let at = *mark;
     let shown = query::next_match(tree, ranges, at);

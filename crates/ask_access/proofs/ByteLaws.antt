@@ -100,18 +100,22 @@ module _ (t : List ℕ) (p : ℕ) where
         unfolding byteSays
         byte-end = rw (k .passes, lt-ltb p (at.textLength t) (omega (arith, k .length-is)), end .is)
 
-        pub byte-reached : trail .entered ≡ 0 → (v : ℕ) → v ≡ getD t (h .«leaf_offset» + r .leaf) 0 → record { number = 0; value = v; entered = r .trail .entered } ≡ byteSays t p
+        pub byte-reached : trail .entered ≡ 0
+            → (v : ℕ) → v ≡ getD t (h .«leaf_offset» + r .leaf) 0 → record { number = 0; value = v; entered = r .trail .entered } ≡ byteSays t p
         byte-reached none-yet v v-is =
             let n : r .trail .entered ≡ length (end .path .visits) = omega (arith, end .entered-is) in
             same-byte t (end .path) _ _ _ v (k .offset-is) (end .leaf-is) n v-is ∙ sym byte-end
 
-        pub run-reached : trail .left ≡ h .length - p → (from left : ℕ) → from ≡ h .«leaf_offset» + r .leaf → left ≡ min (r .trail .left) (h .«leaf_count» - r .leaf)
+        pub run-reached : trail .left ≡ h .length - p
+            → (from left : ℕ) → from ≡ h .«leaf_offset» + r .leaf → left ≡ min (r .trail .left) (h .«leaf_count» - r .leaf)
             → RunAnswer t p (ran.At (record { from = from; length = left }))
         unfolding runSays
         run-reached all from left from-is left-is =
             let q = end .path in
-            let z : runSays t p ≡ (at.leafOffset t + q .leaf, leftOver t (q .visits) (min (at.textLength t - p) (at.leafCount t - q .leaf))) = rw (byte-end, end .is) in
-            let m = same-left t q (trail .left) (at.textLength t - p) _ _ (r .trail .left) left (all ∙ rw (k .length-is)) (end .leaf-is) (k .count-is) (end .left-is) left-is in record {
+            let z : runSays t p ≡ (at.leafOffset t + q .leaf, leftOver t (q .visits) (min (at.textLength t - p) (at.leafCount t - q .leaf))) =
+            rw (byte-end, end .is) in
+            let m = same-left t q (trail .left) (at.textLength t - p)
+            _ _ (r .trail .left) left (all ∙ rw (k .length-is)) (end .leaf-is) (k .count-is) (end .left-is) left-is in record {
               number-is = sym (ap (λ (y : Said). y .number) byte-end);
               numbered = tt;
               from-is = rw z (same-from t q _ _ from (k .offset-is) (end .leaf-is) from-is);
@@ -140,7 +144,8 @@ module _ (t : List ℕ) (p : ℕ) (r : Ran) (k : RunAnswer t p r) where
   pub part-refused : (q : ℕ) → r ≡ ran.Refused q → RunAnswer t p (ran.Refused q)
   part-refused q e = rw e at k
 
-pub part-list : (t : List ℕ) (p : ℕ) (r : Part) → RunAnswer t p (ran.At r) → take (r .from + r .length - r .from) (drop (r .from) t) ≡ take (runSays t p .1) (drop (runSays t p .0) t)
+pub part-list : (t : List ℕ) (p : ℕ) (r : Part)
+    → RunAnswer t p (ran.At r) → take (r .from + r .length - r .from) (drop (r .from) t) ≡ take (runSays t p .1) (drop (runSays t p .0) t)
 part-list t p r k = rw (add-sub-cancel-left, k .from-is, k .length-is)
 
 pub part-empty : (t : List ℕ) (p q : ℕ) → RunAnswer t p (ran.Refused q) → [] ≡ take (runSays t p .1) (drop (runSays t p .0) t)

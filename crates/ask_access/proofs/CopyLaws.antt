@@ -69,7 +69,8 @@ pub record Copying (t : List ℕ) (p len : ℕ) (d e : List ℕ) (i : ℕ) : Typ
 pub copy-start : (t : List ℕ) (p len : ℕ) (d : List ℕ) → Copying t p len d d 0
 copy-start t p len d = record { same-length = refl; bytes = tab-none (values t p) d; past = refl; hold = rest-start t p len }
 
-module _ (t : List ℕ) (h : Header) (p len : ℕ) (k : HeaderOf t h) (low : p + len ≤ h .length) (d : List ℕ) (room : len ≤ length d) (i : ℕ) (e : List ℕ) (c : Copying t p len d e i) where
+module _ (t : List ℕ) (h : Header) (p len : ℕ)
+    (k : HeaderOf t h) (low : p + len ≤ h .length) (d : List ℕ) (room : len ≤ length d) (i : ℕ) (e : List ℕ) (c : Copying t p len d e i) where
   -- the byte at i is answered, and stored
   pub copy-more : i < len → (a : Answer) → said a ≡ byteSays t (p + i) → (v n : ℕ) → a ≡ Byte v n → Copying t p len d (set e i v) (i + 1)
   copy-more more a a-is v n is =
@@ -85,9 +86,13 @@ module _ (t : List ℕ) (h : Header) (p len : ℕ) (k : HeaderOf t h) (low : p +
       → z ≡ replicate len 0 ++ drop len e → (1 ≤ n) × ByPaths t p len d (refused n) z
   copy-broken more a a-is q is n n-is z z-is =
       let b = byte-refused t h k (p + i) (omega arith) a a-is q is in
-      let n-14 : n ≡ 14 = n-is ∙ ap (λ (s : Said). s .number) a-is ∙ b in
-      (omega arith, span-broken t p len d (pathsHold t p len) (tabulate len (values t p)) 0 (k .passes) (omega (arith, k .length-is)) room z n n-14 (rest-broken t p len i more b ∙ c .hold) (rw (c .past) at z-is))
+      let n-14 : n ≡ 14 = n-is ∙ ap (λ (s : Said). s .number) a-is ∙ b in (
+        omega arith,
+        span-broken t p len d (pathsHold t p len) (tabulate len (values t p))
+            0 (k .passes) (omega (arith, k .length-is)) room z n n-14 (rest-broken t p len i more b ∙ c .hold) (rw (c .past) at z-is),
+      )
 
   -- all are copied
   pub copy-end : i ≡ len → ByPaths t p len d (record { number = 0; value = len; entered = 0 }) e
-  copy-end all = span-copied t p len d (pathsHold t p len) (tabulate len (values t p)) 0 (k .passes) (omega (arith, k .length-is)) room e (rest-end t p len i all ∙ c .hold) (rw all at (c .bytes))
+  copy-end all = span-copied t p len d (pathsHold t p len)
+      (tabulate len (values t p)) 0 (k .passes) (omega (arith, k .length-is)) room e (rest-end t p len i all ∙ c .hold) (rw all at (c .bytes))

@@ -25,7 +25,8 @@ use Rattle.walk_short.specs.Gathered.{gathered, Within}
 use Rattle.ask_access.proofs.SpanLaws.{Whole, span-copied, span-broken}
 
 -- by the header
-pub short-is : (t : List ℕ) (h : Header) → HeaderOf t h → (len : ℕ) (r : Bool) → r ≡ (eqb (h .layout) 2 && leb 1 len && leb len (h .settings .leaf)) → r ≡ isShort t len
+pub short-is : (t : List ℕ) (h : Header)
+    → HeaderOf t h → (len : ℕ) (r : Bool) → r ≡ (eqb (h .layout) 2 && leb 1 len && leb len (h .settings .leaf)) → r ≡ isShort t len
 unfolding isShort at.hasEdges
 short-is t h k len r e = e ∙ rw (k .layout-is, k .leaf-is)
 
@@ -36,7 +37,8 @@ short-asks t h k len is = let s = short-span t len is in (s .two, s .low, rw (k 
 written : (d T : List ℕ) (to from n : ℕ) → to + n ≤ length d → from + n ≤ length T → bytesWritten d to T from n ≡ paste d to (drop from T) n
 written d T to from zero h g = paste-zero d to (drop from T)
 written d T to from (suc n) h g =
-    rw (written d T to from n (omega arith) (omega arith), ← getD-drop from T n 0) (paste-suc d to (drop from T) n 0 (omega arith) (rw (length-drop from T) (omega arith)))
+    rw (written d T to from n (omega arith) (omega arith), ← getD-drop from T n 0)
+    (paste-suc d to (drop from T) n 0 (omega arith) (rw (length-drop from T) (omega arith)))
 
 -- two parts, one after the other
 two-parts : (d t : List ℕ) (from size next rest : ℕ) → size + rest ≤ length d → from + size ≤ length t → next + rest ≤ length t
@@ -75,12 +77,19 @@ module _ (t : List ℕ) (h : Header) (p len : ℕ) (d : List ℕ) (k : HeaderOf 
   broken-none none e = refl
   broken-none (some q) e = absurd (let z : _≡_ {A = ℕ} 0 1 = cc in omega arith)
 
-  found-some : (r : Option Short) (q : Parts) → At q ≡ gathered 0 r → (u : Short) × (r ≡ some u) × (q .from ≡ u .from) × (q .size ≡ u .size) × (q .next ≡ u .next) × (q .entered ≡ length (u .visits))
+  found-some : (r : Option Short) (q : Parts) → At q ≡ gathered 0 r
+      → (u : Short) × (r ≡ some u) × (q .from ≡ u .from) × (q .size ≡ u .size) × (q .next ≡ u .next) × (q .entered ≡ length (u .visits))
   unfolding gathered
   found-some none q e = absurd (let z : _≡_ {A = ℕ} 0 1 = cc in omega arith)
   found-some (some u) q e =
-      let same : q ≡ record { entered = 0 + length (u .visits); from = u .from; size = u .size; next = u .next } = cc in
-      (u, refl, ap (λ (y : Parts). y .from) same, ap (λ (y : Parts). y .size) same, ap (λ (y : Parts). y .next) same, ap (λ (y : Parts). y .entered) same ∙ omega arith)
+      let same : q ≡ record { entered = 0 + length (u .visits); from = u .from; size = u .size; next = u .next } = cc in (
+        u,
+        refl,
+        ap (λ (y : Parts). y .from) same,
+        ap (λ (y : Parts). y .size) same,
+        ap (λ (y : Parts). y .next) same,
+        ap (λ (y : Parts). y .entered) same ∙ omega arith,
+      )
 
   inside : p + len ≤ at.textLength t
   inside = omega (arith, k .length-is)

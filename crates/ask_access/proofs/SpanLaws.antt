@@ -11,7 +11,8 @@ use Rattle.text.specs.Lists.{tabulate}
 use Rattle.format.specs.Layout as at
 use Rattle.format.specs.Verdict.{ask, readable}
 use Rattle.format.specs.Said.{Said, refused, unless}
-use Rattle.format.specs.ReadSays.{byteSays, pathsHold, asksSpan, leavesSpan, isShort, spanReached, spanBytes, spanBlocks, spanNumber, spanSays, spanLeaves, copyNumber, copySays, copyLeaves}
+use Rattle.format.specs.ReadSays.{byteSays, pathsHold, asksSpan, leavesSpan, isShort, spanReached, spanBytes, spanBlocks, spanNumber, spanSays}
+use Rattle.format.specs.ReadSays.{spanLeaves, copyNumber, copySays, copyLeaves}
 use Rattle.layout.specs.declared.header.HeaderRead.{HeaderRead}
 use Rattle.layout.specs.declared.header.HeaderRead.the-variants as read
 use Rattle.layout.specs.Header.{headerSays}
@@ -98,7 +99,8 @@ module _ (t : List ℕ) (p len : ℕ) (d : List ℕ) (reached : Bool) (bytes : L
             let z : number ≡ 0 = rw (number-in-room, ← all) in
             record { says = rw z; leaves = rw (z, is) }
 
-        pub span-broken : (e : List ℕ) (q : ℕ) → q ≡ 14 → false ≡ reached → e ≡ replicate len 0 ++ drop len d → Spanned t p len d reached bytes blocks (refused q) e
+        pub span-broken : (e : List ℕ) (q : ℕ)
+            → q ≡ 14 → false ≡ reached → e ≡ replicate len 0 ++ drop len d → Spanned t p len d reached bytes blocks (refused q) e
         unfolding leavesSpan
         span-broken e q q-is not-all is =
             let z : number ≡ 14 = rw (number-in-room, ← not-all) in

@@ -1,13 +1,13 @@
 // Byte, run and span of a tree that passes questions 5 to 7, by its header.
 use crate::Answer;
 use crate::Copied;
-use walk_short::gather;
-use walk_short::gather::Gathered;
 use layout::header::Header;
 use layout::place::TextPlace;
 use walk_path::Reached;
 use walk_path::Walked;
 use walk_path::held;
+use walk_short::gather;
+use walk_short::gather::Gathered;
 ghost use mathlib.Core.Bool.{true, _&&_};
 ghost use mathlib.Core.Path.{_≡_};
 ghost use Prim.Native.Nat.{_+_, _≤_, _<_};

@@ -116,7 +116,8 @@ module _ (κs : Lfts 2) (t : RefT (List ℕ)) (v : verdict (now t) ≡ 0) (w a :
 
       row-is : tabulate w (λ b. byteSays (now t) (b * (at.textLength (now t) / w) + a) .value) ≡ stretch (uncolumns w (textOf (now t))) (a * w) w
       row-is =
-          tabulate-ext w (λ b. byteSays (now t) (b * (at.textLength (now t) / w) + a) .value) (λ b. getD (textOf (now t)) (b * (at.textLength (now t) / w) + a) 0)
+          tabulate-ext w (λ b. byteSays (now t) (b * (at.textLength (now t) / w) + a) .value)
+          (λ b. getD (textOf (now t)) (b * (at.textLength (now t) / w) + a) 0)
           (λ b l. byte-is b l .1)
           ∙ sym (rw size at (row-read w (textOf (now t)) ok a low))
 

@@ -46,7 +46,8 @@ pub record Marked : Type 0 where
   -- the width is the bytes copied
   copied : (columnSays tree 4 1 4 ≡ said 0 4) × (columnSays tree 12 0 12 ≡ said 0 12)
   -- 20 before 10, 10 before 13; a width of 0 or above n
-  order : (columnSays tree 5 9 0 ≡ said 20 0) × (columnSays tree 0 9 0 ≡ said 20 0) × (columnSays tree 24 0 24 ≡ said 20 0) × (columnSays tree 4 3 0 ≡ said 10 0)
+  order : (columnSays tree 5 9 0 ≡ said 20 0)
+      × (columnSays tree 0 9 0 ≡ said 20 0) × (columnSays tree 24 0 24 ≡ said 20 0) × (columnSays tree 4 3 0 ≡ said 10 0)
   short : (columnSays tree 4 2 3 ≡ said 13 0) × (columnLeaves tree 4 2 (lent 3) ≡ lent 3)
   -- a path that breaks in column 3 of row 0: 14, zeros; 20, 10 and 13 come before it
   damaged : (columnSays broken 4 0 6 ≡ said 14 0) × (columnLeaves broken 4 0 (lent 6) ≡ 0 ∷ 0 ∷ 0 ∷ 0 ∷ 238 ∷ 238 ∷ [])
@@ -56,7 +57,11 @@ pub record Marked : Type 0 where
   unread : (columnSays (take 99 tree) 0 0 0 ≡ said 5 0) × (columnSays (with tree 0 9) 0 0 0 ≡ said 6 0) × (columnSays (with tree 4 13) 0 0 0 ≡ said 7 0)
 
 pub marked : Marked
-unfolding book tree with broken lent said transposed columns widthOk cell cellsHold columnNumber columnLeaves columnSays tabulate concat sumBelow countBelow allBelow sameList wordAt wordsBytes wordBytes stretch leftmost firstFrom countIn blockLength pieces recordLength lengthOk sizesOk countedOk rising risingAfter treeOf header leafBytes levelPairs recordBytes edgesOf filledOut levelBytes recordIn recordOf target occurrence width isKept startsAt cut keptByPairs firstPairAt pairAt lengthOf startOf pathOf pathFrom targetPlace targetBlock pointingBlock keptBlock lands landBlock landPlace landVisits readable at.leafByte byteSays at.blockLengthAt at.levelCount at.levelOffset
+unfolding book tree with broken lent said transposed columns widthOk cell cellsHold columnNumber
+    columnLeaves columnSays tabulate concat sumBelow countBelow allBelow sameList wordAt wordsBytes wordBytes stretch leftmost firstFrom countIn
+    blockLength pieces recordLength lengthOk sizesOk countedOk rising risingAfter treeOf header leafBytes levelPairs recordBytes edgesOf filledOut
+    levelBytes recordIn recordOf target occurrence width isKept startsAt cut keptByPairs firstPairAt pairAt lengthOf startOf pathOf pathFrom targetPlace
+    targetBlock pointingBlock keptBlock lands landBlock landPlace landVisits readable at.leafByte byteSays at.blockLengthAt at.levelCount at.levelOffset
 marked = record {
   rows = (refl, refl);
   copied = (refl, refl);

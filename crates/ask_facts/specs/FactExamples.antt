@@ -8,7 +8,8 @@ use Rattle.text.specs.Text.{stretch, leftmost, firstFrom, countIn}
 use Rattle.format.specs.Words.{wordAt, wordsBytes, wordBytes}
 use Rattle.format.specs.Settings.{Settings, blockLength, pieces, recordLength, lengthOk, sizesOk, countedOk, rising, risingAfter}
 use Rattle.format.specs.Edges.{edgesOf, filledOut}
-use Rattle.format.specs.Blocks.{treeOf, header, leafBytes, levelPairs, recordBytes, levelBytes, recordIn, recordOf, target, occurrence, width, isKept, startsAt, cut, keptByPairs, firstPairAt, pairAt, lengthOf, startOf}
+use Rattle.format.specs.Blocks.{treeOf, header, leafBytes, levelPairs, recordBytes, levelBytes, recordIn, recordOf, target, occurrence, width, isKept}
+use Rattle.format.specs.Blocks.{startsAt, cut, keptByPairs, firstPairAt, pairAt, lengthOf, startOf}
 use Rattle.format.specs.Layout as at
 use Rattle.format.specs.Verdict.{readable}
 use Rattle.format.specs.FindSays.{total}
@@ -27,5 +28,8 @@ pub record Marked : Type 0 where
   short : (readable (take 99 (tree book)) ≡ 5) × (infoLeaves (take 99 (tree book)) ≡ replicate 23 0)
 
 pub marked : Marked
-unfolding book tree countedByte totalOf figuresOf infoLeaves total tabulate concat sumBelow countBelow allBelow sameList wordAt wordsBytes wordBytes stretch leftmost firstFrom countIn blockLength pieces recordLength lengthOk sizesOk countedOk rising risingAfter treeOf header leafBytes levelPairs recordBytes edgesOf filledOut levelBytes recordIn recordOf target occurrence width isKept startsAt cut keptByPairs firstPairAt pairAt lengthOf startOf readable at.blockLengthAt at.levelCount at.levelOffset
+unfolding book tree countedByte totalOf figuresOf infoLeaves total
+    tabulate concat sumBelow countBelow allBelow sameList wordAt wordsBytes wordBytes stretch leftmost firstFrom countIn blockLength pieces recordLength
+    lengthOk sizesOk countedOk rising risingAfter treeOf header leafBytes levelPairs recordBytes edgesOf filledOut levelBytes recordIn recordOf
+    target occurrence width isKept startsAt cut keptByPairs firstPairAt pairAt lengthOf startOf readable at.blockLengthAt at.levelCount at.levelOffset
 marked = record { worked = refl; empty = refl; short = (refl, refl) }

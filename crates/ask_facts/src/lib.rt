@@ -1,9 +1,9 @@
 // What a caller must know of a tree without reading its bytes: the header's figures, with the totals of the counted bytes; and the library's version.
+use ask_rank::count_by_header;
 use layout::header;
 use layout::header::Header;
 use layout::header::HeaderRead;
 use layout::record;
-use ask_rank::count_by_header;
 ghost use mathlib.Core.Path.{_≡_};
 ghost use Prim.Native.Nat.{_≤_};
 ghost use lib.ListN.{length};

@@ -28,7 +28,8 @@ use Rattle.theory_counts.specs.CountsLocal.{byteOf}
 use Rattle.theory_counts.specs.Demands as tallies
 use Rattle.ask_guide.specs.declared.Size.{Size}
 use Rattle.ask_guide.specs.declared.Size.the-variants.{Words, Refused}
-use Rattle.ask_guide.specs.Guides.{listedEvery, blockOf, entriesOf, entriesBefore, guideWords, guideOf, guideBytes, guideNumber, sizeSays, makeNumber, makeSays, makeLeaves}
+use Rattle.ask_guide.specs.Guides.{listedEvery, blockOf, entriesOf, entriesBefore, guideWords, guideOf, guideBytes, guideNumber, sizeSays}
+use Rattle.ask_guide.specs.Guides.{makeNumber, makeSays, makeLeaves}
 use Rattle.ask_guide.specs.GuideAnswers.{saidSize, Numbered}
 use Rattle.ask_guide.proofs.GuideList.{guide-size, guide-entry, entry-below, entry-word, guide-verdict, guide-same}
 use Rattle.ask_guide.proofs.GuideWrittenLaws as laws
@@ -63,7 +64,8 @@ module _ (t : List ℕ) (v : verdict t ≡ 0) (c : ℕ) (hc : c < at.countedCoun
   guide-entries = ap (λ (n : ℕ). pieces n listedEvery)
       (finds.total-is t (readable-facts t (accepted-readable t v)) (linked-facts t (accepted-links t v)) (tallies.levels t v) c hc)
 
-  pub guide-holds : (e : ℕ) → e < entriesOf t c → wordAt (guideBytes t) (4 * (entriesBefore t c + e)) ≡ placeOf (byteOf t c) (listedEvery * e + 1) (textOf t) / at.fullLength t 0
+  pub guide-holds : (e : ℕ) → e < entriesOf t c
+      → wordAt (guideBytes t) (4 * (entriesBefore t c + e)) ≡ placeOf (byteOf t c) (listedEvery * e + 1) (textOf t) / at.fullLength t 0
   unfolding blockOf byteOf
   guide-holds e he = entry-word t v (entriesBefore t c + e) (entry-below t c e hc he) ∙ guide-entry t c e hc he
 
@@ -103,7 +105,8 @@ module _ (κs : Lfts 2) (t guide : RefT (List ℕ)) (r : ℕ) (a : CheckGuide κ
   check-guide-wrong v n = a ∙ sym (laws.compared (now t) (now guide) v false (sym (ne-sameList (now guide) (guideBytes (now t)) n)))
 
 -- What making writes, checking accepts.
-pub made-accepted : (κs κ : Lfts 2) (t table after guide : RefT (List ℕ)) (n r : ℕ) → MakeGuide κs t table after (Words n) → now guide ≡ take (4 * n) (now after) → CheckGuide κ t guide r → r ≡ 0
+pub made-accepted : (κs κ : Lfts 2) (t table after guide : RefT (List ℕ)) (n r : ℕ)
+    → MakeGuide κs t table after (Words n) → now guide ≡ take (4 * n) (now after) → CheckGuide κ t guide r → r ≡ 0
 made-accepted κs κ t table after guide n r a is c = go (lt-or-ge 0 (verdict (now t))) (lt-or-ge (length (now table)) (4 * guideWords (now t)))
   where
     other : (q m : ℕ) → Words m ≡ Refused q → ⊥

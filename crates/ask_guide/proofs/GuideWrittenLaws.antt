@@ -23,14 +23,16 @@ use Rattle.format.specs.FindSays.{total}
 use Rattle.layout.specs.declared.header.Header.{Header}
 use Rattle.layout.specs.HeaderSays.{HeaderOf}
 use Rattle.ask_select.specs.Seeks.{Siblings, LastBefore}
-use Rattle.ask_guide.specs.Guides.{blockOf, entriesOf, entriesBefore, guideWords, guideOf, guideBytes, guideNumber, sizeSays, makeNumber, makeSays, makeLeaves}
+use Rattle.ask_guide.specs.Guides.{blockOf, entriesOf, entriesBefore, guideWords, guideOf, guideBytes, guideNumber, sizeSays, makeNumber}
+use Rattle.ask_guide.specs.Guides.{makeSays, makeLeaves}
 use Rattle.ask_guide.specs.GuideAnswers.{written, Puts, Compared}
 use Rattle.ask_guide.proofs.WordLists.{words-are, put-word}
 use Rattle.ask_guide.proofs.Holders.{total-few, block-in, first-low, block-is}
 use Rattle.ask_guide.proofs.GuideList.{guide-length, guide-size, guide-entry, entry-below, entry-stands, entry-word}
 
 -- the blocks of level 0 from one on
-pub siblings : (t : List ℕ) (h : Header) (c from n : ℕ) → HeaderOf t h → c < at.countedCount t → from < at.levelCount t 0 → n ≡ at.levelCount t 0 → Siblings t h c 0 from n
+pub siblings : (t : List ℕ) (h : Header) (c from n : ℕ)
+    → HeaderOf t h → c < at.countedCount t → from < at.levelCount t 0 → n ≡ at.levelCount t 0 → Siblings t h c 0 from n
 siblings t h c from n r hc l e = record { header = r; level-in = omega (arith, r .facts .levels-low); number-in = hc; some = omega arith; end-in = omega arith }
 
 pub false-not {ℓ} : {A : Type ℓ} → false ≡ true → A
@@ -68,7 +70,8 @@ module _ (t : List ℕ) where
   pub puts-none : (table : List ℕ) (from : ℕ) → Puts t table table from (from + 0)
   puts-none table from = let z : from ≡ from + 0 = omega arith in record { same-length = refl; puts = λ old l e. rw (← z) e }
 
-  module _ (before table new : List ℕ) (from i w : ℕ) (p : Puts t before table from i) (is : w ≡ getD (guideOf t) i 0) (l : i < length (guideOf t)) (room : 4 * i + 4 ≤ length table)
+  module _ (before table new : List ℕ)
+      (from i w : ℕ) (p : Puts t before table from i) (is : w ≡ getD (guideOf t) i 0) (l : i < length (guideOf t)) (room : 4 * i + 4 ≤ length table)
       (new-is : new ≡ setWord table (4 * i) w) where
     puts-one : Puts t before new from (i + 1)
     unfolding written
@@ -77,7 +80,8 @@ module _ (t : List ℕ) where
       puts = λ old n b. new-is ∙ rw (is, p .puts old n b) (put-word (guideOf t) old i l (omega (arith, p .same-length)));
     }
 
-  pub puts-more : (before table new : List ℕ) (from e w : ℕ) → Puts t before table from (from + e) → w ≡ getD (guideOf t) (from + e) 0 → from + e < length (guideOf t)
+  pub puts-more : (before table new : List ℕ) (from e w : ℕ)
+      → Puts t before table from (from + e) → w ≡ getD (guideOf t) (from + e) 0 → from + e < length (guideOf t)
       → 4 * (from + e) + 4 ≤ length table → new ≡ setWord table (4 * (from + e)) w → Puts t before new from (from + (e + 1))
   puts-more before table new from e w p is l room new-is =
       let z : from + e + 1 ≡ from + (e + 1) = omega arith in
@@ -124,7 +128,8 @@ module _ (t old : List ℕ) where
     unfolding makeLeaves
     made-leaves l = rw (makes l, guide-size t)
 
-    pub made-all : 4 * guideWords t ≤ length old → (record { number = 0; value = guideWords t; entered = 0 } ≡ makeSays t old) × ((new : List ℕ) → Puts t old new 0 (guideWords t) → new ≡ makeLeaves t old)
+    pub made-all : 4 * guideWords t ≤ length old → (record { number = 0; value = guideWords t; entered = 0 } ≡ makeSays t old)
+        × ((new : List ℕ) → Puts t old new 0 (guideWords t) → new ≡ makeLeaves t old)
     unfolding makeSays
     made-all l = (rw (makes l), λ new p. p .puts old refl (written-none t old) ∙ written-all t old ∙ sym (made-leaves l))
 
@@ -164,10 +169,12 @@ module _ (t guide : List ℕ) where
   pub entry-wrong : verdict t ≡ 0 → (i w : ℕ) → i < length (guideOf t) → w ≡ getD (guideOf t) i 0 → (wordAt guide (4 * i) ≡ w → ⊥) → guide ≡ guideBytes t → ⊥
   entry-wrong v i w l is n e = n (ap (λ (g : List ℕ). wordAt g (4 * i)) e ∙ entry-word t v i l ∙ sym is)
 
-  pub right-all : length guide ≡ 4 * guideWords t → ((k : ℕ) → getD guide k 0 < 256) → (n : ℕ) → n ≡ guideWords t → ((i : ℕ) → i < n → wordAt guide (4 * i) ≡ getD (guideOf t) i 0) → true ≡ sameList guide (guideBytes t)
+  pub right-all : length guide ≡ 4 * guideWords t → ((k : ℕ) → getD guide k 0 < 256)
+      → (n : ℕ) → n ≡ guideWords t → ((i : ℕ) → i < n → wordAt guide (4 * i) ≡ getD (guideOf t) i 0) → true ≡ sameList guide (guideBytes t)
   unfolding guideBytes
   right-all size byte n n-is is =
-      sym (eq-sameList guide (wordsBytes (guideOf t)) (words-are (guideOf t) guide (size ∙ ap (λ (k : ℕ). 4 * k) (sym (guide-length t))) byte (λ i l. is i (omega (arith, guide-length t)))))
+      sym (eq-sameList guide (wordsBytes (guideOf t))
+      (words-are (guideOf t) guide (size ∙ ap (λ (k : ℕ). 4 * k) (sym (guide-length t))) byte (λ i l. is i (omega (arith, guide-length t)))))
 
   -- what is compared from one number on joins what was before it
   pub right-more : (from to : ℕ) (r : Bool) → ((i : ℕ) → i < from → wordAt guide (4 * i) ≡ getD (guideOf t) i 0) → Compared t guide from to r → r ≡ true
@@ -189,7 +196,8 @@ module _ (t guide : List ℕ) where
 
 -- the next entry compared
 pub next-right : (t guide : List ℕ) (from e w : ℕ) → ((i : ℕ) → from ≤ i → i < from + e → wordAt guide (4 * i) ≡ getD (guideOf t) i 0)
-    → wordAt guide (4 * (from + e)) ≡ w → w ≡ getD (guideOf t) (from + e) 0 → (i : ℕ) → from ≤ i → i < from + (e + 1) → wordAt guide (4 * i) ≡ getD (guideOf t) i 0
+    → wordAt guide (4 * (from + e)) ≡ w
+    → w ≡ getD (guideOf t) (from + e) 0 → (i : ℕ) → from ≤ i → i < from + (e + 1) → wordAt guide (4 * i) ≡ getD (guideOf t) i 0
 next-right t guide from e w before read is i low high = go (lt-or-ge i (from + e))
   where
     go : (i < from + e) ⊎ (from + e ≤ i) → wordAt guide (4 * i) ≡ getD (guideOf t) i 0

@@ -17,7 +17,8 @@ word-of ws i l small =
     ap (λ (x : List ℕ). wordAt x (4 * i)) (sym (append-nil (wordsBytes ws))) ∙ rw e at (word-at [] ws [] 0 i refl l small)
 
 -- bytes that read as the words ws are their bytes
-pub words-are : (ws g : List ℕ) → length g ≡ 4 * length ws → ((k : ℕ) → getD g k 0 < 256) → ((i : ℕ) → i < length ws → wordAt g (4 * i) ≡ getD ws i 0) → g ≡ wordsBytes ws
+pub words-are : (ws g : List ℕ)
+    → length g ≡ 4 * length ws → ((k : ℕ) → getD g k 0 < 256) → ((i : ℕ) → i < length ws → wordAt g (4 * i) ≡ getD ws i 0) → g ≡ wordsBytes ws
 unfolding wordsBytes wordBytes concat wordAt
 words-are [] [] e byte is = refl
 words-are [] (x ∷ g) e byte is = absurd (let z : ⊥ = omega arith in z)
@@ -41,7 +42,8 @@ words-are (w ∷ ws) (a ∷ b ∷ c ∷ d ∷ g) e byte is =
     let rest = words-are ws g (omega arith) (λ k. rw (getD-append-add (a ∷ b ∷ c ∷ d ∷ []) g k 0) at (byte (4 + k))) (later ws g is) in
     rw (← a-is, ← b-is, ← c-is, ← d-is, ← rest)
   where
-    later : (ws g : List ℕ) → ((i : ℕ) → i < suc (length ws) → wordAt (a ∷ b ∷ c ∷ d ∷ g) (4 * i) ≡ getD (w ∷ ws) i 0) → (i : ℕ) → i < length ws → wordAt g (4 * i) ≡ getD ws i 0
+    later : (ws g : List ℕ) → ((i : ℕ) → i < suc (length ws) → wordAt (a ∷ b ∷ c ∷ d ∷ g) (4 * i) ≡ getD (w ∷ ws) i 0)
+        → (i : ℕ) → i < length ws → wordAt g (4 * i) ≡ getD ws i 0
     later ws g is i l =
         let e : 4 * suc i ≡ 4 + 4 * i = omega arith in
         sym (wordAt-append (a ∷ b ∷ c ∷ d ∷ []) g (4 * i)) ∙ rw e at (is (suc i) (omega arith))

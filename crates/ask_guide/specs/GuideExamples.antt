@@ -8,15 +8,18 @@ use Rattle.text.specs.Text.{stretch, leftmost, firstFrom, countIn, placeOf, pla
 use Rattle.format.specs.Words.{wordAt, wordsBytes, wordBytes, setWord}
 use Rattle.format.specs.Settings.{Settings, blockLength, pieces, recordLength, lengthOk, sizesOk, countedOk, rising, risingAfter}
 use Rattle.format.specs.Edges.{edgesOf, filledOut}
-use Rattle.format.specs.Blocks.{treeOf, header, leafBytes, levelPairs, recordBytes, levelBytes, recordIn, recordOf, target, occurrence, width, isKept, startsAt, cut, keptByPairs, firstPairAt, pairAt, lengthOf, startOf}
+use Rattle.format.specs.Blocks.{treeOf, header, leafBytes, levelPairs, recordBytes, levelBytes, recordIn, recordOf, target, occurrence, width, isKept}
+use Rattle.format.specs.Blocks.{startsAt, cut, keptByPairs, firstPairAt, pairAt, lengthOf, startOf}
 use Rattle.format.specs.Layout as at
 use Rattle.format.specs.Path.{pathOf, pathFrom, targetPlace, targetBlock, pointingBlock, keptBlock, lands, landBlock, landPlace, landVisits}
 use Rattle.format.specs.Short.{shortOf, shortFrom, byEdges, inLeaf}
-use Rattle.format.specs.Fits.{linksOk, textOf, fits, countsTrue, edgesTrue, blockEdgesTrue, lastLevel, widthAt, keptRight, pointingRight, blockRight, countBelowRight, blockFits, blockCountsTrue}
+use Rattle.format.specs.Fits.{linksOk, textOf, fits, countsTrue, edgesTrue, blockEdgesTrue, lastLevel, widthAt, keptRight, pointingRight, blockRight}
+use Rattle.format.specs.Fits.{countBelowRight, blockFits, blockCountsTrue}
 use Rattle.format.specs.Verdict.{verdict, readable}
 use Rattle.format.specs.Said.{Said}
 use Rattle.format.specs.FindSays.{total}
-use Rattle.ask_guide.specs.Guides.{lastListed, blockOf, entriesOf, entriesBefore, guideWords, guideOf, guideBytes, guideNumber, sizeSays, makeNumber, makeSays, makeLeaves}
+use Rattle.ask_guide.specs.Guides.{lastListed, blockOf, entriesOf, entriesBefore, guideWords, guideOf, guideBytes, guideNumber, sizeSays}
+use Rattle.ask_guide.specs.Guides.{makeNumber, makeSays, makeLeaves}
 
 book : List ℕ
 book = 81 ∷ 65 ∷ 66 ∷ 67 ∷ 68 ∷ 65 ∷ 66 ∷ 67 ∷ 68 ∷ 69 ∷ 70 ∷ 71 ∷ 65 ∷ 66 ∷ 67 ∷ 68 ∷ 65 ∷ 66 ∷ 67 ∷ 68 ∷ []
@@ -53,15 +56,23 @@ pub record Marked : Type 0 where
   -- two counted bytes, one after the other
   pairs : (guideOf (blocks 2 (65 ∷ 66 ∷ []) (both 100)) ≡ 0 ∷ 64 ∷ 0 ∷ 64 ∷ []) × (entriesBefore (blocks 2 (65 ∷ 66 ∷ []) (both 100)) 1 ≡ 2)
   -- a text of no bytes
-  empty : (guideOf (blocks 2 (65 ∷ []) []) ≡ []) × (guideNumber (blocks 2 (65 ∷ []) []) [] ≡ 0) × (guideNumber (blocks 2 (65 ∷ []) []) (replicate 4 0) ≡ 24) × (makeSays (blocks 2 (65 ∷ []) []) [] ≡ said 0 0)
+  empty : (guideOf (blocks 2 (65 ∷ []) []) ≡ []) × (guideNumber (blocks 2 (65 ∷ []) []) [] ≡ 0)
+      × (guideNumber (blocks 2 (65 ∷ []) []) (replicate 4 0) ≡ 24) × (makeSays (blocks 2 (65 ∷ []) []) [] ≡ said 0 0)
   -- none counted; none there
-  none : (guideOf (blocks 2 [] book) ≡ []) × (guideOf (blocks 2 (90 ∷ []) book) ≡ []) × (guideNumber (blocks 2 [] book) [] ≡ 0) × (makeSays (blocks 2 [] book) [] ≡ said 0 0)
+  none : (guideOf (blocks 2 [] book) ≡ [])
+      × (guideOf (blocks 2 (90 ∷ []) book) ≡ []) × (guideNumber (blocks 2 [] book) [] ≡ 0) × (makeSays (blocks 2 [] book) [] ≡ said 0 0)
   -- trees that the check refuses: 5, and 8 before 24 and 25; the size asks 5 to 7 alone
   unread : (guideNumber (take 99 W) [] ≡ 5) × (makeSays (take 99 W) [] ≡ said 5 0) × (sizeSays (take 99 W) ≡ said 5 0)
   unlinked : (guideNumber (setWord W 112 1) [] ≡ 8) × (makeSays (setWord W 112 1) [] ≡ said 8 0) × (sizeSays (setWord W 112 1) ≡ said 0 1)
 
 pub marked : Marked
-unfolding book blocks W both said blockOf entriesOf entriesBefore guideWords guideOf guideBytes guideNumber sizeSays makeNumber makeSays makeLeaves total tabulate concat sumBelow countBelow allBelow sameList setWord wordAt wordsBytes wordBytes stretch leftmost firstFrom countIn placeOf placeIn blockLength pieces lengthOk sizesOk countedOk rising risingAfter treeOf header leafBytes levelPairs recordBytes recordLength edgesOf filledOut levelBytes recordIn recordOf target occurrence width isKept startsAt cut keptByPairs firstPairAt pairAt lengthOf startOf pathOf pathFrom targetPlace targetBlock pointingBlock keptBlock lands landBlock landPlace landVisits shortOf shortFrom byEdges inLeaf linksOk textOf fits countsTrue edgesTrue blockEdgesTrue lastLevel widthAt keptRight pointingRight blockRight countBelowRight blockFits blockCountsTrue verdict readable at.leafByte at.blockLengthAt at.levelCount at.levelOffset at.fullLength at.countedCount at.before at.inside
+unfolding book blocks W both said blockOf entriesOf entriesBefore guideWords guideOf guideBytes guideNumber
+    sizeSays makeNumber makeSays makeLeaves total tabulate concat sumBelow countBelow allBelow sameList setWord wordAt wordsBytes wordBytes stretch
+    leftmost firstFrom countIn placeOf placeIn blockLength pieces lengthOk sizesOk countedOk rising risingAfter treeOf header leafBytes levelPairs
+    recordBytes recordLength edgesOf filledOut levelBytes recordIn recordOf target occurrence width isKept startsAt cut keptByPairs firstPairAt pairAt
+    lengthOf startOf pathOf pathFrom targetPlace targetBlock pointingBlock keptBlock lands landBlock landPlace landVisits shortOf shortFrom byEdges
+    inLeaf linksOk textOf fits countsTrue edgesTrue blockEdgesTrue lastLevel widthAt keptRight pointingRight blockRight countBelowRight blockFits
+    blockCountsTrue verdict readable at.leafByte at.blockLengthAt at.levelCount at.levelOffset at.fullLength at.countedCount at.before at.inside
 marked = record {
   worked = (refl, refl, refl, refl);
   right = (refl, refl, refl, refl, refl, refl, refl);

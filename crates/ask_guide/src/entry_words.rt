@@ -1,10 +1,10 @@
 // The words of a guide: how many there are, and the block that each names.
-use layout::header::Header;
-use layout::place::BlockNumber;
-use layout::record;
 use ask_rank::count_by_header;
 use ask_select::seek;
 use ask_select::seek::Along;
+use layout::header::Header;
+use layout::place::BlockNumber;
+use layout::record;
 ghost use mathlib.Core.Path.{_≡_};
 ghost use Prim.Native.Nat.{_+_, _≤_, _<_};
 ghost use Rattle.format.specs.Layout as at;
@@ -44,7 +44,8 @@ pub fn entries_before(t: &[u8], h: Header, number: u32) -> u64
 // From a block of level 0 on: the last one before any whose before is j or more, with the steps to it.
 pub fn block_from(t: &[u8], h: Header, number: u32, from: BlockNumber, j: u64) -> Along
     requires { ⌜ (HeaderOf (now t) h) × (number < at.countedCount (now t)) × (from .0 < at.levelCount (now t) 0) ⌝ }
-    ensures { λ r. ⌜ (LastBefore (now (t .entry)) number 0 (from .0) (at.levelCount (now (t .entry)) 0) j (r .block .0)) × (from .0 + r .steps ≡ r .block .0) ⌝ }
+    ensures { λ r. ⌜ (LastBefore (now (t .entry)) number 0 (from .0) (at.levelCount (now (t .entry)) 0) j (r .block .0))
+        × (from .0 + r .steps ≡ r .block .0) ⌝ }
 {
     seek::step_along(
         t,

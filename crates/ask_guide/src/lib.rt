@@ -1,8 +1,8 @@
 // A guide to the level 0 blocks, kept beside a tree: for each counted byte in order, the number of the level 0 block that holds its 1st,
 // 65th, 129th occurrence and so on, a word each. Its size, making one and checking one.
+pub mod entry_words;
 mod guide_checked;
 mod guide_written;
-pub mod entry_words;
 
 use layout::header;
 use layout::header::HeaderRead;

@@ -61,7 +61,11 @@ module _ (κs : Lfts 2) (t guide : RefT (List ℕ)) (byte j : ℕ) (r : Guided) 
     as-find : FindAnswer (now t) byte j (foundOf r)
     as-find =
         let f = found-by (now t) (now guide) byte j r a in
-        record { says = by-find (now t) byte j (saidFind (foundOf r)) (guideNumber (now t) (now guide)) (guide-verdict (now t) (now guide)) accepted (f .says); numbered = f .numbered }
+        record {
+          says = by-find (now t) byte
+              j (saidFind (foundOf r)) (guideNumber (now t) (now guide)) (guide-verdict (now t) (now guide)) accepted (f .says);
+          numbered = f .numbered;
+        }
 
     pub guided-as-find : (κ : Lfts 1) (f : Found) → Find κ t byte j f → foundOf r ≡ f
     guided-as-find κ f b = one-answer (now t) (guide-verdict (now t) (now guide) accepted) byte j (foundOf r) f as-find b
@@ -80,7 +84,8 @@ module _ (κs : Lfts 2) (t guide : RefT (List ℕ)) (byte j : ℕ) (r : Guided) 
       go (At p e s) x = absurd (let z : ⊥ = omega (arith, ap (λ (y : Said). y .number) x) in z)
       go (Refused n) x = ap Refused (ap (λ (y : Said). y .number) x)
 
-  pub guided-worst : selectNumber (now t) byte j ≡ 0 → (guideNumber (now t) (now guide) ≡ 0 → ⊥) → (r ≡ Refused 14) ⊎ ((saidGuided r .number ≡ 0) × (saidGuided r .value < at.textLength (now t)))
+  pub guided-worst : selectNumber (now t) byte j ≡ 0
+      → (guideNumber (now t) (now guide) ≡ 0 → ⊥) → (r ≡ Refused 14) ⊎ ((saidGuided r .number ≡ 0) × (saidGuided r .value < at.textLength (now t)))
   guided-worst n g = go r (a .says .finds .free n g)
     where
       go : (r : Guided) → (saidGuided r ≡ refused 14) ⊎ ((saidGuided r .number ≡ 0) × (saidGuided r .value < at.textLength (now t)))

@@ -49,7 +49,8 @@ pub found-by : (t guide : List ℕ) (byte j : ℕ) (g : Guided) → GuidedAnswer
 found-by t guide byte j (guided.At p e steps) a = record { says = a .says .finds; numbered = tt }
 found-by t guide byte j (guided.Refused n) a = record { says = a .says .finds; numbered = a .numbered }
 
-module _ (t guide : List ℕ) (byte c j : ℕ) (hc : c < at.countedCount t) (low : 1 ≤ j) (high : j ≤ total t c) (place : ℕ) (place-is : place ≡ entriesBefore t c + lastEntry j) where
+module _ (t guide : List ℕ) (byte c j : ℕ)
+    (hc : c < at.countedCount t) (low : 1 ≤ j) (high : j ≤ total t c) (place : ℕ) (place-is : place ≡ entriesBefore t c + lastEntry j) where
   entry-listed : lastEntry j < entriesOf t c
   entry-listed = listed t c j low high
 
@@ -89,7 +90,8 @@ module _ (t guide : List ℕ) (byte c j : ℕ) (hc : c < at.countedCount t) (low
   pub entry-astray : at.levelCount t 0 ≤ wordAt guide (4 * place) → SoughtBy t guide byte c j (refused 14) 0
   entry-astray past = record { accepted = λ g. absurd (let z : ⊥ = omega (arith, entry-in g) in z); free = inl (refl, refl) }
 
-  module _ (entry block steps : ℕ) (entry-read : entry ≡ wordAt guide (4 * place)) (last : LastBefore t c 0 entry (at.levelCount t 0) j block) (steps-are : entry + steps ≡ block) where
+  module _ (entry block steps : ℕ) (entry-read : entry ≡ wordAt guide (4 * place))
+      (last : LastBefore t c 0 entry (at.levelCount t 0) j block) (steps-are : entry + steps ≡ block) where
     pub stops : select.Stopped t c j block
     stops = record { block-in = last .high; next = last .next }
 
@@ -101,7 +103,8 @@ module _ (t guide : List ℕ) (byte c j : ℕ) (hc : c < at.countedCount t) (low
         let b = block-is t (v g) c hc j low high block (last .high) under (last .next) in
         (under, omega (arith, steps-are, b, entry-read, entry-is g))
 
-    pub sought-by : (f : Found) → select.Numbered f → select.SoughtIn t byte c j block (select.saidFind f) → SoughtBy t guide byte c j (saidGuided (stepped f steps)) (stepsOf (stepped f steps))
+    pub sought-by : (f : Found) → select.Numbered f
+        → select.SoughtIn t byte c j block (select.saidFind f) → SoughtBy t guide byte c j (saidGuided (stepped f steps)) (stepsOf (stepped f steps))
     unfolding found
     sought-by f nb z = record {
       accepted = λ g.
@@ -115,8 +118,10 @@ module _ (t guide : List ℕ) (byte c j : ℕ) (hc : c < at.countedCount t) (low
         steps-right (find.At p e) nb r k = k
         steps-right (find.Refused n) nb r k = absurd (let z : n ≡ 0 = ap (λ (s : Said). s .number) r in let y : ⊥ = omega arith in y)
 
-        free-of : (f : Found) → select.Numbered f → (select.saidFind f ≡ refused 14) ⊎ ((select.saidFind f .number ≡ 0) × (select.saidFind f .value < at.textLength t))
-            → ((saidGuided (stepped f steps) ≡ refused 14) × (stepsOf (stepped f steps) ≡ 0)) ⊎ ((saidGuided (stepped f steps) .number ≡ 0) × (saidGuided (stepped f steps) .value < at.textLength t))
+        free-of : (f : Found) → select.Numbered f
+            → (select.saidFind f ≡ refused 14) ⊎ ((select.saidFind f .number ≡ 0) × (select.saidFind f .value < at.textLength t))
+            → ((saidGuided (stepped f steps) ≡ refused 14) × (stepsOf (stepped f steps) ≡ 0))
+            ⊎ ((saidGuided (stepped f steps) .number ≡ 0) × (saidGuided (stepped f steps) .value < at.textLength t))
         free-of (find.At p e) nb (inl r) = absurd (let z : _≡_ {A = ℕ} 0 14 = ap (λ (s : Said). s .number) r in let y : ⊥ = omega arith in y)
         free-of (find.At p e) nb (inr r) = inr r
         free-of (find.Refused n) nb (inl r) = inl (r, refl)
@@ -134,7 +139,8 @@ module _ (t guide : List ℕ) (byte j : ℕ) where
     numbered = l;
   }
 
-  pub guided-sought : (c : ℕ) (r : Guided) → c ≡ numberOfByte t byte → selectNumber t byte j ≡ 0 → SoughtBy t guide byte c j (saidGuided r) (stepsOf r) → Numbered r → GuidedAnswer t guide byte j r
+  pub guided-sought : (c : ℕ) (r : Guided) → c ≡ numberOfByte t byte
+      → selectNumber t byte j ≡ 0 → SoughtBy t guide byte c j (saidGuided r) (stepsOf r) → Numbered r → GuidedAnswer t guide byte j r
   guided-sought c r e n z nb = record {
     says = record {
       finds = record { asked = λ m. absurd (let y : ⊥ = omega arith in y); accepted = λ _ g. z .accepted g .0; free = λ _ g. free-of (z .free) };

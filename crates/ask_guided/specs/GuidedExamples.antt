@@ -8,7 +8,8 @@ use Rattle.text.specs.Text.{stretch, leftmost, firstFrom, countIn, placeOf, pla
 use Rattle.format.specs.Words.{wordAt, wordsBytes, wordBytes}
 use Rattle.format.specs.Settings.{Settings, blockLength, pieces, recordLength}
 use Rattle.format.specs.Edges.{edgesOf, filledOut}
-use Rattle.format.specs.Blocks.{treeOf, header, leafBytes, levelPairs, recordBytes, levelBytes, recordIn, recordOf, target, occurrence, width, isKept, startsAt, cut, keptByPairs, firstPairAt, pairAt, lengthOf, startOf}
+use Rattle.format.specs.Blocks.{treeOf, header, leafBytes, levelPairs, recordBytes, levelBytes, recordIn, recordOf, target, occurrence, width, isKept}
+use Rattle.format.specs.Blocks.{startsAt, cut, keptByPairs, firstPairAt, pairAt, lengthOf, startOf}
 use Rattle.format.specs.Layout as at
 use Rattle.format.specs.Path.{pathOf, pathFrom, targetPlace, targetBlock, pointingBlock, keptBlock, lands, landBlock, landPlace, landVisits}
 use Rattle.format.specs.Fits.{textOf}
@@ -34,5 +35,8 @@ pub record Marked : Type 0 where
   steps : (stepsTo long 0 1 ≡ 0) × (stepsTo long 0 64 ≡ 31) × (stepsTo long 0 65 ≡ 0) × (stepsTo long 0 100 ≡ 17)
 
 pub marked : Marked
-unfolding book W long blockOf stepsTo found tabulate concat sumBelow countBelow allBelow sameList stretch leftmost firstFrom countIn placeOf placeIn wordAt wordsBytes wordBytes blockLength pieces recordLength edgesOf filledOut treeOf header leafBytes levelPairs recordBytes levelBytes recordIn recordOf target occurrence width isKept startsAt cut keptByPairs firstPairAt pairAt lengthOf startOf pathOf pathFrom targetPlace targetBlock pointingBlock keptBlock lands landBlock landPlace landVisits textOf at.leafByte at.blockLengthAt at.levelCount at.levelOffset at.fullLength
+unfolding book W long blockOf stepsTo found tabulate concat sumBelow countBelow allBelow sameList stretch leftmost firstFrom countIn placeOf placeIn
+    wordAt wordsBytes wordBytes blockLength pieces recordLength edgesOf filledOut treeOf header leafBytes levelPairs recordBytes levelBytes recordIn
+    recordOf target occurrence width isKept startsAt cut keptByPairs firstPairAt pairAt lengthOf startOf pathOf pathFrom targetPlace targetBlock
+    pointingBlock keptBlock lands landBlock landPlace landVisits textOf at.leafByte at.blockLengthAt at.levelCount at.levelOffset at.fullLength
 marked = record { fourth = (refl, refl); steps = (refl, refl, refl, refl) }

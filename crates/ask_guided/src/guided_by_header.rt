@@ -1,15 +1,15 @@
 // Find with a guide, of a tree that passes questions 5 to 7, by its header.
 use crate::Guided;
 use ask_guide::entry_words;
-use layout::header::Header;
-use layout::place::BlockNumber;
-use layout::record;
-use layout::word;
 use ask_rank::count_by_header;
 use ask_rank::counted_number;
 use ask_rank::counted_number::Wanted;
 use ask_select::Found;
 use ask_select::seek;
+use layout::header::Header;
+use layout::place::BlockNumber;
+use layout::record;
+use layout::word;
 ghost use mathlib.Core.Path.{_≡_};
 ghost use Prim.Native.Nat.{_≤_, _<_};
 ghost use Rattle.format.specs.Layout as at;
@@ -39,10 +39,12 @@ pub fn find_guided_at(t: &[u8], h: Header, guide: &[u8], byte: u8, j: u32) -> Gu
 
 // From the entry of the last listed occurrence not after the j-th. An entry that is not there, or names no block, is 14.
 fn guided(t: &[u8], h: Header, guide: &[u8], wanted: Wanted, j: u32) -> Guided
-    requires { ⌜ (HeaderOf (now t) h) × (wanted .number < at.countedCount (now t)) × (wanted .byte ≡ byteOf (now t) (wanted .number)) × (1 ≤ j) × (j ≤ total (now t) (wanted .number)) ⌝ }
+    requires { ⌜ (HeaderOf (now t) h) × (wanted .number < at.countedCount (now t))
+        × (wanted .byte ≡ byteOf (now t) (wanted .number)) × (1 ≤ j) × (j ≤ total (now t) (wanted .number)) ⌝ }
     ensures { λ r. ⌜ (SoughtBy (now (t .entry)) (now (guide .entry)) (wanted .byte) (wanted .number) j (saidGuided r) (stepsOf r)) × (Numbered r) ⌝ }
 {
-    let place = entry_words::entries_before(t, h, wanted.number) + (j as u64 - 1) / entry_words::LISTED_EVERY;
+    let place = entry_words::entries_before(t, h, wanted.number)
+        + (j as u64 - 1) / entry_words::LISTED_EVERY;
     if guide.len() as u64 / 4 <= place {
         return Guided::Refused(14);
     }

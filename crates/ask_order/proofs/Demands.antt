@@ -22,7 +22,8 @@ use Rattle.format.specs.ReadSays.{byteSays}
 use Rattle.theory_paths.specs.Demands as paths
 use Rattle.ask_order.specs.declared.Compared.{Compared}
 use Rattle.ask_order.specs.declared.Compared.the-variants as compared
-use Rattle.ask_order.specs.Order.{Standing, before, same, after, standing, shared, Ordered, code, stands, refusedOrder, orElse, byLength, comparedFrom, orderSays}
+use Rattle.ask_order.specs.Order.{Standing, before, same, after, standing, shared, Ordered, code, stands, refusedOrder, orElse, byLength}
+use Rattle.ask_order.specs.Order.{comparedFrom, orderSays}
 use Rattle.ask_order.specs.OrderLaws.{Which, below, equal, above, which, standing-below, standing-equal, standing-above, shared-equal, shared-other}
 use Rattle.ask_order.specs.OrderAnswers.{outcome, firstOf, orderSaid, Handed}
 use Rattle.ask_order.specs.Compared.{shortest, byByte}

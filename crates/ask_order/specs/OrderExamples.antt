@@ -7,7 +7,8 @@ use Rattle.text.specs.Lists.{tabulate, concat, sumBelow, countBelow, allBelow, 
 use Rattle.text.specs.Text.{stretch, leftmost, firstFrom, countIn}
 use Rattle.format.specs.Words.{wordAt, wordsBytes, wordBytes}
 use Rattle.format.specs.Settings.{Settings, blockLength, pieces, recordLength, lengthOk, sizesOk, countedOk, rising, risingAfter}
-use Rattle.format.specs.Blocks.{treeOf, header, leafBytes, levelPairs, recordBytes, levelBytes, recordIn, recordOf, target, occurrence, width, isKept, startsAt, cut, keptByPairs, firstPairAt, pairAt, lengthOf, startOf}
+use Rattle.format.specs.Blocks.{treeOf, header, leafBytes, levelPairs, recordBytes, levelBytes, recordIn, recordOf, target, occurrence, width, isKept}
+use Rattle.format.specs.Blocks.{startsAt, cut, keptByPairs, firstPairAt, pairAt, lengthOf, startOf}
 use Rattle.format.specs.Edges.{edgesOf, filledOut}
 use Rattle.format.specs.Layout as at
 use Rattle.format.specs.Path.{pathOf, pathFrom, targetPlace, targetBlock, pointingBlock, keptBlock, lands, landBlock, landPlace, landVisits}
@@ -92,7 +93,11 @@ pub record Marked : Type 0 where
       × (orderSays early (with w 4 21) ≡ refusedOrder 7) × (orderSays (with w 4 21) (with w 0 9) ≡ refusedOrder 7)
 
 pub marked : Marked
-unfolding nine book two w w′ p x high low empty empty′ words older with late early standing shared byLength comparedFrom orderSays tabulate concat sumBelow countBelow allBelow sameList wordAt wordsBytes wordBytes stretch leftmost firstFrom countIn blockLength pieces recordLength lengthOk sizesOk countedOk rising risingAfter treeOf header leafBytes levelPairs recordBytes edgesOf filledOut levelBytes recordIn recordOf target occurrence width isKept startsAt cut keptByPairs firstPairAt pairAt lengthOf startOf pathOf pathFrom targetPlace targetBlock pointingBlock keptBlock lands landBlock landPlace landVisits readable at.leafByte byteSays at.blockLengthAt at.levelCount at.levelOffset
+unfolding nine book two w w′ p x high low empty empty′ words older with late early standing shared
+    byLength comparedFrom orderSays tabulate concat sumBelow countBelow allBelow sameList wordAt wordsBytes wordBytes stretch leftmost firstFrom countIn
+    blockLength pieces recordLength lengthOk sizesOk countedOk rising risingAfter treeOf header leafBytes levelPairs recordBytes edgesOf filledOut
+    levelBytes recordIn recordOf target occurrence width isKept startsAt cut keptByPairs firstPairAt pairAt lengthOf startOf pathOf pathFrom targetPlace
+    targetBlock pointingBlock keptBlock lands landBlock landPlace landVisits readable at.leafByte byteSays at.blockLengthAt at.levelCount at.levelOffset
 marked = record {
   texts = (refl, refl, refl, refl);
   settings = refl;

@@ -121,7 +121,8 @@ abbrev pub PlacesWords : (κs : Lfts 1) → RefT (List ℕ) → (len : ℕ) → 
 PlacesWords κs t len r = words-reads.Post κs (t, (len, tt)) r (t, (len, tt))
 
 -- A table of the words that are answered for a pattern's length holds all its places, on any tree that passes questions 5 to 7: ..
-module _ (κ : Lfts 1) (t P table : RefT (List ℕ)) (words : ℕ) (a : PlacesWords κ t (length (now P)) (room.Words words)) (enough : words ≤ length (now table)) where
+module _ (κ : Lfts 1) (t P table : RefT (List ℕ))
+    (words : ℕ) (a : PlacesWords κ t (length (now P)) (room.Words words)) (enough : words ≤ length (now table)) where
   pub room-holds : length (placesIn (now P) (textOf (now t))) ≤ length (now table)
   unfolding placesOf
   room-holds = let k = roomy (now t) (length (now P)) words (a .says) in omega (arith, k .words-are, places-few (now t) (now P) (k .low))
@@ -132,7 +133,8 @@ module _ (κ : Lfts 1) (t P table : RefT (List ℕ)) (words : ℕ) (a : PlacesWo
   room-enough κs after b = go (pathsHold (now t) 0 (at.textLength (now t))) refl
     where
       number-of : 17 ≡ placesSays (now t) (now P) (length (now table)) .number → 17 ≡ placesNumber (now t) (now P) (length (now table))
-      number-of e = e ∙ unless-number (placesNumber (now t) (now P) (length (now table))) (record { number = 0; value = length (placesOf (now t) (now P)); entered = 0 }) refl
+      number-of e = e ∙ unless-number
+          (placesNumber (now t) (now P) (length (now table))) (record { number = 0; value = length (placesOf (now t) (now P)); entered = 0 }) refl
 
       other : (holds : Bool) → _≡_ {A = ℕ} 17 (ask 14 holds 0) → ⊥
       other true e = omega arith
@@ -142,5 +144,11 @@ module _ (κ : Lfts 1) (t P table : RefT (List ℕ)) (words : ℕ) (a : PlacesWo
       go holds e =
           let k = roomy (now t) (length (now P)) words (a .says) in
           let z : placesNumber (now t) (now P) (length (now table)) ≡ ask 14 holds 0 =
-          rw (k .pass, le-leb 1 (length (now P)) (k .low), le-leb (length (now P)) maxPattern (k .high), e, le-leb (length (placesIn (now P) (textOf (now t)))) (length (now table)) room-holds) in
+          rw (
+            k .pass,
+            le-leb 1 (length (now P)) (k .low),
+            le-leb (length (now P)) maxPattern (k .high),
+            e,
+            le-leb (length (placesIn (now P) (textOf (now t)))) (length (now table)) room-holds,
+          ) in
           other holds (number-of (ap (λ (s : Said). s .number) (b .0 .says)) ∙ z)

@@ -172,7 +172,8 @@ module _ (t P : List ℕ) where
           go : (eqb (r .state) (length P) ≡ true) ⊎ (eqb (r .state) (length P) ≡ false) → Seeking t P room before r after
           go (inl y) =
               let more = so-far-full i (r .state) on (omega arith) (eqb-true (r .state) (length P) y) in
-              let n : length (soFar t P (i + 1)) ≡ length (soFar t P i) + 1 = omega (arith, ap length more, length-append (soFar t P i) ((i + 1 - length P) ∷ [])) in record {
+              let n : length (soFar t P (i + 1)) ≡ length (soFar t P i) + 1 =
+              omega (arith, ap length more, length-append (soFar t P i) ((i + 1 - length P) ∷ [])) in record {
                 in-text = in-text;
                 fits = s .fits;
                 longest = rw (e .place-is) on;
@@ -181,9 +182,12 @@ module _ (t P : List ℕ) where
               }
             where
               put : (m .found < room) ⊎ (room ≤ m .found)
-                  → cond (ltb (m .found) room) (set table (m .found) (m .place .0 + 1 - length P)) table ≡ filled (soFar t P i ++ (i + 1 - length P) ∷ []) room before
-              put (inl h) = rw (lt-ltb (m .found) room h, s .table-is, s .found-is) (filled-more (soFar t P i) room before (s .fits) (i + 1 - length P) (omega (arith, s .found-is)))
-              put (inr h) = rw (le-ltb (m .found) room h) (s .table-is ∙ sym (filled-full (soFar t P i) room before (s .fits) (i + 1 - length P) (omega (arith, s .found-is))))
+                  → cond (ltb (m .found) room)
+                  (set table (m .found) (m .place .0 + 1 - length P)) table ≡ filled (soFar t P i ++ (i + 1 - length P) ∷ []) room before
+              put (inl h) = rw (lt-ltb (m .found) room h, s .table-is, s .found-is)
+                  (filled-more (soFar t P i) room before (s .fits) (i + 1 - length P) (omega (arith, s .found-is)))
+              put (inr h) = rw (le-ltb (m .found) room h)
+                  (s .table-is ∙ sym (filled-full (soFar t P i) room before (s .fits) (i + 1 - length P) (omega (arith, s .found-is))))
           go (inr y) =
               let same = so-far-other i (r .state) on (omega arith) (λ z. bool-clash _ (eq-eqb (r .state) (length P) z) y) in record {
                 in-text = in-text;
@@ -194,7 +198,8 @@ module _ (t P : List ℕ) where
               }
 
       -- the next byte of a part that is read
-      pub seeking-byte : (m₀ : Progress) (from size j byte : ℕ) (r : Progress) (after : List ℕ) → ReadsOn t (m₀ .place .0) from size → j < size → m .place .0 ≡ m₀ .place .0 + j
+      pub seeking-byte : (m₀ : Progress) (from size j byte : ℕ) (r : Progress) (after : List ℕ)
+          → ReadsOn t (m₀ .place .0) from size → j < size → m .place .0 ≡ m₀ .place .0 + j
           → byte ≡ getD t (from + j) 0 → Stepped P byte room m table r after → Seeking t P room before r after
       seeking-byte m₀ from size j byte r after a low at-is byte-is e =
           seeking-step r after byte e (byte-is ∙ a .bytes j low ∙ ap (λ (p : ℕ). getD T p 0) (sym at-is)) (omega (arith, a .in-text, text-length t))

@@ -94,11 +94,13 @@ module _ (t P table : List ℕ) where
             written : (last : List ℕ) → last ≡ placesOf t P ++ drop n table → Listed t P table (record { number = 0; value = n; entered = 0 }) last
             unfolding placesSays placesLeaves
             written last is =
-                let z : placesNumber t P (length table) ≡ 0 = number-asked ∙ rw (all .0, le-leb (length (placesOf t P)) (length table) (omega (arith, all .1))) in
+                let z : placesNumber t P (length table) ≡ 0 =
+                number-asked ∙ rw (all .0, le-leb (length (placesOf t P)) (length table) (omega (arith, all .1))) in
                 record { says = rw (z, all .1); leaves = rw z (rw (all .1) at is) }
 
             -- few places, kept in the first pass
-            pub written-few : n ≤ room → (last : List ℕ) → last ≡ take n few ++ drop n table → Listed t P table (record { number = 0; value = n; entered = 0 }) last
+            pub written-few : n ≤ room
+                → (last : List ℕ) → last ≡ take n few ++ drop n table → Listed t P table (record { number = 0; value = n; entered = 0 }) last
             written-few small last is =
                 let kept : take n few ≡ placesOf t P = rw (k .table-is (all .0), all .1) (filled-take (placesOf t P) room zeros (omega (arith, all .1))) in
                 written last (rw kept at is)
@@ -106,4 +108,5 @@ module _ (t P table : List ℕ) where
             -- many, written in the second
             pub written-all : (y : Sought) (last : List ℕ) → SeekSays t P n table y last → Listed t P table (record { number = 0; value = n; entered = 0 }) last
             written-all y last w =
-                written last (w .table-is (all .0) ∙ filled-all (placesOf t P) n table (omega (arith, all .1)) ∙ ap (λ (m : ℕ). placesOf t P ++ drop m table) (sym (all .1)))
+                written last (w .table-is (all .0)
+                ∙ filled-all (placesOf t P) n table (omega (arith, all .1)) ∙ ap (λ (m : ℕ). placesOf t P ++ drop m table) (sym (all .1)))

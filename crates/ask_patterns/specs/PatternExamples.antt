@@ -7,7 +7,8 @@ use Rattle.text.specs.Lists.{tabulate, concat, sumBelow, countBelow, allBelow, 
 use Rattle.text.specs.Text.{stretch, leftmost, firstFrom, countIn}
 use Rattle.format.specs.Words.{wordAt, wordsBytes, wordBytes}
 use Rattle.format.specs.Settings.{Settings, blockLength, pieces, recordLength, lengthOk, sizesOk, countedOk, rising, risingAfter}
-use Rattle.format.specs.Blocks.{treeOf, header, leafBytes, levelPairs, recordBytes, levelBytes, recordIn, recordOf, target, occurrence, width, isKept, startsAt, cut, keptByPairs, firstPairAt, pairAt, lengthOf, startOf}
+use Rattle.format.specs.Blocks.{treeOf, header, leafBytes, levelPairs, recordBytes, levelBytes, recordIn, recordOf, target, occurrence, width, isKept}
+use Rattle.format.specs.Blocks.{startsAt, cut, keptByPairs, firstPairAt, pairAt, lengthOf, startOf}
 use Rattle.format.specs.Edges.{edgesOf, filledOut}
 use Rattle.format.specs.Layout as at
 use Rattle.format.specs.Path.{pathOf, pathFrom, targetPlace, targetBlock, pointingBlock, keptBlock, lands, landBlock, landPlace, landVisits}
@@ -50,15 +51,22 @@ pub record Marked : Type 0 where
   whole : (placesLeaves tree book (nines 1) ≡ 0 ∷ []) × (placesSays tree (book ++ 65 ∷ []) 0 ≡ said 0 0)
   -- no byte, 256 and 257 bytes
   lengths : (placesSays tree [] 2 ≡ said 16 0) × (placesSays tree (replicate 256 81) 2 ≡ said 0 0) × (placesSays tree (replicate 257 81) 2 ≡ said 16 0)
-  overlaps : (placesLeaves twelve (replicate 2 65) (nines 11) ≡ 0 ∷ 1 ∷ 2 ∷ 3 ∷ 4 ∷ 5 ∷ 6 ∷ 7 ∷ 8 ∷ 9 ∷ 10 ∷ []) × (placesSays twelve (replicate 2 65) 10 ≡ said 17 0)
+  overlaps : (placesLeaves twelve (replicate 2 65) (nines 11) ≡ 0 ∷ 1 ∷ 2 ∷ 3 ∷ 4 ∷ 5 ∷ 6 ∷ 7 ∷ 8 ∷ 9 ∷ 10 ∷ [])
+      × (placesSays twelve (replicate 2 65) 10 ≡ said 17 0)
   -- a path that breaks: after 16, before 17, and with the table unchanged
-  broken : (placesSays (with tree 104 2) [] 8 ≡ said 16 0) × (placesSays (with tree 104 2) (68 ∷ []) 0 ≡ said 14 0) × (placesLeaves (with tree 104 2) (68 ∷ []) (nines 4) ≡ nines 4)
+  broken : (placesSays (with tree 104 2) [] 8 ≡ said 16 0)
+      × (placesSays (with tree 104 2) (68 ∷ []) 0 ≡ said 14 0) × (placesLeaves (with tree 104 2) (68 ∷ []) (nines 4) ≡ nines 4)
   -- tables: AA has 11 places in twelve letters A; the whole text has one, and a longer pattern none
-  tables : (roomSays twelve 2 ≡ said 0 11) × (roomSays tree 20 ≡ said 0 1) × (roomSays tree 21 ≡ said 0 0) × (roomSays tree 0 ≡ said 16 0) × (roomSays tree 257 ≡ said 16 0)
+  tables : (roomSays twelve 2 ≡ said 0 11)
+      × (roomSays tree 20 ≡ said 0 1) × (roomSays tree 21 ≡ said 0 0) × (roomSays tree 0 ≡ said 16 0) × (roomSays tree 257 ≡ said 16 0)
   unread : (placesSays (take 99 tree) [] 0 ≡ said 5 0) × (placesSays (with tree 0 9) [] 0 ≡ said 6 0) × (placesSays (with tree 4 21) [] 0 ≡ said 7 0)
 
 pub marked : Marked
-unfolding book tree twelve with abcd said nines standsAt below placesIn patternOk placesOf placesNumber placesSays placesLeaves roomOf roomSays tabulate concat sumBelow countBelow allBelow sameList wordAt wordsBytes wordBytes stretch leftmost firstFrom countIn blockLength pieces recordLength lengthOk sizesOk countedOk rising risingAfter treeOf header leafBytes levelPairs recordBytes edgesOf filledOut levelBytes recordIn recordOf target occurrence width isKept startsAt cut keptByPairs firstPairAt pairAt lengthOf startOf pathOf pathFrom targetPlace targetBlock pointingBlock keptBlock lands landBlock landPlace landVisits textOf readable at.leafByte byteSays pathsHold at.blockLengthAt at.levelCount at.levelOffset
+unfolding book tree twelve with abcd said nines standsAt below placesIn patternOk placesOf placesNumber placesSays placesLeaves roomOf roomSays
+    tabulate concat sumBelow countBelow allBelow sameList wordAt wordsBytes wordBytes stretch leftmost firstFrom countIn blockLength pieces recordLength
+    lengthOk sizesOk countedOk rising risingAfter treeOf header leafBytes levelPairs recordBytes edgesOf filledOut levelBytes recordIn recordOf
+    target occurrence width isKept startsAt cut keptByPairs firstPairAt pairAt lengthOf startOf pathOf pathFrom targetPlace targetBlock pointingBlock
+    keptBlock lands landBlock landPlace landVisits textOf readable at.leafByte byteSays pathsHold at.blockLengthAt at.levelCount at.levelOffset
 marked = record {
   fragment = (refl, refl);
   room = (refl, refl, refl);

@@ -1,6 +1,6 @@
 // Where a pattern stands: all its places in the bytes that a tree's paths give.
-mod room;
 mod pattern_seek;
+mod room;
 
 use crate::pattern_seek::Sought;
 use layout::header;
@@ -75,7 +75,8 @@ fn places_at(t: &[u8], h: Header, pattern: &[u8], table: &mut [u32]) -> PlacesWr
 
 // Questions 14 and 17: all places are counted before the table is touched.
 fn fill(t: &[u8], h: Header, pattern: &[u8], borders: &[u8], table: &mut [u32]) -> PlacesWritten
-    requires { ⌜ (HeaderOf (now t) h) × (1 ≤ length (now pattern)) × (length (now pattern) ≤ maxPattern) × (length (now pattern) ≤ length (now borders)) × Borders (now pattern) (now borders) (length (now pattern)) ⌝ }
+    requires { ⌜ (HeaderOf (now t) h) × (1 ≤ length (now pattern)) × (length (now pattern) ≤ maxPattern)
+        × (length (now pattern) ≤ length (now borders)) × Borders (now pattern) (now borders) (length (now pattern)) ⌝ }
     ensures { λ r. ⌜ PlacesAnswer (now (t .entry)) (now (pattern .entry)) (length (now (table .entry))) r ⌝ }
     ensures { λ _. ⌜ now (table .exit) ≡ placesLeaves (now (t .entry)) (now (pattern .entry)) (now (table .entry)) ⌝ }
 {

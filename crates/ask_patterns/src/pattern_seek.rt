@@ -80,7 +80,8 @@ fn feed(
 ) -> Progress
     requires { ⌜ (ReadsOn (now t) (m .place .0) from size) × (m .place .0 + size < 4294967296) × (Even (now pattern) m) × (room ≤ length (now table)) ⌝ }
     requires { ⌜ (length (now pattern) ≤ length (now borders)) × Borders (now pattern) (now borders) (length (now pattern)) ⌝ }
-    ensures { λ r. ⌜ (r .place .0 ≡ m .place .0 + size) × ((before : List ℕ) → Seeking (now (t .entry)) (now (pattern .entry)) room before m (now (table .entry)) → Seeking (now (t .entry)) (now (pattern .entry)) room before r (now (table .exit))) ⌝ }
+    ensures { λ r. ⌜ (r .place .0 ≡ m .place .0 + size) × ((before : List ℕ) → Seeking (now (t .entry)) (now (pattern .entry))
+        room before m (now (table .entry)) → Seeking (now (t .entry)) (now (pattern .entry)) room before r (now (table .exit))) ⌝ }
 {
     let mut at = m;
     let mut i: usize = 0;

@@ -66,7 +66,8 @@ pub total-none : (t : List ℕ) (c n : ℕ) → n ≡ at.levelCount t 0 → n �
 unfolding total
 total-none t c n e z = rw (← e, z)
 
-pub total-is : (t : List ℕ) (c n before inside : ℕ) → n ≡ at.levelCount t 0 → (n ≡ 0 → ⊥) → before ≡ at.before t 0 (n - 1) c → inside ≡ at.inside t 0 (n - 1) c → before + inside ≡ total t c
+pub total-is : (t : List ℕ) (c n before inside : ℕ)
+    → n ≡ at.levelCount t 0 → (n ≡ 0 → ⊥) → before ≡ at.before t 0 (n - 1) c → inside ≡ at.inside t 0 (n - 1) c → before + inside ≡ total t c
 unfolding total
 total-is t c n before inside e full b i = rw (← e, ne-eqb n 0 full, b, i)
 

@@ -52,7 +52,8 @@ pub field-there : (t : List ℕ) (h : Header) (level i c f : ℕ) → HeaderOf t
 field-there t h level i c f k hl hi hc hf =
     field-in t (facts t h k) (h .«record_size») level i f (k .size-is) hl hi (omega arith)
 
-pub field-on : (t : List ℕ) (size level b i c f : ℕ) → OnLevel t size level b → i < at.levelCount t level → c < at.countedCount t → f ≤ 6 + 3 * c → FieldIn t size level i f
+pub field-on : (t : List ℕ) (size level b i c f : ℕ)
+    → OnLevel t size level b → i < at.levelCount t level → c < at.countedCount t → f ≤ 6 + 3 * c → FieldIn t size level i f
 field-on t size level b i c f k hi hc hf = field-in t (k .facts) size level i f (k .size-is) (k .level-in) hi (omega arith)
 
 -- what is carried
@@ -61,7 +62,8 @@ pub onward-is : (s : Sum) (plus minus : ℕ) → record { entered = s .entered +
 unfolding onward
 onward-is s plus minus = refl
 
-pub carried-on : (t : List ℕ) (c : ℕ) (s r : Sum) (plus minus : ℕ) → Carried t c s → r ≡ onward s plus minus → plus < 4294967296 → minus < 4294967296 → Carried t c r
+pub carried-on : (t : List ℕ) (c : ℕ) (s r : Sum) (plus minus : ℕ)
+    → Carried t c s → r ≡ onward s plus minus → plus < 4294967296 → minus < 4294967296 → Carried t c r
 unfolding onward
 carried-on t c s r plus minus k e hp hm = rw e (record {
   number-in = k .number-in;
@@ -72,13 +74,15 @@ carried-on t c s r plus minus k e hp hm = rw e (record {
 pub carried-small : (t : List ℕ) (c : ℕ) (s : Sum) → Carried t c s → s .entered ≤ 16 → (s .plus ≤ 1099511627776) × (s .minus ≤ 1099511627776)
 carried-small t c s k few = (omega (arith, k .plus-few), omega (arith, k .minus-few))
 
-pub carried-word : (t : List ℕ) (c : ℕ) (s r : Sum) (plus : ℕ) → Carried t c s → s .entered ≤ 16 → r ≡ onward s plus 0 → plus < 4294967296 → (r .entered ≤ 17) × (r .plus ≤ 1099511627776)
+pub carried-word : (t : List ℕ) (c : ℕ) (s r : Sum) (plus : ℕ)
+    → Carried t c s → s .entered ≤ 16 → r ≡ onward s plus 0 → plus < 4294967296 → (r .entered ≤ 17) × (r .plus ≤ 1099511627776)
 unfolding onward
 carried-word t c s r plus k few e small = rw e (omega arith, omega (arith, k .plus-few))
 
 -- a block entered first is carried on
 
-same : (e₁ e₂ p₁ p₂ m₁ m₂ : ℕ) → e₁ ≡ e₂ → p₁ ≡ p₂ → m₁ ≡ m₂ → At (record { entered = e₁; plus = p₁; minus = m₁ }) ≡ At (record { entered = e₂; plus = p₂; minus = m₂ })
+same : (e₁ e₂ p₁ p₂ m₁ m₂ : ℕ)
+    → e₁ ≡ e₂ → p₁ ≡ p₂ → m₁ ≡ m₂ → At (record { entered = e₁; plus = p₁; minus = m₁ }) ≡ At (record { entered = e₂; plus = p₂; minus = m₂ })
 same e₁ e₂ p₁ p₂ m₁ m₂ e p m = rw (e, p, m)
 
 module _ (t : List ℕ) (byte c : ℕ) (s : Sum) where
@@ -99,7 +103,8 @@ module _ (t : List ℕ) (byte c : ℕ) (s : Sum) where
       sum-path u (visit l i o) (g .0) (q .visits) (q .leaf) plus minus (g .1) (a (g .0)) (m (g .0))
 
   -- to a child
-  added-child : (l i o j p : ℕ) (ws : List Visit) → addedAfter t c (visit l i o) (visit (l + 1) j p ∷ ws) ≡ at.before t (l + 1) j c + addedAfter t c (visit (l + 1) j p) ws
+  added-child : (l i o j p : ℕ) (ws : List Visit)
+      → addedAfter t c (visit l i o) (visit (l + 1) j p ∷ ws) ≡ at.before t (l + 1) j c + addedAfter t c (visit (l + 1) j p) ws
   unfolding addedAfter
   added-child l i o j p ws = rw (ne-eqb l (l + 1) (λ e. omega arith))
 
@@ -109,16 +114,20 @@ module _ (t : List ℕ) (byte c : ℕ) (s : Sum) where
 
   pub sum-child : (n l i o j p : ℕ) → summed t byte c (onward s (at.before t (l + 1) j c) 0) (pathFrom t n (l + 1) j p)
       ≡ summed t byte c s (entered (visit l i o ∷ []) (pathFrom t n (l + 1) j p))
-  sum-child n l i o j p = sum-enter n (l + 1) j p (visit l i o) (at.before t (l + 1) j c) 0 (added-child l i o j p) (taken-child l i o j p) (pathFrom t n (l + 1) j p) refl
+  sum-child n l i o j p = sum-enter
+      n (l + 1) j p (visit l i o) (at.before t (l + 1) j c) 0 (added-child l i o j p) (taken-child l i o j p) (pathFrom t n (l + 1) j p) refl
 
   -- to a target
-  pub sum-target : (n l i o j p : ℕ) → summed t byte c (onward s (cond (eqb j (at.link t l i)) 0 (at.inside t l (at.link t l i) c)) (at.skip t l i c)) (pathFrom t n l j p)
+  pub sum-target : (n l i o j p : ℕ)
+      → summed t byte c (onward s (cond (eqb j (at.link t l i)) 0 (at.inside t l (at.link t l i) c)) (at.skip t l i c)) (pathFrom t n l j p)
       ≡ summed t byte c s (entered (visit l i o ∷ []) (pathFrom t n l j p))
   sum-target n l i o j p =
-      sum-enter n l j p (visit l i o) (cond (eqb j (at.link t l i)) 0 (at.inside t l (at.link t l i) c)) (at.skip t l i c) (added-target t c l i o j p) (taken-target t c l i o j p) (pathFrom t n l j p) refl
+      sum-enter n l j p (visit l i o) (cond (eqb j (at.link t l i)) 0 (at.inside t l (at.link t l i) c))
+      (at.skip t l i c) (added-target t c l i o j p) (taken-target t c l i o j p) (pathFrom t n l j p) refl
 
   -- on the last level
-  pub sum-leaf : (l i o n : ℕ) (r : Sum) → keptBlock t l i ≡ true → at.link t l i + o < at.leafCount t → n ≡ countIn byte (stretch t (at.leafOffset t + at.link t l i) (o + 1))
+  pub sum-leaf : (l i o n : ℕ) (r : Sum)
+      → keptBlock t l i ≡ true → at.link t l i + o < at.leafCount t → n ≡ countIn byte (stretch t (at.leafOffset t + at.link t l i) (o + 1))
       → r ≡ onward s n 0 → At r ≡ summed t byte c s (pathFrom t 0 l i o)
   unfolding summed onward addedRest addedAfter taken takenAfter leavesReached lastPlace
   sum-leaf l i o n r kept h e f =
@@ -131,7 +140,8 @@ pub across-first : (s r : Sum) (j link at-link inside skip at-skip : ℕ) → j 
     → r ≡ onward s (cond (eqb j at-link) 0 inside) at-skip
 across-first s r j link at-link inside skip at-skip e l k f = rw (eq-eqb j at-link (e ∙ l), ← k) f
 
-pub across-second : (s r : Sum) (j link at-link inside at-inside skip at-skip : ℕ) → (j ≡ link → ⊥) → link ≡ at-link → inside ≡ at-inside → skip ≡ at-skip → r ≡ onward s inside skip
+pub across-second : (s r : Sum) (j link at-link inside at-inside skip at-skip : ℕ)
+    → (j ≡ link → ⊥) → link ≡ at-link → inside ≡ at-inside → skip ≡ at-skip → r ≡ onward s inside skip
     → r ≡ onward s (cond (eqb j at-link) 0 at-inside) at-skip
 across-second s r j link at-link inside at-inside skip at-skip e l i k f = rw (ne-eqb j at-link (λ x. e (x ∙ sym l)), ← k, ← i) f
 
@@ -165,12 +175,14 @@ settled-none t byte c s r e = sym broken-word ∙ rw e
 pub entered-small : (t : List ℕ) (size level b i o e : ℕ) → KeptAt t size level b i o e → e ≤ 16
 entered-small t size level b i o e k = walk.entered-fits t size level b i o e k
 
-pub leaf-fits : (t : List ℕ) (size level b i link o offset count : ℕ) → OnLevel t size level b → link ≡ at.link t level i → offset ≡ at.leafOffset t → count ≡ at.leafCount t
+pub leaf-fits : (t : List ℕ) (size level b i link o offset count : ℕ)
+    → OnLevel t size level b → link ≡ at.link t level i → offset ≡ at.leafOffset t → count ≡ at.leafCount t
     → link + o < count → offset + link + (o + 1) ≤ length t
 leaf-fits t size level b i link o offset count k e a c s = omega (arith, k .facts .size)
 
 module _ (t : List ℕ) (size byte c level b i o e : ℕ) (s : Sum) (k : KeptAt t size level b i o e) (link : ℕ) (link-is : link ≡ at.link t level i) where
-  pub leaf-sum : (offset : ℕ) (r : Sum) → offset ≡ at.leafOffset t → link + o < at.leafCount t → {n : ℕ} → n ≡ countIn byte (stretch t (offset + link) (o + 1)) → r ≡ onward s n 0
+  pub leaf-sum : (offset : ℕ) (r : Sum)
+      → offset ≡ at.leafOffset t → link + o < at.leafCount t → {n : ℕ} → n ≡ countIn byte (stretch t (offset + link) (o + 1)) → r ≡ onward s n 0
       → settled (At r) ≡ settled (summed t byte c s (pathFrom t 0 level i o))
   leaf-sum offset r a small {n} e f = ap settled (sum-leaf t byte c s level i o n r (k .kept) (omega arith) (rw (a, link-is) at e) f)
 
@@ -198,19 +210,22 @@ module _ (t : List ℕ) (size level b i o : ℕ) (s : Sum) (k : KeptAt t size le
   abbrev n : ℕ
   n = at.settings t .levels - 1 - (level + 1)
 
-  way-child : pathFrom t (at.settings t .levels - 1 - level) level i o ≡ entered (visit level i o ∷ []) (pathFrom t n (level + 1) (at.link t level i + o / below) (o % below))
+  way-child : pathFrom t (at.settings t .levels - 1 - level)
+      level i o ≡ entered (visit level i o ∷ []) (pathFrom t n (level + 1) (at.link t level i + o / below) (o % below))
   way-child =
       let z : at.settings t .levels - 1 - level ≡ suc n = omega (arith, lower .level-in) in
       rw (z, lower .b-is) (from-kept t n level i o (k .kept))
 
-  pub by-off : (byte c : ℕ) → x ≡ arrived.Off → saidIn 18446744073709551615 ≡ settled (summed t byte c s (pathFrom t (at.settings t .levels - 1 - level) level i o))
+  pub by-off : (byte c : ℕ)
+      → x ≡ arrived.Off → saidIn 18446744073709551615 ≡ settled (summed t byte c s (pathFrom t (at.settings t .levels - 1 - level) level i o))
   by-off byte c e =
       let j = at.link t level i + o / below in
       settled-none t byte c s _ (way-child ∙ rw (from-past t n (level + 1) j (o % below) (child-off t (level + 1) j (o % below) x x-is e)))
 
   module _ (c : ℕ) (j : BlockNumber) (p : BlockPlace) (e : x ≡ arrived.At j p) where
     -- what is asked where its before is read
-    pub down-asks : Carried t c s → (OnLevel t size (level + 1) (at.fullLength t (level + 1))) × (j .0 < at.levelCount t (level + 1)) × (s .entered ≤ 16) × (Carried t c s)
+    pub down-asks : Carried t c s
+        → (OnLevel t size (level + 1) (at.fullLength t (level + 1))) × (j .0 < at.levelCount t (level + 1)) × (s .entered ≤ 16) × (Carried t c s)
     down-asks w =
         let z = child-at t (level + 1) (at.link t level i + o / below) (o % below) x x-is j p e in
         (rw (← lower .b-is) lower, rw (z .1) (z .0), entered-small t size level b i o (s .entered) k, w)
@@ -219,14 +234,18 @@ module _ (t : List ℕ) (size level b i o : ℕ) (s : Sum) (k : KeptAt t size le
       pub to-child : Carried t c on → (MayPoint t size (level + 1) below (j .0) (p .0) (on .entered)) × (Carried t c on)
       unfolding trailed
       to-child w =
-          let trail : Trail = record { entered = s .entered; left = 0 } in
-          (rw (entered-on s on (at.before t (level + 1) (j .0) c) 0 on-is) (walk.child-may t size level b i o trail k more below b-is (trailed trail (b - o)) refl x x-is j p e), w)
+          let trail : Trail = record { entered = s .entered; left = 0 } in (
+            rw (entered-on s on (at.before t (level + 1) (j .0) c) 0 on-is)
+                (walk.child-may t size level b i o trail k more below b-is (trailed trail (b - o)) refl x x-is j p e),
+            w,
+          )
 
       pub by-child : (byte : ℕ) (r : Said) → r ≡ settled (summed t byte c on (pathFrom t n (level + 1) (j .0) (p .0)))
           → r ≡ settled (summed t byte c s (pathFrom t (at.settings t .levels - 1 - level) level i o))
       by-child byte r f =
           let z = child-at t (level + 1) (at.link t level i + o / below) (o % below) x x-is j p e in
-          let way : pathFrom t (at.settings t .levels - 1 - level) level i o ≡ entered (visit level i o ∷ []) (pathFrom t n (level + 1) (j .0) (p .0)) = rw (z .1, z .2) way-child in
+          let way : pathFrom t (at.settings t .levels - 1 - level) level i o ≡ entered (visit level i o ∷ []) (pathFrom t n (level + 1) (j .0) (p .0)) =
+          rw (z .1, z .2) way-child in
           rw way (rw on-is at f ∙ ap settled (sum-child t byte c s n level i o (j .0) (p .0)))
 
 -- a target is the block linked to, or the next
@@ -254,7 +273,8 @@ module _ (t : List ℕ) (size level b i o : ℕ) (s : Sum) (k : MayPoint t size 
     abbrev trail : Trail
     trail = record { entered = s .entered; left = 0 }
 
-    pub by-no-land : (byte c : ℕ) → y ≡ arrived.Off → saidIn 18446744073709551615 ≡ settled (summed t byte c s (pathFrom t (at.settings t .levels - 1 - level) level i o))
+    pub by-no-land : (byte c : ℕ)
+        → y ≡ arrived.Off → saidIn 18446744073709551615 ≡ settled (summed t byte c s (pathFrom t (at.settings t .levels - 1 - level) level i o))
     by-no-land byte c f = settled-none t byte c s _ (walk.land-breaks t size level b i o trail k x x-is j p e y y-is f)
 
     module _ (m : BlockNumber) (q : BlockPlace) (f : y ≡ arrived.At m q) where
@@ -270,7 +290,8 @@ module _ (t : List ℕ) (size level b i o : ℕ) (s : Sum) (k : MayPoint t size 
         link-low = rw (land-at t level i o y y-is m q f .2) (link-low t level i o);
       }
 
-      module _ (byte c : ℕ) (on : Sum) (on-is : on ≡ onward s (cond (eqb (m .0) (at.link t level i)) 0 (at.inside t level (at.link t level i) c)) (at.skip t level i c)) where
+      module _ (byte c : ℕ) (on : Sum)
+          (on-is : on ≡ onward s (cond (eqb (m .0) (at.link t level i)) 0 (at.inside t level (at.link t level i) c)) (at.skip t level i c)) where
         pub to-target : KeptAt t size level b (m .0) (q .0) (on .entered)
         to-target = rw (entered-on s on (cond (eqb (m .0) (at.link t level i)) 0 (at.inside t level (at.link t level i) c)) (at.skip t level i c) on-is) landed
 
@@ -280,7 +301,8 @@ module _ (t : List ℕ) (size level b i o : ℕ) (s : Sum) (k : MayPoint t size 
             let z = land-at t level i o y y-is m q f in
             let n = at.settings t .levels - 1 - (level + 1) in
             let a : at.settings t .levels - 1 - level ≡ suc n = omega (arith, z .0) in
-            let way : pathFrom t (at.settings t .levels - 1 - level) level i o ≡ entered (visit level i o ∷ []) (pathFrom t (at.settings t .levels - 1 - level) level (m .0) (q .0)) =
+            let way : pathFrom t (at.settings t .levels - 1 - level)
+            level i o ≡ entered (visit level i o ∷ []) (pathFrom t (at.settings t .levels - 1 - level) level (m .0) (q .0)) =
             rw (a, z .2, z .3) (from-pointing t n level i o apart points (z .1)) in
             rw way (rw on-is at g ∙ ap settled (sum-target t byte c s (at.settings t .levels - 1 - level) level i o (m .0) (q .0)))
 
@@ -308,11 +330,13 @@ module _ (t : List ℕ) (size byte c b p : ℕ) (on : OnLevel t size 0 b) (x : P
   pub first-may : (s : Sum) → s .entered ≡ 0 → p < at.textLength t → MayPoint t size 0 b (x .blocks) (x .place .0) (s .entered)
   first-may s z low = rw z (walk.top-may t size b p on x x-is low)
 
-  pub first-by : (s : Sum) (r : Said) → s ≡ startSum t c (x .blocks) → r ≡ settled (summed t byte c s (pathFrom t (at.settings t .levels - 1 - 0) 0 (x .blocks) (x .place .0)))
+  pub first-by : (s : Sum) (r : Said)
+      → s ≡ startSum t c (x .blocks) → r ≡ settled (summed t byte c s (pathFrom t (at.settings t .levels - 1 - 0) 0 (x .blocks) (x .place .0)))
       → r ≡ settled (wholeSum t byte c (pathOf t p))
   first-by s r s-is f =
       let g = rw (s-is, x-is) at f in
-      rw top (g ∙ ap settled (whole t byte c (at.settings t .levels - 1 - 0) (p / b) (p % b) (pathFrom t (at.settings t .levels - 1 - 0) 0 (p / b) (p % b)) refl))
+      rw top (g ∙ ap settled (whole t
+      byte c (at.settings t .levels - 1 - 0) (p / b) (p % b) (pathFrom t (at.settings t .levels - 1 - 0) 0 (p / b) (p % b)) refl))
 
 pub start-entered : (t : List ℕ) (c i : ℕ) (s : Sum) → s ≡ startSum t c i → s .entered ≡ 0
 unfolding startSum

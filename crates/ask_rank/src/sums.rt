@@ -74,7 +74,8 @@ fn leaf(
     sum: Sum,
 ) -> u64
     requires { ⌜ (KeptAt (now t) size level b (block .0) (place .0) (sum .entered)) × (Carried (now t) (wanted .number) sum) ⌝ }
-    ensures { λ r. ⌜ saidIn r ≡ settled (summed (now (t .entry)) (wanted .byte) (wanted .number) sum (pathFrom (now (t .entry)) 0 level (block .0) (place .0))) ⌝ }
+    ensures { λ r. ⌜ saidIn r ≡ settled
+        (summed (now (t .entry)) (wanted .byte) (wanted .number) sum (pathFrom (now (t .entry)) 0 level (block .0) (place .0))) ⌝ }
 {
     let link = record::link(t, size, level, block) as u64;
     let number = link + place.0 as u64;
@@ -100,7 +101,8 @@ fn across(
     sum: Sum,
 ) -> Sum
     requires { ⌜ (Across (now t) size level (block .0) (target .0)) × (sum .entered ≤ 16) × (Carried (now t) (wanted .number) sum) ⌝ }
-    ensures { λ r. ⌜ r ≡ onward sum (cond (eqb (target .0) (at.link (now (t .entry)) level (block .0))) 0 (at.inside (now (t .entry)) level (at.link (now (t .entry)) level (block .0)) (wanted .number))) (at.skip (now (t .entry)) level (block .0) (wanted .number)) ⌝ }
+    ensures { λ r. ⌜ r ≡ onward sum (cond (eqb (target .0) (at.link (now (t .entry)) level (block .0))) 0 (at.inside (now (t .entry))
+        level (at.link (now (t .entry)) level (block .0)) (wanted .number))) (at.skip (now (t .entry)) level (block .0) (wanted .number)) ⌝ }
     ensures { λ r. ⌜ Carried (now (t .entry)) (wanted .number) r ⌝ }
 {
     let link = record::link(t, size, level, block);
@@ -114,7 +116,8 @@ fn across(
 
 // To a child: its before is added.
 fn down(t: &[u8], size: u32, wanted: Wanted, level: u32, block: BlockNumber, sum: Sum) -> Sum
-    requires { ⌜ (OnLevel (now t) size level (at.fullLength (now t) level)) × (block .0 < at.levelCount (now t) level) × (sum .entered ≤ 16) × (Carried (now t) (wanted .number) sum) ⌝ }
+    requires { ⌜ (OnLevel (now t) size level (at.fullLength (now t) level))
+        × (block .0 < at.levelCount (now t) level) × (sum .entered ≤ 16) × (Carried (now t) (wanted .number) sum) ⌝ }
     ensures { λ r. ⌜ r ≡ onward sum (at.before (now (t .entry)) level (block .0) (wanted .number)) 0 ⌝ }
     ensures { λ r. ⌜ Carried (now (t .entry)) (wanted .number) r ⌝ }
 {
@@ -134,7 +137,8 @@ fn kept_step(
     sum: Sum,
 ) -> u64
     requires { ⌜ (KeptAt (now t) size level b (block .0) (place .0) (sum .entered)) × (Carried (now t) (wanted .number) sum) ⌝ }
-    ensures { λ r. ⌜ saidIn r ≡ settled (summed (now (t .entry)) (wanted .byte) (wanted .number) sum (pathFrom (now (t .entry)) (at.settings (now (t .entry)) .levels - 1 - level) level (block .0) (place .0))) ⌝ }
+    ensures { λ r. ⌜ saidIn r ≡ settled (summed (now (t .entry)) (wanted .byte)
+        (wanted .number) sum (pathFrom (now (t .entry)) (at.settings (now (t .entry)) .levels - 1 - level) level (block .0) (place .0))) ⌝ }
 {
     let tree = fields::whole(t);
     let shape = fields::shape_of(tree);
@@ -164,7 +168,8 @@ fn pointing_step(
     sum: Sum,
 ) -> u64
     requires { ⌜ (MayPoint (now t) size level b (block .0) (place .0) (sum .entered)) × (Carried (now t) (wanted .number) sum) ⌝ }
-    ensures { λ r. ⌜ saidIn r ≡ settled (summed (now (t .entry)) (wanted .byte) (wanted .number) sum (pathFrom (now (t .entry)) (at.settings (now (t .entry)) .levels - 1 - level) level (block .0) (place .0))) ⌝ }
+    ensures { λ r. ⌜ saidIn r ≡ settled (summed (now (t .entry)) (wanted .byte)
+        (wanted .number) sum (pathFrom (now (t .entry)) (at.settings (now (t .entry)) .levels - 1 - level) level (block .0) (place .0))) ⌝ }
 {
     let tree = fields::whole(t);
     let here = walk_steps::look(tree, size, level, b, block, place);

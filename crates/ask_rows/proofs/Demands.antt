@@ -54,14 +54,17 @@ same-copied (row.Refused m) (row.Bytes n) k l s z = absurd (let y : ⊥ = omega 
 same-copied (row.Refused m) (row.Refused n) k l s z = ap row.Refused s
 
 -- on an accepted tree row has one answer
-module _ (t : List ℕ) (v : verdict t ≡ 0) (q : ℕ) (buffer : List ℕ) (x y : RowCopied) (after other : List ℕ) (a : RowAnswer t q buffer x after) (b : RowAnswer t q buffer y other) where
+module _ (t : List ℕ) (v : verdict t ≡ 0)
+    (q : ℕ) (buffer : List ℕ) (x y : RowCopied) (after other : List ℕ) (a : RowAnswer t q buffer x after) (b : RowAnswer t q buffer y other) where
   one-row : (x ≡ y) × (after ≡ other)
   one-row = go (lt-or-ge 0 (rowNumber t q)) (lt-or-ge (length buffer) (length (rowOf (textOf t) q)))
     where
-      both : (n m : ℕ) (l : List ℕ) → (saidRow x .number ≡ n) × (saidRow x .value ≡ m) × (after ≡ l) → (saidRow y .number ≡ n) × (saidRow y .value ≡ m) × (other ≡ l) → (x ≡ y) × (after ≡ other)
+      both : (n m : ℕ) (l : List ℕ) → (saidRow x .number ≡ n)
+          × (saidRow x .value ≡ m) × (after ≡ l) → (saidRow y .number ≡ n) × (saidRow y .value ≡ m) × (other ≡ l) → (x ≡ y) × (after ≡ other)
       both n m l c d = (same-copied x y (a .numbered) (b .numbered) (c .0 ∙ sym (d .0)) (c .1 ∙ sym (d .1)), c .2 ∙ sym (d .2))
 
-      go : (0 < rowNumber t q) ⊎ (rowNumber t q ≤ 0) → (length buffer < length (rowOf (textOf t) q)) ⊎ (length (rowOf (textOf t) q) ≤ length buffer) → (x ≡ y) × (after ≡ other)
+      go : (0 < rowNumber t q) ⊎ (rowNumber t q ≤ 0)
+          → (length buffer < length (rowOf (textOf t) q)) ⊎ (length (rowOf (textOf t) q) ≤ length buffer) → (x ≡ y) × (after ≡ other)
       go (inl l) w = both (rowNumber t q) 0 buffer (a .says .asked l) (b .says .asked l)
       go (inr l) (inl w) = let z : rowNumber t q ≡ 0 = omega arith in both 13 0 buffer (a .says .short z v w) (b .says .short z v w)
       go (inr l) (inr w) =
@@ -80,7 +83,10 @@ guided-as-row κs t guide q buffer after r a κ ok κ′ left s b =
     let v = guide-verdict (now t) (now guide) g in
     let z = a .says in
     one-row (now t) v q (now buffer) r s (now after) (now left)
-    (record { says = record { asked = z .asked; short = λ n w. z .short n g; accepted = λ n w. z .accepted n g; free = λ n w. absurd (w v) }; numbered = a .numbered }) b
+    (record {
+      says = record { asked = z .asked; short = λ n w. z .short n g; accepted = λ n w. z .accepted n g; free = λ n w. absurd (w v) };
+      numbered = a .numbered;
+    }) b
 
 -- The length of a row, and the number of rows, on accepted trees.
 
@@ -105,10 +111,27 @@ rows-say t v counted = go (lt-or-ge 0 (at.textLength t))
     go : (0 < at.textLength t) ⊎ (at.textLength t ≤ 0) → rowsSays t ≡ record { number = 0; value = length (rowsOf (textOf t)); entered = 0 }
     go (inl some) =
         let w = paths.byte-of-text t (accepted-readable t v) (accepted-links t v) (at.textLength t - 1) (omega arith) in
-        rw (accepted-readable t v, counted, ne-eqb (at.textLength t) 0 (λ e. omega arith), w .2, rows-count (textOf t), tallies.total-of-text t v 10 counted, text-length t, lt-ltb 0 (at.textLength t) some)
+        rw (
+          accepted-readable t v,
+          counted,
+          ne-eqb (at.textLength t) 0 (λ e. omega arith),
+          w .2,
+          rows-count (textOf t),
+          tallies.total-of-text t v 10 counted,
+          text-length t,
+          lt-ltb 0 (at.textLength t) some,
+        )
     go (inr none) =
         let e : at.textLength t ≡ 0 = omega arith in
-        rw (accepted-readable t v, counted, eq-eqb (at.textLength t) 0 e, rows-count (textOf t), tallies.total-of-text t v 10 counted, text-length t, le-ltb 0 (at.textLength t) none)
+        rw (
+          accepted-readable t v,
+          counted,
+          eq-eqb (at.textLength t) 0 e,
+          rows-count (textOf t),
+          tallies.total-of-text t v 10 counted,
+          text-length t,
+          le-ltb 0 (at.textLength t) none,
+        )
 
 module _ (κs : Lfts 1) (t : RefT (List ℕ)) (v : verdict (now t) ≡ 0) where
   -- "so many rows has the text"

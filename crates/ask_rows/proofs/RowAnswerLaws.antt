@@ -61,13 +61,16 @@ module _ (t : List ℕ) (p len : ℕ) (buffer : List ℕ) (passes : readable t �
   span-ways = go (lt-or-ge (length buffer) len) (bool-cases (pathsHold t p len))
     where
       go : (length buffer < len) ⊎ (len ≤ length buffer) → (pathsHold t p len ≡ true) ⊎ (pathsHold t p len ≡ false) → SpanWays t p len buffer
-      go (inl short) y = let e = no-room t p len buffer (pathsHold t p len) (tabulate len (values t p)) 0 passes within short in record { ways = inl (e, leaves-is 13 e) }
+      go (inl short) y = let e = no-room t p len buffer (pathsHold t p len) (tabulate len (values t p)) 0 passes within short in
+          record { ways = inl (e, leaves-is 13 e) }
       go (inr room) (inl hold) =
-          let e : copyNumber t p len (length buffer) ≡ 0 = number-in-room t p len buffer (pathsHold t p len) (tabulate len (values t p)) 0 passes within room ∙ rw hold in
+          let e : copyNumber t p len (length buffer) ≡ 0 =
+          number-in-room t p len buffer (pathsHold t p len) (tabulate len (values t p)) 0 passes within room ∙ rw hold in
           let bytes = tabulate len (values t p) in
           record { ways = inr (inl (e, room, ap (drop len) (leaves-is 0 e) ∙ drop-at bytes (drop len buffer) len (length-tabulate len (values t p)))) }
       go (inr room) (inr broken) =
-          let e : copyNumber t p len (length buffer) ≡ 14 = number-in-room t p len buffer (pathsHold t p len) (tabulate len (values t p)) 0 passes within room ∙ rw broken in
+          let e : copyNumber t p len (length buffer) ≡ 14 =
+          number-in-room t p len buffer (pathsHold t p len) (tabulate len (values t p)) 0 passes within room ∙ rw broken in
           record { ways = inr (inr (e, room, leaves-is 14 e)) }
 
 unless-value : (n m : ℕ) (s a : Said) → s ≡ unless n a → n ≡ suc m → s .value ≡ 0
@@ -76,7 +79,9 @@ unless-value n m s a e z = let f : s ≡ refused (suc m) = rw z at e in ap (λ (
 unless-none : (n : ℕ) (s a : Said) → s ≡ unless n a → n ≡ 0 → s ≡ a
 unless-none n s a e z = rw z at e
 
-module _ (t : List ℕ) (ok : ℕ) (sound : ok ≡ 0 → verdict t ≡ 0) (q p len : ℕ) (buffer after : List ℕ) (s : Said) (passes : readable t ≡ 0) (sp : Spans t ok (rowNumber t q) (rowOf (textOf t) q) (rowMost t q) p len) (s-is : s ≡ copySays t p len (length buffer)) (after-is : after ≡ copyLeaves t p len buffer) where
+module _ (t : List ℕ) (ok : ℕ) (sound : ok ≡ 0 → verdict t ≡ 0) (q p len : ℕ)
+    (buffer after : List ℕ) (s : Said) (passes : readable t ≡ 0) (sp : Spans t ok (rowNumber t q) (rowOf (textOf t) q) (rowMost t q) p len)
+    (s-is : s ≡ copySays t p len (length buffer)) (after-is : after ≡ copyLeaves t p len buffer) where
   abbrev bytes-said : Said
   bytes-said = record { number = 0; value = len; entered = 0 }
 
@@ -96,7 +101,8 @@ module _ (t : List ℕ) (ok : ℕ) (sound : ok ≡ 0 → verdict t ≡ 0) (q p l
   row-free : SpanWays t p len buffer
       → ((s .number ≡ 0) × (s .value ≤ length buffer) × (s .value ≤ rowMost t q) × (drop (s .value) after ≡ drop (s .value) buffer))
       ⊎ (((s .number ≡ 13) × (s .value ≡ 0) × (after ≡ buffer))
-      ⊎ ((s .number ≡ 14) × (s .value ≡ 0) × ((after ≡ buffer) ⊎ ((k : ℕ) × (k ≤ length buffer) × (k ≤ rowMost t q) × (after ≡ replicate k 0 ++ drop k buffer)))))
+      ⊎ ((s .number ≡ 14) × (s .value ≡ 0)
+      × ((after ≡ buffer) ⊎ ((k : ℕ) × (k ≤ length buffer) × (k ≤ rowMost t q) × (after ≡ replicate k 0 ++ drop k buffer)))))
   row-free w = go (w .ways)
     where
       go : ((copyNumber t p len (length buffer) ≡ 13) × (copyLeaves t p len buffer ≡ buffer))
@@ -104,7 +110,8 @@ module _ (t : List ℕ) (ok : ℕ) (sound : ok ≡ 0 → verdict t ≡ 0) (q p l
           ⊎ ((copyNumber t p len (length buffer) ≡ 14) × (len ≤ length buffer) × (copyLeaves t p len buffer ≡ replicate len 0 ++ drop len buffer)))
           → ((s .number ≡ 0) × (s .value ≤ length buffer) × (s .value ≤ rowMost t q) × (drop (s .value) after ≡ drop (s .value) buffer))
           ⊎ (((s .number ≡ 13) × (s .value ≡ 0) × (after ≡ buffer))
-          ⊎ ((s .number ≡ 14) × (s .value ≡ 0) × ((after ≡ buffer) ⊎ ((k : ℕ) × (k ≤ length buffer) × (k ≤ rowMost t q) × (after ≡ replicate k 0 ++ drop k buffer)))))
+          ⊎ ((s .number ≡ 14) × (s .value ≡ 0)
+          × ((after ≡ buffer) ⊎ ((k : ℕ) × (k ≤ length buffer) × (k ≤ rowMost t q) × (after ≡ replicate k 0 ++ drop k buffer)))))
       go (inl y) = inr (inl (s-number ∙ y .0, s-none 12 (y .0), after-is ∙ y .1))
       go (inr (inl y)) =
           let v = s-some (y .0) in
@@ -127,7 +134,8 @@ module _ (t : List ℕ) (ok : ℕ) (sound : ok ≡ 0 → verdict t ≡ 0) (q p l
         (let room : len ≤ length buffer = omega (arith, row-long v) in
         let e = paths.copy-good t passes (accepted-links t (sound v)) p len (length buffer) (sp .within) room in
         let size = s-some e in
-        let f : after ≡ stretch (textOf t) p len ++ drop len buffer = after-is ∙ paths.copy-of-text t passes (accepted-links t (sound v)) p len buffer (sp .within) room in
+        let f : after ≡ stretch (textOf t) p len ++ drop len buffer =
+        after-is ∙ paths.copy-of-text t passes (accepted-links t (sound v)) p len buffer (sp .within) room in
         (s-number ∙ e, size ∙ sym (row-long v), rw (size, ← sp .accepted v) f));
     free = λ z v. row-free (span-ways t p len buffer passes (sp .within));
   }
@@ -139,13 +147,15 @@ pub copied : (t : List ℕ) (p len : ℕ) (d after : List ℕ) (r : RowCopied) �
 unfolding copySays copyNumber copyLeaves
 copied t p len d after r numbered k = (record { says = k .says; numbered = numbered }, k .leaves)
 
-pub row-edges : (t : List ℕ) (ok q : ℕ) (x : Edges) (n k : ℕ) (buffer : List ℕ) → EdgesOf t ok (rowNumber t q) (rowOf (textOf t) q) (rowMost t q) x → x ≡ edges.Refused k → n ≡ edgesNumber x → RowAnswerBy t ok q buffer (row.Refused n) buffer
+pub row-edges : (t : List ℕ) (ok q : ℕ) (x : Edges) (n k : ℕ) (buffer : List ℕ) → EdgesOf t ok (rowNumber t q) (rowOf (textOf t) q) (rowMost t q) x
+    → x ≡ edges.Refused k → n ≡ edgesNumber x → RowAnswerBy t ok q buffer (row.Refused n) buffer
 row-edges t ok q x n k buffer h e n-is =
     let z : n ≡ k = n-is ∙ rw e in
     rw z (record { says = row-refused t ok q k buffer (h .refused k e); numbered = h .refused k e .low })
 
 -- a tree that does not pass questions 5 to 7
-pub row-unread : (t : List ℕ) (ok q : ℕ) (buffer : List ℕ) (x : HeaderRead) → x ≡ headerSays t → (n : ℕ) → x ≡ header.Refused n → RowAnswerBy t ok q buffer (row.Refused n) buffer
+pub row-unread : (t : List ℕ) (ok q : ℕ) (buffer : List ℕ) (x : HeaderRead)
+    → x ≡ headerSays t → (n : ℕ) → x ≡ header.Refused n → RowAnswerBy t ok q buffer (row.Refused n) buffer
 unfolding selectNumber asksLast rowNumber
 row-unread t ok q buffer x x-is n e =
     let z = header-refused t x x-is n e in

@@ -52,7 +52,8 @@ settled-sound t guide true e = guide-verdict t guide e
 settled-sound t guide false e = e
 
 -- a find, by the guide and without it
-pub ten-guided : (t guide : List ℕ) (used : Bool) (j : ℕ) (g : Guided) (r : Found) → used ≡ true → GuidedAnswer t guide 10 j g → r ≡ foundOf g → FoundBy t (settledBy t guide used) 10 j r
+pub ten-guided : (t guide : List ℕ) (used : Bool) (j : ℕ) (g : Guided) (r : Found)
+    → used ≡ true → GuidedAnswer t guide 10 j g → r ≡ foundOf g → FoundBy t (settledBy t guide used) 10 j r
 unfolding settledBy
 ten-guided t guide used j g r e a is = rw (e, is) (found-by t guide 10 j g a)
 
@@ -132,7 +133,8 @@ module _ (t : List ℕ) (ok : ℕ) (sound : ok ≡ 0 → verdict t ≡ 0) (q : �
         asked = asked;
         within = omega (arith, place-in-text t ok 10 q sound last says end figure last-is);
         short = omega (arith, place-in-text t ok 10 q sound last says end figure last-is);
-        accepted = λ v. (let e : placeOf 10 q (textOf t) - 0 ≡ end .0 = omega (arith, place-is t ok 10 q sound last says end figure last-is v) in rw (one, rw one at e));
+        accepted = λ v. (let e : placeOf 10 q (textOf t) - 0 ≡ end .0 =
+            omega (arith, place-is t ok 10 q sound last says end figure last-is v) in rw (one, rw one at e));
       })
 
       module _ (more : q ≡ 1 → ⊥) where
@@ -143,12 +145,14 @@ module _ (t : List ℕ) (ok : ℕ) (sound : ok ≡ 0 → verdict t ≡ 0) (q : �
 
         module _ (first : Found) (said : FindBy t ok 10 (q - 1) (saidFind first)) where
           -- the one before is refused
-          pub edges-no-start : (k n : ℕ) → first ≡ found-is.Refused k → n ≡ saidFind first .number → Numbered first → EdgesOf t ok number row end-most (edges.Refused n)
+          pub edges-no-start : (k n : ℕ)
+              → first ≡ found-is.Refused k → n ≡ saidFind first .number → Numbered first → EdgesOf t ok number row end-most (edges.Refused n)
           edges-no-start k n e n-is numbered =
               let m : n ≡ k = n-is ∙ rw e in
               let low : 1 ≤ k = rw e at numbered in
               let a = select-lets t 10 (q - 1) before-asked in
-              in-walk t ok number row end-most asked n (λ v. refused-not t ok 10 (q - 1) sound first said k e a v) (rw m (refused-free t ok 10 (q - 1) sound first said k e a low))
+              in-walk t ok number row end-most
+              asked n (λ v. refused-not t ok 10 (q - 1) sound first said k e a v) (rw m (refused-free t ok 10 (q - 1) sound first said k e a low))
 
           module _ (before : TextPlace) (other : ℕ) (first-is : first ≡ found-is.At before other) where
             order : ok ≡ 0 → before .0 < end .0
@@ -169,7 +173,11 @@ module _ (t : List ℕ) (ok : ℕ) (sound : ok ≡ 0 → verdict t ≡ 0) (q : �
               asked = asked;
               within = omega (arith, place-in-text t ok 10 q sound last says end figure last-is);
               short = omega (arith, place-in-text t ok 10 q sound last says end figure last-is);
-              accepted = λ v. rw (ne-eqb q 1 more, place-is t ok 10 q sound last says end figure last-is v, place-is t ok 10 (q - 1) sound first said before other first-is v);
+              accepted = λ v. rw (
+                ne-eqb q 1 more,
+                place-is t ok 10 q sound last says end figure last-is v,
+                place-is t ok 10 (q - 1) sound first said before other first-is v,
+              );
             })
 
 -- Whether q asks for the row after the last byte 10.
@@ -276,12 +284,14 @@ module _ (t : List ℕ) (h : Header) (k : HeaderOf t h) (q : ℕ) (asks : asksLa
           last-asked = record { pass = a .pass; counted = a .counted; low = omega (arith, a .number, more); high = omega (arith, a .number) }
 
           -- the last byte 10 is refused
-          pub last-no-start : (j n : ℕ) → found ≡ found-is.Refused j → n ≡ saidFind found .number → Numbered found → EdgesOf t ok last-number last-row last-most (edges.Refused n)
+          pub last-no-start : (j n : ℕ)
+              → found ≡ found-is.Refused j → n ≡ saidFind found .number → Numbered found → EdgesOf t ok last-number last-row last-most (edges.Refused n)
           last-no-start j n e n-is numbered =
               let m : n ≡ j = n-is ∙ rw e in
               let low : 1 ≤ j = rw e at numbered in
               let z = select-lets t 10 (q - 1) last-asked in
-              in-walk t ok last-number last-row last-most passed n (λ v. refused-not t ok 10 (q - 1) sound found said-found j e z v) (rw m (refused-free t ok 10 (q - 1) sound found said-found j e z low))
+              in-walk t ok last-number last-row last-most passed n (λ v. refused-not t ok 10 (q - 1) sound found said-found j e z v)
+              (rw m (refused-free t ok 10 (q - 1) sound found said-found j e z low))
 
           module _ (before : TextPlace) (other-figure : ℕ) (found-at : found ≡ found-is.At before other-figure) where
             pub last-past : before .0 < h .length
@@ -294,7 +304,8 @@ module _ (t : List ℕ) (h : Header) (k : HeaderOf t h) (q : ℕ) (asks : asksLa
               within = omega (arith, last-past, k .length-is);
               short = omega (arith, last-past, k .length-is, most-later more);
               accepted = λ v.
-                  sym (last-is (sound v) ∙ rw (ne-eqb q 1 more, place-is t ok 10 (q - 1) sound found said-found before other-figure found-at v, text-length t, k .length-is));
+                  sym (last-is (sound v) ∙ rw
+                  (ne-eqb q 1 more, place-is t ok 10 (q - 1) sound found said-found before other-figure found-at v, text-length t, k .length-is));
             })
 
 -- Without the byte 13 before the end: what stands in the len bytes from p.
@@ -331,7 +342,8 @@ module _ (t : List ℕ) (h : Header) (k : HeaderOf t h) (p len : ℕ) (within : 
       pub trim-broken : (m n : ℕ) → x ≡ answer.Refused m → n ≡ said x .number → EdgesOf t (verdict t) 0 trimmed-row len (edges.Refused n)
       trim-broken m n e n-is =
           let z = only-14 t (k .passes) (p + (len - 1)) low m (rw e at x-is) in
-          in-walk t (verdict t) 0 trimmed-row len refl n (λ v. never-14 t (k .passes) (p + (len - 1)) low (accepted-links t v) z) (n-is ∙ ap (λ (s : Said). s .number) x-is ∙ z)
+          in-walk t (verdict t) 0 trimmed-row
+          len refl n (λ v. never-14 t (k .passes) (p + (len - 1)) low (accepted-links t v) z) (n-is ∙ ap (λ (s : Said). s .number) x-is ∙ z)
 
       module _ (value figure : ℕ) (is : x ≡ answer.Byte value figure) where
         -- it is 13
@@ -353,7 +365,8 @@ module _ (t : List ℕ) (h : Header) (k : HeaderOf t h) (p len : ℕ) (within : 
 
 -- The edges of row q, by which of the two it is.
 module _ (t : List ℕ) (ok : ℕ) (sound : ok ≡ 0 → verdict t ≡ 0) (q : ℕ) where
-  pub edges-last : (r : Edges) → true ≡ asksLast t q → EdgesOf t ok (lastNumber (byteSays t (at.textLength t - 1))) (rowOf (textOf t) q) (rowMost t q) r → EdgesOf t ok (rowNumber t q) (rowOf (textOf t) q) (rowMost t q) r
+  pub edges-last : (r : Edges) → true ≡ asksLast t q → EdgesOf t ok (lastNumber (byteSays t (at.textLength t - 1))) (rowOf (textOf t) q) (rowMost t q) r
+      → EdgesOf t ok (rowNumber t q) (rowOf (textOf t) q) (rowMost t q) r
   edges-last r asks e = rw (row-number-last t q (sym asks)) e
 
   module _ (asks : false ≡ asksLast t q) (x : Edges) (ended : EdgesOf t ok (selectNumber t 10 q) (between (textOf t) q) (at.textLength t - 1) x) where
@@ -387,8 +400,14 @@ module _ (t : List ℕ) (ok : ℕ) (sound : ok ≡ 0 → verdict t ≡ 0) (q : �
           let s = select-passes t 10 q (spanned .asked) in
           ap trimmed (spanned .accepted v) ∙ sym (row-between (textOf t) q (s .low) (rw (tallies.total-of-text t (sound v) 10 (s .counted)) at (s .high)))
 
-      pub edges-trimmed : (r : Edges) → EdgesOf t (verdict t) 0 (trimmed (stretch (textOf t) (start .0) len)) len r → EdgesOf t ok (rowNumber t q) (rowOf (textOf t) q) (rowMost t q) r
+      pub edges-trimmed : (r : Edges) → EdgesOf t (verdict t) 0 (trimmed (stretch (textOf t) (start .0) len)) len r
+          → EdgesOf t ok (rowNumber t q) (rowOf (textOf t) q) (rowMost t q) r
       edges-trimmed r e = rw (row-number-plain t q (sym asks), spanned .asked) (record {
         refused = λ n f. (let y = e .refused n f in record { low = y .low; asked = y .asked; accepted = λ z v. y .accepted z (sound v); free = y .free });
-        spans = λ s m f. (let y = e .spans s m f in record { asked = y .asked; within = y .within; short = omega (arith, y .short, spanned .short, most-is); accepted = λ v. y .accepted (sound v) ∙ same v });
+        spans = λ s m f. (let y = e .spans s m f in record {
+          asked = y .asked;
+          within = y .within;
+          short = omega (arith, y .short, spanned .short, most-is);
+          accepted = λ v. y .accepted (sound v) ∙ same v;
+        });
       })

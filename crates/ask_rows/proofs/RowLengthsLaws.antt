@@ -48,7 +48,11 @@ module _ (t : List ℕ) (q : ℕ) where
         let s = k .spans start len e in record {
           says = record {
             asked = λ l. absurd (let z : ⊥ = omega (arith, s .asked) in z);
-            accepted = λ z v. (refl, sym (ap length (sym (s .accepted v)) ∙ length-stretch (textOf t) (start .0) len (omega (arith, s .within, text-length t))));
+            accepted = λ z v. (
+              refl,
+              sym
+                  (ap length (sym (s .accepted v)) ∙ length-stretch (textOf t) (start .0) len (omega (arith, s .within, text-length t))),
+            );
             free = λ z v. inl (refl, s .short);
           };
           numbered = tt;
@@ -130,7 +134,8 @@ module _ (t : List ℕ) (h : Header) (k : HeaderOf t h) (number : ℕ) (is : num
       unfolding rowsSays rowsNumber
       count-broken m n e n-is =
           let same : byteSays t (at.textLength t - 1) ≡ refused m = here ∙ rw e in
-          let z = only-14 t (k .passes) (at.textLength t - 1) (let y : at.textLength t - 1 < at.textLength t = omega (arith, some-byte, k .length-is) in y) m (sym same) in
+          let z = only-14 t (k .passes)
+          (at.textLength t - 1) (let y : at.textLength t - 1 < at.textLength t = omega (arith, some-byte, k .length-is) in y) m (sym same) in
           let y : n ≡ 14 = n-is ∙ ap (λ (s : Said). s .number) (sym here) ∙ z in
           record { says = rw (k .passes, counted, not-zero, z, y); numbered = omega arith }
 

@@ -27,7 +27,8 @@ pub enum RowCount {
     Refused(u32),
 }
 
-// Copies row q to the start of the buffer: what stands before the q-th byte 10, without one byte 13 directly before it, or after the last one where q is one more.
+// Copies row q to the start of the buffer: what stands before the q-th byte 10, without one byte 13 directly before it, or after the last one where q
+// is one more.
 pub fn row(t: &[u8], q: u32, buffer: &mut [u8]) -> RowCopied
     ensures { λ r. ⌜ RowAnswer (now (t .entry)) q (now (buffer .entry)) r (now (buffer .exit)) ⌝ }
 {

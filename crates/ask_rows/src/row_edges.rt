@@ -1,12 +1,12 @@
 // The edges of a row, of a tree that passes questions 5 to 7, by its header.
 use ask_access::Answer;
 use ask_access::read_by_header;
-use layout::header::Header;
-use layout::place::TextPlace;
 use ask_rank::count_by_header;
 use ask_rank::counted_number;
 use ask_select::Found;
 use ask_select::find_by_header;
+use layout::header::Header;
+use layout::place::TextPlace;
 ghost use mathlib.Core.Bool.{true};
 ghost use mathlib.Core.Path.{_≡_};
 ghost use Prim.Native.Nat.{_+_, _-_, _≤_};
@@ -32,7 +32,8 @@ pub enum Edges {
 // The edges of row q, by finds with the guide if it is used. Questions 11, 12 and 14.
 pub fn of_row(t: &[u8], h: Header, guide: &[u8], used: bool, q: u32) -> Edges
     requires { ⌜ HeaderOf (now t) h ⌝ }
-    ensures { λ r. ⌜ EdgesOf (now (t .entry)) (settledBy (now (t .entry)) (now (guide .entry)) used) (rowNumber (now (t .entry)) q) (rowOf (textOf (now (t .entry))) q) (rowMost (now (t .entry)) q) r ⌝ }
+    ensures { λ r. ⌜ EdgesOf (now (t .entry)) (settledBy (now (t .entry)) (now (guide .entry)) used)
+        (rowNumber (now (t .entry)) q) (rowOf (textOf (now (t .entry))) q) (rowMost (now (t .entry)) q) r ⌝ }
 {
     if asks_last(t, h, q) {
         return last(t, h, guide, used, q);
@@ -66,7 +67,8 @@ fn asks_last(t: &[u8], h: Header, q: u32) -> bool
 // to the text's end.
 fn last(t: &[u8], h: Header, guide: &[u8], used: bool, q: u32) -> Edges
     requires { ⌜ (HeaderOf (now t) h) × (asksLast (now t) q ≡ true) ⌝ }
-    ensures { λ r. ⌜ EdgesOf (now (t .entry)) (settledBy (now (t .entry)) (now (guide .entry)) used) (lastNumber (byteSays (now (t .entry)) (at.textLength (now (t .entry)) - 1))) (rowOf (textOf (now (t .entry))) q) (rowMost (now (t .entry)) q) r ⌝ }
+    ensures { λ r. ⌜ EdgesOf (now (t .entry)) (settledBy (now (t .entry)) (now (guide .entry)) used) (lastNumber
+        (byteSays (now (t .entry)) (at.textLength (now (t .entry)) - 1))) (rowOf (textOf (now (t .entry))) q) (rowMost (now (t .entry)) q) r ⌝ }
 {
     let answer = read_by_header::byte_at(t, h, TextPlace(h.length - 1));
     let Answer::Byte(value, _) = answer else {
@@ -88,7 +90,8 @@ fn last(t: &[u8], h: Header, guide: &[u8], used: bool, q: u32) -> Edges
 // What stands before the q-th byte 10: past the (q - 1)-th, or the text's start, up to the q-th.
 fn ended(t: &[u8], h: Header, guide: &[u8], used: bool, q: u32) -> Edges
     requires { ⌜ HeaderOf (now t) h ⌝ }
-    ensures { λ r. ⌜ EdgesOf (now (t .entry)) (settledBy (now (t .entry)) (now (guide .entry)) used) (selectNumber (now (t .entry)) 10 q) (between (textOf (now (t .entry))) q) (at.textLength (now (t .entry)) - 1) r ⌝ }
+    ensures { λ r. ⌜ EdgesOf (now (t .entry)) (settledBy (now (t .entry)) (now (guide .entry)) used)
+        (selectNumber (now (t .entry)) 10 q) (between (textOf (now (t .entry))) q) (at.textLength (now (t .entry)) - 1) r ⌝ }
 {
     let last = ten(t, h, guide, used, q);
     let Found::At(end, _) = last else {
@@ -131,7 +134,13 @@ fn ten(t: &[u8], h: Header, guide: &[u8], used: bool, j: u32) -> Found
     ensures { λ r. ⌜ FoundBy (now (t .entry)) (settledBy (now (t .entry)) (now (guide .entry)) used) 10 j r ⌝ }
 {
     if used {
-        return ask_guided::guided_by_header::without_steps(ask_guided::guided_by_header::find_guided_at(t, h, guide, 10, j));
+        return ask_guided::guided_by_header::without_steps(ask_guided::guided_by_header::find_guided_at(
+            t,
+            h,
+            guide,
+            10,
+            j,
+        ));
     }
     find_by_header::find_at(t, h, 10, j)
 }

@@ -5,10 +5,10 @@ use crate::row_edges;
 use crate::row_edges::Edges;
 use ask_access::Answer;
 use ask_access::read_by_header;
-use layout::header::Header;
-use layout::place::TextPlace;
 use ask_rank::count_by_header;
 use ask_rank::counted_number;
+use layout::header::Header;
+use layout::place::TextPlace;
 ghost use Rattle.layout.specs.HeaderSays.{HeaderOf};
 ghost use Rattle.ask_rows.specs.RowLengths.{LengthAnswer, CountAnswer};
 

@@ -75,12 +75,14 @@ unfolding placedIn
 placed-free n b i placed.Off s e = inl e
 placed-free n b i (placed.At o q) s e = go (ltb (i * b + o .0) n) refl e
   where
-    go : (y : Bool) → ltb (i * b + o .0) n ≡ y → s ≡ cond y (record { number = 0; value = i * b + o .0; entered = q }) (refused 14) → (s ≡ refused 14) ⊎ ((s .number ≡ 0) × (s .value < n))
+    go : (y : Bool) → ltb (i * b + o .0) n ≡ y
+        → s ≡ cond y (record { number = 0; value = i * b + o .0; entered = q }) (refused 14) → (s ≡ refused 14) ⊎ ((s .number ≡ 0) × (s .value < n))
     go true l z = inr (ap (λ (w : Said). w .number) z, rw z (ltb-true _ _ l))
     go false l z = inl z
 
 -- from level 0 on
-module _ (t : List ℕ) (h : Header) (w : Wanted) (j b block : ℕ) (r : HeaderOf t h) (hc : w .number < at.countedCount t) (byte-is : w .byte ≡ byteOf t (w .number)) (low : 1 ≤ j)
+module _ (t : List ℕ) (h : Header)
+    (w : Wanted) (j b block : ℕ) (r : HeaderOf t h) (hc : w .number < at.countedCount t) (byte-is : w .byte ≡ byteOf t (w .number)) (low : 1 ≤ j)
     (high : j ≤ total t (w .number)) (on : OnLevel t h 0 b) (last : Stopped t (w .number) j block) where
   abbrev c : ℕ
   c = w .number
@@ -96,15 +98,18 @@ module _ (t : List ℕ) (h : Header) (w : Wanted) (j b block : ℕ) (r : HeaderO
     }
 
     seeking : (i o rest m : ℕ) → 1 ≤ m → j < 4294967296 → Picked t c 0 block 0 j i o rest → Seeking t h w 0 b rest m
-    seeking i o rest m l small p = record { on = on; number-in = hc; byte-is = byte-is; low = omega (arith, p .low, p .rest-is); few = few rest m l (omega (arith, p .rest-is)) }
+    seeking i o rest m l small p =
+        record { on = on; number-in = hc; byte-is = byte-is; low = omega (arith, p .low, p .rest-is); few = few rest m l (omega (arith, p .rest-is)) }
       where
         few : (y m : ℕ) → 1 ≤ m → y ≤ 4294967295 → y ≤ m * 4294967295
         few y m l s = omega arith
 
-    moved-on : (v : verdict t ≡ 0) (i n m o e : ℕ) → n ≡ m → finds.Lands t (k t v) (d t v) (a t v) c hc 0 i n o e → finds.Lands t (k t v) (d t v) (a t v) c hc 0 i m o e
+    moved-on : (v : verdict t ≡ 0) (i n m o e : ℕ)
+        → n ≡ m → finds.Lands t (k t v) (d t v) (a t v) c hc 0 i n o e → finds.Lands t (k t v) (d t v) (a t v) c hc 0 i m o e
     moved-on v i n m o e p z = rw (← p) z
 
-    at-end : (i : ℕ) (q : Placed) (s : Said) → s ≡ placedIn (h .length) b i q → (v : verdict t ≡ 0) → i < at.levelCount t 0 → at.before t 0 i c < j → (o : BlockPlace) (e : ℕ) → q ≡ placed.At o e
+    at-end : (i : ℕ) (q : Placed) (s : Said) → s ≡ placedIn (h .length) b i q
+        → (v : verdict t ≡ 0) → i < at.levelCount t 0 → at.before t 0 i c < j → (o : BlockPlace) (e : ℕ) → q ≡ placed.At o e
         → finds.Lands t (k t v) (d t v) (a t v) c hc 0 i (j - at.before t 0 i c) (o .0) e → s ≡ found t (w .byte) j
     unfolding found
     at-end i q s s-is v hi under o e is lands =
@@ -115,7 +120,8 @@ module _ (t : List ℕ) (h : Header) (w : Wanted) (j b block : ℕ) (r : HeaderO
         let within : i * b + o .0 < h .length = omega (arith, len-inside t 0 i (o .0) (lands .inside), r .length-is) in
         rw (place, path) (s-is ∙ sym (place-in (h .length) b i q o e is within))
 
-    right : (i o rest m : ℕ) (q : Placed) (s : Said) → Picked t c 0 block 0 j i o rest → FoundIn t c 0 i rest m q → s ≡ placedIn (h .length) b i q → verdict t ≡ 0 → s ≡ found t (w .byte) j
+    right : (i o rest m : ℕ) (q : Placed) (s : Said)
+        → Picked t c 0 block 0 j i o rest → FoundIn t c 0 i rest m q → s ≡ placedIn (h .length) b i q → verdict t ≡ 0 → s ≡ found t (w .byte) j
     right i o rest m q s p f s-is v =
         let same = p .block-is in
         let hi : i < at.levelCount t 0 = omega (arith, last .block-in) in
@@ -126,8 +132,10 @@ module _ (t : List ℕ) (h : Header) (w : Wanted) (j b block : ℕ) (r : HeaderO
         let z = f .right v hc (omega arith) in
         at-end i q s s-is v hi under (z .place) (z .entered) (z .is) (moved-on v i rest (j - at.before t 0 i c) (z .place .0) (z .entered) rest-is (z .lands))
 
-    sought : (i o rest m : ℕ) (q : Placed) (s : Said) → Picked t c 0 block 0 j i o rest → FoundIn t c 0 i rest m q → s ≡ placedIn (h .length) b i q → SoughtIn t (w .byte) c j block s
-    sought i o rest m q s p f s-is = record { accepted = λ v under. right i o rest m q s p f s-is v; free = rw (r .length-is) at (placed-free (h .length) b i q s s-is) }
+    sought : (i o rest m : ℕ) (q : Placed) (s : Said)
+        → Picked t c 0 block 0 j i o rest → FoundIn t c 0 i rest m q → s ≡ placedIn (h .length) b i q → SoughtIn t (w .byte) c j block s
+    sought i o rest m q s p f s-is =
+        record { accepted = λ v under. right i o rest m q s p f s-is v; free = rw (r .length-is) at (placed-free (h .length) b i q s s-is) }
 
     module _ (i : BlockNumber) (o : BlockPlace) (rest : ℕ) where
       pub top-kept : x ≡ child.Kept i o rest → j < 4294967296 → (KeptIn t h 0 b (i .0)) × (Seeking t h w 0 b rest 2)
@@ -208,7 +216,8 @@ module _ (t : List ℕ) (h : Header) (r : HeaderOf t h) (byte j number : ℕ) (i
       find-past past = find-refused t byte j 11 (number-past past)
 
       pub asked-none : 1 ≤ j → j ≤ all → selectNumber t byte j ≡ 0
-      asked-none low high = select-lets t byte j (record { pass = r .passes; counted = is-counted t h r byte number is counted; low = low; high = omega (arith, all-of) })
+      asked-none low high = select-lets
+          t byte j (record { pass = r .passes; counted = is-counted t h r byte number is counted; low = low; high = omega (arith, all-of) })
 
       pub find-sought : (s : Said) → 1 ≤ j → j ≤ all → Sought t byte j s → FindSays t byte j s
       find-sought s low high z = record {

@@ -44,13 +44,15 @@ use Rattle.ask_select.specs.declared.seek.Child.the-variants as child
 use Rattle.ask_select.specs.declared.seek.Target.{Target}
 use Rattle.ask_select.specs.declared.seek.Target.the-variants as target
 use Rattle.stretches.specs.Stretches.{Stands}
-use Rattle.ask_select.specs.Seeks.{moved, Near, restIn, KeptIn, PointsIn, Siblings, LastBefore, picked, Chosen, ChildWith, Aimed, targetAt, TargetWith, Seeking, Landed, FoundIn}
+use Rattle.ask_select.specs.Seeks.{moved, Near, restIn, KeptIn, PointsIn, Siblings, LastBefore, picked, Chosen, ChildWith, Aimed, targetAt}
+use Rattle.ask_select.specs.Seeks.{TargetWith, Seeking, Landed, FoundIn}
 
 -- What a pick says.
 
 abbrev picked-cases : (low kept points : Bool) (i o rest : ℕ) → Child
 picked-cases low kept points i o rest =
-    cond low (restIn (cond kept (next.Kept (record { 0 = i }) (record { 0 = o })) (cond points (next.Points (record { 0 = i }) (record { 0 = o })) next.Off)) rest) child.Off
+    cond low (restIn (cond kept (next.Kept (record { 0 = i }) (record { 0 = o }))
+    (cond points (next.Points (record { 0 = i }) (record { 0 = o })) next.Off)) rest) child.Off
 
 case-kept : (low kept points : Bool) (i o rest : ℕ) (x : BlockNumber) (p : BlockPlace) (r : ℕ) → picked-cases low kept points i o rest ≡ child.Kept x p r
     → (low ≡ true) × (kept ≡ true) × (x ≡ record { 0 = i }) × (p ≡ record { 0 = o }) × (r ≡ rest)
@@ -80,21 +82,38 @@ pub record Picked (t : List ℕ) (c level i o j x p r : ℕ) : Type 0 where
   pub rest-is : r ≡ j - at.before t level i c
 
 module _ (t : List ℕ) (c level i o j : ℕ) where
-  pub picked-kept : (x : BlockNumber) (p : BlockPlace) (r : ℕ) → picked t c level i o j ≡ child.Kept x p r → (Picked t c level i o j (x .0) (p .0) r) × (keptBlock t level i ≡ true)
+  pub picked-kept : (x : BlockNumber) (p : BlockPlace) (r : ℕ)
+      → picked t c level i o j ≡ child.Kept x p r → (Picked t c level i o j (x .0) (p .0) r) × (keptBlock t level i ≡ true)
   unfolding picked nextAt
   picked-kept x p r e =
-      let z = case-kept (ltb (at.before t level i c) j) (keptBlock t level i) (pointingBlock t level i) i o (j - at.before t level i c) x p r e in
-      (record { low = ltb-true _ _ (z .0); block-is = ap (λ (n : BlockNumber). n .0) (z .2); place-is = ap (λ (n : BlockPlace). n .0) (z .3); rest-is = z .4 }, z .1)
+      let z = case-kept (ltb (at.before t level i c) j) (keptBlock t level i) (pointingBlock t level i) i o (j - at.before t level i c) x p r e in (
+        record {
+          low = ltb-true _ _ (z .0);
+          block-is = ap (λ (n : BlockNumber). n .0) (z .2);
+          place-is = ap (λ (n : BlockPlace). n .0) (z .3);
+          rest-is = z .4;
+        },
+        z .1,
+      )
 
-  pub picked-points : (x : BlockNumber) (p : BlockPlace) (r : ℕ) → picked t c level i o j ≡ child.Points x p r → (Picked t c level i o j (x .0) (p .0) r) × (pointingBlock t level i ≡ true)
+  pub picked-points : (x : BlockNumber) (p : BlockPlace) (r : ℕ)
+      → picked t c level i o j ≡ child.Points x p r → (Picked t c level i o j (x .0) (p .0) r) × (pointingBlock t level i ≡ true)
   unfolding picked nextAt
   picked-points x p r e =
-      let z = case-points (ltb (at.before t level i c) j) (keptBlock t level i) (pointingBlock t level i) i o (j - at.before t level i c) x p r e in
-      (record { low = ltb-true _ _ (z .0); block-is = ap (λ (n : BlockNumber). n .0) (z .2); place-is = ap (λ (n : BlockPlace). n .0) (z .3); rest-is = z .4 }, z .1)
+      let z = case-points (ltb (at.before t level i c) j) (keptBlock t level i) (pointingBlock t level i) i o (j - at.before t level i c) x p r e in (
+        record {
+          low = ltb-true _ _ (z .0);
+          block-is = ap (λ (n : BlockNumber). n .0) (z .2);
+          place-is = ap (λ (n : BlockPlace). n .0) (z .3);
+          rest-is = z .4;
+        },
+        z .1,
+      )
 
   pub picked-off : picked t c level i o j ≡ child.Off → at.before t level i c < j → (keptBlock t level i ≡ true) ⊎ (pointingBlock t level i ≡ true) → ⊥
   unfolding picked nextAt
-  picked-off e low s = case-off (ltb (at.before t level i c) j) (keptBlock t level i) (pointingBlock t level i) i o (j - at.before t level i c) e (lt-ltb _ _ low) s
+  picked-off e low s = case-off
+      (ltb (at.before t level i c) j) (keptBlock t level i) (pointingBlock t level i) i o (j - at.before t level i c) e (lt-ltb _ _ low) s
 
 -- Accepted trees.
 
@@ -139,7 +158,8 @@ unfolding keptBlock
 is-kept t l i h = and-right (ltb i (N t l)) (at.isKept t l i) h
 
 -- The child that is chosen.
-module _ (t : List ℕ) (h : Header) (c level b i below j link count : ℕ) (kept : KeptIn t h level b i) (lower : OnLevel t h (level + 1) below) (hc : c < at.countedCount t) (low : 1 ≤ j)
+module _ (t : List ℕ) (h : Header) (c level b i below j link count : ℕ)
+    (kept : KeptIn t h level b i) (lower : OnLevel t h (level + 1) below) (hc : c < at.countedCount t) (low : 1 ≤ j)
     (link-is : link ≡ at.link t level i) (count-is : count ≡ pieces (at.blockLengthAt t level i) below) where
   hi : i < N t level
   hi = kept-in t level i (kept .kept)
@@ -187,8 +207,10 @@ module _ (t : List ℕ) (h : Header) (c level b i below j link count : ℕ) (kep
 
     pub child-picked : (r : Child) → r ≡ picked t c (level + 1) x ((x - link) * below) j → ChildWith t c level i below j r
     child-picked r r-is = record {
-      kept = λ y p q e. (let z = picked-kept t c (level + 1) x ((x - link) * below) j y p q (sym r-is ∙ e) in (chosen (y .0) (p .0) q (z .0), rw (z .0 .block-is) (z .1)));
-      points = λ y p q e. (let z = picked-points t c (level + 1) x ((x - link) * below) j y p q (sym r-is ∙ e) in (chosen (y .0) (p .0) q (z .0), rw (z .0 .block-is) (z .1)));
+      kept = λ y p q e. (let z = picked-kept t c (level + 1) x ((x - link) * below) j y p q (sym r-is ∙ e) in
+          (chosen (y .0) (p .0) q (z .0), rw (z .0 .block-is) (z .1)));
+      points = λ y p q e. (let z = picked-points t c (level + 1) x ((x - link) * below) j y p q (sym r-is ∙ e) in
+          (chosen (y .0) (p .0) q (z .0), rw (z .0 .block-is) (z .1)));
       off = λ e v. picked-off t c (level + 1) x ((x - link) * below) j (sym r-is ∙ e)
           (last .here (rw link-is (omega (arith, first-none t v c hc level i (lower .level-in) hi (is-kept t level i (kept .kept))))))
           (one-of t v (level + 1) x (lower .level-in) (omega (arith, last .high)));
@@ -196,7 +218,8 @@ module _ (t : List ℕ) (h : Header) (c level b i below j link count : ℕ) (kep
 
 -- The target that is chosen.
 
-case-target : (kept : Bool) (i f r : ℕ) (x : BlockNumber) (g : BlockPlace) (q : ℕ) → cond kept (target.Kept (record { 0 = i }) (record { 0 = f }) r) target.Off ≡ target.Kept x g q
+case-target : (kept : Bool) (i f r : ℕ) (x : BlockNumber) (g : BlockPlace) (q : ℕ)
+    → cond kept (target.Kept (record { 0 = i }) (record { 0 = f }) r) target.Off ≡ target.Kept x g q
     → (kept ≡ true) × (x ≡ record { 0 = i }) × (g .0 ≡ f) × (q ≡ r)
 case-target true i f r x g q e = let y : g ≡ record { 0 = f } = cc in (refl, cc, ap (λ (n : BlockPlace). n .0) y, cc)
 case-target false i f r x g q e = absurd (let z : _≡_ {A = ℕ} 0 1 = cc in omega arith)
@@ -205,7 +228,8 @@ case-no-target : (kept : Bool) (i f r : ℕ) → cond kept (target.Kept (record 
 case-no-target true i f r e k = let z : _≡_ {A = ℕ} 0 1 = cc in omega arith
 case-no-target false i f r e k = bool-clash false k refl
 
-pub target-kept : (t : List ℕ) (level i f r kind : ℕ) → i < N t level → kind ≡ at.kind t level i → kind ≡ 0 → target.Kept (record { 0 = i }) (record { 0 = f }) r ≡ targetAt t level i f r
+pub target-kept : (t : List ℕ) (level i f r kind : ℕ)
+    → i < N t level → kind ≡ at.kind t level i → kind ≡ 0 → target.Kept (record { 0 = i }) (record { 0 = f }) r ≡ targetAt t level i f r
 unfolding targetAt keptBlock at.isKept
 target-kept t level i f r kind hi is z = rw (lt-ltb _ _ hi, ← is, z)
 
@@ -220,7 +244,8 @@ not-kept t l i p = go (bool-cases (at.isKept t l i))
     go (inl kept) = bool-clash (keptBlock t l i) (kept-block t l i (pointing-in t l i p) kept) (pointing-not-kept t l i p)
     go (inr un) = un
 
-module _ (t : List ℕ) (h : Header) (c level b i j link : ℕ) (p : PointsIn t h level b i) (hc : c < at.countedCount t) (low : 1 ≤ j) (link-is : link ≡ at.link t level i) where
+module _ (t : List ℕ) (h : Header)
+    (c level b i j link : ℕ) (p : PointsIn t h level b i) (hc : c < at.countedCount t) (low : 1 ≤ j) (link-is : link ≡ at.link t level i) where
   at-block : i < N t level
   at-block = pointing-in t level i (p .points)
 
@@ -234,7 +259,8 @@ module _ (t : List ℕ) (h : Header) (c level b i j link : ℕ) (p : PointsIn t 
   pub aim-past : at.levelCount t level ≤ link → TargetWith t c level i b j target.Off
   aim-past past = no-aim (λ v high. omega (arith, points-at v .target-below))
 
-  module _ (skip inside rank : ℕ) (skip-is : skip ≡ at.skip t level i c) (skip-small : skip ≤ 4294967295) (inside-is : inside ≡ at.inside t level link c) (rank-is : rank ≡ j + skip) where
+  module _ (skip inside rank : ℕ) (skip-is : skip ≡ at.skip t level i c)
+      (skip-small : skip ≤ 4294967295) (inside-is : inside ≡ at.inside t level link c) (rank-is : rank ≡ j + skip) where
     inside-link : inside ≡ at.inside t level (at.link t level i) c
     inside-link = rw link-is at inside-is
 
@@ -253,13 +279,15 @@ module _ (t : List ℕ) (h : Header) (c level b i j link : ℕ) (p : PointsIn t 
             either = inl (same ∙ link-is, z .2, z .3 ∙ rank-is ∙ ap (λ (n : ℕ). j + n) skip-is, omega (arith, z .3, inside-link));
           });
       off = λ e v high.
-          case-no-target (keptBlock t level link) link 0 rank (sym r-is ∙ e) (rw link-is (kept-block t level (at.link t level i) (points-at v .target-below) (points-at v .target-kept)));
+          case-no-target (keptBlock t level link)
+          link 0 rank (sym r-is ∙ e) (rw link-is (kept-block t level (at.link t level i) (points-at v .target-below) (points-at v .target-kept)));
     }
 
     module _ (past : inside < rank) where
       follows : (v : verdict t ≡ 0) → j ≤ at.inside t level i c → links.Follows t level (at.link t level i)
       follows v high =
-          finds.second-holds t (k t v) (d t v) (a t v) c hc level i j (p .on .level-in) at-block (not-kept t level i (p .points)) low high (omega (arith, inside-link)) .0
+          finds.second-holds t (k t v)
+          (d t v) (a t v) c hc level i j (p .on .level-in) at-block (not-kept t level i (p .points)) low high (omega (arith, inside-link)) .0
 
       pub aim-no-second : link < at.levelCount t level → at.levelCount t level - link ≡ 1 → TargetWith t c level i b j target.Off
       aim-no-second within one = no-aim (λ v high. omega (arith, follows v high .below))
@@ -292,7 +320,8 @@ module _ (t : List ℕ) (c level i j : ℕ) where
   pub not-found : (most : ℕ) → (verdict t ≡ 0 → c < at.countedCount t → j ≤ at.inside t level i c → ⊥) → FoundIn t c level i j most placed.Off
   not-found most never = record { near = near-off most; right = λ v hc high. absurd (never v hc high) }
 
-module _ (t : List ℕ) (h : Header) (w : Wanted) (level b i j link n : ℕ) (kept : KeptIn t h level b i) (w-is : Seeking t h w level b j (level + 2)) (last : level + 1 ≡ h .settings .levels)
+module _ (t : List ℕ) (h : Header) (w : Wanted)
+    (level b i j link n : ℕ) (kept : KeptIn t h level b i) (w-is : Seeking t h w level b j (level + 2)) (last : level + 1 ≡ h .settings .levels)
     (link-is : link ≡ at.link t level i) (n-is : (n ≡ at.blockLengthAt t level i) × (n ≤ b)) where
   bottom : level + 1 ≡ H t
   bottom = last ∙ kept .on .header .levels-is
@@ -301,7 +330,8 @@ module _ (t : List ℕ) (h : Header) (w : Wanted) (level b i j link n : ℕ) (ke
   leaf-block = kept-in t level i (kept .kept)
 
   pub leaf-past : h .«leaf_count» < link + n → FoundIn t (w .number) level i j 1 placed.Off
-  leaf-past past = not-found t (w .number) level i j 1 (λ v hc high. omega (arith, leaves-end t (k t v) (d t v) level i bottom leaf-block, n-is .0, kept .on .header .count-is))
+  leaf-past past = not-found t
+      (w .number) level i j 1 (λ v hc high. omega (arith, leaves-end t (k t v) (d t v) level i bottom leaf-block, n-is .0, kept .on .header .count-is))
 
   pub leaf-room : link + n ≤ h .«leaf_count» → h .«leaf_offset» + link + n ≤ length t
   leaf-room within = omega (arith, kept .on .header .facts .size, kept .on .header .offset-is, kept .on .header .count-is)
@@ -341,7 +371,8 @@ module _ (t : List ℕ) (h : Header) (w : Wanted) (level b i j link n : ℕ) (ke
 
 -- Places moved.
 
-near-case : (o : BlockPlace) (e f g m : ℕ) (x : Bool) (p : BlockPlace) (q : ℕ) → cond x (placed.At (record { 0 = f + o .0 - g }) (e + 1)) placed.Off ≡ placed.At p q
+near-case : (o : BlockPlace) (e f g m : ℕ) (x : Bool) (p : BlockPlace) (q : ℕ)
+    → cond x (placed.At (record { 0 = f + o .0 - g }) (e + 1)) placed.Off ≡ placed.At p q
     → o .0 ≤ e * maxText → e ≤ m → f ≤ maxText → (p .0 ≤ q * maxText) × (q ≤ m + 1)
 near-case o e f g m true p q h a c s =
     let p₁ : record { 0 = f + o .0 - g } ≡ p = cc in
@@ -360,7 +391,8 @@ near-moved placed.Off r f g m n s r-is = rw r-is (near-off (m + 1))
 pub near-more : (r : Placed) (m n : ℕ) → Near r m → m ≤ n → Near r n
 near-more r m n h l = record { near = λ o e x. (h .near o e x .0, omega (arith, h .near o e x .1)) }
 
-moved-to : (x r : Placed) (f g : ℕ) (o : BlockPlace) (e p q : ℕ) → r ≡ moved x f g → x ≡ placed.At o e → g ≤ f + o .0 → p ≡ f + o .0 - g → q ≡ e + 1 → r ≡ placed.At (record { 0 = p }) q
+moved-to : (x r : Placed) (f g : ℕ) (o : BlockPlace) (e p q : ℕ)
+    → r ≡ moved x f g → x ≡ placed.At o e → g ≤ f + o .0 → p ≡ f + o .0 - g → q ≡ e + 1 → r ≡ placed.At (record { 0 = p }) q
 unfolding moved
 moved-to x r f g o e p q r-is is low p-is q-is = rw (r-is, is, le-leb g (f + o .0) low, p-is, q-is)
 
@@ -369,7 +401,8 @@ lands-same : (t : List ℕ) (v : verdict t ≡ 0) (c : ℕ) (hc : c < at.counted
 lands-same t v c hc l x y n m o e p q z = rw (← p, ← q) z
 
 -- From a kept block to a child.
-module _ (t : List ℕ) (h : Header) (w : Wanted) (level b i j below : ℕ) (kept : KeptIn t h level b i) (seeks : Seeking t h w level b j (level + 2)) (lower : OnLevel t h (level + 1) below) where
+module _ (t : List ℕ) (h : Header) (w : Wanted)
+    (level b i j below : ℕ) (kept : KeptIn t h level b i) (seeks : Seeking t h w level b j (level + 2)) (lower : OnLevel t h (level + 1) below) where
   abbrev c : ℕ
   c = w .number
 
@@ -403,11 +436,14 @@ module _ (t : List ℕ) (h : Header) (w : Wanted) (level b i j below : ℕ) (kep
             let within : n < pieces (len t level i) (at.fullLength t (level + 1)) = rw (lower .b-is) at (ch .within) in
             let next : n + 1 < pieces (len t level i) (at.fullLength t (level + 1)) → j ≤ at.before t (level + 1) (at.link t level i + (n + 1)) c =
             λ q. rw e₁ (ch .next (rw (lower .b-is) q)) in
-            let holds : j ≤ at.before t (level + 1) x c + at.inside t (level + 1) x c = rw e at (finds.child-holds t (k t v) (d t v) (a t v) c hc level i hl hi k₁ n j within high next) in
+            let holds : j ≤ at.before t (level + 1) x c + at.inside t (level + 1) x c =
+            rw e at (finds.child-holds t (k t v) (d t v) (a t v) c hc level i hl hi k₁ n j within high next) in
             let z = f .right v hc (omega (arith, ch .rest-is, ch .before-low)) in
             let q = z .place in
-            let lands : finds.Lands t (k t v) (d t v) (a t v) c hc (level + 1) (at.link t level i + n) (j - at.before t (level + 1) (at.link t level i + n) c) (q .0) (z .entered) =
-            lands-same t v c hc (level + 1) x (at.link t level i + n) rest (j - at.before t (level + 1) (at.link t level i + n) c) (q .0) (z .entered) (sym e) (rw e (ch .rest-is)) (z .lands) in
+            let lands : finds.Lands t (k t v)
+            (d t v) (a t v) c hc (level + 1) (at.link t level i + n) (j - at.before t (level + 1) (at.link t level i + n) c) (q .0) (z .entered) =
+            lands-same t v c hc (level + 1) x (at.link t level i + n)
+            rest (j - at.before t (level + 1) (at.link t level i + n) c) (q .0) (z .entered) (sym e) (rw e (ch .rest-is)) (z .lands) in
             let low : at.before t (level + 1) (at.link t level i + n) c < j = rw e (ch .before-low) in
             let place : o ≡ n * at.fullLength t (level + 1) = ch .place-is ∙ rw (lower .b-is) in record {
               place = record { 0 = n * at.fullLength t (level + 1) + q .0 };
@@ -424,14 +460,24 @@ module _ (t : List ℕ) (h : Header) (w : Wanted) (level b i j : ℕ) (points : 
   pub last-points : (most : ℕ) → level + 1 ≡ h .settings .levels → FoundIn t (w .number) level i j most placed.Off
   last-points most last =
       not-found t (w .number) level i j most (λ v hc high.
-      omega (arith, points-at t h (w .number) level b i j (at.link t level i) points (seeks .number-in) (seeks .low) refl v .above, points .on .header .levels-is))
+      omega (
+        arith,
+        points-at t h (w .number) level b i j (at.link t level i) points (seeks .number-in) (seeks .low) refl v .above,
+        points .on .header .levels-is,
+      ))
 
   module _ (x forward rest : ℕ) (am : Aimed t (w .number) level i b j x forward rest) where
     pub aimed-kept : KeptIn t h level b x
     aimed-kept = record { on = points .on; kept = am .kept }
 
     pub to-aimed : Seeking t h w level b rest (level + 2)
-    to-aimed = record { on = points .on; number-in = seeks .number-in; byte-is = seeks .byte-is; low = am .rest-low; few = omega (arith, seeks .few, am .rest-high) }
+    to-aimed = record {
+      on = points .on;
+      number-in = seeks .number-in;
+      byte-is = seeks .byte-is;
+      low = am .rest-low;
+      few = omega (arith, seeks .few, am .rest-high);
+    }
 
     pub by-aimed : (gap m most : ℕ) (r r₁ : Placed) → gap ≡ at.gap t level i → FoundIn t (w .number) level x rest m r₁ → r ≡ moved r₁ forward gap → m + 1 ≤ most
         → FoundIn t (w .number) level i j most r
@@ -441,7 +487,8 @@ module _ (t : List ℕ) (h : Header) (w : Wanted) (level b i j : ℕ) (points : 
     }
       where
         go : (v : verdict t ≡ 0) (hc : w .number < at.countedCount t) → j ≤ at.inside t level i (w .number)
-            → ((x ≡ at.link t level i) × (forward ≡ 0) × (rest ≡ j + at.skip t level i (w .number)) × (rest ≤ at.inside t level (at.link t level i) (w .number)))
+            → ((x ≡ at.link t level i)
+            × (forward ≡ 0) × (rest ≡ j + at.skip t level i (w .number)) × (rest ≤ at.inside t level (at.link t level i) (w .number)))
             ⊎ ((x ≡ at.link t level i + 1) × (forward ≡ b) × (at.inside t level (at.link t level i) (w .number) < j + at.skip t level i (w .number))
             × (rest ≡ j + at.skip t level i (w .number) - at.inside t level (at.link t level i) (w .number)))
             → Landed t v (w .number) hc level i j r
@@ -454,10 +501,12 @@ module _ (t : List ℕ) (h : Header) (w : Wanted) (level b i j : ℕ) (points : 
             let q = z .place in
             let lands : finds.Lands t (k t v) (d t v) (a t v) c hc level (at.link t level i) (j + at.skip t level i c) (q .0) (z .entered) =
             lands-same t v c hc level x (at.link t level i) rest (j + at.skip t level i c) (q .0) (z .entered) (s .0) (s .2) (z .lands) in
-            let got = finds.lands-first t (k t v) (d t v) (a t v) c hc level i j (points .on .level-in) hi un (seeks .low) high (q .0) (z .entered) lands in record {
+            let got = finds.lands-first
+            t (k t v) (d t v) (a t v) c hc level i j (points .on .level-in) hi un (seeks .low) high (q .0) (z .entered) lands in record {
               place = record { 0 = q .0 - at.gap t level i };
               entered = z .entered + 1;
-              is = moved-to r₁ r forward gap q (z .entered) (q .0 - at.gap t level i) (z .entered + 1) r-is (z .is) (omega (arith, got .0, s .1)) (omega (arith, s .1)) refl;
+              is = moved-to r₁ r forward
+                  gap q (z .entered) (q .0 - at.gap t level i) (z .entered + 1) r-is (z .is) (omega (arith, got .0, s .1)) (omega (arith, s .1)) refl;
               lands = got .1;
             }
         go v hc high (inr s) =
@@ -468,13 +517,17 @@ module _ (t : List ℕ) (h : Header) (w : Wanted) (level b i j : ℕ) (points : 
             let most-here : rest ≤ at.inside t level x c = rw (s .0, s .3) (second .1) in
             let z = f .right v hc most-here in
             let q = z .place in
-            let lands : finds.Lands t (k t v) (d t v) (a t v) c hc level (at.link t level i + 1) (j + at.skip t level i c - at.inside t level (at.link t level i) c) (q .0) (z .entered) =
-            lands-same t v c hc level x (at.link t level i + 1) rest (j + at.skip t level i c - at.inside t level (at.link t level i) c) (q .0) (z .entered) (s .0) (s .3) (z .lands) in
-            let got = finds.lands-second t (k t v) (d t v) (a t v) c hc level i j (points .on .level-in) hi un (seeks .low) high (s .2) (q .0) (z .entered) lands in
+            let lands : finds.Lands t (k t v) (d t v)
+            (a t v) c hc level (at.link t level i + 1) (j + at.skip t level i c - at.inside t level (at.link t level i) c) (q .0) (z .entered) =
+            lands-same t v c hc level x (at.link t level i + 1)
+            rest (j + at.skip t level i c - at.inside t level (at.link t level i) c) (q .0) (z .entered) (s .0) (s .3) (z .lands) in
+            let got = finds.lands-second
+            t (k t v) (d t v) (a t v) c hc level i j (points .on .level-in) hi un (seeks .low) high (s .2) (q .0) (z .entered) lands in
             let full = points .on .b-is in record {
               place = record { 0 = at.fullLength t level + q .0 - at.gap t level i };
               entered = z .entered + 1;
-              is = moved-to r₁ r forward gap q (z .entered) (at.fullLength t level + q .0 - at.gap t level i) (z .entered + 1) r-is (z .is) (omega (arith, got .0, s .1)) (omega (arith, s .1)) refl;
+              is = moved-to r₁ r forward gap q (z .entered) (at.fullLength t level + q .0 - at.gap t level i)
+                  (z .entered + 1) r-is (z .is) (omega (arith, got .0, s .1)) (omega (arith, s .1)) refl;
               lands = got .1;
             }
 

@@ -18,7 +18,8 @@ use Rattle.ask_select.specs.Seeks.{moved, restIn, LastBefore, picked}
 -- siblings
 
 module _ (t : List ℕ) (c level first end j : ℕ) where
-  pub last-stop : (r : ℕ) → first ≤ r → r < end → (at.before t level first c < j → at.before t level r c < j) → (n : ℕ) → n ≡ at.before t level (r + 1) c → j ≤ n
+  pub last-stop : (r : ℕ) → first ≤ r
+      → r < end → (at.before t level first c < j → at.before t level r c < j) → (n : ℕ) → n ≡ at.before t level (r + 1) c → j ≤ n
       → LastBefore t c level first end j r
   last-stop r low high here n n-is stop = record { low = low; high = high; here = here; next = λ x. rw n-is at stop }
 

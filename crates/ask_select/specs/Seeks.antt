@@ -94,8 +94,10 @@ module _ (t : List ℕ) where
 
   -- it is kept or it points; on an accepted tree there is one
   pub record ChildWith (c level i below j : ℕ) (r : Child) : Type 0 where
-    pub kept : (x : BlockNumber) (o : BlockPlace) (rest : ℕ) → r ≡ child.Kept x o rest → (Chosen c level i below j (x .0) (o .0) rest) × (keptBlock t (level + 1) (x .0) ≡ true)
-    pub points : (x : BlockNumber) (o : BlockPlace) (rest : ℕ) → r ≡ child.Points x o rest → (Chosen c level i below j (x .0) (o .0) rest) × (pointingBlock t (level + 1) (x .0) ≡ true)
+    pub kept : (x : BlockNumber) (o : BlockPlace) (rest : ℕ)
+        → r ≡ child.Kept x o rest → (Chosen c level i below j (x .0) (o .0) rest) × (keptBlock t (level + 1) (x .0) ≡ true)
+    pub points : (x : BlockNumber) (o : BlockPlace) (rest : ℕ)
+        → r ≡ child.Points x o rest → (Chosen c level i below j (x .0) (o .0) rest) × (pointingBlock t (level + 1) (x .0) ≡ true)
     pub off : r ≡ child.Off → verdict t ≡ 0 → ⊥
 
   -- the target of pointing block i that has the j-th byte: the first with all of j and the skip, or the second with the rest
@@ -105,7 +107,8 @@ module _ (t : List ℕ) where
     pub rest-high : rest ≤ j + 4294967295
     pub forward-low : forward ≤ b
     pub either : ((x ≡ at.link t level i) × (forward ≡ 0) × (rest ≡ j + at.skip t level i c) × (rest ≤ at.inside t level (at.link t level i) c))
-        ⊎ ((x ≡ at.link t level i + 1) × (forward ≡ b) × (at.inside t level (at.link t level i) c < j + at.skip t level i c) × (rest ≡ j + at.skip t level i c - at.inside t level (at.link t level i) c))
+        ⊎ ((x ≡ at.link t level i + 1) × (forward ≡ b) × (at.inside t level (at.link t level i) c < j + at.skip t level i c)
+        × (rest ≡ j + at.skip t level i c - at.inside t level (at.link t level i) c))
 
   -- a block pointed to, if it is kept
   unfoldable pub targetAt : ℕ → ℕ → ℕ → ℕ → Target

@@ -1,10 +1,10 @@
 // Find, of a tree that passes questions 5 to 7, by its header.
 use crate::Found;
 use crate::seek;
-use layout::header::Header;
 use ask_rank::count_by_header;
 use ask_rank::counted_number;
 use ask_rank::counted_number::Wanted;
+use layout::header::Header;
 ghost use Rattle.layout.specs.HeaderSays.{HeaderOf};
 ghost use Rattle.ask_select.specs.Found.{FindAnswer};
 

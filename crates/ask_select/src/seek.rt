@@ -2,13 +2,13 @@
 // for a kept block and the step for a pointing block call each other: twice the levels left, plus one if a pointer may still be
 // followed, falls.
 use crate::Found;
+use ask_rank::counted_number::Wanted;
 use layout::header;
 use layout::header::Header;
 use layout::place::BlockNumber;
 use layout::place::BlockPlace;
 use layout::place::TextPlace;
 use layout::record;
-use ask_rank::counted_number::Wanted;
 use walk_steps::Next;
 ghost use mathlib.Core.Path.{_≡_};
 ghost use Prim.Native.Nat.{_+_, _-_, _*_, _≤_, _<_};
@@ -19,7 +19,8 @@ ghost use Rattle.layout.specs.HeaderSays.{HeaderOf};
 ghost use Rattle.walk_steps.specs.QuestionStands.{OnLevel, InTable};
 ghost use Rattle.theory_counts.specs.CountsLocal.{byteOf};
 ghost use Rattle.ask_select.specs.Found.{saidFind, Numbered, placedIn, Sought, Stopped, SoughtIn};
-ghost use Rattle.ask_select.specs.Seeks.{Near, moved, Siblings, Passed, LastBefore, picked, KeptIn, PointsIn, ChildWith, targetAt, TargetWith, Seeking, FoundIn};
+ghost use Rattle.ask_select.specs.Seeks.{Near, moved, Siblings, Passed, LastBefore, picked, KeptIn, PointsIn, ChildWith, targetAt, TargetWith};
+ghost use Rattle.ask_select.specs.Seeks.{Seeking, FoundIn};
 
 // A place in a block, and how many blocks its path enters from that block on.
 pub enum Placed {
@@ -58,8 +59,10 @@ fn larger(a: u32, b: u32) -> u32
 
 // The largest before of the four blocks after a block.
 fn largest_before(t: &[u8], h: Header, number: u32, level: u32, block: BlockNumber) -> u32
-    requires { ⌜ (HeaderOf (now t) h) × (level < at.settings (now t) .levels) × (number < at.countedCount (now t)) × (block .0 + 4 < at.levelCount (now t) level) × (block .0 + 4 < 4294967296) ⌝ }
-    ensures { λ r. ⌜ (at.before (now (t .entry)) level (block .0 + 1) number ≤ r) × (at.before (now (t .entry)) level (block .0 + 2) number ≤ r) × (at.before (now (t .entry)) level (block .0 + 3) number ≤ r) × (at.before (now (t .entry)) level (block .0 + 4) number ≤ r) ⌝ }
+    requires { ⌜ (HeaderOf (now t) h) × (level < at.settings (now t) .levels)
+        × (number < at.countedCount (now t)) × (block .0 + 4 < at.levelCount (now t) level) × (block .0 + 4 < 4294967296) ⌝ }
+    ensures { λ r. ⌜ (at.before (now (t .entry)) level (block .0 + 1) number ≤ r) × (at.before (now (t .entry)) level (block .0 + 2) number ≤ r)
+        × (at.before (now (t .entry)) level (block .0 + 3) number ≤ r) × (at.before (now (t .entry)) level (block .0 + 4) number ≤ r) ⌝ }
 {
     let size = h.record_size;
     let a = record::before(t, size, level, BlockNumber(block.0 + 1), number);
@@ -402,7 +405,8 @@ fn text_place(n: u32, b: u32, block: BlockNumber, found: Placed) -> Found
 
 // The place of the j-th byte of the text, from the block of level 0 that was stepped to.
 pub fn seek_in(t: &[u8], h: Header, wanted: Wanted, j: u32, block: BlockNumber) -> Found
-    requires { ⌜ (HeaderOf (now t) h) × (wanted .number < at.countedCount (now t)) × (wanted .byte ≡ byteOf (now t) (wanted .number)) × (1 ≤ j) × (j ≤ total (now t) (wanted .number)) ⌝ }
+    requires { ⌜ (HeaderOf (now t) h) × (wanted .number < at.countedCount (now t))
+        × (wanted .byte ≡ byteOf (now t) (wanted .number)) × (1 ≤ j) × (j ≤ total (now t) (wanted .number)) ⌝ }
     requires { ⌜ Stopped (now t) (wanted .number) j (block .0) ⌝ }
     ensures { λ r. ⌜ (SoughtIn (now (t .entry)) (wanted .byte) (wanted .number) j (block .0) (saidFind r)) × (Numbered r) ⌝ }
 {
@@ -427,7 +431,8 @@ pub fn seek_in(t: &[u8], h: Header, wanted: Wanted, j: u32, block: BlockNumber) 
 
 // The place of the j-th byte of the text.
 pub fn seek(t: &[u8], h: Header, wanted: Wanted, j: u32) -> Found
-    requires { ⌜ (HeaderOf (now t) h) × (wanted .number < at.countedCount (now t)) × (wanted .byte ≡ byteOf (now t) (wanted .number)) × (1 ≤ j) × (j ≤ total (now t) (wanted .number)) ⌝ }
+    requires { ⌜ (HeaderOf (now t) h) × (wanted .number < at.countedCount (now t))
+        × (wanted .byte ≡ byteOf (now t) (wanted .number)) × (1 ≤ j) × (j ≤ total (now t) (wanted .number)) ⌝ }
     ensures { λ r. ⌜ (Sought (now (t .entry)) (wanted .byte) j (saidFind r)) × (Numbered r) ⌝ }
 {
     let block = first_block(t, h, wanted.number, j as u64);

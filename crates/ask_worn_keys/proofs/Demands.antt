@@ -48,12 +48,14 @@ shown-marks ranges T mark z = go (eqb (nextMatch ranges T mark) 0) refl (leb mar
     R = length (rowsOf T)
 
     said : Bool → Bool → ShownSaid
-    said none low = cond none (record { number = 0; row = 0; mark = cond low R mark }) (record { number = 0; row = nextMatch ranges T mark; mark = nextMatch ranges T mark })
+    said none low = cond none
+        (record { number = 0; row = 0; mark = cond low R mark }) (record { number = 0; row = nextMatch ranges T mark; mark = nextMatch ranges T mark })
 
     is : (b c : Bool) → eqb (nextMatch ranges T mark) 0 ≡ b → leb mark R ≡ c → shownFor ranges T mark ≡ said b c
     is b c e f = rw (e, f)
 
-    go : (b : Bool) → eqb (nextMatch ranges T mark) 0 ≡ b → (c : Bool) → leb mark R ≡ c → (mark ≤ shownFor ranges T mark .mark) × ((shownFor ranges T mark .mark ≡ mark) ⊎ (shownFor ranges T mark .mark ≡ R))
+    go : (b : Bool) → eqb (nextMatch ranges T mark) 0 ≡ b → (c : Bool)
+        → leb mark R ≡ c → (mark ≤ shownFor ranges T mark .mark) × ((shownFor ranges T mark .mark ≡ mark) ⊎ (shownFor ranges T mark .mark ≡ R))
     go true e true f = rw (is true true e f) (leb-true mark R f, inr refl)
     go true e false f = rw (is true false e f) (omega arith, inl refl)
     go false e c f = absurd (eqb-false (nextMatch ranges T mark) 0 e (sym (ap (λ (s : ShownSaid). s .row) (is false c e f)) ∙ z))
@@ -98,7 +100,8 @@ module _ (t ranges : List ℕ) where
     let-through z = go (lt-or-ge 0 (matchNumber t ranges))
       where
         go : (0 < matchNumber t ranges) ⊎ (matchNumber t ranges ≤ 0) → matchNumber t ranges ≡ 0
-        go (inl l) = absurd (let e : saidShown mark r .number ≡ matchNumber t ranges = ap (λ (s : ShownSaid). s .number) (a .says .asked l) in let x : ⊥ = omega arith in x)
+        go (inl l) = absurd (let e : saidShown mark r .number ≡ matchNumber t ranges = ap (λ (s : ShownSaid). s .number) (a .says .asked l) in
+            let x : ⊥ = omega arith in x)
         go (inr g) = omega arith
 
   counted-of : matchNumber t ranges ≡ 0 → isCounted t 10 ≡ true
@@ -133,7 +136,8 @@ module _ (t ranges : List ℕ) where
         one : (b : Bool) → eqb n 0 ≡ b → b ≡ false → shownFor ranges T mark .row ≡ n
         one b e f = rw (e ∙ f)
 
-        go : (x : Shown) → Numbered x → saidShown mark x ≡ shownFor ranges T mark → (b : Bool) → eqb n 0 ≡ b → x ≡ cond b (Nothing (shownFor ranges T mark .mark)) (Row n)
+        go : (x : Shown) → Numbered x
+            → saidShown mark x ≡ shownFor ranges T mark → (b : Bool) → eqb n 0 ≡ b → x ≡ cond b (Nothing (shownFor ranges T mark .mark)) (Row n)
         go (Row q) low s true e = absurd (let y : ⊥ = omega (arith, ap (λ (w : ShownSaid). w .row) s, none true e refl) in y)
         go (Row q) low s false e = ap Row (ap (λ (w : ShownSaid). w .row) s ∙ one false e refl)
         go (Nothing m) low s true e = ap Nothing (ap (λ (w : ShownSaid). w .mark) s)
@@ -215,7 +219,8 @@ module _ (t ranges : List ℕ) where
       free (inr (inl h)) = (h .2, h .3)
       free (inr (inr h)) = absurd (let z : ⊥ = omega (arith, h .1) in z)
 
-      moved : (v : verdict t ≡ 0) → m ≡ shownFor ranges (textOf t) mark .mark → (mark ≤ shownFor ranges (textOf t) mark .mark) × ((shownFor ranges (textOf t) mark .mark ≡ mark) ⊎ (shownFor ranges (textOf t) mark .mark ≡ length (rowsOf (textOf t))))
+      moved : (v : verdict t ≡ 0) → m ≡ shownFor ranges (textOf t) mark .mark → (mark ≤ shownFor ranges (textOf t) mark .mark)
+          × ((shownFor ranges (textOf t) mark .mark ≡ mark) ⊎ (shownFor ranges (textOf t) mark .mark ≡ length (rowsOf (textOf t))))
           → (mark ≤ m) × ((m ≡ mark) ⊎ (m ≤ mostRows t ranges))
       moved v e (l, inl s) = (omega arith, inl (e ∙ s))
       moved v e (l, inr s) = (omega arith, inr (omega (arith, rows-total t v (counted-of through) .1)))
@@ -236,7 +241,8 @@ module _ (t ranges : List ℕ) where
       free (inr (inl h)) = absurd (let z : ⊥ = omega (arith, a .numbered, h .0) in z)
       free (inr (inr h)) = absurd (let z : ⊥ = omega (arith, a .numbered, h .0) in z)
 
-      go : (0 < matchNumber t ranges) ⊎ (matchNumber t ranges ≤ 0) → (0 < verdict t) ⊎ (verdict t ≤ 0) → (n ≡ matchNumber t ranges) ⊎ ((n ≡ 14) × (verdict t ≡ 0 → ⊥))
+      go : (0 < matchNumber t ranges)
+          ⊎ (matchNumber t ranges ≤ 0) → (0 < verdict t) ⊎ (verdict t ≤ 0) → (n ≡ matchNumber t ranges) ⊎ ((n ≡ 14) × (verdict t ≡ 0 → ⊥))
       go (inl l) w = inl (ap (λ (s : ShownSaid). s .number) (a .says .asked l))
       go (inr z) (inl w) = inr (free (a .says .free (omega arith) (λ v. omega arith)), λ v. omega arith)
       go (inr z) (inr w) = absurd (shown-only ranges (textOf t) mark n (a .numbered) (a .says .accepted (omega arith) (omega arith)))

@@ -109,7 +109,8 @@ module _ (t ranges : List ℕ) (mark : ℕ) where
           unfolding runFrom
           right v = by (s .settled)
             where
-              by : (r ≡ finished ranges (scanOf ranges (drop p (textOf t)) (Code 0) (mark + 1))) ⊎ ((r ≡ Refused 14) × (verdict t ≡ 0 → ⊥)) → r ≡ result ranges ok (mark + 1) rows
+              by : (r ≡ finished ranges (scanOf ranges (drop p (textOf t)) (Code 0) (mark + 1)))
+                  ⊎ ((r ≡ Refused 14) × (verdict t ≡ 0 → ⊥)) → r ≡ result ranges ok (mark + 1) rows
               by (inl e) = e ∙ scan-rows ranges ok (drop p (textOf t)) [] (mark + 1) (omega arith) (count-nil 10) ∙ ap (result ranges ok (mark + 1)) (begins v)
               by (inr e) = absurd (e .1 v)
 
@@ -143,7 +144,8 @@ module _ (t ranges : List ℕ) (mark : ℕ) where
           numbers (Refused n) h = omega arith
 
           -- an accepted tree
-          small : eqb (firstFrom ranges (mark + 1) (drop mark (rowsOf (textOf t)))) 0 ≡ false → verdict t ≡ 0 → Next ranges (textOf t) mark → firstFrom ranges (mark + 1) (drop mark (rowsOf (textOf t))) ≤ tens + 1
+          small : eqb (firstFrom ranges (mark + 1) (drop mark (rowsOf (textOf t)))) 0 ≡ false
+              → verdict t ≡ 0 → Next ranges (textOf t) mark → firstFrom ranges (mark + 1) (drop mark (rowsOf (textOf t))) ≤ tens + 1
           unfolding shownFor nextMatch
           small e v (no-more f m) = absurd (eqb-false (firstFrom ranges (mark + 1) (drop mark (rowsOf (textOf t)))) 0 e (rw e at f))
           small e v (next n l k is m) =
@@ -155,7 +157,8 @@ module _ (t ranges : List ℕ) (mark : ℕ) where
           unfolding shownFor nextMatch within
           shown-is v = by (eqb (firstFrom ranges (mark + 1) (drop mark (rowsOf (textOf t)))) 0) refl
             where
-              by : (b : Bool) → eqb (firstFrom ranges (mark + 1) (drop mark (rowsOf (textOf t)))) 0 ≡ b → saidShown mark (within tens (result ranges ok (mark + 1) rows)) ≡ shownFor ranges (textOf t) mark
+              by : (b : Bool) → eqb (firstFrom ranges (mark + 1) (drop mark (rowsOf (textOf t)))) 0 ≡ b
+                  → saidShown mark (within tens (result ranges ok (mark + 1) rows)) ≡ shownFor ranges (textOf t) mark
               by true e =
                   let R = length (rowsOf (textOf t)) in
                   let low : mark ≤ R = omega (arith, rows-total t v counted .0) in

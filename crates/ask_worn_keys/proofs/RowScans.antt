@@ -48,7 +48,8 @@ module _ (ranges : List ℕ) (ok : rangesOk ranges ≡ true) where
   done-snoc ys z true e = rw (run-snoc (Code 0) ys z) (step-13 ranges (read ys) z true (few-run ranges (Code 0) ys tt) e ∙ whole-is ranges ok ys)
   done-snoc ys z false e =
       let s = run-snoc (Code 0) ys z in
-      ap (isDone ranges) s ∙ step-13 ranges (read ys) z false (few-run ranges (Code 0) ys tt) e ∙ sym (ap (isWhole ranges) s) ∙ whole-is ranges ok (ys ++ z ∷ [])
+      ap (isDone ranges) s ∙ step-13 ranges (read ys) z false (few-run ranges (Code 0) ys tt) e
+      ∙ sym (ap (isWhole ranges) s) ∙ whole-is ranges ok (ys ++ z ∷ [])
 
   pub done-is : (row : List ℕ) → isDone ranges (read row) ≡ matches ranges (trimmed row)
   unfolding isDone isWhole runFrom trimmed
@@ -58,7 +59,8 @@ module _ (ranges : List ℕ) (ok : rangesOk ranges ≡ true) where
       let e = snoc-last j (x ∷ xs) refl in
       let ys = take j (x ∷ xs) in
       let z = getD (x ∷ xs) j 0 in
-      ap (λ (r : List ℕ). isDone ranges (read r)) e ∙ done-snoc ys z (eqb 13 z) refl ∙ sym (ap (λ (r : List ℕ). matches ranges (trimmed r)) e ∙ ap (matches ranges) (trim-snoc ys z))
+      ap (λ (r : List ℕ). isDone ranges (read r)) e
+      ∙ done-snoc ys z (eqb 13 z) refl ∙ sym (ap (λ (r : List ℕ). matches ranges (trimmed r)) e ∙ ap (matches ranges) (trim-snoc ys z))
 
   -- a row with a byte is not read to none
   abbrev Started : Form → Type 0
@@ -110,7 +112,8 @@ module _ (ranges : List ℕ) (ok : rangesOk ranges ≡ true) where
   abbrev pub result : ℕ → List (List ℕ) → Shown
   result q rows = cond (eqb (firstFrom ranges q rows) 0) (Nothing (q - 1 + length rows)) (Row (firstFrom ranges q rows))
 
-  result-cons : (q : ℕ) (row : List ℕ) (rows : List (List ℕ)) (b : Bool) → 1 ≤ q → matches ranges row ≡ b → result q (row ∷ rows) ≡ cond b (Row q) (result (q + 1) rows)
+  result-cons : (q : ℕ) (row : List ℕ) (rows : List (List ℕ)) (b : Bool)
+      → 1 ≤ q → matches ranges row ≡ b → result q (row ∷ rows) ≡ cond b (Row q) (result (q + 1) rows)
   unfolding firstFrom
   result-cons q row rows true low e = rw (e, ne-eqb q 0 (λ z. omega arith))
   result-cons q row rows false low e =
@@ -128,9 +131,11 @@ module _ (ranges : List ℕ) (ok : rangesOk ranges ≡ true) where
   end-rows (x ∷ p) q low h =
       let rows : rowsOf ((x ∷ p) ++ []) ≡ (x ∷ p) ∷ [] = ap rowsOf (append-nil (x ∷ p)) ∙ rows-open x p h in
       let m = whole-is ranges ok (x ∷ p) in
-      end-is (read (x ∷ p)) q (started-run (stepOf ranges (Code 0) x) p (started-step (Code 0) x)) ∙ sym (ap (result q) rows ∙ by (matches ranges (x ∷ p)) refl m)
+      end-is (read (x ∷ p)) q (started-run (stepOf ranges (Code 0) x) p (started-step (Code 0) x))
+      ∙ sym (ap (result q) rows ∙ by (matches ranges (x ∷ p)) refl m)
     where
-      by : (b : Bool) → matches ranges (x ∷ p) ≡ b → isWhole ranges (read (x ∷ p)) ≡ matches ranges (x ∷ p) → result q ((x ∷ p) ∷ []) ≡ cond (isWhole ranges (read (x ∷ p))) (Row q) (Nothing q)
+      by : (b : Bool) → matches ranges (x ∷ p) ≡ b
+          → isWhole ranges (read (x ∷ p)) ≡ matches ranges (x ∷ p) → result q ((x ∷ p) ∷ []) ≡ cond (isWhole ranges (read (x ∷ p))) (Row q) (Nothing q)
       by true e w = result-cons q (x ∷ p) [] true low e ∙ rw (w, e)
       by false e w = let z : q + 1 - 1 ≡ q = omega arith in result-cons q (x ∷ p) [] false low e ∙ result-none (q + 1) ∙ rw (w, e, z)
 
@@ -160,15 +165,18 @@ module _ (ranges : List ℕ) (ok : rangesOk ranges ≡ true) where
           → ((r : List ℕ) (k : ℕ) → 1 ≤ k → countIn 10 r ≡ 0 → finished ranges (scanOf ranges xs (read r) k) ≡ result k (rowsOf (r ++ xs)))
           → finished ranges (onward (scanOf ranges xs) (turnOf ranges (read p) q x)) ≡ result q (rowsOf (p ++ x ∷ xs))
       next e true d rest =
-          rw (turn-ten (read p) q x true e d) (sym (ap (result q) (rows-next p x xs h e) ∙ result-cons q (trimmed p) (rowsOf xs) true low (sym (done-is p) ∙ d)))
+          rw (turn-ten (read p) q x true e d)
+          (sym (ap (result q) (rows-next p x xs h e) ∙ result-cons q (trimmed p) (rowsOf xs) true low (sym (done-is p) ∙ d)))
       next e false d rest =
           rw (turn-ten (read p) q x false e d)
-          (rest [] (q + 1) (omega arith) (count-nil 10) ∙ sym (ap (result q) (rows-next p x xs h e) ∙ result-cons q (trimmed p) (rowsOf xs) false low (sym (done-is p) ∙ d)))
+          (rest [] (q + 1) (omega arith) (count-nil 10)
+          ∙ sym (ap (result q) (rows-next p x xs h e) ∙ result-cons q (trimmed p) (rowsOf xs) false low (sym (done-is p) ∙ d)))
 
       by : (b : Bool) → eqb 10 x ≡ b
           → ((r : List ℕ) (k : ℕ) → 1 ≤ k → countIn 10 r ≡ 0 → finished ranges (scanOf ranges xs (read r) k) ≡ result k (rowsOf (r ++ xs)))
           → finished ranges (onward (scanOf ranges xs) (turnOf ranges (read p) q x)) ≡ result q (rowsOf (p ++ x ∷ xs))
       by true e rest = next e (isDone ranges (read p)) refl rest
       by false e rest =
-          let s : turnOf ranges (read p) q x ≡ On (read (p ++ x ∷ [])) q = turn-other (read p) q x e ∙ ap (λ (f : Form). On f q) (sym (run-snoc (Code 0) p x)) in
+          let s : turnOf ranges (read p) q x ≡ On (read (p ++ x ∷ [])) q =
+          turn-other (read p) q x e ∙ ap (λ (f : Form). On f q) (sym (run-snoc (Code 0) p x)) in
           rw s (rest (p ++ x ∷ []) q low (none-more p x h e) ∙ ap (λ (r : List ℕ). result q (rowsOf r)) (append-assoc p (x ∷ []) xs))

@@ -84,7 +84,8 @@ module _ (tens : ℕ) (x : Shown) where
   limit-refused n e = rw e
 
 -- where the rows after a mark begin
-start-at : (t : List ℕ) (mark p : ℕ) → p ≤ at.textLength t → (verdict t ≡ 0 → rowsOf (drop p (textOf t)) ≡ drop mark (rowsOf (textOf t))) → StartOf t mark (begins.At (record { 0 = p }))
+start-at : (t : List ℕ) (mark p : ℕ)
+    → p ≤ at.textLength t → (verdict t ≡ 0 → rowsOf (drop p (textOf t)) ≡ drop mark (rowsOf (textOf t))) → StartOf t mark (begins.At (record { 0 = p }))
 start-at t mark p low is = record {
   place-in = λ s e. (let z : record { 0 = p } ≡ s = cc in let y : p ≡ s .0 = ap (λ (w : TextPlace). w .0) z in rw (← y) low);
   place-is = λ s e v. (let z : record { 0 = p } ≡ s = cc in let y : p ≡ s .0 = ap (λ (w : TextPlace). w .0) z in rw (← y) (is v));
@@ -102,12 +103,14 @@ start-broken t mark never = record {
 }
 
 -- past a byte 10
-pub start-past : (t : List ℕ) (mark p : ℕ) → Selected t 10 mark → p < at.textLength t → (verdict t ≡ 0 → p ≡ placeOf 10 mark (textOf t)) → StartOf t mark (begins.At (record { 0 = p + 1 }))
+pub start-past : (t : List ℕ) (mark p : ℕ)
+    → Selected t 10 mark → p < at.textLength t → (verdict t ≡ 0 → p ≡ placeOf 10 mark (textOf t)) → StartOf t mark (begins.At (record { 0 = p + 1 }))
 start-past t mark p s low is =
     start-at t mark (p + 1) (omega arith) (λ v. rows-past (textOf t) mark p (rw (is v) (tallies.stands t v 10 mark s)))
 
 -- questions 11 and 12 of the byte 10 that a mark's row ends with
-pub start-asked : (t : List ℕ) (h : Header) (mark : ℕ) → HeaderOf t h → isCounted t 10 ≡ true → (mark ≡ 0 → ⊥) → mark ≤ total t (numberOfByte t 10) → Selected t 10 mark
+pub start-asked : (t : List ℕ) (h : Header) (mark : ℕ)
+    → HeaderOf t h → isCounted t 10 ≡ true → (mark ≡ 0 → ⊥) → mark ≤ total t (numberOfByte t 10) → Selected t 10 mark
 start-asked t h mark k c some high = record { pass = k .passes; counted = c; low = omega (arith, some); high = high }
 
 -- The text scanned by runs: row q begins at place p₀, and the text is scanned up to place p, in the row so far read.
@@ -123,7 +126,8 @@ module _ (t ranges : List ℕ) (p₀ q : ℕ) where
 
   module _ (p row : ℕ) (f : Form) (far : scanOf ranges (drop p T) f row ≡ whole) (above : q ≤ row) where
     -- a run from there, as it was scanned
-    module _ (a x : ℕ) (run : ReadsOn t p a x) (part : List ℕ) (part-is : part ≡ stretch t a x) (r : Scanned) (r-is : r ≡ scanOf ranges part f row) (low : OnLow row x r) where
+    module _ (a x : ℕ) (run : ReadsOn t p a x)
+        (part : List ℕ) (part-is : part ≡ stretch t a x) (r : Scanned) (r-is : r ≡ scanOf ranges part f row) (low : OnLow row x r) where
       scanned : onward (scanOf ranges (drop (p + x) T)) r ≡ whole
       scanned =
           let e : r ≡ scanOf ranges (stretch T p x) f row = r-is ∙ ap (λ (s : List ℕ). scanOf ranges s f row) (part-is ∙ reads-stretch t p a x run) in

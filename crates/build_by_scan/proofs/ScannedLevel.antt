@@ -28,7 +28,8 @@ use Rattle.scan_passes.proofs.ItemLengths.{block-length, pair-length}
 use Rattle.build_by_scan.specs.ItemTable.{itemsSay, pairBytes, Told}
 use Rattle.build_by_scan.proofs.TableRoom.{pieces-few, order, few-items}
 
-module _ (T out cs : List ℕ) (level : Level) (r : Ready (settingsOf (level .settings) cs) T out level) (k : level .number + 1 < level .settings .levels) (some-blocks : 1 ≤ level .count) where
+module _ (T out cs : List ℕ) (level : Level)
+    (r : Ready (settingsOf (level .settings) cs) T out level) (k : level .number + 1 < level .settings .levels) (some-blocks : 1 ≤ level .count) where
   abbrev S : Settings
   S = settingsOf (level .settings) cs
 
@@ -122,7 +123,8 @@ module _ (T out cs : List ℕ) (level : Level) (r : Ready (settingsOf (level .se
 
       pub pair-there : Present T out it (2 * i + 1)
       pair-there =
-          let next : startAt T out it (2 * i + 1 + 1) ≡ start S T l (suc i) = start-is (2 * i + 1 + 1) (omega (arith, next-in, h .count-is)) ∙ ap (start S T l) (let e : (2 * i + 1 + 1) / 2 ≡ suc i = omega arith in e) in
+          let next : startAt T out it (2 * i + 1 + 1) ≡ start S T l (suc i) = start-is (2 * i + 1 + 1) (omega (arith, next-in, h .count-is))
+          ∙ ap (start S T l) (let e : (2 * i + 1 + 1) / 2 ≡ suc i = omega arith in e) in
           inr (omega (arith, next, follows, pair-start, h .size-is))
 
       pub pair-bytes : lengthAt T out it (2 * i + 1) ≡ pairBytes S T l i
@@ -135,7 +137,8 @@ module _ (T out cs : List ℕ) (level : Level) (r : Ready (settingsOf (level .se
     room = omega (arith, a .laid .room, h .count-is);
     place = λ i il. a .place (2 * i) (block-item i il) (inl (omega arith)) ∙ ap₂ (leftmost T) (block-start i il) (block-bytes i il) ∙ sym (placeOf-is S T l i);
     twins = λ i il. a .twins (2 * i) (block-item i il) (inl (omega arith));
-    first = λ i il p e. sym (ap₂ (leftmost T) (pair-start i il p) (pair-bytes i il p)) ∙ a .first (2 * i + 1) (pair-item i il p) (pair-there i il p) (e ∙ sym (pair-start i il p)) ∙ pair-start i il p;
+    first = λ i il p e. sym (ap₂ (leftmost T) (pair-start i il p) (pair-bytes i il p))
+        ∙ a .first (2 * i + 1) (pair-item i il p) (pair-there i il p) (e ∙ sym (pair-start i il p)) ∙ pair-start i il p;
     again = λ i il p n e. a .again (2 * i + 1) (pair-item i il p) (pair-there i il p) (λ q. n (q ∙ pair-start i il p))
         (ap₂ (leftmost T) (pair-start i il p) (pair-bytes i il p) ∙ e ∙ sym (pair-start i il p));
   }

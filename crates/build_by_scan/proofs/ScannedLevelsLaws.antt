@@ -23,7 +23,8 @@ pub record Along (first : code.Settings) (cs T out₀ words₀ out words : List 
   pub windows-few : windows ≤ level .number * (4 * maxText)
 
 module _ (first : code.Settings) (cs T out₀ words₀ : List ℕ) where
-  pub along-first : (level : Level) → level .settings ≡ first → level .number ≡ 0 → Ready (settingsOf first cs) T out₀ level → Along first cs T out₀ words₀ out₀ words₀ level 0
+  pub along-first : (level : Level)
+      → level .settings ≡ first → level .number ≡ 0 → Ready (settingsOf first cs) T out₀ level → Along first cs T out₀ words₀ out₀ words₀ level 0
   unfolding sumBelow
   along-first level s z r = record {
     reached = record { same = s; ready = r; grown = grown-none _ _ };
@@ -37,7 +38,8 @@ module _ (first : code.Settings) (cs T out₀ words₀ : List ℕ) where
     room-here room = subst (λ (s : code.Settings). 4 * pieces (length T) (s .leaf) ≤ length words) (sym (a .reached .same)) (omega (arith, a .same-length))
 
     module _ (more : ℕ) (more-is : more ≡ windowsAt (settingsOf (level .settings) cs) T (level .number)) (few : more ≤ 4 * maxText) where
-      pub along-next : (out′ words′ : List ℕ) (next : Level) → Reached first cs T out₀ out′ next → next .number ≡ level .number + 1 → length words′ ≡ length words
+      pub along-next : (out′ words′ : List ℕ) (next : Level)
+          → Reached first cs T out₀ out′ next → next .number ≡ level .number + 1 → length words′ ≡ length words
           → Along first cs T out₀ words₀ out′ words′ next (windows + more)
       along-next out′ words′ next r n same = record {
         reached = r;
@@ -51,7 +53,8 @@ module _ (first : code.Settings) (cs T out₀ words₀ : List ℕ) where
 
     pub windows-all : level .number + 1 ≡ first .levels → windows ≡ windowsOf (settingsOf first cs) T
     unfolding windowsOf
-    windows-all e = a .windows-are ∙ ap (λ (k : ℕ). sumBelow k (windowsAt (settingsOf first cs) T)) (let q : level .number ≡ first .levels - 1 = omega arith in q)
+    windows-all e = a .windows-are
+        ∙ ap (λ (k : ℕ). sumBelow k (windowsAt (settingsOf first cs) T)) (let q : level .number ≡ first .levels - 1 = omega arith in q)
 
 -- the first level has the settings that were given
 module _ (first : code.Settings) (cs T out₀ out : List ℕ) (level : Level) (r : Reached first cs T out₀ out level) where

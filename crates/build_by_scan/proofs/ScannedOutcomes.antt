@@ -41,7 +41,13 @@ module _ (S : Settings) (T out W : List ℕ) where
   -- refused before anything is written
   refused-by : (q : ℕ) → scanNumber S T out (length W) ≡ q → eqb q 0 ≡ false → eqb q 4 ≡ false → Said S T out W (Not q) out W
   unfolding scanSize scanWindows scanLeaves
-  refused-by q e a b = record { number = sym e; size = rw (e, a); windows = rw (e, a); buffer = rw (e, a, b); table = record { same-length = refl; untouched = λ _ _. refl } }
+  refused-by q e a b = record {
+    number = sym e;
+    size = rw (e, a);
+    windows = rw (e, a);
+    buffer = rw (e, a, b);
+    table = record { same-length = refl; untouched = λ _ _. refl };
+  }
 
   pub refused-one : lengthOk (length T) ≡ false → Said S T out W (Not 1) out W
   unfolding scanNumber
@@ -82,7 +88,8 @@ module _ (S : Settings) (T out W : List ℕ) where
       -- what the writing of the tree came to
       module _ (new : List ℕ) (g : Grown D out new) (r : ℕ) (f : Finished D new r) where
         pub said-full : r ≡ 0 → (last : List ℕ) → last ≡ replicate (length new) 0 ++ drop (length new) new → Said S T out W (Not 4) last Z
-        said-full z last e = full (finished-full S T h out new g r f z) last (e ∙ rw (drop-length new) (append-nil (replicate (length new) 0)) ∙ ap (λ (k : ℕ). replicate k 0) (g .same-length))
+        said-full z last e = full (finished-full S T h out new g r f z)
+            last (e ∙ rw (drop-length new) (append-nil (replicate (length new) 0)) ∙ ap (λ (k : ℕ). replicate k 0) (g .same-length))
 
         pub said-size : (r ≡ 0 → ⊥) → (w : ℕ) → w ≡ windowsOf S T → Said S T out W (Size r w) new Z
         said-size n w ew =
@@ -105,8 +112,10 @@ module _ (m r H : ℕ) (cs T out W : List ℕ) (ok : lengthOk (length T) ≡ tru
     same : settingsOf s cs ≡ S
     same = first.fine-is m r H cs T out ok x is s e .2
 
-    pub settings-said : (b : Scanned) (new Z : List ℕ) → numberOf b ≡ scanNumber (settingsOf s cs) T out (length W) → sizeOf b ≡ scanSize (settingsOf s cs) T out (length W)
-        → windowsSaid b ≡ scanWindows (settingsOf s cs) T out (length W) → new ≡ scanLeaves (settingsOf s cs) T out (length W) → TableLeft (numberOf b) W Z → Said S T out W b new Z
+    pub settings-said : (b : Scanned) (new Z : List ℕ)
+        → numberOf b ≡ scanNumber (settingsOf s cs) T out (length W) → sizeOf b ≡ scanSize (settingsOf s cs) T out (length W)
+        → windowsSaid b ≡ scanWindows (settingsOf s cs) T out (length W)
+        → new ≡ scanLeaves (settingsOf s cs) T out (length W) → TableLeft (numberOf b) W Z → Said S T out W b new Z
     settings-said b new Z n z w l t = record {
       number = n ∙ ap (λ (S : Settings). scanNumber S T out (length W)) same;
       size = z ∙ ap (λ (S : Settings). scanSize S T out (length W)) same;
@@ -128,7 +137,8 @@ same-number true true true false e n = absurd (n refl)
 module _ (S : Settings) (T out : List ℕ) (words : ℕ) (long : scanNumber S T out words ≡ 18 → ⊥) where
   pub number-same : scanNumber S T out words ≡ buildNumber S T out
   unfolding scanNumber buildNumber
-  number-same = same-number (lengthOk (length T)) (sizesOk S) (countedOk (S .counted)) (leb (tableWords (length T) (S .leaf)) words) (leb (length (treeOf S T)) (length out)) long
+  number-same = same-number (lengthOk (length T))
+      (sizesOk S) (countedOk (S .counted)) (leb (tableWords (length T) (S .leaf)) words) (leb (length (treeOf S T)) (length out)) long
 
   pub size-same : scanSize S T out words ≡ buildSize S T out
   unfolding scanSize buildSize

@@ -66,7 +66,8 @@ module _ (S : Settings) (T out : List ℕ) (level : Level) (i : ℕ) (w : On S T
 
     pub again-told : (placeIn W (2 * i + 1) ≡ s → ⊥) → Again ≡ pairOf S T l i
     again-told n = pair-is S T out level i w s next s-is more next-is not-last e Again
-        (says-again T s (min (level .size + level .size) (length T - s)) (λ q. t .again i block-here paired (λ z. n (z ∙ sym s-right)) (sym bytes-are ∙ q ∙ s-right)))
+        (says-again T s (min (level .size + level .size) (length T - s))
+        (λ q. t .again i block-here paired (λ z. n (z ∙ sym s-right)) (sym bytes-are ∙ q ∙ s-right)))
 
 pub same-items : (n step : ℕ) (level : Level) (p s h : ℕ) → p ≡ pieces n (level .settings .leaf) → s ≡ step
     → h ≡ min (4 * p - 3 * (level .count + level .count - 1)) (16 * (level .count + level .count - 1))

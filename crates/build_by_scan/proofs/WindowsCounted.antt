@@ -10,7 +10,8 @@ use lib.ListN.{length}
 use lib.Dec.{eqb, ltb}
 use borrow.Author.Tests.{lt-ltb, eq-eqb, ne-eqb, eqb-true}
 use Rattle.text.specs.Lists.{sumBelow}
-use Rattle.text.specs.ListLaws.{bool-cases, bool-clash, and-left, and-right, and-both, or-cases, or-left, or-right, lt-or-ge, below-suc, sumBelow-ext, sumBelow-none}
+use Rattle.text.specs.ListLaws.{bool-cases, bool-clash, and-left, and-right, and-both, or-cases, or-left, or-right, lt-or-ge, below-suc, sumBelow-ext}
+use Rattle.text.specs.ListLaws.{sumBelow-none}
 use Rattle.format.specs.Settings.{Settings, blockLength, maxText}
 use Rattle.format.specs.Blocks.{recordBytes, startsAt, startOf, lengthOf, pairAt}
 use Rattle.theory_built.specs.Structure.{count, start, bytesIn}
@@ -100,7 +101,8 @@ unfolding sumBelow
 sum-add zero f g = refl
 sum-add (suc k) f g = omega (arith, sum-add k f g)
 
-module _ (T out cs : List ℕ) (level : Level) (r : Ready (settingsOf (level .settings) cs) T out level) (k : level .number + 1 < level .settings .levels) (some : 1 ≤ level .count) where
+module _ (T out cs : List ℕ) (level : Level)
+    (r : Ready (settingsOf (level .settings) cs) T out level) (k : level .number + 1 < level .settings .levels) (some : 1 ≤ level .count) where
   abbrev S : Settings
   S = settingsOf (level .settings) cs
 
@@ -139,9 +141,11 @@ module _ (T out cs : List ℕ) (level : Level) (r : Ready (settingsOf (level .se
       pair : x % 2 ≡ 1 → startAt T out it (x + 1) ≡ startAt T out it x + it .size → pairAt T (blockLength S l) (startsAt S T l) (x / 2) ≡ true
       pair z f =
           let xn : x + 1 < it .items = next-in T out it o (lev.placed T out cs level r k some) x z xl f in
-          let a : startAt T out it (x + 1) ≡ start S T l (suc (x / 2)) = lev.start-is T out cs level r k some (x + 1) xn ∙ ap (start S T l) (let q : (x + 1) / 2 ≡ suc (x / 2) = omega arith in q) in
+          let a : startAt T out it (x + 1) ≡ start S T l (suc (x / 2)) =
+          lev.start-is T out cs level r k some (x + 1) xn ∙ ap (start S T l) (let q : (x + 1) / 2 ≡ suc (x / 2) = omega arith in q) in
           and-both (lt-ltb (suc (x / 2)) (count S T l) (omega (arith, lev.half-in T out cs level r k some (x + 1) xn, count-is)))
-          (eq-eqb (start S T l (suc (x / 2))) (start S T l (x / 2) + blockLength S l) (omega (arith, a, f, lev.start-is T out cs level r k some x xl, r .level-is .size-is)))
+          (eq-eqb (start S T l (suc (x / 2)))
+          (start S T l (x / 2) + blockLength S l) (omega (arith, a, f, lev.start-is T out cs level r k some x xl, r .level-is .size-is)))
 
       odd : x % 2 ≡ 1 → Present T out it x → test n (x / 2) ≡ true
       odd z (inl a) = absurd (let w : ⊥ = omega arith in w)
@@ -162,14 +166,16 @@ module _ (T out cs : List ℕ) (level : Level) (r : Ready (settingsOf (level .se
   unfolding hasLength
   length-has n y = go (any-find (count S T l) (test n) y)
     where
-      by : (i : ℕ) → i < count S T l → (eqb (bytesIn S T l i) n ≡ true) ⊎ ((pairAt T (blockLength S l) (startsAt S T l) i && eqb (pairBytes S T l i) n) ≡ true) → Has T out it (it .items) n
+      by : (i : ℕ) → i < count S T l → (eqb (bytesIn S T l i) n ≡ true)
+          ⊎ ((pairAt T (blockLength S l) (startsAt S T l) i && eqb (pairBytes S T l i) n) ≡ true) → Has T out it (it .items) n
       by i il (inl a) = (2 * i, omega (arith, count-is), inl (omega arith), lev.block-bytes T out cs level r k some i il ∙ eqb-true _ _ a)
       by i il (inr a) =
           let p = and-left (pairAt T (blockLength S l) (startsAt S T l) i) (eqb (pairBytes S T l i) n) a in (
             2 * i + 1,
             lev.pair-item T out cs level r k some i il p,
             lev.pair-there T out cs level r k some i il p,
-            lev.pair-bytes T out cs level r k some i il p ∙ eqb-true _ _ (and-right (pairAt T (blockLength S l) (startsAt S T l) i) (eqb (pairBytes S T l i) n) a),
+            lev.pair-bytes T out cs level r k some i il p
+                ∙ eqb-true _ _ (and-right (pairAt T (blockLength S l) (startsAt S T l) i) (eqb (pairBytes S T l i) n) a),
           )
 
       go : (i : ℕ) × (i < count S T l) × (test n i ≡ true) → Has T out it (it .items) n
@@ -222,7 +228,8 @@ module _ (T out cs : List ℕ) (level : Level) (r : Ready (settingsOf (level .se
     unfolding all
     with-length x low most m = go (lt-or-ge x b) (ℕ-discrete x b) (ℕ-discrete x (b + b))
       where
-        go : (x < b) ⊎ (b ≤ x) → Dec (x ≡ b) → Dec (x ≡ b + b) → share n (g .block) x + share n (g .pair) x + share n (g .last) x + share n (g .ending) x ≡ suc n - x
+        go : (x < b) ⊎ (b ≤ x) → Dec (x ≡ b)
+            → Dec (x ≡ b + b) → share n (g .block) x + share n (g .pair) x + share n (g .last) x + share n (g .ending) x ≡ suc n - x
         go (inl a) d e = omega (
           arith,
           share-none n (g .block) x (not-block x (λ q. omega arith)),
@@ -324,7 +331,8 @@ module _ (T out cs : List ℕ) (level : Level) (r : Ready (settingsOf (level .se
         ∙ ap₂ (λ (u v : ℕ). u + v)
         (sum-add (suc n) (λ x. share n (g .block) x + share n (g .pair) x) (share n (g .last))
         ∙ ap₂ (λ (u v : ℕ). u + v)
-        (sum-add (suc n) (share n (g .block)) (share n (g .pair)) ∙ ap₂ (λ (u v : ℕ). u + v) (share-sum n (g .block) (block-in (s .block-is))) (share-sum n (g .pair) (pair-in (s .pair-is))))
+        (sum-add (suc n) (share n (g .block)) (share n (g .pair))
+        ∙ ap₂ (λ (u v : ℕ). u + v) (share-sum n (g .block) (block-in (s .block-is))) (share-sum n (g .pair) (pair-in (s .pair-is))))
         (share-sum n (g .last) (last-in (s .last-is))))
         (share-sum n (g .ending) (ending-in (s .ending-is))))
 

@@ -8,7 +8,8 @@ use Rattle.text.specs.Text.{stretch, leftmost, firstFrom, countIn}
 use Rattle.format.specs.Words.{wordsBytes, wordBytes}
 use Rattle.format.specs.Settings.{Settings, blockLength, pieces, recordLength, lengthOk, sizesOk, countedOk, rising, risingAfter}
 use Rattle.format.specs.Edges.{edgesOf, filledOut}
-use Rattle.format.specs.Blocks.{treeOf, header, leafBytes, levelPairs, recordBytes, levelBytes, recordIn, recordOf, target, occurrence, width, isKept, startsAt, cut, keptByPairs, firstPairAt, pairAt, lengthOf, startOf}
+use Rattle.format.specs.Blocks.{treeOf, header, leafBytes, levelPairs, recordBytes, levelBytes, recordIn, recordOf, target, occurrence, width, isKept}
+use Rattle.format.specs.Blocks.{startsAt, cut, keptByPairs, firstPairAt, pairAt, lengthOf, startOf}
 use Rattle.build_by_scan.specs.ScannedSays.{anyBelow, hasLength, windowsAt, windowsOf, tableWords, scanNumber, scanSize, scanWindows}
 
 book : List ℕ
@@ -39,7 +40,10 @@ pub record Scans : Type 0 where
   counted-twice : scanNumber (with-levels 2 (65 ∷ 65 ∷ [])) book [] 0 ≡ 3
 
 pub scans : Scans
-unfolding book abcd with-levels tabulate concat sumBelow countBelow sameList stretch leftmost firstFrom countIn wordsBytes wordBytes blockLength pieces lengthOk sizesOk countedOk rising risingAfter treeOf header leafBytes levelPairs recordBytes recordLength edgesOf filledOut levelBytes recordIn recordOf target occurrence width isKept startsAt cut keptByPairs firstPairAt pairAt lengthOf startOf anyBelow hasLength windowsAt windowsOf tableWords scanNumber scanSize scanWindows
+unfolding book abcd with-levels tabulate concat sumBelow
+    countBelow sameList stretch leftmost firstFrom countIn wordsBytes wordBytes blockLength pieces lengthOk sizesOk countedOk rising risingAfter
+    treeOf header leafBytes levelPairs recordBytes recordLength edgesOf filledOut levelBytes recordIn recordOf target occurrence width isKept
+    startsAt cut keptByPairs firstPairAt pairAt lengthOf startOf anyBelow hasLength windowsAt windowsOf tableWords scanNumber scanSize scanWindows
 scans = record {
   worked = refl;
   short = refl;

@@ -1,8 +1,8 @@
 // The builder with one scan a level: it enters the blocks and pairs of a level in a lent table of words and passes once over the text.
 // It writes what the first builder writes.
 mod scanned_fill;
-mod table;
 mod scanned_levels;
+mod table;
 
 use layout::settings::Checked;
 use layout::settings::Settings;
@@ -41,10 +41,14 @@ pub fn build_scanned(
     words: &mut [u32],
     out: &mut [u8],
 ) -> Scanned
-    ensures number { λ r. ⌜ numberOf r ≡ scanNumber (given leaf arity levels (now (counted .entry))) (now (text .entry)) (now (out .entry)) (length (now (words .entry))) ⌝ }
-    ensures size { λ r. ⌜ sizeOf r ≡ scanSize (given leaf arity levels (now (counted .entry))) (now (text .entry)) (now (out .entry)) (length (now (words .entry))) ⌝ }
-    ensures windows { λ r. ⌜ windowsSaid r ≡ scanWindows (given leaf arity levels (now (counted .entry))) (now (text .entry)) (now (out .entry)) (length (now (words .entry))) ⌝ }
-    ensures buffer { λ _. ⌜ now (out .exit) ≡ scanLeaves (given leaf arity levels (now (counted .entry))) (now (text .entry)) (now (out .entry)) (length (now (words .entry))) ⌝ }
+    ensures number { λ r. ⌜ numberOf
+        r ≡ scanNumber (given leaf arity levels (now (counted .entry))) (now (text .entry)) (now (out .entry)) (length (now (words .entry))) ⌝ }
+    ensures size { λ r. ⌜ sizeOf
+        r ≡ scanSize (given leaf arity levels (now (counted .entry))) (now (text .entry)) (now (out .entry)) (length (now (words .entry))) ⌝ }
+    ensures windows { λ r. ⌜ windowsSaid
+        r ≡ scanWindows (given leaf arity levels (now (counted .entry))) (now (text .entry)) (now (out .entry)) (length (now (words .entry))) ⌝ }
+    ensures buffer { λ _. ⌜ now (out .exit) ≡ scanLeaves
+        (given leaf arity levels (now (counted .entry))) (now (text .entry)) (now (out .entry)) (length (now (words .entry))) ⌝ }
     ensures table { λ r. ⌜ TableLeft (numberOf r) (now (words .entry)) (now (words .exit)) ⌝ }
 {
     if (Settings::MAX_TEXT as usize) < text.len() {

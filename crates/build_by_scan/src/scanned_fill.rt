@@ -1,6 +1,5 @@
 // The records of a level above the last, written in order from what the table says.
 use crate::table;
-use layout::place::BlockNumber;
 use build_marking::pair;
 use build_marking::pair::Pair;
 use build_marking::target;
@@ -9,6 +8,7 @@ use build_records::level_written::Level;
 use build_records::record_written;
 use build_records::record_written::Block;
 use build_records::record_written::Link;
+use layout::place::BlockNumber;
 ghost use mathlib.Core.Path.{_≡_};
 ghost use Prim.Native.Nat.{_+_, _*_, _≤_, _<_};
 ghost use lib.ListN.{length};
@@ -132,7 +132,8 @@ pub fn put_level(
         × (4 * pieces (length (now text)) (level .settings .leaf) ≤ length (now words)) ⌝ }
     ensures { λ _. ⌜ Grown (treeOf (settingsOf (level .settings) (now (counted .entry))) (now (text .entry))) (now (out .entry)) (now (out .exit)) ⌝ }
     ensures { λ r. ⌜ Written (settingsOf (level .settings) (now (counted .entry))) (now (text .entry)) (now (out .exit)) level (r .below) ⌝ }
-    ensures { λ r. ⌜ (r .windows ≡ windowsAt (settingsOf (level .settings) (now (counted .entry))) (now (text .entry)) (level .number)) × (r .windows ≤ 4 * maxText) ⌝ }
+    ensures { λ r. ⌜ (r .windows ≡ windowsAt (settingsOf (level .settings) (now (counted .entry))) (now (text .entry)) (level .number))
+        × (r .windows ≤ 4 * maxText) ⌝ }
 {
     let windows = scan_level(words, text, counted, out, level);
     Put {

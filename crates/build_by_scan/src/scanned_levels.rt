@@ -1,9 +1,9 @@
 // The tree, level by level.
 use crate::scanned_fill;
-use layout::settings::Settings;
 use build_levels::step;
 use build_levels::step::Step;
 use build_records::level_written::Level;
+use layout::settings::Settings;
 ghost use mathlib.Core.Path.{_≡_};
 ghost use Prim.Native.Nat.{_+_, _*_, _≤_, _<_};
 ghost use lib.ListN.{length};

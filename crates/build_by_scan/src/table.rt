@@ -1,8 +1,8 @@
 // How the table is divided for a level.
-use scan_entries::Items;
-use layout::header;
 use build_records::level_written;
 use build_records::level_written::Level;
+use layout::header;
+use scan_entries::Items;
 ghost use mathlib.Core.Path.{_≡_};
 ghost use Prim.Native.Nat.{_+_, _*_, _≤_, _<_};
 ghost use lib.ListN.{length};

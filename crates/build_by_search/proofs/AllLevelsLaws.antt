@@ -46,10 +46,12 @@ module _ (first : code.Settings) (cs T out₀ out : List ℕ) (level : Level) (r
   -- what is said of the level's settings is said of the first's
   module _ (new : List ℕ) where
     pub grown-here : Grown (treeOf (settingsOf (level .settings) cs) T) out new → Grown (treeOf (settingsOf first cs) T) out₀ new
-    grown-here g = grown-then (treeOf (settingsOf first cs) T) out₀ out new (r .grown) (subst (λ (s : code.Settings). Grown (treeOf (settingsOf s cs) T) out new) (r .same) g)
+    grown-here g = grown-then
+        (treeOf (settingsOf first cs) T) out₀ out new (r .grown) (subst (λ (s : code.Settings). Grown (treeOf (settingsOf s cs) T) out new) (r .same) g)
 
     pub finished-here : (n : ℕ) → Finished (treeOf (settingsOf (level .settings) cs) T) new n → Finished (treeOf (settingsOf first cs) T) new n
     finished-here n f = subst (λ (s : code.Settings). Finished (treeOf (settingsOf s cs) T) new n) (r .same) f
 
-    pub step-here : (number : ℕ) (x : Step) → StepIs (settingsOf (level .settings) cs) T new (level .settings) number x → StepIs (settingsOf first cs) T new first number x
+    pub step-here : (number : ℕ) (x : Step)
+        → StepIs (settingsOf (level .settings) cs) T new (level .settings) number x → StepIs (settingsOf first cs) T new first number x
     step-here number x is = subst (λ (s : code.Settings). StepIs (settingsOf s cs) T new s number x) (r .same) is

@@ -68,7 +68,8 @@ module _ (S : Settings) (T out : List ℕ) where
     -- what the writing of the tree came to
     module _ (new : List ℕ) (g : Grown D out new) (r : ℕ) (f : Finished D new r) where
       pub told-full : r ≡ 0 → (last : List ℕ) → last ≡ replicate (length new) 0 ++ drop (length new) new → Told S T out (Not 4) last
-      told-full z last e = full (finished-full S T h out new g r f z) last (e ∙ rw (drop-length new) (append-nil (replicate (length new) 0)) ∙ ap (λ (k : ℕ). replicate k 0) (g .same-length))
+      told-full z last e = full (finished-full S T h out new g r f z)
+          last (e ∙ rw (drop-length new) (append-nil (replicate (length new) 0)) ∙ ap (λ (k : ℕ). replicate k 0) (g .same-length))
 
       pub told-size : (r ≡ 0 → ⊥) → Told S T out (Size r) new
       told-size n =
@@ -111,7 +112,8 @@ module _ (m r H : ℕ) (cs T out : List ℕ) (ok : lengthOk (length T) ≡ true)
       fine : (s : code.Settings) → Refused q ≡ Fine s → ⊥
       fine s e = let z : _≡_ {A = ℕ} 0 1 = cc in omega arith
 
-      go : (a b : Bool) → sizesOk (sizes m r H) ≡ a → countedOk cs ≡ b → ((q ≡ 2) × (sizesOk S ≡ false)) ⊎ ((q ≡ 3) × (sizesOk S ≡ true) × (countedOk cs ≡ false))
+      go : (a b : Bool) → sizesOk (sizes m r H) ≡ a
+          → countedOk cs ≡ b → ((q ≡ 2) × (sizesOk S ≡ false)) ⊎ ((q ≡ 3) × (sizesOk S ≡ true) × (countedOk cs ≡ false))
       go false b f g = inl (two q (sym e ∙ by-cases false b f g), sizes-same ∙ f)
       go true false f g = inr (three q (sym e ∙ by-cases true false f g), sizes-same ∙ f, g)
       go true true f g = absurd (fine _ (sym e ∙ by-cases true true f g))
@@ -139,8 +141,12 @@ module _ (m r H : ℕ) (cs T out : List ℕ) (ok : lengthOk (length T) ≡ true)
         go : (a b : Bool) → sizesOk (sizes m r H) ≡ a → countedOk cs ≡ b → (sizesOk S ≡ true) × (countedOk cs ≡ true) × (settingsOf s cs ≡ S)
         go false b f g = absurd (two (sym e ∙ by-cases false b f g))
         go true false f g = absurd (three (sym e ∙ by-cases true false f g))
-        go true true f g =
-            (sizes-same ∙ f, g, ap (λ (u : code.Settings). settingsOf u cs) (same (record { leaf = m; arity = r; levels = H; counted = length cs }) (sym e ∙ by-cases true true f g)))
+        go true true f g = (
+          sizes-same ∙ f,
+          g,
+          ap (λ (u : code.Settings). settingsOf u cs)
+              (same (record { leaf = m; arity = r; levels = H; counted = length cs }) (sym e ∙ by-cases true true f g)),
+        )
 
     pub settings-taken : Taken (settingsOf s cs) T
     settings-taken = rw (fine-is .2) (record { length-ok = ok; sizes-ok = fine-is .0; counted-ok = fine-is .1 })

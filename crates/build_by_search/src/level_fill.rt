@@ -1,10 +1,10 @@
 // The records of one level, written in order.
-use layout::place::BlockNumber;
 use build_marking::pair;
 use build_marking::pair::Pair;
 use build_records::level_written::Level;
 use build_records::record_written;
 use build_records::record_written::Link;
+use layout::place::BlockNumber;
 ghost use Rattle.format.specs.Blocks.{treeOf};
 ghost use Rattle.build_records.specs.Grown.{Grown};
 ghost use Rattle.build_records.specs.State.{settingsOf};
@@ -22,7 +22,15 @@ pub fn fill_level(out: &mut [u8], text: &[u8], counted: &[u8], level: Level) -> 
     while i < level.count {
         let right = pair::pair_after(text, counted, out, level, BlockNumber(i));
         let kept = pair::keeps(left, right);
-        let block = build_marking::block_at(text, counted, out, level, BlockNumber(i), kept, Link(link));
+        let block = build_marking::block_at(
+            text,
+            counted,
+            out,
+            level,
+            BlockNumber(i),
+            kept,
+            Link(link),
+        );
         link = link + record_written::put_block(out, text, counted, level, BlockNumber(i), block);
         left = right;
         i += 1;

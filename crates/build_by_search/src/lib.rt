@@ -1,6 +1,6 @@
 // The builder: byte for byte the block tree of its text, written into a lent buffer.
-pub mod level_fill;
 mod all_levels;
+pub mod level_fill;
 
 use layout::settings::Checked;
 use layout::settings::Settings;

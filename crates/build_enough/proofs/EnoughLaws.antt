@@ -35,7 +35,8 @@ module _ (s : code.Settings) (z : Sized s 0) (low : 1 ≤ s .leaf) where
   block-low l = mul-le-mul {n₁ = 1} {m₁ = 1} low (one-le-pow (s .levels - 1 - l) (s .arity) (omega (arith, z .arity-low)))
 
   pub block-few : (l : ℕ) → s .leaf * s .arity ^ (s .levels - 1 - l) ≤ maxText
-  block-few l = le-trans (mul-le-mul-left (s .leaf) (pow-le-pow-right {n = s .arity} (omega (arith, z .arity-low)) (let e : s .levels - 1 - l ≤ s .levels - 1 = omega arith in e))) (z .block-high)
+  block-few l = le-trans (mul-le-mul-left (s .leaf)
+      (pow-le-pow-right {n = s .arity} (omega (arith, z .arity-low)) (let e : s .levels - 1 - l ≤ s .levels - 1 = omega arith in e))) (z .block-high)
 
   -- the blocks of the first levels
   abbrev pub upTo : ℕ → ℕ → ℕ
@@ -67,7 +68,8 @@ module _ (n m r H k : ℕ) where
     unfolding countedOk rising
     nothing-counted = refl
 
-    by-sizes : (y : Bool) → sizesOk (sizes m r H) ≡ y → x ≡ cond y (checked-is.Fine (record { leaf = m; arity = r; levels = H; counted = 0 })) (checked-is.Refused 2)
+    by-sizes : (y : Bool) → sizesOk (sizes m r H) ≡ y
+        → x ≡ cond y (checked-is.Fine (record { leaf = m; arity = r; levels = H; counted = 0 })) (checked-is.Refused 2)
     unfolding checked
     by-sizes y e = is ∙ rw (e, nothing-counted)
 
@@ -119,7 +121,8 @@ module _ (n m r H k : ℕ) where
       pub many-counted : 4 < k → Refused 3 ≡ enoughSays n m r H k
       many-counted h = sym (said true (fine-is .0) ∙ rw (lt-leb k 4 h))
 
-      pub enough-is : k ≤ 4 → (sum : ℕ) → sum ≡ blocksAtMost n (s .leaf) (s .arity) (s .levels) → (z : ℕ) → z ≡ recordLength builtLayout (s .leaf) k → Bytes (100 + n + z * sum) ≡ enoughSays n m r H k
+      pub enough-is : k ≤ 4 → (sum : ℕ) → sum ≡ blocksAtMost n (s .leaf) (s .arity) (s .levels)
+          → (z : ℕ) → z ≡ recordLength builtLayout (s .leaf) k → Bytes (100 + n + z * sum) ≡ enoughSays n m r H k
       enough-is h sum e′ z ez = sym (said true (fine-is .0) ∙ rw (le-leb k 4 h, e′, ez, fine-is .1))
 
 -- the records of all levels are few

@@ -48,7 +48,8 @@ module _ (S : Settings) (T : List ℕ) (h : built.Taken S T) where
   pub built-enough : length (treeOf S T) ≤ enoughFor (length T) (S .leaf) (S .arity) (S .levels) (length (S .counted))
   unfolding offset recordBytes
   built-enough = rw (tree-length S T h)
-      (together (sumBelow (S .levels) (count S T)) (blocksAtMost (length T) (S .leaf) (S .arity) (S .levels)) (recordBytes S) (length (leafBytes S T)) (length T)
+      (together (sumBelow (S .levels) (count S T))
+      (blocksAtMost (length T) (S .leaf) (S .arity) (S .levels)) (recordBytes S) (length (leafBytes S T)) (length T)
       all-blocks (leaves-le S T h))
 
   -- With a buffer of that size question 4 never refuses.
@@ -98,14 +99,16 @@ module _ (t : List ℕ) (k : Readable t) (d : Linked t) where
   leaves =
       let last : H t - 1 < H t = omega (arith, k .levels-low) in
       let all : sumBelow (N t (H t - 1)) (widthAt t (H t - 1)) ≡ sumBelow (N t (H t - 1)) (λ i. min (b t (H t - 1)) (n - s t (H t - 1) i)) =
-      sumBelow-ext (N t (H t - 1)) (widthAt t (H t - 1)) (λ i. min (b t (H t - 1)) (n - s t (H t - 1) i)) (λ i il. width-last t i (last-kept t k d i il) ∙ len-is (H t - 1) i) in
+      sumBelow-ext (N t (H t - 1))
+      (widthAt t (H t - 1)) (λ i. min (b t (H t - 1)) (n - s t (H t - 1) i)) (λ i il. width-last t i (last-kept t k d i il) ∙ len-is (H t - 1) i) in
       omega (arith, d .leaf-count (omega (arith, k .levels-low)), all, bytes-few n (b t (H t - 1)) (N t (H t - 1)) (s t (H t - 1)) (in-order (H t - 1) last))
 
   whole : length t ≤ enoughFor n (at.settings t .leaf) (at.settings t .arity) (H t) (at.countedCount t)
   unfolding at.recordSize
   whole =
       let z = blocksAtMost n (at.settings t .leaf) (at.settings t .arity) (H t) in
-      let most : recordLength (at.layout t) (at.settings t .leaf) (at.countedCount t) * z ≤ recordLength builtLayout (at.settings t .leaf) (at.countedCount t) * z =
+      let most : recordLength (at.layout t)
+      (at.settings t .leaf) (at.countedCount t) * z ≤ recordLength builtLayout (at.settings t .leaf) (at.countedCount t) * z =
       mul-le-mul-right z (record-least (at.layout t) (at.settings t .leaf) (at.countedCount t)) in
       rw (k .size, k .leaf-at)
       (le-trans (together (sumBelow (H t) (N t)) z (at.recordSize t) (at.leafCount t) n tables leaves) (omega (arith, most)))

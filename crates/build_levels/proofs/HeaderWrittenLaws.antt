@@ -18,7 +18,8 @@ use Rattle.build_records.specs.Grown.{Grown, Within}
 use Rattle.build_records.specs.RecordWords.{putThree}
 use Rattle.stretches.specs.Stretches.{bytesWritten}
 use Rattle.build_levels.specs.Head.{places, pairWritten, unusedWritten}
-use Rattle.build_records.proofs.Growth.{bytes-grown, bytes-within, grown-none, grown-then, within-grown, within-part, within-join, within-none, word-grown, word-within, three-grown, three-within}
+use Rattle.build_records.proofs.Growth.{bytes-grown, bytes-within, grown-none, grown-then, within-grown, within-part, within-join, within-none}
+use Rattle.build_records.proofs.Growth.{word-grown, word-within, three-grown, three-within}
 use Rattle.build_records.proofs.StateLaws.{offset-low}
 
 -- Places for counted bytes.
@@ -36,7 +37,8 @@ place-unused cs x l m =
 pub pair-written : (t u v : List ℕ) (x a b : ℕ) → u ≡ setWord t (28 + 8 * x) a → v ≡ setWord u (32 + 8 * x) b → v ≡ pairWritten t x a b
 pair-written t u v x a b e f = f ∙ rw e
 
-module _ (D t : List ℕ) (x a b : ℕ) (fits : 36 + 8 * x ≤ length t) (inside : 36 + 8 * x ≤ length D) (s : Stands D (28 + 8 * x) a) (s′ : Stands D (32 + 8 * x) b) where
+module _ (D t : List ℕ) (x a b : ℕ)
+    (fits : 36 + 8 * x ≤ length t) (inside : 36 + 8 * x ≤ length D) (s : Stands D (28 + 8 * x) a) (s′ : Stands D (32 + 8 * x) b) where
   first : Grown D t (setWord t (28 + 8 * x) a)
   first = word-grown D t (28 + 8 * x) a (omega arith) s (omega arith)
 
@@ -50,7 +52,8 @@ module _ (D t : List ℕ) (x a b : ℕ) (fits : 36 + 8 * x ≤ length t) (inside
   pair-within =
       within-join D (pairWritten t x a b) (28 + 8 * x) (32 + 8 * x) (28 + 8 * (x + 1))
       (within-part D (pairWritten t x a b) (28 + 8 * x) (28 + 8 * x + 4) (28 + 8 * x) (32 + 8 * x)
-      (within-grown D (setWord t (28 + 8 * x) a) (pairWritten t x a b) (28 + 8 * x) (28 + 8 * x + 4) second (word-within D t (28 + 8 * x) a (omega arith) s)) (omega arith) (omega arith))
+      (within-grown D (setWord t (28 + 8 * x) a)
+      (pairWritten t x a b) (28 + 8 * x) (28 + 8 * x + 4) second (word-within D t (28 + 8 * x) a (omega arith) s)) (omega arith) (omega arith))
       (within-part D (pairWritten t x a b) (32 + 8 * x) (32 + 8 * x + 4) (32 + 8 * x) (28 + 8 * (x + 1))
       (word-within D (setWord t (28 + 8 * x) a) (32 + 8 * x) b (omega (arith, first .same-length)) s′) (omega arith) (omega arith))
 
@@ -73,22 +76,26 @@ module _ (S : Settings) (T : List ℕ) (h : Taken S T) where
       (v-is : v ≡ putThree u 12 (S .arity) (S .levels) (length (S .counted))) (w-is : w ≡ bytesWritten v 24 (places (S .counted)) 0 4) where
     g1 : Grown D t u
     unfolding sixWords
-    g1 = rw u-is (three-grown D t 0 2 (length T) (S .leaf) (omega arith) (omega (arith, long)) (six-stands S T h 0 (omega arith)) (six-stands S T h 1 (omega arith)) (six-stands S T h 2 (omega arith)))
+    g1 = rw u-is (three-grown D t 0 2 (length T) (S .leaf)
+        (omega arith) (omega (arith, long)) (six-stands S T h 0 (omega arith)) (six-stands S T h 1 (omega arith)) (six-stands S T h 2 (omega arith)))
 
     w1 : Within D u 0 12
     unfolding sixWords
-    w1 = rw u-is (three-within D t 0 2 (length T) (S .leaf) (omega arith) (omega (arith, long)) (six-stands S T h 0 (omega arith)) (six-stands S T h 1 (omega arith)) (six-stands S T h 2 (omega arith)))
+    w1 = rw u-is (three-within D t 0 2 (length T) (S .leaf)
+        (omega arith) (omega (arith, long)) (six-stands S T h 0 (omega arith)) (six-stands S T h 1 (omega arith)) (six-stands S T h 2 (omega arith)))
 
     fits-u : 100 ≤ length u
     fits-u = omega (arith, g1 .same-length)
 
     g2 : Grown D u v
     unfolding sixWords
-    g2 = rw v-is (three-grown D u 12 (S .arity) (S .levels) (length (S .counted)) (omega (arith, fits-u)) (omega (arith, long)) (six-stands S T h 3 (omega arith)) (six-stands S T h 4 (omega arith)) (six-stands S T h 5 (omega arith)))
+    g2 = rw v-is (three-grown D u 12 (S .arity) (S .levels) (length (S .counted)) (omega (arith, fits-u))
+        (omega (arith, long)) (six-stands S T h 3 (omega arith)) (six-stands S T h 4 (omega arith)) (six-stands S T h 5 (omega arith)))
 
     w2 : Within D v 12 24
     unfolding sixWords
-    w2 = rw v-is (three-within D u 12 (S .arity) (S .levels) (length (S .counted)) (omega (arith, fits-u)) (omega (arith, long)) (six-stands S T h 3 (omega arith)) (six-stands S T h 4 (omega arith)) (six-stands S T h 5 (omega arith)))
+    w2 = rw v-is (three-within D u 12 (S .arity) (S .levels) (length (S .counted)) (omega (arith, fits-u))
+        (omega (arith, long)) (six-stands S T h 3 (omega arith)) (six-stands S T h 4 (omega arith)) (six-stands S T h 5 (omega arith)))
 
     fits-v : 100 ≤ length v
     fits-v = omega (arith, fits-u, g2 .same-length)
@@ -134,12 +141,14 @@ module _ (S : Settings) (T : List ℕ) (h : Taken S T) where
 
   module _ (t u : List ℕ) (l : ℕ) (fits : 100 ≤ length t) (e : l < S .levels) (u-is : u ≡ pairWritten t l (count S T l) (offset S T l)) where
     pub level-grown : Grown D t u
-    level-grown = rw u-is (pair-grown D t l (count S T l) (offset S T l) (omega (arith, limits .levels-high)) (omega (arith, long, limits .levels-high)) (count-stands l e) (offset-stands l e))
+    level-grown = rw u-is (pair-grown D t l (count S T l)
+        (offset S T l) (omega (arith, limits .levels-high)) (omega (arith, long, limits .levels-high)) (count-stands l e) (offset-stands l e))
 
     pub level-within : Within D t 0 (28 + 8 * l) → Within D u 0 (28 + 8 * (l + 1))
     level-within before =
         within-join D u 0 (28 + 8 * l) (28 + 8 * (l + 1)) (within-grown D t u 0 (28 + 8 * l) level-grown before)
-        (rw u-is (pair-within D t l (count S T l) (offset S T l) (omega (arith, limits .levels-high)) (omega (arith, long, limits .levels-high)) (count-stands l e) (offset-stands l e)))
+        (rw u-is (pair-within D t l (count S T l)
+        (offset S T l) (omega (arith, limits .levels-high)) (omega (arith, long, limits .levels-high)) (count-stands l e) (offset-stands l e)))
 
   module _ (t : List ℕ) (fits : 100 ≤ length t) where
     unused-grown : (n : ℕ) → S .levels + n ≤ 8 → Grown D t (unusedWritten t (S .levels) n)
@@ -157,10 +166,13 @@ module _ (S : Settings) (T : List ℕ) (h : Taken S T) where
         let x : ℕ = S .levels + n in
         let u : List ℕ = unusedWritten t (S .levels) n in
         let v : List ℕ = unusedWritten t (S .levels) (suc n) in
-        let more : Grown D u v = pair-grown D u x 0 0 (omega (arith, g .same-length)) (omega (arith, long)) (no-count-stands x (omega arith) (omega arith)) (no-offset-stands x (omega arith) (omega arith)) in
-        let here : Within D v (28 + 8 * x) (28 + 8 * (x + 1)) = pair-within D u x 0 0 (omega (arith, g .same-length)) (omega (arith, long)) (no-count-stands x (omega arith) (omega arith)) (no-offset-stands x (omega arith) (omega arith)) in
+        let more : Grown D u v = pair-grown D u x 0 0 (omega (arith, g .same-length))
+        (omega (arith, long)) (no-count-stands x (omega arith) (omega arith)) (no-offset-stands x (omega arith) (omega arith)) in
+        let here : Within D v (28 + 8 * x) (28 + 8 * (x + 1)) = pair-within D u x 0 0 (omega (arith, g .same-length))
+        (omega (arith, long)) (no-count-stands x (omega arith) (omega arith)) (no-offset-stands x (omega arith) (omega arith)) in
         let e : x + 1 ≡ S .levels + suc n = omega arith in
-        rw e at (within-join D v (28 + 8 * S .levels) (28 + 8 * x) (28 + 8 * (x + 1)) (within-grown D u v (28 + 8 * S .levels) (28 + 8 * x) more (unused-within n (omega arith))) here)
+        rw e at (within-join D v (28 + 8 * S .levels)
+        (28 + 8 * x) (28 + 8 * (x + 1)) (within-grown D u v (28 + 8 * S .levels) (28 + 8 * x) more (unused-within n (omega arith))) here)
 
     leaf-words : (Stands D 92 (offset S T (S .levels))) × (Stands D 96 (length (leafBytes S T)))
     leaf-words = (
@@ -168,7 +180,8 @@ module _ (S : Settings) (T : List ℕ) (h : Taken S T) where
       rw (word-leaf-count S T (limits .levels-high)) at (level-stands S T h 17 (omega arith)),
     )
 
-    module _ (u : List ℕ) (u-is : u ≡ setWord (setWord (unusedWritten t (S .levels) (8 - S .levels)) 92 (offset S T (S .levels))) 96 (length (leafBytes S T))) where
+    module _ (u : List ℕ) (u-is : u ≡ setWord
+        (setWord (unusedWritten t (S .levels) (8 - S .levels)) 92 (offset S T (S .levels))) 96 (length (leafBytes S T))) where
       n8 : S .levels + (8 - S .levels) ≡ 8
       n8 = omega (arith, limits .levels-high)
 

@@ -46,7 +46,8 @@ module _ (S : Settings) (T out : List ℕ) (level : Level) (to i : ℕ) (w : Lea
     i-in = omega (arith, w .level-is .count-is)
 
     pub leaf-on : On S T out level i
-    leaf-on = on-written S T out level i (w .level-is) (omega (arith, table-inside S T taken l l-in, w .room)) (within-part D out 100 to 100 (offset S T (suc l)) (w .body) (omega arith) end) il
+    leaf-on = on-written S T out level i (w .level-is)
+        (omega (arith, table-inside S T taken l l-in, w .room)) (within-part D out 100 to 100 (offset S T (suc l)) (w .body) (omega arith) end) il
 
     module _ (own : Stretch) (own-is : StretchIs S T l i own) where
       abbrev s : ℕ
@@ -67,7 +68,8 @@ module _ (S : Settings) (T out : List ℕ) (level : Level) (to i : ℕ) (w : Lea
       bytes-are : (j : ℕ) → j < len → getD D (to + j) 0 ≡ getD T (s + j) 0
       bytes-are j h =
           let e : to + j ≡ offset S T (S .levels) + (sumBelow i (widthOf S T l) + j) = omega (arith, w .to-is) in
-          rw (e, own-is .start-is) (leaf-place S T taken (sumBelow i (widthOf S T l) + j) ∙ leaf-at S T taken l i j (w .last) i-in (omega (arith, own-is .length-is)))
+          rw (e, own-is .start-is) (leaf-place S T taken (sumBelow i (widthOf S T l) + j)
+          ∙ leaf-at S T taken l i j (w .last) i-in (omega (arith, own-is .length-is)))
 
       module _ (new : List ℕ) (new-is : new ≡ bytesWritten out to T s len) where
         pub leaf-grown : Grown D out new
@@ -88,10 +90,19 @@ module _ (S : Settings) (T out : List ℕ) (level : Level) (to i : ℕ) (w : Lea
       }
 
       pub to-few : to + len ≤ maxTree
-      to-few = omega (arith, w .to-is, len-is, tree-length S T taken, leaf-count S T taken l (w .last), sumBelow-part (count S T l) (widthOf S T l) i i-in, tree-small S T taken)
+      to-few = omega (
+        arith,
+        w .to-is,
+        len-is,
+        tree-length S T taken,
+        leaf-count S T taken l (w .last),
+        sumBelow-part (count S T l) (widthOf S T l) i i-in,
+        tree-small S T taken,
+      )
 
   -- all leaf bytes are written
   pub leafing-all : i ≡ level .count → Within D out 100 (length D)
   leafing-all e =
-      let all : to ≡ length D = w .to-is ∙ sym (tree-length S T taken ∙ ap (λ (x : ℕ). offset S T (S .levels) + x) (leaf-count S T taken l (w .last) ∙ ap (λ (x : ℕ). sumBelow x (widthOf S T l)) (sym (e ∙ w .level-is .count-is)))) in
+      let all : to ≡ length D = w .to-is ∙ sym (tree-length S T taken ∙ ap (λ (x : ℕ). offset S T (S .levels) + x)
+      (leaf-count S T taken l (w .last) ∙ ap (λ (x : ℕ). sumBelow x (widthOf S T l)) (sym (e ∙ w .level-is .count-is)))) in
       rw all at (w .body)

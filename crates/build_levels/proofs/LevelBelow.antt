@@ -31,7 +31,15 @@ use Rattle.build_levels.proofs.HeaderWrittenLaws.{level-grown, level-wi
 use Rattle.build_records.proofs.StateLaws.{place-is, place-end, offset-low, table-inside, Few, few}
 
 pub next-made : (level : Level) (count p : ℕ) (cs : List ℕ) → p ≡ recordPlace (level .table) (level .count) (settingsOf (level .settings) cs)
-    → record { settings = level .settings; number = level .number + 1; above = level .size; size = level .below; below = level .below / level .settings .arity; count = count; table = p }
+    → record {
+      settings = level .settings;
+      number = level .number + 1;
+      above = level .size;
+      size = level .below;
+      below = level .below / level .settings .arity;
+      count = count;
+      table = p;
+    }
     ≡ nextOf level count cs
 next-made level count p cs e = rw e
 
@@ -145,7 +153,8 @@ module _ (T cs : List ℕ) (level : Level) (out two : List ℕ) (total : ℕ) (r
       pub next-few : Few S T n
       next-few = few S T n n-level
 
-      pub step-full : (p : ℕ) → p ≡ recordPlace (n .table) (n .count) (settingsOf (n .settings) cs) → length two < p → StepIs S T two (level .settings) (l + 1) Full
+      pub step-full : (p : ℕ) → p ≡ recordPlace (n .table) (n .count) (settingsOf (n .settings) cs)
+          → length two < p → StepIs S T two (level .settings) (l + 1) Full
       step-full p e k = step-none S T two (level .settings) (l + 1) (no-room p (rw n-is at e) k)
 
       pub step-below : (p : ℕ) → p ≡ recordPlace (n .table) (n .count) (settingsOf (n .settings) cs) → p ≤ length two → Below S T two level n 0
@@ -194,7 +203,8 @@ module _ (T cs : List ℕ) (level : Level) (out two : List ℕ) (total : ℕ) (r
           level-is = h;
           last = last′;
           room = omega (arith, end-is, three-grown .same-length);
-          body = within-part D three 100 (offset S T (suc l)) 100 at (within-grown D two three 100 (offset S T (suc l)) three-grown body-two) (omega arith) (omega (arith, at-is, table-end));
+          body = within-part D three 100 (offset S T (suc l))
+              100 at (within-grown D two three 100 (offset S T (suc l)) three-grown body-two) (omega arith) (omega (arith, at-is, table-end));
           to-is = omega (arith, at-right);
         }
 

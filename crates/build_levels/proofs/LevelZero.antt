@@ -24,7 +24,8 @@ use Rattle.build_levels.specs.Trees.{firstOf, Ready, StepIs}
 use Rattle.build_records.proofs.Growth.{grown-then, within-grown, within-none}
 use Rattle.build_records.proofs.Children.{pieces-most}
 use Rattle.build_records.proofs.WrittenStartsLaws.{starts-grown, starts-within}
-use Rattle.build_records.proofs.StateLaws.{record-size, place-is, place-end, record-inside-table, table-inside, offset-low, block-high, size-high, start-stands, Few, few}
+use Rattle.build_records.proofs.StateLaws.{record-size, place-is, place-end, record-inside-table, table-inside, offset-low, block-high, size-high}
+use Rattle.build_records.proofs.StateLaws.{start-stands, Few, few}
 
 -- a step that came to a level, and one that found no room for it
 module _ (S : Settings) (T out : List ℕ) (s : code.Settings) (number : ℕ) where
@@ -82,7 +83,8 @@ module _ (s : code.Settings) (cs T : List ℕ) (h : Taken (settingsOf s cs) T) w
     above-low = omega arith;
     above-is = λ k e. absurd (let z : ⊥ = omega arith in z);
     size-is = size-zero;
-    below-is = λ up. divided (s .arity) (firstOf s (length T) .size) (blockLength S₀ 1) (omega (arith, limits₀ .arity-low)) (size-zero ∙ size-falls S₀ T h 0 up);
+    below-is = λ up. divided (s .arity)
+        (firstOf s (length T) .size) (blockLength S₀ 1) (omega (arith, limits₀ .arity-low)) (size-zero ∙ size-falls S₀ T h 0 up);
     count-is = ap (λ (b : ℕ). pieces (length T) b) size-zero ∙ sym (count-top S₀ T h);
     table-is = table-zero S₀ T;
   }
@@ -184,7 +186,8 @@ module _ (s : code.Settings) (cs T : List ℕ) (h : Taken (settingsOf s cs) T) (
           first-grown = grown-then D out one two g grown-two
 
           started : (x : ℕ) → x < count S T 0 → Within D two (placeAt S T 0 x) (placeAt S T 0 x + 4)
-          started x k = rw (← at-place x, two-right) (starts-within D one 100 (recordBytes S) 0 (blockLength S 0) (count S T 0) stands fits inside (count S T 0) (omega arith) x k)
+          started x k = rw (← at-place x, two-right)
+              (starts-within D one 100 (recordBytes S) 0 (blockLength S 0) (count S T 0) stands fits inside (count S T 0) (omega arith) x k)
 
           filled : Filled S T two 0 0
           filled = record {

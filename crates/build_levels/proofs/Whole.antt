@@ -26,7 +26,8 @@ whole D out new g fits all = ext-getD 0 new (D ++ drop (length D) out) lengths (
     at k (inl l) = all .right k (omega arith) l ∙ sym (List·getD-append D (drop (length D) out) 0 k l)
     at k (inr l) =
         let e : k ≡ length D + (k - length D) = omega arith in
-        g .past k l ∙ sym (ap (λ (x : ℕ). getD (D ++ drop (length D) out) x 0) e ∙ getD-append-add D (drop (length D) out) (k - length D) 0 ∙ getD-drop (length D) out (k - length D) 0 ∙ ap (λ (x : ℕ). getD out x 0) (sym e))
+        g .past k l ∙ sym (ap (λ (x : ℕ). getD (D ++ drop (length D) out) x 0) e ∙ getD-append-add D (drop (length D) out) (k - length D) 0
+        ∙ getD-drop (length D) out (k - length D) 0 ∙ ap (λ (x : ℕ). getD out x 0) (sym e))
 
 module _ (S : Settings) (T : List ℕ) (h : Taken S T) (out new : List ℕ) (g : Grown (treeOf S T) out new) (r : ℕ) (f : Finished (treeOf S T) new r) where
   abbrev D : List ℕ

@@ -1,7 +1,7 @@
 // The header.
+use build_records::record_written;
 use layout::settings::Settings;
 use layout::word;
-use build_records::record_written;
 ghost use mathlib.Core.Path.{_≡_};
 ghost use Prim.Native.Nat.{_-_, _≤_, _<_};
 ghost use lib.ListN.{length, getD};

@@ -1,7 +1,7 @@
 // The leaf bytes: those of the last level's blocks, one block after the other.
-use layout::place::BlockNumber;
 use build_records::level_written;
 use build_records::level_written::Level;
+use layout::place::BlockNumber;
 ghost use mathlib.Core.Path.{_≡_};
 ghost use Prim.Native.Nat.{_+_, _<_};
 ghost use lib.ListN.{length};

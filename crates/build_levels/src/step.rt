@@ -1,13 +1,13 @@
 // From level to level: level 0, the next one, and the end of the tree.
 use crate::header_written;
 use crate::leaf;
+use build_records::below;
+use build_records::level_written;
+use build_records::level_written::Level;
 use layout::header;
 use layout::place::BlockNumber;
 use layout::place::TextPlace;
 use layout::settings::Settings;
-use build_records::below;
-use build_records::level_written;
-use build_records::level_written::Level;
 ghost use mathlib.Core.Path.{_≡_};
 ghost use Prim.Native.Nat.{_+_, _≤_, _<_};
 ghost use lib.ListN.{length};
@@ -45,7 +45,8 @@ fn first_level(text: &[u8], s: Settings) -> Level
 
 // The level below one, of whose blocks the number is known.
 fn next_level(counted: &[u8], level: Level, count: u32) -> Level
-    requires { ⌜ (length (now counted) ≤ 4) × (level .table ≤ maxTable) × (level .count ≤ maxText) × (level .settings .leaf ≤ 256) × (level .number < 8) × (0 < level .settings .arity) ⌝ }
+    requires { ⌜ (length (now counted) ≤ 4) × (level .table ≤ maxTable)
+        × (level .count ≤ maxText) × (level .settings .leaf ≤ 256) × (level .number < 8) × (0 < level .settings .arity) ⌝ }
     requires { ⌜ recordPlace (level .table) (level .count) (settingsOf (level .settings) (now counted)) ≤ maxTable ⌝ }
     ensures { λ r. ⌜ r ≡ nextOf level count (now (counted .entry)) ⌝ }
 {
@@ -88,7 +89,8 @@ pub fn go_down(out: &mut [u8], text: &[u8], counted: &[u8], level: Level, count:
     requires { ⌜ Written (settingsOf (level .settings) (now counted)) (now text) (now out) level count ⌝ }
     requires { ⌜ level .number + 1 < level .settings .levels ⌝ }
     ensures { λ _. ⌜ Grown (treeOf (settingsOf (level .settings) (now (counted .entry))) (now (text .entry))) (now (out .entry)) (now (out .exit)) ⌝ }
-    ensures { λ r. ⌜ StepIs (settingsOf (level .settings) (now (counted .entry))) (now (text .entry)) (now (out .exit)) (level .settings) (level .number + 1) r ⌝ }
+    ensures { λ r. ⌜ StepIs (settingsOf (level .settings) (now (counted .entry)))
+        (now (text .entry)) (now (out .exit)) (level .settings) (level .number + 1) r ⌝ }
 {
     header_written::put_pair(out, level.number, level.count, level.table);
     let next = next_level(counted, level, count);

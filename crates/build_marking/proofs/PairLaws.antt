@@ -87,7 +87,8 @@ module _ (S : Settings) (T out : List ℕ) (level : Level) (i : ℕ) (w : On S T
     pub apart-far : (next ≡ s + level .size → ⊥) → Apart ≡ pairOf S T l i
     apart-far n = not-pair (pair-test ∙ ne-eqb next (s + level .size) n)
 
-    pub pair-is : (level .number + 1 ≡ S .levels → ⊥) → next ≡ s + level .size → (r : Pair) → r ≡ pairSays T s (min (level .size + level .size) (length T - s)) → r ≡ pairOf S T l i
+    pub pair-is : (level .number + 1 ≡ S .levels → ⊥)
+        → next ≡ s + level .size → (r : Pair) → r ≡ pairSays T s (min (level .size + level .size) (length T - s)) → r ≡ pairOf S T l i
     unfolding pairOf firstPairAt
     pair-is upper e r r-is =
         r-is ∙ rw (ne-eqb (suc l) (S .levels) (λ z. upper (add-one l ∙ z)), pair-test, eq-eqb next (s + level .size) e, s-right, w .level-is .size-is)

@@ -72,7 +72,15 @@ module _ (S : Settings) (T out : List ℕ) (level : Level) (i : ℕ) (w : On S T
     up-right = up-is ∙ parent-by l (own .start .0) (w .level-is .above-is) ∙ ap (parentOf S T l) (own-is .start-is)
 
     pub kept-is : (link : ℕ) → keptAt S T l i ≡ true → link ≡ sumBelow i (widthOf S T l)
-        → BlockIs S T l i (record { start = own .start; length = own .length; parent = record { 0 = up }; kind = 0; link = record { 0 = link }; from = record { 0 = 0 }; gap = record { 0 = 0 } })
+        → BlockIs S T l i (record {
+          start = own .start;
+          length = own .length;
+          parent = record { 0 = up };
+          kind = 0;
+          link = record { 0 = link };
+          from = record { 0 = 0 };
+          gap = record { 0 = 0 };
+        })
     unfolding kindOf linkOf gapOf skipOf
     kept-is link k e = record {
       start-is = own-is .start-is;
@@ -92,7 +100,8 @@ module _ (S : Settings) (T out : List ℕ) (level : Level) (i : ℕ) (w : On S T
 
     pub whole-range : Between out (level .table) (level .count) (settingsOf (level .settings) (S .counted)) p 0 (level .count)
     whole-range =
-        let first : start S T l 0 ≤ start S T l (targetOf S T l i) = start-le (length T) (size S T l) (count S T l) (start S T l) order 0 (targetOf S T l i) (omega arith) (to .below) in
+        let first : start S T l 0 ≤ start S T l (targetOf S T l i) =
+        start-le (length T) (size S T l) (count S T l) (start S T l) order 0 (targetOf S T l i) (omega arith) (to .below) in
         record {
           some-left = omega (arith, w .block-in);
           within = omega arith;
@@ -141,7 +150,15 @@ module _ (S : Settings) (T out : List ℕ) (level : Level) (i : ℕ) (w : On S T
         from-le = omega (arith, from-is, b .from)
 
         pub pointing-is : (own : Stretch) → StretchIs S T l i own → (up : ℕ) → up ≡ parentSays (level .number) (level .above) (own .start .0)
-            → BlockIs S T l i (record { start = own .start; length = own .length; parent = record { 0 = up }; kind = 1; link = record { 0 = r }; from = record { 0 = from }; gap = record { 0 = p - from } })
+            → BlockIs S T l i (record {
+              start = own .start;
+              length = own .length;
+              parent = record { 0 = up };
+              kind = 1;
+              link = record { 0 = r };
+              from = record { 0 = from };
+              gap = record { 0 = p - from };
+            })
         unfolding kindOf linkOf gapOf skipOf
         pointing-is own own-is up up-is = record {
           start-is = own-is .start-is;

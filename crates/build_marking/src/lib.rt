@@ -3,10 +3,10 @@ mod occurrences;
 pub mod pair;
 pub mod target;
 
-use layout::place::BlockNumber;
 use build_records::level_written::Level;
 use build_records::record_written::Block;
 use build_records::record_written::Link;
+use layout::place::BlockNumber;
 ghost use Rattle.build_records.specs.State.{settingsOf, BlockIs};
 ghost use Rattle.build_marking.specs.MarkingRule.{Next};
 

@@ -1,7 +1,7 @@
 // Occurrences in the text, by the contract of the search alone.
-use layout::place::BlockNumber;
 use build_records::level_written;
 use build_records::level_written::Level;
+use layout::place::BlockNumber;
 use search::Fingerprint;
 use search::Occurrence;
 use text::TextPlace;

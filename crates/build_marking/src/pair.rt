@@ -1,9 +1,9 @@
 // The marking rule: pairs of blocks that follow each other in the list and in the text.
 use crate::occurrences;
-use layout::place::BlockNumber;
-use layout::place::TextPlace;
 use build_records::level_written;
 use build_records::level_written::Level;
+use layout::place::BlockNumber;
+use layout::place::TextPlace;
 ghost use mathlib.Core.Path.{_≡_};
 ghost use Prim.Native.Nat.{_+_, _-_, _≤_, min};
 ghost use lib.ListN.{length};

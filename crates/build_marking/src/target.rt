@@ -1,11 +1,11 @@
 // Where a pointing block points.
-use layout::place::BlockNumber;
-use layout::place::BlockPlace;
-use layout::place::TextPlace;
 use build_records::level_written;
 use build_records::level_written::Level;
 use build_records::record_written::Block;
 use build_records::record_written::Link;
+use layout::place::BlockNumber;
+use layout::place::BlockPlace;
+use layout::place::TextPlace;
 ghost use mathlib.Core.Bool.{true, false};
 ghost use mathlib.Core.Path.{_≡_};
 ghost use Prim.Native.Nat.{_+_, _-_, _<_};
@@ -37,7 +37,8 @@ fn narrow(counted: &[u8], out: &[u8], level: Level, place: TextPlace, range: Ran
     requires { ⌜ Sorted (now out) (level .table) (level .count) (settingsOf (level .settings) (now counted)) ⌝ }
     requires { ⌜ Between (now out) (level .table) (level .count) (settingsOf (level .settings) (now counted)) (place .0) (range .low .0) (range .high .0) ⌝ }
     requires { ⌜ range .low .0 + 1 < range .high .0 ⌝ }
-    ensures { λ r. ⌜ Between (now (out .entry)) (level .table) (level .count) (settingsOf (level .settings) (now (counted .entry))) (place .0) (r .low .0) (r .high .0) ⌝ }
+    ensures { λ r. ⌜ Between (now (out .entry))
+        (level .table) (level .count) (settingsOf (level .settings) (now (counted .entry))) (place .0) (r .low .0) (r .high .0) ⌝ }
     ensures { λ r. ⌜ r .high .0 - r .low .0 < range .high .0 - range .low .0 ⌝ }
 {
     let low = range.low;
@@ -54,7 +55,8 @@ fn narrow(counted: &[u8], out: &[u8], level: Level, place: TextPlace, range: Ran
 fn holder(counted: &[u8], out: &[u8], level: Level, place: TextPlace) -> BlockNumber
     requires { ⌜ Sorted (now out) (level .table) (level .count) (settingsOf (level .settings) (now counted)) ⌝ }
     requires { ⌜ Between (now out) (level .table) (level .count) (settingsOf (level .settings) (now counted)) (place .0) 0 (level .count) ⌝ }
-    ensures { λ r. ⌜ Between (now (out .entry)) (level .table) (level .count) (settingsOf (level .settings) (now (counted .entry))) (place .0) (r .0) (r .0 + 1) ⌝ }
+    ensures { λ r. ⌜ Between (now (out .entry))
+        (level .table) (level .count) (settingsOf (level .settings) (now (counted .entry))) (place .0) (r .0) (r .0 + 1) ⌝ }
 {
     let mut range = Range {
         low: BlockNumber(0),

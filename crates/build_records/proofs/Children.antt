@@ -29,7 +29,8 @@ use Rattle.build_records.specs.State.{settingsOf, Filled, Below, Started
 use Rattle.build_records.proofs.Growth.{read-right, within-grown, within-part}
 use Rattle.build_records.proofs.RecordsRead.{on-written}
 use Rattle.build_records.proofs.WrittenStartsLaws.{starts-grown, starts-within}
-use Rattle.build_records.proofs.StateLaws.{record-size, place-is, place-le, place-end, record-inside-table, table-inside, offset-low, offset-rises, size-high, start-stands, kind-stands, link-stands}
+use Rattle.build_records.proofs.StateLaws.{record-size, place-is, place-le, place-end, record-inside-table, table-inside, offset-low}
+use Rattle.build_records.proofs.StateLaws.{offset-rises, size-high, start-stands, kind-stands, link-stands}
 use Rattle.build_records.proofs.Widths.{kept-by-kind, points-by-kind}
 
 -- no more blocks than bytes, and one more block's
@@ -85,7 +86,8 @@ module _ (S : Settings) (T out : List ℕ) (level next : Level) (i : ℕ) (w : B
 
     word : (x v : ℕ) → x + 4 ≤ recordBytes S → Stands D (P + x) v → v < 4294967296 → wordAt out (at + x) ≡ v
     word x v in-record s small =
-        rw at-right (read-right D out (P + x) v (within-part D out 100 (offset S T (suc l)) (P + x) (P + x + 4) (w .body) (omega (arith, low)) (omega (arith, ends))) s small)
+        rw at-right (read-right D out
+        (P + x) v (within-part D out 100 (offset S T (suc l)) (P + x) (P + x + 4) (w .body) (omega (arith, low)) (omega (arith, ends))) s small)
 
     kind-read : wordAt out (at + 4) ≡ kindOf S T l i
     kind-read = word 4 (kindOf S T l i) (omega (arith, record-size S T)) (kind-stands S T taken l i l-in i-in) (omega (arith, kind-le S T l i))
@@ -93,13 +95,15 @@ module _ (S : Settings) (T out : List ℕ) (level next : Level) (i : ℕ) (w : B
     link-read : wordAt out (at + 8) ≡ linkOf S T l i
     link-read =
         let e : P + 4 + 4 ≡ P + 8 = omega arith in
-        word 8 (linkOf S T l i) (omega (arith, record-size S T)) (rw e at (link-stands S T taken l i l-in i-in)) (omega (arith, link-le S T taken l l-in i i-in, limits .text-high))
+        word 8 (linkOf S T l i) (omega (arith, record-size S T))
+        (rw e at (link-stands S T taken l i l-in i-in)) (omega (arith, link-le S T taken l l-in i i-in, limits .text-high))
 
     module _ (kind : ℕ) (kind-is : kind ≡ wordAt out (at + 4)) where
       -- a pointing block has no children
       pub no-children : (kind ≡ 0 → ⊥) → Started S T out (suc l) 0 (sumBelow (i + 1) (widthOf S T l))
       no-children n =
-          let e : sumBelow (i + 1) (widthOf S T l) ≡ sum = sumBelow-suc i (widthOf S T l) ∙ omega (arith, cut-at S T taken l up .uncut i (points-by-kind S T l i kind (kind-is ∙ kind-read) n)) in
+          let e : sumBelow (i + 1) (widthOf S T l) ≡ sum =
+          sumBelow-suc i (widthOf S T l) ∙ omega (arith, cut-at S T taken l up .uncut i (points-by-kind S T l i kind (kind-is ∙ kind-read) n)) in
           rw e (w .done)
 
       module _ (zero-kind : kind ≡ 0) where
@@ -124,7 +128,8 @@ module _ (S : Settings) (T out : List ℕ) (level next : Level) (i : ℕ) (w : B
               rw size-right (size-high S T taken (suc l)),
             )
 
-            module _ (n : ℕ) (n-is : n ≡ pieces (own .length) (next .size)) (to : ℕ) (to-is : to ≡ recordPlace (next .table) link (settingsOf (next .settings) (S .counted))) (to-few : to ≤ maxTable + 576 * maxText) (step : ℕ) (step-is : step ≡ recordBytes S) where
+            module _ (n : ℕ) (n-is : n ≡ pieces (own .length) (next .size)) (to : ℕ) (to-is : to ≡ recordPlace (next .table) link
+                (settingsOf (next .settings) (S .counted))) (to-few : to ≤ maxTable + 576 * maxText) (step : ℕ) (step-is : step ≡ recordBytes S) where
               n-right : n ≡ widthOf S T l i
               n-right = n-is ∙ rw (own-is .length-is, size-right, bytesIn-is S T l i) (sym (cut-at S T taken l up .cut i kept))
 
@@ -155,7 +160,13 @@ module _ (S : Settings) (T out : List ℕ) (level next : Level) (i : ℕ) (w : B
                 step-low = omega (arith, step-is, record-size S T);
                 step-few = omega (arith, step-is, record-size S T, limits .counted-high, limits .leaf-high);
                 at-few = omega arith;
-                count-few = omega (arith, n-right, sumBelow-part (count S T l) (widthOf S T l) i i-in, widths-le S T taken l (count S T l) l-in (omega arith), limits .text-high);
+                count-few = omega (
+                  arith,
+                  n-right,
+                  sumBelow-part (count S T l) (widthOf S T l) i i-in,
+                  widths-le S T taken l (count S T l) l-in (omega arith),
+                  limits .text-high,
+                );
                 ends = rw n-is (omega (arith, pieces-most (own .length) (next .size), pieces-asks .0, pieces-asks .2, own-is .fits, limits .text-high));
               }
 
@@ -173,13 +184,16 @@ module _ (S : Settings) (T out : List ℕ) (level next : Level) (i : ℕ) (w : B
                 children-grown = rw new-right (starts-grown D out to (recordBytes S) (own .start .0) (next .size) n stands fits inside n (omega arith))
 
                 child-started : (j : ℕ) → j < n → Within D new (placeAt S T (suc l) (sum + j)) (placeAt S T (suc l) (sum + j) + 4)
-                child-started j h = rw (← to-child j, new-right) (starts-within D out to (recordBytes S) (own .start .0) (next .size) n stands fits inside n (omega arith) j h)
+                child-started j h = rw (← to-child j, new-right)
+                    (starts-within D out to (recordBytes S) (own .start .0) (next .size) n stands fits inside n (omega arith) j h)
 
                 pub children-started : Started S T new (suc l) 0 (sumBelow (i + 1) (widthOf S T l))
                 children-started = record { starts = λ x _ h. go x h (lt-or-ge x sum) }
                   where
-                    go : (x : ℕ) → x < sumBelow (i + 1) (widthOf S T l) → (x < sum) ⊎ (sum ≤ x) → Within D new (placeAt S T (suc l) x) (placeAt S T (suc l) x + 4)
-                    go x h (inl y) = within-grown D out new (placeAt S T (suc l) x) (placeAt S T (suc l) x + 4) children-grown (w .done .starts x (omega arith) y)
+                    go : (x : ℕ) → x < sumBelow (i + 1) (widthOf S T l)
+                        → (x < sum) ⊎ (sum ≤ x) → Within D new (placeAt S T (suc l) x) (placeAt S T (suc l) x + 4)
+                    go x h (inl y) = within-grown
+                        D out new (placeAt S T (suc l) x) (placeAt S T (suc l) x + 4) children-grown (w .done .starts x (omega arith) y)
                     go x h (inr y) =
                         let e : sum + (x - sum) ≡ x = omega arith in
                         let k : x - sum < n = omega (arith, sumBelow-suc i (widthOf S T l), n-right) in

@@ -103,7 +103,8 @@ module _ (S : Settings) (T out : List ℕ) (level : Level) (i : ℕ) (block : Bl
   ends : A + (m + m) ≡ placeAt S T l (i + 1)
   ends = omega (arith, add-one i, place-next S T l i, record-size S T)
 
-  module _ (at : ℕ) (at-is : at ≡ recordPlace (level .table) i (settingsOf (level .settings) (S .counted))) (own : ℕ) (own-is : own ≡ min m (block .length)) where
+  module _ (at : ℕ) (at-is : at ≡ recordPlace (level .table) i (settingsOf (level .settings) (S .counted)))
+      (own : ℕ) (own-is : own ≡ min m (block .length)) where
     here : at + 16 + 12 * length (S .counted) ≡ A
     here = omega (arith, at-is, place-is S T level (w .level-is) i)
 
@@ -125,10 +126,12 @@ module _ (S : Settings) (T out : List ℕ) (level : Level) (i : ℕ) (block : Bl
     last-bytes : (j : ℕ) → j < own → getD D (A + m + j) 0 ≡ getD T (start S T l i + (bytesIn S T l i - own) + j) 0
     last-bytes j h =
         let e : bytesIn S T l i - own ≡ bytesIn S T l i - m = omega (arith, own-is, w .block-is .length-is) in
-        rw (add-assoc A m j, e) (edge-at (m + j) (omega (arith, few)) ∙ last-own T m (start S T l i) (bytesIn S T l i) fit j (omega (arith, few)) (omega (arith, own-in)))
+        rw (add-assoc A m j, e) (edge-at (m + j) (omega (arith, few))
+        ∙ last-own T m (start S T l i) (bytesIn S T l i) fit j (omega (arith, few)) (omega (arith, own-in)))
 
     last-zeros : (j : ℕ) → own ≤ j → j < m → getD D (A + m + j) 0 ≡ 0
-    last-zeros j lo hi = rw (add-assoc A m j) (edge-at (m + j) (omega arith) ∙ last-none T m (start S T l i) (bytesIn S T l i) fit j hi (omega (arith, own-is, w .block-is .length-is)))
+    last-zeros j lo hi = rw (add-assoc A m j)
+        (edge-at (m + j) (omega arith) ∙ last-none T m (start S T l i) (bytesIn S T l i) fit j hi (omega (arith, own-is, w .block-is .length-is)))
 
     module _ (one : List ℕ) (one-is : one ≡ edgeWritten out (at + 16 + 12 * length (S .counted)) T (block .start .0) own m) where
       one-right : one ≡ edgeWritten out A T (start S T l i) own m
@@ -151,10 +154,12 @@ module _ (S : Settings) (T out : List ℕ) (level : Level) (i : ℕ) (block : Bl
         two-right = two-is ∙ rw (here, w .block-is .start-is, w .block-is .length-is)
 
         rest-of : Grown D one two
-        rest-of = rw two-right (edge-grown D one T (A + m) (start S T l i + (bytesIn S T l i - own)) own m few (omega (arith, room, one-grown .same-length)) (omega (arith, in-tree)) last-bytes last-zeros)
+        rest-of = rw two-right (edge-grown D one T (A + m) (start S T l i + (bytesIn S T l i - own))
+            own m few (omega (arith, room, one-grown .same-length)) (omega (arith, in-tree)) last-bytes last-zeros)
 
         two-within : Within D two (A + m) (A + m + m)
-        two-within = rw two-right (edge-within D one T (A + m) (start S T l i + (bytesIn S T l i - own)) own m few (omega (arith, room, one-grown .same-length)) (omega (arith, in-tree)) last-bytes last-zeros)
+        two-within = rw two-right (edge-within D one T (A + m) (start S T l i + (bytesIn S T l i - own))
+            own m few (omega (arith, room, one-grown .same-length)) (omega (arith, in-tree)) last-bytes last-zeros)
 
         pub edges-grown : Grown D out two
         edges-grown = grown-then D out one two one-grown rest-of

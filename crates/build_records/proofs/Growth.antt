@@ -127,7 +127,8 @@ module _ (D : List ℕ) where
 
     third-word : Within D (putThree t i a b c) (i + 8) (i + 12)
     unfolding t1 t2
-    third-word = within-part (putThree t i a b c) (i + 8) (i + 8 + 4) (i + 8) (i + 12) (word-within t2 (i + 8) c (omega (arith, fits2)) s″) (omega arith) (omega arith)
+    third-word = within-part (putThree t i a b c)
+        (i + 8) (i + 8 + 4) (i + 8) (i + 12) (word-within t2 (i + 8) c (omega (arith, fits2)) s″) (omega arith) (omega arith)
 
     pub three-within : Within D (putThree t i a b c) i (i + 12)
     three-within =
@@ -152,7 +153,8 @@ module _ (D t : List ℕ) (i v : ℕ) (fits : i < length t) (inside : i < length
       keep k e (yes y) = rw y byte-right
       keep k e (no n) = getD-set-other t i k v 0 n ∙ e
 
-module _ (D t T : List ℕ) (to from n : ℕ) (fits : to + n ≤ length t) (inside : to + n ≤ length D) (is : (j : ℕ) → j < n → getD D (to + j) 0 ≡ getD T (from + j) 0) where
+module _ (D t T : List ℕ)
+    (to from n : ℕ) (fits : to + n ≤ length t) (inside : to + n ≤ length D) (is : (j : ℕ) → j < n → getD D (to + j) 0 ≡ getD T (from + j) 0) where
   pub bytes-grown : (j : ℕ) → j ≤ n → Grown D t (bytesWritten t to T from j)
   bytes-grown zero l = grown-none D t
   bytes-grown (suc j) l =

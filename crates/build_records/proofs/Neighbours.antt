@@ -40,7 +40,8 @@ module _ (S : Settings) (T : List ℕ) (h : Taken S T) where
   below-left : (l x : ℕ) (up : suc l < S .levels) → x < count S T (suc l) → (start S T (suc l) x ≡ parentOf S T (suc l) (start S T (suc l) x) → ⊥)
       → (i j : ℕ) → i < count S T l → j < widthOf S T l i → x ≡ sumBelow i (widthOf S T l) + j → (y : ℕ) × LeftOf S T (suc l) x y
   below-left l x up xl other i zero il jl e =
-      absurd (other (ap (start S T (suc l)) e ∙ start-below S T h l i 0 up il jl ∙ zero-part ∙ sym (ap (λ (y : ℕ). parentOf S T (suc l) (start S T (suc l) y)) e ∙ parent-start S T h l up i 0 il jl)))
+      absurd (other (ap (start S T (suc l)) e ∙ start-below S T h l i 0 up il jl
+      ∙ zero-part ∙ sym (ap (λ (y : ℕ). parentOf S T (suc l) (start S T (suc l) y)) e ∙ parent-start S T h l up i 0 il jl)))
     where
       zero-part : start S T l i + 0 * size S T (suc l) ≡ start S T l i
       zero-part = omega arith
@@ -50,8 +51,10 @@ module _ (S : Settings) (T : List ℕ) (h : Taken S T) where
         sumBelow i (widthOf S T l) + j,
         record {
           next = f;
-          touch = ap (start S T (suc l)) e ∙ omega (arith, start-below S T h l i (suc j) up il jl, start-below S T h l i j up il jl′, suc-mul j (size S T (suc l)));
-          together = ap (λ (y : ℕ). parentOf S T (suc l) (start S T (suc l) y)) e ∙ parent-start S T h l up i (suc j) il jl ∙ sym (parent-start S T h l up i j il jl′);
+          touch = ap (start S T (suc l)) e
+              ∙ omega (arith, start-below S T h l i (suc j) up il jl, start-below S T h l i j up il jl′, suc-mul j (size S T (suc l)));
+          together = ap (λ (y : ℕ). parentOf S T (suc l) (start S T (suc l) y)) e
+              ∙ parent-start S T h l up i (suc j) il jl ∙ sym (parent-start S T h l up i j il jl′);
         },
       )
 
@@ -71,7 +74,8 @@ module _ (S : Settings) (T : List ℕ) (h : Taken S T) where
       let len : start S T l i - up ≡ start S T l j - up + bytesIn S T l j = omega (arith, left .touch) in
       let at : up + (start S T l j - up) ≡ start S T l j = omega arith in
       rw (left .together, len)
-      (count-add c T up (start S T l j - up) (bytesIn S T l j) ∙ ap (λ (x : ℕ). countIn c (stretch T up (start S T l j - up)) + countIn c (stretch T x (bytesIn S T l j))) at)
+      (count-add c T up (start S T l j - up) (bytesIn S T l j)
+      ∙ ap (λ (x : ℕ). countIn c (stretch T up (start S T l j - up)) + countIn c (stretch T x (bytesIn S T l j))) at)
 
   -- none stands before a block that starts with its parent
   pub before-first : (l i c : ℕ) → start S T l i ≡ parentOf S T l (start S T l i) → beforeOf S T l i c ≡ 0

@@ -26,10 +26,12 @@ use Rattle.build_records.specs.RecordWords.{putThree, beforeSays}
 use Rattle.build_records.specs.State.{settingsOf, Writing, placeAt}
 use Rattle.build_records.proofs.Growth.{read-right, within-grown, within-join, grown-then, within-part, three-grown, three-within}
 use Rattle.build_records.proofs.Neighbours.{LeftOf, left-of, before-left, before-first}
-use Rattle.build_records.proofs.StateLaws.{record-size, place-is, place-next, record-inside-table, offset-low, table-inside, kind-stands, link-stands, gap-stands, before-stands, inside-stands, skip-stands}
+use Rattle.build_records.proofs.StateLaws.{record-size, place-is, place-next, record-inside-table, offset-low, table-inside, kind-stands}
+use Rattle.build_records.proofs.StateLaws.{link-stands, gap-stands, before-stands, inside-stands, skip-stands}
 
 -- the places written so far, and those of one more counted byte
-pub one-more : (D t u : List ℕ) (p c : ℕ) → Within D t p (p + 12 * c) → Grown D t u → Within D u (p + 12 * c) (p + 12 * c + 12) → Within D u p (p + 12 * (c + 1))
+pub one-more : (D t u : List ℕ) (p c : ℕ)
+    → Within D t p (p + 12 * c) → Grown D t u → Within D u (p + 12 * c) (p + 12 * c + 12) → Within D u p (p + 12 * (c + 1))
 one-more D t u p c h g new =
     let e : p + 12 * c + 12 ≡ p + 12 * (c + 1) = omega arith in
     rw e at (within-join D u p (p + 12 * c) (p + 12 * c + 12) (within-grown D t u p (p + 12 * c) g h) new)
@@ -72,7 +74,8 @@ module _ (S : Settings) (T out : List ℕ) (level : Level) (i : ℕ) (block : Bl
   inside-text = rw (w .block-is .start-is, w .block-is .length-is) (bytes-fit S T taken l i l-in i-in)
 
   -- the counts of counted byte number c
-  module _ (at c size : ℕ) (at-is : at ≡ recordPlace (level .table) i (settingsOf (level .settings) (S .counted))) (size-is : size ≡ recordBytes S) (cl : c < length (S .counted)) where
+  module _ (at c size : ℕ) (at-is : at ≡ recordPlace (level .table) i (settingsOf (level .settings) (S .counted)))
+      (size-is : size ≡ recordBytes S) (cl : c < length (S .counted)) where
     abbrev x : ℕ
     x = getD (S .counted) c 0
 
@@ -98,14 +101,16 @@ module _ (S : Settings) (T out : List ℕ) (level : Level) (i : ℕ) (block : Bl
       word-before : wordAt out left ≡ beforeOf S T l j x
       word-before =
           rw left-is (read-right D out (placeAt S T l j + 16 + 12 * c) (beforeOf S T l j (getD (S .counted) c 0))
-          (within-part D out 100 P (placeAt S T l j + 16 + 12 * c) (placeAt S T l j + 16 + 12 * c + 4) (w .filled .body) (omega (arith, low)) (omega (arith, P-is, record-size S T)))
+          (within-part D out 100 P (placeAt S T l j + 16 + 12 * c)
+          (placeAt S T l j + 16 + 12 * c + 4) (w .filled .body) (omega (arith, low)) (omega (arith, P-is, record-size S T)))
           (before-stands S T taken l j l-in j-in c cl)
           (omega (arith, before-le S T l j (getD (S .counted) c 0), limits .text-high)))
 
       word-inside : wordAt out (left + 4) ≡ insideOf S T l j x
       word-inside =
           rw left-is (read-right D out (placeAt S T l j + 16 + 12 * c + 4) (insideOf S T l j (getD (S .counted) c 0))
-          (within-part D out 100 P (placeAt S T l j + 16 + 12 * c + 4) (placeAt S T l j + 16 + 12 * c + 4 + 4) (w .filled .body) (omega (arith, low)) (omega (arith, P-is, record-size S T)))
+          (within-part D out 100 P (placeAt S T l j + 16 + 12 * c + 4)
+          (placeAt S T l j + 16 + 12 * c + 4 + 4) (w .filled .body) (omega (arith, low)) (omega (arith, P-is, record-size S T)))
           (inside-stands S T taken l j l-in j-in c cl)
           (omega (arith, inside-le S T l j (getD (S .counted) c 0), limits .text-high)))
 
@@ -121,7 +126,8 @@ module _ (S : Settings) (T out : List ℕ) (level : Level) (i : ℕ) (block : Bl
     apart : (block .start .0 ≡ block .parent .0 → ⊥) → (j : ℕ) × LeftOf S T l i j
     apart n = left-of S T taken l i l-in i-in (λ e. n (w .block-is .start-is ∙ e ∙ sym (w .block-is .parent-is)))
 
-    pub left-needs : (block .start .0 ≡ block .parent .0 → ⊥) → (size ≤ at + 16 + 12 * c) × (left + 8 ≤ length out) × (wordAt out left + wordAt out (left + 4) < 4294967296)
+    pub left-needs : (block .start .0 ≡ block .parent .0 → ⊥)
+        → (size ≤ at + 16 + 12 * c) × (left + 8 ≤ length out) × (wordAt out left + wordAt out (left + 4) < 4294967296)
     left-needs n = let j = apart n in (left-low (j .0) (j .1), left-fits (j .0) (j .1), small (j .0) (j .1))
 
     before-is : beforeSays out left (block .start .0) (block .parent .0) ≡ beforeOf S T l i x
@@ -144,7 +150,8 @@ module _ (S : Settings) (T out : List ℕ) (level : Level) (i : ℕ) (block : Bl
 
     -- the three counts are written
     module _ (new : List ℕ) (b : ℕ) (b-is : b ≡ beforeSays out left (block .start .0) (block .parent .0))
-        (new-is : new ≡ putThree out (at + 16 + 12 * c) b (countIn x (stretch T (block .start .0) (block .length))) (countIn x (stretch T (block .from .0) (block .gap .0)))) where
+        (new-is : new ≡ putThree out (at + 16 + 12 * c)
+        b (countIn x (stretch T (block .start .0) (block .length))) (countIn x (stretch T (block .from .0) (block .gap .0)))) where
       new-right : new ≡ putThree out (P + 16 + 12 * c) (beforeOf S T l i x) (insideOf S T l i x) (skipOf S T l i x)
       new-right = new-is ∙ rw (here, b-is ∙ before-is, inside-is, w .block-is .skip-is x)
 
@@ -167,7 +174,8 @@ module _ (S : Settings) (T out : List ℕ) (level : Level) (i : ℕ) (block : Bl
   counted-all new c a b h = within-part D new (P + 16) (P + 16 + 12 * c) (P + 16) (P + 16 + 12 * length (S .counted)) h (omega arith) (omega arith)
 
   -- kind, link and gap are written
-  module _ (new : List ℕ) (at : ℕ) (at-is : at ≡ recordPlace (level .table) i (settingsOf (level .settings) (S .counted))) (new-is : new ≡ putThree out (at + 4) (block .kind) (block .link .0) (block .gap .0)) where
+  module _ (new : List ℕ) (at : ℕ) (at-is : at ≡ recordPlace (level .table) i (settingsOf (level .settings) (S .counted)))
+      (new-is : new ≡ putThree out (at + 4) (block .kind) (block .link .0) (block .gap .0)) where
     fields-are : new ≡ putThree out (P + 4) (kindOf S T l i) (linkOf S T l i) (gapOf S T l i)
     fields-are = new-is ∙ rw (at-is ∙ here-is, w .block-is .kind-is, w .block-is .link-is, w .block-is .gap-is)
 

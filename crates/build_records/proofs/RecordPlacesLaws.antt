@@ -16,6 +16,7 @@ records-end block size b few = mul-le-mul b few
 
 -- the length of a record
 pub size-is : (s : code.Settings) (cs : List ℕ) → length cs ≤ 4 → s .leaf ≤ 256
-    → (16 + 12 * length cs + (s .leaf + s .leaf) ≡ recordBytes (settingsOf s cs)) × (16 ≤ 16 + 12 * length cs + (s .leaf + s .leaf)) × (16 + 12 * length cs + (s .leaf + s .leaf) ≤ 576)
+    → (16 + 12 * length cs + (s .leaf + s .leaf) ≡ recordBytes (settingsOf s cs))
+    × (16 ≤ 16 + 12 * length cs + (s .leaf + s .leaf)) × (16 + 12 * length cs + (s .leaf + s .leaf) ≤ 576)
 unfolding recordBytes
 size-is s cs few small = (sym (record-edged builtLayout (s .leaf) (length cs) refl), omega arith, omega arith)

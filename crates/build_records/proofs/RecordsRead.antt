@@ -73,7 +73,8 @@ on-written S T out level i h room body il = record {
     room = room;
     body = within-part (treeOf S T) out 100 (offset S T (suc (level .number))) 100 (placeAt S T (level .number) i) body (omega arith)
         (omega (arith, record-inside-table S T (level .number) i (omega (arith, h .count-is))));
-    starts = λ x xl. within-part (treeOf S T) out 100 (offset S T (suc (level .number))) (placeAt S T (level .number) x) (placeAt S T (level .number) x + 4) body
+    starts = λ x xl. within-part
+        (treeOf S T) out 100 (offset S T (suc (level .number))) (placeAt S T (level .number) x) (placeAt S T (level .number) x + 4) body
         (omega (arith, offset-low S T (level .number)))
         (omega (arith, record-inside-table S T (level .number) x xl, record-size S T));
   };

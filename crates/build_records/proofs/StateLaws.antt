@@ -16,7 +16,8 @@ use Rattle.theory_built.specs.Structure.{count, start}
 use Rattle.theory_built.specs.Pairs.{offset}
 use Rattle.theory_built.specs.Shape.{tree-length}
 use Rattle.theory_built.specs.Small.{offset-le, blocks-le}
-use Rattle.theory_built.specs.BuiltRecords.{recordWords, record-start, record-kind, record-link, record-gap, record-before, record-inside, record-skip, kindOf, linkOf, gapOf, beforeOf, insideOf, skipOf}
+use Rattle.theory_built.specs.BuiltRecords.{recordWords, record-start, record-kind, record-link, record-gap, record-before, record-inside, record-skip}
+use Rattle.theory_built.specs.BuiltRecords.{kindOf, linkOf, gapOf, beforeOf, insideOf, skipOf}
 use Rattle.build_records.specs.declared.level_written.Level.{Level}
 use Rattle.build_records.specs.declared.record_written.Block.{Block}
 use Rattle.build_records.specs.Grown.{Grown}
@@ -139,7 +140,8 @@ few S T level h = record {
 }
 
 -- where the code finds the record of a block
-pub place-is : (S : Settings) (T : List ℕ) (level : Level) → LevelIs S T level → (i : ℕ) → recordPlace (level .table) i (settingsOf (level .settings) (S .counted)) ≡ placeAt S T (level .number) i
+pub place-is : (S : Settings) (T : List ℕ) (level : Level)
+    → LevelIs S T level → (i : ℕ) → recordPlace (level .table) i (settingsOf (level .settings) (S .counted)) ≡ placeAt S T (level .number) i
 unfolding recordBytes
 place-is S T level h i = rw (h .table-is, h .leaf-is)
 

@@ -88,4 +88,5 @@ module _ (S : Settings) (T out : List ℕ) (level : Level) (i : ℕ) (block : Bl
 
     pub children-below : block .kind ≡ 0 → (r : ℕ) → r ≡ pieces (block .length) (level .below) → r ≡ widthOf S T l i
     children-below e r is =
-        is ∙ rw (w .block-is .length-is, w .level-is .below-is up, bytesIn-is S T l i) (sym (cut-at S T taken l up .cut i (kept-by-kind S T l i (block .kind) (w .block-is .kind-is) e)))
+        is ∙ rw (w .block-is .length-is, w .level-is .below-is up, bytesIn-is S T l i)
+        (sym (cut-at S T taken l up .cut i (kept-by-kind S T l i (block .kind) (w .block-is .kind-is) e)))

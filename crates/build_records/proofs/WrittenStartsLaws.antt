@@ -35,7 +35,8 @@ module _ (D t : List ℕ) (at step s b : ℕ) where
     starts-grown (suc j) l =
         let g = starts-grown j (omega arith) in
         grown-then D t (startsWritten t at step s b j) (startsWritten t at step s b (suc j)) g
-        (word-grown D (startsWritten t at step s b j) (at + j * step) (s + j * b) (omega (arith, fits j (omega arith), g .same-length)) (stand j (omega arith)) (inside j (omega arith)))
+        (word-grown D (startsWritten t at step s b j)
+        (at + j * step) (s + j * b) (omega (arith, fits j (omega arith), g .same-length)) (stand j (omega arith)) (inside j (omega arith)))
 
     pub starts-within : (j : ℕ) → j ≤ n → (x : ℕ) → x < j → Within D (startsWritten t at step s b j) (at + x * step) (at + x * step + 4)
     starts-within zero l x k = absurd (let z : ⊥ = omega arith in z)
@@ -46,8 +47,10 @@ module _ (D t : List ℕ) (at step s b : ℕ) where
         go (inl y) r =
             let g = starts-grown j (omega arith) in
             within-grown D (startsWritten t at step s b j) (startsWritten t at step s b (suc j)) (at + x * step) (at + x * step + 4)
-            (word-grown D (startsWritten t at step s b j) (at + j * step) (s + j * b) (omega (arith, fits j (omega arith), g .same-length)) (stand j (omega arith)) (inside j (omega arith)))
+            (word-grown D (startsWritten t at step s b j)
+            (at + j * step) (s + j * b) (omega (arith, fits j (omega arith), g .same-length)) (stand j (omega arith)) (inside j (omega arith)))
             (r y)
         go (inr y) r =
             let g = starts-grown j (omega arith) in
-            rw y (word-within D (startsWritten t at step s b j) (at + j * step) (s + j * b) (omega (arith, fits j (omega arith), g .same-length)) (stand j (omega arith)))
+            rw y (word-within D (startsWritten t at step s b j)
+            (at + j * step) (s + j * b) (omega (arith, fits j (omega arith), g .same-length)) (stand j (omega arith)))

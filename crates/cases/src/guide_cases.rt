@@ -1,11 +1,11 @@
 // Questions on a guide: a tree, the words of a guide in decimal, parted by commas, and numbers.
 use crate::ask;
 use crate::wrong;
-use layout::word;
 use cases_tokens::decimal;
 use cases_tokens::decimal::Number;
 use cases_tokens::hexadecimal::Fault;
 use cases_tokens::hexadecimal::Made;
+use layout::word;
 ghost use mathlib.Core.Path.{_≡_};
 ghost use Prim.Native.Nat.{ℕ, _≤_};
 ghost use lib.ListN.{length};

@@ -20,7 +20,8 @@ use Rattle.cases_tokens.specs.declared.hexadecimal.Fault.{Fault}
 use Rattle.cases_tokens.specs.declared.hexadecimal.Fault.the-variants as fault
 use Rattle.cases_tokens.specs.declared.hexadecimal.Made.{Made}
 use Rattle.cases_tokens.specs.declared.hexadecimal.Made.the-variants.{Bytes, Wrong}
-use Rattle.cases_script.specs.GivenBytes.{Given, Gives, firstOf, hexGiven, figureOf, repeated, timesOver, repeatGiven, plainBy, plainGiven, padTo, padGiven, makeBy, makeGiven, namedGiven}
+use Rattle.cases_script.specs.GivenBytes.{Given, Gives, firstOf, hexGiven, figureOf, repeated, timesOver, repeatGiven, plainBy, plainGiven, padTo}
+use Rattle.cases_script.specs.GivenBytes.{padGiven, makeBy, makeGiven, namedGiven}
 use Rattle.cases_script.specs.LineWords.{giftOf}
 use Rattle.cases_script.specs.declared.line_words.Gift.{Gift}
 use Rattle.cases_script.specs.NameLine.{givingLine}
@@ -65,7 +66,8 @@ first-gives (Wrong f) b buffer h e = record { answer = refl; put = e }
 take-start : (d s : List ℕ) (n : ℕ) → n ≤ length s → take n (paste d 0 s n) ≡ take n s
 take-start d s n h = ap (λ (k : ℕ). take k (paste d 0 s n)) (sym (zero-add n)) ∙ take-paste d 0 s n (omega arith) h
 
-pub hex-gives : (w entry exit : List ℕ) (r : Made) → r ≡ hexOf w (length entry) → exit ≡ paste entry 0 (hexBytes w) (madeSize r) → Gives exit r (hexGiven w (length entry))
+pub hex-gives : (w entry exit : List ℕ) (r : Made)
+    → r ≡ hexOf w (length entry) → exit ≡ paste entry 0 (hexBytes w) (madeSize r) → Gives exit r (hexGiven w (length entry))
 unfolding hexGiven
 hex-gives w entry exit r a e =
     let fits : madeSize r ≤ length (hexBytes w) = rw a (hex-all w (length entry)) in
@@ -115,7 +117,8 @@ module _ (entry : List ℕ) (k times : ℕ) (inside : k ≤ length entry) where
   pub over-none : k ≡ 0 → Gives entry (Bytes 0) (timesOver (bytes (take k entry)) times (length entry))
   over-none z =
       let none : k * times ≡ 0 = rw z (zero-mul times) in
-      bytes-give entry (repeated (take k entry) times) 0 _ (over-fits (omega (arith, none))) (over-length ∙ none) (sym (empty (repeated (take k entry) times) (over-length ∙ none)))
+      bytes-give entry (repeated (take k entry) times)
+      0 _ (over-fits (omega (arith, none))) (over-length ∙ none) (sym (empty (repeated (take k entry) times) (over-length ∙ none)))
 
   pub over-long : 0 < k → length entry / k < times → Gives entry (Wrong fault.Room) (timesOver (bytes (take k entry)) times (length entry))
   over-long p h =
@@ -126,10 +129,12 @@ module _ (entry : List ℕ) (k times : ℕ) (inside : k ≤ length entry) where
   total-inside p h = rw (mul-comm times k) at (le-div-iff-mul-le p .0 h)
 
   pub over-all : (last rest : List ℕ) → 0 < k → k * times ≤ length entry
-      → last ≡ tabulate (length (take (k * times) entry)) (λ i. getD (take (k * times) entry) (i % k) 0) → Gives (last ++ rest) (Bytes (k * times)) (timesOver (bytes (take k entry)) times (length entry))
+      → last ≡ tabulate (length (take (k * times) entry)) (λ i. getD (take (k * times) entry) (i % k) 0)
+      → Gives (last ++ rest) (Bytes (k * times)) (timesOver (bytes (take k entry)) times (length entry))
   unfolding repeated
   over-all last rest p h e =
-      bytes-give (last ++ rest) (repeated (take k entry) times) (k * times) _ (over-fits h) over-length (take-at last rest (k * times) (ap length same ∙ over-length) ∙ same)
+      bytes-give (last ++ rest)
+      (repeated (take k entry) times) (k * times) _ (over-fits h) over-length (take-at last rest (k * times) (ap length same ∙ over-length) ∙ same)
     where
       total : length (take (k * times) entry) ≡ k * times
       total = length-take-le (k * times) entry h
@@ -168,7 +173,8 @@ module _ (entry : List ℕ) (n to : ℕ) (inside : n ≤ length entry) where
       same = ap (λ (x : List ℕ). take n entry ++ x) (e ∙ ap (λ (x : ℕ). replicate x 0) count)
 
       whole : length padded ≡ to
-      whole = length-append (take n entry) (replicate (to - length (take n entry)) 0) ∙ rw (length-replicate {A = ℕ} (to - length (take n entry)) 0, head) (omega arith)
+      whole = length-append (take n entry) (replicate (to - length (take n entry)) 0)
+          ∙ rw (length-replicate {A = ℕ} (to - length (take n entry)) 0, head) (omega arith)
 
 -- A line whose fourth token is a number n, and which makes f of what its third token gives.
 module _ (f : Given → ℕ → ℕ → Given) (keeps : (k : Fault) (n m : ℕ) → f (none k) n m ≡ none k) (right b : Bool) (q : b ≡ right) (g : Given) (n room : ℕ) where
@@ -176,7 +182,8 @@ module _ (f : Given → ℕ → ℕ → Given) (keeps : (k : Fault) (n m : ℕ) 
     opened : f g n room ≡ cond right (f g n room) (none fault.Number)
     opened = simp (sym q ∙ z)
 
-    pub then-bytes : (exit : List ℕ) (r : Made) (k : ℕ) → x ≡ Bytes k → length mid ≡ room → Gives exit r (f (bytes (take k mid)) n (length mid)) → Gives exit r (cond right (f g n room) (none fault.Number))
+    pub then-bytes : (exit : List ℕ) (r : Made) (k : ℕ) → x ≡ Bytes k
+        → length mid ≡ room → Gives exit r (f (bytes (take k mid)) n (length mid)) → Gives exit r (cond right (f g n room) (none fault.Number))
     then-bytes exit r k e l h =
         subst (λ (y : Given). Gives exit r y) (ap (λ (y : Given). f y n (length mid)) (sym (is-bytes mid x g k got e)) ∙ ap (λ (m : ℕ). f g n m) l ∙ opened) h
 
@@ -186,7 +193,8 @@ module _ (f : Given → ℕ → ℕ → Given) (keeps : (k : Fault) (n m : ℕ) 
 abbrev Repeated : List ℕ → List ℕ → ℕ → ℕ → Given
 Repeated line w times room = cond (figuresRight line 3 4) (timesOver (hexGiven w room) times room) (none fault.Number)
 
-pub repeat-is : (line w : List ℕ) (times room : ℕ) → w ≡ tokenOf line 2 → times ≡ valueOf (numberOf (tokenOf line 3)) → Repeated line w times room ≡ repeatGiven line room
+pub repeat-is : (line w : List ℕ) (times room : ℕ)
+    → w ≡ tokenOf line 2 → times ≡ valueOf (numberOf (tokenOf line 3)) → Repeated line w times room ≡ repeatGiven line room
 unfolding repeatGiven figureOf
 repeat-is line w times room e t = rw (e, t)
 
@@ -200,11 +208,13 @@ over-keeps k n m = refl
 abbrev Padded : List ℕ → List ℕ → ℕ → ℕ → Given
 Padded line base to room = cond (figuresRight line 3 4) (padTo (plainGiven base room) to room) (none fault.Number)
 
-pub pad-is : (script line w base : List ℕ) (to room : ℕ) → w ≡ tokenOf line 2 → base ≡ givingLine script w → to ≡ valueOf (numberOf (tokenOf line 3)) → Padded line base to room ≡ padGiven script line room
+pub pad-is : (script line w base : List ℕ) (to room : ℕ)
+    → w ≡ tokenOf line 2 → base ≡ givingLine script w → to ≡ valueOf (numberOf (tokenOf line 3)) → Padded line base to room ≡ padGiven script line room
 unfolding padGiven figureOf
 pad-is script line w base to room e b t = rw (b, e, t)
 
-pub pad-bad : (script line entry : List ℕ) (b : Bool) → b ≡ figuresRight line 3 4 → b ≡ false → Gives entry (Wrong fault.Number) (padGiven script line (length entry))
+pub pad-bad : (script line entry : List ℕ) (b : Bool)
+    → b ≡ figuresRight line 3 4 → b ≡ false → Gives entry (Wrong fault.Number) (padGiven script line (length entry))
 unfolding padGiven
 pad-bad script line entry b q z = fault-gives entry fault.Number _ (simp (sym q ∙ z))
 

@@ -1,7 +1,7 @@
 // The bytes that lines give, put at the start of a lent buffer.
-use crate::name_line::giving;
 use crate::line_words::Gift;
 use crate::line_words::gift_of;
+use crate::name_line::giving;
 use cases_tokens::hexadecimal::Fault;
 use cases_tokens::hexadecimal::Made;
 ghost use mathlib.Core.Path.{_≡_};

@@ -62,7 +62,8 @@ module _ (word : List ℕ) (i b : ℕ) (h : i < length word / 2) (e : b ≡ byte
   pub put-more : (d o : List ℕ) → o ≡ paste d 0 (hexBytes word) i → i < length d → set o i b ≡ paste d 0 (hexBytes word) (i + 1)
   put-more d o q z =
       rw (q, add-one, is-byte)
-      (ap (λ (k : ℕ). set (paste d 0 (hexBytes word) i) k (getD (hexBytes word) i 0)) (sym (zero-add i)) ∙ paste-suc d 0 (hexBytes word) i 0 (rw (zero-add i) z) within)
+      (ap (λ (k : ℕ). set (paste d 0 (hexBytes word) i) k (getD (hexBytes word) i 0)) (sym (zero-add i))
+      ∙ paste-suc d 0 (hexBytes word) i 0 (rw (zero-add i) z) within)
 
 abbrev dash : List ℕ
 dash = 45 ∷ []
@@ -101,7 +102,8 @@ module _ (word : List ℕ) (room : ℕ) (b : Bool) (f : b ≡ false) (h : word �
 -- A word gives no more bytes than the buffer has, and no more than it says.
 
 sizes : (a b c d e : Bool) (n m : ℕ) → (e ≡ false → n ≤ m)
-    → madeSize (cond a (Made.Bytes 0) (cond b (cond c (Made.Wrong Fault.Hex) (cond d (cond e (Made.Wrong Fault.Room) (Made.Bytes n)) (Made.Wrong Fault.Hex))) (Made.Wrong Fault.Hex))) ≤ m
+    → madeSize (cond a (Made.Bytes 0) (cond b
+    (cond c (Made.Wrong Fault.Hex) (cond d (cond e (Made.Wrong Fault.Room) (Made.Bytes n)) (Made.Wrong Fault.Hex))) (Made.Wrong Fault.Hex))) ≤ m
 sizes true b c d e n m h = omega arith
 sizes false false c d e n m h = omega arith
 sizes false true true d e n m h = omega arith
@@ -112,13 +114,15 @@ sizes false true false true false n m h = h refl
 module _ (word : List ℕ) (room : ℕ) where
   pub hex-within : madeSize (hexOf word room) ≤ room
   unfolding hexOf
-  hex-within = sizes (sameList word dash) (eqb (length word % 2) 0) (eqb (length word) 0) (allHex word) (ltb room (length word / 2)) (length word / 2) room (ltb-false room (length word / 2))
+  hex-within = sizes (sameList word dash) (eqb (length word % 2) 0)
+      (eqb (length word) 0) (allHex word) (ltb room (length word / 2)) (length word / 2) room (ltb-false room (length word / 2))
 
   pub hex-all : madeSize (hexOf word room) ≤ length (hexBytes word)
   unfolding hexOf hexBytes
   hex-all =
       rw (length-tabulate (length word / 2) (byteAt word))
-      (sizes (sameList word dash) (eqb (length word % 2) 0) (eqb (length word) 0) (allHex word) (ltb room (length word / 2)) (length word / 2) (length word / 2) (λ _. omega arith))
+      (sizes (sameList word dash) (eqb (length word % 2) 0)
+      (eqb (length word) 0) (allHex word) (ltb room (length word / 2)) (length word / 2) (length word / 2) (λ _. omega arith))
 
   pub hex-inside : (r : made.Made) (n : ℕ) → r ≡ hexOf word room → r ≡ Made.Bytes n → n ≤ room
   hex-inside r n a e = rw (sym a ∙ e) at hex-within

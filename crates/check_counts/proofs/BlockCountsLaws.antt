@@ -14,7 +14,8 @@ use Rattle.theory_paths.specs.Links.{Linked, Pointing}
 use Rattle.theory_paths.specs.BlockStarts.{start-below, len-pos, child, target-full}
 use Rattle.theory_paths.specs.PlacesLand.{target}
 use Rattle.layout.specs.declared.header.Header.{Header}
-use Rattle.theory_counts.specs.CountsLocal.{upLength, beforeLocal, inLeaves, lastChild, handBlock, handPlace, upTo, keptInside, keptLocal, pointingSkip, pointingInside, pointingLocal, blockLocal}
+use Rattle.theory_counts.specs.CountsLocal.{upLength, beforeLocal, inLeaves, lastChild, handBlock, handPlace, upTo, keptInside, keptLocal, pointingSkip}
+use Rattle.theory_counts.specs.CountsLocal.{pointingInside, pointingLocal, blockLocal}
 use Rattle.theory_counts.specs.Families.{neighbour}
 use Rattle.check_counts.specs.declared.prefix.Hand.{Hand}
 use Rattle.check_counts.specs.CountsAsked.{InTable, InBlock, InKept, TrueBelow}
@@ -71,7 +72,8 @@ module _ (t : List ℕ) (h : Header) (level i c : ℕ) (w : InTable t h level i 
       pub left-there : InTable t h level (i - 1) c
       left-there = other (i - 1) (omega (arith, left-low, w .block-in))
 
-      pub before-left : (a b : ℕ) → a ≡ at.before t level (i - 1) c → b ≡ at.inside t level (i - 1) c → eqb v (a + b) ≡ eqb (at.before t level i c) (beforeLocal t level i c)
+      pub before-left : (a b : ℕ)
+          → a ≡ at.before t level (i - 1) c → b ≡ at.inside t level (i - 1) c → eqb v (a + b) ≡ eqb (at.before t level i c) (beforeLocal t level i c)
       unfolding beforeLocal
       before-left a b a-is b-is = rw (v-is, a-is, b-is, ne-eqb _ 0 apart)
 
@@ -88,10 +90,12 @@ module _ (t : List ℕ) (h : Header) (level i c : ℕ) (w : InTable t h level i 
 
     pub last-there : InTable t h (level + 1) (j + (x - 1) / b) c
     last-there =
-        let q = child t k d level i (at.blockLengthAt t level i - 1) above (w .block-in) kept (omega (arith, len-pos t k d level i (w .level-in) (w .block-in))) in
+        let q = child t k d level
+        i (at.blockLengthAt t level i - 1) above (w .block-in) kept (omega (arith, len-pos t k d level i (w .level-in) (w .block-in))) in
         record { tree = w .tree; level-in = above; block-in = rw (j-is, x-is, b-is) (q .below); number-in = w .number-in }
 
-    pub inside-above : (a y : ℕ) → a ≡ at.before t (level + 1) (j + (x - 1) / b) c → y ≡ at.inside t (level + 1) (j + (x - 1) / b) c → a + y ≡ keptInside t level i c
+    pub inside-above : (a y : ℕ)
+        → a ≡ at.before t (level + 1) (j + (x - 1) / b) c → y ≡ at.inside t (level + 1) (j + (x - 1) / b) c → a + y ≡ keptInside t level i c
     unfolding keptInside lastChild lastLevel
     inside-above a y a-is y-is = rw (ne-eqb level (at.settings t .levels - 1) (λ e. omega arith), a-is, y-is, j-is, x-is, b-is)
 

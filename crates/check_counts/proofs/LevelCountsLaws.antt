@@ -40,7 +40,8 @@ module _ (t : List ℕ) (h : Header) (w : Linking t h) where
 
   -- One block, all counted bytes.
   module _ (level i : ℕ) where
-    pub bytes-done : (c : ℕ) → ((x : ℕ) → x < c → blockLocal t level i x ≡ true) → h .settings .counted ≤ c → true ≡ allBelow (at.countedCount t) (blockLocal t level i)
+    pub bytes-done : (c : ℕ) → ((x : ℕ) → x < c → blockLocal t level i x ≡ true)
+        → h .settings .counted ≤ c → true ≡ allBelow (at.countedCount t) (blockLocal t level i)
     bytes-done c f l = sym (allBelow-make (at.countedCount t) (blockLocal t level i) (λ x hx. f x (omega (arith, facts.counted-is t h w))))
 
     pub bytes-fail : (c : ℕ) → c < h .settings .counted → blockLocal t level i c ≡ false → false ≡ allBelow (at.countedCount t) (blockLocal t level i)

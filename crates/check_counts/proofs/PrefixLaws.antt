@@ -129,7 +129,8 @@ module _ (t : List ℕ) (h : Header) (level b c i o : ℕ) (b-is : b ≡ at.full
   walk-small r e =
       omega (
         arith,
-        up-to t k d (at.settings t .levels - 1 - level) level i o c (omega (arith, w .block .table .level-in)) (w .block .table .block-in) (w .kept) (w .block .place-in)
+        up-to t k d (at.settings t .levels - 1 - level)
+            level i o c (omega (arith, w .block .table .level-in)) (w .block .table .block-in) (w .kept) (w .block .place-in)
             (w .block .table .number-in) (w .below),
         tally-le t c (at.start t level i) (o + 1),
         w .block .place-in,
@@ -178,7 +179,8 @@ module _ (t : List ℕ) (h : Header) (level b c i o : ℕ) (b-is : b ≡ at.full
         unfolding stepOf
         rest-tally =
             rw on-is at rest-is
-            ∙ up-to t k d (at.settings t .levels - 1 - (level + 1)) (level + 1) (handBlock t (level + 1) down onward) (handPlace t (level + 1) down onward) c (omega arith)
+            ∙ up-to t k d (at.settings t .levels - 1 - (level + 1))
+            (level + 1) (handBlock t (level + 1) down onward) (handPlace t (level + 1) down onward) c (omega arith)
             (next .below) (next .kept) (next .inside) (w .block .table .number-in) below-true
 
         pub rest-small : rest ≤ maxText

@@ -78,7 +78,8 @@ fn kept_right(t: &[u8], h: Header, level: u32, b: u32, block: BlockNumber, c: u3
 
 // How often the byte stands in the first gap bytes of the block pointed to.
 fn pointing_skip(t: &[u8], h: Header, level: u32, b: u32, block: BlockNumber, c: u32) -> u64
-    requires { ⌜ (b ≡ at.fullLength (now t) level) × InTable (now t) h level (block .0) c × (at.isKept (now t) level (block .0) ≡ false) × TrueBelow (now t) h level ⌝ }
+    requires { ⌜ (b ≡ at.fullLength (now t) level)
+        × InTable (now t) h level (block .0) c × (at.isKept (now t) level (block .0) ≡ false) × TrueBelow (now t) h level ⌝ }
     ensures { λ r. ⌜ r ≡ pointingSkip (now (t .entry)) level (block .0) c ⌝ }
 {
     let gap = record::gap(t, h.record_size, level, block);
@@ -91,7 +92,8 @@ fn pointing_skip(t: &[u8], h: Header, level: u32, b: u32, block: BlockNumber, c:
 
 // How often it stands there in the gap and the block's own length together.
 fn pointing_inside(t: &[u8], h: Header, level: u32, b: u32, block: BlockNumber, c: u32) -> u64
-    requires { ⌜ (b ≡ at.fullLength (now t) level) × InTable (now t) h level (block .0) c × (at.isKept (now t) level (block .0) ≡ false) × TrueBelow (now t) h level ⌝ }
+    requires { ⌜ (b ≡ at.fullLength (now t) level)
+        × InTable (now t) h level (block .0) c × (at.isKept (now t) level (block .0) ≡ false) × TrueBelow (now t) h level ⌝ }
     ensures { λ r. ⌜ (r ≡ pointingInside (now (t .entry)) level (block .0) c) ⌝ }
 {
     let start = record::start(t, h.record_size, level, block);
@@ -104,7 +106,8 @@ fn pointing_inside(t: &[u8], h: Header, level: u32, b: u32, block: BlockNumber, 
 
 // A pointing block's skip and inside are counted in the blocks that it points to.
 fn pointing_right(t: &[u8], h: Header, level: u32, b: u32, block: BlockNumber, c: u32) -> bool
-    requires { ⌜ (b ≡ at.fullLength (now t) level) × InTable (now t) h level (block .0) c × (at.isKept (now t) level (block .0) ≡ false) × TrueBelow (now t) h level ⌝ }
+    requires { ⌜ (b ≡ at.fullLength (now t) level)
+        × InTable (now t) h level (block .0) c × (at.isKept (now t) level (block .0) ≡ false) × TrueBelow (now t) h level ⌝ }
     ensures { λ r. ⌜ r ≡ pointingLocal (now (t .entry)) level (block .0) c ⌝ }
 {
     let size = h.record_size;

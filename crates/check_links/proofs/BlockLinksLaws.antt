@@ -208,11 +208,32 @@ module _ (t : List ℕ) (v : Level) (k : LevelOf t v) where
           module _ (r : targetRight t (v .number) link gap len start ≡ true) where
             pub pointing-within : gap + len ≤ v .full → true ≡ pointingRight t (v .number) i
             pointing-within w =
-                rw (pointing-is i, points, not-last n, gap-fits, target-is true r, ← gap-is, ← length-is i start len start-is len-is, ← k .full-is, le-leb (gap + len) (v .full) w)
+                rw (
+                  pointing-is i,
+                  points,
+                  not-last n,
+                  gap-fits,
+                  target-is true r,
+                  ← gap-is,
+                  ← length-is i start len start-is len-is,
+                  ← k .full-is,
+                  le-leb (gap + len) (v .full) w,
+                )
 
             pub pointing-next : v .full < gap + len → (x : Bool) → x ≡ nextRight t (v .number) link → x ≡ pointingRight t (v .number) i
             pointing-next w x e =
-                rw (pointing-is i, points, not-last n, gap-fits, target-is true r, ← gap-is, ← length-is i start len start-is len-is, ← k .full-is, lt-leb (gap + len) (v .full) w, ← link-is) e
+                rw (
+                  pointing-is i,
+                  points,
+                  not-last n,
+                  gap-fits,
+                  target-is true r,
+                  ← gap-is,
+                  ← length-is i start len start-is len-is,
+                  ← k .full-is,
+                  lt-leb (gap + len) (v .full) w,
+                  ← link-is,
+                ) e
 
   -- either kind
   module _ (i kind : ℕ) (kind-is : kind ≡ at.kind t (v .number) i) (r : Bool) where

@@ -72,7 +72,8 @@ module _ (S : Settings) (T : List ℕ) (l : ℕ) (starts : List ℕ) where
   unfolding b
   target i = countBelow (length starts) (λ j. leb (startOf T b starts j) (occurrence i)) - 1
 
-  -- the start of the parent of a block that starts at s; the text's on level 0. That this is the parent's start is proved: `parent-start` of crate `theory_built`
+  -- the start of the parent of a block that starts at s; the text's on level 0. That this is the parent's start is proved: `parent-start` of crate
+  -- `theory_built`
   -- (specs/Parents.antt)
   parentStart : ℕ → ℕ
   parentStart s = elim l [ zero ↦ 0 | suc above ↦ s / blockLength S above * blockLength S above ]

@@ -85,7 +85,8 @@ module _ (T t : List ℕ) where
   fits =
       eqb (length T) (at.textLength t) && allBelow (at.settings t .levels) (λ l. allBelow (at.levelCount t l) (blockFits l))
 
-  -- the start of the parent of a block of level l that starts at s; the text's on level 0. In every tree that passes questions 5 to 8 the parent of a block that
+  -- the start of the parent of a block of level l that starts at s; the text's on level 0. In every tree that passes questions 5 to 8 the parent of a
+  -- block that
   -- starts at s starts at s / b × b, b being the block length of the parent's level: `parent-start` of crate `theory_paths` (specs/Starts.antt)
   parentStart : ℕ → ℕ → ℕ
   unfolding at.fullLength

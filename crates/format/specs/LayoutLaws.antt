@@ -15,7 +15,8 @@ use Rattle.text.specs.Conjunctions.{parts}
 use Rattle.format.specs.Settings.{maxText, maxLeaf, minArity, maxArity, maxLevels, maxCounted, pieces, lengthOk, sizesOk, countedOk, rising}
 use Rattle.format.specs.SizeLaws.{Sizes, sizes, length-step, length-pos, length-last, length-falls, length-top, record-low, record-high, record-edged}
 use Rattle.format.specs.PieceLaws.{pieces-hold}
-use Rattle.format.specs.Layout.{layout, textLength, countedCount, settings, levelCount, levelOffset, leafOffset, leafCount, recordSize, edgesAt, fullLength, longEnough, layoutOk, headerOk}
+use Rattle.format.specs.Layout.{layout, textLength, countedCount, settings, levelCount, levelOffset, leafOffset, leafCount, recordSize, edgesAt}
+use Rattle.format.specs.Layout.{fullLength, longEnough, layoutOk, headerOk}
 use Rattle.format.specs.Verdict.{ask, readable}
 
 -- Questions 5 to 7, one fact each.
@@ -134,7 +135,8 @@ readable-facts t h =
       counted-high = few;
       counted-rising = and-right (leb (length (settings t .counted)) 4) (rising (settings t .counted)) counted;
       counted-size = counted-length t long few;
-      counted-unused = λ x lo hi. (let e : 24 + k + (x - k) ≡ 24 + x = omega arith in rw e at (eqb-true (getD t (24 + k + (x - k)) 0) 0 (d .zero-bytes (x - k) (omega arith))));
+      counted-unused = λ x lo hi. (let e : 24 + k + (x - k) ≡ 24 + x = omega arith in
+          rw e at (eqb-true (getD t (24 + k + (x - k)) 0) 0 (d .zero-bytes (x - k) (omega arith))));
       count-unused = λ l lo hi. eqb-true _ _ (and-left (eqb (levelCount t l) 0) (eqb (levelOffset t l) 0) (unused l lo hi));
       offset-unused = λ l lo hi. eqb-true _ _ (and-right (eqb (levelCount t l) 0) (eqb (levelOffset t l) 0) (unused l lo hi));
       level0 = eqb-true _ _ (d .level0);

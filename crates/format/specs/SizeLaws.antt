@@ -25,7 +25,8 @@ pub sizes : (S : Settings) → sizesOk S ≡ true → Sizes S
 unfolding sizesOk
 sizes S h =
     let top = leb (S .leaf * S .arity ^ (S .levels - 1)) maxText in
-    let a = parts (leb 1 (S .leaf)) (leb (S .leaf) maxLeaf ∷ (leb minArity (S .arity) && leb (S .arity) maxArity) ∷ (leb 1 (S .levels) && leb (S .levels) maxLevels && top) ∷ []) h in
+    let a = parts (leb 1 (S .leaf)) (leb (S .leaf)
+    maxLeaf ∷ (leb minArity (S .arity) && leb (S .arity) maxArity) ∷ (leb 1 (S .levels) && leb (S .levels) maxLevels && top) ∷ []) h in
     let c = parts (leb 1 (S .levels)) (leb (S .levels) maxLevels ∷ top ∷ []) (a .1 .1 .1 .0) in record {
       leaf-low = leb-true _ _ (a .0);
       leaf-high = leb-true _ _ (a .1 .0);

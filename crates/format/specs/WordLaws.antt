@@ -41,7 +41,12 @@ wordAt-drop t n i =
 pub wordAt-agree : (t u : List ℕ) (i : ℕ) → ((k : ℕ) → i ≤ k → k < i + 4 → getD t k 0 ≡ getD u k 0) → wordAt t i ≡ wordAt u i
 unfolding wordAt
 wordAt-agree t u i same =
-    rw (same i (omega arith) (omega arith), same (i + 1) (omega arith) (omega arith), same (i + 2) (omega arith) (omega arith), same (i + 3) (omega arith) (omega arith))
+    rw (
+      same i (omega arith) (omega arith),
+      same (i + 1) (omega arith) (omega arith),
+      same (i + 2) (omega arith) (omega arith),
+      same (i + 3) (omega arith) (omega arith),
+    )
 
 -- four bytes make a word below 2^32
 pub wordAt-lt : (t : List ℕ) (i : ℕ) → ((k : ℕ) → getD t k 0 < 256) → wordAt t i < 4294967296
@@ -79,7 +84,12 @@ getD-setWord-other t i w k out =
 pub wordAt-other : (t : List ℕ) (i w k : ℕ) → (i < k + 4 → k < i + 4 → ⊥) → wordAt (setWord t i w) k ≡ wordAt t k
 unfolding wordAt
 wordAt-other t i w k out =
-    rw (other k (omega arith) (omega arith), other (k + 1) (omega arith) (omega arith), other (k + 2) (omega arith) (omega arith), other (k + 3) (omega arith) (omega arith))
+    rw (
+      other k (omega arith) (omega arith),
+      other (k + 1) (omega arith) (omega arith),
+      other (k + 2) (omega arith) (omega arith),
+      other (k + 3) (omega arith) (omega arith),
+    )
   where
     other : (j : ℕ) → k ≤ j → j < k + 4 → getD (setWord t i w) j 0 ≡ getD t j 0
     other j from to = getD-setWord-other t i w j (λ a b. out (omega arith) (omega arith))

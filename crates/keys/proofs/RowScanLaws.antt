@@ -60,7 +60,8 @@ module _ (ranges : List ℕ) where
   on-next form q x n f r e s = on-low q 1 n f (turnOf ranges form q x) (sym e ∙ s) (turn-low form q x)
 
   -- a row found is within those passed
-  pub found-low : (form : Form) (q x n row i more : ℕ) (r : Scanned) → r ≡ turnOf ranges form q x → r ≡ Found n → row ≤ q → q ≤ row + i → i < more → OnLow row more r
+  pub found-low : (form : Form) (q x n row i more : ℕ) (r : Scanned)
+      → r ≡ turnOf ranges form q x → r ≡ Found n → row ≤ q → q ≤ row + i → i < more → OnLow row more r
   found-low form q x n row i more r e s low high l = rw s (go (turnOf ranges form q x) (sym e ∙ s) (turn-low form q x))
     where
       go : (t : Scanned) → t ≡ Found n → OnLow q 1 t → (row ≤ n) × (n ≤ row + more)

@@ -55,7 +55,8 @@ module _ (t : List ℕ) where
       rw (sumBelow-suc l (at.levelCount t), e, m, c, s) (omega arith)
 
   -- the tables meet: all levels do, and the leaf bytes follow
-  module _ (H end leaf : ℕ) (e-is : end ≡ 100 + sumBelow H (at.levelCount t) * at.recordSize t) (leaf-is : leaf ≡ wordAt t 92) (all : allBelow H (follows t) ≡ true) where
+  module _ (H end leaf : ℕ)
+      (e-is : end ≡ 100 + sumBelow H (at.levelCount t) * at.recordSize t) (leaf-is : leaf ≡ wordAt t 92) (all : allBelow H (follows t) ≡ true) where
     pub leaves-meet : eqb leaf end ≡ tablesMeet t H
     unfolding tablesMeet at.leafOffset
     leaves-meet = rw (all, leaf-is, e-is)
@@ -73,7 +74,8 @@ module _ (t : List ℕ) where
     pub block-bounds : (b : ℕ) → b ≡ s .leaf * s .arity ^ (s .levels - 1 - 0) → (0 < b) × (b ≤ maxText)
     block-bounds b e =
         let e′ : s .levels - 1 - 0 ≡ s .levels - 1 = omega arith in
-        let low : 1 ≤ s .leaf * s .arity ^ (s .levels - 1) = mul-le-mul {n₁ = 1} {m₁ = 1} (h .leaf-low) (one-le-pow (s .levels - 1) (s .arity) (omega (arith, h .arity-low))) in
+        let low : 1 ≤ s .leaf * s .arity ^ (s .levels - 1) =
+        mul-le-mul {n₁ = 1} {m₁ = 1} (h .leaf-low) (one-le-pow (s .levels - 1) (s .arity) (omega (arith, h .arity-low))) in
         rw (e, e′) (low, h .block-high)
 
     pub size-is : (v size : ℕ) → v ≡ wordAt t 0 → size ≡ format.recordLength v (s .leaf) (s .counted) → size ≡ at.recordSize t
@@ -111,9 +113,21 @@ module _ (t : List ℕ) where
           pub rest-tables : tablesMeet t (s .levels) ≡ false → false ≡ restRight t
           unfolding restRight
           rest-tables g =
-              rw (sym (counted-here _ (sym d)), sym (levels-here _ (spareLevels t) (sym e)), level0-is true (eq-eqb _ _ f), sym (levels-here _ (tablesMeet t) (sym g)))
+              rw (
+                sym (counted-here _ (sym d)),
+                sym (levels-here _ (spareLevels t) (sym e)),
+                level0-is true (eq-eqb _ _ f),
+                sym (levels-here _ (tablesMeet t) (sym g)),
+              )
 
           pub rest-length : tablesMeet t (s .levels) ≡ true → (x y : ℕ) → x ≡ wordAt t 92 → y ≡ wordAt t 96 → eqb (length t) (x + y) ≡ restRight t
           unfolding restRight at.leafOffset at.leafCount
           rest-length g x y ex ey =
-              rw (sym (counted-here _ (sym d)), sym (levels-here _ (spareLevels t) (sym e)), level0-is true (eq-eqb _ _ f), sym (levels-here _ (tablesMeet t) (sym g)), ex, ey)
+              rw (
+                sym (counted-here _ (sym d)),
+                sym (levels-here _ (spareLevels t) (sym e)),
+                level0-is true (eq-eqb _ _ f),
+                sym (levels-here _ (tablesMeet t) (sym g)),
+                ex,
+                ey,
+              )

@@ -57,7 +57,8 @@ module _ (t : List ℕ) where
   -- a law of the chain, at the tests of question 7
   abbrev at-seven : ((a b c d e f g h i : Bool) → Type 0) → Type 0
   at-seven P =
-      P (format.lengthOk (at.textLength t)) (format.sizesOk (at.settings t)) counted (spareCounted t (at.countedCount t)) (spareLevels t (at.settings t .levels))
+      P (format.lengthOk (at.textLength t))
+      (format.sizesOk (at.settings t)) counted (spareCounted t (at.countedCount t)) (spareLevels t (at.settings t .levels))
       level0 (allBelow (at.settings t .levels) (follows t)) leaves (eqb (length t) (at.leafOffset t + at.leafCount t))
 
   apply : (P : (a b c d e f g h i : Bool) → Type 0) → ((a b c d e f g h i : Bool) → P a b c d e f g h i) → at-seven P
@@ -76,7 +77,8 @@ module _ (t : List ℕ) where
   seven-counted : counted ≡ false → false ≡ at.headerOk t
   seven-counted p = apply (λ a b c d e f g h i. c ≡ false → false ≡ chain a b c d e f g h i) chain-counted p ∙ sym header-is
 
-  seven-rest : (r : Bool) → format.lengthOk (at.textLength t) ≡ true → format.sizesOk (at.settings t) ≡ true → counted ≡ true → r ≡ restRight t → r ≡ at.headerOk t
+  seven-rest : (r : Bool) → format.lengthOk (at.textLength t) ≡ true
+      → format.sizesOk (at.settings t) ≡ true → counted ≡ true → r ≡ restRight t → r ≡ at.headerOk t
   unfolding restRight tablesMeet
   seven-rest r p q s e =
       apply (λ a b c d e f g h i. a ≡ true → b ≡ true → c ≡ true → r ≡ (d && e && f && (g && h) && i) → r ≡ chain a b c d e f g h i)
@@ -145,7 +147,8 @@ module _ (t : List ℕ) (m r H k : ℕ) (m-is : m ≡ wordAt t 8) (r-is : r ≡ 
     unfolding at.countedCount
     few-here = rw (← k-is) (le-leb k 4 few)
 
-    both-here : (b : Bool) → format.countedOk (take (24 + k - 24) (drop 24 t)) ≡ b → (leb (at.countedCount t) 4 && format.countedOk (at.settings t .counted)) ≡ b
+    both-here : (b : Bool) → format.countedOk (take (24 + k - 24) (drop 24 t)) ≡ b
+        → (leb (at.countedCount t) 4 && format.countedOk (at.settings t .counted)) ≡ b
     both-here b e = rw few-here (counted-here b e)
 
     abbrev part : List ℕ

@@ -18,7 +18,8 @@ pub few-digits : (n k : ℕ) → n < 4294967296 → Fewest 10 1 n k → k ≤ 10
 few-digits n k h f = go (lt-or-ge 10 k)
   where
     go : (10 < k) ⊎ (k ≤ 10) → k ≤ 10
-    go (inl l) = let high : 10 ^ 10 ≤ 10 ^ (k - 1) = pow-le-pow-right {n = 10} (omega arith) {i = 10} {j = k - 1} (omega arith) in absurd (let z : ⊥ = omega (arith, f .2 (omega arith)) in z)
+    go (inl l) = let high : 10 ^ 10 ≤ 10 ^ (k - 1) = pow-le-pow-right {n = 10} (omega arith) {i = 10} {j = k - 1} (omega arith) in
+        absurd (let z : ⊥ = omega (arith, f .2 (omega arith)) in z)
     go (inr g) = g
 
 below-power : (k : ℕ) → k < 10 ^ k
@@ -73,7 +74,8 @@ module _ (n k : ℕ) (s : List ℕ) (small : n < 4294967296) (f : Fewest 10 1 n 
       record { bytes = rw same at (w .bytes); after = rw same at (w .after); short = omega (arith, w .short, digits-fit) }
 
 -- a number with the byte after it
-pub figure-put : {d o : List ℕ} {at r : ℕ} (n after : ℕ) → at + 11 ≤ length d → Put d o at r (decimal n) 10 → Put d (set o r after) at (r + 1) (figure n after) 11
+pub figure-put : {d o : List ℕ} {at r : ℕ} (n after : ℕ)
+    → at + 11 ≤ length d → Put d o at r (decimal n) 10 → Put d (set o r after) at (r + 1) (figure n after) 11
 unfolding figure
 figure-put {d} {o} {at} {r} n after h w =
     then-put (omega arith) w (put-byte o r after (omega (arith, w .short, length-put (omega arith) w)))

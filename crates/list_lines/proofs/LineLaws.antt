@@ -53,18 +53,21 @@ module _ (t : List ℕ) (size l : ℕ) (k : Level t size l) where
 
 -- The lines.
 
-pub line-put : {d e₁ e₂ e₃ e₄ : List ℕ} {from m₁ m₂ m₃ end : ℕ} (a b c f : ℕ) → from + 44 ≤ length d → Put d e₁ from m₁ (figure a 32) 11 → Put e₁ e₂ m₁ m₂ (figure b 32) 11
+pub line-put : {d e₁ e₂ e₃ e₄ : List ℕ} {from m₁ m₂ m₃ end : ℕ} (a b c f : ℕ)
+    → from + 44 ≤ length d → Put d e₁ from m₁ (figure a 32) 11 → Put e₁ e₂ m₁ m₂ (figure b 32) 11
     → Put e₂ e₃ m₂ m₃ (figure c 32) 11 → Put e₃ e₄ m₃ end (figure f 10) 11 → Put d e₄ from end (line a b c f) 44
 unfolding line
 line-put a b c f h p q r s = then-put (omega arith) (then-put (omega arith) (then-put (omega arith) p q) r) s
 
-pub refused-put : {d e f : List ℕ} {mid end : ℕ} (number : ℕ) → 19 ≤ length d → Put d e 0 mid (114 ∷ 101 ∷ 102 ∷ 117 ∷ 115 ∷ 101 ∷ 100 ∷ 32 ∷ []) 8 → Put e f mid end (figure number 10) 11
+pub refused-put : {d e f : List ℕ} {mid end : ℕ} (number : ℕ)
+    → 19 ≤ length d → Put d e 0 mid (114 ∷ 101 ∷ 102 ∷ 117 ∷ 115 ∷ 101 ∷ 100 ∷ 32 ∷ []) 8 → Put e f mid end (figure number 10) 11
     → Put d f 0 end (refusedLine number) 19
 unfolding refusedLine
 refused-put number h p q = then-put (omega arith) p q
 
 module _ (t : List ℕ) where
-  pub level-put : {d e : List ℕ} {from end : ℕ} (l blocks kept pointing : ℕ) → blocks ≡ at.levelCount t l → kept ≡ countBelow (at.levelCount t l) (hasKind t l 0)
+  pub level-put : {d e : List ℕ} {from end : ℕ} (l blocks kept pointing : ℕ)
+      → blocks ≡ at.levelCount t l → kept ≡ countBelow (at.levelCount t l) (hasKind t l 0)
       → pointing ≡ countBelow (at.levelCount t l) (hasKind t l 1) → Put d e from end (line l blocks kept pointing) 44 → Put d e from end (levelLine t l) 44
   unfolding levelLine at.isKept at.isPointing
   level-put l blocks kept pointing b k p w = rw (b, k, p) at w
@@ -74,7 +77,8 @@ module _ (t : List ℕ) where
   unfolding linesBelow
   no-lines d = put-nothing d
 
-  pub lines-more : {d e f : List ℕ} {mid end : ℕ} (l : ℕ) → 44 * l + 44 ≤ length d → Put d e 0 mid (linesBelow t l) (44 * l) → Put e f mid end (levelLine t l) 44
+  pub lines-more : {d e f : List ℕ} {mid end : ℕ} (l : ℕ)
+      → 44 * l + 44 ≤ length d → Put d e 0 mid (linesBelow t l) (44 * l) → Put e f mid end (levelLine t l) 44
       → Put d f 0 end (linesBelow t (l + 1)) (44 * (l + 1))
   unfolding linesBelow
   lines-more l h p q = rw add-one (put-within (44 * suc l) (omega arith) (then-put (omega arith) p q))
@@ -89,7 +93,8 @@ module _ (t : List ℕ) where
     pub level-there : (l : ℕ) → l < count → Level t (h .«record_size») l
     level-there l low = record { readable = k .facts; size-is = k .size-is; level-in = omega (arith, k .levels-is) }
 
-    pub lines-done : {d e : List ℕ} {end : ℕ} (l : ℕ) → l ≤ count → count ≤ l → Put d e 0 end (linesBelow t l) (44 * l) → Put d e 0 end (linesBelow t (at.settings t .levels)) 352
+    pub lines-done : {d e : List ℕ} {end : ℕ} (l : ℕ)
+        → l ≤ count → count ≤ l → Put d e 0 end (linesBelow t l) (44 * l) → Put d e 0 end (linesBelow t (at.settings t .levels)) 352
     lines-done l a b p = let q : l ≡ at.settings t .levels = omega (arith, k .levels-is) in put-within 352 (omega (arith, levels-few)) (rw q at p)
 
   -- Question 15 first, then the check's.

@@ -14,7 +14,8 @@ use Rattle.list_lines.specs.ListSays.{fitting, leaves, listSays, listLea
 
 module _ (t out : List ℕ) where
   -- an answer, and what is then left in the buffer
-  left : (r : Listed) → r ≡ listSays t (length out) → (after : List ℕ) → after ≡ leaves r (printed t) out → (r ≡ listSays t (length out)) × (after ≡ listLeaves t out)
+  left : (r : Listed) → r ≡ listSays t (length out)
+      → (after : List ℕ) → after ≡ leaves r (printed t) out → (r ≡ listSays t (length out)) × (after ≡ listLeaves t out)
   unfolding listLeaves
   left r e after is = (e, is ∙ ap (λ (x : Listed). leaves x (printed t) out) e)
 
@@ -39,7 +40,8 @@ module _ (t out : List ℕ) where
     unfolding written
     lines-are = rw (put .bytes) (take-at (printed t) (drop (0 + length (printed t)) d) size (sym size-is))
 
-    pub list-fits : size ≤ length out → (after : List ℕ) (end most : ℕ) → Put out after 0 end (take size e) most → (Bytes size ≡ listSays t (length out)) × (after ≡ listLeaves t out)
+    pub list-fits : size ≤ length out
+        → (after : List ℕ) (end most : ℕ) → Put out after 0 end (take size e) most → (Bytes size ≡ listSays t (length out)) × (after ≡ listLeaves t out)
     unfolding listSays written
     list-fits h after end most p =
         left (Bytes size) (rw (passed, ← size-is, le-leb size (length out) h)) after (p .bytes ∙ rw (lines-are, zero-add (length (printed t)), size-is))

@@ -33,7 +33,8 @@ module _ (d : List ℕ) (at : ℕ) where
       length-append (take at d ++ s) (drop (at + length s) d) ∙ rw (head s (omega arith), length-drop (at + length s) d) (omega arith)
 
   -- what is put right after is put together
-  written-more : (e f s u : List ℕ) (end : ℕ) → at + length s ≤ length d → e ≡ written d at s → end ≡ at + length s → f ≡ written e end u → f ≡ written d at (s ++ u)
+  written-more : (e f s u : List ℕ) (end : ℕ)
+      → at + length s ≤ length d → e ≡ written d at s → end ≡ at + length s → f ≡ written e end u → f ≡ written d at (s ++ u)
   unfolding written
   written-more e f s u end h q r z =
       let p = take at d ++ s in
@@ -48,7 +49,8 @@ written-byte : (d : List ℕ) (at b : ℕ) → at < length d → set d at b ≡ 
 unfolding written
 written-byte d at b h = set-split d at b h ∙ rw (add-one at) (sym (append-snoc (take at d) b (drop (suc at) d)))
 
-pub then-put : {d e f : List ℕ} {at mid end : ℕ} {s u : List ℕ} {p q : ℕ} → at + p ≤ length d → Put d e at mid s p → Put e f mid end u q → Put d f at end (s ++ u) (p + q)
+pub then-put : {d e f : List ℕ} {at mid end : ℕ} {s u : List ℕ} {p q : ℕ}
+    → at + p ≤ length d → Put d e at mid s p → Put e f mid end u q → Put d f at end (s ++ u) (p + q)
 then-put {d} {e} {f} {at} {mid} {end} {s} {u} h a b = record {
   bytes = written-more d at e f s u mid (omega (arith, a .after, a .short)) (a .bytes) (a .after) (b .bytes);
   after = rw (length-append s u) (omega (arith, a .after, b .after));

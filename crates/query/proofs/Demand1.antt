@@ -39,8 +39,10 @@ use calls.answer as answer
 use calls.counted as counted
 use calls.found as found
 
--- "Every call ends, on every text, setting, tree and question; reads and writes only what was lent" (`Ends`): from any memory that holds what is lent, and anything
--- else beside it, the machine's run of the call ends after so many steps, in a memory that holds what the contract says of the value returned, and all else as it was.
+-- "Every call ends, on every text, setting, tree and question; reads and writes only what was lent" (`Ends`): from any memory that holds what is lent,
+-- and anything
+-- else beside it, the machine's run of the call ends after so many steps, in a memory that holds what the contract says of the value returned, and all
+-- else as it was.
 pub every-call-ends :
     Ends f.leftmost × Ends f.occurs-earlier × Ends f.build × Ends f.check × Ends f.enough
     × Ends f.byte × Ends f.run × Ends f.run-part × Ends f.span × Ends f.count
@@ -242,7 +244,8 @@ pub enough-numbers : (n leaf arity levels k m : ℕ) → Enough n leaf arity lev
 unfolding enoughSays
 enough-numbers n leaf arity levels k m a = go (lengthOk n) (sizesOk (sizes leaf arity levels)) (leb k 4) (enoughFor n leaf arity levels k) a
   where
-    go : (one two three : Bool) (size : ℕ) → room.Refused m ≡ cond one (cond two (cond three (room.Bytes size) (room.Refused 3)) (room.Refused 2)) (room.Refused 1) → OneOf (1 ∷ 2 ∷ 3 ∷ []) m
+    go : (one two three : Bool) (size : ℕ) → room.Refused
+        m ≡ cond one (cond two (cond three (room.Bytes size) (room.Refused 3)) (room.Refused 2)) (room.Refused 1) → OneOf (1 ∷ 2 ∷ 3 ∷ []) m
     go true true true size e = absurd (let z : _≡_ {A = ℕ} 0 1 = cc in omega arith)
     go true true false size e = inr (inr (inl cc))
     go true false three size e = inr (inl cc)

@@ -22,7 +22,8 @@ use calls.scanned as scanned
 -- Demand 1. "Every call ends, on every text, setting, tree and question; reads and writes only what was lent; ..
 pub use Rattle.query.proofs.Demand1.{every-call-ends}
 -- .. gives its answer or a numbered refusal of document 01; ..
-pub use Rattle.query.proofs.Demand1.{check-numbers, enough-numbers, byte-answer, byte-numbers, run-answer, run-empty, count-answer, count-numbers, find-answer, find-numbers}
+pub use Rattle.query.proofs.Demand1.{check-numbers, enough-numbers, byte-answer, byte-numbers, run-answer, run-empty, count-answer}
+pub use Rattle.query.proofs.Demand1.{count-numbers, find-answer, find-numbers}
 pub use Rattle.query.proofs.Buffers.{build-numbers, span-numbers, row-numbers}
 -- .. trusts no caller to have checked a tree; ..
 pub use Rattle.query.proofs.Demand1.{trusts-no-caller}

@@ -42,21 +42,25 @@ use calls.rows as rows
 pub check-guide-numbers : (κs : Lfts 2) (t guide : Lent) (r : ℕ) → CheckGuide κs t guide r → OneOf (5 ∷ 6 ∷ 7 ∷ 8 ∷ 9 ∷ 24 ∷ 0 ∷ []) r
 unfolding guideNumber
 check-guide-numbers κs t guide r a =
-    rw a (then-one (5 ∷ 6 ∷ 7 ∷ 8 ∷ 9 ∷ []) (24 ∷ 0 ∷ []) (verdict (now t)) _ (verdict-one (now t)) (asks-one ((24, sameList (now guide) (guideBytes (now t))) ∷ [])))
+    rw a (then-one (5 ∷ 6 ∷ 7 ∷ 8 ∷ 9 ∷ [])
+    (24 ∷ 0 ∷ []) (verdict (now t)) _ (verdict-one (now t)) (asks-one ((24, sameList (now guide) (guideBytes (now t))) ∷ [])))
 
 -- Making one: a refusal is 5 to 9 or 25.
 pub make-guide-numbers : (κs : Lfts 2) (t table after : Lent) (n : ℕ) → MakeGuide κs t table after (size.Refused n) → OneOf (5 ∷ 6 ∷ 7 ∷ 8 ∷ 9 ∷ 25 ∷ []) n
 unfolding makeNumber makeSays
 make-guide-numbers κs t table after n a =
-    let e : n ≡ makeNumber (now t) (now table) = ap (λ (s : Said). s .number) (a .0 .0) ∙ unless-number (makeNumber (now t) (now table)) (record { number = 0; value = guideWords (now t); entered = 0 }) refl in
+    let e : n ≡ makeNumber (now t) (now table) = ap (λ (s : Said). s .number) (a .0 .0)
+    ∙ unless-number (makeNumber (now t) (now table)) (record { number = 0; value = guideWords (now t); entered = 0 }) refl in
     not-zero (5 ∷ 6 ∷ 7 ∷ 8 ∷ 9 ∷ 25 ∷ []) n (a .0 .1)
-    (rw e (then-one (5 ∷ 6 ∷ 7 ∷ 8 ∷ 9 ∷ []) (25 ∷ 0 ∷ []) (verdict (now t)) _ (verdict-one (now t)) (asks-one ((25, leb (length (guideBytes (now t))) (length (now table))) ∷ []))))
+    (rw e (then-one (5 ∷ 6 ∷ 7 ∷ 8 ∷ 9 ∷ [])
+    (25 ∷ 0 ∷ []) (verdict (now t)) _ (verdict-one (now t)) (asks-one ((25, leb (length (guideBytes (now t))) (length (now table))) ∷ []))))
 
 -- Its size: a refusal is 5, 6 or 7.
 pub guide-words-numbers : (κs : Lfts 1) (t : Lent) (n : ℕ) → GuideWords κs t (size.Refused n) → OneOf (5 ∷ 6 ∷ 7 ∷ []) n
 unfolding sizeSays
 guide-words-numbers κs t n a =
-    let e : n ≡ readable (now t) = ap (λ (s : Said). s .number) (a .0) ∙ unless-number (readable (now t)) (record { number = 0; value = guideWords (now t); entered = 0 }) refl in
+    let e : n ≡ readable (now t) =
+    ap (λ (s : Said). s .number) (a .0) ∙ unless-number (readable (now t)) (record { number = 0; value = guideWords (now t); entered = 0 }) refl in
     not-zero (5 ∷ 6 ∷ 7 ∷ []) n (a .1) (rw e (readable-one (now t)))
 
 -- Find with a guide: a place is one of the text, whatever the guide, and a refusal is 5, 6, 7, 11, 12 or 14.
@@ -73,7 +77,8 @@ module _ (κs : Lfts 2) (t guide : Lent) (byte j : ℕ) where
 -- Row with a guide: an answer fits, and the bytes past it are unchanged; ..
 module _ (κs : Lfts 3) (t guide : Lent) (q : ℕ) (buffer after : Lent) where
   pub row-guided-answer : (m : ℕ) → RowGuided κs t guide q buffer after (rows.Bytes m) → (m ≤ length (now buffer)) × (drop m (now after) ≡ drop m (now buffer))
-  row-guided-answer m a = way-copied (now t) q (now buffer) m (now after) (row-way (now t) q (now buffer) (guideNumber (now t) (now guide)) 0 m (now after) (a .says))
+  row-guided-answer m a = way-copied
+      (now t) q (now buffer) m (now after) (row-way (now t) q (now buffer) (guideNumber (now t) (now guide)) 0 m (now after) (a .says))
 
   module _ (n : ℕ) (a : RowGuided κs t guide q buffer after (rows.Refused n)) where
     ends : RowWay (now t) q (now buffer) n 0 (now after)
@@ -96,7 +101,8 @@ module _ (κ : Lfts 2) (t guide : Lent) (ok : CheckGuide κ t guide 0) where
   v : verdict (now t) ≡ 0
   v = guide-verdict (now t) (now guide) settled
 
-  pub guided-of-text : (κs : Lfts 2) (byte j : ℕ) (r : Guided) → FindGuided κs t guide byte j r → Among byte (at.settings (now t) .counted) → 1 ≤ j → j ≤ countIn byte (textOf (now t))
+  pub guided-of-text : (κs : Lfts 2) (byte j : ℕ) (r : Guided)
+      → FindGuided κs t guide byte j r → Among byte (at.settings (now t) .counted) → 1 ≤ j → j ≤ countIn byte (textOf (now t))
       → (e : ℕ) × LengthOfPath (now t) (at.settings (now t) .levels) (placeOf byte j (textOf (now t))) e
       × (r ≡ guided.At (record { 0 = placeOf byte j (textOf (now t)) }) e (stepsTo (now t) (numberOfByte (now t) byte) j))
   unfolding found
@@ -105,10 +111,12 @@ module _ (κ : Lfts 2) (t guide : Lent) (ok : CheckGuide κ t guide 0) where
       let p = placeOf byte j (textOf (now t)) in
       let in-text : p < at.textLength (now t) = tallies.place-below (now t) v byte j (select-passes (now t) byte j n) in
       let w = paths.no-path-breaks (now t) (accepted-readable (now t) v) (accepted-links (now t) v) p in-text in
-      let long : LengthOfPath (now t) (at.settings (now t) .levels) p (pathLength (now t) (pathOf (now t) p)) = rw (w .1) (length-of-path (now t) (accepted-readable (now t) v) p (w .0) (w .1)) in
+      let long : LengthOfPath (now t) (at.settings (now t) .levels) p (pathLength (now t) (pathOf (now t) p)) =
+      rw (w .1) (length-of-path (now t) (accepted-readable (now t) v) p (w .0) (w .1)) in
       (pathLength (now t) (pathOf (now t) p), long, guided-is r p _ _ (a .numbered) (a .says .finds .accepted n settled) (a .says .counted n settled))
     where
-      guided-is : (r : Guided) (p e steps : ℕ) → Numbered r → saidGuided r ≡ record { number = 0; value = p; entered = e } → stepsOf r ≡ steps → r ≡ guided.At (record { 0 = p }) e steps
+      guided-is : (r : Guided) (p e steps : ℕ)
+          → Numbered r → saidGuided r ≡ record { number = 0; value = p; entered = e } → stepsOf r ≡ steps → r ≡ guided.At (record { 0 = p }) e steps
       guided-is (guided.At q m s) p e steps k x y =
           let z : q ≡ record { 0 = p } = ap (λ (n : ℕ). record { 0 = n }) (ap (λ (s : Said). s .value) x) in
           let w : m ≡ e = ap (λ (s : Said). s .entered) x in

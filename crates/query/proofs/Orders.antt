@@ -29,7 +29,8 @@ use Rattle.query.proofs.Numbers.{OneOf, of-left, of-right, not-zero, re
 use calls.compared as compared
 -- the laws of the order of texts: at or before is a total order, the same only of equal texts; it goes by the first byte that differs, or by the
 -- shorter end
-pub use Rattle.ask_order.specs.OrderLaws.{text-order, standing-flip, standing-refl, standing-same, standing-trans, shared-is, shared-flip, stands-by, empty-first}
+pub use Rattle.ask_order.specs.OrderLaws.{text-order, standing-flip, standing-refl, standing-same, standing-trans, shared-is, shared-flip, stands-by}
+pub use Rattle.ask_order.specs.OrderLaws.{empty-first}
 
 -- the numbers that a comparison refuses with, for any lent bytes
 

@@ -30,7 +30,8 @@ build-fits S T out h =
     let four = ask 4 (leb (length (treeOf S T)) (length out)) 0 in
     let three = ask 3 (countedOk (S .counted)) four in
     let two = ask 2 (sizesOk S) three in
-    leb-true _ _ (ask-test 3 (leb (length (treeOf S T)) (length out)) 0 (ask-rest 2 (countedOk (S .counted)) four (ask-rest 1 (sizesOk S) three (ask-rest 0 (lengthOk (length T)) two h))))
+    leb-true _ _ (ask-test 3 (leb (length (treeOf S T)) (length out))
+    0 (ask-rest 2 (countedOk (S .counted)) four (ask-rest 1 (sizesOk S) three (ask-rest 0 (lengthOk (length T)) two h))))
 
 -- byte answers only where the path of its place holds
 pub record Reached (t : List ℕ) (p : ℕ) : Type 0 where
@@ -74,7 +75,8 @@ count-summed t byte i h =
 
     go : readable t ≡ 0 → (b : Bool) → eqb i 0 ≡ b → (o : Option Path) → pathOf t (i - 1) ≡ o
         → cond b (refused 0) (countOf t byte (numberOfByte t byte) o) .number ≡ 0
-        → ((i ≡ 0) × (cond b (refused 0) (countOf t byte (numberOfByte t byte) o) ≡ refused 0)) ⊎ Summed t i (cond b (refused 0) (countOf t byte (numberOfByte t byte) o) .entered)
+        → ((i ≡ 0) × (cond b (refused 0) (countOf t byte (numberOfByte t byte) o) ≡ refused 0))
+        ⊎ Summed t i (cond b (refused 0) (countOf t byte (numberOfByte t byte) o) .entered)
     go r true z o e k = inl (eqb-true i 0 z, refl)
     go r false z none e k = absurd (let y : ⊥ = omega arith in y)
     go r false z (some q) e k =

@@ -50,7 +50,8 @@ passed t P room h =
       low = leb-true 1 (length P) (and-left (leb 1 (length P)) (leb (length P) maxPattern) ok);
       high = leb-true (length P) maxPattern (and-right (leb 1 (length P)) (leb (length P) maxPattern) ok);
       hold = ask-test 13 (pathsHold t 0 (at.textLength t)) seventeen b;
-      fits = leb-true (length (placesOf t P)) room (ask-test 16 (leb (length (placesOf t P)) room) 0 (ask-rest 13 (pathsHold t 0 (at.textLength t)) seventeen b));
+      fits = leb-true (length (placesOf t P))
+          room (ask-test 16 (leb (length (placesOf t P)) room) 0 (ask-rest 13 (pathsHold t 0 (at.textLength t)) seventeen b));
     }
 
 -- the path of each of some places holds

@@ -29,7 +29,8 @@ module _ (T out : List ℕ) (it : Items) (W : List ℕ) (h p n : ℕ) where
     pub low : e ≤ it .items
     pub listed : (y : ℕ) → e ≡ suc y → Listed T out it Z y
     pub chain : (y : ℕ) → e ≡ suc y → chainAt T out it y ≡ g
-    pub done : (x : ℕ) → x < it .items → e ≤ x → Listed T out it W x → chainAt T out it x ≡ g → lengthAt T out it x ≡ n → Found T out it W x p → Found T out it Z x (p + 1)
+    pub done : (x : ℕ) → x < it .items
+        → e ≤ x → Listed T out it W x → chainAt T out it x ≡ g → lengthAt T out it x ≡ n → Found T out it W x p → Found T out it Z x (p + 1)
 
   pub visiting-first : (e : ℕ) → Asks T out it W h p n → Link T out it W g (it .items) e → Visiting W e
   visiting-first e a k = record {
@@ -72,11 +73,13 @@ module _ (T out : List ℕ) (it : Items) (W : List ℕ) (h p n : ℕ) where
       pub next-falls : nextIn Y (e - 1) < e
       next-falls = omega (arith, onward .low)
 
-      all-done : (x : ℕ) → x < it .items → nextIn Y (e - 1) ≤ x → Listed T out it W x → chainAt T out it x ≡ g → lengthAt T out it x ≡ n → Found T out it W x p → Found T out it Y x (p + 1)
+      all-done : (x : ℕ) → x < it .items → nextIn Y (e - 1) ≤ x
+          → Listed T out it W x → chainAt T out it x ≡ g → lengthAt T out it x ≡ n → Found T out it W x p → Found T out it Y x (p + 1)
       all-done x l m i c en f = go (lt-or-ge x e)
         where
           here : (x < e - 1) ⊎ (e - 1 ≤ x) → x < e → Found T out it Y x (p + 1)
-          here (inl a) b = absurd (let z : ⊥ = omega (arith, onward .all x a (t .searched .listed x l (v .searched .listed x l i)) (c ∙ sym (v .chain (e - 1) e-is))) in z)
+          here (inl a) b = absurd (let z : ⊥ =
+              omega (arith, onward .all x a (t .searched .listed x l (v .searched .listed x l i)) (c ∙ sym (v .chain (e - 1) e-is))) in z)
           here (inr a) b =
               let q : x ≡ e - 1 = omega arith in
               subst (λ (k : ℕ). Found T out it Y k (p + 1)) (sym q)
@@ -121,7 +124,8 @@ module _ (T out : List ℕ) (it : Items) (W : List ℕ) (h p n : ℕ) where
       here = λ x l i en f. go x l i en f (ℕ-discrete (chainAt T out it x) g);
     }
       where
-        go : (x : ℕ) → x < it .items → Listed T out it W x → lengthAt T out it x ≡ n → Found T out it W x p → Dec (chainAt T out it x ≡ g) → Found T out it Z x (p + 1)
+        go : (x : ℕ) → x < it .items
+            → Listed T out it W x → lengthAt T out it x ≡ n → Found T out it W x p → Dec (chainAt T out it x ≡ g) → Found T out it Z x (p + 1)
         go x l i en f (yes c) = v .here x l i c en f
         go x l i en f (no d) = v .searched .found x (p + 1) l i
             (passed-by T out it W x p n en (λ es. d (same-chain T out it x p n es ∙ ap (bucketOf (it .heads)) (sym (a .print-is)))) f)

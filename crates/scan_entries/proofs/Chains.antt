@@ -14,7 +14,8 @@ use Rattle.scan_windows.proofs.PrintLaws.{print-below}
 use Rattle.scan_entries.proofs.Marks.{bucket-lt}
 use Rattle.scan_entries.specs.declared.Items.{Items}
 use Rattle.scan_entries.specs.ChainHeads.{linkOf, markOf, bucketOf}
-use Rattle.scan_entries.specs.Entries.{Laid, Listed, Link, Chained, Found, Searched, startAt, lengthAt, bytesAt, chainAt, nextIn, printIn, placeIn, headIn}
+use Rattle.scan_entries.specs.Entries.{Laid, Listed, Link, Chained, Found, Searched, startAt, lengthAt, bytesAt, chainAt, nextIn, printIn}
+use Rattle.scan_entries.specs.Entries.{placeIn, headIn}
 use Rattle.scan_entries.specs.LookedUp.{Asks, Touched}
 
 module _ (T out : List ℕ) (it : Items) where
@@ -75,7 +76,8 @@ module _ (T out : List ℕ) (it : Items) where
       next = λ x l i. subst (λ (e : ℕ). Link T out it Z (chainAt T out it x) x e) (sym (s .nexts x (omega (arith, h .within))))
           (link-after (chainAt T out it x) x (nextIn W x) (omega (arith, h .within)) (h .next x l (listed-before x (omega (arith, h .within)) i)));
       prints = λ x l i. s .prints x (omega (arith, h .within)) ∙ h .prints x l (listed-before x (omega (arith, h .within)) i);
-      heads = λ g l. subst (λ (w : ℕ). Link T out it Z g k (linkOf w)) (sym (s .heads g l)) (link-after g k (linkOf (headIn (it .items) W g)) (h .within) (h .heads g l));
+      heads = λ g l. subst (λ (w : ℕ). Link T out it Z g k (linkOf w))
+          (sym (s .heads g l)) (link-after g k (linkOf (headIn (it .items) W g)) (h .within) (h .heads g l));
       marks = λ x l i. rw (s .heads (chainAt T out it x) (chain-lt low x)) (h .marks x l (listed-before x (omega (arith, h .within)) i));
     }
 

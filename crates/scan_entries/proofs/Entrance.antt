@@ -153,7 +153,8 @@ module _ (T out : List ℕ) (it : Items) where
             let q : x ≡ y = omega arith in
             subst (λ (k : ℕ). Link T out it Z (chainAt T out it k) k (nextIn Z k)) q
             (subst (λ (e : ℕ). Link T out it Z (chainAt T out it x) x e) (sym (p .next))
-            (subst (λ (f : ℕ). Link T out it Z f x (linkOf (headIn (it .items) W g))) g-is (link-same W Z x (p .places) g x (linkOf (headIn (it .items) W g)) (omega arith) (old .heads g g-in))))
+            (subst (λ (f : ℕ). Link T out it Z f x (linkOf (headIn (it .items) W g)))
+            g-is (link-same W Z x (p .places) g x (linkOf (headIn (it .items) W g)) (omega arith) (old .heads g g-in))))
 
     new-prints : (y : ℕ) → y < x + 1 → Is Z y → printIn Z y ≡ print (bytesAt T out it y)
     new-prints y l i = go (lt-or-ge y x)
@@ -176,7 +177,8 @@ module _ (T out : List ℕ) (it : Items) where
         }
 
         go : Dec (f ≡ g) → Link T out it Z f (x + 1) (linkOf (headIn (it .items) Z f))
-        go (yes e) = subst (λ (k : ℕ). Link T out it Z k (x + 1) (linkOf (headIn (it .items) Z k))) (sym e) (subst (λ (k : ℕ). Link T out it Z g (x + 1) k) (sym (p .head .link)) front)
+        go (yes e) = subst (λ (k : ℕ). Link T out it Z k (x + 1) (linkOf (headIn (it .items) Z k)))
+            (sym e) (subst (λ (k : ℕ). Link T out it Z g (x + 1) k) (sym (p .head .link)) front)
         go (no d) = subst (λ (w : ℕ). Link T out it Z f (x + 1) (linkOf w)) (sym (p .heads f d))
             (link-more W Z x (p .places) f (linkOf (headIn (it .items) W f)) (λ i c. d (sym c ∙ sym g-is)) (old .heads f l))
 
@@ -253,5 +255,6 @@ module _ (T out : List ℕ) (it : Items) where
     unfolding chainAt
     chain-of h r eh er = er ∙ ap (bucketOf (it .heads)) eh
 
-    pub twin-at : (s n e : ℕ) → s ≡ startAt T out it x → n ≡ lengthAt T out it x → Twin T out it W x s n e → Twin T out it W x (startAt T out it x) (lengthAt T out it x) e
+    pub twin-at : (s n e : ℕ)
+        → s ≡ startAt T out it x → n ≡ lengthAt T out it x → Twin T out it W x s n e → Twin T out it W x (startAt T out it x) (lengthAt T out it x) e
     twin-at s n e es en w = subst (λ (k : ℕ). Twin T out it W x k (lengthAt T out it x) e) es (subst (λ (k : ℕ). Twin T out it W x s k e) en w)

@@ -51,7 +51,8 @@ module _ (T out : List ℕ) (it : Items) where
     pub chained : Chained T out it Z (x + 1)
     pub before : (y : ℕ) → y < x → placeIn Z y ≡ placeIn W y
     pub own : Listed T out it Z x → placeIn Z x ≡ startAt T out it x
-    pub twin : (y : ℕ) → placeIn Z x ≡ length T + y → (y < x) × Listed T out it Z y × (lengthAt T out it y ≡ lengthAt T out it x) × (bytesAt T out it y ≡ bytesAt T out it x)
+    pub twin : (y : ℕ) → placeIn Z x ≡ length T + y
+        → (y < x) × Listed T out it Z y × (lengthAt T out it y ≡ lengthAt T out it x) × (bytesAt T out it y ≡ bytesAt T out it x)
 
   -- item x is left out
   pub record Skipped (W Z : List ℕ) (x : ℕ) : Type 0 where

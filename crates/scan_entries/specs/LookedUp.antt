@@ -25,4 +25,5 @@ module _ (T out : List ℕ) (it : Items) where
   -- and with every item of chain g
   pub record Visited (W Z : List ℕ) (g p n : ℕ) : Type 0 where
     pub searched : Searched T out it W Z
-    pub here : (x : ℕ) → x < it .items → Listed T out it W x → chainAt T out it x ≡ g → lengthAt T out it x ≡ n → Found T out it W x p → Found T out it Z x (p + 1)
+    pub here : (x : ℕ) → x < it .items
+        → Listed T out it W x → chainAt T out it x ≡ g → lengthAt T out it x ≡ n → Found T out it W x p → Found T out it Z x (p + 1)

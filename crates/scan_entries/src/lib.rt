@@ -1,6 +1,6 @@
 // The blocks and pairs of a level, entered in a lent table of words by fingerprint, and windows of the text looked up in it.
-pub mod entry;
 mod chain_head;
+pub mod entry;
 pub mod item;
 pub mod lookup;
 

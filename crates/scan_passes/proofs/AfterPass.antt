@@ -52,7 +52,8 @@ module _ (T out : List ℕ) (it : Items) (W Z : List ℕ) (e : Entrants T out it
 
       out-twin : placeOut (length T) Z x ≡ leftmost T (startAt T out it x) (lengthAt T out it x)
       unfolding placeOut y
-      out-twin = rw (le-ltb (placeIn Z x) (length T) (omega (arith, kept))) (ap (λ (k : ℕ). placeIn Z (k - length T)) kept ∙ q .found y (omega (arith, w .0)) (w .1) ∙ twin-first)
+      out-twin = rw (le-ltb (placeIn Z x) (length T) (omega (arith, kept)))
+          (ap (λ (k : ℕ). placeIn Z (k - length T)) kept ∙ q .found y (omega (arith, w .0)) (w .1) ∙ twin-first)
 
       twin-low : placeIn Z x < length T + x
       unfolding y

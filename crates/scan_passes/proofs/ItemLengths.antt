@@ -19,7 +19,8 @@ module _ (T out : List ℕ) (it : Items) where
 
   pub block-length : (x : ℕ) → x % 2 ≡ 0 → lengthAt T out it x ≡ min (it .size) (length T - startAt T out it x)
   unfolding lengthAt
-  block-length x e = ap (λ (k : ℕ). min (it .size * (k + 1)) (length T - startAt T out it x)) e ∙ ap (λ (k : ℕ). min k (length T - startAt T out it x)) (mul-one (it .size))
+  block-length x e = ap (λ (k : ℕ). min (it .size * (k + 1)) (length T - startAt T out it x)) e
+      ∙ ap (λ (k : ℕ). min k (length T - startAt T out it x)) (mul-one (it .size))
 
   pub pair-length : (x : ℕ) → x % 2 ≡ 1 → lengthAt T out it x ≡ min (it .size + it .size) (length T - startAt T out it x)
   unfolding lengthAt
@@ -89,7 +90,8 @@ module _ (T out : List ℕ) (it : Items) where
         go (inl e) (inr a) = omega (arith, o .items-are)
         go (inr e) b = absurd (let z : ⊥ = omega (arith, pair-longer x e l (pair-there x e p)) in z)
 
-    pub cut-is-last : (x : ℕ) → x < it .items → Present T out it x → it .size < lengthAt T out it x → lengthAt T out it x < it .size + it .size → x + 1 ≡ 2 * o .last
+    pub cut-is-last : (x : ℕ)
+        → x < it .items → Present T out it x → it .size < lengthAt T out it x → lengthAt T out it x < it .size + it .size → x + 1 ≡ 2 * o .last
     cut-is-last x l p a b = go (even-or-odd x)
       where
         odd-case : x % 2 ≡ 1 → (x + 2 < it .items) ⊎ (it .items ≤ x + 2) → x + 1 ≡ 2 * o .last

@@ -133,13 +133,16 @@ module _ (T out : List ℕ) (it : Items) where
           let q : 2 * i + 2 ≡ x + 1 = omega arith in
           er ∙ print-join T (startAt T out it x) (it .size) (lengthAt T out it (x + 1)) g top next
           (omega (arith, p, length-high T out it o h (x + 1) (omega arith)))
-          (eg ∙ ap (λ (k : ℕ). print (stretch T k (lengthAt T out it (2 * i)))) start-first ∙ ap (λ (k : ℕ). print (stretch T (startAt T out it x) k)) block-full)
+          (eg ∙ ap (λ (k : ℕ). print (stretch T k (lengthAt T out it (2 * i)))) start-first
+          ∙ ap (λ (k : ℕ). print (stretch T (startAt T out it x) k)) block-full)
           (et ∙ ap (λ (k : ℕ). 1540483477 ^ k % 4294967296) second)
-          (en ∙ ap (λ (k : ℕ). print (stretch T (startAt T out it k) (lengthAt T out it k))) q ∙ ap (λ (k : ℕ). print (stretch T k (lengthAt T out it (x + 1)))) p)
+          (en ∙ ap (λ (k : ℕ). print (stretch T (startAt T out it k) (lengthAt T out it k))) q
+          ∙ ap (λ (k : ℕ). print (stretch T k (lengthAt T out it (x + 1)))) p)
           ∙ ap (λ (k : ℕ). print (stretch T (startAt T out it x) k)) (sym parts)
 
     -- the lengths of both
-    pub noted-both : (l : Lengths) (n : ℕ) → Noted T out it (2 * i) l → PairSays T out it x n → Noted T out it (2 * (i + 1)) (notedBy (notedBy l (it .size) (it .size)) (it .size) n)
+    pub noted-both : (l : Lengths) (n : ℕ)
+        → Noted T out it (2 * i) l → PairSays T out it x n → Noted T out it (2 * (i + 1)) (notedBy (notedBy l (it .size) (it .size)) (it .size) n)
     noted-both l n s w = go (lt-or-ge n 1)
       where
         one : Noted T out it (2 * i + 1) (notedBy l (it .size) (it .size))
@@ -158,8 +161,10 @@ module _ (T out : List ℕ) (it : Items) where
             there : (startAt T out it (x + 1) < startAt T out it x + it .size) ⊎ (startAt T out it x + it .size ≤ startAt T out it (x + 1))
                 → (startAt T out it x + it .size < startAt T out it (x + 1)) ⊎ (startAt T out it (x + 1) ≤ startAt T out it x + it .size)
                 → Noted T out it (2 * i + 1 + 1) (notedBy (notedBy l (it .size) (it .size)) (it .size) n)
-            there (inl b) c = absurd (let z : n ≡ 0 = w .none (no-pair (startAt T out it x) (startAt T out it (x + 1)) refl refl (λ q. omega arith)) in let y : ⊥ = omega arith in y)
-            there (inr b) (inl c) = absurd (let z : n ≡ 0 = w .none (no-pair (startAt T out it x) (startAt T out it (x + 1)) refl refl (λ q. omega arith)) in let y : ⊥ = omega arith in y)
+            there (inl b) c = absurd (let z : n ≡ 0 = w .none (no-pair (startAt T out it x) (startAt T out it (x + 1)) refl refl (λ q. omega arith)) in
+                let y : ⊥ = omega arith in y)
+            there (inr b) (inl c) = absurd (let z : n ≡ 0 =
+                w .none (no-pair (startAt T out it x) (startAt T out it (x + 1)) refl refl (λ q. omega arith)) in let y : ⊥ = omega arith in y)
             there (inr b) (inr c) =
                 let p : Present T out it x = inr (omega arith) in
                 noted-more T out it o h x (notedBy l (it .size) (it .size)) one (omega arith) p n (sym (w .some p))
@@ -197,7 +202,8 @@ module _ (T out : List ℕ) (it : Items) where
         going-next Z n next l₁ l₂ same e w en e₁ e₂ = record {
           same-length = same ∙ g .same-length;
           entrants = subst (Entrants T out it Z) (let q : 2 * i + 2 ≡ 2 * (i + 1) = omega arith in q) e;
-          noted = subst (Noted T out it (2 * (i + 1))) (sym (e₂ ∙ ap (λ (k : Lengths). notedBy k (it .size) n) e₁)) (noted-both o placed i next-block l n (g .noted) w);
+          noted = subst (Noted T out it (2 * (i + 1)))
+              (sym (e₂ ∙ ap (λ (k : Lengths). notedBy k (it .size) n) e₁)) (noted-both o placed i next-block l n (g .noted) w);
           print-is = en;
           within = omega (arith, next-block);
         }

@@ -30,7 +30,8 @@ module _ (l : Lengths) (size n : ℕ) where
     pub noted-both : size ≤ n → (n ≡ size → ⊥) → n ≡ size + size → record { block = l .block; pair = n; last = l .last; ending = l .ending } ≡ notedBy l size n
     noted-both a d e = rw (ne-eqb n 0 some, le-ltb n size a, ne-eqb n size d, eq-eqb n (size + size) e)
 
-    pub noted-cut : size ≤ n → (n ≡ size → ⊥) → (n ≡ size + size → ⊥) → record { block = l .block; pair = l .pair; last = l .last; ending = n } ≡ notedBy l size n
+    pub noted-cut : size ≤ n → (n ≡ size → ⊥)
+        → (n ≡ size + size → ⊥) → record { block = l .block; pair = l .pair; last = l .last; ending = n } ≡ notedBy l size n
     noted-cut a d e = rw (ne-eqb n 0 some, le-ltb n size a, ne-eqb n size d, ne-eqb n (size + size) e)
 
 module _ (T out : List ℕ) (it : Items) (o : Ordered T out it) (h : Placed T out it) where
@@ -50,11 +51,13 @@ module _ (T out : List ℕ) (it : Items) (o : Ordered T out it) (h : Placed T ou
   has-more k n (x, l, p, e) = (x, omega arith, p, e)
 
   module _ (k : ℕ) (l : Lengths) (s : Noted T out it k l) where
-    block-more : (l .block ≡ 0) ⊎ ((l .block ≡ it .size) × Has T out it k (l .block)) → (l .block ≡ 0) ⊎ ((l .block ≡ it .size) × Has T out it (k + 1) (l .block))
+    block-more : (l .block ≡ 0)
+        ⊎ ((l .block ≡ it .size) × Has T out it k (l .block)) → (l .block ≡ 0) ⊎ ((l .block ≡ it .size) × Has T out it (k + 1) (l .block))
     block-more (inl e) = inl e
     block-more (inr (e, g)) = inr (e, has-more k (l .block) g)
 
-    pair-more : (l .pair ≡ 0) ⊎ ((l .pair ≡ it .size + it .size) × Has T out it k (l .pair)) → (l .pair ≡ 0) ⊎ ((l .pair ≡ it .size + it .size) × Has T out it (k + 1) (l .pair))
+    pair-more : (l .pair ≡ 0) ⊎ ((l .pair ≡ it .size + it .size) × Has T out it k (l .pair))
+        → (l .pair ≡ 0) ⊎ ((l .pair ≡ it .size + it .size) × Has T out it (k + 1) (l .pair))
     pair-more (inl e) = inl e
     pair-more (inr (e, g)) = inr (e, has-more k (l .pair) g)
 
@@ -96,14 +99,21 @@ module _ (T out : List ℕ) (it : Items) (o : Ordered T out it) (h : Placed T ou
         where
           go : (x < k) ⊎ (k ≤ x) → Among (it .size) new (lengthAt T out it x)
           go (inl a) = before x a q
-          go (inr a) = let e : k ≡ x = omega arith in subst (λ (y : ℕ). Among (it .size) new (lengthAt T out it y)) e (subst (Among (it .size) new) (sym n-is) mine)
+          go (inr a) = let e : k ≡ x = omega arith in
+              subst (λ (y : ℕ). Among (it .size) new (lengthAt T out it y)) e (subst (Among (it .size) new) (sym n-is) mine)
 
       with-short : n < it .size → Noted T out it (k + 1) (record { block = l .block; pair = l .pair; last = n; ending = l .ending })
       with-short a = record {
         covers = covering (record { block = l .block; pair = l .pair; last = n; ending = l .ending })
-            (record { short = λ _. refl; full = λ e. absurd (let z : ⊥ = omega arith in z); both = λ e. absurd (let z : ⊥ = omega arith in z); cut = λ b c. absurd (let z : ⊥ = omega arith in z) })
+            (record {
+              short = λ _. refl;
+              full = λ e. absurd (let z : ⊥ = omega arith in z);
+              both = λ e. absurd (let z : ⊥ = omega arith in z);
+              cut = λ b c. absurd (let z : ⊥ = omega arith in z);
+            })
             (λ x xl q. let m = s .covers x xl q in record {
-              short = λ b. absurd (let z : ⊥ = omega (arith, short-is-last T out it o h x (omega arith) q b, short-is-last T out it o h k kl p (omega arith)) in z);
+              short = λ b. absurd (let z : ⊥ =
+                  omega (arith, short-is-last T out it o h x (omega arith) q b, short-is-last T out it o h k kl p (omega arith)) in z);
               full = m .full;
               both = m .both;
               cut = m .cut;
@@ -117,7 +127,12 @@ module _ (T out : List ℕ) (it : Items) (o : Ordered T out it) (h : Placed T ou
       with-full : n ≡ it .size → Noted T out it (k + 1) (record { block = n; pair = l .pair; last = l .last; ending = l .ending })
       with-full a = record {
         covers = covering (record { block = n; pair = l .pair; last = l .last; ending = l .ending })
-            (record { short = λ e. absurd (let z : ⊥ = omega arith in z); full = λ _. refl; both = λ e. absurd (let z : ⊥ = omega (arith, o .size-low) in z); cut = λ b c. absurd (let z : ⊥ = omega arith in z) })
+            (record {
+              short = λ e. absurd (let z : ⊥ = omega arith in z);
+              full = λ _. refl;
+              both = λ e. absurd (let z : ⊥ = omega (arith, o .size-low) in z);
+              cut = λ b c. absurd (let z : ⊥ = omega arith in z);
+            })
             (λ x xl q. let m = s .covers x xl q in record { short = m .short; full = λ b. omega arith; both = m .both; cut = m .cut });
         block-is = inr (a, own);
         pair-is = pair-more (s .pair-is);
@@ -128,7 +143,12 @@ module _ (T out : List ℕ) (it : Items) (o : Ordered T out it) (h : Placed T ou
       with-both : n ≡ it .size + it .size → Noted T out it (k + 1) (record { block = l .block; pair = n; last = l .last; ending = l .ending })
       with-both a = record {
         covers = covering (record { block = l .block; pair = n; last = l .last; ending = l .ending })
-            (record { short = λ e. absurd (let z : ⊥ = omega arith in z); full = λ e. absurd (let z : ⊥ = omega (arith, o .size-low) in z); both = λ _. refl; cut = λ b c. absurd (let z : ⊥ = omega arith in z) })
+            (record {
+              short = λ e. absurd (let z : ⊥ = omega arith in z);
+              full = λ e. absurd (let z : ⊥ = omega (arith, o .size-low) in z);
+              both = λ _. refl;
+              cut = λ b c. absurd (let z : ⊥ = omega arith in z);
+            })
             (λ x xl q. let m = s .covers x xl q in record { short = m .short; full = m .full; both = λ b. omega arith; cut = m .cut });
         block-is = block-more (s .block-is);
         pair-is = inr (a, own);
@@ -139,12 +159,18 @@ module _ (T out : List ℕ) (it : Items) (o : Ordered T out it) (h : Placed T ou
       with-cut : it .size < n → n < it .size + it .size → Noted T out it (k + 1) (record { block = l .block; pair = l .pair; last = l .last; ending = n })
       with-cut a b = record {
         covers = covering (record { block = l .block; pair = l .pair; last = l .last; ending = n })
-            (record { short = λ e. absurd (let z : ⊥ = omega arith in z); full = λ e. absurd (let z : ⊥ = omega arith in z); both = λ e. absurd (let z : ⊥ = omega arith in z); cut = λ _ _. refl })
+            (record {
+              short = λ e. absurd (let z : ⊥ = omega arith in z);
+              full = λ e. absurd (let z : ⊥ = omega arith in z);
+              both = λ e. absurd (let z : ⊥ = omega arith in z);
+              cut = λ _ _. refl;
+            })
             (λ x xl q. let m = s .covers x xl q in record {
               short = m .short;
               full = m .full;
               both = m .both;
-              cut = λ c d. absurd (let z : ⊥ = omega (arith, cut-is-last T out it o h x (omega arith) q c d, cut-is-last T out it o h k kl p (omega arith) (omega arith)) in z);
+              cut = λ c d. absurd (let z : ⊥ =
+                  omega (arith, cut-is-last T out it o h x (omega arith) q c d, cut-is-last T out it o h k kl p (omega arith) (omega arith)) in z);
             });
         block-is = block-more (s .block-is);
         pair-is = pair-more (s .pair-is);
@@ -167,11 +193,13 @@ module _ (T out : List ℕ) (it : Items) (o : Ordered T out it) (h : Placed T ou
     among : (n : ℕ) → n ≤ it .size + it .size → Among (it .size) l n → (n ≡ l .block) ⊎ ((n ≡ l .pair) ⊎ ((n ≡ l .last) ⊎ (n ≡ l .ending)))
     among n most m = go (lt-or-ge n (it .size)) (ℕ-discrete n (it .size)) (ℕ-discrete n (it .size + it .size))
       where
-        go : (n < it .size) ⊎ (it .size ≤ n) → Dec (n ≡ it .size) → Dec (n ≡ it .size + it .size) → (n ≡ l .block) ⊎ ((n ≡ l .pair) ⊎ ((n ≡ l .last) ⊎ (n ≡ l .ending)))
+        go : (n < it .size) ⊎ (it .size ≤ n)
+            → Dec (n ≡ it .size) → Dec (n ≡ it .size + it .size) → (n ≡ l .block) ⊎ ((n ≡ l .pair) ⊎ ((n ≡ l .last) ⊎ (n ≡ l .ending)))
         go (inl a) d f = inr (inr (inl (sym (m .short a))))
         go (inr a) (yes d) f = inl (sym (m .full d))
         go (inr a) (no d) (yes f) = inr (inl (sym (m .both f)))
-        go (inr a) (no d) (no f) = inr (inr (inr (sym (m .cut (let z : it .size < n = omega (arith, d) in z) (let z : n < it .size + it .size = omega (arith, f) in z)))))
+        go (inr a) (no d) (no f) =
+            inr (inr (inr (sym (m .cut (let z : it .size < n = omega (arith, d) in z) (let z : n < it .size + it .size = omega (arith, f) in z)))))
 
     held : (n : ℕ) → Has T out it (it .items) n → n ≤ length T
     held n (x, xl, p, q) = omega (arith, length-high T out it o h x xl)

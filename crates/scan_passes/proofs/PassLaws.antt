@@ -144,7 +144,8 @@ module _ (T out : List ℕ) (it : Items) where
       -- after the four look-ups
       module _ (Z₁ Z₂ Z₃ Z₄ : List ℕ) (a′ b′ c′ d′ : Window) (s₁ : Stepped T out it Z Z₁ (a .len) p) (s₂ : Stepped T out it Z₁ Z₂ (b .len) p)
           (s₃ : Stepped T out it Z₂ Z₃ (c .len) p) (s₄ : Stepped T out it Z₃ Z₄ (d .len) p)
-          (sa : Standing T (a .len) (p + 1) a′) (sb : Standing T (b .len) (p + 1) b′) (sc : Standing T (c .len) (p + 1) c′) (sd : Standing T (d .len) (p + 1) d′) where
+          (sa : Standing T (a .len) (p + 1) a′)
+          (sb : Standing T (b .len) (p + 1) b′) (sc : Standing T (c .len) (p + 1) c′) (sd : Standing T (d .len) (p + 1) d′) where
         t₂ : Searched T out it Z Z₂
         t₂ = searched-then T out it Z Z₁ Z₂ (s₁ .searched) (s₂ .searched)
 
@@ -181,7 +182,8 @@ module _ (T out : List ℕ) (it : Items) where
           by-d : lengthAt T out it x ≡ l .ending → Found T out it Z₄ x (p + 1)
           by-d en = s₄ .here x xl (t₃ .listed x xl j) (en ∙ sym ed ∙ sym (q .d-is .len-is)) (t₃ .found x p xl j f)
 
-          by-length : (lengthAt T out it x ≡ l .block) ⊎ ((lengthAt T out it x ≡ l .pair) ⊎ ((lengthAt T out it x ≡ l .last) ⊎ (lengthAt T out it x ≡ l .ending))) → Found T out it Z₄ x (p + 1)
+          by-length : (lengthAt T out it x ≡ l .block)
+              ⊎ ((lengthAt T out it x ≡ l .pair) ⊎ ((lengthAt T out it x ≡ l .last) ⊎ (lengthAt T out it x ≡ l .ending))) → Found T out it Z₄ x (p + 1)
           by-length (inl en) = by-a en
           by-length (inr (inl en)) = by-b en
           by-length (inr (inr (inl en))) = by-c en
@@ -208,7 +210,8 @@ module _ (T out : List ℕ) (it : Items) where
           let f = q .found x xl i in
           let s = startAt T out it x in
           let n = lengthAt T out it x in
-          go (placeIn Z x) s n (f .same) (λ r m e. f .none r (omega (arith, f .near, e .0, q .asked .laid .placed .within x xl)) (e .0) (e .1)) (lt-or-ge (leftmost T s n) (placeIn Z x));
+          go (placeIn Z x) s n (f .same) (λ r m e. f .none r (omega (arith, f .near, e .0, q .asked .laid .placed .within x xl)) (e .0) (e .1))
+          (lt-or-ge (leftmost T s n) (placeIn Z x));
     }
       where
         go : (place s n : ℕ) → stretch T place n ≡ stretch T s n → ((r : ℕ) → (r ≡ r) → (r < place) × (stretch T r n ≡ stretch T s n) → ⊥)

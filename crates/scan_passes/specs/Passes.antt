@@ -110,11 +110,14 @@ module _ (T out : List ℕ) (it : Items) where
     pub laid : Laid T out it (length W)
     pub place : (x : ℕ) → x < it .items → Present x → placeOut (length T) W x ≡ leftmost T (startAt T out it x) (lengthAt T out it x)
     pub twins : (x : ℕ) → x < it .items → Present x → length T ≤ placeIn W x → placeIn W x < length T + x
-    pub first : (x : ℕ) → x < it .items → Present x → placeIn W x ≡ startAt T out it x → leftmost T (startAt T out it x) (lengthAt T out it x) ≡ startAt T out it x
-    pub again : (x : ℕ) → x < it .items → Present x → (placeIn W x ≡ startAt T out it x → ⊥) → leftmost T (startAt T out it x) (lengthAt T out it x) ≡ startAt T out it x → ⊥
+    pub first : (x : ℕ) → x < it .items
+        → Present x → placeIn W x ≡ startAt T out it x → leftmost T (startAt T out it x) (lengthAt T out it x) ≡ startAt T out it x
+    pub again : (x : ℕ) → x < it .items
+        → Present x → (placeIn W x ≡ startAt T out it x → ⊥) → leftmost T (startAt T out it x) (lengthAt T out it x) ≡ startAt T out it x → ⊥
 
   -- the windows looked up: for each length, one at every place
   pub record Counted (r : ℕ) : Type 0 where
     pub lengths : Lengths
     pub noted : Noted (it .items) lengths
-    pub sum : r ≡ placesOf (length T) (lengths .block) + placesOf (length T) (lengths .pair) + placesOf (length T) (lengths .last) + placesOf (length T) (lengths .ending)
+    pub sum : r ≡ placesOf (length T)
+        (lengths .block) + placesOf (length T) (lengths .pair) + placesOf (length T) (lengths .last) + placesOf (length T) (lengths .ending)

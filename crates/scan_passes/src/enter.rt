@@ -1,9 +1,9 @@
 // The blocks and pairs of a level entered, in their order, with the lengths that they have.
 use crate::Lengths;
+use layout::place::BlockNumber;
 use scan_entries::Items;
 use scan_entries::entry;
 use scan_entries::item;
-use layout::place::BlockNumber;
 ghost use mathlib.Core.Path.{_≡_};
 ghost use Prim.Native.Nat.{_+_, _-_, _*_, _%_, _^_, _≤_, _<_};
 ghost use lib.ListN.{length};
@@ -126,7 +126,8 @@ fn enter_both(
 // Enters all blocks and pairs of a level.
 pub fn enter_level(words: &mut [u32], text: &[u8], out: &[u8], it: Items) -> Lengths
     requires { ⌜ Laid (now text) (now out) it (length (now words)) × Ordered (now text) (now out) it ⌝ }
-    ensures { λ r. ⌜ Entrants (now (text .entry)) (now (out .entry)) it (now (words .exit)) (it .items) × Noted (now (text .entry)) (now (out .entry)) it (it .items) r ⌝ }
+    ensures { λ r. ⌜ Entrants (now (text .entry)) (now (out .entry)) it (now (words .exit)) (it .items)
+        × Noted (now (text .entry)) (now (out .entry)) it (it .items) r ⌝ }
 {
     entry::clear(words, 3 * it.items as usize, it.heads as usize);
     let top = scan_windows::power(it.size);

@@ -62,7 +62,8 @@ module _ (T : List ℕ) (n p : ℕ) (w : Window) (s : Standing T n p w) (here : 
 
   pub rolls : (h x out : ℕ) → out < 256 → p + 1 < w .places → out ≡ getD T p 0 → x ≡ getD T (p + n) 0
       → h ≡ (w .print * 1540483477 + x + (255 * 4294967296 - w .top * out)) % 4294967296 → h ≡ print (stretch T (p + 1) n)
-  rolls h x out lo l eo ex e = e ∙ print-roll T p n (w .print) (w .top) x out (before-end l) (omega (arith, s .top-is (omega arith), mod-lt (1540483477 ^ n) {m = 4294967296} (omega arith))) lo (s .print-is here) (s .top-is (omega arith)) eo ex
+  rolls h x out lo l eo ex e = e ∙ print-roll T p n (w .print) (w .top) x out (before-end l) (omega
+      (arith, s .top-is (omega arith), mod-lt (1540483477 ^ n) {m = 4294967296} (omega arith))) lo (s .print-is here) (s .top-is (omega arith)) eo ex
 
   pub stands-next : (h : ℕ) → (p + 1 < w .places → h ≡ print (stretch T (p + 1) n))
       → Standing T n (p + 1) (record { len = w .len; top = w .top; print = h; places = w .places; looked = w .looked + 1 })

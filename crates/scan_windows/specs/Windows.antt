@@ -13,7 +13,8 @@ use Rattle.scan_windows.specs.Prints.{print}
 abbrev pub placesOf : ℕ → ℕ → ℕ
 placesOf size n = cond (eqb n 0) 0 (size - n + 1)
 
--- the window of n bytes before place p: it was looked up at every place below p where it stands, and where it stands at p it has the fingerprint of its bytes there
+-- the window of n bytes before place p: it was looked up at every place below p where it stands, and where it stands at p it has the fingerprint of its
+-- bytes there
 pub record Standing (T : List ℕ) (n p : ℕ) (w : Window) : Type 0 where
   pub len-is : w .len ≡ n
   pub fits : n ≤ length T

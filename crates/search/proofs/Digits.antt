@@ -21,7 +21,8 @@ unfolding digits
 digits-lift b k a [] = rw (pow-zero b) (omega arith)
 digits-lift b k a (x ∷ s) =
     let e : (k + a) * b + x ≡ k * b + (a * b + x) = omega (arith, add-mul k a b) in
-    let f : b ^ suc (length s) * k ≡ b ^ length s * (k * b) = rw (pow-succ' b (length s), mul-comm b (b ^ length s), mul-assoc (b ^ length s) b k, mul-comm b k) in
+    let f : b ^ suc (length s) * k ≡ b ^ length s * (k * b) =
+    rw (pow-succ' b (length s), mul-comm b (b ^ length s), mul-assoc (b ^ length s) b k, mul-comm b k) in
     rw (e, digits-lift b (k * b) (a * b + x) s, f)
 
 pub finger-nil : (b q : ℕ) → 0 < q → 0 ≡ finger b q []

@@ -184,7 +184,8 @@ module _ (P table : List ℕ) (n k : ℕ) (a : Filling P table n k) where
     pub filling-next : r ≤ n
     filling-next = omega (arith, new .ends .room)
 
-pub filling-more : (P table : List ℕ) (n k : ℕ) → Filling P table n k → n < length table → (c r : ℕ) → c ≡ getD P n 0 → Next P k c r → Filling P (set table n r) (n + 1) r
+pub filling-more : (P table : List ℕ) (n k : ℕ)
+    → Filling P table n k → n < length table → (c r : ℕ) → c ≡ getD P n 0 → Next P k c r → Filling P (set table n r) (n + 1) r
 filling-more P table n k a in-table c r c-is next =
     record { borders = record { border = λ x l. go x (below-suc x n (omega arith)) }; last = new P table n k a c r c-is next }
   where

@@ -54,7 +54,8 @@ pub record Examples : Type 0 where
   past-last-year : (renewNumber (day 2 0 9 9 1 2 3 1) ≡ 22) × (renewLeaves (day 2 0 9 9 1 2 3 1) ≡ day 2 0 9 9 1 2 3 1)
 
 pub examples : Examples
-unfolding day sumBelow allBelow leap monthLength yearLength isDate dayNumber nextDay renewed isDigit pairAt dateIn isDay written openNumber openOn leftNumber daysLeft renewNumber renewLeaves
+unfolding day sumBelow allBelow leap monthLength
+    yearLength isDate dayNumber nextDay renewed isDigit pairAt dateIn isDay written openNumber openOn leftNumber daysLeft renewNumber renewLeaves
 examples = record {
   first-number = refl;
   last-number = refl;

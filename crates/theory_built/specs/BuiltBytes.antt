@@ -16,8 +16,10 @@ use Rattle.theory_built.specs.BlockSizes.{Taken, Bounds, bounds}
 use Rattle.theory_built.specs.Structure.{count}
 use Rattle.theory_built.specs.Pairs.{offset, levelWordsOf, length-levelWordsOf}
 use Rattle.theory_built.specs.Gather.{in-part}
-use Rattle.theory_built.specs.BuiltRecords.{recordAt, bytesAt, edgesIn, bytes-are, records, recordWords, length-record, record-bytes, record-byte, length-records}
-use Rattle.theory_built.specs.Shape.{sixWords, countedPlaces, tree-is, tree-levels, tree-records, head, length-head, length-header, length-places, counted-place, record-byte-at}
+use Rattle.theory_built.specs.BuiltRecords.{recordAt, bytesAt, edgesIn, bytes-are, records, recordWords, length-record, record-bytes, record-byte}
+use Rattle.theory_built.specs.BuiltRecords.{length-records}
+use Rattle.theory_built.specs.Shape.{sixWords, countedPlaces, tree-is, tree-levels, tree-records, head, length-head, length-header, length-places}
+use Rattle.theory_built.specs.Shape.{counted-place, record-byte-at}
 
 -- the four bytes of the word v stand at i
 abbrev pub Stands : List ℕ → ℕ → ℕ → Type 0
@@ -78,7 +80,8 @@ module _ (S : Settings) (T : List ℕ) (h : Taken S T) where
       let R : ℕ = recordBytes S in
       let j : ℕ = sumBelow l (count S T) * R + (i * R + x) in
       let place : 100 + sumBelow l (count S T) * R + i * R + x ≡ 100 + j = omega arith in
-      let below : j < length (records S T) = rw (length-records S T) (in-part (sumBelow l (count S T)) i (count S T l) x R _ il (sumBelow-part (S .levels) (count S T) l e) xl) in
+      let below : j < length (records S T) =
+      rw (length-records S T) (in-part (sumBelow l (count S T)) i (count S T l) x R _ il (sumBelow-part (S .levels) (count S T) l e) xl) in
       rw place (record-byte-at S T h j below ∙ record-byte S T l i x e il xl)
 
   -- word f of it
@@ -95,7 +98,8 @@ module _ (S : Settings) (T : List ℕ) (h : Taken S T) where
   edge-stands l i x e il xl =
       rw (add-assoc (offset S T l + i * recordBytes S) (4 * recordWords S T) x)
       (record-at l i (4 * recordWords S T + x) e il (omega (arith, record-bytes S T))
-      ∙ rw (bytes-are S T l i) (after (wordsBytes (recordAt S T l i)) (edgesIn S T l i) (length-words (recordAt S T l i) ∙ ap (λ (n : ℕ). 4 * n) (length-record S T l i))))
+      ∙ rw (bytes-are S T l i) (after (wordsBytes (recordAt S T l i))
+      (edgesIn S T l i) (length-words (recordAt S T l i) ∙ ap (λ (n : ℕ). 4 * n) (length-record S T l i))))
     where
       after : (a b : List ℕ) → length a ≡ 4 * recordWords S T → getD (a ++ b) (4 * recordWords S T + x) 0 ≡ getD b x 0
       after a b e = rw (← e) (getD-append-add a b x 0)

@@ -17,7 +17,8 @@ use Rattle.theory_built.specs.Structure.{count, start, keptAt}
 use Rattle.theory_built.specs.BuiltLeaves.{kept-last}
 use Rattle.theory_built.specs.BuiltTargets.{placeOf, targetOf, points-to}
 use Rattle.theory_built.specs.BuiltRecords.{parentOf, beforeOf, insideOf, skipOf}
-use Rattle.theory_built.specs.ReadBack.{read-countedCount, read-settings, read-levelCount, read-fullLength, read-start, read-link, read-gap, read-before, read-inside, read-skip, read-blockLength, read-isKept}
+use Rattle.theory_built.specs.ReadBack.{read-countedCount, read-settings, read-levelCount, read-fullLength, read-start, read-link, read-gap}
+use Rattle.theory_built.specs.ReadBack.{read-before, read-inside, read-skip, read-blockLength, read-isKept}
 use Rattle.theory_built.specs.BuiltLinks.{levels-are, upper-or-last, link-points, gap-points}
 
 module _ (S : Settings) (T : List ℕ) (h : Taken S T) where
@@ -51,12 +52,19 @@ module _ (S : Settings) (T : List ℕ) (h : Taken S T) where
         go false y (inr z) = bool-clash (keptAt S T l i) (kept-last S T l i z) y
         go false y (inl z) =
             let q = points-to S T h l i z il y in
-            rw (read-link S T h l i e il, link-points S T l i y, read-gap S T h l i e il, gap-points S T l i y, read-start S T h l (targetOf S T l i) e (q .below))
+            rw (
+              read-link S T h l i e il,
+              link-points S T l i y,
+              read-gap S T h l i e il,
+              gap-points S T l i y,
+              read-start S T h l (targetOf S T l i) e (q .below),
+            )
 
   block-counts : (l i c : ℕ) → l < S .levels → i < count S T l → c < length (S .counted) → blockCountsTrue T t l i c ≡ true
   unfolding blockCountsTrue parentOf
   block-counts zero i c e il cl =
-      and-both (and-both (eq-eqb _ _ (before-true zero i c e il cl 0 refl)) (eq-eqb _ _ (inside-true zero i c e il cl))) (eq-eqb _ _ (skip-true zero i c e il cl))
+      and-both (and-both (eq-eqb _ _ (before-true zero i c e il cl 0 refl)) (eq-eqb _ _ (inside-true zero i c e il cl)))
+      (eq-eqb _ _ (skip-true zero i c e il cl))
   block-counts (suc l) i c e il cl =
       and-both (and-both (eq-eqb _ _ (before-true (suc l) i c e il cl (at.start t (suc l) i / at.fullLength t l * at.fullLength t l)
       (rw (read-start S T h (suc l) i e il, read-fullLength S T h l))))

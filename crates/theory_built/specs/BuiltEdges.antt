@@ -45,7 +45,8 @@ module _ (S : Settings) (T : List ℕ) (h : Taken S T) where
 
     pub edges-are : stretch t (at.edgesAt t l i) (m + m) ≡ edgesIn S T l i
     edges-are =
-        ext-getD 0 (stretch t (at.edgesAt t l i) (m + m)) (edgesIn S T l i) (length-stretch t (at.edgesAt t l i) (m + m) inside ∙ sym (length-edges m (stretch T (start S T l i) (bytesIn S T l i))))
+        ext-getD 0 (stretch t (at.edgesAt t l i) (m + m))
+        (edgesIn S T l i) (length-stretch t (at.edgesAt t l i) (m + m) inside ∙ sym (length-edges m (stretch T (start S T l i) (bytesIn S T l i))))
         (λ x hx. (let low : x < m + m = rw (length-stretch t (at.edgesAt t l i) (m + m) inside) at hx in
         getD-stretch t (at.edgesAt t l i) (m + m) x low ∙ rw (read-edgesAt S T h l i e il) (edge-stands S T h l i x e il low)))
 

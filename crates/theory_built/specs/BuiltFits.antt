@@ -30,7 +30,8 @@ module _ (S : Settings) (T : List ℕ) (h : Taken S T) where
 
   module _ (l i : ℕ) (e : l < S .levels) (il : i < count S T l) where
     -- a last-level block's leaf bytes are the text's
-    leaves-fit : suc l ≡ S .levels → stretch T (at.start t l i) (at.blockLengthAt t l i) ≡ tabulate (at.blockLengthAt t l i) (λ o. at.leafByte t (at.link t l i + o))
+    leaves-fit : suc l ≡ S .levels
+        → stretch T (at.start t l i) (at.blockLengthAt t l i) ≡ tabulate (at.blockLengthAt t l i) (λ o. at.leafByte t (at.link t l i + o))
     leaves-fit last =
         rw (read-start S T h l i e il, read-blockLength S T h l i e il, read-link S T h l i e il, link-kept S T l i (kept-last S T l i last))
         (ext-getD 0 (stretch T (start S T l i) len) (tabulate len leaf) (wide ∙ sym (length-tabulate len leaf))

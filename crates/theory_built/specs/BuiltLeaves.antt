@@ -78,7 +78,8 @@ module _ (S : Settings) (T : List ℕ) where
     unfolding leaves
     leaf-at l i o e il ol =
         rw (leafBytes-is l e, ← widths l i e (omega arith))
-        (getD-concat (count S T l) (leaves l) i o 0 il (rw (length-leaves l i e il, width-last l i e) ol) ∙ getD-stretch T (start S T l i) (bytesIn S T l i) o ol)
+        (getD-concat (count S T l) (leaves l) i o 0 il (rw (length-leaves l i e il, width-last l i e) ol)
+        ∙ getD-stretch T (start S T l i) (bytesIn S T l i) o ol)
 
     pub leaves-le : length (leafBytes S T) ≤ length T
     leaves-le = go (S .levels) refl
@@ -95,5 +96,10 @@ module _ (S : Settings) (T : List ℕ) where
         part = sumBelow-le (count S T l) (widthOf S T l) i il
 
         go : (suc l < S .levels) ⊎ (S .levels ≤ suc l) → sumBelow i (widthOf S T l) ≤ length T
-        go (inl z) = omega (arith, part, count-below S T h l z, count-le (length T) (size S T (suc l)) (count S T (suc l)) (start S T (suc l)) (level-at S T h (suc l) z))
+        go (inl z) = omega (
+          arith,
+          part,
+          count-below S T h l z,
+          count-le (length T) (size S T (suc l)) (count S T (suc l)) (start S T (suc l)) (level-at S T h (suc l) z),
+        )
         go (inr z) = omega (arith, part, leaf-count l (omega arith), leaves-le)

@@ -21,7 +21,8 @@ use Rattle.theory_built.specs.Structure.{size, count, start, bytesIn, ke
 use Rattle.theory_built.specs.BuiltLeaves.{kept-last, leaf-count}
 use Rattle.theory_built.specs.BuiltTargets.{placeOf, targetOf, PointsTo, points-to}
 use Rattle.theory_built.specs.BuiltRecords.{kindOf, linkOf, gapOf}
-use Rattle.theory_built.specs.ReadBack.{read-settings, read-levelCount, read-leafCount, read-fullLength, read-start, read-kind, read-link, read-gap, read-blockLength, read-isKept}
+use Rattle.theory_built.specs.ReadBack.{read-settings, read-levelCount, read-leafCount, read-fullLength, read-start, read-kind, read-link}
+use Rattle.theory_built.specs.ReadBack.{read-gap, read-blockLength, read-isKept}
 
 module _ (S : Settings) (T : List ℕ) where
   -- The words of kept and of pointing blocks.
@@ -99,7 +100,8 @@ module _ (S : Settings) (T : List ℕ) where
                 read-start S T h l i e il,
                 read-fullLength S T h (suc l),
                 read-start S T h (suc l) (sumBelow i (widthOf S T l) + j) z
-                    (child-below (length T) (size S T l) (count S T l) (start S T l) (keptAt S T l) (widthOf S T l) (size S T (suc l)) (count S T (suc l)) (start S T (suc l))
+                    (child-below (length T) (size S T l)
+                    (count S T l) (start S T l) (keptAt S T l) (widthOf S T l) (size S T (suc l)) (count S T (suc l)) (start S T (suc l))
                     (level-at S T h l e) (cut-at S T h l z) i j il jl′),
               )
               (start-below S T h l i j z il jl′)
@@ -144,7 +146,15 @@ module _ (S : Settings) (T : List ℕ) where
         target-right : (ltb (at.link t l i) (at.levelCount t l) && at.isKept t l (at.link t l i)
             && leb (at.start t l (at.link t l i) + at.gap t l i + at.blockLengthAt t l i) (at.start t l i)) ≡ true
         target-right =
-            rw (link-is, gap-is, read-levelCount S T h l e, read-isKept S T h l j e (q .below), read-start S T h l j e (q .below), read-start S T h l i e il, read-blockLength S T h l i e il)
+            rw (
+              link-is,
+              gap-is,
+              read-levelCount S T h l e,
+              read-isKept S T h l j e (q .below),
+              read-start S T h l j e (q .below),
+              read-start S T h l i e il,
+              read-blockLength S T h l i e il,
+            )
             (and-both (and-both (lt-ltb j (count S T l) (q .below)) (q .kept))
             (le-leb (start S T l j + (placeOf S T l i - start S T l j) + bytesIn S T l i) (start S T l i) (omega (arith, q .from, q .ends))))
 

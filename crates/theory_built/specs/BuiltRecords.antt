@@ -58,7 +58,8 @@ module _ (S : Settings) (T : List ℕ) where
   recordAt l i = recordOf S T l (startsAt S T l) i
 
   fields-are : (l i : ℕ) (k : Bool) → keptAt S T l i ≡ k
-      → (start S T l i ∷ cond k (0 ∷ sumBelow i (widthOf S T l) ∷ 0 ∷ []) (1 ∷ targetOf S T l i ∷ (placeOf S T l i - start S T l (targetOf S T l i)) ∷ [])) ≡ fields l i
+      → (start S T l i ∷ cond k
+      (0 ∷ sumBelow i (widthOf S T l) ∷ 0 ∷ []) (1 ∷ targetOf S T l i ∷ (placeOf S T l i - start S T l (targetOf S T l i)) ∷ [])) ≡ fields l i
   unfolding fields kindOf linkOf gapOf
   fields-are l i true e = rw e
   fields-are l i false e = rw e

@@ -62,7 +62,8 @@ module _ (S : Settings) (T : List ℕ) where
 
     target-is : targetOf l i ≡ landed .0
     unfolding target
-    target-is = holder (byteAt T) (length T) (size S T l) (count S T l) (start S T l) (level-at S T h l (omega arith)) (placeOf l i) (bytesIn S T l i) (landed .0) (landed .1)
+    target-is = holder (byteAt T)
+        (length T) (size S T l) (count S T l) (start S T l) (level-at S T h l (omega arith)) (placeOf l i) (bytesIn S T l i) (landed .0) (landed .1)
 
     module _ (points : keptAt S T l i ≡ false) (j : ℕ) (hold : HoldsAt S T l j (placeOf l i) (bytesIn S T l i)) where
       j-kept : keptAt S T l j ≡ true
@@ -77,7 +78,8 @@ module _ (S : Settings) (T : List ℕ) where
         kept = j-kept;
         from = hold .from;
         near = hold .before;
-        ends = ends-before (byteAt T) (length T) (size S T l) (count S T l) (start S T l) (level-at S T h l (omega arith)) (placeOf l i) (bytesIn S T l i) j hold
+        ends = ends-before (byteAt T)
+            (length T) (size S T l) (count S T l) (start S T l) (level-at S T h l (omega arith)) (placeOf l i) (bytesIn S T l i) j hold
             (keptAt S T l) i il points not-after small j-kept j-next;
         next = go (hold .ends);
       }

@@ -43,7 +43,10 @@ module _ (T : List ℕ) (b : ℕ) (starts : List ℕ) where
 
   pair-of : (i : ℕ) → pairAt T b starts i ≡ true → PairHere i
   unfolding pairAt
-  pair-of i y = (ltb-true _ _ (and-left _ _ y), eqb-true _ _ (and-right (ltb (suc i) (length starts)) (eqb (startOf T b starts (suc i)) (startOf T b starts i + b)) y))
+  pair-of i y = (
+    ltb-true _ _ (and-left _ _ y),
+    eqb-true _ _ (and-right (ltb (suc i) (length starts)) (eqb (startOf T b starts (suc i)) (startOf T b starts i + b)) y),
+  )
 
   not-pair : (i : ℕ) → (PairHere i → ⊥) → pairAt T b starts i ≡ false
   not-pair i un = go (bool-cases (pairAt T b starts i))
@@ -68,7 +71,8 @@ module _ (T : List ℕ) (b : ℕ) (starts : List ℕ) where
   kept-alone : (i : ℕ) → ((h : ℕ) → i ≡ suc h → pairAt T b starts h ≡ false) → pairAt T b starts i ≡ false → keptByPairs T b starts i ≡ true
   unfolding keptByPairs
   kept-alone zero before here = or-right (firstPairAt T b starts 0) (not-eq-true here)
-  kept-alone (suc h) before here = or-right (firstPairAt T b starts h || firstPairAt T b starts (suc h)) (and-both (not-eq-true (before h refl)) (not-eq-true here))
+  kept-alone (suc h) before here =
+      or-right (firstPairAt T b starts h || firstPairAt T b starts (suc h)) (and-both (not-eq-true (before h refl)) (not-eq-true here))
 
   pub marks : Marks (byteAt T) (length T) b (length starts) (startOf T b starts) (λ i. keptByPairs T b starts i ≡ true)
   marks = record {

@@ -60,13 +60,15 @@ module _ (S : Settings) (T : List ℕ) where
     pub word-count : (l : ℕ) → l < S .levels → getD levelWordsOf (2 * l) 0 ≡ count S T l
     unfolding levelWordsOf
     word-count l h =
-        List·getD-append (levelPairs S T (S .levels) 0 100) (replicate (16 - 2 * S .levels) 0 ++ (offset (S .levels) ∷ length (leafBytes S T) ∷ [])) 0 (2 * l) (omega (arith, length-pairs (S .levels) 0 100))
+        List·getD-append (levelPairs S T (S .levels) 0 100) (replicate (16 - 2 * S .levels) 0 ++ (offset (S .levels) ∷ length (leafBytes S T) ∷ []))
+        0 (2 * l) (omega (arith, length-pairs (S .levels) 0 100))
         ∙ pairs-count (S .levels) 0 100 l h ∙ ap (count S T) (let e : 0 + l ≡ l = omega arith in e)
 
     pub word-offset : (l : ℕ) → l < S .levels → getD levelWordsOf (suc (2 * l)) 0 ≡ offset l
     unfolding levelWordsOf
     word-offset l h =
-        List·getD-append (levelPairs S T (S .levels) 0 100) (replicate (16 - 2 * S .levels) 0 ++ (offset (S .levels) ∷ length (leafBytes S T) ∷ [])) 0 (suc (2 * l)) (omega (arith, length-pairs (S .levels) 0 100))
+        List·getD-append (levelPairs S T (S .levels) 0 100) (replicate (16 - 2 * S .levels) 0 ++ (offset (S .levels) ∷ length (leafBytes S T) ∷ []))
+        0 (suc (2 * l)) (omega (arith, length-pairs (S .levels) 0 100))
         ∙ pairs-offset (S .levels) 0 100 l offset-top h ∙ ap offset (let e : 0 + l ≡ l = omega arith in e)
 
     pub word-none : (x : ℕ) → 2 * S .levels ≤ x → x < 16 → getD levelWordsOf x 0 ≡ 0
@@ -74,8 +76,10 @@ module _ (S : Settings) (T : List ℕ) where
     word-none x lo hi =
         let e : x ≡ length (levelPairs S T (S .levels) 0 100) + (x - 2 * S .levels) = omega (arith, length-pairs (S .levels) 0 100) in
         let k : x - 2 * S .levels < 16 - 2 * S .levels = omega arith in
-        ap (λ (y : ℕ). getD (levelPairs S T (S .levels) 0 100 ++ (replicate (16 - 2 * S .levels) 0 ++ (offset (S .levels) ∷ length (leafBytes S T) ∷ []))) y 0) e
-        ∙ getD-append-add (levelPairs S T (S .levels) 0 100) (replicate (16 - 2 * S .levels) 0 ++ (offset (S .levels) ∷ length (leafBytes S T) ∷ [])) (x - 2 * S .levels) 0
+        ap (λ (y : ℕ). getD (levelPairs S
+        T (S .levels) 0 100 ++ (replicate (16 - 2 * S .levels) 0 ++ (offset (S .levels) ∷ length (leafBytes S T) ∷ []))) y 0) e
+        ∙ getD-append-add (levelPairs S T (S .levels) 0 100)
+        (replicate (16 - 2 * S .levels) 0 ++ (offset (S .levels) ∷ length (leafBytes S T) ∷ [])) (x - 2 * S .levels) 0
         ∙ List·getD-append (replicate (16 - 2 * S .levels) 0) (offset (S .levels) ∷ length (leafBytes S T) ∷ []) 0 (x - 2 * S .levels) (rw length-replicate k)
         ∙ getD-replicate (16 - 2 * S .levels) (x - 2 * S .levels) 0 0 k
 

@@ -16,7 +16,8 @@ use Rattle.theory_built.specs.Structure.{size, count, start, bytesIn, ke
 use Rattle.theory_built.specs.BuiltLeaves.{leaves-le}
 use Rattle.theory_built.specs.Pairs.{offset, levelWordsOf, word-count, word-offset, word-none, word-leaf-offset, word-leaf-count}
 use Rattle.theory_built.specs.BuiltBytes.{stands-word, record-stands}
-use Rattle.theory_built.specs.BuiltRecords.{recordAt, recordWords, record-start, record-kind, record-link, record-gap, record-before, record-inside, record-skip, kindOf, linkOf, gapOf, beforeOf, insideOf, skipOf}
+use Rattle.theory_built.specs.BuiltRecords.{recordAt, recordWords, record-start, record-kind, record-link, record-gap, record-before}
+use Rattle.theory_built.specs.BuiltRecords.{record-inside, record-skip, kindOf, linkOf, gapOf, beforeOf, insideOf, skipOf}
 use Rattle.theory_built.specs.Shape.{sixWords, six-word, countedPlaces, counted-places, level-word, leaf-place}
 use Rattle.theory_built.specs.Small.{blocks-le, link-le, gap-le, kind-le, before-le, inside-le, skip-le, offset-le}
 
@@ -128,7 +129,8 @@ module _ (S : Settings) (T : List ℕ) (h : Taken S T) where
 
     pub read-start : at.start (treeOf S T) l i ≡ start S T l i
     unfolding at.start
-    read-start = read-field 0 (omega (arith, some-words)) (rw (record-start S T l i) (omega (arith, level-at S T h l e .within i il, limits .text-high))) ∙ record-start S T l i
+    read-start = read-field 0 (omega (arith, some-words))
+        (rw (record-start S T l i) (omega (arith, level-at S T h l e .within i il, limits .text-high))) ∙ record-start S T l i
 
     pub read-kind : at.kind (treeOf S T) l i ≡ kindOf S T l i
     unfolding at.kind
@@ -136,7 +138,8 @@ module _ (S : Settings) (T : List ℕ) (h : Taken S T) where
 
     pub read-link : at.link (treeOf S T) l i ≡ linkOf S T l i
     unfolding at.link
-    read-link = read-field 2 (omega (arith, some-words)) (rw (record-link S T l i) (omega (arith, link-le S T h l e i il, limits .text-high))) ∙ record-link S T l i
+    read-link = read-field 2 (omega (arith, some-words))
+        (rw (record-link S T l i) (omega (arith, link-le S T h l e i il, limits .text-high))) ∙ record-link S T l i
 
     pub read-gap : at.gap (treeOf S T) l i ≡ gapOf S T l i
     unfolding at.gap
@@ -150,13 +153,15 @@ module _ (S : Settings) (T : List ℕ) (h : Taken S T) where
       pub read-before : at.before (treeOf S T) l i c ≡ beforeOf S T l i (getD (S .counted) c 0)
       unfolding at.before
       read-before =
-          read-field (4 + 3 * c) (omega (arith, count-words)) (rw (record-before S T l i c cl) (omega (arith, before-le S T l i (getD (S .counted) c 0), limits .text-high)))
+          read-field (4 + 3 * c) (omega (arith, count-words))
+          (rw (record-before S T l i c cl) (omega (arith, before-le S T l i (getD (S .counted) c 0), limits .text-high)))
           ∙ record-before S T l i c cl
 
       pub read-inside : at.inside (treeOf S T) l i c ≡ insideOf S T l i (getD (S .counted) c 0)
       unfolding at.inside
       read-inside =
-          read-field (5 + 3 * c) (omega (arith, count-words)) (rw (record-inside S T l i c cl) (omega (arith, inside-le S T l i (getD (S .counted) c 0), limits .text-high)))
+          read-field (5 + 3 * c) (omega (arith, count-words))
+          (rw (record-inside S T l i c cl) (omega (arith, inside-le S T l i (getD (S .counted) c 0), limits .text-high)))
           ∙ record-inside S T l i c cl
 
       pub read-skip : at.skip (treeOf S T) l i c ≡ skipOf S T l i (getD (S .counted) c 0)

@@ -18,7 +18,8 @@ use Rattle.theory_built.specs.BlockSizes.{Taken, Bounds, bounds}
 use Rattle.theory_built.specs.Structure.{count, count-top}
 use Rattle.theory_built.specs.Pairs.{offset}
 use Rattle.theory_built.specs.Shape.{countedPlaces, counted-place, length-places, tree-length}
-use Rattle.theory_built.specs.ReadBack.{read-layout, read-textLength, read-countedCount, read-settings, read-levelCount, read-levelOffset, read-no-count, read-no-offset, read-leafOffset, read-leafCount, read-recordSize, read-fullLength}
+use Rattle.theory_built.specs.ReadBack.{read-layout, read-textLength, read-countedCount, read-settings, read-levelCount, read-levelOffset}
+use Rattle.theory_built.specs.ReadBack.{read-no-count, read-no-offset, read-leafOffset, read-leafCount, read-recordSize, read-fullLength}
 
 module _ (S : Settings) (T : List ℕ) (h : Taken S T) where
   abbrev t : List ℕ
@@ -64,7 +65,8 @@ module _ (S : Settings) (T : List ℕ) (h : Taken S T) where
   levels-are : at.settings t .levels ≡ S .levels
   levels-are = ap (λ (s : Settings). s .levels) (read-settings S T h)
 
-  pairs-zero : allBelow (8 - at.settings t .levels) (λ x. eqb (at.levelCount t (at.settings t .levels + x)) 0 && eqb (at.levelOffset t (at.settings t .levels + x)) 0) ≡ true
+  pairs-zero : allBelow (8 - at.settings t .levels)
+      (λ x. eqb (at.levelCount t (at.settings t .levels + x)) 0 && eqb (at.levelOffset t (at.settings t .levels + x)) 0) ≡ true
   pairs-zero = rw levels-are (allBelow-make _ _ (λ x l. and-both
       (eq-eqb _ _ (read-no-count S T h (S .levels + x) (omega arith) (omega arith)))
       (eq-eqb _ _ (read-no-offset S T h (S .levels + x) (omega arith) (omega arith)))))

@@ -85,11 +85,13 @@ module _ (S : Settings) (T : List ℕ) where
 
     pub counted-place : (x : ℕ) → getD (treeOf S T) (24 + x) 0 ≡ getD (countedPlaces ++ (wordsBytes (levelWordsOf S T) ++ (records S T ++ leafBytes S T))) x 0
     counted-place x =
-        rw (tree-is, ← length-six) (getD-append-add (wordsBytes sixWords) (countedPlaces ++ (wordsBytes (levelWordsOf S T) ++ (records S T ++ leafBytes S T))) x 0)
+        rw (tree-is, ← length-six)
+        (getD-append-add (wordsBytes sixWords) (countedPlaces ++ (wordsBytes (levelWordsOf S T) ++ (records S T ++ leafBytes S T))) x 0)
 
     pub level-word : (j : ℕ) → j < 18 → getD (levelWordsOf S T) j 0 < 4294967296 → wordAt (treeOf S T) (28 + 4 * j) ≡ getD (levelWordsOf S T) j 0
     level-word j l small =
-        rw tree-levels (word-at head (levelWordsOf S T) (records S T ++ leafBytes S T) 28 j length-head (rw (length-levelWordsOf S T (limits .levels-high)) l) small)
+        rw tree-levels (word-at head
+        (levelWordsOf S T) (records S T ++ leafBytes S T) 28 j length-head (rw (length-levelWordsOf S T (limits .levels-high)) l) small)
 
     pub record-byte-at : (x : ℕ) → x < length (records S T) → getD (treeOf S T) (100 + x) 0 ≡ getD (records S T) x 0
     record-byte-at x l =
@@ -108,4 +110,5 @@ module _ (S : Settings) (T : List ℕ) where
     pub tree-length : length (treeOf S T) ≡ offset S T (S .levels) + length (leafBytes S T)
     tree-length =
         rw (offset-end, tree-leaves)
-        (length-append ((head ++ wordsBytes (levelWordsOf S T)) ++ records S T) (leafBytes S T) ∙ ap (λ (x : ℕ). x + length (leafBytes S T)) length-before-leaves)
+        (length-append ((head ++ wordsBytes (levelWordsOf S T)) ++ records S T) (leafBytes S T)
+        ∙ ap (λ (x : ℕ). x + length (leafBytes S T)) length-before-leaves)

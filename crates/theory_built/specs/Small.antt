@@ -96,7 +96,8 @@ module _ (S : Settings) (T : List ℕ) where
     table-le : sumBelow (S .levels) (count S T) * recordBytes S ≤ 132 * length T + 4608
     unfolding recordBytes
     table-le = rw (record-edged builtLayout (S .leaf) (length (S .counted)) refl)
-        (records-few (sumBelow (S .levels) (count S T)) (S .leaf) (length T) (S .levels) (length (S .counted)) (limits .leaf-low) (limits .leaf-high) (limits .levels-high) (limits .counted-high) leaves-room)
+        (records-few (sumBelow (S .levels) (count S T)) (S .leaf) (length T)
+        (S .levels) (length (S .counted)) (limits .leaf-low) (limits .leaf-high) (limits .levels-high) (limits .counted-high) leaves-room)
 
     pub offset-le : (l : ℕ) → l ≤ S .levels → offset S T l ≤ maxTable
     unfolding offset

@@ -157,10 +157,12 @@ module _ (S : Settings) (T : List ℕ) where
         il : i < count 0
         il = rw count-top (lt-pieces (length T) (size 0) i (size-pos S T h 0) (omega (arith, div-add-mod' p (size 0))))
 
-        go : (start 0 i + size 0 < p + len) ⊎ (p + len ≤ start 0 i + size 0) → (p + len ≤ start 0 i + size 0) ⊎ Pair (byteAt T) (length T) (size 0) (count 0) (start 0) i
+        go : (start 0 i + size 0 < p + len)
+            ⊎ (p + len ≤ start 0 i + size 0) → (p + len ≤ start 0 i + size 0) ⊎ Pair (byteAt T) (length T) (size 0) (count 0) (start 0) i
         go (inr z) = inl z
         go (inl z) =
-            let sl : suc i < count 0 = rw count-top (lt-pieces (length T) (size 0) (suc i) (size-pos S T h 0) (omega (arith, suc-mul i (size 0), start-top i il))) in
+            let sl : suc i < count 0 =
+            rw count-top (lt-pieces (length T) (size 0) (suc i) (size-pos S T h 0) (omega (arith, suc-mul i (size 0), start-top i il))) in
             inr (sl, omega (arith, start-top i il, start-top (suc i) sl, suc-mul i (size 0)))
 
     -- First occurrences land in kept blocks.

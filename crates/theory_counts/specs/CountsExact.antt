@@ -17,7 +17,8 @@ use Rattle.format.specs.Fits.{lastLevel, textOf, countsTrue}
 use Rattle.theory_paths.specs.Links.{H, N, b, s, len, Linked}
 use Rattle.theory_paths.specs.BlockStarts.{child, len-pos, target-full}
 use Rattle.theory_paths.specs.PlacesLand.{target}
-use Rattle.theory_counts.specs.CountsLocal.{upLength, handBlock, handPlace, handPlus, upTo, beforeLocal, lastChild, keptInside, keptLocal, pointingSkip, pointingInside, pointingLocal, blockLocal, levelLocal, countsLocal}
+use Rattle.theory_counts.specs.CountsLocal.{upLength, handBlock, handPlace, handPlus, upTo, beforeLocal, lastChild, keptInside, keptLocal}
+use Rattle.theory_counts.specs.CountsLocal.{pointingSkip, pointingInside, pointingLocal, blockLocal, levelLocal, countsLocal}
 use Rattle.theory_counts.specs.LevelTrue.{tally, parentPlace, Block, Level, counts-facts, counts-make}
 use Rattle.theory_counts.specs.CountedStretches.{tally-none, tally-parts, leaves-tally}
 use Rattle.theory_counts.specs.Families.{kept-step, last-child-tally, at-parent, neighbour}
@@ -39,7 +40,8 @@ module _ (t : List ℕ) (k : Readable t) (d : Linked t) where
       let p = o % b t (l + 1) in
       let q = child t k d l i o hl hi kept ho in
       let w = handed t k d (l + 1) j p c hl (q .below) (q .inside) hc (h (l + 1) (omega arith) hl) in
-      let ih = up-to below (l + 1) (handBlock t (l + 1) j p) (handPlace t (l + 1) j p) c (omega arith) (w .below) (w .kept) (w .inside) hc (λ m lt hm. h m (omega arith) hm) in
+      let ih = up-to below (l + 1)
+      (handBlock t (l + 1) j p) (handPlace t (l + 1) j p) c (omega arith) (w .below) (w .kept) (w .inside) hc (λ m lt hm. h m (omega arith) hm) in
       omega (arith, ih, w .count, kept-step t k d l i o c hl hi kept ho (h (l + 1) (omega arith) hl j c (q .below) hc))
 
   -- What a block is compared with is what the text gives.
@@ -77,7 +79,8 @@ module _ (t : List ℕ) (k : Readable t) (d : Linked t) where
             let ne : g ≡ 0 → ⊥ = eqb-false g 0 e in
             let pos : 1 ≤ g = pos-of-ne-zero ne in
             let one : g - 1 + 1 ≡ g = omega arith in
-            let u = up-to (H t - 1 - l) l j (g - 1) c (omega arith) (p .target-below) (p .target-kept) (omega (arith, target-full t k d l i p hi, p .gap-small)) hc h in
+            let u = up-to (H t - 1 - l)
+            l j (g - 1) c (omega arith) (p .target-below) (p .target-kept) (omega (arith, target-full t k d l i p hi, p .gap-small)) hc h in
             rw e (rw one at u)
 
     pub pointing-inside : at.isKept t l i ≡ false → at.inside t l (at.link t l i) c ≡ tally t c (s t l (at.link t l i)) (len t l (at.link t l i))
@@ -113,7 +116,8 @@ module _ (t : List ℕ) (k : Readable t) (d : Linked t) where
             let n = neighbour t k d l i hl hi (eqb-false (s t l i % upLength t l) 0 e) in
             let f = left (n .low) in
             let f₀ : at.before t l (i - 1) c ≡ tally t c up (s t l (i - 1) - up) = rw (n .same-parent) at (f .0) in
-            let two = tally-parts t c up (s t l (i - 1)) (s t l (i - 1) - up) (len t l (i - 1)) (s t l i - up) (omega (arith, n .parent-low)) (omega (arith, n .parent-low, n .meets)) in
+            let two = tally-parts t c up (s t l (i - 1))
+            (s t l (i - 1) - up) (len t l (i - 1)) (s t l i - up) (omega (arith, n .parent-low)) (omega (arith, n .parent-low, n .meets)) in
             rw e (omega (arith, f₀, f .1, two))
 
   -- One block's local equations, as facts.
@@ -133,11 +137,14 @@ module _ (t : List ℕ) (k : Readable t) (d : Linked t) where
         before-is = eqb-true _ _ (and-left first rest h);
         kept-skip = λ e. eqb-true _ _ (and-left (eqb (at.skip t l i c) 0) (eqb (at.inside t l i c) (keptInside t l i c)) (rw e at other));
         kept-in = λ e. eqb-true _ _ (and-right (eqb (at.skip t l i c) 0) (eqb (at.inside t l i c) (keptInside t l i c)) (rw e at other));
-        points-skip = λ e. eqb-true _ _ (and-left (eqb (at.skip t l i c) (pointingSkip t l i c)) (eqb (at.skip t l i c + at.inside t l i c) (pointingInside t l i c)) (rw e at other));
-        points-in = λ e. eqb-true _ _ (and-right (eqb (at.skip t l i c) (pointingSkip t l i c)) (eqb (at.skip t l i c + at.inside t l i c) (pointingInside t l i c)) (rw e at other));
+        points-skip = λ e. eqb-true _ _ (and-left (eqb (at.skip t l i c) (pointingSkip t l i c))
+            (eqb (at.skip t l i c + at.inside t l i c) (pointingInside t l i c)) (rw e at other));
+        points-in = λ e. eqb-true _ _ (and-right (eqb (at.skip t l i c) (pointingSkip t l i c))
+            (eqb (at.skip t l i c + at.inside t l i c) (pointingInside t l i c)) (rw e at other));
       }
 
-  kept-make : (l i c : ℕ) → at.isKept t l i ≡ true → at.before t l i c ≡ beforeLocal t l i c → at.skip t l i c ≡ 0 → at.inside t l i c ≡ keptInside t l i c → blockLocal t l i c ≡ true
+  kept-make : (l i c : ℕ) → at.isKept t l i ≡ true
+      → at.before t l i c ≡ beforeLocal t l i c → at.skip t l i c ≡ 0 → at.inside t l i c ≡ keptInside t l i c → blockLocal t l i c ≡ true
   unfolding blockLocal keptLocal
   kept-make l i c kept e f g = rw kept (and-both (eq-eqb _ _ e) (and-both (eq-eqb _ _ f) (eq-eqb _ _ g)))
 
@@ -171,7 +178,8 @@ module _ (t : List ℕ) (k : Readable t) (d : Linked t) where
         → at.skip t l i c ≡ cond (at.isKept t l i) 0 (tally t c (s t l (at.link t l i)) (at.gap t l i))
     skip-true a i c hi hc = go (bool-cases (at.isKept t l i))
       where
-        go : (at.isKept t l i ≡ true) ⊎ (at.isKept t l i ≡ false) → at.skip t l i c ≡ cond (at.isKept t l i) 0 (tally t c (s t l (at.link t l i)) (at.gap t l i))
+        go : (at.isKept t l i ≡ true)
+            ⊎ (at.isKept t l i ≡ false) → at.skip t l i c ≡ cond (at.isKept t l i) 0 (tally t c (s t l (at.link t l i)) (at.gap t l i))
         go (inl kept) = rw kept (a i c hi hc .kept-skip kept)
         go (inr un) = rw un (a i c hi hc .points-skip un ∙ pointing-skip l i c hl hi hc h un)
 

@@ -61,7 +61,8 @@ module _ (t : List ℕ) (v : verdict t ≡ 0) where
     pub found-in-text : (i j o e : ℕ) → i < at.levelCount t 0 → at.before t 0 i (numberOfByte t byte) < j
         → finds.Lands t (readable-facts t r) d levels (numberOfByte t byte) (n .number-below) 0 i (j - at.before t 0 i (numberOfByte t byte)) o e
         → (placeOf byte j (textOf t) ≡ at.start t 0 i + o) × (pathLength t (pathOf t (at.start t 0 i + o)) ≡ e)
-    found-in-text i j o e hi low w = rw (n .byte-is) at (finds.lands-top t (readable-facts t r) d levels (numberOfByte t byte) (n .number-below) i j o e hi low w)
+    found-in-text i j o e hi low w =
+        rw (n .byte-is) at (finds.lands-top t (readable-facts t r) d levels (numberOfByte t byte) (n .number-below) i j o e hi low w)
 
   -- Where questions 11 and 12 let find and row through, the j-th byte stands in the text.
   module _ (byte j : ℕ) (s : Selected t byte j) where

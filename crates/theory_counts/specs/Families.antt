@@ -94,7 +94,13 @@ module _ (t : List ℕ) where
             let f : (len t l a - 1) % b t (l + 1) ≡ b t (l + 1) - 1 = rw e (full-last l hl) in
             omega (arith, q .inside, q .same-place, len-small t (l + 1) j, full-pos t k (l + 1), len-pos t k d l a (omega arith) ha)
         go q (inr e) =
-            omega (arith, q .inside, q .same-place, len-pos t k d l a (omega arith) ha, len-end t (l + 1) j (omega (arith, start-below t k d (l + 1) j hl (q .below))))
+            omega (
+              arith,
+              q .inside,
+              q .same-place,
+              len-pos t k d l a (omega arith) ha,
+              len-end t (l + 1) j (omega (arith, start-below t k d (l + 1) j hl (q .below))),
+            )
 
     -- a kept block's count is its last child's before and inside
     pub last-child-tally : (l a c : ℕ) → l + 1 < H t → a < N t l → at.isKept t l a ≡ true → Block t (l + 1) (lastChild t l a) c

@@ -21,7 +21,8 @@ use Rattle.format.specs.Path.{Path, Visit, visit, entered, targetBlock, targetP
 use Rattle.format.specs.Fits.{textOf}
 use Rattle.format.specs.FindSays.{total, pathLength}
 use Rattle.theory_paths.specs.Links.{H, N, b, s, len, Pointing, Follows, Linked}
-use Rattle.theory_paths.specs.BlockStarts.{len-small, len-inside, len-pos, start-below, Parent, in-parent, child, last-kept, leaf-below, target-full, second-inside}
+use Rattle.theory_paths.specs.BlockStarts.{len-small, len-inside, len-pos, start-below, Parent, in-parent, child, last-kept, leaf-below, target-full}
+use Rattle.theory_paths.specs.BlockStarts.{second-inside}
 use Rattle.theory_paths.specs.PlacesLand.{kept-block, kept-not, pointing-block, from-last, from-kept, from-pointing, target, target-first, target-second}
 use Rattle.theory_paths.specs.PathWalk.{path-from-holds}
 use Rattle.theory_paths.specs.OneText.{text-length}
@@ -56,7 +57,14 @@ module _ (t : List ℕ) (k : Readable t) (d : Linked t) (a : (m : ℕ) → m < H
   top-meets : (i : ℕ) → i + 1 < N t 0 → s t 0 i + len t 0 i ≡ (i + 1) * b t 0
   unfolding at.blockLengthAt
   top-meets i h =
-      omega (arith, d .start0 i (omega arith), d .start0 (i + 1) h, start-below t k d 0 (i + 1) (omega (arith, k .levels-low)) h, add-mul i 1 (b t 0), one-mul (b t 0))
+      omega (
+        arith,
+        d .start0 i (omega arith),
+        d .start0 (i + 1) h,
+        start-below t k d 0 (i + 1) (omega (arith, k .levels-low)) h,
+        add-mul i 1 (b t 0),
+        one-mul (b t 0),
+      )
 
   top-both : (i : ℕ) → i < N t 0 → at.before t 0 i c + at.inside t 0 i c ≡ tally t c 0 (s t 0 i + len t 0 i)
   top-both i hi =
@@ -125,7 +133,12 @@ module _ (t : List ℕ) (k : Readable t) (d : Linked t) (a : (m : ℕ) → m < H
 
     pub child-rises : (j m : ℕ) → j ≤ m → m < width → at.before t (l + 1) (at.link t l i + j) c ≤ at.before t (l + 1) (at.link t l i + m) c
     child-rises j m h hm =
-        omega (arith, child-before j (omega arith), child-before m hm, tally-mono (s t l i) (j * b t (l + 1)) (m * b t (l + 1)) (mul-le-mul-right (b t (l + 1)) h))
+        omega (
+          arith,
+          child-before j (omega arith),
+          child-before m hm,
+          tally-mono (s t l i) (j * b t (l + 1)) (m * b t (l + 1)) (mul-le-mul-right (b t (l + 1)) h),
+        )
 
     -- the first child's before is 0
     pub first-before : 0 < width → at.before t (l + 1) (at.link t l i + 0) c ≡ 0
@@ -160,7 +173,12 @@ module _ (t : List ℕ) (k : Readable t) (d : Linked t) (a : (m : ℕ) → m < H
         go : (j + 1 < width) ⊎ (width ≤ j + 1) → n ≤ at.before t (l + 1) (at.link t l i + j) c + at.inside t (l + 1) (at.link t l i + j) c
         go (inl m) = omega (arith, next m, child-before (j + 1) m, rw (child-full j m) at (child-both j h))
         go (inr m) =
-            omega (arith, child-both j h, a l (omega arith) i c hi hc .inside-is, tally-mono (s t l i) (len t l i) (j * b t (l + 1) + len t (l + 1) (at.link t l i + j)) (child-last j h m))
+            omega (
+              arith,
+              child-both j h,
+              a l (omega arith) i c hi hc .inside-is,
+              tally-mono (s t l i) (len t l i) (j * b t (l + 1) + len t (l + 1) (at.link t l i + j)) (child-last j h m),
+            )
 
   -- Places.
 
@@ -190,7 +208,8 @@ module _ (t : List ℕ) (k : Readable t) (d : Linked t) (a : (m : ℕ) → m < H
         entered-is = rw (e, from-last t l i o (kept-block t l i hi kept) (leaf-below t k d i o hi ho));
       }
 
-  pub lands-leaf : (l i n o : ℕ) → l + 1 ≡ H t → i < N t l → o < len t l i → at.leafByte t (at.link t l i + o) ≡ byteOf t c → inLeaves t l i o c + 1 ≡ n → Lands l i n o 1
+  pub lands-leaf : (l i n o : ℕ)
+      → l + 1 ≡ H t → i < N t l → o < len t l i → at.leafByte t (at.link t l i + o) ≡ byteOf t c → inLeaves t l i o c + 1 ≡ n → Lands l i n o 1
   lands-leaf l i n o e hi ho byte-is rank = go l (omega arith) hi ho byte-is rank
     where
       go : (m : ℕ) → m ≡ H t - 1 → i < N t m → o < len t m i → at.leafByte t (at.link t m i + o) ≡ byteOf t c → inLeaves t m i o c + 1 ≡ n → Lands m i n o 1
@@ -219,7 +238,8 @@ module _ (t : List ℕ) (k : Readable t) (d : Linked t) (a : (m : ℕ) → m < H
         inside = q .inside;
         nth = rw rank at (nth-earlier (byteOf t c) (n - at.before t (l + 1) m c) (textOf t) (s t l i) (j * w) o (rw (p .start-is) at (h .nth)));
         entered-is =
-            rw (left, from-kept t below l i (j * w + o) (kept-block t l i hi kept), q .back, q .rest) (entered-one (visit l i (j * w + o)) _ (path .0) (path .1))
+            rw (left, from-kept t below l i (j * w + o) (kept-block t l i hi kept), q .back, q .rest)
+            (entered-one (visit l i (j * w + o)) _ (path .0) (path .1))
             ∙ ap (λ (x : ℕ). x + 1) (h .entered-is);
       }
 
@@ -282,7 +302,8 @@ module _ (t : List ℕ) (k : Readable t) (d : Linked t) (a : (m : ℕ) → m < H
         own-at y z e f h = rw (← e, ← f) h
 
     -- the place of a block that is handed to a target
-    entered-target : (o : ℕ) → o < len t l i → pathLength t (pathFrom t (H t - 1 - l) l i o) ≡ pathLength t (pathFrom t (H t - 1 - l) l (targetBlock t l i o) (targetPlace t l i o)) + 1
+    entered-target : (o : ℕ) → o < len t l i
+        → pathLength t (pathFrom t (H t - 1 - l) l i o) ≡ pathLength t (pathFrom t (H t - 1 - l) l (targetBlock t l i o) (targetPlace t l i o)) + 1
     entered-target o ho =
         let w = target t k d l i o hi p ho in
         let below = H t - 1 - (l + 1) in
@@ -300,8 +321,14 @@ module _ (t : List ℕ) (k : Readable t) (d : Linked t) (a : (m : ℕ) → m < H
         let o = x - g in
         let back : g + o ≡ x = omega arith in
         let tg = target-first t l i o (omega (arith, h .inside)) in
-        let place : targetPlace t l i o ≡ x = tg .1 ∙ back in
-        (gap-low, record { inside = w .inside; nth = w .nth; entered-is = entered-target o (w .inside) ∙ rw (tg .0, place) (ap (λ (y : ℕ). y + 1) (h .entered-is)) })
+        let place : targetPlace t l i o ≡ x = tg .1 ∙ back in (
+          gap-low,
+          record {
+            inside = w .inside;
+            nth = w .nth;
+            entered-is = entered-target o (w .inside) ∙ rw (tg .0, place) (ap (λ (y : ℕ). y + 1) (h .entered-is));
+          },
+        )
 
     -- past the first target's inside there is a second, which holds the rest
     pub second-holds : at.inside t l j c < n + at.skip t l i c → Follows t l j × (n + at.skip t l i c - at.inside t l j c ≤ at.inside t l (j + 1) c)
@@ -315,8 +342,17 @@ module _ (t : List ℕ) (k : Readable t) (d : Linked t) (a : (m : ℕ) → m < H
             let within : rest - 1 < len t l (j + 1) =
             (let z : g + (len t l i - 1) - b t l ≡ rest - 1 = omega arith in
             rw z at (second-inside t k d l i (len t l i - 1) p f hi (omega arith) (omega arith))) in
-            let two = tally-parts t c (s t l j) (s t l (j + 1)) (b t l) rest (g + len t l i) (f .start-is) (omega arith) in
-            (f, omega (arith, both-are, first-is, two, a l hl (j + 1) c (f .below) hc .inside-is, tally-mono (s t l (j + 1)) rest (len t l (j + 1)) (omega arith)))
+            let two = tally-parts t c (s t l j) (s t l (j + 1)) (b t l) rest (g + len t l i) (f .start-is) (omega arith) in (
+              f,
+              omega (
+                arith,
+                both-are,
+                first-is,
+                two,
+                a l hl (j + 1) c (f .below) hc .inside-is,
+                tally-mono (s t l (j + 1)) rest (len t l (j + 1)) (omega arith),
+              ),
+            )
         go (inr short) = absurd (let z : ⊥ = omega (arith, both-are, first-is, tally-mono (s t l j) (g + len t l i) (b t l) short) in z)
 
     -- in the second
@@ -332,8 +368,14 @@ module _ (t : List ℕ) (k : Readable t) (d : Linked t) (a : (m : ℕ) → m < H
         let o = b t l + x - g in
         let tg = target-second t l i o (omega arith) in
         let back : g + o - b t l ≡ x = omega arith in
-        let place : targetPlace t l i o ≡ x = tg .1 ∙ back in
-        (gap-low, record { inside = w .inside; nth = w .nth; entered-is = entered-target o (w .inside) ∙ rw (tg .0, place) (ap (λ (y : ℕ). y + 1) (h .entered-is)) })
+        let place : targetPlace t l i o ≡ x = tg .1 ∙ back in (
+          gap-low,
+          record {
+            inside = w .inside;
+            nth = w .nth;
+            entered-is = entered-target o (w .inside) ∙ rw (tg .0, place) (ap (λ (y : ℕ). y + 1) (h .entered-is));
+          },
+        )
 
   -- On level 0: the place of the n-th byte in the text, and its path's length.
   pub lands-top : (i n o e : ℕ) → i < N t 0 → at.before t 0 i c < n → Lands 0 i (n - at.before t 0 i c) o e

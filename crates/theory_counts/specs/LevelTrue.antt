@@ -64,7 +64,8 @@ module _ (t : List ℕ) where
   counts-facts h l hl i c hi hc =
       let block : ℕ → Bool = λ x. allBelow (at.countedCount t) (blockCountsTrue (textOf t) t l x) in
       let level : ℕ → Bool = λ y. allBelow (N t y) (λ x. allBelow (at.countedCount t) (blockCountsTrue (textOf t) t y x)) in
-      block-facts l i c (allBelow-at (at.countedCount t) (blockCountsTrue (textOf t) t l i) (allBelow-at (N t l) block (allBelow-at (H t) level h l hl) i hi) c hc)
+      block-facts l i c (allBelow-at (at.countedCount t)
+      (blockCountsTrue (textOf t) t l i) (allBelow-at (N t l) block (allBelow-at (H t) level h l hl) i hi) c hc)
 
   pub counts-make : ((l : ℕ) → l < H t → Level l) → countsTrue (textOf t) t ≡ true
   unfolding countsTrue

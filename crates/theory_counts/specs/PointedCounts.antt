@@ -37,7 +37,11 @@ module _ (t : List ℕ) where
         g = at.gap t l i
 
         whole : tally t c (s t l j) (g + o + 1) ≡ tally t c (s t l j) g + tally t c (s t l i) (o + 1)
-        whole = omega (arith, tally-parts t c (s t l j) (s t l j + g) g (o + 1) (g + o + 1) refl (omega arith), points-tally t k d l i (o + 1) c hi un (omega arith) hl)
+        whole = omega (
+          arith,
+          tally-parts t c (s t l j) (s t l j + g) g (o + 1) (g + o + 1) refl (omega arith),
+          points-tally t k d l i (o + 1) c hi un (omega arith) hl,
+        )
 
         go : (g + o < b t l) ⊎ (b t l ≤ g + o)
             → cond (ltb (g + o) (b t l)) 0 (at.inside t l j c) + tally t c (s t l (targetBlock t l i o)) (targetPlace t l i o + 1)
@@ -74,7 +78,12 @@ module _ (t : List ℕ) where
         let w = target t k d l i o hi p ho in
         let e₁ : handBlock t l i o ≡ targetBlock t l i o = rw un in
         let e₂ : handPlace t l i o ≡ targetPlace t l i o = rw un in
-        record { below = rw e₁ (w .below); kept = rw e₁ (w .kept); inside = rw (e₁, e₂) (w .inside); count = rw un (omega (arith, points-hand l i o c hi un p ho ins, sk)) }
+        record {
+          below = rw e₁ (w .below);
+          kept = rw e₁ (w .kept);
+          inside = rw (e₁, e₂) (w .inside);
+          count = rw un (omega (arith, points-hand l i o c hi un p ho ins, sk));
+        }
 
     -- where the level's counts are true
     pub skip-points : (l i c : ℕ) → at.isKept t l i ≡ false → Block t l i c → at.skip t l i c ≡ tally t c (s t l (at.link t l i)) (at.gap t l i)

@@ -108,7 +108,8 @@ module _ (t : List ℕ) where
       ∙ ap (λ (x : ℕ). x + addedAfter t c (visit l (targetBlock t l i o) (targetPlace t l i o)) vs) (go (lt-or-ge (at.gap t l i + o) (b t l)))
     where
       go : (at.gap t l i + o < b t l) ⊎ (b t l ≤ at.gap t l i + o)
-          → cond (eqb (targetBlock t l i o) (at.link t l i)) 0 (at.inside t l (at.link t l i) c) ≡ cond (ltb (at.gap t l i + o) (b t l)) 0 (at.inside t l (at.link t l i) c)
+          → cond (eqb (targetBlock t l i o) (at.link t l i))
+          0 (at.inside t l (at.link t l i) c) ≡ cond (ltb (at.gap t l i + o) (b t l)) 0 (at.inside t l (at.link t l i) c)
       go (inl h) = rw (lt-ltb _ _ h, eq-eqb _ _ (target-first t l i o h .0))
       go (inr h) = rw (le-ltb _ _ h, target-second t l i o h .0, ne-eqb (at.link t l i + 1) (at.link t l i) (λ e. omega arith))
 
@@ -129,7 +130,15 @@ module _ (t : List ℕ) where
         → added t c vs + leafCount c vs x ≡ at.before t l i c + taken t c vs + tally t c (s t l i) (o + 1)
     walked {l = l} {i = i} {o = o} (Goes.ends kept h) lev hi ho =
         let v = visit l i o in
-        omega (arith, added-cons c v [], taken-cons c v [], added-end c v, taken-end c v, leaf-one c l i o, leaves-tally t k d l i (o + 1) c (omega arith) hi (omega arith))
+        omega (
+          arith,
+          added-cons c v [],
+          taken-cons c v [],
+          added-end c v,
+          taken-end c v,
+          leaf-one c l i o,
+          leaves-tally t k d l i (o + 1) c (omega arith) hi (omega arith),
+        )
     walked {below = suc below} {l = l} {i = i} {o = o} (Goes.down {x = x} {vs = vs} kept g) lev hi ho =
         let v = visit l i o in
         let hl : l + 1 < H t = omega arith in

@@ -33,7 +33,8 @@ twelve t byte j pass counted none = rw (pass, counted, go (bool-cases (leb 1 j &
   where
     go : ((leb 1 j && leb j (total t (numberOfByte t byte))) ≡ true) ⊎ ((leb 1 j && leb j (total t (numberOfByte t byte))) ≡ false)
         → (leb 1 j && leb j (total t (numberOfByte t byte))) ≡ false
-    go (inl h) = absurd (none (leb-true 1 j (and-left (leb 1 j) (leb j (total t (numberOfByte t byte))) h)) (leb-true j (total t (numberOfByte t byte)) (and-right (leb 1 j) (leb j (total t (numberOfByte t byte))) h)))
+    go (inl h) = absurd (none (leb-true 1 j (and-left (leb 1 j) (leb j (total t (numberOfByte t byte))) h))
+        (leb-true j (total t (numberOfByte t byte)) (and-right (leb 1 j) (leb j (total t (numberOfByte t byte))) h)))
     go (inr h) = h
 
 module _ (t : List ℕ) (v : verdict t ≡ 0) (counted : isCounted t 10 ≡ true) where
@@ -75,7 +76,8 @@ module _ (t : List ℕ) (v : verdict t ≡ 0) (counted : isCounted t 10 ≡ true
     not-last h e = go (lt-or-ge 0 (at.textLength t))
       where
         go : (0 < at.textLength t) ⊎ (at.textLength t ≤ 0) → at.textLength t ≡ 0
-        go (inl some) = bool-clash (asksLast t q) (asks-lets t q (record { pass = pass; counted = counted; some-byte = some; number = e ∙ ap (λ (n : ℕ). n + 1) (sym all-is) })) h
+        go (inl some) = bool-clash (asksLast t q)
+            (asks-lets t q (record { pass = pass; counted = counted; some-byte = some; number = e ∙ ap (λ (n : ℕ). n + 1) (sym all-is) })) h
         go (inr none) = omega arith
 
     -- a text of no bytes has no row to add
@@ -89,7 +91,8 @@ module _ (t : List ℕ) (v : verdict t ≡ 0) (counted : isCounted t 10 ≡ true
       where
         go : (asksLast t q ≡ true) ⊎ (asksLast t q ≡ false) → (endsOpen T ≡ true) ⊎ (endsOpen T ≡ false) → rowNumber t q ≡ 0
         go (inl h) (inl o) = asked-last h .1 ∙ rw o
-        go (inl h) (inr o) = absurd (let e = rows-count T in let f : length (rowsOf T) ≡ countIn 10 T + 0 = rw o at e in let z : ⊥ = omega (arith, asked-last h .0) in z)
+        go (inl h) (inr o) = absurd (let e = rows-count T in
+            let f : length (rowsOf T) ≡ countIn 10 T + 0 = rw o at e in let z : ⊥ = omega (arith, asked-last h .0) in z)
         go (inr h) o =
             let e = rows-count T in
             let some : q ≡ countIn 10 T + 1 → ⊥ = λ is.

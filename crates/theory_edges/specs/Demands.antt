@@ -17,7 +17,8 @@ use Rattle.format.specs.Verdict.{readable, verdict}
 use Rattle.format.specs.VerdictLaws.{accepted-readable, accepted-links, accepted-edges}
 use Rattle.format.specs.LayoutLaws.{Readable, readable-facts}
 use Rattle.format.specs.Short.{Short, shortOf, shortBytes}
-use Rattle.format.specs.ReadSays.{byteSays, pathsHold, asksSpan, leavesSpan, isShort, holds, blocksOf, spanReached, spanBytes, spanBlocks, spanNumber, spanLeaves}
+use Rattle.format.specs.ReadSays.{byteSays, pathsHold, asksSpan, leavesSpan, isShort, holds, blocksOf, spanReached, spanBytes, spanBlocks, spanNumber}
+use Rattle.format.specs.ReadSays.{spanLeaves}
 use Rattle.format.specs.ReadSaysLaws.{ShortSpan, short-span}
 use Rattle.text.specs.Lists.{tabulate}
 use Rattle.theory_paths.specs.Links.{Linked, linked-facts}
@@ -74,7 +75,11 @@ module _ (t : List ℕ) (r : readable t ≡ 0) (p len : ℕ) where
     where
       both : (q : Short) → Inside t len q → length (stretch t (q .from) (q .size) ++ stretch t (q .next) (len - q .size)) ≡ len
       both q in-tree =
-          rw (length-append (stretch t (q .from) (q .size)) (stretch t (q .next) (len - q .size)), length-stretch t (q .from) (q .size) (in-tree .first-in), length-stretch t (q .next) (len - q .size) (in-tree .next-in))
+          rw (
+            length-append (stretch t (q .from) (q .size)) (stretch t (q .next) (len - q .size)),
+            length-stretch t (q .from) (q .size) (in-tree .first-in),
+            length-stretch t (q .next) (len - q .size) (in-tree .next-in),
+          )
           (omega (arith, in-tree .few))
 
       go : (isShort t len ≡ true) ⊎ (isShort t len ≡ false)

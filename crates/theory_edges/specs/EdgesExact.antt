@@ -10,7 +10,8 @@ use native.Mathlib.Nat.{add-assoc}
 use lib.ListN.{length, getD, replicate, length-replicate, getD-replicate}
 use lib.Seq.{ext-getD}
 use Rattle.text.specs.Lists.{allBelow, sameList}
-use Rattle.text.specs.ListLaws.{lt-or-ge, bool-cases, and-left, and-right, and-both, or-cases, or-left, or-right, allBelow-at, allBelow-make, sameList-true, eq-sameList, not-eq-true}
+use Rattle.text.specs.ListLaws.{lt-or-ge, bool-cases, and-left, and-right, and-both, or-cases, or-left, or-right, allBelow-at, allBelow-make}
+use Rattle.text.specs.ListLaws.{sameList-true, eq-sameList, not-eq-true}
 use Rattle.text.specs.Conjunctions.{parts}
 use Rattle.text.specs.Text.{stretch}
 use Rattle.text.specs.TextLaws.{length-stretch, getD-stretch, stretch-ext, stretch-at}
@@ -40,7 +41,8 @@ module _ (T t : List ℕ) (k : Readable t) (d : Linked t) (two : at.layout t ≡
   m = at.settings t .leaf
 
   -- One edge: the m bytes at a, against x bytes found that are those of the text from p.
-  module _ (x : ℕ) (low : 0 < x) (short : x ≤ m) (r : Option Short) (p a : ℕ) (w : walks.Reads T t k d two f x low short r p) (room : a + m ≤ length t) (fits : p + x ≤ length T) where
+  module _ (x : ℕ) (low : 0 < x) (short : x ≤ m)
+      (r : Option Short) (p a : ℕ) (w : walks.Reads T t k d two f x low short r p) (room : a + m ≤ length t) (fits : p + x ≤ length T) where
     record Edge : Type 0 where
       own : (y : ℕ) → y < x → getD t (a + y) 0 ≡ getD T (p + y) 0
       zeros : (y : ℕ) → x ≤ y → y < m → getD t (a + y) 0 ≡ 0
@@ -79,7 +81,8 @@ module _ (T t : List ℕ) (k : Readable t) (d : Linked t) (two : at.layout t ≡
 
     edge-make : Edge → edgeIs t a x r ≡ true
     edge-make e =
-        let e1 : stretch t a (q .size) ≡ stretch T p (q .size) = stretch-ext t T a p (q .size) (omega (arith, w .few)) (omega (arith, w .few)) (λ y hy. e .own y (omega (arith, w .few))) in
+        let e1 : stretch t a (q .size) ≡ stretch T p (q .size) =
+        stretch-ext t T a p (q .size) (omega (arith, w .few)) (omega (arith, w .few)) (λ y hy. e .own y (omega (arith, w .few))) in
         let e2 : stretch t (a + q .size) (x - q .size) ≡ stretch T (p + q .size) (x - q .size) =
         stretch-ext t T (a + q .size) (p + q .size) (x - q .size) (omega (arith, w .few)) (omega (arith, w .few))
         (λ y hy. rw (add-assoc a (q .size) y, add-assoc p (q .size) y) (e .own (q .size + y) (omega arith))) in
@@ -124,10 +127,12 @@ module _ (T t : List ℕ) (k : Readable t) (d : Linked t) (two : at.layout t ≡
       back = w (L - x) (omega (arith, x-is))
 
       abbrev Front : Type 0
-      Front = Edge x some-bytes short (shortFrom t (H t - 1 - l) l i 0 x) (s t l i + 0) (at.edgesAt t l i) front (omega (arith, room)) (omega (arith, block-end, x-is))
+      Front = Edge x some-bytes
+          short (shortFrom t (H t - 1 - l) l i 0 x) (s t l i + 0) (at.edgesAt t l i) front (omega (arith, room)) (omega (arith, block-end, x-is))
 
       abbrev Back : Type 0
-      Back = Edge x some-bytes short (shortFrom t (H t - 1 - l) l i (L - x) x) (s t l i + (L - x)) (at.edgesAt t l i + m) back (omega (arith, room)) (omega (arith, block-end, x-is))
+      Back = Edge x some-bytes short (shortFrom t (H t - 1 - l) l i (L - x) x)
+          (s t l i + (L - x)) (at.edgesAt t l i + m) back (omega (arith, room)) (omega (arith, block-end, x-is))
 
       first-test : Bool
       first-test = edgeIs t (at.edgesAt t l i) x (shortFrom t (H t - 1 - l) l i 0 x)
@@ -151,7 +156,8 @@ module _ (T t : List ℕ) (k : Readable t) (d : Linked t) (two : at.layout t ≡
       local-edged h =
           from-edges
           (edge-facts x some-bytes short _ _ (at.edgesAt t l i) front (omega (arith, room)) (omega (arith, block-end, x-is)) (and-left first-test last-test h))
-          (edge-facts x some-bytes short _ _ (at.edgesAt t l i + m) back (omega (arith, room)) (omega (arith, block-end, x-is)) (and-right first-test last-test h))
+          (edge-facts x some-bytes short
+          _ _ (at.edgesAt t l i + m) back (omega (arith, room)) (omega (arith, block-end, x-is)) (and-right first-test last-test h))
 
       edged-local : Edged T t l i → edgesLocal t l i ≡ true
       unfolding edgesLocal
@@ -166,7 +172,8 @@ module _ (T t : List ℕ) (k : Readable t) (d : Linked t) (two : at.layout t ≡
                 (let e′ : at.edgesAt t l i + m + y ≡ at.edgesAt t l i + (m + y) = omega arith in
                 let g : s t l i + (L - x) + y ≡ s t l i + (L - m) + y = omega (arith, x-is) in
                 rw (e′, g) (e .last y (omega (arith, short)) (omega (arith, x-is))));
-            zeros = λ y lo hi. (let e′ : at.edgesAt t l i + m + y ≡ at.edgesAt t l i + (m + y) = omega arith in rw e′ (e .last-zero y hi (omega (arith, x-is))));
+            zeros = λ y lo hi. (let e′ : at.edgesAt t l i + m + y ≡ at.edgesAt t l i + (m + y) = omega arith in
+                rw e′ (e .last-zero y hi (omega (arith, x-is))));
           })
 
   -- A level, whose levels below have true edges: the kept blocks first, then those that point to them.
@@ -178,13 +185,16 @@ module _ (T t : List ℕ) (k : Readable t) (d : Linked t) (two : at.layout t ≡
 
   module _ (l : ℕ) (hl : l < H t) (deep : Below l) where
     kept-edged : ((i : ℕ) → i < N t l → edgesLocal t l i ≡ true) → (i : ℕ) → i < N t l → at.isKept t l i ≡ true → Edged T t l i
-    kept-edged h i hi kept = local-edged l i hl hi (λ o ho. walks.walk-kept T t k d two f (x l i hl hi) (some-bytes l i hl hi) (short l i hl hi) (H t - 1 - l) l i o (omega (arith, hl)) hi kept ho deep) (h i hi)
+    kept-edged h i hi kept = local-edged l i hl hi (λ o ho. walks.walk-kept
+        T t k d two f (x l i hl hi) (some-bytes l i hl hi) (short l i hl hi) (H t - 1 - l) l i o (omega (arith, hl)) hi kept ho deep) (h i hi)
 
     all-edged : ((i : ℕ) → i < N t l → edgesLocal t l i ≡ true) → Level l
-    all-edged h i hi = local-edged l i hl hi (λ o ho. walks.walk T t k d two f (x l i hl hi) (some-bytes l i hl hi) (short l i hl hi) (H t - 1 - l) l i o (omega (arith, hl)) hi ho deep (kept-edged h)) (h i hi)
+    all-edged h i hi = local-edged l i hl hi (λ o ho. walks.walk T
+        t k d two f (x l i hl hi) (some-bytes l i hl hi) (short l i hl hi) (H t - 1 - l) l i o (omega (arith, hl)) hi ho deep (kept-edged h)) (h i hi)
 
     level-local : Level l → (i : ℕ) → i < N t l → edgesLocal t l i ≡ true
-    level-local e i hi = edged-local l i hl hi (λ o ho. walks.walk T t k d two f (x l i hl hi) (some-bytes l i hl hi) (short l i hl hi) (H t - 1 - l) l i o (omega (arith, hl)) hi ho deep (λ j hj kept. e j hj)) (e i hi)
+    level-local e i hi = edged-local l i hl hi (λ o ho. walks.walk T t k d two
+        f (x l i hl hi) (some-bytes l i hl hi) (short l i hl hi) (H t - 1 - l) l i o (omega (arith, hl)) hi ho deep (λ j hj kept. e j hj)) (e i hi)
 
   -- All levels, from the last one up.
   levels-edged : ((l i : ℕ) → l < H t → i < N t l → edgesLocal t l i ≡ true) → (n l : ℕ) → l < H t → H t ≤ l + n → Level l
@@ -202,13 +212,15 @@ module _ (T t : List ℕ) (k : Readable t) (d : Linked t) (two : at.layout t ≡
   local-all h l i hl hi = allBelow-at (N t l) (edgesLocal t l) (allBelow-at (H t) (levelEdges t) (rw two at h) l hl) i hi
 
   local-true : allEdges t ≡ true → edgesTrue T t ≡ true
-  local-true h = edges-all T t (λ l i hl hi. edged-make T t l i (block-end l i hl hi) (room l i hl hi) (levels-edged (local-all h) (H t) l hl (omega arith) i hi))
+  local-true h = edges-all T
+      t (λ l i hl hi. edged-make T t l i (block-end l i hl hi) (room l i hl hi) (levels-edged (local-all h) (H t) l hl (omega arith) i hi))
 
   true-local : edgesTrue T t ≡ true → allEdges t ≡ true
   unfolding allEdges levelEdges
   true-local h =
       let e = edged-all h in
-      or-right (not (at.hasEdges t)) (allBelow-make (H t) (levelEdges t) (λ l hl. allBelow-make (N t l) (edgesLocal t l) (level-local l hl (λ j lt hj. e j hj) (e l hl))))
+      or-right (not (at.hasEdges t))
+      (allBelow-make (H t) (levelEdges t) (λ l hl. allBelow-make (N t l) (edgesLocal t l) (level-local l hl (λ j lt hj. e j hj) (e l hl))))
 
 same-test : (a c : Bool) → (a ≡ true → c ≡ true) → (c ≡ true → a ≡ true) → a ≡ c
 same-test true c f g = sym (f refl)

@@ -86,7 +86,8 @@ module _ (t : List ℕ) (k : Readable t) (two : at.layout t ≡ 2) (x : ℕ) (lo
       gap-low : at.gap t l i < b t l
       gap-low = ltb-true _ _ (and-right (ltb i (N t l) && at.isPointing t l i) (ltb (at.gap t l i) (b t l)) pt)
 
-      go : (keptBlock t l i ≡ true) ⊎ (keptBlock t l i ≡ false) → (at.gap t l i + o < b t l) ⊎ (b t l ≤ at.gap t l i + o) → cond (keptBlock t l i) o (targetPlace t l i o) < b t l
+      go : (keptBlock t l i ≡ true)
+          ⊎ (keptBlock t l i ≡ false) → (at.gap t l i + o < b t l) ⊎ (b t l ≤ at.gap t l i + o) → cond (keptBlock t l i) o (targetPlace t l i o) < b t l
       go (inl kept) z = rw kept ho
       go (inr un) (inl z) = rw un (omega (arith, target-first t l i o z .1))
       go (inr un) (inr z) = rw un (omega (arith, target-second t l i o z .1, gap-low))
@@ -101,9 +102,11 @@ module _ (t : List ℕ) (k : Readable t) (two : at.layout t ≡ 2) (x : ℕ) (lo
       let c = b t (l + 1) in
       let down = shortFrom t below (l + 1) (at.link t l j + p / c) (p % c) x in
       let inside : Found (allowed (lands t l i o) (led (landVisits t l i o) down)) =
-      allowed-in (lands t l i o) _ (λ y. led-in (landVisits t l i o) down (short-in below (l + 1) (at.link t l j + p / c) (p % c) (omega arith) (mod-lt p (full-pos t k (l + 1))))) in
+      allowed-in (lands t l i o) _ (λ y. led-in
+      (landVisits t l i o) down (short-in below (l + 1) (at.link t l j + p / c) (p % c) (omega arith) (mod-lt p (full-pos t k (l + 1))))) in
       let between : leb (p + x) (b t l) ≡ false → Found (allowed (pointingBlock t l i) (led (visit l i o ∷ []) (byEdges t l j p))) =
-      λ z. allowed-in (pointingBlock t l i) _ (λ y. led-in (visit l i o ∷ []) (byEdges t l j p) (edges-in l j p (omega arith) (land-low l i o ho y) (leb-false (p + x) (b t l) z))) in
+      λ z. allowed-in (pointingBlock t l i)
+      _ (λ y. led-in (visit l i o ∷ []) (byEdges t l j p) (edges-in l j p (omega arith) (land-low l i o ho y) (leb-false (p + x) (b t l) z))) in
       cond-in (leb (o + x) (b t l)) _ _ (λ y. cond-in (leb (p + x) (b t l)) _ _ (λ z. inside) between)
       (λ y. edges-in l i o (omega arith) ho (leb-false (o + x) (b t l) y))
 

@@ -46,7 +46,8 @@ module _ (t : List ℕ) where
     kept-step below kept = rw (le-leb (o + len) (b t l) inside, kept, le-leb (o + len) (b t l) inside)
 
     -- a pointing block, whose target holds the span, or whose two targets do
-    pub points-step : (below : ℕ) → keptBlock t l i ≡ false → pointingBlock t l i ≡ true → keptBlock t l (targetBlock t l i o) ≡ true → targetPlace t l i o + len ≤ b t l
+    pub points-step : (below : ℕ)
+        → keptBlock t l i ≡ false → pointingBlock t l i ≡ true → keptBlock t l (targetBlock t l i o) ≡ true → targetPlace t l i o + len ≤ b t l
         → shortFrom t (suc below) l i o len ≡ led (visit l i o ∷ visit l (targetBlock t l i o) (targetPlace t l i o) ∷ [])
         (shortFrom t below (l + 1) (at.link t l (targetBlock t l i o) + targetPlace t l i o / b t (l + 1)) (targetPlace t l i o % b t (l + 1)) len)
     unfolding shortFrom lands landBlock landPlace landVisits
@@ -67,7 +68,8 @@ module _ (t : List ℕ) where
     off-step below un pt =
         rw (le-leb (o + len) (b t l) inside, un, pt) (cond-same (leb (landPlace t l i o + len) (b t l)))
 
-    pub off-target : (below : ℕ) → keptBlock t l i ≡ false → pointingBlock t l i ≡ true → keptBlock t l (targetBlock t l i o) ≡ false → targetPlace t l i o + len ≤ b t l
+    pub off-target : (below : ℕ)
+        → keptBlock t l i ≡ false → pointingBlock t l i ≡ true → keptBlock t l (targetBlock t l i o) ≡ false → targetPlace t l i o + len ≤ b t l
         → shortFrom t (suc below) l i o len ≡ none
     unfolding shortFrom lands landPlace
     off-target below un pt off h = rw (le-leb (o + len) (b t l) inside, un, pt, off, le-leb (targetPlace t l i o + len) (b t l) h)

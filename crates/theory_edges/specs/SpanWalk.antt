@@ -112,7 +112,8 @@ module _ (T t : List ℕ) (k : Readable t) (d : Linked t) (two : at.layout t ≡
         let small = leaf-small l (c .level-in) in
         let here : at.edgesAt t l i + (m + m - left) + y ≡ at.edgesAt t l i + (m + (m - left + y)) = omega (arith, c .past, c .before, short) in
         let there : s t l i + (len t l i - m) + (m - left + y) ≡ s t l i + o + y = omega (arith, full, c .past, c .before, short) in
-        rw here (e .last (m - left + y) (omega (arith, c .past, c .before, short)) (omega (arith, full, c .past, c .before, short)) ∙ ap (λ (z : ℕ). getD T z 0) there))
+        rw here (e .last (m - left + y) (omega (arith, c .past, c .before, short)) (omega (arith, full, c .past, c .before, short))
+        ∙ ap (λ (z : ℕ). getD T z 0) there))
 
     second-part : stretch t (at.edgesAt t l (i + 1)) (x - left) ≡ stretch T (s t l i + o + left) (x - left)
     unfolding left
@@ -161,7 +162,8 @@ module _ (T t : List ℕ) (k : Readable t) (d : Linked t) (two : at.layout t ≡
           → Reads (shortFrom t below (l + 1) (at.link t l a + o / b t (l + 1)) (o % b t (l + 1)) x) (s t l a + o)
       go (inr inside) =
           let w = child t k d l a o hl ha kept (omega arith) in
-          let fits = len-has (l + 1) (at.link t l a + o / b t (l + 1)) (o % b t (l + 1) + x) inside (omega (arith, w .same-place, block-end l a (omega arith) ha)) in
+          let fits = len-has (l + 1)
+          (at.link t l a + o / b t (l + 1)) (o % b t (l + 1) + x) inside (omega (arith, w .same-place, block-end l a (omega arith) ha)) in
           reads-same _ _ _ _ refl (w .same-place) (rest (at.link t l a + o / b t (l + 1)) (o % b t (l + 1)) (w .below) fits)
       go (inl past) =
           let c = b t (l + 1) in
@@ -185,7 +187,8 @@ module _ (T t : List ℕ) (k : Readable t) (d : Linked t) (two : at.layout t ≡
             past = past;
             ends = omega (arith, w .same-place, block-end l a (omega arith) ha);
           } in
-          reads-same _ _ _ _ (over t below (l + 1) j (o % c) x past) (w .same-place) (crossing (l + 1) j (o % c) cross (edged j (w .below)) (edged (j + 1) below-next))
+          reads-same _ _ _ _ (over t below (l + 1) j (o % c) x past)
+          (w .same-place) (crossing (l + 1) j (o % c) cross (edged j (w .below)) (edged (j + 1) below-next))
 
   inside-block : (l i o : ℕ) → o + x ≤ len t l i → o + x ≤ b t l
   inside-block l i o h = omega (arith, len-small t l i)
@@ -193,7 +196,8 @@ module _ (T t : List ℕ) (k : Readable t) (d : Linked t) (two : at.layout t ≡
   kept-walk : (below l i o : ℕ) → l + 1 < H t → i < N t l → at.isKept t l i ≡ true → o + x ≤ len t l i → Level (l + 1) → Rest below (l + 1)
       → Reads (shortFrom t (suc below) l i o x) (s t l i + o)
   kept-walk below l i o hl hi kept ho edged rest =
-      reads-led (visit l i o ∷ []) _ _ (s t l i + o) (kept-step t l i o x (inside-block l i o ho) below (kept-block t l i hi kept)) (down below l i o hl hi kept ho edged rest)
+      reads-led (visit l i o ∷ [])
+      _ _ (s t l i + o) (kept-step t l i o x (inside-block l i o ho) below (kept-block t l i hi kept)) (down below l i o hl hi kept ho edged rest)
 
   -- the bytes of a pointing block stand in its occurrence too
   occurrence : (l i o : ℕ) → l < H t → i < N t l → at.isKept t l i ≡ false → Pointing t l i → o + x ≤ len t l i
@@ -209,7 +213,8 @@ module _ (T t : List ℕ) (k : Readable t) (d : Linked t) (two : at.layout t ≡
   pointing-walk : (below l i o : ℕ) → i < N t l → at.isKept t l i ≡ false → Pointing t l i → o + x ≤ len t l i → Level (l + 1) → Kept l → Rest below (l + 1)
       → Reads (shortFrom t (suc below) l i o x) (s t l i + o)
   pointing-walk below l i o hi un p ho edged edged-kept rest =
-      reads-text _ _ _ (omega (arith, p .ends, f .size, start-below t k d l i hl hi)) (omega (arith, f .size, block-end l i hl hi)) (occurrence l i o hl hi un p ho) (go (lt-or-ge (b t l) (targetPlace t l i o + x)))
+      reads-text _ _ _ (omega (arith, p .ends, f .size, start-below t k d l i hl hi))
+      (omega (arith, f .size, block-end l i hl hi)) (occurrence l i o hl hi un p ho) (go (lt-or-ge (b t l) (targetPlace t l i o + x)))
     where
       hl : l < H t
       hl = omega (arith, p .above)
@@ -217,7 +222,8 @@ module _ (T t : List ℕ) (k : Readable t) (d : Linked t) (two : at.layout t ≡
       fits : o + x ≤ b t l
       fits = inside-block l i o ho
 
-      go : (b t l < targetPlace t l i o + x) ⊎ (targetPlace t l i o + x ≤ b t l) → Reads (shortFrom t (suc below) l i o x) (s t l (at.link t l i) + at.gap t l i + o)
+      go : (b t l < targetPlace t l i o + x)
+          ⊎ (targetPlace t l i o + x ≤ b t l) → Reads (shortFrom t (suc below) l i o x) (s t l (at.link t l i) + at.gap t l i + o)
       go (inr inside) =
           let j = targetBlock t l i o in
           let q = targetPlace t l i o in
@@ -297,7 +303,8 @@ module _ (T t : List ℕ) (k : Readable t) (d : Linked t) (two : at.layout t ≡
       go (inr un) rest = pointing-walk below l i o hi un (d .points l i (omega arith) hi un) ho (deep (l + 1) (omega arith) (omega arith)) here rest
 
   -- from a kept block of any level
-  pub walk-kept : (below l i o : ℕ) → l + below + 1 ≡ H t → i < N t l → at.isKept t l i ≡ true → o + x ≤ len t l i → Below l → Reads (shortFrom t below l i o x) (s t l i + o)
+  pub walk-kept : (below l i o : ℕ)
+      → l + below + 1 ≡ H t → i < N t l → at.isKept t l i ≡ true → o + x ≤ len t l i → Below l → Reads (shortFrom t below l i o x) (s t l i + o)
   walk-kept zero l i o lev hi kept ho deep = last l (omega arith) hi ho
     where
       last : (y : ℕ) → y ≡ H t - 1 → i < N t y → o + x ≤ len t y i → Reads (shortFrom t 0 y i o x) (s t y i + o)

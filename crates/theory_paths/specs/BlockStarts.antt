@@ -49,7 +49,8 @@ module _ (t : List ℕ) where
         let f = sumBelow-find (N t l) (widthAt t l) i (rw (d .next-count l hl) hi) in
         (f .0, f .1, go (f .0) (f .1) (f .2) (f .3) (f .4) (bool-cases (at.isKept t l (f .0))))
       where
-        go : (a j : ℕ) → a < N t l → j < widthAt t l a → i ≡ sumBelow a (widthAt t l) + j → (at.isKept t l a ≡ true) ⊎ (at.isKept t l a ≡ false) → Parent l i a j
+        go : (a j : ℕ) → a < N t l
+            → j < widthAt t l a → i ≡ sumBelow a (widthAt t l) + j → (at.isKept t l a ≡ true) ⊎ (at.isKept t l a ≡ false) → Parent l i a j
         go a j ha hj e (inl kept) =
             let q = d .kept l a (omega arith) ha kept in
             let number : i ≡ at.link t l a + j = omega (arith, q .link-is) in record {

@@ -10,7 +10,8 @@ use lib.ListN.{length, getD}
 use lib.Seq.{ext-getD}
 use lib.Dec.{eqb}
 use Rattle.text.specs.Lists.{tabulate, allBelow}
-use Rattle.text.specs.ListLaws.{and-left, and-right, and-both, bool-cases, allBelow-at, allBelow-make, sameList-true, eq-sameList, length-tabulate, getD-tabulate, below-suc}
+use Rattle.text.specs.ListLaws.{and-left, and-right, and-both, bool-cases, allBelow-at, allBelow-make, sameList-true, eq-sameList, length-tabulate}
+use Rattle.text.specs.ListLaws.{getD-tabulate, below-suc}
 use Rattle.text.specs.Text.{stretch}
 use Rattle.text.specs.TextLaws.{length-stretch, getD-stretch, stretch-ext, stretch-at}
 use Rattle.format.specs.LayoutLaws.{Readable}
@@ -74,7 +75,8 @@ module _ (T t : List ℕ) where
   kept-above-fits l i hl kept = rw (kept, ne-eqb l (H t - 1) (λ e. omega arith))
 
   last-fits : (i : ℕ) → at.isKept t (H t - 1) i ≡ true
-      → stretch T (s t (H t - 1) i) (len t (H t - 1) i) ≡ tabulate (len t (H t - 1) i) (λ o. at.leafByte t (at.link t (H t - 1) i + o)) → blockFits T t (H t - 1) i ≡ true
+      → stretch T (s t (H t - 1) i) (len t (H t - 1) i) ≡ tabulate (len t (H t - 1) i) (λ o. at.leafByte t (at.link t (H t - 1) i + o))
+      → blockFits T t (H t - 1) i ≡ true
   unfolding blockFits lastLevel
   last-fits i kept e = rw (kept, eq-eqb (H t - 1) (H t - 1) refl) (eq-sameList _ _ e)
 
@@ -102,10 +104,12 @@ module _ (T t : List ℕ) where
         go (inr e) (inl kept) = last l e hi end kept
         go h (inr un) =
             pointing-fits l i un
-            (stretch-ext T T (s t l i) (s t l (at.link t l i) + at.gap t l i) (len t l i) end (omega (arith, end, d .points l i hl hi un .ends)) (λ o ho. f .points l i o hl hi un ho))
+            (stretch-ext T T (s t l i) (s t l (at.link t l i) + at.gap t l i)
+            (len t l i) end (omega (arith, end, d .points l i hl hi un .ends)) (λ o ho. f .points l i o hl hi un ho))
 
     pub fits-make : fits T t ≡ true
     unfolding fits
     fits-make =
         let level : ℕ → Bool = λ x. allBelow (N t x) (blockFits T t x) in
-        and-both (eq-eqb (length T) (at.textLength t) (f .size)) (allBelow-make (H t) level (λ l hl. allBelow-make (N t l) (blockFits T t l) (λ i hi. fitting-block l i hl hi)))
+        and-both (eq-eqb (length T) (at.textLength t) (f .size))
+        (allBelow-make (H t) level (λ l hl. allBelow-make (N t l) (blockFits T t l) (λ i hi. fitting-block l i hl hi)))

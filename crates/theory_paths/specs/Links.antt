@@ -84,10 +84,12 @@ module _ (t : List ℕ) where
   unfolding keptRight lastLevel
   kept-facts l i h =
       let children : ℕ → Bool = λ j. eqb (s (l + 1) (at.link t l i + j)) (s l i + j * b (l + 1)) in
-      let a = parts (eqb (at.link t l i) (sumBelow i (widthAt t l))) (eqb (at.gap t l i) 0 ∷ (eqb l (H - 1) || allBelow (widthAt t l i) children) ∷ []) h in record {
+      let a = parts (eqb (at.link t l i) (sumBelow i (widthAt t l)))
+      (eqb (at.gap t l i) 0 ∷ (eqb l (H - 1) || allBelow (widthAt t l i) children) ∷ []) h in record {
         link-is = eqb-true _ _ (a .0);
         gap-is = eqb-true _ _ (a .1 .0);
-        child-start = λ hl j hj. eqb-true _ _ (allBelow-at (widthAt t l i) children (go hl (or-cases (eqb l (H - 1)) (allBelow (widthAt t l i) children) (a .1 .1 .0))) j hj);
+        child-start = λ hl j hj. eqb-true
+            _ _ (allBelow-at (widthAt t l i) children (go hl (or-cases (eqb l (H - 1)) (allBelow (widthAt t l i) children) (a .1 .1 .0))) j hj);
       }
     where
       go : {A : Bool} → l + 1 < H → (eqb l (H - 1) ≡ true) ⊎ (A ≡ true) → A ≡ true

@@ -33,7 +33,8 @@ module _ (t : List ℕ) (k : Readable t) (d : Linked t) where
     abbrev Rest : ℕ → ℕ → Type 0
     Rest below l = (i o : ℕ) → i < N t l → o < len t l i → Ends (pathFrom t below l i o) (s t l i + o)
 
-    walk-kept : (below l i o : ℕ) → l + 1 < H t → i < N t l → at.isKept t l i ≡ true → o < len t l i → Rest below (l + 1) → Ends (pathFrom t (suc below) l i o) (s t l i + o)
+    walk-kept : (below l i o : ℕ)
+        → l + 1 < H t → i < N t l → at.isKept t l i ≡ true → o < len t l i → Rest below (l + 1) → Ends (pathFrom t (suc below) l i o) (s t l i + o)
     walk-kept below l i o hl hi kept ho rest =
         let j = at.link t l i + o / b t (l + 1) in
         let p = o % b t (l + 1) in
@@ -41,7 +42,8 @@ module _ (t : List ℕ) (k : Readable t) (d : Linked t) where
         ends-entered (visit l i o ∷ []) _ (pathFrom t below (l + 1) j p) (s t l i + o) (s t (l + 1) j + p) (from-kept t below l i o (kept-block t l i hi kept))
         (λ y. subst (P y) (h .same-place)) (rest j p (h .below) (h .inside))
 
-    walk-pointing : (below l i o : ℕ) → i < N t l → at.isKept t l i ≡ false → Pointing t l i → o < len t l i → Rest below (l + 1) → Ends (pathFrom t (suc below) l i o) (s t l i + o)
+    walk-pointing : (below l i o : ℕ)
+        → i < N t l → at.isKept t l i ≡ false → Pointing t l i → o < len t l i → Rest below (l + 1) → Ends (pathFrom t (suc below) l i o) (s t l i + o)
     walk-pointing below l i o hi un p ho rest =
         let j = targetBlock t l i o in
         let x = targetPlace t l i o in

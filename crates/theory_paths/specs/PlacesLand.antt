@@ -10,7 +10,8 @@ use borrow.Author.Tests.{lt-ltb, le-ltb, eq-eqb}
 use Rattle.text.specs.ListLaws.{lt-or-ge}
 use Rattle.format.specs.LayoutLaws.{Readable}
 use Rattle.format.specs.Layout as at
-use Rattle.format.specs.Path.{Path, Visit, visit, entered, keptBlock, pointingBlock, targetBlock, targetPlace, landBlock, landPlace, landVisits, lands, pathFrom}
+use Rattle.format.specs.Path.{Path, Visit, visit, entered, keptBlock, pointingBlock, targetBlock, targetPlace, landBlock, landPlace, landVisits, lands}
+use Rattle.format.specs.Path.{pathFrom}
 use Rattle.format.specs.Fits.{leafOf}
 use Rattle.theory_paths.specs.Links.{N, b, s, len, Pointing, Linked}
 use Rattle.theory_paths.specs.BlockStarts.{first-inside, second-inside}

@@ -16,7 +16,8 @@ module _ (t : List ℕ) where
   -- the visits that lead to place o of block i of level l: of its ancestors, all kept, at the place of the text that this is
   pub data Above : ℕ → ℕ → ℕ → List Visit → Type 0 where
     top : {i o : ℕ} → Above 0 i o []
-    under : {l i o a j : ℕ} {vs : List Visit} → Parent t l i a j → Above l a (j * b t (l + 1) + o) vs → Above (l + 1) i o (vs ++ visit l a (j * b t (l + 1) + o) ∷ [])
+    under : {l i o a j : ℕ} {vs : List Visit}
+        → Parent t l i a j → Above l a (j * b t (l + 1) + o) vs → Above (l + 1) i o (vs ++ visit l a (j * b t (l + 1) + o) ∷ [])
 
   pub record Reached (l i o : ℕ) : Type 0 where
     pub visits : List Visit
@@ -55,7 +56,8 @@ module _ (t : List ℕ) where
         let p = parent t k d l i hl₁ (rw e at hi) in
         let a = p .0 in
         let j = p .1 in
-        rw e (reach-next l i o a j hl₁ ho₁ (p .2) (reach l a (j * b t (l + 1) + o) (omega arith) (p .2 .below) (in-parent t k d l i a j o hl₁ (p .2) ho₁ .inside)))
+        rw e (reach-next l i o a j
+        hl₁ ho₁ (p .2) (reach l a (j * b t (l + 1) + o) (omega arith) (p .2 .below) (in-parent t k d l i a j o hl₁ (p .2) ho₁ .inside)))
 
     -- so the byte at the path's end is the one that the block gives
     pub reach-leaf : (l i o : ℕ) → l < H t → i < N t l → o < len t l i → leafOf t (pathOf t (s t l i + o)) ≡ leafOf t (pathFrom t (H t - 1 - l) l i o)

@@ -95,7 +95,8 @@ module _ (t : List ℕ) where
       let p = targetPlace t l i o in
       let e = target-step l i o d (w .1 .0) in
       let small = goes-first d g (w .1 .1) in
-      let go = points {below = below} {o = o + d} {x = x + d} {vs = further d vs} un pt (rw (e .0) kept) (rw (e .0, e .1, step-div p d c small, step-mod p d c small) (shift d g (w .1 .1) fits)) in
+      let go = points {below = below} {o = o + d} {x = x + d}
+      {vs = further d vs} un pt (rw (e .0) kept) (rw (e .0, e .1, step-div p d c small, step-mod p d c small) (shift d g (w .1 .1) fits)) in
       rw (e .0, e .1) at go
 
   -- the path of the place d further on

@@ -46,7 +46,11 @@ module _ (t : List ℕ) where
       go (inl kept) e = inl kept
       go (inr un) e =
           let both : (pointingBlock t l i && keptBlock t l (targetBlock t l i o)) ≡ true = rw un at e in
-          inr (un, and-left (pointingBlock t l i) (keptBlock t l (targetBlock t l i o)) both, and-right (pointingBlock t l i) (keptBlock t l (targetBlock t l i o)) both)
+          inr (
+            un,
+            and-left (pointingBlock t l i) (keptBlock t l (targetBlock t l i o)) both,
+            and-right (pointingBlock t l i) (keptBlock t l (targetBlock t l i o)) both,
+          )
 
   -- Every path is of this form, and whatever is of this form is the path.
 

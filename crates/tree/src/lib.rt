@@ -1,14 +1,14 @@
 // The tree layer's outside calls: build and build_scanned write the block tree of a text, check asks any bytes lent as a tree.
-use walk_short::truth;
+pub use build_by_scan::Scanned;
+pub use build_by_scan::build_scanned;
+pub use build_by_scan::scan_words;
 pub use build_by_search::Built;
 pub use build_by_search::build;
 pub use build_enough::Room;
 pub use build_enough::enough;
 use layout::header::Header;
 use layout::header::HeaderRead;
-pub use build_by_scan::Scanned;
-pub use build_by_scan::build_scanned;
-pub use build_by_scan::scan_words;
+use walk_short::truth;
 ghost use mathlib.Core.Path.{_≡_};
 ghost use Rattle.format.specs.Verdict.{verdict};
 ghost use Rattle.layout.specs.HeaderSays.{HeaderOf};

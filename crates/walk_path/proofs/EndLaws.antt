@@ -29,7 +29,10 @@ pub ends : (t : List ℕ) (trail : Trail) (o : Option Path) (r : Reached) → At
 unfolding walked
 ends t trail none r e = absurd (let z : _≡_ {A = ℕ} 0 1 = cc in omega arith)
 ends t trail (some q) r e =
-    let at-end : Reached = record { leaf = q .leaf; trail = record { entered = trail .entered + length (q .visits); left = leftOver t (q .visits) (trail .left) } } in
+    let at-end : Reached = record {
+      leaf = q .leaf;
+      trail = record { entered = trail .entered + length (q .visits); left = leftOver t (q .visits) (trail .left) };
+    } in
     let z : r ≡ at-end = cc in record {
       path = q;
       is = refl;

@@ -45,7 +45,8 @@ module _ (t : List ℕ) (n p : ℕ) (r : Reached) (e : At r ≡ walked t (record
       let z = path-further t p 1 q (end .is) w (omega (arith, end .leaf-is)) in
       let most : n - (p + 1) ≡ n - p - 1 = omega arith in
       let left : leftOver t (further 1 (q .visits)) (n - (p + 1)) ≡ leftOver t (q .visits) (n - p) - 1 = rw most (left-further t 1 (q .visits) (n - p)) in
-      rw z (same-end _ _ _ _ _ _ (omega (arith, end .leaf-is)) (omega (arith, end .entered-is, length-further 1 (q .visits))) (omega (arith, end .left-is, left)))
+      rw z (same-end _ _ _ _ _ _
+      (omega (arith, end .leaf-is)) (omega (arith, end .entered-is, length-further 1 (q .visits))) (omega (arith, end .left-is, left)))
 
 module _ (t : List ℕ) (h : Header) (k : HeaderOf t h) (p : ℕ) (low : p < h .length) (r : Reached)
     (e : At r ≡ walked t (record { entered = 0; left = h .length - p }) (pathOf t p)) where
@@ -64,16 +65,19 @@ module _ (t : List ℕ) (h : Header) (k : HeaderOf t h) (p : ℕ) (low : p < h .
 pub reached-at : (t : List ℕ) (h : Header) (p : ℕ) (x : Walked) → ReachedAt t h p x → (r : Reached) → x ≡ At r → (0 < r .trail .left) × (Standing t h p r)
 reached-at t h p x k r e = rw e at k
 
-pub reached-broken : (t : List ℕ) (h : Header) (p : ℕ) (x : Walked) → ReachedAt t h p x → x ≡ Broken → Broken ≡ walked t (record { entered = 0; left = h .length - p }) (pathOf t p)
+pub reached-broken : (t : List ℕ) (h : Header) (p : ℕ) (x : Walked)
+    → ReachedAt t h p x → x ≡ Broken → Broken ≡ walked t (record { entered = 0; left = h .length - p }) (pathOf t p)
 reached-broken t h p x k e = rw e at k
 
 -- what is held of the place after it
-pub held-ahead : (t : List ℕ) (h : Header) (k : HeaderOf t h) (p : ℕ) (r x : Reached) → Standing t h p r → 0 < r .trail .left → x ≡ aheadOf r → Held t h (p + 1) x
+pub held-ahead : (t : List ℕ) (h : Header) (k : HeaderOf t h) (p : ℕ) (r x : Reached)
+    → Standing t h p r → 0 < r .trail .left → x ≡ aheadOf r → Held t h (p + 1) x
 unfolding aheadOf
 held-ahead t h k p r x s low x-is = rw x-is (record {
   is = λ more. record {
     more = s .more - 1;
-    is = walked-on t (h .length) p (record { leaf = r .leaf; trail = record { entered = r .trail .entered; left = s .more } }) (s .is) (omega (arith, s .left-in)) (omega (arith, s .leaves-in, k .count-is));
+    is = walked-on t (h .length) p (record { leaf = r .leaf; trail = record { entered = r .trail .entered; left = s .more } })
+        (s .is) (omega (arith, s .left-in)) (omega (arith, s .leaves-in, k .count-is));
     left-in = omega (arith, s .left-in);
     leaves-in = omega (arith, s .leaves-in);
   };

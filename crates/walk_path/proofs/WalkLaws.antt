@@ -63,7 +63,8 @@ module _ (t : List ℕ) where
   unfolding pathFrom
   from-no-leaf l i o h k = rw (k, le-ltb _ _ h)
 
-  pub from-no-target : (n l i o : ℕ) → keptBlock t l i ≡ false → keptBlock t l (targetBlock t l i o) ≡ false → pointingBlock t l i ≡ true → pathFrom t (suc n) l i o ≡ none
+  pub from-no-target : (n l i o : ℕ)
+      → keptBlock t l i ≡ false → keptBlock t l (targetBlock t l i o) ≡ false → pointingBlock t l i ≡ true → pathFrom t (suc n) l i o ≡ none
   unfolding pathFrom lands
   from-no-target n l i o k z p = rw (k, p, z)
 
@@ -89,7 +90,8 @@ packed-word x entered left small few short =
     let c : w / 137438953472 ≡ left = omega arith in
     rw (ne-eqb w 18446744073709551615 (λ e. omega arith), a, b, c)
 
-pub unpacked-word : (w : ℕ) → (w ≡ 18446744073709551615 → ⊥) → At (record { leaf = w % 4294967296; trail = record { entered = w / 4294967296 % 32; left = w / 137438953472 } }) ≡ walkedIn w
+pub unpacked-word : (w : ℕ) → (w ≡ 18446744073709551615 → ⊥)
+    → At (record { leaf = w % 4294967296; trail = record { entered = w / 4294967296 % 32; left = w / 137438953472 } }) ≡ walkedIn w
 unfolding walkedIn
 unpacked-word w ne = rw (ne-eqb w 18446744073709551615 ne)
 
@@ -100,7 +102,8 @@ module _ (t : List ℕ) (size level b i o entered : ℕ) (k : KeptAt t size leve
   entered-fits = omega (arith, k .few, k .on .level-in, k .on .facts .levels-high)
 
   -- the child's level
-  pub asks-child : (level + 1 ≡ at.settings t .levels → ⊥) → (below : ℕ) → below ≡ b / at.settings t .arity → (OnLevel t size (level + 1) below) × (i < at.levelCount t level)
+  pub asks-child : (level + 1 ≡ at.settings t .levels → ⊥)
+      → (below : ℕ) → below ≡ b / at.settings t .arity → (OnLevel t size (level + 1) below) × (i < at.levelCount t level)
   asks-child down below b-is = (rw b-is (level-below t size level b (k .on) down), kept-in t level i (k .kept))
 
 module _ (t : List ℕ) (size level b i o : ℕ) (trail : Trail) (k : KeptAt t size level b i o (trail .entered)) where
@@ -142,7 +145,8 @@ module _ (t : List ℕ) (size level b i o : ℕ) (trail : Trail) (k : KeptAt t s
     kept-down r e =
         let n = at.settings t .levels - 1 - (level + 1) in
         let s : at.settings t .levels - 1 - level ≡ suc n = omega (arith, lower .level-in) in
-        rw (s, from-kept t n level i o (k .kept), ← lower .b-is) (rw (on-is, k .on .b-is) at e ∙ walked-enter t trail level i o (pathFrom t n (level + 1) (at.link t level i + o / below) (o % below)))
+        rw (s, from-kept t n level i o (k .kept), ← lower .b-is)
+        (rw (on-is, k .on .b-is) at e ∙ walked-enter t trail level i o (pathFrom t n (level + 1) (at.link t level i + o / below) (o % below)))
 
     pub child-may : (j : BlockNumber) (p : BlockPlace) → x ≡ arrived.At j p → MayPoint t size (level + 1) below (j .0) (p .0) (on .entered)
     unfolding onward
@@ -168,7 +172,8 @@ module _ (t : List ℕ) (size level b i o : ℕ) (trail : Trail) (k : KeptAt t s
     child-none e =
         let n = at.settings t .levels - 1 - (level + 1) in
         let j = at.link t level i + o / below in
-        let f : Broken ≡ walked t on (pathFrom t n (level + 1) j (o % below)) = rw (from-past t n (level + 1) j (o % below) (child-off t (level + 1) j (o % below) x x-is e)) in
+        let f : Broken ≡ walked t on (pathFrom t n (level + 1) j (o % below)) =
+        rw (from-past t n (level + 1) j (o % below) (child-off t (level + 1) j (o % below) x x-is e)) in
         kept-down Broken f
 
 module _ (t : List ℕ) (size level b i o entered : ℕ) (k : MayPoint t size level b i o entered) where
@@ -255,7 +260,8 @@ module _ (t : List ℕ) (size b p : ℕ) (on : OnLevel t size 0 b) (x : Part) (x
         few = omega arith;
       })
 
-  pub top-by : (trail : Trail) (r : Walked) → r ≡ walked t trail (pathFrom t (at.settings t .levels - 1 - 0) 0 (x .blocks) (x .place .0)) → r ≡ walked t trail (pathOf t p)
+  pub top-by : (trail : Trail) (r : Walked)
+      → r ≡ walked t trail (pathFrom t (at.settings t .levels - 1 - 0) 0 (x .blocks) (x .place .0)) → r ≡ walked t trail (pathOf t p)
   unfolding pathOf
   top-by trail r e =
       let z : at.settings t .levels - 1 - 0 ≡ at.settings t .levels - 1 = omega arith in

@@ -13,7 +13,8 @@ module _ (t : List ℕ) (h : Header) (p : ℕ) where
   -- the walk to place p ends so, with so much left or more, and so many leaf bytes from there on
   pub record Standing (r : Reached) : Type 0 where
     pub more : ℕ
-    pub is : At (record { leaf = r .leaf; trail = record { entered = r .trail .entered; left = more } }) ≡ walked t (record { entered = 0; left = h .length - p }) (pathOf t p)
+    pub is : At (record { leaf = r .leaf; trail = record { entered = r .trail .entered; left = more } }) ≡ walked
+        t (record { entered = 0; left = h .length - p }) (pathOf t p)
     pub left-in : r .trail .left ≤ more
     pub leaves-in : r .leaf + r .trail .left ≤ h .«leaf_count»
 

@@ -108,7 +108,8 @@ fn kept_step(
     trail: Trail,
 ) -> u64
     requires { ⌜ KeptAt (now t) size level b (block .0) (place .0) (trail .entered) ⌝ }
-    ensures { λ r. ⌜ walkedIn r ≡ walked (now (t .entry)) trail (pathFrom (now (t .entry)) (at.settings (now (t .entry)) .levels - 1 - level) level (block .0) (place .0)) ⌝ }
+    ensures { λ r. ⌜ walkedIn r ≡ walked
+        (now (t .entry)) trail (pathFrom (now (t .entry)) (at.settings (now (t .entry)) .levels - 1 - level) level (block .0) (place .0)) ⌝ }
 {
     let tree = fields::whole(t);
     let shape = fields::shape_of(tree);
@@ -137,7 +138,8 @@ fn pointing_step(
     trail: Trail,
 ) -> u64
     requires { ⌜ MayPoint (now t) size level b (block .0) (place .0) (trail .entered) ⌝ }
-    ensures { λ r. ⌜ walkedIn r ≡ walked (now (t .entry)) trail (pathFrom (now (t .entry)) (at.settings (now (t .entry)) .levels - 1 - level) level (block .0) (place .0)) ⌝ }
+    ensures { λ r. ⌜ walkedIn r ≡ walked
+        (now (t .entry)) trail (pathFrom (now (t .entry)) (at.settings (now (t .entry)) .levels - 1 - level) level (block .0) (place .0)) ⌝ }
 {
     let tree = fields::whole(t);
     let here = walk_steps::look(tree, size, level, b, block, place);

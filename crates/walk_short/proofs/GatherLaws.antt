@@ -75,7 +75,8 @@ module _ (t : List ℕ) (h : Header) (level b o entered : ℕ) (k : Crossing t h
       rw (margins.edges-give t level i o more, next, is, k .on .b-is, k .on .header .leaf-is)
 
 -- A span in the leaf bytes.
-module _ (t : List ℕ) (h : Header) (k : HeaderOf t h) (level i o len entered link : ℕ) (kept : keptBlock t level i ≡ true) (link-is : link ≡ at.link t level i) where
+module _ (t : List ℕ) (h : Header)
+    (k : HeaderOf t h) (level i o len entered link : ℕ) (kept : keptBlock t level i ≡ true) (link-is : link ≡ at.link t level i) where
   pub leaf-past : h .«leaf_count» < link + o + len → Broken ≡ gathered entered (inLeaf t level i o len)
   unfolding gathered inLeaf
   leaf-past past =
@@ -154,7 +155,8 @@ module _ (t : List ℕ) (h : Header) (level b c i o len : ℕ) (k : Pointing t h
         go (inr high) = omega (arith, target-second t level i o (omega (arith, gap-is, k .on .b-is)) .1, gap-is, gap-low, fits, k .on .b-is)
 
     module _ (x : Next) (x-is : x ≡ nextAt t level (targetBlock t level i o) (targetPlace t level i o)) where
-      pub pointed-in : (j : BlockNumber) (p : BlockPlace) → x ≡ next.Kept j p → (r : Land) → r ≡ downTo t level c (j .0) (p .0) 2 → r ≡ pointedTo t level i o len
+      pub pointed-in : (j : BlockNumber) (p : BlockPlace)
+          → x ≡ next.Kept j p → (r : Land) → r ≡ downTo t level c (j .0) (p .0) 2 → r ≡ pointedTo t level i o len
       unfolding pointedTo
       pointed-in j p e r r-is =
           let z = next-kept t level (targetBlock t level i o) (targetPlace t level i o) x x-is j p e in
@@ -183,7 +185,8 @@ module _ (t : List ℕ) (level c i o len : ℕ) (c-is : c ≡ at.fullLength t (l
       let z = next-kept t level i o x x-is j p e in
       r-is ∙ rw (z .0, c-is, z .1, z .2)
 
-  pub land-points : (j : BlockNumber) (p : BlockPlace) → x ≡ next.Points j p → (r : Land) → r ≡ pointedTo t level (j .0) (p .0) len → r ≡ landing t level i o len
+  pub land-points : (j : BlockNumber) (p : BlockPlace)
+      → x ≡ next.Points j p → (r : Land) → r ≡ pointedTo t level (j .0) (p .0) len → r ≡ landing t level i o len
   unfolding landing
   land-points j p e r r-is =
       let z = next-points t level i o x x-is j p e in
@@ -196,7 +199,8 @@ module _ (t : List ℕ) (level c i o len : ℕ) (c-is : c ≡ at.fullLength t (l
   pub kept-there : (j : BlockNumber) (p : BlockPlace) → x ≡ next.Kept j p → j .0 < at.levelCount t level
   kept-there j p e = let z = next-kept t level i o x x-is j p e in rw (z .1) (kept-in t level i (z .0))
 
-  pub points-there : (h : Header) (b : ℕ) → OnLevel t h level b → o < b → (j : BlockNumber) (p : BlockPlace) → x ≡ next.Points j p → Pointing t h level b (j .0) (p .0)
+  pub points-there : (h : Header) (b : ℕ)
+      → OnLevel t h level b → o < b → (j : BlockNumber) (p : BlockPlace) → x ≡ next.Points j p → Pointing t h level b (j .0) (p .0)
   points-there h b on low j p e =
       let z = next-points t level i o x x-is j p e in
       rw (z .2, z .3) (record { on = on; place-in = low; points = z .1 })

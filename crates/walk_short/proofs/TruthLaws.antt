@@ -112,11 +112,14 @@ module _ (t : List ℕ) (h : Header) (level b i : ℕ) (k : Edged t h level b i)
       r-right = r-is ∙ rw (add-zero i)
 
       pub within : Within t own r
-      within = within-tree t h header (k .two) own own-low (omega (arith, own-is)) (at.settings t .levels - 1 - level) level i o (omega (arith, k .on .level-in))
+      within = within-tree t h header
+          (k .two) own own-low (omega (arith, own-is)) (at.settings t .levels - 1 - level) level i o (omega (arith, k .on .level-in))
           (omega (arith, own-low, long-few, k .on .b-is)) r 0 r-right
 
-      edge-says : (a : ℕ) → foundIs t m a own r ≡ edgeIs t a (ownBytes t level i) (shortFrom t (at.settings t .levels - 1 - level) level i o (ownBytes t level i))
-      edge-says a = rw (r-right, own-right, header .leaf-is) (found-edge t a (ownBytes t level i) 0 (shortFrom t (at.settings t .levels - 1 - level) level i o (ownBytes t level i)))
+      edge-says : (a : ℕ) → foundIs
+          t m a own r ≡ edgeIs t a (ownBytes t level i) (shortFrom t (at.settings t .levels - 1 - level) level i o (ownBytes t level i))
+      edge-says a = rw (r-right, own-right, header .leaf-is)
+          (found-edge t a (ownBytes t level i) 0 (shortFrom t (at.settings t .levels - 1 - level) level i o (ownBytes t level i)))
 
     room : e + (m + m) ≤ length t
     room = omega (arith, e-is, edges-inside t facts level i (k .two) (k .on .level-in) (k .block-in), leaf-start-inside t facts, header .leaf-is)
@@ -135,19 +138,23 @@ module _ (t : List ℕ) (h : Header) (level b i : ℕ) (k : Edged t h level b i)
       unfolding edgesLocal
       first-fails-block f = rw (sym (edge-says 0 front-in r r-is (at.edgesAt t level i)) ∙ rw e-is at f)
 
-      pub last-decides : foundIs t m e own r ≡ true → (u : Gathered) → u ≡ gathered 0 (shortFrom t (at.settings t .levels - 1 - level) level (i + 0) (long - own) own)
+      pub last-decides : foundIs t m e own r ≡ true
+          → (u : Gathered) → u ≡ gathered 0 (shortFrom t (at.settings t .levels - 1 - level) level (i + 0) (long - own) own)
           → (y : Bool) → y ≡ foundIs t m (e + m) own u → y ≡ edgesLocal t level i
       unfolding edgesLocal
       last-decides f u u-is y y-is =
-          let one : edgeIs t (at.edgesAt t level i) (ownBytes t level i) (shortFrom t (at.settings t .levels - 1 - level) level i 0 (ownBytes t level i)) ≡ true =
+          let one : edgeIs t (at.edgesAt t level i)
+          (ownBytes t level i) (shortFrom t (at.settings t .levels - 1 - level) level i 0 (ownBytes t level i)) ≡ true =
           sym (edge-says 0 front-in r r-is (at.edgesAt t level i)) ∙ rw e-is at f in
-          let two : y ≡ edgeIs t (at.edgesAt t level i + at.settings t .leaf) (ownBytes t level i) (shortFrom t (at.settings t .levels - 1 - level) level i (at.blockLengthAt t level i - ownBytes t level i) (ownBytes t level i)) =
+          let two : y ≡ edgeIs t (at.edgesAt t level i + at.settings t .leaf) (ownBytes t level i)
+          (shortFrom t (at.settings t .levels - 1 - level) level i (at.blockLengthAt t level i - ownBytes t level i) (ownBytes t level i)) =
           rw (e-is, header .leaf-is, long-is, own-right) at (y-is ∙ edge-says (long - own) back-in u u-is (e + m)) in
           two ∙ rw one
 
 -- A level, and all of them.
 module _ (t : List ℕ) (h : Header) (k : Linking t h) where
-  pub block-asks : at.layout t ≡ 2 → (level b i : ℕ) → level < at.settings t .levels → b ≡ at.fullLength t level → i < at.levelCount t level → Edged t h level b i
+  pub block-asks : at.layout t ≡ 2
+      → (level b i : ℕ) → level < at.settings t .levels → b ≡ at.fullLength t level → i < at.levelCount t level → Edged t h level b i
   block-asks two level b i hl hb hi = record { tree = k; two = two; on = record { header = k .header; level-in = hl; b-is = hb }; block-in = hi }
 
   module _ (level n : ℕ) (n-is : n ≡ at.levelCount t level) where
@@ -173,11 +180,13 @@ module _ (t : List ℕ) (h : Header) (k : Linking t h) where
     pub all-fail : (l : ℕ) → l < h .settings .levels → levelEdges t l ≡ false → false ≡ edgesTrue (textOf t) t
     unfolding allEdges at.hasEdges
     all-fail l hl e =
-        let none : allBelow (at.settings t .levels) (levelEdges t) ≡ false = allBelow-not (at.settings t .levels) (levelEdges t) l (omega (arith, k .header .levels-is)) e in
+        let none : allBelow (at.settings t .levels) (levelEdges t) ≡ false =
+        allBelow-not (at.settings t .levels) (levelEdges t) l (omega (arith, k .header .levels-is)) e in
         rw (is-two, none) at exact
 
     pub all-hold : (l : ℕ) → ((x : ℕ) → x < l → levelEdges t x ≡ true) → h .settings .levels ≤ l → true ≡ edgesTrue (textOf t) t
     unfolding allEdges at.hasEdges
     all-hold l f hl =
-        let all : allBelow (at.settings t .levels) (levelEdges t) ≡ true = allBelow-make (at.settings t .levels) (levelEdges t) (λ x hx. f x (omega (arith, k .header .levels-is))) in
+        let all : allBelow (at.settings t .levels) (levelEdges t) ≡ true =
+        allBelow-make (at.settings t .levels) (levelEdges t) (λ x hx. f x (omega (arith, k .header .levels-is))) in
         rw (is-two, all) at exact

@@ -87,7 +87,8 @@ module _ (t : List ℕ) (h : Header) (level b i o len entered : ℕ) (w : Walkin
       record Inside (j p n : ℕ) : Type 0 where
         land-is : landing t level i o len ≡ downTo t level c j p n
         few : n ≤ 2
-        walk-is : (vs : List Visit) × (length vs ≡ n) × (shortFrom t (suc below) level i o len ≡ led vs (shortFrom t below (level + 1) (at.link t level j + p / c) (p % c) len))
+        walk-is : (vs : List Visit)
+            × (length vs ≡ n) × (shortFrom t (suc below) level i o len ≡ led vs (shortFrom t below (level + 1) (at.link t level j + p / c) (p % c) len))
 
       record Between (j p : ℕ) : Type 0 where
         land-is : landing t level i o len ≡ land.Over (record { 0 = j }) (record { 0 = p })
@@ -110,7 +111,11 @@ module _ (t : List ℕ) (h : Header) (level b i o len entered : ℕ) (w : Walkin
 
       kept-case : keptBlock t level i ≡ true → Inside i o 1
       unfolding landing
-      kept-case kept = record { land-is = rw kept; few = omega arith; walk-is = (visit level i o ∷ [], refl, margins.kept-step t level i o len fits-full below kept) }
+      kept-case kept = record {
+        land-is = rw kept;
+        few = omega arith;
+        walk-is = (visit level i o ∷ [], refl, margins.kept-step t level i o len fits-full below kept);
+      }
 
       target-case : keptBlock t level i ≡ false → pointingBlock t level i ≡ true → p + len ≤ at.fullLength t level → keptBlock t level j ≡ true → Inside j p 2
       unfolding landing pointedTo
@@ -142,7 +147,8 @@ module _ (t : List ℕ) (h : Header) (level b i o len entered : ℕ) (w : Walkin
 
       cases : Cases
       unfolding Cases
-      cases = go (bool-cases (keptBlock t level i)) (bool-cases (pointingBlock t level i)) (lt-or-ge (at.fullLength t level) (p + len)) (bool-cases (keptBlock t level j))
+      cases = go (bool-cases (keptBlock t level i))
+          (bool-cases (pointingBlock t level i)) (lt-or-ge (at.fullLength t level) (p + len)) (bool-cases (keptBlock t level j))
         where
           go : (keptBlock t level i ≡ true) ⊎ (keptBlock t level i ≡ false) → (pointingBlock t level i ≡ true) ⊎ (pointingBlock t level i ≡ false)
               → (at.fullLength t level < p + len) ⊎ (p + len ≤ at.fullLength t level) → (keptBlock t level j ≡ true) ⊎ (keptBlock t level j ≡ false)
@@ -158,14 +164,16 @@ module _ (t : List ℕ) (h : Header) (level b i o len entered : ℕ) (w : Walkin
         clash : {A : Type 0} → _≡_ {A = ℕ} 0 1 → A
         clash e = absurd (let z : ⊥ = omega arith in z)
 
-        pub down-asks : (f : BlockNumber) (s : ℕ) (q : BlockPlace) (n : ℕ) → x ≡ land.Down f s q n → Walking t h (level + 1) (b / h .settings .arity) (q .0) len (entered + n)
+        pub down-asks : (f : BlockNumber) (s : ℕ) (q : BlockPlace) (n : ℕ)
+            → x ≡ land.Down f s q n → Walking t h (level + 1) (b / h .settings .arity) (q .0) len (entered + n)
         unfolding Cases downTo
         down-asks f s q n e = go cases
           where
             on : OnLevel t h (level + 1) (b / h .settings .arity)
             on = level-below t h level b (w .on) more
 
-            go : ((j : ℕ) × (p : ℕ) × (n : ℕ) × Inside j p n) ⊎ (((j : ℕ) × (p : ℕ) × Between j p) ⊎ Off) → Walking t h (level + 1) (b / h .settings .arity) (q .0) len (entered + n)
+            go : ((j : ℕ) × (p : ℕ) × (n : ℕ) × Inside j p n)
+                ⊎ (((j : ℕ) × (p : ℕ) × Between j p) ⊎ Off) → Walking t h (level + 1) (b / h .settings .arity) (q .0) len (entered + n)
             go (inl (j, p, k, v)) =
                 let same : land.Down f s q n ≡ land.Down (record { 0 = at.link t level j }) (p / c) (record { 0 = p % c }) k = sym e ∙ x-is ∙ v .land-is in
                 let place : q .0 ≡ p % c = ap (λ (y : BlockPlace). y .0) (let z : q ≡ record { 0 = p % c } = cc in z) in
@@ -195,7 +203,8 @@ module _ (t : List ℕ) (h : Header) (level b i o len entered : ℕ) (w : Walkin
                 let steps : s ≡ p / c = cc in
                 let number : n ≡ k = cc in
                 let u = v .walk-is in
-                r-is ∙ rw (place, first, steps, number) (gathered-led (u .0) entered k (shortFrom t (H - 1 - (level + 1)) (level + 1) (at.link t level j + p / c) (p % c) len) (u .1))
+                r-is ∙ rw (place, first, steps, number)
+                (gathered-led (u .0) entered k (shortFrom t (H - 1 - (level + 1)) (level + 1) (at.link t level j + p / c) (p % c) len) (u .1))
                 ∙ ap (gathered entered) (sym (u .2)) ∙ rw left
             go (inr (inl (j, p, v))) =
                 let same : land.Down f s q n ≡ land.Over (record { 0 = j }) (record { 0 = p }) = sym e ∙ x-is ∙ v .land-is in
@@ -226,7 +235,8 @@ module _ (t : List ℕ) (h : Header) (level b i o len entered : ℕ) (w : Walkin
             let v = over-case f q e in
             record { on = w .on; place-in = v .place-in; near = omega (arith, v .past, w .short); few = omega (arith, w .few) }
 
-        pub between-by : (f : BlockNumber) (q : BlockPlace) → x ≡ land.Over f q → (r : Gathered) → r ≡ gathered (entered + 1) (byEdges t level (f .0 + 0) (q .0)) → Whole r
+        pub between-by : (f : BlockNumber) (q : BlockPlace)
+            → x ≡ land.Over f q → (r : Gathered) → r ≡ gathered (entered + 1) (byEdges t level (f .0 + 0) (q .0)) → Whole r
         between-by f q e r r-is =
             let v = over-case f q e in
             r-is ∙ rw (add-zero (f .0)) (gathered-led (visit level i o ∷ []) entered 1 (byEdges t level (f .0) (q .0)) refl)
@@ -270,7 +280,8 @@ module _ (t : List ℕ) (h : Header) (k : HeaderOf t h) where
   top-asks p len short = record { on = on-top t h k; place-in = mod-lt p top-pos; short = short; few = omega arith }
 
   -- what was found stands in the tree
-  pub within-tree : at.layout t ≡ 2 → (len : ℕ) → 0 < len → len ≤ h .settings .leaf → (below l i o : ℕ) → l + below + 1 ≡ at.settings t .levels → o < at.fullLength t l
+  pub within-tree : at.layout t ≡ 2
+      → (len : ℕ) → 0 < len → len ≤ h .settings .leaf → (below l i o : ℕ) → l + below + 1 ≡ at.settings t .levels → o < at.fullLength t l
       → (r : Gathered) (n : ℕ) → r ≡ gathered n (shortFrom t below l i o len) → Within t len r
   unfolding gathered
   within-tree two len low short below l i o lev ho r n e =
@@ -281,9 +292,14 @@ module _ (t : List ℕ) (h : Header) (k : HeaderOf t h) where
       go (some q) e f = let z = f q refl in rw e (z .few, z .first-in, z .next-in)
 
   pub top-by : (p len : ℕ) → at.layout t ≡ 2 → 1 ≤ len → len ≤ h .settings .leaf → (r : Gathered)
-      → r ≡ gathered 0 (shortFrom t (at.settings t .levels - 1 - 0) 0 (p / h .block + 0) (p % h .block) len) → (r ≡ gathered 0 (shortOf t p len)) × Within t len r
+      → r ≡ gathered 0 (shortFrom t (at.settings t .levels - 1 - 0) 0 (p / h .block + 0) (p % h .block) len)
+      → (r ≡ gathered 0 (shortOf t p len)) × Within t len r
   unfolding shortOf
   top-by p len two low short r e =
       let z : at.settings t .levels - 1 - 0 ≡ at.settings t .levels - 1 = omega arith in
-      let same : r ≡ gathered 0 (shortFrom t (at.settings t .levels - 1) 0 (p / at.fullLength t 0) (p % at.fullLength t 0) len) = rw (z, add-zero (p / h .block), k .block-is) at e in
-      (same, within-tree two len low short (at.settings t .levels - 1) 0 (p / at.fullLength t 0) (p % at.fullLength t 0) (omega (arith, k .facts .levels-low)) (mod-lt p (full-pos t (k .facts) 0)) r 0 same)
+      let same : r ≡ gathered 0 (shortFrom t (at.settings t .levels - 1) 0 (p / at.fullLength t 0) (p % at.fullLength t 0) len) =
+      rw (z, add-zero (p / h .block), k .block-is) at e in (
+        same,
+        within-tree two len low short (at.settings t .levels - 1)
+            0 (p / at.fullLength t 0) (p % at.fullLength t 0) (omega (arith, k .facts .levels-low)) (mod-lt p (full-pos t (k .facts) 0)) r 0 same,
+      )

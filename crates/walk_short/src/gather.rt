@@ -221,7 +221,8 @@ pub fn gather(
     entered: u32,
 ) -> Gathered
     requires { ⌜ Walking (now t) h level b (place .0) len entered ⌝ }
-    ensures { λ r. ⌜ r ≡ gathered entered (shortFrom (now (t .entry)) (at.settings (now (t .entry)) .levels - 1 - level) level (first .0 + steps) (place .0) len) ⌝ }
+    ensures { λ r. ⌜ r ≡ gathered
+        entered (shortFrom (now (t .entry)) (at.settings (now (t .entry)) .levels - 1 - level) level (first .0 + steps) (place .0) len) ⌝ }
 {
     if b < place.0 + len {
         return over(t, h, level, b, first, steps, place, entered);

@@ -63,8 +63,12 @@ module _ (t : List ℕ) where
   unfolding pointingBlock keptBlock at.isPointing at.isKept
   pointing-not-kept l i p =
       let within = ltb i (at.levelCount t l) in
-      let one : at.kind t l i ≡ 1 = eqb-true _ _ (and-right within (eqb (at.kind t l i) 1) (and-left (within && eqb (at.kind t l i) 1) (ltb (at.gap t l i) (at.fullLength t l)) p)) in
-      rw (ne-eqb (at.kind t l i) 0 (λ z. omega arith), and-left within (eqb (at.kind t l i) 1) (and-left (within && eqb (at.kind t l i) 1) (ltb (at.gap t l i) (at.fullLength t l)) p))
+      let one : at.kind t l i ≡ 1 = eqb-true
+      _ _ (and-right within (eqb (at.kind t l i) 1) (and-left (within && eqb (at.kind t l i) 1) (ltb (at.gap t l i) (at.fullLength t l)) p)) in
+      rw (
+        ne-eqb (at.kind t l i) 0 (λ z. omega arith),
+        and-left within (eqb (at.kind t l i) 1) (and-left (within && eqb (at.kind t l i) 1) (ltb (at.gap t l i) (at.fullLength t l)) p),
+      )
 
 -- the next level's block length is this one's by the arity
 pub level-below : (t : List ℕ) (size level b : ℕ) → OnLevel t size level b → (level + 1 ≡ at.settings t .levels → ⊥)

@@ -22,7 +22,8 @@ on-top t h k = record { header = k; level-in = omega (arith, k .facts .levels-lo
 pub field-there : (t : List ℕ) (h : Header) (level i f : ℕ) → HeaderOf t h → level < at.settings t .levels → i < at.levelCount t level → f < 4
     → FieldIn t (h .«record_size») level i f
 field-there t h level i f k hl hi hf =
-    step.field-there t (h .«record_size») level (at.fullLength t level) i f (record { facts = k .facts; size-is = k .size-is; level-in = hl; b-is = refl }) hi hf
+    step.field-there t (h .«record_size»)
+    level (at.fullLength t level) i f (record { facts = k .facts; size-is = k .size-is; level-in = hl; b-is = refl }) hi hf
 
 module _ (t : List ℕ) (h : Header) (level b : ℕ) (on : OnLevel t h level b) where
   pub plain : steps.OnLevel t (h .«record_size») level b

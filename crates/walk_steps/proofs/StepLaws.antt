@@ -138,7 +138,8 @@ rest-is x b q e =
     (omega arith, omega arith)
 
 -- the child that a place is handed to
-module _ (t : List ℕ) (l k link count o b : ℕ) (x : Part) (link-is : link ≡ k) (count-is : count ≡ at.levelCount t l) (x-is : x ≡ record { blocks = o / b; place = record { 0 = o % b } }) where
+module _ (t : List ℕ) (l k link count o b : ℕ)
+    (x : Part) (link-is : link ≡ k) (count-is : count ≡ at.levelCount t l) (x-is : x ≡ record { blocks = o / b; place = record { 0 = o % b } }) where
   blocks-are : x .blocks ≡ o / b
   blocks-are = ap (λ (y : Part). y .blocks) x-is
 
@@ -146,7 +147,8 @@ module _ (t : List ℕ) (l k link count o b : ℕ) (x : Part) (link-is : link �
   unfolding childAt
   child-past high = rw (le-ltb (k + o / b) (at.levelCount t l) (omega (arith, link-is, blocks-are, count-is)))
 
-  pub child-there : (q : BlockPlace) → q ≡ x .place → link + x .blocks < count → arrived.At (record { 0 = link + x .blocks }) q ≡ childAt t l (k + o / b) (o % b)
+  pub child-there : (q : BlockPlace)
+      → q ≡ x .place → link + x .blocks < count → arrived.At (record { 0 = link + x .blocks }) q ≡ childAt t l (k + o / b) (o % b)
   unfolding childAt
   child-there q q-is low =
       let f : q ≡ record { 0 = o % b } = q-is ∙ ap (λ (y : Part). y .place) x-is in
@@ -202,5 +204,6 @@ pub shapes-on : (t u : List ℕ) (x : Shape) → u ≡ t → x ≡ shapeOf u →
 shapes-on t u x e f = shapes t x (f ∙ ap shapeOf e)
 
 -- the part of a place
-pub part-is : (x b q : ℕ) → q ≡ x / b → _≡_ {A = Part} (record { blocks = q; place = record { 0 = x - q * b } }) (record { blocks = x / b; place = record { 0 = x % b } })
+pub part-is : (x b q : ℕ)
+    → q ≡ x / b → _≡_ {A = Part} (record { blocks = q; place = record { 0 = x - q * b } }) (record { blocks = x / b; place = record { 0 = x % b } })
 part-is x b q e = rw (rest-is x b q e .1, e)

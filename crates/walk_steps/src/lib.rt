@@ -142,7 +142,8 @@ pub fn target(
     place: BlockPlace,
 ) -> Next
     requires { ⌜ Pointing (now t) size level b (block .0) (place .0) ⌝ }
-    ensures { λ r. ⌜ r ≡ nextAt (now (t .entry)) level (targetBlock (now (t .entry)) level (block .0) (place .0)) (targetPlace (now (t .entry)) level (block .0) (place .0)) ⌝ }
+    ensures { λ r. ⌜ r ≡ nextAt (now (t .entry))
+        level (targetBlock (now (t .entry)) level (block .0) (place .0)) (targetPlace (now (t .entry)) level (block .0) (place .0)) ⌝ }
 {
     let link = record::link(t, size, level, block);
     let gap = record::gap(t, size, level, block);

@@ -12,7 +12,14 @@ bt-run-spec =
     (λ c κs. search needs)
     (λ c. search needs)
     (λ c. let k = part-told _ _ _ (c .before .before .before .before .run-part .ensures) _ (c .before .before .ran .given .1) in
-    omega (arith, k .length-is, laws.run-short (c .before .before .before .before .before .before .args .tree .now) (c .before .before .before .before .before .before .args .place)))
+    omega (
+      arith,
+      k .length-is,
+      laws.run-short
+          (c .before .before .before .before .before .before .args .tree .now) (c .before .before .before .before .before .before .args .place),
+    ))
     (λ c. search needs)
-    (λ c. let k = part-told _ _ _ (c .before .before .before .before .run-part .ensures) _ (c .before .before .ran .given .1) in (k .number-is, (k .from-is, k .length-is)))
-    (λ c. let k = part-refused _ _ _ (c .before .before .before .run-part .ensures) _ (c .before .ran2 .given .1) in (k .number-is, (k .from-is, k .length-is))))
+    (λ c. let k = part-told _ _ _ (c .before .before .before .before .run-part .ensures) _ (c .before .before .ran .given .1) in
+    (k .number-is, (k .from-is, k .length-is)))
+    (λ c. let k = part-refused _ _ _ (c .before .before .before .run-part .ensures) _ (c .before .ran2 .given .1) in
+    (k .number-is, (k .from-is, k .length-is))))

@@ -22,5 +22,7 @@ run-spec =
     (λ c. search needs)
     (λ c. search needs)
     (λ c. let k = laws.part-told _ _ _ (c .before .before .before .before .run-part .ensures) _ (c .before .before .ran .given .1) in k .inside)
-    (λ c. let k = laws.part-told _ _ _ (c .before .before .before .before .before .run-part .ensures) _ (c .before .before .before .ran .given .1) in
-    (laws.part-list (c .before .before .before .before .before .before .before .args .t .now) _ _ k, ap (λ (o : ℕ). (c .before .before .before .before .before .before .before .args .t .ptr .0, o)) (omega (arith, k .from-is)))))
+    (λ c. let k = laws.part-told _ _ _ (c .before .before .before .before .before .run-part .ensures) _ (c .before .before .before .ran .given .1) in (
+      laws.part-list (c .before .before .before .before .before .before .before .args .t .now) _ _ k,
+      ap (λ (o : ℕ). (c .before .before .before .before .before .before .before .args .t .ptr .0, o)) (omega (arith, k .from-is)),
+    )))

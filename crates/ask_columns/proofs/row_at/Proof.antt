@@ -12,7 +12,8 @@ row-at-spec =
     (tie.spec
     (λ c. search needs)
     (λ c κs. search needs)
-    (λ c. let s = c .before .before .before .before .before in laws.read-width _ _ _ _ _ (s .pre) (sym (c .before .divides .ensures) ∙ not-true _ (c .if1 .taken)))
+    (λ c. let s = c .before .before .before .before .before in
+    laws.read-width _ _ _ _ _ (s .pre) (sym (c .before .divides .ensures) ∙ not-true _ (c .if1 .taken)))
     (λ c. let d = c .before in width-low _ _ (sym (d .before .divides .ensures) ∙ not-false _ (d .if1 .left)))
     (λ c. let d = c .before .before in let s = d .before .before .before .before .before in
     laws.read-past _ _ _ _ _ (s .pre) (sym (d .before .divides .ensures) ∙ not-false _ (d .if1 .left)) (c .if2 .taken))

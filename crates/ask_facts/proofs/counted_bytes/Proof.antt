@@ -17,4 +17,5 @@ counted-bytes-spec =
     (λ c κs. search needs)
     (λ c. search needs)
     (λ c κs. search needs)
-    (λ c. laws.four _ _ _ _ _ (c .before .before .before .before .before .before .wide .ensures) (c .before .before .before .before .wide2 .ensures) (c .before .before .wide3 .ensures) (c .wide4 .ensures)))
+    (λ c. let w = c .before .before in laws.four
+    _ _ _ _ _ (w .before .before .before .before .wide .ensures) (w .before .before .wide2 .ensures) (w .wide3 .ensures) (c .wide4 .ensures)))

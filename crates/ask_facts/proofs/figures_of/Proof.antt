@@ -33,4 +33,5 @@ figures-of-spec =
     (λ c. search needs)
     (λ c. search needs)
     (λ c. search needs)
-    (λ c. laws.figures-are _ _ (c .before .before .before .before .before .before .before .before .before .before .before .pre) _ _ _ (c .before .before .before .before .before .before .before .before .before .counted-bytes .ensures) (c .before .before .before .before .before .before .before .before .totals .ensures) (c .before .before .before .before .before .before .before .level-counts .ensures)))
+    (λ c. let w = c .before .before .before .before .before .before .before in laws.figures-are _ _ (w .before .before .before .before .pre)
+    _ _ _ (w .before .before .counted-bytes .ensures) (w .before .totals .ensures) (w .level-counts .ensures)))

@@ -12,5 +12,6 @@ info-spec =
     (λ c. search needs)
     (λ c κs. header-good _ _ (c .before .before .before .read-header .ensures) _ (c .before .read .given .1))
     (λ c. search needs)
-    (λ c. laws.told _ _ (header-good _ _ (c .before .before .before .before .read-header .ensures) _ (c .before .before .read .given .1)) _ (c .figures-of .ensures))
+    (λ c. laws.told _ _ (header-good _ _ (c .before .before .before .before .read-header .ensures) _ (c .before .before .read .given .1))
+    _ (c .figures-of .ensures))
     (λ c. laws.untold _ _ (c .before .before .before .before .read-header .ensures) _ (c .before .before .read2 .given .1)))

@@ -15,4 +15,6 @@ level-counts-spec =
     (λ c κs. search needs)
     (λ c κs. search needs)
     (λ c κs. search needs)
-    (λ c. laws.eight _ _ _ _ _ _ _ _ _ (c .before .before .before .before .before .before .before .blocks2 .ensures) (c .before .before .before .before .before .before .blocks3 .ensures) (c .before .before .before .before .before .blocks4 .ensures) (c .before .before .before .before .blocks5 .ensures) (c .before .before .before .blocks6 .ensures) (c .before .before .blocks7 .ensures) (c .before .blocks8 .ensures) (c .blocks9 .ensures)))
+    (λ c. let w = c .before .before .before in let v = w .before .before in
+    laws.eight _ _ _ _ _ _ _ _ _ (v .before .before .blocks2 .ensures) (v .before .blocks3 .ensures) (v .blocks4 .ensures)
+    (w .before .blocks5 .ensures) (w .blocks6 .ensures) (c .before .before .blocks7 .ensures) (c .before .blocks8 .ensures) (c .blocks9 .ensures)))

@@ -11,4 +11,5 @@ totals-spec =
     (λ c κs. search needs)
     (λ c κs. search needs)
     (λ c κs. search needs)
-    (λ c. laws.four _ _ _ _ _ (c .before .before .before .total-of .ensures) (c .before .before .total-of2 .ensures) (c .before .total-of3 .ensures) (c .total-of4 .ensures)))
+    (λ c. laws.four _ _ _ _ _
+    (c .before .before .before .total-of .ensures) (c .before .before .total-of2 .ensures) (c .before .total-of3 .ensures) (c .total-of4 .ensures)))

@@ -10,7 +10,10 @@ compare-with-spec =
     (tie.spec
     (λ c κs. search needs)
     (λ c. search needs)
-    (λ c κs. (c .before .before .before .before .before .before .pre, header-good _ _ (c .before .before .before .read-header .ensures) _ (c .before .read .given .1)))
+    (λ c κs. (
+      c .before .before .before .before .before .before .pre,
+      header-good _ _ (c .before .before .before .read-header .ensures) _ (c .before .read .given .1),
+    ))
     (λ c. search needs)
     (λ c. search needs)
     (λ c. let h = c .before .before .before in

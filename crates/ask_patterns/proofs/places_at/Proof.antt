@@ -10,7 +10,8 @@ places-at-spec =
     tie.close
     (tie.spec
     (λ c. laws.answered _ _ _ _ (Refused 16) (omega arith) (laws.no-byte _ _ _ (c .before .before .before .before .pre .passes) (c .if1 .taken)))
-    (λ c. laws.answered _ _ _ _ (Refused 16) (omega arith) (laws.too-long _ _ _ (c .before .before .before .before .before .pre .passes) (c .before .if1 .left) (c .if2 .taken)))
+    (λ c. laws.answered _ _ _ _ (Refused 16)
+    (omega arith) (laws.too-long _ _ _ (c .before .before .before .before .before .pre .passes) (c .before .if1 .left) (c .if2 .taken)))
     (λ c. search needs)
     (λ c κs. search needs)
     (λ c. search needs)

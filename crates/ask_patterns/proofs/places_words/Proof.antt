@@ -12,5 +12,6 @@ places-words-spec =
     (λ c. search needs)
     (λ c κs. search needs)
     (λ c. search needs)
-    (λ c. laws.answered _ _ _ (header-good _ _ (c .before .before .before .before .read-header .ensures) _ (c .before .before .read .given .1)) _ (c .of-length .ensures))
+    (λ c. laws.answered _ _ _
+    (header-good _ _ (c .before .before .before .before .read-header .ensures) _ (c .before .before .read .given .1)) _ (c .of-length .ensures))
     (λ c. laws.unread _ _ _ (c .before .before .before .read-header .ensures) _ (c .before .read2 .given .1)))

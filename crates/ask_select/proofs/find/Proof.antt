@@ -14,4 +14,7 @@ find-spec =
     (λ c κs. header-good _ _ (c .before .before .before .read-header .ensures) _ (c .before .read .given .1))
     (λ c. search needs)
     (λ c. search needs)
-    (λ c. record { says = laws.find-unread _ _ _ _ (c .before .before .before .read-header .ensures) _ (c .before .read2 .given .1); numbered = omega (arith, header-refused _ _ (c .before .before .before .read-header .ensures) _ (c .before .read2 .given .1) .2) }))
+    (λ c. record {
+      says = laws.find-unread _ _ _ _ (c .before .before .before .read-header .ensures) _ (c .before .read2 .given .1);
+      numbered = omega (arith, header-refused _ _ (c .before .before .before .read-header .ensures) _ (c .before .read2 .given .1) .2);
+    }))

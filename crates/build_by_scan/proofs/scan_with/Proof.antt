@@ -15,12 +15,23 @@ scan-with-spec =
     (tie.spec
     (λ c. omega (arith, bounds _ _ (c .before .before .before .before .pre) .text-high))
     (λ c κs. search needs)
-    (λ c. let z = c .before .before .before .before .before .before in let a = z .args in let t = laws.refused-table (settingsOf (a .s) (a .counted .now)) (a .text .now) (a .out .now) (a .words .now) (z .pre) (omega (arith, c .before .scan-words .ensures, c .if1 .taken)) in (t .number, (t .size, (t .windows, (t .buffer, t .table)))))
-    (λ c κs. (c .before .before .before .before .before .before .before .before .pre, omega (arith, c .before .before .before .scan-words .ensures, c .before .before .if1 .left)))
+    (λ c. let z = c .before .before .before .before .before .before in
+    let a = z .args in let t = laws.refused-table (settingsOf (a .s) (a .counted .now)) (a .text .now) (a .out .now) (a .words .now)
+    (z .pre) (omega (arith, c .before .scan-words .ensures, c .if1 .taken)) in (t .number, (t .size, (t .windows, (t .buffer, t .table)))))
+    (λ c κs. let w = c .before .before in (w .before .before .before .before .before .before .pre, omega (arith, w .before .scan-words .ensures, w .if1 .left)))
     (λ c κs. search needs)
     (λ c. search needs)
     (λ c. search needs)
-    (λ c. let a = c .before .before .before .before .before .before .before .before .before .before .before .before .before .before .before .before .before .before .before .args in let w = c .before .before .before .before .before .before .before .before .before .before .write-tree .ensures in let t = laws.said-full (settingsOf (a .s) (a .counted .now)) (a .text .now) (a .out .now) (a .words .now) (c .before .before .before .before .before .before .before .before .before .before .before .before .before .before .before .before .before .before .before .pre) (omega (arith, c .before .before .before .before .before .before .before .before .before .before .before .before .before .before .scan-words .ensures, c .before .before .before .before .before .before .before .before .before .before .before .before .before .if1 .left)) _ (c .before .before .before .before .before .before .before .before .before .before .write-tree .kept .1 .0) _ (w .0) _ (w .1 .0) (c .before .before .before .before .if2 .taken) _ (c .before .before .clear .ensures) in (t .number, (t .size, (t .windows, (t .buffer, t .table)))))
+    (λ c. let v = c .before .before .before .before .before .before .before .before .before .before in
+    let u = v .before .before .before in let a = u .before .before .before .before .before .before .args in
+    let w = v .write-tree .ensures in let t = laws.said-full (settingsOf (a .s) (a .counted .now)) (a .text .now) (a .out .now)
+    (a .words .now) (u .before .before .before .before .before .before .pre) (omega (arith, u .before .scan-words .ensures, u .if1 .left))
+    _ (v .write-tree .kept .1 .0) _ (w .0) _ (w .1 .0) (c .before .before .before .before .if2 .taken) _ (c .before .before .clear .ensures) in
+    (t .number, (t .size, (t .windows, (t .buffer, t .table)))))
     (λ c. search needs)
     (λ c. search needs)
-    (λ c. let a = c .before .before .before .before .before .before .before .before .before .before .before .before .before .before .before .args in let w = c .before .before .before .before .before .before .write-tree .ensures in let t = laws.said-size (settingsOf (a .s) (a .counted .now)) (a .text .now) (a .out .now) (a .words .now) (c .before .before .before .before .before .before .before .before .before .before .before .before .before .before .before .pre) (omega (arith, c .before .before .before .before .before .before .before .before .before .before .scan-words .ensures, c .before .before .before .before .before .before .before .before .before .if1 .left)) _ (c .before .before .before .before .before .before .write-tree .kept .1 .0) _ (w .0) _ (w .1 .0) (c .if2 .left) _ (w .1 .1 (c .if2 .left)) in (t .number, (t .size, (t .windows, (t .buffer, t .table))))))
+    (λ c. let v = c .before .before .before .before .before .before in let u = v .before .before .before in
+    let a = u .before .before .before .before .before .before .args in let w = v .write-tree .ensures in let t = laws.said-size
+    (settingsOf (a .s) (a .counted .now)) (a .text .now) (a .out .now) (a .words .now) (u .before .before .before .before .before .before .pre)
+    (omega (arith, u .before .scan-words .ensures, u .if1 .left)) _ (v .write-tree .kept .1 .0)
+    _ (w .0) _ (w .1 .0) (c .if2 .left) _ (w .1 .1 (c .if2 .left)) in (t .number, (t .size, (t .windows, (t .buffer, t .table))))))

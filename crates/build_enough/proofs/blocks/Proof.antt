@@ -21,11 +21,38 @@ blocks-spec =
     tie.close
     (tie.spec Inv-loop μ-loop
     (λ c. (omega arith, (omega arith, laws.none-first _)))
-    (λ c κs. let a = c .before .before .before .args in laws.sized-at (a .s) (c .before .before .before .pre .0) (c .before .before .before .pre .1) (c .before .before .loop .l) (c .if1 .taken))
-    (λ c κs. let a = c .before .before .before .before .args in (c .before .before .before .before .pre .2, omega (arith, c .block-length .ensures, laws.block-low (a .s) (c .before .before .before .before .pre .0) (c .before .before .before .before .pre .1) (c .before .before .before .loop .l)), omega (arith, c .block-length .ensures, laws.block-few (a .s) (c .before .before .before .before .pre .0) (c .before .before .before .before .pre .1) (c .before .before .before .loop .l))))
+    (λ c κs. let w = c .before .before in let a = w .before .args in laws.sized-at (a .s) (w .before .pre .0) (w .before .pre .1) (w .loop .l) (c .if1 .taken))
+    (λ c κs. let w = c .before .before .before in let v = w .before in
+    let a = v .args in (
+      v .pre .2,
+      omega (arith, c .block-length .ensures, laws.block-low (a .s) (v .pre .0) (v .pre .1) (w .loop .l)),
+      omega (arith, c .block-length .ensures, laws.block-few (a .s) (v .pre .0) (v .pre .1) (w .loop .l)),
+    ))
     (λ c. search needs)
-    (λ c. let a = c .before .before .before .before .before .args in omega (arith, c .before .before .before .before .loop .inv .0, c .before .before .before .before .loop .inv .1 .0, c .before .before .before .before .before .pre .0 .levels-high, laws.level-few (a .s) (c .before .before .before .before .before .pre .0) (c .before .before .before .before .before .pre .1) (a .n) (c .before .before .before .before .loop .l) 0 _ _ (c .before .before .before .before .before .pre .2) (c .before .block-length .ensures) (c .pieces .ensures)))
+    (λ c. let w = c .before .before .before .before in
+    let v = w .before in let a = v .args in omega (
+      arith,
+      w .loop .inv .0,
+      w .loop .inv .1 .0,
+      v .pre .0 .levels-high,
+      laws.level-few (a .s) (v .pre .0) (v .pre .1) (a .n) (w .loop .l) 0 _ _ (v .pre .2) (c .before .block-length .ensures) (c .pieces .ensures),
+    ))
     (λ c. omega (arith, c .before .before .if1 .taken))
     (λ c. omega (arith, c .before .before .if1 .taken))
-    (λ c. let a = c .before .before .before .before .before .args in (omega (arith, c .before .before .if1 .taken), (omega (arith, c .before .before .before .before .loop .inv .1 .0, laws.level-few (a .s) (c .before .before .before .before .before .pre .0) (c .before .before .before .before .before .pre .1) (a .n) (c .before .before .before .before .loop .l) 0 _ _ (c .before .before .before .before .before .pre .2) (c .before .block-length .ensures) (c .pieces .ensures)), laws.one-level (a .s) (c .before .before .before .before .before .pre .0) (c .before .before .before .before .before .pre .1) (a .n) (c .before .before .before .before .loop .l) _ _ _ (c .before .before .before .before .before .pre .2) (c .before .block-length .ensures) (c .pieces .ensures) (c .before .before .before .before .loop .inv .1 .1))))
-    (λ c. let a = c .before .before .before .args in let e : c .before .before .loop .l ≡ a .s .levels = omega (arith, c .before .before .loop .inv .0, c .if1 .left) in (c .before .before .loop .inv .1 .1 ∙ ap (λ (k : ℕ). sumBelow k (λ l. pieces (a .n) (a .s .leaf * a .s .arity ^ (a .s .levels - 1 - l)))) e, omega (arith, c .before .before .loop .inv .0, c .before .before .loop .inv .1 .0, c .before .before .before .pre .0 .levels-high))))
+    (λ c. let w = c .before .before .before .before in let v = w .before in let a = v .args in (
+      omega (arith, c .before .before .if1 .taken),
+      (
+        omega (
+          arith,
+          w .loop .inv .1 .0,
+          laws.level-few (a .s) (v .pre .0) (v .pre .1)
+              (a .n) (w .loop .l) 0 _ _ (v .pre .2) (c .before .block-length .ensures) (c .pieces .ensures),
+        ),
+        laws.one-level (a .s) (v .pre .0)
+            (v .pre .1) (a .n) (w .loop .l) _ _ _ (v .pre .2) (c .before .block-length .ensures) (c .pieces .ensures) (w .loop .inv .1 .1),
+      ),
+    ))
+    (λ c. let w = c .before .before in let a = w .before .args in let e : w .loop .l ≡ a .s .levels = omega (arith, w .loop .inv .0, c .if1 .left) in (
+      w .loop .inv .1 .1 ∙ ap (λ (k : ℕ). sumBelow k (λ l. pieces (a .n) (a .s .leaf * a .s .arity ^ (a .s .levels - 1 - l)))) e,
+      omega (arith, w .loop .inv .0, w .loop .inv .1 .0, w .before .pre .0 .levels-high),
+    )))

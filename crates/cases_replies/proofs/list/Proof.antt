@@ -12,6 +12,7 @@ list-spec =
     (tie.spec
     (λ c κs. search needs)
     (λ c. let p = c .print in omega (arith, p .ensures .short, length-put (search needs) (p .ensures)))
-    (λ c. let p = c .before .print in sym (length-take-le (p .result) (p .last .1 .0) (omega (arith, p .ensures .short, length-put (search needs) (p .ensures)))))
+    (λ c. let p = c .before .print in
+    sym (length-take-le (p .result) (p .last .1 .0) (omega (arith, p .ensures .short, length-put (search needs) (p .ensures)))))
     (λ c κs. search needs)
     (λ c. search needs))

@@ -21,9 +21,19 @@ counts-right-spec =
     (tie.spec Inv-loop μ-loop
     (λ c. (omega (arith, facts.levels-is _ _ (c .before .pre)), λ m l hm. absurd (let z : ⊥ = omega (arith, facts.levels-is _ _ (c .before .pre)) in z)))
     (λ c. search needs)
-    (λ c κs. (c .before .before .before .pre, laws.level-low _ _ (c .before .before .before .pre) _ (c .loop-test .taken) (c .before .loop .inv .0) (c .before .loop .inv .1), laws.below-left _ _ (c .before .before .before .pre) _ (c .loop-test .taken) (c .before .loop .inv .0) (c .before .loop .inv .1)))
-    (λ c. laws.level-fail _ _ (c .before .before .before .before .before .pre) _ (c .before .before .loop-test .taken) (c .before .before .before .loop .inv .0) (c .before .before .before .loop .inv .1) (failed (c .before .level-right .ensures) (c .if1 .taken)))
+    (λ c κs. let w = c .before in let v = w .before .before in (
+      v .pre,
+      laws.level-low _ _ (v .pre) _ (c .loop-test .taken)
+          (w .loop .inv .0) (w .loop .inv .1),
+      laws.below-left _ _ (v .pre) _ (c .loop-test .taken) (w .loop .inv .0) (w .loop .inv .1),
+    ))
+    (λ c. let w = c .before .before in laws.level-fail _ _ (w .before .before .before .pre)
+    _ (w .loop-test .taken) (w .before .loop .inv .0) (w .before .loop .inv .1) (failed (c .before .level-right .ensures) (c .if1 .taken)))
     (λ c. search needs)
     (λ c. search needs)
-    (λ c. (omega (arith, c .before .before .before .loop .inv .0), laws.level-done _ _ (c .before .before .before .before .before .pre) _ (c .before .before .loop-test .taken) (c .before .before .before .loop .inv .0) (c .before .before .before .loop .inv .1) (held (c .before .level-right .ensures) (c .if1 .left))))
+    (λ c. let w = c .before .before .before in (
+      omega (arith, w .loop .inv .0),
+      laws.level-done _ _ (w .before .before .pre)
+          _ (c .before .before .loop-test .taken) (w .loop .inv .0) (w .loop .inv .1) (held (c .before .level-right .ensures) (c .if1 .left)),
+    ))
     (λ c. laws.levels-done _ _ (c .before .before .before .pre) _ (c .loop-test .left) (c .before .loop .inv .1)))

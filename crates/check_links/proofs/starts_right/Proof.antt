@@ -24,13 +24,26 @@ starts-right-spec =
     tie.close
     (tie.spec Inv-loop μ-loop
     (λ c. (omega arith, scan-none _))
-    (λ c κs. rw (c .before .before .before .before .pre .1) at (laws.there _ _ (c .before .before .before .before .pre .0) (c .before .before .loop .i) 0 (c .if1 .taken) (omega arith)))
+    (λ c κs. let w = c .before .before in
+    rw (w .before .before .pre .1) at (laws.there _ _ (w .before .before .pre .0) (w .loop .i) 0 (c .if1 .taken) (omega arith)))
     (λ c. search needs)
     (λ c. search needs)
     (λ c. search needs)
-    (λ c. omega (arith, mul-le-mul {n₁ = c .before .before .before .before .before .loop .i} {n₂ = 4294967295} {m₂ = maxText} (omega arith) (laws.full-high _ _ (c .before .before .before .before .before .before .before .pre .0))))
-    (λ c. let a = c .before .before .before .before .before .before .before .before .args in scan-fails (startAsCut (a .t .now)) (a .v .count) (c .before .before .before .before .before .before .loop .i) (c .before .before .before .before .if1 .taken) (tree.start-off _ _ (c .before .before .before .before .before .before .before .before .pre .0) _ _ (c .before .before .before .start .ensures) (c .before .before .before .before .before .before .before .before .pre .1) (c .if2 .taken)))
+    (λ c. omega (
+      arith,
+      mul-le-mul {n₁ = c .before .before .before .before .before .loop .i}
+          {n₂ = 4294967295} {m₂ = maxText} (omega arith) (laws.full-high _ _ (c .before .before .before .before .before .before .before .pre .0)),
+    ))
+    (λ c. let w = c .before .before .before .before .before .before in let u = w .before .before in
+    let a = u .args in scan-fails (startAsCut (a .t .now)) (a .v .count) (w .loop .i) (c .before .before .before .before .if1 .taken)
+    (tree.start-off _ _ (u .pre .0) _ _ (c .before .before .before .start .ensures) (u .pre .1) (c .if2 .taken)))
     (λ c. search needs)
     (λ c. search needs)
-    (λ c. let a = c .before .before .before .before .before .before .before .before .args in (omega arith, scan-more (startAsCut (a .t .now)) (c .before .before .before .before .before .before .loop .i) (c .before .before .before .before .before .before .loop .inv .1) (tree.start-on _ _ (c .before .before .before .before .before .before .before .before .pre .0) _ _ (c .before .before .before .start .ensures) (c .before .before .before .before .before .before .before .before .pre .1) (c .if2 .left))))
-    (λ c. let a = c .before .before .before .before .args in scan-done (startAsCut (a .t .now)) (a .v .count) (c .before .before .loop .i) (c .before .before .loop .inv .0) (c .if1 .left) (c .before .before .loop .inv .1)))
+    (λ c. let w = c .before .before .before .before .before .before in
+    let v = w .before .before in let a = v .args in (
+      omega arith,
+      scan-more (startAsCut (a .t .now))
+          (w .loop .i) (w .loop .inv .1) (tree.start-on _ _ (v .pre .0) _ _ (c .before .before .before .start .ensures) (v .pre .1) (c .if2 .left)),
+    ))
+    (λ c. let w = c .before .before in let a = w .before .before .args in
+    scan-done (startAsCut (a .t .now)) (a .v .count) (w .loop .i) (w .loop .inv .0) (c .if1 .left) (w .loop .inv .1)))

@@ -12,4 +12,6 @@ four-spec =
     (λ c κs. search needs)
     (λ c κs. search needs)
     (λ c. search needs)
-    (λ c. laws.line-put _ _ _ _ (c .before .before .before .before .before .before .before .before .before .before .before .before .before .before .before .before .before .pre) (c .before .before .before .before .before .before .before .before .before .before .before .before .before .before .number-and .ensures) (c .before .before .before .before .before .before .before .before .before .before .number-and2 .ensures) (c .before .before .before .before .before .before .number-and3 .ensures) (c .before .before .number-and4 .ensures)))
+    (λ c. let w = c .before .before .before .before .before .before .before .before .before .before in
+    let v = w .before .before .before .before in laws.line-put _ _ _ _ (v .before .before .before .pre) (v .number-and .ensures)
+    (w .number-and2 .ensures) (c .before .before .before .before .before .before .number-and3 .ensures) (c .before .before .number-and4 .ensures)))

@@ -12,4 +12,5 @@ level-line-spec =
     (λ c κs. search needs)
     (λ c κs. search needs)
     (λ c. search needs)
-    (λ c. laws.level-put _ _ _ _ _ (c .before .before .before .before .before .before .level-count .ensures) (c .before .before .before .before .before .count-of .ensures) (c .before .before .before .before .count-of2 .ensures) (c .before .before .four .ensures)))
+    (λ c. let w = c .before .before .before .before in laws.level-put
+    _ _ _ _ _ (w .before .before .level-count .ensures) (w .before .count-of .ensures) (w .count-of2 .ensures) (c .before .before .four .ensures)))

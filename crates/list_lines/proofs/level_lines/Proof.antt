@@ -10,10 +10,12 @@ level-lines-spec =
     (tie.spec
     (λ c κs. search needs)
     (λ c. search needs)
-    (λ c κs. (header-good _ _ (c .before .before .before .before .read-header .ensures) _ (c .before .before .read .given .1), c .before .before .before .before .before .before .before .pre .1))
+    (λ c κs. let w = c .before .before in
+    (header-good _ _ (w .before .before .read-header .ensures) _ (w .read .given .1), w .before .before .before .before .before .pre .1))
     (λ c. search needs)
     (λ c κs. search needs)
     (λ c. search needs)
     (λ c. laws.print-lines _ (c .before .before .before .before .before .before .before .before .before .before .pre .0) (c .before .before .levels .ensures))
     (λ c. search needs)
-    (λ c. absurd (laws.never-refused _ (c .before .before .before .before .before .before .before .before .before .before .pre .0) _ (c .before .before .before .before .before .before .before .read-header .ensures) _ (c .before .before .before .before .before .read2 .given .1))))
+    (λ c. let w = c .before .before .before .before .before in absurd
+    (laws.never-refused _ (w .before .before .before .before .before .pre .0) _ (w .before .before .read-header .ensures) _ (w .read2 .given .1))))

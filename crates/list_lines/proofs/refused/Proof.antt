@@ -11,4 +11,5 @@ refused-spec =
     (λ c κs. search needs)
     (λ c κs. search needs)
     (λ c. search needs)
-    (λ c. laws.refused-put _ (c .before .before .before .before .before .before .before .before .before .before .pre) (c .before .before .before .before .before .before .bytes .ensures) (c .before .before .number-and .ensures)))
+    (λ c. let w = c .before .before .before .before .before .before in
+    laws.refused-put _ (w .before .before .before .before .pre) (w .bytes .ensures) (c .before .before .number-and .ensures)))

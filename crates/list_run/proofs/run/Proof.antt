@@ -16,6 +16,7 @@ run-spec =
     (λ c. search needs)
     (λ c κs. search needs)
     (λ c. omega (arith, c .print .ensures .short, length-put (search needs) (c .print .ensures)))
-    (λ c. sym (length-take-le (c .before .print .result) (c .before .print .last .1 .0) (omega (arith, c .before .print .ensures .short, length-put (search needs) (c .before .print .ensures)))))
+    (λ c. sym (length-take-le (c .before .print .result)
+    (c .before .print .last .1 .0) (omega (arith, c .before .print .ensures .short, length-put (search needs) (c .before .print .ensures)))))
     (λ c κs. search needs)
     (λ c. search needs))

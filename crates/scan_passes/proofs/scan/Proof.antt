@@ -9,6 +9,11 @@ scan-spec =
     tie.close
     (tie.spec
     (λ c κs. c .before .before .before .before .pre)
-    (λ c κs. let z = c .before .before .before .before .before .before .before .before in let e = c .before .before .before .enter-level .ensures in (e .0, covers-all _ _ _ (z .pre .1) (z .pre .0 .placed) _ _ (e .0) (e .1), z .pre .1))
+    (λ c κs. let z = c .before .before .before .before .before .before .before .before in let e = c .before .before .before .enter-level .ensures in
+    (e .0, covers-all _ _ _ (z .pre .1) (z .pre .0 .placed) _ _ (e .0) (e .1), z .pre .1))
     (λ c. search needs)
-    (λ c. let z = c .before .before .before .before .before .before .before .before .before .before .before in let e = c .before .before .before .before .before .before .enter-level .ensures in (answered _ _ _ _ _ (e .0) (z .pre .1) (c .before .before .pass .ensures .0), record { lengths = c .before .before .before .before .before .before .enter-level .result; noted = e .1; sum = c .before .before .pass .ensures .1 })))
+    (λ c. let w = c .before .before .before .before .before .before in let z = w .before .before .before .before .before in
+    let e = w .enter-level .ensures in (
+      answered _ _ _ _ _ (e .0) (z .pre .1) (c .before .before .pass .ensures .0),
+      record { lengths = w .enter-level .result; noted = e .1; sum = c .before .before .pass .ensures .1 },
+    )))

@@ -15,4 +15,5 @@ opened-spec =
     (λ c. search needs)
     (λ c. search needs)
     (λ c. search needs)
-    (λ c. let z = c .before .before .before .before in laws.stands-first _ _ _ _ (z .pre .0) (z .pre .1) (c .before .before .if1 .left) (c .before .power .ensures) (c .fingerprint-at .ensures)))
+    (λ c. let z = c .before .before .before .before in
+    laws.stands-first _ _ _ _ (z .pre .0) (z .pre .1) (c .before .before .if1 .left) (c .before .power .ensures) (c .fingerprint-at .ensures)))

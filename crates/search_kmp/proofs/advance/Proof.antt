@@ -25,10 +25,18 @@ advance-spec =
     (λ c. let l = c .before .before .before .before in omega (arith, l .before .before .before .pre .0, l .before .before .before .pre .1, l .loop .inv .low))
     (λ c κs. search needs)
     (λ c. let l = c .before .before .before .before .before in
-    laws.back-border _ _ _ _ (l .loop .inv) _ (l .before .before .before .pre .2) (c .before .before .before .before .loop-test .taken) (sym (c .before .before .before .fits2 .ensures) ∙ c .before .before .if1 .left) _ (c .wide .ensures .0) .1)
+    laws.back-border _ _ _ _ (l .loop .inv) _ (l .before .before .before .pre .2) (c .before .before .before .before .loop-test .taken)
+    (sym (c .before .before .before .fits2 .ensures) ∙ c .before .before .if1 .left) _ (c .wide .ensures .0) .1)
     (λ c. let l = c .before .before .before .before .before in
-    laws.back-border _ _ _ _ (l .loop .inv) _ (l .before .before .before .pre .2) (c .before .before .before .before .loop-test .taken) (sym (c .before .before .before .fits2 .ensures) ∙ c .before .before .if1 .left) _ (c .wide .ensures .0) .0)
+    laws.back-border _ _ _ _ (l .loop .inv) _ (l .before .before .before .pre .2) (c .before .before .before .before .loop-test .taken)
+    (sym (c .before .before .before .fits2 .ensures) ∙ c .before .before .if1 .left) _ (c .wide .ensures .0) .0)
     (λ c κs. search needs)
-    (λ c. let z = laws.first-more _ _ _ _ (c .before .before .before .loop .inv) (c .before .before .loop-test .left) (sym (c .before .fits3 .ensures) ∙ c .if2 .taken) in
+    (λ c. let z = laws.first-more
+    _ _ _ _ (c .before .before .before .loop .inv) (c .before .before .loop-test .left) (sym (c .before .fits3 .ensures) ∙ c .if2 .taken) in
     (z .0, omega arith, z .1))
-    (λ c. (omega arith, omega arith, laws.first-none _ _ _ _ (c .before .before .before .loop .inv) (c .before .before .loop-test .left) (sym (c .before .fits3 .ensures) ∙ c .if2 .left))))
+    (λ c. (
+      omega arith,
+      omega arith,
+      laws.first-none
+          _ _ _ _ (c .before .before .before .loop .inv) (c .before .before .loop-test .left) (sym (c .before .fits3 .ensures) ∙ c .if2 .left),
+    )))

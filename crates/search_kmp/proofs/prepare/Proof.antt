@@ -30,7 +30,11 @@ prepare-spec =
     (λ c. omega (arith, c .before .before .before .before .loop .inv .1))
     (λ c. omega arith)
     (λ c. omega arith)
-    (λ c. let l = c .before .before .before .before .loop in
-    (omega arith, simp length-set (l .inv .1), simp length-set (simp length-set at (l .inv .2)), laws.filling-more _ _ _ _ (l .inv .3) (omega (arith, l .inv .1)) _ _ refl (c .advance .ensures .2)))
+    (λ c. let l = c .before .before .before .before .loop in (
+      omega arith,
+      simp length-set (l .inv .1),
+      simp length-set (simp length-set at (l .inv .2)),
+      laws.filling-more _ _ _ _ (l .inv .3) (omega (arith, l .inv .1)) _ _ refl (c .advance .ensures .2),
+    ))
     (λ c. simp length-set at (c .before .loop .inv .2))
     (λ c. laws.borders-fewer _ _ _ _ (c .before .loop .inv .3 .borders) (omega arith)))

@@ -56,7 +56,22 @@ levels t = at.settings t .levels
 pub +kept-step+pointing-step-spec : {M : Type 1} → statement M
 +kept-step+pointing-step-spec =
     close μ-kept-step μ-pointing-step
-    (λ t. kept-step-lts.spec (whole-reads.Asked, whole-reads.Learnt, shape-of-reads.Asked, shape-of-reads.Learnt, leaf-reads.Asked, leaf-reads.Learnt, quotient-reads.Asked, quotient-reads.Learnt, enter-reads.Asked, enter-reads.Learnt, child-reads.Asked, child-reads.Learnt, pointing-step-below t, pointing-step.Post)
+    (λ t. kept-step-lts.spec (
+      whole-reads.Asked,
+      whole-reads.Learnt,
+      shape-of-reads.Asked,
+      shape-of-reads.Learnt,
+      leaf-reads.Asked,
+      leaf-reads.Learnt,
+      quotient-reads.Asked,
+      quotient-reads.Learnt,
+      enter-reads.Asked,
+      enter-reads.Learnt,
+      child-reads.Asked,
+      child-reads.Learnt,
+      pointing-step-below t,
+      pointing-step.Post,
+    )
     (kept-step-at t)
     kept-step.Post
     (λ c κs. search needs)
@@ -66,7 +81,8 @@ pub +kept-step+pointing-step-spec : {M : Type 1} → statement M
     (λ c.
     let s = c .before .before .before in
     let w = s .before in
-    laws.kept-last _ _ _ _ _ _ _ (w .before .before .pre .1) _ (c .before .if1 .taken ∙ shapes-on _ _ _ (w .whole .ensures) (s .shape-of .ensures) .levels-is) (rw (w .whole .ensures) at (c .leaf .ensures)))
+    laws.kept-last _ _ _ _ _ _ _ (w .before .before .pre .1) _
+    (c .before .if1 .taken ∙ shapes-on _ _ _ (w .whole .ensures) (s .shape-of .ensures) .levels-is) (rw (w .whole .ensures) at (c .leaf .ensures)))
     (λ c κs.
     let s = c .before .before in
     let w = s .before in
@@ -77,7 +93,8 @@ pub +kept-step+pointing-step-spec : {M : Type 1} → statement M
     let s = e .before .before in
     let w = s .before in
     let x = shapes-on _ _ _ (w .whole .ensures) (s .shape-of .ensures) in
-    rw (w .whole .ensures) (laws.asks-child _ _ _ _ _ _ _ (w .before .before .pre .1) (λ last. e .if1 .left (last ∙ sym (x .levels-is))) _ (c .before .quotient .ensures ∙ ap (λ (y : ℕ). e .before .before .before .before .before .args .b / y) (x .arity-is))))
+    rw (w .whole .ensures) (laws.asks-child _ _ _ _ _ _ _ (w .before .before .pre .1) (λ last. e .if1 .left (last ∙ sym (x .levels-is)))
+    _ (c .before .quotient .ensures ∙ ap (λ (y : ℕ). e .before .before .before .before .before .args .b / y) (x .arity-is))))
     (λ c. search needs)
     (λ c. search needs)
     (λ c.
@@ -87,15 +104,21 @@ pub +kept-step+pointing-step-spec : {M : Type 1} → statement M
     let w = s .before in
     let S = w .before .before in
     let x = shapes-on _ _ _ (w .whole .ensures) (s .shape-of .ensures) in
-    sym laws.broken-word ∙ laws.child-none _ _ _ _ _ _ _ (S .pre .1) (λ last. e .if1 .left (last ∙ sym (x .levels-is))) _ (m .before .before .quotient .ensures ∙ ap (λ (y : ℕ). S .args .b / y) (x .arity-is)) _ (m .before .enter .ensures) _ (rw (w .whole .ensures) at (m .child .ensures)) (c .enum-told .given .1))
+    sym laws.broken-word ∙ laws.child-none _ _ _ _ _ _ _ (S .pre .1)
+    (λ last. e .if1 .left (last ∙ sym (x .levels-is))) _ (m .before .before .quotient .ensures ∙ ap (λ (y : ℕ). S .args .b / y) (x .arity-is))
+    _ (m .before .enter .ensures) _ (rw (w .whole .ensures) at (m .child .ensures)) (c .enum-told .given .1))
     (λ c κs.
     let m = c .before .before .before in
     let e = m .before .before .before in
     let s = e .before .before in
     let w = s .before in
     let S = w .before .before in
-    let x = shapes-on _ _ _ (w .whole .ensures) (s .shape-of .ensures) in
-    (omega (arith, S .pre .0, ap levels (w .whole .ensures), S .pre .1 .on .level-in, x .levels-is, e .if1 .left), rw (w .whole .ensures) (laws.child-may _ _ _ _ _ _ _ (S .pre .1) (λ last. e .if1 .left (last ∙ sym (x .levels-is))) _ (m .before .before .quotient .ensures ∙ ap (λ (y : ℕ). S .args .b / y) (x .arity-is)) _ (m .before .enter .ensures) _ (rw (w .whole .ensures) at (m .child .ensures)) _ _ (c .before .child2 .given .1))))
+    let x = shapes-on _ _ _ (w .whole .ensures) (s .shape-of .ensures) in (
+      omega (arith, S .pre .0, ap levels (w .whole .ensures), S .pre .1 .on .level-in, x .levels-is, e .if1 .left),
+      rw (w .whole .ensures) (laws.child-may _ _ _ _ _ _ _ (S .pre .1)
+          (λ last. e .if1 .left (last ∙ sym (x .levels-is))) _ (m .before .before .quotient .ensures ∙ ap (λ (y : ℕ). S .args .b / y) (x .arity-is))
+          _ (m .before .enter .ensures) _ (rw (w .whole .ensures) at (m .child .ensures)) _ _ (c .before .child2 .given .1)),
+    ))
     (λ c.
     let m = c .before .before .before .before in
     let e = m .before .before .before in
@@ -103,8 +126,21 @@ pub +kept-step+pointing-step-spec : {M : Type 1} → statement M
     let w = s .before in
     let S = w .before .before in
     let x = shapes-on _ _ _ (w .whole .ensures) (s .shape-of .ensures) in
-    laws.child-by _ _ _ _ _ _ _ (S .pre .1) (λ last. e .if1 .left (last ∙ sym (x .levels-is))) _ (m .before .before .quotient .ensures ∙ ap (λ (y : ℕ). S .args .b / y) (x .arity-is)) _ (m .before .enter .ensures) _ (rw (w .whole .ensures) at (m .child .ensures)) _ _ _ (c .before .before .child2 .given .1) (rw (w .whole .ensures) at (c .pointing-step .ensures))))
-    (λ t. pointing-step-lts.spec (whole-reads.Asked, whole-reads.Learnt, look-reads.Asked, look-reads.Learnt, kept-step-below t, kept-step.Post, enter-reads.Asked, enter-reads.Learnt, land-reads.Asked, land-reads.Learnt)
+    laws.child-by _ _ _ _ _ _ _ (S .pre .1) (λ last. e .if1 .left (last ∙ sym (x .levels-is))) _ (m .before .before .quotient .ensures
+    ∙ ap (λ (y : ℕ). S .args .b / y) (x .arity-is)) _ (m .before .enter .ensures) _ (rw (w .whole .ensures) at (m .child .ensures))
+    _ _ _ (c .before .before .child2 .given .1) (rw (w .whole .ensures) at (c .pointing-step .ensures))))
+    (λ t. pointing-step-lts.spec (
+      whole-reads.Asked,
+      whole-reads.Learnt,
+      look-reads.Asked,
+      look-reads.Learnt,
+      kept-step-below t,
+      kept-step.Post,
+      enter-reads.Asked,
+      enter-reads.Learnt,
+      land-reads.Asked,
+      land-reads.Learnt,
+    )
     (pointing-step-at t)
     pointing-step.Post
     (λ c κs. search needs)
@@ -113,8 +149,10 @@ pub +kept-step+pointing-step-spec : {M : Type 1} → statement M
     (λ c κs.
     let m = c .before .before in
     let w = m .before in
-    let S = w .before .before in
-    (omega (arith, S .pre .0, ap levels (w .whole .ensures)), rw (w .whole .ensures) (laws.may-keep _ _ _ _ _ _ _ (S .pre .1) _ (rw (w .whole .ensures) at (m .look .ensures)) _ _ (c .enum-told .given .1))))
+    let S = w .before .before in (
+      omega (arith, S .pre .0, ap levels (w .whole .ensures)),
+      rw (w .whole .ensures) (laws.may-keep _ _ _ _ _ _ _ (S .pre .1) _ (rw (w .whole .ensures) at (m .look .ensures)) _ _ (c .enum-told .given .1)),
+    ))
     (λ c. search needs)
     (λ c κs. let S = c .before .before .before .before .before in (laws.may-enter _ _ _ _ _ _ _ (S .pre .1), S .pre .1 .place-in))
     (λ c κs.
@@ -129,13 +167,18 @@ pub +kept-step+pointing-step-spec : {M : Type 1} → statement M
     let m = l .before .before .before .before in
     let w = m .before in
     let S = w .before .before in
-    sym laws.broken-word ∙ laws.land-none _ _ _ _ _ _ _ (S .pre .1) _ (rw (w .whole .ensures) at (m .look .ensures)) _ _ (l .before .before .enum-told2 .given .1) _ (rw (w .whole .ensures) at (l .land .ensures)) (c .enum-told3 .given .1))
+    sym laws.broken-word ∙ laws.land-none _ _ _ _ _ _ _ (S .pre .1) _ (rw (w .whole .ensures) at (m .look .ensures))
+    _ _ (l .before .before .enum-told2 .given .1) _ (rw (w .whole .ensures) at (l .land .ensures)) (c .enum-told3 .given .1))
     (λ c κs.
     let l = c .before .before .before in
     let m = l .before .before .before .before in
     let w = m .before in
-    let S = w .before .before in
-    (omega (arith, S .pre .0, ap levels (w .whole .ensures)), rw (w .whole .ensures) (laws.land-to _ _ _ _ _ _ _ (S .pre .1) _ (rw (w .whole .ensures) at (m .look .ensures)) _ _ (l .before .before .enum-told2 .given .1) _ (rw (w .whole .ensures) at (l .land .ensures)) _ (l .before .enter .ensures) _ _ (c .before .there .given .1))))
+    let S = w .before .before in (
+      omega (arith, S .pre .0, ap levels (w .whole .ensures)),
+      rw (w .whole .ensures)
+          (laws.land-to _ _ _ _ _ _ _ (S .pre .1) _ (rw (w .whole .ensures) at (m .look .ensures)) _ _ (l .before .before .enum-told2 .given .1)
+          _ (rw (w .whole .ensures) at (l .land .ensures)) _ (l .before .enter .ensures) _ _ (c .before .there .given .1)),
+    ))
     (λ c. search needs)
     (λ c. let w = c .before .before .before .before in rw (w .whole .ensures) at (c .kept-step .ensures))
     (λ c.
@@ -143,7 +186,9 @@ pub +kept-step+pointing-step-spec : {M : Type 1} → statement M
     let m = l .before .before .before .before in
     let w = m .before in
     let S = w .before .before in
-    laws.land-by _ _ _ _ _ _ _ (S .pre .1) _ (rw (w .whole .ensures) at (m .look .ensures)) _ _ (l .before .before .enum-told2 .given .1) _ (rw (w .whole .ensures) at (l .land .ensures)) _ (l .before .enter .ensures) _ _ (c .before .before .there .given .1) _ (rw (w .whole .ensures) at (c .kept-step2 .ensures)))
+    laws.land-by _ _ _ _ _ _ _ (S .pre .1)
+    _ (rw (w .whole .ensures) at (m .look .ensures)) _ _ (l .before .before .enum-told2 .given .1) _ (rw (w .whole .ensures) at (l .land .ensures))
+    _ (l .before .enter .ensures) _ _ (c .before .before .there .given .1) _ (rw (w .whole .ensures) at (c .kept-step2 .ensures)))
     (λ c.
     let m = c .before .before in
     let w = m .before in

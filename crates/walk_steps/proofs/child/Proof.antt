@@ -17,6 +17,8 @@ child-spec =
     (λ c κs. laws.b-pos _ _ _ _ (c .before .before .before .pre .0))
     (λ c. search needs)
     (λ c. search needs)
-    (λ c. laws.child-past _ _ _ _ _ _ _ _ (c .before .before .before .before .link .ensures) (c .before .before .before .level-count .ensures) (c .before .before .part-of .ensures) (c .if1 .taken))
+    (λ c. let w = c .before .before in
+    laws.child-past _ _ _ _ _ _ _ _ (w .before .before .link .ensures) (w .before .level-count .ensures) (w .part-of .ensures) (c .if1 .taken))
     (λ c. search needs)
-    (λ c. laws.child-there _ _ _ _ _ _ _ _ (c .before .before .before .before .before .link .ensures) (c .before .before .before .before .level-count .ensures) (c .before .before .before .part-of .ensures) _ refl (c .before .if1 .left)))
+    (λ c. let w = c .before .before .before in laws.child-there
+    _ _ _ _ _ _ _ _ (w .before .before .link .ensures) (w .before .level-count .ensures) (w .part-of .ensures) _ refl (c .before .if1 .left)))

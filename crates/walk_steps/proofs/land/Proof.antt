@@ -15,6 +15,12 @@ land-spec =
     (λ c. search needs)
     (λ c. search needs)
     (λ c. search needs)
-    (λ c. let e = c .before .before .before .before in laws.land-kept _ _ _ _ _ (c .before .before .before .target .ensures) _ _ (omega (arith, laws.shapes _ _ (e .before .before .shape-of .ensures) .levels-is, e .if1 .left, e .before .before .before .before .pre .on .level-in)) (c .before .i .given .1))
+    (λ c. let e = c .before .before .before .before in laws.land-kept
+    _ _ _ _ _ (c .before .before .before .target .ensures) _ _ (omega (
+      arith,
+      laws.shapes _ _ (e .before .before .shape-of .ensures) .levels-is,
+      e .if1 .left,
+      e .before .before .before .before .pre .on .level-in,
+    )) (c .before .i .given .1))
     (λ c. laws.land-points _ _ _ _ _ (c .before .before .target .ensures) _ _ (c .enum-told .given .1))
     (λ c. laws.land-off _ _ _ _ _ (c .before .before .target .ensures) (c .enum-told2 .given .1)))

@@ -11,6 +11,8 @@ bt-column-row-spec =
     (λ c. search needs)
     (λ c. search needs)
     (λ c. search needs)
-    (λ c. let r = c .before .before .before .before in (laws.column-told _ _ _ _ _ (r .row-by-columns .ensures .0) _ _ (c .enum-told .given .1), r .row-by-columns .ensures .1))
+    (λ c. let r = c .before .before .before .before in
+    (laws.column-told _ _ _ _ _ (r .row-by-columns .ensures .0) _ _ (c .enum-told .given .1), r .row-by-columns .ensures .1))
     (λ c. search needs)
-    (λ c. let r = c .before .before .before .before .before in (laws.column-refused _ _ _ _ _ (r .row-by-columns .ensures .0) _ (c .before .copied .given .1), r .row-by-columns .ensures .1)))
+    (λ c. let r = c .before .before .before .before .before in
+    (laws.column-refused _ _ _ _ _ (r .row-by-columns .ensures .0) _ (c .before .copied .given .1), r .row-by-columns .ensures .1)))

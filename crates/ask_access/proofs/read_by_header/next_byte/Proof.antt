@@ -14,8 +14,11 @@ next-byte-spec =
     (λ c. search needs)
     (λ c. search needs)
     (λ c κs. search needs)
-    (λ c. let pre = c .before .before .before .before .before .pre in
-    (laws.byte-broken _ _ _ (pre .0) (pre .1) _ _ (on.reached-broken _ _ _ _ (c .before .before .before .reach .ensures) (c .before .enum-told .given .1)) refl, on.held-unknown _ _ _ _ (c .nothing .ensures)))
+    (λ c. let pre = c .before .before .before .before .before .pre in (
+      laws.byte-broken _ _ _ (pre .0) (pre .1) _ _ (on.reached-broken _ _ _ _
+          (c .before .before .before .reach .ensures) (c .before .enum-told .given .1)) refl,
+      on.held-unknown _ _ _ _ (c .nothing .ensures),
+    ))
     (λ c. search needs)
     (λ c. search needs)
     (λ c. search needs)
@@ -26,5 +29,6 @@ next-byte-spec =
     let z = on.reached-at _ _ _ _ (c .before .before .before .before .before .before .reach .ensures) _ (c .before .before .before .before .walked .given .1) in
     (omega (arith, z .0, z .1 .leaves-in), z .0))
     (λ c. let pre = c .before .before .before .before .before .before .before .before .before .pre in
-    let z = on.reached-at _ _ _ _ (c .before .before .before .before .before .before .before .reach .ensures) _ (c .before .before .before .before .before .walked .given .1) in
+    let z = on.reached-at _ _ _ _
+    (c .before .before .before .before .before .before .before .reach .ensures) _ (c .before .before .before .before .before .walked .given .1) in
     (laws.byte-reached _ _ _ (pre .0) (pre .1) _ _ (z .1 .is) _ refl refl _ refl, on.held-ahead _ _ (pre .0) _ _ _ (z .1) (z .0) (c .ahead .ensures))))

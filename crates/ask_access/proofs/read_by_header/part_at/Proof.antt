@@ -13,11 +13,18 @@ part-at-spec =
     (λ c κs. search needs)
     (λ c. search needs)
     (λ c. search needs)
-    (λ c. laws.run-broken _ _ _ (c .before .before .before .before .before .before .before .pre) (c .before .before .before .if1 .left) _ _ (c .before .before .walk .ensures) (c .enum-told .given .1))
-    (λ c. omega (arith, laws.leaf-low _ _ _ (c .before .before .before .before .before .before .before .before .before .before .pre) (c .before .before .before .before .before .before .if1 .left) _ _ (c .before .before .before .before .before .walk .ensures) _ (c .before .before .before .walked .given .1)))
+    (λ c. let w = c .before .before in
+    laws.run-broken _ _ _ (w .before .before .before .before .before .pre) (w .before .if1 .left) _ _ (w .walk .ensures) (c .enum-told .given .1))
+    (λ c. let w = c .before .before .before .before .before in omega (
+      arith,
+      laws.leaf-low _ _ _ (w .before .before .before .before .before .pre)
+          (w .before .if1 .left) _ _ (w .walk .ensures) _ (c .before .before .before .walked .given .1),
+    ))
     (λ c κs. search needs)
     (λ c. search needs)
     (λ c. search needs)
     (λ c. search needs)
     (λ c. search needs)
-    (λ c. laws.run-reached _ _ _ (c .before .before .before .before .before .before .before .before .before .before .before .before .before .pre) (c .before .before .before .before .before .before .before .before .before .if1 .left) _ _ (c .before .before .before .before .before .before .before .before .walk .ensures) _ (c .before .before .before .before .before .before .walked .given .1) refl _ _ refl (c .before .before .shorter .ensures)))
+    (λ c. let w = c .before .before .before .before .before .before in
+    let v = w .before .before in laws.run-reached _ _ _ (v .before .before .before .before .before .pre)
+    (v .before .if1 .left) _ _ (v .walk .ensures) _ (w .walked .given .1) refl _ _ refl (c .before .before .shorter .ensures)))

@@ -18,8 +18,20 @@ entries-before-spec =
     (tie.spec Inv-loop μ-loop
     (λ c. (omega arith, laws.none-before _, omega arith))
     (λ c κs. (c .before .before .before .pre .0, omega (arith, c .before .before .before .pre .1, c .loop-test .taken)))
-    (λ c. omega (arith, c .before .before .loop .inv .2, c .entries-of .ensures .1, c .before .loop-test .taken, c .before .before .before .before .pre .1, c .before .before .before .before .pre .0 .facts .counted-high))
+    (λ c. let w = c .before .before in omega (
+      arith,
+      w .loop .inv .2,
+      c .entries-of .ensures .1,
+      c .before .loop-test .taken,
+      w .before .before .pre .1,
+      w .before .before .pre .0 .facts .counted-high,
+    ))
     (λ c. omega (arith, c .before .loop-test .taken))
     (λ c. omega (arith, c .before .loop-test .taken))
-    (λ c. (omega (arith, c .before .loop-test .taken), laws.one-more _ _ _ _ (c .before .before .loop .inv .1) (c .entries-of .ensures .0), omega (arith, c .before .before .loop .inv .2, c .entries-of .ensures .1)))
-    (λ c. let e : c .before .loop .c ≡ c .before .before .before .args .number = omega (arith, c .loop-test .left, c .before .loop .inv .0) in (rw e at (c .before .loop .inv .1), omega (arith, c .before .loop .inv .2, e, c .before .before .before .pre .1, c .before .before .before .pre .0 .facts .counted-high))))
+    (λ c. (
+      omega (arith, c .before .loop-test .taken),
+      laws.one-more _ _ _ _ (c .before .before .loop .inv .1) (c .entries-of .ensures .0),
+      omega (arith, c .before .before .loop .inv .2, c .entries-of .ensures .1),
+    ))
+    (λ c. let w = c .before in let v = w .before .before in let e : w .loop .c ≡ v .args .number = omega (arith, c .loop-test .left, w .loop .inv .0) in
+    (rw e at (w .loop .inv .1), omega (arith, w .loop .inv .2, e, v .pre .1, v .pre .0 .facts .counted-high))))

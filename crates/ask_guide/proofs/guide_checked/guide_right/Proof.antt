@@ -10,7 +10,11 @@ guide-right-spec =
     (tie.spec
     (λ c κs. search needs)
     (λ c. search needs)
-    (λ c κs. (header-good _ _ (c .before .before .before .read-header .ensures) _ (c .before .read .given .1), c .before .before .before .before .before .before .pre))
+    (λ c κs. (
+      header-good _ _ (c .before .before .before .read-header .ensures) _ (c .before .read .given .1),
+      c .before .before .before .before .before .before .pre,
+    ))
     (λ c. search needs)
     (λ c. search needs)
-    (λ c. let h = header-refused _ _ (c .before .before .read-header .ensures) _ (c .enum-told .given .1) in absurd (laws.not-refused _ _ (c .before .before .before .before .before .pre) (h .1))))
+    (λ c. let h = header-refused _ _ (c .before .before .read-header .ensures) _ (c .enum-told .given .1) in
+    absurd (laws.not-refused _ _ (c .before .before .before .before .before .pre) (h .1))))

@@ -12,8 +12,10 @@ put-guide-spec =
     (tie.spec
     (λ c κs. search needs)
     (λ c. search needs)
-    (λ c κs. (header-good _ _ (c .before .before .before .before .read-header .ensures) _ (c .before .before .read .given .1), c .before .before .before .before .before .before .before .pre))
+    (λ c κs. let w = c .before .before in
+    (header-good _ _ (w .before .before .read-header .ensures) _ (w .read .given .1), w .before .before .before .before .before .pre))
     (λ c. search needs)
     (λ c. search needs)
     (λ c. search needs)
-    (λ c. let h = header-refused _ _ (c .before .before .before .read-header .ensures) _ (c .before .read2 .given .1) in absurd (laws.not-refused _ _ (c .before .before .before .before .before .before .pre) (h .1))))
+    (λ c. let h = header-refused _ _ (c .before .before .before .read-header .ensures) _ (c .before .read2 .given .1) in
+    absurd (laws.not-refused _ _ (c .before .before .before .before .before .before .pre) (h .1))))

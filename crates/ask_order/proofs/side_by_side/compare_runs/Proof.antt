@@ -12,11 +12,16 @@ compare-runs-spec =
     (λ c κs. laws.runs-inside _ _ _ _ _ (c .before .before .before .pre .0) _ (c .shorter .ensures))
     (λ c κs. laws.byte-inside _ _ _ _ _ (c .before .before .before .before .before .pre .0) _ (c .before .before .shorter .ensures) _ (c .if1 .taken))
     (λ c. let n = c .before .before .before in
-    laws.compare-differs _ _ _ _ _ (n .before .before .before .pre .0) _ (n .shorter .ensures) _ (c .before .before .agree .ensures) (c .before .if1 .taken) _ (c .by-byte .ensures))
-    (λ c κs. let n = c .before .before in laws.rest-inside _ _ _ _ _ (n .before .before .before .pre .0) _ (n .shorter .ensures) (n .before .before .before .good .0 .0))
-    (λ c κs. let n = c .before .before .before in laws.rest-inside-2 _ _ _ _ _ (n .before .before .before .pre .0) _ (n .shorter .ensures) (n .before .before .before .good .1 .1 .0 .0))
+    laws.compare-differs _ _ _ _ _ (n .before .before .before .pre .0)
+    _ (n .shorter .ensures) _ (c .before .before .agree .ensures) (c .before .if1 .taken) _ (c .by-byte .ensures))
+    (λ c κs. let n = c .before .before in
+    laws.rest-inside _ _ _ _ _ (n .before .before .before .pre .0) _ (n .shorter .ensures) (n .before .before .before .good .0 .0))
+    (λ c κs. let n = c .before .before .before in
+    laws.rest-inside-2 _ _ _ _ _ (n .before .before .before .pre .0) _ (n .shorter .ensures) (n .before .before .before .good .1 .1 .0 .0))
     (λ c. let n = c .before .before .before .before in omega (arith, laws.place-small _ _ _ _ _ (n .before .before .before .pre .0) _ (n .shorter .ensures)))
-    (λ c. let n = c .before .before .before .before .before in omega (arith, laws.place-small _ _ _ _ _ (n .before .before .before .pre .0) _ (n .shorter .ensures)))
+    (λ c. let n = c .before .before .before .before .before in
+    omega (arith, laws.place-small _ _ _ _ _ (n .before .before .before .pre .0) _ (n .shorter .ensures)))
     (λ c. let n = c .before .before .before .before .before in
     let pre = n .before .before .before .pre in
-    laws.compare-on _ _ _ _ _ (pre .0) _ (n .shorter .ensures) _ (c .before .before .before .before .agree .ensures) (pre .1) (pre .2) (c .before .before .before .if1 .left) _ _ (c .before .before .rest .ensures) (c .before .rest2 .ensures)))
+    laws.compare-on _ _ _ _ _ (pre .0) _ (n .shorter .ensures) _ (c .before .before .before .before .agree .ensures)
+    (pre .1) (pre .2) (c .before .before .before .if1 .left) _ _ (c .before .before .rest .ensures) (c .before .rest2 .ensures)))

@@ -36,7 +36,8 @@ feed-spec =
       s .ensures .place-is ∙ omega (arith, l .loop .inv .1),
       s .kept .1 .1 .1 .1 .1 .0 ∙ l .loop .inv .2,
       s .ensures .even,
-      λ before z. laws.seeking-byte _ _ _ _ _ _ (l .loop .inv .4 before z) (start .args .m) _ _ (l .loop .i) _ _ _ (start .pre .0 .0) (omega arith) (l .loop .inv .1) refl (s .ensures),
+      λ before z. laws.seeking-byte _ _ _ _ _ _
+          (l .loop .inv .4 before z) (start .args .m) _ _ (l .loop .i) _ _ _ (start .pre .0 .0) (omega arith) (l .loop .inv .1) refl (s .ensures),
     ))
     (λ c. c .before .loop .inv .2)
     (λ c. (omega (arith, c .before .loop .inv .1), c .before .loop .inv .4)))

@@ -31,19 +31,32 @@ seek-spec =
     (λ c. let l = c .before .before .before .before .before .before in
     let k = l .before .before .before .before .before .pre .0 .0 in
     let low = c .before .before .before .if1 .taken in
-    laws.seek-broken _ _ _ _ _ _ (l .loop .inv .0) (l .loop .inv .1) (omega (arith, k .length-is)) (part-broken _ _ k _ low _ (c .before .before .part-at .ensures) _ (c .enum-told .given .1) .1))
+    laws.seek-broken _ _ _ _ _ _ (l .loop .inv .0)
+    (l .loop .inv .1) (omega (arith, k .length-is)) (part-broken _ _ k _ low _ (c .before .before .part-at .ensures) _ (c .enum-told .given .1) .1))
     (λ c κs. let l = c .before .before .before .before .before .before .before .before in
     let pre = l .before .before .before .before .before .pre in
-    let z = part-reads _ _ (pre .0 .0) _ (c .before .before .before .before .before .if1 .taken) _ (c .before .before .before .before .part-at .ensures) _ (c .before .before .ran .given .1) in
-    ((z .0, omega (arith, z .0 .in-text, laws.text-small _ _ (pre .0 .0)), laws.seeking-even _ _ _ _ _ _ (l .loop .inv .0) (pre .0 .1), omega (arith, laws.seeking-length _ _ _ _ _ _ (l .loop .inv .0), pre .0 .2)), pre .1))
+    let z = part-reads _ _ (pre .0 .0) _ (c .before .before .before .before .before .if1 .taken)
+    _ (c .before .before .before .before .part-at .ensures) _ (c .before .before .ran .given .1) in (
+      (
+        z .0,
+        omega (arith, z .0 .in-text, laws.text-small _ _ (pre .0 .0)),
+        laws.seeking-even _ _ _ _ _ _ (l .loop .inv .0) (pre .0 .1),
+        omega (arith, laws.seeking-length _ _ _ _ _ _ (l .loop .inv .0), pre .0 .2),
+      ),
+      pre .1,
+    ))
     (λ c. let l = c .before .before .before .before .before .before .before .before .before .before .before in
     let pre = l .before .before .before .before .before .pre in
-    let z = part-reads _ _ (pre .0 .0) _ (c .before .before .before .before .before .before .before .before .if1 .taken) _ (c .before .before .before .before .before .before .before .part-at .ensures) _ (c .before .before .before .before .before .ran .given .1) in
+    let z = part-reads _ _ (pre .0 .0) _ (c .before .before .before .before .before .before .before .before .if1 .taken)
+    _ (c .before .before .before .before .before .before .before .part-at .ensures) _ (c .before .before .before .before .before .ran .given .1) in
     omega (arith, z .0 .in-text, z .1, c .before .before .feed .ensures .0))
     (λ c. let l = c .before .before .before .before .before .before .before .before .before .before .before in
     let pre = l .before .before .before .before .before .pre in
-    let z = part-reads _ _ (pre .0 .0) _ (c .before .before .before .before .before .before .before .before .if1 .taken) _ (c .before .before .before .before .before .before .before .part-at .ensures) _ (c .before .before .before .before .before .ran .given .1) in
-    (c .before .before .feed .ensures .1 _ (l .loop .inv .0), laws.seek-on _ _ _ _ _ _ (l .loop .inv .0) (l .loop .inv .1) _ _ _ (z .0) (c .before .before .feed .ensures .0)))
+    let z = part-reads _ _ (pre .0 .0) _ (c .before .before .before .before .before .before .before .before .if1 .taken)
+    _ (c .before .before .before .before .before .before .before .part-at .ensures) _ (c .before .before .before .before .before .ran .given .1) in (
+      c .before .before .feed .ensures .1 _ (l .loop .inv .0),
+      laws.seek-on _ _ _ _ _ _ (l .loop .inv .0) (l .loop .inv .1) _ _ _ (z .0) (c .before .before .feed .ensures .0),
+    ))
     (λ c. laws.seeking-length _ _ _ _ _ _ (c .before .before .before .loop .inv .0))
     (λ c. let l = c .before .before .before in
     let pre = l .before .before .before .before .before .pre .0 in

@@ -14,7 +14,8 @@ step-spec =
     (pre .0 .0 .short, pre .1 .0, borders-fewer _ _ _ _ (pre .1 .1) (pre .0 .0 .short)))
     (λ c. search needs)
     (λ c. let a = c .before .before in
-    laws.stepped-on _ _ _ _ _ (a .before .before .before .before .pre .0 .0) _ (a .advance .ensures .0) (a .advance .ensures .1) (a .advance .ensures .2) (c .if1 .taken))
+    laws.stepped-on _ _ _ _ _
+    (a .before .before .before .before .pre .0 .0) _ (a .advance .ensures .0) (a .advance .ensures .1) (a .advance .ensures .2) (c .if1 .taken))
     (λ c. let a = c .before .before .before in
     let pre = a .before .before .before .before .pre .0 in
     omega (arith, c .before .if1 .left, a .advance .ensures .1, pre .0 .state-low, pre .1))
@@ -25,4 +26,5 @@ step-spec =
     omega (arith, pre .0 .found-low, pre .1))
     (λ c. c .before .before .before .note .kept .0)
     (λ c. let a = c .before .before .before .before .before .before .before in
-    laws.stepped-found _ _ _ _ _ (a .before .before .before .before .pre .0 .0) _ (a .advance .ensures .0) (a .advance .ensures .1) (a .advance .ensures .2) _ _ (c .before .before .before .before .before .if1 .left) refl (c .before .before .before .note .ensures)))
+    laws.stepped-found _ _ _ _ _ (a .before .before .before .before .pre .0 .0) _ (a .advance .ensures .0) (a .advance .ensures .1)
+    (a .advance .ensures .2) _ _ (c .before .before .before .before .before .if1 .left) refl (c .before .before .before .note .ensures)))

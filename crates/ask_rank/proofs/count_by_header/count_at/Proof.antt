@@ -11,9 +11,22 @@ count-at-spec =
     (tie.spec
     (λ c. record { says = laws.count-past _ _ (c .before .before .before .pre) _ _ (c .if1 .taken); numbered = omega arith })
     (λ c κs. search needs)
-    (λ c. record { says = laws.count-none _ _ (c .before .before .before .before .before .before .pre) _ _ (c .before .before .before .if1 .left) _ (c .before .before .number-of .ensures .0) (c .if2 .taken); numbered = omega arith })
-    (λ c. record { says = laws.count-nothing _ _ (c .before .before .before .before .before .before .before .pre) _ _ (c .before .before .before .before .if1 .left) _ (c .before .before .before .number-of .ensures .0) (c .before .if2 .left) (c .if3 .taken); numbered = tt })
+    (λ c. let w = c .before .before in record {
+      says = laws.count-none _ _
+          (w .before .before .before .before .pre) _ _ (w .before .if1 .left) _ (w .number-of .ensures .0) (c .if2 .taken);
+      numbered = omega arith;
+    })
+    (λ c. let w = c .before .before .before in record {
+      says = laws.count-nothing _ _ (w .before .before .before .before .pre)
+          _ _ (w .before .if1 .left) _ (w .number-of .ensures .0) (c .before .if2 .left) (c .if3 .taken);
+      numbered = tt;
+    })
     (λ c. search needs)
     (λ c κs. search needs)
     (λ c κs. search needs)
-    (λ c. record { says = laws.count-walked _ _ (c .before .before .before .before .before .before .before .before .before .pre) _ _ (c .before .before .before .before .before .before .if1 .left) _ (c .before .before .before .before .before .number-of .ensures .0) (c .before .before .before .if2 .left) (c .before .before .if3 .left) _ (c .settle .ensures .0 ∙ c .before .walk .ensures); numbered = c .settle .ensures .1 }))
+    (λ c. let w = c .before .before .before .before .before in record {
+      says = laws.count-walked
+          _ _ (w .before .before .before .before .pre) _ _ (w .before .if1 .left) _ (w .number-of .ensures .0) (c .before .before .before .if2 .left)
+          (c .before .before .if3 .left) _ (c .settle .ensures .0 ∙ c .before .walk .ensures);
+      numbered = c .settle .ensures .1;
+    }))

@@ -21,8 +21,16 @@ number-of-spec =
     (λ c. search needs)
     (λ c. omega (arith, c .before .before .pre .k-low))
     (λ c. omega (arith, c .before .before .before .pre .long, c .before .before .before .pre .k-low))
-    (λ c. (laws.ahead-hit _ _ _ _ (c .before .before .before .before .pre) (omega arith) (c .if1 .taken) ∙ c .before .before .before .loop .inv .1, omega arith))
+    (λ c. (
+      laws.ahead-hit _ _ _ _ (c .before .before .before .before .pre) (omega arith) (c .if1 .taken)
+          ∙ c .before .before .before .loop .inv .1,
+      omega arith,
+    ))
     (λ c. search needs)
     (λ c. search needs)
-    (λ c. (omega arith, laws.ahead-miss _ _ _ _ (c .before .before .before .before .pre) (omega arith) (c .if1 .left) ∙ c .before .before .before .loop .inv .1))
+    (λ c. (
+      omega arith,
+      laws.ahead-miss _ _ _ _ (c .before .before .before .before .pre) (omega arith) (c .if1 .left)
+          ∙ c .before .before .before .loop .inv .1,
+    ))
     (λ c. (laws.ahead-end _ _ _ _ (c .before .before .pre) (omega arith) ∙ c .before .loop .inv .1, omega arith)))

@@ -58,7 +58,22 @@ levels t = at.settings t .levels
 pub +kept-step+pointing-step-spec : {M : Type 1} → statement M
 +kept-step+pointing-step-spec =
     close μ-kept-step μ-pointing-step
-    (λ t. kept-step-lts.spec (whole-reads.Asked, whole-reads.Learnt, shape-of-reads.Asked, shape-of-reads.Learnt, leaf-reads.Asked, leaf-reads.Learnt, quotient-reads.Asked, quotient-reads.Learnt, child-reads.Asked, child-reads.Learnt, down-reads.Asked, down-reads.Learnt, pointing-step-below t, pointing-step.Post)
+    (λ t. kept-step-lts.spec (
+      whole-reads.Asked,
+      whole-reads.Learnt,
+      shape-of-reads.Asked,
+      shape-of-reads.Learnt,
+      leaf-reads.Asked,
+      leaf-reads.Learnt,
+      quotient-reads.Asked,
+      quotient-reads.Learnt,
+      child-reads.Asked,
+      child-reads.Learnt,
+      down-reads.Asked,
+      down-reads.Learnt,
+      pointing-step-below t,
+      pointing-step.Post,
+    )
     (kept-step-at t)
     kept-step.Post
     (λ c κs. search needs)
@@ -68,7 +83,8 @@ pub +kept-step+pointing-step-spec : {M : Type 1} → statement M
     (λ c.
     let s = c .before .before .before in
     let w = s .before in
-    laws.by-last _ _ _ _ _ _ _ _ _ _ (w .before .before .pre .1 .0) (c .before .if1 .taken ∙ shapes-on _ _ _ (w .whole .ensures) (s .shape-of .ensures) .levels-is) (rw (w .whole .ensures) at (c .leaf .ensures)))
+    laws.by-last _ _ _ _ _ _ _ _ _ _ (w .before .before .pre .1 .0)
+    (c .before .if1 .taken ∙ shapes-on _ _ _ (w .whole .ensures) (s .shape-of .ensures) .levels-is) (rw (w .whole .ensures) at (c .leaf .ensures)))
     (λ c κs.
     let s = c .before .before in
     let w = s .before in
@@ -79,7 +95,8 @@ pub +kept-step+pointing-step-spec : {M : Type 1} → statement M
     let w = s .before in
     let S = w .before .before in
     let x = shapes-on _ _ _ (w .whole .ensures) (s .shape-of .ensures) in
-    rw (w .whole .ensures) (walk.asks-child _ _ _ _ _ _ _ (S .pre .1 .0) (λ last. e .if1 .left (last ∙ sym (x .levels-is))) _ (c .quotient .ensures ∙ ap (λ (y : ℕ). S .args .b / y) (x .arity-is))))
+    rw (w .whole .ensures) (walk.asks-child _ _ _ _ _ _ _
+    (S .pre .1 .0) (λ last. e .if1 .left (last ∙ sym (x .levels-is))) _ (c .quotient .ensures ∙ ap (λ (y : ℕ). S .args .b / y) (x .arity-is))))
     (λ c. search needs)
     (λ c. search needs)
     (λ c.
@@ -89,7 +106,8 @@ pub +kept-step+pointing-step-spec : {M : Type 1} → statement M
     let w = s .before in
     let S = w .before .before in
     let x = shapes-on _ _ _ (w .whole .ensures) (s .shape-of .ensures) in
-    laws.by-off _ _ _ _ _ _ _ (S .pre .1 .0) (λ last. e .if1 .left (last ∙ sym (x .levels-is))) _ (m .before .quotient .ensures ∙ ap (λ (y : ℕ). S .args .b / y) (x .arity-is)) _ (rw (w .whole .ensures) at (m .child .ensures)) _ _ (c .enum-told .given .1))
+    laws.by-off _ _ _ _ _ _ _ (S .pre .1 .0) (λ last. e .if1 .left (last ∙ sym (x .levels-is))) _ (m .before .quotient .ensures
+    ∙ ap (λ (y : ℕ). S .args .b / y) (x .arity-is)) _ (rw (w .whole .ensures) at (m .child .ensures)) _ _ (c .enum-told .given .1))
     (λ c κs.
     let m = c .before .before .before in
     let e = m .before .before in
@@ -97,7 +115,9 @@ pub +kept-step+pointing-step-spec : {M : Type 1} → statement M
     let w = s .before in
     let S = w .before .before in
     let x = shapes-on _ _ _ (w .whole .ensures) (s .shape-of .ensures) in
-    rw (w .whole .ensures) (laws.down-asks _ _ _ _ _ _ _ (S .pre .1 .0) (λ last. e .if1 .left (last ∙ sym (x .levels-is))) _ (m .before .quotient .ensures ∙ ap (λ (y : ℕ). S .args .b / y) (x .arity-is)) _ (rw (w .whole .ensures) at (m .child .ensures)) _ _ _ (c .before .child2 .given .1) (S .pre .1 .1)))
+    rw (w .whole .ensures) (laws.down-asks _ _ _ _ _ _ _ (S .pre .1 .0)
+    (λ last. e .if1 .left (last ∙ sym (x .levels-is))) _ (m .before .quotient .ensures ∙ ap (λ (y : ℕ). S .args .b / y) (x .arity-is))
+    _ (rw (w .whole .ensures) at (m .child .ensures)) _ _ _ (c .before .child2 .given .1) (S .pre .1 .1)))
     (λ c κs.
     let m = c .before .before .before .before in
     let e = m .before .before in
@@ -105,8 +125,12 @@ pub +kept-step+pointing-step-spec : {M : Type 1} → statement M
     let w = s .before in
     let S = w .before .before in
     let x = shapes-on _ _ _ (w .whole .ensures) (s .shape-of .ensures) in
-    let d = rw (w .whole .ensures) at (c .down .ensures) in
-    (omega (arith, S .pre .0, ap levels (w .whole .ensures), S .pre .1 .0 .on .level-in, x .levels-is, e .if1 .left), rw (w .whole .ensures) (laws.to-child _ _ _ _ _ _ _ (S .pre .1 .0) (λ last. e .if1 .left (last ∙ sym (x .levels-is))) _ (m .before .quotient .ensures ∙ ap (λ (y : ℕ). S .args .b / y) (x .arity-is)) _ (rw (w .whole .ensures) at (m .child .ensures)) _ _ _ (c .before .before .child2 .given .1) _ (d .0) (d .1))))
+    let d = rw (w .whole .ensures) at (c .down .ensures) in (
+      omega (arith, S .pre .0, ap levels (w .whole .ensures), S .pre .1 .0 .on .level-in, x .levels-is, e .if1 .left),
+      rw (w .whole .ensures) (laws.to-child _ _ _ _ _ _ _ (S .pre .1 .0)
+          (λ last. e .if1 .left (last ∙ sym (x .levels-is))) _ (m .before .quotient .ensures ∙ ap (λ (y : ℕ). S .args .b / y) (x .arity-is))
+          _ (rw (w .whole .ensures) at (m .child .ensures)) _ _ _ (c .before .before .child2 .given .1) _ (d .0) (d .1)),
+    ))
     (λ c.
     let m = c .before .before .before .before .before in
     let e = m .before .before in
@@ -115,8 +139,21 @@ pub +kept-step+pointing-step-spec : {M : Type 1} → statement M
     let S = w .before .before in
     let x = shapes-on _ _ _ (w .whole .ensures) (s .shape-of .ensures) in
     let d = rw (w .whole .ensures) at (c .before .down .ensures) in
-    laws.by-child _ _ _ _ _ _ _ (S .pre .1 .0) (λ last. e .if1 .left (last ∙ sym (x .levels-is))) _ (m .before .quotient .ensures ∙ ap (λ (y : ℕ). S .args .b / y) (x .arity-is)) _ (rw (w .whole .ensures) at (m .child .ensures)) _ _ _ (c .before .before .before .child2 .given .1) _ (d .0) _ _ (rw (w .whole .ensures) at (c .pointing-step .ensures))))
-    (λ t. pointing-step-lts.spec (whole-reads.Asked, whole-reads.Learnt, look-reads.Asked, look-reads.Learnt, kept-step-below t, kept-step.Post, land-reads.Asked, land-reads.Learnt, across-reads.Asked, across-reads.Learnt)
+    laws.by-child _ _ _ _ _ _ _ (S .pre .1 .0) (λ last. e .if1 .left (last ∙ sym (x .levels-is)))
+    _ (m .before .quotient .ensures ∙ ap (λ (y : ℕ). S .args .b / y) (x .arity-is)) _ (rw (w .whole .ensures) at (m .child .ensures))
+    _ _ _ (c .before .before .before .child2 .given .1) _ (d .0) _ _ (rw (w .whole .ensures) at (c .pointing-step .ensures))))
+    (λ t. pointing-step-lts.spec (
+      whole-reads.Asked,
+      whole-reads.Learnt,
+      look-reads.Asked,
+      look-reads.Learnt,
+      kept-step-below t,
+      kept-step.Post,
+      land-reads.Asked,
+      land-reads.Learnt,
+      across-reads.Asked,
+      across-reads.Learnt,
+    )
     (pointing-step-at t)
     pointing-step.Post
     (λ c κs. search needs)
@@ -125,8 +162,11 @@ pub +kept-step+pointing-step-spec : {M : Type 1} → statement M
     (λ c κs.
     let m = c .before .before in
     let w = m .before in
-    let S = w .before .before in
-    (omega (arith, S .pre .0, ap levels (w .whole .ensures)), rw (w .whole .ensures) (walk.may-keep _ _ _ _ _ _ _ (S .pre .1 .0) _ (rw (w .whole .ensures) at (m .look .ensures)) _ _ (c .enum-told .given .1), S .pre .1 .1)))
+    let S = w .before .before in (
+      omega (arith, S .pre .0, ap levels (w .whole .ensures)),
+      rw (w .whole .ensures)
+          (walk.may-keep _ _ _ _ _ _ _ (S .pre .1 .0) _ (rw (w .whole .ensures) at (m .look .ensures)) _ _ (c .enum-told .given .1), S .pre .1 .1),
+    ))
     (λ c. search needs)
     (λ c κs.
     let m = c .before .before in
@@ -140,20 +180,32 @@ pub +kept-step+pointing-step-spec : {M : Type 1} → statement M
     let m = l .before .before .before in
     let w = m .before in
     let S = w .before .before in
-    laws.by-no-land _ _ _ _ _ _ _ (S .pre .1 .0) _ (rw (w .whole .ensures) at (m .look .ensures)) _ _ (l .before .enum-told2 .given .1) _ (rw (w .whole .ensures) at (l .land .ensures)) _ _ (c .enum-told3 .given .1))
+    laws.by-no-land _ _ _ _ _ _ _ (S .pre .1 .0) _ (rw (w .whole .ensures) at (m .look .ensures))
+    _ _ (l .before .enum-told2 .given .1) _ (rw (w .whole .ensures) at (l .land .ensures)) _ _ (c .enum-told3 .given .1))
     (λ c κs.
     let l = c .before .before .before in
     let m = l .before .before .before in
     let w = m .before in
     let S = w .before .before in
-    rw (w .whole .ensures) (laws.target-across _ _ _ _ _ _ (S .args .sum) (S .pre .1 .0) _ (rw (w .whole .ensures) at (m .look .ensures)) _ _ (l .before .enum-told2 .given .1) _ (rw (w .whole .ensures) at (l .land .ensures)) _ _ (c .before .there .given .1), walk.may-enter _ _ _ _ _ _ _ (S .pre .1 .0), S .pre .1 .1))
+    rw (w .whole .ensures) (
+      laws.target-across _ _ _ _ _ _ (S .args .sum) (S .pre .1 .0) _ (rw (w .whole .ensures) at (m .look .ensures))
+          _ _ (l .before .enum-told2 .given .1) _ (rw (w .whole .ensures) at (l .land .ensures)) _ _ (c .before .there .given .1),
+      walk.may-enter _ _ _ _ _ _ _ (S .pre .1 .0),
+      S .pre .1 .1,
+    ))
     (λ c κs.
     let l = c .before .before .before .before in
     let m = l .before .before .before in
     let w = m .before in
     let S = w .before .before in
-    let d = rw (w .whole .ensures) at (c .across .ensures) in
-    (omega (arith, S .pre .0, ap levels (w .whole .ensures)), rw (w .whole .ensures) (laws.to-target _ _ _ _ _ _ _ (S .pre .1 .0) _ (rw (w .whole .ensures) at (m .look .ensures)) _ _ (l .before .enum-told2 .given .1) _ (rw (w .whole .ensures) at (l .land .ensures)) _ _ (c .before .before .there .given .1) 0 _ _ (d .0), d .1)))
+    let d = rw (w .whole .ensures) at (c .across .ensures) in (
+      omega (arith, S .pre .0, ap levels (w .whole .ensures)),
+      rw (w .whole .ensures) (
+        laws.to-target _ _ _ _ _ _ _ (S .pre .1 .0) _ (rw (w .whole .ensures) at (m .look .ensures)) _ _ (l .before .enum-told2 .given .1)
+            _ (rw (w .whole .ensures) at (l .land .ensures)) _ _ (c .before .before .there .given .1) 0 _ _ (d .0),
+        d .1,
+      ),
+    ))
     (λ c. search needs)
     (λ c. let w = c .before .before .before .before in rw (w .whole .ensures) at (c .kept-step .ensures))
     (λ c.
@@ -162,7 +214,9 @@ pub +kept-step+pointing-step-spec : {M : Type 1} → statement M
     let w = m .before in
     let S = w .before .before in
     let d = rw (w .whole .ensures) at (c .before .across .ensures) in
-    laws.by-target _ _ _ _ _ _ _ (S .pre .1 .0) _ (rw (w .whole .ensures) at (m .look .ensures)) _ _ (l .before .enum-told2 .given .1) _ (rw (w .whole .ensures) at (l .land .ensures)) _ _ (c .before .before .before .there .given .1) _ _ _ (d .0) _ (rw (w .whole .ensures) at (c .kept-step2 .ensures)))
+    laws.by-target _ _ _ _ _ _ _ (S .pre .1 .0)
+    _ (rw (w .whole .ensures) at (m .look .ensures)) _ _ (l .before .enum-told2 .given .1) _ (rw (w .whole .ensures) at (l .land .ensures))
+    _ _ (c .before .before .before .there .given .1) _ _ _ (d .0) _ (rw (w .whole .ensures) at (c .kept-step2 .ensures)))
     (λ c.
     let m = c .before .before in
     let w = m .before in

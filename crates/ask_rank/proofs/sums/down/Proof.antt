@@ -9,4 +9,7 @@ down-spec =
     (tie.spec
     (λ c κs. laws.field-on _ _ _ _ _ _ _ (c .before .pre .0) (c .before .pre .1) (c .before .pre .3 .number-in) (omega arith))
     (λ c κs. let s = laws.carried-small _ _ _ (c .before .before .pre .3) (c .before .before .pre .2) in (c .before .before .pre .2, s .0, s .1))
-    (λ c. (rw (c .before .before2 .ensures) at (c .enter .ensures), laws.carried-on _ _ _ _ _ _ (c .before .before .before .pre .3) (c .enter .ensures) (omega arith) (omega arith))))
+    (λ c. (
+      rw (c .before .before2 .ensures) at (c .enter .ensures),
+      laws.carried-on _ _ _ _ _ _ (c .before .before .before .pre .3) (c .enter .ensures) (omega arith) (omega arith),
+    )))

@@ -40,7 +40,8 @@ leaf-spec =
     let L = P .before .before in
     let S = L .before .before in
     let x = shapes _ _ (P .shape-of .ensures) in
-    c .packed .ensures ∙ laws.leaf-sum _ _ _ _ _ _ _ _ _ _ (S .pre .0) _ (L .link .ensures) _ _ (x .offset-is) (omega (arith, x .count-is, T .if1 .taken)) (c .before .before .count-in .ensures .0) (c .before .enter .ensures))
+    c .packed .ensures ∙ laws.leaf-sum _ _ _ _ _ _ _ _ _ _ (S .pre .0) _ (L .link .ensures)
+    _ _ (x .offset-is) (omega (arith, x .count-is, T .if1 .taken)) (c .before .before .count-in .ensures .0) (c .before .enter .ensures))
     (λ c.
     let T = c in
     let P = T .before .before in

@@ -11,5 +11,6 @@ uncounted-spec =
     (λ c. search needs)
     (λ c κs. search needs)
     (λ c. search needs)
-    (λ c. laws.uncounted-good _ _ _ (c .before .before .before .before .read-header .ensures) _ (c .before .before .read .given .1) _ (c .past-or-uncounted .ensures))
+    (λ c. laws.uncounted-good
+    _ _ _ (c .before .before .before .before .read-header .ensures) _ (c .before .before .read .given .1) _ (c .past-or-uncounted .ensures))
     (λ c. laws.uncounted-unread _ _ _ (c .before .before .before .read-header .ensures) _ (c .before .read2 .given .1)))

@@ -25,6 +25,11 @@ row-at-spec =
     let edges = c .before .before .before .before .before .of-row .ensures .spans _ _ (c .before .before .before .found .given .1) in
     (header, omega (arith, edges .within, header .length-is), c .before .if1 .left))
     (λ c. search needs)
-    (λ c. let edges = c .before .before .before .before .before .before .before .before .of-row .ensures .spans _ _ (c .before .before .before .before .before .before .found .given .1) in
+    (λ c. let w = c .before .before .before .before .before .before in let edges = w .before .before .of-row .ensures .spans _ _ (w .found .given .1) in
     let copied = c .before .before .copy .ensures in
-    record { says = laws.row-spans _ _ (edge.settled-sound _ _ _) _ _ _ _ _ _ (c .before .before .before .before .before .before .before .before .before .before .before .before .pre .passes) edges (copied .0 .says) (copied .1); numbered = copied .0 .numbered }))
+    record {
+      says = laws.row-spans _ _ (edge.settled-sound _ _ _)
+          _ _ _ _ _ _ (c .before .before .before .before .before .before .before .before .before .before .before .before .pre .passes)
+          edges (copied .0 .says) (copied .1);
+      numbered = copied .0 .numbered;
+    }))

@@ -9,9 +9,12 @@ asks-last-spec =
     (tie.spec
     (λ c κs. search needs)
     (λ c. laws.asks-uncounted _ _ (c .before .before .before .before .pre) _ _ (c .before .before .number-of .ensures .0) (c .if1 .taken))
-    (λ c. laws.asks-empty _ _ (c .before .before .before .before .before .before .pre) _ _ (c .before .before .before .before .number-of .ensures .0) (c .before .before .if1 .left) (c .if2 .taken))
-    (λ c. laws.asks-none _ _ (c .before .before .before .before .before .before .before .pre) _ _ (c .before .before .before .before .before .number-of .ensures .0) (c .before .before .before .if1 .left) (c .before .if2 .left) (c .if3 .taken))
+    (λ c. let w = c .before .before in
+    laws.asks-empty _ _ (w .before .before .before .before .pre) _ _ (w .before .before .number-of .ensures .0) (w .if1 .left) (c .if2 .taken))
+    (λ c. let w = c .before .before .before in laws.asks-none _ _
+    (w .before .before .before .before .pre) _ _ (w .before .before .number-of .ensures .0) (w .if1 .left) (c .before .if2 .left) (c .if3 .taken))
     (λ c. search needs)
     (λ c. search needs)
     (λ c κs. search needs)
-    (λ c. laws.asks-is _ _ (c .before .before .before .before .before .before .before .before .pre) _ _ (c .before .before .before .before .before .before .number-of .ensures .0) (c .before .before .before .before .if1 .left) (c .before .before .if2 .left) (c .before .if3 .left) _ (c .total .ensures)))
+    (λ c. let w = c .before .before .before .before in laws.asks-is _ _ (w .before .before .before .before .pre)
+    _ _ (w .before .before .number-of .ensures .0) (w .if1 .left) (c .before .before .if2 .left) (c .before .if3 .left) _ (c .total .ensures)))

@@ -16,6 +16,17 @@ of-row-spec =
     (λ c. search needs)
     (λ c. search needs)
     (λ c κs. search needs)
-    (λ c. laws.edges-refused _ _ (laws.settled-sound _ _ _) _ (sym (c .before .before .before .before .if1 .left) ∙ c .before .before .before .before .before .asks-last .ensures) _ (c .before .before .before .ended .ensures) _ _ (c .before .enum-told .given .1) (c .number .ensures))
-    (λ c κs. (c .before .before .before .before .before .before .before .before .pre, omega (arith, c .before .before .before .before .before .before .before .before .pre .length-is, laws.edges-within _ _ (laws.settled-sound _ _ _) _ (sym (c .before .before .before .before .if1 .left) ∙ c .before .before .before .before .before .asks-last .ensures) _ (c .before .before .before .ended .ensures) _ _ (c .before .between .given .1))))
-    (λ c. laws.edges-trimmed _ _ (laws.settled-sound _ _ _) _ (sym (c .before .before .before .before .before .if1 .left) ∙ c .before .before .before .before .before .before .asks-last .ensures) _ (c .before .before .before .before .ended .ensures) _ _ (c .before .before .between .given .1) _ (c .without-mark .ensures)))
+    (λ c. let w = c .before .before .before in laws.edges-refused _ _ (laws.settled-sound _ _ _) _ (sym (w .before .if1 .left)
+    ∙ w .before .before .asks-last .ensures) _ (w .ended .ensures) _ _ (c .before .enum-told .given .1) (c .number .ensures))
+    (λ c κs. let w = c .before .before .before in
+    let v = w .before .before .before .before .before in (
+      v .pre,
+      omega (
+        arith,
+        v .pre .length-is,
+        laws.edges-within _ _ (laws.settled-sound _ _ _)
+            _ (sym (w .before .if1 .left) ∙ w .before .before .asks-last .ensures) _ (w .ended .ensures) _ _ (c .before .between .given .1),
+      ),
+    ))
+    (λ c. let w = c .before .before .before .before in laws.edges-trimmed _ _ (laws.settled-sound _ _ _) _ (sym (w .before .if1 .left)
+    ∙ w .before .before .asks-last .ensures) _ (w .ended .ensures) _ _ (c .before .before .between .given .1) _ (c .without-mark .ensures)))

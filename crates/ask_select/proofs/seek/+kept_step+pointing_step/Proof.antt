@@ -50,34 +50,94 @@ pointing-step-below t =
 pub +kept-step+pointing-step-spec : {M : Type 1} → statement M
 +kept-step+pointing-step-spec =
     close μ-kept-step μ-pointing-step
-    (λ t. kept-step-lts.spec (leaf-place-reads.Asked, leaf-place-reads.Learnt, child-with-reads.Asked, child-with-reads.Learnt, kept-step-below t, kept-step.Post, shift-reads.Asked, shift-reads.Learnt, pointing-step-below t, pointing-step.Post)
+    (λ t. kept-step-lts.spec (
+      leaf-place-reads.Asked,
+      leaf-place-reads.Learnt,
+      child-with-reads.Asked,
+      child-with-reads.Learnt,
+      kept-step-below t,
+      kept-step.Post,
+      shift-reads.Asked,
+      shift-reads.Learnt,
+      pointing-step-below t,
+      pointing-step.Post,
+    )
     (kept-step-at t)
     kept-step.Post
     (λ c. search needs)
     (λ c κs. (c .before .before .before .pre .1 .0, c .before .before .before .pre .1 .1, c .if1 .taken))
     (λ c. laws.found-more _ _ _ _ _ _ _ _ (c .leaf-place .ensures) (omega (arith, c .before .before .before .before .pre .1 .0 .on .level-in)))
     (λ c. omega (arith, walk.arity-pos _ _ (c .before .before .before .before .pre .1 .0 .on .header)))
-    (λ c κs. (c .before .before .before .before .pre .1 .0, walk.level-below _ _ _ _ (c .before .before .before .before .pre .1 .0 .on) (c .before .if1 .left), c .before .before .before .before .pre .1 .1 .number-in, c .before .before .before .before .pre .1 .1 .low))
+    (λ c κs. let w = c .before .before .before .before in
+    (w .pre .1 .0, walk.level-below _ _ _ _ (w .pre .1 .0 .on) (c .before .if1 .left), w .pre .1 .1 .number-in, w .pre .1 .1 .low))
     (λ c. search needs)
-    (λ c κs. (let low = walk.level-below _ _ _ _ (c .before .before .before .before .before .before .before .before .pre .1 .0 .on) (c .before .before .before .before .before .if1 .left) in let z = c .before .before .before .child-with .ensures .kept _ _ _ (c .before .next .given .1) in (omega (arith, c .before .before .before .before .before .before .before .before .pre .0, low .level-in, c .before .before .before .before .before .before .before .before .pre .1 .0 .on .header .levels-is), (record { on = low; kept = z .1 }, laws.to-child _ _ _ _ _ _ _ _ (c .before .before .before .before .before .before .before .before .pre .1 .0) (c .before .before .before .before .before .before .before .before .pre .1 .1) low _ _ _ (z .0) _ (omega arith)))))
-    (λ c κs. (let low = walk.level-below _ _ _ _ (c .before .before .before .before .before .before .before .before .before .pre .1 .0 .on) (c .before .before .before .before .before .before .if1 .left) in let z = c .before .before .before .before .child-with .ensures .kept _ _ _ (c .before .before .next .given .1) in (laws.near-more _ _ 16 (c .kept-step .ensures .near) (omega (arith, low .header .facts .levels-high)), z .0 .place-low)))
+    (λ c κs. let w = c .before .before .before .before .before .before .before .before in (let low = walk.level-below _ _ _ _
+    (w .pre .1 .0 .on) (c .before .before .before .before .before .if1 .left) in let z = c .before .before .before .child-with .ensures .kept
+    _ _ _ (c .before .next .given .1) in (
+      omega (arith, w .pre .0, low .level-in, w .pre .1 .0 .on .header .levels-is),
+      (record { on = low; kept = z .1 }, laws.to-child _ _ _ _ _ _ _ _ (w .pre .1 .0) (w .pre .1 .1) low _ _ _ (z .0) _ (omega arith)),
+    )))
+    (λ c κs. let w = c .before .before .before .before in (let low = walk.level-below _ _ _ _ (w .before .before .before .before .before .pre .1 .0 .on)
+    (w .before .before .if1 .left) in let z = w .child-with .ensures .kept _ _ _ (c .before .before .next .given .1) in
+    (laws.near-more _ _ 16 (c .kept-step .ensures .near) (omega (arith, low .header .facts .levels-high)), z .0 .place-low)))
     (λ c. search needs)
-    (λ c κs. (let low = walk.level-below _ _ _ _ (c .before .before .before .before .before .before .before .before .pre .1 .0 .on) (c .before .before .before .before .before .if1 .left) in let z = c .before .before .before .child-with .ensures .points _ _ _ (c .before .next2 .given .1) in (omega (arith, c .before .before .before .before .before .before .before .before .pre .0, low .level-in, c .before .before .before .before .before .before .before .before .pre .1 .0 .on .header .levels-is), (record { on = low; points = z .1 }, laws.to-child _ _ _ _ _ _ _ _ (c .before .before .before .before .before .before .before .before .pre .1 .0) (c .before .before .before .before .before .before .before .before .pre .1 .1) low _ _ _ (z .0) _ (omega arith)))))
-    (λ c κs. (let low = walk.level-below _ _ _ _ (c .before .before .before .before .before .before .before .before .before .pre .1 .0 .on) (c .before .before .before .before .before .before .if1 .left) in let z = c .before .before .before .before .child-with .ensures .points _ _ _ (c .before .before .next2 .given .1) in (laws.near-more _ _ 16 (c .pointing-step .ensures .near) (omega (arith, low .header .facts .levels-high)), z .0 .place-low)))
+    (λ c κs. let w = c .before .before .before .before .before .before .before .before in (let low = walk.level-below _ _ _ _
+    (w .pre .1 .0 .on) (c .before .before .before .before .before .if1 .left) in let z = c .before .before .before .child-with .ensures .points
+    _ _ _ (c .before .next2 .given .1) in (
+      omega (arith, w .pre .0, low .level-in, w .pre .1 .0 .on .header .levels-is),
+      (record { on = low; points = z .1 }, laws.to-child _ _ _ _ _ _ _ _ (w .pre .1 .0) (w .pre .1 .1) low _ _ _ (z .0) _ (omega arith)),
+    )))
+    (λ c κs. let w = c .before .before .before .before in (let low = walk.level-below _ _ _ _ (w .before .before .before .before .before .pre .1 .0 .on)
+    (w .before .before .if1 .left) in let z = w .child-with .ensures .points _ _ _ (c .before .before .next2 .given .1) in
+    (laws.near-more _ _ 16 (c .pointing-step .ensures .near) (omega (arith, low .header .facts .levels-high)), z .0 .place-low)))
     (λ c. search needs)
-    (λ c. (let low = walk.level-below _ _ _ _ (c .before .before .before .before .before .before .before .before .before .before .pre .1 .0 .on) (c .before .before .before .before .before .before .before .if1 .left) in let z = c .before .before .before .before .before .child-with .ensures .kept _ _ _ (c .before .before .before .next .given .1) in laws.by-child _ _ _ _ _ _ _ _ (c .before .before .before .before .before .before .before .before .before .before .pre .1 .0) (c .before .before .before .before .before .before .before .before .before .before .pre .1 .1) low _ _ _ (z .0) _ _ _ _ (c .before .kept-step .ensures) (c .shift .ensures) (omega (arith, low .level-in))))
-    (λ c. (let low = walk.level-below _ _ _ _ (c .before .before .before .before .before .before .before .before .before .before .pre .1 .0 .on) (c .before .before .before .before .before .before .before .if1 .left) in let z = c .before .before .before .before .before .child-with .ensures .points _ _ _ (c .before .before .before .next2 .given .1) in laws.by-child _ _ _ _ _ _ _ _ (c .before .before .before .before .before .before .before .before .before .before .pre .1 .0) (c .before .before .before .before .before .before .before .before .before .before .pre .1 .1) low _ _ _ (z .0) _ _ _ _ (c .before .pointing-step .ensures) (c .shift2 .ensures) (omega (arith, low .level-in))))
-    (λ c. laws.no-child _ _ _ _ _ _ _ _ (c .before .before .before .before .before .before .before .pre .1 .0) (c .before .before .before .before .before .before .before .pre .1 .1) (walk.level-below _ _ _ _ (c .before .before .before .before .before .before .before .pre .1 .0 .on) (c .before .before .before .before .if1 .left)) _ (c .before .before .child-with .ensures .off (c .enum-told .given .1))))
-    (λ t. pointing-step-lts.spec (gap-reads.Asked, gap-reads.Learnt, target-with-reads.Asked, target-with-reads.Learnt, kept-step-below t, kept-step.Post, shift-reads.Asked, shift-reads.Learnt)
+    (λ c. let w = c .before .before .before .before .before .before .before in let v = w .before .before .before in (let low =
+    walk.level-below _ _ _ _ (v .pre .1 .0 .on) (w .if1 .left) in let z = c .before .before .before .before .before .child-with .ensures .kept
+    _ _ _ (c .before .before .before .next .given .1) in laws.by-child _ _ _ _ _ _ _ _
+    (v .pre .1 .0) (v .pre .1 .1) low _ _ _ (z .0) _ _ _ _ (c .before .kept-step .ensures) (c .shift .ensures) (omega (arith, low .level-in))))
+    (λ c. let w = c .before .before .before .before .before .before .before in let v = w .before .before .before in (let low =
+    walk.level-below _ _ _ _ (v .pre .1 .0 .on) (w .if1 .left) in let z = c .before .before .before .before .before .child-with .ensures .points
+    _ _ _ (c .before .before .before .next2 .given .1) in laws.by-child _ _ _ _ _ _ _ _ (v .pre .1 .0)
+    (v .pre .1 .1) low _ _ _ (z .0) _ _ _ _ (c .before .pointing-step .ensures) (c .shift2 .ensures) (omega (arith, low .level-in))))
+    (λ c. let w = c .before .before .before .before .before .before .before in
+    laws.no-child _ _ _ _ _ _ _ _ (w .pre .1 .0) (w .pre .1 .1) (walk.level-below _ _ _ _
+    (w .pre .1 .0 .on) (c .before .before .before .before .if1 .left)) _ (c .before .before .child-with .ensures .off (c .enum-told .given .1))))
+    (λ t. pointing-step-lts.spec (
+      gap-reads.Asked,
+      gap-reads.Learnt,
+      target-with-reads.Asked,
+      target-with-reads.Learnt,
+      kept-step-below t,
+      kept-step.Post,
+      shift-reads.Asked,
+      shift-reads.Learnt,
+    )
     (pointing-step-at t)
     pointing-step.Post
     (λ c. search needs)
     (λ c. laws.last-points _ _ _ _ _ _ _ (c .before .before .before .pre .1 .0) (c .before .before .before .pre .1 .1) _ (c .if1 .taken))
-    (λ c κs. field-there _ _ _ _ 3 (c .before .before .before .pre .1 .0 .on .header) (c .before .before .before .pre .1 .0 .on .level-in) (pointing-in _ _ _ (c .before .before .before .pre .1 .0 .points)) (omega arith))
-    (λ c κs. (c .before .before .before .before .pre .1 .0, c .before .before .before .before .pre .1 .1 .number-in, c .before .before .before .before .pre .1 .1 .low, omega (arith, c .before .before .before .before .pre .1 .1 .few, c .before .before .before .before .pre .1 .0 .on .level-in, c .before .before .before .before .pre .1 .0 .on .header .facts .levels-high)))
+    (λ c κs. let w = c .before .before .before in
+    field-there _ _ _ _ 3 (w .pre .1 .0 .on .header) (w .pre .1 .0 .on .level-in) (pointing-in _ _ _ (w .pre .1 .0 .points)) (omega arith))
+    (λ c κs. let w = c .before .before .before .before in (
+      w .pre .1 .0,
+      w .pre .1 .1 .number-in,
+      w .pre .1 .1 .low,
+      omega (arith, w .pre .1 .1 .few, w .pre .1 .0 .on .level-in, w .pre .1 .0 .on .header .facts .levels-high),
+    ))
     (λ c. search needs)
-    (λ c κs. (let z = c .before .before .before .target-with .ensures .kept _ _ _ (c .before .next .given .1) in (omega (arith, c .before .before .before .before .before .before .before .before .pre .0), (laws.aimed-kept _ _ _ _ _ _ _ (c .before .before .before .before .before .before .before .before .pre .1 .0) (c .before .before .before .before .before .before .before .before .pre .1 .1) _ _ _ z, laws.to-aimed _ _ _ _ _ _ _ (c .before .before .before .before .before .before .before .before .pre .1 .0) (c .before .before .before .before .before .before .before .before .pre .1 .1) _ _ _ z))))
-    (λ c κs. (let z = c .before .before .before .before .target-with .ensures .kept _ _ _ (c .before .before .next .given .1) in (laws.near-more _ _ 16 (c .kept-step .ensures .near) (omega (arith, c .before .before .before .before .before .before .before .before .before .pre .1 .0 .on .header .facts .levels-high)), omega (arith, z .forward-low, b-small _ _ _ _ (c .before .before .before .before .before .before .before .before .before .pre .1 .0 .on)))))
+    (λ c κs. let w = c .before .before .before .before .before .before .before .before in
+    (let z = c .before .before .before .target-with .ensures .kept _ _ _ (c .before .next .given .1) in (
+      omega (arith, w .pre .0),
+      (laws.aimed-kept _ _ _ _ _ _ _ (w .pre .1 .0) (w .pre .1 .1) _ _ _ z, laws.to-aimed _ _ _ _ _ _ _ (w .pre .1 .0) (w .pre .1 .1) _ _ _ z),
+    )))
+    (λ c κs. let w = c .before .before .before .before .before .before .before .before .before in
+    (let z = c .before .before .before .before .target-with .ensures .kept _ _ _ (c .before .before .next .given .1) in (
+      laws.near-more _ _ 16 (c .kept-step .ensures .near) (omega (arith, w .pre .1 .0 .on .header .facts .levels-high)),
+      omega (arith, z .forward-low, b-small _ _ _ _ (w .pre .1 .0 .on)),
+    )))
     (λ c. search needs)
-    (λ c. (let z = c .before .before .before .before .before .target-with .ensures .kept _ _ _ (c .before .before .before .next .given .1) in laws.by-aimed _ _ _ _ _ _ _ (c .before .before .before .before .before .before .before .before .before .before .pre .1 .0) (c .before .before .before .before .before .before .before .before .before .before .pre .1 .1) _ _ _ z _ _ _ _ _ (c .before .before .before .before .before .before .gap .ensures) (c .before .kept-step .ensures) (c .shift .ensures) (omega (arith, c .before .before .before .before .before .before .before .before .before .before .pre .1 .0 .on .level-in))))
-    (λ c. laws.no-aimed _ _ _ _ _ _ _ (c .before .before .before .before .before .before .before .pre .1 .0) (c .before .before .before .before .before .before .before .pre .1 .1) _ (c .before .before .target-with .ensures .off (c .enum-told .given .1))))
+    (λ c. let w = c .before .before .before .before .before in let v = w .before .before .before .before .before in (let z =
+    w .target-with .ensures .kept _ _ _ (c .before .before .before .next .given .1) in laws.by-aimed _ _ _ _ _ _ _ (v .pre .1 .0) (v .pre .1 .1)
+    _ _ _ z _ _ _ _ _ (w .before .gap .ensures) (c .before .kept-step .ensures) (c .shift .ensures) (omega (arith, v .pre .1 .0 .on .level-in))))
+    (λ c. let w = c .before .before .before .before .before .before .before in
+    laws.no-aimed _ _ _ _ _ _ _ (w .pre .1 .0) (w .pre .1 .1) _ (c .before .before .target-with .ensures .off (c .enum-told .given .1))))

@@ -17,10 +17,20 @@ by-fours-spec =
     (tie.spec Inv-loop μ-loop
     (λ c. (omega arith, omega (arith, c .before .pre .some), (λ x. x)))
     (λ c. omega (arith, c .loop .inv .1))
-    (λ c κs. let s = c .before .before .before .pre in (s .header, s .level-in, s .number-in, omega (arith, s .end-in, c .before .loop .inv .1, c .loop-test .taken), omega (arith, c .before .loop .inv .1, c .loop-test .taken)))
+    (λ c κs. let s = c .before .before .before .pre in (
+      s .header,
+      s .level-in,
+      s .number-in,
+      omega (arith, s .end-in, c .before .loop .inv .1, c .loop-test .taken),
+      omega (arith, c .before .loop .inv .1, c .loop-test .taken),
+    ))
     (λ c. search needs)
     (λ c. let l = c .before .before .before in record { low = l .loop .inv .0; high = l .loop .inv .1; here = l .loop .inv .2 })
     (λ c. let l = c .before .before .before in omega (arith, l .loop .inv .1, c .before .before .loop-test .taken))
     (λ c. let l = c .before .before .before in omega (arith, l .loop .inv .1, c .before .before .loop-test .taken))
-    (λ c. let l = c .before .before .before in (omega (arith, l .loop .inv .0), omega (arith, l .loop .inv .1, c .before .before .loop-test .taken), (λ x. omega (arith, c .before .largest-before .ensures .3, c .if1 .left))))
+    (λ c. let l = c .before .before .before in (
+      omega (arith, l .loop .inv .0),
+      omega (arith, l .loop .inv .1, c .before .before .loop-test .taken),
+      (λ x. omega (arith, c .before .largest-before .ensures .3, c .if1 .left)),
+    ))
     (λ c. let l = c .before in record { low = l .loop .inv .0; high = l .loop .inv .1; here = l .loop .inv .2 }))

@@ -13,20 +13,48 @@ child-with-spec =
     (tie.spec
     (λ c κs. field-there _ _ _ _ 2 (c .before .pre .0 .on .header) (c .before .pre .0 .on .level-in) (kept-in _ _ _ (c .before .pre .0 .kept)) (omega arith))
     (λ c κs. plain-block _ _ _ _ _ (record { on = c .before .before .pre .0 .on; block-in = kept-in _ _ _ (c .before .before .pre .0 .kept) }))
-    (λ c κs. (omega (arith, c .block-length .ensures .1, b-small _ _ _ _ (c .before .before .before .pre .0 .on)), b-pos _ _ _ _ (c .before .before .before .pre .1), b-small _ _ _ _ (c .before .before .before .pre .1)))
+    (λ c κs. let w = c .before .before .before in
+    (omega (arith, c .block-length .ensures .1, b-small _ _ _ _ (w .pre .0 .on)), b-pos _ _ _ _ (w .pre .1), b-small _ _ _ _ (w .pre .1)))
     (λ c. search needs)
     (λ c κs. search needs)
     (λ c. search needs)
     (λ c. search needs)
     (λ c. search needs)
     (λ c. search needs)
-    (λ c. laws.child-past _ _ _ _ _ _ _ _ _ _ (c .before .before .before .before .before .before .pre .0) (c .before .before .before .before .before .before .pre .1) (c .before .before .before .before .before .before .pre .2) (c .before .before .before .before .before .before .pre .3) (c .before .before .before .before .link .ensures) (rw (c .before .before .before .block-length .ensures .0) at (c .before .before .pieces .ensures)) (omega (arith, c .before .level-count .ensures, c .if1 .taken)))
-    (λ c. laws.child-none _ _ _ _ _ _ _ _ _ _ (c .before .before .before .before .before .before .before .pre .0) (c .before .before .before .before .before .before .before .pre .1) (c .before .before .before .before .before .before .before .pre .2) (c .before .before .before .before .before .before .before .pre .3) (c .before .before .before .before .before .link .ensures) (rw (c .before .before .before .before .block-length .ensures .0) at (c .before .before .before .pieces .ensures)) (c .if2 .taken))
+    (λ c. let w = c .before .before .before .before .before .before in laws.child-past _ _ _ _ _ _ _ _ _ _ (w .pre .0)
+    (w .pre .1) (w .pre .2) (w .pre .3) (c .before .before .before .before .link .ensures) (rw (c .before .before .before .block-length .ensures .0)
+    at (c .before .before .pieces .ensures)) (omega (arith, c .before .level-count .ensures, c .if1 .taken)))
+    (λ c. let w = c .before .before .before .before .before .before .before in
+    laws.child-none _ _ _ _ _ _ _ _ _ _ (w .pre .0) (w .pre .1) (w .pre .2) (w .pre .3) (c .before .before .before .before .before .link .ensures)
+    (rw (c .before .before .before .before .block-length .ensures .0) at (c .before .before .before .pieces .ensures)) (c .if2 .taken))
     (λ c. search needs)
     (λ c. search needs)
-    (λ c κs. laws.siblings _ _ _ _ _ _ _ _ _ _ (c .before .before .before .before .before .before .before .pre .0) (c .before .before .before .before .before .before .before .pre .1) (c .before .before .before .before .before .before .before .pre .2) (c .before .before .before .before .before .before .before .pre .3) (c .before .before .before .before .before .link .ensures) (rw (c .before .before .before .before .block-length .ensures .0) at (c .before .before .before .pieces .ensures)) (omega (arith, c .before .before .level-count .ensures, c .before .if1 .left)) (c .if2 .left))
+    (λ c κs. let w = c .before .before .before .before .before .before .before in laws.siblings _ _ _ _ _ _ _ _ _ _ (w .pre .0) (w .pre .1) (w .pre .2)
+    (w .pre .3) (c .before .before .before .before .before .link .ensures) (rw (c .before .before .before .before .block-length .ensures .0) at
+    (c .before .before .before .pieces .ensures)) (omega (arith, c .before .before .level-count .ensures, c .before .if1 .left)) (c .if2 .left))
     (λ c. search needs)
-    (λ c. omega (arith, laws.child-place-small _ _ _ _ _ _ _ _ _ _ (c .before .before .before .before .before .before .before .before .before .pre .0) (c .before .before .before .before .before .before .before .before .before .pre .1) (c .before .before .before .before .before .before .before .before .before .pre .2) (c .before .before .before .before .before .before .before .before .before .pre .3) (c .before .before .before .before .before .before .before .link .ensures) (rw (c .before .before .before .before .before .before .block-length .ensures .0) at (c .before .before .before .before .before .pieces .ensures)) _ (omega (arith, c .before .before .before .before .level-count .ensures, c .before .before .before .if1 .left)) (c .before .last-before .ensures)))
+    (λ c. let w = c .before .before .before .before .before in
+    let v = w .before .before .before .before in omega (
+      arith,
+      laws.child-place-small _ _ _ _ _ _ _ _ _ _ (v .pre .0) (v .pre .1)
+          (v .pre .2) (v .pre .3) (w .before .before .link .ensures) (rw (w .before .block-length .ensures .0) at (w .pieces .ensures)) _ (omega
+          (arith, c .before .before .before .before .level-count .ensures, c .before .before .before .if1 .left)) (c .before .last-before .ensures),
+    ))
     (λ c. search needs)
-    (λ c κs. (laws.child-there _ _ _ _ _ _ _ _ _ _ (c .before .before .before .before .before .before .before .before .before .pre .0) (c .before .before .before .before .before .before .before .before .before .pre .1) (c .before .before .before .before .before .before .before .before .before .pre .2) (c .before .before .before .before .before .before .before .before .before .pre .3) (c .before .before .before .before .before .before .before .link .ensures) (rw (c .before .before .before .before .before .before .block-length .ensures .0) at (c .before .before .before .before .before .pieces .ensures)) _ (omega (arith, c .before .before .before .before .level-count .ensures, c .before .before .before .if1 .left)) (c .before .last-before .ensures), c .before .before .before .before .before .before .before .before .before .pre .2))
-    (λ c. laws.child-picked _ _ _ _ _ _ _ _ _ _ (c .before .before .before .before .before .before .before .before .before .before .pre .0) (c .before .before .before .before .before .before .before .before .before .before .pre .1) (c .before .before .before .before .before .before .before .before .before .before .pre .2) (c .before .before .before .before .before .before .before .before .before .before .pre .3) (c .before .before .before .before .before .before .before .before .link .ensures) (rw (c .before .before .before .before .before .before .before .block-length .ensures .0) at (c .before .before .before .before .before .before .pieces .ensures)) _ (omega (arith, c .before .before .before .before .before .level-count .ensures, c .before .before .before .before .if1 .left)) (c .before .before .last-before .ensures) _ (c .pick .ensures)))
+    (λ c κs. let w = c .before .before .before .before .before .before in let v = w .before .before .before in (
+      laws.child-there _ _ _ _ _ _ _ _ _ _
+          (v .pre .0) (v .pre .1) (v .pre .2) (v .pre .3) (w .before .link .ensures) (rw (w .block-length .ensures .0)
+          at (c .before .before .before .before .before .pieces .ensures)) _ (omega (
+            arith,
+            c .before .before .before .before .level-count .ensures,
+            c .before .before .before .if1 .left,
+          )) (c .before .last-before .ensures),
+      v .pre .2,
+    ))
+    (λ c. let w = c .before .before .before .before .before .before in let v = w .before .before .before .before in laws.child-picked
+    _ _ _ _ _ _ _ _ _ _ (v .pre .0) (v .pre .1) (v .pre .2) (v .pre .3) (w .before .before .link .ensures) (rw (w .before .block-length .ensures .0)
+    at (w .pieces .ensures)) _ (omega (
+      arith,
+      c .before .before .before .before .before .level-count .ensures,
+      c .before .before .before .before .if1 .left,
+    )) (c .before .before .last-before .ensures) _ (c .pick .ensures)))

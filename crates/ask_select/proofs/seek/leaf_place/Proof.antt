@@ -16,9 +16,16 @@ leaf-place-spec =
     (λ c. search needs)
     (λ c. search needs)
     (λ c. search needs)
-    (λ c. laws.leaf-past _ _ _ _ _ _ _ _ _ (c .before .before .before .before .before .pre .0) (c .before .before .before .before .before .pre .1) (c .before .before .before .before .before .pre .2) (c .before .before .before .link .ensures) (c .before .before .block-length .ensures) (c .if1 .taken))
+    (λ c. let w = c .before .before .before .before .before in laws.leaf-past _ _ _ _ _ _ _ _ _
+    (w .pre .0) (w .pre .1) (w .pre .2) (c .before .before .before .link .ensures) (c .before .before .block-length .ensures) (c .if1 .taken))
     (λ c. search needs)
     (λ c. search needs)
-    (λ c κs. (laws.leaf-room _ _ _ _ _ _ _ _ _ (c .before .before .before .before .before .before .pre .0) (c .before .before .before .before .before .before .pre .1) (c .before .before .before .before .before .before .pre .2) (c .before .before .before .before .link .ensures) (c .before .before .before .block-length .ensures) (c .before .if1 .left), c .before .before .before .before .before .before .pre .1 .low))
-    (λ c. laws.leaf-found _ _ _ _ _ _ _ _ _ (c .before .before .before .before .before .before .before .before .pre .0) (c .before .before .before .before .before .before .before .before .pre .1) (c .before .before .before .before .before .before .before .before .pre .2) (c .before .before .before .before .before .before .link .ensures) (c .before .before .before .before .before .block-length .ensures) _ (c .before .nth .ensures) (c .if2 .taken))
-    (λ c. laws.leaf-fewer _ _ _ _ _ _ _ _ _ (c .before .before .before .before .before .before .before .before .pre .0) (c .before .before .before .before .before .before .before .before .pre .1) (c .before .before .before .before .before .before .before .before .pre .2) (c .before .before .before .before .before .before .link .ensures) (c .before .before .before .before .before .block-length .ensures) _ (c .before .nth .ensures) (c .if2 .left)))
+    (λ c κs. let w = c .before .before .before .before .before .before in (
+      laws.leaf-room _ _ _ _ _ _ _ _ _ (w .pre .0) (w .pre .1) (w .pre .2)
+          (c .before .before .before .before .link .ensures) (c .before .before .before .block-length .ensures) (c .before .if1 .left),
+      w .pre .1 .low,
+    ))
+    (λ c. let w = c .before .before .before .before .before in let v = w .before .before .before in laws.leaf-found _ _ _ _ _ _ _ _ _
+    (v .pre .0) (v .pre .1) (v .pre .2) (w .before .link .ensures) (w .block-length .ensures) _ (c .before .nth .ensures) (c .if2 .taken))
+    (λ c. let w = c .before .before .before .before .before in let v = w .before .before .before in laws.leaf-fewer _ _ _ _ _ _ _ _ _
+    (v .pre .0) (v .pre .1) (v .pre .2) (w .before .link .ensures) (w .block-length .ensures) _ (c .before .nth .ensures) (c .if2 .left)))

@@ -10,7 +10,8 @@ pub pick-spec : {M : Type 1} → statement M
 pick-spec =
     tie.close
     (tie.spec
-    (λ c κs. sums.field-there _ _ _ _ _ _ (c .before .pre .0 .on .header) (c .before .pre .0 .on .level-in) (c .before .pre .0 .block-in) (c .before .pre .1) (omega arith))
+    (λ c κs. sums.field-there
+    _ _ _ _ _ _ (c .before .pre .0 .on .header) (c .before .pre .0 .on .level-in) (c .before .pre .0 .block-in) (c .before .pre .1) (omega arith))
     (λ c. search needs)
     (λ c. laws.pick-none _ _ _ _ _ _ _ (c .before .before2 .ensures) (c .if1 .taken))
     (λ c κs. plain-block _ _ _ _ _ (c .before .before .before .pre .0))
@@ -19,6 +20,9 @@ pick-spec =
     (λ c. search needs)
     (λ c. search needs)
     (λ c. search needs)
-    (λ c. laws.pick-kept _ _ _ _ _ _ _ (c .before .before .before .before .before .before2 .ensures) (c .before .before .before .before .if1 .left) _ (c .before .before .before .look .ensures) _ _ (c .before .i .given .1))
-    (λ c. laws.pick-points _ _ _ _ _ _ _ (c .before .before .before .before .before .before2 .ensures) (c .before .before .before .before .if1 .left) _ (c .before .before .before .look .ensures) _ _ (c .before .i2 .given .1))
-    (λ c. laws.pick-off _ _ _ _ _ _ _ (c .before .before .before .before .before2 .ensures) (c .before .before .before .if1 .left) _ (c .before .before .look .ensures) (c .enum-told .given .1)))
+    (λ c. let w = c .before .before .before in
+    laws.pick-kept _ _ _ _ _ _ _ (w .before .before .before2 .ensures) (w .before .if1 .left) _ (w .look .ensures) _ _ (c .before .i .given .1))
+    (λ c. let w = c .before .before .before in
+    laws.pick-points _ _ _ _ _ _ _ (w .before .before .before2 .ensures) (w .before .if1 .left) _ (w .look .ensures) _ _ (c .before .i2 .given .1))
+    (λ c. let w = c .before .before in
+    laws.pick-off _ _ _ _ _ _ _ (w .before .before .before2 .ensures) (w .before .if1 .left) _ (w .look .ensures) (c .enum-told .given .1)))

@@ -9,4 +9,5 @@ seek-spec =
     (tie.spec
     (λ c κs. (c .before .pre .0, c .before .pre .1, omega (arith, c .before .pre .3, c .before .pre .4)))
     (λ c κs. let p = c .before .before .pre in (p, laws.stopped _ _ _ _ (p .1) (p .3) (c .first-block .ensures)))
-    (λ c. let p = c .before .before .before .pre in (laws.from-first _ _ _ _ (p .1) (p .3) (c .before .first-block .ensures) _ _ (c .seek-in .ensures .0), c .seek-in .ensures .1)))
+    (λ c. let p = c .before .before .before .pre in
+    (laws.from-first _ _ _ _ (p .1) (p .3) (c .before .first-block .ensures) _ _ (c .seek-in .ensures .0), c .seek-in .ensures .1)))

@@ -12,9 +12,10 @@ text-place-spec =
     (λ c. search needs)
     (λ c. (laws.place-off _ _ _ _ (c .enum-told .given .1), omega arith))
     (λ c. search needs)
-    (λ c. record { fits = omega (arith, laws.product (c .before .before .before .before .args .block .0) (c .before .before .before .before .args .b) (omega arith) (c .before .before .before .before .pre)) })
+    (λ c. let w = c .before .before .before .before in record { fits = omega (arith, laws.product (w .args .block .0) (w .args .b) (omega arith) (w .pre)) })
     (λ c. search needs)
-    (λ c. record { fits = omega (arith, laws.product (c .before .before .before .before .before .args .block .0) (c .before .before .before .before .before .args .b) (omega arith) (c .before .before .before .before .before .pre)) })
+    (λ c. let w = c .before .before .before .before .before in
+    record { fits = omega (arith, laws.product (w .args .block .0) (w .args .b) (omega arith) (w .pre)) })
     (λ c. search needs)
     (λ c. (laws.place-in _ _ _ _ _ _ (c .before .before .before .before .found .given .1) (c .if1 .taken), tt))
     (λ c. (laws.place-past _ _ _ _ _ _ (c .before .before .before .before .found .given .1) (c .if1 .left), omega arith)))

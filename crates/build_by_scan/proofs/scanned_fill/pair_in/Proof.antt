@@ -15,17 +15,36 @@ pair-in-spec =
     (tie.spec
     (λ c. search needs)
     (λ c. pairs.apart-end _ _ _ _ _ (c .before .before .before .before .before .before .before .pre .0) (c .if1 .taken))
-    (λ c κs. let p = c .before .before .before .before .before .before .before .pre .0 in let f = few _ _ _ (p .level-is) in (f .counted-few, f .table-few, omega (arith, p .block-in, f .count-few), f .leaf-few, start-fits _ _ _ _ _ p _ (p .block-in)))
+    (λ c κs. let p = c .before .before .before .before .before .before .before .pre .0 in let f = few _ _ _ (p .level-is) in
+    (f .counted-few, f .table-few, omega (arith, p .block-in, f .count-few), f .leaf-few, start-fits _ _ _ _ _ p _ (p .block-in)))
     (λ c. search needs)
-    (λ c κs. let p = c .before .before .before .before .before .before .before .before .before .pre .0 in let f = few _ _ _ (p .level-is) in (f .counted-few, f .table-few, omega (arith, p .block-in, f .count-few), f .leaf-few, start-fits _ _ _ _ _ p _ (omega (arith, p .block-in, c .before .before .if1 .left))))
-    (λ c. let p = c .before .before .before .before .before .before .before .before .before .before .before .before .pre .0 in let f = few _ _ _ (p .level-is) in omega (arith, f .size-few, f .text-few, c .before .before .before .before .start .ensures, start-read _ _ _ _ _ p _ (p .block-in), start-in _ _ _ _ _ p _ (p .block-in)))
-    (λ c. pairs.apart-far _ _ _ _ _ (c .before .before .before .before .before .before .before .before .before .before .before .before .before .before .pre .0) _ _ (c .before .before .before .before .before .before .start .ensures) (c .before .before .before .before .before .before .before .if1 .left) (c .before .before .before .before .start2 .ensures) (λ e. omega (arith, c .if2 .taken)))
+    (λ c κs. let p = c .before .before .before .before .before .before .before .before .before .pre .0 in
+    let f = few _ _ _ (p .level-is) in (
+      f .counted-few,
+      f .table-few,
+      omega (arith, p .block-in, f .count-few),
+      f .leaf-few,
+      start-fits _ _ _ _ _ p _ (omega (arith, p .block-in, c .before .before .if1 .left)),
+    ))
+    (λ c. let w = c .before .before .before .before in
+    let p = w .before .before .before .before .before .before .before .before .pre .0 in let f = few _ _ _ (p .level-is) in
+    omega (arith, f .size-few, f .text-few, w .start .ensures, start-read _ _ _ _ _ p _ (p .block-in), start-in _ _ _ _ _ p _ (p .block-in)))
+    (λ c. let w = c .before .before .before .before in
+    let v = w .before .before in pairs.apart-far _ _ _ _ _ (v .before .before .before .before .before .before .before .before .pre .0)
+    _ _ (v .start .ensures) (v .before .if1 .left) (w .start2 .ensures) (λ e. omega (arith, c .if2 .taken)))
     (λ c. search needs)
     (λ c. search needs)
     (λ c. search needs)
     (λ c. search needs)
     (λ c. search needs)
     (λ c. search needs)
-    (λ c. let p = c .before .before .before .before .before .before .before .before .before .before .before .before .before .before .before .before .pre in omega (arith, p .1 .room, laws.block-here _ _ _ _ _ (p .0) _ (p .1), c .before .before .before .before .before .before .before .before .before .if1 .left, p .0 .block-in, p .0 .level-is .count-is))
-    (λ c. let p = c .before .before .before .before .before .before .before .before .before .before .before .before .before .before .before .before .before .before .pre in laws.again-told _ _ _ _ _ (p .0) _ (p .1) _ _ (c .before .before .before .before .before .before .before .before .before .before .start .ensures) (c .before .before .before .before .before .before .before .before .before .before .before .if1 .left) (c .before .before .before .before .before .before .before .before .start2 .ensures) (omega (arith, c .before .before .before .before .if2 .left)) (λ e. omega (arith, c .if3 .taken, e)))
-    (λ c. let p = c .before .before .before .before .before .before .before .before .before .before .before .before .before .before .before .before .before .before .pre in laws.first-told _ _ _ _ _ (p .0) _ (p .1) _ _ (c .before .before .before .before .before .before .before .before .before .before .start .ensures) (c .before .before .before .before .before .before .before .before .before .before .before .if1 .left) (c .before .before .before .before .before .before .before .before .start2 .ensures) (omega (arith, c .before .before .before .before .if2 .left)) (c .if3 .left)))
+    (λ c. let w = c .before .before .before .before .before .before .before .before .before in
+    let p = w .before .before .before .before .before .before .before .pre in
+    omega (arith, p .1 .room, laws.block-here _ _ _ _ _ (p .0) _ (p .1), w .if1 .left, p .0 .block-in, p .0 .level-is .count-is))
+    (λ c. let w = c .before .before .before .before .before .before .before .before in
+    let v = w .before .before in let p = v .before .before .before .before .before .before .before .before .pre in
+    laws.again-told _ _ _ _ _ (p .0) _ (p .1) _ _ (v .start .ensures) (v .before .if1 .left)
+    (w .start2 .ensures) (omega (arith, c .before .before .before .before .if2 .left)) (λ e. omega (arith, c .if3 .taken, e)))
+    (λ c. let w = c .before .before .before .before .before .before .before .before in let v = w .before .before in
+    let p = v .before .before .before .before .before .before .before .before .pre in laws.first-told _ _ _ _ _ (p .0) _ (p .1) _ _
+    (v .start .ensures) (v .before .if1 .left) (w .start2 .ensures) (omega (arith, c .before .before .before .before .if2 .left)) (c .if3 .left)))

@@ -17,5 +17,7 @@ scan-level-spec =
     laws.scan-asks _ _ _ _ (z .pre .0) (z .pre .1) (omega (arith, c .before .before .if1 .left)) _ (c .before .items-of .ensures) _ (z .pre .2))
     (λ c. search needs)
     (λ c. let z = c .before .before .before .before .before .before .before .before .before .before .before in
-    let is = c .before .before .before .before .items-of .ensures in let e = c .before .before .scan .ensures in
-    (laws.told-by _ _ _ _ (z .pre .0) (z .pre .1) (omega (arith, c .before .before .before .before .before .if1 .left)) _ is _ (e .0), counts.counted-by _ _ _ _ (z .pre .0) (z .pre .1) (omega (arith, c .before .before .before .before .before .if1 .left)) _ is _ (e .1))))
+    let is = c .before .before .before .before .items-of .ensures in let e = c .before .before .scan .ensures in (
+      laws.told-by _ _ _ _ (z .pre .0) (z .pre .1) (omega (arith, c .before .before .before .before .before .if1 .left)) _ is _ (e .0),
+      counts.counted-by _ _ _ _ (z .pre .0) (z .pre .1) (omega (arith, c .before .before .before .before .before .if1 .left)) _ is _ (e .1),
+    )))

@@ -21,28 +21,72 @@ put-levels-spec =
     (tie.spec Inv-loop μ-loop
     (λ c. let z = c .before .before .before .before in along.along-first _ _ _ _ _ _ refl (z .pre .1) (z .pre .0))
     (λ c. let v = c .before .loop .inv .reached .ready .level-is in omega (arith, v .number-in, bounds _ _ (v .taken) .levels-high))
-    (λ c κs. let a = c .before .before .before .before .before .loop .inv in (laws.ready-here _ _ _ _ _ _ (a .reached), laws.upper-here _ _ _ _ _ _ (a .reached) (c .before .before .if1 .taken), along.room-here _ _ _ _ _ _ _ _ _ a (c .before .before .before .before .before .before .before .before .before .before .pre .2)))
-    (λ c. let a = c .before .before .before .before .before .before .before .before .before .before .before .loop .inv in let v = a .reached .ready .level-is in omega (arith, along.windows-fit _ _ _ _ _ _ _ _ _ a _ (c .before .before .before .before .before .put-level .ensures .1 .1 .0) (c .before .before .before .before .before .put-level .ensures .1 .1 .1) (omega (arith, v .number-in, bounds _ _ (v .taken) .levels-high))))
-    (λ c κs. (c .before .before .before .before .before .before .put-level .ensures .1 .0, laws.upper-here _ _ _ _ _ _ (c .before .before .before .before .before .before .before .before .before .before .before .before .loop .inv .reached) (c .before .before .before .before .before .before .before .before .before .if1 .taken)))
+    (λ c κs. let w = c .before .before .before .before .before in
+    let a = w .loop .inv in (
+      laws.ready-here _ _ _ _ _ _ (a .reached),
+      laws.upper-here _ _ _ _ _ _ (a .reached) (c .before .before .if1 .taken),
+      along.room-here _ _ _ _ _ _ _ _ _ a (w .before .before .before .before .before .pre .2),
+    ))
+    (λ c. let w = c .before .before .before .before .before in let a = w .before .before .before .before .before .before .loop .inv in
+    let v = a .reached .ready .level-is in omega (
+      arith,
+      along.windows-fit _ _ _ _ _ _ _ _ _
+          a _ (w .put-level .ensures .1 .1 .0) (w .put-level .ensures .1 .1 .1) (omega (arith, v .number-in, bounds _ _ (v .taken) .levels-high)),
+    ))
+    (λ c κs. let w = c .before .before .before .before .before .before in (
+      w .put-level .ensures .1 .0,
+      laws.upper-here _ _ _ _ _ _ (w .before .before .before .before .before .before .loop .inv .reached) (w .before .before .before .if1 .taken),
+    ))
     (λ c. search needs)
     (λ c. search needs)
-    (λ c. laws.grown-here _ _ _ _ _ _ (c .before .before .before .before .before .before .before .before .before .before .before .before .before .before .before .before .before .loop .inv .reached) _ (grown-then _ _ _ _ (c .before .before .before .before .before .before .before .before .before .before .before .put-level .ensures .0) (c .before .before .before .before .go-down .ensures .0)) .same-length)
-    (λ c. c .before .before .before .before .before .before .before .before .before .before .before .put-level .kept .1 .0 ∙ c .before .before .before .before .before .before .before .before .before .before .before .before .before .before .before .before .before .loop .inv .same-length)
-    (λ c. let v = c .before .before .before .before .before .before .before .before .before .before .before .before .before .before .before .before .before .loop .inv .reached in let g = laws.grown-here _ _ _ _ _ _ v _ (grown-then _ _ _ _ (c .before .before .before .before .before .before .before .before .before .before .before .put-level .ensures .0) (c .before .before .before .before .go-down .ensures .0)) in
-    (g, (laws.step-full _ _ _ _ _ g _ _ (laws.step-here _ _ _ _ _ _ v _ _ _ (c .before .before .before .before .go-down .ensures .1)) (c .enum-told .given .1), λ n. absurd (n refl))))
-    (λ c. let v = c .before .before .before .before .before .before .before .before .before .before .before .before .before .before .before .before .before .before .loop .inv .reached in let g = laws.grown-here _ _ _ _ _ _ v _ (grown-then _ _ _ _ (c .before .before .before .before .before .before .before .before .before .before .before .before .put-level .ensures .0) (c .before .before .before .before .before .go-down .ensures .0)) in
-    omega (arith, c .before .before .before .before .before .before .before .before .before .before .before .before .before .before .before .if1 .taken, laws.step-number _ _ _ _ _ g _ _ (laws.step-here _ _ _ _ _ _ v _ _ _ (c .before .before .before .before .before .go-down .ensures .1)) _ (c .before .step .given .1)))
-    (λ c. let a = c .before .before .before .before .before .before .before .before .before .before .before .before .before .before .before .before .before .before .loop .inv in let v = a .reached in let g = laws.grown-here _ _ _ _ _ _ v _ (grown-then _ _ _ _ (c .before .before .before .before .before .before .before .before .before .before .before .before .put-level .ensures .0) (c .before .before .before .before .before .go-down .ensures .0)) in
+    (λ c. let w = c .before .before .before .before .before .before .before .before .before .before .before in
+    laws.grown-here _ _ _ _ _ _ (w .before .before .before .before .before .before .loop .inv .reached)
+    _ (grown-then _ _ _ _ (w .put-level .ensures .0) (c .before .before .before .before .go-down .ensures .0)) .same-length)
+    (λ c. let w = c .before .before .before .before .before .before .before .before .before .before .before in
+    w .put-level .kept .1 .0 ∙ w .before .before .before .before .before .before .loop .inv .same-length)
+    (λ c. let w = c .before .before .before .before .before .before .before .before .before .before .before in
+    let v = w .before .before .before .before .before .before .loop .inv .reached in let g =
+    laws.grown-here _ _ _ _ _ _ v _ (grown-then _ _ _ _ (w .put-level .ensures .0) (c .before .before .before .before .go-down .ensures .0)) in (
+      g,
+      (
+        laws.step-full _ _ _ _ _ g _ _ (laws.step-here _ _ _ _ _ _ v _ _ _ (c .before .before .before .before .go-down .ensures .1))
+            (c .enum-told .given .1),
+        λ n. absurd (n refl),
+      ),
+    ))
+    (λ c. let w = c .before .before .before .before .before .before .before .before .before .before .before .before in
+    let v = w .before .before .before .before .before .before .loop .inv .reached in let g = laws.grown-here
+    _ _ _ _ _ _ v _ (grown-then _ _ _ _ (w .put-level .ensures .0) (c .before .before .before .before .before .go-down .ensures .0)) in
+    omega (
+      arith,
+      c .before .before .before .before .before .before .before .before .before .before .before .before .before .before .before .if1 .taken,
+      laws.step-number _ _ _ _ _
+          g _ _ (laws.step-here _ _ _ _ _ _ v _ _ _ (c .before .before .before .before .before .go-down .ensures .1)) _ (c .before .step .given .1),
+    ))
+    (λ c. let w = c .before .before .before .before .before .before .before .before .before .before .before .before in
+    let a = w .before .before .before .before .before .before .loop .inv in let v = a .reached in let g = laws.grown-here
+    _ _ _ _ _ _ v _ (grown-then _ _ _ _ (w .put-level .ensures .0) (c .before .before .before .before .before .go-down .ensures .0)) in
     let s = laws.step-here _ _ _ _ _ _ v _ _ _ (c .before .before .before .before .before .go-down .ensures .1) in
-    along.along-next _ _ _ _ _ _ _ _ _ a _ (c .before .before .before .before .before .before .before .before .before .before .before .before .put-level .ensures .1 .1 .0) (c .before .before .before .before .before .before .before .before .before .before .before .before .put-level .ensures .1 .1 .1) _ _ _ (laws.step-reached _ _ _ _ _ g _ _ s _ (c .before .step .given .1)) (laws.step-number _ _ _ _ _ g _ _ s _ (c .before .step .given .1)) (c .before .before .before .before .before .before .before .before .before .before .before .before .put-level .kept .1 .0))
+    along.along-next _ _ _ _ _ _ _ _ _
+    a _ (c .before .before .before .before .before .before .before .before .before .before .before .before .put-level .ensures .1 .1 .0)
+    (c .before .before .before .before .before .before .before .before .before .before .before .before .put-level .ensures .1 .1 .1)
+    _ _ _ (laws.step-reached _ _ _ _ _ g _ _ s _ (c .before .step .given .1)) (laws.step-number _ _ _ _ _ g _ _ s _ (c .before .step .given .1))
+    (c .before .before .before .before .before .before .before .before .before .before .before .before .put-level .kept .1 .0))
     (λ c κs. laws.ready-here _ _ _ _ _ _ (c .before .before .before .before .loop .inv .reached))
-    (λ c κs. (c .before .before .before .fill-level .ensures .1, laws.last-here _ _ _ _ _ _ (c .before .before .before .before .before .before .before .before .loop .inv .reached) (c .before .before .before .before .before .if1 .left)))
-    (λ c. laws.grown-here _ _ _ _ _ _ (c .before .before .before .before .before .before .before .before .before .before .before .loop .inv .reached) _ (grown-then _ _ _ _ (c .before .before .before .before .before .before .fill-level .ensures .0) (c .before .before .finish .ensures .0)) .same-length)
+    (λ c κs. let w = c .before .before .before in (
+      w .fill-level .ensures .1,
+      laws.last-here _ _ _ _ _ _ (w .before .before .before .before .before .loop .inv .reached) (w .before .before .if1 .left),
+    ))
+    (λ c. let w = c .before .before .before .before .before .before in
+    laws.grown-here _ _ _ _ _ _ (w .before .before .before .before .before .loop .inv .reached)
+    _ (grown-then _ _ _ _ (w .fill-level .ensures .0) (c .before .before .finish .ensures .0)) .same-length)
     (λ c. c .before .before .before .before .before .before .before .before .before .before .before .loop .inv .same-length)
     (λ c. let a = c .before .before .before .before .before .before .before .before .before .before .before .loop .inv in let v = a .reached in (
-      laws.grown-here _ _ _ _ _ _ v _ (grown-then _ _ _ _ (c .before .before .before .before .before .before .fill-level .ensures .0) (c .before .before .finish .ensures .0)),
+      laws.grown-here _ _ _ _ _ _
+          v _ (grown-then _ _ _ _ (c .before .before .before .before .before .before .fill-level .ensures .0) (c .before .before .finish .ensures .0)),
       (
         laws.finished-here _ _ _ _ _ _ v _ _ (c .before .before .finish .ensures .1),
-        λ n. along.windows-all _ _ _ _ _ _ _ _ _ a (omega (arith, c .before .before .before .before .before .before .before .before .if1 .left, v .ready .level-is .number-in)),
+        λ n. along.windows-all _ _ _ _ _ _ _ _ _
+            a (omega (arith, c .before .before .before .before .before .before .before .before .if1 .left, v .ready .level-is .number-in)),
       ),
     )))

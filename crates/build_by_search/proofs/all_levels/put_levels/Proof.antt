@@ -21,14 +21,39 @@ put-levels-spec =
     (λ c. record { same = refl; ready = c .before .before .before .pre; grown = grown-none _ _ })
     (λ c. omega (arith, c .before .loop .inv .ready .level-is .number-in, bounds _ _ (c .before .loop .inv .ready .level-is .taken) .levels-high))
     (λ c κs. laws.ready-here _ _ _ _ _ _ (c .before .before .before .before .loop .inv))
-    (λ c κs. (c .before .before .before .fill-level .ensures .1, laws.upper-here _ _ _ _ _ _ (c .before .before .before .before .before .before .before .before .loop .inv) (c .before .before .before .before .before .if1 .taken)))
+    (λ c κs. let w = c .before .before .before in
+    (w .fill-level .ensures .1, laws.upper-here _ _ _ _ _ _ (w .before .before .before .before .before .loop .inv) (w .before .before .if1 .taken)))
     (λ c. search needs)
     (λ c. search needs)
-    (λ c. laws.grown-here _ _ _ _ _ _ (c .before .before .before .before .before .before .before .before .before .before .before .before .before .loop .inv) _ (grown-then _ _ _ _ (c .before .before .before .before .before .before .before .before .fill-level .ensures .0) (c .before .before .before .before .go-down .ensures .0)) .same-length)
-    (λ c. (laws.grown-here _ _ _ _ _ _ (c .before .before .before .before .before .before .before .before .before .before .before .before .before .loop .inv) _ (grown-then _ _ _ _ (c .before .before .before .before .before .before .before .before .fill-level .ensures .0) (c .before .before .before .before .go-down .ensures .0)), laws.step-full _ _ _ _ _ (laws.grown-here _ _ _ _ _ _ (c .before .before .before .before .before .before .before .before .before .before .before .before .before .loop .inv) _ (grown-then _ _ _ _ (c .before .before .before .before .before .before .before .before .fill-level .ensures .0) (c .before .before .before .before .go-down .ensures .0))) _ _ (laws.step-here _ _ _ _ _ _ (c .before .before .before .before .before .before .before .before .before .before .before .before .before .loop .inv) _ _ _ (c .before .before .before .before .go-down .ensures .1)) (c .enum-told .given .1)))
-    (λ c. omega (arith, c .before .before .before .before .before .before .before .before .before .before .before .if1 .taken, laws.step-number _ _ _ _ _ (laws.grown-here _ _ _ _ _ _ (c .before .before .before .before .before .before .before .before .before .before .before .before .before .before .loop .inv) _ (grown-then _ _ _ _ (c .before .before .before .before .before .before .before .before .before .fill-level .ensures .0) (c .before .before .before .before .before .go-down .ensures .0))) _ _ (laws.step-here _ _ _ _ _ _ (c .before .before .before .before .before .before .before .before .before .before .before .before .before .before .loop .inv) _ _ _ (c .before .before .before .before .before .go-down .ensures .1)) _ (c .before .step .given .1)))
-    (λ c. laws.step-reached _ _ _ _ _ (laws.grown-here _ _ _ _ _ _ (c .before .before .before .before .before .before .before .before .before .before .before .before .before .before .loop .inv) _ (grown-then _ _ _ _ (c .before .before .before .before .before .before .before .before .before .fill-level .ensures .0) (c .before .before .before .before .before .go-down .ensures .0))) _ _ (laws.step-here _ _ _ _ _ _ (c .before .before .before .before .before .before .before .before .before .before .before .before .before .before .loop .inv) _ _ _ (c .before .before .before .before .before .go-down .ensures .1)) _ (c .before .step .given .1))
+    (λ c. let w = c .before .before .before .before in let v = w .before .before .before .before in laws.grown-here _ _ _ _ _ _
+    (v .before .before .before .before .before .loop .inv) _ (grown-then _ _ _ _ (v .fill-level .ensures .0) (w .go-down .ensures .0)) .same-length)
+    (λ c. let w = c .before .before .before .before .before .before .before .before in
+    let v = w .before .before .before .before .before in (
+      laws.grown-here _ _ _ _ _ _ (v .loop .inv) _ (grown-then _ _ _ _
+          (w .fill-level .ensures .0) (c .before .before .before .before .go-down .ensures .0)),
+      laws.step-full _ _ _ _ _ (laws.grown-here _ _ _ _ _ _
+          (v .loop .inv) _ (grown-then _ _ _ _ (w .fill-level .ensures .0) (c .before .before .before .before .go-down .ensures .0)))
+          _ _ (laws.step-here _ _ _ _ _ _ (v .loop .inv) _ _ _ (c .before .before .before .before .go-down .ensures .1)) (c .enum-told .given .1),
+    ))
+    (λ c. let w = c .before .before .before .before .before .before .before .before .before in let v = w .before .before .before .before .before in
+    omega (
+      arith,
+      w .before .before .if1 .taken,
+      laws.step-number _ _ _ _ _ (laws.grown-here _ _ _ _ _ _ (v .loop .inv)
+          _ (grown-then _ _ _ _ (w .fill-level .ensures .0) (c .before .before .before .before .before .go-down .ensures .0))) _ _ (laws.step-here _
+          _ _ _ _ _ (v .loop .inv) _ _ _ (c .before .before .before .before .before .go-down .ensures .1)) _ (c .before .step .given .1),
+    ))
+    (λ c. let w = c .before .before .before .before .before in
+    let v = w .before .before .before .before .before .before .before .before .before in laws.step-reached _ _ _ _ _ (laws.grown-here _ _ _ _ _ _
+    (v .loop .inv) _ (grown-then _ _ _ _ (w .before .before .before .before .fill-level .ensures .0) (w .go-down .ensures .0)))
+    _ _ (laws.step-here _ _ _ _ _ _ (v .loop .inv) _ _ _ (w .go-down .ensures .1)) _ (c .before .step .given .1))
     (λ c κs. laws.ready-here _ _ _ _ _ _ (c .before .before .before .before .loop .inv))
-    (λ c κs. (c .before .before .before .fill-level2 .ensures .1, laws.last-here _ _ _ _ _ _ (c .before .before .before .before .before .before .before .before .loop .inv) (c .before .before .before .before .before .if1 .left)))
-    (λ c. laws.grown-here _ _ _ _ _ _ (c .before .before .before .before .before .before .before .before .before .before .before .loop .inv) _ (grown-then _ _ _ _ (c .before .before .before .before .before .before .fill-level2 .ensures .0) (c .before .before .finish .ensures .0)) .same-length)
-    (λ c. (laws.grown-here _ _ _ _ _ _ (c .before .before .before .before .before .before .before .before .before .before .before .loop .inv) _ (grown-then _ _ _ _ (c .before .before .before .before .before .before .fill-level2 .ensures .0) (c .before .before .finish .ensures .0)), laws.finished-here _ _ _ _ _ _ (c .before .before .before .before .before .before .before .before .before .before .before .loop .inv) _ _ (c .before .before .finish .ensures .1))))
+    (λ c κs. let w = c .before .before .before in
+    (w .fill-level2 .ensures .1, laws.last-here _ _ _ _ _ _ (w .before .before .before .before .before .loop .inv) (w .before .before .if1 .left)))
+    (λ c. let w = c .before .before .before .before .before .before in
+    laws.grown-here _ _ _ _ _ _ (w .before .before .before .before .before .loop .inv)
+    _ (grown-then _ _ _ _ (w .fill-level2 .ensures .0) (c .before .before .finish .ensures .0)) .same-length)
+    (λ c. let w = c .before .before .before .before .before .before in let v = w .before .before .before .before .before in (
+      laws.grown-here _ _ _ _ _ _ (v .loop .inv) _ (grown-then _ _ _ _ (w .fill-level2 .ensures .0) (c .before .before .finish .ensures .0)),
+      laws.finished-here _ _ _ _ _ _ (v .loop .inv) _ _ (c .before .before .finish .ensures .1),
+    )))

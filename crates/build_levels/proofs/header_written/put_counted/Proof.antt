@@ -24,6 +24,10 @@ put-counted-spec =
     (λ c. omega arith)
     (λ c. omega arith)
     (λ c. omega arith)
-    (λ c. let a = c .before .before .before .before .before .args in let v = c .before .before .loop .inv in (omega arith, (simp length-set (v .1 .0), places-more (a .out .now) _ (places (a .counted .now)) (c .before .before .loop .x) _ (v .1 .1) (c .counted-byte .ensures))))
+    (λ c. let w = c .before .before in let a = w .before .before .before .args in let v = w .loop .inv in (
+      omega arith,
+      (simp length-set (v .1 .0), places-more (a .out .now) _ (places (a .counted .now)) (w .loop .x) _ (v .1 .1) (c .counted-byte .ensures)),
+    ))
     (λ c. c .before .loop .inv .1 .0)
-    (λ c. let a = c .before .before .before .before .args in let e : c .before .loop .x ≡ 4 = omega arith in c .before .loop .inv .1 .1 ∙ ap (λ (k : ℕ). bytesWritten (a .out .now) 24 (places (a .counted .now)) 0 k) e))
+    (λ c. let a = c .before .before .before .before .args in let e : c .before .loop .x ≡ 4 = omega arith in
+    c .before .loop .inv .1 .1 ∙ ap (λ (k : ℕ). bytesWritten (a .out .now) 24 (places (a .counted .now)) 0 k) e))

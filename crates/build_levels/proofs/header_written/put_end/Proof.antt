@@ -11,4 +11,6 @@ put-end-spec =
     (λ c κs. search needs)
     (λ c κs. search needs)
     (λ c. search needs)
-    (λ c. let a = c .before .before .before .before .before .before .before .before .before .before .before .before .before .args in end-written (a .out .now) _ _ _ (a .levels) (a .offset) (a .count) (c .before .before .before .before .before .before .before .before .before .before .put-unused .ensures) (c .before .before .before .before .before .before .write .ensures) (c .before .before .write2 .ensures)))
+    (λ c. let w = c .before .before .before .before .before .before in
+    let v = w .before .before .before .before in let a = v .before .before .before .args in end-written
+    (a .out .now) _ _ _ (a .levels) (a .offset) (a .count) (v .put-unused .ensures) (w .write .ensures) (c .before .before .write2 .ensures)))

@@ -14,4 +14,5 @@ put-pair-spec =
     (λ c. search needs)
     (λ c κs. search needs)
     (λ c. search needs)
-    (λ c. let a = c .before .before .before .before .before .before .before .before .before .args in pair-written (a .out .now) _ _ (a .number) _ _ (c .before .before .before .before .before .before .write .ensures) (c .before .before .write2 .ensures)))
+    (λ c. let w = c .before .before .before .before .before .before in let a = w .before .before .before .args in
+    pair-written (a .out .now) _ _ (a .number) _ _ (w .write .ensures) (c .before .before .write2 .ensures)))

@@ -23,6 +23,15 @@ put-unused-spec =
     (λ c κs. (omega (arith, c .before .before .loop .inv .1 .0), omega arith))
     (λ c. omega arith)
     (λ c. omega arith)
-    (λ c. let a = c .before .before .before .before .before .before .before .args in let v = c .before .before .before .before .before .loop .inv in (omega arith, (c .before .before .put-pair .kept .0 ∙ v .1 .0, unused-more (a .out .now) _ _ (a .levels) (c .before .before .before .before .before .loop .n) (v .1 .1) (c .before .before .put-pair .ensures))))
+    (λ c. let w = c .before .before .before .before .before in
+    let a = w .before .before .args in let v = w .loop .inv in (
+      omega arith,
+      (
+        c .before .before .put-pair .kept .0
+            ∙ v .1 .0,
+        unused-more (a .out .now) _ _ (a .levels) (w .loop .n) (v .1 .1) (c .before .before .put-pair .ensures),
+      ),
+    ))
     (λ c. c .before .loop .inv .1 .0)
-    (λ c. let a = c .before .before .before .args in let e : c .before .loop .n ≡ 8 - a .levels = omega arith in c .before .loop .inv .1 .1 ∙ ap (λ (k : ℕ). unusedWritten (a .out .now) (a .levels) k) e))
+    (λ c. let a = c .before .before .before .args in let e : c .before .loop .n ≡ 8 - a .levels = omega arith in
+    c .before .loop .inv .1 .1 ∙ ap (λ (k : ℕ). unusedWritten (a .out .now) (a .levels) k) e))

@@ -12,5 +12,14 @@ first-level-spec =
     (λ c κs. search needs)
     (λ c. search needs)
     (λ c. search needs)
-    (λ c κs. let a = c .before .before .before .args in (c .before .before .before .pre .2, omega (arith, c .before .block-length .ensures, sized-pos (a .s) (c .before .before .before .pre .0) (c .before .before .before .pre .1)), omega (arith, c .before .block-length .ensures, sized-high (a .s) (c .before .before .before .pre .0))))
-    (λ c. let a = c .before .before .before .before .args in first-made (a .s) (length (a .text .now)) _ _ (c .before .before .block-length .ensures) (c .pieces .ensures)))
+    (λ c κs. let w = c .before .before .before in let a = w .args in (
+      w .pre .2,
+      omega (
+        arith,
+        c .before .block-length .ensures,
+        sized-pos (a .s) (w .pre .0) (w .pre .1),
+      ),
+      omega (arith, c .before .block-length .ensures, sized-high (a .s) (w .pre .0)),
+    ))
+    (λ c. let a = c .before .before .before .before .args in
+    first-made (a .s) (length (a .text .now)) _ _ (c .before .before .block-length .ensures) (c .pieces .ensures)))

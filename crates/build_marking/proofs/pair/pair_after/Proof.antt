@@ -14,10 +14,40 @@ pair-after-spec =
     (λ c. laws.apart-last _ _ _ _ _ (c .before .before .before .before .before .before .pre) (c .if1 .taken))
     (λ c. search needs)
     (λ c. laws.apart-end _ _ _ _ _ (c .before .before .before .before .before .before .before .before .before .pre) (c .if2 .taken))
-    (λ c κs. let f = few _ _ _ (c .before .before .before .before .before .before .before .before .before .pre .level-is) in (f .counted-few, f .table-few, omega (arith, c .before .before .before .before .before .before .before .before .before .pre .block-in, f .count-few), f .leaf-few, start-fits _ _ _ _ _ (c .before .before .before .before .before .before .before .before .before .pre) _ (c .before .before .before .before .before .before .before .before .before .pre .block-in)))
+    (λ c κs. let w = c .before .before .before .before .before .before .before .before .before in let f = few _ _ _ (w .pre .level-is) in
+    (f .counted-few, f .table-few, omega (arith, w .pre .block-in, f .count-few), f .leaf-few, start-fits _ _ _ _ _ (w .pre) _ (w .pre .block-in)))
     (λ c. search needs)
-    (λ c κs. let f = few _ _ _ (c .before .before .before .before .before .before .before .before .before .before .before .pre .level-is) in (f .counted-few, f .table-few, omega (arith, c .before .before .before .before .before .before .before .before .before .before .before .pre .block-in, f .count-few), f .leaf-few, start-fits _ _ _ _ _ (c .before .before .before .before .before .before .before .before .before .before .before .pre) _ (omega (arith, c .before .before .before .before .before .before .before .before .before .before .before .pre .block-in, c .before .before .if2 .left))))
-    (λ c. let f = few _ _ _ (c .before .before .before .before .before .before .before .before .before .before .before .before .before .before .pre .level-is) in omega (arith, f .size-few, f .text-few, c .before .before .before .before .start .ensures, start-read _ _ _ _ _ (c .before .before .before .before .before .before .before .before .before .before .before .before .before .before .pre) _ (c .before .before .before .before .before .before .before .before .before .before .before .before .before .before .pre .block-in), start-in _ _ _ _ _ (c .before .before .before .before .before .before .before .before .before .before .before .before .before .before .pre) _ (c .before .before .before .before .before .before .before .before .before .before .before .before .before .before .pre .block-in)))
-    (λ c. laws.apart-far _ _ _ _ _ (c .before .before .before .before .before .before .before .before .before .before .before .before .before .before .before .before .pre) _ _ (c .before .before .before .before .before .before .start .ensures) (c .before .before .before .before .before .before .before .if2 .left) (c .before .before .before .before .start2 .ensures) (λ e. omega (arith, c .if3 .taken)))
-    (λ c κs. let f = few _ _ _ (c .before .before .before .before .before .before .before .before .before .before .before .before .before .before .before .before .pre .level-is) in (omega (arith, c .before .before .before .before .before .before .start .ensures, start-read _ _ _ _ _ (c .before .before .before .before .before .before .before .before .before .before .before .before .before .before .before .before .pre) _ (c .before .before .before .before .before .before .before .before .before .before .before .before .before .before .before .before .pre .block-in), start-in _ _ _ _ _ (c .before .before .before .before .before .before .before .before .before .before .before .before .before .before .before .before .pre) _ (c .before .before .before .before .before .before .before .before .before .before .before .before .before .before .before .before .pre .block-in)), f .text-few, f .size-few))
-    (λ c. laws.pair-is _ _ _ _ _ (c .before .before .before .before .before .before .before .before .before .before .before .before .before .before .before .before .before .pre) _ _ (c .before .before .before .before .before .before .before .start .ensures) (c .before .before .before .before .before .before .before .before .if2 .left) (c .before .before .before .before .before .start2 .ensures) (c .before .before .before .before .before .before .before .before .before .before .before .if1 .left) (omega (arith, c .before .if3 .left)) _ (c .pair-at .ensures)))
+    (λ c κs. let w = c .before .before .before .before .before .before .before .before .before .before .before in
+    let f = few _ _ _ (w .pre .level-is) in (
+      f .counted-few,
+      f .table-few,
+      omega (arith, w .pre .block-in, f .count-few),
+      f .leaf-few,
+      start-fits _ _ _ _ _ (w .pre) _ (omega (arith, w .pre .block-in, c .before .before .if2 .left)),
+    ))
+    (λ c. let w = c .before .before .before .before .before .before .before .before .before .before .before .before .before .before in
+    let f = few _ _ _ (w .pre .level-is) in omega (
+      arith,
+      f .size-few,
+      f .text-few,
+      c .before .before .before .before .start .ensures,
+      start-read _ _ _ _ _ (w .pre) _ (w .pre .block-in),
+      start-in _ _ _ _ _ (w .pre) _ (w .pre .block-in),
+    ))
+    (λ c. let w = c .before .before .before .before in
+    let v = w .before .before in laws.apart-far _ _ _ _ _ (v .before .before .before .before .before .before .before .before .before .before .pre)
+    _ _ (v .start .ensures) (v .before .if2 .left) (w .start2 .ensures) (λ e. omega (arith, c .if3 .taken)))
+    (λ c κs. let w = c .before .before .before .before .before .before .before .before .before .before .before .before .before .before .before .before
+    in let f = few _ _ _ (w .pre .level-is) in (
+      omega (
+        arith,
+        c .before .before .before .before .before .before .start .ensures,
+        start-read _ _ _ _ _ (w .pre) _ (w .pre .block-in),
+        start-in _ _ _ _ _ (w .pre) _ (w .pre .block-in),
+      ),
+      f .text-few,
+      f .size-few,
+    ))
+    (λ c. let w = c .before .before .before .before .before .before .before in let v = w .before .before .before .before in
+    laws.pair-is _ _ _ _ _ (v .before .before .before .before .before .before .pre) _ _ (w .start .ensures) (w .before .if2 .left)
+    (c .before .before .before .before .before .start2 .ensures) (v .if1 .left) (omega (arith, c .before .if3 .left)) _ (c .pair-at .ensures)))

@@ -21,13 +21,36 @@ put-starts-spec =
     (tie.spec Inv-loop μ-loop
     (λ c. (omega arith, (refl, refl)))
     (λ c. search needs)
-    (λ c. omega (arith, few-steps (c .before .before .loop .j) (c .before .before .before .before .args .n) (c .before .before .before .before .args .step) (c .before .loop-test .taken) (c .before .before .before .before .pre .count-few) (c .before .before .before .before .pre .step-few)))
-    (λ c. omega (arith, c .before .before .before .before .pre .at-few, few-steps (c .before .before .loop .j) (c .before .before .before .before .args .n) (c .before .before .before .before .args .step) (c .before .loop-test .taken) (c .before .before .before .before .pre .count-few) (c .before .before .before .before .pre .step-few)))
-    (λ c. omega (arith, c .before .before .before .before .pre .ends, part-below (c .before .before .loop .j) (c .before .before .before .before .args .n) (c .before .before .before .before .args .size) (c .before .loop-test .taken)))
-    (λ c. omega (arith, c .before .before .before .before .before .pre .ends, part-below (c .before .before .before .loop .j) (c .before .before .before .before .before .args .n) (c .before .before .before .before .before .args .size) (c .before .before .loop-test .taken)))
-    (λ c κs. omega (arith, c .before .before .before .loop .inv .1 .0, c .before .before .before .before .before .pre .room, c .before .before .before .before .before .pre .step-low, part-below (c .before .before .before .loop .j) (c .before .before .before .before .before .args .n) (c .before .before .before .before .before .args .step) (c .before .before .loop-test .taken)))
+    (λ c. let w = c .before .before .before .before in omega (
+      arith,
+      few-steps (c .before .before .loop .j) (w .args .n) (w .args .step) (c .before .loop-test .taken) (w .pre .count-few) (w .pre .step-few),
+    ))
+    (λ c. let w = c .before .before .before .before in omega (
+      arith,
+      w .pre .at-few,
+      few-steps (c .before .before .loop .j) (w .args .n) (w .args .step) (c .before .loop-test .taken) (w .pre .count-few) (w .pre .step-few),
+    ))
+    (λ c. let w = c .before .before .before .before in
+    omega (arith, w .pre .ends, part-below (c .before .before .loop .j) (w .args .n) (w .args .size) (c .before .loop-test .taken)))
+    (λ c. let w = c .before .before .before .before .before in
+    omega (arith, w .pre .ends, part-below (c .before .before .before .loop .j) (w .args .n) (w .args .size) (c .before .before .loop-test .taken)))
+    (λ c κs. let w = c .before .before .before in let v = w .before .before in omega (
+      arith,
+      w .loop .inv .1 .0,
+      v .pre .room,
+      v .pre .step-low,
+      part-below (w .loop .j) (v .args .n) (v .args .step) (c .before .before .loop-test .taken),
+    ))
     (λ c. omega arith)
     (λ c. omega arith)
-    (λ c. let a = c .before .before .before .before .before .before .before .before .args in let v = c .before .before .before .before .before .before .loop .inv in (omega arith, (ap (λ x. length x) (c .before .before .write .ensures) ∙ length-setWord _ _ _ ∙ v .1 .0, starts-more (a .out .now) _ _ (a .at) (a .step) (a .start .0) (a .size) (c .before .before .before .before .before .before .loop .j) (v .1 .1) (c .before .before .write .ensures))))
+    (λ c. let w = c .before .before .before .before .before .before in let a = w .before .before .args in
+    let v = w .loop .inv in (
+      omega arith,
+      (
+        ap (λ x. length x) (c .before .before .write .ensures) ∙ length-setWord _ _ _ ∙ v .1 .0,
+        starts-more (a .out .now) _ _ (a .at) (a .step) (a .start .0) (a .size) (w .loop .j) (v .1 .1) (c .before .before .write .ensures),
+      ),
+    ))
     (λ c. c .before .loop .inv .1 .0)
-    (λ c. let a = c .before .before .before .args in let e : c .before .loop .j ≡ a .n = omega arith in c .before .loop .inv .1 .1 ∙ ap (λ (k : ℕ). startsWritten (a .out .now) (a .at) (a .step) (a .start .0) (a .size) k) e))
+    (λ c. let a = c .before .before .before .args in let e : c .before .loop .j ≡ a .n = omega arith in
+    c .before .loop .inv .1 .1 ∙ ap (λ (k : ℕ). startsWritten (a .out .now) (a .at) (a .step) (a .start .0) (a .size) k) e))

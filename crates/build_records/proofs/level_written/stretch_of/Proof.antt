@@ -8,6 +8,7 @@ pub stretch-of-spec : {M : Type 1} → statement M
 stretch-of-spec =
     tie.close
     (tie.spec
-    (λ c κs. let w = c .before .before .before .pre in let f = few _ _ _ (w .level-is) in (f .counted-few, f .table-few, omega (arith, w .block-in, f .count-few), f .leaf-few, start-fits _ _ _ _ _ w _ (w .block-in)))
+    (λ c κs. let w = c .before .before .before .pre in let f = few _ _ _ (w .level-is) in
+    (f .counted-few, f .table-few, omega (arith, w .block-in, f .count-few), f .leaf-few, start-fits _ _ _ _ _ w _ (w .block-in)))
     (λ c κs. let w = c .before .before .before .before .pre in (few _ _ _ (w .level-is) .text-few, s-in _ _ _ _ _ w _ (c .start .ensures)))
     (λ c. stretch-is _ _ _ _ _ (c .before .before .before .before .before .pre) _ (c .before .start .ensures) _ (c .bytes .ensures .0)))

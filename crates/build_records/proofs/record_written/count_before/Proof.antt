@@ -14,5 +14,11 @@ count-before-spec =
     (λ c κs. omega (arith, c .before .before .before .pre (c .if1 .left) .1))
     (λ c. omega (arith, c .before .before .before .before .pre (c .before .if1 .left) .1))
     (λ c κs. omega (arith, c .before .before .before .before .pre (c .before .if1 .left) .1))
-    (λ c. let z = c .before .before .before .before .before in omega (arith, z .pre (c .before .before .if1 .left) .2, words-added (z .args .out .now) (z .args .at - z .args .size) _ _ (c .before .read .ensures) (c .read2 .ensures)))
-    (λ c. let z = c .before .before .before .before .before in rw (ne-eqb (z .args .block .start .0) (z .args .block .parent .0) (c .before .before .if1 .left)) (words-added (z .args .out .now) (z .args .at - z .args .size) _ _ (c .before .read .ensures) (c .read2 .ensures))))
+    (λ c. let z = c .before .before .before .before .before in omega (
+      arith,
+      z .pre (c .before .before .if1 .left) .2,
+      words-added (z .args .out .now) (z .args .at - z .args .size) _ _ (c .before .read .ensures) (c .read2 .ensures),
+    ))
+    (λ c. let z = c .before .before .before .before .before in
+    rw (ne-eqb (z .args .block .start .0) (z .args .block .parent .0) (c .before .before .if1 .left))
+    (words-added (z .args .out .now) (z .args .at - z .args .size) _ _ (c .before .read .ensures) (c .read2 .ensures))))

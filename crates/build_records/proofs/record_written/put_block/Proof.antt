@@ -10,10 +10,17 @@ put-block-spec =
     (tie.spec
     (λ c κs. search needs)
     (λ c. search needs)
-    (λ c. (laws.none-below _ _ _ _ _ _ (c .before .before .before .before .before .before .before .before .before .pre) (c .if1 .taken), c .before .before .before .before .put-record .ensures))
+    (λ c. let w = c .before .before .before .before in
+    (laws.none-below _ _ _ _ _ _ (w .before .before .before .before .before .pre) (c .if1 .taken), w .put-record .ensures))
     (λ c. omega (arith, laws.number-few _ _ _ _ _ _ (c .before .before .before .before .before .before .before .before .before .before .pre)))
     (λ c. search needs)
-    (λ c. (laws.leaves-below _ _ _ _ _ _ (c .before .before .before .before .before .before .before .before .before .before .before .before .pre) (c .if2 .taken), c .before .before .before .before .before .before .before .put-record .ensures))
-    (λ c κs. laws.pieces-ask _ _ _ _ _ _ (c .before .before .before .before .before .before .before .before .before .before .before .before .pre) (c .if2 .left))
+    (λ c. let w = c .before .before .before .before .before .before .before in
+    (laws.leaves-below _ _ _ _ _ _ (w .before .before .before .before .before .pre) (c .if2 .taken), w .put-record .ensures))
+    (λ c κs. let w = c .before .before .before .before .before .before in
+    laws.pieces-ask _ _ _ _ _ _ (w .before .before .before .before .before .before .pre) (c .if2 .left))
     (λ c. search needs)
-    (λ c. (laws.children-below _ _ _ _ _ _ (c .before .before .before .before .before .before .before .before .before .before .before .before .before .pre) (c .before .if2 .left) (c .before .before .before .before .if1 .left) _ (c .pieces .ensures), c .before .before .before .before .before .before .before .before .put-record .ensures)))
+    (λ c. let w = c .before .before .before .before in let v = w .before .before .before .before in (
+      laws.children-below _ _ _ _ _ _
+          (v .before .before .before .before .before .pre) (c .before .if2 .left) (w .if1 .left) _ (c .pieces .ensures),
+      v .put-record .ensures,
+    )))

@@ -13,4 +13,5 @@ put-count-spec =
     (λ c κs. search needs)
     (λ c κs. search needs)
     (λ c. search needs)
-    (λ c. count-written _ _ _ _ _ _ _ _ (c .before .before .before .before .before .before .count-in .ensures .0) (c .before .before .before .before .count-in2 .ensures .0) (c .before .before .put-three .ensures)))
+    (λ c. let w = c .before .before in count-written
+    _ _ _ _ _ _ _ _ (w .before .before .before .before .count-in .ensures .0) (w .before .before .count-in2 .ensures .0) (w .put-three .ensures)))

@@ -13,4 +13,5 @@ put-edge-spec =
     (λ c. search needs)
     (λ c κs. search needs)
     (λ c. search needs)
-    (λ c. let a = c .before .before .before .before .before .before .before .before .before .before .before .args in edge-then (a .out .now) _ _ (a .text .now) (a .at) (a .from .0) (a .own) (a .m) (c .before .before .before .before .before .before .copy .ensures) (c .before .before .clear-at .ensures)))
+    (λ c. let w = c .before .before .before .before .before .before in let a = w .before .before .before .before .before .args in
+    edge-then (a .out .now) _ _ (a .text .now) (a .at) (a .from .0) (a .own) (a .m) (w .copy .ensures) (c .before .before .clear-at .ensures)))

@@ -13,4 +13,5 @@ put-three-spec =
     (λ c. search needs)
     (λ c κs. search needs)
     (λ c. search needs)
-    (λ c. three-written _ _ _ _ _ _ _ _ (c .before .before .before .before .before .before .before .before .before .before .write .ensures) (c .before .before .before .before .before .before .write2 .ensures) (c .before .before .write3 .ensures)))
+    (λ c. let w = c .before .before .before .before .before .before in
+    three-written _ _ _ _ _ _ _ _ (w .before .before .before .before .write .ensures) (w .write2 .ensures) (c .before .before .write3 .ensures)))

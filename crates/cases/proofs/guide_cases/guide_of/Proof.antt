@@ -38,10 +38,12 @@ guide-of-spec =
     (λ c. search needs)
     (λ c. c .before .before .before .before .before .before .loop .inv .2)
     (λ c n e. absurd (not-bytes _ n e))
-    (λ c κs. omega (arith, c .before .before .before .before .before .before .if2 .left, c .before .before .before .before .before .before .before .before .loop .inv .1))
-    (λ c. omega (arith, c .before .before .before .before .before .before .before .before .before .if2 .left, c .before .before .before .before .before .before .before .before .before .before .before .loop .inv .1))
+    (λ c κs. let w = c .before .before .before .before .before .before in omega (arith, w .if2 .left, w .before .before .loop .inv .1))
+    (λ c. let w = c .before .before .before .before .before .before .before .before .before in omega (arith, w .if2 .left, w .before .before .loop .inv .1))
     (λ c κs. c .before .before .before .before .before .before .before .before .before .before .before .loop .inv .0)
-    (λ c. omega (arith, c .past .ensures .later (c .before .before .before .before .before .before .before .before .before .before .before .loop-test .taken), c .past .ensures .inside, c .before .before .before .before .before .before .before .before .before .before .before .loop-test .taken))
-    (λ c. let k = c .before .before .before .write .kept in let i = c .before .before .before .before .before .before .before .before .before .before .before .before .loop .inv in (c .past .ensures .inside, omega (arith, k .0, c .before .before .before .before .before .before .before .before .before .before .if2 .left, i .1), k .0 ∙ i .2))
+    (λ c. let w = c .before .before .before .before .before .before .before .before .before .before .before in
+    omega (arith, c .past .ensures .later (w .loop-test .taken), c .past .ensures .inside, w .loop-test .taken))
+    (λ c. let w = c .before .before .before .before .before .before .before .before .before .before in let k = c .before .before .before .write .kept in
+    let i = w .before .before .loop .inv in (c .past .ensures .inside, omega (arith, k .0, w .if2 .left, i .1), k .0 ∙ i .2))
     (λ c. c .before .loop .inv .2)
     (λ c n e. omega (arith, same-bytes _ n e, c .before .loop .inv .1, c .before .loop .inv .2)))

@@ -22,6 +22,7 @@ again-spec =
     (λ c. omega arith)
     (λ c. omega arith)
     (λ c. omega arith)
-    (λ c. let l = c .before .before .loop in let z = c .before .before .before in again-more (z .args .out .now) (l .out) (z .args .k) (l .i) (z .pre) (c .before .loop-test .taken) (l .inv))
+    (λ c. let l = c .before .before .loop in let z = c .before .before .before in
+    again-more (z .args .out .now) (l .out) (z .args .k) (l .i) (z .pre) (c .before .loop-test .taken) (l .inv))
     (λ c. c .before .loop .inv .long)
     (λ c. again-all (c .before .before .args .out .now) (c .before .loop .out) _ _ (c .loop-test .left) (c .before .loop .inv)))

@@ -23,7 +23,8 @@ fill-spec =
     (λ c. omega arith)
     (λ c. omega arith)
     (λ c. omega arith)
-    (λ c. let a = c .before .before .args in let l = c .before .loop in (omega arith, simp length-set (l .inv .1), rw (l .inv .2) (fill-more (l .i) (a .byte) (a .out .now) (omega arith))))
+    (λ c. let a = c .before .before .args in
+    let l = c .before .loop in (omega arith, simp length-set (l .inv .1), rw (l .inv .2) (fill-more (l .i) (a .byte) (a .out .now) (omega arith))))
     (λ c. c .before .loop .inv .1)
     (λ c. let a = c .before .before .args in let l = c .before .loop in
     let e : l .i ≡ length (a .out .now) = omega arith in

@@ -20,12 +20,22 @@ make-spec =
     (λ c. search needs)
     (λ c κs. search needs)
     (λ c. search needs)
-    (λ c. let a = c .before .before .before .before .before .before .before .before .before .before .args in as-given (make-is (a .line .now) _ _ (length (a .out .now)) (c .before .before .before .before .before .before .gift-of .ensures) (c .before .before .before .before .enum-told .given .1) (a .script .now)) (c .before .before .plain .ensures))
+    (λ c. let w = c .before .before .before .before in let a = w .before .before .before .before .before .before .args in
+    as-given (make-is (a .line .now) _ _ (length (a .out .now)) (w .before .before .gift-of .ensures) (w .enum-told .given .1) (a .script .now))
+    (c .before .before .plain .ensures))
     (λ c. search needs)
-    (λ c. let a = c .before .before .before .before .before .before .before .before .before .before .args in as-given (make-is (a .line .now) _ _ (length (a .out .now)) (c .before .before .before .before .before .before .gift-of .ensures) (c .before .before .before .before .enum-told2 .given .1) (a .script .now)) (c .before .before .plain2 .ensures))
+    (λ c. let w = c .before .before .before .before in let a = w .before .before .before .before .before .before .args in
+    as-given (make-is (a .line .now) _ _ (length (a .out .now)) (w .before .before .gift-of .ensures) (w .enum-told2 .given .1) (a .script .now))
+    (c .before .before .plain2 .ensures))
     (λ c. search needs)
-    (λ c. let a = c .before .before .before .before .before .before .before .before .before .before .args in as-given (make-is (a .line .now) _ _ (length (a .out .now)) (c .before .before .before .before .before .before .gift-of .ensures) (c .before .before .before .before .enum-told3 .given .1) (a .script .now)) (c .before .before .plain3 .ensures))
+    (λ c. let w = c .before .before .before .before in let a = w .before .before .before .before .before .before .args in
+    as-given (make-is (a .line .now) _ _ (length (a .out .now)) (w .before .before .gift-of .ensures) (w .enum-told3 .given .1) (a .script .now))
+    (c .before .before .plain3 .ensures))
     (λ c. search needs)
-    (λ c. let a = c .before .before .before .before .before .before .before .before .before .before .args in as-given (make-is (a .line .now) _ _ (length (a .out .now)) (c .before .before .before .before .before .before .gift-of .ensures) (c .before .before .before .before .enum-told4 .given .1) (a .script .now)) (c .before .before .pad .ensures))
+    (λ c. let w = c .before .before .before .before in let a = w .before .before .before .before .before .before .args in
+    as-given (make-is (a .line .now) _ _ (length (a .out .now)) (w .before .before .gift-of .ensures) (w .enum-told4 .given .1) (a .script .now))
+    (c .before .before .pad .ensures))
     (λ c. search needs)
-    (λ c. let a = c .before .before .before .before .before .before .before .before .before .before .args in as-given (make-is (a .line .now) _ _ (length (a .out .now)) (c .before .before .before .before .before .before .gift-of .ensures) (c .before .before .before .before .enum-told5 .given .1) (a .script .now)) (c .before .before .plain4 .ensures)))
+    (λ c. let w = c .before .before .before .before in let a = w .before .before .before .before .before .before .args in
+    as-given (make-is (a .line .now) _ _ (length (a .out .now)) (w .before .before .gift-of .ensures) (w .enum-told5 .given .1) (a .script .now))
+    (c .before .before .plain4 .ensures)))

@@ -11,4 +11,5 @@ named-spec =
     (λ c κs. search needs)
     (λ c κs. search needs)
     (λ c. search needs)
-    (λ c. let a = c .before .before .before .before .before .before .before .before .args in as-given (named-is (a .script .now) (a .name .now) _ (length (a .out .now)) (c .before .before .before .before .giving .ensures)) (c .before .before .make .ensures)))
+    (λ c. let w = c .before .before in let a = w .before .before .before .before .before .before .args in
+    as-given (named-is (a .script .now) (a .name .now) _ (length (a .out .now)) (w .before .before .giving .ensures)) (w .make .ensures)))

@@ -12,7 +12,8 @@ pad-spec =
     tie.close
     (tie.spec
     (λ c κs. search needs)
-    (λ c. let a = c .before .before .before .before .before .args in pad-bad (a .script .now) (a .line .now) (a .out .now) _ (c .before .figures .ensures) (not-true _ (c .if1 .taken)))
+    (λ c. let a = c .before .before .before .before .before .args in
+    pad-bad (a .script .now) (a .line .now) (a .out .now) _ (c .before .figures .ensures) (not-true _ (c .if1 .taken)))
     (λ c κs. search needs)
     (λ c κs. search needs)
     (λ c κs. search needs)
@@ -21,10 +22,22 @@ pad-spec =
     (λ c κs. gives-inside _ _ _ _ (c .before .before .before .before .before .before .before .plain .ensures) (c .before .before .before .made .given .1))
     (λ c. search needs)
     (λ c. search needs)
-    (λ c. let p = c .before .before .before .before .before .before .before .before .before .before .plain in let a = c .before .before .before .before .before .before .before .before .before .before .before .before .before .before .before .before .before .before .before .args in
-    as-given (pad-is (a .script .now) (a .line .now) _ _ _ (length (a .out .now)) (c .before .before .before .before .before .before .before .before .before .before .before .before .before .token .ensures) (c .before .before .before .before .before .before .before .before .before .before .before .before .giving .ensures) (c .before .before .before .figure .ensures))
-    (then-bytes padTo pad-keeps _ _ (c .before .before .before .before .before .before .before .before .before .before .before .before .before .before .before .figures .ensures) _ _ (length (a .out .now)) _ _ (p .ensures) (not-false _ (c .before .before .before .before .before .before .before .before .before .before .before .before .before .before .if1 .left)) _ _ _ (c .before .before .before .before .before .before .made .given .1) (p .kept .1 .0) (c .before .before .pad-to .ensures)))
+    (λ c. let w = c .before .before .before .before .before .before .before .before .before .before in
+    let p = w .plain in let a = w .before .before .before .before .before .before .before .before .before .args in
+    as-given (pad-is (a .script .now) (a .line .now) _ _ _ (length (a .out .now))
+    (c .before .before .before .before .before .before .before .before .before .before .before .before .before .token .ensures)
+    (c .before .before .before .before .before .before .before .before .before .before .before .before .giving .ensures)
+    (c .before .before .before .figure .ensures))
+    (then-bytes padTo pad-keeps _ _
+    (c .before .before .before .before .before .before .before .before .before .before .before .before .before .before .before .figures .ensures)
+    _ _ (length (a .out .now)) _ _ (p .ensures)
+    (not-false _ (c .before .before .before .before .before .before .before .before .before .before .before .before .before .before .if1 .left))
+    _ _ _ (c .before .before .before .before .before .before .made .given .1) (p .kept .1 .0) (c .before .before .pad-to .ensures)))
     (λ c. search needs)
     (λ c. let a = c .before .before .before .before .before .before .before .before .before .before .before .before .before .before .args in
-    as-given (pad-is (a .script .now) (a .line .now) _ _ _ (length (a .out .now)) (c .before .before .before .before .before .before .before .before .token .ensures) (c .before .before .before .before .before .before .before .giving .ensures) refl)
-    (then-fault padTo pad-keeps _ _ (c .before .before .before .before .before .before .before .before .before .before .figures .ensures) _ _ (length (a .out .now)) _ _ (c .before .before .before .before .before .plain .ensures) (not-false _ (c .before .before .before .before .before .before .before .before .before .if1 .left)) _ (c .before .made2 .given .1))))
+    as-given (pad-is (a .script .now)
+    (a .line .now) _ _ _ (length (a .out .now)) (c .before .before .before .before .before .before .before .before .token .ensures)
+    (c .before .before .before .before .before .before .before .giving .ensures) refl)
+    (then-fault padTo pad-keeps _ _ (c .before .before .before .before .before .before .before .before .before .before .figures .ensures)
+    _ _ (length (a .out .now)) _ _ (c .before .before .before .before .before .plain .ensures)
+    (not-false _ (c .before .before .before .before .before .before .before .before .before .if1 .left)) _ (c .before .made2 .given .1))))

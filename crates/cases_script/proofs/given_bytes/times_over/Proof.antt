@@ -14,11 +14,14 @@ times-over-spec =
     (λ c. let z = c .before .before in over-none (z .args .out .now) (z .args .k) (z .args .times) (z .pre) (c .if1 .taken))
     (λ c. search needs)
     (λ c. let z = c .before .before .before in over-long (z .args .out .now) (z .args .k) (z .args .times) (z .pre) (omega arith) (c .if2 .taken))
-    (λ c. let z = c .before .before .before in omega (arith, total-inside (z .args .out .now) (z .args .k) (z .args .times) (z .pre) (omega arith) (c .if2 .left)))
+    (λ c. let z = c .before .before .before in
+    omega (arith, total-inside (z .args .out .now) (z .args .k) (z .args .times) (z .pre) (omega arith) (c .if2 .left)))
     (λ c. let z = c .before .before .before in total-inside (z .args .out .now) (z .args .k) (z .args .times) (z .pre) (omega arith) (c .if2 .left))
     (λ c. let z = c .before .before .before .before in
-    sym (length-take-le (z .args .k * z .args .times) (z .args .out .now) (total-inside (z .args .out .now) (z .args .k) (z .args .times) (z .pre) (omega arith) (c .before .if2 .left))))
+    sym (length-take-le (z .args .k * z .args .times)
+    (z .args .out .now) (total-inside (z .args .out .now) (z .args .k) (z .args .times) (z .pre) (omega arith) (c .before .if2 .left))))
     (λ c κs. omega arith)
     (λ c. search needs)
     (λ c. let z = c .before .before .before .before .before .before .before in
-    over-all (z .args .out .now) (z .args .k) (z .args .times) (z .pre) _ _ (omega arith) (total-inside (z .args .out .now) (z .args .k) (z .args .times) (z .pre) (omega arith) (c .before .before .before .before .if2 .left)) (c .before .before .again .ensures)))
+    over-all (z .args .out .now) (z .args .k) (z .args .times) (z .pre) _ _ (omega arith) (total-inside (z .args .out .now)
+    (z .args .k) (z .args .times) (z .pre) (omega arith) (c .before .before .before .before .if2 .left)) (c .before .before .again .ensures)))

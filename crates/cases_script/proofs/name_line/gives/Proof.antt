@@ -11,6 +11,8 @@ gives-spec =
     (λ c κs. search needs)
     (λ c κs. search needs)
     (λ c κs. search needs)
-    (λ c. let s = c .before in gives-other _ _ _ _ _ (s .before .before .until .ensures) (s .before .token .ensures) (s .same .ensures) (not-true _ (c .if1 .taken)))
+    (λ c. let s = c .before in
+    gives-other _ _ _ _ _ (s .before .before .until .ensures) (s .before .token .ensures) (s .same .ensures) (not-true _ (c .if1 .taken)))
     (λ c κs. search needs)
-    (λ c. let s = c .before .before in gives-same _ _ _ _ _ (s .before .before .until .ensures) (s .before .token .ensures) (s .same .ensures) _ (not-false _ (c .before .if1 .left)) (c .gives-bytes .ensures)))
+    (λ c. let s = c .before .before in gives-same _ _ _ _ _ (s .before .before .until .ensures)
+    (s .before .token .ensures) (s .same .ensures) _ (not-false _ (c .before .if1 .left)) (c .gives-bytes .ensures)))

@@ -20,10 +20,12 @@ giving-spec =
     (λ c. left-all _ _)
     (λ c κs. c .before .loop .inv .inside)
     (λ c κs. omega (arith, c .before .before .before .loop .inv .inside))
-    (λ c. let g = c .before .before in left-found _ _ _ (g .before .before .loop .inv) (g .before .loop-test .taken) _ (g .gives .ensures) _ (c .before .if1 .taken) (c .until .ensures))
+    (λ c. let g = c .before .before in left-found
+    _ _ _ (g .before .before .loop .inv) (g .before .loop-test .taken) _ (g .gives .ensures) _ (c .before .if1 .taken) (c .until .ensures))
     (λ c κs. c .before .before .before .loop .inv .inside)
     (λ c. let l = c .before .before .before in omega (arith, c .past .ensures .later (l .loop-test .taken), l .loop-test .taken, c .past .ensures .inside))
-    (λ c. let g = c .before .before in left-next _ _ _ (g .before .before .loop .inv) (g .before .loop-test .taken) _ (g .gives .ensures) _ (c .before .if1 .left) (c .past .ensures))
+    (λ c. let g = c .before .before in
+    left-next _ _ _ (g .before .before .loop .inv) (g .before .loop-test .taken) _ (g .gives .ensures) _ (c .before .if1 .left) (c .past .ensures))
     (λ c. search needs)
     (λ c. search needs)
     (λ c. search needs)

@@ -19,8 +19,10 @@ figures-spec =
     (tie.spec Inv-loop μ-loop
     (λ c. (omega arith, omega arith, numbers-none _ _))
     (λ c κs. search needs)
-    (λ c. let l = c .before .before .before .loop in numbers-not _ _ _ _ _ (l .inv .0) (c .before .before .loop-test .taken) (c .before .is-number .ensures) (not-true _ (c .if1 .taken)))
+    (λ c. let l = c .before .before .before .loop in
+    numbers-not _ _ _ _ _ (l .inv .0) (c .before .before .loop-test .taken) (c .before .is-number .ensures) (not-true _ (c .if1 .taken)))
     (λ c. search needs)
     (λ c. search needs)
-    (λ c. let l = c .before .before .before .loop in (omega arith, omega arith, numbers-more _ _ _ _ (l .inv .0) (l .inv .2) (c .before .is-number .ensures) (not-false _ (c .if1 .left))))
+    (λ c. let l = c .before .before .before .loop in
+    (omega arith, omega arith, numbers-more _ _ _ _ (l .inv .0) (l .inv .2) (c .before .is-number .ensures) (not-false _ (c .if1 .left))))
     (λ c. numbers-all _ _ _ _ (c .before .loop .inv .2) (omega arith)))

@@ -26,9 +26,13 @@ read-number-spec =
     (λ c. search needs)
     (λ c. search needs)
     (λ c. let m = c .before .before in let l = m .before .before .before .loop in
-    number-stops (m .before .before .before .before .before .before .args .word .now) _ _ _ (m .before .before .loop-test .taken) (m .more .ensures) (c .enum-told .given .1) ∙ l .inv .1)
+    number-stops (m .before .before .before .before .before .before .args .word .now)
+    _ _ _ (m .before .before .loop-test .taken) (m .more .ensures) (c .enum-told .given .1) ∙ l .inv .1)
     (λ c. search needs)
     (λ c. search needs)
-    (λ c. let m = c .before .before .before in let l = m .before .before .before .loop in
-    (omega arith, number-goes (m .before .before .before .before .before .before .args .word .now) _ _ _ (m .before .before .loop-test .taken) (m .more .ensures) _ (c .before .next .given .1) ∙ l .inv .1))
+    (λ c. let m = c .before .before .before in let l = m .before .before .before .loop in (
+      omega arith,
+      number-goes (m .before .before .before .before .before .before .args .word .now)
+          _ _ _ (m .before .before .loop-test .taken) (m .more .ensures) _ (c .before .next .given .1) ∙ l .inv .1,
+    ))
     (λ c. number-ends (c .before .before .before .before .args .word .now) _ _ (c .loop-test .left) ∙ c .before .loop .inv .1))

@@ -18,7 +18,8 @@ all-bytes-spec =
     (tie.spec Inv-loop μ-loop
     (λ c. (omega arith, bytes-none _))
     (λ c κs. search needs)
-    (λ c. bytes-not (c .before .before .before .before .before .args .word .now) _ _ (c .before .before .loop-test .taken) (c .before .byte .ensures) (c .if1 .taken))
+    (λ c. bytes-not (c .before .before .before .before .before .args .word .now)
+    _ _ (c .before .before .loop-test .taken) (c .before .byte .ensures) (c .if1 .taken))
     (λ c. search needs)
     (λ c. search needs)
     (λ c. (omega arith, bytes-more _ _ _ (c .before .before .before .loop .inv .1) (c .before .byte .ensures) (c .if1 .left)))

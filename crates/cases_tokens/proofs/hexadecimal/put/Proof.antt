@@ -22,11 +22,15 @@ put-spec =
     (tie.spec Inv-loop μ-loop
     (λ c. let a = c .before .before .args in (omega arith, refl, paste-zero (a .out .now) 0 (hexBytes (a .word .now))))
     (λ c κs. search needs)
-    (λ c. let z = c .before .before .before .before .before in omega (arith, byte-fits (z .args .word .now) _ _ (c .before .loop-test .taken) (c .byte .ensures) (z .pre .0)))
+    (λ c. let z = c .before .before .before .before .before in
+    omega (arith, byte-fits (z .args .word .now) _ _ (c .before .loop-test .taken) (c .byte .ensures) (z .pre .0)))
     (λ c. search needs)
     (λ c. search needs)
     (λ c. search needs)
-    (λ c. let z = c .before .before .before .before .before in let l = c .before .before .loop in
-    (omega arith, simp length-set (l .inv .1), put-more (z .args .word .now) (l .i) _ (c .before .loop-test .taken) (c .byte .ensures) (z .args .out .now) (l .out) (l .inv .2) (omega arith)))
+    (λ c. let z = c .before .before .before .before .before in let l = c .before .before .loop in (
+      omega arith,
+      simp length-set (l .inv .1),
+      put-more (z .args .word .now) (l .i) _ (c .before .loop-test .taken) (c .byte .ensures) (z .args .out .now) (l .out) (l .inv .2) (omega arith),
+    ))
     (λ c. c .before .loop .inv .1)
     (λ c. let e : c .before .loop .i ≡ length (c .before .before .before .before .args .word .now) / 2 = omega arith in rw e at (c .before .loop .inv .2)))

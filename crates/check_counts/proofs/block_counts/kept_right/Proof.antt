@@ -13,4 +13,5 @@ kept-right-spec =
     (λ c κs. facts.inside-there _ _ _ _ _ (c .before .before .before .pre .1))
     (λ c. search needs)
     (λ c κs. search needs)
-    (λ c. laws.kept-same _ _ _ _ _ (c .before .before .before .before .before .pre .1) _ (c .before .before .before .skip .ensures) (c .before .before .if1 .left) _ _ (c .before .inside .ensures) (c .kept-inside .ensures)))
+    (λ c. let w = c .before .before in laws.kept-same _ _ _ _ _
+    (w .before .before .before .pre .1) _ (w .before .skip .ensures) (w .if1 .left) _ _ (c .before .inside .ensures) (c .kept-inside .ensures)))

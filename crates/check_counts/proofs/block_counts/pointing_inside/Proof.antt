@@ -11,8 +11,25 @@ pointing-inside-spec =
     (tie.spec
     (λ c κs. facts.plain-there _ _ _ _ _ (c .before .pre .1) 0 (omega arith))
     (λ c κs. laws.start-low _ _ _ _ _ (c .before .before .pre .1) _ (c .start .ensures))
-    (λ c. laws.length-pos _ _ _ _ _ (c .before .before .before .pre .1) _ (laws.length-is _ _ _ _ _ (c .before .before .before .pre .1) _ _ _ (c .before .before .before .pre .0) (c .before .start .ensures) (c .length-from .ensures)))
-    (λ c κs. (c .before .before .before .pre .0, laws.end-there _ _ _ _ _ (c .before .before .before .pre .1) (c .before .before .before .pre .2) (c .before .before .before .pre .3) _ (laws.length-is _ _ _ _ _ (c .before .before .before .pre .1) _ _ _ (c .before .before .before .pre .0) (c .before .start .ensures) (c .length-from .ensures))))
-    (λ c κs. (c .before .before .before .before .before .pre .0, laws.hand-there _ _ _ _ _ (c .before .before .before .before .before .pre .1) (c .before .before .before .before .before .pre .2) (c .before .before .before .before .before .pre .3) _ (laws.length-is _ _ _ _ _ (c .before .before .before .before .before .pre .1) _ _ _ (c .before .before .before .before .before .pre .0) (c .before .before .before .start .ensures) (c .before .before .length-from .ensures)) _ (c .before .hand-on .ensures .0)))
-    (λ c. omega (arith, c .before .before .before .hand-on .ensures .1, walk-small _ _ _ _ _ _ _ (c .before .before .before .before .before .before .before .pre .0) (laws.hand-there _ _ _ _ _ (c .before .before .before .before .before .before .before .pre .1) (c .before .before .before .before .before .before .before .pre .2) (c .before .before .before .before .before .before .before .pre .3) _ (laws.length-is _ _ _ _ _ (c .before .before .before .before .before .before .before .pre .1) _ _ _ (c .before .before .before .before .before .before .before .pre .0) (c .before .before .before .before .before .start .ensures) (c .before .before .before .before .length-from .ensures)) _ (c .before .before .before .hand-on .ensures .0)) _ (c .before .up-to .ensures)))
-    (λ c. laws.hand-is _ _ _ _ _ (c .before .before .before .before .before .before .before .pre .1) (c .before .before .before .before .before .before .before .pre .2) (c .before .before .before .before .before .before .before .pre .3) _ (laws.length-is _ _ _ _ _ (c .before .before .before .before .before .before .before .pre .1) _ _ _ (c .before .before .before .before .before .before .before .pre .0) (c .before .before .before .before .before .start .ensures) (c .before .before .before .before .length-from .ensures)) _ (c .before .before .before .hand-on .ensures .0) _ (c .before .up-to .ensures)))
+    (λ c. let w = c .before .before .before in laws.length-pos
+    _ _ _ _ _ (w .pre .1) _ (laws.length-is _ _ _ _ _ (w .pre .1) _ _ _ (w .pre .0) (c .before .start .ensures) (c .length-from .ensures)))
+    (λ c κs. let w = c .before .before .before in (
+      w .pre .0,
+      laws.end-there _ _ _ _ _ (w .pre .1)
+          (w .pre .2) (w .pre .3) _ (laws.length-is _ _ _ _ _ (w .pre .1) _ _ _ (w .pre .0) (c .before .start .ensures) (c .length-from .ensures)),
+    ))
+    (λ c κs. let w = c .before .before .before .before .before in (
+      w .pre .0,
+      laws.hand-there _ _ _ _ _ (w .pre .1) (w .pre .2) (w .pre .3) _ (laws.length-is _ _ _ _ _ (w .pre .1) _ _ _
+          (w .pre .0) (c .before .before .before .start .ensures) (c .before .before .length-from .ensures)) _ (c .before .hand-on .ensures .0),
+    ))
+    (λ c. let w = c .before .before .before .before .before .before .before in omega (
+      arith,
+      c .before .before .before .hand-on .ensures .1,
+      walk-small _ _ _ _ _ _ _ (w .pre .0) (laws.hand-there _ _ _ _ _ (w .pre .1) (w .pre .2) (w .pre .3) _ (laws.length-is _ _ _ _ _ (w .pre .1)
+          _ _ _ (w .pre .0) (c .before .before .before .before .before .start .ensures) (c .before .before .before .before .length-from .ensures))
+          _ (c .before .before .before .hand-on .ensures .0)) _ (c .before .up-to .ensures),
+    ))
+    (λ c. let w = c .before .before .before .before .before .before .before in laws.hand-is _ _ _ _ _ (w .pre .1)
+    (w .pre .2) (w .pre .3) _ (laws.length-is _ _ _ _ _ (w .pre .1) _ _ _ (w .pre .0) (c .before .before .before .before .before .start .ensures)
+    (c .before .before .before .before .length-from .ensures)) _ (c .before .before .before .hand-on .ensures .0) _ (c .before .up-to .ensures)))

@@ -11,9 +11,11 @@ pointing-right-spec =
     (λ c κs. facts.skip-there _ _ _ _ _ (c .before .pre .1))
     (λ c. search needs)
     (λ c κs. search needs)
-    (λ c. laws.pointing-skips _ _ _ _ _ (c .before .before .before .before .pre .1) _ (c .before .before .skip .ensures) _ (c .before .pointing-skip .ensures) (c .if1 .taken))
+    (λ c. laws.pointing-skips _ _ _ _ _
+    (c .before .before .before .before .pre .1) _ (c .before .before .skip .ensures) _ (c .before .pointing-skip .ensures) (c .if1 .taken))
     (λ c κs. facts.inside-there _ _ _ _ _ (c .before .before .before .before .pre .1))
     (λ c. search needs)
     (λ c. search needs)
     (λ c κs. search needs)
-    (λ c. laws.pointing-same _ _ _ _ _ (c .before .before .before .before .before .before .pre .1) _ (c .before .before .before .before .skip .ensures) _ (c .before .before .before .pointing-skip .ensures) (c .before .before .if1 .left) _ _ (c .before .inside .ensures) (c .pointing-inside .ensures)))
+    (λ c. let w = c .before .before in laws.pointing-same _ _ _ _ _ (w .before .before .before .before .pre .1) _ (w .before .before .skip .ensures)
+    _ (w .before .pointing-skip .ensures) (w .if1 .left) _ _ (c .before .inside .ensures) (c .pointing-inside .ensures)))

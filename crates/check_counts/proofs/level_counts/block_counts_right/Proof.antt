@@ -21,8 +21,19 @@ block-counts-right-spec =
     tie.close
     (tie.spec Inv-loop μ-loop
     (λ c. (omega arith, λ x l. absurd (let z : ⊥ = omega arith in z)))
-    (λ c κs. (c .before .before .before .pre .0, c .before .before .before .pre .1, record { tree = c .before .before .before .pre .2; level-in = c .before .before .before .pre .3; block-in = c .before .before .before .pre .4; number-in = laws.counted-low _ _ (c .before .before .before .pre .2) _ (omega arith) }, c .before .before .before .pre .5))
-    (λ c. laws.bytes-fail _ _ (c .before .before .before .before .before .pre .2) _ _ _ (omega arith) (failed (c .before .block-right .ensures) (c .if1 .taken)))
+    (λ c κs. let w = c .before .before .before in (
+      w .pre .0,
+      w .pre .1,
+      record {
+        tree = w .pre .2;
+        level-in = w .pre .3;
+        block-in = w .pre .4;
+        number-in = laws.counted-low _ _ (w .pre .2) _ (omega arith);
+      },
+      w .pre .5,
+    ))
+    (λ c. laws.bytes-fail _ _
+    (c .before .before .before .before .before .pre .2) _ _ _ (omega arith) (failed (c .before .block-right .ensures) (c .if1 .taken)))
     (λ c. search needs)
     (λ c. search needs)
     (λ c. (omega arith, below-more _ _ (c .before .before .before .loop .inv .1) (held (c .before .block-right .ensures) (c .if1 .left))))

@@ -25,10 +25,19 @@ level-right-spec =
     (tie.spec Inv-loop μ-loop
     (λ c κs. header.sized _ _ (c .before .pre .0 .header) _ (omega (arith, c .before .pre .1, c .before .pre .0 .header .levels-is)))
     (λ c κs. header.sized _ _ (c .before .before .pre .0 .header) _ (omega (arith, c .before .before .pre .1, c .before .before .pre .0 .header .levels-is)))
-    (λ c κs. (omega (arith, c .before .before .before .pre .1, c .before .before .before .pre .0 .header .facts .levels-high), c .before .before .before .pre .0 .header .facts .long))
+    (λ c κs. let w = c .before .before .before in (omega (arith, w .pre .1, w .pre .0 .header .facts .levels-high), w .pre .0 .header .facts .long))
     (λ c. (omega arith, λ x l. absurd (let z : ⊥ = omega arith in z)))
-    (λ c κs. (header.full-is _ _ (c .before .before .before .before .before .before .pre .0 .header) _ _ (c .before .before .before .before .block-length .ensures), laws.up-is _ _ (c .before .before .before .before .before .before .pre .0) _ _ (c .before .before .before .up-length .ensures), c .before .before .before .before .before .before .pre .0, c .before .before .before .before .before .before .pre .1, omega (arith, c .before .before .level-count .ensures), c .before .before .before .before .before .before .pre .2))
-    (λ c. laws.blocks-fail _ _ _ (c .before .before .before .before .level-count .ensures) _ (omega arith) (failed (c .before .block-counts-right .ensures) (c .if1 .taken)))
+    (λ c κs. let w = c .before .before .before .before .before .before in (
+      header.full-is _ _ (w .pre .0 .header) _ _ (c .before .before .before .before .block-length .ensures),
+      laws.up-is _ _ (w .pre .0)
+          _ _ (c .before .before .before .up-length .ensures),
+      w .pre .0,
+      w .pre .1,
+      omega (arith, c .before .before .level-count .ensures),
+      w .pre .2,
+    ))
+    (λ c. laws.blocks-fail _ _ _
+    (c .before .before .before .before .level-count .ensures) _ (omega arith) (failed (c .before .block-counts-right .ensures) (c .if1 .taken)))
     (λ c. search needs)
     (λ c. search needs)
     (λ c. (omega arith, below-more _ _ (c .before .before .before .loop .inv .1) (held (c .before .block-counts-right .ensures) (c .if1 .left))))

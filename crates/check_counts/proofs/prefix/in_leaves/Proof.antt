@@ -14,7 +14,12 @@ in-leaves-spec =
     (λ c. search needs)
     (λ c. search needs)
     (λ c. search needs)
-    (λ c. omega (arith, c .before .before .before .before .pre .0 .tree .header .facts .long, c .before .before .before .before .pre .0 .tree .header .facts .counted-high, c .before .before .before .before .pre .0 .number-in))
-    (λ c κs. laws.leaves-fit _ _ _ _ _ _ _ (c .before .before .before .before .pre .0) (c .before .before .before .before .pre .1) (c .before .before .before .before .pre .2) (c .before .before .link .ensures))
+    (λ c. let w = c .before .before .before .before in
+    omega (arith, w .pre .0 .tree .header .facts .long, w .pre .0 .tree .header .facts .counted-high, w .pre .0 .number-in))
+    (λ c κs. let w = c .before .before .before .before in laws.leaves-fit _ _ _ _ _ _ _ (w .pre .0) (w .pre .1) (w .pre .2) (c .before .before .link .ensures))
     (λ c. search needs)
-    (λ c. (laws.leaves-are _ _ _ _ _ _ _ (c .before .before .before .before .before .pre .0) (c .before .before .before .before .before .pre .1) (c .before .before .before .before .before .pre .2) (c .before .before .before .link .ensures) _ (c .count-in .ensures .0), c .count-in .ensures .1)))
+    (λ c. let w = c .before .before .before .before .before in (
+      laws.leaves-are _ _ _ _ _ _ _
+          (w .pre .0) (w .pre .1) (w .pre .2) (c .before .before .before .link .ensures) _ (c .count-in .ensures .0),
+      c .count-in .ensures .1,
+    )))

@@ -11,13 +11,25 @@ step-spec =
     tie.close
     (tie.spec
     (λ c κs. facts.plain-there _ _ _ _ _ (c .before .pre .2 .block .table) 2 (omega arith))
-    (λ c. omega (arith, laws.step-pos _ _ _ _ _ _ _ (c .before .before .before .pre .0) (c .before .before .before .pre .1) (c .before .before .before .pre .2) _ (c .before .link .ensures)))
-    (λ c. omega (arith, facts.count-lt (c .before .before .before .args .t .now) (c .before .before .before .args .level + 1) (λ k. c .before .before .shared-slice-known .given k .fits), laws.child-there _ _ _ _ _ _ _ (c .before .before .before .pre .0) (c .before .before .before .pre .1) (c .before .before .before .pre .2) _ (c .before .link .ensures) .table .block-in))
+    (λ c. let w = c .before .before .before in omega (arith, laws.step-pos _ _ _ _ _ _ _ (w .pre .0) (w .pre .1) (w .pre .2) _ (c .before .link .ensures)))
+    (λ c. let w = c .before .before .before in
+    omega (
+      arith,
+      facts.count-lt (w .args .t .now) (w .args .level + 1) (λ k. c .before .before .shared-slice-known .given k .fits),
+      laws.child-there _ _ _ _ _ _ _ (w .pre .0) (w .pre .1) (w .pre .2) _ (c .before .link .ensures) .table .block-in,
+    ))
     (λ c. search needs)
-    (λ c κs. facts.before-there _ _ _ _ _ (laws.child-there _ _ _ _ _ _ _ (c .before .before .before .pre .0) (c .before .before .before .pre .1) (c .before .before .before .pre .2) _ (c .before .link .ensures) .table))
+    (λ c κs. let w = c .before .before .before in
+    facts.before-there _ _ _ _ _ (laws.child-there _ _ _ _ _ _ _ (w .pre .0) (w .pre .1) (w .pre .2) _ (c .before .link .ensures) .table))
     (λ c. search needs)
-    (λ c. omega (arith, laws.step-pos _ _ _ _ _ _ _ (c .before .before .before .before .before .pre .0) (c .before .before .before .before .before .pre .1) (c .before .before .before .before .before .pre .2) _ (c .before .before .before .link .ensures)))
-    (λ c κs. (c .before .before .before .before .before .pre .0, laws.child-there _ _ _ _ _ _ _ (c .before .before .before .before .before .pre .0) (c .before .before .before .before .before .pre .1) (c .before .before .before .before .before .pre .2) _ (c .before .before .before .link .ensures)))
+    (λ c. let w = c .before .before .before .before .before in
+    omega (arith, laws.step-pos _ _ _ _ _ _ _ (w .pre .0) (w .pre .1) (w .pre .2) _ (c .before .before .before .link .ensures)))
+    (λ c κs. let w = c .before .before .before .before .before in
+    (w .pre .0, laws.child-there _ _ _ _ _ _ _ (w .pre .0) (w .pre .1) (w .pre .2) _ (c .before .before .before .link .ensures)))
     (λ c. search needs)
     (λ c. search needs)
-    (λ c. (laws.step-is _ _ _ _ _ _ _ (c .before .before .before .before .before .before .before .before .before .pre .0) (c .before .before .before .before .before .before .before .before .before .pre .1) (c .before .before .before .before .before .before .before .before .before .pre .2) _ (c .before .before .before .before .before .before .before .link .ensures) _ _ (c .before .before .before .before .before .before2 .ensures) (c .before .before .before .hand-on .ensures .0), omega (arith, c .before .before .before .before .before .before2 .ok, c .before .before .before .hand-on .ensures .1))))
+    (λ c. let w = c .before .before .before .before .before in let v = w .before .before .before .before in (
+      laws.step-is _ _ _ _ _ _ _ (v .pre .0) (v .pre .1) (v .pre .2) _ (w .before .before .link .ensures) _ _ (w .before2 .ensures)
+          (c .before .before .before .hand-on .ensures .0),
+      omega (arith, w .before2 .ok, c .before .before .before .hand-on .ensures .1),
+    )))

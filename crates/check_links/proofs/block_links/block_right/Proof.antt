@@ -10,6 +10,8 @@ block-right-spec =
     (tie.spec
     (λ c κs. laws.there _ _ (c .before .pre .0) _ 1 (c .before .pre .1) (omega arith))
     (λ c κs. search needs)
-    (λ c. laws.block-kept _ _ (c .before .before .before .before .pre .0) _ _ (c .before .before .kind .ensures) _ (c .before .if1 .taken) (c .kept-right .ensures))
+    (λ c. laws.block-kept _ _
+    (c .before .before .before .before .pre .0) _ _ (c .before .before .kind .ensures) _ (c .before .if1 .taken) (c .kept-right .ensures))
     (λ c κs. search needs)
-    (λ c. laws.block-pointing _ _ (c .before .before .before .before .pre .0) _ _ (c .before .before .kind .ensures) _ (c .before .if1 .left) (c .pointing-right .ensures)))
+    (λ c. laws.block-pointing
+    _ _ (c .before .before .before .before .pre .0) _ _ (c .before .before .kind .ensures) _ (c .before .if1 .left) (c .pointing-right .ensures)))

@@ -25,15 +25,34 @@ children-right-spec =
     (λ c. (omega arith, scan-none _))
     (λ c. search needs)
     (λ c. search needs)
-    (λ c κs. laws.child-there _ _ (c .before .before .before .before .before .pre .0) (c .before .before .before .before .before .pre .1) _ (omega (arith, c .before .before .before .before .before .pre .2)))
+    (λ c κs. let w = c .before .before .before .before .before in laws.child-there _ _ (w .pre .0) (w .pre .1) _ (omega (arith, w .pre .2)))
     (λ c. search needs)
     (λ c. search needs)
     (λ c. search needs)
     (λ c. search needs)
-    (λ c. omega (arith, mul-le-mul {n₁ = c .before .before .before .before .before .before .before .loop .j} {n₂ = 4294967295} {m₂ = maxText} (omega arith) (laws.part-high _ _ (c .before .before .before .before .before .before .before .before .before .pre .0))))
-    (λ c. omega (arith, mul-le-mul {n₁ = c .before .before .before .before .before .before .before .loop .j} {n₂ = 4294967295} {m₂ = maxText} (omega arith) (laws.part-high _ _ (c .before .before .before .before .before .before .before .before .before .pre .0))))
-    (λ c. let a = c .before .before .before .before .before .before .before .before .before .before .args in scan-fails (childAsCut (a .t .now) (a .v .number) (a .first .0) (a .start .0)) (a .width) (c .before .before .before .before .before .before .before .before .loop .j) (c .before .before .before .before .before .before .before .loop-test .taken) (laws.child-off _ _ (c .before .before .before .before .before .before .before .before .before .before .pre .0) _ _ _ _ (c .before .before .before .before .before .before .before .before .before .before .pre .1) (c .before .before .before .before .start .ensures) (c .if1 .taken)))
+    (λ c. omega (
+      arith,
+      mul-le-mul {n₁ = c .before .before .before .before .before .before .before .loop .j} {n₂ = 4294967295}
+          {m₂ = maxText} (omega arith) (laws.part-high _ _ (c .before .before .before .before .before .before .before .before .before .pre .0)),
+    ))
+    (λ c. omega (
+      arith,
+      mul-le-mul {n₁ = c .before .before .before .before .before .before .before .loop .j} {n₂ = 4294967295}
+          {m₂ = maxText} (omega arith) (laws.part-high _ _ (c .before .before .before .before .before .before .before .before .before .pre .0)),
+    ))
+    (λ c. let w = c .before .before .before .before .before .before .before in let u = w .before .before .before in
+    let a = u .args in scan-fails (childAsCut (a .t .now) (a .v .number) (a .first .0) (a .start .0)) (a .width) (w .before .loop .j)
+    (w .loop-test .taken) (laws.child-off _ _ (u .pre .0) _ _ _ _ (u .pre .1) (c .before .before .before .before .start .ensures) (c .if1 .taken)))
     (λ c. search needs)
     (λ c. search needs)
-    (λ c. let a = c .before .before .before .before .before .before .before .before .before .before .args in (omega arith, scan-more (childAsCut (a .t .now) (a .v .number) (a .first .0) (a .start .0)) (c .before .before .before .before .before .before .before .before .loop .j) (c .before .before .before .before .before .before .before .before .loop .inv .1) (laws.child-on _ _ (c .before .before .before .before .before .before .before .before .before .before .pre .0) _ _ _ _ (c .before .before .before .before .before .before .before .before .before .before .pre .1) (c .before .before .before .before .start .ensures) (c .if1 .left))))
-    (λ c. let a = c .before .before .before .args in scan-done (childAsCut (a .t .now) (a .v .number) (a .first .0) (a .start .0)) (a .width) (c .before .loop .j) (c .before .loop .inv .0) (c .loop-test .left) (c .before .loop .inv .1)))
+    (λ c. let a = c .before .before .before .before .before .before .before .before .before .before .args in (
+      omega arith,
+      scan-more (childAsCut
+          (a .t .now) (a .v .number) (a .first .0) (a .start .0)) (c .before .before .before .before .before .before .before .before .loop .j)
+          (c .before .before .before .before .before .before .before .before .loop .inv .1)
+          (laws.child-on _ _ (c .before .before .before .before .before .before .before .before .before .before .pre .0)
+          _ _ _ _ (c .before .before .before .before .before .before .before .before .before .before .pre .1)
+          (c .before .before .before .before .start .ensures) (c .if1 .left)),
+    ))
+    (λ c. let a = c .before .before .before .args in scan-done (childAsCut (a .t .now) (a .v .number) (a .first .0) (a .start .0))
+    (a .width) (c .before .loop .j) (c .before .loop .inv .0) (c .loop-test .left) (c .before .loop .inv .1)))

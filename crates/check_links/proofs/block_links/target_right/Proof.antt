@@ -10,11 +10,13 @@ target-right-spec =
     (tie.spec
     (λ c. laws.target-none _ _ (c .before .before .before .before .pre) _ _ _ _ (c .if1 .taken))
     (λ c κs. laws.there _ _ (c .before .before .before .before .pre) _ 1 (c .if1 .left) (omega arith))
-    (λ c. laws.target-points _ _ (c .before .before .before .before .before .before .pre) _ _ _ _ (c .before .before .if1 .left) _ (c .before .kind .ensures) (c .if2 .taken))
+    (λ c. laws.target-points _ _
+    (c .before .before .before .before .before .before .pre) _ _ _ _ (c .before .before .if1 .left) _ (c .before .kind .ensures) (c .if2 .taken))
     (λ c κs. laws.there _ _ (c .before .before .before .before .before .before .pre) _ 0 (c .before .before .if1 .left) (omega arith))
     (λ c. search needs)
     (λ c. search needs)
     (λ c. search needs)
     (λ c. search needs)
     (λ c. search needs)
-    (λ c. laws.target-ends _ _ (c .before .before .before .before .before .before .before .before .before .before .pre) _ _ _ _ (c .before .before .before .before .before .before .if1 .left) _ (c .before .before .before .before .before .kind .ensures) _ (c .before .before .before .before .if2 .left) (c .before .before .before .start .ensures)))
+    (λ c. let w = c .before .before .before in let v = w .before .before in laws.target-ends _ _ (v .before .before .before .before .before .pre)
+    _ _ _ _ (v .before .if1 .left) _ (v .kind .ensures) _ (w .before .if2 .left) (w .start .ensures)))

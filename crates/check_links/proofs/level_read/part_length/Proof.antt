@@ -11,5 +11,5 @@ part-length-spec =
     (λ c. search needs)
     (λ c. laws.part-last _ _ (c .before .before .before .pre .0) _ (c .if1 .taken))
     (λ c. search needs)
-    (λ c κs. header.sized _ _ (c .before .before .before .pre .0) _ (laws.below-in _ _ (c .before .before .before .pre .0) _ (c .if1 .left) (c .before .before .before .pre .1)))
+    (λ c κs. let w = c .before .before .before in header.sized _ _ (w .pre .0) _ (laws.below-in _ _ (w .pre .0) _ (c .if1 .left) (w .pre .1)))
     (λ c. laws.part-above _ _ (c .before .before .before .before .pre .0) _ (c .before .if1 .left) _ (c .block-length .ensures)))

@@ -10,5 +10,5 @@ room-below-spec =
     (λ c. search needs)
     (λ c. laws.room-last _ _ (c .before .before .before .pre .0) _ (c .if1 .taken))
     (λ c. search needs)
-    (λ c κs. laws.table-there _ _ (c .before .before .before .pre .0) _ (laws.below-in _ _ (c .before .before .before .pre .0) _ (c .if1 .left) (c .before .before .before .pre .1)))
+    (λ c κs. let w = c .before .before .before in laws.table-there _ _ (w .pre .0) _ (laws.below-in _ _ (w .pre .0) _ (c .if1 .left) (w .pre .1)))
     (λ c. laws.room-above _ _ (c .before .before .before .before .pre .0) _ (c .before .if1 .left) _ (c .level-count .ensures)))

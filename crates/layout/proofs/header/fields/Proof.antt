@@ -59,6 +59,7 @@ fields-spec =
     (λ c κs. sized _ _ (c .before .before .before .before .before .pre .0) (c .before .before .before .before .before .pre .1))
     (λ c κs. few _ _ (c .before .before .before .before .before .before .pre .0) (c .before .before .before .before .before .before .pre .1))
     (λ c. let pre = c .before .before .before .before .before .before .before .pre in
-    words (c .before .before .before .before .before .read .ensures) (c .before .before .before .before .read2 .ensures) (pre .1) (c .before .before .before .read3 .ensures) (c .before .before .read4 .ensures)
+    words (c .before .before .before .before .before .read .ensures)
+    (c .before .before .before .before .read2 .ensures) (pre .1) (c .before .before .before .read3 .ensures) (c .before .before .read4 .ensures)
     (full _ _ (pre .0) (pre .1) _ (c .before .block-length .ensures))
     (size _ _ (pre .0) (pre .1) _ _ (c .before .before .before .before .before .read .ensures) (c .record-size .ensures .0))))

@@ -36,13 +36,15 @@ spare-levels-zero-spec =
     (λ c κs. search needs)
     (λ c. let l = c .before .before .before .before .before in let a = l .before .before .args in
     scan-fails (zeroLevel (a .t .now) (a .levels)) (8 - a .levels) (l .loop .x) (c .before .before .before .before .loop-test .taken)
-    (offset-fails (a .t .now) (a .levels) (l .loop .x) _ _ (c .before .before .before .read .ensures) (c .before .read2 .ensures) (c .before .before .if1 .left) (c .if2 .taken)))
+    (offset-fails (a .t .now) (a .levels)
+    (l .loop .x) _ _ (c .before .before .before .read .ensures) (c .before .read2 .ensures) (c .before .before .if1 .left) (c .if2 .taken)))
     (λ c. search needs)
     (λ c. search needs)
     (λ c. let l = c .before .before .before .before .before in let a = l .before .before .args in (
       omega arith,
       scan-more (zeroLevel (a .t .now) (a .levels)) (l .loop .x) (l .loop .inv .1)
-          (both-zero (a .t .now) (a .levels) (l .loop .x) _ _ (c .before .before .before .read .ensures) (c .before .read2 .ensures) (c .before .before .if1 .left) (c .if2 .left)),
+          (both-zero (a .t .now) (a .levels)
+          (l .loop .x) _ _ (c .before .before .before .read .ensures) (c .before .read2 .ensures) (c .before .before .if1 .left) (c .if2 .left)),
     ))
     (λ c. let l = c .before in let a = l .before .before .args in
     scan-done (zeroLevel (a .t .now) (a .levels)) (8 - a .levels) (l .loop .x) (l .loop .inv .0) (c .loop-test .left) (l .loop .inv .1)))

@@ -25,7 +25,11 @@ power-spec =
     tie.close
     (tie.spec Inv-loop μ-loop
     (λ c. (omega arith, sym (ap (λ (x : ℕ). c .args .leaf * x) (pow-zero _) ∙ mul-one _)))
-    (λ c. omega (arith, step _ _ _ _ (c .before .loop .inv .1), bound _ _ (c .before .loop .i + 1) (c .before .before .pre .0) (c .before .before .pre .1) (omega arith)))
+    (λ c. omega (
+      arith,
+      step _ _ _ _ (c .before .loop .inv .1),
+      bound _ _ (c .before .loop .i + 1) (c .before .before .pre .0) (c .before .before .pre .1) (omega arith),
+    ))
     (λ c. search needs)
     (λ c. search needs)
     (λ c. (omega arith, step _ _ _ _ (c .before .loop .inv .1)))

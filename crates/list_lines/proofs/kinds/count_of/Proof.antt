@@ -25,5 +25,10 @@ count-of-spec =
     (λ c. omega (arith, c .one-if-same .ensures .1))
     (λ c. search needs)
     (λ c. search needs)
-    (λ c. let a = c .before .before .before .before .before .before .args in (omega arith, omega (arith, c .one-if-same .ensures .1), laws.count-more _ _ _ _ _ _ _ (c .before .before .before .loop .inv .2) (c .before .kind .ensures) (c .one-if-same .ensures .0)))
-    (λ c. let a = c .before .before .before .before .args in laws.count-done (hasKind (a .t .now) (a .level) (a .kind)) _ _ _ _ (c .before .loop .inv .0) (c .loop-test .left) (c .before .before .level-count .ensures) (c .before .loop .inv .2)))
+    (λ c. let a = c .before .before .before .before .before .before .args in (
+      omega arith,
+      omega (arith, c .one-if-same .ensures .1),
+      laws.count-more _ _ _ _ _ _ _ (c .before .before .before .loop .inv .2) (c .before .kind .ensures) (c .one-if-same .ensures .0),
+    ))
+    (λ c. let a = c .before .before .before .before .args in laws.count-done (hasKind (a .t .now) (a .level) (a .kind))
+    _ _ _ _ (c .before .loop .inv .0) (c .loop-test .left) (c .before .before .level-count .ensures) (c .before .loop .inv .2)))

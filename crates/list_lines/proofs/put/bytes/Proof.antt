@@ -24,7 +24,16 @@ bytes-spec =
     (λ c. search needs)
     (λ c. search needs)
     (λ c. search needs)
-    (λ c. let a = c .before .before .before .args in (omega arith, simp length-set (c .before .before .loop .inv .1), laws.put-more (a .out .now) (a .at) (c .before .before .loop .out) (a .s .now) (c .before .before .loop .i) (c .before .before .loop .inv .2) (omega arith) (omega arith)))
+    (λ c. let w = c .before .before in let a = w .before .args in (
+      omega arith,
+      simp length-set (w .loop .inv .1),
+      laws.put-more (a .out .now) (a .at) (w .loop .out) (a .s .now) (w .loop .i) (w .loop .inv .2) (omega arith) (omega arith),
+    ))
     (λ c. search needs)
     (λ c. c .before .loop .inv .1)
-    (λ c. let a = c .before .before .args in record { bytes = laws.put-all (a .out .now) (a .at) (c .before .loop .out) (a .s .now) (c .before .loop .i) (c .before .loop .inv .2) (omega arith); after = refl; short = omega arith }))
+    (λ c. let a = c .before .before .args in record {
+      bytes = laws.put-all (a .out .now)
+          (a .at) (c .before .loop .out) (a .s .now) (c .before .loop .i) (c .before .loop .inv .2) (omega arith);
+      after = refl;
+      short = omega arith;
+    }))

@@ -11,6 +11,11 @@ number-spec =
     (λ c κs. search needs)
     (λ c. search needs)
     (λ c. search needs)
-    (λ c κs. omega (arith, c .before .before .before .before .before .pre, digits.digits-fit (c .before .before .before .before .before .args .n) (c .before .before .decimal .result) _ (c .before .before .before .before .before .fits .n .fits) (c .before .before .decimal .ensures .1 .0) (c .before .before .decimal .ensures .1 .1)))
+    (λ c κs. let w = c .before .before in let v = w .before .before .before in omega (
+      arith,
+      v .pre,
+      digits.digits-fit (v .args .n) (w .decimal .result) _ (v .fits .n .fits) (w .decimal .ensures .1 .0) (w .decimal .ensures .1 .1),
+    ))
     (λ c. search needs)
-    (λ c. digits.number-put (c .before .before .before .before .before .before .before .before .args .n) (c .before .before .before .before .before .decimal .result) _ (c .before .before .before .before .before .before .before .before .fits .n .fits) (c .before .before .before .before .before .decimal .ensures .1 .0) (c .before .before .before .before .before .decimal .ensures .1 .1) (c .before .before .bytes .ensures)))
+    (λ c. let w = c .before .before .before .before .before in digits.number-put (w .before .before .before .args .n) (w .decimal .result)
+    _ (w .before .before .before .fits .n .fits) (w .decimal .ensures .1 .0) (w .decimal .ensures .1 .1) (c .before .before .bytes .ensures)))

@@ -22,6 +22,13 @@ clear-spec =
     (λ c. omega (arith, c .before .before .pre, c .loop-test .taken, c .before .loop .inv .1 .0))
     (λ c. omega (arith, c .loop-test .taken))
     (λ c. omega (arith, c .loop-test .taken))
-    (λ c. let l = c .before .loop in (omega (arith, c .loop-test .taken), (simp length-set (l .inv .1 .0), laws.one-more (c .before .before .args .words .now) (l .words) _ _ (omega (arith, c .before .before .pre, c .loop-test .taken)) (l .inv .1 .0) (l .inv .1 .1))))
+    (λ c. let l = c .before .loop in (
+      omega (arith, c .loop-test .taken),
+      (
+        simp length-set (l .inv .1 .0),
+        laws.one-more (c .before .before .args .words .now)
+            (l .words) _ _ (omega (arith, c .before .before .pre, c .loop-test .taken)) (l .inv .1 .0) (l .inv .1 .1),
+      ),
+    ))
     (λ c. c .before .loop .inv .1 .0)
     (λ c. record { same-length = c .before .loop .inv .1 .0; empty = λ k l. c .before .loop .inv .1 .1 k (omega (arith, c .loop-test .left)) }))

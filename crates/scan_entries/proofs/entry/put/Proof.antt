@@ -31,4 +31,5 @@ put-spec =
     (λ c. search needs)
     (λ c. simp length-set (omega (arith, c .before .before .before .before .pre)))
     (λ c. search needs)
-    (λ c. let z = c .before .before .before .before in laws.is-put (z .args .words .now) _ _ _ _ _ _ _ _ (z .pre .0) (z .pre .2) (z .pre .3) refl (c .pushed .ensures)))
+    (λ c. let z = c .before .before .before .before in
+    laws.is-put (z .args .words .now) _ _ _ _ _ _ _ _ (z .pre .0) (z .pre .2) (z .pre .3) refl (c .pushed .ensures)))

@@ -24,12 +24,19 @@ twin-spec =
     (λ c. search needs)
     (λ c. search needs)
     (λ c. search needs)
-    (λ c. let z = c .before .before .before .before .before .before in omega (arith, z .pre .0 .laid .room, laws.item-here _ _ _ _ _ (z .pre .0) _ (c .before .loop-test .taken) (c .before .before .loop .inv)))
+    (λ c. let z = c .before .before .before .before .before .before in
+    omega (arith, z .pre .0 .laid .room, laws.item-here _ _ _ _ _ (z .pre .0) _ (c .before .loop-test .taken) (c .before .before .loop .inv)))
     (λ c. search needs)
-    (λ c κs. let z = c .before .before .before .before .before .before .before in (z .pre .0 .laid .placed, laws.item-here _ _ _ _ _ (z .pre .0) _ (c .before .before .loop-test .taken) (c .before .before .before .loop .inv), z .pre .2))
-    (λ c. let z = c .before .before .before .before .before .before .before .before .before in laws.twin-found _ _ _ _ _ (z .pre .0) _ (c .before .before .before .before .loop-test .taken) (c .before .before .before .before .before .loop .inv) _ _ (items.stands-length _ _ _ _ _ _ _ (c .before .stands .ensures) (c .if2 .taken)) (items.stands-same _ _ _ _ _ _ _ (c .before .stands .ensures) (c .if2 .taken)))
+    (λ c κs. let w = c .before .before in let z = w .before .before .before .before .before in
+    (z .pre .0 .laid .placed, laws.item-here _ _ _ _ _ (z .pre .0) _ (w .loop-test .taken) (w .before .loop .inv), z .pre .2))
+    (λ c. let w = c .before .before .before .before in let z = w .before .before .before .before .before in
+    laws.twin-found _ _ _ _ _ (z .pre .0) _ (w .loop-test .taken) (w .before .loop .inv) _ _ (items.stands-length _ _ _ _ _ _ _
+    (c .before .stands .ensures) (c .if2 .taken)) (items.stands-same _ _ _ _ _ _ _ (c .before .stands .ensures) (c .if2 .taken)))
     (λ c. search needs)
-    (λ c. let z = c .before .before .before .before .before .before .before .before in omega (arith, z .pre .0 .laid .room, laws.item-here _ _ _ _ _ (z .pre .0) _ (c .before .before .before .loop-test .taken) (c .before .before .before .before .loop .inv)))
-    (λ c. let z = c .before .before .before .before .before .before .before .before in laws.next-falls _ _ _ _ _ (z .pre .0) _ (c .before .before .before .loop-test .taken) (c .before .before .before .before .loop .inv))
-    (λ c. let z = c .before .before .before .before .before .before .before .before in laws.next-leads _ _ _ _ _ (z .pre .0) _ (c .before .before .before .loop-test .taken) (c .before .before .before .before .loop .inv))
+    (λ c. let w = c .before .before .before in let z = w .before .before .before .before .before in
+    omega (arith, z .pre .0 .laid .room, laws.item-here _ _ _ _ _ (z .pre .0) _ (w .loop-test .taken) (w .before .loop .inv)))
+    (λ c. let w = c .before .before .before in
+    let z = w .before .before .before .before .before in laws.next-falls _ _ _ _ _ (z .pre .0) _ (w .loop-test .taken) (w .before .loop .inv))
+    (λ c. let w = c .before .before .before in
+    let z = w .before .before .before .before .before in laws.next-leads _ _ _ _ _ (z .pre .0) _ (w .loop-test .taken) (w .before .loop .inv))
     (λ c. laws.twin-none _ _ _ _ _ (c .before .before .before .before .before .pre .0) _ _))

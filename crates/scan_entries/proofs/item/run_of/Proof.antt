@@ -17,6 +17,8 @@ run-of-spec =
     (λ c. search needs)
     (λ c. let z = c .before .before .before .before .before .before in omega (arith, laws.full-few _ _ _ (z .pre .0) _ (z .pre .1)))
     (λ c. let z = c .before .before .before .before .before .before in omega (arith, z .pre .0 .few))
-    (λ c. let z = c .before .before .before .before .before .before in omega (arith, z .pre .0 .few, laws.start-in _ _ _ (z .pre .0) _ (z .pre .1) _ (c .before .read .ensures)))
+    (λ c. let z = c .before .before .before .before .before .before in
+    omega (arith, z .pre .0 .few, laws.start-in _ _ _ (z .pre .0) _ (z .pre .1) _ (c .before .read .ensures)))
     (λ c κs. search needs)
-    (λ c. let z = c .before .before .before .before .before .before .before in laws.run-is _ _ _ (z .pre .0) _ (z .pre .1) _ (c .before .before .read .ensures) _ (c .shorter .ensures)))
+    (λ c. let z = c .before .before .before .before .before .before .before in
+    laws.run-is _ _ _ (z .pre .0) _ (z .pre .1) _ (c .before .before .read .ensures) _ (c .shorter .ensures)))

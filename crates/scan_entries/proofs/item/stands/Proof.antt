@@ -13,5 +13,7 @@ stands-spec =
     (λ c. laws.other-length _ _ _ _ _ _ (λ e. c .if1 .taken (c .before .before .run-of .ensures .length-is ∙ e)))
     (λ c. search needs)
     (λ c. search needs)
-    (λ c κs. (omega (arith, c .before .before .before .before .run-of .ensures .fits, c .before .before .if1 .left), c .before .before .before .before .before .before .before .pre .2))
-    (λ c. laws.same-length _ _ _ _ _ _ _ _ (c .before .before .before .before .before .run-of .ensures .start-is) (sym (c .before .before .before .before .before .run-of .ensures .length-is) ∙ c .before .before .before .if1 .left) (c .same-at .ensures)))
+    (λ c κs. let w = c .before .before in
+    (omega (arith, w .before .before .run-of .ensures .fits, w .if1 .left), w .before .before .before .before .before .pre .2))
+    (λ c. let w = c .before .before .before in laws.same-length _ _ _ _ _ _ _ _
+    (w .before .before .run-of .ensures .start-is) (sym (w .before .before .run-of .ensures .length-is) ∙ w .if1 .left) (c .same-at .ensures)))

@@ -19,7 +19,10 @@ look-spec =
     (λ c. omega (arith, c .before .before .before .before .before .pre .laid .room, c .bucket .ensures .1))
     (λ c. omega (arith, c .before .before .before .before .before .before .pre .laid .room, c .before .bucket .ensures .1))
     (λ c κs. search needs)
-    (λ c κs. let z = c .before .before .before .before .before .before .before .before .before in (z .pre, laws.head-link _ _ _ _ _ _ _ (z .pre) _ (c .before .before .before .before .bucket .ensures .0) (c .before .before .before .before .bucket .ensures .1)))
+    (λ c κs. let w = c .before .before .before .before in let z = w .before .before .before .before .before in
+    (z .pre, laws.head-link _ _ _ _ _ _ _ (z .pre) _ (w .bucket .ensures .0) (w .bucket .ensures .1)))
     (λ c. c .before .before .visit .ensures .searched .same-length)
-    (λ c. laws.looked-visited _ _ _ _ _ _ _ (c .before .before .before .before .before .before .before .before .before .before .before .before .pre) _ (c .before .before .visit .ensures))
-    (λ c. laws.looked-past _ _ _ _ _ _ _ (c .before .before .before .before .before .before .before .before .pre) _ (c .before .before .before .bucket .ensures .0) (c .before .before .before .bucket .ensures .1) _ (c .before .marked .ensures) (c .if1 .left)))
+    (λ c. let w = c .before .before .before .before .before .before in
+    laws.looked-visited _ _ _ _ _ _ _ (w .before .before .before .before .before .before .pre) _ (c .before .before .visit .ensures))
+    (λ c. let w = c .before .before .before in laws.looked-past _ _ _ _ _ _ _ (w .before .before .before .before .before .pre)
+    _ (w .bucket .ensures .0) (w .bucket .ensures .1) _ (c .before .marked .ensures) (c .if1 .left)))

@@ -18,12 +18,16 @@ visit-spec =
     (tie.spec Inv-loop μ-loop
     (λ c. let z = c .before .before .before in laws.visiting-first _ _ _ _ _ _ _ _ (z .pre .0) (z .pre .1))
     (λ c. search needs)
-    (λ c κs. let v = c .before .before .loop .inv in (v .asks, laws.item-in _ _ _ _ _ _ _ _ _ v (c .before .loop-test .taken), laws.item-listed _ _ _ _ _ _ _ _ _ v (c .before .loop-test .taken)))
+    (λ c κs. let v = c .before .before .loop .inv in
+    (v .asks, laws.item-in _ _ _ _ _ _ _ _ _ v (c .before .loop-test .taken), laws.item-listed _ _ _ _ _ _ _ _ _ v (c .before .loop-test .taken)))
     (λ c. search needs)
     (λ c. search needs)
     (λ c. search needs)
-    (λ c. let v = c .before .before .before .before .before .before .loop .inv in omega (arith, v .asks .laid .room, c .before .before .before .touch .ensures .searched .same-length, laws.item-in _ _ _ _ _ _ _ _ _ v (c .before .before .before .before .before .loop-test .taken)))
-    (λ c. laws.next-falls _ _ _ _ _ _ _ _ _ (c .before .before .before .before .before .before .loop .inv) (c .before .before .before .before .before .loop-test .taken) _ (c .before .before .before .touch .ensures))
-    (λ c. laws.visiting-next _ _ _ _ _ _ _ _ _ (c .before .before .before .before .before .before .loop .inv) (c .before .before .before .before .before .loop-test .taken) _ (c .before .before .before .touch .ensures))
+    (λ c. let w = c .before .before .before in let v = w .before .before .before .loop .inv in omega
+    (arith, v .asks .laid .room, w .touch .ensures .searched .same-length, laws.item-in _ _ _ _ _ _ _ _ _ v (w .before .before .loop-test .taken)))
+    (λ c. let w = c .before .before .before in
+    laws.next-falls _ _ _ _ _ _ _ _ _ (w .before .before .before .loop .inv) (w .before .before .loop-test .taken) _ (w .touch .ensures))
+    (λ c. let w = c .before .before .before in
+    laws.visiting-next _ _ _ _ _ _ _ _ _ (w .before .before .before .loop .inv) (w .before .before .loop-test .taken) _ (w .touch .ensures))
     (λ c. c .before .loop .inv .searched .same-length)
     (λ c. laws.visited-all _ _ _ _ _ _ _ _ _ (c .before .loop .inv) (c .loop-test .left)))

@@ -15,4 +15,5 @@ block-print-spec =
     (λ c. omega (arith, c .before .before .before .pre .0 .items-few, c .before .before .before .pre .1))
     (λ c κs. (c .before .before .before .pre .0, c .before .before .before .pre .1))
     (λ c κs. c .run-of .ensures .fits)
-    (λ c. c .fingerprint-at .ensures ∙ ap₂ (λ (s n : ℕ). print (stretch (c .before .before .before .before .before .args .text .now) s n)) (c .before .run-of .ensures .start-is) (c .before .run-of .ensures .length-is)))
+    (λ c. c .fingerprint-at .ensures ∙ ap₂ (λ (s n : ℕ). print (stretch (c .before .before .before .before .before .args .text .now) s n))
+    (c .before .run-of .ensures .start-is) (c .before .run-of .ensures .length-is)))

@@ -10,7 +10,8 @@ pair-power-spec =
     tie.close
     (tie.spec
     (λ c. omega (arith, c .pre .1))
-    (λ c. let z = c .before in z .pre .2 ∙ ap (λ (k : ℕ). 1540483477 ^ k % 4294967296) (let e : z .args .size ≡ z .args .n - z .args .size = omega (arith, c .if1 .taken) in e))
+    (λ c. let z = c .before in z .pre .2
+    ∙ ap (λ (k : ℕ). 1540483477 ^ k % 4294967296) (let e : z .args .size ≡ z .args .n - z .args .size = omega (arith, c .if1 .taken) in e))
     (λ c. search needs)
     (λ c κs. search needs)
     (λ c. search needs))

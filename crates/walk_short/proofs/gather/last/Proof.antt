@@ -9,7 +9,12 @@ last-spec =
     (tie.spec
     (λ c κs. search needs)
     (λ c. search needs)
-    (λ c κs. let p = c .before .before .before .before .before .pre in (p .0 .header, p .0 .level-in, laws.last-kept _ _ _ _ 0 0 _ (c .before .before .before .look-after .ensures) _ _ (c .before .next .given .1), p .1))
+    (λ c κs. let p = c .before .before .before .before .before .pre in (
+      p .0 .header,
+      p .0 .level-in,
+      laws.last-kept _ _ _ _ 0 0 _ (c .before .before .before .look-after .ensures) _ _ (c .before .next .given .1),
+      p .1,
+    ))
     (λ c. search needs)
     (λ c. search needs)
     (λ c. laws.last-by _ _ _ _ _ _ _ (c .before .before .before .before .look-after .ensures) _ _ (c .before .before .next .given .1) _ (c .leaf-part .ensures))

@@ -24,4 +24,5 @@ over-spec =
     (λ c. search needs)
     (λ c. search needs)
     (λ c. search needs)
-    (λ c. laws.over-at _ _ _ _ _ _ (c .before .before .before .before .before .before .before .pre) _ _ (omega (arith, c .before .before .before .before .before .level-count .ensures, c .before .before .before .if1 .left)) (c .before .edges .ensures .0)))
+    (λ c. let w = c .before .before .before in laws.over-at _ _ _ _ _ _ (w .before .before .before .before .pre)
+    _ _ (omega (arith, w .before .before .level-count .ensures, w .if1 .left)) (c .before .edges .ensures .0)))

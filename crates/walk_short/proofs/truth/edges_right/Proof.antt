@@ -22,9 +22,14 @@ edges-right-spec =
     (tie.spec Inv-loop μ-loop
     (λ c. laws.plain-holds _ _ (c .before .before .before .pre) (c .if1 .taken))
     (λ c. (omega arith, λ x l. absurd (let z : ⊥ = omega arith in z)))
-    (λ c κs. let p = c .before .before .before .before .before .before .pre in (p, laws.is-two _ _ p (c .before .before .before .if1 .left), omega (arith, c .if2 .taken, p .header .levels-is)))
-    (λ c. laws.all-fail _ _ (c .before .before .before .before .before .before .before .before .pre) (c .before .before .before .before .before .if1 .left) _ (c .before .before .if2 .taken) (failed (c .before .level-right .ensures) (c .if3 .taken)))
+    (λ c κs. let p = c .before .before .before .before .before .before .pre in
+    (p, laws.is-two _ _ p (c .before .before .before .if1 .left), omega (arith, c .if2 .taken, p .header .levels-is)))
+    (λ c. let w = c .before .before .before .before .before in laws.all-fail _ _
+    (w .before .before .before .pre) (w .if1 .left) _ (c .before .before .if2 .taken) (failed (c .before .level-right .ensures) (c .if3 .taken)))
     (λ c. search needs)
     (λ c. omega (arith, c .before .before .if2 .taken))
-    (λ c. (omega (arith, c .before .before .if2 .taken), below-more _ _ (c .before .before .before .before .loop .inv .1) (held (c .before .level-right .ensures) (c .if3 .left))))
-    (λ c. laws.all-hold _ _ (c .before .before .before .before .before .before .pre) (c .before .before .before .if1 .left) _ (c .before .before .loop .inv .1) (c .if2 .left)))
+    (λ c. (
+      omega (arith, c .before .before .if2 .taken),
+      below-more _ _ (c .before .before .before .before .loop .inv .1) (held (c .before .level-right .ensures) (c .if3 .left)),
+    ))
+    (λ c. let w = c .before .before in laws.all-hold _ _ (w .before .before .before .before .pre) (w .before .if1 .left) _ (w .loop .inv .1) (c .if2 .left)))

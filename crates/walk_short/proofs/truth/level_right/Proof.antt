@@ -24,9 +24,12 @@ level-right-spec =
     (λ c κs. let p = c .before .pre in header.sized _ _ (p .0 .header) _ (omega (arith, p .2, p .0 .header .levels-is)))
     (λ c κs. let p = c .before .before .pre in (omega (arith, p .2, p .0 .header .facts .levels-high), p .0 .header .facts .long))
     (λ c. (omega arith, λ x l. absurd (let z : ⊥ = omega arith in z)))
-    (λ c κs. let p = c .before .before .before .before .before .pre in laws.block-asks _ _ (p .0) (p .1) _ _ _ (p .2) (header.full-is _ _ (p .0 .header) _ _ (c .before .before .before .block-length .ensures)) (omega (arith, c .before .before .level-count .ensures)))
-    (λ c. let p = c .before .before .before .before .before .before .before .pre in laws.level-fails _ _ (p .0) _ _ (c .before .before .before .before .level-count .ensures) _ (omega arith) (failed (c .before .block-right .ensures) (c .if1 .taken)))
+    (λ c κs. let w = c .before .before in let p = w .before .before .before .pre in laws.block-asks _ _
+    (p .0) (p .1) _ _ _ (p .2) (header.full-is _ _ (p .0 .header) _ _ (w .before .block-length .ensures)) (omega (arith, w .level-count .ensures)))
+    (λ c. let w = c .before .before .before .before in let p = w .before .before .before .pre in
+    laws.level-fails _ _ (p .0) _ _ (w .level-count .ensures) _ (omega arith) (failed (c .before .block-right .ensures) (c .if1 .taken)))
     (λ c. search needs)
     (λ c. search needs)
     (λ c. (omega arith, below-more _ _ (c .before .before .before .loop .inv .1) (held (c .before .block-right .ensures) (c .if1 .left))))
-    (λ c. let p = c .before .before .before .before .before .pre in laws.level-holds _ _ (p .0) _ _ (c .before .before .level-count .ensures) _ (c .before .loop .inv .1) (omega arith)))
+    (λ c. let p = c .before .before .before .before .before .pre in
+    laws.level-holds _ _ (p .0) _ _ (c .before .before .level-count .ensures) _ (c .before .loop .inv .1) (omega arith)))

@@ -12,4 +12,5 @@ shape-of-spec =
     (λ c κs. search needs)
     (λ c κs. search needs)
     (λ c κs. search needs)
-    (λ c. laws.shape-is _ _ _ _ _ _ (c .before .before .before .before .read .ensures) (c .before .before .before .read2 .ensures) (c .before .before .read3 .ensures) (c .before .read4 .ensures) (c .read5 .ensures)))
+    (λ c. let w = c .before .before in laws.shape-is
+    _ _ _ _ _ _ (w .before .before .read .ensures) (w .before .read2 .ensures) (w .read3 .ensures) (c .before .read4 .ensures) (c .read5 .ensures)))

@@ -15,6 +15,8 @@ new-spec =
     (λ c. simp (failed (c .before .sizes-fit .ensures) (c .if1 .taken)))
     (λ c. simp (held (c .before .before .sizes-fit .ensures) (c .before .if1 .left), lt-leb _ 4 (c .if2 .taken)))
     (λ c κs. search needs)
-    (λ c. let a = c .before .before .before .before in simp (held (a .sizes-fit .ensures) (c .before .before .before .if1 .left), le-leb _ 4 (c .before .before .if2 .left), failed (c .before .rises .ensures) (c .if3 .taken)))
+    (λ c. let w = c .before .before in let a = w .before .before in
+    simp (held (a .sizes-fit .ensures) (w .before .if1 .left), le-leb _ 4 (w .if2 .left), failed (c .before .rises .ensures) (c .if3 .taken)))
     (λ c. search needs)
-    (λ c. let a = c .before .before .before .before in simp (held (a .sizes-fit .ensures) (c .before .before .before .if1 .left), le-leb _ 4 (c .before .before .if2 .left), held (c .before .rises .ensures) (c .if3 .left))))
+    (λ c. let w = c .before .before in let a = w .before .before in
+    simp (held (a .sizes-fit .ensures) (w .before .if1 .left), le-leb _ 4 (w .if2 .left), held (c .before .rises .ensures) (c .if3 .left))))
