@@ -1,4 +1,5 @@
 -- Demand 1 of the exported calls: every one of them ends, and reads and writes only what was lent (`Ends`); what it asks of its caller holds of any arguments.
+-- docs/FORMAT.md: "What is promised".
 use Rattle.theory_machine.specs.Ends.{Function, Ends, ends}
 use Rattle.abi.proofs.bt_build as bt-build-of
 use Rattle.abi.proofs.bt_build.Symbol as bt-build-at

@@ -1,4 +1,5 @@
 -- What the reading of a row by columns answers, for any bytes lent as a tree, and what it leaves in the lent buffer.
+-- docs/FORMAT.md: "Columns before rows".
 use mathlib.Core.List.{List, _++_}
 use mathlib.Core.Bool.{Bool, true, cond}
 use mathlib.Core.Path.{_≡_}

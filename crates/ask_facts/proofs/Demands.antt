@@ -1,4 +1,5 @@
 -- What a caller learns of a tree, as theorems over what the calls promise.
+-- docs/FORMAT.md: "What is told without the text".
 use mathlib.Core.List.{List}
 use mathlib.Core.Path.{_≡_, refl, sym, ap, _∙_}
 use Prim.Native.Nat.{ℕ, zero, suc, _+_, _≤_, _<_}

@@ -1,4 +1,4 @@
--- What the request asks of a guide, as theorems over what the calls promise, for any lent bytes.
+-- What docs/FORMAT.md, "Guides", says of a guide, as theorems over what the calls promise, for any lent bytes.
 use mathlib.Core.List.{List, _++_}
 use mathlib.Core.Bool.{Bool, true, false}
 use mathlib.Core.Path.{_≡_, refl, sym, ap, _∙_}
@@ -69,7 +69,7 @@ module _ (t : List ℕ) (v : verdict t ≡ 0) (c : ℕ) (hc : c < at.countedCoun
   unfolding blockOf byteOf
   guide-holds e he = entry-word t v (entriesBefore t c + e) (entry-below t c e hc he) ∙ guide-entry t c e hc he
 
--- Making: "the tree's check 5 to 9 first, ..
+-- Making: the tree's check, 5 to 9, first; ..
 module _ (κs : Lfts 2) (t table after : RefT (List ℕ)) (r : Size) (a : MakeGuide κs t table after r) where
   pub make-unread : (verdict (now t) ≡ 0 → ⊥) → (r ≡ Refused (verdict (now t))) × (now after ≡ now table)
   make-unread n =
@@ -77,20 +77,20 @@ module _ (κs : Lfts 2) (t table after : RefT (List ℕ)) (r : Size) (a : MakeGu
       (refused-is r (verdict (now t)) (omega (arith, n)) (a .0 .0 ∙ sym (u .0)), a .1 ∙ sym (u .1))
 
   module _ (v : verdict (now t) ≡ 0) where
-    -- .. then 25 for a table too short, table untouched; ..
+    -- .. then "a table too short with 25, untouched"; ..
     pub make-short : length (now table) < 4 * guideWords (now t) → (r ≡ Refused 25) × (now after ≡ now table)
     make-short l =
         let u = laws.made-short (now t) (now table) v l in
         (refused-is r 25 (omega arith) (a .0 .0 ∙ sym (u .0)), a .1 ∙ sym (u .1))
 
-    -- .. else the words, with their number; what lies past them unchanged"
+    -- .. else the words, with their number; what lies past them unchanged.
     pub make-writes : 4 * guideWords (now t) ≤ length (now table)
         → (r ≡ Words (guideWords (now t))) × (now after ≡ guideBytes (now t) ++ drop (4 * guideWords (now t)) (now table))
     make-writes l =
         let u = laws.made-all (now t) (now table) v l in
         (words-is r (guideWords (now t)) (a .0 .1) (a .0 .0 ∙ sym (u .0)), a .1 ∙ laws.made-leaves (now t) (now table) v l)
 
--- Checking: it accepts the guide of an accepted tree and nothing else; "the tree's check first, then 24 for a wrong length or entry"
+-- Checking: it accepts the guide of an accepted tree and nothing else; after the tree's check, "a wrong length or entry with 24".
 module _ (κs : Lfts 2) (t guide : RefT (List ℕ)) (r : ℕ) (a : CheckGuide κs t guide r) where
   pub check-guide-accepts : (r ≡ 0) ↔ ((verdict (now t) ≡ 0) × (now guide ≡ guideBytes (now t)))
   check-guide-accepts = (
@@ -123,7 +123,7 @@ made-accepted κs κ t table after guide n r a is c = go (lt-or-ge 0 (verdict (n
         is ∙ ap (take (4 * n)) (w .1) ∙ take-at (guideBytes (now t)) (drop (4 * guideWords (now t)) (now table)) (4 * n) size in
         check-guide-accepts κ t guide r c .1 (v, same)
 
--- "A size call tells the words that a guide of this tree has": the number that making gives, and four bytes for each are enough.
+-- The size is the words that a guide of this tree has: the number that making gives, and four bytes for each are enough.
 module _ (κs : Lfts 1) (t : RefT (List ℕ)) (r : Size) (a : GuideWords κs t r) where
   pub size-of-guide : readable (now t) ≡ 0 → r ≡ Words (guideWords (now t))
   size-of-guide e = words-is r (guideWords (now t)) (a .1) (a .0 ∙ sym (laws.size-is (now t) (guideWords (now t)) e refl))

@@ -1,5 +1,6 @@
 -- A guide to the level 0 blocks, kept beside a tree: for each counted byte in order the number of the level 0 block that holds its 1st, 65th,
 -- 129th occurrence and so on, a word each; and what checking a guide, making one and asking for its size answer.
+-- docs/FORMAT.md: "Guides".
 use mathlib.Core.List.{List, _++_}
 use mathlib.Core.Bool.{cond}
 use Prim.Native.Nat.{ℕ, _+_, _-_, _*_, _/_}

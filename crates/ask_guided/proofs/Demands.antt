@@ -1,4 +1,4 @@
--- What the request asks of find with a guide, as theorems over what the call promises.
+-- What docs/FORMAT.md, "Guides", says of find with a guide, as theorems over what the call promises.
 use mathlib.Core.List.{List}
 use mathlib.Core.Path.{_≡_, sym, ap, _∙_}
 use mathlib.Core.Logic.{_⊎_, inl, inr}
@@ -52,7 +52,7 @@ one-answer t v byte j x y a b = same-found x y (a .numbered) (b .numbered) (go (
     go (inl l) = a .says .asked l ∙ sym (b .says .asked l)
     go (inr l) = let z : selectNumber t byte j ≡ 0 = omega arith in a .says .accepted z v ∙ sym (b .says .accepted z v)
 
--- "for an accepted tree and guide its place and blocks entered are find's, ..
+-- "for an accepted tree and guide its answer and blocks entered are those without. ..
 module _ (κs : Lfts 2) (t guide : RefT (List ℕ)) (byte j : ℕ) (r : Guided) (a : FindGuided κs t guide byte j r) where
   module _ (κ : Lfts 2) (ok : CheckGuide κ t guide 0) where
     accepted : guideNumber (now t) (now guide) ≡ 0
@@ -70,7 +70,8 @@ module _ (κs : Lfts 2) (t guide : RefT (List ℕ)) (byte j : ℕ) (r : Guided) 
     pub guided-as-find : (κ : Lfts 1) (f : Found) → Find κ t byte j f → foundOf r ≡ f
     guided-as-find κ f b = one-answer (now t) (guide-verdict (now t) (now guide) accepted) byte j (foundOf r) f as-find b
 
-    -- .. and it also reports its steps on level 0, counted on the way: the number of the level 0 block holding the place less that entry"
+    -- .. It also reports its steps on level 0, counted on the way: for an accepted tree and guide, the number of the level 0 block holding the place less
+    -- that entry."
     pub guided-steps : selectNumber (now t) byte j ≡ 0
         → stepsOf r ≡ blockOf (now t) (numberOfByte (now t) byte) j - blockOf (now t) (numberOfByte (now t) byte) (lastListed j)
     unfolding stepsTo

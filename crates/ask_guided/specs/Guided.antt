@@ -1,5 +1,6 @@
 -- What find with a guide answers, for any bytes lent as a tree and as a guide: settled by the questions before the walk, and for an accepted tree and
 -- guide; named as free for the others.
+-- docs/FORMAT.md: "Guides", "What is left free".
 use mathlib.Core.List.{List}
 use mathlib.Core.Path.{_≡_}
 use mathlib.Core.Logic.{_⊎_}

@@ -1,4 +1,5 @@
 -- The demands on comparing two trees, as theorems over what the calls promise.
+-- docs/FORMAT.md: "The order of books".
 use mathlib.Core.List.{List, [], _∷_}
 use mathlib.Core.Bool.{true, cond}
 use mathlib.Core.Path.{_≡_, refl, sym, ap, _∙_}

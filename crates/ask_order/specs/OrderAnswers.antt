@@ -1,4 +1,4 @@
--- The answers in document 01's terms: each one's number and figures, and the tree handed back.
+-- The answers by their numbers and figures, and the tree handed back (docs/FORMAT.md, "The order of books").
 use mathlib.Core.List.{List, []}
 use mathlib.Core.Bool.{cond}
 use mathlib.Core.Path.{_≡_}

@@ -1,4 +1,5 @@
 -- What is answered where a pattern is looked for in a tree, for any bytes lent as one, and what the lent table of words holds afterwards.
+-- docs/FORMAT.md: "Places", "What is told without the text".
 use mathlib.Core.List.{List, [], _∷_, _++_}
 use mathlib.Core.Bool.{Bool, cond, _&&_}
 use Prim.Native.Nat.{ℕ, zero, suc, _+_, _-_}

@@ -1,4 +1,4 @@
--- The answer in document 01's terms: its number and its figure.
+-- The answer by its number and its figure (docs/FORMAT.md, "The questions, in order").
 use mathlib.Core.List.{List}
 use mathlib.Core.Path.{_≡_}
 use Prim.Native.Nat.{ℕ, _≤_}

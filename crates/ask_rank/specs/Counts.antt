@@ -1,4 +1,4 @@
--- What count answers in document 01's terms, and what is made of the sums.
+-- What count answers, by its number and figures (docs/FORMAT.md, "Count"), and what is made of the sums.
 use mathlib.Core.Bool.{cond}
 use mathlib.Core.List.{List}
 use mathlib.Core.Path.{_≡_}

@@ -1,4 +1,5 @@
 -- Row with a guide, a row's length and the number of rows: theorems over what the calls promise.
+-- docs/FORMAT.md: "Guides", "What is told without the text".
 use mathlib.Core.List.{List, _++_}
 use mathlib.Core.Bool.{true}
 use mathlib.Core.Path.{_≡_, sym, ap, _∙_}
@@ -75,7 +76,7 @@ module _ (t : List ℕ) (v : verdict t ≡ 0)
           both 0 n (rowOf (textOf t) q ++ drop n buffer) (c .0, c .1, c .2 ∙ ap (λ (i : ℕ). rowOf (textOf t) q ++ drop i buffer) (c .1))
           (d .0, d .1, d .2 ∙ ap (λ (i : ℕ). rowOf (textOf t) q ++ drop i buffer) (d .1))
 
--- "row with a guide, by the same finds; on an accepted tree and guide its answer is row's"
+-- "row with a guide is row by such finds; for an accepted tree and guide its answer is row's"
 pub guided-as-row : (κs : Lfts 3) (t guide : RefT (List ℕ)) (q : ℕ) (buffer after : RefT (List ℕ)) (r : RowCopied) → RowGuided κs t guide q buffer after r
     → (κ : Lfts 2) → CheckGuide κ t guide 0 → (κ′ : Lfts 2) (left : RefT (List ℕ)) (s : RowCopied) → Row κ′ t q buffer left s → (r ≡ s) × (now after ≡ now left)
 guided-as-row κs t guide q buffer after r a κ ok κ′ left s b =
@@ -134,7 +135,7 @@ rows-say t v counted = go (lt-or-ge 0 (at.textLength t))
         )
 
 module _ (κs : Lfts 1) (t : RefT (List ℕ)) (v : verdict (now t) ≡ 0) where
-  -- "so many rows has the text"
+  -- the number of rows is that of the text's rows; ..
   pub rows-of-text : isCounted (now t) 10 ≡ true → (r : RowCount) → CountOf κs t r → r ≡ count.Rows (length (rowsOf (textOf (now t))))
   rows-of-text counted r a = rows-are r (length (rowsOf (textOf (now t)))) (a .numbered) (a .says ∙ rows-say (now t) v counted)
 

@@ -1,4 +1,4 @@
--- What row answers in document 01's terms, and what its edges are.
+-- What row answers, by its number and length (docs/FORMAT.md, "Row"), and what its edges are.
 use mathlib.Core.List.{List, _++_}
 use mathlib.Core.Bool.{Bool, cond}
 use mathlib.Core.Path.{_≡_}

@@ -1,4 +1,5 @@
 -- What is answered of a row's length, and of the number of rows, for any bytes lent as a tree.
+-- docs/FORMAT.md: "What is told without the text", "What is left free".
 use mathlib.Core.List.{List}
 use mathlib.Core.Bool.{Bool, cond, not, _&&_}
 use mathlib.Core.Path.{_≡_}

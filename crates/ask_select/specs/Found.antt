@@ -1,4 +1,4 @@
--- What find answers in document 01's terms, after the questions before the walk.
+-- What find answers, by its number and figures, after the questions before the walk (docs/FORMAT.md, "Find", "What is left free").
 use mathlib.Core.List.{List}
 use mathlib.Core.Bool.{cond}
 use mathlib.Core.Path.{_≡_}

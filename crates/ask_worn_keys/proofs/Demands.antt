@@ -1,4 +1,5 @@
--- What the request asks of a worn key, as theorems over what the calls promise: `MatchAnswer` is the contract of `next_match`, `Moved` that of `show`.
+-- What docs/FORMAT.md, "Keys", says of a worn key, as theorems over what the calls promise: `MatchAnswer` is the contract of `next_match`, `Moved` that
+-- of `show`.
 use mathlib.Core.List.{List, [], _∷_}
 use mathlib.Core.Bool.{Bool, true, false, cond}
 use mathlib.Core.Path.{_≡_, refl, sym, ap, _∙_}

@@ -1,5 +1,6 @@
 -- What the search for a match answers, for any bytes lent as a tree and as a question: settled by the questions before the walk and on
 -- accepted trees, and named as free on the others.
+-- docs/FORMAT.md: "Keys", "What is left free".
 use mathlib.Core.List.{List}
 use mathlib.Core.Bool.{cond}
 use mathlib.Core.Path.{_≡_}

@@ -1,4 +1,4 @@
--- What is asked and answered on the way to the next match, and the answer in document 02's terms.
+-- What is asked and answered on the way to the next match, and the answer by its number, its row and the mark (docs/FORMAT.md, "Keys").
 use mathlib.Core.List.{List}
 use mathlib.Core.Bool.{cond}
 use mathlib.Core.Path.{_≡_}

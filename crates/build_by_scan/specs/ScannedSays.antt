@@ -1,4 +1,5 @@
 -- What the builder with one scan a level answers, and what the lent buffer and the lent table hold afterwards.
+-- docs/FORMAT.md: "Two builders", "What is left in lent buffers".
 use mathlib.Core.List.{List, _++_}
 use mathlib.Core.Bool.{Bool, false, cond, _&&_, _||_}
 use mathlib.Core.Path.{_≡_}

@@ -1,4 +1,4 @@
--- The builder's answer in document 01's own terms.
+-- The builder's answer by its number and size (docs/FORMAT.md, "Two builders").
 use mathlib.Core.List.{List}
 use Prim.Native.Nat.{ℕ}
 use Rattle.format.specs.Settings.{Settings}

@@ -28,7 +28,7 @@ keptBy Again Again = false
 abbrev pub pairSays : List ℕ → ℕ → ℕ → Pair
 pairSays T s len = cond (eqb (leftmost T s len) s) First Again
 
--- by the tests of document 01
+-- by the tests of docs/FORMAT.md, "Blocks"
 abbrev pub pairBy : Bool → Bool → Pair
 pairBy first pair = cond first First (cond pair Again Apart)
 

@@ -1,4 +1,5 @@
 -- The demands on the rearrangement and its inverse, as theorems over what the two calls promise, for any arguments and any lent bytes.
+-- docs/FORMAT.md: "Columns before rows".
 use mathlib.Core.List.{List, [], _++_}
 use mathlib.Core.Bool.{true, false, cond}
 use mathlib.Core.Path.{_≡_, refl, sym, ap, _∙_}

@@ -1,4 +1,5 @@
 -- The block tree of a text: its blocks, level by level, and its bytes.
+-- docs/FORMAT.md: "Blocks", "Layout".
 use mathlib.Core.List.{List, [], _∷_, _++_, map}
 use mathlib.Core.Bool.{Bool, cond, not, _&&_, _||_}
 use Prim.Native.Nat.{ℕ, zero, suc, _+_, _-_, _*_, _/_, min}

@@ -1,4 +1,5 @@
 -- What build answers, and what the lent buffer holds afterwards.
+-- docs/FORMAT.md: "Two builders", "What is left in lent buffers".
 use mathlib.Core.List.{List, _++_}
 use mathlib.Core.Bool.{cond}
 use Prim.Native.Nat.{ℕ}

@@ -1,4 +1,5 @@
 -- What count answers, for any bytes lent as a tree.
+-- docs/FORMAT.md: "Count".
 use mathlib.Core.List.{List, [], _∷_}
 use mathlib.Core.Option.{Option, none, some}
 use mathlib.Core.Bool.{Bool, cond}

@@ -1,5 +1,6 @@
 -- What find answers, for any bytes lent as a tree: settled by the questions before the walk and on accepted trees, and named as free on the
 -- others.
+-- docs/FORMAT.md: "Find", "What is left free".
 use mathlib.Core.List.{List}
 use mathlib.Core.Option.{Option, none, some}
 use mathlib.Core.Path.{_≡_}

@@ -1,4 +1,5 @@
 -- Questions 8 and 9: which trees are well linked, which text fits a tree, and which counts and edges are true of it.
+-- docs/FORMAT.md: "Which text a tree stands for", "Question 8", "Question 9".
 use mathlib.Core.List.{List}
 use mathlib.Core.Option.{Option, none, some}
 use mathlib.Core.Bool.{Bool, cond, not, _&&_, _||_}

@@ -1,4 +1,5 @@
 -- A tree's bytes, read by the layout: the header's words, the fields of a record, a leaf byte. Any bytes can be read so.
+-- docs/FORMAT.md: "Layout", "The questions".
 use mathlib.Core.List.{List}
 use mathlib.Core.Bool.{Bool, _&&_, _||_}
 use Prim.Native.Nat.{ℕ, _+_, _-_, _*_, min}

@@ -1,4 +1,5 @@
 -- What byte, run and span answer, for any bytes lent as a tree, and what the lent buffer holds afterwards.
+-- docs/FORMAT.md: "Byte", "Run", "Span", "What is left in lent buffers".
 use mathlib.Core.List.{List, [], _∷_, _++_}
 use mathlib.Core.Option.{Option, none, some}
 use mathlib.Core.Bool.{Bool, true, false, cond, _&&_}

@@ -1,5 +1,5 @@
--- "The number at a given place is then read from any lent bytes that hold its four, even where its record is cut off, and no other byte changes
--- it": theorems over what the two calls that read numbers promise.
+-- "The number at a given place is read from any lent bytes that hold its four, even where its record is cut off, and no other byte changes it"
+-- (docs/FORMAT.md, "Record"): theorems over what the two calls that read numbers promise.
 use mathlib.Core.List.{List}
 use mathlib.Core.Path.{_≡_, sym, _∙_}
 use Prim.Native.Nat.{ℕ, _+_, _*_, _≤_, _<_}

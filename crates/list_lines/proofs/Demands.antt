@@ -1,4 +1,5 @@
 -- Demand 1 of list and of the list program's print: each ends, and reads and writes only what was lent (`Ends`).
+-- docs/FORMAT.md: "What is promised", "The list program".
 use Rattle.theory_machine.specs.Ends.{Function, Ends, ends}
 use Rattle.list_lines.proofs.list as list-of
 use Rattle.list_lines.proofs.list.Symbol as list-at

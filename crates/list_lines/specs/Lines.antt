@@ -1,4 +1,5 @@
 -- What the list program prints.
+-- docs/FORMAT.md: "The list program".
 use mathlib.Core.List.{List, [], _∷_, _++_}
 use mathlib.Core.Bool.{Bool, cond}
 use Prim.Native.Nat.{ℕ, zero, suc, _+_, _/_, _%_}

@@ -1,4 +1,4 @@
--- The worked book of document 01: what the list program prints of its tree, and of one that is cut short.
+-- The worked book (docs/FORMAT.md, "Example"): what the list program prints of its tree, and of one that is cut short.
 use mathlib.Core.List.{List, [], _∷_}
 use mathlib.Core.Path.{_≡_, refl}
 use Prim.Native.Nat.{ℕ}

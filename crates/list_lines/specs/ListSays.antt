@@ -1,4 +1,5 @@
 -- What list answers, and what it leaves in the lent buffer.
+-- docs/FORMAT.md: "The list program".
 use mathlib.Core.List.{List, _++_}
 use mathlib.Core.Bool.{cond}
 use Prim.Native.Nat.{ℕ, zero, suc}

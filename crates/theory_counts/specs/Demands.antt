@@ -1,4 +1,5 @@
 -- What holds of the counts of a tree: each statement under its own sentence.
+-- docs/FORMAT.md: "Question 9", "Count", "Find".
 use mathlib.Core.List.{List}
 use mathlib.Core.Bool.{true, cond}
 use mathlib.Core.Path.{_≡_}

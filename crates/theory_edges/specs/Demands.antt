@@ -1,4 +1,5 @@
 -- What holds of the edges of a tree, and of spans: each statement under its own sentence.
+-- docs/FORMAT.md: "Question 9", "The walk of a short span".
 use mathlib.Core.List.{List, _++_}
 use mathlib.Core.Option.{Option, none, some}
 use mathlib.Core.Bool.{Bool, true, false, cond}

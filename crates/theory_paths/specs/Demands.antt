@@ -1,4 +1,5 @@
 -- What holds of paths, and of the text of a tree: each statement under its own sentence.
+-- docs/FORMAT.md: "Which text a tree stands for", "The path of a place".
 use mathlib.Core.List.{List, _++_}
 use mathlib.Core.Option.{some}
 use mathlib.Core.Bool.{true}

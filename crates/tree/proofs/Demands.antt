@@ -1,4 +1,5 @@
 -- The demands on build and check, as theorems over what their calls promise.
+-- docs/FORMAT.md: "What is promised".
 use mathlib.Core.List.{List, _++_}
 use mathlib.Core.Path.{_≡_, sym, ap, _∙_}
 use mathlib.Core.Logic.{_↔_}
