@@ -27,7 +27,7 @@ use Rattle.theory_paths.specs.Demands as paths
 use Rattle.theory_edges.specs.EdgesLocal.{allEdges}
 use Rattle.theory_edges.specs.EdgesExact as exact
 use Rattle.theory_edges.specs.SpanWalk as walks
-use Rattle.theory_edges.specs.BlocksEntered.{short-entered}
+use Rattle.theory_edges.specs.SpanEntered.{short-entered}
 use Rattle.theory_edges.specs.SpanPlaces.{Inside, short-inside}
 
 -- Any tree that passes questions 5 to 8: the local equations that the check looks at hold exactly where the edges are true of the one text

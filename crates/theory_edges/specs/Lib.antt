@@ -1,7 +1,7 @@
 pub mod Truth
 pub mod SpanSteps
 pub mod SpanWalk
-pub mod BlocksEntered
+pub mod SpanEntered
 pub mod SpanPlaces
 pub mod EdgesLocal
 pub mod EdgesExact

@@ -1,13 +1,13 @@
--- Request 114: books in order on the shelf. Two trees that the check accepts, whoever made them, and the texts that fit them; and the numbers
--- that a comparison of any lent bytes refuses with.
+-- compare(one, other) and first(one, other, number, order, shared): the order of two trees' texts and the length of their shared beginning; `first` hands
+-- back the tree that stands first. Of any lent bytes, and of two trees that the check accepts, whoever made them, with the texts that fit them.
 use mathlib.Core.List.{List, [], _∷_}
 use mathlib.Core.Bool.{Bool, true, false, cond}
-use mathlib.Core.Path.{_≡_, refl, sym, ap, _∙_}
+use mathlib.Core.Path.{_≡_, sym, ap, _∙_, refl}
 use mathlib.Core.Logic.{_⊎_, inl, inr}
 use Prim.Native.Nat.{ℕ, zero, suc, _+_, _≤_, _<_, min}
 use native.Mathlib.Omega.{arith}
 use contract.Lifetimes.{Lfts}
-use denote.Ref.{RefT, now}
+use denote.Ref.{now, RefT}
 use lib.ListN.{length}
 use lib.Dec.{ltb}
 use Rattle.text.specs.ListLaws.{lt-or-ge}
@@ -18,19 +18,38 @@ use Rattle.format.specs.VerdictLaws.{accepted-readable, accepted-links}
 use Rattle.format.specs.ReadSays.{byteSays}
 use Rattle.theory_paths.specs.PlaceBytes.{byte-broken}
 use Rattle.theory_accepted.specs.AcceptedTrees.{one-text}
+use Rattle.ask_order.specs.declared.Compared.{Compared}
+use Rattle.ask_order.specs.declared.Compared.the-variants as compared
+use Rattle.ask_order.proofs.Demands as orders
 use Rattle.ask_order.specs.Order.{Standing, before, same, after, Ordered, stands, orElse, byLength, comparedFrom, orderSays, standing, shared}
 use Rattle.ask_order.specs.OrderLaws.{clash, flip, Upto, shared-itself}
 use Rattle.ask_order.specs.OrderAnswers.{outcome, firstOf}
 use Rattle.ask_order.proofs.HandLaws.{refused-low}
-use Rattle.ask_order.proofs.Demands as orders
-use Rattle.query.proofs.Calls as calls
-use Rattle.query.proofs.Calls.{Lent, Check, Compared, Compare, First}
-use Rattle.query.proofs.Numbers.{OneOf, of-left, of-right, not-zero, readable-one}
-use calls.compared as compared
+use Rattle.query.proofs.CheckCall.{Check}
+use Rattle.query.proofs.OutsideCall.{Call, Lent, call}
+use Rattle.query.proofs.RefusalNumbers.{OneOf, not-zero, of-left, of-right, readable-one}
+use Rattle.ask_order.proofs.compare as compare-code
+use Rattle.ask_order.proofs.compare.Symbol as compare-symbol
+use Rattle.ask_order.proofs.compare.Met as compare-met
+use Rattle.ask_order.proofs.first as first-code
+use Rattle.ask_order.proofs.first.Symbol as first-symbol
+use Rattle.ask_order.proofs.first.Met as first-met
+-- what the contracts allow: `Compare κs one other r`, and `First`
+pub use Rattle.ask_order.proofs.Demands.{Compare, First}
 -- the laws of the order of texts: at or before is a total order, the same only of equal texts; it goes by the first byte that differs, or by the
 -- shorter end
 pub use Rattle.ask_order.specs.OrderLaws.{text-order, standing-flip, standing-refl, standing-same, standing-trans, shared-is, shared-flip, stands-by}
 pub use Rattle.ask_order.specs.OrderLaws.{empty-first}
+
+abbrev pub compare-call : Call
+compare-call =
+    call (record { routine = compare-symbol.routine; signature = compare-code.signature; clauses = compare-code.spec }) compare-met.met
+    (λ 𝓤 H A mem run κs a. (tt, refl))
+
+abbrev pub first-call : Call
+first-call =
+    call (record { routine = first-symbol.routine; signature = first-code.signature; clauses = first-code.spec }) first-met.met
+    (λ 𝓤 H A mem run κs a. (tt, refl))
 
 -- the numbers that a comparison refuses with, for any lent bytes
 

@@ -1,9 +1,10 @@
--- The demands on build_scanned, the builder with one scan a level: what it writes is what build writes, so that demand 2 and the end of demand 3
--- hold of it by build's own theorems; the windows that it reports; and the numbers it refuses with, the lent table and the lent buffer.
+-- build_scanned(text, leaf, arity, levels, counted, words, out): the block tree of a text, by one scan of it for each level, in a lent table of words;
+-- scan_words(n, leaf) answers how many words that table must have. What it writes is what build writes, so that demand 2 and the end of demand 3 hold of
+-- it by build's own theorems; the windows that it reports; the numbers it refuses with, the lent table and the lent buffer.
 use mathlib.Core.List.{List, [], _∷_}
 use mathlib.Core.Bool.{true}
-use mathlib.Core.Path.{_≡_, sym, ap, _∙_}
-use mathlib.Core.Logic.{_⊎_, inl, inr}
+use mathlib.Core.Path.{_≡_, sym, ap, _∙_, refl}
+use mathlib.Core.Logic.{inl, inr}
 use Prim.Native.Nat.{ℕ, _≤_, _<_}
 use native.Mathlib.Omega.{arith}
 use native.Mathlib.Decide.{ℕ-discrete}
@@ -13,23 +14,52 @@ use lib.ListN.{length, take, drop, replicate}
 use lib.Dec.{leb}
 use borrow.Author.Tests.{ne-eqb, le-leb, lt-leb}
 use Rattle.format.specs.Settings.{Settings, lengthOk, sizesOk, countedOk}
-use Rattle.format.specs.Blocks.{treeOf}
 use Rattle.format.specs.Fits.{fits}
 use Rattle.format.specs.Verdict.{ask}
+use Rattle.format.specs.Blocks.{treeOf}
 use Rattle.format.specs.BuildSays.{buildNumber, buildSize, buildLeaves}
 use Rattle.theory_accepted.specs.AcceptedTrees.{StandsFor}
 use Rattle.build_by_search.specs.BuildAnswer.{given, numberOf as numberBuilt, sizeOf as sizeBuilt}
-use Rattle.build_by_scan.specs.ScannedAnswer.{numberOf, sizeOf}
+use Rattle.build_by_search.specs.declared.Built.{Built}
+use Rattle.build_by_search.specs.declared.Built.the-variants as built
+use Rattle.build_by_scan.specs.declared.Scanned.{Scanned}
+use Rattle.build_by_scan.specs.declared.Scanned.the-variants as scanned
 use Rattle.build_by_scan.specs.ScannedSays.{windowsOf, tableWords, scanNumber, scanWindows, scanLeaves}
+use Rattle.build_by_scan.specs.ScannedAnswer.{numberOf, sizeOf}
 use Rattle.build_by_scan.proofs.ScannedOutcomes.{number-same, size-same, leaves-same}
-use Rattle.query.proofs.Calls as calls
-use Rattle.query.proofs.Calls.{Lent, Built, Scanned, Build, BuildScanned, ScanWords, Check}
-use Rattle.query.proofs.Numbers.{OneOf, asks-one}
-use Rattle.query.proofs.Answering.{Answers, Refuses}
-use Rattle.query.proofs.Buffers.{build-answer, build-numbers, build-zeros, build-unchanged}
-use Rattle.query.proofs.Demand2.{build-writes, build-answers, build-refuses, build-accepted, build-one-text}
-use calls.built as built
-use calls.scanned as scanned
+use Rattle.query.proofs.BuildCall.{Build, build-numbers, build-zeros, build-answer, build-writes}
+use Rattle.query.proofs.BuildCall.{build-answers, build-refuses, build-accepted, build-one-text}
+use Rattle.query.proofs.CheckCall.{Check}
+use Rattle.query.proofs.OutsideCall.{Call, Lent, call}
+use Rattle.query.proofs.RefusalNumbers.{OneOf, asks-one}
+use Rattle.build_by_scan.proofs.build_scanned as build-scanned-code
+use Rattle.build_by_scan.proofs.build_scanned.Symbol as build-scanned-symbol
+use Rattle.build_by_scan.proofs.build_scanned.Met as build-scanned-met
+use Rattle.build_by_scan.proofs.scan_words as scan-words-code
+use Rattle.build_by_scan.proofs.scan_words.Symbol as scan-words-symbol
+use Rattle.build_by_scan.proofs.scan_words.Met as scan-words-met
+use Rattle.build_by_scan.proofs.build_scanned.Reads as scanned-reads
+use Rattle.build_by_scan.proofs.scan_words.Reads as scan-words-reads
+use Rattle.query.proofs.TreeAnswers.{Answers, Refuses}
+
+-- what the contract of `build_scanned` allows, where the table is left as `table` and the buffer as `after`
+abbrev pub BuildScanned : (κs : Lfts 4) (text : Lent) (leaf arity levels : ℕ) (counted words table out after : Lent) → Scanned → Type 0
+BuildScanned κs text leaf arity levels counted words table out after r =
+    scanned-reads.Post κs (text, (leaf, (arity, (levels, (counted, (words, (out, tt))))))) r (text, (leaf, (arity, (levels, (counted, (table, (after, tt)))))))
+
+-- what the contract of `scan_words` allows
+abbrev pub ScanWords : (n leaf : ℕ) → ℕ → Type 0
+ScanWords n leaf r = scan-words-reads.Post tt (n, (leaf, tt)) r (n, (leaf, tt))
+
+abbrev pub build-scanned-call : Call
+build-scanned-call =
+    call (record { routine = build-scanned-symbol.routine; signature = build-scanned-code.signature; clauses = build-scanned-code.spec }) build-scanned-met.met
+    (λ 𝓤 H A mem run κs a. (tt, refl))
+
+abbrev pub scan-words-call : Call
+scan-words-call =
+    call (record { routine = scan-words-symbol.routine; signature = scan-words-code.signature; clauses = scan-words-code.spec }) scan-words-met.met
+    (λ 𝓤 H A mem run κs a. (tt, refl))
 
 -- A call of build_scanned, which leaves the table `words` as `table` and the buffer `out` as `after`.
 module _ (κs : Lfts 4) (text : Lent) (leaf arity levels : ℕ) (counted words table out after : Lent) where
@@ -150,7 +180,7 @@ module _ (κs : Lfts 4) (text : Lent) (leaf arity levels : ℕ) (counted words t
     unfolding scanWindows
     scanned-windows = a .1 .1 .0 ∙ rw (← a .0)
 
-    -- Demand 2. "The builder's output is, byte for byte, the block tree of its text as document 01 defines it; ..
+    -- Demand 2. "The builder's output is, byte for byte, the block tree of its text; ..
     pub scanned-writes : take size (now after) ≡ treeOf S T
     scanned-writes = build-writes κ text leaf arity levels counted out after size (as-size size windows a)
 
