@@ -1,5 +1,5 @@
 -- build(text, leaf, arity, levels, counted, out): the block tree of a text, written into a buffer. Demand 2: "The builder's output is, byte for byte, the
--- block tree of its text as [docs/FORMAT.md, "Blocks" and "Layout"] defines it; read back, every byte, span, run, row, count and place is the text's." And
+-- block tree of its text as this page defines it; read back, every byte, span, run, row, count and place is the text's." And
 -- the end of demand 3: "What the builder writes is accepted, and its one text is the input."
 use mathlib.Core.List.{List, [], _∷_, _++_}
 use mathlib.Core.Bool.{true, cond}

@@ -1,6 +1,6 @@
 -- The demands, as theorems over what the calls promise: of any lent bytes, of every tree that the check accepts, whoever made it, and of what
 -- build writes. Each theorem is named here under the sentence that it shows, and stands in the file of its call. What it means that questions are answered
--- from a text is said in `TreeAnswers`, which calls there are in `EveryCall`.
+-- from a text is said in `TreeAnswers`, which calls there are in `EveryCall`. The sentences are quoted from docs/FORMAT.md, which calls itself this page.
 use mathlib.Core.List.{List}
 use mathlib.Core.Bool.{true}
 use mathlib.Core.Path.{_≡_, _∙_}
@@ -23,7 +23,7 @@ use Rattle.query.proofs.OutsideCall.{Lent}
 use Rattle.query.proofs.TreeAnswers.{Answers, Refuses}
 -- Demand 1. "Every call ends, on every text, setting, tree and question; reads and writes only what was lent; ..
 pub use Rattle.query.proofs.EveryCall.{every-call-ends}
--- .. gives its answer or a numbered refusal [of docs/FORMAT.md, "The questions, in order"]; ..
+-- .. gives its answer or a numbered refusal of this page; ..
 pub use Rattle.query.proofs.CheckCall.{check-numbers}
 pub use Rattle.query.proofs.EnoughCall.{enough-numbers}
 pub use Rattle.query.proofs.ByteCall.{byte-answer, byte-numbers}
@@ -35,13 +35,13 @@ pub use Rattle.query.proofs.SpanCall.{span-numbers}
 pub use Rattle.query.proofs.RowCall.{row-numbers}
 -- .. trusts no caller to have checked a tree; ..
 pub use Rattle.query.proofs.EveryCall.{trusts-no-caller}
--- .. leaves each lent buffer as [docs/FORMAT.md, "The questions, in order"] says."
+-- .. leaves each lent buffer as this page says."
 pub use Rattle.query.proofs.BuildCall.{build-answer, build-zeros, build-unchanged}
 pub use Rattle.query.proofs.SpanCall.{span-answer, span-zeros, span-unchanged}
 pub use Rattle.query.proofs.RowCall.{row-answer, row-leaves}
 -- With the room that enough answers, build is not refused for want of it.
 pub use Rattle.query.proofs.BuildCall.{build-has-room}
--- Demand 2. "The builder's output is, byte for byte, the block tree of its text as [docs/FORMAT.md, "Blocks" and "Layout"] defines it; ..
+-- Demand 2. "The builder's output is, byte for byte, the block tree of its text as this page defines it; ..
 pub use Rattle.query.proofs.BuildCall.{build-writes}
 -- .. read back, every byte, span, run, row, count and place is the text's."
 pub use Rattle.query.proofs.BuildCall.{build-answers, build-refuses}
@@ -94,12 +94,13 @@ pub use Rattle.query.proofs.BuildScannedCall.{scanned-writes, scanned-a
 -- number of rows; a mark already there or beyond stays": `match-of` of `Answers`; of the lent mark, ..
 pub use Rattle.ask_worn_keys.proofs.Demands.{row-rises, none-moves}
 -- .. "On an accepted tree, from mark 0 to none, with the question kept and the mark moved by nothing else, each match and no other row is shown,
--- once, in row order (`matches-rise`: the list rises; `match-shown`, `shown-match`: it has exactly the rows that match), ..
+-- once, in row order", ..
 pub use Rattle.ask_worn_keys.proofs.Demands.{all-matches}
+-- .. that is, the list rises (`matches-rise`) and has exactly the rows that match (`match-shown`, `shown-match`), ..
 pub use Rattle.keys.specs.MatchLaws.{all-shown, matches-rise, match-shown, shown-match}
--- .. and widening a range loses no match. ..
+-- .. "and widening a range loses no match." ..
 pub use Rattle.ask_worn_keys.proofs.Demands.{wider-loses-none}
--- .. It refuses a number of cuts outside 1 to 10, a depth above 9 or a low above its high with 19, after question 7 and before 11; ..
+-- .. "It refuses a number of cuts outside 1 to 10, a depth above 9 or a low above its high with 19, after question 7 and before 11; ..
 pub use Rattle.ask_worn_keys.proofs.Demands.{match-unread, match-ranges, match-uncounted}
 pub use Rattle.query.proofs.NextMatchCall.{match-numbers}
 -- .. any refusal leaves the mark. On a tree the check refuses, the match shown is left free as row is": what holds of it all the same.
