@@ -44,8 +44,8 @@ pub record BlocksOfSpan (t : List ℕ) (H p len e : ℕ) : Type 0 where
   pub most : e ≤ 2 * H
 
 -- in a tree that passes questions 5 to 7 every span that is reached has so many
-pub blocks-of-span : (t : List ℕ)
-    → readable t ≡ 0 → (p len : ℕ) → spanReached t p len ≡ true → BlocksOfSpan t (at.settings t .levels) p len (spanBlocks t p len)
+pub blocks-of-span : (t : List ℕ) → readable t ≡ 0 → (p len : ℕ) → spanReached t p len ≡ true
+    → BlocksOfSpan t (at.settings t .levels) p len (spanBlocks t p len)
 blocks-of-span t r p len reached = record {
   walked = λ s. let w = margins.span-walked t r p len (short-lets t len s) reached in (w .0, w .1, w .2, rw (w .2) (w .3));
   other = λ n. not-short n (bool-cases (isShort t len));

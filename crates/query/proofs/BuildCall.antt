@@ -62,8 +62,8 @@ build-fits S T out h =
     let four = ask 4 (leb (length (treeOf S T)) (length out)) 0 in
     let three = ask 3 (countedOk (S .counted)) four in
     let two = ask 2 (sizesOk S) three in
-    leb-true _ _ (ask-test 3 (leb (length (treeOf S T)) (length out))
-    0 (ask-rest 2 (countedOk (S .counted)) four (ask-rest 1 (sizesOk S) three (ask-rest 0 (lengthOk (length T)) two h))))
+    let asked = ask-rest 2 (countedOk (S .counted)) four (ask-rest 1 (sizesOk S) three (ask-rest 0 (lengthOk (length T)) two h)) in
+    leb-true _ _ (ask-test 3 (leb (length (treeOf S T)) (length out)) 0 asked)
 
 module _ (κs : Lfts 3) (text : Lent) (leaf arity levels : ℕ) (counted out after : Lent) where
   abbrev S : Settings
@@ -77,10 +77,11 @@ module _ (κs : Lfts 3) (text : Lent) (leaf arity levels : ℕ) (counted out aft
       let passed : buildNumber S (now text) (now out) ≡ 0 = sym (a .0) in
       let tree = treeOf S (now text) in
       let size-is : size ≡ length tree = a .1 .0 ∙ rw passed in
-      let left : now after ≡ tree ++ drop (length tree) (now out) = a .1 .1 ∙ rw passed in (
+      let left : now after ≡ tree ++ drop (length tree) (now out) = a .1 .1 ∙ rw passed in
+      let past = drop (length tree) (now out) in (
         rw size-is (build-fits S (now text) (now out) passed),
-        rw (left, size-is) (take-append-seam tree (drop (length tree) (now out))),
-        rw (left, size-is) (drop-append-seam tree (drop (length tree) (now out))),
+        rw (left, size-is) (take-append-seam tree past),
+        rw (left, size-is) (drop-append-seam tree past),
       )
 
   module _ (n : ℕ) (a : Build κs text leaf arity levels counted out after (built.Refused n)) where

@@ -143,11 +143,10 @@ module _ (κs : Lfts 4) (text : Lent) (leaf arity levels : ℕ) (counted words t
     unfolding scanNumber
     scanned-has-table w c enough e =
         let long : tableWords (length T) leaf ≤ length (now words) = omega (arith, c) in
-        let is : 18 ≡ ask 1 (lengthOk (length T))
-        (ask 2 (sizesOk S) (ask 3 (countedOk (now counted)) (ask 4 (leb (length (treeOf S T)) (length (now out))) 0))) =
+        let room = leb (length (treeOf S T)) (length (now out)) in
+        let is : 18 ≡ ask 1 (lengthOk (length T)) (ask 2 (sizesOk S) (ask 3 (countedOk (now counted)) (ask 4 room 0))) =
         sym e ∙ a .0 ∙ rw (le-leb (tableWords (length T) leaf) (length (now words)) long) in
-        go (rw is (asks-one ((1, lengthOk (length T))
-        ∷ (2, sizesOk S) ∷ (3, countedOk (now counted)) ∷ (4, leb (length (treeOf S T)) (length (now out))) ∷ [])))
+        go (rw is (asks-one ((1, lengthOk (length T)) ∷ (2, sizesOk S) ∷ (3, countedOk (now counted)) ∷ (4, room) ∷ [])))
       where
         go : OneOf (1 ∷ 2 ∷ 3 ∷ 4 ∷ 0 ∷ []) 18 → ⊥
         go (inl e) = omega arith
@@ -158,8 +157,8 @@ module _ (κs : Lfts 4) (text : Lent) (leaf arity levels : ℕ) (counted words t
 
     -- "For every text, setting and buffer that both take, it and the first builder write the same bytes": two calls on the same text, settings and
     -- bytes in the buffer, of which this one is not refused by 18, answer the same number and size and leave the same bytes.
-    pub same-as-build : (κ : Lfts 3) (lent left : Lent) (b : Built)
-        → now lent ≡ now out → Build κ text leaf arity levels counted lent left b → (numberOf r ≡ 18 → ⊥)
+    pub same-as-build : (κ : Lfts 3) (lent left : Lent) (b : Built) → now lent ≡ now out → Build κ text leaf arity levels counted lent left b
+        → (numberOf r ≡ 18 → ⊥)
         → (numberOf r ≡ numberBuilt b) × (sizeOf r ≡ sizeBuilt b) × (now after ≡ now left)
     same-as-build κ lent left b same c other =
         let long : scanNumber S T (now out) (length (now words)) ≡ 18 → ⊥ = λ e. other (a .0 ∙ e) in (

@@ -33,8 +33,9 @@ pub enough-numbers : (n leaf arity levels k m : ℕ) → Enough n leaf arity lev
 unfolding enoughSays
 enough-numbers n leaf arity levels k m a = go (lengthOk n) (sizesOk (sizes leaf arity levels)) (leb k 4) (enoughFor n leaf arity levels k) a
   where
-    go : (one two three : Bool) (size : ℕ) → room.Refused
-        m ≡ cond one (cond two (cond three (room.Bytes size) (room.Refused 3)) (room.Refused 2)) (room.Refused 1) → OneOf (1 ∷ 2 ∷ 3 ∷ []) m
+    go : (one two three : Bool) (size : ℕ)
+        → room.Refused m ≡ cond one (cond two (cond three (room.Bytes size) (room.Refused 3)) (room.Refused 2)) (room.Refused 1)
+        → OneOf (1 ∷ 2 ∷ 3 ∷ []) m
     go true true true size e = absurd (let z : _≡_ {A = ℕ} 0 1 = cc in omega arith)
     go true true false size e = inr (inr (inl cc))
     go true false three size e = inr (inl cc)

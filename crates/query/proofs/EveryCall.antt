@@ -1,6 +1,5 @@
--- The calls of the library, a line for each, and what demand 1 says of every one of them. The exported calls stand in `abi`, list in `list_lines`, the
--- calls on a
--- licence's days in `term`.
+-- The calls of the library, a line for each, and what demand 1 says of every one of them. The exported calls, list and the calls
+-- on a licence's days stand in the `Demands` of their crates.
 use mathlib.Core.List.{List, [], _∷_}
 use Rattle.query.proofs.OutsideCall.{AsksNothing, Call, Ends, Function}
 use Rattle.query.proofs.LeftmostCall

@@ -1,4 +1,5 @@
--- find_guided(tree, guide, byte, j): find, from an entry of a guide on; it also answers its steps on level 0.
+-- find_guided(tree, guide, byte, j): find, from an entry of a guide on; it also answers its steps on level 0. What else holds of it stands in
+-- the `Demands` of its crate.
 use mathlib.Core.List.{[], _∷_}
 use mathlib.Core.Path.{_≡_, sym, ap, refl}
 use Prim.Native.Nat.{ℕ, _≤_, _<_}
@@ -58,8 +59,8 @@ module _ (κ : Lfts 2) (t guide : Lent) (ok : CheckGuide κ t guide 0) where
   v : verdict (now t) ≡ 0
   v = guide-verdict (now t) (now guide) settled
 
-  pub guided-of-text : (κs : Lfts 2) (byte j : ℕ) (r : Guided)
-      → FindGuided κs t guide byte j r → Among byte (at.settings (now t) .counted) → 1 ≤ j → j ≤ countIn byte (textOf (now t))
+  pub guided-of-text : (κs : Lfts 2) (byte j : ℕ) (r : Guided) → FindGuided κs t guide byte j r
+      → Among byte (at.settings (now t) .counted) → 1 ≤ j → j ≤ countIn byte (textOf (now t))
       → (e : ℕ) × LengthOfPath (now t) (at.settings (now t) .levels) (placeOf byte j (textOf (now t))) e
       × (r ≡ guided.At (record { 0 = placeOf byte j (textOf (now t)) }) e (stepsTo (now t) (numberOfByte (now t) byte) j))
   unfolding found
@@ -70,8 +71,8 @@ module _ (κ : Lfts 2) (t guide : Lent) (ok : CheckGuide κ t guide 0) where
       let long = path-length (now t) v p in-text in
       (pathLength (now t) (pathOf (now t) p), long, guided-is r p _ _ (a .numbered) (a .says .finds .accepted n settled) (a .says .counted n settled))
     where
-      guided-is : (r : Guided) (p e steps : ℕ)
-          → Numbered r → saidGuided r ≡ record { number = 0; value = p; entered = e } → stepsOf r ≡ steps → r ≡ guided.At (record { 0 = p }) e steps
+      guided-is : (r : Guided) (p e steps : ℕ) → Numbered r → saidGuided r ≡ record { number = 0; value = p; entered = e } → stepsOf r ≡ steps
+          → r ≡ guided.At (record { 0 = p }) e steps
       guided-is (guided.At q m s) p e steps k x y =
           let z : q ≡ record { 0 = p } = ap (λ (n : ℕ). record { 0 = n }) (ap (λ (s : Said). s .value) x) in
           let w : m ≡ e = ap (λ (s : Said). s .entered) x in

@@ -54,8 +54,8 @@ module _ (t : List ℕ) (byte j : ℕ) where
       go (inr z) (inr w) =
           let v : ok ≡ 0 = omega arith in
           let e = a .accepted (omega arith) v in
-          placed (ap (λ (x : Said). x .number) e)
-          (rw (ap (λ (x : Said). x .value) e) (tallies.place-below t (sound v) byte j (select-passes t byte j (omega arith))))
+          let below = tallies.place-below t (sound v) byte j (select-passes t byte j (omega arith)) in
+          placed (ap (λ (x : Said). x .number) e) (rw (ap (λ (x : Said). x .value) e) below)
 
   -- a place is one of the text, ..
   pub outcome-below : (s : Said) → s .number ≡ 0 → FindOutcome s → s .value < at.textLength t

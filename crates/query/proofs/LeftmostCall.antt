@@ -1,4 +1,4 @@
--- leftmost(text, place, length, by) and occurs_earlier(..): where the same bytes stand first. What they answer stands in `search`.
+-- leftmost(text, place, length, by) and occurs_earlier(..): where the same bytes stand first. What they answer stands in the `Demands` of their crate.
 use mathlib.Core.Path.{refl}
 use Rattle.query.proofs.OutsideCall.{Call, call}
 use Rattle.search.proofs.leftmost as leftmost-code

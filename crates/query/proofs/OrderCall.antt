@@ -38,8 +38,8 @@ use Rattle.ask_order.proofs.first.Met as first-met
 pub use Rattle.ask_order.proofs.Demands.{Compare, First}
 -- the laws of the order of texts: at or before is a total order, the same only of equal texts; it goes by the first byte that differs, or by the
 -- shorter end
-pub use Rattle.ask_order.specs.OrderLaws.{text-order, standing-flip, standing-refl, standing-same, standing-trans, shared-is, shared-flip, stands-by}
-pub use Rattle.ask_order.specs.OrderLaws.{empty-first}
+pub use Rattle.ask_order.specs.OrderLaws.{text-order, standing-flip, standing-refl, standing-same, standing-trans}
+pub use Rattle.ask_order.specs.OrderLaws.{shared-is, shared-flip, stands-by, empty-first}
 
 abbrev pub compare-call : Call
 compare-call =

@@ -61,13 +61,13 @@ passed t P room h =
     let a = unless-passes (readable t) (refused more) (sym (then-is (readable t) more) ∙ h) in
     let ok = ask-test 15 (leb 1 (length P) && leb (length P) maxPattern) fourteen (a .1) in
     let b = ask-rest 15 (leb 1 (length P) && leb (length P) maxPattern) fourteen (a .1) in
+    let c = ask-rest 13 (pathsHold t 0 (at.textLength t)) seventeen b in
     record {
       pass = a .0;
       low = leb-true 1 (length P) (and-left (leb 1 (length P)) (leb (length P) maxPattern) ok);
       high = leb-true (length P) maxPattern (and-right (leb 1 (length P)) (leb (length P) maxPattern) ok);
       hold = ask-test 13 (pathsHold t 0 (at.textLength t)) seventeen b;
-      fits = leb-true (length (placesOf t P))
-          room (ask-test 16 (leb (length (placesOf t P)) room) 0 (ask-rest 13 (pathsHold t 0 (at.textLength t)) seventeen b));
+      fits = leb-true (length (placesOf t P)) room (ask-test 16 (leb (length (placesOf t P)) room) 0 c);
     }
 
 -- the path of each of some places holds

@@ -80,7 +80,7 @@ pub says-refused : (n m v w : ℕ) → 1 ≤ n → refused n ≡ unless m (recor
 says-refused n zero v w low e = absurd (let z : n ≡ 0 = ap (λ (s : Said). s .number) e in omega arith)
 says-refused n (suc m) v w low e = ap (λ (s : Said). s .number) e
 
-pub says-answer : (x y m v w : ℕ)
-    → record { number = 0; value = x; entered = y } ≡ unless m (record { number = 0; value = v; entered = w }) → (m ≡ 0) × (x ≡ v) × (y ≡ w)
+pub says-answer : (x y m v w : ℕ) → record { number = 0; value = x; entered = y } ≡ unless m (record { number = 0; value = v; entered = w })
+    → (m ≡ 0) × (x ≡ v) × (y ≡ w)
 says-answer x y zero v w e = (refl, ap (λ (s : Said). s .value) e, ap (λ (s : Said). s .entered) e)
 says-answer x y (suc m) v w e = absurd (let z : _≡_ {A = ℕ} 0 (suc m) = ap (λ (s : Said). s .number) e in omega arith)

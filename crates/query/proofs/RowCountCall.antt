@@ -1,4 +1,4 @@
--- row_count(tree): how many rows there are. What it answers stands in `ask_rows`.
+-- row_count(tree): how many rows there are. What it answers stands in the `Demands` of its crate.
 use mathlib.Core.List.{List, [], _∷_}
 use mathlib.Core.Bool.{Bool, true, false, cond}
 use mathlib.Core.Path.{_≡_, ap, _∙_, refl}
@@ -54,18 +54,19 @@ rows-one t = go (lt-or-ge 0 (readable t))
     asked false m h = inl refl
 
     go : (0 < readable t) ⊎ (readable t ≤ 0) → OneOf (5 ∷ 6 ∷ 7 ∷ 11 ∷ 14 ∷ 0 ∷ []) (rowsNumber t)
-    go (inl l) = rw (ne-eqb (readable t) 0 (λ e. omega arith))
-        (of-left (5 ∷ 6 ∷ 7 ∷ []) (11 ∷ 14 ∷ 0 ∷ []) (readable t) (not-zero (5 ∷ 6 ∷ 7 ∷ []) (readable t) (omega arith) (readable-one t)))
+    go (inl l) =
+        let one = not-zero (5 ∷ 6 ∷ 7 ∷ []) (readable t) (omega arith) (readable-one t) in
+        rw (ne-eqb (readable t) 0 (λ e. omega arith)) (of-left (5 ∷ 6 ∷ 7 ∷ []) (11 ∷ 14 ∷ 0 ∷ []) (readable t) one)
     go (inr l) =
         let pass : readable t ≡ 0 = omega arith in
         let last = cond (eqb (at.textLength t) 0) 0 (byteSays t (at.textLength t - 1) .number) in
-        rw (eq-eqb (readable t) 0 pass)
-        (of-right (5 ∷ 6 ∷ 7 ∷ []) (11 ∷ 14 ∷ 0 ∷ []) (ask 11 (isCounted t 10) last) (asked (isCounted t 10) last (last-one t pass)))
+        let one = asked (isCounted t 10) last (last-one t pass) in
+        rw (eq-eqb (readable t) 0 pass) (of-right (5 ∷ 6 ∷ 7 ∷ []) (11 ∷ 14 ∷ 0 ∷ []) (ask 11 (isCounted t 10) last) one)
 
 pub row-count-numbers : (κs : Lfts 1) (t : Lent) (n : ℕ) → CountOf κs t (row-count.Refused n) → OneOf (5 ∷ 6 ∷ 7 ∷ 11 ∷ 14 ∷ []) n
 unfolding rowsSays
 row-count-numbers κs t n a =
     let rows = total (now t) (numberOfByte (now t) 10) + cond (lastOpen (now t)) 1 0 in
-    let e : n ≡ rowsNumber (now t) =
-    ap (λ (s : Said). s .number) (a .says) ∙ unless-number (rowsNumber (now t)) (record { number = 0; value = rows; entered = 0 }) refl in
+    let told : Said = record { number = 0; value = rows; entered = 0 } in
+    let e : n ≡ rowsNumber (now t) = ap (λ (s : Said). s .number) (a .says) ∙ unless-number (rowsNumber (now t)) told refl in
     not-zero (5 ∷ 6 ∷ 7 ∷ 11 ∷ 14 ∷ []) n (a .numbered) (rw e (rows-one (now t)))

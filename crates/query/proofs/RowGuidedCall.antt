@@ -1,4 +1,4 @@
--- row_guided(tree, guide, q, buffer): row, by finds that start at an entry of a guide.
+-- row_guided(tree, guide, q, buffer): row, by finds that start at an entry of a guide. What else holds of it stands in the `Demands` of its crate.
 use mathlib.Core.List.{[], _∷_}
 use mathlib.Core.Path.{_≡_, refl}
 use mathlib.Core.Logic.{_⊎_}

@@ -1,4 +1,4 @@
--- row_length(tree, q): how many bytes a row has. What it answers stands in `ask_rows`.
+-- row_length(tree, q): how many bytes a row has. What it answers stands in the `Demands` of its crate.
 use mathlib.Core.List.{[], _∷_}
 use mathlib.Core.Path.{_≡_, refl}
 use mathlib.Core.Logic.{_⊎_, inl, inr}

@@ -72,8 +72,8 @@ span-passes t p len room h =
 module _ (κs : Lfts 2) (t : Lent) (p : TextPlace) (len : ℕ) (buffer after : Lent) where
   -- An answer is the length asked for, which fits, with the blocks that it enters, and the bytes past it are unchanged; ..
   pub span-answer : (m e : ℕ) → Span κs t p len buffer after (copied.Bytes m e)
-      → (m ≡ len) × BlocksOfSpan (now t) (at.settings (now t) .levels) (p .0) len e
-      × (len ≤ length (now buffer)) × (drop len (now after) ≡ drop len (now buffer))
+      → (m ≡ len) × BlocksOfSpan (now t) (at.settings (now t) .levels) (p .0) len e × (len ≤ length (now buffer))
+      × (drop len (now after) ≡ drop len (now buffer))
   unfolding spanSays spanLeaves leavesSpan
   span-answer m e a =
       let s = says-answer m e _ len _ (a .0 .says) in
