@@ -8,6 +8,8 @@ use borrow.Author.Tests.{le-leb, ne-eqb}
 use lib.ListN.{length, getD, take, drop}
 use lib.Seq.{getD-take, getD-drop}
 use lib.Dec.{leb, eqb}
+use Rattle.format.specs.Settings.{maxCounted}
+use Rattle.format.specs.HeaderPlaces.{countedAt}
 use Rattle.format.specs.Said.{Said, refused, unless}
 use Rattle.format.specs.Layout as at
 use Rattle.format.specs.Verdict.{ask, readable}
@@ -71,11 +73,11 @@ above-refused (suc n) b = rw (not-zero n) (let z : 0 < suc n = omega arith in z)
 
 -- no byte of a tree is above 255
 module _ (t : List ℕ) (bytes : (k : ℕ) → getD t k 0 < 256) (byte : ℕ) (high : 255 < byte) where
-  counted-byte : (x : ℕ) → x < at.countedCount t → at.countedCount t ≤ 4 → byteOf t x ≡ getD t (24 + x) 0
+  counted-byte : (x : ℕ) → x < at.countedCount t → at.countedCount t ≤ maxCounted → byteOf t x ≡ getD t (countedAt + x) 0
   unfolding byteOf at.settings
   counted-byte x h k =
-      let low : x < 4 = omega arith in
-      getD-take (at.countedCount t) (take 4 (drop 24 t)) x 0 h ∙ getD-take 4 (drop 24 t) x 0 low ∙ getD-drop 24 t x 0
+      let low : x < maxCounted = omega arith in
+      getD-take (at.countedCount t) (take maxCounted (drop countedAt t)) x 0 h ∙ getD-take maxCounted (drop countedAt t) x 0 low ∙ getD-drop countedAt t x 0
 
   not-counted : readable t ≡ 0 → isCounted t byte ≡ false
   not-counted z = decide (isCounted t byte) refl
@@ -84,7 +86,12 @@ module _ (t : List ℕ) (bytes : (k : ℕ) → getD t k 0 < 256) (byte : ℕ) (h
       decide true e =
           let k = readable-facts t z in
           let d = tally.counted t k byte e in
-          absurd (omega (arith, d .byte-is, counted-byte (numberOfByte t byte) (d .number-below) (k .counted-high), bytes (24 + numberOfByte t byte)))
+          absurd (omega (
+            arith,
+            d .byte-is,
+            counted-byte (numberOfByte t byte) (d .number-below) (k .bounds .counted-high),
+            bytes (countedAt + numberOfByte t byte),
+          ))
       decide false e = refl
 
   pub count-above : (i r : ℕ) → r ≡ uncountedNumber t i → saying r 0 0 ≡ countSays t byte i

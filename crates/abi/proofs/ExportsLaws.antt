@@ -71,7 +71,7 @@ pub run-short : (t : List ℕ) (p : ℕ) → runSays t p .1 ≤ maxText
 unfolding runSays
 run-short t p =
     part-short (eqb (byteSays t p .number) 0) (runOf t p (pathOf t p)) maxText
-    (λ e. omega (arith, path-short t p (pathOf t p), readable-facts t (byte-readable t p (eqb-true _ 0 e)) .text-high))
+    (λ e. omega (arith, path-short t p (pathOf t p), readable-facts t (byte-readable t p (eqb-true _ 0 e)) .bounds .text-high))
 
 -- span
 

@@ -11,6 +11,7 @@ use lib.ListN.{length, getD, replicate}
 use lib.Seq.{getD-take, getD-drop}
 use Rattle.text.specs.Text.{countIn}
 use Rattle.text.specs.Lists.{tabulate}
+use Rattle.format.specs.Settings.{maxCounted}
 use Rattle.format.specs.Layout as at
 use Rattle.format.specs.Fits.{textOf}
 use Rattle.format.specs.Verdict.{readable, verdict}
@@ -36,7 +37,7 @@ pub version-is : (r : ℕ) → Version r → r ≡ 11400
 version-is r a = a
 
 -- where a counted byte and its total stand among the figures
-byte-figure : (t : List ℕ) (c : ℕ) → c < 4 → getD (figuresOf t) (7 + c) 0 ≡ countedByte t c
+byte-figure : (t : List ℕ) (c : ℕ) → c < maxCounted → getD (figuresOf t) (7 + c) 0 ≡ countedByte t c
 unfolding figuresOf tabulate
 byte-figure t zero h = refl
 byte-figure t (suc zero) h = refl
@@ -44,7 +45,7 @@ byte-figure t (suc (suc zero)) h = refl
 byte-figure t (suc (suc (suc zero))) h = refl
 byte-figure t (suc (suc (suc (suc c)))) h = absurd (let z : ⊥ = omega arith in z)
 
-total-figure : (t : List ℕ) (c : ℕ) → c < 4 → getD (figuresOf t) (11 + c) 0 ≡ totalOf t c
+total-figure : (t : List ℕ) (c : ℕ) → c < maxCounted → getD (figuresOf t) (11 + c) 0 ≡ totalOf t c
 unfolding figuresOf tabulate
 total-figure t zero h = refl
 total-figure t (suc zero) h = refl
@@ -53,12 +54,12 @@ total-figure t (suc (suc (suc zero))) h = refl
 total-figure t (suc (suc (suc (suc c)))) h = absurd (let z : ⊥ = omega arith in z)
 
 -- the counted bytes of the settings
-counted-at : (t : List ℕ) (c : ℕ) → c < at.countedCount t → c < 4 → byteOf t c ≡ countedByte t c
+counted-at : (t : List ℕ) (c : ℕ) → c < at.countedCount t → c < maxCounted → byteOf t c ≡ countedByte t c
 unfolding at.settings byteOf countedByte
 counted-at t c h low = rw (getD-take, getD-take, getD-drop)
 
 -- a total is how often its byte stands in the text
-total-right : (t : List ℕ) → verdict t ≡ 0 → (c : ℕ) → c < at.countedCount t → c < 4 → totalOf t c ≡ countIn (countedByte t c) (textOf t)
+total-right : (t : List ℕ) → verdict t ≡ 0 → (c : ℕ) → c < at.countedCount t → c < maxCounted → totalOf t c ≡ countIn (countedByte t c) (textOf t)
 unfolding totalOf
 total-right t v c h low =
     let e = finds.total-is t (readable-facts t (accepted-readable t v)) (linked-facts t (accepted-links t v)) (tallies.levels t v) c h in
@@ -87,7 +88,7 @@ module _ (κs : Lfts 2) (t figures after : RefT (List ℕ)) (r : ℕ) (a : Info 
     pub info-totals : (c : ℕ) → c < getD (now after) 6 0 → getD (now after) (11 + c) 0 ≡ countIn (getD (now after) (7 + c) 0) (textOf (now t))
     unfolding figuresOf
     info-totals c h =
-        let few = readable-facts (now t) (accepted-readable (now t) v) .counted-high in
+        let few = readable-facts (now t) (accepted-readable (now t) v) .bounds .counted-high in
         let k : c < at.countedCount (now t) = rw told at h in
-        let low : c < 4 = omega arith in
+        let low : c < maxCounted = omega arith in
         rw told (total-figure (now t) c low ∙ total-right (now t) v c k low ∙ ap (λ (b : ℕ). countIn b (textOf (now t))) (sym (byte-figure (now t) c low)))

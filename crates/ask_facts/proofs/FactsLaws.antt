@@ -7,6 +7,7 @@ use borrow.Author.Tests.{lt-ltb, le-ltb, ne-eqb}
 use lib.ListN.{getD, replicate}
 use lib.Dec.{eqb}
 use Rattle.text.specs.Lists.{tabulate}
+use Rattle.format.specs.Settings.{maxLevels, maxCounted}
 use Rattle.format.specs.Layout as at
 use Rattle.format.specs.Verdict.{readable}
 use Rattle.format.specs.FindSays.{total}
@@ -18,12 +19,12 @@ use Rattle.layout.specs.HeaderSays.{HeaderOf, header-refused}
 use Rattle.ask_facts.specs.Facts.{countedByte, totalOf, figuresOf, infoLeaves}
 
 -- four of a kind, and eight
-pub four : (f : ℕ → ℕ) (a b c d : ℕ) → a ≡ f 0 → b ≡ f 1 → c ≡ f 2 → d ≡ f 3 → a ∷ b ∷ c ∷ d ∷ [] ≡ tabulate 4 f
+pub four : (f : ℕ → ℕ) (a b c d : ℕ) → a ≡ f 0 → b ≡ f 1 → c ≡ f 2 → d ≡ f 3 → a ∷ b ∷ c ∷ d ∷ [] ≡ tabulate maxCounted f
 unfolding tabulate
 four f a b c d e0 e1 e2 e3 = rw (e0, e1, e2, e3)
 
 pub eight : (f : ℕ → ℕ) (a b c d u v w x : ℕ) → a ≡ f 0 → b ≡ f 1 → c ≡ f 2 → d ≡ f 3 → u ≡ f 4 → v ≡ f 5 → w ≡ f 6 → x ≡ f 7
-    → a ∷ b ∷ c ∷ d ∷ u ∷ v ∷ w ∷ x ∷ [] ≡ tabulate 8 f
+    → a ∷ b ∷ c ∷ d ∷ u ∷ v ∷ w ∷ x ∷ [] ≡ tabulate maxLevels f
 unfolding tabulate
 eight f a b c d u v w x e0 e1 e2 e3 e4 e5 e6 e7 = rw (e0, e1, e2, e3, e4, e5, e6, e7)
 
@@ -39,7 +40,7 @@ module _ (t : List ℕ) (h : Header) (k : HeaderOf t h) where
 
   -- all of them
   pub figures-are : (bytes totals blocks : List ℕ)
-      → bytes ≡ tabulate 4 (countedByte t) → totals ≡ tabulate 4 (totalOf t) → blocks ≡ tabulate 8 (at.levelCount t)
+      → bytes ≡ tabulate maxCounted (countedByte t) → totals ≡ tabulate maxCounted (totalOf t) → blocks ≡ tabulate maxLevels (at.levelCount t)
       → h .layout ∷ h .length ∷ h .settings .leaf ∷ h .settings .arity ∷ h .settings .levels ∷ h .«leaf_count» ∷ h .settings .counted
       ∷ getD bytes 0 0 ∷ getD bytes 1 0 ∷ getD bytes 2 0 ∷ getD bytes 3 0 ∷ getD totals 0 0 ∷ getD totals 1 0 ∷ getD totals 2 0 ∷ getD totals 3 0
       ∷ getD blocks 0 0 ∷ getD blocks 1 0 ∷ getD blocks 2 0 ∷ getD blocks 3 0 ∷ getD blocks 4 0 ∷ getD blocks 5 0 ∷ getD blocks 6 0 ∷ getD blocks 7 0 ∷ []

@@ -7,6 +7,7 @@ use lib.ListN.{getD, replicate}
 use lib.Dec.{ltb, eqb}
 use Rattle.text.specs.Lists.{tabulate}
 use Rattle.format.specs.Settings.{maxCounted, maxLevels}
+use Rattle.format.specs.HeaderPlaces.{countedAt}
 use Rattle.format.specs.Layout as at
 use Rattle.format.specs.Verdict.{readable}
 use Rattle.format.specs.FindSays.{total}
@@ -18,7 +19,7 @@ versionNumber = 10000 * 1 + 100 * 14 + 0
 module _ (t : List ℕ) where
   -- counted byte number c and its total; question 7 has 0 at a number that stands for no byte, and the total there is 0
   unfoldable pub countedByte : ℕ → ℕ
-  countedByte c = getD t (24 + c) 0
+  countedByte c = getD t (countedAt + c) 0
 
   unfoldable pub totalOf : ℕ → ℕ
   unfolding at.countedCount

@@ -5,9 +5,11 @@ use layout::header::Header;
 use layout::header::HeaderRead;
 use layout::record;
 ghost use mathlib.Core.Path.{_≡_};
-ghost use Prim.Native.Nat.{_≤_};
+ghost use Prim.Native.Nat.{_≤_, _<_};
 ghost use lib.ListN.{length};
 ghost use Rattle.text.specs.Lists.{tabulate};
+ghost use Rattle.format.specs.Settings.{maxLevels, maxCounted};
+ghost use Rattle.format.specs.HeaderPlaces.{headerLength};
 ghost use Rattle.format.specs.Layout as at;
 ghost use Rattle.format.specs.Verdict.{readable};
 ghost use Rattle.layout.specs.HeaderSays.{HeaderOf};
@@ -83,12 +85,26 @@ fn figures_of(t: &[u8], h: Header) -> [u64; FIGURES]
     ]
 }
 
-// The counted bytes in order, then zeros: the four bytes at 24.
+// The places for counted bytes.
+const FIRST: usize = header::COUNTED_AT;
+
+const SECOND: usize = FIRST + 1;
+
+const THIRD: usize = FIRST + 2;
+
+const FOURTH: usize = FIRST + 3;
+
+// The counted bytes in order, then zeros: what stands at the places for them.
 fn counted_bytes(t: &[u8]) -> [u64; 4]
-    requires { ⌜ 100 ≤ length (now t) ⌝ }
-    ensures { λ r. ⌜ r ≡ tabulate 4 (countedByte (now (t .entry))) ⌝ }
+    requires { ⌜ headerLength ≤ length (now t) ⌝ }
+    ensures { λ r. ⌜ r ≡ tabulate maxCounted (countedByte (now (t .entry))) ⌝ }
 {
-    [wide(t[24]), wide(t[25]), wide(t[26]), wide(t[27])]
+    [
+        wide(t[FIRST]),
+        wide(t[SECOND]),
+        wide(t[THIRD]),
+        wide(t[FOURTH]),
+    ]
 }
 
 fn wide(byte: u8) -> u64
@@ -100,7 +116,7 @@ fn wide(byte: u8) -> u64
 // How often each counted byte stands in the text by the tree's totals, then zeros.
 fn totals(t: &[u8], h: Header) -> [u64; 4]
     requires { ⌜ HeaderOf (now t) h ⌝ }
-    ensures { λ r. ⌜ r ≡ tabulate 4 (totalOf (now (t .entry))) ⌝ }
+    ensures { λ r. ⌜ r ≡ tabulate maxCounted (totalOf (now (t .entry))) ⌝ }
 {
     [
         total_of(t, h, 0),
@@ -123,8 +139,8 @@ fn total_of(t: &[u8], h: Header, c: u32) -> u64
 
 // How many blocks each level has, then zeros: the header's eight words.
 fn level_counts(t: &[u8]) -> [u64; 8]
-    requires { ⌜ 100 ≤ length (now t) ⌝ }
-    ensures { λ r. ⌜ r ≡ tabulate 8 (at.levelCount (now (t .entry))) ⌝ }
+    requires { ⌜ headerLength ≤ length (now t) ⌝ }
+    ensures { λ r. ⌜ r ≡ tabulate maxLevels (at.levelCount (now (t .entry))) ⌝ }
 {
     [
         blocks(t, 0),
@@ -139,7 +155,7 @@ fn level_counts(t: &[u8]) -> [u64; 8]
 }
 
 fn blocks(t: &[u8], level: u32) -> u64
-    requires { ⌜ (100 ≤ length (now t)) × (level ≤ 7) ⌝ }
+    requires { ⌜ (headerLength ≤ length (now t)) × (level < maxLevels) ⌝ }
     ensures { λ r. ⌜ r ≡ at.levelCount (now (t .entry)) level ⌝ }
 {
     record::level_count(t, level) as u64

@@ -17,26 +17,26 @@ use Rattle.format.specs.Layout as at
 use Rattle.format.specs.Verdict.{ask, verdict}
 use Rattle.format.specs.FindSays.{total}
 use Rattle.theory_built.specs.Gather.{Placed, placed, length-concat, getD-concat}
-use Rattle.ask_guide.specs.Guides.{lastEntry, lastListed, blockOf, entriesOf, entriesBefore, guideWords, guideOf, guideBytes, guideNumber}
+use Rattle.ask_guide.specs.Guides.{lastEntry, lastListed, blockOf, entriesOf, entriesBefore, guideWords, guideOf, guideBytes, guideNumber, listedEvery}
 use Rattle.ask_guide.proofs.WordLists.{word-of}
 use Rattle.ask_guide.proofs.Holders.{block-few}
 
 -- entries, of a total
-pub whole-entries : (x : ℕ) → x % 64 ≡ 0 → x / 64 ≡ pieces x 64
+pub whole-entries : (x : ℕ) → x % listedEvery ≡ 0 → x / listedEvery ≡ pieces x listedEvery
 unfolding pieces
 whole-entries x e = omega arith
 
-pub begun-entries : (x : ℕ) → (x % 64 ≡ 0 → ⊥) → x / 64 + 1 ≡ pieces x 64
+pub begun-entries : (x : ℕ) → (x % listedEvery ≡ 0 → ⊥) → x / listedEvery + 1 ≡ pieces x listedEvery
 unfolding pieces
 begun-entries x e = omega (arith, e)
 
 module _ (t : List ℕ) where
   part : ℕ → List ℕ
-  part c = tabulate (entriesOf t c) (λ e. blockOf t c (64 * e + 1))
+  part c = tabulate (entriesOf t c) (λ e. blockOf t c (listedEvery * e + 1))
 
   part-length : (c : ℕ) → length (part c) ≡ entriesOf t c
   unfolding part
-  part-length c = length-tabulate (entriesOf t c) (λ e. blockOf t c (64 * e + 1))
+  part-length c = length-tabulate (entriesOf t c) (λ e. blockOf t c (listedEvery * e + 1))
 
   parts-before : (c : ℕ) → sumBelow c (λ i. length (part i)) ≡ entriesBefore t c
   unfolding entriesBefore
@@ -51,21 +51,21 @@ module _ (t : List ℕ) where
   guide-size = length-words (guideOf t) ∙ ap (λ (n : ℕ). 4 * n) guide-length
 
   module _ (c e : ℕ) (hc : c < at.countedCount t) (he : e < entriesOf t c) where
-    pub guide-entry : getD (guideOf t) (entriesBefore t c + e) 0 ≡ blockOf t c (64 * e + 1)
+    pub guide-entry : getD (guideOf t) (entriesBefore t c + e) 0 ≡ blockOf t c (listedEvery * e + 1)
     unfolding guideOf part
     guide-entry =
         ap (λ (k : ℕ). getD (concat (tabulate (at.countedCount t) part)) (k + e) 0) (sym (parts-before c))
         ∙ getD-concat (at.countedCount t) part c e 0 hc (rw (part-length c) he)
-        ∙ getD-tabulate (entriesOf t c) (λ e. blockOf t c (64 * e + 1)) e 0 he
+        ∙ getD-tabulate (entriesOf t c) (λ e. blockOf t c (listedEvery * e + 1)) e 0 he
 
     pub entry-below : entriesBefore t c + e < length (guideOf t)
     unfolding entriesBefore guideWords
     entry-below = omega (arith, guide-length, sumBelow-part (at.countedCount t) (entriesOf t) c hc)
 
     -- the occurrence that it lists stands in the text
-    pub entry-stands : 64 * e + 1 ≤ total t c
+    pub entry-stands : listedEvery * e + 1 ≤ total t c
     unfolding entriesOf
-    entry-stands = omega (arith, pieces-start (total t c) 64 e he (omega arith))
+    entry-stands = omega (arith, pieces-start (total t c) listedEvery e he (omega arith))
 
   -- the words of a counted byte end within the guide
   pub part-ends : (c place count : ℕ) → c < at.countedCount t → place ≡ entriesBefore t c → count ≡ entriesOf t c → place + count ≤ guideWords t
@@ -75,7 +75,7 @@ module _ (t : List ℕ) where
   -- the last listed occurrence not after the j-th is listed
   pub listed : (c j : ℕ) → 1 ≤ j → j ≤ total t c → lastEntry j < entriesOf t c
   unfolding entriesOf
-  listed c j low high = lt-pieces (total t c) 64 (lastEntry j) (omega arith) (omega arith)
+  listed c j low high = lt-pieces (total t c) listedEvery (lastEntry j) (omega arith) (omega arith)
 
   -- summed one by one
   pub none-before : 0 ≡ entriesBefore t 0
@@ -98,7 +98,8 @@ module _ (t : List ℕ) (v : verdict t ≡ 0) where
   entry-few i l =
       let p = placed (at.countedCount t) (entriesOf t) i (rw (guide-length t) at l) in
       let rank = entry-stands t (p .part) (p .place) (p .part-lt) (p .place-lt) in
-      rw (p .is, guide-entry t (p .part) (p .place) (p .part-lt) (p .place-lt)) (block-few t v (p .part) (p .part-lt) (64 * p .place + 1) (omega arith) rank)
+      rw (p .is, guide-entry t (p .part) (p .place) (p .part-lt) (p .place-lt))
+      (block-few t v (p .part) (p .part-lt) (listedEvery * p .place + 1) (omega arith) rank)
 
   pub entry-word : (i : ℕ) → i < length (guideOf t) → wordAt (guideBytes t) (4 * i) ≡ getD (guideOf t) i 0
   unfolding guideBytes

@@ -24,7 +24,7 @@ use Rattle.layout.specs.declared.header.Header.{Header}
 use Rattle.layout.specs.HeaderSays.{HeaderOf}
 use Rattle.ask_select.specs.Seeks.{Siblings, LastBefore}
 use Rattle.ask_guide.specs.Guides.{blockOf, entriesOf, entriesBefore, guideWords, guideOf, guideBytes, guideNumber, sizeSays, makeNumber}
-use Rattle.ask_guide.specs.Guides.{makeSays, makeLeaves}
+use Rattle.ask_guide.specs.Guides.{makeSays, makeLeaves, listedEvery}
 use Rattle.ask_guide.specs.GuideAnswers.{written, Puts, Compared}
 use Rattle.ask_guide.proofs.WordLists.{words-are, put-word}
 use Rattle.ask_guide.proofs.Holders.{total-few, block-in, first-low, block-is}
@@ -33,7 +33,8 @@ use Rattle.ask_guide.proofs.GuideList.{guide-length, guide-size, guide-
 -- the blocks of level 0 from one on
 pub siblings : (t : List ℕ) (h : Header) (c from n : ℕ)
     → HeaderOf t h → c < at.countedCount t → from < at.levelCount t 0 → n ≡ at.levelCount t 0 → Siblings t h c 0 from n
-siblings t h c from n r hc l e = record { header = r; level-in = omega (arith, r .facts .levels-low); number-in = hc; some = omega arith; end-in = omega arith }
+siblings t h c from n r hc l e =
+    record { header = r; level-in = omega (arith, r .facts .bounds .levels-low); number-in = hc; some = omega arith; end-in = omega arith }
 
 pub false-not {ℓ} : {A : Type ℓ} → false ≡ true → A
 false-not e = bool-clash false e refl
@@ -43,23 +44,24 @@ true-not e = bool-clash true refl e
 
 -- The block of entry e of counted byte number c, looked for from a block with fewer before it.
 module _ (t : List ℕ) (c e : ℕ) (v : verdict t ≡ 0) (hc : c < at.countedCount t) (he : e < entriesOf t c) where
-  rank : 64 * e + 1 ≤ total t c
+  rank : listedEvery * e + 1 ≤ total t c
   rank = entry-stands t c e hc he
 
-  pub rank-few : 64 * e + 1 ≤ maxText
+  pub rank-few : listedEvery * e + 1 ≤ maxText
   rank-few = omega (arith, rank, total-few t v c hc)
 
-  pub from-first : (0 < at.levelCount t 0) × (at.before t 0 0 c < 64 * e + 1)
-  from-first = (omega (arith, block-in t v c hc (64 * e + 1) (omega arith) rank), first-low t v c hc (64 * e + 1) (omega arith) rank)
+  pub from-first : (0 < at.levelCount t 0) × (at.before t 0 0 c < listedEvery * e + 1)
+  from-first = (omega (arith, block-in t v c hc (listedEvery * e + 1) (omega arith) rank), first-low t v c hc (listedEvery * e + 1) (omega arith) rank)
 
-  module _ (from block : ℕ) (low : at.before t 0 from c < 64 * e + 1) (last : LastBefore t c 0 from (at.levelCount t 0) (64 * e + 1) block) where
+  module _ (from block : ℕ)
+      (low : at.before t 0 from c < listedEvery * e + 1) (last : LastBefore t c 0 from (at.levelCount t 0) (listedEvery * e + 1) block) where
     pub entry-found : (place : ℕ) → place ≡ entriesBefore t c → block ≡ getD (guideOf t) (place + e) 0
     entry-found place p =
-        block-is t v c hc (64 * e + 1) (omega arith) rank block (last .high) (last .here low) (last .next)
+        block-is t v c hc (listedEvery * e + 1) (omega arith) rank block (last .high) (last .here low) (last .next)
         ∙ sym (guide-entry t c e hc he) ∙ ap (λ (k : ℕ). getD (guideOf t) (k + e) 0) (sym p)
 
     -- the next is looked for from there
-    pub entry-next : (block < at.levelCount t 0) × (at.before t 0 block c < 64 * (e + 1) + 1)
+    pub entry-next : (block < at.levelCount t 0) × (at.before t 0 block c < listedEvery * (e + 1) + 1)
     entry-next = (last .high, omega (arith, last .here low))
 
   pub entry-there : (place : ℕ) → place ≡ entriesBefore t c → place + e < length (guideOf t)

@@ -40,7 +40,7 @@ module _ (t : List ℕ) (v : verdict t ≡ 0) (c : ℕ) (hc : c < at.countedCoun
   pos = full-pos t k 0
 
   pub total-few : total t c ≤ maxText
-  total-few = omega (arith, finds.total-is t k d a c hc, count-le (byteOf t c) (textOf t), text-length t, k .text-high)
+  total-few = omega (arith, finds.total-is t k d a c hc, count-le (byteOf t c) (textOf t), text-length t, k .bounds .text-high)
 
   module _ (j : ℕ) (low : 1 ≤ j) (high : j ≤ total t c) where
     place : ℕ
@@ -62,7 +62,7 @@ module _ (t : List ℕ) (v : verdict t ≡ 0) (c : ℕ) (hc : c < at.countedCoun
     block-in = rw (block-is-place, k .level0) (lt-pieces (at.textLength t) (b t 0) (place / b t 0) pos (omega (arith, parts, stands .within, text-length t)))
 
     pub block-few : blockOf t c j < maxText
-    block-few = rw block-is-place (omega (arith, div-le-self place (b t 0), stands .within, text-length t, k .text-high))
+    block-few = rw block-is-place (omega (arith, div-le-self place (b t 0), stands .within, text-length t, k .bounds .text-high))
 
     -- fewer than j stand before it
     pub block-low : at.before t 0 (blockOf t c j) c < j

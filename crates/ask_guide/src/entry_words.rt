@@ -6,11 +6,12 @@ use layout::header::Header;
 use layout::place::BlockNumber;
 use layout::record;
 ghost use mathlib.Core.Path.{_≡_};
-ghost use Prim.Native.Nat.{_+_, _≤_, _<_};
+ghost use Prim.Native.Nat.{_+_, _*_, _/_, _^_, _≤_, _<_};
+ghost use Rattle.format.specs.Settings.{maxCounted};
 ghost use Rattle.format.specs.Layout as at;
 ghost use Rattle.layout.specs.HeaderSays.{HeaderOf};
 ghost use Rattle.ask_select.specs.Seeks.{LastBefore};
-ghost use Rattle.ask_guide.specs.Guides.{entriesOf, entriesBefore};
+ghost use Rattle.ask_guide.specs.Guides.{entriesOf, entriesBefore, listedEvery};
 
 // One occurrence in so many is listed.
 pub const LISTED_EVERY: u64 = 64;
@@ -18,7 +19,7 @@ pub const LISTED_EVERY: u64 = 64;
 // How many entries a counted byte has: one for each 64 times that it stands in the text, a begun 64 counting whole.
 pub fn entries_of(t: &[u8], h: Header, number: u32) -> u64
     requires { ⌜ (HeaderOf (now t) h) × (number < at.countedCount (now t)) ⌝ }
-    ensures { λ r. ⌜ (r ≡ entriesOf (now (t .entry)) number) × (r ≤ 288230376151711744) ⌝ }
+    ensures { λ r. ⌜ (r ≡ entriesOf (now (t .entry)) number) × (r ≤ 2 ^ 64 / listedEvery) ⌝ }
 {
     let all = count_by_header::total(t, h, number);
     if all % LISTED_EVERY == 0 {
@@ -30,7 +31,7 @@ pub fn entries_of(t: &[u8], h: Header, number: u32) -> u64
 // How many entries the counted bytes before one have.
 pub fn entries_before(t: &[u8], h: Header, number: u32) -> u64
     requires { ⌜ (HeaderOf (now t) h) × (number ≤ at.countedCount (now t)) ⌝ }
-    ensures { λ r. ⌜ (r ≡ entriesBefore (now (t .entry)) number) × (r ≤ 1152921504606846976) ⌝ }
+    ensures { λ r. ⌜ (r ≡ entriesBefore (now (t .entry)) number) × (r ≤ maxCounted * (2 ^ 64 / listedEvery)) ⌝ }
 {
     let mut sum: u64 = 0;
     let mut c: u32 = 0;

@@ -24,7 +24,13 @@ fn entries_right(guide: &[u8], t: &[u8], h: Header, number: u32, place: usize, c
     let mut block: u32 = 0;
     let mut e: u64 = 0;
     while e < count {
-        let along = entry_words::block_from(t, h, number, BlockNumber(block), 64 * e + 1);
+        let along = entry_words::block_from(
+            t,
+            h,
+            number,
+            BlockNumber(block),
+            entry_words::LISTED_EVERY * e + 1,
+        );
         block = along.block.0;
         if word::read(guide, 4 * (place + e as usize)) != block {
             return false;

@@ -25,7 +25,13 @@ fn put_entries(table: &mut [u8], t: &[u8], h: Header, number: u32, place: usize,
     let mut block: u32 = 0;
     let mut e: u64 = 0;
     while e < count {
-        let along = entry_words::block_from(t, h, number, BlockNumber(block), 64 * e + 1);
+        let along = entry_words::block_from(
+            t,
+            h,
+            number,
+            BlockNumber(block),
+            entry_words::LISTED_EVERY * e + 1,
+        );
         block = along.block.0;
         word::write(table, 4 * (place + e as usize), block);
         e += 1;

@@ -173,7 +173,7 @@ module _ (t u : List ℕ) (x y : Part) (p : ℕ) (c : Comparing t u (record { pl
   runs-inside = (omega (arith, c .reads .in-tree), omega (arith, c .other-reads .in-tree))
 
   pub place-small : p + n < 4294967296
-  place-small = omega (arith, in-both, readable-facts t (c .passes) .text-high)
+  place-small = omega (arith, in-both, readable-facts t (c .passes) .bounds .text-high)
 
   pub byte-inside : (k : ℕ) → k < n → (x .from + k < length t) × (y .from + k < length u) × (p + k < 4294967296)
   byte-inside k less = (omega (arith, c .reads .in-tree), omega (arith, c .other-reads .in-tree), omega (arith, place-small))

@@ -206,7 +206,7 @@ module _ (t P : List ℕ) where
 
 -- a text's length is far from where words end
 pub text-small : (t : List ℕ) (h : Header) → HeaderOf t h → at.textLength t < 4294967296
-text-small t h k = omega (arith, k .facts .text-high)
+text-small t h k = omega (arith, k .facts .bounds .text-high)
 
 -- The paths of what is left, and of the whole text.
 

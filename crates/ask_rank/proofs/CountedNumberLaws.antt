@@ -7,6 +7,8 @@ use native.Mathlib.Numerals.{add-one}
 use lib.ListN.{length, drop, getD, length-take, length-drop, drop-of-length-le}
 use lib.Seq.{drop-cons, getD-take, getD-drop}
 use borrow.Author.Tests.{eq-eqb, ne-eqb}
+use Rattle.format.specs.Settings.{maxCounted}
+use Rattle.format.specs.HeaderPlaces.{countedAt}
 use Rattle.format.specs.Layout as at
 use Rattle.format.specs.CountSays.{indexOf, numberOfByte}
 use Rattle.ask_rank.specs.CountedNumber.{Names}
@@ -34,22 +36,22 @@ unfolding ahead numberOfByte
 ahead-start t byte = omega arith
 
 module _ (t : List ℕ) (k byte i : ℕ) (n : Names t k) where
-  name-at : i < k → getD (at.settings t .counted) i 0 ≡ getD t (24 + i) 0
+  name-at : i < k → getD (at.settings t .counted) i 0 ≡ getD t (countedAt + i) 0
   unfolding at.settings
   name-at h =
       let a : i < at.countedCount t = omega (arith, n .k-is) in
-      let b : i < 4 = omega (arith, n .k-low) in
+      let b : i < maxCounted = omega (arith, n .k-low) in
       rw (getD-take, getD-take, getD-drop)
 
   names : length (at.settings t .counted) ≡ k
   unfolding at.settings
   names = simp (length-take, length-drop) (omega (arith, n .long, n .k-is, n .k-low))
 
-  pub ahead-hit : i < k → getD t (24 + i) 0 ≡ byte → i ≡ ahead t byte i
+  pub ahead-hit : i < k → getD t (countedAt + i) 0 ≡ byte → i ≡ ahead t byte i
   unfolding ahead
   ahead-hit h e = omega (arith, index-here byte (at.settings t .counted) i (omega (arith, names)) (name-at h ∙ e))
 
-  pub ahead-miss : i < k → (getD t (24 + i) 0 ≡ byte → ⊥) → ahead t byte (i + 1) ≡ ahead t byte i
+  pub ahead-miss : i < k → (getD t (countedAt + i) 0 ≡ byte → ⊥) → ahead t byte (i + 1) ≡ ahead t byte i
   unfolding ahead
   ahead-miss h e = omega (arith, index-later byte (at.settings t .counted) i (omega (arith, names)) (λ x. e (sym (name-at h) ∙ x)))
 

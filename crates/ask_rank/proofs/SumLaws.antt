@@ -11,6 +11,8 @@ use lib.ListN.{length}
 use lib.Dec.{eqb}
 use Rattle.text.specs.ListLaws.{lt-or-ge}
 use Rattle.text.specs.Text.{stretch, countIn}
+use Rattle.format.specs.RecordFields.{skipField}
+use Rattle.format.specs.Settings.{maxLevels}
 use Rattle.format.specs.Layout as at
 use Rattle.format.specs.LayoutLaws.{Readable}
 use Rattle.format.specs.Path.{Path, Visit, visit, entered, keptBlock, pointingBlock, targetBlock, targetPlace, pathFrom, pathOf}
@@ -48,12 +50,12 @@ pub facts : (t : List ℕ) (h : Header) → HeaderOf t h → Readable t
 facts t h k = k .facts
 
 pub field-there : (t : List ℕ) (h : Header) (level i c f : ℕ) → HeaderOf t h → level < at.settings t .levels → i < at.levelCount t level → c < at.countedCount t
-    → f ≤ 6 + 3 * c → FieldIn t (h .«record_size») level i f
+    → f ≤ skipField c → FieldIn t (h .«record_size») level i f
 field-there t h level i c f k hl hi hc hf =
     field-in t (facts t h k) (h .«record_size») level i f (k .size-is) hl hi (omega arith)
 
 pub field-on : (t : List ℕ) (size level b i c f : ℕ)
-    → OnLevel t size level b → i < at.levelCount t level → c < at.countedCount t → f ≤ 6 + 3 * c → FieldIn t size level i f
+    → OnLevel t size level b → i < at.levelCount t level → c < at.countedCount t → f ≤ skipField c → FieldIn t size level i f
 field-on t size level b i c f k hi hc hf = field-in t (k .facts) size level i f (k .size-is) (k .level-in) hi (omega arith)
 
 -- what is carried
@@ -71,11 +73,11 @@ carried-on t c s r plus minus k e hp hm = rw e (record {
   minus-few = omega (arith, k .minus-few);
 })
 
-pub carried-small : (t : List ℕ) (c : ℕ) (s : Sum) → Carried t c s → s .entered ≤ 16 → (s .plus ≤ 1099511627776) × (s .minus ≤ 1099511627776)
+pub carried-small : (t : List ℕ) (c : ℕ) (s : Sum) → Carried t c s → s .entered ≤ 2 * maxLevels → (s .plus ≤ 1099511627776) × (s .minus ≤ 1099511627776)
 carried-small t c s k few = (omega (arith, k .plus-few), omega (arith, k .minus-few))
 
-pub carried-word : (t : List ℕ) (c : ℕ) (s r : Sum) (plus : ℕ)
-    → Carried t c s → s .entered ≤ 16 → r ≡ onward s plus 0 → plus < 4294967296 → (r .entered ≤ 17) × (r .plus ≤ 1099511627776)
+pub carried-word : (t : List ℕ) (c : ℕ) (s r : Sum) (plus : ℕ) → Carried t c s
+    → s .entered ≤ 2 * maxLevels → r ≡ onward s plus 0 → plus < 4294967296 → (r .entered ≤ 2 * maxLevels + 1) × (r .plus ≤ 1099511627776)
 unfolding onward
 carried-word t c s r plus k few e small = rw e (omega arith, omega (arith, k .plus-few))
 
@@ -155,7 +157,7 @@ pub below-word : (s : Sum) → s .plus < s .minus → saidIn 1844674407370955161
 unfolding settled
 below-word s h = sym broken-word ∙ rw (lt-leb (s .minus) (s .plus) h)
 
-pub packed-word : (s : Sum) → s .entered ≤ 17 → s .plus ≤ 1099511627776 → s .minus ≤ s .plus
+pub packed-word : (s : Sum) → s .entered ≤ 2 * maxLevels + 1 → s .plus ≤ 1099511627776 → s .minus ≤ s .plus
     → saidIn (s .plus - s .minus + 281474976710656 * s .entered) ≡ settled (At s)
 unfolding saidIn settled
 packed-word s few small low =
@@ -172,7 +174,7 @@ settled-none t byte c s r e = sym broken-word ∙ rw e
 
 -- on the last level, as the code reads it
 
-pub entered-small : (t : List ℕ) (size level b i o e : ℕ) → KeptAt t size level b i o e → e ≤ 16
+pub entered-small : (t : List ℕ) (size level b i o e : ℕ) → KeptAt t size level b i o e → e ≤ 2 * maxLevels
 entered-small t size level b i o e k = walk.entered-fits t size level b i o e k
 
 pub leaf-fits : (t : List ℕ) (size level b i link o offset count : ℕ)
@@ -224,8 +226,8 @@ module _ (t : List ℕ) (size level b i o : ℕ) (s : Sum) (k : KeptAt t size le
 
   module _ (c : ℕ) (j : BlockNumber) (p : BlockPlace) (e : x ≡ arrived.At j p) where
     -- what is asked where its before is read
-    pub down-asks : Carried t c s
-        → (OnLevel t size (level + 1) (at.fullLength t (level + 1))) × (j .0 < at.levelCount t (level + 1)) × (s .entered ≤ 16) × (Carried t c s)
+    pub down-asks : Carried t c s → (OnLevel t size (level + 1) (at.fullLength t (level + 1)))
+        × (j .0 < at.levelCount t (level + 1)) × (s .entered ≤ 2 * maxLevels) × (Carried t c s)
     down-asks w =
         let z = child-at t (level + 1) (at.link t level i + o / below) (o % below) x x-is j p e in
         (rw (← lower .b-is) lower, rw (z .1) (z .0), entered-small t size level b i o (s .entered) k, w)

@@ -1,4 +1,5 @@
 // A counted byte looked for in the header.
+use layout::header;
 ghost use mathlib.Core.Path.{_≡_};
 ghost use Prim.Native.Nat.{_≤_};
 ghost use Rattle.format.specs.CountSays.{numberOfByte};
@@ -10,14 +11,14 @@ pub struct Wanted {
     pub number: u32,
 }
 
-// The number of a counted byte: its place among the k at 24, or k where it is not one of them.
+// The number of a counted byte: its place among the k counted ones, or k where it is not one of them.
 pub fn number_of(t: &[u8], k: u32, byte: u8) -> u32
     requires { ⌜ Names (now t) k ⌝ }
     ensures { λ r. ⌜ (r ≡ numberOfByte (now (t .entry)) byte) × (r ≤ k) ⌝ }
 {
     let mut i: u32 = 0;
     while i < k {
-        if t[24 + i as usize] == byte {
+        if t[header::COUNTED_AT + i as usize] == byte {
             return i;
         }
         i += 1;

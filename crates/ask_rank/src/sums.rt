@@ -14,6 +14,7 @@ ghost use mathlib.Core.Path.{_≡_};
 ghost use mathlib.Core.Bool.{cond};
 ghost use Prim.Native.Nat.{_+_, _-_, _*_, _≤_, _<_};
 ghost use lib.Dec.{eqb};
+ghost use Rattle.format.specs.Settings.{maxLevels};
 ghost use Rattle.format.specs.Layout as at;
 ghost use Rattle.format.specs.Path.{pathFrom, pathOf};
 ghost use Rattle.layout.specs.HeaderSays.{HeaderOf};
@@ -37,7 +38,7 @@ pub enum Summed {
 impl Sum {
     // With one more block entered, and so much more added and taken off.
     fn enter(self, plus: u32, minus: u32) -> Sum
-        requires { ⌜ (self .entered ≤ 16) × (self .plus ≤ 1099511627776) × (self .minus ≤ 1099511627776) ⌝ }
+        requires { ⌜ (self .entered ≤ 2 * maxLevels) × (self .plus ≤ 1099511627776) × (self .minus ≤ 1099511627776) ⌝ }
         ensures { λ r. ⌜ r ≡ onward self plus minus ⌝ }
     {
         Sum {
@@ -49,7 +50,7 @@ impl Sum {
 
     // The finished count in one word: how often, and 2^48 times the blocks entered; no count is below zero.
     fn packed(self) -> u64
-        requires { ⌜ (self .entered ≤ 17) × (self .plus ≤ 1099511627776) ⌝ }
+        requires { ⌜ (self .entered ≤ 2 * maxLevels + 1) × (self .plus ≤ 1099511627776) ⌝ }
         ensures { λ r. ⌜ saidIn r ≡ settled (Summed.At self) ⌝ }
     {
         if self.plus < self.minus {
@@ -100,7 +101,7 @@ fn across(
     target: BlockNumber,
     sum: Sum,
 ) -> Sum
-    requires { ⌜ (Across (now t) size level (block .0) (target .0)) × (sum .entered ≤ 16) × (Carried (now t) (wanted .number) sum) ⌝ }
+    requires { ⌜ (Across (now t) size level (block .0) (target .0)) × (sum .entered ≤ 2 * maxLevels) × (Carried (now t) (wanted .number) sum) ⌝ }
     ensures { λ r. ⌜ r ≡ onward sum (cond (eqb (target .0) (at.link (now (t .entry)) level (block .0))) 0 (at.inside (now (t .entry))
         level (at.link (now (t .entry)) level (block .0)) (wanted .number))) (at.skip (now (t .entry)) level (block .0) (wanted .number)) ⌝ }
     ensures { λ r. ⌜ Carried (now (t .entry)) (wanted .number) r ⌝ }
@@ -117,7 +118,7 @@ fn across(
 // To a child: its before is added.
 fn down(t: &[u8], size: u32, wanted: Wanted, level: u32, block: BlockNumber, sum: Sum) -> Sum
     requires { ⌜ (OnLevel (now t) size level (at.fullLength (now t) level))
-        × (block .0 < at.levelCount (now t) level) × (sum .entered ≤ 16) × (Carried (now t) (wanted .number) sum) ⌝ }
+        × (block .0 < at.levelCount (now t) level) × (sum .entered ≤ 2 * maxLevels) × (Carried (now t) (wanted .number) sum) ⌝ }
     ensures { λ r. ⌜ r ≡ onward sum (at.before (now (t .entry)) level (block .0) (wanted .number)) 0 ⌝ }
     ensures { λ r. ⌜ Carried (now (t .entry)) (wanted .number) r ⌝ }
 {

@@ -3,7 +3,7 @@ use mathlib.Core.List.{List}
 use mathlib.Core.Bool.{Bool, true, false, cond}
 use mathlib.Core.Path.{_≡_, refl, sym, ap, _∙_}
 use mathlib.Core.Logic.{_⊎_, inl, inr}
-use Prim.Native.Nat.{ℕ, suc, _+_, _-_, _*_, _≤_, _<_}
+use Prim.Native.Nat.{ℕ, suc, _+_, _-_, _≤_, _<_}
 use native.Mathlib.Omega.{arith}
 use borrow.Author.Tests.{eq-eqb, ne-eqb, lt-ltb, le-ltb}
 use lib.ListN.{length, getD}
@@ -12,6 +12,7 @@ use Rattle.text.specs.TextLaws.{length-stretch}
 use Rattle.text.specs.Rows.{rowOf}
 use Rattle.text.specs.declared.TextPlace.{TextPlace}
 use Rattle.format.specs.WordLaws.{wordAt-lt}
+use Rattle.format.specs.RecordFields.{beforeField, insideField}
 use Rattle.format.specs.Layout as at
 use Rattle.format.specs.Fits.{textOf}
 use Rattle.format.specs.Verdict.{readable, verdict}
@@ -97,9 +98,9 @@ total-small t bytes c = go (eqb (at.levelCount t 0) 0)
     word : (i : ℕ) → at.field t 0 (at.levelCount t 0 - 1) i < 4294967296
     word i = wordAt-lt t _ bytes
 
-    go : (b : Bool) → cond b 0 (at.field t 0 (at.levelCount t 0 - 1) (4 + 3 * c) + at.field t 0 (at.levelCount t 0 - 1) (5 + 3 * c)) < 8589934592
+    go : (b : Bool) → cond b 0 (at.field t 0 (at.levelCount t 0 - 1) (beforeField c) + at.field t 0 (at.levelCount t 0 - 1) (insideField c)) < 8589934592
     go true = omega arith
-    go false = omega (arith, word (4 + 3 * c), word (5 + 3 * c))
+    go false = omega (arith, word (beforeField c), word (insideField c))
 
 pub rows-fit : (t : List ℕ) → ((k : ℕ) → getD t k 0 < 256) → (c tens : ℕ) → tens ≡ total t c → tens + 1 < 18446744073709551616
 rows-fit t bytes c tens e = omega (arith, total-small t bytes c)

@@ -45,7 +45,7 @@ use Rattle.ask_select.proofs.LandLaws.{Picked, k, d, a, picked-kept, pi
 pub top-siblings : (t : List ℕ) (h : Header) (c n : ℕ) → HeaderOf t h → c < at.countedCount t → 1 ≤ total t c → n ≡ at.levelCount t 0 → Siblings t h c 0 0 n
 top-siblings t h c n r hc some e = record {
   header = r;
-  level-in = omega (arith, r .facts .levels-low);
+  level-in = omega (arith, r .facts .bounds .levels-low);
   number-in = hc;
   some = omega (arith, some-block t c some);
   end-in = omega arith;

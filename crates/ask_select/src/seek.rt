@@ -3,16 +3,16 @@
 // followed, falls.
 use crate::Found;
 use ask_rank::counted_number::Wanted;
-use layout::header;
 use layout::header::Header;
 use layout::place::BlockNumber;
 use layout::place::BlockPlace;
 use layout::place::TextPlace;
 use layout::record;
+use layout::settings;
 use walk_steps::Next;
 ghost use mathlib.Core.Path.{_≡_};
 ghost use Prim.Native.Nat.{_+_, _-_, _*_, _≤_, _<_};
-ghost use Rattle.format.specs.Settings.{maxText};
+ghost use Rattle.format.specs.Settings.{maxText, maxLevels};
 ghost use Rattle.format.specs.Layout as at;
 ghost use Rattle.format.specs.FindSays.{total};
 ghost use Rattle.layout.specs.HeaderSays.{HeaderOf};
@@ -174,7 +174,7 @@ fn pick(
 
 // A place moved on by the bytes before it and back by a gap, with one more block entered.
 fn shift(found: Placed, forward: BlockPlace, back: BlockPlace) -> Placed
-    requires { ⌜ (Near found 16) × (forward .0 ≤ maxText) ⌝ }
+    requires { ⌜ (Near found (2 * maxLevels)) × (forward .0 ≤ maxText) ⌝ }
     ensures { λ r. ⌜ r ≡ moved found (forward .0) (back .0) ⌝ }
 {
     match found {
@@ -204,7 +204,7 @@ fn child_with(
     ensures { λ r. ⌜ ChildWith (now (t .entry)) number level (block .0) below j r ⌝ }
 {
     let link = record::link(t, h.record_size, level, block);
-    let count = header::pieces(
+    let count = settings::pieces(
         walk_steps::block_length(t, h.record_size, level, b, block),
         below,
     );

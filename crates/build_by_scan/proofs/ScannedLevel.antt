@@ -11,7 +11,7 @@ use borrow.Author.Tests.{ltb-true, eqb-true}
 use Rattle.text.specs.ListLaws.{and-left, and-right}
 use Rattle.text.specs.Text.{leftmost}
 use Rattle.format.specs.Words.{wordAt}
-use Rattle.format.specs.Settings.{Settings, blockLength, pieces, maxText}
+use Rattle.format.specs.Settings.{Settings, blockLength, pieces, maxText, maxLeaf, maxCounted}
 use Rattle.format.specs.Blocks.{recordBytes, startsAt, startOf, pairAt}
 use Rattle.theory_built.specs.BlockSizes.{Taken, Bounds, bounds, size-pos}
 use Rattle.theory_built.specs.Structure.{size, count, start, bytesIn, bytesIn-is}
@@ -151,7 +151,7 @@ module _ (T out cs : List ℕ) (level : Level)
     pub told-by : (W : List ℕ) → Answered T out made W → Told S T l W
     told-by W a = told W (subst (λ (i : Items). Answered T out i W) e a)
 
-  pub items-asks : (length cs ≤ 4) × (1 ≤ level .count) × (1 ≤ level .settings .leaf) × (level .settings .leaf ≤ 256) × (length T ≤ maxText)
+  pub items-asks : (length cs ≤ maxCounted) × (1 ≤ level .count) × (1 ≤ level .settings .leaf) × (level .settings .leaf ≤ maxLeaf) × (length T ≤ maxText)
       × (level .count + level .count ≤ pieces (length T) (level .settings .leaf) + 1)
   items-asks = (small .counted-few, some-blocks, limits .leaf-low, limits .leaf-high, limits .text-high, items-fit)
 

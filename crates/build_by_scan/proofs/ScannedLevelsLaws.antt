@@ -6,7 +6,7 @@ use native.Mathlib.Omega.{arith}
 use lib.ListN.{length}
 use Rattle.text.specs.Lists.{sumBelow}
 use Rattle.text.specs.ListLaws.{sumBelow-suc}
-use Rattle.format.specs.Settings.{maxText, pieces}
+use Rattle.format.specs.Settings.{maxText, pieces, maxLevels}
 use Rattle.layout.specs.declared.settings.Settings as code
 use Rattle.build_records.specs.declared.level_written.Level.{Level}
 use Rattle.build_records.specs.State.{settingsOf}
@@ -48,7 +48,7 @@ module _ (first : code.Settings) (cs T out₀ words₀ : List ℕ) where
         windows-few = omega (arith, a .windows-few);
       }
 
-      pub windows-fit : level .number < 8 → windows + more ≤ 32 * maxText
+      pub windows-fit : level .number < maxLevels → windows + more ≤ maxLevels * (4 * maxText)
       windows-fit l = omega (arith, a .windows-few)
 
     pub windows-all : level .number + 1 ≡ first .levels → windows ≡ windowsOf (settingsOf first cs) T

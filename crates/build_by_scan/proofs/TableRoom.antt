@@ -8,7 +8,7 @@ use native.Mathlib.Nat.{div-zero, div-le-self, mul-le-mul, mul-le-mul-left, mul-
 use lib.ListN.{length}
 use Rattle.format.specs.Settings.{Settings, blockLength, pieces}
 use Rattle.format.specs.PieceLaws.{lt-pieces}
-use Rattle.format.specs.SizeLaws.{length-falls, sizes}
+use Rattle.format.specs.SizeLaws.{length-falls}
 use Rattle.theory_built.specs.BlockSizes.{Taken, Bounds, bounds, size-pos, size-falls, size-last}
 use Rattle.theory_built.specs.OccurrencesLand.{First}
 use Rattle.theory_built.specs.KeptRule.{byteAt}
@@ -39,7 +39,7 @@ module _ (S : Settings) (T : List ℕ) (h : Taken S T) (l : ℕ) (k : suc l < S 
   -- a block above the last level has at least two leaf lengths
   pub two-leaves : 2 * S .leaf ≤ size S T l
   two-leaves =
-      let below : S .leaf ≤ size S T (suc l) = omega (arith, size-last S T h, length-falls S (sizes S (h .sizes-ok)) (suc l) (S .levels - 1) (omega arith)) in
+      let below : S .leaf ≤ size S T (suc l) = omega (arith, size-last S T h, length-falls S (bounds S T h) (suc l) (S .levels - 1) (omega arith)) in
       let m : 2 * S .leaf ≤ S .arity * size S T (suc l) = mul-le-mul (limits .arity-low) below in
       omega (arith, m, size-falls S T h l k)
 

@@ -2,12 +2,13 @@
 use mathlib.Core.List.{List}
 use mathlib.Core.Bool.{Bool}
 use mathlib.Core.Path.{_≡_, refl, sym, ap, _∙_}
-use Prim.Native.Nat.{ℕ, suc, _+_, _*_, _≤_, _<_}
+use Prim.Native.Nat.{ℕ, suc, _+_, _≤_, _<_}
 use native.Mathlib.Omega.{arith}
 use native.Mathlib.Numerals.{add-one}
 use Rattle.text.specs.Lists.{sumBelow}
 use Rattle.text.specs.ListLaws.{sumBelow-suc}
 use Rattle.format.specs.Settings.{Settings, maxText}
+use Rattle.format.specs.HeaderPlaces.{countAt, headerLength}
 use Rattle.format.specs.Blocks.{treeOf}
 use Rattle.theory_built.specs.Structure.{widthOf}
 use Rattle.theory_built.specs.BlockSizes.{Bounds, bounds}
@@ -58,7 +59,8 @@ module _ (S : Settings) (T : List ℕ) (level : Level) (h : LevelIs S T level) w
       pub going-writing : (block : Block) → BlockIs S T l i block → Writing S T out level i block
       going-writing block is = record { level-is = h; filled = g .filled; block-in = il; block-is = is }
 
-      module _ (new : List ℕ) (wide : ℕ) (wide-is : wide ≡ widthOf S T l i) (more : Grown D out new) (body : Within D new 100 (placeAt S T l (i + 1))) where
+      module _ (new : List ℕ) (wide : ℕ)
+          (wide-is : wide ≡ widthOf S T l i) (more : Grown D out new) (body : Within D new headerLength (placeAt S T l (i + 1))) where
         link-next : link + wide ≡ sumBelow (i + 1) (widthOf S T l)
         link-next = rw (g .link-is, wide-is) (sym (sumBelow-suc i (widthOf S T l)))
 
@@ -85,12 +87,12 @@ module _ (S : Settings) (T : List ℕ) (level : Level) (h : LevelIs S T level) w
     last : i ≡ level .count
     last = omega (arith, g .within)
 
-    pub all-written : Within D out₀ 0 (28 + 8 * l) → Written S T out level link
+    pub all-written : Within D out₀ 0 (countAt l) → Written S T out level link
     all-written header = record {
       level-is = h;
       room = g .filled .room;
-      body = within-part D out 100 (placeAt S T l i) 100 (offset S T (suc l)) (g .filled .body) (omega arith)
+      body = within-part D out headerLength (placeAt S T l i) headerLength (offset S T (suc l)) (g .filled .body) (omega arith)
           (omega (arith, place-end S T l, ap (placeAt S T l) (last ∙ h .count-is)));
-      header = within-grown D out₀ out 0 (28 + 8 * l) (g .grown) header;
+      header = within-grown D out₀ out 0 (countAt l) (g .grown) header;
       total-is = rw last at (g .link-is);
     }

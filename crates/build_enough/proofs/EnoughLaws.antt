@@ -9,10 +9,10 @@ use lib.Dec.{leb}
 use borrow.Author.Tests.{le-leb, lt-leb}
 use Rattle.text.specs.Lists.{sumBelow}
 use Rattle.text.specs.ListLaws.{sumBelow-suc}
-use Rattle.format.specs.Settings.{pieces, lengthOk, sizesOk, countedOk, rising, recordLength, maxText}
+use Rattle.format.specs.Settings.{pieces, lengthOk, sizesOk, countedOk, rising, recordLength, maxText, maxLevels, maxCounted, maxRecord}
+use Rattle.format.specs.HeaderPlaces.{headerLength}
 use Rattle.format.specs.Blocks.{builtLayout}
-use Rattle.format.specs.SizeLaws.{Sizes}
-use Rattle.format.specs.SizeLaws as format
+use Rattle.format.specs.SizeLaws.{Sizes, within-bounds}
 use Rattle.layout.specs.declared.settings.Settings as code
 use Rattle.layout.specs.declared.settings.Checked.{Checked}
 use Rattle.layout.specs.declared.settings.Checked.the-variants as checked-is
@@ -23,20 +23,16 @@ use Rattle.build_enough.specs.Enough.{blocksAtMost, enoughFor, enoughSay
 module _ (s : code.Settings) (z : Sized s 0) (low : 1 ≤ s .leaf) where
   pub sized-at : (l : ℕ) → l < s .levels → Sized s l
   sized-at l e = record {
-    leaf-high = z .leaf-high;
-    arity-low = z .arity-low;
-    arity-high = z .arity-high;
-    levels-high = z .levels-high;
+    bounds = z .bounds;
     level-in = e;
-    block-high = z .block-high;
   }
 
   pub block-low : (l : ℕ) → 0 < s .leaf * s .arity ^ (s .levels - 1 - l)
-  block-low l = mul-le-mul {n₁ = 1} {m₁ = 1} low (one-le-pow (s .levels - 1 - l) (s .arity) (omega (arith, z .arity-low)))
+  block-low l = mul-le-mul {n₁ = 1} {m₁ = 1} low (one-le-pow (s .levels - 1 - l) (s .arity) (omega (arith, z .bounds .arity-low)))
 
   pub block-few : (l : ℕ) → s .leaf * s .arity ^ (s .levels - 1 - l) ≤ maxText
-  block-few l = le-trans (mul-le-mul-left (s .leaf)
-      (pow-le-pow-right {n = s .arity} (omega (arith, z .arity-low)) (let e : s .levels - 1 - l ≤ s .levels - 1 = omega arith in e))) (z .block-high)
+  block-few l = le-trans (mul-le-mul-left (s .leaf) (pow-le-pow-right {n = s .arity}
+      (omega (arith, z .bounds .arity-low)) (let e : s .levels - 1 - l ≤ s .levels - 1 = omega arith in e))) (z .bounds .top-high)
 
   -- the blocks of the first levels
   abbrev pub upTo : ℕ → ℕ → ℕ
@@ -74,7 +70,7 @@ module _ (n m r H k : ℕ) where
     by-sizes y e = is ∙ rw (e, nothing-counted)
 
     module _ (y : Bool) (e : sizesOk (sizes m r H) ≡ y) where
-      said : enoughSays n m r H k ≡ cond y (cond (leb k 4) (Bytes (enoughFor n m r H k)) (Refused 3)) (Refused 2)
+      said : enoughSays n m r H k ≡ cond y (cond (leb k maxCounted) (Bytes (enoughFor n m r H k)) (Refused 3)) (Refused 2)
       unfolding enoughSays lengthOk
       said = rw (le-leb n maxText high, e)
 
@@ -102,29 +98,25 @@ module _ (n m r H k : ℕ) where
           go true f = (f, same _ (sym e ∙ by-sizes true f))
           go false f = absurd (refused (sym e ∙ by-sizes false f))
 
-      facts : Sizes (sizes m r H)
-      facts = format.sizes (sizes m r H) (fine-is .0)
+      facts : Sizes m r H
+      facts = within-bounds 0 0 (sizes m r H) (omega arith) (fine-is .0) (omega arith)
 
       pub fine-sized : Sized s 0 × (1 ≤ s .leaf)
       fine-sized = rw (fine-is .1) (
         record {
-          leaf-high = facts .leaf-high;
-          arity-low = facts .arity-low;
-          arity-high = facts .arity-high;
-          levels-high = facts .levels-high;
+          bounds = facts;
           level-in = facts .levels-low;
-          block-high = facts .top-high;
         },
         facts .leaf-low,
       )
 
-      pub many-counted : 4 < k → Refused 3 ≡ enoughSays n m r H k
-      many-counted h = sym (said true (fine-is .0) ∙ rw (lt-leb k 4 h))
+      pub many-counted : maxCounted < k → Refused 3 ≡ enoughSays n m r H k
+      many-counted h = sym (said true (fine-is .0) ∙ rw (lt-leb k maxCounted h))
 
-      pub enough-is : k ≤ 4 → (sum : ℕ) → sum ≡ blocksAtMost n (s .leaf) (s .arity) (s .levels)
-          → (z : ℕ) → z ≡ recordLength builtLayout (s .leaf) k → Bytes (100 + n + z * sum) ≡ enoughSays n m r H k
-      enough-is h sum e′ z ez = sym (said true (fine-is .0) ∙ rw (le-leb k 4 h, e′, ez, fine-is .1))
+      pub enough-is : k ≤ maxCounted → (sum : ℕ) → sum ≡ blocksAtMost n (s .leaf) (s .arity) (s .levels)
+          → (z : ℕ) → z ≡ recordLength builtLayout (s .leaf) k → Bytes (headerLength + n + z * sum) ≡ enoughSays n m r H k
+      enough-is h sum e′ z ez = sym (said true (fine-is .0) ∙ rw (le-leb k maxCounted h, e′, ez, fine-is .1))
 
 -- the records of all levels are few
-pub bytes-few : (z sum : ℕ) → z ≤ 576 → sum ≤ 16 * maxText → z * sum ≤ 9216 * maxText
+pub bytes-few : (z sum : ℕ) → z ≤ maxRecord → sum ≤ maxLevels * (2 * maxText) → z * sum ≤ maxRecord * (maxLevels * (2 * maxText))
 bytes-few z sum h l = mul-le-mul h l

@@ -5,7 +5,8 @@ use mathlib.Core.Bool.{cond}
 use Prim.Native.Nat.{ℕ, _+_, _-_, _*_, _^_}
 use lib.Dec.{leb}
 use Rattle.text.specs.Lists.{sumBelow}
-use Rattle.format.specs.Settings.{pieces, recordLength, lengthOk, sizesOk}
+use Rattle.format.specs.Settings.{pieces, recordLength, lengthOk, sizesOk, maxCounted}
+use Rattle.format.specs.HeaderPlaces.{headerLength}
 use Rattle.format.specs.Blocks.{builtLayout}
 use Rattle.layout.specs.CheckedSettings.{sizes}
 use Rattle.build_enough.specs.declared.Room.{Room}
@@ -16,9 +17,9 @@ unfoldable pub blocksAtMost : ℕ → ℕ → ℕ → ℕ → ℕ
 blocksAtMost n m r H = sumBelow H (λ l. pieces n (m * r ^ (H - 1 - l)))
 
 abbrev pub enoughFor : ℕ → ℕ → ℕ → ℕ → ℕ → ℕ
-enoughFor n m r H k = 100 + n + recordLength builtLayout m k * blocksAtMost n m r H
+enoughFor n m r H k = headerLength + n + recordLength builtLayout m k * blocksAtMost n m r H
 
 -- the size, unless the length (1), the sizes (2) or the number of counted bytes (3) are refused
 unfoldable pub enoughSays : ℕ → ℕ → ℕ → ℕ → ℕ → Room
 enoughSays n m r H k =
-    cond (lengthOk n) (cond (sizesOk (sizes m r H)) (cond (leb k 4) (Bytes (enoughFor n m r H k)) (Refused 3)) (Refused 2)) (Refused 1)
+    cond (lengthOk n) (cond (sizesOk (sizes m r H)) (cond (leb k maxCounted) (Bytes (enoughFor n m r H k)) (Refused 3)) (Refused 2)) (Refused 1)

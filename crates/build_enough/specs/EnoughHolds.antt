@@ -12,6 +12,7 @@ use borrow.Author.Tests.{le-leb}
 use Rattle.text.specs.Lists.{sumBelow}
 use Rattle.text.specs.ListLaws.{bool-cases, sumBelow-ext}
 use Rattle.format.specs.Settings.{Settings, blockLength, pieces, recordLength}
+use Rattle.format.specs.HeaderPlaces.{headerLength}
 use Rattle.format.specs.Blocks.{treeOf, recordBytes, leafBytes, builtLayout}
 use Rattle.format.specs.SizeLaws.{record-most, record-edged}
 use Rattle.format.specs.BuildSays.{buildNumber}
@@ -31,7 +32,7 @@ use Rattle.build_enough.specs.Enough.{blocksAtMost, enoughFor}
 use Rattle.build_enough.specs.BlocksInOrder.{sumBelow-mono, blocks-few, bytes-few}
 
 -- a table of x records and y leaf bytes
-together : (x z R y n : ℕ) → x ≤ z → y ≤ n → 100 + x * R + y ≤ 100 + n + R * z
+together : (x z R y n : ℕ) → x ≤ z → y ≤ n → headerLength + x * R + y ≤ headerLength + n + R * z
 together x z R y n h k = omega (arith, mul-le-mul-right {m = x} {n = z} R h, mul-comm R z)
 
 -- no layout has longer records than the one that is built
@@ -97,11 +98,16 @@ module _ (t : List ℕ) (k : Readable t) (d : Linked t) where
 
   leaves : at.leafCount t ≤ n
   leaves =
-      let last : H t - 1 < H t = omega (arith, k .levels-low) in
+      let last : H t - 1 < H t = omega (arith, k .bounds .levels-low) in
       let all : sumBelow (N t (H t - 1)) (widthAt t (H t - 1)) ≡ sumBelow (N t (H t - 1)) (λ i. min (b t (H t - 1)) (n - s t (H t - 1) i)) =
       sumBelow-ext (N t (H t - 1))
       (widthAt t (H t - 1)) (λ i. min (b t (H t - 1)) (n - s t (H t - 1) i)) (λ i il. width-last t i (last-kept t k d i il) ∙ len-is (H t - 1) i) in
-      omega (arith, d .leaf-count (omega (arith, k .levels-low)), all, bytes-few n (b t (H t - 1)) (N t (H t - 1)) (s t (H t - 1)) (in-order (H t - 1) last))
+      omega (
+        arith,
+        d .leaf-count (omega (arith, k .bounds .levels-low)),
+        all,
+        bytes-few n (b t (H t - 1)) (N t (H t - 1)) (s t (H t - 1)) (in-order (H t - 1) last),
+      )
 
   whole : length t ≤ enoughFor n (at.settings t .leaf) (at.settings t .arity) (H t) (at.countedCount t)
   unfolding at.recordSize

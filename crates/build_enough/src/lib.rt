@@ -1,12 +1,15 @@
 // A size that is enough for every tree of texts of a length, with given settings.
 use layout::header;
+use layout::settings;
 use layout::settings::Checked;
 use layout::settings::Settings;
 ghost use mathlib.Core.Path.{_≡_};
 ghost use Prim.Native.Nat.{_*_, _≤_};
 ghost use Rattle.layout.specs.CheckedSettings.{Sized};
 ghost use Rattle.build_enough.specs.Enough.{blocksAtMost, enoughSays};
-ghost use Rattle.format.specs.Settings.{maxText};
+ghost use Rattle.format.specs.Settings.{maxText, maxLevels};
+
+const HEADER: u64 = header::HEADER_LENGTH as u64;
 
 // The bytes that are enough, or the number of the question that refuses the length or the settings.
 pub enum Room {
@@ -35,18 +38,18 @@ pub fn enough(n: u32, leaf: u32, arity: u32, levels: u32, counted: u32) -> Room
         counted,
     };
     let size = whole.record_size(Settings::EDGED) as u64;
-    Room::Bytes(100 + n as u64 + size * blocks(n, s))
+    Room::Bytes(HEADER + n as u64 + size * blocks(n, s))
 }
 
 // The blocks of all levels, where each level covers the text.
 fn blocks(n: u32, s: Settings) -> u64
     requires { ⌜ Sized s 0 × (1 ≤ s .leaf) × (n ≤ maxText) ⌝ }
-    ensures { λ r. ⌜ (r ≡ blocksAtMost n (s .leaf) (s .arity) (s .levels)) × (r ≤ 16 * maxText) ⌝ }
+    ensures { λ r. ⌜ (r ≡ blocksAtMost n (s .leaf) (s .arity) (s .levels)) × (r ≤ maxLevels * (2 * maxText)) ⌝ }
 {
     let mut sum: u64 = 0;
     let mut l: u32 = 0;
     while l < s.levels {
-        sum = sum + header::pieces(n, s.block_length(l)) as u64;
+        sum = sum + settings::pieces(n, s.block_length(l)) as u64;
         l += 1;
     }
     sum

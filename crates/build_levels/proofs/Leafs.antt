@@ -7,6 +7,7 @@ use lib.ListN.{length, getD}
 use Rattle.text.specs.Lists.{sumBelow}
 use Rattle.text.specs.ListLaws.{sumBelow-suc, sumBelow-part}
 use Rattle.format.specs.Settings.{Settings}
+use Rattle.format.specs.HeaderPlaces.{headerLength}
 use Rattle.format.specs.Blocks.{treeOf}
 use Rattle.theory_built.specs.BlockSizes.{Taken, maxTree}
 use Rattle.theory_built.specs.Structure.{count, widthOf}
@@ -46,8 +47,8 @@ module _ (S : Settings) (T out : List ℕ) (level : Level) (to i : ℕ) (w : Lea
     i-in = omega (arith, w .level-is .count-is)
 
     pub leaf-on : On S T out level i
-    leaf-on = on-written S T out level i (w .level-is)
-        (omega (arith, table-inside S T taken l l-in, w .room)) (within-part D out 100 to 100 (offset S T (suc l)) (w .body) (omega arith) end) il
+    leaf-on = on-written S T out level i (w .level-is) (omega (arith, table-inside S T taken l l-in, w .room))
+        (within-part D out headerLength to headerLength (offset S T (suc l)) (w .body) (omega arith) end) il
 
     module _ (own : Stretch) (own-is : StretchIs S T l i own) where
       abbrev s : ℕ
@@ -85,7 +86,7 @@ module _ (S : Settings) (T out : List ℕ) (level : Level) (to i : ℕ) (w : Lea
         level-is = w .level-is;
         last = w .last;
         room = omega (arith, w .room, g .same-length);
-        body = within-join D new 100 to (to + len) (within-grown D out new 100 to g (w .body)) here;
+        body = within-join D new headerLength to (to + len) (within-grown D out new headerLength to g (w .body)) here;
         to-is = omega (arith, w .to-is, len-is, sumBelow-suc i (widthOf S T l));
       }
 
@@ -101,7 +102,7 @@ module _ (S : Settings) (T out : List ℕ) (level : Level) (to i : ℕ) (w : Lea
       )
 
   -- all leaf bytes are written
-  pub leafing-all : i ≡ level .count → Within D out 100 (length D)
+  pub leafing-all : i ≡ level .count → Within D out headerLength (length D)
   leafing-all e =
       let all : to ≡ length D = w .to-is ∙ sym (tree-length S T taken ∙ ap (λ (x : ℕ). offset S T (S .levels) + x)
       (leaf-count S T taken l (w .last) ∙ ap (λ (x : ℕ). sumBelow x (widthOf S T l)) (sym (e ∙ w .level-is .count-is)))) in

@@ -2,13 +2,14 @@
 use mathlib.Core.List.{List}
 use mathlib.Core.Path.{_≡_, refl, sym, ap, _∙_}
 use mathlib.Core.Logic.{inl, inr}
-use Prim.Native.Nat.{ℕ, suc, _+_, _-_, _*_, _/_, _≤_, _<_}
+use Prim.Native.Nat.{ℕ, suc, _+_, _-_, _/_, _≤_, _<_}
 use native.Mathlib.Omega.{arith}
 use native.Mathlib.Numerals.{add-one}
 use lib.ListN.{length}
 use Rattle.text.specs.Lists.{sumBelow}
 use Rattle.format.specs.Words.{setWord}
-use Rattle.format.specs.Settings.{Settings, blockLength}
+use Rattle.format.specs.Settings.{Settings, blockLength, maxLevels}
+use Rattle.format.specs.HeaderPlaces.{countAt, leafOffsetAt, leafCountAt, headerLength}
 use Rattle.format.specs.Blocks.{treeOf, leafBytes}
 use Rattle.theory_built.specs.BlockSizes.{Taken, Bounds, bounds, size-pos, size-falls, maxTable, maxTree}
 use Rattle.theory_built.specs.Structure.{count, widthOf, count-below}
@@ -44,7 +45,8 @@ pub next-made : (level : Level) (count p : ℕ) (cs : List ℕ) → p ≡ record
 next-made level count p cs e = rw e
 
 -- what a level's words in the header ask
-pub pair-asks : (S : Settings) (T out : List ℕ) (level : Level) (total : ℕ) → Written S T out level total → (100 ≤ length out) × (level .number < 8)
+pub pair-asks : (S : Settings) (T out : List ℕ) (level : Level) (total : ℕ)
+    → Written S T out level total → (headerLength ≤ length out) × (level .number < maxLevels)
 pair-asks S T out level total r =
     (omega (arith, r .room, offset-low S T (suc (level .number))), omega (arith, r .level-is .number-in, bounds S T (r .level-is .taken) .levels-high))
 
@@ -76,7 +78,7 @@ module _ (T cs : List ℕ) (level : Level) (out two : List ℕ) (total : ℕ) (r
   pub table-small : recordPlace (level .table) (level .count) (settingsOf (level .settings) cs) ≤ maxTable
   table-small = rw table-end (offset-le S T taken (suc l) (omega (arith, h .number-in)))
 
-  room-out : 100 ≤ length out
+  room-out : headerLength ≤ length out
   room-out = pair-asks S T out level total r .0
 
   two-right : two ≡ pairWritten out l (count S T l) (offset S T l)
@@ -85,13 +87,13 @@ module _ (T cs : List ℕ) (level : Level) (out two : List ℕ) (total : ℕ) (r
   pub pair-grown : Grown D out two
   pair-grown = level-grown S T taken out two l room-out (h .number-in) two-right
 
-  header-two : Within D two 0 (28 + 8 * (l + 1))
+  header-two : Within D two 0 (countAt (l + 1))
   header-two = level-within S T taken out two l room-out (h .number-in) two-right (r .header)
 
-  body-two : Within D two 100 (offset S T (suc l))
-  body-two = within-grown D out two 100 (offset S T (suc l)) pair-grown (r .body)
+  body-two : Within D two headerLength (offset S T (suc l))
+  body-two = within-grown D out two headerLength (offset S T (suc l)) pair-grown (r .body)
 
-  pub room-two : 100 ≤ length two
+  pub room-two : headerLength ≤ length two
   room-two = omega (arith, room-out, pair-grown .same-length)
 
   -- above the last level
@@ -142,7 +144,7 @@ module _ (T cs : List ℕ) (level : Level) (out two : List ℕ) (total : ℕ) (r
     ready-next new more filled = record {
       level-is = next-is;
       filled = rw (← add-one l) at filled;
-      header = within-grown D two new 0 (28 + 8 * (l + 1)) more header-two;
+      header = within-grown D two new 0 (countAt (l + 1)) more header-two;
     }
 
     -- of the level that the code makes
@@ -185,14 +187,15 @@ module _ (T cs : List ℕ) (level : Level) (out two : List ℕ) (total : ℕ) (r
       not-fits k = inl (refl, omega (arith, end-is))
 
       module _ (fits : at + total ≤ length two) (three : List ℕ)
-          (three-is : three ≡ setWord (setWord (unusedWritten two (S .levels) (8 - S .levels)) 92 at) 96 total) where
-        three-right : three ≡ setWord (setWord (unusedWritten two (S .levels) (8 - S .levels)) 92 (offset S T (S .levels))) 96 (length (leafBytes S T))
+          (three-is : three ≡ setWord (setWord (unusedWritten two (S .levels) (maxLevels - S .levels)) leafOffsetAt at) leafCountAt total) where
+        three-right : three ≡ setWord
+            (setWord (unusedWritten two (S .levels) (maxLevels - S .levels)) leafOffsetAt (offset S T (S .levels))) leafCountAt (length (leafBytes S T))
         three-right = three-is ∙ rw (at-right, total-leaves)
 
         pub three-grown : Grown D two three
         three-grown = end-grown S T taken two room-two three three-right
 
-        header-three : Within D three 0 100
+        header-three : Within D three 0 headerLength
         header-three =
             let e : l + 1 ≡ S .levels = last in
             end-within S T taken two room-two three three-right (rw e at header-two)
@@ -203,12 +206,12 @@ module _ (T cs : List ℕ) (level : Level) (out two : List ℕ) (total : ℕ) (r
           level-is = h;
           last = last′;
           room = omega (arith, end-is, three-grown .same-length);
-          body = within-part D three 100 (offset S T (suc l))
-              100 at (within-grown D two three 100 (offset S T (suc l)) three-grown body-two) (omega arith) (omega (arith, at-is, table-end));
+          body = within-part D three headerLength (offset S T (suc l)) headerLength
+              at (within-grown D two three headerLength (offset S T (suc l)) three-grown body-two) (omega arith) (omega (arith, at-is, table-end));
           to-is = omega (arith, at-right);
         }
 
-        module _ (four : List ℕ) (leaves : Grown D three four) (all : Within D four 100 (length D)) where
+        module _ (four : List ℕ) (leaves : Grown D three four) (all : Within D four headerLength (length D)) where
           pub finish-grown : Grown D out four
           finish-grown = grown-then D out two four pair-grown (grown-then D two three four three-grown leaves)
 
@@ -216,5 +219,5 @@ module _ (T cs : List ℕ) (level : Level) (out two : List ℕ) (total : ℕ) (r
           finished = inr (
             end-is,
             omega (arith, end-is, three-grown .same-length, leaves .same-length),
-            within-join D four 0 100 (length D) (within-grown D three four 0 100 leaves header-three) all,
+            within-join D four 0 headerLength (length D) (within-grown D three four 0 headerLength leaves header-three) all,
           )

@@ -7,6 +7,8 @@ use native.Mathlib.Nat.{mul-div-right, one-le-pow, mul-le-mul}
 use lib.ListN.{length}
 use Rattle.text.specs.Lists.{sumBelow}
 use Rattle.format.specs.Settings.{Settings, blockLength, pieces, maxText}
+use Rattle.format.specs.SizeLaws.{sizes-alone}
+use Rattle.format.specs.HeaderPlaces.{pairsAt, countAt, headerLength}
 use Rattle.format.specs.Blocks.{treeOf, recordBytes}
 use Rattle.layout.specs.declared.settings.Settings as code
 use Rattle.layout.specs.CheckedSettings.{Sized}
@@ -24,8 +26,7 @@ use Rattle.build_levels.specs.Trees.{firstOf, Ready, StepIs}
 use Rattle.build_records.proofs.Growth.{grown-then, within-grown, within-none}
 use Rattle.build_records.proofs.Children.{pieces-most}
 use Rattle.build_records.proofs.WrittenStartsLaws.{starts-grown, starts-within}
-use Rattle.build_records.proofs.StateLaws.{record-size, place-is, place-end, record-inside-table, table-inside, offset-low, block-high, size-high}
-use Rattle.build_records.proofs.StateLaws.{start-stands, Few, few}
+use Rattle.build_records.proofs.StateLaws.{record-size, place-is, place-end, record-inside-table, table-inside, offset-low, size-high, start-stands, Few, few}
 
 -- a step that came to a level, and one that found no room for it
 module _ (S : Settings) (T out : List ℕ) (s : code.Settings) (number : ℕ) where
@@ -50,7 +51,7 @@ module _ (S : Settings) (T out : List ℕ) (s : code.Settings) (number : ℕ) wh
 pub divided : (r a b : ℕ) → 0 < r → a ≡ r * b → a / r ≡ b
 divided r a b pos e = rw e (mul-div-right b pos)
 
-table-zero : (S : Settings) (T : List ℕ) → 100 ≡ offset S T 0
+table-zero : (S : Settings) (T : List ℕ) → headerLength ≡ offset S T 0
 unfolding offset sumBelow
 table-zero S T = omega arith
 
@@ -63,12 +64,8 @@ module _ (s : code.Settings) (cs T : List ℕ) (h : Taken (settingsOf s cs) T) w
 
   pub first-sized : Sized s 0
   first-sized = record {
-    leaf-high = limits₀ .leaf-high;
-    arity-low = limits₀ .arity-low;
-    arity-high = limits₀ .arity-high;
-    levels-high = limits₀ .levels-high;
+    bounds = sizes-alone limits₀;
     level-in = limits₀ .levels-low;
-    block-high = block-high S₀ T h;
   }
 
   size-zero : firstOf s (length T) .size ≡ blockLength S₀ 0
@@ -91,13 +88,13 @@ module _ (s : code.Settings) (cs T : List ℕ) (h : Taken (settingsOf s cs) T) w
 
 -- what the first level asks
 pub sized-pos : (s : code.Settings) → Sized s 0 → 1 ≤ s .leaf → 0 < s .leaf * s .arity ^ (s .levels - 1 - 0)
-sized-pos s z one = mul-le-mul {n₁ = 1} {m₁ = 1} one (one-le-pow (s .levels - 1 - 0) (s .arity) (omega (arith, z .arity-low)))
+sized-pos s z one = mul-le-mul {n₁ = 1} {m₁ = 1} one (one-le-pow (s .levels - 1 - 0) (s .arity) (omega (arith, z .bounds .arity-low)))
 
 pub sized-high : (s : code.Settings) → Sized s 0 → s .leaf * s .arity ^ (s .levels - 1 - 0) ≤ maxText
-sized-high s z = let e : s .levels - 1 - 0 ≡ s .levels - 1 = omega arith in rw e (z .block-high)
+sized-high s z = let e : s .levels - 1 - 0 ≡ s .levels - 1 = omega arith in rw e (z .bounds .top-high)
 
 pub first-made : (s : code.Settings) (n b p : ℕ) → b ≡ s .leaf * s .arity ^ (s .levels - 1 - 0) → p ≡ pieces n b
-    → record { settings = s; number = 0; above = 1; size = b; below = b / s .arity; count = p; table = 100 } ≡ firstOf s n
+    → record { settings = s; number = 0; above = 1; size = b; below = b / s .arity; count = p; table = headerLength } ≡ firstOf s n
 first-made s n b p e f = rw (f, e)
 
 -- the level that the code makes, and what is written
@@ -141,14 +138,14 @@ module _ (s : code.Settings) (cs T : List ℕ) (h : Taken (settingsOf s cs) T) (
       room-first : offset S T 1 ≤ length out
       room-first = omega (arith, end-first)
 
-      pub long-first : 100 ≤ length out
+      pub long-first : headerLength ≤ length out
       long-first = omega (arith, room-first, offset-low S T 1)
 
-      module _ (one : List ℕ) (g : Grown D out one) (header : Within D one 0 28) (step : ℕ) (step-is : step ≡ recordBytes S) where
+      module _ (one : List ℕ) (g : Grown D out one) (header : Within D one 0 pairsAt) (step : ℕ) (step-is : step ≡ recordBytes S) where
         room-one : offset S T 1 ≤ length one
         room-one = omega (arith, room-first, g .same-length)
 
-        pub starts-first : StartsAsk one 100 step 0 (first .size) (first .count)
+        pub starts-first : StartsAsk one headerLength step 0 (first .size) (first .count)
         starts-first = record {
           room = rw (step-is, count-first) (omega (arith, table-zero S T, place-end S T 0, room-one));
           step-low = omega (arith, step-is, record-size S T);
@@ -158,41 +155,42 @@ module _ (s : code.Settings) (cs T : List ℕ) (h : Taken (settingsOf s cs) T) (
           ends = rw (count-first, size-first, count-top S T h) (omega (arith, pieces-most (length T) (blockLength S 0), limits .text-high, size-high S T h 0));
         }
 
-        module _ (two : List ℕ) (two-is : two ≡ startsWritten one 100 step 0 (first .size) (first .count)) where
-          two-right : two ≡ startsWritten one 100 (recordBytes S) 0 (blockLength S 0) (count S T 0)
+        module _ (two : List ℕ) (two-is : two ≡ startsWritten one headerLength step 0 (first .size) (first .count)) where
+          two-right : two ≡ startsWritten one headerLength (recordBytes S) 0 (blockLength S 0) (count S T 0)
           two-right = two-is ∙ rw (step-is, size-first, count-first)
 
-          at-place : (j : ℕ) → 100 + j * recordBytes S ≡ placeAt S T 0 j
+          at-place : (j : ℕ) → headerLength + j * recordBytes S ≡ placeAt S T 0 j
           at-place j = omega (arith, table-zero S T)
 
-          stands : (j : ℕ) → j < count S T 0 → Stands D (100 + j * recordBytes S) (0 + j * blockLength S 0)
+          stands : (j : ℕ) → j < count S T 0 → Stands D (headerLength + j * recordBytes S) (0 + j * blockLength S 0)
           stands j k =
               let e : start S T 0 j ≡ 0 + j * blockLength S 0 = start-top S T h j k ∙ omega arith in
               rw (at-place j, ← e) (start-stands S T h 0 j (limits .levels-low) k)
 
-          in-table : (j : ℕ) → j < count S T 0 → 100 + j * recordBytes S + 4 ≤ offset S T 1
+          in-table : (j : ℕ) → j < count S T 0 → headerLength + j * recordBytes S + 4 ≤ offset S T 1
           in-table j k = omega (arith, at-place j, record-inside-table S T 0 j k, record-size S T)
 
-          fits : (j : ℕ) → j < count S T 0 → 100 + j * recordBytes S + 4 ≤ length one
+          fits : (j : ℕ) → j < count S T 0 → headerLength + j * recordBytes S + 4 ≤ length one
           fits j k = omega (arith, in-table j k, room-one)
 
-          inside : (j : ℕ) → j < count S T 0 → 100 + j * recordBytes S + 4 ≤ length D
+          inside : (j : ℕ) → j < count S T 0 → headerLength + j * recordBytes S + 4 ≤ length D
           inside j k = omega (arith, in-table j k, table-inside S T h 0 (limits .levels-low))
 
           grown-two : Grown D one two
-          grown-two = rw two-right (starts-grown D one 100 (recordBytes S) 0 (blockLength S 0) (count S T 0) stands fits inside (count S T 0) (omega arith))
+          grown-two = rw two-right (starts-grown D
+              one headerLength (recordBytes S) 0 (blockLength S 0) (count S T 0) stands fits inside (count S T 0) (omega arith))
 
           pub first-grown : Grown D out two
           first-grown = grown-then D out one two g grown-two
 
           started : (x : ℕ) → x < count S T 0 → Within D two (placeAt S T 0 x) (placeAt S T 0 x + 4)
           started x k = rw (← at-place x, two-right)
-              (starts-within D one 100 (recordBytes S) 0 (blockLength S 0) (count S T 0) stands fits inside (count S T 0) (omega arith) x k)
+              (starts-within D one headerLength (recordBytes S) 0 (blockLength S 0) (count S T 0) stands fits inside (count S T 0) (omega arith) x k)
 
           filled : Filled S T two 0 0
           filled = record {
             room = omega (arith, room-one, grown-two .same-length);
-            body = within-none D two 100 (placeAt S T 0 0) (omega (arith, table-zero S T));
+            body = within-none D two headerLength (placeAt S T 0 0) (omega (arith, table-zero S T));
             starts = started;
           }
 
@@ -203,6 +201,6 @@ module _ (s : code.Settings) (cs T : List ℕ) (h : Taken (settingsOf s cs) T) (
             record {
               level-is = level-first;
               filled = subst (λ (l : ℕ). Filled S T two l 0) (sym number-first) filled;
-              header = subst (λ (l : ℕ). Within D two 0 (28 + 8 * l)) (sym number-first) (within-grown D one two 0 28 grown-two header);
+              header = subst (λ (l : ℕ). Within D two 0 (countAt l)) (sym number-first) (within-grown D one two 0 pairsAt grown-two header);
             },
           )

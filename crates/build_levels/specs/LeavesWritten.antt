@@ -5,6 +5,7 @@ use Prim.Native.Nat.{ℕ, suc, _+_, _≤_}
 use lib.ListN.{length}
 use Rattle.text.specs.Lists.{sumBelow}
 use Rattle.format.specs.Settings.{Settings}
+use Rattle.format.specs.HeaderPlaces.{headerLength}
 use Rattle.format.specs.Blocks.{treeOf}
 use Rattle.theory_built.specs.Structure.{widthOf}
 use Rattle.theory_built.specs.Pairs.{offset}
@@ -18,5 +19,5 @@ module _ (S : Settings) (T : List ℕ) where
     pub level-is : LevelIs S T level
     pub last : suc (level .number) ≡ S .levels
     pub room : length (treeOf S T) ≤ length out
-    pub body : Within (treeOf S T) out 100 to
+    pub body : Within (treeOf S T) out headerLength to
     pub to-is : to ≡ offset S T (S .levels) + sumBelow i (widthOf S T (level .number))

@@ -6,6 +6,7 @@ use Prim.Native.Nat.{ℕ, suc, _+_, _-_, _*_, _/_, _^_, _≤_, _<_}
 use lib.ListN.{length}
 use Rattle.text.specs.Lists.{sumBelow}
 use Rattle.format.specs.Settings.{Settings, pieces}
+use Rattle.format.specs.HeaderPlaces.{countAt, headerLength}
 use Rattle.format.specs.Blocks.{treeOf}
 use Rattle.theory_built.specs.Structure.{widthOf}
 use Rattle.theory_built.specs.Pairs.{offset}
@@ -26,7 +27,7 @@ firstOf s n = record {
   size = s .leaf * s .arity ^ (s .levels - 1 - 0);
   below = s .leaf * s .arity ^ (s .levels - 1 - 0) / s .arity;
   count = pieces n (s .leaf * s .arity ^ (s .levels - 1 - 0));
-  table = 100;
+  table = headerLength;
 }
 
 -- the level below one, with its number of blocks
@@ -46,14 +47,14 @@ module _ (S : Settings) (T : List ℕ) where
   pub record Ready (out : List ℕ) (level : Level) : Type 0 where
     pub level-is : LevelIs S T level
     pub filled : Filled S T out (level .number) 0
-    pub header : Within (treeOf S T) out 0 (28 + 8 * level .number)
+    pub header : Within (treeOf S T) out 0 (countAt (level .number))
 
   -- the records of a level are written too, with `total` blocks or leaf bytes below them
   pub record Written (out : List ℕ) (level : Level) (total : ℕ) : Type 0 where
     pub level-is : LevelIs S T level
     pub room : offset S T (suc (level .number)) ≤ length out
-    pub body : Within (treeOf S T) out 100 (offset S T (suc (level .number)))
-    pub header : Within (treeOf S T) out 0 (28 + 8 * level .number)
+    pub body : Within (treeOf S T) out headerLength (offset S T (suc (level .number)))
+    pub header : Within (treeOf S T) out 0 (countAt (level .number))
     pub total-is : total ≡ sumBelow (level .count) (widthOf S T (level .number))
 
   -- a step to the level with this number: it is ready, or the tree does not fit

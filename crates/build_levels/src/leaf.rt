@@ -5,6 +5,7 @@ use layout::place::BlockNumber;
 ghost use mathlib.Core.Path.{_≡_};
 ghost use Prim.Native.Nat.{_+_, _<_};
 ghost use lib.ListN.{length};
+ghost use Rattle.format.specs.HeaderPlaces.{headerLength};
 ghost use Rattle.format.specs.Blocks.{treeOf};
 ghost use Rattle.theory_built.specs.Structure.{widthOf};
 ghost use Rattle.build_records.specs.Grown.{Grown, Within};
@@ -41,7 +42,7 @@ pub fn put_leaves(out: &mut [u8], text: &[u8], counted: &[u8], level: Level, at:
     requires { ⌜ Leafing (settingsOf (level .settings) (now counted)) (now text) (now out) level at 0 ⌝ }
     ensures { λ _. ⌜ Grown (treeOf (settingsOf (level .settings) (now (counted .entry))) (now (text .entry))) (now (out .entry)) (now (out .exit)) ⌝ }
     ensures { λ _. ⌜ Within (treeOf (settingsOf (level .settings) (now (counted .entry))) (now (text .entry))) (now (out .exit))
-        100 (length (treeOf (settingsOf (level .settings) (now (counted .entry))) (now (text .entry)))) ⌝ }
+        headerLength (length (treeOf (settingsOf (level .settings) (now (counted .entry))) (now (text .entry)))) ⌝ }
 {
     let mut to: u32 = at;
     let mut i: u32 = 0;

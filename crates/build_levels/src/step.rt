@@ -7,11 +7,12 @@ use build_records::level_written::Level;
 use layout::header;
 use layout::place::BlockNumber;
 use layout::place::TextPlace;
+use layout::settings;
 use layout::settings::Settings;
 ghost use mathlib.Core.Path.{_≡_};
 ghost use Prim.Native.Nat.{_+_, _≤_, _<_};
 ghost use lib.ListN.{length};
-ghost use Rattle.format.specs.Settings.{maxText};
+ghost use Rattle.format.specs.Settings.{maxText, maxLeaf, maxLevels, maxCounted};
 ghost use Rattle.format.specs.Blocks.{treeOf};
 ghost use Rattle.theory_built.specs.BlockSizes.{Taken, maxTable};
 ghost use Rattle.layout.specs.CheckedSettings.{Sized};
@@ -19,6 +20,9 @@ ghost use Rattle.build_records.specs.Grown.{Grown};
 ghost use Rattle.build_records.specs.RecordPlaces.{recordPlace};
 ghost use Rattle.build_records.specs.State.{settingsOf};
 ghost use Rattle.build_levels.specs.Trees.{firstOf, nextOf, Written, StepIs, Finished};
+
+// Where the records of level 0 begin.
+const FIRST_TABLE: u32 = header::HEADER_LENGTH as u32;
 
 // The level to be written next, or that the buffer has no room for its records.
 pub enum Step {
@@ -38,15 +42,15 @@ fn first_level(text: &[u8], s: Settings) -> Level
         above: 1,
         size,
         below: size / s.arity,
-        count: header::pieces(text.len() as u32, size),
-        table: 100,
+        count: settings::pieces(text.len() as u32, size),
+        table: FIRST_TABLE,
     }
 }
 
 // The level below one, of whose blocks the number is known.
 fn next_level(counted: &[u8], level: Level, count: u32) -> Level
-    requires { ⌜ (length (now counted) ≤ 4) × (level .table ≤ maxTable)
-        × (level .count ≤ maxText) × (level .settings .leaf ≤ 256) × (level .number < 8) × (0 < level .settings .arity) ⌝ }
+    requires { ⌜ (length (now counted) ≤ maxCounted) × (level .table ≤ maxTable)
+        × (level .count ≤ maxText) × (level .settings .leaf ≤ maxLeaf) × (level .number < maxLevels) × (0 < level .settings .arity) ⌝ }
     requires { ⌜ recordPlace (level .table) (level .count) (settingsOf (level .settings) (now counted)) ≤ maxTable ⌝ }
     ensures { λ r. ⌜ r ≡ nextOf level count (now (counted .entry)) ⌝ }
 {
@@ -75,7 +79,7 @@ pub fn begin(out: &mut [u8], text: &[u8], counted: &[u8], s: Settings) -> Step
     header_written::put_head(out, text, counted, s);
     below::put_starts(
         out,
-        100,
+        header::HEADER_LENGTH,
         level_written::record_size(counted, s),
         TextPlace(0),
         first.size,

@@ -5,7 +5,7 @@ use Prim.Native.Nat.{ℕ, _+_, _*_, _/_, _≤_, _<_}
 use lib.Dec.{eqb}
 use lib.ListN.{length}
 use Rattle.theory_built.specs.BlockSizes.{maxTable}
-use Rattle.format.specs.Settings.{Settings, maxText}
+use Rattle.format.specs.Settings.{Settings, maxText, maxLeaf, maxCounted}
 use Rattle.format.specs.Words.{wordAt}
 use Rattle.build_records.specs.RecordPlaces.{recordPlace}
 
@@ -20,9 +20,9 @@ module _ (out : List ℕ) (table count : ℕ) (S : Settings) where
 
   -- the records of the level are there, and their starts rise
   pub record Sorted : Type 0 where
-    pub counted-few : length (S .counted) ≤ 4
+    pub counted-few : length (S .counted) ≤ maxCounted
     pub table-few : table ≤ maxTable
-    pub leaf-few : S .leaf ≤ 256
+    pub leaf-few : S .leaf ≤ maxLeaf
     pub count-few : count ≤ maxText
     pub fits : (i : ℕ) → i < count → recordPlace table i S + 4 ≤ length out
     pub rises : (i j : ℕ) → i < j → j < count → startIn i < startIn j

@@ -10,7 +10,9 @@ use lib.ListN.{length}
 use Rattle.text.specs.Lists.{sumBelow}
 use Rattle.text.specs.ListLaws.{lt-or-ge, sumBelow-suc, sumBelow-part}
 use Rattle.format.specs.Words.{wordAt}
-use Rattle.format.specs.Settings.{Settings, blockLength, pieces, maxText}
+use Rattle.format.specs.RecordFields.{kindField, linkField, plainBytes}
+use Rattle.format.specs.Settings.{Settings, blockLength, pieces, maxText, maxRecord}
+use Rattle.format.specs.HeaderPlaces.{headerLength}
 use Rattle.format.specs.Blocks.{treeOf, recordBytes}
 use Rattle.theory_built.specs.BuiltBytes.{Stands}
 use Rattle.theory_built.specs.BuiltLinks.{link-kept}
@@ -67,7 +69,7 @@ module _ (S : Settings) (T out : List ℕ) (level next : Level) (i : ℕ) (w : B
   i-in : i < count S T l
   i-in = omega (arith, w .level-is .count-is)
 
-  low : 100 ≤ P
+  low : headerLength ≤ P
   low = omega (arith, offset-low S T l)
 
   ends : P + recordBytes S ≤ offset S T (suc l)
@@ -81,24 +83,24 @@ module _ (S : Settings) (T out : List ℕ) (level next : Level) (i : ℕ) (w : B
     at-right : at ≡ P
     at-right = at-is ∙ place-is S T level (w .level-is) i
 
-    pub record-fits : at + 16 ≤ length out
+    pub record-fits : at + plainBytes ≤ length out
     record-fits = omega (arith, at-right, ends, record-size S T, offset-rises S T (suc l) (suc (suc l)) (omega arith), w .room)
 
     word : (x v : ℕ) → x + 4 ≤ recordBytes S → Stands D (P + x) v → v < 4294967296 → wordAt out (at + x) ≡ v
     word x v in-record s small =
-        rw at-right (read-right D out
-        (P + x) v (within-part D out 100 (offset S T (suc l)) (P + x) (P + x + 4) (w .body) (omega (arith, low)) (omega (arith, ends))) s small)
+        rw at-right (read-right D out (P + x)
+        v (within-part D out headerLength (offset S T (suc l)) (P + x) (P + x + 4) (w .body) (omega (arith, low)) (omega (arith, ends))) s small)
 
-    kind-read : wordAt out (at + 4) ≡ kindOf S T l i
-    kind-read = word 4 (kindOf S T l i) (omega (arith, record-size S T)) (kind-stands S T taken l i l-in i-in) (omega (arith, kind-le S T l i))
+    kind-read : wordAt out (at + 4 * kindField) ≡ kindOf S T l i
+    kind-read = word (4 * kindField) (kindOf S T l i) (omega (arith, record-size S T)) (kind-stands S T taken l i l-in i-in) (omega (arith, kind-le S T l i))
 
-    link-read : wordAt out (at + 8) ≡ linkOf S T l i
+    link-read : wordAt out (at + 4 * linkField) ≡ linkOf S T l i
     link-read =
-        let e : P + 4 + 4 ≡ P + 8 = omega arith in
-        word 8 (linkOf S T l i) (omega (arith, record-size S T))
+        let e : P + 4 * kindField + 4 ≡ P + 4 * linkField = omega arith in
+        word (4 * linkField) (linkOf S T l i) (omega (arith, record-size S T))
         (rw e at (link-stands S T taken l i l-in i-in)) (omega (arith, link-le S T taken l l-in i i-in, limits .text-high))
 
-    module _ (kind : ℕ) (kind-is : kind ≡ wordAt out (at + 4)) where
+    module _ (kind : ℕ) (kind-is : kind ≡ wordAt out (at + 4 * kindField)) where
       -- a pointing block has no children
       pub no-children : (kind ≡ 0 → ⊥) → Started S T out (suc l) 0 (sumBelow (i + 1) (widthOf S T l))
       no-children n =
@@ -110,7 +112,7 @@ module _ (S : Settings) (T out : List ℕ) (level next : Level) (i : ℕ) (w : B
         kept : keptAt S T l i ≡ true
         kept = kept-by-kind S T l i kind (kind-is ∙ kind-read) zero-kind
 
-        module _ (link : ℕ) (link-is : link ≡ wordAt out (at + 8)) where
+        module _ (link : ℕ) (link-is : link ≡ wordAt out (at + 4 * linkField)) where
           link-right : link ≡ sum
           link-right = link-is ∙ link-read ∙ link-kept S T l i kept
 
@@ -128,8 +130,8 @@ module _ (S : Settings) (T out : List ℕ) (level next : Level) (i : ℕ) (w : B
               rw size-right (size-high S T taken (suc l)),
             )
 
-            module _ (n : ℕ) (n-is : n ≡ pieces (own .length) (next .size)) (to : ℕ) (to-is : to ≡ recordPlace (next .table) link
-                (settingsOf (next .settings) (S .counted))) (to-few : to ≤ maxTable + 576 * maxText) (step : ℕ) (step-is : step ≡ recordBytes S) where
+            module _ (n : ℕ) (n-is : n ≡ pieces (own .length) (next .size)) (to : ℕ) (to-is : to ≡ recordPlace (next .table) link (settingsOf
+                (next .settings) (S .counted))) (to-few : to ≤ maxTable + maxRecord * maxText) (step : ℕ) (step-is : step ≡ recordBytes S) where
               n-right : n ≡ widthOf S T l i
               n-right = n-is ∙ rw (own-is .length-is, size-right, bytesIn-is S T l i) (sym (cut-at S T taken l up .cut i kept))
 
@@ -208,14 +210,15 @@ below-more S T t u level next i w g s = record {
   next-is = w .next-is;
   follows = w .follows;
   room = omega (arith, w .room, g .same-length);
-  body = within-grown (treeOf S T) t u 100 (offset S T (suc (level .number))) g (w .body);
+  body = within-grown (treeOf S T) t u headerLength (offset S T (suc (level .number))) g (w .body);
   done = s;
 }
 
 pub below-all : (S : Settings) (T t : List ℕ) (level next : Level) (i : ℕ) → Below S T t level next i → i ≡ level .count → Filled S T t (suc (level .number)) 0
 below-all S T t level next i w e = record {
   room = w .room;
-  body = within-part (treeOf S T) t 100 (offset S T (suc (level .number))) 100 (placeAt S T (suc (level .number)) 0) (w .body) (omega arith) (omega arith);
+  body = within-part (treeOf S T)
+      t headerLength (offset S T (suc (level .number))) headerLength (placeAt S T (suc (level .number)) 0) (w .body) (omega arith) (omega arith);
   starts = λ x h. w .done .starts x (omega arith) (rw (all x) at h);
 }
   where

@@ -6,6 +6,7 @@ use native.Mathlib.Omega.{arith}
 use native.Mathlib.Nat.{add-assoc}
 use native.Mathlib.Numerals.{add-one}
 use lib.ListN.{length, getD}
+use Rattle.format.specs.RecordFields.{plainBytes, countedBytes, fieldBytes}
 use Rattle.format.specs.Settings.{Settings}
 use Rattle.format.specs.Blocks.{treeOf, recordBytes}
 use Rattle.format.specs.EdgeLaws.{first-own, first-none, last-own, last-none}
@@ -71,7 +72,7 @@ module _ (S : Settings) (T out : List ℕ) (level : Level) (i : ℕ) (block : Bl
 
   -- where the edges begin
   abbrev A : ℕ
-  A = P + 16 + 12 * length (S .counted)
+  A = P + plainBytes + countedBytes * length (S .counted)
 
   taken : Taken S T
   taken = w .level-is .taken
@@ -82,7 +83,7 @@ module _ (S : Settings) (T out : List ℕ) (level : Level) (i : ℕ) (block : Bl
   i-in : i < count S T l
   i-in = omega (arith, w .block-in, w .level-is .count-is)
 
-  words : 4 * recordWords S T ≡ 16 + 12 * length (S .counted)
+  words : 4 * recordWords S T ≡ fieldBytes (length (S .counted))
   unfolding recordWords
   words = omega arith
 
@@ -105,7 +106,7 @@ module _ (S : Settings) (T out : List ℕ) (level : Level) (i : ℕ) (block : Bl
 
   module _ (at : ℕ) (at-is : at ≡ recordPlace (level .table) i (settingsOf (level .settings) (S .counted)))
       (own : ℕ) (own-is : own ≡ min m (block .length)) where
-    here : at + 16 + 12 * length (S .counted) ≡ A
+    here : at + plainBytes + countedBytes * length (S .counted) ≡ A
     here = omega (arith, at-is, place-is S T level (w .level-is) i)
 
     few : own ≤ m
@@ -114,7 +115,7 @@ module _ (S : Settings) (T out : List ℕ) (level : Level) (i : ℕ) (block : Bl
     own-in : own ≤ bytesIn S T l i
     own-in = omega (arith, own-is, w .block-is .length-is)
 
-    pub first-asks : (at + 16 + 12 * length (S .counted) + m ≤ length out) × (block .start .0 + own ≤ length T) × (own ≤ m)
+    pub first-asks : (at + plainBytes + countedBytes * length (S .counted) + m ≤ length out) × (block .start .0 + own ≤ length T) × (own ≤ m)
     first-asks = (omega (arith, here, room), omega (arith, w .block-is .start-is, own-in, fit), few)
 
     first-bytes : (j : ℕ) → j < own → getD D (A + j) 0 ≡ getD T (start S T l i + j) 0
@@ -133,7 +134,7 @@ module _ (S : Settings) (T out : List ℕ) (level : Level) (i : ℕ) (block : Bl
     last-zeros j lo hi = rw (add-assoc A m j)
         (edge-at (m + j) (omega arith) ∙ last-none T m (start S T l i) (bytesIn S T l i) fit j hi (omega (arith, own-is, w .block-is .length-is)))
 
-    module _ (one : List ℕ) (one-is : one ≡ edgeWritten out (at + 16 + 12 * length (S .counted)) T (block .start .0) own m) where
+    module _ (one : List ℕ) (one-is : one ≡ edgeWritten out (at + plainBytes + countedBytes * length (S .counted)) T (block .start .0) own m) where
       one-right : one ≡ edgeWritten out A T (start S T l i) own m
       one-right = one-is ∙ rw (here, w .block-is .start-is)
 
@@ -146,10 +147,10 @@ module _ (S : Settings) (T out : List ℕ) (level : Level) (i : ℕ) (block : Bl
       abbrev last : ℕ
       last = block .start .0 + (block .length - own)
 
-      pub last-asks : (at + 16 + 12 * length (S .counted) + m + m ≤ length one) × (last + own ≤ length T) × (own ≤ m)
+      pub last-asks : (at + plainBytes + countedBytes * length (S .counted) + m + m ≤ length one) × (last + own ≤ length T) × (own ≤ m)
       last-asks = (omega (arith, here, room, one-grown .same-length), omega (arith, w .block-is .start-is, w .block-is .length-is, own-in, fit), few)
 
-      module _ (two : List ℕ) (two-is : two ≡ edgeWritten one (at + 16 + 12 * length (S .counted) + m) T last own m) where
+      module _ (two : List ℕ) (two-is : two ≡ edgeWritten one (at + plainBytes + countedBytes * length (S .counted) + m) T last own m) where
         two-right : two ≡ edgeWritten one (A + m) T (start S T l i + (bytesIn S T l i - own)) own m
         two-right = two-is ∙ rw (here, w .block-is .start-is, w .block-is .length-is)
 

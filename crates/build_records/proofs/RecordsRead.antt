@@ -6,6 +6,7 @@ use native.Mathlib.Omega.{arith}
 use lib.ListN.{length}
 use Rattle.format.specs.Words.{wordAt}
 use Rattle.format.specs.Settings.{Settings}
+use Rattle.format.specs.HeaderPlaces.{headerLength}
 use Rattle.format.specs.Blocks.{treeOf}
 use Rattle.text.specs.declared.TextPlace.{TextPlace}
 use Rattle.theory_built.specs.BuiltLeaves.{bytes-fit}
@@ -66,15 +67,15 @@ module _ (S : Settings) (T out : List ℕ) (level : Level) (i : ℕ) (w : On S T
 
 -- a block of a level whose records are all written
 pub on-written : (S : Settings) (T out : List ℕ) (level : Level) (i : ℕ) → LevelIs S T level → offset S T (suc (level .number)) ≤ length out
-    → Within (treeOf S T) out 100 (offset S T (suc (level .number))) → i < level .count → On S T out level i
+    → Within (treeOf S T) out headerLength (offset S T (suc (level .number))) → i < level .count → On S T out level i
 on-written S T out level i h room body il = record {
   level-is = h;
   filled = record {
     room = room;
-    body = within-part (treeOf S T) out 100 (offset S T (suc (level .number))) 100 (placeAt S T (level .number) i) body (omega arith)
+    body = within-part (treeOf S T) out headerLength (offset S T (suc (level .number))) headerLength (placeAt S T (level .number) i) body (omega arith)
         (omega (arith, record-inside-table S T (level .number) i (omega (arith, h .count-is))));
     starts = λ x xl. within-part
-        (treeOf S T) out 100 (offset S T (suc (level .number))) (placeAt S T (level .number) x) (placeAt S T (level .number) x + 4) body
+        (treeOf S T) out headerLength (offset S T (suc (level .number))) (placeAt S T (level .number) x) (placeAt S T (level .number) x + 4) body
         (omega (arith, offset-low S T (level .number)))
         (omega (arith, record-inside-table S T (level .number) x xl, record-size S T));
   };

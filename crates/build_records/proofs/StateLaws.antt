@@ -6,8 +6,11 @@ use native.Mathlib.Omega.{arith}
 use native.Mathlib.Nat.{suc-mul, add-mul, mul-le-mul-right}
 use lib.ListN.{length, getD}
 use Rattle.text.specs.Lists.{sumBelow}
-use Rattle.format.specs.Settings.{Settings, blockLength, maxText}
-use Rattle.format.specs.SizeLaws.{Sizes, sizes, length-top, length-falls, record-edged}
+use Rattle.format.specs.RecordFields.{startField, kindField, linkField, gapField, plainWords, plainBytes, fieldBytes}
+use Rattle.format.specs.RecordFields.{beforeField, insideField, skipField, countedBytes}
+use Rattle.format.specs.Settings.{Settings, blockLength, maxText, maxLeaf, maxCounted}
+use Rattle.format.specs.HeaderPlaces.{headerLength}
+use Rattle.format.specs.SizeLaws.{length-top, length-falls, record-edged}
 use Rattle.format.specs.Blocks.{treeOf, recordBytes, builtLayout}
 use Rattle.theory_built.specs.BuiltBytes.{Stands, record-stands}
 use Rattle.theory_built.specs.Gather.{sumBelow-le}
@@ -28,7 +31,7 @@ use Rattle.build_records.proofs.Growth.{within-grown}
 module _ (S : Settings) (T : List ℕ) where
   -- Places of records.
 
-  pub record-size : recordBytes S ≡ 16 + 12 * length (S .counted) + (S .leaf + S .leaf)
+  pub record-size : recordBytes S ≡ fieldBytes (length (S .counted)) + (S .leaf + S .leaf)
   unfolding recordBytes
   record-size = record-edged builtLayout (S .leaf) (length (S .counted)) refl
 
@@ -45,7 +48,7 @@ module _ (S : Settings) (T : List ℕ) where
   pub record-inside-table : (l i : ℕ) → i < count S T l → placeAt S T l i + recordBytes S ≤ offset S T (suc l)
   record-inside-table l i h = omega (arith, place-next l i, place-le l (suc i) (count S T l) h, place-end l)
 
-  pub offset-low : (l : ℕ) → 100 ≤ offset S T l
+  pub offset-low : (l : ℕ) → headerLength ≤ offset S T l
   unfolding offset
   offset-low l = omega arith
 
@@ -65,68 +68,65 @@ module _ (S : Settings) (T : List ℕ) where
 
     -- The words of a record.
     module _ (l i : ℕ) (e : l < S .levels) (il : i < count S T l) where
-      four : 4 ≤ recordWords S T
+      four : plainWords ≤ recordWords S T
       unfolding recordWords
       four = omega arith
 
-      at-zero : placeAt S T l i + 4 * 0 ≡ placeAt S T l i
+      at-zero : placeAt S T l i + 4 * startField ≡ placeAt S T l i
       at-zero = omega arith
 
       pub start-stands : Stands (treeOf S T) (placeAt S T l i) (start S T l i)
-      start-stands = rw at-zero at (rw (record-start S T l i) at (record-stands S T h l i 0 e il (omega (arith, four))))
+      start-stands = rw at-zero at (rw (record-start S T l i) at (record-stands S T h l i startField e il (omega (arith, four))))
 
-      pub kind-stands : Stands (treeOf S T) (placeAt S T l i + 4) (kindOf S T l i)
-      kind-stands = rw (record-kind S T l i) at (record-stands S T h l i 1 e il (omega (arith, four)))
+      pub kind-stands : Stands (treeOf S T) (placeAt S T l i + 4 * kindField) (kindOf S T l i)
+      kind-stands = rw (record-kind S T l i) at (record-stands S T h l i kindField e il (omega (arith, four)))
 
-      pub link-stands : Stands (treeOf S T) (placeAt S T l i + 4 + 4) (linkOf S T l i)
+      pub link-stands : Stands (treeOf S T) (placeAt S T l i + 4 * kindField + 4) (linkOf S T l i)
       link-stands =
-          let p : placeAt S T l i + 4 * 2 ≡ placeAt S T l i + 4 + 4 = omega arith in
-          rw (record-link S T l i, p) at (record-stands S T h l i 2 e il (omega (arith, four)))
+          let p : placeAt S T l i + 4 * linkField ≡ placeAt S T l i + 4 * kindField + 4 = omega arith in
+          rw (record-link S T l i, p) at (record-stands S T h l i linkField e il (omega (arith, four)))
 
-      pub gap-stands : Stands (treeOf S T) (placeAt S T l i + 4 + 8) (gapOf S T l i)
+      pub gap-stands : Stands (treeOf S T) (placeAt S T l i + 4 * kindField + 8) (gapOf S T l i)
       gap-stands =
-          let p : placeAt S T l i + 4 * 3 ≡ placeAt S T l i + 4 + 8 = omega arith in
-          rw (record-gap S T l i, p) at (record-stands S T h l i 3 e il (omega (arith, four)))
+          let p : placeAt S T l i + 4 * gapField ≡ placeAt S T l i + 4 * kindField + 8 = omega arith in
+          rw (record-gap S T l i, p) at (record-stands S T h l i gapField e il (omega (arith, four)))
 
       -- the counts of counted byte number c
       module _ (c : ℕ) (cl : c < length (S .counted)) where
-        six : 6 + 3 * c < recordWords S T
+        six : skipField c < recordWords S T
         unfolding recordWords
         six = omega arith
 
-        pub before-stands : Stands (treeOf S T) (placeAt S T l i + 16 + 12 * c) (beforeOf S T l i (getD (S .counted) c 0))
+        pub before-stands : Stands (treeOf S T) (placeAt S T l i + plainBytes + countedBytes * c) (beforeOf S T l i (getD (S .counted) c 0))
         before-stands =
-            let p : placeAt S T l i + 4 * (4 + 3 * c) ≡ placeAt S T l i + 16 + 12 * c = omega arith in
-            rw (record-before S T l i c cl, p) at (record-stands S T h l i (4 + 3 * c) e il (omega (arith, six)))
+            let p : placeAt S T l i + 4 * beforeField c ≡ placeAt S T l i + plainBytes + countedBytes * c = omega arith in
+            rw (record-before S T l i c cl, p) at (record-stands S T h l i (beforeField c) e il (omega (arith, six)))
 
-        pub inside-stands : Stands (treeOf S T) (placeAt S T l i + 16 + 12 * c + 4) (insideOf S T l i (getD (S .counted) c 0))
+        pub inside-stands : Stands (treeOf S T) (placeAt S T l i + plainBytes + countedBytes * c + 4) (insideOf S T l i (getD (S .counted) c 0))
         inside-stands =
-            let p : placeAt S T l i + 4 * (5 + 3 * c) ≡ placeAt S T l i + 16 + 12 * c + 4 = omega arith in
-            rw (record-inside S T l i c cl, p) at (record-stands S T h l i (5 + 3 * c) e il (omega (arith, six)))
+            let p : placeAt S T l i + 4 * insideField c ≡ placeAt S T l i + plainBytes + countedBytes * c + 4 = omega arith in
+            rw (record-inside S T l i c cl, p) at (record-stands S T h l i (insideField c) e il (omega (arith, six)))
 
-        pub skip-stands : Stands (treeOf S T) (placeAt S T l i + 16 + 12 * c + 8) (skipOf S T l i (getD (S .counted) c 0))
+        pub skip-stands : Stands (treeOf S T) (placeAt S T l i + plainBytes + countedBytes * c + 8) (skipOf S T l i (getD (S .counted) c 0))
         skip-stands =
-            let p : placeAt S T l i + 4 * (6 + 3 * c) ≡ placeAt S T l i + 16 + 12 * c + 8 = omega arith in
-            rw (record-skip S T l i c cl, p) at (record-stands S T h l i (6 + 3 * c) e il six)
+            let p : placeAt S T l i + 4 * skipField c ≡ placeAt S T l i + plainBytes + countedBytes * c + 8 = omega arith in
+            rw (record-skip S T l i c cl, p) at (record-stands S T h l i (skipField c) e il six)
 
 -- block lengths are at most the longest text
 module _ (S : Settings) (T : List ℕ) (h : Taken S T) where
-  sized : Sizes S
-  sized = sizes S (h .sizes-ok)
-
   pub block-high : S .leaf * S .arity ^ (S .levels - 1) ≤ maxText
-  block-high = sized .top-high
+  block-high = bounds S T h .top-high
 
   pub size-high : (l : ℕ) → blockLength S l ≤ maxText
-  size-high l = omega (arith, length-falls S sized 0 l (omega arith), length-top S, block-high)
+  size-high l = omega (arith, length-falls S (bounds S T h) 0 l (omega arith), length-top S, block-high)
 
 -- the numbers of a level are small
 pub record Few (S : Settings) (T : List ℕ) (level : Level) : Type 0 where
-  pub counted-few : length (S .counted) ≤ 4
+  pub counted-few : length (S .counted) ≤ maxCounted
   pub text-few : length T ≤ maxText
   pub table-few : level .table ≤ maxTable
   pub count-few : level .count ≤ maxText
-  pub leaf-few : level .settings .leaf ≤ 256
+  pub leaf-few : level .settings .leaf ≤ maxLeaf
   pub size-few : level .size ≤ maxText
 
 pub few : (S : Settings) (T : List ℕ) (level : Level) → LevelIs S T level → Few S T level
@@ -149,7 +149,7 @@ place-is S T level h i = rw (h .table-is, h .leaf-is)
 pub filled-grown : (S : Settings) (T t u : List ℕ) (l i : ℕ) → Filled S T t l i → Grown (treeOf S T) t u → Filled S T u l i
 filled-grown S T t u l i f g = record {
   room = omega (arith, f .room, g .same-length);
-  body = within-grown (treeOf S T) t u 100 (placeAt S T l i) g (f .body);
+  body = within-grown (treeOf S T) t u headerLength (placeAt S T l i) g (f .body);
   starts = λ x h. within-grown (treeOf S T) t u (placeAt S T l x) (placeAt S T l x + 4) g (f .starts x h);
 }
 

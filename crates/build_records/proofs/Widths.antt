@@ -7,7 +7,7 @@ use Prim.Native.Nat.{ℕ, suc, _+_, _≤_, _<_}
 use native.Mathlib.Omega.{arith}
 use native.Mathlib.Numerals.{add-one}
 use Rattle.text.specs.ListLaws.{lt-or-ge, bool-cases, bool-clash}
-use Rattle.format.specs.Settings.{Settings, pieces, maxText}
+use Rattle.format.specs.Settings.{Settings, pieces, maxText, maxLevels}
 use Rattle.theory_built.specs.BuiltLeaves.{bytes-fit, kept-last, width-last}
 use Rattle.theory_built.specs.BuiltLinks.{kind-points}
 use Rattle.theory_built.specs.BuiltRecords.{kindOf}
@@ -59,7 +59,7 @@ module _ (S : Settings) (T out : List ℕ) (level : Level) (i : ℕ) (block : Bl
   l-in : l < S .levels
   l-in = w .level-is .number-in
 
-  pub number-few : l < 8
+  pub number-few : l < maxLevels
   number-few = omega (arith, l-in, limits .levels-high)
 
   pub none-below : (block .kind ≡ 0 → ⊥) → 0 ≡ widthOf S T l i

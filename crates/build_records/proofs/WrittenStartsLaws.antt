@@ -8,7 +8,7 @@ use native.Mathlib.Numerals.{add-one}
 use native.Mathlib.Nat.{suc-mul, mul-le-mul-right, mul-le-mul}
 use lib.ListN.{length}
 use Rattle.text.specs.ListLaws.{below-suc}
-use Rattle.format.specs.Settings.{maxText}
+use Rattle.format.specs.Settings.{maxText, maxRecord}
 use Rattle.format.specs.Words.{setWord}
 use Rattle.theory_built.specs.BuiltBytes.{Stands}
 use Rattle.build_records.specs.Grown.{Grown, Within}
@@ -24,7 +24,7 @@ starts-more t u v at step s b j e f = f ∙ rw (e, add-one j)
 pub part-below : (j n x : ℕ) → j < n → j * x + x ≤ n * x
 part-below j n x l = omega (arith, suc-mul j x, mul-le-mul-right {m = suc j} {n = n} x l)
 
-pub few-steps : (j n step : ℕ) → j < n → n ≤ maxText → step ≤ 576 → j * step ≤ 576 * maxText
+pub few-steps : (j n step : ℕ) → j < n → n ≤ maxText → step ≤ maxRecord → j * step ≤ maxRecord * maxText
 few-steps j n step l k m = mul-le-mul (let z : j ≤ maxText = omega arith in z) m
 
 module _ (D t : List ℕ) (at step s b : ℕ) where

@@ -3,12 +3,8 @@ use mathlib.Core.List.{List, []}
 use mathlib.Core.Bool.{cond}
 use Prim.Native.Nat.{ℕ, _+_, _-_}
 use lib.Dec.{eqb}
-use Rattle.format.specs.Words.{wordAt, setWord}
+use Rattle.format.specs.Words.{wordAt}
 use Rattle.stretches.specs.Stretches.{bytesWritten}
-
--- three words, one after the other
-abbrev pub putThree : List ℕ → ℕ → ℕ → ℕ → ℕ → List ℕ
-putThree t at a b c = setWord (setWord (setWord t at a) (at + 4) b) (at + 8) c
 
 -- an edge of m bytes at a place: so many bytes of T, then zeros
 abbrev pub edgeWritten : List ℕ → ℕ → List ℕ → ℕ → ℕ → ℕ → List ℕ

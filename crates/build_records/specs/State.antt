@@ -6,6 +6,7 @@ use lib.ListN.{length}
 use Rattle.text.specs.Lists.{sumBelow}
 use Rattle.text.specs.Text.{stretch, countIn}
 use Rattle.format.specs.Settings.{Settings, blockLength}
+use Rattle.format.specs.HeaderPlaces.{headerLength}
 use Rattle.format.specs.Blocks.{treeOf, recordBytes}
 use Rattle.layout.specs.declared.settings.Settings as code
 use Rattle.theory_built.specs.BlockSizes.{Taken}
@@ -41,7 +42,7 @@ module _ (S : Settings) (T : List ℕ) where
   -- the buffer has room for the records of level l, with their starts in place, and everything before the record of block i is written
   pub record Filled (out : List ℕ) (l i : ℕ) : Type 0 where
     pub room : offset S T (suc l) ≤ length out
-    pub body : Within (treeOf S T) out 100 (placeAt l i)
+    pub body : Within (treeOf S T) out headerLength (placeAt l i)
     pub starts : (x : ℕ) → x < count S T l → Within (treeOf S T) out (placeAt l x) (placeAt l x + 4)
 
   -- the bytes of block i of level l, as the code reads them
@@ -84,5 +85,5 @@ module _ (S : Settings) (T : List ℕ) where
     pub next-is : LevelIs next
     pub follows : next .number ≡ suc (level .number)
     pub room : offset S T (suc (suc (level .number))) ≤ length out
-    pub body : Within (treeOf S T) out 100 (offset S T (suc (level .number)))
+    pub body : Within (treeOf S T) out headerLength (offset S T (suc (level .number)))
     pub done : Started out (suc (level .number)) 0 (sumBelow i (widthOf S T (level .number)))

@@ -2,7 +2,7 @@
 use mathlib.Core.List.{List}
 use Prim.Native.Nat.{ℕ, zero, suc, _+_, _*_, _≤_}
 use lib.ListN.{length}
-use Rattle.format.specs.Settings.{maxText}
+use Rattle.format.specs.Settings.{maxText, maxRecord}
 use Rattle.format.specs.Words.{setWord}
 use Rattle.theory_built.specs.BlockSizes.{maxTable}
 
@@ -13,7 +13,7 @@ startsWritten t at step s b (suc n) = setWord (startsWritten t at step s b n) (a
 pub record StartsAsk (t : List ℕ) (at step s b n : ℕ) : Type 0 where
   pub room : at + n * step ≤ length t
   pub step-low : 4 ≤ step
-  pub step-few : step ≤ 576
-  pub at-few : at ≤ maxTable + 576 * maxText
+  pub step-few : step ≤ maxRecord
+  pub at-few : at ≤ maxTable + maxRecord * maxText
   pub count-few : n ≤ maxText
   pub ends : s + n * b ≤ 3 * maxText

@@ -1,9 +1,10 @@
 // The starts of a level's blocks, put in place from the kept blocks above.
 use crate::level_written;
 use crate::level_written::Level;
-use layout::header;
 use layout::place::BlockNumber;
 use layout::place::TextPlace;
+use layout::record;
+use layout::settings;
 use layout::word;
 ghost use mathlib.Core.Path.{_≡_};
 ghost use Prim.Native.Nat.{suc, _+_, _<_};
@@ -41,12 +42,12 @@ fn put_children_of(
         (sumBelow (i .0 + 1) (widthOf (settingsOf (level .settings) (now (counted .entry))) (now (text .entry)) (level .number))) ⌝ }
 {
     let at = level_written::place(counted, level, i);
-    if word::read(out, at + 4) != 0 {
+    if word::read(out, at + record::KIND_AT) != 0 {
         return;
     }
-    let first = BlockNumber(word::read(out, at + 8));
+    let first = BlockNumber(word::read(out, at + record::LINK_AT));
     let own = level_written::stretch_of(text, counted, out, level, i);
-    let children = header::pieces(own.length, next.size);
+    let children = settings::pieces(own.length, next.size);
     put_starts(
         out,
         level_written::place(counted, next, first),

@@ -1,14 +1,16 @@
 // A level of the tree that is being written.
 use layout::place::BlockNumber;
 use layout::place::TextPlace;
+use layout::record;
 use layout::settings::Settings;
 use layout::word;
 ghost use mathlib.Core.Path.{_≡_};
 ghost use Prim.Native.Nat.{_+_, _-_, _*_, _≤_, _<_, min};
 ghost use lib.ListN.{length};
 ghost use Rattle.theory_built.specs.BlockSizes.{maxTable};
-ghost use Rattle.format.specs.Settings.{maxText};
+ghost use Rattle.format.specs.Settings.{maxText, maxLeaf, maxCounted, maxRecord};
 ghost use Rattle.format.specs.Words.{wordAt};
+ghost use Rattle.format.specs.RecordFields.{plainBytes};
 ghost use Rattle.format.specs.Blocks.{recordBytes};
 ghost use Rattle.build_records.specs.RecordPlaces.{recordPlace};
 ghost use Rattle.build_records.specs.State.{settingsOf, On, StretchIs};
@@ -34,17 +36,18 @@ pub struct Stretch {
 
 // The bytes of a record: its words, and two edges.
 pub fn record_size(counted: &[u8], s: Settings) -> usize
-    requires { ⌜ (length (now counted) ≤ 4) × (s .leaf ≤ 256) ⌝ }
-    ensures { λ r. ⌜ (r ≡ recordBytes (settingsOf s (now (counted .entry)))) × (16 ≤ r) × (r ≤ 576) ⌝ }
+    requires { ⌜ (length (now counted) ≤ maxCounted) × (s .leaf ≤ maxLeaf) ⌝ }
+    ensures { λ r. ⌜ (r ≡ recordBytes (settingsOf s (now (counted .entry)))) × (plainBytes ≤ r) × (r ≤ maxRecord) ⌝ }
 {
     let edge = s.leaf as usize;
-    16 + 12 * counted.len() + (edge + edge)
+    record::PLAIN_BYTES + record::COUNTED_BYTES * counted.len() + (edge + edge)
 }
 
 // Where the record of a block stands.
 pub fn place(counted: &[u8], level: Level, block: BlockNumber) -> usize
-    requires { ⌜ (length (now counted) ≤ 4) × (level .table ≤ maxTable) × (block .0 ≤ maxText) × (level .settings .leaf ≤ 256) ⌝ }
-    ensures { λ r. ⌜ (r ≡ recordPlace (level .table) (block .0) (settingsOf (level .settings) (now (counted .entry)))) × (r ≤ maxTable + 576 * maxText) ⌝ }
+    requires { ⌜ (length (now counted) ≤ maxCounted) × (level .table ≤ maxTable) × (block .0 ≤ maxText) × (level .settings .leaf ≤ maxLeaf) ⌝ }
+    ensures { λ r. ⌜ (r ≡ recordPlace (level .table) (block .0) (settingsOf (level .settings) (now (counted .entry))))
+        × (r ≤ maxTable + maxRecord * maxText) ⌝ }
 {
     level.table as usize + block.0 as usize * record_size(counted, level.settings)
 }
@@ -63,7 +66,7 @@ fn bytes(text: &[u8], level: Level, start: TextPlace) -> u32
 
 // Where a block starts, read from its record.
 pub fn start(counted: &[u8], out: &[u8], level: Level, block: BlockNumber) -> TextPlace
-    requires { ⌜ (length (now counted) ≤ 4) × (level .table ≤ maxTable) × (block .0 ≤ maxText) × (level .settings .leaf ≤ 256)
+    requires { ⌜ (length (now counted) ≤ maxCounted) × (level .table ≤ maxTable) × (block .0 ≤ maxText) × (level .settings .leaf ≤ maxLeaf)
         × (recordPlace (level .table) (block .0) (settingsOf (level .settings) (now counted)) + 4 ≤ length (now out)) ⌝ }
     ensures { λ r. ⌜ r .0 ≡ wordAt (now (out .entry)) (recordPlace (level .table) (block .0) (settingsOf (level .settings) (now (counted .entry)))) ⌝ }
 {

@@ -1,22 +1,25 @@
 // A block's record, written.
 use crate::level_written;
 use crate::level_written::Level;
-use layout::header;
 use layout::place::BlockNumber;
 use layout::place::BlockPlace;
 use layout::place::TextPlace;
+use layout::record;
+use layout::settings;
 use layout::word;
 ghost use mathlib.Core.Path.{_≡_};
 ghost use Prim.Native.Nat.{_+_, _-_, _*_, _≤_, _<_};
 ghost use lib.ListN.{length};
 ghost use Rattle.text.specs.Text.{stretch, countIn};
 ghost use Rattle.format.specs.Settings.{maxText};
-ghost use Rattle.format.specs.Words.{wordAt};
+ghost use Rattle.format.specs.Words.{wordAt, putThree};
+ghost use Rattle.format.specs.RecordFields.{plainBytes, countedBytes};
+ghost use Rattle.format.specs.HeaderPlaces.{headerLength};
 ghost use Rattle.format.specs.Blocks.{treeOf};
 ghost use Rattle.theory_built.specs.Structure.{widthOf};
 ghost use Rattle.build_records.specs.Grown.{Grown, Within};
 ghost use Rattle.build_records.specs.State.{settingsOf, Writing, placeAt};
-ghost use Rattle.build_records.specs.RecordWords.{putThree, beforeSays, edgeWritten};
+ghost use Rattle.build_records.specs.RecordWords.{beforeSays, edgeWritten};
 
 // What a record links to: a kept block's first child, or on the last level its first leaf byte; the block that a pointing block points
 // to. It is a type of its own, so that it is not handed in for a block's number.
@@ -35,19 +38,9 @@ pub struct Block {
     pub gap: BlockPlace,
 }
 
-// Three words, one after the other.
-pub fn put_three(out: &mut [u8], at: usize, a: u32, b: u32, c: u32)
-    requires { ⌜ at + 12 ≤ length (now out) ⌝ }
-    ensures { λ _. ⌜ now (out .exit) ≡ putThree (now (out .entry)) at a b c ⌝ }
-{
-    word::write(out, at, a);
-    word::write(out, at + 4, b);
-    word::write(out, at + 8, c);
-}
-
 // The counts of one byte: before the block in its parent, inside it, and in the gap of the block pointed to.
 fn put_count(out: &mut [u8], text: &[u8], byte: u8, at: usize, block: Block, before: u32)
-    requires { ⌜ (at + 12 ≤ length (now out)) × (length (now text) ≤ maxText)
+    requires { ⌜ (at + countedBytes ≤ length (now out)) × (length (now text) ≤ maxText)
         × (block .start .0 + block .length ≤ length (now text)) × (block .from .0 + block .gap .0 ≤ length (now text)) ⌝ }
     ensures { λ _. ⌜ now (out .exit) ≡ putThree (now (out .entry)) at before
         (countIn byte (stretch (now (text .entry)) (block .start .0) (block .length)))
@@ -55,7 +48,7 @@ fn put_count(out: &mut [u8], text: &[u8], byte: u8, at: usize, block: Block, bef
 {
     let inside = stretches::count_in(text, block.start.0 as usize, block.length, byte);
     let skip = stretches::count_in(text, block.from.0 as usize, block.gap.0, byte);
-    put_three(out, at, before, inside, skip);
+    word::put_three(out, at, before, inside, skip);
 }
 
 // The count before a block, at a place of its record: none at its parent's start, else what the block on the left, one record
@@ -85,10 +78,13 @@ fn put_count_of(
     requires { ⌜ Writing (settingsOf (level .settings) (now counted)) (now text) (now out) level (i .0) block × (c < length (now counted)) ⌝ }
     ensures { λ _. ⌜ Grown (treeOf (settingsOf (level .settings) (now (counted .entry))) (now (text .entry))) (now (out .entry)) (now (out .exit)) ⌝ }
     ensures { λ _. ⌜ Within (treeOf (settingsOf (level .settings) (now (counted .entry))) (now (text .entry))) (now (out .exit))
-        (placeAt (settingsOf (level .settings) (now (counted .entry))) (now (text .entry)) (level .number) (i .0) + 16 + 12 * c)
-        (placeAt (settingsOf (level .settings) (now (counted .entry))) (now (text .entry)) (level .number) (i .0) + 16 + 12 * c + 12) ⌝ }
+        (placeAt (settingsOf (level .settings) (now (counted .entry))) (now (text .entry)) (level .number) (i .0) + plainBytes + countedBytes * c)
+        (placeAt (settingsOf (level .settings) (now (counted .entry)))
+        (now (text .entry)) (level .number) (i .0) + plainBytes + countedBytes * c + countedBytes) ⌝ }
 {
-    let at = level_written::place(counted, level, i) + 16 + 12 * c;
+    let at = level_written::place(counted, level, i)
+        + record::PLAIN_BYTES
+        + record::COUNTED_BYTES * c;
     let size = level_written::record_size(counted, level.settings);
     let b = count_before(out, at, size, block);
     put_count(out, text, counted[c], at, block, b);
@@ -106,8 +102,9 @@ fn put_counts(
     requires { ⌜ Writing (settingsOf (level .settings) (now counted)) (now text) (now out) level (i .0) block ⌝ }
     ensures { λ _. ⌜ Grown (treeOf (settingsOf (level .settings) (now (counted .entry))) (now (text .entry))) (now (out .entry)) (now (out .exit)) ⌝ }
     ensures { λ _. ⌜ Within (treeOf (settingsOf (level .settings) (now (counted .entry))) (now (text .entry))) (now (out .exit))
-        (placeAt (settingsOf (level .settings) (now (counted .entry))) (now (text .entry)) (level .number) (i .0) + 16)
-        (placeAt (settingsOf (level .settings) (now (counted .entry))) (now (text .entry)) (level .number) (i .0) + 16 + 12 * length (now (counted .entry))) ⌝ }
+        (placeAt (settingsOf (level .settings) (now (counted .entry))) (now (text .entry)) (level .number) (i .0) + plainBytes)
+        (placeAt (settingsOf (level .settings) (now (counted .entry)))
+        (now (text .entry)) (level .number) (i .0) + plainBytes + countedBytes * length (now (counted .entry))) ⌝ }
 {
     let mut c: usize = 0;
     while c < counted.len() {
@@ -137,13 +134,16 @@ fn put_edges(
     requires { ⌜ Writing (settingsOf (level .settings) (now counted)) (now text) (now out) level (i .0) block ⌝ }
     ensures { λ _. ⌜ Grown (treeOf (settingsOf (level .settings) (now (counted .entry))) (now (text .entry))) (now (out .entry)) (now (out .exit)) ⌝ }
     ensures { λ _. ⌜ Within (treeOf (settingsOf (level .settings) (now (counted .entry))) (now (text .entry))) (now (out .exit))
-        (placeAt (settingsOf (level .settings) (now (counted .entry))) (now (text .entry)) (level .number) (i .0) + 16 + 12 * length (now (counted .entry)))
+        (placeAt (settingsOf (level .settings) (now (counted .entry)))
+        (now (text .entry)) (level .number) (i .0) + plainBytes + countedBytes * length (now (counted .entry)))
         (placeAt (settingsOf (level .settings) (now (counted .entry))) (now (text .entry)) (level .number) (i .0 + 1)) ⌝ }
 {
     let m = level.settings.leaf as usize;
     let short = stretches::shorter(level.settings.leaf, block.length);
     let own = short as usize;
-    let at = level_written::place(counted, level, i) + 16 + 12 * counted.len();
+    let at = level_written::place(counted, level, i)
+        + record::PLAIN_BYTES
+        + record::COUNTED_BYTES * counted.len();
     let last = TextPlace(block.start.0 + (block.length - short));
     put_edge(out, text, at, block.start, own, m);
     put_edge(out, text, at + m, last, own, m);
@@ -161,10 +161,16 @@ fn put_record(
     requires { ⌜ Writing (settingsOf (level .settings) (now counted)) (now text) (now out) level (i .0) block ⌝ }
     ensures { λ _. ⌜ Grown (treeOf (settingsOf (level .settings) (now (counted .entry))) (now (text .entry))) (now (out .entry)) (now (out .exit)) ⌝ }
     ensures { λ _. ⌜ Within (treeOf (settingsOf (level .settings) (now (counted .entry))) (now (text .entry))) (now (out .exit))
-        100 (placeAt (settingsOf (level .settings) (now (counted .entry))) (now (text .entry)) (level .number) (i .0 + 1)) ⌝ }
+        headerLength (placeAt (settingsOf (level .settings) (now (counted .entry))) (now (text .entry)) (level .number) (i .0 + 1)) ⌝ }
 {
     let at = level_written::place(counted, level, i);
-    put_three(out, at + 4, block.kind, block.link.0, block.gap.0);
+    word::put_three(
+        out,
+        at + record::KIND_AT,
+        block.kind,
+        block.link.0,
+        block.gap.0,
+    );
     put_counts(out, text, counted, level, i, block);
     put_edges(out, text, counted, level, i, block);
 }
@@ -182,7 +188,7 @@ pub fn put_block(
     ensures { λ r. ⌜ r ≡ widthOf (settingsOf (level .settings) (now (counted .entry))) (now (text .entry)) (level .number) (i .0) ⌝ }
     ensures { λ _. ⌜ Grown (treeOf (settingsOf (level .settings) (now (counted .entry))) (now (text .entry))) (now (out .entry)) (now (out .exit)) ⌝ }
     ensures { λ _. ⌜ Within (treeOf (settingsOf (level .settings) (now (counted .entry))) (now (text .entry))) (now (out .exit))
-        100 (placeAt (settingsOf (level .settings) (now (counted .entry))) (now (text .entry)) (level .number) (i .0 + 1)) ⌝ }
+        headerLength (placeAt (settingsOf (level .settings) (now (counted .entry))) (now (text .entry)) (level .number) (i .0 + 1)) ⌝ }
 {
     put_record(out, text, counted, level, i, block);
     if block.kind != 0 {
@@ -191,5 +197,5 @@ pub fn put_block(
     if level.number + 1 == level.settings.levels {
         return block.length;
     }
-    header::pieces(block.length, level.below)
+    settings::pieces(block.length, level.below)
 }

@@ -2,7 +2,7 @@
 use mathlib.Core.List.{List}
 use mathlib.Core.Bool.{true, false}
 use mathlib.Core.Path.{_≡_, sym, _∙_}
-use Prim.Native.Nat.{ℕ, _+_, _-_, _*_, _/_, _≤_, _<_}
+use Prim.Native.Nat.{ℕ, _+_, _-_, _/_, _≤_, _<_}
 use native.Mathlib.Omega.{arith}
 use native.Mathlib.Nat.{mul-div-cancel}
 use mathlib.Core.Logic.{_⊎_, inl, inr}
@@ -10,9 +10,11 @@ use borrow.Author.Tests.{eq-eqb, ne-eqb}
 use lib.ListN.{length, getD}
 use lib.Seq.{getD-take, getD-drop}
 use Rattle.text.specs.ListLaws.{below-suc}
-use Rattle.format.specs.Settings.{maxText}
+use Rattle.format.specs.Settings.{maxText, maxCounted}
 use Rattle.format.specs.Layout as at
 use Rattle.format.specs.WordLaws.{wordAt-lt}
+use Rattle.format.specs.RecordFields.{plainWords, beforeField, insideField, skipField, fieldCount}
+use Rattle.format.specs.HeaderPlaces.{countedAt, countAt}
 use Rattle.format.specs.LayoutLaws.{full-small, full-step}
 use Rattle.theory_paths.specs.Links.{Linked, linked-facts}
 use Rattle.theory_paths.specs.BlockStarts.{len-small}
@@ -51,21 +53,21 @@ module _ (t : List ℕ) (h : Header) (w : Linking t h) where
     where
       go : (level < at.settings t .levels - 1) ⊎ (level ≡ at.settings t .levels - 1) → level + 1 < at.settings t .levels
       go (inl l) = omega arith
-      go (inr e) = absurd (n (omega (arith, levels-is, w .header .facts .levels-low)))
+      go (inr e) = absurd (n (omega (arith, levels-is, w .header .facts .bounds .levels-low)))
 
   pub arity-pos : 0 < h .settings .arity
-  arity-pos = omega (arith, arity-is, w .header .facts .arity-low)
+  arity-pos = omega (arith, arity-is, w .header .facts .bounds .arity-low)
 
   -- one level down, by one division
   pub below-is : (level b : ℕ) → b ≡ at.fullLength t level → level + 1 < at.settings t .levels → b / h .settings .arity ≡ at.fullLength t (level + 1)
   below-is level b b-is above =
-      let pos : 0 < at.settings t .arity = omega (arith, w .header .facts .arity-low) in
+      let pos : 0 < at.settings t .arity = omega (arith, w .header .facts .bounds .arity-low) in
       rw (arity-is, b-is, full-step t (w .header .facts) level above) (mul-div-cancel (at.fullLength t (level + 1)) pos)
 
 -- a level's count is a word
 pub count-lt : (t : List ℕ) (l : ℕ) → ((k : ℕ) → getD t k 0 < 256) → at.levelCount t l < 4294967296
 unfolding at.levelCount
-count-lt t l h = wordAt-lt t (28 + 8 * l) h
+count-lt t l h = wordAt-lt t (countAt l) h
 
 -- so is each count of a record
 pub inside-lt : (t : List ℕ) (l i c : ℕ) → ((k : ℕ) → getD t k 0 < 256) → at.inside t l i c < 4294967296
@@ -73,28 +75,28 @@ unfolding at.inside at.field
 inside-lt t l i c h = wordAt-lt t _ h
 
 -- a counted byte, in the header
-pub byte-is : (t : List ℕ) (c : ℕ) → c < at.countedCount t → at.countedCount t ≤ 4 → getD t (24 + c) 0 ≡ byteOf t c
+pub byte-is : (t : List ℕ) (c : ℕ) → c < at.countedCount t → at.countedCount t ≤ maxCounted → getD t (countedAt + c) 0 ≡ byteOf t c
 unfolding byteOf at.settings
 byte-is t c h few =
-    let low : c < 4 = omega arith in
+    let low : c < maxCounted = omega arith in
     sym (rw (getD-take, getD-take, getD-drop))
 
 module _ (t : List ℕ) (h : Header) (level i c : ℕ) (w : InTable t h level i c) where
   -- the words of the block's record
-  pub there : (f : ℕ) → f < 4 + 3 * at.countedCount t → FieldIn t (h .«record_size») level i f
+  pub there : (f : ℕ) → f < fieldCount (at.countedCount t) → FieldIn t (h .«record_size») level i f
   there f hf = field-in t (w .tree .header .facts) (h .«record_size») level i f (w .tree .header .size-is) (w .level-in) (w .block-in) hf
 
-  pub plain-there : (f : ℕ) → f < 4 → FieldIn t (h .«record_size») level i f
+  pub plain-there : (f : ℕ) → f < plainWords → FieldIn t (h .«record_size») level i f
   plain-there f hf = there f (omega arith)
 
-  pub before-there : FieldIn t (h .«record_size») level i (4 + 3 * c)
-  before-there = there (4 + 3 * c) (omega (arith, w .number-in))
+  pub before-there : FieldIn t (h .«record_size») level i (beforeField c)
+  before-there = there (beforeField c) (omega (arith, w .number-in))
 
-  pub inside-there : FieldIn t (h .«record_size») level i (5 + 3 * c)
-  inside-there = there (5 + 3 * c) (omega (arith, w .number-in))
+  pub inside-there : FieldIn t (h .«record_size») level i (insideField c)
+  inside-there = there (insideField c) (omega (arith, w .number-in))
 
-  pub skip-there : FieldIn t (h .«record_size») level i (6 + 3 * c)
-  skip-there = there (6 + 3 * c) (omega (arith, w .number-in))
+  pub skip-there : FieldIn t (h .«record_size») level i (skipField c)
+  skip-there = there (skipField c) (omega (arith, w .number-in))
 
   -- no block is longer than the longest text
   pub full-lt : at.fullLength t level ≤ maxText

@@ -8,6 +8,7 @@ use borrow.Author.Tests.{lt-ltb, le-ltb}
 use lib.ListN.{length, getD}
 use Rattle.text.specs.Text.{stretch, countIn}
 use Rattle.format.specs.Settings.{maxText}
+use Rattle.format.specs.HeaderPlaces.{countedAt}
 use Rattle.format.specs.Layout as at
 use Rattle.format.specs.LayoutLaws.{Readable, full-pos, full-small}
 use Rattle.theory_paths.specs.Links.{Linked, Pointing}
@@ -82,9 +83,9 @@ module _ (t : List ℕ) (h : Header) (level i n c link : ℕ) (w : InTable t h l
       let k = w .tree .header .facts in
       omega (arith, facts.offset-is t h (w .tree), leaves-end t k (facts.linked t h (w .tree)) level i last (w .block-in), k .size)
 
-  pub leaves-are : (r : ℕ) → r ≡ countIn (getD t (24 + c) 0) (stretch t (h .«leaf_offset» + link) n) → r ≡ inLeaves t level i n c
+  pub leaves-are : (r : ℕ) → r ≡ countIn (getD t (countedAt + c) 0) (stretch t (h .«leaf_offset» + link) n) → r ≡ inLeaves t level i n c
   unfolding inLeaves
-  leaves-are r e = e ∙ rw (facts.byte-is t c (w .number-in) (w .tree .header .facts .counted-high), facts.offset-is t h (w .tree), link-is)
+  leaves-are r e = e ∙ rw (facts.byte-is t c (w .number-in) (w .tree .header .facts .bounds .counted-high), facts.offset-is t h (w .tree), link-is)
 
 -- A step to a child.
 

@@ -1,4 +1,5 @@
 // The count walk: how often a counted byte stands in a kept block up to a place. It goes into one child a level.
+use layout::header;
 use layout::header::Header;
 use layout::place::BlockNumber;
 use layout::place::BlockPlace;
@@ -25,7 +26,7 @@ pub fn in_leaves(t: &[u8], h: Header, level: u32, block: BlockNumber, n: u32, c:
 {
     let link = record::link(t, h.record_size, level, block);
     let from = h.leaf_offset as usize + link as usize;
-    let byte = t[24 + c as usize];
+    let byte = t[header::COUNTED_AT + c as usize];
     stretches::count_in(t, from, n, byte) as u64
 }
 

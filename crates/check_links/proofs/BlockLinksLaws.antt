@@ -10,6 +10,7 @@ use borrow.Author.Tests.{eq-eqb, ne-eqb, lt-ltb, le-ltb, le-leb, lt-leb, ltb-tru
 use lib.Dec.{eqb, leb, ltb}
 use Rattle.text.specs.Lists.{allBelow, sumBelow}
 use Rattle.text.specs.ListLaws.{and-left}
+use Rattle.format.specs.RecordFields.{plainWords, startField}
 use Rattle.format.specs.Settings.{pieces, maxText}
 use Rattle.format.specs.Layout as at
 use Rattle.format.specs.Fits.{lastLevel, widthAt, keptRight, pointingRight, blockRight}
@@ -24,7 +25,7 @@ pieces-one x = let e : x + (1 - 1) ≡ x = omega arith in rw e (div-one x)
 
 module _ (t : List ℕ) (v : Level) (k : LevelOf t v) where
   -- a field of a record of the level
-  pub there : (i f : ℕ) → i < v .count → f < 4 → FieldIn t (v .size) (v .number) i f
+  pub there : (i f : ℕ) → i < v .count → f < plainWords → FieldIn t (v .size) (v .number) i f
   there i f h g = field-in t (k .readable) (v .size) (v .number) i f (k .size-is) (k .level-in) (omega (arith, k .count-is)) (omega arith)
 
   -- above the last level
@@ -44,8 +45,8 @@ module _ (t : List ℕ) (v : Level) (k : LevelOf t v) where
     unfolding lastLevel
     above = let m : v .number ≢ v .last = n in omega (arith, k .last-is, k .level-in)
 
-    pub child-there : (i : ℕ) → i < v .room → FieldIn t (v .size) (v .number + 1) i 0
-    child-there i h = field-in t (k .readable) (v .size) (v .number + 1) i 0 (k .size-is) above (omega (arith, room-above)) (omega arith)
+    pub child-there : (i : ℕ) → i < v .room → FieldIn t (v .size) (v .number + 1) i startField
+    child-there i h = field-in t (k .readable) (v .size) (v .number + 1) i startField (k .size-is) above (omega (arith, room-above)) (omega arith)
 
   -- the sizes that a block is cut by
   pub full-high : v .full ≤ maxText

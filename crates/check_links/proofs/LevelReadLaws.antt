@@ -6,6 +6,8 @@ use Prim.Native.Nat.{ℕ, _+_, _-_, _*_, _^_, _≤_, _<_}
 use native.Mathlib.Omega.{arith}
 use borrow.Author.Tests.{eq-eqb, ne-eqb}
 use lib.ListN.{length}
+use Rattle.format.specs.Settings.{maxLevels}
+use Rattle.format.specs.HeaderPlaces.{headerLength}
 use Rattle.format.specs.Layout as at
 use Rattle.format.specs.Fits.{lastLevel}
 use Rattle.layout.specs.declared.header.Header.{Header}
@@ -29,8 +31,8 @@ module _ (t : List ℕ) (h : Header) (k : HeaderOf t h) where
   unfolding lastLevel
   last-is = ap (λ (x : ℕ). x - 1) levels-is
 
-  pub table-there : (l : ℕ) → l < h .settings .levels → (l < 8) × (100 ≤ length t)
-  table-there l i = (omega (arith, levels-is, k .facts .levels-high), k .facts .long)
+  pub table-there : (l : ℕ) → l < h .settings .levels → (l < maxLevels) × (headerLength ≤ length t)
+  table-there l i = (omega (arith, levels-is, k .facts .bounds .levels-high), k .facts .long)
 
   module _ (l : ℕ) where
     pub part-last : l ≡ h .settings .levels - 1 → 1 ≡ partLength t l

@@ -78,7 +78,7 @@ module _ (t : List ℕ) (v : Level) (k : LevelOf t v) where
 -- the whole of question 8
 module _ (t : List ℕ) where
   pub some-level : (h : Header) → HeaderOf t h → 0 < h .settings .levels
-  some-level h k = omega (arith, levels-is t h k, k .facts .levels-low)
+  some-level h k = omega (arith, levels-is t h k, k .facts .bounds .levels-low)
 
   pub same-level : (l x : ℕ) (b : Bool) → x ≡ l → levelRight t x ≡ b → levelRight t l ≡ b
   same-level l x b e h = rw e at h

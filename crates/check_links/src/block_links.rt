@@ -1,10 +1,10 @@
 // One block of a level.
 use crate::level_read::Level;
-use layout::header;
 use layout::place::BlockNumber;
 use layout::place::BlockPlace;
 use layout::place::TextPlace;
 use layout::record;
+use layout::settings;
 ghost use mathlib.Core.Path.{_≡_};
 ghost use Prim.Native.Nat.{_+_, _-_, _≤_, _<_, min};
 ghost use Rattle.text.specs.Lists.{allBelow, sumBelow};
@@ -35,7 +35,7 @@ pub fn width(t: &[u8], v: Level, block: BlockNumber) -> u32
         return 0;
     }
     let start = record::start(t, v.size, v.number, block);
-    header::pieces(block_length(v, start), v.part)
+    settings::pieces(block_length(v, start), v.part)
 }
 
 // Whether a block is right. The blocks before it have `before` children; this one has `width`, and the next level has them all.

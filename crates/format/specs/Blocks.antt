@@ -7,8 +7,10 @@ use lib.ListN.{length, getD, replicate}
 use lib.Dec.{ltb, leb, eqb}
 use Rattle.text.specs.Lists.{tabulate, concat, sumBelow, countBelow}
 use Rattle.format.specs.Words.{wordsBytes}
+use Rattle.format.specs.RecordFields.{plainFields, countFields}
 use Rattle.text.specs.Text.{stretch, leftmost, countIn}
-use Rattle.format.specs.Settings.{Settings, blockLength, pieces, recordLength}
+use Rattle.format.specs.Settings.{Settings, maxCounted, maxLevels, blockLength, pieces, recordLength}
+use Rattle.format.specs.HeaderPlaces.{headerLength}
 use Rattle.format.specs.Edges.{edgesOf}
 
 -- The blocks of one level above the last: b bytes each, at the places `starts`.
@@ -85,19 +87,17 @@ module _ (S : Settings) (T : List ℕ) (l : ℕ) (starts : List ℕ) where
       let s = startOf T b starts i in
       let up = parentStart s in
       let from = startOf T b starts (target i) in
-      countIn c (stretch T up (s - up))
-      ∷ countIn c (stretch T s (lengthOf T b starts i))
-      ∷ cond (isKept i) 0 (countIn c (stretch T from (occurrence i - from)))
-      ∷ []
+      countFields (countIn c (stretch T up (s - up))) (countIn c (stretch T s (lengthOf T b starts i)))
+      (cond (isKept i) 0 (countIn c (stretch T from (occurrence i - from))))
 
   -- the words of block i's record
   unfoldable pub recordOf : ℕ → List ℕ
   unfolding b countsOf parentStart
   recordOf i =
       let s = startOf T b starts i in
-      let kept : List ℕ = 0 ∷ sumBelow i width ∷ 0 ∷ [] in
-      let points : List ℕ = 1 ∷ target i ∷ (occurrence i - startOf T b starts (target i)) ∷ [] in
-      (s ∷ cond (isKept i) kept points) ++ concat (map (countsOf i) (S .counted))
+      let kept = plainFields s 0 (sumBelow i width) 0 in
+      let points = plainFields s 1 (target i) (occurrence i - startOf T b starts (target i)) in
+      cond (isKept i) kept points ++ concat (map (countsOf i) (S .counted))
 
   -- the bytes of block i's record: its words, then its edges
   unfoldable pub recordIn : ℕ → List ℕ
@@ -131,10 +131,10 @@ unfoldable pub header : Settings → List ℕ → List ℕ
 header S T =
     let H = S .levels in
     let k = length (S .counted) in
-    let leaves = 100 + sumBelow H (λ l. length (startsAt S T l)) * recordBytes S in
+    let leaves = headerLength + sumBelow H (λ l. length (startsAt S T l)) * recordBytes S in
     wordsBytes (builtLayout ∷ length T ∷ S .leaf ∷ S .arity ∷ H ∷ k ∷ [])
-    ++ (S .counted ++ replicate (4 - k) 0)
-    ++ wordsBytes (levelPairs S T H 0 100 ++ replicate (16 - 2 * H) 0 ++ leaves ∷ length (leafBytes S T) ∷ [])
+    ++ (S .counted ++ replicate (maxCounted - k) 0)
+    ++ wordsBytes (levelPairs S T H 0 headerLength ++ replicate (2 * maxLevels - 2 * H) 0 ++ leaves ∷ length (leafBytes S T) ∷ [])
 
 -- the bytes of the block tree of T
 unfoldable pub treeOf : Settings → List ℕ → List ℕ

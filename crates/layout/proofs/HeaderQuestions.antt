@@ -8,6 +8,7 @@ use lib.ListN.{length}
 use borrow.Author.Tests.{le-leb, lt-leb}
 use lib.Dec.{eqb}
 use Rattle.format.specs.Words.{wordAt}
+use Rattle.format.specs.HeaderPlaces.{layoutAt, headerLength}
 use Rattle.format.specs.Layout.{layout, longEnough, layoutOk, headerOk}
 use Rattle.format.specs.Verdict.{readable}
 use Rattle.format.specs.LayoutLaws.{Readable, readable-facts}
@@ -36,31 +37,31 @@ unfolding settingsSay
 settings-refused t q e = refused-cases (headerOk t) q (settingsOf t) e
 
 module _ (t : List ℕ) where
-  pub asked-5 : length t < 100 → Refused 5 ≡ headerSays t
+  pub asked-5 : length t < headerLength → Refused 5 ≡ headerSays t
   unfolding headerSays readable longEnough
-  asked-5 h = rw (lt-leb 100 (length t) h)
+  asked-5 h = rw (lt-leb headerLength (length t) h)
 
-  module _ (long : 100 ≤ length t) (v : ℕ) (is : v ≡ wordAt t 0) where
+  module _ (long : headerLength ≤ length t) (v : ℕ) (is : v ≡ wordAt t layoutAt) where
     layout-is : (eqb v 1 || eqb v 2) ≡ layoutOk t
     unfolding layoutOk layout
     layout-is = rw is
 
     pub asked-6 : (eqb v 1 || eqb v 2) ≡ false → Refused 6 ≡ headerSays t
     unfolding headerSays readable longEnough
-    asked-6 h = rw (le-leb 100 (length t) long, sym layout-is ∙ h)
+    asked-6 h = rw (le-leb headerLength (length t) long, sym layout-is ∙ h)
 
     module _ (l : (eqb v 1 || eqb v 2) ≡ true) (x : Checked) (says : x ≡ settingsSay t) where
       pub asked-7 : (q : ℕ) → x ≡ settings.Refused q → Refused 7 ≡ headerSays t
       unfolding headerSays readable longEnough
-      asked-7 q e = rw (le-leb 100 (length t) long, sym layout-is ∙ l, settings-refused t q (sym e ∙ says))
+      asked-7 q e = rw (le-leb headerLength (length t) long, sym layout-is ∙ l, settings-refused t q (sym e ∙ says))
 
       module _ (s : Settings) (e : x ≡ settings.Fine s) where
         pub asked-fields : Readable t × (s ≡ settingsOf t)
         unfolding readable longEnough
         asked-fields =
             let z = settings-fine t s (sym e ∙ says) in
-            (readable-facts t (rw (le-leb 100 (length t) long, sym layout-is ∙ l, z .0)), z .1)
+            (readable-facts t (rw (le-leb headerLength (length t) long, sym layout-is ∙ l, z .0)), z .1)
 
         pub asked-all : (h : Header) → h ≡ fieldsOf t → Good h ≡ headerSays t
         unfolding headerSays readable longEnough
-        asked-all h f = rw (le-leb 100 (length t) long, sym layout-is ∙ l, settings-fine t s (sym e ∙ says) .0, f)
+        asked-all h f = rw (le-leb headerLength (length t) long, sym layout-is ∙ l, settings-fine t s (sym e ∙ says) .0, f)

@@ -1,10 +1,10 @@
 -- What the checking constructor of the settings answers, and what is asked of settings where a block's length is.
 use mathlib.Core.List.{List, []}
 use mathlib.Core.Bool.{cond}
-use Prim.Native.Nat.{ℕ, _*_, _^_, _-_, _≤_, _<_}
+use Prim.Native.Nat.{ℕ, _<_}
 use lib.ListN.{length}
-use Rattle.format.specs.Settings.{maxText}
 use Rattle.format.specs.Settings as format
+use Rattle.format.specs.SizeLaws.{Sizes}
 use Rattle.layout.specs.declared.settings.Settings.{Settings}
 use Rattle.layout.specs.declared.settings.Checked.{Checked}
 use Rattle.layout.specs.declared.settings.Checked.the-variants.{Fine, Refused}
@@ -20,11 +20,7 @@ checked m r H cs =
     (cond (format.countedOk cs) (Fine (record { leaf = m; arity = r; levels = H; counted = length cs })) (Refused 3))
     (Refused 2)
 
--- settings within their bounds, and one of their levels
+-- settings whose sizes are within their bounds, and one of their levels
 pub record Sized (s : Settings) (level : ℕ) : Type 0 where
-  pub leaf-high : s .leaf ≤ 256
-  pub arity-low : 2 ≤ s .arity
-  pub arity-high : s .arity ≤ 16
-  pub levels-high : s .levels ≤ 8
+  pub bounds : Sizes (s .leaf) (s .arity) (s .levels)
   pub level-in : level < s .levels
-  pub block-high : s .leaf * s .arity ^ (s .levels - 1) ≤ maxText

@@ -5,6 +5,7 @@ use mathlib.Core.Path.{_≡_, refl, sym, ap, _∙_}
 use Prim.Native.Nat.{ℕ, zero, suc, _-_, _*_, _^_, _≤_, _<_}
 use native.Mathlib.Omega.{arith}
 use Rattle.format.specs.Settings.{blockLength}
+use Rattle.format.specs.SizeLaws.{sizes-alone}
 use Rattle.format.specs.Layout as at
 use Rattle.format.specs.Verdict.{ask, readable}
 use Rattle.format.specs.LayoutLaws.{Readable, readable-facts}
@@ -71,12 +72,8 @@ module _ (t : List ℕ) (x : HeaderRead) (is : x ≡ headerSays t) where
 module _ (t : List ℕ) (h : Header) (k : HeaderOf t h) where
   pub sized : (level : ℕ) → level < h .settings .levels → Sized (h .settings) level
   sized level l = record {
-    leaf-high = rw (k .leaf-is) (k .facts .leaf-high);
-    arity-low = rw (k .arity-is) (k .facts .arity-low);
-    arity-high = rw (k .arity-is) (k .facts .arity-high);
-    levels-high = rw (k .levels-is) (k .facts .levels-high);
+    bounds = rw (k .leaf-is, k .arity-is, k .levels-is) (sizes-alone (k .facts .bounds));
     level-in = l;
-    block-high = rw (k .leaf-is, k .arity-is, k .levels-is) (k .facts .top-high);
   }
 
   pub full-is : (level b : ℕ) → b ≡ h .settings .leaf * h .settings .arity ^ (h .settings .levels - 1 - level) → b ≡ at.fullLength t level

@@ -9,7 +9,7 @@ use borrow.Author.Tests.{lt-ltb, le-ltb}
 use lib.ListN.{length, set, length-append}
 use Rattle.text.specs.ListLaws.{lt-or-ge}
 use Rattle.io.specs.Digits.{digits, glyph, Fewest}
-use Rattle.list_lines.specs.Lines.{digitsWithin, decimal, figure}
+use Rattle.list_lines.specs.Lines.{digitsWithin, decimal, figure, maxFigure}
 use Rattle.list_lines.specs.Written.{Put}
 use Rattle.list_lines.proofs.WrittenLaws.{then-put, length-put, put-byte}
 
@@ -75,7 +75,7 @@ module _ (n k : ℕ) (s : List ℕ) (small : n < 4294967296) (f : Fewest 10 1 n 
 
 -- a number with the byte after it
 pub figure-put : {d o : List ℕ} {at r : ℕ} (n after : ℕ)
-    → at + 11 ≤ length d → Put d o at r (decimal n) 10 → Put d (set o r after) at (r + 1) (figure n after) 11
+    → at + maxFigure ≤ length d → Put d o at r (decimal n) 10 → Put d (set o r after) at (r + 1) (figure n after) maxFigure
 unfolding figure
 figure-put {d} {o} {at} {r} n after h w =
     then-put (omega arith) w (put-byte o r after (omega (arith, w .short, length-put (omega arith) w)))

@@ -9,6 +9,8 @@ use borrow.Author.Tests.{eq-eqb, ne-eqb, le-leb, lt-leb}
 use lib.ListN.{length}
 use lib.Dec.{eqb, leb}
 use Rattle.text.specs.Lists.{countBelow}
+use Rattle.format.specs.Settings.{maxLevels}
+use Rattle.format.specs.HeaderPlaces.{headerLength}
 use Rattle.format.specs.Layout as at
 use Rattle.format.specs.Verdict.{verdict}
 use Rattle.format.specs.VerdictLaws.{accepted-readable}
@@ -19,7 +21,8 @@ use Rattle.layout.specs.declared.header.Header.{Header}
 use Rattle.layout.specs.declared.header.HeaderRead.{HeaderRead}
 use Rattle.layout.specs.declared.header.HeaderRead.the-variants as header
 use Rattle.list_lines.specs.Written.{Put}
-use Rattle.list_lines.specs.Lines.{figure, line, hasKind, levelLine, linesBelow, refusedLine, linesOf, maxInput, inputNumber, printed}
+use Rattle.list_lines.specs.Lines.{figure, line, hasKind, levelLine, linesBelow, refusedLine, linesOf, maxInput, inputNumber, printed, maxFigure}
+use Rattle.list_lines.specs.Lines.{maxLine, maxLines, maxRefused}
 use Rattle.list_lines.specs.LevelTable.{Level}
 use Rattle.list_lines.proofs.WrittenLaws.{then-put, put-nothing, put-within}
 
@@ -45,8 +48,8 @@ unfolding countBelow
 count-more t l k i found kind one e q w = rw (add-one, e, w, q) (sym (more (hasKind t l k i) (countBelow i (hasKind t l k))))
 
 module _ (t : List ℕ) (size l : ℕ) (k : Level t size l) where
-  pub table-there : (l < 8) × (100 ≤ length t)
-  table-there = (omega (arith, k .level-in, k .readable .levels-high), k .readable .long)
+  pub table-there : (l < maxLevels) × (headerLength ≤ length t)
+  table-there = (omega (arith, k .level-in, k .readable .bounds .levels-high), k .readable .long)
 
   pub kind-there : (i : ℕ) → i < at.levelCount t l → FieldIn t size l i 1
   kind-there i h = field-in t (k .readable) size l i 1 (k .size-is) (k .level-in) h (omega arith)
@@ -54,48 +57,49 @@ module _ (t : List ℕ) (size l : ℕ) (k : Level t size l) where
 -- The lines.
 
 pub line-put : {d e₁ e₂ e₃ e₄ : List ℕ} {from m₁ m₂ m₃ end : ℕ} (a b c f : ℕ)
-    → from + 44 ≤ length d → Put d e₁ from m₁ (figure a 32) 11 → Put e₁ e₂ m₁ m₂ (figure b 32) 11
-    → Put e₂ e₃ m₂ m₃ (figure c 32) 11 → Put e₃ e₄ m₃ end (figure f 10) 11 → Put d e₄ from end (line a b c f) 44
+    → from + maxLine ≤ length d → Put d e₁ from m₁ (figure a 32) maxFigure → Put e₁ e₂ m₁ m₂ (figure b 32) maxFigure
+    → Put e₂ e₃ m₂ m₃ (figure c 32) maxFigure → Put e₃ e₄ m₃ end (figure f 10) maxFigure → Put d e₄ from end (line a b c f) maxLine
 unfolding line
 line-put a b c f h p q r s = then-put (omega arith) (then-put (omega arith) (then-put (omega arith) p q) r) s
 
 pub refused-put : {d e f : List ℕ} {mid end : ℕ} (number : ℕ)
-    → 19 ≤ length d → Put d e 0 mid (114 ∷ 101 ∷ 102 ∷ 117 ∷ 115 ∷ 101 ∷ 100 ∷ 32 ∷ []) 8 → Put e f mid end (figure number 10) 11
-    → Put d f 0 end (refusedLine number) 19
+    → maxRefused ≤ length d → Put d e 0 mid (114 ∷ 101 ∷ 102 ∷ 117 ∷ 115 ∷ 101 ∷ 100 ∷ 32 ∷ []) 8 → Put e f mid end (figure number 10) maxFigure
+    → Put d f 0 end (refusedLine number) maxRefused
 unfolding refusedLine
 refused-put number h p q = then-put (omega arith) p q
 
 module _ (t : List ℕ) where
   pub level-put : {d e : List ℕ} {from end : ℕ} (l blocks kept pointing : ℕ)
       → blocks ≡ at.levelCount t l → kept ≡ countBelow (at.levelCount t l) (hasKind t l 0)
-      → pointing ≡ countBelow (at.levelCount t l) (hasKind t l 1) → Put d e from end (line l blocks kept pointing) 44 → Put d e from end (levelLine t l) 44
+      → pointing ≡ countBelow (at.levelCount t l) (hasKind t l 1)
+      → Put d e from end (line l blocks kept pointing) maxLine → Put d e from end (levelLine t l) maxLine
   unfolding levelLine at.isKept at.isPointing
   level-put l blocks kept pointing b k p w = rw (b, k, p) at w
 
   -- the levels' lines, one more with each turn
-  pub no-lines : (d : List ℕ) → Put d d 0 0 (linesBelow t 0) (44 * 0)
+  pub no-lines : (d : List ℕ) → Put d d 0 0 (linesBelow t 0) (maxLine * 0)
   unfolding linesBelow
   no-lines d = put-nothing d
 
   pub lines-more : {d e f : List ℕ} {mid end : ℕ} (l : ℕ)
-      → 44 * l + 44 ≤ length d → Put d e 0 mid (linesBelow t l) (44 * l) → Put e f mid end (levelLine t l) 44
-      → Put d f 0 end (linesBelow t (l + 1)) (44 * (l + 1))
+      → maxLine * l + maxLine ≤ length d → Put d e 0 mid (linesBelow t l) (maxLine * l) → Put e f mid end (levelLine t l) maxLine
+      → Put d f 0 end (linesBelow t (l + 1)) (maxLine * (l + 1))
   unfolding linesBelow
-  lines-more l h p q = rw add-one (put-within (44 * suc l) (omega arith) (then-put (omega arith) p q))
+  lines-more l h p q = rw add-one (put-within (maxLine * suc l) (omega arith) (then-put (omega arith) p q))
 
   module _ (h : Header) (k : HeaderOf t h) where
     abbrev count : ℕ
     count = h .settings .levels
 
-    pub levels-few : count ≤ 8
-    levels-few = omega (arith, k .levels-is, k .facts .levels-high)
+    pub levels-few : count ≤ maxLevels
+    levels-few = omega (arith, k .levels-is, k .facts .bounds .levels-high)
 
     pub level-there : (l : ℕ) → l < count → Level t (h .«record_size») l
     level-there l low = record { readable = k .facts; size-is = k .size-is; level-in = omega (arith, k .levels-is) }
 
     pub lines-done : {d e : List ℕ} {end : ℕ} (l : ℕ)
-        → l ≤ count → count ≤ l → Put d e 0 end (linesBelow t l) (44 * l) → Put d e 0 end (linesBelow t (at.settings t .levels)) 352
-    lines-done l a b p = let q : l ≡ at.settings t .levels = omega (arith, k .levels-is) in put-within 352 (omega (arith, levels-few)) (rw q at p)
+        → l ≤ count → count ≤ l → Put d e 0 end (linesBelow t l) (maxLine * l) → Put d e 0 end (linesBelow t (at.settings t .levels)) maxLines
+    lines-done l a b p = let q : l ≡ at.settings t .levels = omega (arith, k .levels-is) in put-within maxLines (omega (arith, levels-few)) (rw q at p)
 
   -- Question 15 first, then the check's.
   pub input-long : maxInput < length t → 15 ≡ inputNumber t
@@ -107,16 +111,17 @@ module _ (t : List ℕ) where
   input-short h = rw (le-leb (length t) maxInput h)
 
   -- the number decides what is printed
-  pub print-refused : {d e : List ℕ} {end : ℕ} (n : ℕ) → n ≡ inputNumber t → (n ≡ 0 → ⊥) → Put d e 0 end (refusedLine n) 19 → Put d e 0 end (printed t) 352
+  pub print-refused : {d e : List ℕ} {end : ℕ} (n : ℕ)
+      → n ≡ inputNumber t → (n ≡ 0 → ⊥) → Put d e 0 end (refusedLine n) maxRefused → Put d e 0 end (printed t) maxLines
   unfolding printed
-  print-refused n is m p = put-within 352 (omega arith) (rw (lines-of n m ∙ ap (λ (x : ℕ). linesOf x t) is) at p)
+  print-refused n is m p = put-within maxLines (omega arith) (rw (lines-of n m ∙ ap (λ (x : ℕ). linesOf x t) is) at p)
     where
       lines-of : (x : ℕ) → (x ≡ 0 → ⊥) → refusedLine x ≡ linesOf x t
       lines-of zero m = absurd (m refl)
       lines-of (suc x) m = refl
 
   module _ (passed : inputNumber t ≡ 0) where
-    pub print-lines : {d e : List ℕ} {end : ℕ} → Put d e 0 end (linesBelow t (at.settings t .levels)) 352 → Put d e 0 end (printed t) 352
+    pub print-lines : {d e : List ℕ} {end : ℕ} → Put d e 0 end (linesBelow t (at.settings t .levels)) maxLines → Put d e 0 end (printed t) maxLines
     unfolding printed
     print-lines p = rw (ap (λ (x : ℕ). linesOf x t) (sym passed)) at p
 

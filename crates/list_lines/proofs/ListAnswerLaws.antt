@@ -8,7 +8,7 @@ use lib.ListN.{length, take, drop}
 use lib.Seq.{take-at}
 use Rattle.list_lines.specs.declared.Listed.{Listed}
 use Rattle.list_lines.specs.declared.Listed.the-variants.{Bytes, Refused}
-use Rattle.list_lines.specs.Lines.{inputNumber, printed}
+use Rattle.list_lines.specs.Lines.{inputNumber, printed, maxLines}
 use Rattle.list_lines.specs.Written.{written, Put}
 use Rattle.list_lines.specs.ListSays.{fitting, leaves, listSays, listLeaves}
 
@@ -27,7 +27,7 @@ module _ (t out : List ℕ) where
       go zero k = absurd (k refl)
       go (suc x) k = refl
 
-  module _ (passed : inputNumber t ≡ 0) (size : ℕ) (d e : List ℕ) (put : Put d e 0 size (printed t) 352) where
+  module _ (passed : inputNumber t ≡ 0) (size : ℕ) (d e : List ℕ) (put : Put d e 0 size (printed t) maxLines) where
     size-is : size ≡ length (printed t)
     size-is = put .after ∙ zero-add (length (printed t))
 

@@ -2,10 +2,11 @@
 -- docs/FORMAT.md: "The list program".
 use mathlib.Core.List.{List, [], _∷_, _++_}
 use mathlib.Core.Bool.{Bool, cond}
-use Prim.Native.Nat.{ℕ, zero, suc, _+_, _/_, _%_}
+use Prim.Native.Nat.{ℕ, zero, suc, _+_, _*_, _/_, _%_}
 use lib.ListN.{length}
 use lib.Dec.{eqb, leb, ltb}
 use Rattle.text.specs.Lists.{countBelow}
+use Rattle.format.specs.Settings.{maxLevels}
 use Rattle.format.specs.Layout as at
 use Rattle.format.specs.Verdict.{verdict}
 
@@ -46,6 +47,19 @@ refusedLine q = 114 ∷ 101 ∷ 102 ∷ 117 ∷ 115 ∷ 101 ∷ 100 ∷ 32 ∷ [
 -- the longest tree that is listed
 abbrev pub maxInput : ℕ
 maxInput = 65536
+
+-- the most bytes of a number of 32 bits, with the byte after it; of a line; of the lines of all levels; and of the line of a refused tree
+abbrev pub maxFigure : ℕ
+maxFigure = 11
+
+abbrev pub maxLine : ℕ
+maxLine = 4 * maxFigure
+
+abbrev pub maxLines : ℕ
+maxLines = maxLevels * maxLine
+
+abbrev pub maxRefused : ℕ
+maxRefused = 8 + maxFigure
 
 -- question 15, then the check's
 unfoldable pub inputNumber : List ℕ → ℕ

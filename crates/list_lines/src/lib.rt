@@ -6,21 +6,25 @@ use layout::header;
 use layout::header::Header;
 use layout::header::HeaderRead;
 use layout::record;
+use layout::settings::Settings;
 ghost use mathlib.Core.Path.{_≡_};
 ghost use Prim.Native.Nat.{_+_, _≤_};
 ghost use lib.ListN.{length};
 ghost use Rattle.format.specs.Layout as at;
 ghost use Rattle.layout.specs.HeaderSays.{HeaderOf};
 ghost use Rattle.list_lines.specs.Written.{Put};
-ghost use Rattle.list_lines.specs.Lines.{line, levelLine, linesBelow, refusedLine, inputNumber, printed};
+ghost use Rattle.list_lines.specs.Lines.{line, levelLine, linesBelow, refusedLine, inputNumber, printed, maxLine, maxLines, maxRefused};
 ghost use Rattle.list_lines.specs.ListSays.{listSays, listLeaves};
 ghost use Rattle.list_lines.specs.LevelTable.{Level};
 
 // The longest tree that is listed.
 pub const MAX_INPUT: usize = 65536;
 
-// The most bytes that are put or printed: a line of at most 44 for each of 8 levels.
-pub const MAX_LINES: usize = 352;
+// The most bytes of a line: four numbers of at most ten digits, each with the byte after it.
+const MAX_LINE: usize = 4 * (10 + 1);
+
+// The most bytes that are put or printed: a line for each level.
+pub const MAX_LINES: usize = Settings::MAX_LEVELS as usize * MAX_LINE;
 
 // How many bytes of lines were put, or the number of the question that refuses.
 pub enum Listed {
@@ -49,7 +53,7 @@ pub fn list(tree: &[u8], out: &mut [u8]) -> Listed
 // Puts what the list program prints at the start of a buffer, and answers how many bytes that is: a line for each level of an accepted
 // tree, else the number of the question that refuses it.
 pub fn print(input: &[u8], out: &mut [u8; MAX_LINES]) -> usize
-    ensures { λ r. ⌜ Put (now (out .entry)) (now (out .exit)) 0 r (printed (now (input .entry))) 352 ⌝ }
+    ensures { λ r. ⌜ Put (now (out .entry)) (now (out .exit)) 0 r (printed (now (input .entry))) maxLines ⌝ }
 {
     let number = input_number(input);
     if number != 0 {
@@ -70,8 +74,8 @@ fn input_number(input: &[u8]) -> u32
 
 // Puts the line of a refused tree.
 fn refused(number: u32, out: &mut [u8]) -> usize
-    requires { ⌜ 19 ≤ length (now out) ⌝ }
-    ensures { λ r. ⌜ Put (now (out .entry)) (now (out .exit)) 0 r (refusedLine number) 19 ⌝ }
+    requires { ⌜ maxRefused ≤ length (now out) ⌝ }
+    ensures { λ r. ⌜ Put (now (out .entry)) (now (out .exit)) 0 r (refusedLine number) maxRefused ⌝ }
 {
     let end = put::bytes(out, 0, b"refused ");
     put::number_and(out, end, number, 10)
@@ -79,8 +83,8 @@ fn refused(number: u32, out: &mut [u8]) -> usize
 
 // Puts the lines of an accepted tree's levels.
 fn level_lines(t: &[u8], out: &mut [u8]) -> usize
-    requires { ⌜ (inputNumber (now t) ≡ 0) × (352 ≤ length (now out)) ⌝ }
-    ensures { λ r. ⌜ Put (now (out .entry)) (now (out .exit)) 0 r (printed (now (t .entry))) 352 ⌝ }
+    requires { ⌜ (inputNumber (now t) ≡ 0) × (maxLines ≤ length (now out)) ⌝ }
+    ensures { λ r. ⌜ Put (now (out .entry)) (now (out .exit)) 0 r (printed (now (t .entry))) maxLines ⌝ }
 {
     let read = header::read_header(t);
     match read {
@@ -91,8 +95,8 @@ fn level_lines(t: &[u8], out: &mut [u8]) -> usize
 
 // Puts the lines of all levels.
 fn levels(t: &[u8], h: Header, out: &mut [u8]) -> usize
-    requires { ⌜ HeaderOf (now t) h × (352 ≤ length (now out)) ⌝ }
-    ensures { λ r. ⌜ Put (now (out .entry)) (now (out .exit)) 0 r (linesBelow (now (t .entry)) (at.settings (now (t .entry)) .levels)) 352 ⌝ }
+    requires { ⌜ HeaderOf (now t) h × (maxLines ≤ length (now out)) ⌝ }
+    ensures { λ r. ⌜ Put (now (out .entry)) (now (out .exit)) 0 r (linesBelow (now (t .entry)) (at.settings (now (t .entry)) .levels)) maxLines ⌝ }
 {
     let count = h.settings.levels;
     let mut end: usize = 0;
@@ -106,8 +110,8 @@ fn levels(t: &[u8], h: Header, out: &mut [u8]) -> usize
 
 // Puts the line of a level: its number, how many blocks it has, how many are kept, how many point.
 fn level_line(t: &[u8], size: u32, level: u32, out: &mut [u8], at: usize) -> usize
-    requires { ⌜ Level (now t) size level × (at + 44 ≤ length (now out)) ⌝ }
-    ensures { λ r. ⌜ Put (now (out .entry)) (now (out .exit)) at r (levelLine (now (t .entry)) level) 44 ⌝ }
+    requires { ⌜ Level (now t) size level × (at + maxLine ≤ length (now out)) ⌝ }
+    ensures { λ r. ⌜ Put (now (out .entry)) (now (out .exit)) at r (levelLine (now (t .entry)) level) maxLine ⌝ }
 {
     let blocks = record::level_count(t, level);
     let kept = kinds::count_of(t, size, level, 0);
@@ -117,8 +121,8 @@ fn level_line(t: &[u8], size: u32, level: u32, out: &mut [u8], at: usize) -> usi
 
 // Puts four numbers on a line.
 fn four(out: &mut [u8], at: usize, a: u32, b: u32, c: u32, d: u32) -> usize
-    requires { ⌜ at + 44 ≤ length (now out) ⌝ }
-    ensures { λ r. ⌜ Put (now (out .entry)) (now (out .exit)) at r (line a b c d) 44 ⌝ }
+    requires { ⌜ at + maxLine ≤ length (now out) ⌝ }
+    ensures { λ r. ⌜ Put (now (out .entry)) (now (out .exit)) at r (line a b c d) maxLine ⌝ }
 {
     let end_a = put::number_and(out, at, a, 32);
     let end_b = put::number_and(out, end_a, b, 32);

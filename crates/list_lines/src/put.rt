@@ -2,7 +2,7 @@
 ghost use Prim.Native.Nat.{_+_, _≤_};
 ghost use lib.ListN.{length};
 ghost use Rattle.list_lines.specs.Written.{Put};
-ghost use Rattle.list_lines.specs.Lines.{decimal, figure};
+ghost use Rattle.list_lines.specs.Lines.{decimal, figure, maxFigure};
 
 // Puts the bytes of s at `at`.
 pub fn bytes(out: &mut [u8], at: usize, s: &[u8]) -> usize
@@ -29,8 +29,8 @@ pub fn number(out: &mut [u8], at: usize, n: u32) -> usize
 
 // Puts a number, and a byte after it.
 pub fn number_and(out: &mut [u8], at: usize, n: u32, after: u8) -> usize
-    requires { ⌜ at + 11 ≤ length (now out) ⌝ }
-    ensures { λ r. ⌜ Put (now (out .entry)) (now (out .exit)) at r (figure n after) 11 ⌝ }
+    requires { ⌜ at + maxFigure ≤ length (now out) ⌝ }
+    ensures { λ r. ⌜ Put (now (out .entry)) (now (out .exit)) at r (figure n after) maxFigure ⌝ }
 {
     let end = number(out, at, n);
     out[end] = after;

@@ -12,7 +12,7 @@ use lib.ListN.{length, take, drop, replicate}
 use lib.Dec.{eqb, leb}
 use lib.Seq.{take-append-seam, drop-append-seam}
 use borrow.Author.Tests.{eq-eqb, ne-eqb, leb-true, le-leb}
-use Rattle.format.specs.Settings.{Settings, lengthOk, sizesOk, countedOk}
+use Rattle.format.specs.Settings.{Settings, lengthOk, sizesOk, countedOk, maxCounted}
 use Rattle.format.specs.Layout as at
 use Rattle.format.specs.Fits.{textOf, fits}
 use Rattle.format.specs.Verdict.{verdict, ask}
@@ -120,7 +120,7 @@ module _ (κs : Lfts 3) (text : Lent) (leaf arity levels : ℕ) (counted out aft
     unfolding enoughSays sizesOk
     build-has-room m e space rising =
         let size = enoughFor (length (now text)) leaf arity levels (length (now counted)) in
-        let k = room-facts (lengthOk (length (now text))) (sizesOk (sizes leaf arity levels)) (leb (length (now counted)) 4) size m e in
+        let k = room-facts (lengthOk (length (now text))) (sizesOk (sizes leaf arity levels)) (leb (length (now counted)) maxCounted) size m e in
         let taken : Taken S (now text) = record { length-ok = k .0; sizes-ok = k .1; counted-ok = rising } in
         let enough : size ≤ length (now out) = omega (arith, k .2) in
         omega (arith, build-low, a .0, never-full S (now text) taken (now out) enough)

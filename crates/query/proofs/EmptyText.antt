@@ -14,6 +14,7 @@ use Rattle.text.specs.ListLaws.{sumBelow-none}
 use Rattle.text.specs.declared.TextPlace.{TextPlace}
 use Rattle.text.specs.Lists.{tabulate}
 use Rattle.format.specs.Settings.{Settings, pieces}
+use Rattle.format.specs.HeaderPlaces.{headerLength}
 use Rattle.format.specs.Layout as at
 use Rattle.format.specs.Fits.{textOf, fits}
 use Rattle.format.specs.VerdictLaws.{accepted-readable, accepted-links}
@@ -90,7 +91,7 @@ no-blocks m r H = sumBelow-none H (λ l. pieces 0 (m * r ^ (H - 1 - l))) (λ l l
 -- A tree with n 0 that the check accepts, whoever made it.
 module _ (κs : Lfts 1) (t : Lent) (c : Check κs t 0) (none : at.textLength (now t) ≡ 0) where
   -- "a tree of the header alone": no level has a block, and no leaf byte is there; ..
-  pub empty-header : length (now t) ≡ 100
+  pub empty-header : length (now t) ≡ headerLength
   empty-header =
       let most = accepted-enough (now t) (accepted-readable (now t) (sym c)) (accepted-links (now t) (sym c)) in
       let size = rw (none, no-blocks (at.settings (now t) .leaf) (at.settings (now t) .arity) (at.settings (now t) .levels)) at most in

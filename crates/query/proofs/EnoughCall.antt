@@ -6,7 +6,7 @@ use mathlib.Core.Logic.{inl, inr}
 use Prim.Native.Nat.{ℕ}
 use native.Mathlib.Omega.{arith}
 use lib.Dec.{leb}
-use Rattle.format.specs.Settings.{lengthOk, sizesOk}
+use Rattle.format.specs.Settings.{lengthOk, sizesOk, maxCounted}
 use Rattle.layout.specs.CheckedSettings.{sizes}
 use Rattle.build_enough.specs.Enough.{enoughFor, enoughSays}
 use Rattle.build_enough.specs.declared.Room.{Room}
@@ -31,7 +31,7 @@ enough-call =
 -- A refusal is 1, 2 or 3.
 pub enough-numbers : (n leaf arity levels k m : ℕ) → Enough n leaf arity levels k (room.Refused m) → OneOf (1 ∷ 2 ∷ 3 ∷ []) m
 unfolding enoughSays
-enough-numbers n leaf arity levels k m a = go (lengthOk n) (sizesOk (sizes leaf arity levels)) (leb k 4) (enoughFor n leaf arity levels k) a
+enough-numbers n leaf arity levels k m a = go (lengthOk n) (sizesOk (sizes leaf arity levels)) (leb k maxCounted) (enoughFor n leaf arity levels k) a
   where
     go : (one two three : Bool) (size : ℕ)
         → room.Refused m ≡ cond one (cond two (cond three (room.Bytes size) (room.Refused 3)) (room.Refused 2)) (room.Refused 1)

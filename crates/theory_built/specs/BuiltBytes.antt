@@ -9,9 +9,10 @@ use lib.Seq.{getD-append-add}
 use Rattle.text.specs.Lists.{sumBelow}
 use Rattle.text.specs.ListLaws.{sumBelow-part}
 use Rattle.format.specs.Words.{wordAt, wordBytes, wordsBytes}
-use Rattle.format.specs.Settings.{Settings}
+use Rattle.format.specs.Settings.{Settings, maxLevels, maxCounted}
 use Rattle.format.specs.Blocks.{treeOf, recordBytes}
 use Rattle.format.specs.WordLaws.{words-cons, length-words, digits}
+use Rattle.format.specs.HeaderPlaces.{countedAt, pairsAt, headerLength}
 use Rattle.theory_built.specs.BlockSizes.{Taken, Bounds, bounds}
 use Rattle.theory_built.specs.Structure.{count}
 use Rattle.theory_built.specs.Pairs.{offset, levelWordsOf, length-levelWordsOf}
@@ -65,12 +66,13 @@ module _ (S : Settings) (T : List ℕ) (h : Taken S T) where
       let e : 4 * j ≡ 0 + 4 * j = omega arith in
       rw (tree-is S T, e) (stands-at [] (sixWords S T) _ 0 j refl l r k)
 
-  pub counted-stands : (x : ℕ) → x < 4 → getD (treeOf S T) (24 + x) 0 ≡ getD (countedPlaces S T) x 0
+  pub counted-stands : (x : ℕ) → x < maxCounted → getD (treeOf S T) (countedAt + x) 0 ≡ getD (countedPlaces S T) x 0
   counted-stands x l = counted-place S T h x ∙ List·getD-append (countedPlaces S T) _ 0 x (omega (arith, length-places S T h))
 
-  pub level-stands : (j : ℕ) → j < 18 → Stands (treeOf S T) (28 + 4 * j) (getD (levelWordsOf S T) j 0)
+  pub level-stands : (j : ℕ) → j < 2 * maxLevels + 2 → Stands (treeOf S T) (pairsAt + 4 * j) (getD (levelWordsOf S T) j 0)
   level-stands j l r k =
-      rw (tree-levels S T h) (stands-at (head S T h) (levelWordsOf S T) _ 28 j (length-head S T h) (rw (length-levelWordsOf S T (limits .levels-high)) l) r k)
+      rw (tree-levels S T h) (stands-at (head S T h)
+      (levelWordsOf S T) _ pairsAt j (length-head S T h) (rw (length-levelWordsOf S T (limits .levels-high)) l) r k)
 
   -- byte x of the record of block i of level l
   record-at : (l i x : ℕ) → l < S .levels → i < count S T l → x < recordBytes S
@@ -79,7 +81,7 @@ module _ (S : Settings) (T : List ℕ) (h : Taken S T) where
   record-at l i x e il xl =
       let R : ℕ = recordBytes S in
       let j : ℕ = sumBelow l (count S T) * R + (i * R + x) in
-      let place : 100 + sumBelow l (count S T) * R + i * R + x ≡ 100 + j = omega arith in
+      let place : headerLength + sumBelow l (count S T) * R + i * R + x ≡ headerLength + j = omega arith in
       let below : j < length (records S T) =
       rw (length-records S T) (in-part (sumBelow l (count S T)) i (count S T l) x R _ il (sumBelow-part (S .levels) (count S T) l e) xl) in
       rw place (record-byte-at S T h j below ∙ record-byte S T l i x e il xl)

@@ -1,5 +1,5 @@
 -- The words and the edges of a record of the built tree, one by one, and where each byte of it stands among the bytes of all records.
-use mathlib.Core.List.{List, [], _∷_, _++_, map}
+use mathlib.Core.List.{List, _++_, map}
 use mathlib.Core.Bool.{Bool, true, false, cond}
 use mathlib.Core.Path.{_≡_, refl, sym, ap, _∙_}
 use Prim.Native.Nat.{ℕ, zero, suc, _+_, _-_, _*_, _/_, _<_}
@@ -14,6 +14,8 @@ use Rattle.text.specs.Text.{stretch, countIn}
 use Rattle.format.specs.Settings.{Settings}
 use Rattle.format.specs.Words.{wordsBytes}
 use Rattle.format.specs.WordLaws.{length-words}
+use Rattle.format.specs.RecordFields.{startField, kindField, linkField, gapField, plainFields, plainWords, countedWords}
+use Rattle.format.specs.RecordFields.{beforeField, insideField, skipField, countFields, fieldCount}
 use Rattle.format.specs.Edges.{edgesOf}
 use Rattle.format.specs.EdgeLaws.{length-edges}
 use Rattle.format.specs.SizeLaws.{record-edged}
@@ -48,18 +50,18 @@ module _ (S : Settings) (T : List ℕ) where
   skipOf l i c = cond (keptAt S T l i) 0 (countIn c (stretch T (start S T l (targetOf S T l i)) (placeOf S T l i - start S T l (targetOf S T l i))))
 
   fields : ℕ → ℕ → List ℕ
-  fields l i = start S T l i ∷ kindOf l i ∷ linkOf l i ∷ gapOf l i ∷ []
+  fields l i = plainFields (start S T l i) (kindOf l i) (linkOf l i) (gapOf l i)
 
   counts : ℕ → ℕ → ℕ → List ℕ
-  counts l i c = beforeOf l i c ∷ insideOf l i c ∷ skipOf l i c ∷ []
+  counts l i c = countFields (beforeOf l i c) (insideOf l i c) (skipOf l i c)
 
   -- the record of block i of level l
   abbrev pub recordAt : ℕ → ℕ → List ℕ
   recordAt l i = recordOf S T l (startsAt S T l) i
 
   fields-are : (l i : ℕ) (k : Bool) → keptAt S T l i ≡ k
-      → (start S T l i ∷ cond k
-      (0 ∷ sumBelow i (widthOf S T l) ∷ 0 ∷ []) (1 ∷ targetOf S T l i ∷ (placeOf S T l i - start S T l (targetOf S T l i)) ∷ [])) ≡ fields l i
+      → cond k (plainFields (start S T l i) 0 (sumBelow i (widthOf S T l)) 0)
+      (plainFields (start S T l i) 1 (targetOf S T l i) (placeOf S T l i - start S T l (targetOf S T l i))) ≡ fields l i
   unfolding fields kindOf linkOf gapOf
   fields-are l i true e = rw e
   fields-are l i false e = rw e
@@ -71,22 +73,22 @@ module _ (S : Settings) (T : List ℕ) where
 
   -- how many words a record has
   unfoldable pub recordWords : ℕ
-  recordWords = 4 + 3 * length (S .counted)
+  recordWords = fieldCount (length (S .counted))
 
   module _ (l i : ℕ) where
-    pub record-start : getD (recordAt l i) 0 0 ≡ start S T l i
+    pub record-start : getD (recordAt l i) startField 0 ≡ start S T l i
     unfolding fields
     record-start = rw (record-is l i)
 
-    pub record-kind : getD (recordAt l i) 1 0 ≡ kindOf l i
+    pub record-kind : getD (recordAt l i) kindField 0 ≡ kindOf l i
     unfolding fields
     record-kind = rw (record-is l i)
 
-    pub record-link : getD (recordAt l i) 2 0 ≡ linkOf l i
+    pub record-link : getD (recordAt l i) linkField 0 ≡ linkOf l i
     unfolding fields
     record-link = rw (record-is l i)
 
-    pub record-gap : getD (recordAt l i) 3 0 ≡ gapOf l i
+    pub record-gap : getD (recordAt l i) gapField 0 ≡ gapOf l i
     unfolding fields
     record-gap = rw (record-is l i)
 
@@ -104,34 +106,35 @@ module _ (S : Settings) (T : List ℕ) where
           record-split,
           length-append (fields l i) countWords,
           length-concat (length (S .counted)) (λ c. counts l i (getD (S .counted) c 0)),
-          sumBelow-same (length (S .counted)) 3,
+          sumBelow-same (length (S .counted)) countedWords,
         )
-        (omega (arith, mul-comm 3 (length (S .counted))))
+        (omega (arith, mul-comm countedWords (length (S .counted))))
 
-    record-count : (c j : ℕ) → c < length (S .counted) → j < 3 → getD (recordAt l i) (4 + (c * 3 + j)) 0 ≡ getD (counts l i (getD (S .counted) c 0)) j 0
+    record-count : (c j : ℕ) → c < length (S .counted)
+        → j < countedWords → getD (recordAt l i) (plainWords + (c * countedWords + j)) 0 ≡ getD (counts l i (getD (S .counted) c 0)) j 0
     unfolding countWords fields counts
     record-count c j h k =
-        rw (record-split) (getD-append-add (fields l i) countWords (c * 3 + j) 0)
-        ∙ ap (λ (x : ℕ). getD countWords (x + j) 0) (sym (sumBelow-same c 3))
+        rw (record-split) (getD-append-add (fields l i) countWords (c * countedWords + j) 0)
+        ∙ ap (λ (x : ℕ). getD countWords (x + j) 0) (sym (sumBelow-same c countedWords))
         ∙ getD-concat (length (S .counted)) (λ c. counts l i (getD (S .counted) c 0)) c j 0 h k
 
     module _ (c : ℕ) (h : c < length (S .counted)) where
-      pub record-before : getD (recordAt l i) (4 + 3 * c) 0 ≡ beforeOf l i (getD (S .counted) c 0)
+      pub record-before : getD (recordAt l i) (beforeField c) 0 ≡ beforeOf l i (getD (S .counted) c 0)
       unfolding counts
       record-before =
-          let e : 4 + 3 * c ≡ 4 + (c * 3 + 0) = omega (arith, mul-comm 3 c) in
+          let e : beforeField c ≡ plainWords + (c * countedWords + 0) = omega (arith, mul-comm countedWords c) in
           rw e (record-count c 0 h (omega arith))
 
-      pub record-inside : getD (recordAt l i) (5 + 3 * c) 0 ≡ insideOf l i (getD (S .counted) c 0)
+      pub record-inside : getD (recordAt l i) (insideField c) 0 ≡ insideOf l i (getD (S .counted) c 0)
       unfolding counts
       record-inside =
-          let e : 5 + 3 * c ≡ 4 + (c * 3 + 1) = omega (arith, mul-comm 3 c) in
+          let e : insideField c ≡ plainWords + (c * countedWords + 1) = omega (arith, mul-comm countedWords c) in
           rw e (record-count c 1 h (omega arith))
 
-      pub record-skip : getD (recordAt l i) (6 + 3 * c) 0 ≡ skipOf l i (getD (S .counted) c 0)
+      pub record-skip : getD (recordAt l i) (skipField c) 0 ≡ skipOf l i (getD (S .counted) c 0)
       unfolding counts
       record-skip =
-          let e : 6 + 3 * c ≡ 4 + (c * 3 + 2) = omega (arith, mul-comm 3 c) in
+          let e : skipField c ≡ plainWords + (c * countedWords + 2) = omega (arith, mul-comm countedWords c) in
           rw e (record-count c 2 h (omega arith))
 
   -- a record's bytes: its words', then its edges

@@ -7,7 +7,8 @@ use native.Mathlib.Nat.{add-mul}
 use lib.ListN.{length, getD, replicate, length-append, length-replicate, getD-replicate, List·getD-append}
 use lib.Seq.{getD-append-add}
 use Rattle.text.specs.Lists.{sumBelow}
-use Rattle.format.specs.Settings.{Settings}
+use Rattle.format.specs.Settings.{Settings, maxLevels}
+use Rattle.format.specs.HeaderPlaces.{headerLength}
 use Rattle.format.specs.Blocks.{levelPairs, recordBytes, leafBytes}
 use Rattle.theory_built.specs.Structure.{count}
 
@@ -28,9 +29,9 @@ module _ (S : Settings) (T : List ℕ) where
 
   -- where the records of level l begin
   unfoldable pub offset : ℕ → ℕ
-  offset l = 100 + sumBelow l (count S T) * recordBytes S
+  offset l = headerLength + sumBelow l (count S T) * recordBytes S
 
-  offset-top : 100 ≡ offset 0
+  offset-top : headerLength ≡ offset 0
   unfolding offset sumBelow
   offset-top = omega arith
 
@@ -47,53 +48,56 @@ module _ (S : Settings) (T : List ℕ) where
       let m : suc l + x ≡ l + suc x = omega arith in
       rw d (pairs-offset more (suc l) (at + count S T l * recordBytes S) x (rw e (offset-next l)) (omega arith) ∙ ap offset m)
 
-  -- the header's last 18 words
+  -- the header's words for the levels, and the last two
   unfoldable pub levelWordsOf : List ℕ
   levelWordsOf =
-      levelPairs S T (S .levels) 0 100 ++ (replicate (16 - 2 * S .levels) 0 ++ (offset (S .levels) ∷ length (leafBytes S T) ∷ []))
+      levelPairs S T (S .levels) 0 headerLength ++ (replicate (2 * maxLevels - 2 * S .levels) 0 ++ (offset (S .levels) ∷ length (leafBytes S T) ∷ []))
 
-  module _ (few : S .levels ≤ 8) where
-    pub length-levelWordsOf : length levelWordsOf ≡ 18
+  module _ (few : S .levels ≤ maxLevels) where
+    pub length-levelWordsOf : length levelWordsOf ≡ 2 * maxLevels + 2
     unfolding levelWordsOf
     length-levelWordsOf = simp (length-append, length-pairs, length-replicate) (omega arith)
 
     pub word-count : (l : ℕ) → l < S .levels → getD levelWordsOf (2 * l) 0 ≡ count S T l
     unfolding levelWordsOf
     word-count l h =
-        List·getD-append (levelPairs S T (S .levels) 0 100) (replicate (16 - 2 * S .levels) 0 ++ (offset (S .levels) ∷ length (leafBytes S T) ∷ []))
-        0 (2 * l) (omega (arith, length-pairs (S .levels) 0 100))
-        ∙ pairs-count (S .levels) 0 100 l h ∙ ap (count S T) (let e : 0 + l ≡ l = omega arith in e)
+        List·getD-append (levelPairs S T (S .levels) 0 headerLength) (replicate (2 * maxLevels - 2 * S .levels)
+        0 ++ (offset (S .levels) ∷ length (leafBytes S T) ∷ [])) 0 (2 * l) (omega (arith, length-pairs (S .levels) 0 headerLength))
+        ∙ pairs-count (S .levels) 0 headerLength l h ∙ ap (count S T) (let e : 0 + l ≡ l = omega arith in e)
 
     pub word-offset : (l : ℕ) → l < S .levels → getD levelWordsOf (suc (2 * l)) 0 ≡ offset l
     unfolding levelWordsOf
     word-offset l h =
-        List·getD-append (levelPairs S T (S .levels) 0 100) (replicate (16 - 2 * S .levels) 0 ++ (offset (S .levels) ∷ length (leafBytes S T) ∷ []))
-        0 (suc (2 * l)) (omega (arith, length-pairs (S .levels) 0 100))
-        ∙ pairs-offset (S .levels) 0 100 l offset-top h ∙ ap offset (let e : 0 + l ≡ l = omega arith in e)
+        List·getD-append (levelPairs S T (S .levels) 0 headerLength) (replicate (2 * maxLevels - 2 * S .levels)
+        0 ++ (offset (S .levels) ∷ length (leafBytes S T) ∷ [])) 0 (suc (2 * l)) (omega (arith, length-pairs (S .levels) 0 headerLength))
+        ∙ pairs-offset (S .levels) 0 headerLength l offset-top h ∙ ap offset (let e : 0 + l ≡ l = omega arith in e)
 
-    pub word-none : (x : ℕ) → 2 * S .levels ≤ x → x < 16 → getD levelWordsOf x 0 ≡ 0
+    pub word-none : (x : ℕ) → 2 * S .levels ≤ x → x < 2 * maxLevels → getD levelWordsOf x 0 ≡ 0
     unfolding levelWordsOf
     word-none x lo hi =
-        let e : x ≡ length (levelPairs S T (S .levels) 0 100) + (x - 2 * S .levels) = omega (arith, length-pairs (S .levels) 0 100) in
-        let k : x - 2 * S .levels < 16 - 2 * S .levels = omega arith in
-        ap (λ (y : ℕ). getD (levelPairs S
-        T (S .levels) 0 100 ++ (replicate (16 - 2 * S .levels) 0 ++ (offset (S .levels) ∷ length (leafBytes S T) ∷ []))) y 0) e
-        ∙ getD-append-add (levelPairs S T (S .levels) 0 100)
-        (replicate (16 - 2 * S .levels) 0 ++ (offset (S .levels) ∷ length (leafBytes S T) ∷ [])) (x - 2 * S .levels) 0
-        ∙ List·getD-append (replicate (16 - 2 * S .levels) 0) (offset (S .levels) ∷ length (leafBytes S T) ∷ []) 0 (x - 2 * S .levels) (rw length-replicate k)
-        ∙ getD-replicate (16 - 2 * S .levels) (x - 2 * S .levels) 0 0 k
+        let e : x ≡ length (levelPairs S T (S .levels) 0 headerLength) + (x - 2 * S .levels) = omega (arith, length-pairs (S .levels) 0 headerLength) in
+        let k : x - 2 * S .levels < 2 * maxLevels - 2 * S .levels = omega arith in
+        ap (λ (y : ℕ). getD (levelPairs S T (S .levels)
+        0 headerLength ++ (replicate (2 * maxLevels - 2 * S .levels) 0 ++ (offset (S .levels) ∷ length (leafBytes S T) ∷ []))) y 0) e
+        ∙ getD-append-add (levelPairs S T (S .levels) 0 headerLength)
+        (replicate (2 * maxLevels - 2 * S .levels) 0 ++ (offset (S .levels) ∷ length (leafBytes S T) ∷ [])) (x - 2 * S .levels) 0
+        ∙ List·getD-append (replicate (2 * maxLevels - 2 * S .levels) 0)
+        (offset (S .levels) ∷ length (leafBytes S T) ∷ []) 0 (x - 2 * S .levels) (rw length-replicate k)
+        ∙ getD-replicate (2 * maxLevels - 2 * S .levels) (x - 2 * S .levels) 0 0 k
 
     ending : (A B C : List ℕ) (x a j : ℕ) → length A + length B ≡ a → x ≡ a + j → getD (A ++ (B ++ C)) x 0 ≡ getD C j 0
     ending A B C x a j e f =
         let g : x ≡ length A + (length B + j) = omega arith in
         rw g (getD-append-add A (B ++ C) (length B + j) 0 ∙ getD-append-add B C j 0)
 
-    pub word-leaf-offset : getD levelWordsOf 16 0 ≡ offset (S .levels)
+    pub word-leaf-offset : getD levelWordsOf (2 * maxLevels) 0 ≡ offset (S .levels)
     unfolding levelWordsOf
-    word-leaf-offset = ending (levelPairs S T (S .levels) 0 100) (replicate (16 - 2 * S .levels) 0) (offset (S .levels) ∷ length (leafBytes S T) ∷ []) 16 16 0
+    word-leaf-offset = ending (levelPairs S T (S .levels) 0 headerLength)
+        (replicate (2 * maxLevels - 2 * S .levels) 0) (offset (S .levels) ∷ length (leafBytes S T) ∷ []) (2 * maxLevels) (2 * maxLevels) 0
         (rw (length-pairs, length-replicate) (omega arith)) refl
 
-    pub word-leaf-count : getD levelWordsOf 17 0 ≡ length (leafBytes S T)
+    pub word-leaf-count : getD levelWordsOf (2 * maxLevels + 1) 0 ≡ length (leafBytes S T)
     unfolding levelWordsOf
-    word-leaf-count = ending (levelPairs S T (S .levels) 0 100) (replicate (16 - 2 * S .levels) 0) (offset (S .levels) ∷ length (leafBytes S T) ∷ []) 17 16 1
+    word-leaf-count = ending (levelPairs S T (S .levels) 0 headerLength)
+        (replicate (2 * maxLevels - 2 * S .levels) 0) (offset (S .levels) ∷ length (leafBytes S T) ∷ []) (2 * maxLevels + 1) (2 * maxLevels) 1
         (rw (length-pairs, length-replicate) (omega arith)) refl

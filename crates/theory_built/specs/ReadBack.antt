@@ -8,7 +8,9 @@ use lib.ListN.{length, getD, take, drop}
 use lib.Seq.{take-at}
 use lib.Dec.{eqb}
 use Rattle.format.specs.Words.{wordAt}
-use Rattle.format.specs.Settings.{Settings}
+use Rattle.format.specs.RecordFields.{startField, kindField, linkField, gapField, plainWords, beforeField, insideField, skipField}
+use Rattle.format.specs.Settings.{Settings, maxLevels, maxCounted}
+use Rattle.format.specs.HeaderPlaces.{leafAt, arityAt, levelsAt, countedAt, pairsAt, countAt, offsetAt}
 use Rattle.format.specs.Blocks.{treeOf, leafBytes, recordBytes, builtLayout}
 use Rattle.format.specs.Layout as at
 use Rattle.theory_built.specs.BlockSizes.{Taken, Bounds, bounds}
@@ -39,19 +41,19 @@ module _ (S : Settings) (T : List ℕ) (h : Taken S T) where
   unfolding at.countedCount sixWords
   read-countedCount = six-word S T h 5 (omega arith) (omega (arith, limits .counted-high))
 
-  pub read-leaf : wordAt (treeOf S T) 8 ≡ S .leaf
+  pub read-leaf : wordAt (treeOf S T) leafAt ≡ S .leaf
   unfolding sixWords
   read-leaf = six-word S T h 2 (omega arith) (omega (arith, limits .leaf-high))
 
-  pub read-arity : wordAt (treeOf S T) 12 ≡ S .arity
+  pub read-arity : wordAt (treeOf S T) arityAt ≡ S .arity
   unfolding sixWords
   read-arity = six-word S T h 3 (omega arith) (omega (arith, limits .arity-high))
 
-  pub read-levels : wordAt (treeOf S T) 16 ≡ S .levels
+  pub read-levels : wordAt (treeOf S T) levelsAt ≡ S .levels
   unfolding sixWords
   read-levels = six-word S T h 4 (omega arith) (omega (arith, limits .levels-high))
 
-  pub read-counted : take (at.countedCount (treeOf S T)) (take 4 (drop 24 (treeOf S T))) ≡ S .counted
+  pub read-counted : take (at.countedCount (treeOf S T)) (take maxCounted (drop countedAt (treeOf S T))) ≡ S .counted
   unfolding countedPlaces
   read-counted = rw (read-countedCount, counted-places S T h) (take-at (S .counted) _ (length (S .counted)) refl)
 
@@ -62,43 +64,43 @@ module _ (S : Settings) (T : List ℕ) (h : Taken S T) where
   pub read-levelCount : (l : ℕ) → l < S .levels → at.levelCount (treeOf S T) l ≡ count S T l
   unfolding at.levelCount
   read-levelCount l e =
-      let place : 28 + 8 * l ≡ 28 + 4 * (2 * l) = omega arith in
+      let place : countAt l ≡ pairsAt + 4 * (2 * l) = omega arith in
       let is : getD (levelWordsOf S T) (2 * l) 0 ≡ count S T l = word-count S T (limits .levels-high) l e in
       rw place (level-word S T h (2 * l) (omega (arith, limits .levels-high)) (omega (arith, blocks-le S T h l e, limits .text-high)) ∙ is)
 
   pub read-levelOffset : (l : ℕ) → l < S .levels → at.levelOffset (treeOf S T) l ≡ offset S T l
   unfolding at.levelOffset
   read-levelOffset l e =
-      let place : 32 + 8 * l ≡ 28 + 4 * suc (2 * l) = omega arith in
+      let place : offsetAt l ≡ pairsAt + 4 * suc (2 * l) = omega arith in
       let is : getD (levelWordsOf S T) (suc (2 * l)) 0 ≡ offset S T l = word-offset S T (limits .levels-high) l e in
       rw place (level-word S T h (suc (2 * l)) (omega (arith, limits .levels-high)) (omega (arith, offset-le S T h l (omega arith))) ∙ is)
 
   -- the pairs past the levels are unused
-  pub read-no-count : (l : ℕ) → S .levels ≤ l → l < 8 → at.levelCount (treeOf S T) l ≡ 0
+  pub read-no-count : (l : ℕ) → S .levels ≤ l → l < maxLevels → at.levelCount (treeOf S T) l ≡ 0
   unfolding at.levelCount
   read-no-count l lo hi =
-      let place : 28 + 8 * l ≡ 28 + 4 * (2 * l) = omega arith in
+      let place : countAt l ≡ pairsAt + 4 * (2 * l) = omega arith in
       let is : getD (levelWordsOf S T) (2 * l) 0 ≡ 0 = word-none S T (limits .levels-high) (2 * l) (omega arith) (omega arith) in
       rw place (level-word S T h (2 * l) (omega arith) (omega arith) ∙ is)
 
-  pub read-no-offset : (l : ℕ) → S .levels ≤ l → l < 8 → at.levelOffset (treeOf S T) l ≡ 0
+  pub read-no-offset : (l : ℕ) → S .levels ≤ l → l < maxLevels → at.levelOffset (treeOf S T) l ≡ 0
   unfolding at.levelOffset
   read-no-offset l lo hi =
-      let place : 32 + 8 * l ≡ 28 + 4 * suc (2 * l) = omega arith in
+      let place : offsetAt l ≡ pairsAt + 4 * suc (2 * l) = omega arith in
       let is : getD (levelWordsOf S T) (suc (2 * l)) 0 ≡ 0 = word-none S T (limits .levels-high) (suc (2 * l)) (omega arith) (omega arith) in
       rw place (level-word S T h (suc (2 * l)) (omega arith) (omega arith) ∙ is)
 
   pub read-leafOffset : at.leafOffset (treeOf S T) ≡ offset S T (S .levels)
   unfolding at.leafOffset
   read-leafOffset =
-      let is : getD (levelWordsOf S T) 16 0 ≡ offset S T (S .levels) = word-leaf-offset S T (limits .levels-high) in
-      level-word S T h 16 (omega arith) (omega (arith, offset-le S T h (S .levels) (omega arith))) ∙ is
+      let is : getD (levelWordsOf S T) (2 * maxLevels) 0 ≡ offset S T (S .levels) = word-leaf-offset S T (limits .levels-high) in
+      level-word S T h (2 * maxLevels) (omega arith) (omega (arith, offset-le S T h (S .levels) (omega arith))) ∙ is
 
   pub read-leafCount : at.leafCount (treeOf S T) ≡ length (leafBytes S T)
   unfolding at.leafCount
   read-leafCount =
-      let is : getD (levelWordsOf S T) 17 0 ≡ length (leafBytes S T) = word-leaf-count S T (limits .levels-high) in
-      level-word S T h 17 (omega arith) (omega (arith, leaves-le S T h, limits .text-high)) ∙ is
+      let is : getD (levelWordsOf S T) (2 * maxLevels + 1) 0 ≡ length (leafBytes S T) = word-leaf-count S T (limits .levels-high) in
+      level-word S T h (2 * maxLevels + 1) (omega arith) (omega (arith, leaves-le S T h, limits .text-high)) ∙ is
 
   pub read-recordSize : at.recordSize (treeOf S T) ≡ recordBytes S
   unfolding at.recordSize recordBytes
@@ -123,51 +125,52 @@ module _ (S : Settings) (T : List ℕ) (h : Taken S T) where
     unfolding at.edgesAt recordWords
     read-edgesAt = rw (read-levelOffset l e, read-recordSize, read-countedCount) (omega arith)
 
-    some-words : 4 ≤ recordWords S T
+    some-words : plainWords ≤ recordWords S T
     unfolding recordWords
     some-words = omega arith
 
     pub read-start : at.start (treeOf S T) l i ≡ start S T l i
     unfolding at.start
-    read-start = read-field 0 (omega (arith, some-words))
+    read-start = read-field startField (omega (arith, some-words))
         (rw (record-start S T l i) (omega (arith, level-at S T h l e .within i il, limits .text-high))) ∙ record-start S T l i
 
     pub read-kind : at.kind (treeOf S T) l i ≡ kindOf S T l i
     unfolding at.kind
-    read-kind = read-field 1 (omega (arith, some-words)) (rw (record-kind S T l i) (omega (arith, kind-le S T l i))) ∙ record-kind S T l i
+    read-kind = read-field kindField (omega (arith, some-words)) (rw (record-kind S T l i) (omega (arith, kind-le S T l i))) ∙ record-kind S T l i
 
     pub read-link : at.link (treeOf S T) l i ≡ linkOf S T l i
     unfolding at.link
-    read-link = read-field 2 (omega (arith, some-words))
-        (rw (record-link S T l i) (omega (arith, link-le S T h l e i il, limits .text-high))) ∙ record-link S T l i
+    read-link = read-field linkField
+        (omega (arith, some-words)) (rw (record-link S T l i) (omega (arith, link-le S T h l e i il, limits .text-high))) ∙ record-link S T l i
 
     pub read-gap : at.gap (treeOf S T) l i ≡ gapOf S T l i
     unfolding at.gap
-    read-gap = read-field 3 (omega (arith, some-words)) (rw (record-gap S T l i) (omega (arith, gap-le S T h l e i il, limits .text-high))) ∙ record-gap S T l i
+    read-gap = read-field gapField
+        (omega (arith, some-words)) (rw (record-gap S T l i) (omega (arith, gap-le S T h l e i il, limits .text-high))) ∙ record-gap S T l i
 
     module _ (c : ℕ) (cl : c < length (S .counted)) where
-      count-words : 6 + 3 * c < recordWords S T
+      count-words : skipField c < recordWords S T
       unfolding recordWords
       count-words = omega arith
 
       pub read-before : at.before (treeOf S T) l i c ≡ beforeOf S T l i (getD (S .counted) c 0)
       unfolding at.before
       read-before =
-          read-field (4 + 3 * c) (omega (arith, count-words))
+          read-field (beforeField c) (omega (arith, count-words))
           (rw (record-before S T l i c cl) (omega (arith, before-le S T l i (getD (S .counted) c 0), limits .text-high)))
           ∙ record-before S T l i c cl
 
       pub read-inside : at.inside (treeOf S T) l i c ≡ insideOf S T l i (getD (S .counted) c 0)
       unfolding at.inside
       read-inside =
-          read-field (5 + 3 * c) (omega (arith, count-words))
+          read-field (insideField c) (omega (arith, count-words))
           (rw (record-inside S T l i c cl) (omega (arith, inside-le S T l i (getD (S .counted) c 0), limits .text-high)))
           ∙ record-inside S T l i c cl
 
       pub read-skip : at.skip (treeOf S T) l i c ≡ skipOf S T l i (getD (S .counted) c 0)
       unfolding at.skip
       read-skip =
-          read-field (6 + 3 * c) count-words (rw (record-skip S T l i c cl) (omega (arith, skip-le S T l i (getD (S .counted) c 0), limits .text-high)))
+          read-field (skipField c) count-words (rw (record-skip S T l i c cl) (omega (arith, skip-le S T l i (getD (S .counted) c 0), limits .text-high)))
           ∙ record-skip S T l i c cl
 
     pub read-blockLength : at.blockLengthAt (treeOf S T) l i ≡ bytesIn S T l i

@@ -16,7 +16,7 @@ use Rattle.format.specs.Blocks.{target, recordBytes, builtLayout}
 use Rattle.text.specs.TextLaws.{leftmost-le}
 use Rattle.theory_built.specs.Gather.{sumBelow-le}
 use Rattle.theory_built.specs.LevelBlocks.{count-le}
-use Rattle.theory_built.specs.Totals.{blocks-room, all-room, records-few}
+use Rattle.theory_built.specs.Totals.{blocks-room, all-room, maxRecords, records-few}
 use Rattle.theory_built.specs.BlockSizes.{Taken, Bounds, bounds, size-falls, size-last, maxTable}
 use Rattle.theory_built.specs.Structure.{size, count, start, bytesIn, keptAt, level-at}
 use Rattle.theory_built.specs.BuiltTargets.{placeOf, targetOf, placeOf-is}
@@ -93,7 +93,7 @@ module _ (S : Settings) (T : List ℕ) where
         (λ i il. blocks-room (length T) (size S T i) (count S T i) (start S T i) (level-at S T h i il)) (S .levels - 1) (omega arith))
 
     -- the records of all levels
-    table-le : sumBelow (S .levels) (count S T) * recordBytes S ≤ 132 * length T + 4608
+    table-le : sumBelow (S .levels) (count S T) * recordBytes S ≤ maxRecords (length T)
     unfolding recordBytes
     table-le = rw (record-edged builtLayout (S .leaf) (length (S .counted)) refl)
         (records-few (sumBelow (S .levels) (count S T)) (S .leaf) (length T)

@@ -6,6 +6,8 @@ use native.Mathlib.Omega.{arith}
 use native.Mathlib.Nat.{suc-mul, add-mul, mul-add, mul-assoc, mul-comm, mul-one, mul-le-mul, mul-le-mul-right, mul-le-mul-left}
 use Rattle.text.specs.Lists.{sumBelow}
 use Rattle.text.specs.ListLaws.{lt-or-ge}
+use Rattle.format.specs.RecordFields.{fieldBytes}
+use Rattle.format.specs.Settings.{maxLeaf, maxLevels, maxCounted}
 use Rattle.theory_built.specs.LevelBlocks.{Level}
 
 -- the blocks of one level stand one after the other before the text's end, the last of them begun there
@@ -60,12 +62,16 @@ all-few x m y k low h = go (lt-or-ge k x)
     go (inl l) = past (x - k) (omega arith)
     go (inr l) = omega arith
 
--- The bytes of x records of 16 + 12 k + 2 m bytes (k counted bytes, two edges of m bytes), where x blocks of m bytes are at most 2 n bytes and
--- one block for each of H levels.
-pub records-few : (x m n H k : ℕ) → 1 ≤ m → m ≤ 256 → H ≤ 8 → k ≤ 4 → x * m ≤ 2 * n + H * m → x * (16 + 12 * k + (m + m)) ≤ 132 * n + 4608
+-- the most bytes of the records of a text of n bytes: of their words, with at most 2 n blocks and one for each level, and of their edges
+abbrev pub maxRecords : ℕ → ℕ
+maxRecords n = (2 * n + maxLevels) * fieldBytes maxCounted + 2 * (2 * n + maxLevels * maxLeaf)
+
+-- The bytes of x records (k counted bytes, two edges of m bytes), where x blocks of m bytes are at most 2 n bytes and one block for each of H levels.
+pub records-few : (x m n H k : ℕ) → 1 ≤ m → m ≤ maxLeaf → H ≤ maxLevels → k ≤ maxCounted → x * m ≤ 2 * n + H * m → x * (fieldBytes k + (m + m)) ≤ maxRecords n
 records-few x m n H k low high levels counted room =
-    let few : x ≤ 2 * n + 8 = omega (arith, all-few x m (2 * n) H low room) in
-    let words : x * (16 + 12 * k) ≤ (2 * n + 8) * 64 = mul-le-mul few (let e : 16 + 12 * k ≤ 64 = omega arith in e) in
-    let blocks : H * m ≤ 2048 = mul-le-mul levels high in
-    let whole : x * (16 + 12 * k + (m + m)) ≡ x * (16 + 12 * k) + (x * m + x * m) = rw (mul-add x (16 + 12 * k) (m + m), mul-add x m m) in
+    let few : x ≤ 2 * n + maxLevels = omega (arith, all-few x m (2 * n) H low room) in
+    let words : x * fieldBytes k ≤ (2 * n + maxLevels) * fieldBytes maxCounted =
+    mul-le-mul few (let e : fieldBytes k ≤ fieldBytes maxCounted = omega arith in e) in
+    let blocks : H * m ≤ maxLevels * maxLeaf = mul-le-mul levels high in
+    let whole : x * (fieldBytes k + (m + m)) ≡ x * fieldBytes k + (x * m + x * m) = rw (mul-add x (fieldBytes k) (m + m), mul-add x m m) in
     omega arith

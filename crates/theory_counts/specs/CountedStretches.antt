@@ -35,7 +35,7 @@ module _ (t : List ℕ) where
 
   module _ (k : Readable t) (d : Linked t) where
     pub fitting : Fitting (textOf t) t
-    fitting = fits-facts (textOf t) t (omega (arith, k .levels-low)) (text-fits t k d)
+    fitting = fits-facts (textOf t) t (omega (arith, k .bounds .levels-low)) (text-fits t k d)
 
     block-end : (l i x : ℕ) → l < H t → i < N t l → x ≤ len t l i → s t l i + x ≤ length (textOf t)
     block-end l i x hl hi hx = omega (arith, len-end t l i (omega (arith, start-below t k d l i hl hi)), text-length t)
@@ -44,7 +44,7 @@ module _ (t : List ℕ) where
     leaf-end : (i : ℕ) → i < N t (H t - 1) → at.link t (H t - 1) i + len t (H t - 1) i ≤ at.leafCount t
     leaf-end i hi =
         let kept = last-kept t k d i hi in
-        let low : 0 < H t = omega (arith, k .levels-low) in
+        let low : 0 < H t = omega (arith, k .bounds .levels-low) in
         let q = d .kept (H t - 1) i (omega arith) hi kept in
         omega (arith, q .link-is, d .leaf-count low, width-last t i kept, sumBelow-part (N t (H t - 1)) (widthAt t (H t - 1)) i hi)
 
@@ -61,7 +61,7 @@ module _ (t : List ℕ) where
     last-leaves i x c hi hx =
         let same : stretch (textOf t) (s t (H t - 1) i) x ≡ stretch t (at.leafOffset t + at.link t (H t - 1) i) x =
         stretch-ext (textOf t) t (s t (H t - 1) i) (at.leafOffset t + at.link t (H t - 1) i) x
-        (block-end (H t - 1) i x (omega (arith, k .levels-low)) hi hx) (omega (arith, leaf-end i hi, k .size))
+        (block-end (H t - 1) i x (omega (arith, k .bounds .levels-low)) hi hx) (omega (arith, leaf-end i hi, k .size))
         (λ o ho. (let e : at.leafOffset t + at.link t (H t - 1) i + o ≡ at.leafOffset t + (at.link t (H t - 1) i + o) = omega arith in
         rw e (fitting .leaves i o hi (last-kept t k d i hi) (omega arith)))) in
         ap (countIn (byteOf t c)) (sym same)

@@ -67,7 +67,7 @@ module _ (t : List ℕ) where
     full-last l hl =
         let c = b t (l + 1) in
         let r = at.settings t .arity in
-        let end : r * c - 1 ≡ (r - 1) * c + (c - 1) = mul-pred {p = r} {c = c} (omega (arith, k .arity-low)) (full-pos t k (l + 1)) in
+        let end : r * c - 1 ≡ (r - 1) * c + (c - 1) = mul-pred {p = r} {c = c} (omega (arith, k .bounds .arity-low)) (full-pos t k (l + 1)) in
         let small : c - 1 < c = omega (arith, full-pos t k (l + 1)) in
         rw (full-step t k l hl, mul-comm c r, end) (digits-mod (r - 1) small)
 

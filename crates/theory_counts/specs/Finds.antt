@@ -43,7 +43,7 @@ module _ (t : List ℕ) (k : Readable t) (d : Linked t) (a : (m : ℕ) → m < H
   unfolding parentPlace
   top-before i hi =
       let e : s t 0 i - 0 ≡ i * b t 0 = omega (arith, d .start0 i hi) in
-      rw e at (a 0 (omega (arith, k .levels-low)) i c hi hc .before-is)
+      rw e at (a 0 (omega (arith, k .bounds .levels-low)) i c hi hc .before-is)
 
   -- the last block ends the text
   top-end : (i : ℕ) → i < N t 0 → N t 0 ≤ i + 1 → s t 0 i + len t 0 i ≡ at.textLength t
@@ -51,7 +51,7 @@ module _ (t : List ℕ) (k : Readable t) (d : Linked t) (a : (m : ℕ) → m < H
   top-end i hi last =
       let e : N t 0 ≡ i + 1 = omega arith in
       let cover = rw (← k .level0, e, add-mul i 1 (b t 0), one-mul) at (pieces-cover (at.textLength t) (b t 0) (full-pos t k 0)) in
-      omega (arith, d .start0 i hi, start-below t k d 0 i (omega (arith, k .levels-low)) hi)
+      omega (arith, d .start0 i hi, start-below t k d 0 i (omega (arith, k .bounds .levels-low)) hi)
 
   -- any other ends where the next one starts
   top-meets : (i : ℕ) → i + 1 < N t 0 → s t 0 i + len t 0 i ≡ (i + 1) * b t 0
@@ -61,14 +61,14 @@ module _ (t : List ℕ) (k : Readable t) (d : Linked t) (a : (m : ℕ) → m < H
         arith,
         d .start0 i (omega arith),
         d .start0 (i + 1) h,
-        start-below t k d 0 (i + 1) (omega (arith, k .levels-low)) h,
+        start-below t k d 0 (i + 1) (omega (arith, k .bounds .levels-low)) h,
         add-mul i 1 (b t 0),
         one-mul (b t 0),
       )
 
   top-both : (i : ℕ) → i < N t 0 → at.before t 0 i c + at.inside t 0 i c ≡ tally t c 0 (s t 0 i + len t 0 i)
   top-both i hi =
-      let hl : 0 < H t = omega (arith, k .levels-low) in
+      let hl : 0 < H t = omega (arith, k .bounds .levels-low) in
       let e = top-before i hi in
       let f = rw (← d .start0 i hi) at e in
       omega (arith, f, a 0 hl i c hi hc .inside-is, tally-parts t c 0 (s t 0 i) (s t 0 i) (len t 0 i) (s t 0 i + len t 0 i) (omega arith) refl)
@@ -203,7 +203,7 @@ module _ (t : List ℕ) (k : Readable t) (d : Linked t) (a : (m : ℕ) → m < H
         nth = record {
           within = omega (arith, len-inside t l i o ho, text-length t);
           byte-is = fitting t k d .leaves i o hi kept ho ∙ byte-is;
-          rank = omega (arith, leaves-tally t k d l i o c (omega (arith, k .levels-low)) hi (omega arith));
+          rank = omega (arith, leaves-tally t k d l i o c (omega (arith, k .bounds .levels-low)) hi (omega arith));
         };
         entered-is = rw (e, from-last t l i o (kept-block t l i hi kept) (leaf-below t k d i o hi ho));
       }

@@ -190,7 +190,7 @@ module _ (t : List ℕ) where
         let i = p / x in
         let o = p % x in
         let hi = level0-holds t k p hp in
-        let hl : 0 < H t = omega (arith, k .levels-low) in
+        let hl : 0 < H t = omega (arith, k .bounds .levels-low) in
         let whole = div-add-mod' p x in
         let start = d .start0 i hi in
         let ho : o < len t 0 i = len-reach t 0 i o (mod-lt p (full-pos t k 0)) (omega arith) in

@@ -42,7 +42,7 @@ short-blocks t (some q) n h = h q refl
 -- Any tree that passes questions 5 to 7.
 module _ (t : List ℕ) (r : readable t ≡ 0) (p len : ℕ) where
   low : 1 ≤ at.settings t .levels
-  low = readable-facts t r .levels-low
+  low = readable-facts t r .bounds .levels-low
 
   -- A span reports at most twice as many blocks as there are levels, ..
   pub span-entered : spanBlocks t p len ≤ 2 * at.settings t .levels

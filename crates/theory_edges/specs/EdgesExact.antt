@@ -105,7 +105,7 @@ module _ (T t : List ℕ) (k : Readable t) (d : Linked t) (two : at.layout t ≡
     x-is = refl
 
     some-bytes : 0 < x
-    some-bytes = omega (arith, x-is, len-pos t k d l i hl hi, k .leaf-low)
+    some-bytes = omega (arith, x-is, len-pos t k d l i hl hi, k .bounds .leaf-low)
 
     short : x ≤ m
     short = omega (arith, x-is)
@@ -230,7 +230,7 @@ same-test false false f g = refl
 -- Any tree that passes questions 5 to 8.
 module _ (t : List ℕ) (k : Readable t) (d : Linked t) where
   pub fitting : Fitting (textOf t) t
-  fitting = fits-facts (textOf t) t (omega (arith, k .levels-low)) (text-fits t k d)
+  fitting = fits-facts (textOf t) t (omega (arith, k .bounds .levels-low)) (text-fits t k d)
 
   pub edges-exact : allEdges t ≡ edgesTrue (textOf t) t
   unfolding allEdges edgesTrue at.hasEdges

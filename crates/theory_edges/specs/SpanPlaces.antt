@@ -114,4 +114,4 @@ module _ (t : List ℕ) (k : Readable t) (two : at.layout t ≡ 2) (x : ℕ) (lo
 pub short-inside : (t : List ℕ) → Readable t → (p len : ℕ) → ShortSpan t len → (q : Short) → shortOf t p len ≡ some q → Inside t len q
 unfolding shortOf
 short-inside t k p len s q e =
-    short-in t k (s .two) len (s .low) (s .high) (H t - 1) 0 (p / b t 0) (p % b t 0) (omega (arith, k .levels-low)) (mod-lt p (full-pos t k 0)) q e
+    short-in t k (s .two) len (s .low) (s .high) (H t - 1) 0 (p / b t 0) (p % b t 0) (omega (arith, k .bounds .levels-low)) (mod-lt p (full-pos t k 0)) q e

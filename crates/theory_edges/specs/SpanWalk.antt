@@ -270,7 +270,7 @@ module _ (T t : List ℕ) (k : Readable t) (d : Linked t) (two : at.layout t ≡
       let in-leaves : link + o + x ≤ at.leafCount t = omega (arith, leaf-below t k d i (o + x - 1) hi (omega arith)) in
       let from : ℕ = at.leafOffset t + (link + o) in
       let same : stretch t from x ≡ stretch T (s t l i + o) x =
-      stretch-ext t T from (s t l i + o) x (omega (arith, k .size)) (omega (arith, f .size, block-end l i (omega (arith, k .levels-low)) hi))
+      stretch-ext t T from (s t l i + o) x (omega (arith, k .size)) (omega (arith, f .size, block-end l i (omega (arith, k .bounds .levels-low)) hi))
       (λ y hy.
       let here : from + y ≡ at.leafOffset t + (link + (o + y)) = omega arith in
       let there : s t l i + o + y ≡ s t l i + (o + y) = omega arith in
@@ -319,7 +319,7 @@ module _ (T t : List ℕ) (k : Readable t) (d : Linked t) (two : at.layout t ≡
   walk-text all p hp = go (lt-or-ge (b t 0) (p % b t 0 + x))
     where
       top : 0 < H t
-      top = omega (arith, k .levels-low)
+      top = omega (arith, k .bounds .levels-low)
 
       here : p / b t 0 < N t 0
       here = level0-holds t k p (omega arith)
@@ -332,7 +332,7 @@ module _ (T t : List ℕ) (k : Readable t) (d : Linked t) (two : at.layout t ≡
 
       go : (b t 0 < p % b t 0 + x) ⊎ (p % b t 0 + x ≤ b t 0) → Reads (shortFrom t (H t - 1) 0 (p / b t 0) (p % b t 0) x) p
       go (inr inside) =
-          reads-same _ _ _ _ refl same (walk (H t - 1) 0 (p / b t 0) (p % b t 0) (omega (arith, k .levels-low)) here
+          reads-same _ _ _ _ refl same (walk (H t - 1) 0 (p / b t 0) (p % b t 0) (omega (arith, k .bounds .levels-low)) here
           (len-has 0 (p / b t 0) (p % b t 0 + x) inside (omega (arith, same))) (λ j lt hj. all j hj) (λ i hi kept. all 0 top i hi))
       go (inl past) =
           let c = b t 0 in

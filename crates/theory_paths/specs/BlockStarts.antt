@@ -141,12 +141,12 @@ module _ (t : List ℕ) where
       where
         go : (at.isKept t (H t - 1) i ≡ true) ⊎ (at.isKept t (H t - 1) i ≡ false) → at.isKept t (H t - 1) i ≡ true
         go (inl kept) = kept
-        go (inr un) = absurd (let z : ⊥ = omega (arith, d .points (H t - 1) i (omega (arith, k .levels-low)) hi un .above) in z)
+        go (inr un) = absurd (let z : ⊥ = omega (arith, d .points (H t - 1) i (omega (arith, k .bounds .levels-low)) hi un .above) in z)
 
     pub leaf-below : (i o : ℕ) → i < N t (H t - 1) → o < len t (H t - 1) i → at.link t (H t - 1) i + o < at.leafCount t
     leaf-below i o hi ho =
         let kept = last-kept i hi in
-        let low : 0 < H t = omega (arith, k .levels-low) in
+        let low : 0 < H t = omega (arith, k .bounds .levels-low) in
         let q = d .kept (H t - 1) i (omega arith) hi kept in
         omega (arith, q .link-is, d .leaf-count low, width-last t i kept, sumBelow-part (N t (H t - 1)) (widthAt t (H t - 1)) i hi)
 

@@ -31,11 +31,11 @@ module _ (t : List ℕ) (r : readable t ≡ 0) (p : ℕ) (q : Path) (e : pathOf 
 
   -- A path enters one block on each level, and a second on each level where the first one entered points.
   pub blocks-entered : length (q .visits) ≡ at.settings t .levels + pointers t (q .visits)
-  blocks-entered = omega (arith, goes-length t path-goes, readable-facts t r .levels-low)
+  blocks-entered = omega (arith, goes-length t path-goes, readable-facts t r .bounds .levels-low)
 
   -- So it enters at most 2H - 1 blocks.
   pub path-short : length (q .visits) ≤ 2 * at.settings t .levels - 1
-  path-short = omega (arith, goes-short t path-goes, readable-facts t r .levels-low)
+  path-short = omega (arith, goes-short t path-goes, readable-facts t r .bounds .levels-low)
 
   -- Byte answers with the leaf byte at the path's end and the number of blocks entered.
   pub byte-by-path : p < at.textLength t → byteSays t p ≡ record { number = 0; value = at.leafByte t (q .leaf); entered = length (q .visits) }

@@ -36,7 +36,7 @@ module _ (t : List ℕ) (k : Readable t) (d : Linked t) where
   text-leaf : (i o : ℕ) → i < N t (H t - 1) → o < len t (H t - 1) i → getD (textOf t) (s t (H t - 1) i + o) 0 ≡ at.leafByte t (at.link t (H t - 1) i + o)
   text-leaf i o hi ho =
       let e : H t - 1 - (H t - 1) ≡ 0 = omega arith in
-      text-block (H t - 1) i o (omega (arith, k .levels-low)) hi ho
+      text-block (H t - 1) i o (omega (arith, k .bounds .levels-low)) hi ho
       ∙ rw (e, from-last t (H t - 1) i o (kept-block t (H t - 1) i hi (last-kept t k d i hi)) (leaf-below t k d i o hi ho))
 
   text-points : (l i o : ℕ) → l < H t → i < N t l → at.isKept t l i ≡ false → o < len t l i
@@ -63,7 +63,7 @@ module _ (t : List ℕ) (k : Readable t) (d : Linked t) where
   -- and any text that fits is this one
   pub fits-same : (T : List ℕ) → fits T t ≡ true → T ≡ textOf t
   fits-same T h =
-      let low : 0 < H t = omega (arith, k .levels-low) in
+      let low : 0 < H t = omega (arith, k .bounds .levels-low) in
       let f = fits-facts T t low h in
       let c : Carries t k d (λ x y. at.leafByte t x ≡ getD T y 0) = record {
         leaf = λ i o hi ho. sym (f .leaves i o hi (last-kept t k d i hi) ho);

@@ -79,7 +79,7 @@ module _ (t : List ℕ) (k : Readable t) (d : Linked t) where
         let hi = level0-holds t k p hp in
         let small = mod-lt p (full-pos t k 0) in
         let e : s t 0 (p / c) + p % c ≡ p = omega (arith, d .start0 (p / c) hi, div-add-mod' p c) in
-        let h = walk (H t - 1) 0 (p / c) (p % c) (omega (arith, k .levels-low)) hi (len-reach t 0 (p / c) (p % c) small (omega arith)) in
+        let h = walk (H t - 1) 0 (p / c) (p % c) (omega (arith, k .bounds .levels-low)) hi (len-reach t 0 (p / c) (p % c) small (omega arith)) in
         (h .0, h .1, subst (P (h .0 .leaf)) e (h .2))
 
   -- No path breaks.

@@ -10,7 +10,7 @@ use native.Mathlib.Nat.{mod-lt}
 use borrow.Author.Tests.{lt-ltb, le-ltb, ne-eqb}
 use lib.ListN.{length}
 use Rattle.text.specs.ListLaws.{lt-or-ge}
-use Rattle.format.specs.Settings.{maxText}
+use Rattle.format.specs.Settings.{maxText, maxLevels}
 use Rattle.format.specs.Layout as at
 use Rattle.format.specs.Path.{Path, visit, entered, keptBlock, pointingBlock, targetBlock, targetPlace, lands, pathFrom, pathOf}
 use Rattle.format.specs.ReadSays.{leftOver}
@@ -78,7 +78,7 @@ pub broken-word : Broken ≡ walkedIn 18446744073709551615
 unfolding walkedIn
 broken-word = refl
 
-pub packed-word : (x entered left : ℕ) → x < 4294967296 → entered ≤ 16 → left ≤ maxText
+pub packed-word : (x entered left : ℕ) → x < 4294967296 → entered ≤ 2 * maxLevels → left ≤ maxText
     → walkedIn (x + 4294967296 * (entered + 32 * left)) ≡ At (record { leaf = x; trail = record { entered = entered; left = left } })
 unfolding walkedIn
 packed-word x entered left small few short =
@@ -98,8 +98,8 @@ unpacked-word w ne = rw (ne-eqb w 18446744073709551615 ne)
 -- the steps
 
 module _ (t : List ℕ) (size level b i o entered : ℕ) (k : KeptAt t size level b i o entered) where
-  pub entered-fits : entered ≤ 16
-  entered-fits = omega (arith, k .few, k .on .level-in, k .on .facts .levels-high)
+  pub entered-fits : entered ≤ 2 * maxLevels
+  entered-fits = omega (arith, k .few, k .on .level-in, k .on .facts .bounds .levels-high)
 
   -- the child's level
   pub asks-child : (level + 1 ≡ at.settings t .levels → ⊥)
@@ -108,12 +108,12 @@ module _ (t : List ℕ) (size level b i o entered : ℕ) (k : KeptAt t size leve
 
 module _ (t : List ℕ) (size level b i o : ℕ) (trail : Trail) (k : KeptAt t size level b i o (trail .entered)) where
   -- the blocks entered and what is left fit a word
-  pub trail-fits : (on : Trail) → on ≡ onward trail (b - o) → (on .entered ≤ 16) × (on .left ≤ maxText)
+  pub trail-fits : (on : Trail) → on ≡ onward trail (b - o) → (on .entered ≤ 2 * maxLevels) × (on .left ≤ maxText)
   unfolding onward
   trail-fits on e =
       let n : on .entered ≡ trail .entered + 1 = ap (λ (y : Trail). y .entered) e in
       let l : on .left ≡ min (trail .left) (b - o) = ap (λ (y : Trail). y .left) e in
-      (omega (arith, k .few, k .on .level-in, k .on .facts .levels-high), omega (arith, b-small t size level b (k .on)))
+      (omega (arith, k .few, k .on .level-in, k .on .facts .bounds .levels-high), omega (arith, b-small t size level b (k .on)))
 
   pub leaf-at : (r : Walked) (n link : ℕ) (on : Trail) → link ≡ at.link t level i → n ≡ link + o → n < at.leafCount t → on ≡ onward trail (b - o)
       → r ≡ At (record { leaf = n; trail = on }) → r ≡ walked t trail (pathFrom t 0 level i o)
@@ -177,8 +177,8 @@ module _ (t : List ℕ) (size level b i o : ℕ) (trail : Trail) (k : KeptAt t s
         kept-down Broken f
 
 module _ (t : List ℕ) (size level b i o entered : ℕ) (k : MayPoint t size level b i o entered) where
-  pub may-enter : entered ≤ 16
-  may-enter = omega (arith, k .few, k .on .level-in, k .on .facts .levels-high)
+  pub may-enter : entered ≤ 2 * maxLevels
+  may-enter = omega (arith, k .few, k .on .level-in, k .on .facts .bounds .levels-high)
 
   module _ (x : Next) (x-is : x ≡ nextAt t level i o) (j : BlockNumber) (p : BlockPlace) where
     pub may-keep : x ≡ Kept j p → KeptAt t size level b i o entered

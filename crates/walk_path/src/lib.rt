@@ -15,7 +15,7 @@ ghost use Prim.Native.Nat.{_+_, _-_, _*_, _≤_, _<_};
 ghost use Rattle.format.specs.Layout as at;
 ghost use Rattle.format.specs.Path.{pathFrom, pathOf};
 ghost use Rattle.layout.specs.HeaderSays.{HeaderOf};
-ghost use Rattle.format.specs.Settings.{maxText};
+ghost use Rattle.format.specs.Settings.{maxText, maxLevels};
 ghost use Rattle.walk_path.specs.Walk.{KeptAt, MayPoint, walked, walkedIn, onward};
 
 // What is carried down a path: how many blocks were entered, and the bytes left from the place on in every one of them.
@@ -38,7 +38,7 @@ pub enum Walked {
 impl Trail {
     // With one more block entered, at a place in it; b is its level's block length.
     pub fn enter(self, b: u32, place: BlockPlace) -> Trail
-        requires { ⌜ (self .entered ≤ 16) × (place .0 < b) ⌝ }
+        requires { ⌜ (self .entered ≤ 2 * maxLevels) × (place .0 < b) ⌝ }
         ensures { λ r. ⌜ r ≡ onward self (b - place .0) ⌝ }
     {
         Trail {
@@ -53,7 +53,7 @@ const BROKEN: u64 = 18446744073709551615;
 
 // A walk in one word: the leaf byte, 2^32 times the blocks entered, and 2^37 times what is left.
 fn packed(leaf: u32, trail: Trail) -> u64
-    requires { ⌜ (trail .entered ≤ 16) × (trail .left ≤ maxText) ⌝ }
+    requires { ⌜ (trail .entered ≤ 2 * maxLevels) × (trail .left ≤ maxText) ⌝ }
     ensures { λ r. ⌜ walkedIn r ≡ Walked.At (record { leaf = leaf; trail = trail }) ⌝ }
 {
     leaf as u64 + 4294967296 * (trail.entered as u64 + 32 * trail.left as u64)

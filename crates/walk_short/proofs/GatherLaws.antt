@@ -51,11 +51,11 @@ module _ (t : List ℕ) (h : Header) (level b o entered : ℕ) (k : Crossing t h
   pub edges-asked : EdgesIn t (h .«record_size») (h .settings .counted) level
   edges-asked = record {
     header = facts .long;
-    level-low = omega (arith, k .on .level-in, facts .levels-high);
+    level-low = omega (arith, k .on .level-in, facts .bounds .levels-high);
     size-is = k .on .header .size-is;
     size-few = rw (k .on .header .size-is) (size-high t facts);
     counted-is = k .on .header .counted-is;
-    counted-few = rw (k .on .header .counted-is) (facts .counted-high);
+    counted-few = rw (k .on .header .counted-is) (facts .bounds .counted-high);
   }
 
   pub over-none : (i : ℕ) → at.levelCount t level ≤ i + 1 → Broken ≡ gathered entered (byEdges t level i o)

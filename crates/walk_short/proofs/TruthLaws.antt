@@ -12,6 +12,7 @@ use lib.Dec.{eqb}
 use Rattle.text.specs.Lists.{allBelow, sameList}
 use Rattle.text.specs.ListLaws.{allBelow-make, allBelow-not}
 use Rattle.text.specs.Text.{stretch}
+use Rattle.format.specs.Settings.{maxLeaf}
 use Rattle.format.specs.Layout as at
 use Rattle.format.specs.Fits.{textOf, edgesTrue}
 use Rattle.format.specs.Short.{Short, shortFrom}
@@ -79,16 +80,16 @@ module _ (t : List ℕ) (h : Header) (level b i : ℕ) (k : Edged t h level b i)
   pub edges-asked : EdgesIn t (h .«record_size») (h .settings .counted) level
   edges-asked = record {
     header = facts .long;
-    level-low = omega (arith, k .on .level-in, facts .levels-high);
+    level-low = omega (arith, k .on .level-in, facts .bounds .levels-high);
     size-is = header .size-is;
     size-few = rw (header .size-is) (size-high t facts);
     counted-is = header .counted-is;
-    counted-few = rw (header .counted-is) (facts .counted-high);
+    counted-few = rw (header .counted-is) (facts .bounds .counted-high);
   }
 
   module _ (long own e : ℕ) (long-is : long ≡ at.blockLengthAt t level i) (own-is : own ≡ min m long) (e-is : e ≡ at.edgesAt t level i) where
     own-low : 1 ≤ own
-    own-low = omega (arith, own-is, long-is, len-pos t facts d level i (k .on .level-in) (k .block-in), header .leaf-is, facts .leaf-low)
+    own-low = omega (arith, own-is, long-is, len-pos t facts d level i (k .on .level-in) (k .block-in), header .leaf-is, facts .bounds .leaf-low)
 
     long-few : long ≤ b
     long-few = omega (arith, long-is, len-small t level i, k .on .b-is)
@@ -124,13 +125,13 @@ module _ (t : List ℕ) (h : Header) (level b i : ℕ) (k : Edged t h level b i)
     room : e + (m + m) ≤ length t
     room = omega (arith, e-is, edges-inside t facts level i (k .two) (k .on .level-in) (k .block-in), leaf-start-inside t facts, header .leaf-is)
 
-    few : (own ≤ m) × (m ≤ 256)
-    few = (omega (arith, own-is), omega (arith, header .leaf-is, facts .leaf-high))
+    few : (own ≤ m) × (m ≤ maxLeaf)
+    few = (omega (arith, own-is), omega (arith, header .leaf-is, facts .bounds .leaf-high))
 
-    pub first-asks : (r : Gathered) → Within t own r → (e + m ≤ length t) × (own ≤ m) × (m ≤ 256) × Within t own r
+    pub first-asks : (r : Gathered) → Within t own r → (e + m ≤ length t) × (own ≤ m) × (m ≤ maxLeaf) × Within t own r
     first-asks r w = (omega (arith, room), few .0, few .1, w)
 
-    pub last-asks : (r : Gathered) → Within t own r → (e + m + m ≤ length t) × (own ≤ m) × (m ≤ 256) × Within t own r
+    pub last-asks : (r : Gathered) → Within t own r → (e + m + m ≤ length t) × (own ≤ m) × (m ≤ maxLeaf) × Within t own r
     last-asks r w = (omega (arith, room), few .0, few .1, w)
 
     module _ (r : Gathered) (r-is : r ≡ gathered 0 (shortFrom t (at.settings t .levels - 1 - level) level (i + 0) 0 own)) where

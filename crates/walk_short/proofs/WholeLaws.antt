@@ -10,7 +10,7 @@ use native.Mathlib.Nat.{mod-lt, add-zero}
 use borrow.Author.Tests.{le-leb, lt-leb}
 use lib.ListN.{length}
 use Rattle.text.specs.ListLaws.{lt-or-ge, bool-cases}
-use Rattle.format.specs.Settings.{maxText}
+use Rattle.format.specs.Settings.{maxText, maxLeaf, maxLevels}
 use Rattle.format.specs.Layout as at
 use Rattle.format.specs.Path.{Visit, visit, keptBlock, pointingBlock, targetBlock, targetPlace}
 use Rattle.format.specs.LayoutLaws.{Readable, full-pos}
@@ -47,11 +47,11 @@ module _ (t : List ℕ) (h : Header) (level b i o len entered : ℕ) (w : Walkin
   abbrev Whole : Gathered → Type 0
   Whole r = r ≡ gathered entered (shortFrom t (H - 1 - level) level i o len)
 
-  pub sum-few : o + len ≤ maxText + 256
-  sum-few = omega (arith, w .place-in, w .short, w .on .header .leaf-is, facts .leaf-high, b-small t h level b (w .on))
+  pub sum-few : o + len ≤ maxText + maxLeaf
+  sum-few = omega (arith, w .place-in, w .short, w .on .header .leaf-is, facts .bounds .leaf-high, b-small t h level b (w .on))
 
-  pub entered-few : entered ≤ 14
-  entered-few = omega (arith, w .few, w .on .level-in, facts .levels-high)
+  pub entered-few : entered ≤ 2 * maxLevels - 2
+  entered-few = omega (arith, w .few, w .on .level-in, facts .bounds .levels-high)
 
   pub over-asks : b < o + len → Crossing t h level b o entered
   over-asks past = record { on = w .on; place-in = w .place-in; near = omega (arith, w .short); few = omega (arith, w .few) }
@@ -301,5 +301,5 @@ module _ (t : List ℕ) (h : Header) (k : HeaderOf t h) where
       rw (z, add-zero (p / h .block), k .block-is) at e in (
         same,
         within-tree two len low short (at.settings t .levels - 1)
-            0 (p / at.fullLength t 0) (p % at.fullLength t 0) (omega (arith, k .facts .levels-low)) (mod-lt p (full-pos t (k .facts) 0)) r 0 same,
+            0 (p / at.fullLength t 0) (p % at.fullLength t 0) (omega (arith, k .facts .bounds .levels-low)) (mod-lt p (full-pos t (k .facts) 0)) r 0 same,
       )

@@ -7,9 +7,9 @@ use layout::record;
 use walk_steps::Next;
 ghost use mathlib.Core.Bool.{true, _&&_};
 ghost use mathlib.Core.Path.{_≡_};
-ghost use Prim.Native.Nat.{_+_, _-_, _/_, _%_, _≤_, _<_};
+ghost use Prim.Native.Nat.{_+_, _-_, _*_, _/_, _%_, _≤_, _<_};
 ghost use lib.Dec.{ltb};
-ghost use Rattle.format.specs.Settings.{maxText};
+ghost use Rattle.format.specs.Settings.{maxText, maxLevels};
 ghost use Rattle.format.specs.Layout as at;
 ghost use Rattle.format.specs.Path.{keptBlock};
 ghost use Rattle.format.specs.Short.{byEdges, inLeaf, shortFrom, shortOf};
@@ -85,7 +85,7 @@ fn leaf_part(
     len: u32,
     entered: u32,
 ) -> Gathered
-    requires { ⌜ (HeaderOf (now t) h) × (level < at.settings (now t) .levels) × (keptBlock (now t) level (block .0) ≡ true) × (entered ≤ 16) ⌝ }
+    requires { ⌜ (HeaderOf (now t) h) × (level < at.settings (now t) .levels) × (keptBlock (now t) level (block .0) ≡ true) × (entered ≤ 2 * maxLevels) ⌝ }
     ensures { λ r. ⌜ r ≡ gathered entered (inLeaf (now (t .entry)) level (block .0) (place .0) len) ⌝ }
 {
     let link = record::link(t, h.record_size, level, block) as u64;
@@ -113,7 +113,7 @@ fn last(
     len: u32,
     entered: u32,
 ) -> Gathered
-    requires { ⌜ (OnLevel (now t) h level b) × (entered ≤ 16) ⌝ }
+    requires { ⌜ (OnLevel (now t) h level b) × (entered ≤ 2 * maxLevels) ⌝ }
     ensures { λ r. ⌜ r ≡ gathered entered (inLeaf (now (t .entry)) level (first .0 + steps) (place .0) len) ⌝ }
 {
     let next = walk_steps::look_after(t, h.record_size, level, b, first, steps, place);

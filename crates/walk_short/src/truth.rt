@@ -8,6 +8,7 @@ use layout::record;
 ghost use mathlib.Core.Path.{_≡_};
 ghost use Prim.Native.Nat.{_+_, _≤_, _<_};
 ghost use lib.ListN.{length};
+ghost use Rattle.format.specs.Settings.{maxLeaf};
 ghost use Rattle.format.specs.Layout as at;
 ghost use Rattle.format.specs.Fits.{textOf, edgesTrue};
 ghost use Rattle.theory_edges.specs.EdgesLocal.{edgesLocal, levelEdges};
@@ -16,7 +17,7 @@ ghost use Rattle.walk_short.specs.Truths.{Linking, Edged, foundIs};
 
 // An edge, the m bytes at a place: `own` bytes that were found, then zeros.
 fn edge_right(t: &[u8], m: u32, at: usize, own: u32, found: Gathered) -> bool
-    requires { ⌜ (at + m ≤ length (now t)) × (own ≤ m) × (m ≤ 256) × Within (now t) own found ⌝ }
+    requires { ⌜ (at + m ≤ length (now t)) × (own ≤ m) × (m ≤ maxLeaf) × Within (now t) own found ⌝ }
     ensures { λ r. ⌜ r ≡ foundIs (now (t .entry)) m at own found ⌝ }
 {
     let Gathered::At(q) = found else {

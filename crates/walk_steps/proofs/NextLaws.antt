@@ -79,7 +79,7 @@ level-below t size level b on more =
       facts = k;
       size-is = on .size-is;
       level-in = down;
-      b-is = rw (on .b-is, full-step t k level down) (mul-div-cancel (at.fullLength t (level + 1)) (omega (arith, k .arity-low)));
+      b-is = rw (on .b-is, full-step t k level down) (mul-div-cancel (at.fullLength t (level + 1)) (omega (arith, k .bounds .arity-low)));
     }
 
 -- level 0, and any level, by the header
@@ -87,7 +87,7 @@ pub on-top : (t : List ℕ) (h : Header) → HeaderOf t h → OnLevel t (h .«re
 on-top t h k = record {
   facts = k .facts;
   size-is = k .size-is;
-  level-in = omega (arith, k .facts .levels-low);
+  level-in = omega (arith, k .facts .bounds .levels-low);
   b-is = k .block-is;
 }
 

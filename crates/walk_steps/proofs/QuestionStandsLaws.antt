@@ -3,6 +3,7 @@ use mathlib.Core.List.{List}
 use mathlib.Core.Path.{_≡_, refl, sym, ap, _∙_}
 use Prim.Native.Nat.{ℕ, _+_, _*_, _/_, _≤_, _<_}
 use native.Mathlib.Omega.{arith}
+use Rattle.format.specs.RecordFields.{plainWords}
 use Rattle.format.specs.Settings.{maxText}
 use Rattle.format.specs.Layout as at
 use Rattle.layout.specs.declared.header.Header.{Header}
@@ -14,10 +15,10 @@ use Rattle.walk_steps.proofs.NextLaws as next
 use Rattle.walk_steps.proofs.StepLaws as step
 
 pub arity-pos : (t : List ℕ) (h : Header) → HeaderOf t h → 0 < h .settings .arity
-arity-pos t h k = omega (arith, k .arity-is, k .facts .arity-low)
+arity-pos t h k = omega (arith, k .arity-is, k .facts .bounds .arity-low)
 
 pub on-top : (t : List ℕ) (h : Header) → HeaderOf t h → OnLevel t h 0 (h .block)
-on-top t h k = record { header = k; level-in = omega (arith, k .facts .levels-low); b-is = k .block-is }
+on-top t h k = record { header = k; level-in = omega (arith, k .facts .bounds .levels-low); b-is = k .block-is }
 
 pub field-there : (t : List ℕ) (h : Header) (level i f : ℕ) → HeaderOf t h → level < at.settings t .levels → i < at.levelCount t level → f < 4
     → FieldIn t (h .«record_size») level i f
@@ -47,7 +48,7 @@ module _ (t : List ℕ) (h : Header) (level b i o : ℕ) (s : Pointing t h level
   pub plain-pointing : steps.Pointing t (h .«record_size») level b i o
   plain-pointing = record { on = plain t h level b (s .on); place-in = s .place-in; points = s .points }
 
-  pub pointing-there : (f : ℕ) → f < 4 → FieldIn t (h .«record_size») level i f
+  pub pointing-there : (f : ℕ) → f < plainWords → FieldIn t (h .«record_size») level i f
   pointing-there = step.pointing-there t (h .«record_size») level b i o plain-pointing
 
   pub sum-small : (g : ℕ) → g ≡ at.gap t level i → g + o < (2 * maxText)

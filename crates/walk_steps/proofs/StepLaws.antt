@@ -11,6 +11,8 @@ use borrow.Author.Tests.{ltb-true, lt-ltb, le-ltb, eq-eqb, ne-eqb}
 use Rattle.text.specs.ListLaws.{lt-or-ge, and-left, and-right, and-false}
 use Rattle.format.specs.Settings.{maxText}
 use Rattle.format.specs.Words.{wordAt}
+use Rattle.format.specs.RecordFields.{plainWords}
+use Rattle.format.specs.HeaderPlaces.{textLengthAt, arityAt, levelsAt, leafOffsetAt, leafCountAt}
 use Rattle.format.specs.Layout as at
 use Rattle.format.specs.Path.{keptBlock, pointingBlock, targetBlock, targetPlace}
 use Rattle.format.specs.LayoutLaws.{full-pos, full-small, level0-holds}
@@ -27,7 +29,7 @@ use Rattle.walk_steps.proofs.NextLaws.{next-kept, next-points, next-off
 use Rattle.walk_steps.specs.Steps.{OnLevel, InTable, Pointing, nextAt, childAt, landAt, shapeOf}
 
 -- the first four fields of a block of a table can be read
-pub field-there : (t : List ℕ) (size level b i f : ℕ) → OnLevel t size level b → i < at.levelCount t level → f < 4 → FieldIn t size level i f
+pub field-there : (t : List ℕ) (size level b i f : ℕ) → OnLevel t size level b → i < at.levelCount t level → f < plainWords → FieldIn t size level i f
 field-there t size level b i f on hi hf = field-in t (on .facts) size level i f (on .size-is) (on .level-in) hi (omega arith)
 
 module _ (t : List ℕ) (size level b : ℕ) (on : OnLevel t size level b) where
@@ -87,7 +89,7 @@ pub link-there : (t : List ℕ) (size level b i : ℕ) → OnLevel t size (level
 link-there t size level b i on hi = field-in t (on .facts) size level i 2 (on .size-is) (omega (arith, on .level-in)) hi (omega arith)
 
 module _ (t : List ℕ) (size level b i o : ℕ) (s : Pointing t size level b i o) where
-  pub pointing-there : (f : ℕ) → f < 4 → FieldIn t size level i f
+  pub pointing-there : (f : ℕ) → f < plainWords → FieldIn t size level i f
   pointing-there f hf = field-there t size level b i f (s .on) (pointing-in t level i (s .points)) hf
 
   -- gap + place is below twice the block length
@@ -177,7 +179,8 @@ module _ (t : List ℕ) (l i o : ℕ) where
     land-off e = rw (next-off t l (targetBlock t l i o) (targetPlace t l i o) x x-is e .0, and-false (ltb (l + 1) (at.settings t .levels)))
 
 -- what is read of the header
-pub shape-is : (t : List ℕ) (n r h off count : ℕ) → n ≡ wordAt t 4 → r ≡ wordAt t 12 → h ≡ wordAt t 16 → off ≡ wordAt t 92 → count ≡ wordAt t 96
+pub shape-is : (t : List ℕ) (n r h off count : ℕ)
+    → n ≡ wordAt t textLengthAt → r ≡ wordAt t arityAt → h ≡ wordAt t levelsAt → off ≡ wordAt t leafOffsetAt → count ≡ wordAt t leafCountAt
     → record { length = n; arity = r; levels = h; «leaf_offset» = off; «leaf_count» = count } ≡ shapeOf t
 unfolding shapeOf at.textLength at.settings at.leafOffset at.leafCount
 shape-is t n r h off count a b c d e = rw (a, b, c, d, e)

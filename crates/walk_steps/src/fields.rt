@@ -1,8 +1,10 @@
 // What a step needs of the header, read from the tree itself, so that a step carries none of it.
+use layout::header;
 use layout::word;
 ghost use mathlib.Core.Path.{_≡_};
 ghost use Prim.Native.Nat.{_≤_};
 ghost use lib.ListN.{length};
+ghost use Rattle.format.specs.HeaderPlaces.{headerLength};
 ghost use Rattle.walk_steps.specs.Steps.{shapeOf};
 
 pub struct Shape {
@@ -19,15 +21,15 @@ pub struct Shape {
 
 // The shape of a tree that passes questions 5 to 7.
 pub fn shape_of(t: &[u8]) -> Shape
-    requires { ⌜ 100 ≤ length (now t) ⌝ }
+    requires { ⌜ headerLength ≤ length (now t) ⌝ }
     ensures { λ r. ⌜ r ≡ shapeOf (now (t .entry)) ⌝ }
 {
     Shape {
-        length: word::read(t, 4),
-        arity: word::read(t, 12),
-        levels: word::read(t, 16),
-        leaf_offset: word::read(t, 92),
-        leaf_count: word::read(t, 96),
+        length: word::read(t, header::TEXT_LENGTH_AT),
+        arity: word::read(t, header::ARITY_AT),
+        levels: word::read(t, header::LEVELS_AT),
+        leaf_offset: word::read(t, header::LEAF_OFFSET_AT),
+        leaf_count: word::read(t, header::LEAF_COUNT_AT),
     }
 }
 

@@ -34,7 +34,7 @@ blocks-spec =
       arith,
       w .loop .inv .0,
       w .loop .inv .1 .0,
-      v .pre .0 .levels-high,
+      v .pre .0 .bounds .levels-high,
       laws.level-few (a .s) (v .pre .0) (v .pre .1) (a .n) (w .loop .l) 0 _ _ (v .pre .2) (c .before .block-length .ensures) (c .pieces .ensures),
     ))
     (λ c. omega (arith, c .before .before .if1 .taken))
@@ -54,5 +54,5 @@ blocks-spec =
     ))
     (λ c. let w = c .before .before in let a = w .before .args in let e : w .loop .l ≡ a .s .levels = omega (arith, w .loop .inv .0, c .if1 .left) in (
       w .loop .inv .1 .1 ∙ ap (λ (k : ℕ). sumBelow k (λ l. pieces (a .n) (a .s .leaf * a .s .arity ^ (a .s .levels - 1 - l)))) e,
-      omega (arith, w .loop .inv .0, w .loop .inv .1 .0, w .before .pre .0 .levels-high),
+      omega (arith, w .loop .inv .0, w .loop .inv .1 .0, w .before .pre .0 .bounds .levels-high),
     )))

@@ -18,8 +18,8 @@ enough-spec =
     (λ c. let w = c .before .before .before .before in let a = w .before .before .before .args in laws.many-counted (a .n) (a .leaf)
     (a .arity) (a .levels) (a .counted) (w .before .before .if1 .left) _ (w .new .ensures) _ (c .before .before .checked .given .1) (c .if2 .taken))
     (λ c κs. let w = c .before .before .before .before in
-    let a = w .before .before .before .args in let f = laws.fine-sized (a .n) (a .leaf) (a .arity) (a .levels)
-    (a .counted) (w .before .before .if1 .left) _ (w .new .ensures) _ (c .before .before .checked .given .1) in (f .0 .leaf-high, c .if2 .left))
+    let a = w .before .before .before .args in let f = laws.fine-sized (a .n) (a .leaf) (a .arity) (a .levels) (a .counted)
+    (w .before .before .if1 .left) _ (w .new .ensures) _ (c .before .before .checked .given .1) in (f .0 .bounds .leaf-high, c .if2 .left))
     (λ c. search needs)
     (λ c. search needs)
     (λ c κs. let w = c .before .before .before .before .before in

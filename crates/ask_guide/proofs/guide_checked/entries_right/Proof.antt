@@ -4,7 +4,7 @@ use Prim.Native.Nat.{ℕ, _+_, _-_, _*_, _≤_, _<_}
 use lib.ListN.{length, getD}
 use Rattle.format.specs.Words.{wordAt}
 use Rattle.format.specs.Layout as at
-use Rattle.ask_guide.specs.Guides.{guideOf}
+use Rattle.ask_guide.specs.Guides.{guideOf, listedEvery}
 use Rattle.ask_guide.proofs.GuideWrittenLaws as laws
 use Rattle.ask_guide.proofs.GuideWrittenLaws.{false-not, true-not}
 use Rattle.ask_guide.proofs.guide_checked.entries_right.Statement.{statement}
@@ -12,7 +12,7 @@ use Rattle.ask_guide.proofs.guide_checked.entries_right.Tie as tie
 
 abbrev Inv-loop : tie.InvT-loop
 Inv-loop guide t h number place count block₀ e₀ block e =
-    (e ≤ count) × (e < count → (block < at.levelCount t 0) × (at.before t 0 block number < 64 * e + 1))
+    (e ≤ count) × (e < count → (block < at.levelCount t 0) × (at.before t 0 block number < listedEvery * e + 1))
     × ((i : ℕ) → place ≤ i → i < place + e → wordAt guide (4 * i) ≡ getD (guideOf t) i 0)
 
 abbrev μ-loop : tie.MeasureT-loop

@@ -6,10 +6,11 @@ use Rattle.ask_guide.specs.GuideAnswers.{Puts}
 use Rattle.ask_guide.proofs.GuideWrittenLaws as laws
 use Rattle.ask_guide.proofs.guide_written.put_entries.Statement.{statement}
 use Rattle.ask_guide.proofs.guide_written.put_entries.Tie as tie
+use Rattle.ask_guide.specs.Guides.{listedEvery}
 
 abbrev Inv-loop : tie.InvT-loop
 Inv-loop table₀ t h number place count block₀ e₀ table block e =
-    (e ≤ count) × (e < count → (block < at.levelCount t 0) × (at.before t 0 block number < 64 * e + 1)) × Puts t table₀ table place (place + e)
+    (e ≤ count) × (e < count → (block < at.levelCount t 0) × (at.before t 0 block number < listedEvery * e + 1)) × Puts t table₀ table place (place + e)
 
 abbrev μ-loop : tie.MeasureT-loop
 μ-loop table₀ t h number place count block₀ e₀ table block e = count - e

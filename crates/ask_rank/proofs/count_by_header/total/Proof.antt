@@ -12,13 +12,15 @@ total-spec =
     (λ c κs. search needs)
     (λ c. laws.total-none _ _ _ (c .before .level-count .ensures) (c .if1 .taken))
     (λ c. search needs)
-    (λ c κs. let w = c .before .before .before in sums.field-there _ _ _ _ _ _ (w .pre .0) (omega (arith, sums.facts _ _ (w .pre .0) .levels-low))
-    (omega (arith, c .before .level-count .ensures, c .if1 .left)) (w .pre .1) (omega arith))
+    (λ c κs. let w = c .before .before .before in sums.field-there _ _ _ _ _ _ (w .pre .0) (omega (
+      arith,
+      sums.facts _ _ (w .pre .0) .bounds .levels-low,
+    )) (omega (arith, c .before .level-count .ensures, c .if1 .left)) (w .pre .1) (omega arith))
     (λ c. search needs)
     (λ c κs. let w = c .before .before .before .before in sums.field-there _ _ _ _ _ _ (w .pre .0) (omega (
       arith,
-      sums.facts
-          _ _ (w .pre .0) .levels-low,
+      sums.facts _ _
+          (w .pre .0) .bounds .levels-low,
     )) (omega (arith, c .before .before .level-count .ensures, c .before .if1 .left)) (w .pre .1) (omega arith))
     (λ c. search needs)
     (λ c. search needs)

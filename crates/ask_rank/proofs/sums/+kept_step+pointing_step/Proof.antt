@@ -78,7 +78,7 @@ pub +kept-step+pointing-step-spec : {M : Type 1} → statement M
     kept-step.Post
     (λ c κs. search needs)
     (λ c κs. rw (c .whole .ensures) (c .before .before .pre .1 .0 .on .facts .long))
-    (λ c. let k = c .before .before .before .pre .1 .0 in record { fits = omega (arith, k .on .level-in, k .on .facts .levels-high) })
+    (λ c. let k = c .before .before .before .pre .1 .0 in record { fits = omega (arith, k .on .level-in, k .on .facts .bounds .levels-high) })
     (λ c κs. let w = c .before .before .before in rw (w .whole .ensures) (w .before .before .pre .1))
     (λ c.
     let s = c .before .before .before in
@@ -88,7 +88,7 @@ pub +kept-step+pointing-step-spec : {M : Type 1} → statement M
     (λ c κs.
     let s = c .before .before in
     let w = s .before in
-    omega (arith, shapes-on _ _ _ (w .whole .ensures) (s .shape-of .ensures) .arity-is, w .before .before .pre .1 .0 .on .facts .arity-low))
+    omega (arith, shapes-on _ _ _ (w .whole .ensures) (s .shape-of .ensures) .arity-is, w .before .before .pre .1 .0 .on .facts .bounds .arity-low))
     (λ c κs.
     let e = c .before in
     let s = e .before .before in

@@ -4,6 +4,7 @@ use borrow.Author.Needs.{needs}
 use borrow.Fn.Kinds.{In}
 use borrow.Fn.PlainCycle.{Measures, is, falls, and}
 use native.Mathlib.Omega.{arith}
+use Rattle.format.specs.Settings.{maxLevels}
 use Rattle.layout.proofs.record.gap.Reads as gap-reads
 use Rattle.walk_steps.proofs.StepLaws.{pointing-in}
 use Rattle.walk_steps.proofs.QuestionStandsLaws.{field-there, b-small}
@@ -79,7 +80,7 @@ pub +kept-step+pointing-step-spec : {M : Type 1} → statement M
     )))
     (λ c κs. let w = c .before .before .before .before in (let low = walk.level-below _ _ _ _ (w .before .before .before .before .before .pre .1 .0 .on)
     (w .before .before .if1 .left) in let z = w .child-with .ensures .kept _ _ _ (c .before .before .next .given .1) in
-    (laws.near-more _ _ 16 (c .kept-step .ensures .near) (omega (arith, low .header .facts .levels-high)), z .0 .place-low)))
+    (laws.near-more _ _ (2 * maxLevels) (c .kept-step .ensures .near) (omega (arith, low .header .facts .bounds .levels-high)), z .0 .place-low)))
     (λ c. search needs)
     (λ c κs. let w = c .before .before .before .before .before .before .before .before in (let low = walk.level-below _ _ _ _
     (w .pre .1 .0 .on) (c .before .before .before .before .before .if1 .left) in let z = c .before .before .before .child-with .ensures .points
@@ -88,8 +89,11 @@ pub +kept-step+pointing-step-spec : {M : Type 1} → statement M
       (record { on = low; points = z .1 }, laws.to-child _ _ _ _ _ _ _ _ (w .pre .1 .0) (w .pre .1 .1) low _ _ _ (z .0) _ (omega arith)),
     )))
     (λ c κs. let w = c .before .before .before .before in (let low = walk.level-below _ _ _ _ (w .before .before .before .before .before .pre .1 .0 .on)
-    (w .before .before .if1 .left) in let z = w .child-with .ensures .points _ _ _ (c .before .before .next2 .given .1) in
-    (laws.near-more _ _ 16 (c .pointing-step .ensures .near) (omega (arith, low .header .facts .levels-high)), z .0 .place-low)))
+    (w .before .before .if1 .left) in let z = w .child-with .ensures .points _ _ _ (c .before .before .next2 .given .1) in (
+      laws.near-more _ _
+          (2 * maxLevels) (c .pointing-step .ensures .near) (omega (arith, low .header .facts .bounds .levels-high)),
+      z .0 .place-low,
+    )))
     (λ c. search needs)
     (λ c. let w = c .before .before .before .before .before .before .before in let v = w .before .before .before in (let low =
     walk.level-below _ _ _ _ (v .pre .1 .0 .on) (w .if1 .left) in let z = c .before .before .before .before .before .child-with .ensures .kept
@@ -122,7 +126,7 @@ pub +kept-step+pointing-step-spec : {M : Type 1} → statement M
       w .pre .1 .0,
       w .pre .1 .1 .number-in,
       w .pre .1 .1 .low,
-      omega (arith, w .pre .1 .1 .few, w .pre .1 .0 .on .level-in, w .pre .1 .0 .on .header .facts .levels-high),
+      omega (arith, w .pre .1 .1 .few, w .pre .1 .0 .on .level-in, w .pre .1 .0 .on .header .facts .bounds .levels-high),
     ))
     (λ c. search needs)
     (λ c κs. let w = c .before .before .before .before .before .before .before .before in
@@ -132,7 +136,7 @@ pub +kept-step+pointing-step-spec : {M : Type 1} → statement M
     )))
     (λ c κs. let w = c .before .before .before .before .before .before .before .before .before in
     (let z = c .before .before .before .before .target-with .ensures .kept _ _ _ (c .before .before .next .given .1) in (
-      laws.near-more _ _ 16 (c .kept-step .ensures .near) (omega (arith, w .pre .1 .0 .on .header .facts .levels-high)),
+      laws.near-more _ _ (2 * maxLevels) (c .kept-step .ensures .near) (omega (arith, w .pre .1 .0 .on .header .facts .bounds .levels-high)),
       omega (arith, z .forward-low, b-small _ _ _ _ (w .pre .1 .0 .on)),
     )))
     (λ c. search needs)

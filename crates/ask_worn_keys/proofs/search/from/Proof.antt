@@ -53,7 +53,7 @@ from-spec =
         arith,
         part-short (s .args .t .now) (g .ran .given .0 .0 .from) (g .ran .given .0 .0 .length),
         run .0 .in-text,
-        s .pre .0 .facts .text-high,
+        s .pre .0 .facts .bounds .text-high,
         s .pre .0 .length-is,
       ),
     ))
@@ -72,11 +72,11 @@ from-spec =
     (λ c. let g = c .before .before .before .before .before .before .before .before in
     let pa = g .before .before in let l = pa .before .before .before in let s = l .before .before .before in
     let run = part-reads _ _ (s .pre .0) (l .loop .at) (pa .before .if1 .taken) _ (pa .part-at .ensures) _ (g .ran .given .1) in
-    omega (arith, run .0 .in-text, s .pre .0 .facts .text-high))
+    omega (arith, run .0 .in-text, s .pre .0 .facts .bounds .text-high))
     (λ c. let g = c .before .before .before .before .before .before .before .before in
     let pa = g .before .before in let l = pa .before .before .before in let s = l .before .before .before in
     let run = part-reads _ _ (s .pre .0) (l .loop .at) (pa .before .if1 .taken) _ (pa .part-at .ensures) _ (g .ran .given .1) in
-    omega (arith, run .0 .in-text, s .pre .0 .facts .text-high))
+    omega (arith, run .0 .in-text, s .pre .0 .facts .bounds .text-high))
     (λ c. let g = c .before .before .before .before .before .before .before .before in
     let pa = g .before .before in let l = pa .before .before .before in let s = l .before .before .before in
     let run = part-reads _ _ (s .pre .0) (l .loop .at) (pa .before .if1 .taken) _ (pa .part-at .ensures) _ (g .ran .given .1) in

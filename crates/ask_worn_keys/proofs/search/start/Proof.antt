@@ -18,7 +18,11 @@ start-spec =
     let a = start-asked _ _ _ (s .pre .0) (s .pre .1) (f .before .if1 .left) (s .pre .2) in
     start-broken _ _ (refused-not _ _ 10 _ (λ v. v) _ (find-by _ _ _ _ (f .find-at .ensures .says)) _ (c .enum-told .given .1) (select-lets _ _ _ a)))
     (λ c. let g = c .before .before in let f = g .before .before in let s = f .before .before .before in
-    omega (arith, place-in-text _ _ 10 _ (λ v. v) _ (find-by _ _ _ _ (f .find-at .ensures .says)) _ _ (g .found .given .1), s .pre .0 .facts .text-high))
+    omega (
+      arith,
+      place-in-text _ _ 10 _ (λ v. v) _ (find-by _ _ _ _ (f .find-at .ensures .says)) _ _ (g .found .given .1),
+      s .pre .0 .facts .bounds .text-high,
+    ))
     (λ c. let g = c .before .before in let f = g .before .before in let s = f .before .before .before in
     let a = start-asked _ _ _ (s .pre .0) (s .pre .1) (f .before .if1 .left) (s .pre .2) in
     start-past _ _ _ a (place-in-text _ _ 10 _ (λ v. v) _ (find-by _ _ _ _ (f .find-at .ensures .says)) _ _ (g .found .given .1))

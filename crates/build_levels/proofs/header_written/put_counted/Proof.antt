@@ -2,6 +2,8 @@ use Prim.Native.Nat.{ℕ, _≤_, _-_}
 use lib.ListN.{length, length-set}
 use mathlib.Core.Path.{_≡_, refl, ap, _∙_}
 use native.Mathlib.Omega.{arith}
+use Rattle.format.specs.Settings.{maxCounted}
+use Rattle.format.specs.HeaderPlaces.{countedAt}
 use Rattle.build_levels.proofs.HeaderWrittenLaws.{places-more}
 use Rattle.build_levels.proofs.header_written.put_counted.Statement.{statement}
 use Rattle.build_levels.proofs.header_written.put_counted.Tie as tie
@@ -9,10 +11,10 @@ use Rattle.build_levels.specs.Head.{places}
 use Rattle.stretches.specs.Stretches.{bytesWritten}
 
 abbrev Inv-loop : tie.InvT-loop
-Inv-loop out₀ counted x₀ out x = (x ≤ 4) × ((length out ≡ length out₀) × (out ≡ bytesWritten out₀ 24 (places counted) 0 x))
+Inv-loop out₀ counted x₀ out x = (x ≤ maxCounted) × ((length out ≡ length out₀) × (out ≡ bytesWritten out₀ countedAt (places counted) 0 x))
 
 abbrev μ-loop : tie.MeasureT-loop
-μ-loop out₀ counted x₀ out x = 4 - x
+μ-loop out₀ counted x₀ out x = maxCounted - x
 
 pub put-counted-spec : {M : Type 1} → statement M
 put-counted-spec =
@@ -29,5 +31,5 @@ put-counted-spec =
       (simp length-set (v .1 .0), places-more (a .out .now) _ (places (a .counted .now)) (w .loop .x) _ (v .1 .1) (c .counted-byte .ensures)),
     ))
     (λ c. c .before .loop .inv .1 .0)
-    (λ c. let a = c .before .before .before .before .args in let e : c .before .loop .x ≡ 4 = omega arith in
-    c .before .loop .inv .1 .1 ∙ ap (λ (k : ℕ). bytesWritten (a .out .now) 24 (places (a .counted .now)) 0 k) e))
+    (λ c. let a = c .before .before .before .before .args in let e : c .before .loop .x ≡ maxCounted = omega arith in
+    c .before .loop .inv .1 .1 ∙ ap (λ (k : ℕ). bytesWritten (a .out .now) countedAt (places (a .counted .now)) 0 k) e))

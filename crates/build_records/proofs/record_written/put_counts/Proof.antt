@@ -9,12 +9,14 @@ use Rattle.build_records.proofs.record_written.put_counts.Statement.{st
 use Rattle.build_records.proofs.record_written.put_counts.Tie as tie
 use Rattle.build_records.specs.Grown.{Grown, Within}
 use Rattle.build_records.specs.State.{settingsOf, placeAt}
+use Rattle.format.specs.RecordFields.{plainBytes, countedBytes}
 use Rattle.format.specs.Blocks.{treeOf}
 
 abbrev Inv-loop : tie.InvT-loop
-Inv-loop out₀ text counted level i block c₀ out c = (c ≤ length counted) × ((length out ≡ length out₀) × (Grown (treeOf (settingsOf (level .settings)
-    counted) text) out₀ out × Within (treeOf (settingsOf (level .settings) counted) text) out (placeAt (settingsOf (level .settings) counted)
-    text (level .number) (i .0) + 16) (placeAt (settingsOf (level .settings) counted) text (level .number) (i .0) + 16 + 12 * c)))
+Inv-loop out₀ text counted level i block c₀ out c =
+    (c ≤ length counted) × ((length out ≡ length out₀) × (Grown (treeOf (settingsOf (level .settings) counted) text) out₀ out
+    × Within (treeOf (settingsOf (level .settings) counted) text) out (placeAt (settingsOf (level .settings) counted) text (level .number)
+    (i .0) + plainBytes) (placeAt (settingsOf (level .settings) counted) text (level .number) (i .0) + plainBytes + countedBytes * c)))
 
 abbrev μ-loop : tie.MeasureT-loop
 μ-loop out₀ text counted level i block c₀ out c = length counted - c

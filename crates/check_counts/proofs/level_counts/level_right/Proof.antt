@@ -25,7 +25,7 @@ level-right-spec =
     (tie.spec Inv-loop μ-loop
     (λ c κs. header.sized _ _ (c .before .pre .0 .header) _ (omega (arith, c .before .pre .1, c .before .pre .0 .header .levels-is)))
     (λ c κs. header.sized _ _ (c .before .before .pre .0 .header) _ (omega (arith, c .before .before .pre .1, c .before .before .pre .0 .header .levels-is)))
-    (λ c κs. let w = c .before .before .before in (omega (arith, w .pre .1, w .pre .0 .header .facts .levels-high), w .pre .0 .header .facts .long))
+    (λ c κs. let w = c .before .before .before in (omega (arith, w .pre .1, w .pre .0 .header .facts .bounds .levels-high), w .pre .0 .header .facts .long))
     (λ c. (omega arith, λ x l. absurd (let z : ⊥ = omega arith in z)))
     (λ c κs. let w = c .before .before .before .before .before .before in (
       header.full-is _ _ (w .pre .0 .header) _ _ (c .before .before .before .before .block-length .ensures),

@@ -3,7 +3,9 @@ use mathlib.Core.List.{List}
 use mathlib.Core.Path.{_≡_, _∙_, ap}
 use native.Mathlib.Omega.{arith}
 use Rattle.format.specs.Words.{wordAt}
-use Rattle.format.specs.Settings.{blockLength, recordLength}
+use Rattle.format.specs.Settings.{blockLength, recordLength, maxLeaf, maxCounted}
+use Rattle.format.specs.HeaderPlaces.{layoutAt}
+use Rattle.format.specs.SizeLaws.{sizes-alone}
 use Rattle.format.specs.Layout as at
 use Rattle.format.specs.LayoutLaws.{Readable}
 use Rattle.layout.proofs.header.fields.Statement.{statement}
@@ -26,12 +28,8 @@ module _ (t : List ℕ) (s : Settings) (f : Readable t) (is : s ≡ settingsOf t
   sized : Sized s 0
   unfolding at.settings
   sized = rw is (record {
-    leaf-high = f .leaf-high;
-    arity-low = f .arity-low;
-    arity-high = f .arity-high;
-    levels-high = f .levels-high;
-    level-in = f .levels-low;
-    block-high = f .top-high;
+    bounds = sizes-alone (f .bounds);
+    level-in = f .bounds .levels-low;
   })
 
   -- and make a level 0 block this long
@@ -40,13 +38,13 @@ module _ (t : List ℕ) (s : Settings) (f : Readable t) (is : s ≡ settingsOf t
   full b e = e ∙ rw is
 
   -- and a record
-  size : (v z : ℕ) → v ≡ wordAt t 0 → z ≡ recordLength v (s .leaf) (s .counted) → z ≡ at.recordSize t
+  size : (v z : ℕ) → v ≡ wordAt t layoutAt → z ≡ recordLength v (s .leaf) (s .counted) → z ≡ at.recordSize t
   unfolding at.recordSize at.layout at.settings at.countedCount
   size v z ev e = rw (e, ev, is)
 
-  few : (s .leaf ≤ 256) × (s .counted ≤ 4)
+  few : (s .leaf ≤ maxLeaf) × (s .counted ≤ maxCounted)
   unfolding at.settings at.countedCount
-  few = rw is (f .leaf-high, f .counted-high)
+  few = rw is (f .bounds .leaf-high, f .bounds .counted-high)
 
 pub fields-spec : {M : Type 1} → statement M
 fields-spec =

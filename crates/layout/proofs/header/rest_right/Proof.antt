@@ -19,7 +19,7 @@ rest-right-spec =
     (λ c κs. search needs)
     (λ c κs. search needs)
     (λ c κs. let w = c .before .before .before .before .before .before .before .before .before in
-    let b = laws.block-bounds _ _ _ (w .pre) _ (c .block-length .ensures) in (w .pre .n-high, b .0, b .1))
+    let b = laws.block-bounds _ _ _ (w .pre) _ (c .block-length .ensures) in (w .pre .bounds .text-high, b .0, b .1))
     (λ c. let w = c .before .before .before .before in let v = w .before .before .before in
     laws.rest-level0 _ _ _ (v .before .before .before .before .pre) (held (v .before .spare-counted-zero .ensures) (v .if1 .left))
     (held (w .before .spare-levels-zero .ensures) (w .if2 .left)) _ _ (c .before .before .before .read .ensures)
@@ -29,7 +29,7 @@ rest-right-spec =
     (λ c. search needs)
     (λ c κs. let w = c .before .before .before .before .before .before .before .before .before .before .before .before .before .before in
     let s = laws.size-is _ _ _ (w .pre) _ _ (c .before .before .read2 .ensures) (c .before .record-size .ensures .0) in
-    (w .pre .long, w .pre .levels-high, s, c .before .record-size .ensures .1))
+    (w .pre .long, w .pre .bounds .levels-high, s, c .before .record-size .ensures .1))
     (λ c. let w = c .before .before .before .before .before .before in
     let v = w .before .before .before in laws.rest-tables _ _ _ (v .before .before .before .before .before .before .before .pre)
     (held (v .before .before .before .before .spare-counted-zero .ensures) (v .before .before .before .if1 .left))

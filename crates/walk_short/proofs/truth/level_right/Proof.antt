@@ -22,7 +22,7 @@ level-right-spec =
     tie.close
     (tie.spec Inv-loop μ-loop
     (λ c κs. let p = c .before .pre in header.sized _ _ (p .0 .header) _ (omega (arith, p .2, p .0 .header .levels-is)))
-    (λ c κs. let p = c .before .before .pre in (omega (arith, p .2, p .0 .header .facts .levels-high), p .0 .header .facts .long))
+    (λ c κs. let p = c .before .before .pre in (omega (arith, p .2, p .0 .header .facts .bounds .levels-high), p .0 .header .facts .long))
     (λ c. (omega arith, λ x l. absurd (let z : ⊥ = omega arith in z)))
     (λ c κs. let w = c .before .before in let p = w .before .before .before .pre in laws.block-asks _ _
     (p .0) (p .1) _ _ _ (p .2) (header.full-is _ _ (p .0 .header) _ _ (w .before .block-length .ensures)) (omega (arith, w .level-count .ensures)))

@@ -1,7 +1,7 @@
 use borrow.Author.Needs.{needs}
 use Rattle.format.specs.Settings.{pieces}
-use Rattle.layout.proofs.header.pieces.Statement.{statement}
-use Rattle.layout.proofs.header.pieces.Tie as tie
+use Rattle.layout.proofs.settings.pieces.Statement.{statement}
+use Rattle.layout.proofs.settings.pieces.Tie as tie
 
 pub pieces-spec : {M : Type 1} → statement M
 unfolding pieces
