@@ -1,5 +1,4 @@
 // What a caller must know of a tree without reading its bytes: the header's figures, with the totals of the counted bytes; and the library's version.
-use ask_rank::count_by_header;
 use layout::header;
 use layout::header::Header;
 use layout::header::HeaderRead;
@@ -134,7 +133,7 @@ fn total_of(t: &[u8], h: Header, c: u32) -> u64
     if h.settings.counted <= c {
         return 0;
     }
-    count_by_header::total(t, h, c)
+    ask_totals::total(t, h, c)
 }
 
 // How many blocks each level has, then zeros: the header's eight words.

@@ -1,7 +1,7 @@
 // The words of a guide: how many there are, and the block that each names.
-use ask_rank::count_by_header;
 use ask_select::seek;
 use ask_select::seek::Along;
+use ask_select::seek::Blocks;
 use layout::header::Header;
 use layout::place::BlockNumber;
 use layout::record;
@@ -21,7 +21,7 @@ pub fn entries_of(t: &[u8], h: Header, number: u32) -> u64
     requires { ⌜ (HeaderOf (now t) h) × (number < at.countedCount (now t)) ⌝ }
     ensures { λ r. ⌜ (r ≡ entriesOf (now (t .entry)) number) × (r ≤ 2 ^ 64 / listedEvery) ⌝ }
 {
-    let all = count_by_header::total(t, h, number);
+    let all = ask_totals::total(t, h, number);
     if all % LISTED_EVERY == 0 {
         return all / LISTED_EVERY;
     }
@@ -48,13 +48,9 @@ pub fn block_from(t: &[u8], h: Header, number: u32, from: BlockNumber, j: u64) -
     ensures { λ r. ⌜ (LastBefore (now (t .entry)) number 0 (from .0) (at.levelCount (now (t .entry)) 0) j (r .block .0))
         × (from .0 + r .steps ≡ r .block .0) ⌝ }
 {
-    seek::step_along(
-        t,
-        h,
-        number,
-        0,
-        from,
-        BlockNumber(record::level_count(t, 0)),
-        j,
-    )
+    let blocks = Blocks {
+        first: from,
+        end: BlockNumber(record::level_count(t, 0)),
+    };
+    seek::step_along(t, h, number, 0, blocks, j)
 }

@@ -8,10 +8,9 @@ use Prim.Native.Nat.{ℕ, _-_, _≤_, _<_}
 use Rattle.format.specs.Layout as at
 use Rattle.format.specs.Said.{Said, refused}
 use Rattle.format.specs.CountSays.{numberOfByte}
-use Rattle.format.specs.FindSays.{selectNumber, found}
+use Rattle.format.specs.FindSays.{selectNumber, found, FindBy}
 use Rattle.ask_select.specs.declared.Found.{Found}
 use Rattle.ask_select.specs.declared.Found.the-variants as find
-use Rattle.ask_select.specs.Found.{FindBy}
 use Rattle.ask_guide.specs.Guides.{lastListed, blockOf, guideNumber}
 use Rattle.ask_guided.specs.declared.Guided.{Guided}
 use Rattle.ask_guided.specs.declared.Guided.the-variants.{At, Refused}

@@ -1,11 +1,9 @@
 // Find with a guide, of a tree that passes questions 5 to 7, by its header.
 use crate::Guided;
 use ask_guide::entry_words;
-use ask_rank::count_by_header;
-use ask_rank::counted_number;
-use ask_rank::counted_number::Wanted;
 use ask_select::Found;
 use ask_select::seek;
+use ask_totals::Wanted;
 use layout::header::Header;
 use layout::place::BlockNumber;
 use layout::record;
@@ -23,14 +21,14 @@ pub fn find_guided_at(t: &[u8], h: Header, guide: &[u8], byte: u8, j: u32) -> Gu
     requires { ⌜ HeaderOf (now t) h ⌝ }
     ensures { λ r. ⌜ GuidedAnswer (now (t .entry)) (now (guide .entry)) byte j r ⌝ }
 {
-    let number = counted_number::number_of(t, h.settings.counted, byte);
+    let number = ask_totals::number_of(t, h.settings.counted, byte);
     if h.settings.counted <= number {
         return Guided::Refused(11);
     }
     if j == 0 {
         return Guided::Refused(12);
     }
-    let all = count_by_header::total(t, h, number);
+    let all = ask_totals::total(t, h, number);
     if all < j as u64 {
         return Guided::Refused(12);
     }

@@ -1,21 +1,16 @@
 -- Count, from the sums of a path.
 use mathlib.Core.List.{List}
 use mathlib.Core.Option.{Option, none, some}
-use mathlib.Core.Bool.{true, false}
 use mathlib.Core.Path.{_≡_, refl, sym, ap, _∙_}
-use mathlib.Core.Logic.{_⊎_, inl, inr}
-use Prim.Native.Nat.{ℕ, _+_, _-_, _/_, _%_, _≤_, _<_}
+use Prim.Native.Nat.{ℕ, _-_, _/_, _%_, _≤_, _<_}
 use native.Mathlib.Omega.{arith}
-use borrow.Author.Tests.{lt-ltb, le-ltb, lt-leb, le-leb, ne-eqb}
-use lib.ListN.{length}
-use Rattle.text.specs.ListLaws.{lt-or-ge}
+use borrow.Author.Tests.{lt-leb, le-leb, ne-eqb}
 use Rattle.format.specs.Layout as at
 use Rattle.format.specs.Path.{Path, pathOf}
 use Rattle.format.specs.Verdict.{readable}
 use Rattle.format.specs.Said.{Said, refused}
 use Rattle.format.specs.SaidLaws.{unless-refused}
-use Rattle.format.specs.CountSays.{indexOf, countOf, isCounted, numberOfByte, countSays}
-use Rattle.format.specs.FindSays.{total}
+use Rattle.format.specs.CountSays.{countOf, numberOfByte, countSays}
 use Rattle.layout.specs.declared.header.Header.{Header}
 use Rattle.layout.specs.declared.header.HeaderRead.{HeaderRead}
 use Rattle.layout.specs.declared.header.HeaderRead.the-variants.{Refused}
@@ -23,6 +18,7 @@ use Rattle.layout.specs.Header.{headerSays}
 use Rattle.layout.specs.HeaderSays.{HeaderOf, header-refused}
 use Rattle.ask_rank.specs.Sums.{wholeSum}
 use Rattle.ask_rank.specs.Counts.{settled, saidIn}
+use Rattle.ask_totals.proofs.TotalLaws.{not-counted, is-counted}
 use Rattle.ask_rank.proofs.SumLaws.{broken-word}
 
 -- the finished count
@@ -38,38 +34,6 @@ settled-whole : (t : List ℕ) (byte c : ℕ) (r : Option Path) → settled (who
 unfolding settled wholeSum
 settled-whole t byte c none = refl
 settled-whole t byte c (some q) = refl
-
--- the number of a byte, and whether it is counted
-module _ (t : List ℕ) (h : Header) (k : HeaderOf t h) (byte number : ℕ) (is : number ≡ numberOfByte t byte) where
-  pub not-counted : h .settings .counted ≤ number → isCounted t byte ≡ false
-  unfolding isCounted numberOfByte
-  not-counted past = le-ltb (indexOf byte (at.settings t .counted)) (length (at.settings t .counted)) (omega (arith, k .facts .counted-size, k .counted-is))
-
-  pub is-counted : number < h .settings .counted → isCounted t byte ≡ true
-  unfolding isCounted numberOfByte
-  is-counted low = lt-ltb (indexOf byte (at.settings t .counted)) (length (at.settings t .counted)) (omega (arith, k .facts .counted-size, k .counted-is))
-
-  pub number-in : number < h .settings .counted → number < at.countedCount t
-  number-in low = omega (arith, k .counted-is)
-
--- where a byte stands, level 0 has a block
-pub some-block : (t : List ℕ) (c : ℕ) → 1 ≤ total t c → 0 < at.levelCount t 0
-unfolding total
-some-block t c h = go (lt-or-ge 0 (at.levelCount t 0))
-  where
-    go : (0 < at.levelCount t 0) ⊎ (at.levelCount t 0 ≤ 0) → 0 < at.levelCount t 0
-    go (inl l) = l
-    go (inr l) = absurd (let e : at.levelCount t 0 ≡ 0 = omega arith in let z : 1 ≤ 0 = rw e at h in let y : ⊥ = omega arith in y)
-
--- the total
-pub total-none : (t : List ℕ) (c n : ℕ) → n ≡ at.levelCount t 0 → n ≡ 0 → 0 ≡ total t c
-unfolding total
-total-none t c n e z = rw (← e, z)
-
-pub total-is : (t : List ℕ) (c n before inside : ℕ)
-    → n ≡ at.levelCount t 0 → (n ≡ 0 → ⊥) → before ≡ at.before t 0 (n - 1) c → inside ≡ at.inside t 0 (n - 1) c → before + inside ≡ total t c
-unfolding total
-total-is t c n before inside e full b i = rw (← e, ne-eqb n 0 full, b, i)
 
 -- each way out of count
 module _ (t : List ℕ) (h : Header) (k : HeaderOf t h) (byte i : ℕ) where

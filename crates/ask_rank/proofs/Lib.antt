@@ -1,4 +1,3 @@
-pub mod CountedNumberLaws
 pub mod SumLaws
 pub mod CountByHeaderLaws
 mod UncountedLaws

@@ -11,21 +11,18 @@ use lib.ListN.{length}
 use lib.Dec.{eqb}
 use Rattle.text.specs.ListLaws.{lt-or-ge}
 use Rattle.text.specs.Text.{stretch, countIn}
+use Rattle.format.specs.Layout as at
 use Rattle.format.specs.RecordFields.{skipField}
 use Rattle.format.specs.Settings.{maxLevels}
-use Rattle.format.specs.Layout as at
-use Rattle.format.specs.LayoutLaws.{Readable}
 use Rattle.format.specs.Path.{Path, Visit, visit, entered, keptBlock, pointingBlock, targetBlock, targetPlace, pathFrom, pathOf}
 use Rattle.format.specs.CountSays.{addedAfter, added, takenAfter, taken, lastPlace, leavesReached}
 use Rattle.theory_paths.specs.PlacesLand.{from-last, from-kept, from-pointing, target-first, target-second}
 use Rattle.theory_paths.specs.Visits.{goes}
-use Rattle.layout.specs.declared.header.Header.{Header}
 use Rattle.layout.specs.declared.place.BlockNumber.{BlockNumber}
 use Rattle.layout.specs.declared.place.BlockPlace.{BlockPlace}
 use Rattle.layout.specs.Record.{FieldIn, field-in}
 use Rattle.walk_steps.specs.declared.Next.{Next}
 use Rattle.walk_steps.specs.declared.Next.the-variants.{Kept, Points, Off}
-use Rattle.layout.specs.HeaderSays.{HeaderOf}
 use Rattle.walk_steps.specs.declared.Part.{Part}
 use Rattle.walk_steps.specs.declared.Arrived.{Arrived}
 use Rattle.walk_steps.specs.declared.Arrived.the-variants as arrived
@@ -45,15 +42,7 @@ use Rattle.format.specs.Said.{Said, refused}
 use Rattle.ask_rank.specs.Counts.{settled, saidIn}
 use Rattle.ask_rank.specs.Sums.{onward, addedRest, summed, startSum, wholeSum, Carried, Across}
 
--- every field of every record can be read
-pub facts : (t : List ℕ) (h : Header) → HeaderOf t h → Readable t
-facts t h k = k .facts
-
-pub field-there : (t : List ℕ) (h : Header) (level i c f : ℕ) → HeaderOf t h → level < at.settings t .levels → i < at.levelCount t level → c < at.countedCount t
-    → f ≤ skipField c → FieldIn t (h .«record_size») level i f
-field-there t h level i c f k hl hi hc hf =
-    field-in t (facts t h k) (h .«record_size») level i f (k .size-is) hl hi (omega arith)
-
+-- a field of a block of a level can be read
 pub field-on : (t : List ℕ) (size level b i c f : ℕ)
     → OnLevel t size level b → i < at.levelCount t level → c < at.countedCount t → f ≤ skipField c → FieldIn t size level i f
 field-on t size level b i c f k hi hc hf = field-in t (k .facts) size level i f (k .size-is) (k .level-in) hi (omega arith)
@@ -76,8 +65,8 @@ carried-on t c s r plus minus k e hp hm = rw e (record {
 pub carried-small : (t : List ℕ) (c : ℕ) (s : Sum) → Carried t c s → s .entered ≤ 2 * maxLevels → (s .plus ≤ 1099511627776) × (s .minus ≤ 1099511627776)
 carried-small t c s k few = (omega (arith, k .plus-few), omega (arith, k .minus-few))
 
-pub carried-word : (t : List ℕ) (c : ℕ) (s r : Sum) (plus : ℕ) → Carried t c s
-    → s .entered ≤ 2 * maxLevels → r ≡ onward s plus 0 → plus < 4294967296 → (r .entered ≤ 2 * maxLevels + 1) × (r .plus ≤ 1099511627776)
+pub carried-word : (t : List ℕ) (c : ℕ) (s r : Sum) (plus : ℕ)
+    → Carried t c s → s .entered ≤ 2 * maxLevels → r ≡ onward s plus 0 → plus < 4294967296 → (r .entered ≤ 2 * maxLevels + 1) × (r .plus ≤ 1099511627776)
 unfolding onward
 carried-word t c s r plus k few e small = rw e (omega arith, omega (arith, k .plus-few))
 
@@ -226,8 +215,8 @@ module _ (t : List ℕ) (size level b i o : ℕ) (s : Sum) (k : KeptAt t size le
 
   module _ (c : ℕ) (j : BlockNumber) (p : BlockPlace) (e : x ≡ arrived.At j p) where
     -- what is asked where its before is read
-    pub down-asks : Carried t c s → (OnLevel t size (level + 1) (at.fullLength t (level + 1)))
-        × (j .0 < at.levelCount t (level + 1)) × (s .entered ≤ 2 * maxLevels) × (Carried t c s)
+    pub down-asks : Carried t c s
+        → (OnLevel t size (level + 1) (at.fullLength t (level + 1))) × (j .0 < at.levelCount t (level + 1)) × (s .entered ≤ 2 * maxLevels) × (Carried t c s)
     down-asks w =
         let z = child-at t (level + 1) (at.link t level i + o / below) (o % below) x x-is j p e in
         (rw (← lower .b-is) lower, rw (z .1) (z .0), entered-small t size level b i o (s .entered) k, w)

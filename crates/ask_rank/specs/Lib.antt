@@ -1,3 +1,2 @@
-pub mod CountedNumber
 pub mod Sums
 pub mod Counts

@@ -1,16 +1,10 @@
 // Count, of a tree that passes questions 5 to 7, by its header.
 use crate::Counted;
-use crate::counted_number;
-use crate::counted_number::Wanted;
 use crate::sums;
+use ask_totals::Wanted;
 use layout::header::Header;
-use layout::place::BlockNumber;
 use layout::place::TextPlace;
-use layout::record;
 ghost use mathlib.Core.Path.{_≡_};
-ghost use Prim.Native.Nat.{_<_};
-ghost use Rattle.format.specs.Layout as at;
-ghost use Rattle.format.specs.FindSays as find;
 ghost use Rattle.layout.specs.HeaderSays.{HeaderOf};
 ghost use Rattle.ask_rank.specs.Counts.{saidCount, saidIn, Numbered, CountAnswer};
 
@@ -22,7 +16,7 @@ pub fn count_at(t: &[u8], h: Header, byte: u8, i: u32) -> Counted
     if h.length < i {
         return Counted::Refused(10);
     }
-    let number = counted_number::number_of(t, h.settings.counted, byte);
+    let number = ask_totals::number_of(t, h.settings.counted, byte);
     if h.settings.counted <= number {
         return Counted::Refused(11);
     }
@@ -40,18 +34,4 @@ fn settle(word: u64) -> Counted
         return Counted::Refused(14);
     }
     Counted::Times(word % 281474976710656, (word / 281474976710656) as u32)
-}
-
-// How often a counted byte stands in the text: before and inside of the last block of level 0, or 0 where no block is.
-pub fn total(t: &[u8], h: Header, number: u32) -> u64
-    requires { ⌜ (HeaderOf (now t) h) × (number < at.countedCount (now t)) ⌝ }
-    ensures { λ r. ⌜ r ≡ find.total (now (t .entry)) number ⌝ }
-{
-    let count = record::level_count(t, 0);
-    if count == 0 {
-        return 0;
-    }
-    let last = BlockNumber(count - 1);
-    let before = record::before(t, h.record_size, 0, last, number) as u64;
-    before + record::inside(t, h.record_size, 0, last, number) as u64
 }

@@ -1,10 +1,11 @@
 // The sums down the path of a place: what is added and what is taken off, apart. The step for a kept block and the step for a
 // pointing block call each other: twice the levels left, plus one if a pointer may still be followed, falls. A step carries no header,
 // and its answer is one word.
-use crate::counted_number::Wanted;
+use ask_totals::Wanted;
 use layout::header::Header;
 use layout::place::BlockNumber;
-use layout::place::BlockPlace;
+use layout::place::On;
+use layout::place::Spot;
 use layout::place::TextPlace;
 use layout::record;
 use walk_steps::Arrived;
@@ -14,8 +15,8 @@ ghost use mathlib.Core.Path.{_≡_};
 ghost use mathlib.Core.Bool.{cond};
 ghost use Prim.Native.Nat.{_+_, _-_, _*_, _≤_, _<_};
 ghost use lib.Dec.{eqb};
-ghost use Rattle.format.specs.Settings.{maxLevels};
 ghost use Rattle.format.specs.Layout as at;
+ghost use Rattle.format.specs.Settings.{maxLevels};
 ghost use Rattle.format.specs.Path.{pathFrom, pathOf};
 ghost use Rattle.layout.specs.HeaderSays.{HeaderOf};
 ghost use Rattle.walk_steps.specs.Steps.{OnLevel};
@@ -64,51 +65,42 @@ impl Sum {
 pub const BROKEN: u64 = 18446744073709551615;
 
 // The leaf bytes of a kept block of the last level, up to a place.
-fn leaf(
-    t: &[u8],
-    size: u32,
-    wanted: Wanted,
-    level: u32,
-    b: u32,
-    block: BlockNumber,
-    place: BlockPlace,
-    sum: Sum,
-) -> u64
-    requires { ⌜ (KeptAt (now t) size level b (block .0) (place .0) (sum .entered)) × (Carried (now t) (wanted .number) sum) ⌝ }
-    ensures { λ r. ⌜ saidIn r ≡ settled
-        (summed (now (t .entry)) (wanted .byte) (wanted .number) sum (pathFrom (now (t .entry)) 0 level (block .0) (place .0))) ⌝ }
+fn leaf(t: &[u8], size: u32, wanted: Wanted, on: On, spot: Spot, sum: Sum) -> u64
+    requires { ⌜ (KeptAt (now t) size (on .level) (on .b) (spot .block .0) (spot .place .0) (sum .entered)) × (Carried (now t) (wanted .number) sum) ⌝ }
+    ensures { λ r. ⌜ saidIn r ≡ settled (summed (now (t .entry)) (wanted .byte) (wanted .number) sum
+        (pathFrom (now (t .entry)) 0 (on .level) (spot .block .0) (spot .place .0))) ⌝ }
 {
-    let link = record::link(t, size, level, block) as u64;
-    let number = link + place.0 as u64;
+    let link = record::link(t, size, on.level, spot.block) as u64;
+    let number = link + spot.place.0 as u64;
     let shape = fields::shape_of(t);
     if number < shape.leaf_count as u64 {
         let from = shape.leaf_offset as usize + link as usize;
-        let here = stretches::count_in(t, from, place.0 + 1, wanted.byte);
+        let here = stretches::count_in(t, from, spot.place.0 + 1, wanted.byte);
         let all = sum.enter(here, 0);
         return all.packed();
     }
     BROKEN
 }
 
-// From a pointing block to its target: the block's skip is taken off, and the first target's inside is added if the second is
-// entered.
-fn across(
-    t: &[u8],
-    size: u32,
-    wanted: Wanted,
-    level: u32,
+// A pointing block, and the target that it hands a place to.
+struct Hop {
     block: BlockNumber,
     target: BlockNumber,
-    sum: Sum,
-) -> Sum
-    requires { ⌜ (Across (now t) size level (block .0) (target .0)) × (sum .entered ≤ 2 * maxLevels) × (Carried (now t) (wanted .number) sum) ⌝ }
-    ensures { λ r. ⌜ r ≡ onward sum (cond (eqb (target .0) (at.link (now (t .entry)) level (block .0))) 0 (at.inside (now (t .entry))
-        level (at.link (now (t .entry)) level (block .0)) (wanted .number))) (at.skip (now (t .entry)) level (block .0) (wanted .number)) ⌝ }
+}
+
+// From a pointing block to its target: the block's skip is taken off, and the first target's inside is added if the second is
+// entered.
+fn across(t: &[u8], size: u32, wanted: Wanted, level: u32, hop: Hop, sum: Sum) -> Sum
+    requires { ⌜ (Across (now t) size level (hop .block .0) (hop .target .0)) × (sum .entered ≤ 2 * maxLevels) × (Carried (now t) (wanted .number) sum) ⌝ }
+    ensures { λ r. ⌜ r ≡ onward sum
+        (cond (eqb (hop .target .0) (at.link (now (t .entry)) level (hop .block .0))) 0
+        (at.inside (now (t .entry)) level (at.link (now (t .entry)) level (hop .block .0)) (wanted .number)))
+        (at.skip (now (t .entry)) level (hop .block .0) (wanted .number)) ⌝ }
     ensures { λ r. ⌜ Carried (now (t .entry)) (wanted .number) r ⌝ }
 {
-    let link = record::link(t, size, level, block);
-    let skip = record::skip(t, size, level, block, wanted.number);
-    if target.0 == link {
+    let link = record::link(t, size, level, hop.block);
+    let skip = record::skip(t, size, level, hop.block, wanted.number);
+    if hop.target.0 == link {
         return sum.enter(0, skip);
     }
     let inside = record::inside(t, size, level, BlockNumber(link), wanted.number);
@@ -127,62 +119,59 @@ fn down(t: &[u8], size: u32, wanted: Wanted, level: u32, block: BlockNumber, sum
 }
 
 // From a kept block, which hands the place to a child.
-fn kept_step(
-    t: &[u8],
-    size: u32,
-    wanted: Wanted,
-    level: u32,
-    b: u32,
-    block: BlockNumber,
-    place: BlockPlace,
-    sum: Sum,
-) -> u64
-    requires { ⌜ (KeptAt (now t) size level b (block .0) (place .0) (sum .entered)) × (Carried (now t) (wanted .number) sum) ⌝ }
-    ensures { λ r. ⌜ saidIn r ≡ settled (summed (now (t .entry)) (wanted .byte)
-        (wanted .number) sum (pathFrom (now (t .entry)) (at.settings (now (t .entry)) .levels - 1 - level) level (block .0) (place .0))) ⌝ }
+fn kept_step(t: &[u8], size: u32, wanted: Wanted, on: On, spot: Spot, sum: Sum) -> u64
+    requires { ⌜ (KeptAt (now t) size (on .level) (on .b) (spot .block .0) (spot .place .0) (sum .entered)) × (Carried (now t) (wanted .number) sum) ⌝ }
+    ensures { λ r. ⌜ saidIn r ≡ settled (summed (now (t .entry)) (wanted .byte) (wanted .number) sum
+        (pathFrom (now (t .entry)) (at.settings (now (t .entry)) .levels - 1 - on .level) (on .level) (spot .block .0) (spot .place .0))) ⌝ }
 {
     let tree = fields::whole(t);
     let shape = fields::shape_of(tree);
-    let under = level + 1;
+    let under = on.level + 1;
     if under == shape.levels {
-        return leaf(tree, size, wanted, level, b, block, place, sum);
+        return leaf(tree, size, wanted, on, spot, sum);
     }
-    let below = walk_steps::quotient(b, shape.arity);
-    let child = walk_steps::child(tree, size, level, below, block, place);
+    let below = walk_steps::quotient(on.b, shape.arity);
+    let child = walk_steps::child(tree, size, on.level, below, spot.block, spot.place);
     let Arrived::At(i, p) = child else {
         return BROKEN;
     };
-    let on = down(tree, size, wanted, under, i, sum);
-    pointing_step(tree, size, wanted, under, below, i, p, on)
+    let further = down(tree, size, wanted, under, i, sum);
+    pointing_step(
+        tree,
+        size,
+        wanted,
+        On {
+            level: under,
+            b: below,
+        },
+        Spot { block: i, place: p },
+        further,
+    )
 }
 
 // From a block at which a pointer may still be followed: a pointing one hands the place to a kept block of its level, on the last level
 // no block points.
-fn pointing_step(
-    t: &[u8],
-    size: u32,
-    wanted: Wanted,
-    level: u32,
-    b: u32,
-    block: BlockNumber,
-    place: BlockPlace,
-    sum: Sum,
-) -> u64
-    requires { ⌜ (MayPoint (now t) size level b (block .0) (place .0) (sum .entered)) × (Carried (now t) (wanted .number) sum) ⌝ }
-    ensures { λ r. ⌜ saidIn r ≡ settled (summed (now (t .entry)) (wanted .byte)
-        (wanted .number) sum (pathFrom (now (t .entry)) (at.settings (now (t .entry)) .levels - 1 - level) level (block .0) (place .0))) ⌝ }
+fn pointing_step(t: &[u8], size: u32, wanted: Wanted, on: On, spot: Spot, sum: Sum) -> u64
+    requires { ⌜ (MayPoint (now t) size (on .level) (on .b) (spot .block .0) (spot .place .0) (sum .entered)) × (Carried (now t) (wanted .number) sum) ⌝ }
+    ensures { λ r. ⌜ saidIn r ≡ settled (summed (now (t .entry)) (wanted .byte) (wanted .number) sum
+        (pathFrom (now (t .entry)) (at.settings (now (t .entry)) .levels - 1 - on .level) (on .level) (spot .block .0) (spot .place .0))) ⌝ }
 {
     let tree = fields::whole(t);
-    let here = walk_steps::look(tree, size, level, b, block, place);
+    let here = walk_steps::look(tree, size, on.level, on.b, spot.block, spot.place);
     match here {
-        Next::Kept(_, _) => kept_step(tree, size, wanted, level, b, block, place, sum),
+        Next::Kept(_, _) => kept_step(tree, size, wanted, on, spot, sum),
         Next::Points(_, _) => {
-            let there = walk_steps::land(tree, size, level, b, block, place);
+            let there = walk_steps::land(tree, size, on.level, on.b, spot.block, spot.place);
             let Arrived::At(i, p) = there else {
                 return BROKEN;
             };
-            let on = across(tree, size, wanted, level, block, i, sum);
-            kept_step(tree, size, wanted, level, b, i, p, on)
+            let from = spot.block;
+            let hop = Hop {
+                block: from,
+                target: i,
+            };
+            let further = across(tree, size, wanted, on.level, hop, sum);
+            kept_step(tree, size, wanted, on, Spot { block: i, place: p }, further)
         }
         Next::Off => BROKEN,
     }
@@ -210,5 +199,18 @@ pub fn walk(t: &[u8], h: Header, wanted: Wanted, place: TextPlace) -> u64
     let rest = part.place;
     let first = BlockNumber(part.blocks);
     let sum = start(t, h, wanted, first);
-    pointing_step(t, h.record_size, wanted, 0, h.block, first, rest, sum)
+    pointing_step(
+        t,
+        h.record_size,
+        wanted,
+        On {
+            level: 0,
+            b: h.block,
+        },
+        Spot {
+            block: first,
+            place: rest,
+        },
+        sum,
+    )
 }

@@ -20,7 +20,7 @@ use Rattle.format.specs.Verdict.{verdict}
 use Rattle.format.specs.Said.{Said, refused}
 use Rattle.format.specs.ReadSays.{byteSays}
 use Rattle.format.specs.CountSays.{numberOfByte}
-use Rattle.format.specs.FindSays.{total, selectNumber}
+use Rattle.format.specs.FindSays.{total, selectNumber, FindBy}
 use Rattle.format.specs.FindSaysLaws.{Selected, select-passes, select-lets}
 use Rattle.format.specs.RowSays.{lastNumber, asksLast, rowNumber, rowMost}
 use Rattle.format.specs.RowSaysLaws.{AsksLast, asks-last, row-number-last, row-number-plain}
@@ -31,14 +31,14 @@ use Rattle.layout.specs.HeaderSays.{HeaderOf}
 use Rattle.ask_access.specs.declared.Answer.{Answer}
 use Rattle.ask_access.specs.declared.Answer.the-variants as answer
 use Rattle.ask_access.specs.ReadAnswers.{said}
-use Rattle.ask_rank.proofs.CountByHeaderLaws.{not-counted, is-counted}
+use Rattle.ask_totals.proofs.TotalLaws.{not-counted, is-counted}
 use Rattle.theory_counts.specs.Demands as tallies
 use Rattle.ask_select.specs.declared.Found.{Found}
 use Rattle.ask_select.specs.declared.Found.the-variants as found-is
 use Rattle.ask_rows.specs.declared.row_edges.Edges.{Edges}
 use Rattle.ask_rows.specs.declared.row_edges.Edges.the-variants as edges
-use Rattle.ask_select.specs.Found.{saidFind, Numbered, FindAnswer, FindBy, FoundBy}
-use Rattle.ask_select.proofs.FoundLaws.{find-by, refused-not, refused-free, place-asked, place-is, place-in-text}
+use Rattle.ask_select.specs.Found.{saidFind, Numbered, FindAnswer, FoundBy}
+use Rattle.ask_select.proofs.FoundLaws.{refused-not, refused-free, place-asked, place-is, place-in-text}
 use Rattle.ask_guide.proofs.GuideList.{guide-verdict}
 use Rattle.ask_guided.specs.declared.Guided.{Guided}
 use Rattle.ask_guided.specs.Guided.{GuidedAnswer, foundOf}
@@ -59,7 +59,7 @@ ten-guided t guide used j g r e a is = rw (e, is) (found-by t guide 10 j g a)
 
 pub ten-plain : (t guide : List ℕ) (used : Bool) (j : ℕ) (r : Found) → used ≡ false → FindAnswer t 10 j r → FoundBy t (settledBy t guide used) 10 j r
 unfolding settledBy
-ten-plain t guide used j r e a = rw e (record { says = find-by t 10 j (saidFind r) (a .says); numbered = a .numbered })
+ten-plain t guide used j r e a = rw e a
 
 -- the edges
 

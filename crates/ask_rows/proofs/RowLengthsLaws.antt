@@ -32,7 +32,7 @@ use Rattle.layout.specs.HeaderSays.{HeaderOf, header-refused}
 use Rattle.ask_access.specs.declared.Answer.{Answer}
 use Rattle.ask_access.specs.declared.Answer.the-variants as answer
 use Rattle.ask_access.specs.ReadAnswers.{said}
-use Rattle.ask_rank.proofs.CountByHeaderLaws.{not-counted, is-counted}
+use Rattle.ask_totals.proofs.TotalLaws.{not-counted, is-counted}
 use Rattle.ask_rows.specs.declared.row_edges.Edges.{Edges}
 use Rattle.ask_rows.specs.declared.row_edges.Edges.the-variants as edges
 use Rattle.ask_rows.specs.declared.RowLength.the-variants as size

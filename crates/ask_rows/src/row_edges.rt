@@ -1,8 +1,6 @@
 // The edges of a row, of a tree that passes questions 5 to 7, by its header.
 use ask_access::Answer;
 use ask_access::read_by_header;
-use ask_rank::count_by_header;
-use ask_rank::counted_number;
 use ask_select::Found;
 use ask_select::find_by_header;
 use layout::header::Header;
@@ -50,7 +48,7 @@ fn asks_last(t: &[u8], h: Header, q: u32) -> bool
     requires { ⌜ HeaderOf (now t) h ⌝ }
     ensures { λ r. ⌜ r ≡ asksLast (now (t .entry)) q ⌝ }
 {
-    let number = counted_number::number_of(t, h.settings.counted, 10);
+    let number = ask_totals::number_of(t, h.settings.counted, 10);
     if h.settings.counted <= number {
         return false;
     }
@@ -60,7 +58,7 @@ fn asks_last(t: &[u8], h: Header, q: u32) -> bool
     if q == 0 {
         return false;
     }
-    (q - 1) as u64 == count_by_header::total(t, h, number)
+    (q - 1) as u64 == ask_totals::total(t, h, number)
 }
 
 // The edges of the row after the last byte 10, which is there if the text's last byte is not 10: past that byte 10, or the text's start, up

@@ -5,8 +5,6 @@ use crate::row_edges;
 use crate::row_edges::Edges;
 use ask_access::Answer;
 use ask_access::read_by_header;
-use ask_rank::count_by_header;
-use ask_rank::counted_number;
 use layout::header::Header;
 use layout::place::TextPlace;
 ghost use Rattle.layout.specs.HeaderSays.{HeaderOf};
@@ -29,11 +27,11 @@ pub fn count_at(t: &[u8], h: Header) -> RowCount
     requires { ⌜ HeaderOf (now t) h ⌝ }
     ensures { λ r. ⌜ CountAnswer (now (t .entry)) r ⌝ }
 {
-    let number = counted_number::number_of(t, h.settings.counted, 10);
+    let number = ask_totals::number_of(t, h.settings.counted, 10);
     if h.settings.counted <= number {
         return RowCount::Refused(11);
     }
-    let tens = count_by_header::total(t, h, number);
+    let tens = ask_totals::total(t, h, number);
     if h.length == 0 {
         return RowCount::Rows(tens);
     }

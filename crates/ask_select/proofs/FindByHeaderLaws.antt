@@ -32,14 +32,14 @@ use Rattle.theory_counts.specs.CountsLocal.{byteOf}
 use Rattle.theory_counts.specs.CountedStretches.{tally-none}
 use Rattle.theory_counts.specs.Ranks as ranks
 use Rattle.theory_counts.specs.Finds as finds
-use Rattle.ask_rank.specs.declared.counted_number.Wanted.{Wanted}
+use Rattle.ask_totals.specs.declared.Wanted.{Wanted}
 use Rattle.ask_select.specs.declared.seek.Placed.{Placed}
 use Rattle.ask_select.specs.declared.seek.Placed.the-variants as placed
 use Rattle.ask_select.specs.declared.seek.Child.{Child}
 use Rattle.ask_select.specs.declared.seek.Child.the-variants as child
 use Rattle.ask_select.specs.Seeks.{KeptIn, PointsIn, Siblings, LastBefore, picked, Seeking, FoundIn}
 use Rattle.ask_select.specs.Found.{placedIn, Sought, Stopped, SoughtIn}
-use Rattle.ask_rank.proofs.CountByHeaderLaws.{some-block, not-counted, is-counted}
+use Rattle.ask_totals.proofs.TotalLaws.{some-block, not-counted, is-counted}
 use Rattle.ask_select.proofs.LandLaws.{Picked, k, d, a, picked-kept, picked-points, picked-off, one-of}
 
 pub top-siblings : (t : List ℕ) (h : Header) (c n : ℕ) → HeaderOf t h → c < at.countedCount t → 1 ≤ total t c → n ≡ at.levelCount t 0 → Siblings t h c 0 0 n

@@ -13,14 +13,14 @@ use Rattle.format.specs.Fits.{textOf}
 use Rattle.format.specs.Verdict.{verdict}
 use Rattle.format.specs.VerdictLaws.{accepted-readable, accepted-links}
 use Rattle.format.specs.Said.{Said, refused}
-use Rattle.format.specs.FindSays.{selectNumber, pathLength, found, FindSays}
+use Rattle.format.specs.FindSays.{selectNumber, pathLength, found, FindBy, FindSays}
 use Rattle.format.specs.FindSaysLaws.{Selected, select-passes}
 use Rattle.theory_paths.specs.Visits.{path-long}
 use Rattle.theory_paths.specs.Demands as paths
 use Rattle.theory_counts.specs.Demands as tallies
 use Rattle.ask_select.specs.declared.Found.{Found}
 use Rattle.ask_select.specs.declared.Found.the-variants.{At, Refused}
-use Rattle.ask_select.specs.Found.{saidFind, FindBy}
+use Rattle.ask_select.specs.Found.{saidFind}
 
 -- on an accepted tree the path of the j-th byte enters a block
 path-enters : (t : List ℕ) → verdict t ≡ 0 → (byte j : ℕ) → Selected t byte j → 1 ≤ pathLength t (pathOf t (placeOf byte j (textOf t)))
@@ -28,14 +28,9 @@ path-enters t v byte j h =
     let w = paths.no-path-breaks t (accepted-readable t v) (accepted-links t v) (placeOf byte j (textOf t)) (tallies.place-below t v byte j h) in
     rw (w .1) (path-long t (placeOf byte j (textOf t)) (w .0) (w .1))
 
--- find is settled by the check's number
-module _ (t : List ℕ) (byte j : ℕ) (s : Said) where
-  pub find-by : FindSays t byte j s → FindBy t (verdict t) byte j s
-  find-by f = record { asked = f .asked; accepted = f .accepted; free = f .free }
-
-  -- where it is settled, find says the same
-  pub by-find : (ok : ℕ) → (ok ≡ 0 → verdict t ≡ 0) → ok ≡ 0 → FindBy t ok byte j s → FindSays t byte j s
-  by-find ok sound z f = record { asked = f .asked; accepted = λ n v. f .accepted n z; free = λ n v. absurd (v (sound z)) }
+-- where it is settled, find says the same
+pub by-find : (t : List ℕ) (byte j : ℕ) (s : Said) (ok : ℕ) → (ok ≡ 0 → verdict t ≡ 0) → ok ≡ 0 → FindBy t ok byte j s → FindSays t byte j s
+by-find t byte j s ok sound z f = record { asked = f .asked; accepted = λ n v. f .accepted n z; free = λ n v. absurd (v (sound z)) }
 
 module _ (t : List ℕ) (ok byte j : ℕ) (sound : ok ≡ 0 → verdict t ≡ 0) (x : Found) (says : FindBy t ok byte j (saidFind x)) where
   module _ (n : ℕ) (e : x ≡ Refused n) (asked : selectNumber t byte j ≡ 0) where

@@ -36,7 +36,7 @@ use Rattle.theory_counts.specs.CountsLocal.{byteOf, inLeaves}
 use Rattle.theory_counts.specs.CountedStretches.{leaves-end, leaves-tally}
 use Rattle.theory_counts.specs.Finds as finds
 use Rattle.theory_counts.specs.Demands as demands
-use Rattle.ask_rank.specs.declared.counted_number.Wanted.{Wanted}
+use Rattle.ask_totals.specs.declared.Wanted.{Wanted}
 use Rattle.ask_select.specs.declared.seek.Placed.{Placed}
 use Rattle.ask_select.specs.declared.seek.Placed.the-variants as placed
 use Rattle.ask_select.specs.declared.seek.Child.{Child}

@@ -24,19 +24,13 @@ abbrev pub Numbered : Found → Type 0
 Numbered (At place entered) = Unit {0}
 Numbered (Refused number) = 1 ≤ number
 
-pub record FindAnswer (t : List ℕ) (byte j : ℕ) (r : Found) : Type 0 where
-  pub says : find.FindSays t byte j (saidFind r)
-  pub numbered : Numbered r
-
--- what a find may say that is settled where `ok` is 0: find's own is the check's number, that of a find with a guide the guide's
-pub record FindBy (t : List ℕ) (ok byte j : ℕ) (s : Said) : Type 0 where
-  pub asked : 0 < find.selectNumber t byte j → s ≡ refused (find.selectNumber t byte j)
-  pub accepted : find.selectNumber t byte j ≡ 0 → ok ≡ 0 → s ≡ find.found t byte j
-  pub free : find.selectNumber t byte j ≡ 0 → (ok ≡ 0 → ⊥) → (s ≡ refused 14) ⊎ ((s .number ≡ 0) × (s .value < at.textLength t))
-
+-- what a find answers that is settled where `ok` is 0: find's own is the check's number, that of a find with a guide the guide's
 pub record FoundBy (t : List ℕ) (ok byte j : ℕ) (r : Found) : Type 0 where
-  pub says : FindBy t ok byte j (saidFind r)
+  pub says : find.FindBy t ok byte j (saidFind r)
   pub numbered : Numbered r
+
+abbrev pub FindAnswer : (t : List ℕ) (byte j : ℕ) (r : Found) → Type 0
+FindAnswer t = FoundBy t (verdict t)
 
 -- a place in block i of level 0, as a place of the text of n bytes
 unfoldable pub placedIn : ℕ → ℕ → ℕ → Placed → Said

@@ -23,7 +23,7 @@ use Rattle.theory_counts.specs.Demands as demands
 use Rattle.format.specs.LayoutLaws.{readable-facts}
 use Rattle.format.specs.VerdictLaws.{accepted-readable, accepted-links}
 use Rattle.theory_paths.specs.Links.{linked-facts}
-use Rattle.ask_rank.specs.declared.counted_number.Wanted.{Wanted}
+use Rattle.ask_totals.specs.declared.Wanted.{Wanted}
 use Rattle.ask_select.specs.declared.seek.Placed.{Placed}
 use Rattle.ask_select.specs.declared.seek.Placed.the-variants as placed
 use Rattle.ask_select.specs.declared.seek.Child.{Child}

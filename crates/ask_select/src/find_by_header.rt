@@ -1,9 +1,7 @@
 // Find, of a tree that passes questions 5 to 7, by its header.
 use crate::Found;
 use crate::seek;
-use ask_rank::count_by_header;
-use ask_rank::counted_number;
-use ask_rank::counted_number::Wanted;
+use ask_totals::Wanted;
 use layout::header::Header;
 ghost use Rattle.layout.specs.HeaderSays.{HeaderOf};
 ghost use Rattle.ask_select.specs.Found.{FindAnswer};
@@ -13,14 +11,14 @@ pub fn find_at(t: &[u8], h: Header, byte: u8, j: u32) -> Found
     requires { ⌜ HeaderOf (now t) h ⌝ }
     ensures { λ r. ⌜ FindAnswer (now (t .entry)) byte j r ⌝ }
 {
-    let number = counted_number::number_of(t, h.settings.counted, byte);
+    let number = ask_totals::number_of(t, h.settings.counted, byte);
     if h.settings.counted <= number {
         return Found::Refused(11);
     }
     if j == 0 {
         return Found::Refused(12);
     }
-    let all = count_by_header::total(t, h, number);
+    let all = ask_totals::total(t, h, number);
     if all < j as u64 {
         return Found::Refused(12);
     }

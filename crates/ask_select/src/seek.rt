@@ -2,10 +2,12 @@
 // for a kept block and the step for a pointing block call each other: twice the levels left, plus one if a pointer may still be
 // followed, falls.
 use crate::Found;
-use ask_rank::counted_number::Wanted;
+use ask_totals::Wanted;
 use layout::header::Header;
 use layout::place::BlockNumber;
 use layout::place::BlockPlace;
+use layout::place::On;
+use layout::place::Spot;
 use layout::place::TextPlace;
 use layout::record;
 use layout::settings;
@@ -32,6 +34,18 @@ pub enum Placed {
 pub struct Along {
     pub block: BlockNumber,
     pub steps: u32,
+}
+
+// The blocks of a list from the first on, before the end.
+pub struct Blocks {
+    pub first: BlockNumber,
+    pub end: BlockNumber,
+}
+
+// A kept block, and the block length of its children.
+struct Parent {
+    block: BlockNumber,
+    below: u32,
 }
 
 // A block, where it starts in its parent, and what is left of j in it.
@@ -73,20 +87,12 @@ fn largest_before(t: &[u8], h: Header, number: u32, level: u32, block: BlockNumb
 }
 
 // Steps by fours, as long as no before of the four is j or more.
-fn by_fours(
-    t: &[u8],
-    h: Header,
-    number: u32,
-    level: u32,
-    first: BlockNumber,
-    end: BlockNumber,
-    j: u64,
-) -> BlockNumber
-    requires { ⌜ Siblings (now t) h number level (first .0) (end .0) ⌝ }
-    ensures { λ r. ⌜ Passed (now (t .entry)) number level (first .0) (end .0) j (r .0) ⌝ }
+fn by_fours(t: &[u8], h: Header, number: u32, level: u32, blocks: Blocks, j: u64) -> BlockNumber
+    requires { ⌜ Siblings (now t) h number level (blocks .first .0) (blocks .end .0) ⌝ }
+    ensures { λ r. ⌜ Passed (now (t .entry)) number level (blocks .first .0) (blocks .end .0) j (r .0) ⌝ }
 {
-    let last = end.0;
-    let mut i: u32 = first.0;
+    let last = blocks.end.0;
+    let mut i: u32 = blocks.first.0;
     while 4 < last - i {
         let most = largest_before(t, h, number, level, BlockNumber(i)) as u64;
         if j <= most {
@@ -98,22 +104,15 @@ fn by_fours(
 }
 
 // Of the blocks from first on, before end: the last one before any whose before is j or more, with the steps to it, counted on the way.
-pub fn step_along(
-    t: &[u8],
-    h: Header,
-    number: u32,
-    level: u32,
-    first: BlockNumber,
-    end: BlockNumber,
-    j: u64,
-) -> Along
-    requires { ⌜ Siblings (now t) h number level (first .0) (end .0) ⌝ }
-    ensures { λ r. ⌜ (LastBefore (now (t .entry)) number level (first .0) (end .0) j (r .block .0)) × (first .0 + r .steps ≡ r .block .0) ⌝ }
+pub fn step_along(t: &[u8], h: Header, number: u32, level: u32, blocks: Blocks, j: u64) -> Along
+    requires { ⌜ Siblings (now t) h number level (blocks .first .0) (blocks .end .0) ⌝ }
+    ensures { λ r. ⌜ (LastBefore (now (t .entry)) number level (blocks .first .0) (blocks .end .0) j (r .block .0))
+        × (blocks .first .0 + r .steps ≡ r .block .0) ⌝ }
 {
-    let near = by_fours(t, h, number, level, first, end, j);
-    let last = end.0;
+    let near = by_fours(t, h, number, level, blocks, j);
+    let last = blocks.end.0;
     let mut i: u32 = near.0;
-    let mut steps: u32 = near.0 - first.0;
+    let mut steps: u32 = near.0 - blocks.first.0;
     while i + 1 < last {
         let next = record::before(t, h.record_size, level, BlockNumber(i + 1), number) as u64;
         if j <= next {
@@ -132,40 +131,23 @@ pub fn step_along(
 }
 
 // The same without the steps.
-fn last_before(
-    t: &[u8],
-    h: Header,
-    number: u32,
-    level: u32,
-    first: BlockNumber,
-    end: BlockNumber,
-    j: u64,
-) -> BlockNumber
-    requires { ⌜ Siblings (now t) h number level (first .0) (end .0) ⌝ }
-    ensures { λ r. ⌜ LastBefore (now (t .entry)) number level (first .0) (end .0) j (r .0) ⌝ }
+fn last_before(t: &[u8], h: Header, number: u32, level: u32, blocks: Blocks, j: u64) -> BlockNumber
+    requires { ⌜ Siblings (now t) h number level (blocks .first .0) (blocks .end .0) ⌝ }
+    ensures { λ r. ⌜ LastBefore (now (t .entry)) number level (blocks .first .0) (blocks .end .0) j (r .0) ⌝ }
 {
-    step_along(t, h, number, level, first, end, j).block
+    step_along(t, h, number, level, blocks, j).block
 }
 
 // What a block is, with what is left of j past its before; no block where its before is j or more.
-fn pick(
-    t: &[u8],
-    h: Header,
-    number: u32,
-    level: u32,
-    b: u32,
-    block: BlockNumber,
-    place: BlockPlace,
-    j: u64,
-) -> Child
-    requires { ⌜ (InTable (now t) h level b (block .0)) × (number < at.countedCount (now t)) ⌝ }
-    ensures { λ r. ⌜ r ≡ picked (now (t .entry)) number level (block .0) (place .0) j ⌝ }
+fn pick(t: &[u8], h: Header, number: u32, on: On, spot: Spot, j: u64) -> Child
+    requires { ⌜ (InTable (now t) h (on .level) (on .b) (spot .block .0)) × (number < at.countedCount (now t)) ⌝ }
+    ensures { λ r. ⌜ r ≡ picked (now (t .entry)) number (on .level) (spot .block .0) (spot .place .0) j ⌝ }
 {
-    let before = record::before(t, h.record_size, level, block, number) as u64;
+    let before = record::before(t, h.record_size, on.level, spot.block, number) as u64;
     if j <= before {
         return Child::Off;
     }
-    match walk_steps::look(t, h.record_size, level, b, block, place) {
+    match walk_steps::look(t, h.record_size, on.level, on.b, spot.block, spot.place) {
         Next::Kept(i, o) => Child::Kept(i, o, j - before),
         Next::Points(i, o) => Child::Points(i, o, j - before),
         Next::Off => Child::Off,
@@ -189,43 +171,38 @@ fn shift(found: Placed, forward: BlockPlace, back: BlockPlace) -> Placed
     }
 }
 
-// The child of a kept block that holds the j-th byte; below is the block length of the children's level.
-fn child_with(
-    t: &[u8],
-    h: Header,
-    number: u32,
-    level: u32,
-    b: u32,
-    below: u32,
-    block: BlockNumber,
-    j: u64,
-) -> Child
-    requires { ⌜ (KeptIn (now t) h level b (block .0)) × (OnLevel (now t) h (level + 1) below) × (number < at.countedCount (now t)) × (1 ≤ j) ⌝ }
-    ensures { λ r. ⌜ ChildWith (now (t .entry)) number level (block .0) below j r ⌝ }
+// The child of a kept block that holds the j-th byte.
+fn child_with(t: &[u8], h: Header, number: u32, on: On, parent: Parent, j: u64) -> Child
+    requires { ⌜ (KeptIn (now t) h (on .level) (on .b) (parent .block .0)) × (OnLevel (now t) h (on .level + 1) (parent .below))
+        × (number < at.countedCount (now t)) × (1 ≤ j) ⌝ }
+    ensures { λ r. ⌜ ChildWith (now (t .entry)) number (on .level) (parent .block .0) (parent .below) j r ⌝ }
 {
-    let link = record::link(t, h.record_size, level, block);
+    let link = record::link(t, h.record_size, on.level, parent.block);
     let count = settings::pieces(
-        walk_steps::block_length(t, h.record_size, level, b, block),
-        below,
+        walk_steps::block_length(t, h.record_size, on.level, on.b, parent.block),
+        parent.below,
     );
-    let table = record::level_count(t, level + 1) as u64;
+    let table = record::level_count(t, on.level + 1) as u64;
     if table < link as u64 + count as u64 {
         return Child::Off;
     }
     if count == 0 {
         return Child::Off;
     }
-    let i = last_before(
-        t,
-        h,
-        number,
-        level + 1,
-        BlockNumber(link),
-        BlockNumber(link + count),
-        j,
-    );
-    let place = BlockPlace((i.0 - link) * below);
-    pick(t, h, number, level + 1, below, i, place, j)
+    let children = Blocks {
+        first: BlockNumber(link),
+        end: BlockNumber(link + count),
+    };
+    let i = last_before(t, h, number, on.level + 1, children, j);
+    let spot = Spot {
+        block: i,
+        place: BlockPlace((i.0 - link) * parent.below),
+    };
+    let under = On {
+        level: on.level + 1,
+        b: parent.below,
+    };
+    pick(t, h, number, under, spot, j)
 }
 
 // A block pointed to, which must be kept.
@@ -249,27 +226,19 @@ fn kept_target(
 
 // The target of a pointing block that holds its j-th byte: that is the (j + skip)-th of the first target or, past that one's
 // inside, one of the second.
-fn target_with(
-    t: &[u8],
-    h: Header,
-    number: u32,
-    level: u32,
-    b: u32,
-    block: BlockNumber,
-    j: u64,
-) -> Target
-    requires { ⌜ (PointsIn (now t) h level b (block .0)) × (number < at.countedCount (now t)) × (1 ≤ j) × (j ≤ 1099511627776) ⌝ }
-    ensures { λ r. ⌜ TargetWith (now (t .entry)) number level (block .0) b j r ⌝ }
+fn target_with(t: &[u8], h: Header, number: u32, on: On, block: BlockNumber, j: u64) -> Target
+    requires { ⌜ (PointsIn (now t) h (on .level) (on .b) (block .0)) × (number < at.countedCount (now t)) × (1 ≤ j) × (j ≤ 1099511627776) ⌝ }
+    ensures { λ r. ⌜ TargetWith (now (t .entry)) number (on .level) (block .0) (on .b) j r ⌝ }
 {
-    let link = record::link(t, h.record_size, level, block);
-    let count = record::level_count(t, level);
+    let link = record::link(t, h.record_size, on.level, block);
+    let count = record::level_count(t, on.level);
     if count <= link {
         return Target::Off;
     }
-    let rank = j + record::skip(t, h.record_size, level, block, number) as u64;
-    let inside = record::inside(t, h.record_size, level, BlockNumber(link), number) as u64;
+    let rank = j + record::skip(t, h.record_size, on.level, block, number) as u64;
+    let inside = record::inside(t, h.record_size, on.level, BlockNumber(link), number) as u64;
     if rank <= inside {
-        return kept_target(t, h, level, BlockNumber(link), BlockPlace(0), rank);
+        return kept_target(t, h, on.level, BlockNumber(link), BlockPlace(0), rank);
     }
     if count - link == 1 {
         return Target::Off;
@@ -277,28 +246,21 @@ fn target_with(
     kept_target(
         t,
         h,
-        level,
+        on.level,
         BlockNumber(link + 1),
-        BlockPlace(b),
+        BlockPlace(on.b),
         rank - inside,
     )
 }
 
 // The j-th byte among the leaf bytes of a block of the last level.
-fn leaf_place(
-    t: &[u8],
-    h: Header,
-    wanted: Wanted,
-    level: u32,
-    b: u32,
-    block: BlockNumber,
-    j: u64,
-) -> Placed
-    requires { ⌜ (KeptIn (now t) h level b (block .0)) × (Seeking (now t) h wanted level b j (level + 2)) × (level + 1 ≡ h .settings .levels) ⌝ }
-    ensures { λ r. ⌜ FoundIn (now (t .entry)) (wanted .number) level (block .0) j 1 r ⌝ }
+fn leaf_place(t: &[u8], h: Header, wanted: Wanted, on: On, block: BlockNumber, j: u64) -> Placed
+    requires { ⌜ (KeptIn (now t) h (on .level) (on .b) (block .0)) × (Seeking (now t) h wanted (on .level) (on .b) j (on .level + 2))
+        × (on .level + 1 ≡ h .settings .levels) ⌝ }
+    ensures { λ r. ⌜ FoundIn (now (t .entry)) (wanted .number) (on .level) (block .0) j 1 r ⌝ }
 {
-    let link = record::link(t, h.record_size, level, block) as u64;
-    let len = walk_steps::block_length(t, h.record_size, level, b, block);
+    let link = record::link(t, h.record_size, on.level, block) as u64;
+    let len = walk_steps::block_length(t, h.record_size, on.level, on.b, block);
     if (h.leaf_count as u64) < link + len as u64 {
         return Placed::Off;
     }
@@ -311,32 +273,24 @@ fn leaf_place(
 }
 
 // From a kept block to the child that holds its j-th byte.
-fn kept_step(
-    t: &[u8],
-    h: Header,
-    wanted: Wanted,
-    level: u32,
-    b: u32,
-    block: BlockNumber,
-    j: u64,
-) -> Placed
-    requires { ⌜ (KeptIn (now t) h level b (block .0)) × (Seeking (now t) h wanted level b j (level + 2)) ⌝ }
-    ensures { λ r. ⌜ FoundIn (now (t .entry)) (wanted .number) level (block .0) j (2 * (at.settings (now (t .entry)) .levels - level) - 1) r ⌝ }
+fn kept_step(t: &[u8], h: Header, wanted: Wanted, on: On, block: BlockNumber, j: u64) -> Placed
+    requires { ⌜ (KeptIn (now t) h (on .level) (on .b) (block .0)) × (Seeking (now t) h wanted (on .level) (on .b) j (on .level + 2)) ⌝ }
+    ensures { λ r. ⌜ FoundIn (now (t .entry)) (wanted .number) (on .level) (block .0) j (2 * (at.settings (now (t .entry)) .levels - on .level) - 1) r ⌝ }
 {
-    let under = level + 1;
-    if under == h.settings.levels {
-        return leaf_place(t, h, wanted, level, b, block, j);
+    let down = on.level + 1;
+    if down == h.settings.levels {
+        return leaf_place(t, h, wanted, on, block, j);
     }
-    let below = b / h.settings.arity;
-    let next = child_with(t, h, wanted.number, level, b, below, block, j);
+    let below = on.b / h.settings.arity;
+    let next = child_with(t, h, wanted.number, on, Parent { block, below }, j);
+    let under = On {
+        level: down,
+        b: below,
+    };
     match next {
-        Child::Kept(i, o, rest) => shift(
-            kept_step(t, h, wanted, under, below, i, rest),
-            o,
-            BlockPlace(0),
-        ),
+        Child::Kept(i, o, rest) => shift(kept_step(t, h, wanted, under, i, rest), o, BlockPlace(0)),
         Child::Points(i, o, rest) => shift(
-            pointing_step(t, h, wanted, under, below, i, rest),
+            pointing_step(t, h, wanted, under, i, rest),
             o,
             BlockPlace(0),
         ),
@@ -345,29 +299,17 @@ fn kept_step(
 }
 
 // From a pointing block to the target that holds its j-th byte; on the last level no block points.
-fn pointing_step(
-    t: &[u8],
-    h: Header,
-    wanted: Wanted,
-    level: u32,
-    b: u32,
-    block: BlockNumber,
-    j: u64,
-) -> Placed
-    requires { ⌜ (PointsIn (now t) h level b (block .0)) × (Seeking (now t) h wanted level b j (level + 1)) ⌝ }
-    ensures { λ r. ⌜ FoundIn (now (t .entry)) (wanted .number) level (block .0) j (2 * (at.settings (now (t .entry)) .levels - level)) r ⌝ }
+fn pointing_step(t: &[u8], h: Header, wanted: Wanted, on: On, block: BlockNumber, j: u64) -> Placed
+    requires { ⌜ (PointsIn (now t) h (on .level) (on .b) (block .0)) × (Seeking (now t) h wanted (on .level) (on .b) j (on .level + 1)) ⌝ }
+    ensures { λ r. ⌜ FoundIn (now (t .entry)) (wanted .number) (on .level) (block .0) j (2 * (at.settings (now (t .entry)) .levels - on .level)) r ⌝ }
 {
-    if level + 1 == h.settings.levels {
+    if on.level + 1 == h.settings.levels {
         return Placed::Off;
     }
-    let gap = record::gap(t, h.record_size, level, block);
-    let next = target_with(t, h, wanted.number, level, b, block, j);
+    let gap = record::gap(t, h.record_size, on.level, block);
+    let next = target_with(t, h, wanted.number, on, block, j);
     match next {
-        Target::Kept(i, forward, rest) => shift(
-            kept_step(t, h, wanted, level, b, i, rest),
-            forward,
-            gap,
-        ),
+        Target::Kept(i, forward, rest) => shift(kept_step(t, h, wanted, on, i, rest), forward, gap),
         Target::Off => Placed::Off,
     }
 }
@@ -377,15 +319,11 @@ fn first_block(t: &[u8], h: Header, number: u32, j: u64) -> BlockNumber
     requires { ⌜ (HeaderOf (now t) h) × (number < at.countedCount (now t)) × (1 ≤ total (now t) number) ⌝ }
     ensures { λ r. ⌜ LastBefore (now (t .entry)) number 0 0 (at.levelCount (now (t .entry)) 0) j (r .0) ⌝ }
 {
-    last_before(
-        t,
-        h,
-        number,
-        0,
-        BlockNumber(0),
-        BlockNumber(record::level_count(t, 0)),
-        j,
-    )
+    let all = Blocks {
+        first: BlockNumber(0),
+        end: BlockNumber(record::level_count(t, 0)),
+    };
+    last_before(t, h, number, 0, all, j)
 }
 
 // The place of the text that a place in a block of level 0 is, if it is one.
@@ -411,19 +349,19 @@ pub fn seek_in(t: &[u8], h: Header, wanted: Wanted, j: u32, block: BlockNumber) 
     ensures { λ r. ⌜ (SoughtIn (now (t .entry)) (wanted .byte) (wanted .number) j (block .0) (saidFind r)) × (Numbered r) ⌝ }
 {
     let b = h.block;
-    let next = pick(t, h, wanted.number, 0, b, block, BlockPlace(0), j as u64);
+    let on = On { level: 0, b };
+    let spot = Spot {
+        block,
+        place: BlockPlace(0),
+    };
+    let next = pick(t, h, wanted.number, on, spot, j as u64);
     match next {
-        Child::Kept(i, _, rest) => text_place(
-            h.length,
-            b,
-            i,
-            kept_step(t, h, wanted, 0, b, i, rest),
-        ),
+        Child::Kept(i, _, rest) => text_place(h.length, b, i, kept_step(t, h, wanted, on, i, rest)),
         Child::Points(i, _, rest) => text_place(
             h.length,
             b,
             i,
-            pointing_step(t, h, wanted, 0, b, i, rest),
+            pointing_step(t, h, wanted, on, i, rest),
         ),
         Child::Off => Found::Refused(14),
     }

@@ -2,7 +2,6 @@
 use crate::Shown;
 use ask_access::read_by_header;
 use ask_access::read_by_header::Ran;
-use ask_rank::count_by_header;
 use ask_select::Found;
 use ask_select::find_by_header;
 use keys::form;
@@ -37,14 +36,14 @@ pub fn match_at(t: &[u8], h: Header, question: &[u8], mark: u32) -> Shown
     if !ranges::good(question) {
         return Shown::Refused(19);
     }
-    let number = ask_rank::counted_number::number_of(t, h.settings.counted, 10);
+    let number = ask_totals::number_of(t, h.settings.counted, 10);
     if h.settings.counted <= number {
         return Shown::Refused(11);
     }
     if h.length <= mark {
         return Shown::Nothing(mark);
     }
-    let tens = count_by_header::total(t, h, number);
+    let tens = ask_totals::total(t, h, number);
     if tens < mark as u64 {
         return Shown::Nothing(mark);
     }

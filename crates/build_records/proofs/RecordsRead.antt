@@ -53,9 +53,6 @@ module _ (S : Settings) (T out : List ℕ) (level : Level) (i : ℕ) (w : On S T
     s-right : s .0 ≡ start S T l i
     s-right = s-is ∙ start-read i (w .block-in)
 
-    pub s-in : s .0 ≤ length T
-    s-in = omega (arith, s-right, start-in i (w .block-in))
-
     pub stretch-is : (len : ℕ) → len ≡ min (level .size) (length T - s .0) → StretchIs S T l i (record { start = s; length = len })
     stretch-is len len-is =
         let e : len ≡ bytesIn S T l i = len-is ∙ rw (s-right, w .level-is .size-is) (sym (bytesIn-is S T l i)) in

@@ -1,11 +1,12 @@
 // A level of the tree that is being written.
+use layout::cut;
 use layout::place::BlockNumber;
 use layout::place::TextPlace;
 use layout::record;
 use layout::settings::Settings;
 use layout::word;
 ghost use mathlib.Core.Path.{_≡_};
-ghost use Prim.Native.Nat.{_+_, _-_, _*_, _≤_, _<_, min};
+ghost use Prim.Native.Nat.{_+_, _*_, _≤_};
 ghost use lib.ListN.{length};
 ghost use Rattle.theory_built.specs.BlockSizes.{maxTable};
 ghost use Rattle.format.specs.Settings.{maxText, maxLeaf, maxCounted, maxRecord};
@@ -52,18 +53,6 @@ pub fn place(counted: &[u8], level: Level, block: BlockNumber) -> usize
     level.table as usize + block.0 as usize * record_size(counted, level.settings)
 }
 
-// The bytes that a block has.
-fn bytes(text: &[u8], level: Level, start: TextPlace) -> u32
-    requires { ⌜ (length (now text) ≤ maxText) × (start .0 ≤ length (now text)) ⌝ }
-    ensures { λ r. ⌜ (r ≡ min (level .size) (length (now (text .entry)) - start .0)) × (r ≤ maxText) ⌝ }
-{
-    let left = text.len() as u32 - start.0;
-    if level.size < left {
-        return level.size;
-    }
-    left
-}
-
 // Where a block starts, read from its record.
 pub fn start(counted: &[u8], out: &[u8], level: Level, block: BlockNumber) -> TextPlace
     requires { ⌜ (length (now counted) ≤ maxCounted) × (level .table ≤ maxTable) × (block .0 ≤ maxText) × (level .settings .leaf ≤ maxLeaf)
@@ -81,6 +70,6 @@ pub fn stretch_of(text: &[u8], counted: &[u8], out: &[u8], level: Level, i: Bloc
     let start = start(counted, out, level, i);
     Stretch {
         start,
-        length: bytes(text, level, start),
+        length: cut::length_from(text.len() as u32, start, level.size),
     }
 }

@@ -1,29 +1,18 @@
 // One block's counts of one counted byte.
 use crate::prefix;
+use layout::cut;
 use layout::header::Header;
 use layout::place::BlockNumber;
 use layout::place::BlockPlace;
-use layout::place::TextPlace;
+use layout::place::On;
+use layout::place::Spot;
 use layout::record;
 ghost use mathlib.Core.Bool.{true, false};
 ghost use mathlib.Core.Path.{_≡_};
-ghost use Prim.Native.Nat.{_+_, _-_, _≤_, _<_, min};
 ghost use lib.Dec.{eqb};
 ghost use Rattle.format.specs.Layout as at;
 ghost use Rattle.theory_counts.specs.CountsLocal.{upLength, beforeLocal, keptInside, keptLocal, pointingSkip, pointingInside, pointingLocal, blockLocal};
 ghost use Rattle.check_counts.specs.CountsAsked.{InTable, TrueBelow};
-
-// The bytes of a block: those of a full one, or those left of the n bytes of the text from its start.
-fn length_from(n: u32, start: TextPlace, b: u32) -> u32
-    requires { ⌜ start .0 ≤ n ⌝ }
-    ensures { λ r. ⌜ r ≡ min b (n - start .0) ⌝ }
-{
-    let left = n - start.0;
-    if left < b {
-        return left;
-    }
-    b
-}
 
 // Before is 0 at the parent's start, else that of the left neighbour with its inside; `up` is the parent's block length.
 fn before_right(t: &[u8], h: Header, level: u32, up: u32, block: BlockNumber, c: u32) -> bool
@@ -50,7 +39,7 @@ fn kept_inside(t: &[u8], h: Header, level: u32, b: u32, block: BlockNumber, c: u
 {
     let size = h.record_size;
     let start = record::start(t, size, level, block);
-    let length = length_from(h.length, start, b);
+    let length = cut::length_from(h.length, start, b);
     let down = level + 1;
     if down == h.settings.levels {
         return prefix::in_leaves(t, h, level, block, length, c);
@@ -87,7 +76,11 @@ fn pointing_skip(t: &[u8], h: Header, level: u32, b: u32, block: BlockNumber, c:
         return 0;
     }
     let link = record::link(t, h.record_size, level, block);
-    prefix::up_to(t, h, level, b, BlockNumber(link), BlockPlace(gap.0 - 1), c)
+    let there = Spot {
+        block: BlockNumber(link),
+        place: BlockPlace(gap.0 - 1),
+    };
+    prefix::up_to(t, h, On { level, b }, there, c)
 }
 
 // How often it stands there in the gap and the block's own length together.
@@ -97,11 +90,17 @@ fn pointing_inside(t: &[u8], h: Header, level: u32, b: u32, block: BlockNumber, 
     ensures { λ r. ⌜ (r ≡ pointingInside (now (t .entry)) level (block .0) c) ⌝ }
 {
     let start = record::start(t, h.record_size, level, block);
-    let length = length_from(h.length, start, b);
-    let on = prefix::hand_on(t, h, level, b, block, BlockPlace(length - 1), c);
-    let next = on.block;
-    let rest = prefix::up_to(t, h, level, b, next, on.place, c);
-    on.plus + rest
+    let length = cut::length_from(h.length, start, b);
+    let end = Spot {
+        block,
+        place: BlockPlace(length - 1),
+    };
+    let hand = prefix::hand_on(t, h, On { level, b }, end, c);
+    let next = hand.block;
+    let place = hand.place;
+    let there = Spot { block: next, place };
+    let rest = prefix::up_to(t, h, On { level, b }, there, c);
+    hand.plus + rest
 }
 
 // A pointing block's skip and inside are counted in the blocks that it points to.
@@ -122,24 +121,17 @@ fn pointing_right(t: &[u8], h: Header, level: u32, b: u32, block: BlockNumber, c
 }
 
 // Before, inside and skip of one counted byte in one block; the levels below are true already.
-pub fn block_right(
-    t: &[u8],
-    h: Header,
-    level: u32,
-    b: u32,
-    up: u32,
-    block: BlockNumber,
-    c: u32,
-) -> bool
-    requires { ⌜ (b ≡ at.fullLength (now t) level) × (up ≡ upLength (now t) level) × InTable (now t) h level (block .0) c × TrueBelow (now t) h level ⌝ }
-    ensures { λ r. ⌜ r ≡ blockLocal (now (t .entry)) level (block .0) c ⌝ }
+pub fn block_right(t: &[u8], h: Header, on: On, up: u32, block: BlockNumber, c: u32) -> bool
+    requires { ⌜ (on .b ≡ at.fullLength (now t) (on .level)) × (up ≡ upLength (now t) (on .level)) × InTable (now t) h (on .level) (block .0) c
+        × TrueBelow (now t) h (on .level) ⌝ }
+    ensures { λ r. ⌜ r ≡ blockLocal (now (t .entry)) (on .level) (block .0) c ⌝ }
 {
-    if !before_right(t, h, level, up, block, c) {
+    if !before_right(t, h, on.level, up, block, c) {
         return false;
     }
-    let kind = record::kind(t, h.record_size, level, block);
+    let kind = record::kind(t, h.record_size, on.level, block);
     if kind == 0 {
-        return kept_right(t, h, level, b, block, c);
+        return kept_right(t, h, on.level, on.b, block, c);
     }
-    pointing_right(t, h, level, b, block, c)
+    pointing_right(t, h, on.level, on.b, block, c)
 }

@@ -2,6 +2,7 @@
 use crate::block_counts;
 use layout::header::Header;
 use layout::place::BlockNumber;
+use layout::place::On;
 use layout::record;
 ghost use mathlib.Core.Path.{_≡_};
 ghost use Prim.Native.Nat.{_+_, _-_, _<_};
@@ -21,7 +22,7 @@ fn block_counts_right(t: &[u8], h: Header, level: u32, b: u32, up: u32, block: B
     let k = h.settings.counted;
     let mut c: u32 = 0;
     while c < k {
-        if !block_counts::block_right(t, h, level, b, up, block, c) {
+        if !block_counts::block_right(t, h, On { level, b }, up, block, c) {
             return false;
         }
         c += 1;

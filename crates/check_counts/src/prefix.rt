@@ -3,6 +3,8 @@ use layout::header;
 use layout::header::Header;
 use layout::place::BlockNumber;
 use layout::place::BlockPlace;
+use layout::place::On;
+use layout::place::Spot;
 use layout::record;
 ghost use mathlib.Core.Path.{_≡_};
 ghost use Prim.Native.Nat.{_+_, _-_, _≤_, _<_};
@@ -31,33 +33,27 @@ pub fn in_leaves(t: &[u8], h: Header, level: u32, block: BlockNumber, n: u32, c:
 }
 
 // A kept block answers for its own places; a pointing block hands a place to its first target, or past that one's end to the second.
-pub fn hand_on(
-    t: &[u8],
-    h: Header,
-    level: u32,
-    b: u32,
-    block: BlockNumber,
-    place: BlockPlace,
-    c: u32,
-) -> Hand
-    requires { ⌜ (b ≡ at.fullLength (now t) level) × InBlock (now t) h level (block .0) (place .0) c ⌝ }
-    ensures { λ r. ⌜ (r ≡ handOf (now (t .entry)) level (block .0) (place .0) c) × (r .plus < 4294967296) ⌝ }
+pub fn hand_on(t: &[u8], h: Header, on: On, spot: Spot, c: u32) -> Hand
+    requires { ⌜ (on .b ≡ at.fullLength (now t) (on .level)) × InBlock (now t) h (on .level) (spot .block .0) (spot .place .0) c ⌝ }
+    ensures { λ r. ⌜ (r ≡ handOf (now (t .entry)) (on .level) (spot .block .0) (spot .place .0) c) × (r .plus < 4294967296) ⌝ }
 {
     let size = h.record_size;
-    let kind = record::kind(t, size, level, block);
+    let from = spot.block;
+    let kind = record::kind(t, size, on.level, from);
     if kind == 0 {
+        let place = spot.place;
         return Hand {
-            block,
+            block: from,
             place,
             plus: 0,
             minus: 0,
         };
     }
-    let link = record::link(t, size, level, block);
-    let gap = record::gap(t, size, level, block);
-    let skip = record::skip(t, size, level, block, c) as u64;
-    let at = gap.0 + place.0;
-    if at < b {
+    let link = record::link(t, size, on.level, from);
+    let gap = record::gap(t, size, on.level, from);
+    let skip = record::skip(t, size, on.level, from, c) as u64;
+    let at = gap.0 + spot.place.0;
+    if at < on.b {
         return Hand {
             block: BlockNumber(link),
             place: BlockPlace(at),
@@ -67,59 +63,57 @@ pub fn hand_on(
     }
     Hand {
         block: BlockNumber(link + 1),
-        place: BlockPlace(at - b),
-        plus: record::inside(t, size, level, BlockNumber(link), c) as u64,
+        place: BlockPlace(at - on.b),
+        plus: record::inside(t, size, on.level, BlockNumber(link), c) as u64,
         minus: skip,
     }
 }
 
 // From a kept block to the child that holds a place; b is the children's block length.
-fn step(
-    t: &[u8],
-    h: Header,
-    level: u32,
-    b: u32,
-    block: BlockNumber,
-    place: BlockPlace,
-    c: u32,
-) -> Hand
-    requires { ⌜ (b ≡ at.fullLength (now t) (level + 1)) × (level + 1 < at.settings (now t) .levels) × InKept (now t) h level (block .0) (place .0) c ⌝ }
-    ensures { λ r. ⌜ (r ≡ stepOf (now (t .entry)) level (block .0) (place .0) c) × (r .plus < 8589934592) ⌝ }
+fn step(t: &[u8], h: Header, level: u32, b: u32, spot: Spot, c: u32) -> Hand
+    requires { ⌜ (b ≡ at.fullLength (now t) (level + 1)) × (level + 1 < at.settings (now t) .levels)
+        × InKept (now t) h level (spot .block .0) (spot .place .0) c ⌝ }
+    ensures { λ r. ⌜ (r ≡ stepOf (now (t .entry)) level (spot .block .0) (spot .place .0) c) × (r .plus < 8589934592) ⌝ }
 {
-    let link = record::link(t, h.record_size, level, block);
-    let child = BlockNumber(link + place.0 / b);
+    let link = record::link(t, h.record_size, level, spot.block);
+    let child = BlockNumber(link + spot.place.0 / b);
     let before = record::before(t, h.record_size, level + 1, child, c);
-    let on = hand_on(t, h, level + 1, b, child, BlockPlace(place.0 % b), c);
-    let block = on.block;
-    let place = on.place;
+    let under = On {
+        level: level + 1,
+        b,
+    };
+    let there = Spot {
+        block: child,
+        place: BlockPlace(spot.place.0 % b),
+    };
+    let hand = hand_on(t, h, under, there, c);
+    let block = hand.block;
+    let place = hand.place;
     Hand {
         block,
         place,
-        plus: before as u64 + on.plus,
-        minus: on.minus,
+        plus: before as u64 + hand.plus,
+        minus: hand.minus,
     }
 }
 
 // How often counted byte number c stands in a kept block up to a place, it included; the levels left fall.
-pub fn up_to(
-    t: &[u8],
-    h: Header,
-    level: u32,
-    b: u32,
-    block: BlockNumber,
-    place: BlockPlace,
-    c: u32,
-) -> u64
-    requires { ⌜ (b ≡ at.fullLength (now t) level) × InKept (now t) h level (block .0) (place .0) c ⌝ }
-    ensures { λ r. ⌜ r ≡ upTo (now (t .entry)) (at.settings (now (t .entry)) .levels - 1 - level) level (block .0) (place .0) c ⌝ }
+pub fn up_to(t: &[u8], h: Header, on: On, spot: Spot, c: u32) -> u64
+    requires { ⌜ (on .b ≡ at.fullLength (now t) (on .level)) × InKept (now t) h (on .level) (spot .block .0) (spot .place .0) c ⌝ }
+    ensures { λ r. ⌜ r ≡ upTo (now (t .entry)) (at.settings (now (t .entry)) .levels - 1 - on .level) (on .level) (spot .block .0) (spot .place .0) c ⌝ }
 {
-    let down = level + 1;
+    let down = on.level + 1;
     if down == h.settings.levels {
-        return in_leaves(t, h, level, block, place.0 + 1, c);
+        return in_leaves(t, h, on.level, spot.block, spot.place.0 + 1, c);
     }
-    let below = b / h.settings.arity;
-    let on = step(t, h, level, below, block, place, c);
-    let next = on.block;
-    let rest = up_to(t, h, down, below, next, on.place, c);
-    on.plus + rest - on.minus
+    let below = on.b / h.settings.arity;
+    let hand = step(t, h, on.level, below, spot, c);
+    let block = hand.block;
+    let place = hand.place;
+    let under = On {
+        level: down,
+        b: below,
+    };
+    let rest = up_to(t, h, under, Spot { block, place }, c);
+    hand.plus + rest - hand.minus
 }

@@ -1,29 +1,16 @@
 // One block of a level.
 use crate::level_read::Level;
+use layout::cut;
 use layout::place::BlockNumber;
 use layout::place::BlockPlace;
 use layout::place::TextPlace;
 use layout::record;
 use layout::settings;
 ghost use mathlib.Core.Path.{_≡_};
-ghost use Prim.Native.Nat.{_+_, _-_, _≤_, _<_, min};
+ghost use Prim.Native.Nat.{_+_, _≤_, _<_};
 ghost use Rattle.text.specs.Lists.{allBelow, sumBelow};
 ghost use Rattle.format.specs.Fits.{widthAt, keptRight, pointingRight, blockRight};
 ghost use Rattle.check_links.specs.LevelAsked.{LevelOf, childAsCut, targetRight, nextRight};
-
-// The bytes of a block: those of a full one, or those left of the text from its start.
-pub fn block_length(v: Level, start: TextPlace) -> u32
-    ensures { λ r. ⌜ (r ≡ min (v .full) (v .length - start .0)) × (r ≤ v .full) ⌝ }
-{
-    if v.length <= start.0 {
-        return 0;
-    }
-    let rest = v.length - start.0;
-    if rest < v.full {
-        return rest;
-    }
-    v.full
-}
 
 // How many children, or on the last level leaf bytes, a block has by its kind.
 pub fn width(t: &[u8], v: Level, block: BlockNumber) -> u32
@@ -35,7 +22,7 @@ pub fn width(t: &[u8], v: Level, block: BlockNumber) -> u32
         return 0;
     }
     let start = record::start(t, v.size, v.number, block);
-    settings::pieces(block_length(v, start), v.part)
+    settings::pieces(cut::length_from(v.length, start, v.full), v.part)
 }
 
 // Whether a block is right. The blocks before it have `before` children; this one has `width`, and the next level has them all.
@@ -106,7 +93,7 @@ fn pointing_right(t: &[u8], v: Level, block: BlockNumber) -> bool
     }
     let target = BlockNumber(record::link(t, v.size, v.number, block));
     let start = record::start(t, v.size, v.number, block);
-    let length = block_length(v, start);
+    let length = cut::length_from(v.length, start, v.full);
     if !target_right(t, v, target, gap, length, start) {
         return false;
     }

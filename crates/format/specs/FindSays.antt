@@ -40,8 +40,12 @@ module _ (t : List ℕ) where
       let p = placeOf byte j (textOf t) in
       record { number = 0; value = p; entered = pathLength (pathOf t p) }
 
-  -- what find may say: settled by the questions and on accepted trees, free on the others
-  pub record FindSays (byte j : ℕ) (s : Said) : Type 0 where
+  -- what find may say: settled by the questions and where `ok` is 0, free elsewhere
+  pub record FindBy (ok byte j : ℕ) (s : Said) : Type 0 where
     pub asked : (0 < selectNumber byte j) → s ≡ refused (selectNumber byte j)
-    pub accepted : selectNumber byte j ≡ 0 → verdict t ≡ 0 → s ≡ found byte j
-    pub free : selectNumber byte j ≡ 0 → (verdict t ≡ 0 → ⊥) → (s ≡ refused 14) ⊎ ((s .number ≡ 0) × (s .value < at.textLength t))
+    pub accepted : selectNumber byte j ≡ 0 → ok ≡ 0 → s ≡ found byte j
+    pub free : selectNumber byte j ≡ 0 → (ok ≡ 0 → ⊥) → (s ≡ refused 14) ⊎ ((s .number ≡ 0) × (s .value < at.textLength t))
+
+  -- find's own: settled on accepted trees (with a guide, where the guide is accepted too)
+  abbrev pub FindSays : (byte j : ℕ) → Said → Type 0
+  FindSays = FindBy (verdict t)

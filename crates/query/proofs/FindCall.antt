@@ -27,7 +27,6 @@ use Rattle.theory_counts.specs.Demands as tallies
 use Rattle.ask_select.specs.declared.Found.{Found}
 use Rattle.ask_select.specs.declared.Found.the-variants as found
 use Rattle.ask_select.specs.Found.{saidFind, Numbered as FindNumbered}
-use Rattle.ask_select.proofs.FoundLaws.{find-by}
 use Rattle.query.proofs.AcceptedTree.{Among, among-counted, not-counted, path-length}
 use Rattle.query.proofs.BlocksEntered.{LengthOfPath}
 use Rattle.query.proofs.FindOutcomes.{FindOutcome, find-outcome, outcome-below, outcome-numbers, select-through}
@@ -51,7 +50,7 @@ find-call =
 -- Any lent bytes.
 module _ (κs : Lfts 1) (t : Lent) (byte j : ℕ) where
   outcome-of : (s : Said) → FindSays (now t) byte j s → FindOutcome (now t) byte j s
-  outcome-of s f = find-outcome (now t) byte j (verdict (now t)) (λ v. v) s (find-by (now t) byte j s f)
+  outcome-of s f = find-outcome (now t) byte j (verdict (now t)) (λ v. v) s f
 
   -- An answer is a place of the text; ..
   pub find-answer : (p : TextPlace) (e : ℕ) → Find κs t byte j (found.At p e) → p .0 < at.textLength (now t)

@@ -14,10 +14,9 @@ use Rattle.format.specs.Verdict.{readable, verdict}
 use Rattle.format.specs.VerdictLaws.{accepted-readable}
 use Rattle.format.specs.Said.{Said, refused}
 use Rattle.format.specs.CountSays.{isCounted, numberOfByte}
-use Rattle.format.specs.FindSays.{selectNumber, found, total}
+use Rattle.format.specs.FindSays.{selectNumber, found, total, FindBy}
 use Rattle.format.specs.FindSaysLaws.{select-lets, select-passes}
 use Rattle.theory_counts.specs.Demands as tallies
-use Rattle.ask_select.specs.Found.{FindBy}
 use Rattle.query.proofs.AcceptedTree.{Among, among-counted}
 use Rattle.query.proofs.RefusalNumbers.{OneOf, asks-one, not-zero, of-left, of-right, readable-one, then-one}
 

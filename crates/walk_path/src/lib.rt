@@ -5,6 +5,7 @@ pub mod held;
 use layout::header::Header;
 use layout::place::BlockNumber;
 use layout::place::BlockPlace;
+use layout::place::On;
 use layout::place::TextPlace;
 use layout::record;
 use walk_steps::Arrived;
@@ -76,23 +77,15 @@ fn unpacked(word: u64) -> Walked
 }
 
 // The leaf byte that a kept block of the last level hands a place to.
-fn leaf(
-    t: &[u8],
-    size: u32,
-    level: u32,
-    b: u32,
-    block: BlockNumber,
-    place: BlockPlace,
-    trail: Trail,
-) -> u64
-    requires { ⌜ KeptAt (now t) size level b (block .0) (place .0) (trail .entered) ⌝ }
-    ensures { λ r. ⌜ walkedIn r ≡ walked (now (t .entry)) trail (pathFrom (now (t .entry)) 0 level (block .0) (place .0)) ⌝ }
+fn leaf(t: &[u8], size: u32, on: On, block: BlockNumber, place: BlockPlace, trail: Trail) -> u64
+    requires { ⌜ KeptAt (now t) size (on .level) (on .b) (block .0) (place .0) (trail .entered) ⌝ }
+    ensures { λ r. ⌜ walkedIn r ≡ walked (now (t .entry)) trail (pathFrom (now (t .entry)) 0 (on .level) (block .0) (place .0)) ⌝ }
 {
-    let link = record::link(t, size, level, block) as u64;
+    let link = record::link(t, size, on.level, block) as u64;
     let number = link + place.0 as u64;
     let shape = fields::shape_of(t);
     if number < shape.leaf_count as u64 {
-        return packed(number as u32, trail.enter(b, place));
+        return packed(number as u32, trail.enter(on.b, place));
     }
     BROKEN
 }
@@ -101,29 +94,32 @@ fn leaf(
 fn kept_step(
     t: &[u8],
     size: u32,
-    level: u32,
-    b: u32,
+    on: On,
     block: BlockNumber,
     place: BlockPlace,
     trail: Trail,
 ) -> u64
-    requires { ⌜ KeptAt (now t) size level b (block .0) (place .0) (trail .entered) ⌝ }
-    ensures { λ r. ⌜ walkedIn r ≡ walked
-        (now (t .entry)) trail (pathFrom (now (t .entry)) (at.settings (now (t .entry)) .levels - 1 - level) level (block .0) (place .0)) ⌝ }
+    requires { ⌜ KeptAt (now t) size (on .level) (on .b) (block .0) (place .0) (trail .entered) ⌝ }
+    ensures { λ r. ⌜ walkedIn r ≡ walked (now (t .entry)) trail
+        (pathFrom (now (t .entry)) (at.settings (now (t .entry)) .levels - 1 - on .level) (on .level) (block .0) (place .0)) ⌝ }
 {
     let tree = fields::whole(t);
     let shape = fields::shape_of(tree);
-    let down = level + 1;
+    let down = on.level + 1;
     if down == shape.levels {
-        return leaf(tree, size, level, b, block, place, trail);
+        return leaf(tree, size, on, block, place, trail);
     }
-    let below = walk_steps::quotient(b, shape.arity);
-    let on = trail.enter(b, place);
-    let child = walk_steps::child(tree, size, level, below, block, place);
+    let below = walk_steps::quotient(on.b, shape.arity);
+    let further = trail.enter(on.b, place);
+    let child = walk_steps::child(tree, size, on.level, below, block, place);
     let Arrived::At(i, p) = child else {
         return BROKEN;
     };
-    pointing_step(tree, size, down, below, i, p, on)
+    let under = On {
+        level: down,
+        b: below,
+    };
+    pointing_step(tree, size, under, i, p, further)
 }
 
 // From a block at which a pointer may still be followed: a pointing one hands the place to a kept block of its level, on the last level
@@ -131,27 +127,26 @@ fn kept_step(
 fn pointing_step(
     t: &[u8],
     size: u32,
-    level: u32,
-    b: u32,
+    on: On,
     block: BlockNumber,
     place: BlockPlace,
     trail: Trail,
 ) -> u64
-    requires { ⌜ MayPoint (now t) size level b (block .0) (place .0) (trail .entered) ⌝ }
-    ensures { λ r. ⌜ walkedIn r ≡ walked
-        (now (t .entry)) trail (pathFrom (now (t .entry)) (at.settings (now (t .entry)) .levels - 1 - level) level (block .0) (place .0)) ⌝ }
+    requires { ⌜ MayPoint (now t) size (on .level) (on .b) (block .0) (place .0) (trail .entered) ⌝ }
+    ensures { λ r. ⌜ walkedIn r ≡ walked (now (t .entry)) trail
+        (pathFrom (now (t .entry)) (at.settings (now (t .entry)) .levels - 1 - on .level) (on .level) (block .0) (place .0)) ⌝ }
 {
     let tree = fields::whole(t);
-    let here = walk_steps::look(tree, size, level, b, block, place);
+    let here = walk_steps::look(tree, size, on.level, on.b, block, place);
     match here {
-        Next::Kept(_, _) => kept_step(tree, size, level, b, block, place, trail),
+        Next::Kept(_, _) => kept_step(tree, size, on, block, place, trail),
         Next::Points(_, _) => {
-            let on = trail.enter(b, place);
-            let there = walk_steps::land(tree, size, level, b, block, place);
+            let further = trail.enter(on.b, place);
+            let there = walk_steps::land(tree, size, on.level, on.b, block, place);
             let Arrived::At(i, p) = there else {
                 return BROKEN;
             };
-            kept_step(tree, size, level, b, i, p, on)
+            kept_step(tree, size, on, i, p, further)
         }
         Next::Off => BROKEN,
     }
@@ -171,8 +166,10 @@ pub fn walk(t: &[u8], h: Header, at: TextPlace) -> Walked
     unpacked(pointing_step(
         t,
         h.record_size,
-        0,
-        h.block,
+        On {
+            level: 0,
+            b: h.block,
+        },
         BlockNumber(part.blocks),
         rest,
         trail,

@@ -1,7 +1,10 @@
 // The walk of a short span: it goes down only while the span lies in one block, and where it crosses a border two edges give it.
 use layout::header::Header;
+use layout::place::Ahead;
 use layout::place::BlockNumber;
 use layout::place::BlockPlace;
+use layout::place::On;
+use layout::place::Spot;
 use layout::place::TextPlace;
 use layout::record;
 use walk_steps::Next;
@@ -38,33 +41,30 @@ pub enum Land {
     Off,
 }
 
+// A span's bytes: the place of the first in a block, and how many they are.
+pub struct Stretch {
+    pub place: BlockPlace,
+    pub len: u32,
+}
+
 // A span over the end of a block: the end of its last edge, and the beginning of the next block's first one. The block is
 // taken as full, and no kind is read.
-fn over(
-    t: &[u8],
-    h: Header,
-    level: u32,
-    b: u32,
-    first: BlockNumber,
-    steps: u32,
-    place: BlockPlace,
-    entered: u32,
-) -> Gathered
-    requires { ⌜ Crossing (now t) h level b (place .0) entered ⌝ }
-    ensures { λ r. ⌜ r ≡ gathered entered (byEdges (now (t .entry)) level (first .0 + steps) (place .0)) ⌝ }
+fn over(t: &[u8], h: Header, on: On, ahead: Ahead, place: BlockPlace, entered: u32) -> Gathered
+    requires { ⌜ Crossing (now t) h (on .level) (on .b) (place .0) entered ⌝ }
+    ensures { λ r. ⌜ r ≡ gathered entered (byEdges (now (t .entry)) (on .level) (ahead .first .0 + ahead .steps) (place .0)) ⌝ }
 {
-    let count = record::level_count(t, level) as u64;
-    let number = first.0 as u64 + steps as u64;
+    let count = record::level_count(t, on.level) as u64;
+    let number = ahead.first.0 as u64 + ahead.steps as u64;
     if count <= number + 1 {
         return Gathered::Broken;
     }
     let m = h.settings.leaf;
-    let left = b - place.0;
+    let left = on.b - place.0;
     let edges = record::edges(
         t,
         h.record_size,
         h.settings.counted,
-        level,
+        on.level,
         BlockNumber(number as u32),
     );
     Gathered::At(Parts {
@@ -81,67 +81,54 @@ fn leaf_part(
     h: Header,
     level: u32,
     block: BlockNumber,
-    place: BlockPlace,
-    len: u32,
+    span: Stretch,
     entered: u32,
 ) -> Gathered
     requires { ⌜ (HeaderOf (now t) h) × (level < at.settings (now t) .levels) × (keptBlock (now t) level (block .0) ≡ true) × (entered ≤ 2 * maxLevels) ⌝ }
-    ensures { λ r. ⌜ r ≡ gathered entered (inLeaf (now (t .entry)) level (block .0) (place .0) len) ⌝ }
+    ensures { λ r. ⌜ r ≡ gathered entered (inLeaf (now (t .entry)) level (block .0) (span .place .0) (span .len)) ⌝ }
 {
     let link = record::link(t, h.record_size, level, block) as u64;
-    let end = link + place.0 as u64 + len as u64;
+    let end = link + span.place.0 as u64 + span.len as u64;
     if (h.leaf_count as u64) < end {
         return Gathered::Broken;
     }
     Gathered::At(Parts {
         entered: entered + 1,
-        from: h.leaf_offset as usize + (link as usize + place.0 as usize),
-        size: len,
+        from: h.leaf_offset as usize + (link as usize + span.place.0 as usize),
+        size: span.len,
         next: 0,
     })
 }
 
 // A span in a block of the last level, where no block points.
-fn last(
-    t: &[u8],
-    h: Header,
-    level: u32,
-    b: u32,
-    first: BlockNumber,
-    steps: u32,
-    place: BlockPlace,
-    len: u32,
-    entered: u32,
-) -> Gathered
-    requires { ⌜ (OnLevel (now t) h level b) × (entered ≤ 2 * maxLevels) ⌝ }
-    ensures { λ r. ⌜ r ≡ gathered entered (inLeaf (now (t .entry)) level (first .0 + steps) (place .0) len) ⌝ }
+fn last(t: &[u8], h: Header, on: On, ahead: Ahead, span: Stretch, entered: u32) -> Gathered
+    requires { ⌜ (OnLevel (now t) h (on .level) (on .b)) × (entered ≤ 2 * maxLevels) ⌝ }
+    ensures { λ r. ⌜ r ≡ gathered entered (inLeaf (now (t .entry)) (on .level) (ahead .first .0 + ahead .steps) (span .place .0) (span .len)) ⌝ }
 {
-    let next = walk_steps::look_after(t, h.record_size, level, b, first, steps, place);
+    let next = walk_steps::look_after(t, h.record_size, on, ahead, span.place);
     match next {
-        Next::Kept(i, p) => leaf_part(t, h, level, i, p, len, entered),
+        Next::Kept(i, p) => {
+            let there = Stretch {
+                place: p,
+                len: span.len,
+            };
+            leaf_part(t, h, on.level, i, there, entered)
+        }
         Next::Points(_, _) => Gathered::Broken,
         Next::Off => Gathered::Broken,
     }
 }
 
 // From a kept block that holds a span to its children, of c bytes.
-fn into(
-    t: &[u8],
-    h: Header,
-    level: u32,
-    c: u32,
-    block: BlockNumber,
-    place: BlockPlace,
-    entered: u32,
-) -> Land
-    requires { ⌜ (HeaderOf (now t) h) × (level < at.settings (now t) .levels) × (block .0 < at.levelCount (now t) level) × (0 < c) ⌝ }
-    ensures { λ r. ⌜ r ≡ downTo (now (t .entry)) level c (block .0) (place .0) entered ⌝ }
+fn into(t: &[u8], h: Header, level: u32, c: u32, spot: Spot, entered: u32) -> Land
+    requires { ⌜ (HeaderOf (now t) h) × (level < at.settings (now t) .levels) × (spot .block .0 < at.levelCount (now t) level) × (0 < c) ⌝ }
+    ensures { λ r. ⌜ r ≡ downTo (now (t .entry)) level c (spot .block .0) (spot .place .0) entered ⌝ }
 {
-    let link = record::link(t, h.record_size, level, block);
+    let link = record::link(t, h.record_size, level, spot.block);
     Land::Down(
         BlockNumber(link),
-        place.0 / c,
-        BlockPlace(place.0 % c),
+        spot.place.0 / c,
+        BlockPlace(spot.place.0 % c),
         entered,
     )
 }
@@ -158,84 +145,73 @@ fn splits(b: u32, place: BlockPlace, len: u32) -> bool
 }
 
 // Where a pointing block hands a span: to a kept block that holds it, or over the border of its two targets.
-fn pointed(
-    t: &[u8],
-    h: Header,
-    level: u32,
-    b: u32,
-    c: u32,
-    block: BlockNumber,
-    place: BlockPlace,
-    len: u32,
-) -> Land
-    requires { ⌜ (Pointing (now t) h level b (block .0) (place .0)) × (place .0 + len ≤ b) × (c ≡ at.fullLength (now t) (level + 1)) ⌝ }
-    ensures { λ r. ⌜ r ≡ pointedTo (now (t .entry)) level (block .0) (place .0) len ⌝ }
+fn pointed(t: &[u8], h: Header, on: On, c: u32, block: BlockNumber, span: Stretch) -> Land
+    requires { ⌜ (Pointing (now t) h (on .level) (on .b) (block .0) (span .place .0)) × (span .place .0 + span .len ≤ on .b)
+        × (c ≡ at.fullLength (now t) (on .level + 1)) ⌝ }
+    ensures { λ r. ⌜ r ≡ pointedTo (now (t .entry)) (on .level) (block .0) (span .place .0) (span .len) ⌝ }
 {
-    let link = record::link(t, h.record_size, level, block);
-    let gap = record::gap(t, h.record_size, level, block);
-    let sum = BlockPlace(gap.0 + place.0);
-    if splits(b, sum, len) {
+    let link = record::link(t, h.record_size, on.level, block);
+    let gap = record::gap(t, h.record_size, on.level, block);
+    let sum = BlockPlace(gap.0 + span.place.0);
+    if splits(on.b, sum, span.len) {
         return Land::Over(BlockNumber(link), sum);
     }
-    let next = walk_steps::target(t, h.record_size, level, b, block, place);
+    let next = walk_steps::target(t, h.record_size, on.level, on.b, block, span.place);
     match next {
-        Next::Kept(i, p) => into(t, h, level, c, i, p, 2),
+        Next::Kept(i, p) => into(t, h, on.level, c, Spot { block: i, place: p }, 2),
         Next::Points(_, _) => Land::Off,
         Next::Off => Land::Off,
     }
 }
 
 // Where a span that lies in a block above the last level lands; c is the length of the block's children.
-fn settle(
-    t: &[u8],
-    h: Header,
-    level: u32,
-    b: u32,
-    c: u32,
-    first: BlockNumber,
-    steps: u32,
-    place: BlockPlace,
-    len: u32,
-) -> Land
-    requires { ⌜ (OnLevel (now t) h level b) × (place .0 < b) × (place .0 + len ≤ b) × (c ≡ at.fullLength (now t) (level + 1)) ⌝ }
-    ensures { λ r. ⌜ r ≡ landing (now (t .entry)) level (first .0 + steps) (place .0) len ⌝ }
+fn settle(t: &[u8], h: Header, on: On, c: u32, ahead: Ahead, span: Stretch) -> Land
+    requires { ⌜ (OnLevel (now t) h (on .level) (on .b)) × (span .place .0 < on .b) × (span .place .0 + span .len ≤ on .b)
+        × (c ≡ at.fullLength (now t) (on .level + 1)) ⌝ }
+    ensures { λ r. ⌜ r ≡ landing (now (t .entry)) (on .level) (ahead .first .0 + ahead .steps) (span .place .0) (span .len) ⌝ }
 {
-    let next = walk_steps::look_after(t, h.record_size, level, b, first, steps, place);
+    let next = walk_steps::look_after(t, h.record_size, on, ahead, span.place);
     match next {
-        Next::Kept(i, p) => into(t, h, level, c, i, p, 1),
-        Next::Points(i, p) => pointed(t, h, level, b, c, i, p, len),
+        Next::Kept(i, p) => into(t, h, on.level, c, Spot { block: i, place: p }, 1),
+        Next::Points(i, p) => {
+            let there = Stretch {
+                place: p,
+                len: span.len,
+            };
+            pointed(t, h, on, c, i, there)
+        }
         Next::Off => Land::Off,
     }
 }
 
 // The walk from the block some steps after another; the levels left fall.
-pub fn gather(
-    t: &[u8],
-    h: Header,
-    level: u32,
-    b: u32,
-    first: BlockNumber,
-    steps: u32,
-    place: BlockPlace,
-    len: u32,
-    entered: u32,
-) -> Gathered
-    requires { ⌜ Walking (now t) h level b (place .0) len entered ⌝ }
-    ensures { λ r. ⌜ r ≡ gathered
-        entered (shortFrom (now (t .entry)) (at.settings (now (t .entry)) .levels - 1 - level) level (first .0 + steps) (place .0) len) ⌝ }
+pub fn gather(t: &[u8], h: Header, on: On, ahead: Ahead, span: Stretch, entered: u32) -> Gathered
+    requires { ⌜ Walking (now t) h (on .level) (on .b) (span .place .0) (span .len) entered ⌝ }
+    ensures { λ r. ⌜ r ≡ gathered entered (shortFrom (now (t .entry)) (at.settings (now (t .entry)) .levels - 1 - on .level) (on .level)
+        (ahead .first .0 + ahead .steps) (span .place .0) (span .len)) ⌝ }
 {
-    if b < place.0 + len {
-        return over(t, h, level, b, first, steps, place, entered);
+    if on.b < span.place.0 + span.len {
+        return over(t, h, on, ahead, span.place, entered);
     }
-    let down = level + 1;
+    let down = on.level + 1;
     if down == h.settings.levels {
-        return last(t, h, level, b, first, steps, place, len, entered);
+        return last(t, h, on, ahead, span, entered);
     }
-    let c = b / h.settings.arity;
-    let land = settle(t, h, level, b, c, first, steps, place, len);
+    let c = on.b / h.settings.arity;
+    let land = settle(t, h, on, c, ahead, span);
     match land {
-        Land::Down(i, j, p, n) => gather(t, h, down, c, i, j, p, len, entered + n),
-        Land::Over(i, p) => over(t, h, level, b, i, 0, p, entered + 1),
+        Land::Down(first, steps, place, n) => gather(
+            t,
+            h,
+            On { level: down, b: c },
+            Ahead { first, steps },
+            Stretch {
+                place,
+                len: span.len,
+            },
+            entered + n,
+        ),
+        Land::Over(first, p) => over(t, h, on, Ahead { first, steps: 0 }, p, entered + 1),
         Land::Off => Gathered::Broken,
     }
 }
@@ -249,12 +225,15 @@ pub fn from_text(t: &[u8], h: Header, p: TextPlace, len: u32) -> Gathered
     gather(
         t,
         h,
-        0,
-        b,
-        BlockNumber(p.0 / b),
-        0,
-        BlockPlace(p.0 % b),
-        len,
+        On { level: 0, b },
+        Ahead {
+            first: BlockNumber(p.0 / b),
+            steps: 0,
+        },
+        Stretch {
+            place: BlockPlace(p.0 % b),
+            len,
+        },
         0,
     )
 }

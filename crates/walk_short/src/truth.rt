@@ -1,9 +1,12 @@
 // Question 9 of the edges: is each edge of each block what the short span's walk gives from that block?
 use crate::gather;
 use crate::gather::Gathered;
+use crate::gather::Stretch;
 use layout::header::Header;
+use layout::place::Ahead;
 use layout::place::BlockNumber;
 use layout::place::BlockPlace;
+use layout::place::On;
 use layout::record;
 ghost use mathlib.Core.Path.{_≡_};
 ghost use Prim.Native.Nat.{_+_, _≤_, _<_};
@@ -42,11 +45,24 @@ fn block_right(t: &[u8], h: Header, level: u32, b: u32, block: BlockNumber) -> b
     let length = walk_steps::block_length(t, h.record_size, level, b, block);
     let own = stretches::shorter(m, length);
     let at = record::edges(t, h.record_size, h.settings.counted, level, block);
-    let first = gather::gather(t, h, level, b, block, 0, BlockPlace(0), own, 0);
+    let on = On { level, b };
+    let here = Ahead {
+        first: block,
+        steps: 0,
+    };
+    let front = Stretch {
+        place: BlockPlace(0),
+        len: own,
+    };
+    let first = gather::gather(t, h, on, here, front, 0);
     if !edge_right(t, m, at, own, first) {
         return false;
     }
-    let last = gather::gather(t, h, level, b, block, 0, BlockPlace(length - own), own, 0);
+    let back = Stretch {
+        place: BlockPlace(length - own),
+        len: own,
+    };
+    let last = gather::gather(t, h, on, here, back, 0);
     edge_right(t, m, at + m as usize, own, last)
 }
 

@@ -124,13 +124,9 @@ module _ (t : List ℕ) (size level b i o : ℕ) (s : Pointing t size level b i 
 -- a block's length
 
 module _ (t : List ℕ) (size level b i start n : ℕ) (k : InTable t size level b i) (start-is : start ≡ at.start t level i) (n-is : n ≡ at.textLength t) where
-  pub length-none : n ≤ start → (0 ≡ at.blockLengthAt t level i) × (0 ≤ b)
+  pub length-is : (r : ℕ) → (r ≡ min b (n - start)) × (r ≤ b) → (r ≡ at.blockLengthAt t level i) × (r ≤ b)
   unfolding at.blockLengthAt
-  length-none past = (omega (arith, n-is), omega arith)
-
-  pub length-some : (r : ℕ) → start < n → r ≡ min b (n - start) → (r ≡ at.blockLengthAt t level i) × (r ≤ b)
-  unfolding at.blockLengthAt
-  length-some r low e = (e ∙ rw (k .on .b-is, start-is, n-is), omega arith)
+  length-is r e = (e .0 ∙ rw (k .on .b-is, start-is, n-is), e .1)
 
 -- the part of a place
 pub rest-is : (x b q : ℕ) → q ≡ x / b → (q * b ≤ x) × (x - q * b ≡ x % b)

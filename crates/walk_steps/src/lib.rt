@@ -2,8 +2,11 @@
 // table, also one past 32 bits, is no block; the path itself reads no starts. `size` is the bytes of a record.
 pub mod fields;
 
+use layout::cut;
+use layout::place::Ahead;
 use layout::place::BlockNumber;
 use layout::place::BlockPlace;
+use layout::place::On;
 use layout::record;
 ghost use mathlib.Core.Path.{_≡_};
 ghost use mathlib.Core.Bool.{cond};
@@ -79,24 +82,16 @@ pub fn look(t: &[u8], size: u32, level: u32, b: u32, block: BlockNumber, place: 
 }
 
 // What the block some steps after another is.
-pub fn look_after(
-    t: &[u8],
-    size: u32,
-    level: u32,
-    b: u32,
-    first: BlockNumber,
-    steps: u32,
-    place: BlockPlace,
-) -> Next
-    requires { ⌜ OnLevel (now t) size level b ⌝ }
-    ensures { λ r. ⌜ r ≡ nextAt (now (t .entry)) level (first .0 + steps) (place .0) ⌝ }
+pub fn look_after(t: &[u8], size: u32, on: On, ahead: Ahead, place: BlockPlace) -> Next
+    requires { ⌜ OnLevel (now t) size (on .level) (on .b) ⌝ }
+    ensures { λ r. ⌜ r ≡ nextAt (now (t .entry)) (on .level) (ahead .first .0 + ahead .steps) (place .0) ⌝ }
 {
-    let count = record::level_count(t, level) as u64;
-    let number = first.0 as u64 + steps as u64;
+    let count = record::level_count(t, on.level) as u64;
+    let number = ahead.first.0 as u64 + ahead.steps as u64;
     if count <= number {
         return Next::Off;
     }
-    look(t, size, level, b, BlockNumber(number as u32), place)
+    look(t, size, on.level, on.b, BlockNumber(number as u32), place)
 }
 
 // The child that a kept block hands a place to; b is the block length of the children's level.
@@ -152,10 +147,11 @@ pub fn target(
     look_after(
         t,
         size,
-        level,
-        b,
-        BlockNumber(link),
-        over,
+        On { level, b },
+        Ahead {
+            first: BlockNumber(link),
+            steps: over,
+        },
         BlockPlace(sum - over * b),
     )
 }
@@ -190,8 +186,5 @@ pub fn block_length(t: &[u8], size: u32, level: u32, b: u32, block: BlockNumber)
 {
     let start = record::start(t, size, level, block);
     let shape = fields::shape_of(t);
-    if shape.length <= start.0 {
-        return 0;
-    }
-    stretches::shorter(b, shape.length - start.0)
+    cut::length_from(shape.length, start, b)
 }

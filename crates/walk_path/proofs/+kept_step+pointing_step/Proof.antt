@@ -26,10 +26,10 @@ use Rattle.walk_path.proofs.+kept_step+pointing_step.{statement}
 use Rattle.walk_path.proofs.+kept_step+pointing_step.Tie.{close}
 
 abbrev μ-kept-step : Measures 1 kept-step-kinds.ps ℕ
-μ-kept-step κs a = 2 * (at.settings (a .0 .now) .levels - 1 - a .1 .1 .0)
+μ-kept-step κs a = 2 * (at.settings (a .0 .now) .levels - 1 - a .1 .1 .0 .level)
 
 abbrev μ-pointing-step : Measures 1 pointing-step-kinds.ps ℕ
-μ-pointing-step κs a = 2 * (at.settings (a .0 .now) .levels - 1 - a .1 .1 .0) + 1
+μ-pointing-step κs a = 2 * (at.settings (a .0 .now) .levels - 1 - a .1 .1 .0 .level) + 1
 
 abbrev kept-step-at : ℕ → In 1 kept-step-kinds.ps
 kept-step-at t = and 1 kept-step-kinds.ps (is 1 kept-step-kinds.ps μ-kept-step t) kept-step.Pre
@@ -76,58 +76,58 @@ pub +kept-step+pointing-step-spec : {M : Type 1} → statement M
     kept-step.Post
     (λ c κs. search needs)
     (λ c κs. rw (c .whole .ensures) (c .before .before .pre .1 .on .facts .long))
-    (λ c. let k = c .before .before .before .pre .1 in record { fits = omega (arith, k .on .level-in, k .on .facts .bounds .levels-high) })
-    (λ c κs. let w = c .before .before .before in rw (w .whole .ensures) (w .before .before .pre .1))
+    (λ c. let k = c .before .before .before .before .pre .1 in record { fits = omega (arith, k .on .level-in, k .on .facts .bounds .levels-high) })
+    (λ c κs. let w = c .before .before .before .before in rw (w .whole .ensures) (w .before .before .pre .1))
     (λ c.
-    let s = c .before .before .before in
+    let s = c .before .before .before .before in
     let w = s .before in
     laws.kept-last _ _ _ _ _ _ _ (w .before .before .pre .1) _
     (c .before .if1 .taken ∙ shapes-on _ _ _ (w .whole .ensures) (s .shape-of .ensures) .levels-is) (rw (w .whole .ensures) at (c .leaf .ensures)))
     (λ c κs.
-    let s = c .before .before in
+    let s = c .before .before .before in
     let w = s .before in
     omega (arith, shapes-on _ _ _ (w .whole .ensures) (s .shape-of .ensures) .arity-is, w .before .before .pre .1 .on .facts .bounds .arity-low))
-    (λ c κs. let k = c .before .before .before .before .before .before .pre .1 in (laws.entered-fits _ _ _ _ _ _ _ k, k .place-in))
+    (λ c κs. let k = c .before .before .before .before .before .before .before .pre .1 in (laws.entered-fits _ _ _ _ _ _ _ k, k .place-in))
     (λ c κs.
     let e = c .before .before in
-    let s = e .before .before in
+    let s = e .before .before .before in
     let w = s .before in
     let x = shapes-on _ _ _ (w .whole .ensures) (s .shape-of .ensures) in
     rw (w .whole .ensures) (laws.asks-child _ _ _ _ _ _ _ (w .before .before .pre .1) (λ last. e .if1 .left (last ∙ sym (x .levels-is)))
-    _ (c .before .quotient .ensures ∙ ap (λ (y : ℕ). e .before .before .before .before .before .args .b / y) (x .arity-is))))
+    _ (c .before .quotient .ensures ∙ ap (λ (y : ℕ). e .before .before .before .before .before .before .args .on .b / y) (x .arity-is))))
     (λ c. search needs)
     (λ c. search needs)
     (λ c.
     let m = c .before .before in
     let e = m .before .before .before in
-    let s = e .before .before in
+    let s = e .before .before .before in
     let w = s .before in
     let S = w .before .before in
     let x = shapes-on _ _ _ (w .whole .ensures) (s .shape-of .ensures) in
     sym laws.broken-word ∙ laws.child-none _ _ _ _ _ _ _ (S .pre .1)
-    (λ last. e .if1 .left (last ∙ sym (x .levels-is))) _ (m .before .before .quotient .ensures ∙ ap (λ (y : ℕ). S .args .b / y) (x .arity-is))
+    (λ last. e .if1 .left (last ∙ sym (x .levels-is))) _ (m .before .before .quotient .ensures ∙ ap (λ (y : ℕ). S .args .on .b / y) (x .arity-is))
     _ (m .before .enter .ensures) _ (rw (w .whole .ensures) at (m .child .ensures)) (c .enum-told .given .1))
     (λ c κs.
     let m = c .before .before .before in
     let e = m .before .before .before in
-    let s = e .before .before in
+    let s = e .before .before .before in
     let w = s .before in
     let S = w .before .before in
     let x = shapes-on _ _ _ (w .whole .ensures) (s .shape-of .ensures) in (
       omega (arith, S .pre .0, ap levels (w .whole .ensures), S .pre .1 .on .level-in, x .levels-is, e .if1 .left),
       rw (w .whole .ensures) (laws.child-may _ _ _ _ _ _ _ (S .pre .1)
-          (λ last. e .if1 .left (last ∙ sym (x .levels-is))) _ (m .before .before .quotient .ensures ∙ ap (λ (y : ℕ). S .args .b / y) (x .arity-is))
+          (λ last. e .if1 .left (last ∙ sym (x .levels-is))) _ (m .before .before .quotient .ensures ∙ ap (λ (y : ℕ). S .args .on .b / y) (x .arity-is))
           _ (m .before .enter .ensures) _ (rw (w .whole .ensures) at (m .child .ensures)) _ _ (c .before .child2 .given .1)),
     ))
     (λ c.
     let m = c .before .before .before .before in
     let e = m .before .before .before in
-    let s = e .before .before in
+    let s = e .before .before .before in
     let w = s .before in
     let S = w .before .before in
     let x = shapes-on _ _ _ (w .whole .ensures) (s .shape-of .ensures) in
     laws.child-by _ _ _ _ _ _ _ (S .pre .1) (λ last. e .if1 .left (last ∙ sym (x .levels-is))) _ (m .before .before .quotient .ensures
-    ∙ ap (λ (y : ℕ). S .args .b / y) (x .arity-is)) _ (m .before .enter .ensures) _ (rw (w .whole .ensures) at (m .child .ensures))
+    ∙ ap (λ (y : ℕ). S .args .on .b / y) (x .arity-is)) _ (m .before .enter .ensures) _ (rw (w .whole .ensures) at (m .child .ensures))
     _ _ _ (c .before .before .child2 .given .1) (rw (w .whole .ensures) at (c .pointing-step .ensures))))
     (λ t. pointing-step-lts.spec (
       whole-reads.Asked,

@@ -24,10 +24,10 @@ use Rattle.ask_select.proofs.seek.shift.Reads as shift-reads
 use Rattle.ask_select.proofs.seek.target_with.Reads as target-with-reads
 
 abbrev μ-kept-step : Measures 1 kept-step-kinds.ps ℕ
-μ-kept-step κs a = 2 * (a .1 .0 .settings .levels - 1 - a .1 .1 .1 .0)
+μ-kept-step κs a = 2 * (a .1 .0 .settings .levels - 1 - a .1 .1 .1 .0 .level)
 
 abbrev μ-pointing-step : Measures 1 pointing-step-kinds.ps ℕ
-μ-pointing-step κs a = 2 * (a .1 .0 .settings .levels - 1 - a .1 .1 .1 .0) + 1
+μ-pointing-step κs a = 2 * (a .1 .0 .settings .levels - 1 - a .1 .1 .1 .0 .level) + 1
 
 abbrev kept-step-at : ℕ → In 1 kept-step-kinds.ps
 kept-step-at t = and 1 kept-step-kinds.ps (is 1 kept-step-kinds.ps μ-kept-step t) kept-step.Pre
@@ -66,46 +66,45 @@ pub +kept-step+pointing-step-spec : {M : Type 1} → statement M
     (kept-step-at t)
     kept-step.Post
     (λ c. search needs)
-    (λ c κs. (c .before .before .before .pre .1 .0, c .before .before .before .pre .1 .1, c .if1 .taken))
-    (λ c. laws.found-more _ _ _ _ _ _ _ _ (c .leaf-place .ensures) (omega (arith, c .before .before .before .before .pre .1 .0 .on .level-in)))
-    (λ c. omega (arith, walk.arity-pos _ _ (c .before .before .before .before .pre .1 .0 .on .header)))
-    (λ c κs. let w = c .before .before .before .before in
-    (w .pre .1 .0, walk.level-below _ _ _ _ (w .pre .1 .0 .on) (c .before .if1 .left), w .pre .1 .1 .number-in, w .pre .1 .1 .low))
+    (λ c κs. (c .before .before .before .before .pre .1 .0, c .before .before .before .before .pre .1 .1, c .if1 .taken))
+    (λ c. laws.found-more _ _ _ _ _ _ _ _ (c .leaf-place .ensures) (omega (arith, c .before .before .before .before .before .pre .1 .0 .on .level-in)))
+    (λ c. omega (arith, walk.arity-pos _ _ (c .before .before .before .before .before .before .pre .1 .0 .on .header)))
+    (λ c κs. let w = c .before .before .before .before .before .before in
+    (w .pre .1 .0, walk.level-below _ _ _ _ (w .pre .1 .0 .on) (c .before .before .if1 .left), w .pre .1 .1 .number-in, w .pre .1 .1 .low))
     (λ c. search needs)
-    (λ c κs. let w = c .before .before .before .before .before .before .before .before in (let low = walk.level-below _ _ _ _
-    (w .pre .1 .0 .on) (c .before .before .before .before .before .if1 .left) in let z = c .before .before .before .child-with .ensures .kept
-    _ _ _ (c .before .next .given .1) in (
+    (λ c κs. let w = c .before .before .before .before .before .before .before .before .before .before in
+    (let low = walk.level-below _ _ _ _ (w .pre .1 .0 .on) (c .before .before .before .before .before .before .if1 .left) in
+    let z = c .before .before .before .child-with .ensures .kept _ _ _ (c .before .next .given .1) in (
       omega (arith, w .pre .0, low .level-in, w .pre .1 .0 .on .header .levels-is),
       (record { on = low; kept = z .1 }, laws.to-child _ _ _ _ _ _ _ _ (w .pre .1 .0) (w .pre .1 .1) low _ _ _ (z .0) _ (omega arith)),
     )))
-    (λ c κs. let w = c .before .before .before .before in (let low = walk.level-below _ _ _ _ (w .before .before .before .before .before .pre .1 .0 .on)
-    (w .before .before .if1 .left) in let z = w .child-with .ensures .kept _ _ _ (c .before .before .next .given .1) in
+    (λ c κs. let w = c .before .before .before .before in
+    (let low = walk.level-below _ _ _ _ (w .before .before .before .before .before .before .before .pre .1 .0 .on)
+    (w .before .before .before .if1 .left) in let z = w .child-with .ensures .kept _ _ _ (c .before .before .next .given .1) in
     (laws.near-more _ _ (2 * maxLevels) (c .kept-step .ensures .near) (omega (arith, low .header .facts .bounds .levels-high)), z .0 .place-low)))
     (λ c. search needs)
-    (λ c κs. let w = c .before .before .before .before .before .before .before .before in (let low = walk.level-below _ _ _ _
-    (w .pre .1 .0 .on) (c .before .before .before .before .before .if1 .left) in let z = c .before .before .before .child-with .ensures .points
-    _ _ _ (c .before .next2 .given .1) in (
+    (λ c κs. let w = c .before .before .before .before .before .before .before .before .before .before in
+    (let low = walk.level-below _ _ _ _ (w .pre .1 .0 .on) (c .before .before .before .before .before .before .if1 .left) in
+    let z = c .before .before .before .child-with .ensures .points _ _ _ (c .before .next2 .given .1) in (
       omega (arith, w .pre .0, low .level-in, w .pre .1 .0 .on .header .levels-is),
       (record { on = low; points = z .1 }, laws.to-child _ _ _ _ _ _ _ _ (w .pre .1 .0) (w .pre .1 .1) low _ _ _ (z .0) _ (omega arith)),
     )))
-    (λ c κs. let w = c .before .before .before .before in (let low = walk.level-below _ _ _ _ (w .before .before .before .before .before .pre .1 .0 .on)
-    (w .before .before .if1 .left) in let z = w .child-with .ensures .points _ _ _ (c .before .before .next2 .given .1) in (
-      laws.near-more _ _
-          (2 * maxLevels) (c .pointing-step .ensures .near) (omega (arith, low .header .facts .bounds .levels-high)),
-      z .0 .place-low,
-    )))
+    (λ c κs. let w = c .before .before .before .before in
+    (let low = walk.level-below _ _ _ _ (w .before .before .before .before .before .before .before .pre .1 .0 .on)
+    (w .before .before .before .if1 .left) in let z = w .child-with .ensures .points _ _ _ (c .before .before .next2 .given .1) in
+    (laws.near-more _ _ (2 * maxLevels) (c .pointing-step .ensures .near) (omega (arith, low .header .facts .bounds .levels-high)), z .0 .place-low)))
     (λ c. search needs)
-    (λ c. let w = c .before .before .before .before .before .before .before in let v = w .before .before .before in (let low =
+    (λ c. let w = c .before .before .before .before .before .before .before .before in let v = w .before .before .before .before in (let low =
     walk.level-below _ _ _ _ (v .pre .1 .0 .on) (w .if1 .left) in let z = c .before .before .before .before .before .child-with .ensures .kept
     _ _ _ (c .before .before .before .next .given .1) in laws.by-child _ _ _ _ _ _ _ _
     (v .pre .1 .0) (v .pre .1 .1) low _ _ _ (z .0) _ _ _ _ (c .before .kept-step .ensures) (c .shift .ensures) (omega (arith, low .level-in))))
-    (λ c. let w = c .before .before .before .before .before .before .before in let v = w .before .before .before in (let low =
+    (λ c. let w = c .before .before .before .before .before .before .before .before in let v = w .before .before .before .before in (let low =
     walk.level-below _ _ _ _ (v .pre .1 .0 .on) (w .if1 .left) in let z = c .before .before .before .before .before .child-with .ensures .points
     _ _ _ (c .before .before .before .next2 .given .1) in laws.by-child _ _ _ _ _ _ _ _ (v .pre .1 .0)
     (v .pre .1 .1) low _ _ _ (z .0) _ _ _ _ (c .before .pointing-step .ensures) (c .shift2 .ensures) (omega (arith, low .level-in))))
-    (λ c. let w = c .before .before .before .before .before .before .before in
-    laws.no-child _ _ _ _ _ _ _ _ (w .pre .1 .0) (w .pre .1 .1) (walk.level-below _ _ _ _
-    (w .pre .1 .0 .on) (c .before .before .before .before .if1 .left)) _ (c .before .before .child-with .ensures .off (c .enum-told .given .1))))
+    (λ c. let w = c .before .before .before .before .before .before .before .before .before in
+    laws.no-child _ _ _ _ _ _ _ _ (w .pre .1 .0) (w .pre .1 .1) (walk.level-below _ _ _ _ (w .pre .1 .0 .on)
+    (c .before .before .before .before .before .if1 .left)) _ (c .before .before .child-with .ensures .off (c .enum-told .given .1))))
     (λ t. pointing-step-lts.spec (
       gap-reads.Asked,
       gap-reads.Learnt,
@@ -119,29 +118,30 @@ pub +kept-step+pointing-step-spec : {M : Type 1} → statement M
     (pointing-step-at t)
     pointing-step.Post
     (λ c. search needs)
-    (λ c. laws.last-points _ _ _ _ _ _ _ (c .before .before .before .pre .1 .0) (c .before .before .before .pre .1 .1) _ (c .if1 .taken))
-    (λ c κs. let w = c .before .before .before in
+    (λ c. laws.last-points _ _ _ _ _ _ _ (c .before .before .before .before .pre .1 .0) (c .before .before .before .before .pre .1 .1) _ (c .if1 .taken))
+    (λ c κs. let w = c .before .before .before .before in
     field-there _ _ _ _ 3 (w .pre .1 .0 .on .header) (w .pre .1 .0 .on .level-in) (pointing-in _ _ _ (w .pre .1 .0 .points)) (omega arith))
-    (λ c κs. let w = c .before .before .before .before in (
+    (λ c κs. let w = c .before .before .before .before .before in (
       w .pre .1 .0,
       w .pre .1 .1 .number-in,
       w .pre .1 .1 .low,
       omega (arith, w .pre .1 .1 .few, w .pre .1 .0 .on .level-in, w .pre .1 .0 .on .header .facts .bounds .levels-high),
     ))
     (λ c. search needs)
-    (λ c κs. let w = c .before .before .before .before .before .before .before .before in
+    (λ c κs. let w = c .before .before .before .before .before .before .before .before .before in
     (let z = c .before .before .before .target-with .ensures .kept _ _ _ (c .before .next .given .1) in (
       omega (arith, w .pre .0),
       (laws.aimed-kept _ _ _ _ _ _ _ (w .pre .1 .0) (w .pre .1 .1) _ _ _ z, laws.to-aimed _ _ _ _ _ _ _ (w .pre .1 .0) (w .pre .1 .1) _ _ _ z),
     )))
-    (λ c κs. let w = c .before .before .before .before .before .before .before .before .before in
+    (λ c κs. let w = c .before .before .before .before .before .before .before .before .before .before in
     (let z = c .before .before .before .before .target-with .ensures .kept _ _ _ (c .before .before .next .given .1) in (
       laws.near-more _ _ (2 * maxLevels) (c .kept-step .ensures .near) (omega (arith, w .pre .1 .0 .on .header .facts .bounds .levels-high)),
       omega (arith, z .forward-low, b-small _ _ _ _ (w .pre .1 .0 .on)),
     )))
     (λ c. search needs)
-    (λ c. let w = c .before .before .before .before .before in let v = w .before .before .before .before .before in (let z =
-    w .target-with .ensures .kept _ _ _ (c .before .before .before .next .given .1) in laws.by-aimed _ _ _ _ _ _ _ (v .pre .1 .0) (v .pre .1 .1)
-    _ _ _ z _ _ _ _ _ (w .before .gap .ensures) (c .before .kept-step .ensures) (c .shift .ensures) (omega (arith, v .pre .1 .0 .on .level-in))))
-    (λ c. let w = c .before .before .before .before .before .before .before in
+    (λ c. let w = c .before .before .before .before .before .before .before .before .before .before .before in
+    (let z = c .before .before .before .before .before .target-with .ensures .kept _ _ _ (c .before .before .before .next .given .1) in
+    laws.by-aimed _ _ _ _ _ _ _ (w .pre .1 .0) (w .pre .1 .1) _ _ _ z _ _ _ _ _ (c .before .before .before .before .before .before .gap .ensures)
+    (c .before .kept-step .ensures) (c .shift .ensures) (omega (arith, w .pre .1 .0 .on .level-in))))
+    (λ c. let w = c .before .before .before .before .before .before .before .before in
     laws.no-aimed _ _ _ _ _ _ _ (w .pre .1 .0) (w .pre .1 .1) _ (c .before .before .target-with .ensures .off (c .enum-told .given .1))))

@@ -26,7 +26,8 @@ by-fours-spec =
     ))
     (λ c. search needs)
     (λ c. let l = c .before .before .before in record { low = l .loop .inv .0; high = l .loop .inv .1; here = l .loop .inv .2 })
-    (λ c. let l = c .before .before .before in omega (arith, l .loop .inv .1, c .before .before .loop-test .taken))
+    (λ c. let l = c .before .before .before in
+    omega (arith, l .before .before .good .1 .1 .1 .1 .0 .1 .1 .1 .0 .1 .1 .0 .1, l .loop .inv .1, c .before .before .loop-test .taken))
     (λ c. let l = c .before .before .before in omega (arith, l .loop .inv .1, c .before .before .loop-test .taken))
     (λ c. let l = c .before .before .before in (
       omega (arith, l .loop .inv .0),

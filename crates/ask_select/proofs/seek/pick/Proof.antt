@@ -2,7 +2,7 @@ use borrow.Author.Needs.{needs}
 use native.Mathlib.Omega.{arith}
 use Rattle.walk_steps.proofs.QuestionStandsLaws.{plain-block}
 use Rattle.ask_select.proofs.SeekLaws as laws
-use Rattle.ask_rank.proofs.SumLaws as sums
+use Rattle.ask_totals.proofs.TotalLaws as totals
 use Rattle.ask_select.proofs.seek.pick.Statement.{statement}
 use Rattle.ask_select.proofs.seek.pick.Tie as tie
 
@@ -10,7 +10,7 @@ pub pick-spec : {M : Type 1} → statement M
 pick-spec =
     tie.close
     (tie.spec
-    (λ c κs. sums.field-there
+    (λ c κs. totals.field-there
     _ _ _ _ _ _ (c .before .pre .0 .on .header) (c .before .pre .0 .on .level-in) (c .before .pre .0 .block-in) (c .before .pre .1) (omega arith))
     (λ c. search needs)
     (λ c. laws.pick-none _ _ _ _ _ _ _ (c .before .before2 .ensures) (c .if1 .taken))

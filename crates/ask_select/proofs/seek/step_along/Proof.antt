@@ -3,7 +3,7 @@ use Prim.Native.Nat.{_+_, _-_, _≤_, _<_}
 use native.Mathlib.Omega.{arith}
 use borrow.Author.Needs.{needs}
 use Rattle.format.specs.Layout as at
-use Rattle.ask_rank.proofs.SumLaws as sums
+use Rattle.ask_totals.proofs.TotalLaws as totals
 use Rattle.ask_select.proofs.SeekLaws as laws
 use Rattle.ask_select.proofs.seek.step_along.Statement.{statement}
 use Rattle.ask_select.proofs.seek.step_along.Tie as tie
@@ -28,7 +28,7 @@ step-along-spec =
     (λ c. search needs)
     (λ c. search needs)
     (λ c κs. let s = c .before .before .before .before .before .before .pre in
-    sums.field-there _ _ _ _ _ _ (s .header) (s .level-in) (omega (arith, s .end-in)) (s .number-in) (omega arith))
+    totals.field-there _ _ _ _ _ _ (s .header) (s .level-in) (omega (arith, s .end-in)) (s .number-in) (omega arith))
     (λ c. search needs)
     (λ c.
     let l = c .before .before .before in

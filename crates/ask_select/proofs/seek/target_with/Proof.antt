@@ -3,7 +3,7 @@ use mathlib.Core.Path.{refl}
 use native.Mathlib.Omega.{arith}
 use Rattle.walk_steps.proofs.StepLaws.{pointing-in}
 use Rattle.ask_select.proofs.LandLaws as laws
-use Rattle.ask_rank.proofs.SumLaws as sums
+use Rattle.ask_totals.proofs.TotalLaws as totals
 use Rattle.ask_select.proofs.seek.target_with.Statement.{statement}
 use Rattle.ask_select.proofs.seek.target_with.Tie as tie
 
@@ -11,16 +11,16 @@ pub target-with-spec : {M : Type 1} → statement M
 target-with-spec =
     tie.close
     (tie.spec
-    (λ c κs. (sums.field-there _ _ _ _ _ 2 (c .before .pre .0 .on .header)
+    (λ c κs. (totals.field-there _ _ _ _ _ 2 (c .before .pre .0 .on .header)
     (c .before .pre .0 .on .level-in) (pointing-in _ _ _ (c .before .pre .0 .points)) (c .before .pre .1) (omega arith)))
     (λ c κs. search needs)
     (λ c. let w = c .before .before .before .before in laws.aim-past _ _ _ _ _ _ _ _
     (w .pre .0) (w .pre .1) (w .pre .2) (c .before .before .link .ensures) (omega (arith, c .before .level-count .ensures, c .if1 .taken)))
-    (λ c κs. let w = c .before .before .before .before in sums.field-there
+    (λ c κs. let w = c .before .before .before .before in totals.field-there
     _ _ _ _ _ _ (w .pre .0 .on .header) (w .pre .0 .on .level-in) (pointing-in _ _ _ (w .pre .0 .points)) (w .pre .1) (omega arith))
     (λ c. search needs)
     (λ c. search needs)
-    (λ c κs. let w = c .before .before .before .before .before in sums.field-there _ _ _ _ _ _ (w .pre .0 .on .header)
+    (λ c κs. let w = c .before .before .before .before .before in totals.field-there _ _ _ _ _ _ (w .pre .0 .on .header)
     (w .pre .0 .on .level-in) (omega (arith, c .before .before .level-count .ensures, c .before .if1 .left)) (w .pre .1) (omega arith))
     (λ c. search needs)
     (λ c κs. let w = c .before .before .before in let v = w .before .before .before .before in

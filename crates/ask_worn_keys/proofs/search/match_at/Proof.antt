@@ -3,7 +3,7 @@ use native.Mathlib.Omega.{arith}
 use borrow.Author.Needs.{needs}
 use borrow.Author.Tests.{not-true, not-false}
 use Rattle.format.specs.FindSays.{total}
-use Rattle.ask_rank.proofs.CountByHeaderLaws.{is-counted, not-counted}
+use Rattle.ask_totals.proofs.TotalLaws.{is-counted, not-counted}
 use Rattle.ask_worn_keys.proofs.MatchAnswerLaws as laws
 use Rattle.ask_worn_keys.proofs.search.match_at.Statement.{statement}
 use Rattle.ask_worn_keys.proofs.search.match_at.Tie as tie

@@ -14,7 +14,7 @@ use Rattle.check_counts.proofs.prefix.+up_to.Tie.{close}
 
 -- the levels left
 abbrev μ-up-to : Measures 1 up-to-kinds.ps ℕ
-μ-up-to κs a = a .1 .0 .settings .levels - a .1 .1 .0
+μ-up-to κs a = a .1 .0 .settings .levels - a .1 .1 .0 .level
 
 abbrev up-to-at : ℕ → In 1 up-to-kinds.ps
 up-to-at t = and 1 up-to-kinds.ps (is 1 up-to-kinds.ps μ-up-to t) up-to.Pre
@@ -28,45 +28,50 @@ pub +up-to-spec : {M : Type 1} → statement M
     (λ t. up-to-lts.spec (in-leaves-reads.Asked, in-leaves-reads.Learnt, step-reads.Asked, step-reads.Learnt, up-to-below t, up-to.Post)
     (up-to-at t)
     up-to.Post
-    (λ c. omega (arith, c .before .pre .1 .1 .block .table .level-in, c .before .pre .1 .1 .block .table .tree .header .facts .bounds .levels-high))
-    (λ c. let w = c .before .before .before .before in omega (arith, w .pre .1 .1 .block .place-in, facts.length-lt _ _ _ _ _ (w .pre .1 .1 .block .table)))
-    (λ c κs. let w = c .before .before .before .before in (
+    (λ c. omega (arith, c .before .before .pre .1 .1 .block .table .level-in, c .before .before .pre .1 .1 .block .table .tree .header .facts .bounds .levels-high))
+    (λ c. let w = c .before .before .before .before .before in
+    omega (arith, w .pre .1 .1 .block .place-in, facts.length-lt _ _ _ _ _ (w .pre .1 .1 .block .table)))
+    (λ c κs. let w = c .before .before .before .before .before in (
       w .pre .1 .1 .block .table,
       laws.last-level _ _ _ _ _ _ _ (w .pre .1 .0) (w .pre .1 .1) (c .before .if1 .taken),
       omega (arith, w .pre .1 .1 .block .place-in),
     ))
-    (λ c. let w = c .before .before .before .before .before in
+    (λ c. let w = c .before .before .before .before .before .before in
     laws.walk-last _ _ _ _ _ _ _ (w .pre .1 .0) (w .pre .1 .1) (c .before .before .if1 .taken) _ (c .in-leaves .ensures .0))
-    (λ c. laws.arity-pos _ _ _ _ _ _ _ (c .before .before .before .before .pre .1 .0) (c .before .before .before .before .pre .1 .1))
-    (λ c κs. let w = c .before .before .before .before in (
-      laws.below-is _ _ _ _ _ _ _ (w .pre .1 .0) (w .pre .1 .1) (laws.not-last _ _ _ _ _ _ _ (w .pre .1 .0) (w .pre .1 .1) (c .before .if1 .left)),
-      laws.not-last _ _ _ _ _ _ _ (w .pre .1 .0) (w .pre .1 .1) (c .before .if1 .left),
+    (λ c. let w = c .before .before .before .before .before .before in laws.arity-pos _ _ _ _ _ _ _ (w .pre .1 .0) (w .pre .1 .1))
+    (λ c κs. let w = c .before .before .before .before .before .before in (
+      laws.below-is _ _ _ _ _ _ _ (w .pre .1 .0) (w .pre .1 .1) (laws.not-last _ _ _ _ _ _ _ (w .pre .1 .0) (w .pre .1 .1)
+          (c .before .before .if1 .left)),
+      laws.not-last _ _ _ _ _ _ _ (w .pre .1 .0) (w .pre .1 .1) (c .before .before .if1 .left),
       w .pre .1 .1,
     ))
-    (λ c κs. let w = c .before .before .before .before .before .before in (
+    (λ c κs. let w = c .before .before .before .before .before .before .before .before .before in (
       omega (
         arith,
         w .pre .0,
-        laws.not-last _ _ _ _ _ _ _ (w .pre .1 .0) (w .pre .1 .1) (c .before .before .before .if1 .left),
-        facts.levels-is
-            _ _ (w .pre .1 .1 .block .table .tree),
+        laws.not-last _ _ _ _ _ _ _ (w .pre .1 .0) (w .pre .1 .1) (c .before .before .before .before .before .if1 .left),
+        facts.levels-is _ _ (w .pre .1 .1 .block .table .tree),
       ),
       (
-        laws.below-is _ _ _ _ _ _ _ (w .pre .1 .0) (w .pre .1 .1) (laws.not-last _ _ _ _ _ _ _
-            (w .pre .1 .0) (w .pre .1 .1) (c .before .before .before .if1 .left)),
-        laws.walk-next _ _ _ _ _ _ _ (w .pre .1 .0) (w .pre .1 .1)
-            (laws.not-last _ _ _ _ _ _ _ (w .pre .1 .0) (w .pre .1 .1) (c .before .before .before .if1 .left)) _ (c .before .step .ensures .0),
+        laws.below-is _ _ _ _ _ _ _ (w .pre .1 .0)
+            (w .pre .1 .1) (laws.not-last _ _ _ _ _ _ _ (w .pre .1 .0) (w .pre .1 .1) (c .before .before .before .before .before .if1 .left)),
+        laws.walk-next _ _ _ _ _ _ _ (w .pre .1 .0) (w .pre .1 .1) (laws.not-last _ _ _ _ _ _ _
+            (w .pre .1 .0) (w .pre .1 .1) (c .before .before .before .before .before .if1 .left)) _ (c .before .before .step .ensures .0),
       ),
     ))
-    (λ c. let w = c .before .before .before .before .before .before .before .before in omega (
+    (λ c. let w = c .before .before .before .before .before .before .before .before .before .before .before in
+    omega (
       arith,
-      c .before .before .before .step .ensures .1,
-      laws.rest-small _ _ _ _ _ _ _ (w .pre .1 .0) (w .pre .1 .1) (laws.not-last _ _ _ _ _ _ _ (w .pre .1 .0) (w .pre .1 .1)
-          (c .before .before .before .before .before .if1 .left)) _ (c .before .before .before .step .ensures .0) _ (c .before .up-to .ensures),
+      c .before .before .before .before .step .ensures .1,
+      laws.rest-small _ _ _ _ _ _ _ (w .pre .1 .0) (w .pre .1 .1)
+          (laws.not-last _ _ _ _ _ _ _ (w .pre .1 .0) (w .pre .1 .1) (c .before .before .before .before .before .before .before .if1 .left))
+          _ (c .before .before .before .before .step .ensures .0) _ (c .before .up-to .ensures),
     ))
-    (λ c. let w = c .before .before .before .before .before .before .before .before .before in laws.minus-low _ _ _ _ _ _ _ (w .pre .1 .0)
-    (w .pre .1 .1) (laws.not-last _ _ _ _ _ _ _ (w .pre .1 .0) (w .pre .1 .1) (c .before .before .before .before .before .before .if1 .left))
-    _ (c .before .before .before .before .step .ensures .0) _ (c .before .before .up-to .ensures))
-    (λ c. let w = c .before .before .before .before .before .before .before .before .before in laws.walk-is _ _ _ _ _ _ _ (w .pre .1 .0)
-    (w .pre .1 .1) (laws.not-last _ _ _ _ _ _ _ (w .pre .1 .0) (w .pre .1 .1) (c .before .before .before .before .before .before .if1 .left))
-    _ (c .before .before .before .before .step .ensures .0) _ (c .before .before .up-to .ensures)))
+    (λ c. let w = c .before .before .before .before .before .before .before .before .before .before .before .before in
+    laws.minus-low _ _ _ _ _ _ _ (w .pre .1 .0) (w .pre .1 .1)
+    (laws.not-last _ _ _ _ _ _ _ (w .pre .1 .0) (w .pre .1 .1) (c .before .before .before .before .before .before .before .before .if1 .left))
+    _ (c .before .before .before .before .before .step .ensures .0) _ (c .before .before .up-to .ensures))
+    (λ c. let w = c .before .before .before .before .before .before .before .before .before .before .before .before in
+    laws.walk-is _ _ _ _ _ _ _ (w .pre .1 .0) (w .pre .1 .1)
+    (laws.not-last _ _ _ _ _ _ _ (w .pre .1 .0) (w .pre .1 .1) (c .before .before .before .before .before .before .before .before .if1 .left))
+    _ (c .before .before .before .before .before .step .ensures .0) _ (c .before .before .up-to .ensures)))

@@ -24,10 +24,10 @@ pointing-right-spec =
     let v = w .before .before .before in laws.pointing-target _ _ (v .before .before .before .pre .0)
     _ _ (v .before .kind .ensures) (v .if1 .left) (w .before .if2 .left) _ (w .gap .ensures) (c .before .before .before .before .before .if3 .left)
     _ _ _ (c .before .before .before .before .link .ensures) (c .before .before .before .start .ensures)
-    (c .before .before .block-length .ensures .0) (failed (c .before .target-right .ensures) (c .if4 .taken)))
+    (c .before .before .length-from .ensures .0) (failed (c .before .target-right .ensures) (c .if4 .taken)))
     (λ c. let w = c .before .before .before in let v = w .before .before .before .before .before .before in omega (
       arith,
-      w .block-length .ensures .1,
+      w .length-from .ensures .1,
       laws.full-high _ _ (v .before .before .before .before .before .before .pre .0),
       w .before .before .before .if3 .left,
     ))
@@ -35,7 +35,7 @@ pointing-right-spec =
     let v = w .before .before .before in laws.pointing-within _ _ (v .before .before .before .pre .0) _ _ (v .before .kind .ensures)
     (v .if1 .left) (w .before .if2 .left) _ (w .gap .ensures) (c .before .before .before .before .before .before .before .before .if3 .left)
     _ _ _ (c .before .before .before .before .before .before .before .link .ensures)
-    (c .before .before .before .before .before .before .start .ensures) (c .before .before .before .before .before .block-length .ensures .0)
+    (c .before .before .before .before .before .before .start .ensures) (c .before .before .before .before .before .length-from .ensures .0)
     (held (c .before .before .before .before .target-right .ensures) (c .before .before .before .if4 .left)) (c .if5 .taken))
     (λ c κs. let w =
     c .before .before .before .before .before .before .before .before .before .before .before .before .before .before .before .before .before in (
@@ -46,6 +46,6 @@ pointing-right-spec =
     (λ c. let w = c .before .before .before .before .before .before .before in let v = w .before .before .before .before .before in
     laws.pointing-next _ _ (v .before .before .before .before .before .before .pre .0) _ _ (v .before .before .before .before .kind .ensures)
     (v .before .before .before .if1 .left) (v .before .if2 .left) _ (v .gap .ensures) (w .before .before .if3 .left)
-    _ _ _ (w .before .link .ensures) (w .start .ensures) (c .before .before .before .before .before .before .block-length .ensures .0)
+    _ _ _ (w .before .link .ensures) (w .start .ensures) (c .before .before .before .before .before .before .length-from .ensures .0)
     (held (c .before .before .before .before .before .target-right .ensures) (c .before .before .before .before .if4 .left))
     (c .before .if5 .left) _ (c .next-right .ensures)))

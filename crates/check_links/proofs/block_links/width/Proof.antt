@@ -14,7 +14,7 @@ width-spec =
     (λ c κs. laws.there _ _ (c .before .before .before .pre .0) _ 0 (c .before .before .before .pre .1) (omega arith))
     (λ c κs. search needs)
     (λ c κs. let w = c .before .before .before .before .before in
-    (omega (arith, c .block-length .ensures .1, laws.full-high _ _ (w .pre .0)), laws.part-low _ _ (w .pre .0), laws.part-high _ _ (w .pre .0)))
+    (omega (arith, c .length-from .ensures .1, laws.full-high _ _ (w .pre .0)), laws.part-low _ _ (w .pre .0), laws.part-high _ _ (w .pre .0)))
     (λ c. let w = c .before .before .before in
-    laws.width-kept _ _ (w .before .before .before .pre .0) _ _ _ _ (laws.kept-kind _ _ (w .before .before .before .pre .0) _ _
-    (w .before .kind .ensures) (w .if1 .left)) (c .before .before .start .ensures) (c .before .block-length .ensures .0) (c .pieces .ensures)))
+    laws.width-kept _ _ (w .before .before .before .pre .0) _ _ _ _ (laws.kept-kind _ _ (w .before .before .before .pre .0)
+    _ _ (w .before .kind .ensures) (w .if1 .left)) (c .before .before .start .ensures) (c .before .length-from .ensures .0) (c .pieces .ensures)))

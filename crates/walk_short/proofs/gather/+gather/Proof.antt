@@ -16,7 +16,7 @@ use Rattle.walk_short.proofs.gather.+gather.{statement}
 use Rattle.walk_short.proofs.gather.+gather.Tie.{close}
 
 abbrev μ-gather : Measures 1 gather-kinds.ps ℕ
-μ-gather κs a = a .1 .0 .settings .levels - a .1 .1 .0
+μ-gather κs a = a .1 .0 .settings .levels - a .1 .1 .0 .level
 
 abbrev gather-at : ℕ → In 1 gather-kinds.ps
 gather-at t = and 1 gather-kinds.ps (is 1 gather-kinds.ps μ-gather t) gather.Pre
@@ -40,38 +40,42 @@ pub +gather-spec : {M : Type 1} → statement M
     (gather-at t)
     gather.Post
     (λ c. omega (arith, laws.sum-few _ _ _ _ 0 _ _ _ (c .before .before .pre .1)))
-    (λ c κs. laws.over-asks _ _ _ _ 0 _ _ _ (c .before .before .before .pre .1) (c .if1 .taken))
-    (λ c. laws.over-by _ _ _ _ _ _ _ _ (c .before .before .before .before .pre .1) (c .before .if1 .taken) _ (c .over .ensures))
+    (λ c κs. laws.over-asks _ _ _ _ 0 _ _ _ (c .before .before .before .before .pre .1) (c .if1 .taken))
+    (λ c. laws.over-by _ _ _ _ _ _ _ _ (c .before .before .before .before .before .pre .1) (c .before .if1 .taken) _ (c .over .ensures))
     (λ c. search needs)
-    (λ c κs. let p = c .before .before .before .before .before .pre .1 in (p .on, omega (arith, laws.entered-few _ _ _ _ 0 _ _ _ p)))
-    (λ c. laws.last-by _ _ _ _ _ _ _ _
-    (c .before .before .before .before .before .before .pre .1) (c .before .before .before .if1 .left) (c .before .if2 .taken) _ (c .last .ensures))
-    (λ c. omega (arith, arity-pos _ _ (c .before .before .before .before .before .before .pre .1 .on .header)))
-    (λ c κs. let w = c .before .before .before in let p = w .before .before .before .pre .1 in
-    (p .on, p .place-in, w .if1 .left, laws.c-is _ _ _ _ 0 _ _ _ p (w .if1 .left) (c .before .if2 .left) _ refl))
+    (λ c κs. let p = c .before .before .before .before .before .before .before .pre .1 in (p .on, omega (arith, laws.entered-few _ _ _ _ 0 _ _ _ p)))
+    (λ c. let w = c .before .before .before .before in
+    laws.last-by _ _ _ _ _ _ _ _ (w .before .before .before .before .pre .1) (w .if1 .left) (c .before .if2 .taken) _ (c .last .ensures))
+    (λ c. omega (arith, arity-pos _ _ (c .before .before .before .before .before .before .before .before .before .pre .1 .on .header)))
+    (λ c κs. let w = c .before .before .before .before .before in let p = w .before .before .before .before .pre .1 in
+    (p .on, p .place-in, w .if1 .left, laws.c-is _ _ _ _ 0 _ _ _ p (w .if1 .left) (c .before .before .if2 .left) _ refl))
     (λ c. search needs)
-    (λ c. let w = c .before .before .before .before .before in
-    let v = w .before .before .before .before .before in omega (
+    (λ c. let w = c .before .before .before .before .before .before in let v = w .before .before .before .before .before .before .before in
+    omega (
       arith,
       laws.entered-few _ _ _ _ 0 _ _ _ (v .pre .1),
-      laws.down-few _ _ _ _ _ _ _ _
-          (v .pre .1) (w .before .before .if1 .left) (w .if2 .left) _ (c .before .before .before .settle .ensures) _ _ _ _ (c .before .land .given .1),
+      laws.down-few _ _ _ _ _ _ _ _ (v .pre .1)
+          (w .before .before .before .if1 .left) (w .if2 .left) _ (c .before .before .before .settle .ensures) _ _ _ _ (c .before .land .given .1),
     ))
-    (λ c κs. let w = c .before .before .before .before .before .before .before .before .before .before in (
+    (λ c κs. let w = c .before .before .before .before .before .before .before .before .before .before .before .before .before in (
       omega (arith, w .pre .0, w .pre .1 .on .level-in, w .pre .1 .on .header .levels-is),
-      laws.down-asks _ _ _ _ _ _ _ _ (w .pre .1) (c .before .before .before .before .before .before .before .if1 .left)
-          (c .before .before .before .before .before .if2 .left) _ (c .before .before .before .settle .ensures) _ _ _ _ (c .before .land .given .1),
+      laws.down-asks _ _ _ _ _ _ _ _ (w .pre .1) (c .before .before .before .before .before .before .before .before .before .if1 .left)
+          (c .before .before .before .before .before .before .if2 .left)
+          _ (c .before .before .before .settle .ensures) _ _ _ _ (c .before .land .given .1),
     ))
     (λ c. search needs)
-    (λ c. omega (arith, laws.entered-few _ _ _ _ 0 _ _ _ (c .before .before .before .before .before .before .before .before .before .before .pre .1)))
-    (λ c κs. let w = c .before .before .before .before .before in laws.between-asks _ _ _ _ _ _ _ _ (w .before .before .before .before .before .pre .1)
-    (w .before .before .if1 .left) (w .if2 .left) _ (c .before .before .before .settle .ensures) _ _ (c .before .land2 .given .1))
+    (λ c. let w = c .before .before .before .before .before .before in
+    omega (arith, laws.entered-few _ _ _ _ 0 _ _ _ (w .before .before .before .before .before .before .before .pre .1)))
+    (λ c κs. let w = c .before .before .before .before .before .before in
+    laws.between-asks _ _ _ _ _ _ _ _ (w .before .before .before .before .before .before .before .pre .1)
+    (w .before .before .before .if1 .left) (w .if2 .left) _ (c .before .before .before .settle .ensures) _ _ (c .before .land2 .given .1))
     (λ c. search needs)
-    (λ c. let w = c .before .before .before .before in
-    let v = w .before .before in laws.down-by _ _ _ _ _ _ _ _ (v .before .before .before .before .before .pre .1)
-    (v .before .before .if1 .left) (v .if2 .left) _ (w .settle .ensures) _ _ _ _ (c .before .before .land .given .1) _ (c .gather .ensures))
-    (λ c. let w = c .before .before .before .before in
-    let v = w .before .before in laws.between-by _ _ _ _ _ _ _ _ (v .before .before .before .before .before .pre .1)
-    (v .before .before .if1 .left) (v .if2 .left) _ (w .settle .ensures) _ _ (c .before .before .land2 .given .1) _ (c .over2 .ensures))
-    (λ c. let w = c .before .before .before .before in laws.off-by _ _ _ _ _ _ _ _ (w .before .before .before .before .before .pre .1)
-    (w .before .before .if1 .left) (w .if2 .left) _ (c .before .before .settle .ensures) (c .enum-told .given .1)))
+    (λ c. let w = c .before .before .before .before .before .before .before in
+    laws.down-by _ _ _ _ _ _ _ _ (w .before .before .before .before .before .before .before .pre .1) (w .before .before .before .if1 .left)
+    (w .if2 .left) _ (c .before .before .before .before .settle .ensures) _ _ _ _ (c .before .before .land .given .1) _ (c .gather .ensures))
+    (λ c. let w = c .before .before .before .before .before .before .before in
+    laws.between-by _ _ _ _ _ _ _ _ (w .before .before .before .before .before .before .before .pre .1) (w .before .before .before .if1 .left)
+    (w .if2 .left) _ (c .before .before .before .before .settle .ensures) _ _ (c .before .before .land2 .given .1) _ (c .over2 .ensures))
+    (λ c. let w = c .before .before .before .before .before in
+    laws.off-by _ _ _ _ _ _ _ _ (w .before .before .before .before .before .before .before .pre .1)
+    (w .before .before .before .if1 .left) (w .if2 .left) _ (c .before .before .settle .ensures) (c .enum-told .given .1)))

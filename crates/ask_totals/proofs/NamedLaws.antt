@@ -11,7 +11,7 @@ use Rattle.format.specs.Settings.{maxCounted}
 use Rattle.format.specs.HeaderPlaces.{countedAt}
 use Rattle.format.specs.Layout as at
 use Rattle.format.specs.CountSays.{indexOf, numberOfByte}
-use Rattle.ask_rank.specs.CountedNumber.{Names}
+use Rattle.ask_totals.specs.Named.{Names}
 
 -- the number of a byte in a list
 

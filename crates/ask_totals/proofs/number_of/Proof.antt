@@ -3,9 +3,9 @@ use borrow.Author.Needs.{needs}
 use mathlib.Core.Path.{_≡_, _∙_}
 use native.Mathlib.Omega.{arith}
 use Rattle.format.specs.CountSays.{numberOfByte}
-use Rattle.ask_rank.proofs.CountedNumberLaws as laws
-use Rattle.ask_rank.proofs.counted_number.number_of.Statement.{statement}
-use Rattle.ask_rank.proofs.counted_number.number_of.Tie as tie
+use Rattle.ask_totals.proofs.NamedLaws as laws
+use Rattle.ask_totals.proofs.number_of.Statement.{statement}
+use Rattle.ask_totals.proofs.number_of.Tie as tie
 
 abbrev Inv-loop : tie.InvT-loop
 Inv-loop t k byte i₀ i = (i ≤ k) × (laws.ahead t byte i ≡ numberOfByte t byte)
