@@ -136,7 +136,7 @@ fn short_span(t: &[u8], h: Header, at: TextPlace, len: u32, buffer: &mut [u8]) -
 }
 
 // Copies byte by byte, reading on from each to the next; where one is refused, the part asked for is left zero.
-fn copy(t: &[u8], h: Header, at: TextPlace, len: u32, buffer: &mut [u8]) -> Copied
+pub fn copy(t: &[u8], h: Header, at: TextPlace, len: u32, buffer: &mut [u8]) -> Copied
     requires { ⌜ (HeaderOf (now t) h) × (at .0 + len ≤ h .length) × (len ≤ length (now buffer)) ⌝ }
     ensures { λ r. ⌜ CopyAnswer (now (t .entry)) (at .0) len (length (now (buffer .entry))) r ⌝ }
     ensures { λ _. ⌜ now (buffer .exit) ≡ copyLeaves (now (t .entry)) (at .0) len (now (buffer .entry)) ⌝ }

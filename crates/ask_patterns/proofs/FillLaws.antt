@@ -21,10 +21,7 @@ filled-all ps room before h = rw (take-all room ps h)
 pub filled-take : (ps : List ℕ) (room : ℕ) (before : List ℕ) → length ps ≤ room → take (length ps) (filled ps room before) ≡ ps
 filled-take ps room before h = rw (filled-all ps room before h) (take-append-seam ps (drop (length ps) before))
 
--- a copy of the first words
-pub copied-none : (few table : List ℕ) → table ≡ take 0 few ++ drop 0 table
-copied-none few table = refl
-
+-- a copy of the first words, by one more
 pub copied-more : (few table now : List ℕ) (i : ℕ) → i < length few → i < length table → now ≡ take i few ++ drop i table
     → set now i (getD few i 0) ≡ take (i + 1) few ++ drop (i + 1) table
 copied-more few table now i h k e =

@@ -1,5 +1,6 @@
 // One pass over the text, read by runs: each is a part of the tree's own bytes.
 use ask_access::read_by_header;
+use ask_access::read_by_header::Part;
 use ask_access::read_by_header::Ran;
 use layout::header::Header;
 use layout::place::TextPlace;
@@ -19,6 +20,12 @@ pub struct Progress {
     pub place: TextPlace,
     pub state: usize,
     pub found: u32,
+}
+
+// A part of the tree's bytes to be read, and how far the text was read before it.
+struct Run {
+    part: Part,
+    before: Progress,
 }
 
 // How many places there are, where no path breaks.
@@ -70,20 +77,22 @@ fn step(
 // The bytes of a run.
 fn feed(
     t: &[u8],
-    from: usize,
-    size: usize,
+    run: Run,
     pattern: &[u8],
     borders: &[u8],
-    m: Progress,
     room: u32,
     table: &mut [u32],
 ) -> Progress
-    requires { ⌜ (ReadsOn (now t) (m .place .0) from size) × (m .place .0 + size < 4294967296) × (Even (now pattern) m) × (room ≤ length (now table)) ⌝ }
+    requires { ⌜ (ReadsOn (now t) (run .before .place .0) (run .part .from) (run .part .length)) × (run .before .place .0 + run .part .length < 4294967296)
+        × (Even (now pattern) (run .before)) × (room ≤ length (now table)) ⌝ }
     requires { ⌜ (length (now pattern) ≤ length (now borders)) × Borders (now pattern) (now borders) (length (now pattern)) ⌝ }
-    ensures { λ r. ⌜ (r .place .0 ≡ m .place .0 + size) × ((before : List ℕ) → Seeking (now (t .entry)) (now (pattern .entry))
-        room before m (now (table .entry)) → Seeking (now (t .entry)) (now (pattern .entry)) room before r (now (table .exit))) ⌝ }
+    ensures { λ r. ⌜ (r .place .0 ≡ run .before .place .0 + run .part .length)
+        × ((before : List ℕ) → Seeking (now (t .entry)) (now (pattern .entry)) room before (run .before) (now (table .entry))
+        → Seeking (now (t .entry)) (now (pattern .entry)) room before r (now (table .exit))) ⌝ }
 {
-    let mut at = m;
+    let from = run.part.from;
+    let size = run.part.length;
+    let mut at = run.before;
     let mut i: usize = 0;
     while i < size {
         at = step(pattern, borders, t[from + i], at, room, table);
@@ -115,7 +124,7 @@ pub fn seek(
         let Ran::At(part) = ran else {
             return Sought::Broken;
         };
-        m = feed(t, part.from, part.length, pattern, borders, m, room, table);
+        m = feed(t, Run { part, before: m }, pattern, borders, room, table);
     }
     Sought::All(m.found)
 }

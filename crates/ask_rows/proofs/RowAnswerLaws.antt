@@ -3,7 +3,7 @@ use mathlib.Core.List.{List, _++_}
 use mathlib.Core.Bool.{true, false, cond}
 use mathlib.Core.Path.{_≡_, refl, sym, ap, _∙_}
 use mathlib.Core.Logic.{_⊎_, inl, inr}
-use Prim.Native.Nat.{ℕ, suc, _+_, _-_, _≤_, _<_}
+use Prim.Native.Nat.{ℕ, zero, suc, _+_, _-_, _≤_, _<_}
 use native.Mathlib.Omega.{arith}
 use borrow.Author.Tests.{ne-eqb}
 use lib.ListN.{length, drop, replicate}
@@ -28,6 +28,10 @@ use Rattle.theory_paths.specs.OneText.{text-length}
 use Rattle.layout.specs.declared.header.HeaderRead.{HeaderRead}
 use Rattle.layout.specs.declared.header.HeaderRead.the-variants as header
 use Rattle.layout.specs.Header.{headerSays}
+use Rattle.ask_access.specs.ReadAnswers as access
+use Rattle.ask_access.specs.ReadAnswers.{copiedSaid}
+use Rattle.ask_access.specs.declared.Copied.{Copied}
+use Rattle.ask_access.specs.declared.Copied.the-variants as of
 use Rattle.ask_access.proofs.SpanLaws.{ByPaths, values, no-room, number-in-room}
 use Rattle.layout.specs.HeaderSays.{header-refused}
 use Rattle.ask_rows.specs.declared.row_edges.Edges.{Edges}
@@ -139,6 +143,24 @@ module _ (t : List ℕ) (ok : ℕ) (sound : ok ≡ 0 → verdict t ≡ 0) (q p l
         (s-number ∙ e, size ∙ sym (row-long v), rw (size, ← sp .accepted v) f));
     free = λ z v. row-free (span-ways t p len buffer passes (sp .within));
   }
+
+-- what is copied by paths reports no block
+none-entered : (k len : ℕ) → unless k (record { number = 0; value = len; entered = 0 }) .entered ≡ 0
+none-entered zero len = refl
+none-entered (suc k) len = refl
+
+module _ (t : List ℕ) (p len room : ℕ) (x : Copied) (a : access.CopyAnswer t p len room x) where
+  -- bytes that access copied, as the row's
+  pub row-bytes : (n entered : ℕ) → x ≡ of.Bytes n entered → CopyAnswer t p len room (row.Bytes n)
+  unfolding copySays
+  row-bytes n entered e =
+      let s : copiedSaid (of.Bytes n entered) ≡ copySays t p len room = rw e at (a .says) in
+      let z : entered ≡ 0 = ap (λ (y : Said). y .entered) s ∙ none-entered (copyNumber t p len room) len in
+      record { says = rw z at s; numbered = tt }
+
+  -- its refusal, passed on
+  pub row-passed : (n : ℕ) → x ≡ of.Refused n → CopyAnswer t p len room (row.Refused n)
+  row-passed n e = record { says = rw e at (a .says); numbered = rw e at (a .numbered) }
 
 -- as the code returns it
 

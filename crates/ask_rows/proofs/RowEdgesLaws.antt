@@ -325,9 +325,6 @@ module _ (t : List ℕ) (h : Header) (k : HeaderOf t h) (p len : ℕ) (within : 
     low : p + (len - 1) < at.textLength t
     low = omega (arith, k .length-is, some-byte)
 
-    pub trim-inside : p + (len - 1) < h .length
-    trim-inside = omega (arith, low, k .length-is)
-
     in-text : p + len ≤ length (textOf t)
     in-text = omega (arith, text-length t, k .length-is)
 

@@ -2,11 +2,10 @@
 use crate::RowCopied;
 use crate::row_edges;
 use crate::row_edges::Edges;
-use ask_access::Answer;
+use ask_access::Copied;
 use ask_access::read_by_header;
 use layout::header::Header;
 use layout::place::TextPlace;
-use walk_path::held;
 ghost use mathlib.Core.Path.{_≡_};
 ghost use Prim.Native.Nat.{_+_, _≤_};
 ghost use lib.ListN.{length};
@@ -29,24 +28,15 @@ pub fn row_at(t: &[u8], h: Header, guide: &[u8], used: bool, q: u32, buffer: &mu
     copy(t, h, start, len, buffer)
 }
 
-// Copies a row byte by byte, reading on from each to the next; where one is refused, its number is passed on and the row's part of the buffer is left zero.
+// Copies a row's bytes by their paths; where one is refused, its number is passed on and the row's part of the buffer is left zero.
 fn copy(t: &[u8], h: Header, start: TextPlace, len: u32, buffer: &mut [u8]) -> RowCopied
     requires { ⌜ (HeaderOf (now t) h) × (start .0 + len ≤ h .length) × (len ≤ length (now buffer)) ⌝ }
     ensures { λ r. ⌜ CopyAnswer (now (t .entry)) (start .0) len (length (now (buffer .entry))) r ⌝ }
     ensures { λ _. ⌜ now (buffer .exit) ≡ copyLeaves (now (t .entry)) (start .0) len (now (buffer .entry)) ⌝ }
 {
-    let mut held = held::nothing();
-    let mut i: u32 = 0;
-    while i < len {
-        let read = read_by_header::next_byte(t, h, TextPlace(start.0 + i), held);
-        let answer = read.answer;
-        let Answer::Byte(value, _) = answer else {
-            stretches::clear(buffer, len as usize);
-            return RowCopied::Refused(read_by_header::number(answer));
-        };
-        buffer[i as usize] = value;
-        held = read.held;
-        i += 1;
+    let copied = read_by_header::copy(t, h, start, len, buffer);
+    match copied {
+        Copied::Bytes(n, _) => RowCopied::Bytes(n),
+        Copied::Refused(number) => RowCopied::Refused(number),
     }
-    RowCopied::Bytes(len)
 }

@@ -1,5 +1,6 @@
 // The records of a level above the last, written in order from what the table says.
 use crate::table;
+use build_marking::Marked;
 use build_marking::pair;
 use build_marking::pair::Pair;
 use build_marking::target;
@@ -61,15 +62,15 @@ fn block_in(
     counted: &[u8],
     out: &[u8],
     level: Level,
-    i: BlockNumber,
-    kept: bool,
-    link: Link,
+    b: Marked,
 ) -> Block
-    requires { ⌜ Next (settingsOf (level .settings) (now counted)) (now text) (now out) level (i .0) kept (link .0)
+    requires { ⌜ Next (settingsOf (level .settings) (now counted)) (now text) (now out) level (b .number .0) (b .kept) (b .link .0)
         × Told (settingsOf (level .settings) (now counted)) (now text) (level .number) (now words) ⌝ }
-    ensures { λ r. ⌜ BlockIs (settingsOf (level .settings) (now (counted .entry))) (now (text .entry)) (level .number) (i .0) r ⌝ }
+    ensures { λ r. ⌜ BlockIs (settingsOf (level .settings) (now (counted .entry))) (now (text .entry)) (level .number) (b .number .0) r ⌝ }
 {
-    if kept {
+    let i = b.number;
+    if b.kept {
+        let link = b.link;
         return target::kept_block(text, counted, out, level, i, link);
     }
     let place = scan_passes::place_of(words, text.len() as u32, 2 * i.0);
@@ -89,16 +90,12 @@ fn fill_scanned(out: &mut [u8], words: &[u32], text: &[u8], counted: &[u8], leve
     while i < level.count {
         let right = pair_in(words, text, counted, out, level, BlockNumber(i));
         let kept = pair::keeps(left, right);
-        let block = block_in(
-            words,
-            text,
-            counted,
-            out,
-            level,
-            BlockNumber(i),
+        let marked = Marked {
+            number: BlockNumber(i),
             kept,
-            Link(link),
-        );
+            link: Link(link),
+        };
+        let block = block_in(words, text, counted, out, level, marked);
         link = link + record_written::put_block(out, text, counted, level, BlockNumber(i), block);
         left = right;
         i += 1;

@@ -1,4 +1,5 @@
 // The records of one level, written in order.
+use build_marking::Marked;
 use build_marking::pair;
 use build_marking::pair::Pair;
 use build_records::level_written::Level;
@@ -22,15 +23,12 @@ pub fn fill_level(out: &mut [u8], text: &[u8], counted: &[u8], level: Level) -> 
     while i < level.count {
         let right = pair::pair_after(text, counted, out, level, BlockNumber(i));
         let kept = pair::keeps(left, right);
-        let block = build_marking::block_at(
-            text,
-            counted,
-            out,
-            level,
-            BlockNumber(i),
+        let marked = Marked {
+            number: BlockNumber(i),
             kept,
-            Link(link),
-        );
+            link: Link(link),
+        };
+        let block = build_marking::block_at(text, counted, out, level, marked);
         link = link + record_written::put_block(out, text, counted, level, BlockNumber(i), block);
         left = right;
         i += 1;

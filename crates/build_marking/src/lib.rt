@@ -10,20 +10,21 @@ use layout::place::BlockNumber;
 ghost use Rattle.build_records.specs.State.{settingsOf, BlockIs};
 ghost use Rattle.build_marking.specs.MarkingRule.{Next};
 
+// A block as it is marked: its number, whether it is kept, and the link that its record then has.
+pub struct Marked {
+    pub number: BlockNumber,
+    pub kept: bool,
+    pub link: Link,
+}
+
 // What the record of a block is to say.
-pub fn block_at(
-    text: &[u8],
-    counted: &[u8],
-    out: &[u8],
-    level: Level,
-    i: BlockNumber,
-    kept: bool,
-    link: Link,
-) -> Block
-    requires { ⌜ Next (settingsOf (level .settings) (now counted)) (now text) (now out) level (i .0) kept (link .0) ⌝ }
-    ensures { λ r. ⌜ BlockIs (settingsOf (level .settings) (now (counted .entry))) (now (text .entry)) (level .number) (i .0) r ⌝ }
+pub fn block_at(text: &[u8], counted: &[u8], out: &[u8], level: Level, b: Marked) -> Block
+    requires { ⌜ Next (settingsOf (level .settings) (now counted)) (now text) (now out) level (b .number .0) (b .kept) (b .link .0) ⌝ }
+    ensures { λ r. ⌜ BlockIs (settingsOf (level .settings) (now (counted .entry))) (now (text .entry)) (level .number) (b .number .0) r ⌝ }
 {
-    if kept {
+    let i = b.number;
+    if b.kept {
+        let link = b.link;
         return target::kept_block(text, counted, out, level, i, link);
     }
     let place = occurrences::first_place(text, counted, out, level, i);

@@ -63,9 +63,6 @@ module _ (S : Settings) (T out : List ℕ) (level : Level) (i : ℕ) (block : Bl
   pub here-is : recordPlace (level .table) i (settingsOf (level .settings) (S .counted)) ≡ P
   here-is = place-is S T level (w .level-is) i
 
-  pub place-low : headerLength ≤ recordPlace (level .table) i (settingsOf (level .settings) (S .counted))
-  place-low = omega (arith, here-is, offset-low S T l)
-
   pub record-fits : P + recordBytes S ≤ length out
   record-fits = omega (arith, record-inside-table S T l i i-in, w .filled .room)
 

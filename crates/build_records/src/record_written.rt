@@ -65,23 +65,24 @@ fn count_before(out: &[u8], at: usize, size: usize, block: Block) -> u32
     word::read(out, left) + word::read(out, left + 4)
 }
 
-// The counts of a block, of the counted byte with number c.
-fn put_count_of(
-    out: &mut [u8],
-    text: &[u8],
-    counted: &[u8],
-    level: Level,
-    i: BlockNumber,
-    block: Block,
-    c: usize,
-)
-    requires { ⌜ Writing (settingsOf (level .settings) (now counted)) (now text) (now out) level (i .0) block × (c < length (now counted)) ⌝ }
+// Counts in a record: the block's number, and that of the counted byte.
+struct Counts {
+    block: BlockNumber,
+    byte: usize,
+}
+
+// The counts of a block, of one counted byte.
+fn put_count_of(out: &mut [u8], text: &[u8], counted: &[u8], level: Level, block: Block, of: Counts)
+    requires { ⌜ Writing (settingsOf (level .settings) (now counted)) (now text) (now out) level (of .block .0) block × (of .byte < length (now counted)) ⌝ }
     ensures { λ _. ⌜ Grown (treeOf (settingsOf (level .settings) (now (counted .entry))) (now (text .entry))) (now (out .entry)) (now (out .exit)) ⌝ }
     ensures { λ _. ⌜ Within (treeOf (settingsOf (level .settings) (now (counted .entry))) (now (text .entry))) (now (out .exit))
-        (placeAt (settingsOf (level .settings) (now (counted .entry))) (now (text .entry)) (level .number) (i .0) + plainBytes + countedBytes * c)
-        (placeAt (settingsOf (level .settings) (now (counted .entry)))
-        (now (text .entry)) (level .number) (i .0) + plainBytes + countedBytes * c + countedBytes) ⌝ }
+        (placeAt (settingsOf (level .settings) (now (counted .entry))) (now (text .entry)) (level .number) (of .block .0)
+        + plainBytes + countedBytes * of .byte)
+        (placeAt (settingsOf (level .settings) (now (counted .entry))) (now (text .entry)) (level .number) (of .block .0)
+        + plainBytes + countedBytes * of .byte + countedBytes) ⌝ }
 {
+    let i = of.block;
+    let c = of.byte;
     let at = level_written::place(counted, level, i)
         + record::PLAIN_BYTES
         + record::COUNTED_BYTES * c;
@@ -108,7 +109,8 @@ fn put_counts(
 {
     let mut c: usize = 0;
     while c < counted.len() {
-        put_count_of(out, text, counted, level, i, block, c);
+        let of = Counts { block: i, byte: c };
+        put_count_of(out, text, counted, level, block, of);
         c += 1;
     }
 }

@@ -7,7 +7,6 @@ use native.Mathlib.Omega.{arith}
 use lib.ListN.{length, drop, drop-of-length-le}
 use Rattle.bytes.specs.Bytes.{indexOf}
 use Rattle.cases_tokens.specs.Parts.{front, rest, tokenOf, Past}
-use Rattle.cases_script.specs.LineWords.{giftOf}
 use Rattle.cases_script.specs.NameLine.{givesBytes, givesName, givingFrom, givingLine}
 use Rattle.cases_script.proofs.LineWordsLaws.{told}
 
@@ -19,7 +18,7 @@ module _ (line l name w : List ℕ) (b : Bool) (e : l ≡ line) (t : w ≡ token
   unfolding givesName
   gives-other z = simp (told is-token h z)
 
-  pub gives-same : (r : Bool) → b ≡ true → r ≡ givesBytes (giftOf l) → r ≡ givesName line name
+  pub gives-same : (r : Bool) → b ≡ true → r ≡ givesBytes l → r ≡ givesName line name
   unfolding givesName
   gives-same r z q = simp (told is-token h z) (rw e at q)
 

@@ -1,24 +1,20 @@
 -- The line that gives a name its bytes.
 use mathlib.Core.List.{List, []}
-use mathlib.Core.Bool.{Bool, true, false, cond, _&&_}
+use mathlib.Core.Bool.{Bool, cond, _&&_}
 use Prim.Native.Nat.{ℕ, zero, suc}
 use lib.ListN.{length}
+use lib.Dec.{ltb}
 use Rattle.text.specs.Lists.{sameList}
 use Rattle.cases_tokens.specs.Parts.{front, rest, tokenOf}
-use Rattle.cases_script.specs.LineWords.{giftOf}
-use Rattle.cases_script.specs.declared.line_words.Gift.{Gift}
-use Rattle.cases_script.specs.declared.line_words.Gift.the-variants.{Text, Repeat, Tree, Pad, Nothing}
+use Rattle.cases_script.specs.LineWords.{giftNumber}
 
-abbrev pub givesBytes : Gift → Bool
-givesBytes Text = true
-givesBytes Repeat = true
-givesBytes Tree = true
-givesBytes Pad = true
-givesBytes Nothing = false
+-- a line gives bytes a name
+unfoldable pub givesBytes : List ℕ → Bool
+givesBytes line = ltb (giftNumber line) 4
 
 -- a line gives bytes this name
 unfoldable pub givesName : List ℕ → List ℕ → Bool
-givesName line name = sameList (tokenOf line 1) name && givesBytes (giftOf line)
+givesName line name = sameList (tokenOf line 1) name && givesBytes line
 
 -- the first of so many lines that gives the name; empty where none does
 unfoldable pub givingFrom : ℕ → List ℕ → List ℕ → List ℕ

@@ -1,20 +1,20 @@
 // The word that a line begins with.
-ghost use mathlib.Core.Bool.{cond};
 ghost use mathlib.Core.Path.{_≡_};
-ghost use Rattle.text.specs.Lists.{sameList};
-ghost use Rattle.cases_script.specs.LineWords.{giftOf, questionOf, isComment};
+ghost use Prim.Native.Nat.{_≤_};
+ghost use Rattle.cases_script.specs.LineWords.{wordNumber, giftNumber, giftOf, questionOf, isComment};
 
 // How a line gives bytes a name.
 pub enum Gift {
+    Nothing,
     Text,
     Repeat,
     Tree,
     Pad,
-    Nothing,
 }
 
 // What a line asks.
 pub enum Question {
+    Nothing,
     Build,
     Check,
     List,
@@ -27,56 +27,75 @@ pub enum Question {
     Places,
     Scan,
     Match,
-    Nothing,
+}
+
+// How the words `text repeat tree pad` give bytes, in this order; nothing after the last.
+const GIFTS: [Gift; 5] = [
+    Gift::Text,
+    Gift::Repeat,
+    Gift::Tree,
+    Gift::Pad,
+    Gift::Nothing,
+];
+
+// What the words that ask ask, in the order of `question_of`; nothing after the last.
+const QUESTIONS: [Question; 13] = [
+    Question::Build,
+    Question::Check,
+    Question::List,
+    Question::Byte,
+    Question::Count,
+    Question::Find,
+    Question::Span,
+    Question::Run,
+    Question::Row,
+    Question::Places,
+    Question::Scan,
+    Question::Match,
+    Question::Nothing,
+];
+
+// Which of the first n words of a line of words this one is, counted from 0; n where it is none of them.
+fn number(words: &[u8], n: u32, word: &[u8]) -> u32
+    ensures { λ r. ⌜ r ≡ wordNumber (now (words .entry)) n (now (word .entry)) ⌝ }
+    ensures { λ r. ⌜ r ≤ n ⌝ }
+{
+    let mut k: u32 = 0;
+    while k < n {
+        if check::same(word, cases_tokens::token(words, k)) {
+            return k;
+        }
+        k += 1;
+    }
+    n
+}
+
+// The number of the word by which a line gives bytes a name; 4 where it gives none.
+pub fn gift_number(line: &[u8]) -> u32
+    ensures { λ r. ⌜ r ≡ giftNumber (now (line .entry)) ⌝ }
+    ensures { λ r. ⌜ r ≤ 4 ⌝ }
+{
+    number(b"text repeat tree pad", 4, cases_tokens::token(line, 0))
 }
 
 // How a line gives bytes a name.
 pub fn gift_of(line: &[u8]) -> Gift
     ensures { λ r. ⌜ r ≡ giftOf (now (line .entry)) ⌝ }
 {
-    let word = cases_tokens::token(line, 0);
-    if check::same(word, b"text") {
-        return Gift::Text;
-    }
-    if check::same(word, b"repeat") {
-        return Gift::Repeat;
-    }
-    if check::same(word, b"tree") {
-        return Gift::Tree;
-    }
-    if check::same(word, b"pad") {
-        return Gift::Pad;
-    }
-    Gift::Nothing
-}
-
-// One question where the word is this name, else the other.
-fn either(word: &[u8], name: &[u8], one: Question, other: Question) -> Question
-    ensures { λ r. ⌜ r ≡ cond (sameList (now (word .entry)) (now (name .entry))) one other ⌝ }
-{
-    if check::same(word, name) {
-        return one;
-    }
-    other
+    let k = gift_number(line);
+    GIFTS[k as usize]
 }
 
 // What a line asks.
 pub fn question_of(line: &[u8]) -> Question
     ensures { λ r. ⌜ r ≡ questionOf (now (line .entry)) ⌝ }
 {
-    let word = cases_tokens::token(line, 0);
-    let asked = either(word, b"build", Question::Build, Question::Nothing);
-    let asked = either(word, b"check", Question::Check, asked);
-    let asked = either(word, b"list", Question::List, asked);
-    let asked = either(word, b"byte", Question::Byte, asked);
-    let asked = either(word, b"count", Question::Count, asked);
-    let asked = either(word, b"find", Question::Find, asked);
-    let asked = either(word, b"span", Question::Span, asked);
-    let asked = either(word, b"run", Question::Run, asked);
-    let asked = either(word, b"row", Question::Row, asked);
-    let asked = either(word, b"places", Question::Places, asked);
-    let asked = either(word, b"scan", Question::Scan, asked);
-    either(word, b"match", Question::Match, asked)
+    let k = number(
+        b"build check list byte count find span run row places scan match",
+        12,
+        cases_tokens::token(line, 0),
+    );
+    QUESTIONS[k as usize]
 }
 
 // Whether a line asks nothing and gives nothing: it is empty or begins with `#`.

@@ -1,25 +1,16 @@
 // The line that gives a name its bytes.
-use crate::line_words::Gift;
-use crate::line_words::gift_of;
+use crate::line_words::gift_number;
 ghost use mathlib.Core.Path.{_≡_};
 ghost use Prim.Native.Nat.{_≤_};
 ghost use lib.ListN.{length, drop};
 ghost use Rattle.cases_tokens.specs.Parts.{front};
-ghost use Rattle.cases_script.specs.LineWords.{giftOf};
 ghost use Rattle.cases_script.specs.NameLine.{givesBytes, givesName, givingLine};
 
 // Whether a line gives bytes a name.
 pub fn gives_bytes(line: &[u8]) -> bool
-    ensures { λ r. ⌜ r ≡ givesBytes (giftOf (now (line .entry))) ⌝ }
+    ensures { λ r. ⌜ r ≡ givesBytes (now (line .entry)) ⌝ }
 {
-    let gift = gift_of(line);
-    match gift {
-        Gift::Text => true,
-        Gift::Repeat => true,
-        Gift::Tree => true,
-        Gift::Pad => true,
-        Gift::Nothing => false,
-    }
+    gift_number(line) < 4
 }
 
 // Whether the line that starts at `at` gives bytes this name.

@@ -69,11 +69,6 @@ pub count-lt : (t : List ℕ) (l : ℕ) → ((k : ℕ) → getD t k 0 < 256) →
 unfolding at.levelCount
 count-lt t l h = wordAt-lt t (countAt l) h
 
--- so is each count of a record
-pub inside-lt : (t : List ℕ) (l i c : ℕ) → ((k : ℕ) → getD t k 0 < 256) → at.inside t l i c < 4294967296
-unfolding at.inside at.field
-inside-lt t l i c h = wordAt-lt t _ h
-
 -- a counted byte, in the header
 pub byte-is : (t : List ℕ) (c : ℕ) → c < at.countedCount t → at.countedCount t ≤ maxCounted → getD t (countedAt + c) 0 ≡ byteOf t c
 unfolding byteOf at.settings

@@ -1,5 +1,6 @@
 // Items entered in the table.
 use crate::Items;
+use crate::Sought;
 use crate::chain_head;
 use crate::item;
 use text::TextPlace;
@@ -9,7 +10,7 @@ ghost use lib.ListN.{length};
 ghost use Rattle.scan_windows.specs.Prints.{print};
 ghost use Rattle.scan_entries.specs.ChainHeads.{maxItems};
 ghost use Rattle.scan_entries.specs.Entries.{bytesAt};
-ghost use Rattle.scan_entries.specs.ItemsEntered.{Cleared, Put, Turn, Leads, Twin, Entered, Skipped};
+ghost use Rattle.scan_entries.specs.ItemsEntered.{Cleared, Put, Turn, Twin, Entered, Skipped};
 
 // Makes the heads of the chains empty.
 pub fn clear(words: &mut [u32], from: usize, n: usize)
@@ -23,26 +24,17 @@ pub fn clear(words: &mut [u32], from: usize, n: usize)
     }
 }
 
-// One more than an item of the chain from a link that has the n bytes at p, whose fingerprint is h; 0 where none is found.
-fn twin(
-    words: &[u32],
-    text: &[u8],
-    out: &[u8],
-    it: Items,
-    x: u32,
-    h: u32,
-    p: TextPlace,
-    n: u32,
-    link: u32,
-) -> u32
-    requires { ⌜ Turn (now text) (now out) it (now words) x × Leads (now text) (now out) it (now words) x link × (p .0 + n ≤ length (now text)) ⌝ }
-    ensures { λ r. ⌜ Twin (now (text .entry)) (now (out .entry)) it (now (words .entry)) x (p .0) n r ⌝ }
+// One more than an item below x that has these bytes, by the chain of their fingerprint; 0 where none is found.
+fn twin(words: &[u32], text: &[u8], out: &[u8], it: Items, x: u32, own: Sought) -> u32
+    requires { ⌜ Turn (now text) (now out) it (now words) x × (own .start .0 + own .length ≤ length (now text)) ⌝ }
+    ensures { λ r. ⌜ Twin (now (text .entry)) (now (out .entry)) it (now (words .entry)) x (own .start .0) (own .length) r ⌝ }
 {
-    let mut e = link;
+    let mut e = words[3 * it.items as usize + chain_head::bucket(own.print, it.heads) as usize]
+        % 16777216;
     while e != 0 {
         let at = 3 * (e - 1) as usize;
-        if words[at + 1] == h {
-            if item::stands(text, out, it, e - 1, p, n) {
+        if words[at + 1] == own.print {
+            if item::stands(text, out, it, e - 1, own.start, own.length) {
                 return e;
             }
         }
@@ -71,14 +63,25 @@ pub fn enter(words: &mut [u32], text: &[u8], out: &[u8], it: Items, x: u32, h: u
     ensures { λ _. ⌜ Entered (now (text .entry)) (now (out .entry)) it (now (words .entry)) (now (words .exit)) x ⌝ }
 {
     let own = item::run_of(text, out, it, x);
-    let g = chain_head::bucket(h, it.heads);
-    let link = words[3 * it.items as usize + g as usize] % 16777216;
-    let e = twin(words, text, out, it, x, h, own.start, own.length, link);
+    let start = own.start;
+    let length = own.length;
+    let e = twin(
+        words,
+        text,
+        out,
+        it,
+        x,
+        Sought {
+            print: h,
+            start,
+            length,
+        },
+    );
     if e != 0 {
         words[3 * x as usize + 2] = text.len() as u32 + (e - 1);
         return;
     }
-    put(words, it, x, h, own.start, g);
+    put(words, it, x, h, start, chain_head::bucket(h, it.heads));
 }
 
 // Leaves item x out: no pair stands there.

@@ -24,3 +24,10 @@ pub struct Run {
     pub start: TextPlace,
     pub length: u32,
 }
+
+// Bytes that are looked for: their fingerprint, where they start, and how many they are.
+pub struct Sought {
+    pub print: u32,
+    pub start: TextPlace,
+    pub length: u32,
+}

@@ -18,9 +18,6 @@ use Rattle.scan_passes.proofs.ItemLengths.{start-same, length-low, pair
 use Rattle.scan_passes.proofs.PassLaws.{leftmost-same-bytes}
 
 module _ (T out : List ℕ) (it : Items) (W Z : List ℕ) (e : Entrants T out it W (it .items)) (o : Ordered T out it) (q : Passed T out it W Z) where
-  first-of : ℕ → ℕ
-  first-of x = leftmost T (startAt T out it x) (lengthAt T out it x)
-
   module _ (x : ℕ) (xl : x < it .items) (p : Present T out it x) where
     -- an item in a chain
     module _ (i : Listed T out it W x) where

@@ -13,6 +13,13 @@ ghost use Rattle.scan_entries.specs.Entries.{Laid, Placed, bytesAt};
 ghost use Rattle.scan_entries.specs.ItemsEntered.{Turn};
 ghost use Rattle.scan_passes.specs.Passes.{Ordered, Entrants, Noted, notedBy, Took, PairSays};
 
+// The fingerprints of a block and of the next one, and the power of the base that a full block gives.
+struct Prints {
+    own: u32,
+    next: u32,
+    top: u32,
+}
+
 // The lengths with one more; 0 is none.
 fn noted(l: Lengths, size: u32, n: u32) -> Lengths
     requires { ⌜ size ≤ maxText ⌝ }
@@ -73,20 +80,18 @@ fn pair_power(n: u32, size: u32, top: u32) -> u32
     scan_windows::power(n - size)
 }
 
-// Enters the pair of blocks i and i + 1, where they are one, given the fingerprints of both; its length, 0 where they are none.
+// Enters the pair of blocks i and i + 1, where they are one; its length, 0 where they are none.
 fn enter_pair(
     words: &mut [u32],
     text: &[u8],
     out: &[u8],
     it: Items,
     i: BlockNumber,
-    h: u32,
-    next: u32,
-    top: u32,
+    both: Prints,
 ) -> u32
     requires { ⌜ Turn (now text) (now out) it (now words) (2 * i .0 + 1) × Ordered (now text) (now out) it × (2 * i .0 + 2 < it .items) ⌝ }
-    requires { ⌜ (h ≡ print (bytesAt (now text) (now out) it (2 * i .0))) × (next ≡ print (bytesAt (now text) (now out) it (2 * i .0 + 2)))
-        × (top ≡ 1540483477 ^ it .size % 4294967296) ⌝ }
+    requires { ⌜ (both .own ≡ print (bytesAt (now text) (now out) it (2 * i .0))) × (both .next ≡ print (bytesAt (now text) (now out) it (2 * i .0 + 2)))
+        × (both .top ≡ 1540483477 ^ it .size % 4294967296) ⌝ }
     ensures { λ _. ⌜ Took (now (text .entry)) (now (out .entry)) it (now (words .entry)) (now (words .exit)) (2 * i .0 + 1) ⌝ }
     ensures { λ r. ⌜ PairSays (now (text .entry)) (now (out .entry)) it (2 * i .0 + 1) r ⌝ }
 {
@@ -97,8 +102,15 @@ fn enter_pair(
         entry::skip(words, text, out, it, x);
         return 0;
     }
-    let power = pair_power(own.length, it.size, top);
-    entry::enter(words, text, out, it, x, scan_windows::join(h, power, next));
+    let power = pair_power(own.length, it.size, both.top);
+    entry::enter(
+        words,
+        text,
+        out,
+        it,
+        x,
+        scan_windows::join(both.own, power, both.next),
+    );
     own.length
 }
 
@@ -109,18 +121,16 @@ fn enter_both(
     out: &[u8],
     it: Items,
     i: BlockNumber,
-    h: u32,
-    next: u32,
-    top: u32,
+    both: Prints,
 ) -> u32
     requires { ⌜ Entrants (now text) (now out) it (now words) (2 * i .0) × Ordered (now text) (now out) it × (2 * i .0 + 2 < it .items) ⌝ }
-    requires { ⌜ (h ≡ print (bytesAt (now text) (now out) it (2 * i .0))) × (next ≡ print (bytesAt (now text) (now out) it (2 * i .0 + 2)))
-        × (top ≡ 1540483477 ^ it .size % 4294967296) ⌝ }
+    requires { ⌜ (both .own ≡ print (bytesAt (now text) (now out) it (2 * i .0))) × (both .next ≡ print (bytesAt (now text) (now out) it (2 * i .0 + 2)))
+        × (both .top ≡ 1540483477 ^ it .size % 4294967296) ⌝ }
     ensures { λ _. ⌜ Entrants (now (text .entry)) (now (out .entry)) it (now (words .exit)) (2 * i .0 + 2) ⌝ }
     ensures { λ r. ⌜ PairSays (now (text .entry)) (now (out .entry)) it (2 * i .0 + 1) r ⌝ }
 {
-    entry::enter(words, text, out, it, 2 * i.0, h);
-    enter_pair(words, text, out, it, i, h, next, top)
+    entry::enter(words, text, out, it, 2 * i.0, both.own);
+    enter_pair(words, text, out, it, i, both)
 }
 
 // Enters all blocks and pairs of a level.
@@ -141,7 +151,8 @@ pub fn enter_level(words: &mut [u32], text: &[u8], out: &[u8], it: Items) -> Len
     let mut i: u32 = 0;
     while 2 * i + 1 < it.items {
         let next = block_print(text, out, it, BlockNumber(i + 1));
-        let n = enter_both(words, text, out, it, BlockNumber(i), h, next, top);
+        let both = Prints { own: h, next, top };
+        let n = enter_both(words, text, out, it, BlockNumber(i), both);
         l = noted(noted(l, it.size, it.size), it.size, n);
         h = next;
         i += 1;

@@ -1,6 +1,7 @@
 // The pass over the text.
 use crate::Lengths;
 use scan_entries::Items;
+use scan_entries::Sought;
 use scan_entries::lookup;
 use scan_windows::Window;
 use text::TextPlace;
@@ -19,7 +20,12 @@ fn step(words: &mut [u32], text: &[u8], out: &[u8], it: Items, w: Window, p: Tex
     if w.places <= p.0 {
         return w;
     }
-    lookup::look(words, text, out, it, w.print, p, w.len);
+    let here = Sought {
+        print: w.print,
+        start: p,
+        length: w.len,
+    };
+    lookup::look(words, text, out, it, here);
     scan_windows::looked(text, w, p)
 }
 

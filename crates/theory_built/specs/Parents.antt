@@ -30,13 +30,6 @@ module _ (S : Settings) (T : List ℕ) (h : Taken S T) (l : ℕ) (up : suc l < S
           (level-at S T h l (omega arith)) (cut-at S T h l up) i j jl,
     )
 
-    pub parent-kept : keptAt S T l i ≡ true
-    parent-kept = go (bool-cases (keptAt S T l i))
-      where
-        go : (keptAt S T l i ≡ true) ⊎ (keptAt S T l i ≡ false) → keptAt S T l i ≡ true
-        go (inl y) = y
-        go (inr y) = absurd (let z : ⊥ = omega (arith, cut-at S T h l up .uncut i y) in z)
-
     pub parent-start : parentOf S T (suc l) (start S T (suc l) (sumBelow i (widthOf S T l) + j)) ≡ start S T l i
     unfolding parentOf
     parent-start =

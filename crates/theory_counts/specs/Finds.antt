@@ -131,15 +131,6 @@ module _ (t : List ℕ) (k : Readable t) (d : Linked t) (a : (m : ℕ) → m < H
         let e : j * b t (l + 1) + 0 ≡ j * b t (l + 1) = add-zero _ in
         omega (arith, rw e at (child-tally t k d l i j c 0 hl (child-number j h) (child-true j h)), tally-none t c (s t (l + 1) (at.link t l i + j)))
 
-    pub child-rises : (j m : ℕ) → j ≤ m → m < width → at.before t (l + 1) (at.link t l i + j) c ≤ at.before t (l + 1) (at.link t l i + m) c
-    child-rises j m h hm =
-        omega (
-          arith,
-          child-before j (omega arith),
-          child-before m hm,
-          tally-mono (s t l i) (j * b t (l + 1)) (m * b t (l + 1)) (mul-le-mul-right (b t (l + 1)) h),
-        )
-
     -- the first child's before is 0
     pub first-before : 0 < width → at.before t (l + 1) (at.link t l i + 0) c ≡ 0
     first-before h = child-before 0 h ∙ rw (zero-mul (b t (l + 1))) (tally-none t c (s t l i))

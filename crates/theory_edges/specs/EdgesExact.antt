@@ -201,9 +201,6 @@ module _ (T t : List ℕ) (k : Readable t) (d : Linked t) (two : at.layout t ≡
   levels-edged h zero l hl near = absurd (let z : ⊥ = omega arith in z)
   levels-edged h (suc n) l hl near = all-edged l hl (λ j lt hj. levels-edged h n j hj (omega arith)) (λ i hi. h l i hl hi)
 
-  block-end-of : (l i : ℕ) → l < H t → i < N t l → s t l i + len t l i ≤ length T
-  block-end-of l i hl hi = block-end l i hl hi
-
   pub edged-all : edgesTrue T t ≡ true → (l : ℕ) → l < H t → Level l
   edged-all h l hl i hi = edged-facts T t l i (block-end l i hl hi) (edges-at T t two h l i hl hi)
 

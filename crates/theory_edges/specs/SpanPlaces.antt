@@ -26,9 +26,6 @@ pub record Inside (t : List ℕ) (len : ℕ) (q : Short) : Type 0 where
   pub next-in : q .next + (len - q .size) ≤ length t
 
 module _ (t : List ℕ) (k : Readable t) (two : at.layout t ≡ 2) (x : ℕ) (low : 0 < x) (short : x ≤ at.settings t .leaf) where
-  abbrev m : ℕ
-  m = at.settings t .leaf
-
   -- whatever is found is inside
   abbrev pub Found : Option Short → Type 0
   Found r = (q : Short) → r ≡ some q → Inside t x q

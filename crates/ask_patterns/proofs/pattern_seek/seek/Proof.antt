@@ -45,8 +45,8 @@ seek-spec =
       ),
       pre .1,
     ))
-    (λ c. let l = c .before .before .before .before .before .before .before .before .before .before .before in
-    let pre = l .before .before .before .before .before .pre in
+    (λ c. let l = c .before .before .before .before .before .before .before .before .before .before .before .before .before .before .before .before in
+    let pre = l .pre in
     let z = part-reads _ _ (pre .0 .0) _ (c .before .before .before .before .before .before .before .before .if1 .taken)
     _ (c .before .before .before .before .before .before .before .part-at .ensures) _ (c .before .before .before .before .before .ran .given .1) in
     omega (arith, z .0 .in-text, z .1, c .before .before .feed .ensures .0))

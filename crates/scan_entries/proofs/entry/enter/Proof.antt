@@ -13,30 +13,23 @@ enter-spec =
     tie.close
     (tie.spec
     (λ c κs. (c .before .before .before .pre .0 .laid .placed, c .before .before .before .pre .0 .item-in))
-    (λ c κs. c .before .before .before .before .pre .0 .laid .heads-low)
+    (λ c κs. let z = c .before .before .before .before .before .before in (z .pre .0, c .before .before .run-of .ensures .fits))
+    (λ c. omega (arith, c .before .before .before .before .before .before .before .before .pre .0 .laid .placed .few))
     (λ c. search needs)
-    (λ c. search needs)
-    (λ c. search needs)
-    (λ c. omega (arith, c .before .before .before .before .before .before .pre .0 .laid .room, c .before .bucket .ensures .1))
-    (λ c. omega (arith, c .before .before .before .before .before .before .pre .0 .laid .room, c .before .bucket .ensures .1))
-    (λ c. omega (arith, c .before .before .before .before .before .before .before .pre .0 .laid .room, c .before .before .bucket .ensures .1))
-    (λ c κs. let w = c .before .before .before in let z = w .before .before .before .before .before in
-    (z .pre .0, laws.head-leads _ _ _ _ _ (z .pre .0) _ (w .bucket .ensures .1), w .before .run-of .ensures .fits))
-    (λ c. omega (arith, c .before .before .before .before .before .before .before .before .before .before .pre .0 .laid .placed .few))
-    (λ c. search needs)
-    (λ c. let w = c .before .before .before .before .before .before .before .before .before .before in
+    (λ c. let w = c .before .before .before .before .before .before .before .before in
     omega (arith, w .pre .0 .laid .placed .few, w .pre .0 .laid .placed .items-few, w .pre .0 .item-in, c .before .twin .ensures .low))
     (λ c. search needs)
     (λ c. search needs)
     (λ c. search needs)
-    (λ c. let w = c .before .before .before .before .before .before .before .before .before .before in omega (arith, w .pre .0 .laid .room, w .pre .0 .item-in))
+    (λ c. let w = c .before .before .before .before .before .before .before .before in omega (arith, w .pre .0 .laid .room, w .pre .0 .item-in))
     (λ c. search needs)
-    (λ c. let w = c .before .before .before .before .before .before in
+    (λ c. let w = c .before .before .before .before in
     let z = w .before .before .before .before in laws.is-twin _ _ _ _ _ _ (z .pre .0) (omega arith) _ (c .if1 .taken)
     (laws.twin-at _ _ _ _ _ (z .pre .0) _ _ _ (w .run-of .ensures .start-is) (w .run-of .ensures .length-is) (c .before .twin .ensures)) refl)
-    (λ c κs. let w = c .before .before .before .before .before .before in let z = w .before .before .before .before .before in
-    (z .pre .0 .laid .room, z .pre .0 .laid .placed .items-few, z .pre .0 .item-in, w .bucket .ensures .1))
+    (λ c κs. c .before .before .before .before .before .before .before .before .before .pre .0 .laid .heads-low)
+    (λ c κs. let z = c .before .before .before .before .before .before .before .before .before .before in
+    (z .pre .0 .laid .room, z .pre .0 .laid .placed .items-few, z .pre .0 .item-in, c .bucket .ensures .1))
     (λ c. c .before .before .put .ensures .same-length)
     (λ c. let w = c .before .before .before .before .before .before .before .before .before in
-    let z = w .before .before .before .before .before in laws.is-entered _ _ _ _ _ _ _ _ _ (z .pre .0) (c .before .before .put .ensures)
-    (z .pre .1) (w .before .run-of .ensures .start-is) (laws.chain-of _ _ _ _ _ (z .pre .0) _ _ (z .pre .1) (w .bucket .ensures .0))))
+    let z = w .before .before .before .before in laws.is-entered _ _ _ _ _ _ _ _ _ (z .pre .0) (c .before .before .put .ensures) (z .pre .1)
+    (w .run-of .ensures .start-is) (laws.chain-of _ _ _ _ _ (z .pre .0) _ _ (z .pre .1) (c .before .before .before .bucket .ensures .0))))

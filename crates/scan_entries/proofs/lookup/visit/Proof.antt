@@ -6,10 +6,10 @@ use Rattle.scan_entries.proofs.lookup.visit.Statement.{statement}
 use Rattle.scan_entries.proofs.lookup.visit.Tie as tie
 
 abbrev Inv-loop : tie.InvT-loop
-Inv-loop words₀ text out it h p n link e₀ words e = laws.Visiting text out it words₀ h (p .0) n words e
+Inv-loop words₀ text out it w link e₀ words e = laws.Visiting text out it words₀ (w .print) (w .start .0) (w .length) words e
 
 abbrev μ-loop : tie.MeasureT-loop
-μ-loop words₀ text out it h p n link e₀ words e = e
+μ-loop words₀ text out it w link e₀ words e = e
 
 pub visit-spec : {M : Type 1} → statement M
 unfolding nextIn

@@ -9,7 +9,7 @@ pub stands-spec : {M : Type 1} → statement M
 stands-spec =
     tie.close
     (tie.spec
-    (λ c. let z = c .before .before in sym (differ _ _ _ _ _ _ (z .pre .1 .0) (z .pre .1 .1) (c .if1 .taken)))
+    (λ c. let z = c .before .before .before .before in sym (differ _ _ _ _ _ _ (z .pre .1 .0) (z .pre .1 .1) (c .if1 .taken)))
     (λ c. search needs)
     (λ c. search needs)
     (λ c κs. search needs)
