@@ -76,7 +76,8 @@ pub extern "C" fn bt_build_scanned(
     size: &mut u32,
     windows: &mut u32,
 ) -> u32
-    ensures number { λ r. ⌜ r ≡ scanNumber (given leaf arity levels (now (counted .entry))) (now (text .entry)) (now (out .entry)) (length (now (work .entry))) ⌝ }
+    ensures number { λ r. ⌜ r ≡ scanNumber
+        (given leaf arity levels (now (counted .entry))) (now (text .entry)) (now (out .entry)) (length (now (work .entry))) ⌝ }
     ensures written { λ _. ⌜ now (size .exit) ≡ scanSize
         (given leaf arity levels (now (counted .entry))) (now (text .entry)) (now (out .entry)) (length (now (work .entry))) ⌝ }
     ensures looked { λ _. ⌜ now (windows .exit) ≡ scanWindows

@@ -1,5 +1,5 @@
 // Find with a guide: its steps on level 0 start at an entry. It asks 5 to 7 first, of any bytes lent as a tree.
-pub mod guided_by_header;
+pub mod guided_find;
 
 use layout::header;
 use layout::header::HeaderRead;
@@ -18,7 +18,7 @@ pub fn find_guided(t: &[u8], guide: &[u8], byte: u8, j: u32) -> Guided
 {
     let read = header::read_header(t);
     match read {
-        HeaderRead::Good(h) => guided_by_header::find_guided_at(t, h, guide, byte, j),
+        HeaderRead::Good(h) => guided_find::find_guided_at(t, h, guide, byte, j),
         HeaderRead::Refused(number) => Guided::Refused(number),
     }
 }

@@ -1,6 +1,7 @@
 // The edges of a row, of a tree that passes questions 5 to 7, by its header.
 use ask_access::Answer;
 use ask_access::read_by_header;
+use ask_guided::guided_find;
 use ask_select::Found;
 use ask_select::find_by_header;
 use layout::header::Header;
@@ -132,13 +133,7 @@ fn ten(t: &[u8], h: Header, guide: &[u8], used: bool, j: u32) -> Found
     ensures { λ r. ⌜ FoundBy (now (t .entry)) (settledBy (now (t .entry)) (now (guide .entry)) used) 10 j r ⌝ }
 {
     if used {
-        return ask_guided::guided_by_header::without_steps(ask_guided::guided_by_header::find_guided_at(
-            t,
-            h,
-            guide,
-            10,
-            j,
-        ));
+        return guided_find::without_steps(guided_find::find_guided_at(t, h, guide, 10, j));
     }
     find_by_header::find_at(t, h, 10, j)
 }

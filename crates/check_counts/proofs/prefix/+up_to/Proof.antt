@@ -28,7 +28,7 @@ pub +up-to-spec : {M : Type 1} → statement M
     (λ t. up-to-lts.spec (in-leaves-reads.Asked, in-leaves-reads.Learnt, step-reads.Asked, step-reads.Learnt, up-to-below t, up-to.Post)
     (up-to-at t)
     up-to.Post
-    (λ c. omega (arith, c .before .before .pre .1 .1 .block .table .level-in, c .before .before .pre .1 .1 .block .table .tree .header .facts .bounds .levels-high))
+    (λ c. let k = c .before .before .pre .1 .1 .block .table in omega (arith, k .level-in, k .tree .header .facts .bounds .levels-high))
     (λ c. let w = c .before .before .before .before .before in
     omega (arith, w .pre .1 .1 .block .place-in, facts.length-lt _ _ _ _ _ (w .pre .1 .1 .block .table)))
     (λ c κs. let w = c .before .before .before .before .before in (

@@ -2,8 +2,8 @@ use borrow.Author.Needs.{needs}
 use native.Mathlib.Omega.{arith}
 use Rattle.ask_select.proofs.FindByHeaderLaws as first
 use Rattle.ask_guided.proofs.GuidedLaws as laws
-use Rattle.ask_guided.proofs.guided_by_header.find_guided_at.Statement.{statement}
-use Rattle.ask_guided.proofs.guided_by_header.find_guided_at.Tie as tie
+use Rattle.ask_guided.proofs.guided_find.find_guided_at.Statement.{statement}
+use Rattle.ask_guided.proofs.guided_find.find_guided_at.Tie as tie
 
 pub find-guided-at-spec : {M : Type 1} → statement M
 find-guided-at-spec =

@@ -1,7 +1,7 @@
 use borrow.Author.Needs.{needs}
 use Rattle.ask_guided.proofs.GuidedLaws as laws
-use Rattle.ask_guided.proofs.guided_by_header.without_steps.Statement.{statement}
-use Rattle.ask_guided.proofs.guided_by_header.without_steps.Tie as tie
+use Rattle.ask_guided.proofs.guided_find.without_steps.Statement.{statement}
+use Rattle.ask_guided.proofs.guided_find.without_steps.Tie as tie
 
 pub without-steps-spec : {M : Type 1} → statement M
 without-steps-spec =

@@ -4,8 +4,8 @@ use mathlib.Core.Path.{ap}
 use Prim.Native.Nat.{ℕ, _+_}
 use Rattle.ask_guide.specs.Guides.{lastEntry}
 use Rattle.ask_guided.proofs.GuidedLaws as laws
-use Rattle.ask_guided.proofs.guided_by_header.guided.Statement.{statement}
-use Rattle.ask_guided.proofs.guided_by_header.guided.Tie as tie
+use Rattle.ask_guided.proofs.guided_find.guided.Statement.{statement}
+use Rattle.ask_guided.proofs.guided_find.guided.Tie as tie
 
 pub guided-spec : {M : Type 1} → statement M
 guided-spec =

@@ -1,7 +1,7 @@
 use borrow.Author.Needs.{needs}
 use Rattle.ask_guided.proofs.GuidedLaws as laws
-use Rattle.ask_guided.proofs.guided_by_header.with_steps.Statement.{statement}
-use Rattle.ask_guided.proofs.guided_by_header.with_steps.Tie as tie
+use Rattle.ask_guided.proofs.guided_find.with_steps.Statement.{statement}
+use Rattle.ask_guided.proofs.guided_find.with_steps.Tie as tie
 
 pub with-steps-spec : {M : Type 1} → statement M
 with-steps-spec =
