@@ -69,14 +69,14 @@ run-none t p k q q-is e =
 
 module _ (t : List ℕ) (p : ℕ) where
   module _ (h : Header) (k : HeaderOf t h) where
-    pub byte-past : h .length ≤ p → refused 10 ≡ byteSays t p
+    pub byte-past : h .«text_length» ≤ p → refused 10 ≡ byteSays t p
     unfolding byteSays
     byte-past past = rw (k .passes, le-ltb p (at.textLength t) (omega (arith, k .length-is)))
 
-    pub run-past : h .length ≤ p → RunAnswer t p (ran.Refused 10)
+    pub run-past : h .«text_length» ≤ p → RunAnswer t p (ran.Refused 10)
     run-past past = run-none t p 9 10 refl (byte-past past)
 
-    module _ (low : p < h .length) (trail : Trail) (w : Walked) (w-is : w ≡ walked t trail (pathOf t p)) where
+    module _ (low : p < h .«text_length») (trail : Trail) (w : Walked) (w-is : w ≡ walked t trail (pathOf t p)) where
       pub byte-broken : w ≡ Broken → refused 14 ≡ byteSays t p
       unfolding byteSays
       byte-broken b =
@@ -106,7 +106,7 @@ module _ (t : List ℕ) (p : ℕ) where
             let n : r .trail .entered ≡ length (end .path .visits) = omega (arith, end .entered-is) in
             same-byte t (end .path) _ _ _ v (k .offset-is) (end .leaf-is) n v-is ∙ sym byte-end
 
-        pub run-reached : trail .left ≡ h .length - p
+        pub run-reached : trail .left ≡ h .«text_length» - p
             → (from left : ℕ) → from ≡ h .«leaf_offset» + r .leaf → left ≡ min (r .trail .left) (h .«leaf_count» - r .leaf)
             → RunAnswer t p (ran.At (record { from = from; length = left }))
         unfolding runSays

@@ -50,7 +50,7 @@ module _ (t : List ℕ) (p len : ℕ) where
     rest-broken z = rw (open-rest, z)
 
 -- a byte's answer: the byte of its place, or a refusal by 14
-module _ (t : List ℕ) (h : Header) (k : HeaderOf t h) (p : ℕ) (low : p < h .length) (a : Answer) (a-is : said a ≡ byteSays t p) where
+module _ (t : List ℕ) (h : Header) (k : HeaderOf t h) (p : ℕ) (low : p < h .«text_length») (a : Answer) (a-is : said a ≡ byteSays t p) where
   pub byte-good : (v n : ℕ) → a ≡ Byte v n → (byteSays t p .number ≡ 0) × (v ≡ byteSays t p .value)
   byte-good v n e =
       let z : record { number = 0; value = v; entered = n } ≡ byteSays t p = ap said (sym e) ∙ a-is in
@@ -70,7 +70,7 @@ pub copy-start : (t : List ℕ) (p len : ℕ) (d : List ℕ) → Copying t p len
 copy-start t p len d = record { same-length = refl; bytes = tab-none (values t p) d; past = refl; hold = rest-start t p len }
 
 module _ (t : List ℕ) (h : Header) (p len : ℕ)
-    (k : HeaderOf t h) (low : p + len ≤ h .length) (d : List ℕ) (room : len ≤ length d) (i : ℕ) (e : List ℕ) (c : Copying t p len d e i) where
+    (k : HeaderOf t h) (low : p + len ≤ h .«text_length») (d : List ℕ) (room : len ≤ length d) (i : ℕ) (e : List ℕ) (c : Copying t p len d e i) where
   -- the byte at i is answered, and stored
   pub copy-more : i < len → (a : Answer) → said a ≡ byteSays t (p + i) → (v n : ℕ) → a ≡ Byte v n → Copying t p len d (set e i v) (i + 1)
   copy-more more a a-is v n is =

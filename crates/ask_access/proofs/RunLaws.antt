@@ -87,7 +87,7 @@ module _ (t : List ℕ) (r : readable t ≡ 0) (p : ℕ) (low : p < at.textLengt
       reads.run-part t (readable-facts t r) r p low (w .0) (w .1) .some-byte
 
 -- the answer of `part_at`
-module _ (t : List ℕ) (h : Header) (k : HeaderOf t h) (p : ℕ) (low : p < h .length) (r : Ran) (a : RunAnswer t p r) where
+module _ (t : List ℕ) (h : Header) (k : HeaderOf t h) (p : ℕ) (low : p < h .«text_length») (r : Ran) (a : RunAnswer t p r) where
   low-text : p < at.textLength t
   low-text = omega (arith, k .length-is)
 

@@ -41,7 +41,7 @@ pub fn byte_at(t: &[u8], h: Header, at: TextPlace) -> Answer
     requires { ⌜ HeaderOf (now t) h ⌝ }
     ensures { λ r. ⌜ said r ≡ byteSays (now (t .entry)) (at .0) ⌝ }
 {
-    if h.length <= at.0 {
+    if h.text_length <= at.0 {
         return Answer::Refused(10);
     }
     let read = next_byte(t, h, at, held::nothing());
@@ -50,7 +50,7 @@ pub fn byte_at(t: &[u8], h: Header, at: TextPlace) -> Answer
 
 // The byte of a place in the text, by what is held of the place: question 14.
 pub fn next_byte(t: &[u8], h: Header, at: TextPlace, held: Reached) -> Read
-    requires { ⌜ (HeaderOf (now t) h) × (at .0 < h .length) × (Held (now t) h (at .0) held) ⌝ }
+    requires { ⌜ (HeaderOf (now t) h) × (at .0 < h .«text_length») × (Held (now t) h (at .0) held) ⌝ }
     ensures { λ r. ⌜ (said (r .answer) ≡ byteSays (now (t .entry)) (at .0)) × (Held (now (t .entry)) h (at .0 + 1) (r .held)) ⌝ }
 {
     let walked = held::reach(t, h, at, held);
@@ -72,7 +72,7 @@ pub fn part_at(t: &[u8], h: Header, at: TextPlace) -> Ran
     requires { ⌜ HeaderOf (now t) h ⌝ }
     ensures { λ r. ⌜ RunAnswer (now (t .entry)) (at .0) r ⌝ }
 {
-    if h.length <= at.0 {
+    if h.text_length <= at.0 {
         return Ran::Refused(10);
     }
     let walked = walk_path::walk(t, h, at);
@@ -93,7 +93,7 @@ pub fn span_at(t: &[u8], h: Header, at: TextPlace, len: u32, buffer: &mut [u8]) 
     ensures { λ _. ⌜ now (buffer .exit) ≡ spanLeaves (now (t .entry)) (at .0) len (now (buffer .entry)) ⌝ }
 {
     let end = at.0 as u64 + len as u64;
-    if (h.length as u64) < end {
+    if (h.text_length as u64) < end {
         return Copied::Refused(10);
     }
     if buffer.len() < len as usize {
@@ -120,7 +120,7 @@ fn is_short(h: Header, len: u32) -> bool
 
 // A short span: its bytes stand in the tree in one part or two; where its walk breaks, the part asked for is left zero.
 fn short_span(t: &[u8], h: Header, at: TextPlace, len: u32, buffer: &mut [u8]) -> Copied
-    requires { ⌜ (HeaderOf (now t) h) × (at .0 + len ≤ h .length) × (len ≤ length (now buffer)) × (isShort (now t) len ≡ true) ⌝ }
+    requires { ⌜ (HeaderOf (now t) h) × (at .0 + len ≤ h .«text_length») × (len ≤ length (now buffer)) × (isShort (now t) len ≡ true) ⌝ }
     ensures { λ r. ⌜ SpanAnswer (now (t .entry)) (at .0) len (length (now (buffer .entry))) r ⌝ }
     ensures { λ _. ⌜ now (buffer .exit) ≡ spanLeaves (now (t .entry)) (at .0) len (now (buffer .entry)) ⌝ }
 {
@@ -137,7 +137,7 @@ fn short_span(t: &[u8], h: Header, at: TextPlace, len: u32, buffer: &mut [u8]) -
 
 // Copies byte by byte, reading on from each to the next; where one is refused, the part asked for is left zero.
 pub fn copy(t: &[u8], h: Header, at: TextPlace, len: u32, buffer: &mut [u8]) -> Copied
-    requires { ⌜ (HeaderOf (now t) h) × (at .0 + len ≤ h .length) × (len ≤ length (now buffer)) ⌝ }
+    requires { ⌜ (HeaderOf (now t) h) × (at .0 + len ≤ h .«text_length») × (len ≤ length (now buffer)) ⌝ }
     ensures { λ r. ⌜ CopyAnswer (now (t .entry)) (at .0) len (length (now (buffer .entry))) r ⌝ }
     ensures { λ _. ⌜ now (buffer .exit) ≡ copyLeaves (now (t .entry)) (at .0) len (now (buffer .entry)) ⌝ }
 {

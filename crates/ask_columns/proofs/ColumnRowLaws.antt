@@ -48,19 +48,19 @@ module _ (t : List ℕ) (w a : ℕ) (d : List ℕ) where
       rw (z .2) (stays (z .0) n (λ y. omega (arith, readable-small t, z .1)))
 
   module _ (h : Header) (k : HeaderOf t h) where
-    pub read-width : widthOk w (h .length) ≡ false → Read (copied.Refused 20) d
+    pub read-width : widthOk w (h .«text_length») ≡ false → Read (copied.Refused 20) d
     unfolding columnNumber
     read-width other = let z : widthOk w (at.textLength t) ≡ false = rw (k .length-is) at other in stays 19 (rw (k .passes, z)) (λ y. omega arith)
 
-    module _ (ok : widthOk w (h .length) ≡ true) where
+    module _ (ok : widthOk w (h .«text_length») ≡ true) where
       ok-t : widthOk w (at.textLength t) ≡ true
       ok-t = rw (k .length-is) at ok
 
-      pub read-past : h .length / w ≤ a → Read (copied.Refused 10) d
+      pub read-past : h .«text_length» / w ≤ a → Read (copied.Refused 10) d
       unfolding columnNumber
       read-past e = stays 9 (rw (k .passes, ok-t, le-ltb a (at.textLength t / w) (rw (k .length-is) at e))) (λ z. omega arith)
 
-      pub read-short : a < h .length / w → length d < w → Read (copied.Refused 13) d
+      pub read-short : a < h .«text_length» / w → length d < w → Read (copied.Refused 13) d
       unfolding columnNumber
       read-short low e =
           stays 12 (rw (k .passes, ok-t, lt-ltb a (at.textLength t / w) (rw (k .length-is) at low), lt-leb w (length d) e)) (λ z. omega arith)
@@ -82,9 +82,9 @@ read-start t w a d = record {
 
 module _ (t : List ℕ) (h : Header) (w rows a : ℕ) (d : List ℕ) (k : RowThere t h w rows a (length d)) where
   -- a column's place is below n
-  pub cell-below : (b : ℕ) → b < w → b * rows + a < h .length
+  pub cell-below : (b : ℕ) → b < w → b * rows + a < h .«text_length»
   cell-below b l =
-      omega (arith, within b w rows a l (k .below), mul-comm w rows, ap (λ (x : ℕ). x * w) (k .rows-are), width-rows w (h .length) (k .width))
+      omega (arith, within b w rows a l (k .below), mul-comm w rows, ap (λ (x : ℕ). x * w) (k .rows-are), width-rows w (h .«text_length») (k .width))
 
   -- it is that of the definition
   cell-is : (b : ℕ) → b * rows + a ≡ cell t w a b

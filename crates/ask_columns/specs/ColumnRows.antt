@@ -47,8 +47,8 @@ module _ (t : List ℕ) (w a : ℕ) where
 -- what the reading of the row's bytes rests on: the header's figures, and that questions 20, 10 and 13 let it through
 pub record RowThere (t : List ℕ) (h : Header) (w rows a room : ℕ) : Type 0 where
   pub header : HeaderOf t h
-  pub width : widthOk w (h .length) ≡ true
-  pub rows-are : rows ≡ h .length / w
+  pub width : widthOk w (h .«text_length») ≡ true
+  pub rows-are : rows ≡ h .«text_length» / w
   pub below : a < rows
   pub fits : w ≤ room
 

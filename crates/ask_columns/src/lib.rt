@@ -29,10 +29,10 @@ fn row_at(t: &[u8], h: Header, width: u32, a: u32, buffer: &mut [u8]) -> Copied
     ensures { λ r. ⌜ ColumnAnswer (now (t .entry)) width a (length (now (buffer .entry))) r ⌝ }
     ensures { λ _. ⌜ now (buffer .exit) ≡ columnLeaves (now (t .entry)) width a (now (buffer .entry)) ⌝ }
 {
-    if !columns::divides(width, h.length as usize) {
+    if !columns::divides(width, h.text_length as usize) {
         return Copied::Refused(20);
     }
-    let rows = h.length / width;
+    let rows = h.text_length / width;
     if rows <= a {
         return Copied::Refused(10);
     }

@@ -41,7 +41,7 @@ module _ (t : List ℕ) (h : Header) (k : HeaderOf t h) where
   -- all of them
   pub figures-are : (bytes totals blocks : List ℕ)
       → bytes ≡ tabulate maxCounted (countedByte t) → totals ≡ tabulate maxCounted (totalOf t) → blocks ≡ tabulate maxLevels (at.levelCount t)
-      → h .layout ∷ h .length ∷ h .settings .leaf ∷ h .settings .arity ∷ h .settings .levels ∷ h .«leaf_count» ∷ h .settings .counted
+      → h .layout ∷ h .«text_length» ∷ h .settings .leaf ∷ h .settings .arity ∷ h .settings .levels ∷ h .«leaf_count» ∷ h .settings .counted
       ∷ getD bytes 0 0 ∷ getD bytes 1 0 ∷ getD bytes 2 0 ∷ getD bytes 3 0 ∷ getD totals 0 0 ∷ getD totals 1 0 ∷ getD totals 2 0 ∷ getD totals 3 0
       ∷ getD blocks 0 0 ∷ getD blocks 1 0 ∷ getD blocks 2 0 ∷ getD blocks 3 0 ∷ getD blocks 4 0 ∷ getD blocks 5 0 ∷ getD blocks 6 0 ∷ getD blocks 7 0 ∷ []
       ≡ figuresOf t

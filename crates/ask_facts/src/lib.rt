@@ -59,7 +59,7 @@ fn figures_of(t: &[u8], h: Header) -> [u64; FIGURES]
     let blocks = level_counts(t);
     [
         h.layout as u64,
-        h.length as u64,
+        h.text_length as u64,
         h.settings.leaf as u64,
         h.settings.arity as u64,
         h.settings.levels as u64,

@@ -120,8 +120,8 @@ comparing-start t u r s = record {
     asked = rw (r, s)
 
 -- a place below both lengths that the headers have
-module _ (t u : List ℕ) (h g : Header) (k : HeaderOf t h) (l : HeaderOf u g) (p : ℕ) (low : p < min (h .length) (g .length)) where
-  pub below-both : (p < h .length) × (p < g .length)
+module _ (t u : List ℕ) (h g : Header) (k : HeaderOf t h) (l : HeaderOf u g) (p : ℕ) (low : p < min (h .«text_length») (g .«text_length»)) where
+  pub below-both : (p < h .«text_length») × (p < g .«text_length»)
   below-both = (omega arith, omega arith)
 
   pub below-shortest : p < shortest t u
@@ -238,7 +238,7 @@ module _ (t u : List ℕ) (p : ℕ) (r : Round) (a : RoundSays t u p r) where
   round-settled x e = let z : RoundSays t u p (round.Settled x) = rw e at a in z
 
 -- the run of a place
-pub read-anew : (t : List ℕ) (h : Header) → HeaderOf t h → (p : ℕ) → p < h .length → (r : Ran) → RunAnswer t p r → ReadsFrom t p r
+pub read-anew : (t : List ℕ) (h : Header) → HeaderOf t h → (p : ℕ) → p < h .«text_length» → (r : Ran) → RunAnswer t p r → ReadsFrom t p r
 read-anew t h k p low (ran.At part) a = part-reads t h k p low (ran.At part) a part refl
 read-anew t h k p low (ran.Refused q) a = part-broken t h k p low (ran.Refused q) a q refl .1
 

@@ -32,7 +32,7 @@ pub fn by_places(one: &[u8], h: Header, other: &[u8], g: Header) -> Compared
     requires { ⌜ (HeaderOf (now one) h) × (HeaderOf (now other) g) ⌝ }
     ensures { λ r. ⌜ OrderAnswer (now (one .entry)) (now (other .entry)) r ⌝ }
 {
-    let most = stretches::shorter(h.length, g.length);
+    let most = stretches::shorter(h.text_length, g.text_length);
     let mut m = Progress {
         place: TextPlace(0),
         one: Part { from: 0, length: 0 },
@@ -49,12 +49,12 @@ pub fn by_places(one: &[u8], h: Header, other: &[u8], g: Header) -> Compared
             }
         }
     }
-    by_length(h.length, g.length, m.place.0)
+    by_length(h.text_length, g.text_length, m.place.0)
 }
 
 // Reads the next place in the first tree and then in the second, and compares on along their runs.
 fn read_on(one: &[u8], h: Header, other: &[u8], g: Header, m: Progress) -> Round
-    requires { ⌜ (HeaderOf (now one) h) × (HeaderOf (now other) g) × (Comparing (now one) (now other) m) × (m .place .0 < min (h .length) (g .length)) ⌝ }
+    requires { ⌜ (HeaderOf (now one) h) × (HeaderOf (now other) g) × (Comparing (now one) (now other) m) × (m .place .0 < min (h .«text_length») (g .«text_length»)) ⌝ }
     ensures { λ r. ⌜ RoundSays (now (one .entry)) (now (other .entry)) (m .place .0) r ⌝ }
 {
     let first = run_from(one, h, m.place, m.one);
@@ -70,7 +70,7 @@ fn read_on(one: &[u8], h: Header, other: &[u8], g: Header, m: Progress) -> Round
 
 // The run of a place, or what is left of one that was read.
 fn run_from(t: &[u8], h: Header, at: TextPlace, held: Part) -> Ran
-    requires { ⌜ (HeaderOf (now t) h) × (at .0 < h .length) × ReadsOn (now t) (at .0) (held .from) (held .length) ⌝ }
+    requires { ⌜ (HeaderOf (now t) h) × (at .0 < h .«text_length») × ReadsOn (now t) (at .0) (held .from) (held .length) ⌝ }
     ensures { λ r. ⌜ ReadsFrom (now (t .entry)) (at .0) r ⌝ }
 {
     if 0 < held.length {

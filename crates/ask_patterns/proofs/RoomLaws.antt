@@ -43,7 +43,7 @@ module _ (n len : ℕ) where
 
 module _ (t : List ℕ) (len : ℕ) where
   -- a tree that passes questions 5 to 7, and one that does not
-  pub answered : (h : Header) → HeaderOf t h → (r : PlacesRoom) → (roomSaid r ≡ roomOf (h .length) len) × RoomNumbered r → RoomAnswer t len r
+  pub answered : (h : Header) → HeaderOf t h → (r : PlacesRoom) → (roomSaid r ≡ roomOf (h .«text_length») len) × RoomNumbered r → RoomAnswer t len r
   unfolding roomSays
   answered h k r e = record { says = rw (k .passes) (e .0 ∙ ap (λ (n : ℕ). roomOf n len) (k .length-is)); numbered = e .1 }
 

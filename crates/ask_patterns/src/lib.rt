@@ -39,7 +39,7 @@ pub fn places_words(t: &[u8], len: u32) -> PlacesRoom
 {
     let read = header::read_header(t);
     match read {
-        HeaderRead::Good(h) => room::of_length(h.length, len),
+        HeaderRead::Good(h) => room::of_length(h.text_length, len),
         HeaderRead::Refused(number) => PlacesRoom::Refused(number),
     }
 }

@@ -119,7 +119,7 @@ pub fn seek(
         state: 0,
         found: 0,
     };
-    while m.place.0 < h.length {
+    while m.place.0 < h.text_length {
         let ran = read_by_header::part_at(t, h, m.place);
         let Ran::At(part) = ran else {
             return Sought::Broken;

@@ -37,11 +37,11 @@ settled-whole t byte c (some q) = refl
 
 -- each way out of count
 module _ (t : List ℕ) (h : Header) (k : HeaderOf t h) (byte i : ℕ) where
-  pub count-past : h .length < i → refused 10 ≡ countSays t byte i
+  pub count-past : h .«text_length» < i → refused 10 ≡ countSays t byte i
   unfolding countSays
   count-past past = rw (k .passes, lt-leb i (at.textLength t) (omega (arith, k .length-is)))
 
-  module _ (low : i ≤ h .length) (number : ℕ) (is : number ≡ numberOfByte t byte) where
+  module _ (low : i ≤ h .«text_length») (number : ℕ) (is : number ≡ numberOfByte t byte) where
     pub count-none : h .settings .counted ≤ number → refused 11 ≡ countSays t byte i
     unfolding countSays
     count-none past = rw (k .passes, le-leb i (at.textLength t) (omega (arith, k .length-is)), not-counted t h k byte number is past)

@@ -19,8 +19,8 @@ module _ (t : List ℕ) (i : ℕ) (x : HeaderRead) (x-is : x ≡ headerSays t) w
   unfolding uncountedNumber
   passed n r z e f = rw (z, ← e, f)
 
-  pub uncounted-good : (h : Header) → x ≡ read.Good h → (r : ℕ) → r ≡ ask 10 (leb i (h .length)) 11 → r ≡ uncountedNumber t i
-  uncounted-good h e r f = let k = header-good t x x-is h e in passed (h .length) r (k .passes) (k .length-is) f
+  pub uncounted-good : (h : Header) → x ≡ read.Good h → (r : ℕ) → r ≡ ask 10 (leb i (h .«text_length»)) 11 → r ≡ uncountedNumber t i
+  uncounted-good h e r f = let k = header-good t x x-is h e in passed (h .«text_length») r (k .passes) (k .length-is) f
 
   pub uncounted-unread : (q : ℕ) → x ≡ read.Refused q → q ≡ uncountedNumber t i
   unfolding uncountedNumber

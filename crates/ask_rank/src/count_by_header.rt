@@ -13,7 +13,7 @@ pub fn count_at(t: &[u8], h: Header, byte: u8, i: u32) -> Counted
     requires { ⌜ HeaderOf (now t) h ⌝ }
     ensures { λ r. ⌜ CountAnswer (now (t .entry)) byte i r ⌝ }
 {
-    if h.length < i {
+    if h.text_length < i {
         return Counted::Refused(10);
     }
     let number = ask_totals::number_of(t, h.settings.counted, byte);

@@ -192,10 +192,10 @@ fn start(t: &[u8], h: Header, wanted: Wanted, block: BlockNumber) -> Sum
 
 // The sums down the whole path of a place of the text, settled, in one word.
 pub fn walk(t: &[u8], h: Header, wanted: Wanted, place: TextPlace) -> u64
-    requires { ⌜ (HeaderOf (now t) h) × (place .0 < h .length) × (wanted .number < at.countedCount (now t)) ⌝ }
+    requires { ⌜ (HeaderOf (now t) h) × (place .0 < h .«text_length») × (wanted .number < at.countedCount (now t)) ⌝ }
     ensures { λ r. ⌜ saidIn r ≡ settled (wholeSum (now (t .entry)) (wanted .byte) (wanted .number) (pathOf (now (t .entry)) (place .0))) ⌝ }
 {
-    let part = walk_steps::part_of(place.0, h.block);
+    let part = walk_steps::part_of(place.0, h.top_length);
     let rest = part.place;
     let first = BlockNumber(part.blocks);
     let sum = start(t, h, wanted, first);
@@ -205,7 +205,7 @@ pub fn walk(t: &[u8], h: Header, wanted: Wanted, place: TextPlace) -> u64
         wanted,
         On {
             level: 0,
-            b: h.block,
+            b: h.top_length,
         },
         Spot {
             block: first,

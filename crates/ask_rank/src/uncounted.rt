@@ -12,7 +12,7 @@ pub fn uncounted(t: &[u8], i: u32) -> u32
 {
     let read = header::read_header(t);
     match read {
-        HeaderRead::Good(h) => past_or_uncounted(h.length, i),
+        HeaderRead::Good(h) => past_or_uncounted(h.text_length, i),
         HeaderRead::Refused(number) => number,
     }
 }

@@ -187,11 +187,11 @@ module _ (t : List ℕ) (h : Header) (k : HeaderOf t h) (q number : ℕ) (is : n
   asks-uncounted past = rw (k .passes, not-counted t h k 10 number is past)
 
   module _ (low : number < h .settings .counted) where
-    pub asks-empty : h .length ≡ 0 → false ≡ asksLast t q
+    pub asks-empty : h .«text_length» ≡ 0 → false ≡ asksLast t q
     unfolding asksLast
     asks-empty z = rw (k .passes, is-counted t h k 10 number is low, le-ltb 0 (at.textLength t) (omega (arith, k .length-is)))
 
-    module _ (some-byte : h .length ≡ 0 → ⊥) where
+    module _ (some-byte : h .«text_length» ≡ 0 → ⊥) where
       here : (y : Bool) → eqb q (total t (numberOfByte t 10) + 1) ≡ y → y ≡ asksLast t q
       unfolding asksLast
       here y e = rw (k .passes, is-counted t h k 10 number is low, lt-ltb 0 (at.textLength t) (omega (arith, k .length-is, some-byte)), e)
@@ -215,7 +215,7 @@ module _ (t : List ℕ) (h : Header) (k : HeaderOf t h) (q : ℕ) (asks : asksLa
   a = asks-last t q asks
 
   -- the text has a byte, and q is not 0
-  pub last-some : 1 ≤ h .length
+  pub last-some : 1 ≤ h .«text_length»
   last-some = omega (arith, a .some-byte, k .length-is)
 
   pub last-low : 1 ≤ q
@@ -245,7 +245,7 @@ module _ (t : List ℕ) (h : Header) (k : HeaderOf t h) (q : ℕ) (asks : asksLa
       let e : q ≡ countIn 10 (textOf t) + 1 = a .number ∙ ap (λ (n : ℕ). n + 1) (tallies.total-of-text t v 10 (a .counted)) in
       rw e (row-last (textOf t))
 
-  module _ (ok : ℕ) (sound : ok ≡ 0 → verdict t ≡ 0) (x : Answer) (x-is : said x ≡ byteSays t (h .length - 1)) where
+  module _ (ok : ℕ) (sound : ok ≡ 0 → verdict t ≡ 0) (x : Answer) (x-is : said x ≡ byteSays t (h .«text_length» - 1)) where
     here-said : byteSays t (at.textLength t - 1) ≡ said x
     here-said = rw (← k .length-is) (sym x-is)
 
@@ -268,14 +268,14 @@ module _ (t : List ℕ) (h : Header) (k : HeaderOf t h) (q : ℕ) (asks : asksLa
         passed = rw (here-said, is, ne-eqb 10 value (λ e. other (sym e)))
 
         -- no byte 10 stands before it
-        pub last-whole : q ≡ 1 → EdgesOf t ok last-number last-row last-most (edges.At (record { 0 = 0 }) (h .length))
+        pub last-whole : q ≡ 1 → EdgesOf t ok last-number last-row last-most (edges.At (record { 0 = 0 }) (h .«text_length»))
         unfolding rowFrom
-        last-whole one = spans-at t ok last-number last-row last-most 0 (h .length) (record {
+        last-whole one = spans-at t ok last-number last-row last-most 0 (h .«text_length») (record {
           asked = passed;
           within = omega (arith, k .length-is);
           short = omega (arith, k .length-is, most-first one);
           accepted = λ v.
-              (let e : length (textOf t) - 0 ≡ h .length = omega (arith, text-length t, k .length-is) in
+              (let e : length (textOf t) - 0 ≡ h .«text_length» = omega (arith, text-length t, k .length-is) in
               sym (last-is (sound v) ∙ rw (one, e)));
         })
 
@@ -294,12 +294,12 @@ module _ (t : List ℕ) (h : Header) (k : HeaderOf t h) (q : ℕ) (asks : asksLa
               (rw m (refused-free t ok 10 (q - 1) sound found said-found j e z low))
 
           module _ (before : TextPlace) (other-figure : ℕ) (found-at : found ≡ found-is.At before other-figure) where
-            pub last-past : before .0 < h .length
+            pub last-past : before .0 < h .«text_length»
             last-past = omega (arith, place-in-text t ok 10 (q - 1) sound found said-found before other-figure found-at, k .length-is)
 
-            pub last-from : EdgesOf t ok last-number last-row last-most (edges.At (record { 0 = before .0 + 1 }) (h .length - (before .0 + 1)))
+            pub last-from : EdgesOf t ok last-number last-row last-most (edges.At (record { 0 = before .0 + 1 }) (h .«text_length» - (before .0 + 1)))
             unfolding rowFrom
-            last-from = spans-at t ok last-number last-row last-most (before .0 + 1) (h .length - (before .0 + 1)) (record {
+            last-from = spans-at t ok last-number last-row last-most (before .0 + 1) (h .«text_length» - (before .0 + 1)) (record {
               asked = passed;
               within = omega (arith, last-past, k .length-is);
               short = omega (arith, last-past, k .length-is, most-later more);
@@ -309,7 +309,7 @@ module _ (t : List ℕ) (h : Header) (k : HeaderOf t h) (q : ℕ) (asks : asksLa
             })
 
 -- Without the byte 13 before the end: what stands in the len bytes from p.
-module _ (t : List ℕ) (h : Header) (k : HeaderOf t h) (p len : ℕ) (within : p + len ≤ h .length) where
+module _ (t : List ℕ) (h : Header) (k : HeaderOf t h) (p len : ℕ) (within : p + len ≤ h .«text_length») where
   abbrev trimmed-row : List ℕ
   trimmed-row = trimmed (stretch (textOf t) p len)
 

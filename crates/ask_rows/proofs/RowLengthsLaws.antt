@@ -117,14 +117,14 @@ module _ (t : List ℕ) (h : Header) (k : HeaderOf t h) (number : ℕ) (is : num
     all : tens ≡ total t (numberOfByte t 10)
     all = rw (tens-is, is)
 
-    pub count-empty : h .length ≡ 0 → CountAnswer t (count.Rows tens)
+    pub count-empty : h .«text_length» ≡ 0 → CountAnswer t (count.Rows tens)
     unfolding rowsSays rowsNumber lastOpen
     count-empty z =
         let e : at.textLength t ≡ 0 = omega (arith, k .length-is) in
         let z : tens ≡ tens + 0 = omega arith in
         record { says = rw (k .passes, counted, eq-eqb (at.textLength t) 0 e, le-ltb 0 (at.textLength t) (omega arith), ← all, ← z); numbered = tt }
 
-    module _ (some-byte : h .length ≡ 0 → ⊥) (x : Answer) (x-is : said x ≡ byteSays t (h .length - 1)) where
+    module _ (some-byte : h .«text_length» ≡ 0 → ⊥) (x : Answer) (x-is : said x ≡ byteSays t (h .«text_length» - 1)) where
       here : byteSays t (at.textLength t - 1) ≡ said x
       here = rw (← k .length-is) (sym x-is)
 

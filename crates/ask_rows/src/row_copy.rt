@@ -30,7 +30,7 @@ pub fn row_at(t: &[u8], h: Header, guide: &[u8], used: bool, q: u32, buffer: &mu
 
 // Copies a row's bytes by their paths; where one is refused, its number is passed on and the row's part of the buffer is left zero.
 fn copy(t: &[u8], h: Header, start: TextPlace, len: u32, buffer: &mut [u8]) -> RowCopied
-    requires { ⌜ (HeaderOf (now t) h) × (start .0 + len ≤ h .length) × (len ≤ length (now buffer)) ⌝ }
+    requires { ⌜ (HeaderOf (now t) h) × (start .0 + len ≤ h .«text_length») × (len ≤ length (now buffer)) ⌝ }
     ensures { λ r. ⌜ CopyAnswer (now (t .entry)) (start .0) len (length (now (buffer .entry))) r ⌝ }
     ensures { λ _. ⌜ now (buffer .exit) ≡ copyLeaves (now (t .entry)) (start .0) len (now (buffer .entry)) ⌝ }
 {

@@ -53,7 +53,7 @@ fn asks_last(t: &[u8], h: Header, q: u32) -> bool
     if h.settings.counted <= number {
         return false;
     }
-    if h.length == 0 {
+    if h.text_length == 0 {
         return false;
     }
     if q == 0 {
@@ -69,7 +69,7 @@ fn last(t: &[u8], h: Header, guide: &[u8], used: bool, q: u32) -> Edges
     ensures { λ r. ⌜ EdgesOf (now (t .entry)) (settledBy (now (t .entry)) (now (guide .entry)) used) (lastNumber
         (byteSays (now (t .entry)) (at.textLength (now (t .entry)) - 1))) (rowOf (textOf (now (t .entry))) q) (rowMost (now (t .entry)) q) r ⌝ }
 {
-    let answer = read_by_header::byte_at(t, h, TextPlace(h.length - 1));
+    let answer = read_by_header::byte_at(t, h, TextPlace(h.text_length - 1));
     let Answer::Byte(value, _) = answer else {
         return Edges::Refused(read_by_header::number(answer));
     };
@@ -77,13 +77,13 @@ fn last(t: &[u8], h: Header, guide: &[u8], used: bool, q: u32) -> Edges
         return Edges::Refused(12);
     }
     if q == 1 {
-        return Edges::At(TextPlace(0), h.length);
+        return Edges::At(TextPlace(0), h.text_length);
     }
     let found = ten(t, h, guide, used, q - 1);
     let Found::At(before, _) = found else {
         return Edges::Refused(found_number(found));
     };
-    Edges::At(TextPlace(before.0 + 1), h.length - (before.0 + 1))
+    Edges::At(TextPlace(before.0 + 1), h.text_length - (before.0 + 1))
 }
 
 // What stands before the q-th byte 10: past the (q - 1)-th, or the text's start, up to the q-th.
@@ -111,7 +111,7 @@ fn ended(t: &[u8], h: Header, guide: &[u8], used: bool, q: u32) -> Edges
 
 // The edges of a row without the byte 13 that stands directly before its end, if there is one. Question 14.
 fn without_mark(t: &[u8], h: Header, start: TextPlace, len: u32) -> Edges
-    requires { ⌜ (HeaderOf (now t) h) × (start .0 + len ≤ h .length) ⌝ }
+    requires { ⌜ (HeaderOf (now t) h) × (start .0 + len ≤ h .«text_length») ⌝ }
     ensures { λ r. ⌜ EdgesOf (now (t .entry)) (verdict (now (t .entry))) 0 (trimmed (stretch (textOf (now (t .entry))) (start .0) len)) len r ⌝ }
 {
     if len == 0 {

@@ -32,10 +32,10 @@ pub fn count_at(t: &[u8], h: Header) -> RowCount
         return RowCount::Refused(11);
     }
     let tens = ask_totals::total(t, h, number);
-    if h.length == 0 {
+    if h.text_length == 0 {
         return RowCount::Rows(tens);
     }
-    let answer = read_by_header::byte_at(t, h, TextPlace(h.length - 1));
+    let answer = read_by_header::byte_at(t, h, TextPlace(h.text_length - 1));
     let Answer::Byte(value, _) = answer else {
         return RowCount::Refused(read_by_header::number(answer));
     };

@@ -108,7 +108,7 @@ module _ (t : List ℕ) (h : Header)
         → n ≡ m → finds.Lands t (k t v) (d t v) (a t v) c hc 0 i n o e → finds.Lands t (k t v) (d t v) (a t v) c hc 0 i m o e
     moved-on v i n m o e p z = rw (← p) z
 
-    at-end : (i : ℕ) (q : Placed) (s : Said) → s ≡ placedIn (h .length) b i q
+    at-end : (i : ℕ) (q : Placed) (s : Said) → s ≡ placedIn (h .«text_length») b i q
         → (v : verdict t ≡ 0) → i < at.levelCount t 0 → at.before t 0 i c < j → (o : BlockPlace) (e : ℕ) → q ≡ placed.At o e
         → finds.Lands t (k t v) (d t v) (a t v) c hc 0 i (j - at.before t 0 i c) (o .0) e → s ≡ found t (w .byte) j
     unfolding found
@@ -117,11 +117,11 @@ module _ (t : List ℕ) (h : Header)
         let start : at.start t 0 i ≡ i * b = d t v .start0 i hi ∙ rw (on .b-is) in
         let place : placeOf (w .byte) j (textOf t) ≡ i * b + o .0 = rw (byte-is, ← start) (y .0) in
         let path : pathLength t (pathOf t (i * b + o .0)) ≡ e = rw start at (y .1) in
-        let within : i * b + o .0 < h .length = omega (arith, len-inside t 0 i (o .0) (lands .inside), r .length-is) in
-        rw (place, path) (s-is ∙ sym (place-in (h .length) b i q o e is within))
+        let within : i * b + o .0 < h .«text_length» = omega (arith, len-inside t 0 i (o .0) (lands .inside), r .length-is) in
+        rw (place, path) (s-is ∙ sym (place-in (h .«text_length») b i q o e is within))
 
     right : (i o rest m : ℕ) (q : Placed) (s : Said)
-        → Picked t c 0 block 0 j i o rest → FoundIn t c 0 i rest m q → s ≡ placedIn (h .length) b i q → verdict t ≡ 0 → s ≡ found t (w .byte) j
+        → Picked t c 0 block 0 j i o rest → FoundIn t c 0 i rest m q → s ≡ placedIn (h .«text_length») b i q → verdict t ≡ 0 → s ≡ found t (w .byte) j
     right i o rest m q s p f s-is v =
         let same = p .block-is in
         let hi : i < at.levelCount t 0 = omega (arith, last .block-in) in
@@ -133,9 +133,9 @@ module _ (t : List ℕ) (h : Header)
         at-end i q s s-is v hi under (z .place) (z .entered) (z .is) (moved-on v i rest (j - at.before t 0 i c) (z .place .0) (z .entered) rest-is (z .lands))
 
     sought : (i o rest m : ℕ) (q : Placed) (s : Said)
-        → Picked t c 0 block 0 j i o rest → FoundIn t c 0 i rest m q → s ≡ placedIn (h .length) b i q → SoughtIn t (w .byte) c j block s
+        → Picked t c 0 block 0 j i o rest → FoundIn t c 0 i rest m q → s ≡ placedIn (h .«text_length») b i q → SoughtIn t (w .byte) c j block s
     sought i o rest m q s p f s-is =
-        record { accepted = λ v under. right i o rest m q s p f s-is v; free = rw (r .length-is) at (placed-free (h .length) b i q s s-is) }
+        record { accepted = λ v under. right i o rest m q s p f s-is v; free = rw (r .length-is) at (placed-free (h .«text_length») b i q s s-is) }
 
     module _ (i : BlockNumber) (o : BlockPlace) (rest : ℕ) where
       pub top-kept : x ≡ child.Kept i o rest → j < 4294967296 → (KeptIn t h 0 b (i .0)) × (Seeking t h w 0 b rest 2)
@@ -148,7 +148,7 @@ module _ (t : List ℕ) (h : Header)
           let z = picked-points t c 0 block 0 j i o rest (sym x-is ∙ e) in
           (record { on = on; points = rw (z .0 .block-is) (z .1) }, seeking (i .0) (o .0) rest 1 (omega arith) small (z .0))
 
-      module _ (m : ℕ) (q : Placed) (s : Said) (f : FoundIn t c 0 (i .0) rest m q) (s-is : s ≡ placedIn (h .length) b (i .0) q) where
+      module _ (m : ℕ) (q : Placed) (s : Said) (f : FoundIn t c 0 (i .0) rest m q) (s-is : s ≡ placedIn (h .«text_length») b (i .0) q) where
         pub sought-kept : x ≡ child.Kept i o rest → SoughtIn t (w .byte) c j block s
         sought-kept e = sought (i .0) (o .0) rest m q s (picked-kept t c 0 block 0 j i o rest (sym x-is ∙ e) .0) f s-is
 

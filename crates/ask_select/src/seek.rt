@@ -348,7 +348,7 @@ pub fn seek_in(t: &[u8], h: Header, wanted: Wanted, j: u32, block: BlockNumber) 
     requires { ⌜ Stopped (now t) (wanted .number) j (block .0) ⌝ }
     ensures { λ r. ⌜ (SoughtIn (now (t .entry)) (wanted .byte) (wanted .number) j (block .0) (saidFind r)) × (Numbered r) ⌝ }
 {
-    let b = h.block;
+    let b = h.top_length;
     let on = On { level: 0, b };
     let spot = Spot {
         block,
@@ -356,9 +356,9 @@ pub fn seek_in(t: &[u8], h: Header, wanted: Wanted, j: u32, block: BlockNumber) 
     };
     let next = pick(t, h, wanted.number, on, spot, j as u64);
     match next {
-        Child::Kept(i, _, rest) => text_place(h.length, b, i, kept_step(t, h, wanted, on, i, rest)),
+        Child::Kept(i, _, rest) => text_place(h.text_length, b, i, kept_step(t, h, wanted, on, i, rest)),
         Child::Points(i, _, rest) => text_place(
-            h.length,
+            h.text_length,
             b,
             i,
             pointing_step(t, h, wanted, on, i, rest),

@@ -40,7 +40,7 @@ pub fn match_at(t: &[u8], h: Header, question: &[u8], mark: u32) -> Shown
     if h.settings.counted <= number {
         return Shown::Refused(11);
     }
-    if h.length <= mark {
+    if h.text_length <= mark {
         return Shown::Nothing(mark);
     }
     let tens = ask_totals::total(t, h, number);
@@ -71,13 +71,13 @@ fn start(t: &[u8], h: Header, mark: u32) -> Begins
 
 // Scans the text from a place on, where row q begins, by runs of the tree's leaf bytes.
 fn from(t: &[u8], h: Header, question: &[u8], place: TextPlace, q: u32) -> Shown
-    requires { ⌜ (HeaderOf (now t) h) × (rangesOk (now question) ≡ true) × (place .0 ≤ h .length) × (1 ≤ q) × (q ≤ h .length) ⌝ }
+    requires { ⌜ (HeaderOf (now t) h) × (rangesOk (now question) ≡ true) × (place .0 ≤ h .«text_length») × (1 ≤ q) × (q ≤ h .«text_length») ⌝ }
     ensures { λ r. ⌜ Searched (now (t .entry)) (now (question .entry)) (place .0) q r ⌝ }
 {
     let mut so_far = Form::Code(0);
     let mut row = q;
     let mut at = place.0;
-    while at < h.length {
+    while at < h.text_length {
         let ran = read_by_header::part_at(t, h, TextPlace(at));
         let Ran::At(part) = ran else {
             return Shown::Refused(14);

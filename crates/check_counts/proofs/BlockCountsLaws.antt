@@ -40,7 +40,7 @@ module _ (t : List ℕ) (h : Header) (level i c : ℕ) (w : InTable t h level i 
 
   -- A block's length.
 
-  pub length-is : (b x r : ℕ) → b ≡ at.fullLength t level → x ≡ at.start t level i → r ≡ min b (h .length - x) → r ≡ at.blockLengthAt t level i
+  pub length-is : (b x r : ℕ) → b ≡ at.fullLength t level → x ≡ at.start t level i → r ≡ min b (h .«text_length» - x) → r ≡ at.blockLengthAt t level i
   unfolding at.blockLengthAt
   length-is b x r b-is x-is e = e ∙ rw (b-is, x-is, facts.length-is t h (w .tree))
 

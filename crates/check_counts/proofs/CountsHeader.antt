@@ -36,7 +36,7 @@ module _ (t : List ℕ) (h : Header) (w : Linking t h) where
   pub leaf-is : h .settings .leaf ≡ at.settings t .leaf
   leaf-is = w .header .leaf-is
 
-  pub length-is : h .length ≡ at.textLength t
+  pub length-is : h .«text_length» ≡ at.textLength t
   length-is = w .header .length-is
 
   pub offset-is : h .«leaf_offset» ≡ at.leafOffset t

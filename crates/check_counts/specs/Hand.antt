@@ -31,4 +31,4 @@ module _ (t : List ℕ) where
 
 -- the block length of the level above, by the header; of the text above level 0
 unfoldable pub upFrom : Header → ℕ → ℕ
-upFrom h level = cond (eqb level 0) (h .length) (h .settings .leaf * h .settings .arity ^ (h .settings .levels - 1 - (level - 1)))
+upFrom h level = cond (eqb level 0) (h .«text_length») (h .settings .leaf * h .settings .arity ^ (h .settings .levels - 1 - (level - 1)))

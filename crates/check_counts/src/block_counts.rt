@@ -39,7 +39,7 @@ fn kept_inside(t: &[u8], h: Header, level: u32, b: u32, block: BlockNumber, c: u
 {
     let size = h.record_size;
     let start = record::start(t, size, level, block);
-    let length = cut::length_from(h.length, start, b);
+    let length = cut::length_from(h.text_length, start, b);
     let down = level + 1;
     if down == h.settings.levels {
         return prefix::in_leaves(t, h, level, block, length, c);
@@ -90,7 +90,7 @@ fn pointing_inside(t: &[u8], h: Header, level: u32, b: u32, block: BlockNumber, 
     ensures { λ r. ⌜ (r ≡ pointingInside (now (t .entry)) level (block .0) c) ⌝ }
 {
     let start = record::start(t, h.record_size, level, block);
-    let length = cut::length_from(h.length, start, b);
+    let length = cut::length_from(h.text_length, start, b);
     let end = Spot {
         block,
         place: BlockPlace(length - 1),

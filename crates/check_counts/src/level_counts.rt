@@ -36,7 +36,7 @@ fn up_length(h: Header, level: u32) -> u32
     ensures { λ r. ⌜ r ≡ upFrom h level ⌝ }
 {
     if level == 0 {
-        return h.length;
+        return h.text_length;
     }
     h.settings.block_length(level - 1)
 }

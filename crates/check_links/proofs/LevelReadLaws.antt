@@ -21,7 +21,7 @@ module _ (t : List ℕ) (h : Header) (k : HeaderOf t h) where
   pub size-is : h .«record_size» ≡ at.recordSize t
   size-is = k .size-is
 
-  pub length-is : h .length ≡ at.textLength t
+  pub length-is : h .«text_length» ≡ at.textLength t
   length-is = k .length-is
 
   leaves-is : h .«leaf_count» ≡ at.leafCount t

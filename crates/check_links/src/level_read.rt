@@ -34,7 +34,7 @@ pub fn level_of(t: &[u8], h: Header, number: u32) -> Level
         number,
         last: h.settings.levels - 1,
         size: h.record_size,
-        length: h.length,
+        length: h.text_length,
         count: record::level_count(t, number),
         full: h.settings.block_length(number),
         part: part_length(t, h, number),

@@ -32,11 +32,11 @@ settingsSay t = cond (at.headerOk t) (Fine (settingsOf t)) (settings.Refused 7)
 abbrev pub fieldsOf : List ℕ → Header
 fieldsOf t = record {
   layout = wordAt t layoutAt;
-  length = wordAt t textLengthAt;
+  «text_length» = wordAt t textLengthAt;
   settings = settingsOf t;
   «leaf_offset» = wordAt t leafOffsetAt;
   «leaf_count» = wordAt t leafCountAt;
-  block = at.fullLength t 0;
+  «top_length» = at.fullLength t 0;
   «record_size» = at.recordSize t;
 }
 

@@ -21,14 +21,14 @@ pub record HeaderOf (t : List ℕ) (h : Header) : Type 0 where
   pub facts : Readable t
   pub fields : h ≡ fieldsOf t
   pub layout-is : h .layout ≡ at.layout t
-  pub length-is : h .length ≡ at.textLength t
+  pub length-is : h .«text_length» ≡ at.textLength t
   pub leaf-is : h .settings .leaf ≡ at.settings t .leaf
   pub arity-is : h .settings .arity ≡ at.settings t .arity
   pub levels-is : h .settings .levels ≡ at.settings t .levels
   pub counted-is : h .settings .counted ≡ at.countedCount t
   pub offset-is : h .«leaf_offset» ≡ at.leafOffset t
   pub count-is : h .«leaf_count» ≡ at.leafCount t
-  pub block-is : h .block ≡ at.fullLength t 0
+  pub block-is : h .«top_length» ≡ at.fullLength t 0
   pub size-is : h .«record_size» ≡ at.recordSize t
 
 of-fields : (t : List ℕ) (h : Header) → readable t ≡ 0 → h ≡ fieldsOf t → HeaderOf t h
@@ -38,14 +38,14 @@ of-fields t h z e = record {
   facts = readable-facts t z;
   fields = e;
   layout-is = ap (λ (x : Header). x .layout) e;
-  length-is = ap (λ (x : Header). x .length) e;
+  length-is = ap (λ (x : Header). x .«text_length») e;
   leaf-is = ap (λ (x : Header). x .settings .leaf) e;
   arity-is = ap (λ (x : Header). x .settings .arity) e;
   levels-is = ap (λ (x : Header). x .settings .levels) e;
   counted-is = ap (λ (x : Header). x .settings .counted) e;
   offset-is = ap (λ (x : Header). x .«leaf_offset») e;
   count-is = ap (λ (x : Header). x .«leaf_count») e;
-  block-is = ap (λ (x : Header). x .block) e;
+  block-is = ap (λ (x : Header). x .«top_length») e;
   size-is = ap (λ (x : Header). x .«record_size») e;
 }
 

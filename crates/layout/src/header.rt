@@ -52,13 +52,13 @@ pub struct Header {
     // 1, or 2: then records have edges
     pub layout: u32,
     // n, the bytes of the text
-    pub length: u32,
+    pub text_length: u32,
     pub settings: Settings,
     // where the leaf bytes start, and how many there are
     pub leaf_offset: u32,
     pub leaf_count: u32,
     // the bytes of a full block of level 0
-    pub block: u32,
+    pub top_length: u32,
     // the bytes of a record
     pub record_size: u32,
 }
@@ -103,11 +103,11 @@ fn fields(t: &[u8], settings: Settings) -> Header
     let layout = word::read(t, LAYOUT_AT);
     Header {
         layout,
-        length: word::read(t, TEXT_LENGTH_AT),
+        text_length: word::read(t, TEXT_LENGTH_AT),
         settings,
         leaf_offset: word::read(t, LEAF_OFFSET_AT),
         leaf_count: word::read(t, LEAF_COUNT_AT),
-        block: settings.block_length(0),
+        top_length: settings.block_length(0),
         record_size: settings.record_size(layout),
     }
 }

@@ -48,13 +48,13 @@ module _ (t : List ℕ) (n p : ℕ) (r : Reached) (e : At r ≡ walked t (record
       rw z (same-end _ _ _ _ _ _
       (omega (arith, end .leaf-is)) (omega (arith, end .entered-is, length-further 1 (q .visits))) (omega (arith, end .left-is, left)))
 
-module _ (t : List ℕ) (h : Header) (k : HeaderOf t h) (p : ℕ) (low : p < h .length) (r : Reached)
-    (e : At r ≡ walked t (record { entered = 0; left = h .length - p }) (pathOf t p)) where
+module _ (t : List ℕ) (h : Header) (k : HeaderOf t h) (p : ℕ) (low : p < h .«text_length») (r : Reached)
+    (e : At r ≡ walked t (record { entered = 0; left = h .«text_length» - p }) (pathOf t p)) where
   pub leaf-low : r .leaf < h .«leaf_count»
-  leaf-low = omega (arith, end-leaf t (record { entered = 0; left = h .length - p }) p r (end t (h .length) p r e), k .count-is)
+  leaf-low = omega (arith, end-leaf t (record { entered = 0; left = h .«text_length» - p }) p r (end t (h .«text_length») p r e), k .count-is)
 
   left-low : 0 < r .trail .left
-  left-low = let z = end t (h .length) p r e in omega (arith, path-left t p (z .path) (z .is) (k .facts) (h .length - p) (omega arith), z .left-is)
+  left-low = let z = end t (h .«text_length») p r e in omega (arith, path-left t p (z .path) (z .is) (k .facts) (h .«text_length» - p) (omega arith), z .left-is)
 
   -- the end of a walk is reached
   pub reached-end : (x : Reached) → x ≡ withinOf (h .«leaf_count») r → ReachedAt t h p (At x)
@@ -66,7 +66,7 @@ pub reached-at : (t : List ℕ) (h : Header) (p : ℕ) (x : Walked) → ReachedA
 reached-at t h p x k r e = rw e at k
 
 pub reached-broken : (t : List ℕ) (h : Header) (p : ℕ) (x : Walked)
-    → ReachedAt t h p x → x ≡ Broken → Broken ≡ walked t (record { entered = 0; left = h .length - p }) (pathOf t p)
+    → ReachedAt t h p x → x ≡ Broken → Broken ≡ walked t (record { entered = 0; left = h .«text_length» - p }) (pathOf t p)
 reached-broken t h p x k e = rw e at k
 
 -- what is held of the place after it
@@ -76,7 +76,7 @@ unfolding aheadOf
 held-ahead t h k p r x s low x-is = rw x-is (record {
   is = λ more. record {
     more = s .more - 1;
-    is = walked-on t (h .length) p (record { leaf = r .leaf; trail = record { entered = r .trail .entered; left = s .more } })
+    is = walked-on t (h .«text_length») p (record { leaf = r .leaf; trail = record { entered = r .trail .entered; left = s .more } })
         (s .is) (omega (arith, s .left-in)) (omega (arith, s .leaves-in, k .count-is));
     left-in = omega (arith, s .left-in);
     leaves-in = omega (arith, s .leaves-in);

@@ -14,7 +14,7 @@ module _ (t : List ℕ) (h : Header) (p : ℕ) where
   pub record Standing (r : Reached) : Type 0 where
     pub more : ℕ
     pub is : At (record { leaf = r .leaf; trail = record { entered = r .trail .entered; left = more } }) ≡ walked
-        t (record { entered = 0; left = h .length - p }) (pathOf t p)
+        t (record { entered = 0; left = h .«text_length» - p }) (pathOf t p)
     pub left-in : r .trail .left ≤ more
     pub leaves-in : r .leaf + r .trail .left ≤ h .«leaf_count»
 
@@ -25,7 +25,7 @@ module _ (t : List ℕ) (h : Header) (p : ℕ) where
   -- what is reached there
   abbrev pub ReachedAt : Walked → Type 0
   ReachedAt (At r) = (0 < r .trail .left) × Standing r
-  ReachedAt Broken = Broken ≡ walked t (record { entered = 0; left = h .length - p }) (pathOf t p)
+  ReachedAt Broken = Broken ≡ walked t (record { entered = 0; left = h .«text_length» - p }) (pathOf t p)
 
 -- nothing left
 abbrev pub unknown : Reached

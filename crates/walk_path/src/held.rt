@@ -40,7 +40,7 @@ fn within(count: u32, end: Reached) -> Reached
 
 // What is reached at a place of the text: what is held of it, or the end of its walk.
 pub fn reach(t: &[u8], h: Header, at: TextPlace, held: Reached) -> Walked
-    requires { ⌜ (HeaderOf (now t) h) × (at .0 < h .length) × (Held (now t) h (at .0) held) ⌝ }
+    requires { ⌜ (HeaderOf (now t) h) × (at .0 < h .«text_length») × (Held (now t) h (at .0) held) ⌝ }
     ensures { λ r. ⌜ ReachedAt (now (t .entry)) h (at .0) r ⌝ }
 {
     if 0 < held.trail.left {

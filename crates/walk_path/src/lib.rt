@@ -154,21 +154,21 @@ fn pointing_step(
 
 // The whole path of a place of the text; what is left of the text is left at the start.
 pub fn walk(t: &[u8], h: Header, at: TextPlace) -> Walked
-    requires { ⌜ (HeaderOf (now t) h) × (at .0 < h .length) ⌝ }
-    ensures { λ r. ⌜ r ≡ walked (now (t .entry)) (record { entered = 0; left = h .length - at .0 }) (pathOf (now (t .entry)) (at .0)) ⌝ }
+    requires { ⌜ (HeaderOf (now t) h) × (at .0 < h .«text_length») ⌝ }
+    ensures { λ r. ⌜ r ≡ walked (now (t .entry)) (record { entered = 0; left = h .«text_length» - at .0 }) (pathOf (now (t .entry)) (at .0)) ⌝ }
 {
     let trail = Trail {
         entered: 0,
-        left: h.length - at.0,
+        left: h.text_length - at.0,
     };
-    let part = walk_steps::part_of(at.0, h.block);
+    let part = walk_steps::part_of(at.0, h.top_length);
     let rest = part.place;
     unpacked(pointing_step(
         t,
         h.record_size,
         On {
             level: 0,
-            b: h.block,
+            b: h.top_length,
         },
         BlockNumber(part.blocks),
         rest,

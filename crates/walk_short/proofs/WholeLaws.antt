@@ -273,10 +273,10 @@ module _ (t : List ℕ) (h : Header) (level b i o len entered : ℕ) (w : Walkin
 
 -- From a place of the text, and from a block.
 module _ (t : List ℕ) (h : Header) (k : HeaderOf t h) where
-  pub top-pos : 0 < h .block
+  pub top-pos : 0 < h .«top_length»
   top-pos = rw (k .block-is) (full-pos t (k .facts) 0)
 
-  pub top-asks : (p len : ℕ) → len ≤ h .settings .leaf → Walking t h 0 (h .block) (p % h .block) len 0
+  pub top-asks : (p len : ℕ) → len ≤ h .settings .leaf → Walking t h 0 (h .«top_length») (p % h .«top_length») len 0
   top-asks p len short = record { on = on-top t h k; place-in = mod-lt p top-pos; short = short; few = omega arith }
 
   -- what was found stands in the tree
@@ -292,13 +292,13 @@ module _ (t : List ℕ) (h : Header) (k : HeaderOf t h) where
       go (some q) e f = let z = f q refl in rw e (z .few, z .first-in, z .next-in)
 
   pub top-by : (p len : ℕ) → at.layout t ≡ 2 → 1 ≤ len → len ≤ h .settings .leaf → (r : Gathered)
-      → r ≡ gathered 0 (shortFrom t (at.settings t .levels - 1 - 0) 0 (p / h .block + 0) (p % h .block) len)
+      → r ≡ gathered 0 (shortFrom t (at.settings t .levels - 1 - 0) 0 (p / h .«top_length» + 0) (p % h .«top_length») len)
       → (r ≡ gathered 0 (shortOf t p len)) × Within t len r
   unfolding shortOf
   top-by p len two low short r e =
       let z : at.settings t .levels - 1 - 0 ≡ at.settings t .levels - 1 = omega arith in
       let same : r ≡ gathered 0 (shortFrom t (at.settings t .levels - 1) 0 (p / at.fullLength t 0) (p % at.fullLength t 0) len) =
-      rw (z, add-zero (p / h .block), k .block-is) at e in (
+      rw (z, add-zero (p / h .«top_length»), k .block-is) at e in (
         same,
         within-tree two len low short (at.settings t .levels - 1)
             0 (p / at.fullLength t 0) (p % at.fullLength t 0) (omega (arith, k .facts .bounds .levels-low)) (mod-lt p (full-pos t (k .facts) 0)) r 0 same,

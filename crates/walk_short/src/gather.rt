@@ -218,10 +218,10 @@ pub fn gather(t: &[u8], h: Header, on: On, ahead: Ahead, span: Stretch, entered:
 
 // The walk from a place of the text.
 pub fn from_text(t: &[u8], h: Header, p: TextPlace, len: u32) -> Gathered
-    requires { ⌜ (HeaderOf (now t) h) × (at.layout (now t) ≡ 2) × (1 ≤ len) × (len ≤ h .settings .leaf) × (p .0 + len ≤ h .length) ⌝ }
+    requires { ⌜ (HeaderOf (now t) h) × (at.layout (now t) ≡ 2) × (1 ≤ len) × (len ≤ h .settings .leaf) × (p .0 + len ≤ h .«text_length») ⌝ }
     ensures { λ r. ⌜ (r ≡ gathered 0 (shortOf (now (t .entry)) (p .0) len)) × Within (now (t .entry)) len r ⌝ }
 {
-    let b = h.block;
+    let b = h.top_length;
     gather(
         t,
         h,

@@ -83,7 +83,7 @@ level-below t size level b on more =
     }
 
 -- level 0, and any level, by the header
-pub on-top : (t : List ℕ) (h : Header) → HeaderOf t h → OnLevel t (h .«record_size») 0 (h .block)
+pub on-top : (t : List ℕ) (h : Header) → HeaderOf t h → OnLevel t (h .«record_size») 0 (h .«top_length»)
 on-top t h k = record {
   facts = k .facts;
   size-is = k .size-is;

@@ -17,7 +17,7 @@ use Rattle.walk_steps.proofs.StepLaws as step
 pub arity-pos : (t : List ℕ) (h : Header) → HeaderOf t h → 0 < h .settings .arity
 arity-pos t h k = omega (arith, k .arity-is, k .facts .bounds .arity-low)
 
-pub on-top : (t : List ℕ) (h : Header) → HeaderOf t h → OnLevel t h 0 (h .block)
+pub on-top : (t : List ℕ) (h : Header) → HeaderOf t h → OnLevel t h 0 (h .«top_length»)
 on-top t h k = record { header = k; level-in = omega (arith, k .facts .bounds .levels-low); b-is = k .block-is }
 
 pub field-there : (t : List ℕ) (h : Header) (level i f : ℕ) → HeaderOf t h → level < at.settings t .levels → i < at.levelCount t level → f < 4

@@ -16,11 +16,11 @@ use Rattle.ask_worn_keys.proofs.search.from.Tie as tie
 
 abbrev Inv-loop : tie.InvT-loop
 Inv-loop t h question q so-far₀ row₀ at₀ so-far row at =
-    ((at₀ ≤ at) × (at ≤ h .length))
+    ((at₀ ≤ at) × (at ≤ h .«text_length»))
     × ((q ≤ row) × (row + at₀ ≤ q + at)) × (scanOf question (drop at (textOf t)) so-far row ≡ scanOf question (drop at₀ (textOf t)) so-far₀ q)
 
 abbrev μ-loop : tie.MeasureT-loop
-μ-loop t h question q so-far₀ row₀ at₀ so-far row at = h .length - at
+μ-loop t h question q so-far₀ row₀ at₀ so-far row at = h .«text_length» - at
 
 loop-holds : tie.Need-loop-holds Inv-loop μ-loop
 loop-holds c = ((omega arith, omega arith), (omega arith, omega arith), refl)
