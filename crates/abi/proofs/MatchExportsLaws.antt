@@ -5,7 +5,7 @@ use Prim.Native.Nat.{ℕ}
 use Rattle.ask_worn_keys.specs.declared.Shown.{Shown}
 use Rattle.ask_worn_keys.specs.declared.Shown.the-variants as shown
 use Rattle.ask_worn_keys.specs.MatchSays.{refusedAt, MatchSays}
-use Rattle.ask_worn_keys.specs.Searches.{MatchAnswer}
+use Rattle.ask_worn_keys.specs.MatchAnswer.{MatchAnswer}
 
 module _ (t ranges : List ℕ) (mark : ℕ) (r : Shown) (a : MatchAnswer t ranges mark r) where
   pub match-row : (q : ℕ) → r ≡ shown.Row q → MatchSays t ranges mark (record { number = 0; row = q; mark = q })

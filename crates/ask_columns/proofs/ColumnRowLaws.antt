@@ -28,7 +28,8 @@ use Rattle.ask_access.specs.declared.Copied.{Copied}
 use Rattle.ask_access.specs.declared.Copied.the-variants as copied
 use Rattle.ask_access.specs.ReadAnswers.{said}
 use Rattle.ask_access.proofs.CopyLaws as bytes
-use Rattle.ask_columns.specs.ColumnRows.{cell, cellsHold, columnNumber, columnLeaves, columnSays, RowThere, ColumnAnswer}
+use Rattle.ask_columns.specs.ColumnRows.{cell, cellsHold, columnNumber, columnLeaves, columnSays, ColumnAnswer}
+use Rattle.ask_columns.specs.RowThere.{RowThere}
 
 module _ (t : List ℕ) (w a : ℕ) (d : List ℕ) where
   -- an answer and what is left of the buffer

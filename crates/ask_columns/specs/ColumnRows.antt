@@ -1,9 +1,9 @@
 -- What the reading of a row by columns answers, for any bytes lent as a tree, and what it leaves in the lent buffer.
 -- docs/FORMAT.md: "Columns before rows".
 use mathlib.Core.List.{List, _++_}
-use mathlib.Core.Bool.{Bool, true, cond}
+use mathlib.Core.Bool.{Bool, cond}
 use mathlib.Core.Path.{_≡_}
-use Prim.Native.Nat.{ℕ, _+_, _*_, _/_, _≤_, _<_}
+use Prim.Native.Nat.{ℕ, _+_, _*_, _/_}
 use lib.ListN.{length, drop, replicate}
 use lib.Dec.{ltb, leb, eqb}
 use Rattle.text.specs.Lists.{tabulate, allBelow}
@@ -12,8 +12,6 @@ use Rattle.format.specs.Layout as at
 use Rattle.format.specs.Verdict.{ask, readable}
 use Rattle.format.specs.Said.{Said, unless}
 use Rattle.format.specs.ReadSays.{byteSays}
-use Rattle.layout.specs.declared.header.Header.{Header}
-use Rattle.layout.specs.HeaderSays.{HeaderOf}
 use Rattle.ask_access.specs.declared.Copied.{Copied}
 use Rattle.ask_access.specs.ReadAnswers.{copiedSaid, Numbered}
 
@@ -43,14 +41,6 @@ module _ (t : List ℕ) (w a : ℕ) where
 
   unfoldable pub columnSays : ℕ → Said
   columnSays room = unless (columnNumber room) (record { number = 0; value = w; entered = 0 })
-
--- what the reading of the row's bytes rests on: the header's figures, and that questions 20, 10 and 13 let it through
-pub record RowThere (t : List ℕ) (h : Header) (w rows a room : ℕ) : Type 0 where
-  pub header : HeaderOf t h
-  pub width : widthOk w (h .«text_length») ≡ true
-  pub rows-are : rows ≡ h .«text_length» / w
-  pub below : a < rows
-  pub fits : w ≤ room
 
 -- the answer, with room for so many bytes
 pub record ColumnAnswer (t : List ℕ) (w a room : ℕ) (r : Copied) : Type 0 where

@@ -1,2 +1,3 @@
 pub mod ColumnRows
 pub mod ColumnRowExamples
+pub mod RowThere

@@ -9,7 +9,8 @@ use layout::place::TextPlace;
 ghost use mathlib.Core.Path.{_≡_};
 ghost use lib.ListN.{length};
 ghost use Rattle.layout.specs.HeaderSays.{HeaderOf};
-ghost use Rattle.ask_columns.specs.ColumnRows.{ColumnAnswer, RowThere, columnLeaves};
+ghost use Rattle.ask_columns.specs.ColumnRows.{ColumnAnswer, columnLeaves};
+ghost use Rattle.ask_columns.specs.RowThere.{RowThere};
 
 // Copies row a, counted from 0, of rows of a width, end byte included, to the start of the buffer. No blocks entered are reported.
 pub fn row_by_columns(t: &[u8], width: u32, a: u32, buffer: &mut [u8]) -> Copied

@@ -25,7 +25,7 @@ use Rattle.layout.specs.HeaderSays.{HeaderOf}
 use Rattle.ask_select.specs.Seeks.{Siblings, LastBefore}
 use Rattle.ask_guide.specs.Guides.{blockOf, entriesOf, entriesBefore, guideWords, guideOf, guideBytes, guideNumber, sizeSays, makeNumber}
 use Rattle.ask_guide.specs.Guides.{makeSays, makeLeaves, listedEvery}
-use Rattle.ask_guide.specs.GuideAnswers.{written, Puts, Compared}
+use Rattle.ask_guide.specs.EntriesWritten.{written, Puts, Compared}
 use Rattle.ask_guide.proofs.WordLists.{words-are, put-word}
 use Rattle.ask_guide.proofs.Holders.{total-few, block-in, first-low, block-is}
 use Rattle.ask_guide.proofs.GuideList.{guide-length, guide-size, guide-entry, entry-below, entry-stands, entry-word}

@@ -13,7 +13,7 @@ ghost use Rattle.format.specs.Layout as at;
 ghost use Rattle.format.specs.Verdict.{verdict};
 ghost use Rattle.layout.specs.HeaderSays.{HeaderOf};
 ghost use Rattle.ask_guide.specs.Guides.{entriesOf, entriesBefore, guideBytes};
-ghost use Rattle.ask_guide.specs.GuideAnswers.{Compared};
+ghost use Rattle.ask_guide.specs.EntriesWritten.{Compared};
 
 // Whether the entries of a counted byte stand in the guide; those before it have so many words.
 fn entries_right(guide: &[u8], t: &[u8], h: Header, number: u32, place: usize, count: u64) -> bool

@@ -14,7 +14,8 @@ ghost use Rattle.format.specs.Layout as at;
 ghost use Rattle.format.specs.Verdict.{verdict};
 ghost use Rattle.layout.specs.HeaderSays.{HeaderOf};
 ghost use Rattle.ask_guide.specs.Guides.{entriesOf, entriesBefore, guideWords, makeSays, makeLeaves};
-ghost use Rattle.ask_guide.specs.GuideAnswers.{saidSize, Numbered, Puts};
+ghost use Rattle.ask_guide.specs.GuideAnswers.{saidSize, Numbered};
+ghost use Rattle.ask_guide.specs.EntriesWritten.{Puts};
 
 // Writes the entries of a counted byte; those before it have so many words.
 fn put_entries(table: &mut [u8], t: &[u8], h: Header, number: u32, place: usize, count: u64)

@@ -15,6 +15,7 @@ use Rattle.format.specs.FindSays.{total, selectNumber, found}
 use Rattle.ask_select.specs.declared.Found.{Found}
 use Rattle.ask_select.specs.declared.Found.the-variants as find
 use Rattle.ask_select.specs.Found as select
+use Rattle.ask_select.specs.SoughtPlaces as sought
 use Rattle.ask_select.specs.Seeks.{LastBefore}
 use Rattle.ask_guide.specs.Guides.{lastEntry, lastListed, blockOf, entriesOf, entriesBefore, guideOf, guideBytes, guideNumber}
 use Rattle.ask_guide.proofs.Holders.{block-in, block-low, block-is}
@@ -92,7 +93,7 @@ module _ (t guide : List ℕ) (byte c j : ℕ)
 
   module _ (entry block steps : ℕ) (entry-read : entry ≡ wordAt guide (4 * place))
       (last : LastBefore t c 0 entry (at.levelCount t 0) j block) (steps-are : entry + steps ≡ block) where
-    pub stops : select.Stopped t c j block
+    pub stops : sought.Stopped t c j block
     stops = record { block-in = last .high; next = last .next }
 
     -- the steps lead to the block that holds the place
@@ -104,7 +105,7 @@ module _ (t guide : List ℕ) (byte c j : ℕ)
         (under, omega (arith, steps-are, b, entry-read, entry-is g))
 
     pub sought-by : (f : Found) → select.Numbered f
-        → select.SoughtIn t byte c j block (select.saidFind f) → SoughtBy t guide byte c j (saidGuided (stepped f steps)) (stepsOf (stepped f steps))
+        → sought.SoughtIn t byte c j block (select.saidFind f) → SoughtBy t guide byte c j (saidGuided (stepped f steps)) (stepsOf (stepped f steps))
     unfolding found
     sought-by f nb z = record {
       accepted = λ g.

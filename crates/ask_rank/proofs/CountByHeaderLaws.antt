@@ -17,7 +17,7 @@ use Rattle.layout.specs.declared.header.HeaderRead.the-variants.{Refused}
 use Rattle.layout.specs.Header.{headerSays}
 use Rattle.layout.specs.HeaderSays.{HeaderOf, header-refused}
 use Rattle.ask_rank.specs.Sums.{wholeSum}
-use Rattle.ask_rank.specs.Counts.{settled, saidIn}
+use Rattle.ask_rank.specs.Sums.{settled, saidIn}
 use Rattle.ask_totals.proofs.TotalLaws.{not-counted, is-counted}
 use Rattle.ask_rank.proofs.SumLaws.{broken-word}
 

@@ -39,7 +39,7 @@ use Rattle.ask_rank.specs.declared.sums.Sum.{Sum}
 use Rattle.ask_rank.specs.declared.sums.Summed.{Summed}
 use Rattle.ask_rank.specs.declared.sums.Summed.the-variants.{At, Broken}
 use Rattle.format.specs.Said.{Said, refused}
-use Rattle.ask_rank.specs.Counts.{settled, saidIn}
+use Rattle.ask_rank.specs.Sums.{settled, saidIn}
 use Rattle.ask_rank.specs.Sums.{onward, addedRest, summed, startSum, wholeSum, Carried, Across}
 
 -- a field of a block of a level can be read

@@ -1,8 +1,8 @@
--- What count answers, by its number and figures (docs/FORMAT.md, "Count"), and what is made of the sums.
+-- What count answers, by its number and figures (docs/FORMAT.md, "Count").
 use mathlib.Core.Bool.{cond}
 use mathlib.Core.List.{List}
 use mathlib.Core.Path.{_≡_}
-use Prim.Native.Nat.{ℕ, _-_, _/_, _%_, _≤_}
+use Prim.Native.Nat.{ℕ, _≤_}
 use lib.Dec.{eqb, leb}
 use Rattle.format.specs.Layout as at
 use Rattle.format.specs.Verdict.{ask, readable}
@@ -10,8 +10,6 @@ use Rattle.format.specs.Said.{Said, refused}
 use Rattle.format.specs.CountSays.{countSays}
 use Rattle.ask_rank.specs.declared.Counted.{Counted}
 use Rattle.ask_rank.specs.declared.Counted.the-variants.{Times, Refused}
-use Rattle.ask_rank.specs.declared.sums.Summed.{Summed}
-use Rattle.ask_rank.specs.declared.sums.Summed.the-variants.{At, Broken}
 
 -- how often the byte stands, with the blocks entered
 abbrev pub saidCount : Counted → Said
@@ -27,15 +25,6 @@ pub record CountAnswer (t : List ℕ) (byte i : ℕ) (r : Counted) : Type 0 wher
   pub says : saidCount r ≡ countSays t byte i
   pub numbered : Numbered r
 
--- the finished count, which is not below zero
-unfoldable pub settled : Summed → Said
-settled Broken = refused 14
-settled (At s) = cond (leb (s .minus) (s .plus)) (record { number = 0; value = s .plus - s .minus; entered = s .entered }) (refused 14)
-
 -- Count and find of a number above 255, which is no byte and so not counted: questions 5 to 7, then 10 for what ends at i, then 11
 unfoldable pub uncountedNumber : List ℕ → ℕ → ℕ
 uncountedNumber t i = cond (eqb (readable t) 0) (ask 10 (leb i (at.textLength t)) 11) (readable t)
-
--- what a count's word says: how often, and 2^48 times the blocks entered; all ones where the path breaks or the count is below zero
-unfoldable pub saidIn : ℕ → Said
-saidIn w = cond (eqb w 18446744073709551615) (refused 14) (record { number = 0; value = w % 281474976710656; entered = w / 281474976710656 })

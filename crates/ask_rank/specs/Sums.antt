@@ -11,6 +11,11 @@ use Rattle.walk_steps.specs.Steps.{OnLevel}
 use Rattle.ask_rank.specs.declared.sums.Sum.{Sum}
 use Rattle.ask_rank.specs.declared.sums.Summed.{Summed}
 use Rattle.ask_rank.specs.declared.sums.Summed.the-variants.{At, Broken}
+use mathlib.Core.Bool.{cond}
+use mathlib.Core.List.{List}
+use Prim.Native.Nat.{ℕ, _-_, _/_, _%_, _≤_}
+use lib.Dec.{eqb, leb}
+use Rattle.format.specs.Said.{Said, refused}
 
 -- one more block entered, so much more added and taken off
 unfoldable pub onward : Sum → ℕ → ℕ → Sum
@@ -53,3 +58,12 @@ module _ (t : List ℕ) where
     pub block-in : i < at.levelCount t level
     pub target-in : j < at.levelCount t level
     pub link-low : at.link t level i ≤ j
+
+-- the finished count, which is not below zero
+unfoldable pub settled : Summed → Said
+settled Broken = refused 14
+settled (At s) = cond (leb (s .minus) (s .plus)) (record { number = 0; value = s .plus - s .minus; entered = s .entered }) (refused 14)
+
+-- what a count's word says: how often, and 2^48 times the blocks entered; all ones where the path breaks or the count is below zero
+unfoldable pub saidIn : ℕ → Said
+saidIn w = cond (eqb w 18446744073709551615) (refused 14) (record { number = 0; value = w % 281474976710656; entered = w / 281474976710656 })

@@ -6,7 +6,8 @@ use layout::header::Header;
 use layout::place::TextPlace;
 ghost use mathlib.Core.Path.{_≡_};
 ghost use Rattle.layout.specs.HeaderSays.{HeaderOf};
-ghost use Rattle.ask_rank.specs.Counts.{saidCount, saidIn, Numbered, CountAnswer};
+ghost use Rattle.ask_rank.specs.Counts.{saidCount, Numbered, CountAnswer};
+ghost use Rattle.ask_rank.specs.Sums.{saidIn};
 
 // Questions 10, 11 and 14; the first i bytes end with place i - 1, and none of them need no path.
 pub fn count_at(t: &[u8], h: Header, byte: u8, i: u32) -> Counted

@@ -22,7 +22,7 @@ ghost use Rattle.layout.specs.HeaderSays.{HeaderOf};
 ghost use Rattle.walk_steps.specs.Steps.{OnLevel};
 ghost use Rattle.walk_path.specs.Walk.{KeptAt, MayPoint};
 ghost use Rattle.ask_rank.specs.Sums.{Carried, Across, onward, summed, startSum, wholeSum};
-ghost use Rattle.ask_rank.specs.Counts.{settled, saidIn};
+ghost use Rattle.ask_rank.specs.Sums.{settled, saidIn};
 
 // What is carried down a path: how many blocks were entered, what is added, and what is taken off.
 pub struct Sum {

@@ -38,7 +38,8 @@ use Rattle.ask_rows.specs.declared.row_edges.Edges.{Edges}
 use Rattle.ask_rows.specs.declared.row_edges.Edges.the-variants as edges
 use Rattle.ask_rows.specs.declared.RowCopied.{RowCopied}
 use Rattle.ask_rows.specs.declared.RowCopied.the-variants as row
-use Rattle.ask_rows.specs.RowAnswers.{saidRow, Numbered, edgesNumber, CopyAnswer, RowAnswerBy, Refuses, Spans, EdgesOf}
+use Rattle.ask_rows.specs.RowAnswers.{saidRow, Numbered, RowAnswerBy}
+use Rattle.ask_rows.specs.RowSpans.{edgesNumber, CopyAnswer, Refuses, Spans, EdgesOf}
 
 row-refused : (t : List ℕ) (ok q n : ℕ) (buffer : List ℕ) → Refuses t ok (rowNumber t q) (rowOf (textOf t) q) n → RowBy t ok q buffer n 0 buffer
 row-refused t ok q n buffer r = record {

@@ -43,7 +43,7 @@ use Rattle.ask_guide.proofs.GuideList.{guide-verdict}
 use Rattle.ask_guided.specs.declared.Guided.{Guided}
 use Rattle.ask_guided.specs.Guided.{GuidedAnswer, foundOf}
 use Rattle.ask_guided.proofs.GuidedLaws.{found-by}
-use Rattle.ask_rows.specs.RowAnswers.{settledBy, edgesNumber, Refuses, Spans, EdgesOf}
+use Rattle.ask_rows.specs.RowSpans.{settledBy, edgesNumber, Refuses, Spans, EdgesOf}
 
 -- the number that settles a row is 0 for accepted trees alone
 pub settled-sound : (t guide : List ℕ) (used : Bool) → settledBy t guide used ≡ 0 → verdict t ≡ 0

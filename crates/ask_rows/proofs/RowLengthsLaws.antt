@@ -37,7 +37,7 @@ use Rattle.ask_rows.specs.declared.row_edges.Edges.{Edges}
 use Rattle.ask_rows.specs.declared.row_edges.Edges.the-variants as edges
 use Rattle.ask_rows.specs.declared.RowLength.the-variants as size
 use Rattle.ask_rows.specs.declared.RowCount.the-variants as count
-use Rattle.ask_rows.specs.RowAnswers.{settledBy, EdgesOf}
+use Rattle.ask_rows.specs.RowSpans.{settledBy, EdgesOf}
 use Rattle.ask_rows.specs.RowLengths.{rowsNumber, lastOpen, rowsSays, LengthAnswer, CountAnswer}
 
 -- The length of a row.

@@ -11,7 +11,8 @@ ghost use Prim.Native.Nat.{_+_, _≤_};
 ghost use lib.ListN.{length};
 ghost use Rattle.format.specs.ReadSays.{copyLeaves};
 ghost use Rattle.layout.specs.HeaderSays.{HeaderOf};
-ghost use Rattle.ask_rows.specs.RowAnswers.{CopyAnswer, RowAnswerBy, settledBy};
+ghost use Rattle.ask_rows.specs.RowAnswers.{RowAnswerBy};
+ghost use Rattle.ask_rows.specs.RowSpans.{CopyAnswer, settledBy};
 
 // Questions 11, 12, 13 and 14, those of the edges first; the edges are found by the guide if it is used.
 pub fn row_at(t: &[u8], h: Header, guide: &[u8], used: bool, q: u32, buffer: &mut [u8]) -> RowCopied

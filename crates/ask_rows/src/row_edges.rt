@@ -20,7 +20,7 @@ ghost use Rattle.format.specs.FindSays.{selectNumber};
 ghost use Rattle.format.specs.RowSays.{lastNumber, asksLast, rowNumber, rowMost};
 ghost use Rattle.layout.specs.HeaderSays.{HeaderOf};
 ghost use Rattle.ask_select.specs.Found.{saidFind, FoundBy};
-ghost use Rattle.ask_rows.specs.RowAnswers.{settledBy, edgesNumber, EdgesOf};
+ghost use Rattle.ask_rows.specs.RowSpans.{settledBy, edgesNumber, EdgesOf};
 
 // Where a row starts and how many bytes it has, or the number of the question that refuses.
 pub enum Edges {

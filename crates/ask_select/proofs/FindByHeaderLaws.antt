@@ -38,7 +38,7 @@ use Rattle.ask_select.specs.declared.seek.Placed.the-variants as placed
 use Rattle.ask_select.specs.declared.seek.Child.{Child}
 use Rattle.ask_select.specs.declared.seek.Child.the-variants as child
 use Rattle.ask_select.specs.Seeks.{KeptIn, PointsIn, Siblings, LastBefore, picked, Seeking, FoundIn}
-use Rattle.ask_select.specs.Found.{placedIn, Sought, Stopped, SoughtIn}
+use Rattle.ask_select.specs.SoughtPlaces.{placedIn, Sought, Stopped, SoughtIn}
 use Rattle.ask_totals.proofs.TotalLaws.{some-block, not-counted, is-counted}
 use Rattle.ask_select.proofs.LandLaws.{Picked, k, d, a, picked-kept, picked-points, picked-off, one-of}
 

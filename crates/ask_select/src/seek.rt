@@ -20,7 +20,8 @@ ghost use Rattle.format.specs.FindSays.{total};
 ghost use Rattle.layout.specs.HeaderSays.{HeaderOf};
 ghost use Rattle.walk_steps.specs.QuestionStands.{OnLevel, InTable};
 ghost use Rattle.theory_counts.specs.CountsLocal.{byteOf};
-ghost use Rattle.ask_select.specs.Found.{saidFind, Numbered, placedIn, Sought, Stopped, SoughtIn};
+ghost use Rattle.ask_select.specs.Found.{saidFind, Numbered};
+ghost use Rattle.ask_select.specs.SoughtPlaces.{placedIn, Sought, Stopped, SoughtIn};
 ghost use Rattle.ask_select.specs.Seeks.{Near, moved, Siblings, Passed, LastBefore, picked, KeptIn, PointsIn, ChildWith, targetAt, TargetWith};
 ghost use Rattle.ask_select.specs.Seeks.{Seeking, FoundIn};
 
@@ -356,7 +357,12 @@ pub fn seek_in(t: &[u8], h: Header, wanted: Wanted, j: u32, block: BlockNumber) 
     };
     let next = pick(t, h, wanted.number, on, spot, j as u64);
     match next {
-        Child::Kept(i, _, rest) => text_place(h.text_length, b, i, kept_step(t, h, wanted, on, i, rest)),
+        Child::Kept(i, _, rest) => text_place(
+            h.text_length,
+            b,
+            i,
+            kept_step(t, h, wanted, on, i, rest),
+        ),
         Child::Points(i, _, rest) => text_place(
             h.text_length,
             b,

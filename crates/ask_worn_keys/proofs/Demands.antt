@@ -26,7 +26,7 @@ use Rattle.keys.specs.MatchLaws.{Next, no-more, next, next-of, Shows, shown-all
 use Rattle.ask_worn_keys.specs.declared.Shown.{Shown}
 use Rattle.ask_worn_keys.specs.declared.Shown.the-variants.{Row, Nothing, Refused}
 use Rattle.ask_worn_keys.specs.MatchSays.{refusedAt, matchNumber, mostRows, FreeShown}
-use Rattle.ask_worn_keys.specs.Searches.{saidShown, Numbered, MatchAnswer, Moved}
+use Rattle.ask_worn_keys.specs.MatchAnswer.{saidShown, Numbered, MatchAnswer, Moved}
 use Rattle.ask_worn_keys.proofs.next_match.Reads as next-match-reads
 
 -- r is an answer that the contract of `next_match` allows to a call with these arguments

@@ -30,7 +30,8 @@ use Rattle.keys.specs.Matches.{firstFrom, nextMatch, ShownSaid, shownFor}
 use Rattle.ask_worn_keys.specs.MatchSays.{matchNumber, FreeShown}
 use Rattle.keys.specs.Forms.{runFrom}
 use Rattle.keys.specs.RowScanned.{scanOf}
-use Rattle.ask_worn_keys.specs.Searches.{saidShown, Numbered, MatchAnswer, finished, FromRow, Searched, within}
+use Rattle.ask_worn_keys.specs.Searches.{finished, FromRow, Searched, within}
+use Rattle.ask_worn_keys.specs.MatchAnswer.{saidShown, Numbered, MatchAnswer}
 use Rattle.keys.specs.MatchLaws.{Next, no-more, next, next-of}
 use Rattle.ask_worn_keys.proofs.RowScans.{result, scan-rows}
 

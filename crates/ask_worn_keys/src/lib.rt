@@ -4,7 +4,7 @@ mod search;
 use layout::header;
 use layout::header::HeaderRead;
 ghost use mathlib.Core.Path.{_≡_};
-ghost use Rattle.ask_worn_keys.specs.Searches.{MatchAnswer, markAfter, Moved};
+ghost use Rattle.ask_worn_keys.specs.MatchAnswer.{MatchAnswer, markAfter, Moved};
 
 // The row shown, on which the mark then stands; or none, and where the mark then stands; or the number of the question that refuses.
 pub enum Shown {

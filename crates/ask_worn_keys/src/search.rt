@@ -20,7 +20,8 @@ ghost use Rattle.format.specs.CountSays.{isCounted, numberOfByte};
 ghost use Rattle.format.specs.FindSays.{total};
 ghost use Rattle.layout.specs.HeaderSays.{HeaderOf};
 ghost use Rattle.keys.specs.Keys.{rangesOk};
-ghost use Rattle.ask_worn_keys.specs.Searches.{StartOf, Searched, MatchAnswer, atEnd, within, foundOr};
+ghost use Rattle.ask_worn_keys.specs.Searches.{StartOf, Searched, atEnd, within, foundOr};
+ghost use Rattle.ask_worn_keys.specs.MatchAnswer.{MatchAnswer};
 
 // Where the rows after a mark begin.
 pub enum Begins {

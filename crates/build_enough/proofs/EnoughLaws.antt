@@ -16,7 +16,8 @@ use Rattle.format.specs.SizeLaws.{Sizes, within-bounds}
 use Rattle.layout.specs.declared.settings.Settings as code
 use Rattle.layout.specs.declared.settings.Checked.{Checked}
 use Rattle.layout.specs.declared.settings.Checked.the-variants as checked-is
-use Rattle.layout.specs.CheckedSettings.{Sized, checked, sizes}
+use Rattle.layout.specs.CheckedSettings.{checked, sizes}
+use Rattle.layout.specs.SettingsLevel.{Sized}
 use Rattle.build_enough.specs.declared.Room.the-variants.{Bytes, Refused}
 use Rattle.build_enough.specs.Enough.{blocksAtMost, enoughFor, enoughSays}
 

@@ -11,7 +11,7 @@ use Rattle.format.specs.SizeLaws.{sizes-alone}
 use Rattle.format.specs.HeaderPlaces.{pairsAt, countAt, headerLength}
 use Rattle.format.specs.Blocks.{treeOf, recordBytes}
 use Rattle.layout.specs.declared.settings.Settings as code
-use Rattle.layout.specs.CheckedSettings.{Sized}
+use Rattle.layout.specs.SettingsLevel.{Sized}
 use Rattle.theory_built.specs.BuiltBytes.{Stands}
 use Rattle.theory_built.specs.BlockSizes.{Taken, Bounds, bounds, size-falls}
 use Rattle.theory_built.specs.Structure.{count, start, count-top, start-top}

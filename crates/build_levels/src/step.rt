@@ -15,7 +15,7 @@ ghost use lib.ListN.{length};
 ghost use Rattle.format.specs.Settings.{maxText, maxLeaf, maxLevels, maxCounted};
 ghost use Rattle.format.specs.Blocks.{treeOf};
 ghost use Rattle.theory_built.specs.BlockSizes.{Taken, maxTable};
-ghost use Rattle.layout.specs.CheckedSettings.{Sized};
+ghost use Rattle.layout.specs.SettingsLevel.{Sized};
 ghost use Rattle.build_records.specs.Grown.{Grown};
 ghost use Rattle.build_records.specs.RecordPlaces.{recordPlace};
 ghost use Rattle.build_records.specs.State.{settingsOf};

@@ -9,7 +9,7 @@ ghost use Prim.Native.Nat.{_+_, _-_, _<_};
 ghost use Rattle.text.specs.Lists.{allBelow};
 ghost use Rattle.format.specs.Layout as at;
 ghost use Rattle.theory_counts.specs.CountsLocal.{upLength, blockLocal, levelLocal};
-ghost use Rattle.layout.specs.CheckedSettings.{Sized};
+ghost use Rattle.layout.specs.SettingsLevel.{Sized};
 ghost use Rattle.check_counts.specs.CountsAsked.{Linking, TrueBelow};
 ghost use Rattle.check_counts.specs.Hand.{upFrom};
 

@@ -1,10 +1,9 @@
--- What the checking constructor of the settings answers, and what is asked of settings where a block's length is.
+-- What the checking constructor of the settings answers.
 use mathlib.Core.List.{List, []}
 use mathlib.Core.Bool.{cond}
-use Prim.Native.Nat.{ℕ, _<_}
+use Prim.Native.Nat.{ℕ}
 use lib.ListN.{length}
 use Rattle.format.specs.Settings as format
-use Rattle.format.specs.SizeLaws.{Sizes}
 use Rattle.layout.specs.declared.settings.Settings.{Settings}
 use Rattle.layout.specs.declared.settings.Checked.{Checked}
 use Rattle.layout.specs.declared.settings.Checked.the-variants.{Fine, Refused}
@@ -19,8 +18,3 @@ checked m r H cs =
     cond (format.sizesOk (sizes m r H))
     (cond (format.countedOk cs) (Fine (record { leaf = m; arity = r; levels = H; counted = length cs })) (Refused 3))
     (Refused 2)
-
--- settings whose sizes are within their bounds, and one of their levels
-pub record Sized (s : Settings) (level : ℕ) : Type 0 where
-  pub bounds : Sizes (s .leaf) (s .arity) (s .levels)
-  pub level-in : level < s .levels

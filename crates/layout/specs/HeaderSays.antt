@@ -12,7 +12,7 @@ use Rattle.format.specs.LayoutLaws.{Readable, readable-facts}
 use Rattle.layout.specs.declared.header.Header.{Header}
 use Rattle.layout.specs.declared.header.HeaderRead.{HeaderRead}
 use Rattle.layout.specs.declared.header.HeaderRead.the-variants.{Good, Refused}
-use Rattle.layout.specs.CheckedSettings.{Sized}
+use Rattle.layout.specs.SettingsLevel.{Sized}
 use Rattle.layout.specs.Header.{fieldsOf, goodUnless, headerSays}
 
 -- t passes questions 5 to 7, and h is its header

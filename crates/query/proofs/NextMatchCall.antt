@@ -32,7 +32,7 @@ use Rattle.ask_worn_keys.proofs.show.Symbol as show-symbol
 use Rattle.ask_worn_keys.proofs.show.Met as show-met
 -- what the contract of `next_match` allows: `NextMatch κs tree ranges mark r`; the contract of `show` is `Moved`
 pub use Rattle.ask_worn_keys.proofs.Demands.{NextMatch}
-pub use Rattle.ask_worn_keys.specs.Searches.{Moved}
+pub use Rattle.ask_worn_keys.specs.MatchAnswer.{Moved}
 
 abbrev pub next-match-call : Call
 next-match-call =

@@ -43,7 +43,7 @@ use denote.Triple.Table.{entered, cited}
 use denote.Triple.Walked.{says, Stays, stay-ref, stay-none-slice, walkOf, goes-ref, goes-none-slice, Walks, ends-at, walked, walk-meets}
 use denote.Exit.{yes}
 use denote.Signature.{plain}
-use Rattle.ask_worn_keys.specs.Searches.{MatchAnswer, markAfter}
+use Rattle.ask_worn_keys.specs.MatchAnswer.{MatchAnswer, markAfter}
 use Rattle.ask_worn_keys.specs.declared.Mark.{Mark}
 use Rattle.ask_worn_keys.proofs.Mark as T
 use Rattle.ask_worn_keys.proofs.Mark.Laws as T′

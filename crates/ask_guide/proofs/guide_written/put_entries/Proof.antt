@@ -2,7 +2,7 @@ use native.Mathlib.Omega.{arith}
 use mathlib.Core.Path.{_≡_}
 use Prim.Native.Nat.{_+_, _-_, _*_, _≤_, _<_}
 use Rattle.format.specs.Layout as at
-use Rattle.ask_guide.specs.GuideAnswers.{Puts}
+use Rattle.ask_guide.specs.EntriesWritten.{Puts}
 use Rattle.ask_guide.proofs.GuideWrittenLaws as laws
 use Rattle.ask_guide.proofs.guide_written.put_entries.Statement.{statement}
 use Rattle.ask_guide.proofs.guide_written.put_entries.Tie as tie

@@ -12,7 +12,7 @@ use Rattle.layout.proofs.header.fields.Statement.{statement}
 use Rattle.layout.proofs.header.fields.Tie as tie
 use Rattle.layout.specs.declared.settings.Settings.{Settings}
 use Rattle.layout.specs.declared.header.Header.{Header}
-use Rattle.layout.specs.CheckedSettings.{Sized}
+use Rattle.layout.specs.SettingsLevel.{Sized}
 use Rattle.layout.specs.Header.{settingsOf}
 
 -- a header is equal to another whose words are
