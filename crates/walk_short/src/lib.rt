@@ -1,3 +1,2 @@
-// Spans read by edges, and question 9 of the edges.
+// The walk of a short span, which edges give where it crosses a border.
 pub mod gather;
-pub mod truth;

@@ -25,12 +25,12 @@ use Rattle.layout.specs.declared.header.Header.{Header}
 use Rattle.layout.specs.HeaderSays.{HeaderOf}
 use Rattle.layout.specs.Record.{EdgesIn}
 use Rattle.walk_steps.specs.QuestionStands.{OnLevel}
 use Rattle.walk_short.specs.declared.gather.Parts.{Parts}
 use Rattle.walk_short.specs.declared.gather.Gathered.{Gathered}
 use Rattle.walk_short.specs.declared.gather.Gathered.the-variants.{At, Broken}
 use Rattle.walk_short.specs.Gathered.{gathered, Walking, Within}
-use Rattle.walk_short.specs.Truths.{Linking, Edged, foundIs}
+use Rattle.check_edges.specs.Truths.{Linking, Edged, foundIs}
 use Rattle.walk_short.proofs.WholeLaws.{within-tree}
 
 -- One edge.
 module _ (t : List ℕ) (m a x : ℕ) (found : Gathered) (q : Parts) (is : found ≡ At q) where

@@ -5,11 +5,11 @@ use mathlib.Core.Path.{_≡_}
 use borrow.Author.Needs.{needs}
 use native.Mathlib.Omega.{arith}
 use Rattle.layout.proofs.Tests.{failed, held}
-use Rattle.walk_short.proofs.TruthLaws as laws
+use Rattle.check_edges.proofs.TruthLaws as laws
 use Rattle.layout.specs.HeaderSays as header
 use Rattle.theory_edges.specs.EdgesLocal.{edgesLocal}
-use Rattle.walk_short.proofs.truth.level_right.Statement.{statement}
-use Rattle.walk_short.proofs.truth.level_right.Tie as tie
+use Rattle.check_edges.proofs.truth.level_right.Statement.{statement}
+use Rattle.check_edges.proofs.truth.level_right.Tie as tie
 
 abbrev Inv-loop : tie.InvT-loop
 Inv-loop t h level b n i₀ i = (i ≤ n) × ((x : ℕ) → x < i → edgesLocal t level x ≡ true)

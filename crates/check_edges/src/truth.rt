@@ -1,13 +1,13 @@
 // Question 9 of the edges: is each edge of each block what the short span's walk gives from that block?
-use crate::gather;
-use crate::gather::Gathered;
-use crate::gather::Stretch;
 use layout::header::Header;
 use layout::place::Ahead;
 use layout::place::BlockNumber;
 use layout::place::BlockPlace;
 use layout::place::On;
 use layout::record;
+use walk_short::gather;
+use walk_short::gather::Gathered;
+use walk_short::gather::Stretch;
 ghost use mathlib.Core.Path.{_≡_};
 ghost use Prim.Native.Nat.{_+_, _≤_, _<_};
 ghost use lib.ListN.{length};
@@ -15,8 +15,8 @@ ghost use Rattle.format.specs.Settings.{maxLeaf};
 ghost use Rattle.format.specs.Layout as at;
 ghost use Rattle.format.specs.Fits.{textOf, edgesTrue};
 ghost use Rattle.theory_edges.specs.EdgesLocal.{edgesLocal, levelEdges};
 ghost use Rattle.walk_short.specs.Gathered.{Within};
-ghost use Rattle.walk_short.specs.Truths.{Linking, Edged, foundIs};
+ghost use Rattle.check_edges.specs.Truths.{Linking, Edged, foundIs};
 
 // An edge, the m bytes at a place: `own` bytes that were found, then zeros.
 fn edge_right(t: &[u8], m: u32, at: usize, own: u32, found: Gathered) -> bool

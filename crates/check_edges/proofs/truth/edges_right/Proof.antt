@@ -6,9 +6,9 @@ use mathlib.Core.Path.{_≡_}
 use native.Mathlib.Omega.{arith}
 use Rattle.layout.proofs.Tests.{failed, held}
 use Rattle.theory_edges.specs.EdgesLocal.{levelEdges}
-use Rattle.walk_short.proofs.TruthLaws as laws
-use Rattle.walk_short.proofs.truth.edges_right.Statement.{statement}
-use Rattle.walk_short.proofs.truth.edges_right.Tie as tie
+use Rattle.check_edges.proofs.TruthLaws as laws
+use Rattle.check_edges.proofs.truth.edges_right.Statement.{statement}
+use Rattle.check_edges.proofs.truth.edges_right.Tie as tie
 
 abbrev Inv-loop : tie.InvT-loop
 Inv-loop t h l₀ l = (l ≤ h .settings .levels) × ((x : ℕ) → x < l → levelEdges t x ≡ true)
