@@ -17,7 +17,7 @@ use Rattle.ask_worn_keys.specs.declared.Shown.the-variants.{Row, Nothing
 use Rattle.keys.specs.declared.form.Form.{Form}
 use Rattle.keys.specs.declared.form.Form.the-variants.{Code, Cuts, Ended, Wrong}
 use Rattle.keys.specs.declared.row_scan.Scanned.the-variants.{Found, On}
-use Rattle.keys.specs.Keys.{cutCount, rangesOk, matches}
+use Rattle.keys.specs.Keys.{cutCount, rangesOk, matches, maxCode}
 use Rattle.keys.specs.Matches.{firstFrom}
 use Rattle.keys.specs.Forms.{inCode, inCuts, cutFits, stepOf, isWhole, isDone, isNone, runFrom}
 use Rattle.keys.specs.RowScanned.{onward, turnOf, scanOf}
@@ -71,7 +71,7 @@ module _ (ranges : List ℕ) (ok : rangesOk ranges ≡ true) where
 
   started-code : (k x : ℕ) → Started (inCode k x)
   unfolding inCode
-  started-code k x = by (eqb 32 x) (eqb k 0) (leb 12 k)
+  started-code k x = by (eqb 32 x) (eqb k 0) (leb maxCode k)
     where
       by : (a b c : Bool) → Started (cond a (cond b Wrong (Cuts 0)) (cond c Wrong (Code (k + 1))))
       by true true c = tt

@@ -14,7 +14,7 @@ use Rattle.text.specs.ListLaws.{and-left, and-right, and-both, and-false, lt-or
 use Rattle.text.specs.Conjunctions.{parts}
 use Rattle.keys.specs.declared.form.Form.{Form}
 use Rattle.keys.specs.declared.form.Form.the-variants.{Code, Cuts, Ended, Wrong}
-use Rattle.keys.specs.Keys.{cutCount, low, high, rangesOk, codeOf, cutsOf, isKey, depth, matches}
+use Rattle.keys.specs.Keys.{cutCount, low, high, rangesOk, codeOf, cutsOf, isKey, depth, matches, maxCode, maxCuts, maxDepth}
 use Rattle.keys.specs.Forms.{inCode, cutFits, inCuts, stepOf, isWhole, isDone, runFrom}
 
 bool-same : (a b : Bool) → (a ≡ true → b ≡ true) → (b ≡ true → a ≡ true) → a ≡ b
@@ -69,7 +69,7 @@ module _ (ranges : List ℕ) where
   unfolding inCode
   in-space k x b e f = rw (e, f)
 
-  in-other : (k x : ℕ) (b : Bool) → eqb 32 x ≡ false → leb 12 k ≡ b → inCode k x ≡ cond b Wrong (Code (k + 1))
+  in-other : (k x : ℕ) (b : Bool) → eqb 32 x ≡ false → leb maxCode k ≡ b → inCode k x ≡ cond b Wrong (Code (k + 1))
   unfolding inCode
   in-other k x b e f = rw (e, f)
 
@@ -108,7 +108,7 @@ module _ (ranges : List ℕ) where
 
   -- a key, by k bytes of its code that were read, m more, and the bytes of the row from there on
   abbrev keyGood : ℕ → ℕ → ℕ → List ℕ → Bool
-  keyGood k m len cuts = leb 1 (k + m) && leb (k + m) 12 && ltb m len && cutsGood cuts
+  keyGood k m len cuts = leb 1 (k + m) && leb (k + m) maxCode && ltb m len && cutsGood cuts
 
   code-space : (x : ℕ) (xs : List ℕ) → eqb 32 x ≡ true → codeOf (x ∷ xs) ≡ []
   unfolding codeOf
@@ -127,9 +127,9 @@ module _ (ranges : List ℕ) where
   cuts-other x xs e = let z : suc (length (codeOf xs)) + 1 ≡ suc (length (codeOf xs) + 1) = omega arith in rw (code-other x xs e, z)
 
   -- after k bytes of the code
-  code-run : (k : ℕ) (xs : List ℕ) → k ≤ 12 → isWhole ranges (runFrom ranges (Code k) xs) ≡ keyGood k (length (codeOf xs)) (length xs) (cutsOf xs)
+  code-run : (k : ℕ) (xs : List ℕ) → k ≤ maxCode → isWhole ranges (runFrom ranges (Code k) xs) ≡ keyGood k (length (codeOf xs)) (length xs) (cutsOf xs)
   unfolding runFrom stepOf isWhole
-  code-run k [] h = by (leb 1 (k + length (codeOf [])) && leb (k + length (codeOf [])) 12) (le-ltb (length (codeOf [])) 0 (omega arith))
+  code-run k [] h = by (leb 1 (k + length (codeOf [])) && leb (k + length (codeOf [])) maxCode) (le-ltb (length (codeOf [])) 0 (omega arith))
     where
       by : (a : Bool) → ltb (length (codeOf [])) 0 ≡ false → false ≡ (a && ltb (length (codeOf [])) 0 && cutsGood (cutsOf []))
       by true e = rw e
@@ -140,48 +140,49 @@ module _ (ranges : List ℕ) where
       space true f e = rw (in-space k x true e f, wrong-run xs, lt-leb 1 (k + 0) (omega (arith, eqb-true k 0 f)))
       space false f e =
           let low : 1 ≤ k + 0 = omega (arith, eqb-false k 0 f) in
-          rw (in-space k x false e f, le-leb 1 (k + 0) low, le-leb (k + 0) 12 (omega arith), lt-ltb 0 (suc (length xs)) (omega arith))
+          rw (in-space k x false e f, le-leb 1 (k + 0) low, le-leb (k + 0) maxCode (omega arith), lt-ltb 0 (suc (length xs)) (omega arith))
           (let w : 0 + length xs ≡ length xs = omega arith in rw w at (cuts-run 0 xs))
 
       no-more : (a c d : Bool) → false ≡ (a && false && c && d)
       no-more true c d = refl
       no-more false c d = refl
 
-      other : (b : Bool) → leb 12 k ≡ b → eqb 32 x ≡ false
-          → (k + 1 ≤ 12 → isWhole ranges (runFrom ranges (Code (k + 1)) xs) ≡ keyGood (k + 1) (length (codeOf xs)) (length xs) (cutsOf xs))
+      other : (b : Bool) → leb maxCode k ≡ b → eqb 32 x ≡ false
+          → (k + 1 ≤ maxCode → isWhole ranges (runFrom ranges (Code (k + 1)) xs) ≡ keyGood (k + 1) (length (codeOf xs)) (length xs) (cutsOf xs))
           → isWhole ranges (runFrom ranges (inCode k x) xs) ≡ keyGood k (suc (length (codeOf xs))) (suc (length xs)) (cutsOf xs)
       other true f e rest =
-          rw (in-other k x true e f, wrong-run xs, lt-leb (k + suc (length (codeOf xs))) 12 (omega (arith, leb-true 12 k f)))
+          rw (in-other k x true e f, wrong-run xs, lt-leb (k + suc (length (codeOf xs))) maxCode (omega (arith, leb-true maxCode k f)))
           (no-more (leb 1 (k + suc (length (codeOf xs)))) (ltb (suc (length (codeOf xs))) (suc (length xs))) (cutsGood (cutsOf xs)))
       other false f e rest =
           let z : k + suc (length (codeOf xs)) ≡ k + 1 + length (codeOf xs) = omega arith in
-          rw (in-other k x false e f, z, leb·suc-suc (suc (length (codeOf xs))) (length xs)) (rest (omega (arith, leb-false 12 k f)))
+          rw (in-other k x false e f, z, leb·suc-suc (suc (length (codeOf xs))) (length xs)) (rest (omega (arith, leb-false maxCode k f)))
 
       go : (b : Bool) → eqb 32 x ≡ b
-          → (k + 1 ≤ 12 → isWhole ranges (runFrom ranges (Code (k + 1)) xs) ≡ keyGood (k + 1) (length (codeOf xs)) (length xs) (cutsOf xs))
+          → (k + 1 ≤ maxCode → isWhole ranges (runFrom ranges (Code (k + 1)) xs) ≡ keyGood (k + 1) (length (codeOf xs)) (length xs) (cutsOf xs))
           → isWhole ranges (runFrom ranges (inCode k x) xs) ≡ keyGood k (length (codeOf (x ∷ xs))) (suc (length xs)) (cutsOf (x ∷ xs))
       go true e rest = rw (code-space x xs e, cuts-space x xs e) (space (eqb k 0) refl e)
-      go false e rest = rw (code-other x xs e, cuts-other x xs e) (other (leb 12 k) refl e rest)
+      go false e rest = rw (code-other x xs e, cuts-other x xs e) (other (leb maxCode k) refl e rest)
 
 -- A question that passes 19.
 abbrev pub rangeRight : List ℕ → ℕ → Bool
-rangeRight ranges i = leb (low ranges i) 9 && leb (high ranges i) 9 && leb (low ranges i) (high ranges i)
+rangeRight ranges i = leb (low ranges i) maxDepth && leb (high ranges i) maxDepth && leb (low ranges i) (high ranges i)
 
 module _ (ranges : List ℕ) (ok : rangesOk ranges ≡ true) where
-  asked : (leb 1 (cutCount ranges) ≡ true) × (leb (cutCount ranges) 10 ≡ true) × (allBelow (cutCount ranges) (rangeRight ranges) ≡ true)
+  asked : (leb 1 (cutCount ranges) ≡ true) × (leb (cutCount ranges) maxCuts ≡ true) × (allBelow (cutCount ranges) (rangeRight ranges) ≡ true)
   unfolding rangesOk
   asked =
-      let p = parts (eqb (length ranges % 2) 0) (leb 1 (cutCount ranges) ∷ leb (cutCount ranges) 10 ∷ allBelow (cutCount ranges) (rangeRight ranges) ∷ []) ok in
+      let p = parts (eqb (length ranges % 2) 0)
+      (leb 1 (cutCount ranges) ∷ leb (cutCount ranges) maxCuts ∷ allBelow (cutCount ranges) (rangeRight ranges) ∷ []) ok in
       (p .1 .0, p .1 .1 .0, p .1 .1 .1 .0)
 
-  some-cuts : (1 ≤ cutCount ranges) × (cutCount ranges ≤ 10)
-  some-cuts = (leb-true 1 (cutCount ranges) (asked .0), leb-true (cutCount ranges) 10 (asked .1))
+  some-cuts : (1 ≤ cutCount ranges) × (cutCount ranges ≤ maxCuts)
+  some-cuts = (leb-true 1 (cutCount ranges) (asked .0), leb-true (cutCount ranges) maxCuts (asked .1))
 
-  high-low : (i : ℕ) → i < cutCount ranges → high ranges i ≤ 9
+  high-low : (i : ℕ) → i < cutCount ranges → high ranges i ≤ maxDepth
   high-low i l =
-      let p = parts (leb (low ranges i) 9)
-      (leb (high ranges i) 9 ∷ leb (low ranges i) (high ranges i) ∷ []) (allBelow-at (cutCount ranges) (rangeRight ranges) (asked .2) i l) in
-      leb-true (high ranges i) 9 (p .1 .0)
+      let p = parts (leb (low ranges i) maxDepth)
+      (leb (high ranges i) maxDepth ∷ leb (low ranges i) (high ranges i) ∷ []) (allBelow-at (cutCount ranges) (rangeRight ranges) (asked .2) i l) in
+      leb-true (high ranges i) maxDepth (p .1 .0)
 
   module _ (row : List ℕ) where
     abbrev m : ℕ
@@ -221,8 +222,8 @@ module _ (ranges : List ℕ) (ok : rangesOk ranges ≡ true) where
         and-both (le-leb (48 + low ranges i) x (omega arith)) (le-leb x (48 + high ranges i) (omega arith))
 
     abbrev headTests : List Bool
-    headTests = leb m 12 ∷ ltb m (length row) ∷ leb 1 (length cuts) ∷ leb
-        (length cuts) 10 ∷ allBelow (length cuts) digitAt ∷ eqb (length cuts) (cutCount ranges) ∷ allBelow (cutCount ranges) rangeAt ∷ []
+    headTests = leb m maxCode ∷ ltb m (length row) ∷ leb 1 (length cuts) ∷ leb
+        (length cuts) maxCuts ∷ allBelow (length cuts) digitAt ∷ eqb (length cuts) (cutCount ranges) ∷ allBelow (cutCount ranges) rangeAt ∷ []
 
     good-from : matches ranges row ≡ true → good ≡ true
     unfolding matches isKey
@@ -239,14 +240,14 @@ module _ (ranges : List ℕ) (ok : rangesOk ranges ≡ true) where
     unfolding matches isKey
     good-to h =
         let z : 0 + m ≡ m = omega arith in
-        let p = parts (leb 1 m) (leb m 12 ∷ ltb m (length row) ∷ cutsGood ranges cuts ∷ []) (rw z at h) in
+        let p = parts (leb 1 m) (leb m maxCode ∷ ltb m (length row) ∷ cutsGood ranges cuts ∷ []) (rw z at h) in
         let size = and-left (eqb (length cuts) (cutCount ranges)) (allFit ranges 0 cuts) (p .1 .1 .1 .0) in
         let e = eqb-true (length cuts) (cutCount ranges) size in
         let fit = fit-at ranges 0 cuts (and-right (eqb (length cuts) (cutCount ranges)) (allFit ranges 0 cuts) (p .1 .1 .1 .0)) in
         let each : (j : ℕ) → j < cutCount ranges → (digitAt j ≡ true) × (rangeAt j ≡ true) = λ j l. let y : 0 + j ≡ j = omega arith in
         fits-digit j l (rw y at (fit j (omega arith))) in
         and-both (and-both (and-both (and-both (and-both (and-both (and-both (p .0) (p .1 .0)) (p .1 .1 .0))
-        (le-leb 1 (length cuts) (omega (arith, some-cuts .0)))) (le-leb (length cuts) 10 (omega (arith, some-cuts .1))))
+        (le-leb 1 (length cuts) (omega (arith, some-cuts .0)))) (le-leb (length cuts) maxCuts (omega (arith, some-cuts .1))))
         (allBelow-make (length cuts) digitAt (λ j l. each j (omega arith) .0))) size) (allBelow-make (cutCount ranges) rangeAt (λ j l. each j l .1))
 
     -- a row that no byte 10 ends matches exactly where its bytes are read to a whole key
@@ -264,7 +265,7 @@ module _ (ranges : List ℕ) where
 
   few-code : (k x : ℕ) → Few (inCode k x)
   unfolding inCode
-  few-code k x = by (eqb 32 x) (eqb k 0) (leb 12 k)
+  few-code k x = by (eqb 32 x) (eqb k 0) (leb maxCode k)
     where
       by : (a b c : Bool) → Few (cond a (cond b Wrong (Cuts 0)) (cond c Wrong (Code (k + 1))))
       by true true c = tt
@@ -297,7 +298,7 @@ module _ (ranges : List ℕ) where
   -- a row that a byte 10 ends is read to the same, but for one byte 13 after all cuts
   same-code : (k x : ℕ) → isDone ranges (inCode k x) ≡ isWhole ranges (inCode k x)
   unfolding inCode isDone isWhole
-  same-code k x = by (eqb 32 x) (eqb k 0) (leb 12 k)
+  same-code k x = by (eqb 32 x) (eqb k 0) (leb maxCode k)
     where
       by : (a b c : Bool) → isDone ranges
           (cond a (cond b Wrong (Cuts 0)) (cond c Wrong (Code (k + 1)))) ≡ isWhole ranges (cond a (cond b Wrong (Cuts 0)) (cond c Wrong (Code (k + 1))))
@@ -308,7 +309,7 @@ module _ (ranges : List ℕ) where
 
   not-space : (k x : ℕ) → eqb 13 x ≡ true → isWhole ranges (inCode k x) ≡ false
   unfolding inCode isWhole
-  not-space k x e = rw (ne-eqb 32 x (λ z. omega (arith, eqb-true 13 x e))) (by (leb 12 k))
+  not-space k x e = rw (ne-eqb 32 x (λ z. omega (arith, eqb-true 13 x e))) (by (leb maxCode k))
     where
       by : (c : Bool) → isWhole ranges (cond c Wrong (Code (k + 1))) ≡ false
       by true = refl
