@@ -1,20 +1,20 @@
 -- A short span: which span is one, and its bytes in the buffer.
-use mathlib.Core.List.{List, []}
+use mathlib.Core.List.{List}
 use mathlib.Core.Option.{Option, none, some}
-use mathlib.Core.Bool.{Bool, true, false, cond, _&&_}
+use mathlib.Core.Bool.{Bool, true, false, _&&_}
 use mathlib.Core.Path.{_≡_, refl, sym, ap, _∙_}
-use Prim.Native.Nat.{ℕ, zero, suc, _+_, _-_, _≤_, _<_}
+use Prim.Native.Nat.{ℕ, zero, suc, _+_, _-_, _≤_}
 use native.Mathlib.Omega.{arith}
-use mathlib.Core.List.{_++_, append-assoc}
+use mathlib.Core.List.{_++_}
 use lib.Dec.{eqb, leb}
-use lib.ListN.{length, getD, set, take, drop, replicate, length-drop}
+use lib.ListN.{length, take, drop, replicate, length-drop}
 use lib.Seq.{drop-drop, paste, paste-zero, paste-suc, length-paste, drop-paste, take-at, length-take-le, getD-drop}
 use Rattle.text.specs.Text.{stretch}
 use Rattle.format.specs.Layout as at
 use Rattle.format.specs.Said.{Said, refused}
 use Rattle.format.specs.Short.{Short, shortOf, shortBytes}
 use Rattle.format.specs.ReadSaysLaws.{short-span}
-use Rattle.format.specs.ReadSays.{isShort, holds, blocksOf, spanReached, spanBytes, spanBlocks}
+use Rattle.format.specs.ReadSays.{isShort, blocksOf, spanReached, spanBytes, spanBlocks}
 use Rattle.stretches.specs.Stretches.{bytesWritten}
 use Rattle.layout.specs.declared.header.Header.{Header}
 use Rattle.layout.specs.HeaderSays.{HeaderOf}

@@ -2,7 +2,7 @@
 -- docs/FORMAT.md: "What is told without the text".
 use mathlib.Core.List.{List}
 use mathlib.Core.Path.{_≡_, refl, sym, ap, _∙_}
-use Prim.Native.Nat.{ℕ, zero, suc, _+_, _≤_, _<_}
+use Prim.Native.Nat.{ℕ, zero, suc, _+_, _<_}
 use native.Mathlib.Omega.{arith}
 use contract.Lifetimes.{Lfts}
 use denote.Ref.{RefT, now}
@@ -17,13 +17,12 @@ use Rattle.format.specs.Fits.{textOf}
 use Rattle.format.specs.Verdict.{readable, verdict}
 use Rattle.format.specs.VerdictLaws.{accepted-readable, accepted-links}
 use Rattle.format.specs.LayoutLaws.{readable-facts}
-use Rattle.format.specs.FindSays.{total}
 use Rattle.theory_paths.specs.Links.{linked-facts}
 use Rattle.theory_paths.specs.OneText.{text-length}
 use Rattle.theory_counts.specs.CountsLocal.{byteOf}
 use Rattle.theory_counts.specs.Demands as tallies
 use Rattle.theory_counts.specs.Finds as finds
-use Rattle.ask_facts.specs.Facts.{countedByte, totalOf, figuresOf, infoLeaves, versionNumber}
+use Rattle.ask_facts.specs.Facts.{countedByte, totalOf, figuresOf, infoLeaves}
 use Rattle.ask_facts.proofs.info.Reads as info-reads
 use Rattle.ask_facts.proofs.version.Reads as version-reads
 

@@ -1,11 +1,10 @@
 -- The figures, one by one.
 use mathlib.Core.List.{List, [], _∷_}
-use mathlib.Core.Path.{_≡_, refl, sym, ap, _∙_}
-use Prim.Native.Nat.{ℕ, suc, _+_, _≤_, _<_}
+use mathlib.Core.Path.{_≡_, sym, _∙_}
+use Prim.Native.Nat.{ℕ, _≤_, _<_}
 use native.Mathlib.Omega.{arith}
 use borrow.Author.Tests.{lt-ltb, le-ltb, ne-eqb}
 use lib.ListN.{getD, replicate}
-use lib.Dec.{eqb}
 use Rattle.text.specs.Lists.{tabulate}
 use Rattle.format.specs.Settings.{maxLevels, maxCounted}
 use Rattle.format.specs.Layout as at

@@ -1,6 +1,6 @@
 -- What is told of a tree without reading its text, for any bytes lent as one; and the version.
 -- docs/FORMAT.md: "What is told without the text".
-use mathlib.Core.List.{List, [], _∷_, _++_}
+use mathlib.Core.List.{List, _∷_, _++_}
 use mathlib.Core.Bool.{cond}
 use Prim.Native.Nat.{ℕ, _+_, _*_}
 use lib.ListN.{getD, replicate}

@@ -1,15 +1,14 @@
 -- What docs/FORMAT.md, "Guides", says of a guide, as theorems over what the calls promise, for any lent bytes.
 use mathlib.Core.List.{List, _++_}
-use mathlib.Core.Bool.{Bool, true, false}
+use mathlib.Core.Bool.{true, false}
 use mathlib.Core.Path.{_≡_, refl, sym, ap, _∙_}
 use mathlib.Core.Logic.{_⊎_, inl, inr, _↔_}
-use Prim.Native.Nat.{ℕ, zero, suc, _+_, _*_, _/_, _≤_, _<_}
+use Prim.Native.Nat.{ℕ, suc, _+_, _*_, _/_, _≤_, _<_}
 use native.Mathlib.Omega.{arith}
 use contract.Lifetimes.{Lfts}
 use denote.Ref.{RefT, now}
-use lib.ListN.{length, getD, take, drop}
+use lib.ListN.{length, take, drop}
 use lib.Seq.{take-at}
-use borrow.Author.Tests.{eq-eqb, ne-eqb}
 use Rattle.text.specs.ListLaws.{lt-or-ge, eq-sameList, ne-sameList}
 use Rattle.text.specs.Text.{countIn, placeOf}
 use Rattle.format.specs.Words.{wordAt}
@@ -17,19 +16,16 @@ use Rattle.format.specs.Settings.{pieces}
 use Rattle.format.specs.Layout as at
 use Rattle.format.specs.Fits.{textOf}
 use Rattle.format.specs.Verdict.{readable, verdict}
-use Rattle.format.specs.Said.{Said, refused, unless}
-use Rattle.format.specs.SaidLaws.{unless-passes}
+use Rattle.format.specs.Said.{Said, refused}
 use Rattle.format.specs.LayoutLaws.{readable-facts}
 use Rattle.format.specs.VerdictLaws.{accepted-readable, accepted-links}
-use Rattle.format.specs.FindSays.{total}
 use Rattle.theory_paths.specs.Links.{linked-facts}
 use Rattle.theory_counts.specs.Finds as finds
 use Rattle.theory_counts.specs.CountsLocal.{byteOf}
 use Rattle.theory_counts.specs.Demands as tallies
 use Rattle.ask_guide.specs.declared.Size.{Size}
 use Rattle.ask_guide.specs.declared.Size.the-variants.{Words, Refused}
-use Rattle.ask_guide.specs.Guides.{listedEvery, blockOf, entriesOf, entriesBefore, guideWords, guideOf, guideBytes, guideNumber, sizeSays}
-use Rattle.ask_guide.specs.Guides.{makeNumber, makeSays, makeLeaves}
+use Rattle.ask_guide.specs.Guides.{listedEvery, blockOf, entriesOf, entriesBefore, guideWords, guideBytes}
 use Rattle.ask_guide.specs.GuideAnswers.{saidSize, Numbered}
 use Rattle.ask_guide.proofs.GuideList.{guide-size, guide-entry, entry-below, entry-word, guide-verdict, guide-same}
 use Rattle.ask_guide.proofs.GuideWrittenLaws as laws

@@ -2,22 +2,22 @@
 use mathlib.Core.List.{List}
 use mathlib.Core.Bool.{true, false, cond}
 use mathlib.Core.Path.{_≡_, refl, sym, ap, _∙_}
-use Prim.Native.Nat.{ℕ, _+_, _-_, _*_, _/_, _%_, _≤_, _<_}
+use Prim.Native.Nat.{ℕ, _+_, _*_, _/_, _%_, _≤_, _<_}
 use native.Mathlib.Omega.{arith}
 use lib.ListN.{length, getD}
 use lib.Dec.{eqb}
 use borrow.Author.Tests.{eq-eqb, eqb-true}
 use Rattle.text.specs.Lists.{tabulate, concat, sumBelow, sameList}
 use Rattle.text.specs.ListLaws.{length-tabulate, getD-tabulate, sumBelow-ext, sumBelow-suc, sumBelow-part, sameList-true}
-use Rattle.format.specs.Words.{wordAt, wordsBytes}
+use Rattle.format.specs.Words.{wordAt}
 use Rattle.format.specs.WordLaws.{length-words}
 use Rattle.format.specs.Settings.{pieces, maxText}
 use Rattle.format.specs.PieceLaws.{pieces-start, lt-pieces}
 use Rattle.format.specs.Layout as at
 use Rattle.format.specs.Verdict.{ask, verdict}
 use Rattle.format.specs.FindSays.{total}
-use Rattle.theory_built.specs.Gather.{Placed, placed, length-concat, getD-concat}
-use Rattle.ask_guide.specs.Guides.{lastEntry, lastListed, blockOf, entriesOf, entriesBefore, guideWords, guideOf, guideBytes, guideNumber, listedEvery}
+use Rattle.theory_built.specs.Gather.{placed, length-concat, getD-concat}
+use Rattle.ask_guide.specs.Guides.{lastEntry, blockOf, entriesOf, entriesBefore, guideWords, guideOf, guideBytes, guideNumber, listedEvery}
 use Rattle.ask_guide.proofs.WordLists.{word-of}
 use Rattle.ask_guide.proofs.Holders.{block-few}
 

@@ -1,13 +1,13 @@
 -- The entries of a guide, one after the other: written, and compared.
 use mathlib.Core.List.{List, _++_}
 use mathlib.Core.Bool.{Bool, true, false}
-use mathlib.Core.Path.{_≡_, refl, sym, ap, _∙_, subst}
-use mathlib.Core.Logic.{_≢_, _⊎_, inl, inr}
+use mathlib.Core.Path.{_≡_, refl, sym, ap, _∙_}
+use mathlib.Core.Logic.{_⊎_, inl, inr}
 use Prim.Native.Nat.{ℕ, zero, suc, _+_, _*_, _≤_, _<_}
 use native.Mathlib.Omega.{arith}
-use lib.ListN.{length, getD, take, drop}
+use lib.ListN.{length, getD, drop}
 use lib.Seq.{take-all}
-use lib.Dec.{eqb, leb}
+use lib.Dec.{leb}
 use borrow.Author.Tests.{eq-eqb, ne-eqb, le-leb, lt-leb}
 use Rattle.text.specs.Lists.{sameList, concat}
 use Rattle.text.specs.ListLaws.{bool-clash, lt-or-ge, eq-sameList, ne-sameList}
@@ -17,13 +17,13 @@ use Rattle.format.specs.Settings.{maxText}
 use Rattle.format.specs.Layout as at
 use Rattle.format.specs.Verdict.{ask, readable, verdict}
 use Rattle.format.specs.VerdictLaws.{accepted-readable}
-use Rattle.format.specs.Said.{Said, refused}
+use Rattle.format.specs.Said.{refused}
 use Rattle.format.specs.SaidLaws.{unless-refused}
 use Rattle.format.specs.FindSays.{total}
 use Rattle.layout.specs.declared.header.Header.{Header}
 use Rattle.layout.specs.HeaderSays.{HeaderOf}
 use Rattle.ask_select.specs.Seeks.{Siblings, LastBefore}
-use Rattle.ask_guide.specs.Guides.{blockOf, entriesOf, entriesBefore, guideWords, guideOf, guideBytes, guideNumber, sizeSays, makeNumber}
+use Rattle.ask_guide.specs.Guides.{entriesOf, entriesBefore, guideWords, guideOf, guideBytes, guideNumber, sizeSays, makeNumber}
 use Rattle.ask_guide.specs.Guides.{makeSays, makeLeaves, listedEvery}
 use Rattle.ask_guide.specs.EntriesWritten.{written, Puts, Compared}
 use Rattle.ask_guide.proofs.WordLists.{words-are, put-word}

@@ -5,7 +5,6 @@ use mathlib.Core.Logic.{_⊎_, inl, inr}
 use Prim.Native.Nat.{ℕ, _+_, _-_, _*_, _/_, _≤_, _<_}
 use native.Mathlib.Omega.{arith}
 use native.Mathlib.Nat.{div-add-mod', div-le-self, add-mul, one-mul, mul-le-mul-right}
-use lib.ListN.{getD}
 use lib.Arith.{digits-div}
 use Rattle.text.specs.ListLaws.{lt-or-ge}
 use Rattle.text.specs.Text.{placeOf}

@@ -11,7 +11,7 @@ use Rattle.format.specs.Layout as at
 use Rattle.format.specs.Verdict.{verdict}
 use Rattle.format.specs.Said.{Said, refused}
 use Rattle.format.specs.CountSays.{numberOfByte}
-use Rattle.format.specs.FindSays.{selectNumber, found, FindSays}
+use Rattle.format.specs.FindSays.{selectNumber}
 use Rattle.ask_select.specs.declared.Found.{Found}
 use Rattle.ask_select.specs.declared.Found.the-variants as find
 use Rattle.ask_select.specs.Found.{saidFind, FindAnswer}

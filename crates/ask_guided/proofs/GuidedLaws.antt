@@ -1,9 +1,8 @@
 -- Find with a guide.
 use mathlib.Core.List.{List}
-use mathlib.Core.Bool.{Bool, true, false}
-use mathlib.Core.Path.{_≡_, refl, sym, ap, _∙_, subst}
+use mathlib.Core.Path.{_≡_, refl, ap, _∙_, subst}
 use mathlib.Core.Logic.{_⊎_, inl, inr}
-use Prim.Native.Nat.{ℕ, suc, _+_, _-_, _*_, _/_, _≤_, _<_}
+use Prim.Native.Nat.{ℕ, _+_, _-_, _*_, _/_, _≤_, _<_}
 use native.Mathlib.Omega.{arith}
 use lib.ListN.{length, getD}
 use Rattle.format.specs.Words.{wordAt}
@@ -17,12 +16,12 @@ use Rattle.ask_select.specs.declared.Found.the-variants as find
 use Rattle.ask_select.specs.Found as select
 use Rattle.ask_select.specs.SoughtPlaces as sought
 use Rattle.ask_select.specs.Seeks.{LastBefore}
-use Rattle.ask_guide.specs.Guides.{lastEntry, lastListed, blockOf, entriesOf, entriesBefore, guideOf, guideBytes, guideNumber}
+use Rattle.ask_guide.specs.Guides.{lastEntry, lastListed, blockOf, entriesOf, entriesBefore, guideOf, guideNumber}
 use Rattle.ask_guide.proofs.Holders.{block-in, block-low, block-is}
 use Rattle.ask_guide.proofs.GuideList.{guide-length, guide-size, guide-entry, entry-below, entry-word, listed, guide-verdict, guide-same}
 use Rattle.ask_guided.specs.declared.Guided.{Guided}
 use Rattle.ask_guided.specs.declared.Guided.the-variants as guided
-use Rattle.ask_guided.specs.Guided.{stepsTo, GuidedSays, saidGuided, stepsOf, Numbered, GuidedAnswer, stepped, foundOf, SoughtBy}
+use Rattle.ask_guided.specs.Guided.{stepsTo, saidGuided, stepsOf, Numbered, GuidedAnswer, stepped, foundOf, SoughtBy}
 
 -- steps put beside what was found, and taken away
 pub with-at : (f : Found) (steps : ℕ) → (p : _) (e : ℕ) → f ≡ find.At p e → stepped (find.At p e) steps ≡ stepped f steps

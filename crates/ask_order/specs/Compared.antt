@@ -8,7 +8,6 @@ use lib.Dec.{ltb}
 use Rattle.format.specs.Layout as at
 use Rattle.format.specs.Verdict.{readable}
 use Rattle.format.specs.ReadSays.{byteSays}
-use Rattle.ask_access.specs.declared.read_by_header.Part.{Part}
 use Rattle.ask_access.specs.declared.read_by_header.Ran.{Ran}
 use Rattle.ask_access.specs.declared.read_by_header.Ran.the-variants as ran
 use Rattle.ask_access.specs.ReadByRuns.{ReadsOn}

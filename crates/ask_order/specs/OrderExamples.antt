@@ -14,7 +14,7 @@ use Rattle.format.specs.Layout as at
 use Rattle.format.specs.Path.{pathOf, pathFrom, targetPlace, targetBlock, pointingBlock, keptBlock, lands, landBlock, landPlace, landVisits}
 use Rattle.format.specs.Verdict.{readable}
 use Rattle.format.specs.ReadSays.{byteSays}
-use Rattle.ask_order.specs.Order.{Ordered, before, same, after, stands, refusedOrder, standing, shared, byLength, comparedFrom, orderSays}
+use Rattle.ask_order.specs.Order.{before, same, after, stands, refusedOrder, standing, shared, byLength, comparedFrom, orderSays}
 
 nine : List ℕ
 nine = 81 ∷ 65 ∷ 66 ∷ 67 ∷ 68 ∷ 65 ∷ 66 ∷ 67 ∷ 68 ∷ []

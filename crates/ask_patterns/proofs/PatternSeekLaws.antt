@@ -1,17 +1,16 @@
 -- A pass over the text: which places are found where, and what is left at the end.
 use mathlib.Core.List.{List, [], _∷_, _++_, append-nil}
 use mathlib.Core.Bool.{Bool, true, false, cond}
-use mathlib.Core.Path.{_≡_, refl, sym, ap, _∙_}
+use mathlib.Core.Path.{_≡_, sym, ap, _∙_}
 use mathlib.Core.Logic.{_⊎_, inl, inr}
-use Prim.Native.Nat.{ℕ, zero, suc, _+_, _-_, _≤_, _<_, min}
+use Prim.Native.Nat.{ℕ, zero, suc, _+_, _-_, _≤_, _<_}
 use native.Mathlib.Omega.{arith}
 use native.Mathlib.Nat.{add-assoc, sub-zero}
-use borrow.Author.Tests.{eqb-true, eq-eqb, ne-eqb, lt-ltb, le-ltb}
+use borrow.Author.Tests.{eqb-true, eq-eqb, lt-ltb, le-ltb}
 use lib.ListN.{length, getD, drop, set, length-append, length-drop, length-take}
 use lib.Seq.{ext-getD}
 use lib.Dec.{eqb, ltb}
-use Rattle.text.specs.Lists.{sameList}
-use Rattle.text.specs.ListLaws.{lt-or-ge, below-suc, bool-cases, bool-clash, ne-sameList, eq-sameList}
+use Rattle.text.specs.ListLaws.{lt-or-ge, bool-cases, bool-clash, ne-sameList, eq-sameList}
 use Rattle.text.specs.Text.{stretch}
 use Rattle.text.specs.TextLaws.{length-stretch, getD-stretch}
 use Rattle.format.specs.Layout as at
@@ -23,7 +22,6 @@ use Rattle.layout.specs.HeaderSays.{HeaderOf}
 use Rattle.ask_access.specs.ReadByRuns.{ReadsOn}
 use Rattle.search_kmp.specs.Borders.{Ends, Longest}
 use Rattle.ask_patterns.specs.declared.pattern_seek.Progress.{Progress}
-use Rattle.ask_patterns.specs.declared.pattern_seek.Sought.{Sought}
 use Rattle.ask_patterns.specs.declared.pattern_seek.Sought.the-variants.{All, Broken}
 use Rattle.ask_patterns.specs.Places.{standsAt, below, placesIn, placesOf}
 use Rattle.ask_patterns.specs.TableFilled.{Even, Stepped, filled, soFar, Seeking, SeekSays}

@@ -7,7 +7,6 @@ use Prim.Native.Nat.{ℕ, zero, suc, _+_, _-_, _≤_, _<_}
 use native.Mathlib.Omega.{arith}
 use lib.ListN.{length, getD, drop, length-append, length-take, length-drop, List·getD-append}
 use lib.Seq.{getD-append-seam}
-use Rattle.text.specs.Lists.{sameList}
 use Rattle.text.specs.ListLaws.{below-suc, bool-clash, sameList-true, eq-sameList}
 use Rattle.text.specs.Text.{stretch}
 use Rattle.ask_patterns.specs.Places.{standsAt, below, placesIn}

@@ -23,7 +23,7 @@ pub struct Progress {
 }
 
 // A part of the tree's bytes to be read, and how far the text was read before it.
-struct Run {
+struct Unread {
     part: Part,
     before: Progress,
 }
@@ -77,7 +77,7 @@ fn step(
 // The bytes of a run.
 fn feed(
     t: &[u8],
-    run: Run,
+    run: Unread,
     pattern: &[u8],
     borders: &[u8],
     room: u32,
@@ -124,7 +124,7 @@ pub fn seek(
         let Ran::At(part) = ran else {
             return Sought::Broken;
         };
-        m = feed(t, Run { part, before: m }, pattern, borders, room, table);
+        m = feed(t, Unread { part, before: m }, pattern, borders, room, table);
     }
     Sought::All(m.found)
 }

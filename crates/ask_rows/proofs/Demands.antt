@@ -29,7 +29,7 @@ use Rattle.ask_guide.proofs.GuideList.{guide-verdict}
 use Rattle.ask_guide.proofs.Demands.{CheckGuide}
 use Rattle.ask_rows.specs.declared.RowCopied.{RowCopied}
 use Rattle.ask_rows.specs.declared.RowCopied.the-variants as row
-use Rattle.ask_rows.specs.RowAnswers.{saidRow, Numbered, RowAnswer, RowAnswerBy}
+use Rattle.ask_rows.specs.RowAnswers.{saidRow, Numbered, RowAnswer}
 use Rattle.ask_rows.specs.declared.RowLength.{RowLength}
 use Rattle.ask_rows.specs.declared.RowLength.the-variants as size
 use Rattle.ask_rows.specs.declared.RowCount.{RowCount}

@@ -20,7 +20,7 @@ use Rattle.format.specs.Fits.{textOf}
 use Rattle.format.specs.Verdict.{readable, verdict}
 use Rattle.format.specs.Said.{Said, refused, unless}
 use Rattle.format.specs.SaidLaws.{unless-number}
-use Rattle.format.specs.ReadSays.{pathsHold, asksSpan, leavesSpan, copyNumber, copySays, copyLeaves}
+use Rattle.format.specs.ReadSays.{pathsHold, leavesSpan, copyNumber, copySays, copyLeaves}
 use Rattle.format.specs.FindSays.{selectNumber}
 use Rattle.format.specs.RowSays.{asksLast, rowNumber, rowMost, RowBy}
 use Rattle.theory_paths.specs.Demands as paths

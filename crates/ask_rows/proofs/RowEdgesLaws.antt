@@ -2,13 +2,12 @@
 use mathlib.Core.List.{List}
 use mathlib.Core.Bool.{Bool, true, false}
 use mathlib.Core.Path.{_≡_, refl, sym, ap, _∙_}
-use mathlib.Core.Logic.{_⊎_, inl, inr}
 use Prim.Native.Nat.{ℕ, _+_, _-_, _≤_, _<_}
 use native.Mathlib.Omega.{arith}
 use borrow.Author.Tests.{eqb-true, eq-eqb, ne-eqb, lt-ltb, le-ltb}
 use lib.ListN.{length, getD}
 use lib.Dec.{eqb}
-use Rattle.text.specs.ListLaws.{bool-clash, lt-or-ge}
+use Rattle.text.specs.ListLaws.{bool-clash}
 use Rattle.text.specs.Text.{stretch, countIn, placeOf}
 use Rattle.text.specs.Rows.{rowOf}
 use Rattle.text.specs.RowLaws.{trimmed, trimmed-none, trimmed-mark, trimmed-plain, next-past, rowFrom, between, row-between, row-last}

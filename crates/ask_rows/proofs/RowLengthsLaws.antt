@@ -2,7 +2,7 @@
 use mathlib.Core.List.{List}
 use mathlib.Core.Bool.{Bool, true, false, cond}
 use mathlib.Core.Path.{_≡_, refl, sym, ap, _∙_}
-use mathlib.Core.Logic.{_⊎_, inl, inr}
+use mathlib.Core.Logic.{inl, inr}
 use Prim.Native.Nat.{ℕ, suc, _+_, _-_, _≤_, _<_}
 use native.Mathlib.Omega.{arith}
 use borrow.Author.Tests.{eq-eqb, ne-eqb, lt-ltb, le-ltb}
@@ -15,7 +15,6 @@ use Rattle.format.specs.WordLaws.{wordAt-lt}
 use Rattle.format.specs.RecordFields.{beforeField, insideField}
 use Rattle.format.specs.Layout as at
 use Rattle.format.specs.Fits.{textOf}
-use Rattle.format.specs.Verdict.{readable, verdict}
 use Rattle.format.specs.Said.{Said, refused}
 use Rattle.format.specs.SaidLaws.{unless-refused}
 use Rattle.format.specs.ReadSays.{byteSays}

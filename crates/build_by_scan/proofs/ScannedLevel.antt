@@ -1,29 +1,28 @@
 -- A level of the tree, as the items of a table: what a scan asks, and what it tells.
 use mathlib.Core.List.{List}
 use mathlib.Core.Bool.{true}
-use mathlib.Core.Path.{_≡_, refl, sym, ap, ap₂, _∙_, subst}
-use mathlib.Core.Logic.{_⊎_, inl, inr}
-use Prim.Native.Nat.{ℕ, zero, suc, _+_, _-_, _*_, _/_, _%_, _≤_, _<_, min}
+use mathlib.Core.Path.{_≡_, sym, ap, ap₂, _∙_, subst}
+use mathlib.Core.Logic.{inl, inr}
+use Prim.Native.Nat.{ℕ, suc, _+_, _-_, _*_, _/_, _≤_, _<_, min}
 use native.Mathlib.Omega.{arith}
 use lib.ListN.{length}
 use lib.Dec.{eqb, ltb}
 use borrow.Author.Tests.{ltb-true, eqb-true}
 use Rattle.text.specs.ListLaws.{and-left, and-right}
 use Rattle.text.specs.Text.{leftmost}
-use Rattle.format.specs.Words.{wordAt}
 use Rattle.format.specs.Settings.{Settings, blockLength, pieces, maxText, maxLeaf, maxCounted}
-use Rattle.format.specs.Blocks.{recordBytes, startsAt, startOf, pairAt}
-use Rattle.theory_built.specs.BlockSizes.{Taken, Bounds, bounds, size-pos}
-use Rattle.theory_built.specs.Structure.{size, count, start, bytesIn, bytesIn-is}
-use Rattle.theory_built.specs.BuiltTargets.{placeOf, placeOf-is}
+use Rattle.format.specs.Blocks.{recordBytes, startsAt, pairAt}
+use Rattle.theory_built.specs.BlockSizes.{Bounds, bounds, size-pos}
+use Rattle.theory_built.specs.Structure.{count, start, bytesIn, bytesIn-is}
+use Rattle.theory_built.specs.BuiltTargets.{placeOf-is}
 use Rattle.build_records.specs.declared.level_written.Level.{Level}
-use Rattle.build_records.specs.State.{settingsOf, LevelIs, Filled, On}
+use Rattle.build_records.specs.State.{settingsOf, LevelIs, On}
 use Rattle.build_records.proofs.StateLaws.{Few, few}
 use Rattle.build_records.proofs.RecordsRead.{start-fits, start-read, start-in}
 use Rattle.build_levels.specs.Trees.{Ready}
 use Rattle.scan_entries.specs.declared.Items.{Items}
-use Rattle.scan_entries.specs.Entries.{Placed, Laid, startAt, lengthAt, placeIn}
-use Rattle.scan_passes.specs.Passes.{Present, Ordered, Answered, placeOut}
+use Rattle.scan_entries.specs.Entries.{Placed, Laid, startAt, lengthAt}
+use Rattle.scan_passes.specs.Passes.{Present, Ordered, Answered}
 use Rattle.scan_passes.proofs.ItemLengths.{block-length, pair-length}
 use Rattle.build_by_scan.specs.ItemTable.{itemsSay, pairBytes, Told}
 use Rattle.build_by_scan.proofs.TableRoom.{pieces-few, order, few-items}

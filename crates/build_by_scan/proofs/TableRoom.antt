@@ -1,19 +1,16 @@
 -- The table has room for the items of every level above the last.
 use mathlib.Core.List.{List}
-use mathlib.Core.Path.{_≡_, refl, sym, ap, _∙_, subst}
-use mathlib.Core.Logic.{_⊎_, inl, inr}
-use Prim.Native.Nat.{ℕ, zero, suc, _+_, _-_, _*_, _/_, _%_, _≤_, _<_, min}
+use mathlib.Core.Path.{_≡_, sym, ap, _∙_}
+use Prim.Native.Nat.{ℕ, zero, suc, _+_, _-_, _*_, _/_, _≤_, _<_}
 use native.Mathlib.Omega.{arith}
-use native.Mathlib.Nat.{div-zero, div-le-self, mul-le-mul, mul-le-mul-left, mul-assoc, mul-comm, suc-mul, zero-mul}
+use native.Mathlib.Nat.{div-zero, div-le-self, mul-le-mul, mul-le-mul-left, mul-assoc, suc-mul, zero-mul}
 use lib.ListN.{length}
-use Rattle.format.specs.Settings.{Settings, blockLength, pieces}
+use Rattle.format.specs.Settings.{Settings, pieces}
 use Rattle.format.specs.PieceLaws.{lt-pieces}
 use Rattle.format.specs.SizeLaws.{length-falls}
-use Rattle.theory_built.specs.BlockSizes.{Taken, Bounds, bounds, size-pos, size-falls, size-last}
-use Rattle.theory_built.specs.OccurrencesLand.{First}
-use Rattle.theory_built.specs.KeptRule.{byteAt}
+use Rattle.theory_built.specs.BlockSizes.{Taken, Bounds, bounds, size-falls, size-last}
 use Rattle.theory_built.specs.LevelBlocks.{Level as InOrder}
-use Rattle.theory_built.specs.Structure.{size, count, start, level-at, landing}
+use Rattle.theory_built.specs.Structure.{size, count, start, level-at}
 use Rattle.build_by_scan.specs.ScannedSays.{tableWords}
 
 -- no leaf length, no words

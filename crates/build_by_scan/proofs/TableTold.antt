@@ -1,12 +1,11 @@
 -- What the table says of a block and the next.
 use mathlib.Core.List.{List}
-use mathlib.Core.Bool.{true, false}
-use mathlib.Core.Path.{_≡_, refl, sym, ap, ap₂, _∙_, subst}
-use Prim.Native.Nat.{ℕ, suc, _+_, _-_, _*_, _/_, _≤_, _<_, min}
+use mathlib.Core.Bool.{true}
+use mathlib.Core.Path.{_≡_, sym, ap, ap₂, _∙_}
+use Prim.Native.Nat.{ℕ, suc, _+_, _-_, _*_, _<_, min}
 use native.Mathlib.Omega.{arith}
 use native.Mathlib.Numerals.{add-one}
 use lib.ListN.{length}
-use lib.Dec.{eqb, ltb}
 use borrow.Author.Tests.{lt-ltb, eq-eqb, ne-eqb}
 use Rattle.text.specs.ListLaws.{and-both}
 use Rattle.text.specs.Text.{leftmost}
@@ -18,8 +17,7 @@ use Rattle.build_records.specs.declared.level_written.Level.{Level}
 use Rattle.build_records.specs.RecordPlaces.{recordPlace}
 use Rattle.build_records.specs.State.{settingsOf, On}
 use Rattle.build_records.proofs.RecordsRead.{start-read}
-use Rattle.build_marking.specs.declared.pair.Pair.{Pair}
-use Rattle.build_marking.specs.declared.pair.Pair.the-variants.{Apart, First, Again}
+use Rattle.build_marking.specs.declared.pair.Pair.the-variants.{First, Again}
 use Rattle.build_marking.specs.MarkingRule.{pairSays, pairOf}
 use Rattle.build_marking.proofs.PairLaws.{pair-is}
 use Rattle.scan_entries.specs.Entries.{placeIn}

@@ -3,20 +3,20 @@ use mathlib.Core.List.{List}
 use mathlib.Core.Bool.{Bool, true, false, cond, _&&_, _||_}
 use mathlib.Core.Path.{_≡_, refl, sym, ap, ap₂, _∙_, subst}
 use mathlib.Core.Logic.{_⊎_, inl, inr}
-use Prim.Native.Nat.{ℕ, zero, suc, _+_, _-_, _*_, _/_, _%_, _≤_, _<_, min}
+use Prim.Native.Nat.{ℕ, zero, suc, _+_, _-_, _*_, _/_, _%_, _≤_, _<_}
 use native.Mathlib.Omega.{arith}
 use native.Mathlib.Decide.{ℕ-discrete}
 use lib.ListN.{length}
-use lib.Dec.{eqb, ltb}
+use lib.Dec.{eqb}
 use borrow.Author.Tests.{lt-ltb, eq-eqb, ne-eqb, eqb-true}
 use Rattle.text.specs.Lists.{sumBelow}
 use Rattle.text.specs.ListLaws.{bool-cases, bool-clash, and-left, and-right, and-both, or-cases, or-left, or-right, lt-or-ge, below-suc, sumBelow-ext}
 use Rattle.text.specs.ListLaws.{sumBelow-none}
 use Rattle.format.specs.Settings.{Settings, blockLength, maxText}
-use Rattle.format.specs.Blocks.{recordBytes, startsAt, startOf, lengthOf, pairAt}
+use Rattle.format.specs.Blocks.{recordBytes, startsAt, pairAt}
 use Rattle.theory_built.specs.Structure.{count, start, bytesIn}
 use Rattle.build_records.specs.declared.level_written.Level.{Level}
-use Rattle.build_records.specs.State.{settingsOf, LevelIs}
+use Rattle.build_records.specs.State.{settingsOf}
 use Rattle.build_levels.specs.Trees.{Ready}
 use Rattle.scan_windows.specs.Windows.{placesOf}
 use Rattle.scan_windows.proofs.WindowLaws.{places-none, places-some}
@@ -24,7 +24,7 @@ use Rattle.scan_entries.specs.declared.Items.{Items}
 use Rattle.scan_entries.specs.Entries.{startAt, lengthAt}
 use Rattle.scan_passes.specs.declared.Lengths.{Lengths}
 use Rattle.scan_passes.specs.Passes.{Present, Ordered, Among, Has, Noted, Counted}
-use Rattle.scan_passes.proofs.ItemLengths.{start-same, length-low, length-high, length-most, next-in}
+use Rattle.scan_passes.proofs.ItemLengths.{length-low, length-high, length-most, next-in}
 use Rattle.build_by_scan.specs.ScannedSays.{anyBelow, hasLength, windowsAt}
 use Rattle.build_by_scan.specs.ItemTable.{itemsSay, pairBytes}
 use Rattle.build_by_scan.proofs.ScannedLevel as lev

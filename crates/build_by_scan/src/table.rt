@@ -4,7 +4,7 @@ use build_records::level_written::Level;
 use layout::settings;
 use scan_entries::Items;
 ghost use mathlib.Core.Path.{_≡_};
-ghost use Prim.Native.Nat.{_+_, _*_, _≤_, _<_};
+ghost use Prim.Native.Nat.{_+_, _*_, _≤_};
 ghost use lib.ListN.{length};
 ghost use Rattle.format.specs.Settings.{maxText, pieces, maxLeaf, maxCounted};
 ghost use Rattle.format.specs.Blocks.{recordBytes};

@@ -65,14 +65,14 @@ fn count_before(out: &[u8], at: usize, size: usize, block: Block) -> u32
     word::read(out, left) + word::read(out, left + 4)
 }
 
-// Counts in a record: the block's number, and that of the counted byte.
-struct Counts {
+// A place for counts in a record: the block's number, and that of the counted byte.
+struct Slot {
     block: BlockNumber,
     byte: usize,
 }
 
 // The counts of a block, of one counted byte.
-fn put_count_of(out: &mut [u8], text: &[u8], counted: &[u8], level: Level, block: Block, of: Counts)
+fn put_count_of(out: &mut [u8], text: &[u8], counted: &[u8], level: Level, block: Block, of: Slot)
     requires { ⌜ Writing (settingsOf (level .settings) (now counted)) (now text) (now out) level (of .block .0) block × (of .byte < length (now counted)) ⌝ }
     ensures { λ _. ⌜ Grown (treeOf (settingsOf (level .settings) (now (counted .entry))) (now (text .entry))) (now (out .entry)) (now (out .exit)) ⌝ }
     ensures { λ _. ⌜ Within (treeOf (settingsOf (level .settings) (now (counted .entry))) (now (text .entry))) (now (out .exit))
@@ -109,7 +109,7 @@ fn put_counts(
 {
     let mut c: usize = 0;
     while c < counted.len() {
-        let of = Counts { block: i, byte: c };
+        let of = Slot { block: i, byte: c };
         put_count_of(out, text, counted, level, block, of);
         c += 1;
     }

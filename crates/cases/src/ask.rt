@@ -5,6 +5,7 @@ use crate::guide_cases;
 use crate::licence_cases;
 use crate::order_cases;
 use crate::wrong;
+use cases_replies::Sizes;
 use cases_script::Gift;
 use cases_script::Question;
 use cases_tokens::hexadecimal::Fault;
@@ -185,37 +186,29 @@ fn build_of(text: &[u8], line: &[u8], question: Question, lent: &mut [u8]) {
 // The same with the counted bytes.
 fn build_counting(text: &[u8], line: &[u8], question: Question, counted: &[u8], lent: &mut [u8]) {
     cases_script::fill(lent, 238);
-    let leaf = cases_tokens::figure(line, 2);
-    let arity = cases_tokens::figure(line, 3);
-    let levels = cases_tokens::figure(line, 4);
+    let by = Sizes {
+        leaf: cases_tokens::figure(line, 2),
+        arity: cases_tokens::figure(line, 3),
+        levels: cases_tokens::figure(line, 4),
+    };
     match question {
         Question::Scan => scan(
             text,
-            leaf,
-            arity,
-            levels,
+            by,
             counted,
             cases_tokens::figure(line, 6) as usize,
             lent,
         ),
-        _ => cases_replies::build(text, leaf, arity, levels, counted, lent),
+        _ => cases_replies::build(text, by, counted, lent),
     }
 }
 
 // With one scan a level, in a table of so many words, which have 238 in every byte.
-fn scan(
-    text: &[u8],
-    leaf: u32,
-    arity: u32,
-    levels: u32,
-    counted: &[u8],
-    words: usize,
-    lent: &mut [u8],
-) {
+fn scan(text: &[u8], by: Sizes, counted: &[u8], words: usize, lent: &mut [u8]) {
     if TABLE < words {
         wrong::fault(Fault::Room);
         return;
     }
     let mut work = [4008636142u32; TABLE];
-    cases_replies::scan(text, leaf, arity, levels, counted, &mut work[..words], lent);
+    cases_replies::scan(text, by, counted, &mut work[..words], lent);
 }

@@ -18,9 +18,16 @@ use query::TextPlace;
 use tree::Built;
 use tree::Scanned;
 
+// The sizes that a line asks a tree to be built with: m, r and H.
+pub struct Sizes {
+    pub leaf: u32,
+    pub arity: u32,
+    pub levels: u32,
+}
+
 // Build, into a lent buffer.
-pub fn build(text: &[u8], leaf: u32, arity: u32, levels: u32, counted: &[u8], out: &mut [u8]) {
-    let answer = tree::build(text, leaf, arity, levels, counted, out);
+pub fn build(text: &[u8], by: Sizes, counted: &[u8], out: &mut [u8]) {
+    let answer = tree::build(text, by.leaf, by.arity, by.levels, counted, out);
     match answer {
         Built::Size(n) => say::buffer(0, n as u64, out),
         Built::Refused(number) => say::buffer(number, 0, out),
@@ -28,16 +35,8 @@ pub fn build(text: &[u8], leaf: u32, arity: u32, levels: u32, counted: &[u8], ou
 }
 
 // Build with one scan a level, in a lent table; what the table then holds is free, and is not printed.
-pub fn scan(
-    text: &[u8],
-    leaf: u32,
-    arity: u32,
-    levels: u32,
-    counted: &[u8],
-    work: &mut [u32],
-    out: &mut [u8],
-) {
-    let answer = tree::build_scanned(text, leaf, arity, levels, counted, work, out);
+pub fn scan(text: &[u8], by: Sizes, counted: &[u8], work: &mut [u32], out: &mut [u8]) {
+    let answer = tree::build_scanned(text, by.leaf, by.arity, by.levels, counted, work, out);
     match answer {
         Scanned::Size(n, windows) => say::two_and_buffer(0, n as u64, windows as u64, out),
         Scanned::Refused(number) => say::two_and_buffer(number, 0, 0, out),

@@ -1,12 +1,11 @@
 -- A window compared with every item of its chain.
 use mathlib.Core.List.{List}
-use mathlib.Core.Bool.{Bool, true, false}
-use mathlib.Core.Path.{_≡_, refl, sym, ap, _∙_, subst}
-use mathlib.Core.Logic.{_≢_, _⊎_, inl, inr}
-use Prim.Native.Nat.{ℕ, zero, suc, _+_, _-_, _*_, _/_, _%_, _≤_, _<_}
+use mathlib.Core.Bool.{Bool, false}
+use mathlib.Core.Path.{_≡_, sym, ap, _∙_, subst}
+use mathlib.Core.Logic.{_⊎_, inl, inr}
+use Prim.Native.Nat.{ℕ, suc, _+_, _-_, _%_, _≤_, _<_}
 use native.Mathlib.Omega.{arith}
 use native.Mathlib.Decide.{ℕ-discrete}
-use lib.ListN.{length}
 use lib.Dec.{eqb}
 use borrow.Author.Tests.{eqb-false}
 use Rattle.text.specs.ListLaws.{lt-or-ge}
@@ -14,9 +13,9 @@ use Rattle.text.specs.Text.{stretch}
 use Rattle.scan_windows.specs.Prints.{print}
 use Rattle.scan_entries.specs.declared.Items.{Items}
 use Rattle.scan_entries.specs.ChainHeads.{linkOf, markOf, bucketOf}
-use Rattle.scan_entries.specs.Entries.{Laid, Listed, Link, Chained, Found, Searched, Looked, lengthAt, bytesAt, chainAt, nextIn, placeIn, headIn}
+use Rattle.scan_entries.specs.Entries.{Laid, Listed, Link, Chained, Found, Searched, Looked, lengthAt, bytesAt, chainAt, nextIn, headIn}
 use Rattle.scan_entries.specs.LookedUp.{Asks, Touched, Visited}
-use Rattle.scan_entries.proofs.Chains.{searched-none, searched-then, listed-before, link-after, chained-after, passed-by, same-chain, chain-lt}
+use Rattle.scan_entries.proofs.Chains.{searched-none, searched-then, chained-after, passed-by, same-chain}
 
 module _ (T out : List ℕ) (it : Items) (W : List ℕ) (h p n : ℕ) where
   abbrev g : ℕ

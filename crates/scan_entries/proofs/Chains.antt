@@ -1,11 +1,11 @@
 -- The chains of the table, and what a look-up leaves as it was.
 use mathlib.Core.List.{List}
 use mathlib.Core.Path.{_≡_, refl, sym, ap, _∙_, subst}
-use mathlib.Core.Logic.{_≢_, _⊎_, inl, inr}
-use Prim.Native.Nat.{ℕ, zero, suc, _+_, _-_, _*_, _/_, _%_, _≤_, _<_}
+use mathlib.Core.Logic.{_⊎_, inl, inr}
+use Prim.Native.Nat.{ℕ, _+_, _-_, _*_, _≤_, _<_}
 use native.Mathlib.Omega.{arith}
 use native.Mathlib.Decide.{ℕ-discrete}
-use lib.ListN.{length, getD, set, length-set}
+use lib.ListN.{length, set, length-set}
 use lib.Seq.{getD-set-same, getD-set-other}
 use Rattle.text.specs.ListLaws.{lt-or-ge}
 use Rattle.text.specs.Text.{stretch}
@@ -13,9 +13,8 @@ use Rattle.scan_windows.specs.Prints.{print}
 use Rattle.scan_windows.proofs.PrintLaws.{print-below}
 use Rattle.scan_entries.proofs.Marks.{bucket-lt}
 use Rattle.scan_entries.specs.declared.Items.{Items}
-use Rattle.scan_entries.specs.ChainHeads.{linkOf, markOf, bucketOf}
-use Rattle.scan_entries.specs.Entries.{Laid, Listed, Link, Chained, Found, Searched, startAt, lengthAt, bytesAt, chainAt, nextIn, printIn}
-use Rattle.scan_entries.specs.Entries.{placeIn, headIn}
+use Rattle.scan_entries.specs.ChainHeads.{linkOf, bucketOf}
+use Rattle.scan_entries.specs.Entries.{Listed, Link, Chained, Found, Searched, lengthAt, bytesAt, chainAt, nextIn, printIn, placeIn, headIn}
 use Rattle.scan_entries.specs.LookedUp.{Asks, Touched}
 
 module _ (T out : List ℕ) (it : Items) where

@@ -1,8 +1,8 @@
 -- One item more in the table.
 use mathlib.Core.List.{List}
-use mathlib.Core.Path.{_≡_, refl, sym, ap, _∙_, subst}
-use mathlib.Core.Logic.{_≢_, _⊎_, inl, inr}
-use Prim.Native.Nat.{ℕ, zero, suc, _+_, _-_, _*_, _/_, _%_, _≤_, _<_}
+use mathlib.Core.Path.{_≡_, sym, ap, _∙_, subst}
+use mathlib.Core.Logic.{_⊎_, inl, inr}
+use Prim.Native.Nat.{ℕ, suc, _+_, _-_, _*_, _%_, _≤_, _<_}
 use native.Mathlib.Omega.{arith}
 use native.Mathlib.Decide.{ℕ-discrete}
 use lib.ListN.{length, getD, set, length-set}
@@ -11,8 +11,8 @@ use Rattle.text.specs.ListLaws.{lt-or-ge}
 use Rattle.text.specs.Text.{stretch}
 use Rattle.scan_windows.specs.Prints.{print}
 use Rattle.scan_entries.specs.declared.Items.{Items}
-use Rattle.scan_entries.specs.ChainHeads.{linkOf, markOf, bucketOf, Pushed}
-use Rattle.scan_entries.specs.Entries.{Laid, Listed, Link, Chained, startAt, lengthAt, bytesAt, chainAt, nextIn, printIn, placeIn, headIn}
+use Rattle.scan_entries.specs.ChainHeads.{linkOf, markOf, bucketOf}
+use Rattle.scan_entries.specs.Entries.{Listed, Link, Chained, startAt, lengthAt, bytesAt, chainAt, nextIn, printIn, placeIn, headIn}
 use Rattle.scan_entries.specs.ItemsEntered.{Cleared, Put, Turn, Leads, Twin, Entered, Skipped}
 use Rattle.scan_entries.proofs.Chains.{chain-lt}
 

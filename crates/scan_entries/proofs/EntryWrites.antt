@@ -1,15 +1,15 @@
 -- Writing the words of an item, and the head of a chain.
 use mathlib.Core.List.{List}
-use mathlib.Core.Path.{_≡_, refl, sym, ap, _∙_}
+use mathlib.Core.Path.{_≡_, _∙_}
 use mathlib.Core.Logic.{_≢_, _⊎_, inl, inr}
-use Prim.Native.Nat.{ℕ, suc, _+_, _-_, _*_, _/_, _%_, _≤_, _<_}
+use Prim.Native.Nat.{ℕ, _+_, _-_, _*_, _≤_, _<_}
 use native.Mathlib.Omega.{arith}
 use lib.ListN.{length, getD, set, length-set}
 use lib.Seq.{getD-set-same, getD-set-other}
 use Rattle.text.specs.ListLaws.{lt-or-ge}
 use Rattle.scan_entries.specs.ChainHeads.{linkOf, Pushed}
 use Rattle.scan_entries.specs.Entries.{nextIn, printIn, placeIn, headIn}
-use Rattle.scan_entries.specs.ItemsEntered.{Cleared, Put}
+use Rattle.scan_entries.specs.ItemsEntered.{Put}
 
 -- four words, one after the other
 module _ (W : List ℕ) (items heads x g e h s w : ℕ) (room : 3 * items + heads ≤ length W) (xl : x < items) (gl : g < heads) where

@@ -1,8 +1,8 @@
 -- Items: their bytes, and whether a stretch has them.
 use mathlib.Core.List.{List}
 use mathlib.Core.Bool.{Bool, true, false, _&&_}
-use mathlib.Core.Path.{_≡_, refl, sym, ap, _∙_}
-use Prim.Native.Nat.{ℕ, suc, _+_, _-_, _*_, _/_, _%_, _≤_, _<_, min}
+use mathlib.Core.Path.{_≡_, sym, ap, _∙_}
+use Prim.Native.Nat.{ℕ, _+_, _-_, _*_, _/_, _%_, _≤_, _<_, min}
 use native.Mathlib.Omega.{arith}
 use native.Mathlib.Nat.{mod-lt, mul-le-mul}
 use lib.ListN.{length}
@@ -14,7 +14,6 @@ use Rattle.text.specs.Text.{stretch}
 use Rattle.format.specs.Words.{wordAt}
 use Rattle.format.specs.Settings.{maxText}
 use Rattle.scan_entries.specs.declared.Items.{Items}
-use Rattle.scan_entries.specs.declared.Run.{Run}
 use Rattle.scan_entries.specs.Entries.{Placed, RunIs, startAt, lengthAt, bytesAt}
 
 module _ (T out : List ℕ) (it : Items) (h : Placed T out it) (x : ℕ) (l : x < it .items) where

@@ -1,12 +1,12 @@
 -- Heads of chains: their marks and links.
-use mathlib.Core.Path.{_≡_, refl, sym, ap, ap₂, _∙_}
+use mathlib.Core.Path.{_≡_, sym, ap, ap₂, _∙_}
 use Prim.Native.Nat.{ℕ, zero, suc, _+_, _-_, _*_, _/_, _%_, _^_, _≤_, _<_, max}
 use native.Mathlib.Omega.{arith}
 use native.Mathlib.Nat.{mod-lt, mul-lt-mul-of-pos-right, mul-le-mul, div-lt-iff-lt-mul, mul-comm, pow-suc, div-one, div-div-eq-div-mul}
 use native.Mathlib.Nat.{mul-add-div-right, mul-add-mod-self-right, mod-eq-of-lt, div-eq-of-lt, mul-div-cancel, pow-le-pow-right, add-zero, one-mul}
 use lib.Bits.{bitOr, or-step, or-lt}
-use lib.Pow.{pow-pos, pow-lt}
-use Rattle.scan_entries.specs.ChainHeads.{maxItems, linkOf, markOf, bucketOf, Pushed}
+use lib.Pow.{pow-pos}
+use Rattle.scan_entries.specs.ChainHeads.{maxItems, linkOf, markOf, Pushed}
 
 pub bucket-lt : (h heads : ℕ) → h < 4294967296 → 1 ≤ heads → h * heads / 4294967296 < heads
 bucket-lt h heads l m =

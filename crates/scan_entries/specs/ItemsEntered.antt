@@ -6,7 +6,7 @@ use lib.ListN.{length, getD}
 use Rattle.text.specs.Text.{stretch}
 use Rattle.scan_windows.specs.Prints.{print}
 use Rattle.scan_entries.specs.declared.Items.{Items}
-use Rattle.scan_entries.specs.ChainHeads.{linkOf, bucketOf, Pushed}
+use Rattle.scan_entries.specs.ChainHeads.{linkOf, Pushed}
 use Rattle.scan_entries.specs.Entries.{Laid, Chained, Listed, startAt, lengthAt, bytesAt, nextIn, printIn, placeIn, headIn}
 
 -- n words from a place on are zero

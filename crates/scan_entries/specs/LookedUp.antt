@@ -6,8 +6,7 @@ use lib.ListN.{length}
 use Rattle.text.specs.Text.{stretch}
 use Rattle.scan_windows.specs.Prints.{print}
 use Rattle.scan_entries.specs.declared.Items.{Items}
-use Rattle.scan_entries.specs.ChainHeads.{bucketOf}
-use Rattle.scan_entries.specs.Entries.{Laid, Chained, Listed, Link, Found, Searched, chainAt, lengthAt}
+use Rattle.scan_entries.specs.Entries.{Laid, Chained, Listed, Found, Searched, chainAt, lengthAt}
 
 module _ (T out : List ℕ) (it : Items) where
   -- all items are entered, and h is the fingerprint of the n bytes at p

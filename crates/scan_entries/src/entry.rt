@@ -1,6 +1,6 @@
 // Items entered in the table.
 use crate::Items;
-use crate::Sought;
+use crate::Probe;
 use crate::chain_head;
 use crate::item;
 use text::TextPlace;
@@ -25,7 +25,7 @@ pub fn clear(words: &mut [u32], from: usize, n: usize)
 }
 
 // One more than an item below x that has these bytes, by the chain of their fingerprint; 0 where none is found.
-fn twin(words: &[u32], text: &[u8], out: &[u8], it: Items, x: u32, own: Sought) -> u32
+fn twin(words: &[u32], text: &[u8], out: &[u8], it: Items, x: u32, own: Probe) -> u32
     requires { ⌜ Turn (now text) (now out) it (now words) x × (own .start .0 + own .length ≤ length (now text)) ⌝ }
     ensures { λ r. ⌜ Twin (now (text .entry)) (now (out .entry)) it (now (words .entry)) x (own .start .0) (own .length) r ⌝ }
 {
@@ -65,18 +65,12 @@ pub fn enter(words: &mut [u32], text: &[u8], out: &[u8], it: Items, x: u32, h: u
     let own = item::run_of(text, out, it, x);
     let start = own.start;
     let length = own.length;
-    let e = twin(
-        words,
-        text,
-        out,
-        it,
-        x,
-        Sought {
-            print: h,
-            start,
-            length,
-        },
-    );
+    let probe = Probe {
+        print: h,
+        start,
+        length,
+    };
+    let e = twin(words, text, out, it, x, probe);
     if e != 0 {
         words[3 * x as usize + 2] = text.len() as u32 + (e - 1);
         return;

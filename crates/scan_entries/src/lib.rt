@@ -25,8 +25,8 @@ pub struct Run {
     pub length: u32,
 }
 
-// Bytes that are looked for: their fingerprint, where they start, and how many they are.
-pub struct Sought {
+// A probe into the table: the fingerprint of bytes of the text, where they start, and how many they are.
+pub struct Probe {
     pub print: u32,
     pub start: TextPlace,
     pub length: u32,

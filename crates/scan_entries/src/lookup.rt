@@ -1,6 +1,6 @@
 // Windows of the text looked up in the table.
 use crate::Items;
-use crate::Sought;
+use crate::Probe;
 use crate::chain_head;
 use crate::item;
 ghost use Prim.Native.Nat.{_<_};
@@ -9,7 +9,7 @@ ghost use Rattle.scan_entries.specs.Entries.{Listed, Link, Looked};
 ghost use Rattle.scan_entries.specs.LookedUp.{Asks, Touched, Visited};
 
 // The window at item x of its chain.
-fn touch(words: &mut [u32], text: &[u8], out: &[u8], it: Items, x: u32, w: Sought)
+fn touch(words: &mut [u32], text: &[u8], out: &[u8], it: Items, x: u32, w: Probe)
     requires { ⌜ Asks (now text) (now out) it (now words) (w .print) (w .start .0) (w .length)
         × (x < it .items) × Listed (now text) (now out) it (now words) x ⌝ }
     ensures { λ _. ⌜ Touched (now (text .entry)) (now (out .entry)) it (now (words .entry)) (now (words .exit)) x (w .start .0) (w .length) ⌝ }
@@ -27,7 +27,7 @@ fn touch(words: &mut [u32], text: &[u8], out: &[u8], it: Items, x: u32, w: Sough
 }
 
 // At every item of the chain from a link.
-fn visit(words: &mut [u32], text: &[u8], out: &[u8], it: Items, w: Sought, link: u32)
+fn visit(words: &mut [u32], text: &[u8], out: &[u8], it: Items, w: Probe, link: u32)
     requires { ⌜ Asks (now text) (now out) it (now words) (w .print) (w .start .0) (w .length)
         × Link (now text) (now out) it (now words) (bucketOf (it .heads) (w .print)) (it .items) link ⌝ }
     ensures { λ _. ⌜ Visited (now (text .entry))
@@ -42,7 +42,7 @@ fn visit(words: &mut [u32], text: &[u8], out: &[u8], it: Items, w: Sought, link:
 }
 
 // Looks up a window.
-pub fn look(words: &mut [u32], text: &[u8], out: &[u8], it: Items, w: Sought)
+pub fn look(words: &mut [u32], text: &[u8], out: &[u8], it: Items, w: Probe)
     requires { ⌜ Asks (now text) (now out) it (now words) (w .print) (w .start .0) (w .length) ⌝ }
     ensures { λ _. ⌜ Looked (now (text .entry)) (now (out .entry)) it (now (words .entry)) (now (words .exit)) (w .start .0) (w .length) ⌝ }
 {

@@ -1,20 +1,18 @@
 -- What the table says once the pass is over.
 use mathlib.Core.List.{List}
-use mathlib.Core.Bool.{true, false, cond}
-use mathlib.Core.Path.{_≡_, refl, sym, ap, _∙_, subst}
+use mathlib.Core.Path.{_≡_, sym, ap, _∙_, subst}
 use mathlib.Core.Logic.{_⊎_, inl, inr}
-use Prim.Native.Nat.{ℕ, zero, suc, _+_, _-_, _*_, _/_, _%_, _≤_, _<_}
+use Prim.Native.Nat.{ℕ, _+_, _-_, _/_, _≤_, _<_}
 use native.Mathlib.Omega.{arith}
 use lib.ListN.{length}
-use lib.Dec.{ltb}
 use borrow.Author.Tests.{lt-ltb, le-ltb}
 use Rattle.text.specs.ListLaws.{lt-or-ge}
 use Rattle.text.specs.Text.{stretch, leftmost}
-use Rattle.text.specs.TextLaws.{leftmost-le, leftmost-same, leftmost-first}
+use Rattle.text.specs.TextLaws.{leftmost-le}
 use Rattle.scan_entries.specs.declared.Items.{Items}
 use Rattle.scan_entries.specs.Entries.{Laid, Listed, startAt, lengthAt, bytesAt, placeIn}
 use Rattle.scan_passes.specs.Passes.{Present, Ordered, Entrants, Passed, Answered, placeOut}
-use Rattle.scan_passes.proofs.ItemLengths.{start-same, length-low, pair-longer, pair-there, block-length}
+use Rattle.scan_passes.proofs.ItemLengths.{pair-longer, pair-there, block-length}
 use Rattle.scan_passes.proofs.PassLaws.{leftmost-same-bytes}
 
 module _ (T out : List ℕ) (it : Items) (W Z : List ℕ) (e : Entrants T out it W (it .items)) (o : Ordered T out it) (q : Passed T out it W Z) where

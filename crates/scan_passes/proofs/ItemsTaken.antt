@@ -2,7 +2,7 @@
 use mathlib.Core.List.{List}
 use mathlib.Core.Path.{_≡_, refl, sym, ap, _∙_, subst}
 use mathlib.Core.Logic.{_⊎_, inl, inr}
-use Prim.Native.Nat.{ℕ, zero, suc, _+_, _-_, _*_, _/_, _%_, _^_, _≤_, _<_, min}
+use Prim.Native.Nat.{ℕ, _+_, _-_, _*_, _%_, _^_, _≤_, _<_}
 use native.Mathlib.Omega.{arith}
 use lib.ListN.{length}
 use Rattle.text.specs.ListLaws.{lt-or-ge}
@@ -10,12 +10,12 @@ use Rattle.text.specs.Text.{stretch}
 use Rattle.scan_windows.specs.Prints.{print}
 use Rattle.scan_windows.proofs.PrintLaws.{print-join}
 use Rattle.scan_entries.specs.declared.Items.{Items}
-use Rattle.scan_entries.specs.Entries.{Laid, Placed, Chained, Listed, startAt, lengthAt, bytesAt, placeIn}
+use Rattle.scan_entries.specs.Entries.{Laid, Placed, Listed, startAt, lengthAt, bytesAt, placeIn}
 use Rattle.scan_entries.specs.ItemsEntered.{Cleared, Turn, Entered, Skipped}
 use Rattle.scan_entries.proofs.Entrance.{chained-none}
 use Rattle.scan_passes.specs.declared.Lengths.{Lengths}
 use Rattle.scan_passes.specs.Passes.{Present, Ordered, Took, Entrants, PairSays, Noted, notedBy}
-use Rattle.scan_passes.proofs.ItemLengths.{start-same, block-length, pair-length, length-low, length-high, full-block, pair-parts, next-in, pair-there}
+use Rattle.scan_passes.proofs.ItemLengths.{start-same, length-low, length-high, full-block, pair-parts, pair-there}
 use Rattle.scan_passes.proofs.LengthsNoted.{noted-none, noted-first, noted-past, noted-more}
 
 module _ (T out : List ℕ) (it : Items) where

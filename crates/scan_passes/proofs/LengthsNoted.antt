@@ -1,16 +1,15 @@
 -- The lengths noted on the way.
 use mathlib.Core.List.{List}
-use mathlib.Core.Bool.{true, false}
-use mathlib.Core.Path.{_≡_, refl, sym, ap, _∙_, subst}
+use mathlib.Core.Path.{_≡_, refl, sym, subst}
 use mathlib.Core.Logic.{_⊎_, inl, inr}
-use Prim.Native.Nat.{ℕ, zero, suc, _+_, _-_, _*_, _/_, _%_, _≤_, _<_, min}
+use Prim.Native.Nat.{ℕ, _+_, _-_, _≤_, _<_}
 use native.Mathlib.Omega.{arith}
 use native.Mathlib.Decide.{ℕ-discrete}
 use lib.ListN.{length}
 use borrow.Author.Tests.{eq-eqb, ne-eqb, lt-ltb, le-ltb}
 use Rattle.text.specs.ListLaws.{lt-or-ge}
 use Rattle.scan_entries.specs.declared.Items.{Items}
-use Rattle.scan_entries.specs.Entries.{Placed, Listed, startAt, lengthAt}
+use Rattle.scan_entries.specs.Entries.{Placed, lengthAt}
 use Rattle.scan_passes.specs.declared.Lengths.{Lengths}
 use Rattle.scan_passes.specs.Passes.{Present, Ordered, Among, Has, Noted, Covers, Entrants, notedBy}
 use Rattle.scan_passes.proofs.ItemLengths.{length-low, length-high, length-most, short-is-last, cut-is-last}

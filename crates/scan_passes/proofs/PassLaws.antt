@@ -1,28 +1,24 @@
 -- The pass, place by place.
 use mathlib.Core.List.{List}
-use mathlib.Core.Bool.{true, false, cond}
 use mathlib.Core.Path.{_≡_, refl, sym, ap, _∙_, subst}
 use mathlib.Core.Logic.{_⊎_, inl, inr}
-use Prim.Native.Nat.{ℕ, zero, suc, _+_, _-_, _*_, _/_, _%_, _^_, _≤_, _<_, min}
+use Prim.Native.Nat.{ℕ, _+_, _-_, _≤_, _<_}
 use native.Mathlib.Omega.{arith}
-use native.Mathlib.Decide.{ℕ-discrete}
 use lib.ListN.{length}
-use lib.Dec.{ltb}
-use borrow.Author.Tests.{lt-ltb, le-ltb}
 use Rattle.text.specs.ListLaws.{lt-or-ge}
 use Rattle.text.specs.Text.{stretch, leftmost}
-use Rattle.text.specs.TextLaws.{leftmost-le, leftmost-same, leftmost-least, leftmost-first}
+use Rattle.text.specs.TextLaws.{leftmost-same, leftmost-first}
 use Rattle.scan_windows.specs.declared.Window.{Window}
 use Rattle.scan_windows.specs.Windows.{placesOf, Standing}
 use Rattle.scan_windows.proofs.WindowLaws.{places-none, places-some, within}
 use Rattle.scan_entries.specs.declared.Items.{Items}
-use Rattle.scan_entries.specs.Entries.{Laid, Placed, Chained, Listed, Found, Searched, Looked, startAt, lengthAt, bytesAt, placeIn}
+use Rattle.scan_entries.specs.Entries.{Laid, Listed, Found, Searched, Looked, startAt, lengthAt, bytesAt, placeIn}
 use Rattle.scan_entries.specs.LookedUp.{Asks}
 use Rattle.scan_entries.proofs.ItemLaws.{fits}
 use Rattle.scan_entries.proofs.Chains.{searched-none, searched-then, chained-after, passed-after}
 use Rattle.scan_passes.specs.declared.Lengths.{Lengths}
-use Rattle.scan_passes.specs.Passes.{Present, Ordered, Entrants, Covers, Asked, Stepped, Passed, Answered, placeOut}
-use Rattle.scan_passes.proofs.ItemLengths.{start-same, length-low, pair-longer, pair-there, block-length}
+use Rattle.scan_passes.specs.Passes.{Ordered, Entrants, Covers, Asked, Stepped, Passed}
+use Rattle.scan_passes.proofs.ItemLengths.{length-low}
 
 -- a window that stands nowhere any more
 pub stands-still : (T : List ℕ) (n p : ℕ) (w : Window) → Standing T n p w → w .places ≤ p → Standing T n (p + 1) w

@@ -9,7 +9,7 @@ use lib.Dec.{eqb, ltb}
 use Rattle.text.specs.Text.{leftmost}
 use Rattle.scan_windows.specs.Windows.{placesOf}
 use Rattle.scan_entries.specs.declared.Items.{Items}
-use Rattle.scan_entries.specs.Entries.{Laid, Placed, Chained, Listed, Found, Searched, startAt, lengthAt, bytesAt, placeIn}
+use Rattle.scan_entries.specs.Entries.{Laid, Chained, Listed, Found, Searched, startAt, lengthAt, bytesAt, placeIn}
 use Rattle.scan_passes.specs.declared.Lengths.{Lengths}
 
 -- the lengths with one more, in its place by how it compares with the length of a full block; 0 is none

@@ -1,12 +1,12 @@
 // The pass over the text.
 use crate::Lengths;
 use scan_entries::Items;
-use scan_entries::Sought;
+use scan_entries::Probe;
 use scan_entries::lookup;
 use scan_windows::Window;
 use text::TextPlace;
 ghost use mathlib.Core.Path.{_≡_};
-ghost use Prim.Native.Nat.{_+_, _≤_, _<_};
+ghost use Prim.Native.Nat.{_+_, _<_};
 ghost use lib.ListN.{length};
 ghost use Rattle.scan_windows.specs.Windows.{Standing, placesOf};
 ghost use Rattle.scan_passes.specs.Passes.{Asked, Stepped, Covers, Passed, Entrants, Ordered};
@@ -20,7 +20,7 @@ fn step(words: &mut [u32], text: &[u8], out: &[u8], it: Items, w: Window, p: Tex
     if w.places <= p.0 {
         return w;
     }
-    let here = Sought {
+    let here = Probe {
         print: w.print,
         start: p,
         length: w.len,

@@ -3,8 +3,8 @@ use mathlib.Core.List.{List, [], _∷_, _++_}
 use mathlib.Core.Path.{_≡_, refl, sym, ap, _∙_}
 use Prim.Native.Nat.{ℕ, suc, _+_, _-_, _*_, _%_, _^_, _≤_, _<_}
 use native.Mathlib.Omega.{arith}
-use native.Mathlib.Nat.{zero-mod, mod-add-mod, add-mod-mod, mod-lt, mul-comm, mul-assoc, add-mul, mul-le-mul, pow-zero, pow-suc, zero-mul}
-use lib.ListN.{length, take, drop, getD}
+use native.Mathlib.Nat.{mod-add-mod, add-mod-mod, mul-comm, mul-assoc, add-mul, mul-le-mul, pow-zero, pow-suc, zero-mul}
+use lib.ListN.{length, take, getD}
 use Rattle.text.specs.Text.{stretch}
 use Rattle.text.specs.TextLaws.{stretch-add, length-stretch}
 use Rattle.search.specs.Fingers.{digits, finger}

@@ -1,14 +1,12 @@
 -- A window at the text's start, and moved on.
 use mathlib.Core.List.{List}
-use mathlib.Core.Path.{_≡_, refl, sym, ap, _∙_, subst}
-use mathlib.Core.Logic.{_⊎_, inl, inr}
-use Prim.Native.Nat.{ℕ, zero, suc, _+_, _-_, _*_, _%_, _^_, _≤_, _<_, min}
+use mathlib.Core.Path.{_≡_, refl, sym, _∙_}
+use Prim.Native.Nat.{ℕ, _+_, _-_, _*_, _%_, _^_, _≤_, _<_}
 use native.Mathlib.Omega.{arith}
 use native.Mathlib.Nat.{mod-lt}
 use lib.ListN.{length, getD}
 use borrow.Author.Tests.{eq-eqb, ne-eqb}
 use Rattle.text.specs.Text.{stretch}
-use Rattle.text.specs.ListLaws.{lt-or-ge}
 use Rattle.scan_windows.specs.declared.Window.{Window}
 use Rattle.scan_windows.specs.Prints.{print}
 use Rattle.scan_windows.specs.Windows.{placesOf, Standing}

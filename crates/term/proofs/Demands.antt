@@ -3,7 +3,7 @@
 -- docs/FORMAT.md: "The term of a licence".
 use mathlib.Core.List.{List}
 use mathlib.Core.Bool.{Bool, true, false, cond, not, _&&_}
-use mathlib.Core.Path.{_≡_, refl, sym, ap, _∙_}
+use mathlib.Core.Path.{_≡_, refl, ap, _∙_}
 use mathlib.Core.Logic.{_⊎_, inl, inr}
 use Prim.Native.Nat.{ℕ, zero, suc, _+_, _-_, _≤_, _<_}
 use native.Mathlib.Omega.{arith}
@@ -13,7 +13,7 @@ use lib.IntN.{ℤ, pos, negsuc, _-ℤ_}
 use lib.Dec.{ltb, leb, eqb}
 use borrow.Author.Tests.{le-leb, lt-leb, lt-ltb, le-ltb, ltb-true}
 use Rattle.theory_machine.specs.Ends.{Function, Ends, ends}
-use Rattle.text.specs.ListLaws.{and-left, and-right, and-false, bool-cases, bool-clash, lt-or-ge}
+use Rattle.text.specs.ListLaws.{and-left, and-right, and-false, bool-clash, lt-or-ge}
 use Rattle.term.specs.declared.Opened.{Opened}
 use Rattle.term.specs.declared.Opened.the-variants as opened
 use Rattle.term.specs.declared.Left.{Left}

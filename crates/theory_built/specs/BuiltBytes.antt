@@ -19,8 +19,7 @@ use Rattle.theory_built.specs.Pairs.{offset, levelWordsOf, length-levelW
 use Rattle.theory_built.specs.Gather.{in-part}
 use Rattle.theory_built.specs.BuiltRecords.{recordAt, bytesAt, edgesIn, bytes-are, records, recordWords, length-record, record-bytes, record-byte}
 use Rattle.theory_built.specs.BuiltRecords.{length-records}
-use Rattle.theory_built.specs.Shape.{sixWords, countedPlaces, tree-is, tree-levels, tree-records, head, length-head, length-header, length-places}
-use Rattle.theory_built.specs.Shape.{counted-place, record-byte-at}
+use Rattle.theory_built.specs.Shape.{sixWords, countedPlaces, tree-is, tree-levels, head, length-head, length-places, counted-place, record-byte-at}
 
 -- the four bytes of the word v stand at i
 abbrev pub Stands : List ℕ → ℕ → ℕ → Type 0

@@ -2,9 +2,9 @@
 use mathlib.Core.List.{List}
 use mathlib.Core.Bool.{true, not}
 use mathlib.Core.Path.{_≡_, sym, ap, _∙_}
-use Prim.Native.Nat.{ℕ, _+_, _*_, _≤_, _<_}
+use Prim.Native.Nat.{ℕ, _+_, _≤_, _<_}
 use native.Mathlib.Omega.{arith}
-use lib.ListN.{length, getD}
+use lib.ListN.{length}
 use lib.Seq.{ext-getD}
 use Rattle.text.specs.Lists.{allBelow}
 use Rattle.text.specs.ListLaws.{allBelow-make, eq-sameList, or-right}
@@ -15,7 +15,7 @@ use Rattle.format.specs.Edges.{edgesOf}
 use Rattle.format.specs.EdgeLaws.{length-edges}
 use Rattle.format.specs.Blocks.{treeOf}
 use Rattle.format.specs.Layout as at
-use Rattle.format.specs.LayoutLaws.{Readable, readable-facts, edges-inside, leaf-start-inside}
+use Rattle.format.specs.LayoutLaws.{readable-facts, edges-inside, leaf-start-inside}
 use Rattle.format.specs.Fits.{blockEdgesTrue, edgesTrue}
 use Rattle.theory_built.specs.BlockSizes.{Taken}
 use Rattle.theory_built.specs.Structure.{count, start, bytesIn}

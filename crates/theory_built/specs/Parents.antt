@@ -1,15 +1,12 @@
 -- Parents in the built tree: each block below level 0 is a child of a kept block, whose start is the multiple of its block length at or
 -- below the child's start.
 use mathlib.Core.List.{List}
-use mathlib.Core.Bool.{true, false}
 use mathlib.Core.Path.{_≡_, ap}
-use mathlib.Core.Logic.{_⊎_, inl, inr}
 use Prim.Native.Nat.{ℕ, suc, _+_, _*_, _<_}
 use native.Mathlib.Omega.{arith}
 use lib.Arith.{digits-div}
 use lib.ListN.{length}
 use Rattle.text.specs.Lists.{sumBelow}
-use Rattle.text.specs.ListLaws.{bool-cases}
 use Rattle.format.specs.Settings.{Settings}
 use Rattle.theory_built.specs.Gather.{Placed, placed}
 use Rattle.theory_built.specs.LevelBlocks.{child-inside}

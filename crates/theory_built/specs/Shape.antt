@@ -5,7 +5,6 @@ use Prim.Native.Nat.{ℕ, _+_, _-_, _*_, _<_}
 use native.Mathlib.Omega.{arith}
 use lib.ListN.{length, getD, replicate, take, drop, length-append, length-replicate, List·getD-append}
 use lib.Seq.{getD-append-add, take-at, drop-at}
-use Rattle.text.specs.Lists.{sumBelow}
 use Rattle.format.specs.Words.{wordAt, wordsBytes}
 use Rattle.format.specs.Settings.{Settings, maxLevels, maxCounted}
 use Rattle.format.specs.Blocks.{treeOf, header, leafBytes, levelPairs, builtLayout}
@@ -13,7 +12,6 @@ use Rattle.format.specs.WordLaws.{word-at, length-words}
 use Rattle.format.specs.HeaderPlaces.{countedAt, pairsAt, headerLength}
 use Rattle.theory_built.specs.Pairs.{levelWordsOf, offset, length-levelWordsOf}
 use Rattle.theory_built.specs.BuiltRecords.{records, length-records}
-use Rattle.theory_built.specs.Structure.{count}
 use Rattle.theory_built.specs.BlockSizes.{Taken, Bounds, bounds}
 
 parts : (a c w r l : List ℕ) → a ++ c ++ w ++ r ++ l ≡ a ++ (c ++ (w ++ (r ++ l)))

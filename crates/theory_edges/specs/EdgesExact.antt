@@ -1,7 +1,7 @@
 -- The local equations that the check looks at hold exactly where the edges are true of the one text that fits.
 use mathlib.Core.List.{List, [], _∷_}
-use mathlib.Core.Option.{Option, some}
-use mathlib.Core.Bool.{Bool, true, false, not, _&&_, _||_}
+use mathlib.Core.Option.{Option}
+use mathlib.Core.Bool.{Bool, true, false, not, _&&_}
 use mathlib.Core.Path.{_≡_, refl, sym, ap, _∙_}
 use mathlib.Core.Logic.{_⊎_, inl, inr}
 use Prim.Native.Nat.{ℕ, zero, suc, _+_, _-_, _≤_, _<_, min}
@@ -9,9 +9,8 @@ use native.Mathlib.Omega.{arith}
 use native.Mathlib.Nat.{add-assoc}
 use lib.ListN.{length, getD, replicate, length-replicate, getD-replicate}
 use lib.Seq.{ext-getD}
-use Rattle.text.specs.Lists.{allBelow, sameList}
-use Rattle.text.specs.ListLaws.{lt-or-ge, bool-cases, and-left, and-right, and-both, or-cases, or-left, or-right, allBelow-at, allBelow-make}
-use Rattle.text.specs.ListLaws.{sameList-true, eq-sameList, not-eq-true}
+use Rattle.text.specs.Lists.{sameList}
+use Rattle.text.specs.ListLaws.{lt-or-ge, and-left, and-right, and-both, or-right, allBelow-at, allBelow-make, sameList-true, eq-sameList}
 use Rattle.text.specs.Conjunctions.{parts}
 use Rattle.text.specs.Text.{stretch}
 use Rattle.text.specs.TextLaws.{length-stretch, getD-stretch, stretch-ext, stretch-at}

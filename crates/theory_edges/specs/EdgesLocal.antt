@@ -1,7 +1,7 @@
 -- Question 9 of the edges, as the check looks at it: each edge of a block against what the short span's walk gives from that block.
 use mathlib.Core.List.{List}
 use mathlib.Core.Option.{Option, none, some}
-use mathlib.Core.Bool.{Bool, true, false, not, _&&_, _||_}
+use mathlib.Core.Bool.{Bool, false, not, _&&_, _||_}
 use Prim.Native.Nat.{ℕ, _+_, _-_, min}
 use lib.ListN.{replicate}
 use Rattle.text.specs.Lists.{allBelow, sameList}

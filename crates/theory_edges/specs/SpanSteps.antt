@@ -1,14 +1,13 @@
 -- The walk of a short span, step by step, on any tree.
-use mathlib.Core.List.{List, [], _∷_, _++_}
+use mathlib.Core.List.{List, [], _∷_}
 use mathlib.Core.Option.{Option, none, some}
 use mathlib.Core.Bool.{Bool, true, false, cond}
 use mathlib.Core.Path.{_≡_, refl}
-use Prim.Native.Nat.{ℕ, zero, suc, _+_, _-_, _*_, _/_, _%_, _≤_, _<_}
-use native.Mathlib.Omega.{arith}
+use Prim.Native.Nat.{ℕ, zero, suc, _+_, _-_, _/_, _%_, _≤_, _<_}
 use borrow.Author.Tests.{lt-ltb, le-leb, lt-leb}
 use lib.Dec.{leb}
 use Rattle.format.specs.Layout as at
-use Rattle.format.specs.Path.{Visit, visit, keptBlock, pointingBlock, targetBlock, targetPlace, lands, landBlock, landPlace, landVisits}
+use Rattle.format.specs.Path.{visit, keptBlock, pointingBlock, targetBlock, targetPlace, lands, landBlock, landPlace, landVisits}
 use Rattle.format.specs.Short.{Short, led, byEdges, inLeaf, shortFrom}
 use Rattle.theory_paths.specs.Links.{N, b}
 

@@ -1,13 +1,13 @@
 -- In a layout 2 tree that passes questions 5 to 8, a short span's walk gives the bytes of the text that fits, where the edges that it reads are
 -- true: those of the levels below the block asked, and where that one points those of the kept blocks of its level.
 use mathlib.Core.List.{List, [], _∷_, _++_}
-use mathlib.Core.Option.{Option, none, some}
+use mathlib.Core.Option.{Option, some}
 use mathlib.Core.Bool.{true, false}
 use mathlib.Core.Path.{_≡_, refl, sym, ap, _∙_}
 use mathlib.Core.Logic.{_⊎_, inl, inr}
 use Prim.Native.Nat.{ℕ, zero, suc, _+_, _-_, _*_, _/_, _%_, _≤_, _<_}
 use native.Mathlib.Omega.{arith}
-use native.Mathlib.Nat.{add-assoc, mod-lt, div-add-mod', add-mul, mul-le-mul-right}
+use native.Mathlib.Nat.{add-assoc, mod-lt, div-add-mod', add-mul}
 use lib.Arith.{digits-div, digits-mod}
 use lib.ListN.{length, getD}
 use Rattle.text.specs.ListLaws.{lt-or-ge, bool-cases}
@@ -18,7 +18,7 @@ use Rattle.format.specs.LayoutLaws.{Readable, full-pos, full-last, full-falls, 
 use Rattle.format.specs.Path.{Visit, visit, targetBlock, targetPlace}
 use Rattle.format.specs.Short.{Short, led, byEdges, shortFrom, shortOf, shortBytes}
 use Rattle.theory_paths.specs.Links.{H, N, b, s, len, Linked, Pointing}
-use Rattle.theory_paths.specs.BlockStarts.{len-small, len-inside, len-end, start-below, child, last-kept, leaf-below}
+use Rattle.theory_paths.specs.BlockStarts.{len-small, len-end, start-below, child, last-kept, leaf-below}
 use Rattle.theory_paths.specs.PlacesLand.{kept-block, kept-not, pointing-block, target, target-first, target-second}
 use Rattle.theory_paths.specs.FitsFacts.{Fitting}
 use Rattle.theory_edges.specs.Truth.{Edged}

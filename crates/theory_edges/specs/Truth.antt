@@ -1,14 +1,14 @@
 -- That the edges of a layout 2 tree are true of a text that fits it, as plain facts on bytes.
 use mathlib.Core.List.{List}
-use mathlib.Core.Bool.{Bool, true, not, _||_}
-use mathlib.Core.Path.{_≡_, refl, sym, ap, _∙_}
+use mathlib.Core.Bool.{Bool, true, not}
+use mathlib.Core.Path.{_≡_, sym, ap, _∙_}
 use mathlib.Core.Logic.{_⊎_, inl, inr}
 use Prim.Native.Nat.{ℕ, _+_, _-_, _≤_, _<_}
 use native.Mathlib.Omega.{arith}
 use lib.ListN.{length, getD}
 use lib.Seq.{ext-getD}
 use Rattle.text.specs.Lists.{allBelow}
-use Rattle.text.specs.ListLaws.{lt-or-ge, or-cases, or-right, bool-clash, allBelow-at, allBelow-make, sameList-true, eq-sameList}
+use Rattle.text.specs.ListLaws.{lt-or-ge, or-right, allBelow-at, allBelow-make, sameList-true, eq-sameList}
 use Rattle.text.specs.Text.{stretch}
 use Rattle.text.specs.TextLaws.{length-stretch, getD-stretch}
 use Rattle.format.specs.Edges.{edgesOf}

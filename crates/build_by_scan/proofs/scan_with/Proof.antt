@@ -1,6 +1,5 @@
 use borrow.Author.Needs.{needs}
 use native.Mathlib.Omega.{arith}
-use mathlib.Core.Path.{refl, _∙_}
 use Rattle.theory_built.specs.BlockSizes.{bounds}
 use Rattle.build_records.specs.State.{settingsOf}
 use Rattle.build_by_scan.specs.ScannedSays.{tableWords}

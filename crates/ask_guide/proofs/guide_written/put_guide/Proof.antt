@@ -1,5 +1,4 @@
 use borrow.Author.Needs.{needs}
-use mathlib.Core.Path.{_≡_, _∙_}
 use borrow.Author.Needs.{needs}
 use Rattle.ask_guide.proofs.GuideWrittenLaws as laws
 use Rattle.layout.specs.HeaderSays.{header-good, header-refused}

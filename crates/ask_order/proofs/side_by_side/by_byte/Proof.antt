@@ -1,6 +1,5 @@
 use borrow.Author.Needs.{needs}
 use borrow.Author.Tests.{lt-ltb, le-ltb}
-use native.Mathlib.Omega.{arith}
 use Rattle.ask_order.specs.Compared.{byByte}
 use Rattle.ask_order.proofs.side_by_side.by_byte.Statement.{statement}
 use Rattle.ask_order.proofs.side_by_side.by_byte.Tie as tie

@@ -1,6 +1,5 @@
 use borrow.Author.Needs.{needs}
 use borrow.Author.Tests.{lt-ltb, le-ltb}
-use native.Mathlib.Omega.{arith}
 use Rattle.ask_patterns.proofs.pattern_seek.note.Statement.{statement}
 use Rattle.ask_patterns.proofs.pattern_seek.note.Tie as tie
 

@@ -1,4 +1,3 @@
-use borrow.Author.Needs.{needs}
 use native.Mathlib.Omega.{arith}
 use Rattle.ask_patterns.proofs.RoomLaws as laws
 use Rattle.ask_patterns.proofs.room.of_length.Statement.{statement}

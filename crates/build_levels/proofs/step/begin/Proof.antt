@@ -1,4 +1,3 @@
-use native.Mathlib.Omega.{arith}
 use Rattle.build_levels.proofs.LevelZero as laws
 use Rattle.build_records.proofs.Growth.{grown-none}
 use Rattle.theory_built.specs.BlockSizes.{bounds}

@@ -1,5 +1,4 @@
 use borrow.Author.Needs.{needs}
-use native.Mathlib.Omega.{arith}
 use mathlib.Core.Path.{refl}
 use Rattle.scan_entries.specs.ChainHeads.{markOf}
 use Rattle.scan_entries.proofs.chain_head.marked.Statement.{statement}
