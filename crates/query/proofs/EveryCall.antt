@@ -1,7 +1,7 @@
 -- The calls of the library, a line for each, and what demand 1 says of every one of them. The exported calls, list and the calls
 -- on a licence's days stand in the `Demands` of their crates.
 use mathlib.Core.List.{List, [], _∷_}
-use Rattle.query.proofs.OutsideCall.{AsksNothing, Call, Ends, Function}
+use Rattle.query.proofs.OutsideCall.{AsksNothing, Call, Each, Ends, each-ends, each-asks-nothing}
 use Rattle.query.proofs.LeftmostCall
 use Rattle.query.proofs.BuildCall
 use Rattle.query.proofs.BuildScannedCall
@@ -63,25 +63,10 @@ calls =
     ∷ InfoCall.version-call
     ∷ []
 
--- it holds of each of some calls
-abbrev pub Each : (Function → Type 2) → List Call → Type 2
-Each P [] = Unit {2}
-Each P (c ∷ cs) = P (c .function) × Each P cs
-
--- "Every call ends, on every text, setting, tree and question; reads and writes only what was lent" (`Ends`): from any memory that holds what is lent, and
--- anything else beside it, the machine's run of the call ends after so many steps, in a memory that holds what the contract says of the value returned, and
--- all else as it was.
+-- "Every call ends, on every text, setting, tree and question; reads and writes only what was lent" (`Ends`).
 pub every-call-ends : Each Ends calls
-every-call-ends = go calls
-  where
-    go : (cs : List Call) → Each Ends cs
-    go [] = tt
-    go (c ∷ cs) = (c .ends, go cs)
+every-call-ends = each-ends calls
 
 -- "trusts no caller to have checked a tree": what a call asks of its caller holds of any arguments (`AsksNothing`).
 pub trusts-no-caller : Each AsksNothing calls
-trusts-no-caller = go calls
-  where
-    go : (cs : List Call) → Each AsksNothing cs
-    go [] = tt
-    go (c ∷ cs) = (c .asks-nothing, go cs)
+trusts-no-caller = each-asks-nothing calls
