@@ -18,10 +18,10 @@ use Rattle.layout.specs.Header.{settingsOf}
 -- a header is equal to another whose words are
 words : {v a g h k z v′ a′ g′ h′ k′ z′ : ℕ} {s s′ : Settings} → v ≡ v′ → a ≡ a′ → s ≡ s′ → g ≡ g′ → h ≡ h′ → k ≡ k′ → z ≡ z′
     → _≡_ {A = Header}
-    (record { layout = v; length = a; settings = s; «leaf_offset» = g; «leaf_count» = h; block = k; «record_size» = z })
-    (record { layout = v′; length = a′; settings = s′; «leaf_offset» = g′; «leaf_count» = h′; block = k′; «record_size» = z′ })
+    (record { layout = v; «text_length» = a; settings = s; «leaf_offset» = g; «leaf_count» = h; «top_length» = k; «record_size» = z })
+    (record { layout = v′; «text_length» = a′; settings = s′; «leaf_offset» = g′; «leaf_count» = h′; «top_length» = k′; «record_size» = z′ })
 words pv pa ps pg ph pk pz =
-    λ i. record { layout = pv i; length = pa i; settings = ps i; «leaf_offset» = pg i; «leaf_count» = ph i; block = pk i; «record_size» = pz i }
+    λ i. record { layout = pv i; «text_length» = pa i; settings = ps i; «leaf_offset» = pg i; «leaf_count» = ph i; «top_length» = pk i; «record_size» = pz i }
 
 module _ (t : List ℕ) (s : Settings) (f : Readable t) (is : s ≡ settingsOf t) where
   -- the settings are within their bounds
