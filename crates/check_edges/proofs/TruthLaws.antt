@@ -1,14 +1,13 @@
 -- The test of edges: one edge, a block, a level, all of them.
 use mathlib.Core.List.{List}
 use mathlib.Core.Option.{Option, none, some}
-use mathlib.Core.Bool.{Bool, true, false, not, _&&_, _||_}
-use mathlib.Core.Path.{_≡_, refl, sym, ap, _∙_}
+use mathlib.Core.Bool.{Bool, true, false}
+use mathlib.Core.Path.{_≡_, refl, sym, _∙_}
 use Prim.Native.Nat.{ℕ, _+_, _-_, _≤_, _<_, min}
 use native.Mathlib.Omega.{arith}
 use native.Mathlib.Nat.{add-zero}
 use borrow.Author.Tests.{ne-eqb}
 use lib.ListN.{length, replicate}
-use lib.Dec.{eqb}
 use Rattle.text.specs.Lists.{allBelow, sameList}
 use Rattle.text.specs.ListLaws.{allBelow-make, allBelow-not}
 use Rattle.text.specs.Text.{stretch}
@@ -16,7 +15,7 @@ use Rattle.format.specs.Settings.{maxLeaf}
 use Rattle.format.specs.Layout as at
 use Rattle.format.specs.Fits.{textOf, edgesTrue}
 use Rattle.format.specs.Short.{Short, shortFrom}
-use Rattle.format.specs.LayoutLaws.{Readable, size-high, edges-inside, leaf-start-inside, full-pos}
+use Rattle.format.specs.LayoutLaws.{Readable, size-high, edges-inside, leaf-start-inside}
 use Rattle.theory_paths.specs.Links.{Linked, linked-facts}
 use Rattle.theory_paths.specs.BlockStarts.{len-pos, len-small}
 use Rattle.theory_edges.specs.EdgesLocal.{edgeIs, ownBytes, edgesLocal, levelEdges, allEdges}
@@ -24,7 +23,6 @@ use Rattle.theory_edges.specs.Demands.{edges-exact}
 use Rattle.layout.specs.declared.header.Header.{Header}
 use Rattle.layout.specs.HeaderSays.{HeaderOf}
 use Rattle.layout.specs.Record.{EdgesIn}
-use Rattle.walk_steps.specs.QuestionStands.{OnLevel}
 use Rattle.walk_short.specs.declared.gather.Parts.{Parts}
 use Rattle.walk_short.specs.declared.gather.Gathered.{Gathered}
 use Rattle.walk_short.specs.declared.gather.Gathered.the-variants.{At, Broken}
@@ -42,9 +40,6 @@ module _ (t : List ℕ) (m a x : ℕ) (found : Gathered) (q : Parts) (is : found
 
   abbrev third : Bool
   third = sameList (stretch t (a + x) (m - x)) (replicate (m - x) 0)
-
-  pub parts-in : Within t x found → (q .size ≤ x) × (q .from + q .size ≤ length t) × (q .next + (x - q .size) ≤ length t)
-  parts-in w = rw is at w
 
   pub first-fails : first ≡ false → false ≡ foundIs t m a x found
   first-fails e = rw (is, e)

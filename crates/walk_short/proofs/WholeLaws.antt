@@ -25,6 +25,7 @@ use Rattle.layout.specs.HeaderSays.{HeaderOf}
 use Rattle.walk_steps.specs.QuestionStands.{OnLevel}
 use Rattle.walk_steps.proofs.QuestionStandsLaws.{b-small}
 use Rattle.walk_steps.proofs.QuestionStandsLaws.{level-below, on-top}
+use Rattle.walk_short.specs.declared.gather.Parts.{Parts}
 use Rattle.walk_short.specs.declared.gather.Gathered.{Gathered}
 use Rattle.walk_short.specs.declared.gather.Gathered.the-variants.{At, Broken}
 use Rattle.walk_short.specs.declared.gather.Land.{Land}
@@ -303,3 +304,8 @@ module _ (t : List ℕ) (h : Header) (k : HeaderOf t h) where
         within-tree two len low short (at.settings t .levels - 1)
             0 (p / at.fullLength t 0) (p % at.fullLength t 0) (omega (arith, k .facts .bounds .levels-low)) (mod-lt p (full-pos t (k .facts) 0)) r 0 same,
       )
+
+-- the two parts that a walk finds, within the tree
+pub parts-in : (t : List ℕ) (x : ℕ) (found : Gathered) (q : Parts) → found ≡ At q → Within t x found
+    → (q .size ≤ x) × (q .from + q .size ≤ length t) × (q .next + (x - q .size) ≤ length t)
+parts-in t x found q is w = rw is at w

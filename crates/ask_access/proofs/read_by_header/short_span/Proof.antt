@@ -3,7 +3,7 @@ use native.Mathlib.Omega.{arith}
 use Rattle.ask_access.proofs.ShortLaws as laws
 use Rattle.ask_access.proofs.SpanLaws.{answered}
 use Rattle.ask_access.specs.declared.Copied.the-variants.{Bytes, Refused}
-use Rattle.walk_short.proofs.TruthLaws.{parts-in}
+use Rattle.walk_short.proofs.WholeLaws.{parts-in}
 use Rattle.ask_access.proofs.read_by_header.short_span.Statement.{statement}
 use Rattle.ask_access.proofs.read_by_header.short_span.Tie as tie
 
@@ -21,11 +21,11 @@ short-span-spec =
     (p .0) (p .1) (p .2) (p .3) _ (w .before .before .from-text .ensures .0) (w .enum-told .given .1) _ (c .before .before .clear .ensures)))
     (λ c. search needs)
     (λ c κs. let w = c .before .before .before in let p = w .before .before .before .before .before .pre in
-    let q = parts-in _ 0 0 _ _ _ (w .found .given .1) (w .before .before .from-text .ensures .1) in (omega (arith, p .2, q .0), q .1))
+    let q = parts-in _ _ _ _ (w .found .given .1) (w .before .before .from-text .ensures .1) in (omega (arith, p .2, q .0), q .1))
     (λ c. let w = c .before .before .before .before .before .before .before in
-    let q = parts-in _ 0 0 _ _ _ (w .found .given .1) (w .before .before .from-text .ensures .1) in omega (arith, q .0))
+    let q = parts-in _ _ _ _ (w .found .given .1) (w .before .before .from-text .ensures .1) in omega (arith, q .0))
     (λ c κs. let w = c .before .before .before .before .before .before .before in let p = w .before .before .before .before .before .pre in
-    let q = parts-in _ 0 0 _ _ _ (w .found .given .1) (w .before .before .from-text .ensures .1) in
+    let q = parts-in _ _ _ _ (w .found .given .1) (w .before .before .from-text .ensures .1) in
     (omega (arith, p .2, q .0, c .before .before .before .copy .kept .0), q .2))
     (λ c. search needs)
     (λ c. let w = c .before .before .before .before .before .before .before .before .before .before in

@@ -41,7 +41,8 @@ child-with-spec =
           (omega (arith, c .before .before .before .before .before .before .level-count .ensures, c .before .before .before .before .before .if1 .left))
           (c .before .before .last-before .ensures),
     ))
-    (λ c. search needs)
+    (λ c. let k = c .before .before .before .before .before .before .before .before .before .before .before .before .before .pre .0 .on in
+    record { fits = omega (arith, k .level-in, k .header .facts .bounds .levels-high) })
     (λ c κs. let w = c .before .before .before .before .before .before .before .before .before in
     let v = w .before .before .before .before in (
       laws.child-there _ _ _ _ _ _ _ _ _ _ (v .pre .0)
