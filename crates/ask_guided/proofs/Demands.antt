@@ -24,7 +24,7 @@ use Rattle.ask_guide.proofs.Demands.{CheckGuide}
 use Rattle.ask_guided.specs.declared.Guided.{Guided}
 use Rattle.ask_guided.specs.declared.Guided.the-variants.{At, Refused}
 use Rattle.ask_guided.specs.Guided.{stepsTo, saidGuided, stepsOf, foundOf}
-use Rattle.ask_guided.proofs.GuidedLaws.{found-by}
+use Rattle.ask_guided.proofs.GuidedFindLaws.{found-by}
 use Rattle.ask_guided.proofs.find_guided.Reads as guided-reads
 
 -- r is an answer that the contract of the call allows with these arguments

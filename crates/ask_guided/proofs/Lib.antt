@@ -1,2 +1,2 @@
-pub mod GuidedLaws
+pub mod GuidedFindLaws
 pub mod Demands

@@ -19,7 +19,7 @@ use Rattle.layout.specs.HeaderSays.{HeaderOf, header-refused}
 use Rattle.ask_rank.specs.Sums.{wholeSum}
 use Rattle.ask_rank.specs.Sums.{settled, saidIn}
 use Rattle.ask_totals.proofs.TotalLaws.{not-counted, is-counted}
-use Rattle.ask_rank.proofs.SumLaws.{broken-word}
+use Rattle.ask_rank.proofs.SumsLaws.{broken-word}
 
 -- the finished count
 

@@ -1,3 +1,3 @@
-pub mod SumLaws
+pub mod SumsLaws
 pub mod CountByHeaderLaws
 mod UncountedLaws

@@ -41,7 +41,7 @@ use Rattle.ask_select.proofs.FoundLaws.{refused-not, refused-free, place-asked,
 use Rattle.ask_guide.proofs.GuideList.{guide-verdict}
 use Rattle.ask_guided.specs.declared.Guided.{Guided}
 use Rattle.ask_guided.specs.Guided.{GuidedAnswer, foundOf}
-use Rattle.ask_guided.proofs.GuidedLaws.{found-by}
+use Rattle.ask_guided.proofs.GuidedFindLaws.{found-by}
 use Rattle.ask_rows.specs.RowSpans.{settledBy, edgesNumber, Refuses, Spans, EdgesOf}
 
 -- the number that settles a row is 0 for accepted trees alone

@@ -1,5 +1,5 @@
 pub mod TableRoom
-pub mod ScannedLevel
+pub mod ScannedFillLaws
 pub mod WindowsCounted
 pub mod TableTold
 pub mod ScannedLevelsLaws

@@ -22,7 +22,7 @@ use Rattle.build_by_search.proofs.BuildOutcomes as first
 use Rattle.build_records.specs.Grown.{Grown}
 use Rattle.build_records.specs.State.{settingsOf}
 use Rattle.build_levels.specs.Trees.{Finished}
-use Rattle.build_levels.proofs.Whole.{finished-full, finished-whole}
+use Rattle.build_levels.proofs.WrittenTree.{finished-full, finished-whole}
 use Rattle.build_by_scan.specs.declared.Scanned.{Scanned}
 use Rattle.build_by_scan.specs.declared.Scanned.the-variants.{Size, Refused as Not}
 use Rattle.build_by_scan.specs.ScannedAnswer.{numberOf, sizeOf, windowsSaid}

@@ -27,7 +27,7 @@ use Rattle.scan_passes.specs.Passes.{Present, Ordered, Among, Has, Noted, Count
 use Rattle.scan_passes.proofs.ItemLengths.{length-low, length-high, length-most, next-in}
 use Rattle.build_by_scan.specs.ScannedSays.{anyBelow, hasLength, windowsAt}
 use Rattle.build_by_scan.specs.ItemTable.{itemsSay, pairBytes}
-use Rattle.build_by_scan.proofs.ScannedLevel as lev
+use Rattle.build_by_scan.proofs.ScannedFillLaws as lev
 
 -- `anyBelow` holds exactly where the test holds at some number.
 

@@ -1,7 +1,7 @@
 // The tree, level by level.
 use crate::scanned_fill;
-use build_levels::step;
-use build_levels::step::Step;
+use build_levels::level_step;
+use build_levels::level_step::Step;
 use build_records::level_written::Level;
 use layout::settings::Settings;
 ghost use mathlib.Core.Path.{_≡_};
@@ -34,7 +34,7 @@ fn put_levels(out: &mut [u8], words: &mut [u32], text: &[u8], counted: &[u8], fi
     while level.number + 1 < first.settings.levels {
         let put = scanned_fill::put_level(out, words, text, counted, level);
         windows = windows + put.windows;
-        let step = step::go_down(out, text, counted, level, put.below);
+        let step = level_step::go_down(out, text, counted, level, put.below);
         let Step::To(next) = step else {
             return Wrote {
                 size: 0,
@@ -45,7 +45,7 @@ fn put_levels(out: &mut [u8], words: &mut [u32], text: &[u8], counted: &[u8], fi
     }
     let count = build_by_search::level_fill::fill_level(out, text, counted, level);
     Wrote {
-        size: step::finish(out, text, counted, level, count),
+        size: level_step::finish(out, text, counted, level, count),
         windows,
     }
 }
@@ -63,7 +63,7 @@ pub fn write_tree(
     ensures { λ r. ⌜ Finished (treeOf (settingsOf s (now (counted .entry))) (now (text .entry))) (now (out .exit)) (r .size) ⌝ }
     ensures { λ r. ⌜ ((r .size ≡ 0 → ⊥) → r .windows ≡ windowsOf (settingsOf s (now (counted .entry))) (now (text .entry))) ⌝ }
 {
-    let step = step::begin(out, text, counted, s);
+    let step = level_step::begin(out, text, counted, s);
     let Step::To(first) = step else {
         return Wrote {
             size: 0,

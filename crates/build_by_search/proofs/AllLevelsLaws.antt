@@ -10,8 +10,8 @@ use Rattle.build_records.specs.declared.level_written.Level.{Level}
 use Rattle.build_records.specs.Grown.{Grown}
 use Rattle.build_records.specs.State.{settingsOf}
 use Rattle.build_records.proofs.Growth.{grown-then}
-use Rattle.build_levels.specs.declared.step.Step.{Step}
-use Rattle.build_levels.specs.declared.step.Step.the-variants.{To, Full}
+use Rattle.build_levels.specs.declared.level_step.Step.{Step}
+use Rattle.build_levels.specs.declared.level_step.Step.the-variants.{To, Full}
 use Rattle.build_levels.specs.Trees.{Ready, StepIs, Finished}
 
 -- before a level: it has the settings of the first, and the tree is written up to it

@@ -23,7 +23,7 @@ use Rattle.build_by_search.specs.BuildAnswer.{numberOf, sizeOf, given}
 use Rattle.build_records.specs.Grown.{Grown}
 use Rattle.build_records.specs.State.{settingsOf}
 use Rattle.build_levels.specs.Trees.{Finished}
-use Rattle.build_levels.proofs.Whole.{finished-full, finished-whole}
+use Rattle.build_levels.proofs.WrittenTree.{finished-full, finished-whole}
 
 -- an answer, with what the buffer holds afterwards
 pub record Told (S : Settings) (T out : List ℕ) (r : Built) (new : List ℕ) : Type 0 where

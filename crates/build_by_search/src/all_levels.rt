@@ -1,7 +1,7 @@
 // The tree, level by level.
 use crate::level_fill;
-use build_levels::step;
-use build_levels::step::Step;
+use build_levels::level_step;
+use build_levels::level_step::Step;
 use build_records::level_written::Level;
 use layout::settings::Settings;
 ghost use Prim.Native.Nat.{_+_, _<_};
@@ -20,14 +20,14 @@ fn put_levels(out: &mut [u8], text: &[u8], counted: &[u8], first: Level) -> u32
     let mut level = first;
     while level.number + 1 < first.settings.levels {
         let count = level_fill::fill_level(out, text, counted, level);
-        let step = step::go_down(out, text, counted, level, count);
+        let step = level_step::go_down(out, text, counted, level, count);
         let Step::To(next) = step else {
             return 0;
         };
         level = next;
     }
     let count = level_fill::fill_level(out, text, counted, level);
-    step::finish(out, text, counted, level, count)
+    level_step::finish(out, text, counted, level, count)
 }
 
 // Writes the tree; its size, 0 where it does not fit.
@@ -36,7 +36,7 @@ pub fn write_tree(out: &mut [u8], text: &[u8], counted: &[u8], s: Settings) -> u
     ensures { λ _. ⌜ Grown (treeOf (settingsOf s (now (counted .entry))) (now (text .entry))) (now (out .entry)) (now (out .exit)) ⌝ }
     ensures { λ r. ⌜ Finished (treeOf (settingsOf s (now (counted .entry))) (now (text .entry))) (now (out .exit)) r ⌝ }
 {
-    let step = step::begin(out, text, counted, s);
+    let step = level_step::begin(out, text, counted, s);
     let Step::To(first) = step else {
         return 0;
     };

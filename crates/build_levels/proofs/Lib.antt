@@ -1,5 +1,5 @@
-pub mod Leafs
+pub mod LeafLaws
 pub mod HeaderWrittenLaws
-pub mod LevelZero
-pub mod LevelBelow
-pub mod Whole
+pub mod LevelZeroLaws
+pub mod LevelStepLaws
+pub mod WrittenTree

@@ -12,8 +12,8 @@ use Rattle.theory_built.specs.Structure.{widthOf}
 use Rattle.theory_built.specs.Pairs.{offset}
 use Rattle.layout.specs.declared.settings.Settings as code
 use Rattle.build_records.specs.declared.level_written.Level.{Level}
-use Rattle.build_levels.specs.declared.step.Step.{Step}
-use Rattle.build_levels.specs.declared.step.Step.the-variants.{To, Full}
+use Rattle.build_levels.specs.declared.level_step.Step.{Step}
+use Rattle.build_levels.specs.declared.level_step.Step.the-variants.{To, Full}
 use Rattle.build_records.specs.Grown.{Within}
 use Rattle.build_records.specs.RecordPlaces.{recordPlace}
 use Rattle.build_records.specs.State.{settingsOf, LevelIs, Filled}

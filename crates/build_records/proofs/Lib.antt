@@ -1,5 +1,5 @@
-pub mod RecordPlacesLaws
-pub mod RecordWrites
+pub mod LevelWrittenLaws
+pub mod RecordWrittenLaws
 pub mod Growth
 pub mod Neighbours
 pub mod StateLaws
@@ -8,4 +8,4 @@ pub mod Widths
 pub mod RecordCounts
 pub mod EdgeBytes
 pub mod WrittenStartsLaws
-pub mod Children
+pub mod BelowLaws

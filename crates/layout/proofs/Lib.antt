@@ -3,6 +3,6 @@ pub mod Demands
 mod HeaderLaws
 mod QuestionSeven
 mod RecordLaws
-mod RisingLaws
-pub mod Scan
-pub mod Tests
+mod SettingsLaws
+pub mod TestLoops
+pub mod AnswerTests

@@ -1,5 +1,5 @@
 pub mod WrittenLaws
-mod DigitLaws
+mod PutLaws
 mod LineLaws
 mod ListAnswerLaws
 pub mod Demands

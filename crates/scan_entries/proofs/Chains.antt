@@ -11,7 +11,7 @@ use Rattle.text.specs.ListLaws.{lt-or-ge}
 use Rattle.text.specs.Text.{stretch}
 use Rattle.scan_windows.specs.Prints.{print}
 use Rattle.scan_windows.proofs.PrintLaws.{print-below}
-use Rattle.scan_entries.proofs.Marks.{bucket-lt}
+use Rattle.scan_entries.proofs.ChainHeadLaws.{bucket-lt}
 use Rattle.scan_entries.specs.declared.Items.{Items}
 use Rattle.scan_entries.specs.ChainHeads.{linkOf, bucketOf}
 use Rattle.scan_entries.specs.Entries.{Listed, Link, Chained, Found, Searched, lengthAt, bytesAt, chainAt, nextIn, printIn, placeIn, headIn}

@@ -1,6 +1,6 @@
-pub mod Marks
+pub mod ChainHeadLaws
 pub mod ItemLaws
 pub mod EntryWrites
 pub mod Chains
-pub mod Entrance
-pub mod ChainVisits
+pub mod EntryLaws
+pub mod LookupLaws

@@ -1,5 +1,5 @@
 pub mod ItemLengths
 pub mod LengthsNoted
-pub mod ItemsTaken
+pub mod EnterLaws
 pub mod PassLaws
 pub mod AfterPass

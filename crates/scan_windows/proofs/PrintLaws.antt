@@ -8,7 +8,7 @@ use lib.ListN.{length, take, getD}
 use Rattle.text.specs.Text.{stretch}
 use Rattle.text.specs.TextLaws.{stretch-add, length-stretch}
 use Rattle.search.specs.Fingers.{digits, finger}
-use Rattle.search.proofs.Digits.{finger-nil, finger-push, finger-roll, finger-below}
+use Rattle.search.proofs.FingerLaws.{finger-nil, finger-push, finger-roll, finger-below}
 use Rattle.search.proofs.Modulo.{mul-mod, power-more}
 use Rattle.scan_windows.specs.Prints.{print}
 

@@ -24,7 +24,7 @@ use Rattle.term.specs.Days.{isDay, dateIn, written}
 use Rattle.term.specs.DateWrittenLaws.{date-back, day-back}
 use Rattle.term.specs.Term.{numberIn, openNumber, openOn, leftNumber, daysLeft, renewNumber, renewLeaves}
 use Rattle.term.specs.TermAnswers.{openedNumber, saysOpen, OpenedNumbered, saysNumber, saysDays, LeftNumbered}
-use Rattle.term.proofs.DayLaws.{day-date}
+use Rattle.term.proofs.DaysLaws.{day-date}
 use Rattle.term.proofs.open_on.Reads as open-reads
 use Rattle.term.proofs.open_on as open-on
 use Rattle.term.proofs.open_on.Symbol as open-at

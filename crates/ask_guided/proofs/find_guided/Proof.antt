@@ -3,7 +3,7 @@ use mathlib.Core.Path.{_∙_, sym}
 use native.Mathlib.Omega.{arith}
 use Rattle.layout.specs.HeaderSays.{header-good, header-refused}
 use Rattle.ask_select.proofs.FindByHeaderLaws as first
-use Rattle.ask_guided.proofs.GuidedLaws as laws
+use Rattle.ask_guided.proofs.GuidedFindLaws as laws
 use Rattle.ask_guided.proofs.find_guided.Statement.{statement}
 use Rattle.ask_guided.proofs.find_guided.Tie as tie
 

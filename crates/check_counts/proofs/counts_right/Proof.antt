@@ -3,7 +3,7 @@ use borrow.Author.Needs.{needs}
 use native.Mathlib.Omega.{arith}
 use Rattle.check_counts.proofs.CountsHeader as facts
 use Rattle.check_counts.proofs.LevelCountsLaws as laws
-use Rattle.layout.proofs.Tests.{failed, held}
+use Rattle.layout.proofs.AnswerTests.{failed, held}
 use Rattle.check_counts.proofs.counts_right.Statement.{statement}
 use Rattle.check_counts.proofs.counts_right.Tie as tie
 use Rattle.format.specs.Layout as at

@@ -4,8 +4,8 @@ use mathlib.Core.Bool.{true}
 use mathlib.Core.Path.{_≡_}
 use native.Mathlib.Omega.{arith}
 use Rattle.format.specs.Fits.{widthAt, blockRight}
-use Rattle.layout.proofs.Scan.{scan-none, scan-more}
-use Rattle.layout.proofs.Tests.{failed, held}
+use Rattle.layout.proofs.TestLoops.{scan-none, scan-more}
+use Rattle.layout.proofs.AnswerTests.{failed, held}
 use Rattle.check_links.proofs.TreeLaws as tree
 use Rattle.check_links.proofs.level_right.Statement.{statement}
 use Rattle.check_links.proofs.level_right.Tie as tie

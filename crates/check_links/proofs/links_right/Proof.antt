@@ -3,8 +3,8 @@ use borrow.Author.Needs.{needs}
 use mathlib.Core.Bool.{true}
 use mathlib.Core.Path.{_≡_}
 use native.Mathlib.Omega.{arith}
-use Rattle.layout.proofs.Scan.{scan-none, scan-more, scan-done, scan-fails}
-use Rattle.layout.proofs.Tests.{failed, held}
+use Rattle.layout.proofs.TestLoops.{scan-none, scan-more, scan-done, scan-fails}
+use Rattle.layout.proofs.AnswerTests.{failed, held}
 use Rattle.check_links.proofs.TreeLaws as tree
 use Rattle.check_links.proofs.links_right.Statement.{statement}
 use Rattle.check_links.proofs.links_right.Tie as tie

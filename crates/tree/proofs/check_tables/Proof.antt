@@ -1,5 +1,5 @@
 use borrow.Author.Needs.{needs}
-use Rattle.layout.proofs.Tests.{failed, held}
+use Rattle.layout.proofs.AnswerTests.{failed, held}
 use Rattle.tree.proofs.CheckLaws.{links-fail, counts-fail, edges-fail, edges-hold}
 use Rattle.tree.proofs.check_tables.Statement.{statement}
 use Rattle.tree.proofs.check_tables.Tie as tie

@@ -1,7 +1,7 @@
 use borrow.Author.Needs.{needs}
 use native.Mathlib.Omega.{arith}
 use Rattle.ask_select.proofs.FindByHeaderLaws as first
-use Rattle.ask_guided.proofs.GuidedLaws as laws
+use Rattle.ask_guided.proofs.GuidedFindLaws as laws
 use Rattle.ask_guided.proofs.guided_find.find_guided_at.Statement.{statement}
 use Rattle.ask_guided.proofs.guided_find.find_guided_at.Tie as tie
 

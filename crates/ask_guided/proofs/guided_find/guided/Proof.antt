@@ -3,7 +3,7 @@ use native.Mathlib.Omega.{arith}
 use mathlib.Core.Path.{ap}
 use Prim.Native.Nat.{ℕ, _+_}
 use Rattle.ask_guide.specs.Guides.{lastEntry}
-use Rattle.ask_guided.proofs.GuidedLaws as laws
+use Rattle.ask_guided.proofs.GuidedFindLaws as laws
 use Rattle.ask_guided.proofs.guided_find.guided.Statement.{statement}
 use Rattle.ask_guided.proofs.guided_find.guided.Tie as tie
 

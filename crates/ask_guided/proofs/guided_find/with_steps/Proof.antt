@@ -1,5 +1,5 @@
 use borrow.Author.Needs.{needs}
-use Rattle.ask_guided.proofs.GuidedLaws as laws
+use Rattle.ask_guided.proofs.GuidedFindLaws as laws
 use Rattle.ask_guided.proofs.guided_find.with_steps.Statement.{statement}
 use Rattle.ask_guided.proofs.guided_find.with_steps.Tie as tie
 

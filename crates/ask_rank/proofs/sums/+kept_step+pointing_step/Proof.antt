@@ -23,7 +23,7 @@ use Rattle.walk_steps.proofs.quotient.Reads as quotient-reads
 use Rattle.format.specs.Layout as at
 use Rattle.walk_steps.proofs.StepLaws.{shapes-on}
 use Rattle.walk_path.proofs.WalkLaws as walk
-use Rattle.ask_rank.proofs.SumLaws as laws
+use Rattle.ask_rank.proofs.SumsLaws as laws
 use Rattle.ask_rank.proofs.sums.+kept_step+pointing_step.{statement}
 use Rattle.ask_rank.proofs.sums.+kept_step+pointing_step.Tie.{close}
 

@@ -1,5 +1,5 @@
 use native.Mathlib.Omega.{arith}
-use Rattle.ask_rank.proofs.SumLaws as laws
+use Rattle.ask_rank.proofs.SumsLaws as laws
 use Rattle.ask_rank.proofs.sums.down.Statement.{statement}
 use Rattle.ask_rank.proofs.sums.down.Tie as tie
 

@@ -1,7 +1,7 @@
 use borrow.Author.Needs.{needs}
 use native.Mathlib.Omega.{arith}
 use Rattle.ask_totals.proofs.TotalLaws.{field-there}
-use Rattle.ask_rank.proofs.SumLaws as laws
+use Rattle.ask_rank.proofs.SumsLaws as laws
 use Rattle.ask_rank.proofs.sums.start.Statement.{statement}
 use Rattle.ask_rank.proofs.sums.start.Tie as tie
 

@@ -2,7 +2,7 @@ use native.Mathlib.Omega.{arith}
 use Rattle.walk_steps.proofs.NextLaws.{on-top}
 use Rattle.walk_steps.proofs.StepLaws.{b-pos}
 use Rattle.walk_path.proofs.WalkLaws as query
-use Rattle.ask_rank.proofs.SumLaws as laws
+use Rattle.ask_rank.proofs.SumsLaws as laws
 use Rattle.ask_rank.proofs.sums.walk.Statement.{statement}
 use Rattle.ask_rank.proofs.sums.walk.Tie as tie
 

@@ -10,7 +10,7 @@ use Rattle.format.specs.VerdictLaws.{accepted-links}
 use Rattle.theory_paths.specs.PlaceBytes.{never-14}
 use Rattle.ask_access.proofs.RunLaws.{part-reads, part-broken}
 use Rattle.ask_worn_keys.proofs.SearchLaws.{from-broken, from-on, from-found, from-end, part-short, part-cut, low-more}
-use Rattle.keys.proofs.RangeLaws.{range-short}
+use Rattle.keys.proofs.RangesLaws.{range-short}
 use Rattle.ask_worn_keys.proofs.search.from.Statement.{statement}
 use Rattle.ask_worn_keys.proofs.search.from.Tie as tie
 

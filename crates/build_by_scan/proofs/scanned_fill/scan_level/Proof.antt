@@ -1,7 +1,7 @@
 use borrow.Author.Needs.{needs}
 use mathlib.Core.Path.{sym, _∙_}
 use native.Mathlib.Omega.{arith}
-use Rattle.build_by_scan.proofs.ScannedLevel as laws
+use Rattle.build_by_scan.proofs.ScannedFillLaws as laws
 use Rattle.build_by_scan.proofs.WindowsCounted as counts
 use Rattle.build_by_scan.proofs.scanned_fill.scan_level.Statement.{statement}
 use Rattle.build_by_scan.proofs.scanned_fill.scan_level.Tie as tie

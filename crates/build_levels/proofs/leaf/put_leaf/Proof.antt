@@ -1,5 +1,5 @@
 use borrow.Author.Needs.{needs}
-use Rattle.build_levels.proofs.Leafs as laws
+use Rattle.build_levels.proofs.LeafLaws as laws
 use Rattle.build_levels.proofs.leaf.put_leaf.Statement.{statement}
 use Rattle.build_levels.proofs.leaf.put_leaf.Tie as tie
 

@@ -1,7 +1,7 @@
 use Prim.Native.Nat.{_≤_, _-_}
 use native.Mathlib.Omega.{arith}
 use Rattle.build_records.proofs.Growth.{grown-none, grown-then}
-use Rattle.build_levels.proofs.Leafs as laws
+use Rattle.build_levels.proofs.LeafLaws as laws
 use Rattle.build_levels.proofs.leaf.put_leaves.Statement.{statement}
 use Rattle.build_levels.proofs.leaf.put_leaves.Tie as tie
 use Rattle.build_records.specs.Grown.{Grown}

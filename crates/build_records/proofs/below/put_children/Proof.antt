@@ -1,6 +1,6 @@
 use Prim.Native.Nat.{_≤_, _-_}
 use native.Mathlib.Omega.{arith}
-use Rattle.build_records.proofs.Children.{below-more, below-all}
+use Rattle.build_records.proofs.BelowLaws.{below-more, below-all}
 use Rattle.build_records.proofs.Growth.{grown-none, grown-then}
 use Rattle.build_records.proofs.below.put_children.Statement.{statement}
 use Rattle.build_records.proofs.below.put_children.Tie as tie

@@ -1,6 +1,6 @@
 use borrow.Author.Needs.{needs}
 use native.Mathlib.Omega.{arith}
-use Rattle.build_records.proofs.Children as laws
+use Rattle.build_records.proofs.BelowLaws as laws
 use Rattle.build_records.proofs.Growth.{grown-none}
 use Rattle.build_records.proofs.StateLaws.{few}
 use Rattle.build_records.proofs.below.put_children_of.Statement.{statement}

@@ -2,7 +2,7 @@ use Prim.Native.Nat.{ℕ, _+_, _*_}
 use borrow.Author.Needs.{needs}
 use mathlib.Core.Path.{ap}
 use native.Mathlib.Omega.{arith}
-use Rattle.build_records.proofs.RecordPlacesLaws.{records-end}
+use Rattle.build_records.proofs.LevelWrittenLaws.{records-end}
 use Rattle.build_records.proofs.level_written.place.Statement.{statement}
 use Rattle.build_records.proofs.level_written.place.Tie as tie
 

@@ -1,5 +1,5 @@
 use borrow.Author.Needs.{needs}
-use Rattle.build_records.proofs.RecordPlacesLaws.{size-is}
+use Rattle.build_records.proofs.LevelWrittenLaws.{size-is}
 use Rattle.build_records.proofs.level_written.record_size.Statement.{statement}
 use Rattle.build_records.proofs.level_written.record_size.Tie as tie
 

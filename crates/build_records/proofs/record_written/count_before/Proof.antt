@@ -1,7 +1,7 @@
 use Prim.Native.Nat.{_-_}
 use borrow.Author.Tests.{eq-eqb, ne-eqb}
 use native.Mathlib.Omega.{arith}
-use Rattle.build_records.proofs.RecordWrites.{words-added}
+use Rattle.build_records.proofs.RecordWrittenLaws.{words-added}
 use Rattle.build_records.proofs.record_written.count_before.Statement.{statement}
 use Rattle.build_records.proofs.record_written.count_before.Tie as tie
 

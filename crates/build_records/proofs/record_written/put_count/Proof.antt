@@ -1,5 +1,5 @@
 use borrow.Author.Needs.{needs}
-use Rattle.build_records.proofs.RecordWrites.{count-written}
+use Rattle.build_records.proofs.RecordWrittenLaws.{count-written}
 use Rattle.build_records.proofs.record_written.put_count.Statement.{statement}
 use Rattle.build_records.proofs.record_written.put_count.Tie as tie
 

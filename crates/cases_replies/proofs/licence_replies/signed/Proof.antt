@@ -1,5 +1,5 @@
 use borrow.Author.Needs.{needs}
-use Rattle.cases_replies.proofs.SignedLaws.{widened, negated, magnitude, itself}
+use Rattle.cases_replies.proofs.LicenceRepliesLaws.{widened, negated, magnitude, itself}
 use Rattle.cases_replies.proofs.licence_replies.signed.Statement.{statement}
 use Rattle.cases_replies.proofs.licence_replies.signed.Tie as tie
 

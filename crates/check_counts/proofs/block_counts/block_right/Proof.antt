@@ -4,7 +4,7 @@ use Rattle.check_counts.proofs.BlockCountsLaws as laws
 use Rattle.check_counts.proofs.CountsHeader as facts
 use Rattle.check_counts.proofs.block_counts.block_right.Statement.{statement}
 use Rattle.check_counts.proofs.block_counts.block_right.Tie as tie
-use Rattle.layout.proofs.Tests.{failed, held}
+use Rattle.layout.proofs.AnswerTests.{failed, held}
 
 pub block-right-spec : {M : Type 1} → statement M
 block-right-spec =

@@ -5,7 +5,7 @@ use mathlib.Core.Bool.{true}
 use mathlib.Core.Path.{_≡_}
 use native.Mathlib.Omega.{arith}
 use Rattle.check_counts.proofs.LevelCountsLaws as laws
-use Rattle.layout.proofs.Tests.{failed, held}
+use Rattle.layout.proofs.AnswerTests.{failed, held}
 use Rattle.check_counts.proofs.level_counts.block_counts_right.Statement.{statement}
 use Rattle.check_counts.proofs.level_counts.block_counts_right.Tie as tie
 use Rattle.theory_counts.specs.CountsLocal.{blockLocal}

@@ -6,7 +6,7 @@ use mathlib.Core.Path.{_≡_}
 use native.Mathlib.Omega.{arith}
 use Rattle.layout.specs.HeaderSays as header
 use Rattle.check_counts.proofs.LevelCountsLaws as laws
-use Rattle.layout.proofs.Tests.{failed, held}
+use Rattle.layout.proofs.AnswerTests.{failed, held}
 use Rattle.check_counts.proofs.level_counts.level_right.Statement.{statement}
 use Rattle.check_counts.proofs.level_counts.level_right.Tie as tie
 use Rattle.format.specs.Layout as at

@@ -4,7 +4,7 @@ use borrow.Author.Needs.{needs}
 use mathlib.Core.Bool.{true}
 use mathlib.Core.Path.{_≡_}
 use native.Mathlib.Omega.{arith}
-use Rattle.layout.proofs.Tests.{failed, held}
+use Rattle.layout.proofs.AnswerTests.{failed, held}
 use Rattle.theory_edges.specs.EdgesLocal.{levelEdges}
 use Rattle.check_edges.proofs.TruthLaws as laws
 use Rattle.check_edges.proofs.truth.edges_right.Statement.{statement}

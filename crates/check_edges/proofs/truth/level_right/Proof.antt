@@ -4,7 +4,7 @@ use mathlib.Core.Bool.{true}
 use mathlib.Core.Path.{_≡_}
 use borrow.Author.Needs.{needs}
 use native.Mathlib.Omega.{arith}
-use Rattle.layout.proofs.Tests.{failed, held}
+use Rattle.layout.proofs.AnswerTests.{failed, held}
 use Rattle.check_edges.proofs.TruthLaws as laws
 use Rattle.layout.specs.HeaderSays as header
 use Rattle.theory_edges.specs.EdgesLocal.{edgesLocal}

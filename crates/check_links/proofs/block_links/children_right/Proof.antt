@@ -4,7 +4,7 @@ use mathlib.Core.Bool.{true}
 use mathlib.Core.Path.{_≡_}
 use native.Mathlib.Nat.{mul-le-mul}
 use native.Mathlib.Omega.{arith}
-use Rattle.layout.proofs.Scan.{scan-none, scan-more, scan-done, scan-fails}
+use Rattle.layout.proofs.TestLoops.{scan-none, scan-more, scan-done, scan-fails}
 use Rattle.check_links.proofs.BlockLinksLaws as laws
 use Rattle.check_links.proofs.block_links.children_right.Statement.{statement}
 use Rattle.check_links.proofs.block_links.children_right.Tie as tie

@@ -1,6 +1,6 @@
 use borrow.Author.Needs.{needs}
 use native.Mathlib.Omega.{arith}
-use Rattle.layout.proofs.Tests.{failed, held}
+use Rattle.layout.proofs.AnswerTests.{failed, held}
 use Rattle.check_links.proofs.BlockLinksLaws as laws
 use Rattle.check_links.proofs.block_links.pointing_right.Statement.{statement}
 use Rattle.check_links.proofs.block_links.pointing_right.Tie as tie

@@ -1,6 +1,6 @@
 use borrow.Author.Needs.{needs}
 use Rattle.layout.proofs.HeaderQuestions.{asked-5, asked-6, asked-7, asked-fields, asked-all}
-use Rattle.layout.proofs.Tests.{failed, held}
+use Rattle.layout.proofs.AnswerTests.{failed, held}
 use Rattle.layout.proofs.header.read_header.Statement.{statement}
 use Rattle.layout.proofs.header.read_header.Tie as tie
 

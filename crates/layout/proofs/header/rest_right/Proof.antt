@@ -1,7 +1,7 @@
 use borrow.Author.Needs.{needs}
 use mathlib.Core.Path.{_∙_, sym}
 use Rattle.layout.proofs.HeaderLaws as laws
-use Rattle.layout.proofs.Tests.{failed, held}
+use Rattle.layout.proofs.AnswerTests.{failed, held}
 use Rattle.layout.proofs.header.rest_right.Statement.{statement}
 use Rattle.layout.proofs.header.rest_right.Tie as tie
 

@@ -4,7 +4,7 @@ use borrow.Author.Tests.{eq-eqb, ne-eqb}
 use mathlib.Core.Bool.{true}
 use mathlib.Core.Path.{_≡_}
 use native.Mathlib.Omega.{arith}
-use Rattle.layout.proofs.Scan.{scan-none, scan-more, scan-done, scan-fails}
+use Rattle.layout.proofs.TestLoops.{scan-none, scan-more, scan-done, scan-fails}
 use Rattle.layout.proofs.header.spare_counted_zero.Statement.{statement}
 use Rattle.layout.proofs.header.spare_counted_zero.Tie as tie
 use Rattle.layout.specs.Header.{spareCounted, zeroByte}

@@ -7,7 +7,7 @@ use Rattle.format.specs.Settings.{maxRecord}
 use Rattle.format.specs.HeaderPlaces.{headerLength}
 use Rattle.format.specs.Layout.{levelCount, recordSize}
 use Rattle.layout.proofs.HeaderLaws.{apart, meets, end-none, end-more, leaves-meet, level-apart}
-use Rattle.layout.proofs.Scan.{scan-none, scan-more, scan-fails}
+use Rattle.layout.proofs.TestLoops.{scan-none, scan-more, scan-fails}
 use Rattle.layout.proofs.header.tables_meet.Statement.{statement}
 use Rattle.layout.proofs.header.tables_meet.Tie as tie
 use Rattle.layout.specs.Header.{follows}

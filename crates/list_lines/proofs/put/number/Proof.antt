@@ -1,6 +1,6 @@
 use borrow.Author.Needs.{needs}
 use native.Mathlib.Omega.{arith}
-use Rattle.list_lines.proofs.DigitLaws as digits
+use Rattle.list_lines.proofs.PutLaws as digits
 use Rattle.list_lines.proofs.put.number.Statement.{statement}
 use Rattle.list_lines.proofs.put.number.Tie as tie
 

@@ -1,5 +1,5 @@
 use borrow.Author.Needs.{needs}
-use Rattle.list_lines.proofs.DigitLaws.{figure-put}
+use Rattle.list_lines.proofs.PutLaws.{figure-put}
 use Rattle.list_lines.proofs.put.number_and.Statement.{statement}
 use Rattle.list_lines.proofs.put.number_and.Tie as tie
 

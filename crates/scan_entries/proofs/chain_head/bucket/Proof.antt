@@ -1,7 +1,7 @@
 use native.Mathlib.Omega.{arith}
 use mathlib.Core.Path.{refl}
 use Rattle.scan_entries.specs.ChainHeads.{bucketOf}
-use Rattle.scan_entries.proofs.Marks.{bucket-lt, bucket-fits}
+use Rattle.scan_entries.proofs.ChainHeadLaws.{bucket-lt, bucket-fits}
 use Rattle.scan_entries.proofs.chain_head.bucket.Statement.{statement}
 use Rattle.scan_entries.proofs.chain_head.bucket.Tie as tie
 

@@ -1,6 +1,6 @@
 use borrow.Author.Needs.{needs}
 use native.Mathlib.Omega.{arith}
-use Rattle.scan_entries.proofs.Marks.{marks-fit, is-pushed}
+use Rattle.scan_entries.proofs.ChainHeadLaws.{marks-fit, is-pushed}
 use Rattle.scan_entries.proofs.chain_head.pushed.Statement.{statement}
 use Rattle.scan_entries.proofs.chain_head.pushed.Tie as tie
 

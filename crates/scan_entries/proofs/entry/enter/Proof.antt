@@ -3,7 +3,7 @@ use native.Mathlib.Omega.{arith}
 use mathlib.Core.Path.{refl}
 use Rattle.scan_entries.specs.ChainHeads.{linkOf}
 use Rattle.scan_entries.specs.Entries.{headIn}
-use Rattle.scan_entries.proofs.Entrance as laws
+use Rattle.scan_entries.proofs.EntryLaws as laws
 use Rattle.scan_entries.proofs.entry.enter.Statement.{statement}
 use Rattle.scan_entries.proofs.entry.enter.Tie as tie
 

@@ -1,6 +1,6 @@
 use borrow.Author.Needs.{needs}
 use native.Mathlib.Omega.{arith}
-use Rattle.scan_entries.proofs.Entrance as laws
+use Rattle.scan_entries.proofs.EntryLaws as laws
 use Rattle.scan_entries.proofs.entry.skip.Statement.{statement}
 use Rattle.scan_entries.proofs.entry.skip.Tie as tie
 

@@ -4,7 +4,7 @@ use Rattle.scan_entries.specs.ChainHeads.{linkOf}
 use Rattle.scan_entries.specs.Entries.{nextIn, headIn}
 use Rattle.scan_entries.specs.ItemsEntered.{Leads}
 use Rattle.scan_entries.proofs.ItemLaws as items
-use Rattle.scan_entries.proofs.Entrance as laws
+use Rattle.scan_entries.proofs.EntryLaws as laws
 use Rattle.scan_entries.proofs.entry.twin.Statement.{statement}
 use Rattle.scan_entries.proofs.entry.twin.Tie as tie
 

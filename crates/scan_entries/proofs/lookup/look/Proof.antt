@@ -2,7 +2,7 @@ use borrow.Author.Needs.{needs}
 use native.Mathlib.Omega.{arith}
 use Rattle.scan_entries.specs.ChainHeads.{linkOf}
 use Rattle.scan_entries.specs.Entries.{headIn}
-use Rattle.scan_entries.proofs.ChainVisits as laws
+use Rattle.scan_entries.proofs.LookupLaws as laws
 use Rattle.scan_entries.proofs.lookup.look.Statement.{statement}
 use Rattle.scan_entries.proofs.lookup.look.Tie as tie
 

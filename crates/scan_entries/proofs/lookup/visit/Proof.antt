@@ -1,7 +1,7 @@
 use borrow.Author.Needs.{needs}
 use native.Mathlib.Omega.{arith}
 use Rattle.scan_entries.specs.Entries.{nextIn}
-use Rattle.scan_entries.proofs.ChainVisits as laws
+use Rattle.scan_entries.proofs.LookupLaws as laws
 use Rattle.scan_entries.proofs.lookup.visit.Statement.{statement}
 use Rattle.scan_entries.proofs.lookup.visit.Tie as tie
 

@@ -1,7 +1,7 @@
 use native.Mathlib.Omega.{arith}
 use mathlib.Core.Path.{_∙_}
 use mathlib.Core.Logic.{inl}
-use Rattle.scan_passes.proofs.ItemsTaken as laws
+use Rattle.scan_passes.proofs.EnterLaws as laws
 use Rattle.scan_passes.proofs.enter.enter_both.Statement.{statement}
 use Rattle.scan_passes.proofs.enter.enter_both.Tie as tie
 

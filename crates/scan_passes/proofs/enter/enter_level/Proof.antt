@@ -2,7 +2,7 @@ use borrow.Author.Needs.{needs}
 use native.Mathlib.Omega.{arith}
 use Prim.Native.Nat.{_-_}
 use mathlib.Core.Path.{_∙_}
-use Rattle.scan_passes.proofs.ItemsTaken as laws
+use Rattle.scan_passes.proofs.EnterLaws as laws
 use Rattle.scan_passes.proofs.enter.enter_level.Statement.{statement}
 use Rattle.scan_passes.proofs.enter.enter_level.Tie as tie
 

@@ -2,7 +2,7 @@ use borrow.Author.Needs.{needs}
 use native.Mathlib.Omega.{arith}
 use mathlib.Core.Path.{refl}
 use mathlib.Core.Logic.{inr}
-use Rattle.scan_passes.proofs.ItemsTaken as laws
+use Rattle.scan_passes.proofs.EnterLaws as laws
 use Rattle.scan_passes.proofs.enter.enter_pair.Statement.{statement}
 use Rattle.scan_passes.proofs.enter.enter_pair.Tie as tie
 

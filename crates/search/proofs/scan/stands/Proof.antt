@@ -1,7 +1,7 @@
 -- `stands` meets its contract: where the fingerprints differ the bytes differ, and else the bytes are compared.
 use mathlib.Core.Path.{sym}
 use borrow.Author.Needs.{needs}
-use Rattle.search.proofs.Ahead.{differ}
+use Rattle.search.proofs.ScanLaws.{differ}
 use Rattle.search.proofs.scan.stands.Statement.{statement}
 use Rattle.search.proofs.scan.stands.Tie as tie
 

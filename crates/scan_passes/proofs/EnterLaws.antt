@@ -12,7 +12,7 @@ use Rattle.scan_windows.proofs.PrintLaws.{print-join}
 use Rattle.scan_entries.specs.declared.Items.{Items}
 use Rattle.scan_entries.specs.Entries.{Laid, Placed, Listed, startAt, lengthAt, bytesAt, placeIn}
 use Rattle.scan_entries.specs.ItemsEntered.{Cleared, Turn, Entered, Skipped}
-use Rattle.scan_entries.proofs.Entrance.{chained-none}
+use Rattle.scan_entries.proofs.EntryLaws.{chained-none}
 use Rattle.scan_passes.specs.declared.Lengths.{Lengths}
 use Rattle.scan_passes.specs.Passes.{Present, Ordered, Took, Entrants, PairSays, Noted, notedBy}
 use Rattle.scan_passes.proofs.ItemLengths.{start-same, length-low, length-high, full-block, pair-parts, pair-there}

@@ -1,9 +1,9 @@
 use borrow.Author.Needs.{needs}
 use lib.ListN.{length}
 use native.Mathlib.Omega.{arith}
-use Rattle.build_levels.proofs.LevelZero.{sized-pos, sized-high, first-made}
-use Rattle.build_levels.proofs.step.first_level.Statement.{statement}
-use Rattle.build_levels.proofs.step.first_level.Tie as tie
+use Rattle.build_levels.proofs.LevelZeroLaws.{sized-pos, sized-high, first-made}
+use Rattle.build_levels.proofs.level_step.first_level.Statement.{statement}
+use Rattle.build_levels.proofs.level_step.first_level.Tie as tie
 
 pub first-level-spec : {M : Type 1} → statement M
 first-level-spec =

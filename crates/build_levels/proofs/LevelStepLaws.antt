@@ -19,7 +19,7 @@ use Rattle.theory_built.specs.Small.{offset-le}
 use Rattle.theory_built.specs.Shape.{tree-length}
 use Rattle.theory_built.specs.Built.{tree-small}
 use Rattle.build_records.specs.declared.level_written.Level.{Level}
-use Rattle.build_levels.specs.declared.step.Step.the-variants.{To, Full}
+use Rattle.build_levels.specs.declared.level_step.Step.the-variants.{To, Full}
 use Rattle.build_records.specs.Grown.{Grown, Within}
 use Rattle.build_levels.specs.Head.{pairWritten, unusedWritten}
 use Rattle.build_records.specs.RecordPlaces.{recordPlace}
@@ -27,7 +27,7 @@ use Rattle.build_records.specs.State.{settingsOf, LevelIs, Filled, Below, place
 use Rattle.build_levels.specs.LeavesWritten.{Leafing}
 use Rattle.build_levels.specs.Trees.{nextOf, Ready, Written, StepIs, Finished}
 use Rattle.build_records.proofs.Growth.{grown-then, within-grown, within-part, within-join}
-use Rattle.build_levels.proofs.LevelZero.{divided, step-ready, step-none}
+use Rattle.build_levels.proofs.LevelZeroLaws.{divided, step-ready, step-none}
 use Rattle.build_levels.proofs.HeaderWrittenLaws.{level-grown, level-within, end-grown, end-within}
 use Rattle.build_records.proofs.StateLaws.{place-is, place-end, offset-low, table-inside, Few, few}
 

@@ -1,9 +1,9 @@
 use native.Mathlib.Omega.{arith}
-use Rattle.build_levels.proofs.LevelBelow as laws
+use Rattle.build_levels.proofs.LevelStepLaws as laws
 use Rattle.build_records.proofs.StateLaws.{few}
 use Rattle.theory_built.specs.BlockSizes.{bounds}
-use Rattle.build_levels.proofs.step.finish.Statement.{statement}
-use Rattle.build_levels.proofs.step.finish.Tie as tie
+use Rattle.build_levels.proofs.level_step.finish.Statement.{statement}
+use Rattle.build_levels.proofs.level_step.finish.Tie as tie
 
 pub finish-spec : {M : Type 1} → statement M
 finish-spec =

@@ -1,8 +1,8 @@
 use borrow.Author.Needs.{needs}
 use native.Mathlib.Omega.{arith}
-use Rattle.build_levels.proofs.LevelBelow.{next-made}
-use Rattle.build_levels.proofs.step.next_level.Statement.{statement}
-use Rattle.build_levels.proofs.step.next_level.Tie as tie
+use Rattle.build_levels.proofs.LevelStepLaws.{next-made}
+use Rattle.build_levels.proofs.level_step.next_level.Statement.{statement}
+use Rattle.build_levels.proofs.level_step.next_level.Tie as tie
 
 pub next-level-spec : {M : Type 1} → statement M
 next-level-spec =

@@ -1,8 +1,8 @@
-use Rattle.build_levels.proofs.LevelZero as laws
+use Rattle.build_levels.proofs.LevelZeroLaws as laws
 use Rattle.build_records.proofs.Growth.{grown-none}
 use Rattle.theory_built.specs.BlockSizes.{bounds}
-use Rattle.build_levels.proofs.step.begin.Statement.{statement}
-use Rattle.build_levels.proofs.step.begin.Tie as tie
+use Rattle.build_levels.proofs.level_step.begin.Statement.{statement}
+use Rattle.build_levels.proofs.level_step.begin.Tie as tie
 
 pub begin-spec : {M : Type 1} → statement M
 begin-spec =

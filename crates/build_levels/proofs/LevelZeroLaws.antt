@@ -21,10 +21,10 @@ use Rattle.build_records.specs.Grown.{Grown, Within}
 use Rattle.build_records.specs.RecordPlaces.{recordPlace}
 use Rattle.build_records.specs.WrittenStarts.{startsWritten, StartsAsk}
 use Rattle.build_records.specs.State.{settingsOf, LevelIs, Filled, placeAt}
-use Rattle.build_levels.specs.declared.step.Step.the-variants.{To, Full}
+use Rattle.build_levels.specs.declared.level_step.Step.the-variants.{To, Full}
 use Rattle.build_levels.specs.Trees.{firstOf, Ready, StepIs}
 use Rattle.build_records.proofs.Growth.{grown-then, within-grown, within-none}
-use Rattle.build_records.proofs.Children.{pieces-most}
+use Rattle.build_records.proofs.BelowLaws.{pieces-most}
 use Rattle.build_records.proofs.WrittenStartsLaws.{starts-grown, starts-within}
 use Rattle.build_records.proofs.StateLaws.{record-size, place-is, place-end, record-inside-table, table-inside, offset-low, size-high, start-stands, Few, few}
 

@@ -1,10 +1,10 @@
 use native.Mathlib.Omega.{arith}
-use Rattle.build_levels.proofs.LevelBelow as laws
+use Rattle.build_levels.proofs.LevelStepLaws as laws
 use Rattle.build_records.proofs.Growth.{grown-then}
 use Rattle.build_records.proofs.StateLaws.{few}
 use Rattle.theory_built.specs.BlockSizes.{bounds}
-use Rattle.build_levels.proofs.step.go_down.Statement.{statement}
-use Rattle.build_levels.proofs.step.go_down.Tie as tie
+use Rattle.build_levels.proofs.level_step.go_down.Statement.{statement}
+use Rattle.build_levels.proofs.level_step.go_down.Tie as tie
 
 pub go-down-spec : {M : Type 1} → statement M
 go-down-spec =
