@@ -14,7 +14,7 @@ use Rattle.text.specs.Text.{stretch, countIn}
 use Rattle.format.specs.Layout as at
 use Rattle.format.specs.RecordFields.{skipField}
 use Rattle.format.specs.Settings.{maxLevels}
-use Rattle.format.specs.Path.{Path, Visit, visit, entered, keptBlock, pointingBlock, targetBlock, targetPlace, pathFrom, pathOf}
+use Rattle.format.specs.Path.{Path, Visit, visit, entered, keptBlock, pointingBlock, targetBlock, pathFrom, pathOf}
 use Rattle.format.specs.CountSays.{addedAfter, added, takenAfter, taken, lastPlace, leavesReached}
 use Rattle.theory_paths.specs.PlacesLand.{from-last, from-kept, from-pointing, target-first, target-second}
 use Rattle.theory_paths.specs.Visits.{goes}
@@ -22,7 +22,7 @@ use Rattle.layout.specs.declared.place.BlockNumber.{BlockNumber}
 use Rattle.layout.specs.declared.place.BlockPlace.{BlockPlace}
 use Rattle.layout.specs.Record.{FieldIn, field-in}
 use Rattle.walk_steps.specs.declared.Next.{Next}
-use Rattle.walk_steps.specs.declared.Next.the-variants.{Kept, Points, Off}
+use Rattle.walk_steps.specs.declared.Next.the-variants.{Points, Off}
 use Rattle.walk_steps.specs.declared.Part.{Part}
 use Rattle.walk_steps.specs.declared.Arrived.{Arrived}
 use Rattle.walk_steps.specs.declared.Arrived.the-variants as arrived
@@ -36,8 +36,7 @@ use Rattle.walk_path.proofs.WalkLaws as walk
 use Rattle.walk_path.proofs.WalkLaws.{from-off, from-past, from-no-leaf}
 use Rattle.theory_counts.specs.Ranks.{goes-head, added-target, taken-target}
 use Rattle.ask_rank.specs.declared.sums.Sum.{Sum}
-use Rattle.ask_rank.specs.declared.sums.Summed.{Summed}
-use Rattle.ask_rank.specs.declared.sums.Summed.the-variants.{At, Broken}
+use Rattle.ask_rank.specs.declared.sums.Summed.the-variants.{At}
 use Rattle.format.specs.Said.{Said, refused}
 use Rattle.ask_rank.specs.Sums.{settled, saidIn}
 use Rattle.ask_rank.specs.Sums.{onward, addedRest, summed, startSum, wholeSum, Carried, Across}

@@ -8,9 +8,9 @@ use native.Mathlib.Numerals.{add-one}
 use lib.ListN.{length, getD}
 use Rattle.format.specs.RecordFields.{plainBytes, countedBytes, fieldBytes}
 use Rattle.format.specs.Settings.{Settings}
-use Rattle.format.specs.Blocks.{treeOf, recordBytes}
+use Rattle.format.specs.Blocks.{treeOf}
 use Rattle.format.specs.EdgeLaws.{first-own, first-none, last-own, last-none}
-use Rattle.theory_built.specs.BlockSizes.{Taken, Bounds, bounds}
+use Rattle.theory_built.specs.BlockSizes.{Taken}
 use Rattle.theory_built.specs.Structure.{count, start, bytesIn}
 use Rattle.theory_built.specs.BuiltLeaves.{bytes-fit}
 use Rattle.theory_built.specs.BuiltRecords.{edgesIn, recordWords}

@@ -2,7 +2,7 @@
 use mathlib.Core.List.{List, [], _++_}
 use mathlib.Core.Bool.{cond}
 use mathlib.Core.Path.{_≡_}
-use Prim.Native.Nat.{ℕ, _+_, _-_, _*_, _%_}
+use Prim.Native.Nat.{ℕ, _-_, _*_, _%_}
 use lib.ListN.{length, getD, take, replicate}
 use lib.Dec.{ltb}
 use Rattle.text.specs.Lists.{tabulate}

@@ -1,7 +1,7 @@
 -- The bounds of a text and of a tree's settings, as facts, and the laws of block lengths and record lengths.
 use mathlib.Core.List.{[], _∷_}
 use mathlib.Core.Bool.{Bool, true, false, cond, _&&_}
-use mathlib.Core.Path.{_≡_, refl}
+use mathlib.Core.Path.{_≡_}
 use Prim.Native.Nat.{ℕ, suc, _+_, _-_, _*_, _^_, _≤_, _<_}
 use native.Mathlib.Omega.{arith}
 use native.Mathlib.Nat.{pow-suc, pow-zero, mul-one, mul-assoc, mul-le-mul, mul-le-mul-left, pow-le-pow-right, one-le-pow}

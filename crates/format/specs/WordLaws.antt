@@ -7,7 +7,7 @@ use native.Mathlib.Omega.{arith}
 use native.Mathlib.Numerals.{add-one, add-two, add-three}
 use native.Mathlib.Nat.{div-add-mod, div-div-eq-div-mul, mod-eq-of-lt, add-assoc, mul-suc}
 use lib.ListN.{length, getD, take, drop, length-set}
-use lib.Seq.{getD-set-same, getD-set-other, lt-length-set, sets-eq, getD-drop, getD-append-add}
+use lib.Seq.{getD-set-other, sets-eq, getD-append-add}
 use Rattle.text.specs.Lists.{concat}
 use Rattle.format.specs.Words.{wordAt, wordBytes, wordsBytes, setWord}
 

@@ -20,7 +20,7 @@ use Rattle.format.specs.Short.{shortOf, shortFrom, byEdges, inLeaf}
 use Rattle.format.specs.Fits.{linksOk, textOf, fits, countsTrue, edgesTrue, blockEdgesTrue, lastLevel, widthAt, keptRight, pointingRight}
 use Rattle.format.specs.Fits.{blockRight, countBelowRight, blockFits, blockCountsTrue}
 use Rattle.format.specs.Verdict.{verdict, readable}
-use Rattle.format.specs.Said.{Said, refused}
+use Rattle.format.specs.Said.{Said}
 use Rattle.format.specs.ReadSays.{byteSays, runSays, asksSpan, leavesSpan, isShort, spanReached, spanBytes, spanBlocks, spanNumber, spanSays}
 use Rattle.format.specs.ReadSays.{spanLeaves, leftOver, pathsHold}
 use Rattle.format.specs.CountSays.{countSays, indexOf, added, addedAfter, taken, takenAfter, lastPlace, leavesReached, isCounted, numberOfByte}

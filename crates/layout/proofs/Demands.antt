@@ -10,7 +10,7 @@ use Rattle.format.specs.Layout as at
 use Rattle.format.specs.WordLaws.{wordAt-agree}
 use Rattle.format.specs.HeaderPlaces.{headerLength}
 use Rattle.layout.specs.declared.place.BlockNumber.{BlockNumber}
-use Rattle.layout.specs.Record.{FieldIn, field-held, field-agree}
+use Rattle.layout.specs.Record.{field-held, field-agree}
 use Rattle.layout.proofs.word.read.Reads as read-reads
 use Rattle.layout.proofs.record.field.Reads as field-reads
 

@@ -10,7 +10,6 @@ use lib.Seq.{take-take}
 use lib.Dec.{leb, eqb}
 use borrow.Author.Tests.{le-leb, lt-leb}
 use Rattle.text.specs.Lists.{allBelow, sumBelow}
-use Rattle.text.specs.ListLaws.{and-both}
 use Rattle.format.specs.Settings.{maxText, maxCounted}
 use Rattle.format.specs.Words.{wordAt}
 use Rattle.format.specs.Layout as at

@@ -1,6 +1,6 @@
 -- Heads of chains: their marks and links.
 use mathlib.Core.Path.{_≡_, sym, ap, ap₂, _∙_}
-use Prim.Native.Nat.{ℕ, zero, suc, _+_, _-_, _*_, _/_, _%_, _^_, _≤_, _<_, max}
+use Prim.Native.Nat.{ℕ, zero, suc, _+_, _*_, _/_, _%_, _^_, _≤_, _<_, max}
 use native.Mathlib.Omega.{arith}
 use native.Mathlib.Nat.{mod-lt, mul-lt-mul-of-pos-right, mul-le-mul, div-lt-iff-lt-mul, mul-comm, pow-suc, div-one, div-div-eq-div-mul}
 use native.Mathlib.Nat.{mul-add-div-right, mul-add-mod-self-right, mod-eq-of-lt, div-eq-of-lt, mul-div-cancel, pow-le-pow-right, add-zero, one-mul}

@@ -1,7 +1,7 @@
 -- Items entered in the table, in the order of their numbers.
 use mathlib.Core.List.{List}
 use mathlib.Core.Path.{_≡_}
-use Prim.Native.Nat.{ℕ, suc, _+_, _-_, _≤_, _<_}
+use Prim.Native.Nat.{ℕ, suc, _+_, _≤_, _<_}
 use lib.ListN.{length, getD}
 use Rattle.text.specs.Text.{stretch}
 use Rattle.scan_windows.specs.Prints.{print}

@@ -1,22 +1,21 @@
 -- The walk of a short span, step by step, from what was read to what it gives.
-use mathlib.Core.List.{List, [], _∷_, _++_}
+use mathlib.Core.List.{List, _++_}
 use mathlib.Core.Option.{Option, none, some}
-use mathlib.Core.Bool.{Bool, true, false, cond, _&&_}
+use mathlib.Core.Bool.{Bool, true, false, _&&_}
 use mathlib.Core.Path.{_≡_, refl, sym, ap, _∙_}
 use mathlib.Core.Logic.{_⊎_, inl, inr}
-use Prim.Native.Nat.{ℕ, zero, suc, _+_, _-_, _*_, _/_, _%_, _≤_, _<_}
+use Prim.Native.Nat.{ℕ, _+_, _-_, _/_, _%_, _≤_, _<_}
 use native.Mathlib.Omega.{arith}
-use native.Mathlib.Nat.{mod-lt, add-mul, add-assoc, add-zero}
+use native.Mathlib.Nat.{add-mul}
 use borrow.Author.Tests.{lt-ltb, le-ltb, le-leb, lt-leb, ltb-true, ltb-false}
 use lib.Dec.{ltb}
 use lib.ListN.{length, length-append}
 use Rattle.text.specs.ListLaws.{lt-or-ge, and-left, and-right}
 use Rattle.format.specs.Layout as at
-use Rattle.format.specs.Path.{Visit, visit, keptBlock, pointingBlock, targetBlock, targetPlace, lands, landBlock, landPlace, landVisits}
+use Rattle.format.specs.Path.{Visit, keptBlock, targetBlock, targetPlace}
 use Rattle.format.specs.LayoutLaws.{Readable, size-high, full-pos}
-use Rattle.format.specs.Short.{Short, led, byEdges, inLeaf, shortFrom, shortOf}
+use Rattle.format.specs.Short.{Short, led, byEdges, inLeaf}
 use Rattle.theory_edges.specs.SpanSteps as margins
-use Rattle.theory_edges.specs.SpanPlaces.{short-in}
 use Rattle.theory_paths.specs.PlacesLand.{target-first, target-second}
 use Rattle.layout.specs.declared.header.Header.{Header}
 use Rattle.layout.specs.declared.place.BlockNumber.{BlockNumber}
@@ -28,12 +27,12 @@ use Rattle.walk_steps.specs.declared.Next.the-variants as next
 use Rattle.walk_steps.specs.Steps.{nextAt}
 use Rattle.walk_steps.specs.QuestionStands.{OnLevel, Pointing}
 use Rattle.walk_steps.proofs.StepLaws.{kept-in, pointing-gap}
-use Rattle.walk_steps.proofs.NextLaws.{next-kept, next-points, next-off, pointing-not-kept}
+use Rattle.walk_steps.proofs.NextLaws.{next-kept, next-points, next-off}
 use Rattle.walk_short.specs.declared.gather.Gathered.{Gathered}
 use Rattle.walk_short.specs.declared.gather.Gathered.the-variants.{At, Broken}
 use Rattle.walk_short.specs.declared.gather.Land.{Land}
 use Rattle.walk_short.specs.declared.gather.Land.the-variants as land
-use Rattle.walk_short.specs.Gathered.{gathered, downTo, pointedTo, landing, Crossing, Walking, Within}
+use Rattle.walk_short.specs.Gathered.{gathered, downTo, pointedTo, landing, Crossing}
 
 -- blocks entered before are counted with those entered after
 pub gathered-led : (vs : List Visit) (n k : ℕ) (r : Option Short) → length vs ≡ k → gathered (n + k) r ≡ gathered n (led vs r)

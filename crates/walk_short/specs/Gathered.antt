@@ -2,7 +2,6 @@
 use mathlib.Core.List.{List}
 use mathlib.Core.Option.{Option, none, some}
 use mathlib.Core.Bool.{cond}
-use mathlib.Core.Path.{_≡_}
 use Prim.Native.Nat.{ℕ, _+_, _-_, _*_, _/_, _%_, _≤_, _<_}
 use lib.ListN.{length}
 use lib.Dec.{leb}
@@ -11,7 +10,6 @@ use Rattle.format.specs.Path.{keptBlock, pointingBlock, targetBlock, targetPlac
 use Rattle.format.specs.Short as format
 use Rattle.layout.specs.declared.header.Header.{Header}
 use Rattle.walk_steps.specs.QuestionStands.{OnLevel}
-use Rattle.walk_short.specs.declared.gather.Parts.{Parts}
 use Rattle.walk_short.specs.declared.gather.Gathered.{Gathered}
 use Rattle.walk_short.specs.declared.gather.Gathered.the-variants.{At, Broken}
 use Rattle.walk_short.specs.declared.gather.Land.{Land}

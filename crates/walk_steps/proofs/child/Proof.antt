@@ -1,5 +1,4 @@
 use mathlib.Core.Path.{refl}
-use native.Mathlib.Omega.{arith}
 use borrow.Author.Needs.{needs}
 use Rattle.walk_steps.proofs.StepLaws as laws
 use Rattle.walk_steps.proofs.child.Statement.{statement}

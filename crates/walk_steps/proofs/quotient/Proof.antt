@@ -1,7 +1,7 @@
 use mathlib.Core.Path.{_≡_, sym, ap, _∙_}
 use Prim.Native.Nat.{ℕ, _*_, _/_, _%_, _^_, _≤_, _<_}
 use native.Mathlib.Omega.{arith}
-use native.Mathlib.Nat.{one-mul, mod-eq-of-lt, pow-le-pow-right, div-le-self, le-trans, lt-of-le-of-lt}
+use native.Mathlib.Nat.{one-mul, mod-eq-of-lt, pow-le-pow-right, div-le-self}
 use lib.Dec.{lit<}
 use lib.Count.{trailingZeros, trailing-le}
 use borrow.Author.Needs.{needs}

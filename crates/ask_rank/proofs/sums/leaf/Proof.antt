@@ -1,7 +1,7 @@
 use mathlib.Core.Path.{_∙_}
 use native.Mathlib.Omega.{arith}
 use borrow.Author.Needs.{needs}
-use Rattle.walk_steps.proofs.StepLaws.{kept-in, b-small, shapes}
+use Rattle.walk_steps.proofs.StepLaws.{kept-in, shapes}
 use Rattle.ask_rank.proofs.SumsLaws as laws
 use Rattle.ask_rank.proofs.sums.leaf.Statement.{statement}
 use Rattle.ask_rank.proofs.sums.leaf.Tie as tie

@@ -1,5 +1,4 @@
 use borrow.Author.Needs.{needs}
-use native.Mathlib.Omega.{arith}
 use Rattle.layout.proofs.AnswerTests.{failed, held}
 use Rattle.walk_steps.proofs.QuestionStandsLaws.{plain}
 use Rattle.check_edges.proofs.TruthLaws as laws

@@ -1,6 +1,6 @@
 use Prim.Native.Nat.{ℕ, _*_, _^_, _-_, _≤_}
 use mathlib.Core.List.{List}
-use mathlib.Core.Path.{_≡_, _∙_, ap}
+use mathlib.Core.Path.{_≡_, _∙_}
 use native.Mathlib.Omega.{arith}
 use Rattle.format.specs.Words.{wordAt}
 use Rattle.format.specs.Settings.{blockLength, recordLength, maxLeaf, maxCounted}

@@ -1,5 +1,5 @@
 use borrow.Author.Needs.{needs}
-use borrow.Author.Tests.{lt-leb, le-leb, not-true, not-false}
+use borrow.Author.Tests.{lt-leb, not-true, not-false}
 use Rattle.format.specs.Settings.{lengthOk, maxText}
 use Rattle.layout.proofs.QuestionSeven as laws
 use Rattle.layout.proofs.header.header_settings.Statement.{statement}

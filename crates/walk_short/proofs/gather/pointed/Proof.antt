@@ -1,7 +1,6 @@
 use borrow.Author.Needs.{needs}
 use native.Mathlib.Omega.{arith}
-use Rattle.walk_steps.proofs.QuestionStandsLaws.{pointing-there, sum-small, b-small, b-pos, plain-pointing}
-use Rattle.walk_steps.proofs.QuestionStandsLaws.{level-below}
+use Rattle.walk_steps.proofs.QuestionStandsLaws.{pointing-there, sum-small, b-small, plain-pointing}
 use Rattle.walk_short.proofs.GatherLaws as laws
 use Rattle.walk_short.proofs.gather.pointed.Statement.{statement}
 use Rattle.walk_short.proofs.gather.pointed.Tie as tie

@@ -1,6 +1,5 @@
 use borrow.Author.Needs.{needs}
 use borrow.Author.Tests.{le-ltb, lt-ltb}
-use Rattle.walk_short.proofs.GatherLaws as laws
 use Rattle.walk_short.proofs.gather.splits.Statement.{statement}
 use Rattle.walk_short.proofs.gather.splits.Tie as tie
 

@@ -1,10 +1,10 @@
 use Prim.Native.Nat.{ℕ, _+_, _≤_}
 use borrow.Author.Needs.{needs}
-use mathlib.Core.Path.{_≡_, sym, _∙_}
+use mathlib.Core.Path.{_≡_, sym}
 use native.Mathlib.Omega.{arith}
 use Rattle.format.specs.RecordFields.{fieldBytes}
 use Rattle.format.specs.Settings.{recordLength, maxLeaf, maxCounted, maxRecord}
-use Rattle.format.specs.SizeLaws.{record-plain, record-edged, record-high}
+use Rattle.format.specs.SizeLaws.{record-plain, record-edged}
 use Rattle.layout.proofs.settings.Settings.record_size.Statement.{statement}
 use Rattle.layout.proofs.settings.Settings.record_size.Tie as tie
 
