@@ -51,11 +51,11 @@ class Svg:
 # ---- the crates
 
 def crates():
-    """Each crate with what it depends on, and the layer that stands above it in crates.txt: the heading up to its first colon or full stop."""
+    """Each crate with what it depends on, and the layer that stands above it in crates.txt: the heading up to its first mark."""
     found, layer, fresh = {}, "", True
     for line in (ROOT / "crates.txt").read_text().splitlines():
         if line.startswith("# ") and fresh:
-            layer, fresh = re.split(r"[:.;]", line[2:])[0], False
+            layer, fresh = re.split(r"[:.;,]", line[2:])[0], False
         elif not line.strip():
             fresh = True
         elif not line.startswith("#"):

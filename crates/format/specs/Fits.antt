@@ -87,8 +87,8 @@ module _ (T t : List ℕ) where
       eqb (length T) (at.textLength t) && allBelow (at.settings t .levels) (λ l. allBelow (at.levelCount t l) (blockFits l))
 
   -- the start of the parent of a block of level l that starts at s; the text's on level 0. In every tree that passes questions 5 to 8 the parent of a
-  -- block that
-  -- starts at s starts at s / b × b, b being the block length of the parent's level: `parent-start` of crate `theory_paths` (specs/Starts.antt)
+  -- block that starts at s starts at s / b × b, b being the block length of the parent's level: `parent-start` of crate `theory_paths`
+  -- (specs/BlockStarts.antt)
   parentStart : ℕ → ℕ → ℕ
   unfolding at.fullLength
   parentStart l s = elim l [ zero ↦ 0 | suc above ↦ s / at.fullLength t above * at.fullLength t above ]
