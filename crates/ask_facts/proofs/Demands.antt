@@ -22,7 +22,7 @@ use Rattle.theory_paths.specs.OneText.{text-length}
 use Rattle.theory_counts.specs.CountsLocal.{byteOf}
 use Rattle.theory_counts.specs.Demands as tallies
 use Rattle.theory_counts.specs.Finds as finds
-use Rattle.ask_facts.specs.Facts.{countedByte, totalOf, figuresOf, infoLeaves}
+use Rattle.ask_facts.specs.Facts.{plainFigures, totalsFrom, figureCount, countedByte, totalOf, figuresOf, infoLeaves}
 use Rattle.ask_facts.proofs.info.Reads as info-reads
 use Rattle.ask_facts.proofs.version.Reads as version-reads
 
@@ -36,7 +36,7 @@ pub version-is : (r : ℕ) → Version r → r ≡ 11400
 version-is r a = a
 
 -- where a counted byte and its total stand among the figures
-byte-figure : (t : List ℕ) (c : ℕ) → c < maxCounted → getD (figuresOf t) (7 + c) 0 ≡ countedByte t c
+byte-figure : (t : List ℕ) (c : ℕ) → c < maxCounted → getD (figuresOf t) (plainFigures + c) 0 ≡ countedByte t c
 unfolding figuresOf tabulate
 byte-figure t zero h = refl
 byte-figure t (suc zero) h = refl
@@ -44,7 +44,7 @@ byte-figure t (suc (suc zero)) h = refl
 byte-figure t (suc (suc (suc zero))) h = refl
 byte-figure t (suc (suc (suc (suc c)))) h = absurd (let z : ⊥ = omega arith in z)
 
-total-figure : (t : List ℕ) (c : ℕ) → c < maxCounted → getD (figuresOf t) (11 + c) 0 ≡ totalOf t c
+total-figure : (t : List ℕ) (c : ℕ) → c < maxCounted → getD (figuresOf t) (totalsFrom + c) 0 ≡ totalOf t c
 unfolding figuresOf tabulate
 total-figure t zero h = refl
 total-figure t (suc zero) h = refl
@@ -71,7 +71,7 @@ module _ (κs : Lfts 2) (t figures after : RefT (List ℕ)) (r : ℕ) (a : Info 
   info-told pass = (a .0 ∙ pass, a .1 ∙ rw pass)
 
   -- .. and any other: its number, and every figure 0
-  pub info-refused : (q : ℕ) → readable (now t) ≡ suc q → (r ≡ suc q) × (now after ≡ replicate 23 0)
+  pub info-refused : (q : ℕ) → readable (now t) ≡ suc q → (r ≡ suc q) × (now after ≡ replicate figureCount 0)
   unfolding infoLeaves
   info-refused q e = (a .0 ∙ e, a .1 ∙ rw (e, ne-eqb (suc q) 0 (λ z. omega arith)))
 
@@ -84,7 +84,7 @@ module _ (κs : Lfts 2) (t figures after : RefT (List ℕ)) (r : ℕ) (a : Info 
     unfolding figuresOf
     info-length = rw told (sym (text-length (now t)))
 
-    pub info-totals : (c : ℕ) → c < getD (now after) 6 0 → getD (now after) (11 + c) 0 ≡ countIn (getD (now after) (7 + c) 0) (textOf (now t))
+    pub info-totals : (c : ℕ) → c < getD (now after) 6 0 → getD (now after) (totalsFrom + c) 0 ≡ countIn (getD (now after) (plainFigures + c) 0) (textOf (now t))
     unfolding figuresOf
     info-totals c h =
         let few = readable-facts (now t) (accepted-readable (now t) v) .bounds .counted-high in

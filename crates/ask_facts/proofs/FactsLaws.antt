@@ -15,7 +15,7 @@ use Rattle.layout.specs.declared.header.HeaderRead.{HeaderRead}
 use Rattle.layout.specs.declared.header.HeaderRead.the-variants as header
 use Rattle.layout.specs.Header.{headerSays}
 use Rattle.layout.specs.HeaderSays.{HeaderOf, header-refused}
-use Rattle.ask_facts.specs.Facts.{countedByte, totalOf, figuresOf, infoLeaves}
+use Rattle.ask_facts.specs.Facts.{figureCount, countedByte, totalOf, figuresOf, infoLeaves}
 
 -- four of a kind, and eight
 pub four : (f : ℕ → ℕ) (a b c d : ℕ) → a ≡ f 0 → b ≡ f 1 → c ≡ f 2 → d ≡ f 3 → a ∷ b ∷ c ∷ d ∷ [] ≡ tabulate maxCounted f
@@ -53,7 +53,7 @@ module _ (t : List ℕ) (h : Header) (k : HeaderOf t h) where
   told figures e = (sym (k .passes), rw (k .passes) e)
 
 -- a tree that does not pass questions 5 to 7
-pub untold : (t : List ℕ) (x : HeaderRead) → x ≡ headerSays t → (q : ℕ) → x ≡ header.Refused q → (q ≡ readable t) × (replicate 23 0 ≡ infoLeaves t)
+pub untold : (t : List ℕ) (x : HeaderRead) → x ≡ headerSays t → (q : ℕ) → x ≡ header.Refused q → (q ≡ readable t) × (replicate figureCount 0 ≡ infoLeaves t)
 unfolding infoLeaves
 untold t x x-is q e =
     let z = header-refused t x x-is q e in

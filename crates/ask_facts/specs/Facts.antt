@@ -16,6 +16,16 @@ use Rattle.format.specs.FindSays.{total}
 abbrev pub versionNumber : ℕ
 versionNumber = 10000 * 1 + 100 * 14 + 0
 
+-- the figures before the counted bytes, where their totals begin, and all of them
+abbrev pub plainFigures : ℕ
+plainFigures = 7
+
+abbrev pub totalsFrom : ℕ
+totalsFrom = plainFigures + maxCounted
+
+abbrev pub figureCount : ℕ
+figureCount = totalsFrom + maxCounted + maxLevels
+
 module _ (t : List ℕ) where
   -- counted byte number c and its total; question 7 has 0 at a number that stands for no byte, and the total there is 0
   unfoldable pub countedByte : ℕ → ℕ
@@ -35,4 +45,4 @@ module _ (t : List ℕ) where
 
   -- questions 5 to 7 first: refused, every figure is 0
   unfoldable pub infoLeaves : List ℕ
-  infoLeaves = cond (eqb (readable t) 0) figuresOf (replicate 23 0)
+  infoLeaves = cond (eqb (readable t) 0) figuresOf (replicate figureCount 0)

@@ -3,6 +3,7 @@ use layout::header;
 use layout::header::Header;
 use layout::header::HeaderRead;
 use layout::record;
+use layout::settings::Settings;
 ghost use mathlib.Core.Path.{_≡_};
 ghost use Prim.Native.Nat.{_≤_, _<_};
 ghost use lib.ListN.{length};
@@ -15,7 +16,12 @@ ghost use Rattle.layout.specs.HeaderSays.{HeaderOf};
 ghost use Rattle.ask_facts.specs.Facts.{countedByte, totalOf, figuresOf, infoLeaves, versionNumber};
 
 // How many figures are told.
-pub const FIGURES: usize = 23;
+pub const FIGURES: usize = PLAIN + 2 * Settings::MAX_COUNTED + LEVELS;
+
+// The figures before the counted bytes: those of the header by itself.
+const PLAIN: usize = 7;
+
+const LEVELS: usize = Settings::MAX_LEVELS as usize;
 
 // The version, raised with each change of what the calls answer.
 pub const MAJOR: u32 = 1;
@@ -94,7 +100,7 @@ const THIRD: usize = FIRST + 2;
 const FOURTH: usize = FIRST + 3;
 
 // The counted bytes in order, then zeros: what stands at the places for them.
-fn counted_bytes(t: &[u8]) -> [u64; 4]
+fn counted_bytes(t: &[u8]) -> [u64; Settings::MAX_COUNTED]
     requires { ⌜ headerLength ≤ length (now t) ⌝ }
     ensures { λ r. ⌜ r ≡ tabulate maxCounted (countedByte (now (t .entry))) ⌝ }
 {
@@ -113,7 +119,7 @@ fn wide(byte: u8) -> u64
 }
 
 // How often each counted byte stands in the text by the tree's totals, then zeros.
-fn totals(t: &[u8], h: Header) -> [u64; 4]
+fn totals(t: &[u8], h: Header) -> [u64; Settings::MAX_COUNTED]
     requires { ⌜ HeaderOf (now t) h ⌝ }
     ensures { λ r. ⌜ r ≡ tabulate maxCounted (totalOf (now (t .entry))) ⌝ }
 {
@@ -136,8 +142,8 @@ fn total_of(t: &[u8], h: Header, c: u32) -> u64
     ask_totals::total(t, h, c)
 }
 
-// How many blocks each level has, then zeros: the header's eight words.
-fn level_counts(t: &[u8]) -> [u64; 8]
+// How many blocks each level has, then zeros: the header's words.
+fn level_counts(t: &[u8]) -> [u64; LEVELS]
     requires { ⌜ headerLength ≤ length (now t) ⌝ }
     ensures { λ r. ⌜ r ≡ tabulate maxLevels (at.levelCount (now (t .entry))) ⌝ }
 {
