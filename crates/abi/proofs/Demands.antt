@@ -103,7 +103,11 @@ abbrev pub calls : List Call
 calls =
     call (record { routine = bt-build-at.routine; signature = bt-build-of.signature; clauses = bt-build-of.spec }) bt-build-met.met
     (λ 𝓤 H A mem run κs a. (tt, refl))
-    ∷ call (record { routine = bt-build-scanned-at.routine; signature = bt-build-scanned-of.signature; clauses = bt-build-scanned-of.spec }) bt-build-scanned-met.met
+    ∷ call (record {
+      routine = bt-build-scanned-at.routine;
+      signature = bt-build-scanned-of.signature;
+      clauses = bt-build-scanned-of.spec;
+    }) bt-build-scanned-met.met
     (λ 𝓤 H A mem run κs a. (tt, refl))
     ∷ call (record { routine = bt-scan-words-at.routine; signature = bt-scan-words-of.signature; clauses = bt-scan-words-of.spec }) bt-scan-words-met.met
     (λ 𝓤 H A mem run κs a. (tt, refl))
@@ -149,7 +153,11 @@ calls =
     (λ 𝓤 H A mem run κs a. (tt, refl))
     ∷ call (record { routine = bt-to-columns-at.routine; signature = bt-to-columns-of.signature; clauses = bt-to-columns-of.spec }) bt-to-columns-met.met
     (λ 𝓤 H A mem run κs a. (tt, refl))
-    ∷ call (record { routine = bt-from-columns-at.routine; signature = bt-from-columns-of.signature; clauses = bt-from-columns-of.spec }) bt-from-columns-met.met
+    ∷ call (record {
+      routine = bt-from-columns-at.routine;
+      signature = bt-from-columns-of.signature;
+      clauses = bt-from-columns-of.spec;
+    }) bt-from-columns-met.met
     (λ 𝓤 H A mem run κs a. (tt, refl))
     ∷ call (record { routine = bt-column-row-at.routine; signature = bt-column-row-of.signature; clauses = bt-column-row-of.spec }) bt-column-row-met.met
     (λ 𝓤 H A mem run κs a. (tt, refl))
@@ -161,7 +169,11 @@ calls =
     (λ 𝓤 H A mem run κs a. (tt, refl))
     ∷ call (record { routine = bt-row-length-at.routine; signature = bt-row-length-of.signature; clauses = bt-row-length-of.spec }) bt-row-length-met.met
     (λ 𝓤 H A mem run κs a. (tt, refl))
-    ∷ call (record { routine = bt-places-words-at.routine; signature = bt-places-words-of.signature; clauses = bt-places-words-of.spec }) bt-places-words-met.met
+    ∷ call (record {
+      routine = bt-places-words-at.routine;
+      signature = bt-places-words-of.signature;
+      clauses = bt-places-words-of.spec;
+    }) bt-places-words-met.met
     (λ 𝓤 H A mem run κs a. (tt, refl))
     ∷ []
 

@@ -76,14 +76,14 @@ pub extern "C" fn bt_build_scanned(
     size: &mut u32,
     windows: &mut u32,
 ) -> u32
-    ensures number { λ r. ⌜ r ≡ scanNumber
-        (given leaf arity levels (now (counted .entry))) (now (text .entry)) (now (out .entry)) (length (now (work .entry))) ⌝ }
-    ensures written { λ _. ⌜ now (size .exit) ≡ scanSize
-        (given leaf arity levels (now (counted .entry))) (now (text .entry)) (now (out .entry)) (length (now (work .entry))) ⌝ }
-    ensures looked { λ _. ⌜ now (windows .exit) ≡ scanWindows
-        (given leaf arity levels (now (counted .entry))) (now (text .entry)) (now (out .entry)) (length (now (work .entry))) ⌝ }
-    ensures buffer { λ _. ⌜ now (out .exit) ≡ scanLeaves
-        (given leaf arity levels (now (counted .entry))) (now (text .entry)) (now (out .entry)) (length (now (work .entry))) ⌝ }
+    ensures number { λ r. ⌜ r
+        ≡ scanNumber (given leaf arity levels (now (counted .entry))) (now (text .entry)) (now (out .entry)) (length (now (work .entry))) ⌝ }
+    ensures written { λ _. ⌜ now (size .exit)
+        ≡ scanSize (given leaf arity levels (now (counted .entry))) (now (text .entry)) (now (out .entry)) (length (now (work .entry))) ⌝ }
+    ensures looked { λ _. ⌜ now (windows .exit)
+        ≡ scanWindows (given leaf arity levels (now (counted .entry))) (now (text .entry)) (now (out .entry)) (length (now (work .entry))) ⌝ }
+    ensures buffer { λ _. ⌜ now (out .exit)
+        ≡ scanLeaves (given leaf arity levels (now (counted .entry))) (now (text .entry)) (now (out .entry)) (length (now (work .entry))) ⌝ }
     ensures table { λ r. ⌜ TableLeft r (now (work .entry)) (now (work .exit)) ⌝ }
 {
     let scanned = tree::build_scanned(text, leaf, arity, levels, counted, work, out);

@@ -70,7 +70,8 @@ bytes-found : (t : List ℕ) (len : ℕ) (r : Option Short) (u : Short) → r �
 bytes-found t len r u e = rw e
 
 -- What a short span answers.
-module _ (t : List ℕ) (h : Header) (p len : ℕ) (d : List ℕ) (k : HeaderOf t h) (low : p + len ≤ h .«text_length») (room : len ≤ length d) (is : isShort t len ≡ true)
+module _ (t : List ℕ) (h : Header)
+    (p len : ℕ) (d : List ℕ) (k : HeaderOf t h) (low : p + len ≤ h .«text_length») (room : len ≤ length d) (is : isShort t len ≡ true)
     (x : Gathered) (x-is : x ≡ gathered 0 (shortOf t p len)) where
   broken-none : (r : Option Short) → Broken ≡ gathered 0 r → r ≡ none
   unfolding gathered

@@ -84,7 +84,8 @@ module _ (κs : Lfts 2) (t figures after : RefT (List ℕ)) (r : ℕ) (a : Info 
     unfolding figuresOf
     info-length = rw told (sym (text-length (now t)))
 
-    pub info-totals : (c : ℕ) → c < getD (now after) 6 0 → getD (now after) (totalsFrom + c) 0 ≡ countIn (getD (now after) (plainFigures + c) 0) (textOf (now t))
+    pub info-totals : (c : ℕ)
+        → c < getD (now after) 6 0 → getD (now after) (totalsFrom + c) 0 ≡ countIn (getD (now after) (plainFigures + c) 0) (textOf (now t))
     unfolding figuresOf
     info-totals c h =
         let few = readable-facts (now t) (accepted-readable (now t) v) .bounds .counted-high in

@@ -54,7 +54,8 @@ pub fn by_places(one: &[u8], h: Header, other: &[u8], g: Header) -> Compared
 
 // Reads the next place in the first tree and then in the second, and compares on along their runs.
 fn read_on(one: &[u8], h: Header, other: &[u8], g: Header, m: Progress) -> Round
-    requires { ⌜ (HeaderOf (now one) h) × (HeaderOf (now other) g) × (Comparing (now one) (now other) m) × (m .place .0 < min (h .«text_length») (g .«text_length»)) ⌝ }
+    requires { ⌜ (HeaderOf (now one) h)
+        × (HeaderOf (now other) g) × (Comparing (now one) (now other) m) × (m .place .0 < min (h .«text_length») (g .«text_length»)) ⌝ }
     ensures { λ r. ⌜ RoundSays (now (one .entry)) (now (other .entry)) (m .place .0) r ⌝ }
 {
     let first = run_from(one, h, m.place, m.one);

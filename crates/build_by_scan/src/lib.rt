@@ -41,14 +41,14 @@ pub fn build_scanned(
     words: &mut [u32],
     out: &mut [u8],
 ) -> Scanned
-    ensures number { λ r. ⌜ numberOf
-        r ≡ scanNumber (given leaf arity levels (now (counted .entry))) (now (text .entry)) (now (out .entry)) (length (now (words .entry))) ⌝ }
-    ensures size { λ r. ⌜ sizeOf
-        r ≡ scanSize (given leaf arity levels (now (counted .entry))) (now (text .entry)) (now (out .entry)) (length (now (words .entry))) ⌝ }
-    ensures windows { λ r. ⌜ windowsSaid
-        r ≡ scanWindows (given leaf arity levels (now (counted .entry))) (now (text .entry)) (now (out .entry)) (length (now (words .entry))) ⌝ }
-    ensures buffer { λ _. ⌜ now (out .exit) ≡ scanLeaves
-        (given leaf arity levels (now (counted .entry))) (now (text .entry)) (now (out .entry)) (length (now (words .entry))) ⌝ }
+    ensures number { λ r. ⌜ numberOf r
+        ≡ scanNumber (given leaf arity levels (now (counted .entry))) (now (text .entry)) (now (out .entry)) (length (now (words .entry))) ⌝ }
+    ensures size { λ r. ⌜ sizeOf r
+        ≡ scanSize (given leaf arity levels (now (counted .entry))) (now (text .entry)) (now (out .entry)) (length (now (words .entry))) ⌝ }
+    ensures windows { λ r. ⌜ windowsSaid r
+        ≡ scanWindows (given leaf arity levels (now (counted .entry))) (now (text .entry)) (now (out .entry)) (length (now (words .entry))) ⌝ }
+    ensures buffer { λ _. ⌜ now (out .exit)
+        ≡ scanLeaves (given leaf arity levels (now (counted .entry))) (now (text .entry)) (now (out .entry)) (length (now (words .entry))) ⌝ }
     ensures table { λ r. ⌜ TableLeft (numberOf r) (now (words .entry)) (now (words .exit)) ⌝ }
 {
     if (Settings::MAX_TEXT as usize) < text.len() {

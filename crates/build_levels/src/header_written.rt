@@ -92,8 +92,8 @@ fn put_unused(out: &mut [u8], levels: u32)
 // The header after the levels' words: zeros for the levels that are not there, then the leaf bytes' offset and count.
 pub fn put_end(out: &mut [u8], levels: u32, offset: u32, count: u32)
     requires { ⌜ (headerLength ≤ length (now out)) × (levels ≤ maxLevels) ⌝ }
-    ensures { λ _. ⌜ now (out .exit) ≡ setWord
-        (setWord (unusedWritten (now (out .entry)) levels (maxLevels - levels)) leafOffsetAt offset) leafCountAt count ⌝ }
+    ensures { λ _. ⌜ now (out .exit)
+        ≡ setWord (setWord (unusedWritten (now (out .entry)) levels (maxLevels - levels)) leafOffsetAt offset) leafCountAt count ⌝ }
 {
     put_unused(out, levels);
     word::write(out, header::LEAF_OFFSET_AT, offset);

@@ -54,7 +54,8 @@ module _ (t : List ℕ) (h : Header) (k : HeaderOf t h) (p : ℕ) (low : p < h .
   leaf-low = omega (arith, end-leaf t (record { entered = 0; left = h .«text_length» - p }) p r (end t (h .«text_length») p r e), k .count-is)
 
   left-low : 0 < r .trail .left
-  left-low = let z = end t (h .«text_length») p r e in omega (arith, path-left t p (z .path) (z .is) (k .facts) (h .«text_length» - p) (omega arith), z .left-is)
+  left-low = let z = end t (h .«text_length») p r e in
+      omega (arith, path-left t p (z .path) (z .is) (k .facts) (h .«text_length» - p) (omega arith), z .left-is)
 
   -- the end of a walk is reached
   pub reached-end : (x : Reached) → x ≡ withinOf (h .«leaf_count») r → ReachedAt t h p (At x)
