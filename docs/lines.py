@@ -1,32 +1,111 @@
 #!/usr/bin/env python3
-"""Counts the lines of each crate, for docs/PROOFS.md: code, contracts, what must be believed, laws and proofs.
+"""Makes two tables of docs/PROOFS.md: the files that must be believed, and the lines of each crate.
 
-    docs/lines.py            # write the table between its two marks in docs/PROOFS.md
-    docs/lines.py --check    # status 1 if the table is not current
+    docs/lines.py            # write both tables between their marks
+    docs/lines.py --check    # status 1 if one of them is not current
 
-What must be believed are the files that the table "The definitions" of docs/PROOFS.md names. A contract is a `requires` or `ensures` and what it goes on with, and the `ghost use`
-lines that it needs. Empty lines and comments are not counted. Needs python3 and nothing else."""
+What must be believed is found, not listed: the definitions that the contract of an outside call names, and those that they name in turn. An outside call is a public function of a facade
+(FACADES), its own or handed on. A contract is a `requires` or `ensures` and what it goes on with, and the `ghost use` lines that it needs. Empty lines and comments are not counted.
+Needs python3 and nothing else."""
 
 import re
 import sys
 from pathlib import Path
 
 ROOT = Path(__file__).resolve().parents[1]
+CRATES = ROOT / "crates"
 PAGE = ROOT / "docs/PROOFS.md"
-MARKS = ("<!-- lines -->", "<!-- end of lines -->")
+FACADES = ["tree", "query", "columns", "term", "search", "list_lines", "abi"]
+# files of computed examples: nothing rests on them, and whoever reads a definition will want them
+EXAMPLES = re.compile(r"(Worked\w*|\w+Examples)\.antt$")
 
 
-def believed(page):
-    """The files that the definitions' table names: a folder once, then the files in it."""
-    found = set()
-    table = page.split("## The definitions")[1].split("\n## ")[0]
-    for row in table.splitlines():
-        folder = ""
-        for name in re.findall(r"`([^`]+\.antt)`", row.split("|")[1] if row.startswith("|") else ""):
-            folder = name.rpartition("/")[0] or folder
-            found.add(f"{folder}/{name.rpartition('/')[2]}")
+# ---- what must be believed
+
+def contracts(path):
+    """The text of each public function's `ensures`, by name."""
+    found, name = {}, None
+    for line in path.read_text().splitlines():
+        head = re.match(r'\s*(?:#\[no_mangle\] )?(pub )?(?:extern "C" )?fn (\w+)', line)
+        if head:
+            name = head[2] if head[1] else None
+        if line.strip() == "{":
+            name = None
+        if name:
+            found[name] = found.get(name, "") + line.split("//")[0] + "\n"
+    return {name: text[text.find("ensures"):] if "ensures" in text else "" for name, text in found.items()}
+
+
+def imports(path):
+    """The modules of specs/ that each name imported by a file comes from."""
+    found = {}
+    for crate, rest in re.findall(r"^(?:ghost )?(?:pub )?use Rattle·(\w+?)(?:·specs)?\.specs\.(.*?);?$", path.read_text(), re.M):
+        if ".{" in rest:
+            module, names = rest.split(".{")
+            names = [name.strip().split(" as ")[-1] for name in names.rstrip("}").split(",")]
+        else:
+            module, _, alias = rest.partition(" as ")
+            names = [alias or module.split(".")[-1]]
+        if not module.startswith("declared"):
+            for name in names:
+                found.setdefault(name, set()).add(CRATES / crate / "specs" / f"{module}.antt")
     return found
 
+
+def outside():
+    """The file and the name of each outside call."""
+    for facade in FACADES:
+        for path in sorted((CRATES / facade / "src").glob("*.rt" if facade == "abi" else "lib.rt")):
+            for name in contracts(path):
+                yield path, name
+            for words in re.findall(r"^pub use ([\w:]+);", path.read_text(), re.M):
+                crate, *inner, name = words.split("::")
+                if name[0].islower():
+                    yield CRATES / crate / "src" / f"{inner[0] if inner else 'lib'}.rt", name
+
+
+def believed():
+    """The files, each after those that it rests on."""
+    order = []
+
+    def add(path):
+        if path not in order:
+            for below in sorted(set().union(*imports(path).values(), set())):
+                if below != path:
+                    add(below)
+            order.append(path)
+
+    for path, name in outside():
+        known = imports(path)
+        for word in re.findall(r"[^\s(){};,.⌜⌝]+", contracts(path)[name]):
+            for module in sorted(known.get(word, ())):
+                add(module)
+    return order
+
+
+def says(path):
+    """A file's first comment, to its first full stop."""
+    words = []
+    for line in path.read_text().splitlines():
+        if not line.startswith("--"):
+            break
+        words.append(line[2:].strip())
+    return re.split(r"\.(?: |$)", " ".join(words))[0].rstrip(":") .replace("|", "\\|")
+
+
+def believed_table():
+    rank = {name: at for at, name in enumerate(re.findall(r"^(\w+):", (ROOT / "crates.txt").read_text(), re.M))}
+    files = believed()
+    files.sort(key=lambda path: rank[path.relative_to(CRATES).parts[0]])
+    rows, total = [], 0
+    for at, path in enumerate(files, 1):
+        size = len(counted(path, "--"))
+        total += size
+        rows.append(f"| {at} | `{path.relative_to(ROOT).as_posix()}` | {size} | {says(path)} |")
+    return "\n".join(["| | File | Lines | What it says |", "|---:|---|---:|---|", *rows, f"| | all | {total:,} | |"])
+
+
+# ---- lines by crate
 
 def counted(path, comment):
     return [line for line in path.read_text().splitlines() if line.strip() and not line.strip().startswith(comment)]
@@ -34,7 +113,7 @@ def counted(path, comment):
 
 def source(folder):
     """Lines of code, and of contracts."""
-    code = contracts = 0
+    code = promised = 0
     for path in sorted(folder.glob("**/*.rt")):
         inside = False
         for line in counted(path, "//"):
@@ -44,37 +123,42 @@ def source(folder):
             contract = inside
             if inside and (words.endswith("}") or words.startswith("ghost use ")):
                 inside = False
-            contracts, code = contracts + contract, code + (not contract)
-    return code, contracts
+            promised, code = promised + contract, code + (not contract)
+    return code, promised
 
 
-def table(page):
-    read = believed(page)
-    rows, sums = [], [0, 0, 0, 0]
-    for crate in sorted(path for path in (ROOT / "crates").iterdir() if path.is_dir()):
-        code, contracts = source(crate / "src")
-        trusted = laws = 0
+def crates_table():
+    read = set(believed())
+    rows, sums = [], [0, 0, 0, 0, 0]
+    for crate in sorted(path for path in CRATES.iterdir() if path.is_dir()):
+        code, promised = source(crate / "src")
+        trusted = examples = laws = 0
         for path in crate.glob("**/*.antt"):
             size = len(counted(path, "--"))
-            name = path.relative_to(ROOT).as_posix()
-            trusted, laws = (trusted + size, laws) if name in read else (trusted, laws + size)
-        row = [code, contracts, trusted, laws]
+            if path in read:
+                trusted += size
+            elif EXAMPLES.search(path.name):
+                examples += size
+            else:
+                laws += size
+        row = [code, promised, trusted, examples, laws]
         sums = [a + b for a, b in zip(sums, row)]
         rows.append(f"| `{crate.name}` | " + " | ".join(f"{n:,}" if n else "" for n in row) + " |")
-    head = ["| Crate | Code | Contracts | Believed | Laws and proofs |", "|---|---:|---:|---:|---:|"]
+    head = ["| Crate | Code | Contracts | Believed | Examples | Laws and proofs |", "|---|---:|---:|---:|---:|---:|"]
     return "\n".join([*head, *rows, "| all | " + " | ".join(f"{n:,}" for n in sums) + " |"])
 
 
 def main():
-    page = PAGE.read_text()
-    before, rest = page.split(MARKS[0])
-    after = rest.split(MARKS[1])[1]
-    new = f"{before}{MARKS[0]}\n{table(page)}\n{MARKS[1]}{after}"
+    page = new = PAGE.read_text()
+    for mark, table in (("believed", believed_table), ("lines", crates_table)):
+        before, rest = new.split(f"<!-- {mark} -->")
+        after = rest.split(f"<!-- end of {mark} -->")[1]
+        new = f"{before}<!-- {mark} -->\n{table()}\n<!-- end of {mark} -->{after}"
+    if new == page:
+        return
     if "--check" in sys.argv:
-        if new != page:
-            raise SystemExit("docs/PROOFS.md has another table of lines; run docs/lines.py")
-    elif new != page:
-        PAGE.write_text(new)
+        raise SystemExit("docs/PROOFS.md has other tables than docs/lines.py makes; run docs/lines.py")
+    PAGE.write_text(new)
 
 
 if __name__ == "__main__":

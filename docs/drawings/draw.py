@@ -8,6 +8,7 @@ byte by byte, from the same tree.
 Needs python3 and nothing else."""
 
 import html
+import re
 import struct
 import sys
 from pathlib import Path
@@ -15,6 +16,8 @@ from pathlib import Path
 ROOT = Path(__file__).resolve().parents[2]
 HERE = Path(__file__).resolve().parent
 INK, LINE, KEPT, POINTS, PATH, SOFT = "#1c2430", "#8a94a3", "#cfe3f5", "#f9dcc0", "#c0392b", "#f4f6f9"
+# a colour for each layer, in the order of crates.txt
+LAYERS = ["#cfe3f5", "#dcd6f2", "#e6e9ee", "#f9dcc0", "#fdf0b8", "#cdeccf", "#f6cfd0", "#c9ecec", "#ecd9c6", "#ffffff"]
 STYLE = f"text{{font:13px system-ui,sans-serif;fill:{INK}}} .s{{font-size:11px}} .m{{font:12px ui-monospace,monospace}} .h{{font-weight:600}}"
 
 
@@ -48,17 +51,16 @@ class Svg:
 # ---- the crates
 
 def crates():
-    """Each crate with what it depends on, and the heading that stands above it in crates.txt."""
-    heads, found, heading, fresh = [], {}, "", False
+    """Each crate with what it depends on, and the layer that stands above it in crates.txt: the heading up to its first mark."""
+    found, layer, fresh = {}, "", True
     for line in (ROOT / "crates.txt").read_text().splitlines():
-        if line.startswith("# ") and (not fresh or not heads):
-            heading, fresh = line[2:], True
-            heads.append(heading)
+        if line.startswith("# ") and fresh:
+            layer, fresh = re.split(r"[:.;,]", line[2:])[0], False
         elif not line.strip():
-            fresh = False
+            fresh = True
         elif not line.startswith("#"):
             name, _, below = line.partition(":")
-            found[name] = (heading, below.split())
+            found[name] = (layer, below.split())
     return found
 
 
@@ -82,21 +84,28 @@ def draw_crates():
     found = crates()
     depth = depths(found)
     rows = [sorted(name for name in found if depth[name] == d) for d in range(max(depth.values()) + 1)]
-    width, step, top = 1080, 46, 56
+    layers = list(dict.fromkeys(layer for layer, _ in found.values()))
+    width, step, top = 1120, 46, 76
     svg = Svg(width, top + step * len(rows) + 16, "The crates: each stands above all that it depends on")
     svg.text(16, 26, "The crates: each stands above all that it depends on; no arrow goes up", "h")
-    svg.text(16, 44, "theories and definitions have dashed frames: they have no code", "s")
+    x = 16
+    for layer in layers:
+        svg.box(x, 40, 14, 14, LAYERS[layers.index(layer) % len(LAYERS)])
+        svg.text(x + 18, 51, layer, "s")
+        x += 34 + 6.1 * len(layer)
+    svg.text(16, 70, "dashed: no code", "s")
     for level, row in enumerate(reversed(rows)):
         y = top + level * step
         svg.box(8, y, width - 16, step - 8, SOFT, stroke=SOFT)
-        room = (width - 32) / len(row)
-        for at, name in enumerate(row):
-            w = min(room - 6, 12 + 7.2 * len(name))
-            x = 16 + room * at + (room - w) / 2
+        sizes = [12 + 7 * len(name) for name in row]
+        gap = (width - 32 - sum(sizes)) / len(row)
+        x = 16 + gap / 2
+        for name, w in zip(row, sizes):
             source = ROOT / "crates" / name / "src"
             code = any(" fn " in f" {line}" for f in source.glob("*.rt") for line in f.read_text().splitlines() if not line.lstrip().startswith("//"))
-            svg.box(x, y + 6, w, step - 20, "white" if code else KEPT, dash=not code)
+            svg.box(x, y + 6, w, step - 20, LAYERS[layers.index(found[name][0]) % len(LAYERS)], dash=not code)
             svg.text(x + w / 2, y + 23, name, "s", "middle")
+            x += w + gap
     return svg.done()
 
 

@@ -22,10 +22,10 @@ fn files_are_current() {
     folder.run("completion fish").status(2);
 }
 
-/// The drawings and the table of lines are those that their scripts make; each has `--check`.
+/// The drawings and tables are those that their scripts make, what comments and documents cite is there, and the crates keep the habits.
 #[test]
-fn drawings_and_lines_are_current() {
-    for script in ["../docs/drawings/draw.py", "../docs/lines.py"] {
+fn drawings_tables_citations_and_habits() {
+    for script in ["../docs/drawings/draw.py", "../docs/lines.py", "../docs/cited.py", "../docs/house.py"] {
         let path = Path::new(env!("CARGO_MANIFEST_DIR")).join(script);
         match Command::new("python3").arg(path).arg("--check").output() {
             Err(_) => println!("python3 is not installed: not tried"),

@@ -9,6 +9,7 @@ use std::fs::{self, File, OpenOptions};
 use std::io::{Read, Write};
 use std::os::unix::ffi::OsStrExt;
 use std::os::unix::fs::{symlink, PermissionsExt};
+use std::os::unix::process::CommandExt;
 use std::process::{Child, Stdio};
 use std::time::{Duration, Instant};
 
@@ -42,6 +43,12 @@ fn a_full_disk_leaves_the_old_file() {
     });
 }
 
+extern "C" {
+    /// signal(2); 0 is the default action.
+    #[link_name = "signal"]
+    fn default_action(number: i32, action: usize) -> usize;
+}
+
 /// The tool, waiting for its book, which comes from a pipe; its output has been made ready by then.
 fn waiting(folder: &Folder, named: bool) -> Child {
     let mut tool = folder.tool();
@@ -49,6 +56,16 @@ fn waiting(folder: &Folder, named: bool) -> Child {
         tool.env("CODEBOOK_NAMED", "1");
     }
     let tool = tool.args(["build", "-", "-o", "small.tree", "--force"]).stdin(Stdio::piped()).stdout(Stdio::piped()).stderr(Stdio::piped());
+    // what runs under nohup or in the background ignores some signals, and so would the tool
+    // SAFETY: signal(2) may be called between fork and exec, and takes plain numbers
+    unsafe {
+        tool.pre_exec(|| {
+            for number in [1, 2, 3, 15] {
+                default_action(number, 0);
+            }
+            Ok(())
+        })
+    };
     let child = tool.spawn().expect("the tool starts");
     let start = Instant::now();
     let ready = || match named {

@@ -1,12 +1,12 @@
 // The calls exported to C. Each answers a number: 0, or the number of the question that refuses. Figures are written behind
 // references, 0 on a refusal. Any bytes may be lent as a tree.
-mod by_columns;
-pub mod figures;
-pub mod guides;
-pub mod licence;
-pub mod order;
+mod column_exports;
+pub mod figure_exports;
+pub mod guide_exports;
+pub mod licence_exports;
+pub mod order_exports;
 
-use listing::Listed;
+use list_lines::Listed;
 use query::Answer;
 use query::Copied;
 use query::Counted;
@@ -21,19 +21,19 @@ use tree::Room;
 use tree::Scanned;
 ghost use mathlib.Core.Path.{_≡_};
 ghost use lib.ListN.{length};
-ghost use Rattle.format.specs.Building.{buildNumber, buildSize, buildLeaves};
-ghost use Rattle.format.specs.Reading.{byteSays, runSays, spanSays, spanLeaves};
-ghost use Rattle.format.specs.Counting.{countSays};
-ghost use Rattle.format.specs.Finding.{FindSays};
+ghost use Rattle.format.specs.BuildSays.{buildNumber, buildSize, buildLeaves};
+ghost use Rattle.format.specs.ReadSays.{byteSays, runSays, spanSays, spanLeaves};
+ghost use Rattle.format.specs.CountSays.{countSays};
+ghost use Rattle.format.specs.FindSays.{FindSays};
 ghost use Rattle.format.specs.RowSays.{RowSays};
 ghost use Rattle.format.specs.Verdict.{verdict};
-ghost use Rattle.builder.specs.Answers.{given};
-ghost use Rattle.enough.specs.Enough.{enoughSays};
-ghost use Rattle.listing.specs.Says.{listSays, listLeaves};
-ghost use Rattle.patterns.specs.Places.{placesSays, placesLeaves};
-ghost use Rattle.scanner.specs.Scanning.{tableWords, scanNumber, scanSize, scanWindows, scanLeaves, TableLeft};
-ghost use Rattle.worn_keys.specs.Says.{MatchSays};
-ghost use Rattle.abi.specs.Answers.{saying, roomNumber, roomSize, listedNumber, listedSize};
+ghost use Rattle.build_by_search.specs.BuildAnswer.{given};
+ghost use Rattle.build_enough.specs.Enough.{enoughSays};
+ghost use Rattle.list_lines.specs.ListSays.{listSays, listLeaves};
+ghost use Rattle.ask_patterns.specs.Places.{placesSays, placesLeaves};
+ghost use Rattle.build_by_scan.specs.ScannedSays.{tableWords, scanNumber, scanSize, scanWindows, scanLeaves, TableLeft};
+ghost use Rattle.ask_worn_keys.specs.MatchSays.{MatchSays};
+ghost use Rattle.abi.specs.ExportAnswers.{saying, roomNumber, roomSize, listedNumber, listedSize};
 
 // Builds the tree of a text.
 #[no_mangle]
@@ -76,10 +76,14 @@ pub extern "C" fn bt_build_scanned(
     size: &mut u32,
     windows: &mut u32,
 ) -> u32
-    ensures number { λ r. ⌜ r ≡ scanNumber (given leaf arity levels (now (counted .entry))) (now (text .entry)) (now (out .entry)) (length (now (work .entry))) ⌝ }
-    ensures written { λ _. ⌜ now (size .exit) ≡ scanSize (given leaf arity levels (now (counted .entry))) (now (text .entry)) (now (out .entry)) (length (now (work .entry))) ⌝ }
-    ensures looked { λ _. ⌜ now (windows .exit) ≡ scanWindows (given leaf arity levels (now (counted .entry))) (now (text .entry)) (now (out .entry)) (length (now (work .entry))) ⌝ }
-    ensures buffer { λ _. ⌜ now (out .exit) ≡ scanLeaves (given leaf arity levels (now (counted .entry))) (now (text .entry)) (now (out .entry)) (length (now (work .entry))) ⌝ }
+    ensures number { λ r. ⌜ r
+        ≡ scanNumber (given leaf arity levels (now (counted .entry))) (now (text .entry)) (now (out .entry)) (length (now (work .entry))) ⌝ }
+    ensures written { λ _. ⌜ now (size .exit)
+        ≡ scanSize (given leaf arity levels (now (counted .entry))) (now (text .entry)) (now (out .entry)) (length (now (work .entry))) ⌝ }
+    ensures looked { λ _. ⌜ now (windows .exit)
+        ≡ scanWindows (given leaf arity levels (now (counted .entry))) (now (text .entry)) (now (out .entry)) (length (now (work .entry))) ⌝ }
+    ensures buffer { λ _. ⌜ now (out .exit)
+        ≡ scanLeaves (given leaf arity levels (now (counted .entry))) (now (text .entry)) (now (out .entry)) (length (now (work .entry))) ⌝ }
     ensures table { λ r. ⌜ TableLeft r (now (work .entry)) (now (work .exit)) ⌝ }
 {
     let scanned = tree::build_scanned(text, leaf, arity, levels, counted, work, out);
@@ -303,7 +307,8 @@ pub extern "C" fn bt_places(tree: &[u8], pattern: &[u8], table: &mut [u32], numb
 // Moves the mark on to the next row that matches, and answers that row, 0 for none. A refusal leaves the mark.
 #[no_mangle]
 pub extern "C" fn bt_next_match(tree: &[u8], ranges: &[u8], mark: &mut u32, row: &mut u32) -> u32
-    ensures { λ r. ⌜ MatchSays (now (tree .entry)) (now (ranges .entry)) (now (mark .entry)) (record { number = r; row = now (row .exit); mark = now (mark .exit) }) ⌝ }
+    ensures { λ r. ⌜ MatchSays
+        (now (tree .entry)) (now (ranges .entry)) (now (mark .entry)) (record { number = r; row = now (row .exit); mark = now (mark .exit) }) ⌝ }
 {
     let at = *mark;
     let shown = query::next_match(tree, ranges, at);
@@ -332,7 +337,7 @@ pub extern "C" fn bt_list(tree: &[u8], out: &mut [u8], len: &mut u32) -> u32
     ensures { λ _. ⌜ now (len .exit) ≡ listedSize (listSays (now (tree .entry)) (length (now (out .entry)))) ⌝ }
     ensures { λ _. ⌜ now (out .exit) ≡ listLeaves (now (tree .entry)) (now (out .entry)) ⌝ }
 {
-    let listed = listing::list(tree, out);
+    let listed = list_lines::list(tree, out);
     match listed {
         Listed::Bytes(n) => {
             *len = n;

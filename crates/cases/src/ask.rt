@@ -1,14 +1,15 @@
 // What a line asks, put to the library.
 use crate::beside;
-use crate::by_columns;
-use crate::guides;
-use crate::licence;
-use crate::order;
+use crate::column_cases;
+use crate::guide_cases;
+use crate::licence_cases;
+use crate::order_cases;
 use crate::wrong;
-use script::Gift;
-use script::Question;
-use tokens::hexadecimal::Fault;
-use tokens::hexadecimal::Made;
+use cases_replies::Sizes;
+use cases_script::Gift;
+use cases_script::Question;
+use cases_tokens::hexadecimal::Fault;
+use cases_tokens::hexadecimal::Made;
 ghost use Prim.Native.Nat.{_≤_};
 
 // Room for the table that a scan is lent.
@@ -16,14 +17,14 @@ const TABLE: usize = 512;
 
 // Answers a line; the script has the lines before it.
 pub fn line(script: &[u8], line: &[u8], bytes: &mut [u8], lent: &mut [u8]) {
-    if script::is_comment(line) {
+    if cases_script::is_comment(line) {
         return;
     }
-    if script::gives_bytes(line) {
+    if cases_script::gives_bytes(line) {
         give(script, line, bytes);
         return;
     }
-    let question = script::question_of(line);
+    let question = cases_script::question_of(line);
     match question {
         Question::Nothing => other(script, line, bytes, lent),
         Question::Build | Question::Scan => build(script, line, question, bytes, lent),
@@ -34,16 +35,16 @@ pub fn line(script: &[u8], line: &[u8], bytes: &mut [u8], lent: &mut [u8]) {
 
 // A line with a word of another file, or with no such word.
 fn other(script: &[u8], line: &[u8], bytes: &mut [u8], lent: &mut [u8]) {
-    if by_columns::line(script, line, bytes, lent) {
+    if column_cases::line(script, line, bytes, lent) {
         return;
     }
-    if licence::line(line) {
+    if licence_cases::line(line) {
         return;
     }
-    if guides::line(script, line, bytes) {
+    if guide_cases::line(script, line, bytes) {
         return;
     }
-    if order::line(script, line, bytes) {
+    if order_cases::line(script, line, bytes) {
         return;
     }
     wrong::say(b"no such word");
@@ -59,8 +60,8 @@ fn gift_length(gift: Gift) -> u32 {
 
 // Tries a line that gives bytes a name.
 fn give(script: &[u8], line: &[u8], bytes: &mut [u8]) {
-    if tokens::ends(line, gift_length(script::gift_of(line))) {
-        wrong::made(script::make(script, line, bytes));
+    if cases_tokens::ends(line, gift_length(cases_script::gift_of(line))) {
+        wrong::made(cases_script::make(script, line, bytes));
     } else {
         wrong::fault(Fault::Number);
     }
@@ -68,8 +69,8 @@ fn give(script: &[u8], line: &[u8], bytes: &mut [u8]) {
 
 // Whether the tokens from `from` up to, not including, `to` are numbers and the last ones.
 pub fn numbers(line: &[u8], from: u32, to: u32) -> bool {
-    if tokens::ends(line, to) {
-        return tokens::figures(line, from, to);
+    if cases_tokens::ends(line, to) {
+        return cases_tokens::figures(line, from, to);
     }
     false
 }
@@ -87,8 +88,8 @@ fn length(question: Question) -> u32 {
 // The length of the buffer that a question to a tree lends: its last token.
 fn lent_length(question: Question, line: &[u8]) -> usize {
     match question {
-        Question::Span => tokens::figure(line, 4) as usize,
-        Question::Row => tokens::figure(line, 3) as usize,
+        Question::Span => cases_tokens::figure(line, 4) as usize,
+        Question::Row => cases_tokens::figure(line, 3) as usize,
         _ => 0,
     }
 }
@@ -104,7 +105,7 @@ fn of_tree(script: &[u8], line: &[u8], question: Question, bytes: &mut [u8], len
         wrong::fault(Fault::Room);
         return;
     }
-    let made = script::named(script, tokens::token(line, 1), bytes);
+    let made = cases_script::named(script, cases_tokens::token(line, 1), bytes);
     match made {
         Made::Bytes(n) => put(question, &bytes[..n], line, &mut lent[..size]),
         Made::Wrong(f) => wrong::fault(f),
@@ -113,16 +114,16 @@ fn of_tree(script: &[u8], line: &[u8], question: Question, bytes: &mut [u8], len
 
 // Puts a question to a tree; the lent buffer holds 238 in every byte.
 fn put(question: Question, tree: &[u8], line: &[u8], lent: &mut [u8]) {
-    script::fill(lent, 238);
-    let a = tokens::figure(line, 2);
+    cases_script::fill(lent, 238);
+    let a = cases_tokens::figure(line, 2);
     match question {
-        Question::Check => replies::check(tree),
-        Question::List => replies::list(tree),
-        Question::Byte => replies::byte(tree, a),
-        Question::Run => replies::run(tree, a),
-        Question::Span => replies::span(tree, a, tokens::figure(line, 3), lent),
-        Question::Row => replies::row(tree, a, lent),
-        _ => on_byte(question, tree, a, tokens::figure(line, 3)),
+        Question::Check => cases_replies::check(tree),
+        Question::List => cases_replies::list(tree),
+        Question::Byte => cases_replies::byte(tree, a),
+        Question::Run => cases_replies::run(tree, a),
+        Question::Span => cases_replies::span(tree, a, cases_tokens::figure(line, 3), lent),
+        Question::Row => cases_replies::row(tree, a, lent),
+        _ => on_byte(question, tree, a, cases_tokens::figure(line, 3)),
     }
 }
 
@@ -133,8 +134,8 @@ fn on_byte(question: Question, tree: &[u8], byte: u32, number: u32) {
         return;
     }
     match question {
-        Question::Count => replies::count(tree, byte as u8, number),
-        _ => replies::find(tree, byte as u8, number),
+        Question::Count => cases_replies::count(tree, byte as u8, number),
+        _ => cases_replies::find(tree, byte as u8, number),
     }
 }
 
@@ -151,7 +152,7 @@ fn last(question: Question) -> u32
 // Build: a text, three settings, the counted bytes, and the length of the lent buffer; with one scan a level, before that, how many words the
 // lent table has.
 fn build(script: &[u8], line: &[u8], question: Question, bytes: &mut [u8], lent: &mut [u8]) {
-    if !tokens::figures(line, 2, 5) {
+    if !cases_tokens::figures(line, 2, 5) {
         wrong::fault(Fault::Number);
         return;
     }
@@ -160,12 +161,12 @@ fn build(script: &[u8], line: &[u8], question: Question, bytes: &mut [u8], lent:
         wrong::fault(Fault::Number);
         return;
     }
-    let size = tokens::figure(line, last) as usize;
+    let size = cases_tokens::figure(line, last) as usize;
     if lent.len() < size {
         wrong::fault(Fault::Room);
         return;
     }
-    let made = script::named(script, tokens::token(line, 1), bytes);
+    let made = cases_script::named(script, cases_tokens::token(line, 1), bytes);
     match made {
         Made::Bytes(n) => build_of(&bytes[..n], line, question, &mut lent[..size]),
         Made::Wrong(f) => wrong::fault(f),
@@ -175,7 +176,7 @@ fn build(script: &[u8], line: &[u8], question: Question, bytes: &mut [u8], lent:
 // The same of the text.
 fn build_of(text: &[u8], line: &[u8], question: Question, lent: &mut [u8]) {
     let mut counted = [0u8; 256];
-    let made = tokens::hex(tokens::token(line, 5), &mut counted);
+    let made = cases_tokens::hex(cases_tokens::token(line, 5), &mut counted);
     match made {
         Made::Bytes(n) => build_counting(text, line, question, &counted[..n], lent),
         Made::Wrong(f) => wrong::fault(f),
@@ -184,38 +185,30 @@ fn build_of(text: &[u8], line: &[u8], question: Question, lent: &mut [u8]) {
 
 // The same with the counted bytes.
 fn build_counting(text: &[u8], line: &[u8], question: Question, counted: &[u8], lent: &mut [u8]) {
-    script::fill(lent, 238);
-    let leaf = tokens::figure(line, 2);
-    let arity = tokens::figure(line, 3);
-    let levels = tokens::figure(line, 4);
+    cases_script::fill(lent, 238);
+    let by = Sizes {
+        leaf: cases_tokens::figure(line, 2),
+        arity: cases_tokens::figure(line, 3),
+        levels: cases_tokens::figure(line, 4),
+    };
     match question {
         Question::Scan => scan(
             text,
-            leaf,
-            arity,
-            levels,
+            by,
             counted,
-            tokens::figure(line, 6) as usize,
+            cases_tokens::figure(line, 6) as usize,
             lent,
         ),
-        _ => replies::build(text, leaf, arity, levels, counted, lent),
+        _ => cases_replies::build(text, by, counted, lent),
     }
 }
 
 // With one scan a level, in a table of so many words, which have 238 in every byte.
-fn scan(
-    text: &[u8],
-    leaf: u32,
-    arity: u32,
-    levels: u32,
-    counted: &[u8],
-    words: usize,
-    lent: &mut [u8],
-) {
+fn scan(text: &[u8], by: Sizes, counted: &[u8], words: usize, lent: &mut [u8]) {
     if TABLE < words {
         wrong::fault(Fault::Room);
         return;
     }
     let mut work = [4008636142u32; TABLE];
-    replies::scan(text, leaf, arity, levels, counted, &mut work[..words], lent);
+    cases_replies::scan(text, by, counted, &mut work[..words], lent);
 }

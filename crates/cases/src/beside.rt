@@ -1,9 +1,9 @@
 // Questions that lend bytes beside the tree: a tree, the bytes in hexadecimal, and a number.
 use crate::ask;
 use crate::wrong;
-use script::Question;
-use tokens::hexadecimal::Fault;
-use tokens::hexadecimal::Made;
+use cases_script::Question;
+use cases_tokens::hexadecimal::Fault;
+use cases_tokens::hexadecimal::Made;
 
 // Room for the lent table.
 const ROOM: usize = 512;
@@ -13,7 +13,7 @@ pub fn ask(script: &[u8], line: &[u8], question: Question, bytes: &mut [u8]) {
         wrong::fault(Fault::Number);
         return;
     }
-    let made = script::named(script, tokens::token(line, 1), bytes);
+    let made = cases_script::named(script, cases_tokens::token(line, 1), bytes);
     match made {
         Made::Bytes(n) => of_tree(question, &bytes[..n], line),
         Made::Wrong(f) => wrong::fault(f),
@@ -23,9 +23,9 @@ pub fn ask(script: &[u8], line: &[u8], question: Question, bytes: &mut [u8]) {
 // The same of the tree.
 fn of_tree(question: Question, tree: &[u8], line: &[u8]) {
     let mut beside = [0u8; 300];
-    let made = tokens::hex(tokens::token(line, 2), &mut beside);
+    let made = cases_tokens::hex(cases_tokens::token(line, 2), &mut beside);
     match made {
-        Made::Bytes(n) => put(question, tree, &beside[..n], tokens::figure(line, 3)),
+        Made::Bytes(n) => put(question, tree, &beside[..n], cases_tokens::figure(line, 3)),
         Made::Wrong(f) => wrong::fault(f),
     }
 }
@@ -33,7 +33,7 @@ fn of_tree(question: Question, tree: &[u8], line: &[u8]) {
 // The same with the bytes: the next match after a mark, or the places of a pattern.
 fn put(question: Question, tree: &[u8], beside: &[u8], number: u32) {
     match question {
-        Question::Match => replies::next_match(tree, beside, number),
+        Question::Match => cases_replies::next_match(tree, beside, number),
         _ => places(tree, beside, number as usize),
     }
 }
@@ -45,5 +45,5 @@ fn places(tree: &[u8], pattern: &[u8], size: usize) {
         return;
     }
     let mut table = [4008636142u32; ROOM];
-    replies::places(tree, pattern, &mut table[..size]);
+    cases_replies::places(tree, pattern, &mut table[..size]);
 }

@@ -2,10 +2,10 @@
 // the line. The lines are those of the cases file of an independent model; the file stdout has that model's answers.
 mod ask;
 mod beside;
-mod by_columns;
-mod guides;
-mod licence;
-mod order;
+mod column_cases;
+mod guide_cases;
+mod licence_cases;
+mod order_cases;
 mod wrong;
 
 ghost use Prim.Native.Nat.{_≤_};
@@ -43,7 +43,7 @@ fn run(lines: &[u8], bytes: &mut [u8], lent: &mut [u8]) {
     let mut at: usize = 0;
     while at < lines.len() {
         answer(lines, at, bytes, lent);
-        at = tokens::past(lines, at, 10);
+        at = cases_tokens::past(lines, at, 10);
     }
 }
 
@@ -51,7 +51,7 @@ fn run(lines: &[u8], bytes: &mut [u8], lent: &mut [u8]) {
 fn answer(lines: &[u8], at: usize, bytes: &mut [u8], lent: &mut [u8])
     requires { ⌜ at ≤ length (now lines) ⌝ }
 {
-    let line = tokens::until(lines, at, 10);
+    let line = cases_tokens::until(lines, at, 10);
     io::write_all(1, line);
     ask::line(&lines[..at], line, bytes, lent);
     io::write_all(1, b"\n");

@@ -1,6 +1,6 @@
 // What is printed of a line that is wrong.
-use tokens::hexadecimal::Fault;
-use tokens::hexadecimal::Made;
+use cases_tokens::hexadecimal::Fault;
+use cases_tokens::hexadecimal::Made;
 
 // What is wrong with a line, in words.
 pub fn say(words: &[u8]) {

@@ -1,4 +1,5 @@
 -- The demands on the rearrangement and its inverse, as theorems over what the two calls promise, for any arguments and any lent bytes.
+-- docs/FORMAT.md: "Columns before rows".
 use mathlib.Core.List.{List, [], _++_}
 use mathlib.Core.Bool.{true, false, cond}
 use mathlib.Core.Path.{_≡_, refl, sym, ap, _∙_}
@@ -13,7 +14,7 @@ use lib.Dec.{eqb}
 use borrow.Author.Tests.{eq-eqb}
 use Rattle.columns.specs.Columns.{columns, uncolumns, widthOk, columnsNumber, columnsLeaves, uncolumnsLeaves}
 use Rattle.columns.specs.ColumnLaws.{width-some, columns-length, uncolumns-length, restored, rearranged as columns-uncolumns}
-use Rattle.columns.proofs.Writing.{refused-width, refused-short, not-refused, let-through}
+use Rattle.columns.proofs.ColumnsWritten.{refused-width, refused-short, not-refused, let-through}
 use Rattle.columns.proofs.to_columns.Reads as to-reads
 use Rattle.columns.proofs.from_columns.Reads as from-reads
 

@@ -1,4 +1,5 @@
 -- The block tree of a text: its blocks, level by level, and its bytes.
+-- docs/FORMAT.md: "Blocks", "Layout".
 use mathlib.Core.List.{List, [], _∷_, _++_, map}
 use mathlib.Core.Bool.{Bool, cond, not, _&&_, _||_}
 use Prim.Native.Nat.{ℕ, zero, suc, _+_, _-_, _*_, _/_, min}
@@ -6,8 +7,10 @@ use lib.ListN.{length, getD, replicate}
 use lib.Dec.{ltb, leb, eqb}
 use Rattle.text.specs.Lists.{tabulate, concat, sumBelow, countBelow}
 use Rattle.format.specs.Words.{wordsBytes}
+use Rattle.format.specs.RecordFields.{plainFields, countFields}
 use Rattle.text.specs.Text.{stretch, leftmost, countIn}
-use Rattle.format.specs.Settings.{Settings, blockLength, pieces, recordLength}
+use Rattle.format.specs.Settings.{Settings, maxCounted, maxLevels, blockLength, pieces, recordLength}
+use Rattle.format.specs.HeaderPlaces.{headerLength}
 use Rattle.format.specs.Edges.{edgesOf}
 
 -- The blocks of one level above the last: b bytes each, at the places `starts`.
@@ -72,7 +75,8 @@ module _ (S : Settings) (T : List ℕ) (l : ℕ) (starts : List ℕ) where
   unfolding b
   target i = countBelow (length starts) (λ j. leb (startOf T b starts j) (occurrence i)) - 1
 
-  -- the start of the parent of a block that starts at s; the text's on level 0. That this is the parent's start is proved: `parent-start` of crate `built`
+  -- the start of the parent of a block that starts at s; the text's on level 0. That this is the parent's start is proved: `parent-start` of crate
+  -- `theory_built`
   -- (specs/Parents.antt)
   parentStart : ℕ → ℕ
   parentStart s = elim l [ zero ↦ 0 | suc above ↦ s / blockLength S above * blockLength S above ]
@@ -83,19 +87,17 @@ module _ (S : Settings) (T : List ℕ) (l : ℕ) (starts : List ℕ) where
       let s = startOf T b starts i in
       let up = parentStart s in
       let from = startOf T b starts (target i) in
-      countIn c (stretch T up (s - up))
-      ∷ countIn c (stretch T s (lengthOf T b starts i))
-      ∷ cond (isKept i) 0 (countIn c (stretch T from (occurrence i - from)))
-      ∷ []
+      countFields (countIn c (stretch T up (s - up))) (countIn c (stretch T s (lengthOf T b starts i)))
+      (cond (isKept i) 0 (countIn c (stretch T from (occurrence i - from))))
 
   -- the words of block i's record
   unfoldable pub recordOf : ℕ → List ℕ
   unfolding b countsOf parentStart
   recordOf i =
       let s = startOf T b starts i in
-      let kept : List ℕ = 0 ∷ sumBelow i width ∷ 0 ∷ [] in
-      let points : List ℕ = 1 ∷ target i ∷ (occurrence i - startOf T b starts (target i)) ∷ [] in
-      (s ∷ cond (isKept i) kept points) ++ concat (map (countsOf i) (S .counted))
+      let kept = plainFields s 0 (sumBelow i width) 0 in
+      let points = plainFields s 1 (target i) (occurrence i - startOf T b starts (target i)) in
+      cond (isKept i) kept points ++ concat (map (countsOf i) (S .counted))
 
   -- the bytes of block i's record: its words, then its edges
   unfoldable pub recordIn : ℕ → List ℕ
@@ -129,10 +131,10 @@ unfoldable pub header : Settings → List ℕ → List ℕ
 header S T =
     let H = S .levels in
     let k = length (S .counted) in
-    let leaves = 100 + sumBelow H (λ l. length (startsAt S T l)) * recordBytes S in
+    let leaves = headerLength + sumBelow H (λ l. length (startsAt S T l)) * recordBytes S in
     wordsBytes (builtLayout ∷ length T ∷ S .leaf ∷ S .arity ∷ H ∷ k ∷ [])
-    ++ (S .counted ++ replicate (4 - k) 0)
-    ++ wordsBytes (levelPairs S T H 0 100 ++ replicate (16 - 2 * H) 0 ++ leaves ∷ length (leafBytes S T) ∷ [])
+    ++ (S .counted ++ replicate (maxCounted - k) 0)
+    ++ wordsBytes (levelPairs S T H 0 headerLength ++ replicate (2 * maxLevels - 2 * H) 0 ++ leaves ∷ length (leafBytes S T) ∷ [])
 
 -- the bytes of the block tree of T
 unfoldable pub treeOf : Settings → List ℕ → List ℕ

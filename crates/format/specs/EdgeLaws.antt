@@ -4,7 +4,7 @@ use mathlib.Core.Path.{_≡_, _∙_}
 use Prim.Native.Nat.{ℕ, _+_, _-_, _≤_, _<_}
 use native.Mathlib.Omega.{arith}
 use native.Mathlib.Nat.{add-assoc}
-use lib.ListN.{length, getD, take, drop, replicate, length-append, length-take, length-drop, length-replicate, List·getD-append, getD-replicate}
+use lib.ListN.{length, getD, drop, replicate, length-append, length-take, length-drop, length-replicate, List·getD-append, getD-replicate}
 use lib.Seq.{getD-take, getD-drop, getD-append-add}
 use Rattle.text.specs.Text.{stretch}
 use Rattle.text.specs.TextLaws.{length-stretch, getD-stretch}

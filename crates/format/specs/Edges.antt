@@ -1,4 +1,5 @@
 -- The edges of a block: its first m bytes and its last m bytes.
+-- docs/FORMAT.md: "Edges".
 use mathlib.Core.List.{List, _++_}
 use Prim.Native.Nat.{ℕ, _-_}
 use lib.ListN.{length, take, drop, replicate}

@@ -1,4 +1,5 @@
 -- Questions 8 and 9: which trees are well linked, which text fits a tree, and which counts and edges are true of it.
+-- docs/FORMAT.md: "Which text a tree stands for", "Question 8", "Question 9".
 use mathlib.Core.List.{List}
 use mathlib.Core.Option.{Option, none, some}
 use mathlib.Core.Bool.{Bool, cond, not, _&&_, _||_}
@@ -85,8 +86,9 @@ module _ (T t : List ℕ) where
   fits =
       eqb (length T) (at.textLength t) && allBelow (at.settings t .levels) (λ l. allBelow (at.levelCount t l) (blockFits l))
 
-  -- the start of the parent of a block of level l that starts at s; the text's on level 0. In every tree that passes questions 5 to 8 the parent of a block that
-  -- starts at s starts at s / b × b, b being the block length of the parent's level: `parent-start` of crate `paths` (specs/Starts.antt)
+  -- the start of the parent of a block of level l that starts at s; the text's on level 0. In every tree that passes questions 5 to 8 the parent of a
+  -- block that starts at s starts at s / b × b, b being the block length of the parent's level: `parent-start` of crate `theory_paths`
+  -- (specs/BlockStarts.antt)
   parentStart : ℕ → ℕ → ℕ
   unfolding at.fullLength
   parentStart l s = elim l [ zero ↦ 0 | suc above ↦ s / at.fullLength t above * at.fullLength t above ]

@@ -1,4 +1,5 @@
 -- A tree's bytes, read by the layout: the header's words, the fields of a record, a leaf byte. Any bytes can be read so.
+-- docs/FORMAT.md: "Layout", "The questions".
 use mathlib.Core.List.{List}
 use mathlib.Core.Bool.{Bool, _&&_, _||_}
 use Prim.Native.Nat.{ℕ, _+_, _-_, _*_, min}
@@ -6,39 +7,42 @@ use lib.ListN.{length, getD, take, drop}
 use lib.Dec.{leb, eqb}
 use Rattle.text.specs.Lists.{allBelow, sumBelow}
 use Rattle.format.specs.Words.{wordAt}
+use Rattle.format.specs.RecordFields.{startField, kindField, linkField, gapField, beforeField, insideField, skipField, fieldBytes}
 use Rattle.format.specs.Settings.{Settings, maxCounted, maxLevels, blockLength, pieces, recordLength, lengthOk, sizesOk, countedOk}
+use Rattle.format.specs.HeaderPlaces.{layoutAt, textLengthAt, leafAt, arityAt, levelsAt, countedCountAt, countedAt}
+use Rattle.format.specs.HeaderPlaces.{countAt, offsetAt, leafOffsetAt, leafCountAt, headerLength}
 
 module _ (t : List ℕ) where
   -- 1, or 2: then records have edges
   unfoldable pub layout : ℕ
-  layout = wordAt t 0
+  layout = wordAt t layoutAt
 
   unfoldable pub textLength : ℕ
-  textLength = wordAt t 4
+  textLength = wordAt t textLengthAt
 
   unfoldable pub countedCount : ℕ
-  countedCount = wordAt t 20
+  countedCount = wordAt t countedCountAt
 
   unfoldable pub settings : Settings
   unfolding countedCount
   settings = record {
-    leaf = wordAt t 8;
-    arity = wordAt t 12;
-    levels = wordAt t 16;
-    counted = take countedCount (take maxCounted (drop 24 t));
+    leaf = wordAt t leafAt;
+    arity = wordAt t arityAt;
+    levels = wordAt t levelsAt;
+    counted = take countedCount (take maxCounted (drop countedAt t));
   }
 
   unfoldable pub levelCount : ℕ → ℕ
-  levelCount l = wordAt t (28 + 8 * l)
+  levelCount l = wordAt t (countAt l)
 
   unfoldable pub levelOffset : ℕ → ℕ
-  levelOffset l = wordAt t (32 + 8 * l)
+  levelOffset l = wordAt t (offsetAt l)
 
   unfoldable pub leafOffset : ℕ
-  leafOffset = wordAt t 92
+  leafOffset = wordAt t leafOffsetAt
 
   unfoldable pub leafCount : ℕ
-  leafCount = wordAt t 96
+  leafCount = wordAt t leafCountAt
 
   unfoldable pub recordSize : ℕ
   unfolding layout settings countedCount
@@ -51,37 +55,37 @@ module _ (t : List ℕ) where
 
   unfoldable pub start : ℕ → ℕ → ℕ
   unfolding field
-  start l i = field l i 0
+  start l i = field l i startField
 
   unfoldable pub kind : ℕ → ℕ → ℕ
   unfolding field
-  kind l i = field l i 1
+  kind l i = field l i kindField
 
   unfoldable pub link : ℕ → ℕ → ℕ
   unfolding field
-  link l i = field l i 2
+  link l i = field l i linkField
 
   unfoldable pub gap : ℕ → ℕ → ℕ
   unfolding field
-  gap l i = field l i 3
+  gap l i = field l i gapField
 
   -- of the counted byte with number c
   unfoldable pub before : ℕ → ℕ → ℕ → ℕ
   unfolding field
-  before l i c = field l i (4 + 3 * c)
+  before l i c = field l i (beforeField c)
 
   unfoldable pub inside : ℕ → ℕ → ℕ → ℕ
   unfolding field
-  inside l i c = field l i (5 + 3 * c)
+  inside l i c = field l i (insideField c)
 
   unfoldable pub skip : ℕ → ℕ → ℕ → ℕ
   unfolding field
-  skip l i c = field l i (6 + 3 * c)
+  skip l i c = field l i (skipField c)
 
   -- where the edges of block i of level l stand in a layout 2 tree: after its words
   unfoldable pub edgesAt : ℕ → ℕ → ℕ
   unfolding levelOffset recordSize countedCount
-  edgesAt l i = levelOffset l + i * recordSize + (16 + 12 * countedCount)
+  edgesAt l i = levelOffset l + i * recordSize + fieldBytes countedCount
 
   unfoldable pub leafByte : ℕ → ℕ
   unfolding leafOffset
@@ -109,7 +113,7 @@ module _ (t : List ℕ) where
 
   -- questions 5 and 6
   unfoldable pub longEnough : Bool
-  longEnough = leb 100 (length t)
+  longEnough = leb headerLength (length t)
 
   unfoldable pub layoutOk : Bool
   unfolding layout
@@ -122,9 +126,9 @@ module _ (t : List ℕ) where
       let H = settings .levels in
       lengthOk textLength && sizesOk settings
       && (leb countedCount maxCounted && countedOk (settings .counted))
-      && allBelow (maxCounted - countedCount) (λ x. eqb (getD t (24 + countedCount + x) 0) 0)
+      && allBelow (maxCounted - countedCount) (λ x. eqb (getD t (countedAt + countedCount + x) 0) 0)
       && allBelow (maxLevels - H) (λ x. eqb (levelCount (H + x)) 0 && eqb (levelOffset (H + x)) 0)
       && eqb (levelCount 0) (pieces textLength (fullLength 0))
-      && allBelow H (λ l. eqb (levelOffset l) (100 + sumBelow l levelCount * recordSize))
-      && eqb leafOffset (100 + sumBelow H levelCount * recordSize)
+      && allBelow H (λ l. eqb (levelOffset l) (headerLength + sumBelow l levelCount * recordSize))
+      && eqb leafOffset (headerLength + sumBelow H levelCount * recordSize)
       && eqb (length t) (leafOffset + leafCount)

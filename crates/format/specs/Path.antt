@@ -1,4 +1,5 @@
 -- The path of a place, read off a tree's bytes alone.
+-- docs/FORMAT.md: "The path of a place".
 use mathlib.Core.List.{List, [], _∷_, _++_}
 use mathlib.Core.Option.{Option, none, some}
 use mathlib.Core.Bool.{Bool, true, false, cond, _&&_, _||_}

@@ -1,4 +1,4 @@
--- An answer in document 01's own terms: its number and its figures.
+-- An answer by its number and its figures (docs/FORMAT.md, "The questions, in order").
 use Prim.Native.Nat.{ℕ, zero, suc}
 
 -- a number and two figures; the number 0 is no refusal

@@ -1,4 +1,5 @@
 -- The short span of a layout 2 tree: it goes down only while it lies in one block, and where it crosses a border two edges give it.
+-- docs/FORMAT.md: "The walk of a short span".
 use mathlib.Core.List.{List, [], _∷_, _++_}
 use mathlib.Core.Option.{Option, none, some}
 use mathlib.Core.Bool.{Bool, true, false, cond, _&&_}

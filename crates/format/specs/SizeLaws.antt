@@ -1,7 +1,7 @@
--- What question 2 gives of the settings, and the laws of block lengths and record lengths.
+-- The bounds of a text and of a tree's settings, as facts, and the laws of block lengths and record lengths.
 use mathlib.Core.List.{[], _∷_}
 use mathlib.Core.Bool.{Bool, true, false, cond, _&&_}
-use mathlib.Core.Path.{_≡_, refl}
+use mathlib.Core.Path.{_≡_}
 use Prim.Native.Nat.{ℕ, suc, _+_, _-_, _*_, _^_, _≤_, _<_}
 use native.Mathlib.Omega.{arith}
 use native.Mathlib.Nat.{pow-suc, pow-zero, mul-one, mul-assoc, mul-le-mul, mul-le-mul-left, pow-le-pow-right, one-le-pow}
@@ -9,24 +9,30 @@ use borrow.Author.Tests.{leb-true, ne-eqb}
 use lib.Dec.{leb, eqb}
 use Rattle.text.specs.ListLaws.{and-left, and-right}
 use Rattle.text.specs.Conjunctions.{parts}
-use Rattle.format.specs.Settings.{Settings, sizesOk, blockLength, recordLength, maxText, maxLeaf, minArity, maxArity, maxLevels}
+use Rattle.format.specs.RecordFields.{fieldBytes}
+use Rattle.format.specs.Settings.{Settings, sizesOk, blockLength, recordLength, maxText, maxLeaf, minArity, maxArity, maxLevels, maxCounted, maxRecord}
 
--- the sizes' bounds, of question 2
-pub record Sizes (S : Settings) : Type 0 where
-  pub leaf-low : 1 ≤ S .leaf
-  pub leaf-high : S .leaf ≤ maxLeaf
-  pub arity-low : minArity ≤ S .arity
-  pub arity-high : S .arity ≤ maxArity
-  pub levels-low : 1 ≤ S .levels
-  pub levels-high : S .levels ≤ maxLevels
-  pub top-high : S .leaf * S .arity ^ (S .levels - 1) ≤ maxText
+-- The one record of bounds: of n, m, r, H and k. The header of a tree that is read, the settings of the code and those that are built with have it.
+pub record Bounds (n m r H k : ℕ) : Type 0 where
+  pub text-high : n ≤ maxText
+  pub leaf-low : 1 ≤ m
+  pub leaf-high : m ≤ maxLeaf
+  pub arity-low : minArity ≤ r
+  pub arity-high : r ≤ maxArity
+  pub levels-low : 1 ≤ H
+  pub levels-high : H ≤ maxLevels
+  pub top-high : m * r ^ (H - 1) ≤ maxText
+  pub counted-high : k ≤ maxCounted
 
-pub sizes : (S : Settings) → sizesOk S ≡ true → Sizes S
+-- settings that pass question 2 are within them, beside a text and counted bytes that are
+pub within-bounds : (n k : ℕ) (S : Settings) → n ≤ maxText → sizesOk S ≡ true → k ≤ maxCounted → Bounds n (S .leaf) (S .arity) (S .levels) k
 unfolding sizesOk
-sizes S h =
+within-bounds n k S short h few =
     let top = leb (S .leaf * S .arity ^ (S .levels - 1)) maxText in
-    let a = parts (leb 1 (S .leaf)) (leb (S .leaf) maxLeaf ∷ (leb minArity (S .arity) && leb (S .arity) maxArity) ∷ (leb 1 (S .levels) && leb (S .levels) maxLevels && top) ∷ []) h in
+    let a = parts (leb 1 (S .leaf)) (leb (S .leaf)
+    maxLeaf ∷ (leb minArity (S .arity) && leb (S .arity) maxArity) ∷ (leb 1 (S .levels) && leb (S .levels) maxLevels && top) ∷ []) h in
     let c = parts (leb 1 (S .levels)) (leb (S .levels) maxLevels ∷ top ∷ []) (a .1 .1 .1 .0) in record {
+      text-high = short;
       leaf-low = leb-true _ _ (a .0);
       leaf-high = leb-true _ _ (a .1 .0);
       arity-low = leb-true _ _ (and-left _ (leb (S .arity) maxArity) (a .1 .1 .0));
@@ -34,13 +40,31 @@ sizes S h =
       levels-low = leb-true _ _ (c .0);
       levels-high = leb-true _ _ (c .1 .0);
       top-high = leb-true _ _ (c .1 .1 .0);
+      counted-high = few;
     }
+
+-- the bounds of m, r and H alone: with the empty text, and no counted bytes
+abbrev pub Sizes : ℕ → ℕ → ℕ → Type 0
+Sizes m r H = Bounds 0 m r H 0
+
+pub sizes-alone : {n m r H k : ℕ} → Bounds n m r H k → Sizes m r H
+sizes-alone z = record {
+  text-high = omega arith;
+  leaf-low = z .leaf-low;
+  leaf-high = z .leaf-high;
+  arity-low = z .arity-low;
+  arity-high = z .arity-high;
+  levels-low = z .levels-low;
+  levels-high = z .levels-high;
+  top-high = z .top-high;
+  counted-high = omega arith;
+}
 
 pub length-top : (S : Settings) → blockLength S 0 ≡ S .leaf * S .arity ^ (S .levels - 1)
 unfolding blockLength
 length-top S = let e : S .levels - 1 - 0 ≡ S .levels - 1 = omega arith in rw e
 
-module _ (S : Settings) (z : Sizes S) where
+module _ (S : Settings) {n k : ℕ} (z : Bounds n (S .leaf) (S .arity) (S .levels) k) where
   -- a full block is as long as r full blocks of the next level
   pub length-step : (l : ℕ) → l + 1 < S .levels → blockLength S l ≡ blockLength S (l + 1) * S .arity
   unfolding blockLength
@@ -69,21 +93,21 @@ cond-low true m = omega arith
 cond-low false m = omega arith
 
 module _ (v m k : ℕ) where
-  pub record-low : 16 + 12 * k ≤ recordLength v m k
+  pub record-low : fieldBytes k ≤ recordLength v m k
   unfolding recordLength
   record-low = omega arith
 
-  pub record-most : recordLength v m k ≤ 16 + 12 * k + (m + m)
+  pub record-most : recordLength v m k ≤ fieldBytes k + (m + m)
   unfolding recordLength
   record-most = omega (arith, cond-low (eqb v 2) m)
 
-  pub record-high : m ≤ maxLeaf → k ≤ 4 → recordLength v m k ≤ 576
+  pub record-high : m ≤ maxLeaf → k ≤ maxCounted → recordLength v m k ≤ maxRecord
   record-high hm hk = omega (arith, record-most)
 
-  pub record-plain : (v ≡ 2 → ⊥) → recordLength v m k ≡ 16 + 12 * k
+  pub record-plain : (v ≡ 2 → ⊥) → recordLength v m k ≡ fieldBytes k
   unfolding recordLength
   record-plain h = rw (ne-eqb v 2 h) (omega arith)
 
-  pub record-edged : v ≡ 2 → recordLength v m k ≡ 16 + 12 * k + (m + m)
+  pub record-edged : v ≡ 2 → recordLength v m k ≡ fieldBytes k + (m + m)
   unfolding recordLength
   record-edged e = rw e

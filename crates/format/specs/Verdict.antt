@@ -1,4 +1,5 @@
 -- What the check answers: 0 for an accepted tree, else the number of the first question that it fails.
+-- docs/FORMAT.md: "The questions, in order".
 use mathlib.Core.List.{List}
 use mathlib.Core.Bool.{Bool, true, false, _&&_}
 use Prim.Native.Nat.{ℕ}

@@ -8,7 +8,7 @@ use Rattle.text.specs.ListLaws.{and-left, and-right}
 use Rattle.format.specs.Layout.{layout, hasEdges, longEnough, layoutOk, headerOk}
 use Rattle.format.specs.Fits.{linksOk, textOf, countsTrue, edgesTrue}
 use Rattle.format.specs.Verdict.{ask, readable, verdict}
-use Rattle.format.specs.HeaderLaws.{ask-test, ask-rest}
+use Rattle.format.specs.LayoutLaws.{ask-test, ask-rest}
 
 refused-first : (a b c : Bool) (q rest : ℕ) → ask 5 a (ask 6 b (ask 7 c 0)) ≡ suc q → ask 5 a (ask 6 b (ask 7 c rest)) ≡ suc q
 refused-first true true true q rest h = absurd (let z : ⊥ = omega arith in z)
@@ -32,7 +32,11 @@ module _ (t : List ℕ) where
   verdict-readable h =
       let after5 = ask-rest 4 (longEnough t) (ask 6 (layoutOk t) (ask 7 (headerOk t) 0)) h in
       let after6 = ask-rest 5 (layoutOk t) (ask 7 (headerOk t) 0) after5 in
-      rw (ask-test 4 (longEnough t) (ask 6 (layoutOk t) (ask 7 (headerOk t) 0)) h, ask-test 5 (layoutOk t) (ask 7 (headerOk t) 0) after5, ask-test 6 (headerOk t) 0 after6)
+      rw (
+        ask-test 4 (longEnough t) (ask 6 (layoutOk t) (ask 7 (headerOk t) 0)) h,
+        ask-test 5 (layoutOk t) (ask 7 (headerOk t) 0) after5,
+        ask-test 6 (headerOk t) 0 after6,
+      )
 
   -- the verdict of a tree that fails one of them is its number
   pub verdict-refused : (q : ℕ) → readable t ≡ suc q → verdict t ≡ suc q
@@ -49,7 +53,11 @@ module _ (t : List ℕ) where
         let rest = ask 8 (linksOk t) (ask 9 nine 0) in
         let after5 = ask-rest 4 (longEnough t) (ask 6 (layoutOk t) (ask 7 (headerOk t) rest)) v in
         let after6 = ask-rest 5 (layoutOk t) (ask 7 (headerOk t) rest) after5 in
-        rw (ask-test 4 (longEnough t) (ask 6 (layoutOk t) (ask 7 (headerOk t) rest)) v, ask-test 5 (layoutOk t) (ask 7 (headerOk t) rest) after5, ask-test 6 (headerOk t) rest after6)
+        rw (
+          ask-test 4 (longEnough t) (ask 6 (layoutOk t) (ask 7 (headerOk t) rest)) v,
+          ask-test 5 (layoutOk t) (ask 7 (headerOk t) rest) after5,
+          ask-test 6 (headerOk t) rest after6,
+        )
 
     pub accepted-links : linksOk t ≡ true
     accepted-links = ask-test 7 (linksOk t) (ask 9 nine 0) (rw (verdict-readable accepted-readable) at v)

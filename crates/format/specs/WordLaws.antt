@@ -7,7 +7,7 @@ use native.Mathlib.Omega.{arith}
 use native.Mathlib.Numerals.{add-one, add-two, add-three}
 use native.Mathlib.Nat.{div-add-mod, div-div-eq-div-mul, mod-eq-of-lt, add-assoc, mul-suc}
 use lib.ListN.{length, getD, take, drop, length-set}
-use lib.Seq.{getD-set-same, getD-set-other, lt-length-set, sets-eq, getD-drop, getD-append-add}
+use lib.Seq.{getD-set-other, sets-eq, getD-append-add}
 use Rattle.text.specs.Lists.{concat}
 use Rattle.format.specs.Words.{wordAt, wordBytes, wordsBytes, setWord}
 
@@ -28,20 +28,16 @@ pub wordAt-wordBytes : (w : ℕ) (rest : List ℕ) → w < 4294967296 → wordAt
 unfolding wordAt wordBytes
 wordAt-wordBytes w rest small = digits w small
 
--- a word read from a part is the word at the part's place
-pub wordAt-drop : (t : List ℕ) (n i : ℕ) → wordAt (drop n t) i ≡ wordAt t (n + i)
-unfolding wordAt
-wordAt-drop t n i =
-    rw (getD-drop n t i 0, getD-drop n t (i + 1) 0, getD-drop n t (i + 2) 0, getD-drop n t (i + 3) 0, place 1, place 2, place 3)
-  where
-    place : (k : ℕ) → n + (i + k) ≡ n + i + k
-    place k = omega arith
-
 -- a word is its four bytes alone: lists that agree on them have the same word there, whatever else they hold and however long they are
 pub wordAt-agree : (t u : List ℕ) (i : ℕ) → ((k : ℕ) → i ≤ k → k < i + 4 → getD t k 0 ≡ getD u k 0) → wordAt t i ≡ wordAt u i
 unfolding wordAt
 wordAt-agree t u i same =
-    rw (same i (omega arith) (omega arith), same (i + 1) (omega arith) (omega arith), same (i + 2) (omega arith) (omega arith), same (i + 3) (omega arith) (omega arith))
+    rw (
+      same i (omega arith) (omega arith),
+      same (i + 1) (omega arith) (omega arith),
+      same (i + 2) (omega arith) (omega arith),
+      same (i + 3) (omega arith) (omega arith),
+    )
 
 -- four bytes make a word below 2^32
 pub wordAt-lt : (t : List ℕ) (i : ℕ) → ((k : ℕ) → getD t k 0 < 256) → wordAt t i < 4294967296
@@ -52,21 +48,6 @@ pub length-setWord : (t : List ℕ) (i w : ℕ) → length (setWord t i w) ≡ l
 unfolding setWord
 length-setWord t i w = simp length-set
 
-pub wordAt-same : (t : List ℕ) (i w : ℕ) → i + 4 ≤ length t → w < 4294967296 → wordAt (setWord t i w) i ≡ w
-unfolding wordAt setWord
-wordAt-same t i w fits small =
-    let f0 : i < length t = omega arith in
-    let f1 : i + 1 < length t = omega arith in
-    let f2 : i + 2 < length t = omega arith in
-    let f3 : i + 3 < length t = omega arith in
-    let n01 : i ≢ i + 1 = λ e. omega arith in
-    let n02 : i ≢ i + 2 = λ e. omega arith in
-    let n03 : i ≢ i + 3 = λ e. omega arith in
-    let n12 : i + 1 ≢ i + 2 = λ e. omega arith in
-    let n13 : i + 1 ≢ i + 3 = λ e. omega arith in
-    let n23 : i + 2 ≢ i + 3 = λ e. omega arith in
-    simp (getD-set-other, getD-set-same, lt-length-set) (digits w small)
-
 pub getD-setWord-other : (t : List ℕ) (i w k : ℕ) → (i ≤ k → k < i + 4 → ⊥) → getD (setWord t i w) k 0 ≡ getD t k 0
 unfolding setWord
 getD-setWord-other t i w k out =
@@ -75,14 +56,6 @@ getD-setWord-other t i w k out =
     let n2 : k ≢ i + 2 = λ e. out (omega arith) (omega arith) in
     let n3 : k ≢ i + 3 = λ e. out (omega arith) (omega arith) in
     simp getD-set-other
-
-pub wordAt-other : (t : List ℕ) (i w k : ℕ) → (i < k + 4 → k < i + 4 → ⊥) → wordAt (setWord t i w) k ≡ wordAt t k
-unfolding wordAt
-wordAt-other t i w k out =
-    rw (other k (omega arith) (omega arith), other (k + 1) (omega arith) (omega arith), other (k + 2) (omega arith) (omega arith), other (k + 3) (omega arith) (omega arith))
-  where
-    other : (j : ℕ) → k ≤ j → j < k + 4 → getD (setWord t i w) j 0 ≡ getD t j 0
-    other j from to = getD-setWord-other t i w j (λ a b. out (omega arith) (omega arith))
 
 -- written in place, a word's bytes stand between what stood before and after them
 pub setWord-eq : (t : List ℕ) (i w : ℕ) → i + 4 ≤ length t → setWord t i w ≡ take i t ++ wordBytes w ++ drop (i + 4) t

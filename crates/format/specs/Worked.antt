@@ -1,4 +1,5 @@
--- The worked book of document 01, two more texts and the empty one, computed from the definitions; trees are of layout 2 where nothing else is said.
+-- The worked book and the marked cases of docs/FORMAT.md, "Example", two more texts and the empty one, computed from the definitions; trees are of layout 2
+-- where nothing else is said.
 use mathlib.Core.Bool.{true, false}
 use mathlib.Core.List.{List, [], _∷_, _++_}
 use mathlib.Core.Option.{some}
@@ -11,16 +12,19 @@ use Rattle.format.specs.Words.{setWord, wordAt, wordsBytes, wordBytes}
 use Rattle.text.specs.Text.{stretch, leftmost, firstFrom, countIn, placeOf, placeIn}
 use Rattle.format.specs.Settings.{Settings, blockLength, pieces, recordLength, lengthOk, sizesOk, countedOk, rising, risingAfter}
 use Rattle.format.specs.Edges.{edgesOf, filledOut}
-use Rattle.format.specs.Blocks.{treeOf, header, leafBytes, levelPairs, recordBytes, levelBytes, recordIn, recordOf, target, occurrence, width, isKept, startsAt, cut, keptByPairs, firstPairAt, pairAt, lengthOf, startOf}
+use Rattle.format.specs.Blocks.{treeOf, header, leafBytes, levelPairs, recordBytes, levelBytes, recordIn, recordOf, target, occurrence, width}
+use Rattle.format.specs.Blocks.{isKept, startsAt, cut, keptByPairs, firstPairAt, pairAt, lengthOf, startOf}
 use Rattle.format.specs.Layout as at
 use Rattle.format.specs.Path.{pathOf, pathFrom, visit, targetPlace, targetBlock, pointingBlock, keptBlock, lands, landBlock, landPlace, landVisits}
 use Rattle.format.specs.Short.{shortOf, shortFrom, byEdges, inLeaf}
-use Rattle.format.specs.Fits.{linksOk, textOf, fits, countsTrue, edgesTrue, blockEdgesTrue, lastLevel, widthAt, keptRight, pointingRight, blockRight, countBelowRight, blockFits, blockCountsTrue}
+use Rattle.format.specs.Fits.{linksOk, textOf, fits, countsTrue, edgesTrue, blockEdgesTrue, lastLevel, widthAt, keptRight, pointingRight}
+use Rattle.format.specs.Fits.{blockRight, countBelowRight, blockFits, blockCountsTrue}
 use Rattle.format.specs.Verdict.{verdict, readable}
-use Rattle.format.specs.Said.{Said, refused}
-use Rattle.format.specs.Reading.{byteSays, runSays, asksSpan, leavesSpan, isShort, spanReached, spanBytes, spanBlocks, spanNumber, spanSays, spanLeaves, leftOver, pathsHold}
-use Rattle.format.specs.Counting.{countSays, indexOf, added, addedAfter, taken, takenAfter, lastPlace, leavesReached, isCounted, numberOfByte}
-use Rattle.format.specs.Finding.{selectNumber, total, found, FindSays}
+use Rattle.format.specs.Said.{Said}
+use Rattle.format.specs.ReadSays.{byteSays, runSays, asksSpan, leavesSpan, isShort, spanReached, spanBytes, spanBlocks, spanNumber, spanSays}
+use Rattle.format.specs.ReadSays.{spanLeaves, leftOver, pathsHold}
+use Rattle.format.specs.CountSays.{countSays, indexOf, added, addedAfter, taken, takenAfter, lastPlace, leavesReached, isCounted, numberOfByte}
+use Rattle.format.specs.FindSays.{selectNumber, total, found, FindSays}
 
 book : List ℕ
 book = 81 ∷ 65 ∷ 66 ∷ 67 ∷ 68 ∷ 65 ∷ 66 ∷ 67 ∷ 68 ∷ 69 ∷ 70 ∷ 71 ∷ 65 ∷ 66 ∷ 67 ∷ 68 ∷ 65 ∷ 66 ∷ 67 ∷ 68 ∷ []
@@ -59,12 +63,14 @@ words S T l = concat (tabulate (length (startsAt S T l)) (recordOf S T l (starts
 -- the trees of the book and of twelve letters A in layout 1: the header's words, the records without edges, the leaf bytes
 older : List ℕ
 older =
-    wordsBytes (1 ∷ 20 ∷ 2 ∷ 2 ∷ 2 ∷ 1 ∷ 65 ∷ 5 ∷ 100 ∷ 8 ∷ 240 ∷ []) ++ replicate 48 0 ++ wordsBytes (464 ∷ 16 ∷ words two book 0 ++ words two book 1) ++ take 16 book
+    wordsBytes (1 ∷ 20 ∷ 2 ∷ 2 ∷ 2 ∷ 1 ∷ 65 ∷ 5 ∷ 100 ∷ 8 ∷ 240 ∷ []) ++ replicate
+    48 0 ++ wordsBytes (464 ∷ 16 ∷ words two book 0 ++ words two book 1) ++ take 16 book
 
 older-twelve : List ℕ
 older-twelve =
     let twelve : List ℕ = replicate 12 65 in
-    wordsBytes (1 ∷ 12 ∷ 2 ∷ 2 ∷ 2 ∷ 0 ∷ 0 ∷ 3 ∷ 100 ∷ 4 ∷ 148 ∷ []) ++ replicate 48 0 ++ wordsBytes (212 ∷ 8 ∷ words plain twelve 0 ++ words plain twelve 1) ++ replicate 8 65
+    wordsBytes (1 ∷ 12 ∷ 2 ∷ 2 ∷ 2 ∷ 0 ∷ 0 ∷ 3 ∷ 100 ∷ 4 ∷ 148 ∷ []) ++ replicate
+    48 0 ++ wordsBytes (212 ∷ 8 ∷ words plain twelve 0 ++ words plain twelve 1) ++ replicate 8 65
 
 -- The table: the worked book's level 0 and where the rest of its tree lies, M1 to M10, the path of place 18, the text read back
 -- and the verdict; edges and short spans; and the book's tree in layout 1.
@@ -120,7 +126,14 @@ pub record Marked : Type 0 where
   blocks-too-large : (sizesOk (shape 256 8 7) ≡ false) × (sizesOk (shape 129 16 5) ≡ false) × (sizesOk (shape 256 16 5) ≡ false)
 
 pub marked : Marked
-unfolding shape spanned other-kinds other-start words older older-twelve abcd said book two plain tabulate concat sumBelow countBelow allBelow sameList setWord wordAt wordsBytes wordBytes stretch leftmost firstFrom countIn placeOf placeIn blockLength pieces lengthOk sizesOk countedOk rising risingAfter treeOf header leafBytes levelPairs recordBytes recordLength edgesOf filledOut levelBytes recordIn recordOf target occurrence width isKept startsAt cut keptByPairs firstPairAt pairAt lengthOf startOf pathOf pathFrom targetPlace targetBlock pointingBlock keptBlock lands landBlock landPlace landVisits shortOf shortFrom byEdges inLeaf linksOk textOf fits countsTrue edgesTrue blockEdgesTrue lastLevel widthAt keptRight pointingRight blockRight countBelowRight blockFits blockCountsTrue verdict readable at.leafByte byteSays countSays runSays asksSpan leavesSpan isShort spanReached spanBytes spanBlocks spanNumber spanSays spanLeaves selectNumber indexOf leftOver pathsHold added addedAfter taken takenAfter lastPlace leavesReached isCounted numberOfByte total found at.blockLengthAt at.levelCount at.levelOffset
+unfolding shape spanned other-kinds other-start words older older-twelve abcd
+    said book two plain tabulate concat sumBelow countBelow allBelow sameList setWord wordAt wordsBytes wordBytes stretch leftmost firstFrom countIn
+    placeOf placeIn blockLength pieces lengthOk sizesOk countedOk rising risingAfter treeOf header leafBytes levelPairs recordBytes recordLength edgesOf
+    filledOut levelBytes recordIn recordOf target occurrence width isKept startsAt cut keptByPairs firstPairAt pairAt lengthOf startOf pathOf pathFrom
+    targetPlace targetBlock pointingBlock keptBlock lands landBlock landPlace landVisits shortOf shortFrom byEdges inLeaf linksOk textOf fits countsTrue
+    edgesTrue blockEdgesTrue lastLevel widthAt keptRight pointingRight blockRight countBelowRight blockFits blockCountsTrue verdict readable at.leafByte
+    byteSays countSays runSays asksSpan leavesSpan isShort spanReached spanBytes spanBlocks spanNumber spanSays spanLeaves selectNumber indexOf leftOver
+    pathsHold added addedAfter taken takenAfter lastPlace leavesReached isCounted numberOfByte total found at.blockLengthAt at.levelCount at.levelOffset
 marked = record {
   level0 = refl;
   level1 = (refl, refl);
@@ -189,7 +202,14 @@ pub record Empty : Type 0 where
   block : verdict (laid-out 1 0 128 0 (replicate 28 0)) ≡ 7
 
 pub empty : Empty
-unfolding spanned no-bytes-tree laid-out said two tabulate concat sumBelow countBelow allBelow sameList setWord wordAt wordsBytes wordBytes stretch leftmost firstFrom countIn placeOf placeIn blockLength pieces lengthOk sizesOk countedOk rising risingAfter treeOf header leafBytes levelPairs recordBytes recordLength edgesOf filledOut levelBytes recordIn recordOf target occurrence width isKept startsAt cut keptByPairs firstPairAt pairAt lengthOf startOf pathOf pathFrom targetPlace targetBlock pointingBlock keptBlock lands landBlock landPlace landVisits shortOf shortFrom byEdges inLeaf linksOk textOf fits countsTrue edgesTrue blockEdgesTrue lastLevel widthAt keptRight pointingRight blockRight countBelowRight blockFits blockCountsTrue verdict readable at.leafByte byteSays countSays runSays asksSpan leavesSpan isShort spanReached spanBytes spanBlocks spanNumber spanSays spanLeaves selectNumber indexOf leftOver pathsHold added addedAfter taken takenAfter lastPlace leavesReached isCounted numberOfByte total found at.blockLengthAt at.levelCount at.levelOffset
+unfolding spanned no-bytes-tree
+    laid-out said two tabulate concat sumBelow countBelow allBelow sameList setWord wordAt wordsBytes wordBytes stretch leftmost firstFrom countIn
+    placeOf placeIn blockLength pieces lengthOk sizesOk countedOk rising risingAfter treeOf header leafBytes levelPairs recordBytes recordLength edgesOf
+    filledOut levelBytes recordIn recordOf target occurrence width isKept startsAt cut keptByPairs firstPairAt pairAt lengthOf startOf pathOf pathFrom
+    targetPlace targetBlock pointingBlock keptBlock lands landBlock landPlace landVisits shortOf shortFrom byEdges inLeaf linksOk textOf fits countsTrue
+    edgesTrue blockEdgesTrue lastLevel widthAt keptRight pointingRight blockRight countBelowRight blockFits blockCountsTrue verdict readable at.leafByte
+    byteSays countSays runSays asksSpan leavesSpan isShort spanReached spanBytes spanBlocks spanNumber spanSays spanLeaves selectNumber indexOf leftOver
+    pathsHold added addedAfter taken takenAfter lastPlace leavesReached isCounted numberOfByte total found at.blockLengthAt at.levelCount at.levelOffset
 empty = record {
   bytes = refl;
   size = refl;

@@ -7,7 +7,7 @@ use lib.ListN.{length, getD}
 use lib.Dec.{leb}
 use borrow.Author.Tests.{lt-ltb, le-ltb, le-leb, lt-leb, eq-eqb, ne-eqb}
 use Rattle.keys.specs.declared.form.Form.the-variants.{Code, Cuts, Ended, Wrong}
-use Rattle.keys.specs.Keys.{cutCount, low, high}
+use Rattle.keys.specs.Keys.{cutCount, low, high, maxCode}
 use Rattle.keys.specs.Forms.{inCode, cutFits, inCuts}
 
 -- in the code
@@ -20,13 +20,13 @@ module _ (k x : ℕ) where
   unfolding inCode
   code-space e f = rw (eq-eqb 32 x (sym e), ne-eqb k 0 f)
 
-  pub code-long : (x ≡ 32 → ⊥) → 12 ≤ k → Wrong ≡ inCode k x
+  pub code-long : (x ≡ 32 → ⊥) → maxCode ≤ k → Wrong ≡ inCode k x
   unfolding inCode
-  code-long e f = rw (ne-eqb 32 x (λ z. e (sym z)), le-leb 12 k f)
+  code-long e f = rw (ne-eqb 32 x (λ z. e (sym z)), le-leb maxCode k f)
 
-  pub code-more : (x ≡ 32 → ⊥) → k < 12 → Code (k + 1) ≡ inCode k x
+  pub code-more : (x ≡ 32 → ⊥) → k < maxCode → Code (k + 1) ≡ inCode k x
   unfolding inCode
-  code-more e f = rw (ne-eqb 32 x (λ z. e (sym z)), lt-leb 12 k f)
+  code-more e f = rw (ne-eqb 32 x (λ z. e (sym z)), lt-leb maxCode k f)
 
 -- in the cuts
 module _ (ranges : List ℕ) (i x : ℕ) where

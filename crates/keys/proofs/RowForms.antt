@@ -14,7 +14,7 @@ use Rattle.text.specs.ListLaws.{and-left, and-right, and-both, and-false, lt-or
 use Rattle.text.specs.Conjunctions.{parts}
 use Rattle.keys.specs.declared.form.Form.{Form}
 use Rattle.keys.specs.declared.form.Form.the-variants.{Code, Cuts, Ended, Wrong}
-use Rattle.keys.specs.Keys.{cutCount, low, high, rangesOk, codeOf, cutsOf, isKey, depth, matches}
+use Rattle.keys.specs.Keys.{cutCount, low, high, rangesOk, codeOf, cutsOf, isKey, depth, matches, maxCode, maxCuts, maxDepth}
 use Rattle.keys.specs.Forms.{inCode, cutFits, inCuts, stepOf, isWhole, isDone, runFrom}
 
 bool-same : (a b : Bool) → (a ≡ true → b ≡ true) → (b ≡ true → a ≡ true) → a ≡ b
@@ -69,7 +69,7 @@ module _ (ranges : List ℕ) where
   unfolding inCode
   in-space k x b e f = rw (e, f)
 
-  in-other : (k x : ℕ) (b : Bool) → eqb 32 x ≡ false → leb 12 k ≡ b → inCode k x ≡ cond b Wrong (Code (k + 1))
+  in-other : (k x : ℕ) (b : Bool) → eqb 32 x ≡ false → leb maxCode k ≡ b → inCode k x ≡ cond b Wrong (Code (k + 1))
   unfolding inCode
   in-other k x b e f = rw (e, f)
 
@@ -86,12 +86,14 @@ module _ (ranges : List ℕ) where
       more : i + suc (length xs) ≡ i + 1 + length xs
       more = omega arith
 
-      fits : i < n → isWhole ranges (runFrom ranges (Cuts (i + 1)) xs) ≡ (eqb (i + 1 + length xs) n && allFit ranges (i + 1) xs) → (b : Bool) → cutFits ranges i x ≡ b
+      fits : i < n → isWhole ranges (runFrom ranges (Cuts (i + 1)) xs) ≡ (eqb (i + 1 + length xs) n && allFit ranges (i + 1) xs)
+          → (b : Bool) → cutFits ranges i x ≡ b
           → isWhole ranges (runFrom ranges (inCuts ranges i x) xs) ≡ (eqb (i + suc (length xs)) n && (cutFits ranges i x && allFit ranges (i + 1) xs))
       fits l rest true e = rw (in-fits i x true l e, e, more) rest
       fits l rest false e = rw (in-fits i x false l e, e, wrong-run xs) (sym (and-false (eqb (i + suc (length xs)) n)))
 
-      past : n ≤ i → (b : Bool) → eqb 13 x ≡ b → isWhole ranges (runFrom ranges (inCuts ranges i x) xs) ≡ (eqb (i + suc (length xs)) n && (cutFits ranges i x && allFit ranges (i + 1) xs))
+      past : n ≤ i → (b : Bool) → eqb 13 x ≡ b
+          → isWhole ranges (runFrom ranges (inCuts ranges i x) xs) ≡ (eqb (i + suc (length xs)) n && (cutFits ranges i x && allFit ranges (i + 1) xs))
       past g true e = rw (in-past i x true g e, ended-run xs, ne-eqb (i + suc (length xs)) n (λ z. omega arith))
       past g false e = rw (in-past i x false g e, wrong-run xs, ne-eqb (i + suc (length xs)) n (λ z. omega arith))
 
@@ -106,7 +108,7 @@ module _ (ranges : List ℕ) where
 
   -- a key, by k bytes of its code that were read, m more, and the bytes of the row from there on
   abbrev keyGood : ℕ → ℕ → ℕ → List ℕ → Bool
-  keyGood k m len cuts = leb 1 (k + m) && leb (k + m) 12 && ltb m len && cutsGood cuts
+  keyGood k m len cuts = leb 1 (k + m) && leb (k + m) maxCode && ltb m len && cutsGood cuts
 
   code-space : (x : ℕ) (xs : List ℕ) → eqb 32 x ≡ true → codeOf (x ∷ xs) ≡ []
   unfolding codeOf
@@ -125,9 +127,9 @@ module _ (ranges : List ℕ) where
   cuts-other x xs e = let z : suc (length (codeOf xs)) + 1 ≡ suc (length (codeOf xs) + 1) = omega arith in rw (code-other x xs e, z)
 
   -- after k bytes of the code
-  code-run : (k : ℕ) (xs : List ℕ) → k ≤ 12 → isWhole ranges (runFrom ranges (Code k) xs) ≡ keyGood k (length (codeOf xs)) (length xs) (cutsOf xs)
+  code-run : (k : ℕ) (xs : List ℕ) → k ≤ maxCode → isWhole ranges (runFrom ranges (Code k) xs) ≡ keyGood k (length (codeOf xs)) (length xs) (cutsOf xs)
   unfolding runFrom stepOf isWhole
-  code-run k [] h = by (leb 1 (k + length (codeOf [])) && leb (k + length (codeOf [])) 12) (le-ltb (length (codeOf [])) 0 (omega arith))
+  code-run k [] h = by (leb 1 (k + length (codeOf [])) && leb (k + length (codeOf [])) maxCode) (le-ltb (length (codeOf [])) 0 (omega arith))
     where
       by : (a : Bool) → ltb (length (codeOf [])) 0 ≡ false → false ≡ (a && ltb (length (codeOf [])) 0 && cutsGood (cutsOf []))
       by true e = rw e
@@ -138,44 +140,49 @@ module _ (ranges : List ℕ) where
       space true f e = rw (in-space k x true e f, wrong-run xs, lt-leb 1 (k + 0) (omega (arith, eqb-true k 0 f)))
       space false f e =
           let low : 1 ≤ k + 0 = omega (arith, eqb-false k 0 f) in
-          rw (in-space k x false e f, le-leb 1 (k + 0) low, le-leb (k + 0) 12 (omega arith), lt-ltb 0 (suc (length xs)) (omega arith)) (let w : 0 + length xs ≡ length xs = omega arith in rw w at (cuts-run 0 xs))
+          rw (in-space k x false e f, le-leb 1 (k + 0) low, le-leb (k + 0) maxCode (omega arith), lt-ltb 0 (suc (length xs)) (omega arith))
+          (let w : 0 + length xs ≡ length xs = omega arith in rw w at (cuts-run 0 xs))
 
       no-more : (a c d : Bool) → false ≡ (a && false && c && d)
       no-more true c d = refl
       no-more false c d = refl
 
-      other : (b : Bool) → leb 12 k ≡ b → eqb 32 x ≡ false → (k + 1 ≤ 12 → isWhole ranges (runFrom ranges (Code (k + 1)) xs) ≡ keyGood (k + 1) (length (codeOf xs)) (length xs) (cutsOf xs))
+      other : (b : Bool) → leb maxCode k ≡ b → eqb 32 x ≡ false
+          → (k + 1 ≤ maxCode → isWhole ranges (runFrom ranges (Code (k + 1)) xs) ≡ keyGood (k + 1) (length (codeOf xs)) (length xs) (cutsOf xs))
           → isWhole ranges (runFrom ranges (inCode k x) xs) ≡ keyGood k (suc (length (codeOf xs))) (suc (length xs)) (cutsOf xs)
       other true f e rest =
-          rw (in-other k x true e f, wrong-run xs, lt-leb (k + suc (length (codeOf xs))) 12 (omega (arith, leb-true 12 k f)))
+          rw (in-other k x true e f, wrong-run xs, lt-leb (k + suc (length (codeOf xs))) maxCode (omega (arith, leb-true maxCode k f)))
           (no-more (leb 1 (k + suc (length (codeOf xs)))) (ltb (suc (length (codeOf xs))) (suc (length xs))) (cutsGood (cutsOf xs)))
       other false f e rest =
           let z : k + suc (length (codeOf xs)) ≡ k + 1 + length (codeOf xs) = omega arith in
-          rw (in-other k x false e f, z, leb·suc-suc (suc (length (codeOf xs))) (length xs)) (rest (omega (arith, leb-false 12 k f)))
+          rw (in-other k x false e f, z, leb·suc-suc (suc (length (codeOf xs))) (length xs)) (rest (omega (arith, leb-false maxCode k f)))
 
-      go : (b : Bool) → eqb 32 x ≡ b → (k + 1 ≤ 12 → isWhole ranges (runFrom ranges (Code (k + 1)) xs) ≡ keyGood (k + 1) (length (codeOf xs)) (length xs) (cutsOf xs))
+      go : (b : Bool) → eqb 32 x ≡ b
+          → (k + 1 ≤ maxCode → isWhole ranges (runFrom ranges (Code (k + 1)) xs) ≡ keyGood (k + 1) (length (codeOf xs)) (length xs) (cutsOf xs))
           → isWhole ranges (runFrom ranges (inCode k x) xs) ≡ keyGood k (length (codeOf (x ∷ xs))) (suc (length xs)) (cutsOf (x ∷ xs))
       go true e rest = rw (code-space x xs e, cuts-space x xs e) (space (eqb k 0) refl e)
-      go false e rest = rw (code-other x xs e, cuts-other x xs e) (other (leb 12 k) refl e rest)
+      go false e rest = rw (code-other x xs e, cuts-other x xs e) (other (leb maxCode k) refl e rest)
 
 -- A question that passes 19.
 abbrev pub rangeRight : List ℕ → ℕ → Bool
-rangeRight ranges i = leb (low ranges i) 9 && leb (high ranges i) 9 && leb (low ranges i) (high ranges i)
+rangeRight ranges i = leb (low ranges i) maxDepth && leb (high ranges i) maxDepth && leb (low ranges i) (high ranges i)
 
 module _ (ranges : List ℕ) (ok : rangesOk ranges ≡ true) where
-  asked : (leb 1 (cutCount ranges) ≡ true) × (leb (cutCount ranges) 10 ≡ true) × (allBelow (cutCount ranges) (rangeRight ranges) ≡ true)
+  asked : (leb 1 (cutCount ranges) ≡ true) × (leb (cutCount ranges) maxCuts ≡ true) × (allBelow (cutCount ranges) (rangeRight ranges) ≡ true)
   unfolding rangesOk
   asked =
-      let p = parts (eqb (length ranges % 2) 0) (leb 1 (cutCount ranges) ∷ leb (cutCount ranges) 10 ∷ allBelow (cutCount ranges) (rangeRight ranges) ∷ []) ok in
+      let p = parts (eqb (length ranges % 2) 0)
+      (leb 1 (cutCount ranges) ∷ leb (cutCount ranges) maxCuts ∷ allBelow (cutCount ranges) (rangeRight ranges) ∷ []) ok in
       (p .1 .0, p .1 .1 .0, p .1 .1 .1 .0)
 
-  some-cuts : (1 ≤ cutCount ranges) × (cutCount ranges ≤ 10)
-  some-cuts = (leb-true 1 (cutCount ranges) (asked .0), leb-true (cutCount ranges) 10 (asked .1))
+  some-cuts : (1 ≤ cutCount ranges) × (cutCount ranges ≤ maxCuts)
+  some-cuts = (leb-true 1 (cutCount ranges) (asked .0), leb-true (cutCount ranges) maxCuts (asked .1))
 
-  high-low : (i : ℕ) → i < cutCount ranges → high ranges i ≤ 9
+  high-low : (i : ℕ) → i < cutCount ranges → high ranges i ≤ maxDepth
   high-low i l =
-      let p = parts (leb (low ranges i) 9) (leb (high ranges i) 9 ∷ leb (low ranges i) (high ranges i) ∷ []) (allBelow-at (cutCount ranges) (rangeRight ranges) (asked .2) i l) in
-      leb-true (high ranges i) 9 (p .1 .0)
+      let p = parts (leb (low ranges i) maxDepth)
+      (leb (high ranges i) maxDepth ∷ leb (low ranges i) (high ranges i) ∷ []) (allBelow-at (cutCount ranges) (rangeRight ranges) (asked .2) i l) in
+      leb-true (high ranges i) maxDepth (p .1 .0)
 
   module _ (row : List ℕ) where
     abbrev m : ℕ
@@ -215,7 +222,8 @@ module _ (ranges : List ℕ) (ok : rangesOk ranges ≡ true) where
         and-both (le-leb (48 + low ranges i) x (omega arith)) (le-leb x (48 + high ranges i) (omega arith))
 
     abbrev headTests : List Bool
-    headTests = leb m 12 ∷ ltb m (length row) ∷ leb 1 (length cuts) ∷ leb (length cuts) 10 ∷ allBelow (length cuts) digitAt ∷ eqb (length cuts) (cutCount ranges) ∷ allBelow (cutCount ranges) rangeAt ∷ []
+    headTests = leb m maxCode ∷ ltb m (length row) ∷ leb 1 (length cuts) ∷ leb
+        (length cuts) maxCuts ∷ allBelow (length cuts) digitAt ∷ eqb (length cuts) (cutCount ranges) ∷ allBelow (cutCount ranges) rangeAt ∷ []
 
     good-from : matches ranges row ≡ true → good ≡ true
     unfolding matches isKey
@@ -232,12 +240,14 @@ module _ (ranges : List ℕ) (ok : rangesOk ranges ≡ true) where
     unfolding matches isKey
     good-to h =
         let z : 0 + m ≡ m = omega arith in
-        let p = parts (leb 1 m) (leb m 12 ∷ ltb m (length row) ∷ cutsGood ranges cuts ∷ []) (rw z at h) in
+        let p = parts (leb 1 m) (leb m maxCode ∷ ltb m (length row) ∷ cutsGood ranges cuts ∷ []) (rw z at h) in
         let size = and-left (eqb (length cuts) (cutCount ranges)) (allFit ranges 0 cuts) (p .1 .1 .1 .0) in
         let e = eqb-true (length cuts) (cutCount ranges) size in
         let fit = fit-at ranges 0 cuts (and-right (eqb (length cuts) (cutCount ranges)) (allFit ranges 0 cuts) (p .1 .1 .1 .0)) in
-        let each : (j : ℕ) → j < cutCount ranges → (digitAt j ≡ true) × (rangeAt j ≡ true) = λ j l. let y : 0 + j ≡ j = omega arith in fits-digit j l (rw y at (fit j (omega arith))) in
-        and-both (and-both (and-both (and-both (and-both (and-both (and-both (p .0) (p .1 .0)) (p .1 .1 .0)) (le-leb 1 (length cuts) (omega (arith, some-cuts .0)))) (le-leb (length cuts) 10 (omega (arith, some-cuts .1))))
+        let each : (j : ℕ) → j < cutCount ranges → (digitAt j ≡ true) × (rangeAt j ≡ true) = λ j l. let y : 0 + j ≡ j = omega arith in
+        fits-digit j l (rw y at (fit j (omega arith))) in
+        and-both (and-both (and-both (and-both (and-both (and-both (and-both (p .0) (p .1 .0)) (p .1 .1 .0))
+        (le-leb 1 (length cuts) (omega (arith, some-cuts .0)))) (le-leb (length cuts) maxCuts (omega (arith, some-cuts .1))))
         (allBelow-make (length cuts) digitAt (λ j l. each j (omega arith) .0))) size) (allBelow-make (cutCount ranges) rangeAt (λ j l. each j l .1))
 
     -- a row that no byte 10 ends matches exactly where its bytes are read to a whole key
@@ -255,7 +265,7 @@ module _ (ranges : List ℕ) where
 
   few-code : (k x : ℕ) → Few (inCode k x)
   unfolding inCode
-  few-code k x = by (eqb 32 x) (eqb k 0) (leb 12 k)
+  few-code k x = by (eqb 32 x) (eqb k 0) (leb maxCode k)
     where
       by : (a b c : Bool) → Few (cond a (cond b Wrong (Cuts 0)) (cond c Wrong (Code (k + 1))))
       by true true c = tt
@@ -288,9 +298,10 @@ module _ (ranges : List ℕ) where
   -- a row that a byte 10 ends is read to the same, but for one byte 13 after all cuts
   same-code : (k x : ℕ) → isDone ranges (inCode k x) ≡ isWhole ranges (inCode k x)
   unfolding inCode isDone isWhole
-  same-code k x = by (eqb 32 x) (eqb k 0) (leb 12 k)
+  same-code k x = by (eqb 32 x) (eqb k 0) (leb maxCode k)
     where
-      by : (a b c : Bool) → isDone ranges (cond a (cond b Wrong (Cuts 0)) (cond c Wrong (Code (k + 1)))) ≡ isWhole ranges (cond a (cond b Wrong (Cuts 0)) (cond c Wrong (Code (k + 1))))
+      by : (a b c : Bool) → isDone ranges
+          (cond a (cond b Wrong (Cuts 0)) (cond c Wrong (Code (k + 1)))) ≡ isWhole ranges (cond a (cond b Wrong (Cuts 0)) (cond c Wrong (Code (k + 1))))
       by true true c = refl
       by true false c = refl
       by false b true = refl
@@ -298,7 +309,7 @@ module _ (ranges : List ℕ) where
 
   not-space : (k x : ℕ) → eqb 13 x ≡ true → isWhole ranges (inCode k x) ≡ false
   unfolding inCode isWhole
-  not-space k x e = rw (ne-eqb 32 x (λ z. omega (arith, eqb-true 13 x e))) (by (leb 12 k))
+  not-space k x e = rw (ne-eqb 32 x (λ z. omega (arith, eqb-true 13 x e))) (by (leb maxCode k))
     where
       by : (c : Bool) → isWhole ranges (cond c Wrong (Code (k + 1))) ≡ false
       by true = refl
@@ -309,7 +320,8 @@ module _ (ranges : List ℕ) where
   code-13 k x true e = same-code k x ∙ not-space k x e
   code-13 k x false e = same-code k x
 
-  cuts-13 : (i x : ℕ) (b : Bool) → i ≤ cutCount ranges → eqb 13 x ≡ b → isDone ranges (inCuts ranges i x) ≡ cond b (isWhole ranges (Cuts i)) (isWhole ranges (inCuts ranges i x))
+  cuts-13 : (i x : ℕ) (b : Bool)
+      → i ≤ cutCount ranges → eqb 13 x ≡ b → isDone ranges (inCuts ranges i x) ≡ cond b (isWhole ranges (Cuts i)) (isWhole ranges (inCuts ranges i x))
   unfolding isDone isWhole cutFits
   cuts-13 i x true few e = by (lt-or-ge i (cutCount ranges))
     where
@@ -320,12 +332,14 @@ module _ (ranges : List ℕ) where
       by (inr g) = rw (in-past ranges i x true g e, eq-eqb i (cutCount ranges) (omega arith))
   cuts-13 i x false few e = by (lt-or-ge i (cutCount ranges)) (cutFits ranges i x) refl
     where
-      by : (i < cutCount ranges) ⊎ (cutCount ranges ≤ i) → (b : Bool) → cutFits ranges i x ≡ b → isDone ranges (inCuts ranges i x) ≡ isWhole ranges (inCuts ranges i x)
+      by : (i < cutCount ranges)
+          ⊎ (cutCount ranges ≤ i) → (b : Bool) → cutFits ranges i x ≡ b → isDone ranges (inCuts ranges i x) ≡ isWhole ranges (inCuts ranges i x)
       by (inl l) true f = rw (in-fits ranges i x true l f)
       by (inl l) false f = rw (in-fits ranges i x false l f)
       by (inr g) b f = rw (in-past ranges i x false g e)
 
-  pub step-13 : (f : Form) (x : ℕ) (b : Bool) → Few f → eqb 13 x ≡ b → isDone ranges (stepOf ranges f x) ≡ cond b (isWhole ranges f) (isWhole ranges (stepOf ranges f x))
+  pub step-13 : (f : Form) (x : ℕ) (b : Bool)
+      → Few f → eqb 13 x ≡ b → isDone ranges (stepOf ranges f x) ≡ cond b (isWhole ranges f) (isWhole ranges (stepOf ranges f x))
   unfolding stepOf isDone isWhole
   step-13 (Code k) x b few e = code-13 k x b e
   step-13 (Cuts i) x b few e = cuts-13 i x b few e

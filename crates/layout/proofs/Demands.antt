@@ -1,5 +1,5 @@
--- "The number at a given place is then read from any lent bytes that hold its four, even where its record is cut off, and no other byte changes
--- it": theorems over what the two calls that read numbers promise.
+-- "The number at a given place is read from any lent bytes that hold its four, even where its record is cut off, and no other byte changes it"
+-- (docs/FORMAT.md, "Record"): theorems over what the two calls that read numbers promise.
 use mathlib.Core.List.{List}
 use mathlib.Core.Path.{_≡_, sym, _∙_}
 use Prim.Native.Nat.{ℕ, _+_, _*_, _≤_, _<_}
@@ -8,8 +8,9 @@ use denote.Ref.{RefT, now}
 use lib.ListN.{length, getD}
 use Rattle.format.specs.Layout as at
 use Rattle.format.specs.WordLaws.{wordAt-agree}
+use Rattle.format.specs.HeaderPlaces.{headerLength}
 use Rattle.layout.specs.declared.place.BlockNumber.{BlockNumber}
-use Rattle.layout.specs.Record.{FieldIn, field-held, field-agree}
+use Rattle.layout.specs.Record.{field-held, field-agree}
 use Rattle.layout.proofs.word.read.Reads as read-reads
 use Rattle.layout.proofs.record.field.Reads as field-reads
 
@@ -34,13 +35,13 @@ pub read-in-place : (κs κu : Lfts 1) (t u : Lent) (i r s : ℕ) → Read κs t
 read-in-place κs κu t u i r s a b same = a ∙ wordAt-agree (now t) (now u) i same ∙ sym b
 
 -- A field of a record: besides its four bytes the header is read, for the level's table and the record's size.
-module _ (κs κu : Lfts 1) (t u : Lent) (header : (k : ℕ) → k < 100 → getD (now t) k 0 ≡ getD (now u) k 0)
+module _ (κs κu : Lfts 1) (t u : Lent) (header : (k : ℕ) → k < headerLength → getD (now t) k 0 ≡ getD (now u) k 0)
     (size level : ℕ) (block : BlockNumber) (f : ℕ) (h : field-reads.Asked κs (t, (size, (level, (block, (f, tt)))))) where
   abbrev place : ℕ
   place = at.levelOffset (now t) level + block .0 * at.recordSize (now t) + 4 * f
 
   -- it can be read where the bytes end with its four, in the middle of the record; ..
-  pub field-cut-off : 100 ≤ length (now u) → place + 4 ≤ length (now u) → field-reads.Asked κu (u, (size, (level, (block, (f, tt)))))
+  pub field-cut-off : headerLength ≤ length (now u) → place + 4 ≤ length (now u) → field-reads.Asked κu (u, (size, (level, (block, (f, tt)))))
   field-cut-off long held = field-held (now t) (now u) header size level (block .0) f h long held
 
   -- .. and is then the same number.

@@ -14,28 +14,29 @@ use Rattle.format.specs.Settings.{maxText}
 use Rattle.format.specs.Words.{wordAt}
 use Rattle.format.specs.Layout as at
 use Rattle.format.specs.Settings as format
+use Rattle.format.specs.HeaderPlaces.{layoutAt, pairsAt, countAt, offsetAt, leafOffsetAt, leafCountAt, headerLength}
 use Rattle.layout.specs.declared.settings.Settings.{Settings}
 use Rattle.layout.specs.Header.{zeroLevel, follows, tablesMeet, restRight, spareCounted, spareLevels, HasSettings}
 
 module _ (t : List ℕ) where
   -- a level that is not there
-  module _ (H x count offset : ℕ) (c-is : count ≡ wordAt t (28 + 8 * (H + x))) where
+  module _ (H x count offset : ℕ) (c-is : count ≡ wordAt t (countAt (H + x))) where
     pub count-fails : (count ≡ 0 → ⊥) → zeroLevel t H x ≡ false
     unfolding at.levelCount
-    count-fails n = rw (ne-eqb (wordAt t (28 + 8 * (H + x))) 0 (λ e. n (c-is ∙ e)))
+    count-fails n = rw (ne-eqb (wordAt t (countAt (H + x))) 0 (λ e. n (c-is ∙ e)))
 
-    module _ (o-is : offset ≡ wordAt t (32 + 8 * (H + x))) (c-zero : count ≡ 0) where
+    module _ (o-is : offset ≡ wordAt t (offsetAt (H + x))) (c-zero : count ≡ 0) where
       pub offset-fails : (offset ≡ 0 → ⊥) → zeroLevel t H x ≡ false
       unfolding at.levelCount at.levelOffset
       offset-fails n =
-          rw (eq-eqb (wordAt t (28 + 8 * (H + x))) 0 (sym c-is ∙ c-zero), ne-eqb (wordAt t (32 + 8 * (H + x))) 0 (λ e. n (o-is ∙ e)))
+          rw (eq-eqb (wordAt t (countAt (H + x))) 0 (sym c-is ∙ c-zero), ne-eqb (wordAt t (offsetAt (H + x))) 0 (λ e. n (o-is ∙ e)))
 
       pub both-zero : offset ≡ 0 → zeroLevel t H x ≡ true
       unfolding at.levelCount at.levelOffset
       both-zero z = and-both (eq-eqb _ 0 (sym c-is ∙ c-zero)) (eq-eqb _ 0 (sym o-is ∙ z))
 
   -- a level's records, after the levels above it
-  module _ (l end offset : ℕ) (e-is : end ≡ 100 + sumBelow l (at.levelCount t) * at.recordSize t) (o-is : offset ≡ wordAt t (32 + 8 * l)) where
+  module _ (l end offset : ℕ) (e-is : end ≡ headerLength + sumBelow l (at.levelCount t) * at.recordSize t) (o-is : offset ≡ wordAt t (offsetAt l)) where
     pub apart : (offset ≡ end → ⊥) → follows t l ≡ false
     unfolding at.levelOffset
     apart n = ne-eqb _ _ (λ e. n (o-is ∙ e ∙ sym e-is))
@@ -44,18 +45,19 @@ module _ (t : List ℕ) where
     unfolding at.levelOffset
     meets e = eq-eqb _ _ (sym o-is ∙ e ∙ e-is)
 
-  pub end-none : 100 ≡ 100 + sumBelow 0 (at.levelCount t) * at.recordSize t
+  pub end-none : headerLength ≡ headerLength + sumBelow 0 (at.levelCount t) * at.recordSize t
   unfolding sumBelow
   end-none = omega arith
 
-  pub end-more : (l end count size more : ℕ) → end ≡ 100 + sumBelow l (at.levelCount t) * at.recordSize t → count ≡ wordAt t (28 + 8 * l)
-      → size ≡ at.recordSize t → more ≡ count * size → end + more ≡ 100 + sumBelow (l + 1) (at.levelCount t) * at.recordSize t
+  pub end-more : (l end count size more : ℕ) → end ≡ headerLength + sumBelow l (at.levelCount t) * at.recordSize t → count ≡ wordAt t (countAt l)
+      → size ≡ at.recordSize t → more ≡ count * size → end + more ≡ headerLength + sumBelow (l + 1) (at.levelCount t) * at.recordSize t
   unfolding at.levelCount
   end-more l end count size more e c s m =
       rw (sumBelow-suc l (at.levelCount t), e, m, c, s) (omega arith)
 
   -- the tables meet: all levels do, and the leaf bytes follow
-  module _ (H end leaf : ℕ) (e-is : end ≡ 100 + sumBelow H (at.levelCount t) * at.recordSize t) (leaf-is : leaf ≡ wordAt t 92) (all : allBelow H (follows t) ≡ true) where
+  module _ (H end leaf : ℕ) (e-is : end ≡ headerLength + sumBelow H (at.levelCount t) * at.recordSize t)
+      (leaf-is : leaf ≡ wordAt t leafOffsetAt) (all : allBelow H (follows t) ≡ true) where
     pub leaves-meet : eqb leaf end ≡ tablesMeet t H
     unfolding tablesMeet at.leafOffset
     leaves-meet = rw (all, leaf-is, e-is)
@@ -73,10 +75,11 @@ module _ (t : List ℕ) where
     pub block-bounds : (b : ℕ) → b ≡ s .leaf * s .arity ^ (s .levels - 1 - 0) → (0 < b) × (b ≤ maxText)
     block-bounds b e =
         let e′ : s .levels - 1 - 0 ≡ s .levels - 1 = omega arith in
-        let low : 1 ≤ s .leaf * s .arity ^ (s .levels - 1) = mul-le-mul {n₁ = 1} {m₁ = 1} (h .leaf-low) (one-le-pow (s .levels - 1) (s .arity) (omega (arith, h .arity-low))) in
-        rw (e, e′) (low, h .block-high)
+        let low : 1 ≤ s .leaf * s .arity ^ (s .levels - 1) =
+        mul-le-mul {n₁ = 1} {m₁ = 1} (h .bounds .leaf-low) (one-le-pow (s .levels - 1) (s .arity) (omega (arith, h .bounds .arity-low))) in
+        rw (e, e′) (low, h .bounds .top-high)
 
-    pub size-is : (v size : ℕ) → v ≡ wordAt t 0 → size ≡ format.recordLength v (s .leaf) (s .counted) → size ≡ at.recordSize t
+    pub size-is : (v size : ℕ) → v ≡ wordAt t layoutAt → size ≡ format.recordLength v (s .leaf) (s .counted) → size ≡ at.recordSize t
     unfolding at.recordSize at.layout at.settings at.countedCount
     size-is v size v-is e = rw (e, v-is, h .leaf-is, h .counted-is)
 
@@ -97,7 +100,8 @@ module _ (t : List ℕ) where
       unfolding restRight
       rest-levels f = rw (sym (counted-here _ (sym d)), sym (levels-here _ (spareLevels t) (sym f)))
 
-      module _ (e : spareLevels t (s .levels) ≡ true) (count b : ℕ) (count-is : count ≡ wordAt t 28) (b-is : b ≡ s .leaf * s .arity ^ (s .levels - 1 - 0)) where
+      module _ (e : spareLevels t (s .levels) ≡ true)
+          (count b : ℕ) (count-is : count ≡ wordAt t pairsAt) (b-is : b ≡ s .leaf * s .arity ^ (s .levels - 1 - 0)) where
         level0-is : (r : Bool) → eqb count (format.pieces n b) ≡ r → eqb (at.levelCount t 0) (format.pieces (at.textLength t) (at.fullLength t 0)) ≡ r
         unfolding at.levelCount at.textLength
         level0-is r q = rw (← count-is, ← h .n-is, ← block-is b b-is) q
@@ -111,9 +115,22 @@ module _ (t : List ℕ) where
           pub rest-tables : tablesMeet t (s .levels) ≡ false → false ≡ restRight t
           unfolding restRight
           rest-tables g =
-              rw (sym (counted-here _ (sym d)), sym (levels-here _ (spareLevels t) (sym e)), level0-is true (eq-eqb _ _ f), sym (levels-here _ (tablesMeet t) (sym g)))
+              rw (
+                sym (counted-here _ (sym d)),
+                sym (levels-here _ (spareLevels t) (sym e)),
+                level0-is true (eq-eqb _ _ f),
+                sym (levels-here _ (tablesMeet t) (sym g)),
+              )
 
-          pub rest-length : tablesMeet t (s .levels) ≡ true → (x y : ℕ) → x ≡ wordAt t 92 → y ≡ wordAt t 96 → eqb (length t) (x + y) ≡ restRight t
+          pub rest-length : tablesMeet t (s .levels) ≡ true
+              → (x y : ℕ) → x ≡ wordAt t leafOffsetAt → y ≡ wordAt t leafCountAt → eqb (length t) (x + y) ≡ restRight t
           unfolding restRight at.leafOffset at.leafCount
           rest-length g x y ex ey =
-              rw (sym (counted-here _ (sym d)), sym (levels-here _ (spareLevels t) (sym e)), level0-is true (eq-eqb _ _ f), sym (levels-here _ (tablesMeet t) (sym g)), ex, ey)
+              rw (
+                sym (counted-here _ (sym d)),
+                sym (levels-here _ (spareLevels t) (sym e)),
+                level0-is true (eq-eqb _ _ f),
+                sym (levels-here _ (tablesMeet t) (sym g)),
+                ex,
+                ey,
+              )

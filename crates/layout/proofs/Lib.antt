@@ -1,8 +1,8 @@
-mod Asked
+mod HeaderQuestions
 pub mod Demands
 mod HeaderLaws
 mod QuestionSeven
 mod RecordLaws
-mod Rising
-pub mod Scan
-pub mod Tests
+mod SettingsLaws
+pub mod TestLoops
+pub mod AnswerTests

@@ -10,16 +10,16 @@ use lib.Seq.{take-take}
 use lib.Dec.{leb, eqb}
 use borrow.Author.Tests.{le-leb, lt-leb}
 use Rattle.text.specs.Lists.{allBelow, sumBelow}
-use Rattle.text.specs.ListLaws.{and-both}
-use Rattle.format.specs.Settings.{maxText}
+use Rattle.format.specs.Settings.{maxText, maxCounted}
 use Rattle.format.specs.Words.{wordAt}
 use Rattle.format.specs.Layout as at
 use Rattle.format.specs.Settings as format
-use Rattle.format.specs.SizeLaws.{sizes}
+use Rattle.format.specs.HeaderPlaces.{textLengthAt, leafAt, arityAt, levelsAt, countedCountAt, countedAt, headerLength}
+use Rattle.format.specs.SizeLaws.{within-bounds}
 use Rattle.layout.specs.declared.settings.Settings.{Settings}
 use Rattle.layout.specs.declared.settings.Checked.{Checked}
 use Rattle.layout.specs.declared.settings.Checked.the-variants.{Fine, Refused}
-use Rattle.layout.specs.Settings as given
+use Rattle.layout.specs.CheckedSettings as given
 use Rattle.layout.specs.Header.{settingsOf, settingsSay, follows, tablesMeet, restRight, spareCounted, spareLevels, HasSettings}
 
 -- Question 7 as a chain of tests.
@@ -46,18 +46,19 @@ chain-rest a b c false e f g h i r pa pb pc q = rw (pa, pb, pc) q
 
 module _ (t : List ℕ) where
   abbrev counted : Bool
-  counted = leb (at.countedCount t) 4 && format.countedOk (at.settings t .counted)
+  counted = leb (at.countedCount t) maxCounted && format.countedOk (at.settings t .counted)
 
   abbrev level0 : Bool
   level0 = eqb (at.levelCount t 0) (format.pieces (at.textLength t) (at.fullLength t 0))
 
   abbrev leaves : Bool
-  leaves = eqb (at.leafOffset t) (100 + sumBelow (at.settings t .levels) (at.levelCount t) * at.recordSize t)
+  leaves = eqb (at.leafOffset t) (headerLength + sumBelow (at.settings t .levels) (at.levelCount t) * at.recordSize t)
 
   -- a law of the chain, at the tests of question 7
   abbrev at-seven : ((a b c d e f g h i : Bool) → Type 0) → Type 0
   at-seven P =
-      P (format.lengthOk (at.textLength t)) (format.sizesOk (at.settings t)) counted (spareCounted t (at.countedCount t)) (spareLevels t (at.settings t .levels))
+      P (format.lengthOk (at.textLength t))
+      (format.sizesOk (at.settings t)) counted (spareCounted t (at.countedCount t)) (spareLevels t (at.settings t .levels))
       level0 (allBelow (at.settings t .levels) (follows t)) leaves (eqb (length t) (at.leafOffset t + at.leafCount t))
 
   apply : (P : (a b c d e f g h i : Bool) → Type 0) → ((a b c d e f g h i : Bool) → P a b c d e f g h i) → at-seven P
@@ -76,7 +77,8 @@ module _ (t : List ℕ) where
   seven-counted : counted ≡ false → false ≡ at.headerOk t
   seven-counted p = apply (λ a b c d e f g h i. c ≡ false → false ≡ chain a b c d e f g h i) chain-counted p ∙ sym header-is
 
-  seven-rest : (r : Bool) → format.lengthOk (at.textLength t) ≡ true → format.sizesOk (at.settings t) ≡ true → counted ≡ true → r ≡ restRight t → r ≡ at.headerOk t
+  seven-rest : (r : Bool) → format.lengthOk (at.textLength t) ≡ true
+      → format.sizesOk (at.settings t) ≡ true → counted ≡ true → r ≡ restRight t → r ≡ at.headerOk t
   unfolding restRight tablesMeet
   seven-rest r p q s e =
       apply (λ a b c d e f g h i. a ≡ true → b ≡ true → c ≡ true → r ≡ (d && e && f && (g && h) && i) → r ≡ chain a b c d e f g h i)
@@ -88,7 +90,7 @@ pub wrong : (t : List ℕ) → false ≡ at.headerOk t → Refused 7 ≡ setting
 unfolding settingsSay
 wrong t e = rw (← e)
 
-module _ (t : List ℕ) (n : ℕ) (n-is : n ≡ wordAt t 4) where
+module _ (t : List ℕ) (n : ℕ) (n-is : n ≡ wordAt t textLengthAt) where
   length-here : (r : Bool) → format.lengthOk n ≡ r → format.lengthOk (at.textLength t) ≡ r
   unfolding at.textLength
   length-here r p = rw (← n-is) p
@@ -101,11 +103,12 @@ unfolding format.lengthOk
 length-fine n high = le-leb n maxText high
 
 -- the counted bytes as the code takes them are those of the header's settings
-counted-part : (t : List ℕ) (k : ℕ) → k ≡ wordAt t 20 → k ≤ 4 → take (24 + k - 24) (drop 24 t) ≡ at.settings t .counted
+counted-part : (t : List ℕ) (k : ℕ)
+    → k ≡ wordAt t countedCountAt → k ≤ maxCounted → take (countedAt + k - countedAt) (drop countedAt t) ≡ at.settings t .counted
 unfolding at.settings at.countedCount
 counted-part t k e h =
-    let z : 24 + k - 24 ≡ k = omega arith in
-    rw (z, ← e) (sym (take-take k 4 (drop 24 t) h))
+    let z : countedAt + k - countedAt ≡ k = omega arith in
+    rw (z, ← e) (sym (take-take k maxCounted (drop countedAt t) h))
 
 -- what the checking constructor tells
 fine-sizes : (s : Settings) (a b : Bool) (r : Settings) → Fine s ≡ cond a (cond b (Fine r) (Refused 3)) (Refused 2) → a ≡ true
@@ -127,29 +130,31 @@ refused-is q true true r e = absurd (let z : _≡_ {A = ℕ} 0 1 = cc in omega a
 refused-is q true false r e = inr refl
 refused-is q false b r e = inl refl
 
-pub header-many : (t : List ℕ) (k : ℕ) → k ≡ wordAt t 20 → 4 < k → false ≡ at.headerOk t
+pub header-many : (t : List ℕ) (k : ℕ) → k ≡ wordAt t countedCountAt → maxCounted < k → false ≡ at.headerOk t
 unfolding at.countedCount
-header-many t k k-is h = seven-counted t (rw (← k-is, lt-leb k 4 h))
+header-many t k k-is h = seven-counted t (rw (← k-is, lt-leb k maxCounted h))
 
 -- the header's settings, checked
-module _ (t : List ℕ) (m r H k : ℕ) (m-is : m ≡ wordAt t 8) (r-is : r ≡ wordAt t 12) (H-is : H ≡ wordAt t 16) (k-is : k ≡ wordAt t 20) where
+module _ (t : List ℕ) (m r H k : ℕ)
+    (m-is : m ≡ wordAt t leafAt) (r-is : r ≡ wordAt t arityAt) (H-is : H ≡ wordAt t levelsAt) (k-is : k ≡ wordAt t countedCountAt) where
   sizes-here : (b : Bool) → format.sizesOk (given.sizes m r H) ≡ b → format.sizesOk (at.settings t) ≡ b
   unfolding at.settings format.sizesOk
   sizes-here b e = rw (← m-is, ← r-is, ← H-is) e
 
-  module _ (few : k ≤ 4) where
-    counted-here : (b : Bool) → format.countedOk (take (24 + k - 24) (drop 24 t)) ≡ b → format.countedOk (at.settings t .counted) ≡ b
+  module _ (few : k ≤ maxCounted) where
+    counted-here : (b : Bool) → format.countedOk (take (countedAt + k - countedAt) (drop countedAt t)) ≡ b → format.countedOk (at.settings t .counted) ≡ b
     counted-here b e = rw (counted-part t k k-is few) at e
 
-    few-here : leb (at.countedCount t) 4 ≡ true
+    few-here : leb (at.countedCount t) maxCounted ≡ true
     unfolding at.countedCount
-    few-here = rw (← k-is) (le-leb k 4 few)
+    few-here = rw (← k-is) (le-leb k maxCounted few)
 
-    both-here : (b : Bool) → format.countedOk (take (24 + k - 24) (drop 24 t)) ≡ b → (leb (at.countedCount t) 4 && format.countedOk (at.settings t .counted)) ≡ b
+    both-here : (b : Bool) → format.countedOk (take (countedAt + k - countedAt) (drop countedAt t)) ≡ b
+        → (leb (at.countedCount t) maxCounted && format.countedOk (at.settings t .counted)) ≡ b
     both-here b e = rw few-here (counted-here b e)
 
     abbrev part : List ℕ
-    part = take (24 + k - 24) (drop 24 t)
+    part = take (countedAt + k - countedAt) (drop countedAt t)
 
     abbrev sizes-fit : Bool
     sizes-fit = format.sizesOk (given.sizes m r H)
@@ -167,7 +172,8 @@ module _ (t : List ℕ) (m r H k : ℕ) (m-is : m ≡ wordAt t 8) (r-is : r ≡ 
     unfolding given.checked
     header-refused q x e f = ⊎-elim header-sizes header-counted (refused-is q sizes-fit (format.countedOk part) there (sym f ∙ e))
 
-    module _ (n : ℕ) (n-is : n ≡ wordAt t 4) (high : n ≤ maxText) (s : Settings) (x : Checked) (said : x ≡ given.checked m r H part) (is : x ≡ Fine s) where
+    module _ (n : ℕ) (n-is : n ≡ wordAt t textLengthAt)
+        (high : n ≤ maxText) (s : Settings) (x : Checked) (said : x ≡ given.checked m r H part) (is : x ≡ Fine s) where
       fine : Fine s ≡ cond sizes-fit (cond (format.countedOk part) (Fine there) (Refused 3)) (Refused 2)
       unfolding given.checked
       fine = sym is ∙ said
@@ -180,26 +186,17 @@ module _ (t : List ℕ) (m r H k : ℕ) (m-is : m ≡ wordAt t 8) (r-is : r ≡ 
           seven-rest t y (length-here t n n-is true (length-fine n high)) (sizes-here true fit)
           (both-here true (fine-counted s sizes-fit (format.countedOk part) there fine)) e
 
-      pub has-settings : 100 ≤ length t → HasSettings t n s
+      pub has-settings : headerLength ≤ length t → HasSettings t n s
       has-settings long =
-          let z = sizes (given.sizes m r H) fit in
           let size : length part ≡ k = simp (length-take, length-drop) (omega arith) in
           rw (fine-is s sizes-fit (format.countedOk part) there fine) (record {
             long = long;
             n-is = n-is;
-            n-high = high;
             leaf-is = m-is;
             arity-is = r-is;
             levels-is = H-is;
             counted-is = size ∙ k-is;
-            leaf-low = z .leaf-low;
-            leaf-high = z .leaf-high;
-            arity-low = z .arity-low;
-            arity-high = z .arity-high;
-            levels-low = z .levels-low;
-            levels-high = z .levels-high;
-            block-high = z .top-high;
-            counted-high = rw size few;
+            bounds = within-bounds n (length part) (given.sizes m r H) high fit (rw size few);
           })
 
       settings-are : HasSettings t n s → s ≡ settingsOf t
@@ -209,6 +206,6 @@ module _ (t : List ℕ) (m r H k : ℕ) (m-is : m ≡ wordAt t 8) (r-is : r ≡ 
       pub rest-wrong : (y : Bool) → y ≡ restRight t → y ≡ false → Refused 7 ≡ settingsSay t
       rest-wrong y e f = wrong t (sym f ∙ header-rest y e)
 
-      pub rest-fine : 100 ≤ length t → (y : Bool) → y ≡ restRight t → y ≡ true → Fine s ≡ settingsSay t
+      pub rest-fine : headerLength ≤ length t → (y : Bool) → y ≡ restRight t → y ≡ true → Fine s ≡ settingsSay t
       unfolding settingsSay
       rest-fine long y e f = rw (sym (header-rest y e) ∙ f, settings-are (has-settings long))

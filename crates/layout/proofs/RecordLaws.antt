@@ -5,10 +5,12 @@ use Prim.Native.Nat.{ℕ, _+_, _*_, _≤_}
 use native.Mathlib.Omega.{arith}
 use lib.ListN.{length}
 use Rattle.format.specs.Words.{wordAt}
+use Rattle.format.specs.RecordFields.{fieldBytes}
+use Rattle.format.specs.HeaderPlaces.{offsetAt}
 use Rattle.format.specs.Layout as at
 use Rattle.layout.specs.Record.{FieldIn, EdgesIn}
 
-module _ (t : List ℕ) (size level block f table : ℕ) (h : FieldIn t size level block f) (is : table ≡ wordAt t (32 + 8 * level)) where
+module _ (t : List ℕ) (size level block f table : ℕ) (h : FieldIn t size level block f) (is : table ≡ wordAt t (offsetAt level)) where
   pub place-is : table + block * size + 4 * f ≡ at.levelOffset t level + block * at.recordSize t + 4 * f
   unfolding at.levelOffset
   place-is = rw (h .size-is, is)
@@ -21,7 +23,7 @@ module _ (t : List ℕ) (size level block f table : ℕ) (h : FieldIn t size lev
   field-is v e = e ∙ ap (wordAt t) place-is
 
 -- where the edges of a block stand
-pub edges-are : (t : List ℕ) (size counted level block table : ℕ) → EdgesIn t size counted level → table ≡ wordAt t (32 + 8 * level)
-    → (z : ℕ) → z ≡ block * size → table + z + (16 + 12 * counted) ≡ at.edgesAt t level block
+pub edges-are : (t : List ℕ) (size counted level block table : ℕ) → EdgesIn t size counted level → table ≡ wordAt t (offsetAt level)
+    → (z : ℕ) → z ≡ block * size → table + z + fieldBytes counted ≡ at.edgesAt t level block
 unfolding at.edgesAt at.levelOffset
 edges-are t size counted level block table h is z z-is = rw (z-is, h .size-is, h .counted-is, is)

@@ -5,13 +5,14 @@ use mathlib.Core.Path.{_≡_, refl, sym, ap, _∙_}
 use Prim.Native.Nat.{ℕ, zero, suc, _-_, _*_, _^_, _≤_, _<_}
 use native.Mathlib.Omega.{arith}
 use Rattle.format.specs.Settings.{blockLength}
+use Rattle.format.specs.SizeLaws.{sizes-alone}
 use Rattle.format.specs.Layout as at
 use Rattle.format.specs.Verdict.{ask, readable}
-use Rattle.format.specs.HeaderLaws.{Readable, readable-facts}
+use Rattle.format.specs.LayoutLaws.{Readable, readable-facts}
 use Rattle.layout.specs.declared.header.Header.{Header}
 use Rattle.layout.specs.declared.header.HeaderRead.{HeaderRead}
 use Rattle.layout.specs.declared.header.HeaderRead.the-variants.{Good, Refused}
-use Rattle.layout.specs.Settings.{Sized}
+use Rattle.layout.specs.SettingsLevel.{Sized}
 use Rattle.layout.specs.Header.{fieldsOf, goodUnless, headerSays}
 
 -- t passes questions 5 to 7, and h is its header
@@ -20,14 +21,14 @@ pub record HeaderOf (t : List ℕ) (h : Header) : Type 0 where
   pub facts : Readable t
   pub fields : h ≡ fieldsOf t
   pub layout-is : h .layout ≡ at.layout t
-  pub length-is : h .length ≡ at.textLength t
+  pub length-is : h .«text_length» ≡ at.textLength t
   pub leaf-is : h .settings .leaf ≡ at.settings t .leaf
   pub arity-is : h .settings .arity ≡ at.settings t .arity
   pub levels-is : h .settings .levels ≡ at.settings t .levels
   pub counted-is : h .settings .counted ≡ at.countedCount t
   pub offset-is : h .«leaf_offset» ≡ at.leafOffset t
   pub count-is : h .«leaf_count» ≡ at.leafCount t
-  pub block-is : h .block ≡ at.fullLength t 0
+  pub block-is : h .«top_length» ≡ at.fullLength t 0
   pub size-is : h .«record_size» ≡ at.recordSize t
 
 of-fields : (t : List ℕ) (h : Header) → readable t ≡ 0 → h ≡ fieldsOf t → HeaderOf t h
@@ -37,14 +38,14 @@ of-fields t h z e = record {
   facts = readable-facts t z;
   fields = e;
   layout-is = ap (λ (x : Header). x .layout) e;
-  length-is = ap (λ (x : Header). x .length) e;
+  length-is = ap (λ (x : Header). x .«text_length») e;
   leaf-is = ap (λ (x : Header). x .settings .leaf) e;
   arity-is = ap (λ (x : Header). x .settings .arity) e;
   levels-is = ap (λ (x : Header). x .settings .levels) e;
   counted-is = ap (λ (x : Header). x .settings .counted) e;
   offset-is = ap (λ (x : Header). x .«leaf_offset») e;
   count-is = ap (λ (x : Header). x .«leaf_count») e;
-  block-is = ap (λ (x : Header). x .block) e;
+  block-is = ap (λ (x : Header). x .«top_length») e;
   size-is = ap (λ (x : Header). x .«record_size») e;
 }
 
@@ -71,12 +72,8 @@ module _ (t : List ℕ) (x : HeaderRead) (is : x ≡ headerSays t) where
 module _ (t : List ℕ) (h : Header) (k : HeaderOf t h) where
   pub sized : (level : ℕ) → level < h .settings .levels → Sized (h .settings) level
   sized level l = record {
-    leaf-high = rw (k .leaf-is) (k .facts .leaf-high);
-    arity-low = rw (k .arity-is) (k .facts .arity-low);
-    arity-high = rw (k .arity-is) (k .facts .arity-high);
-    levels-high = rw (k .levels-is) (k .facts .levels-high);
+    bounds = rw (k .leaf-is, k .arity-is, k .levels-is) (sizes-alone (k .facts .bounds));
     level-in = l;
-    block-high = rw (k .leaf-is, k .arity-is, k .levels-is) (k .facts .top-high);
   }
 
   pub full-is : (level b : ℕ) → b ≡ h .settings .leaf * h .settings .arity ^ (h .settings .levels - 1 - level) → b ≡ at.fullLength t level

@@ -1,4 +1,5 @@
-pub mod Settings
+pub mod CheckedSettings
 pub mod Header
 pub mod HeaderSays
 pub mod Record
+pub mod SettingsLevel

@@ -6,47 +6,50 @@ use lib.ListN.{length, getD}
 use native.Mathlib.Omega.{arith}
 use Rattle.format.specs.Layout.{settings, layout, levelCount, levelOffset, countedCount, recordSize, field}
 use Rattle.format.specs.WordLaws.{wordAt-agree}
-use Rattle.format.specs.HeaderLaws.{Readable, word-inside}
+use Rattle.format.specs.RecordFields.{fieldCount}
+use Rattle.format.specs.Settings.{maxLevels, maxCounted, maxRecord}
+use Rattle.format.specs.HeaderPlaces.{layoutAt, leafAt, countedCountAt, offsetAt, headerLength}
+use Rattle.format.specs.LayoutLaws.{Readable, word-inside}
 
 pub record FieldIn (t : List ℕ) (size level block f : ℕ) : Type 0 where
-  pub header : 100 ≤ length t
-  pub level-low : level < 8
+  pub header : headerLength ≤ length t
+  pub level-low : level < maxLevels
   pub size-is : size ≡ recordSize t
-  pub f-low : f < 16
+  pub f-low : f < fieldCount maxCounted
   pub inside : levelOffset t level + block * recordSize t + 4 * f + 4 ≤ length t
 
 -- in a tree that passes questions 5 to 7, every field of every record of its tables is there
 pub field-in : (t : List ℕ) → Readable t → (size level block f : ℕ) → size ≡ recordSize t → level < settings t .levels → block < levelCount t level
-    → f < 4 + 3 * countedCount t → FieldIn t size level block f
+    → f < fieldCount (countedCount t) → FieldIn t size level block f
 field-in t k size level block f is hl hb hf = record {
   header = k .long;
-  level-low = omega (arith, k .levels-high);
+  level-low = omega (arith, k .bounds .levels-high);
   size-is = is;
-  f-low = omega (arith, k .counted-high);
+  f-low = omega (arith, k .bounds .counted-high);
   inside = word-inside t k level block f hl hb hf;
 }
 
 -- A number is read in its place. Other bytes with the same header that hold the field's four, also where its record is cut off there, hold the
 -- field; and if they agree on these four, it is the same number, whatever else they hold and however long they are.
-module _ (t u : List ℕ) (header : (k : ℕ) → k < 100 → getD t k 0 ≡ getD u k 0) where
+module _ (t u : List ℕ) (header : (k : ℕ) → k < headerLength → getD t k 0 ≡ getD u k 0) where
   same-size : recordSize t ≡ recordSize u
   unfolding recordSize layout settings countedCount
   same-size =
       rw (
-        wordAt-agree t u 0 (λ k low high. header k (omega arith)),
-        wordAt-agree t u 8 (λ k low high. header k (omega arith)),
-        wordAt-agree t u 20 (λ k low high. header k (omega arith)),
+        wordAt-agree t u layoutAt (λ k low high. header k (omega arith)),
+        wordAt-agree t u leafAt (λ k low high. header k (omega arith)),
+        wordAt-agree t u countedCountAt (λ k low high. header k (omega arith)),
       )
 
-  same-offset : (level : ℕ) → level < 8 → levelOffset t level ≡ levelOffset u level
+  same-offset : (level : ℕ) → level < maxLevels → levelOffset t level ≡ levelOffset u level
   unfolding levelOffset
-  same-offset level low = wordAt-agree t u (32 + 8 * level) (λ k l h. header k (omega arith))
+  same-offset level low = wordAt-agree t u (offsetAt level) (λ k l h. header k (omega arith))
 
   module _ (size level block f : ℕ) (h : FieldIn t size level block f) where
     abbrev place : ℕ
     place = levelOffset t level + block * recordSize t + 4 * f
 
-    pub field-held : 100 ≤ length u → place + 4 ≤ length u → FieldIn u size level block f
+    pub field-held : headerLength ≤ length u → place + 4 ≤ length u → FieldIn u size level block f
     field-held long held = record {
       header = long;
       level-low = h .level-low;
@@ -61,9 +64,9 @@ module _ (t u : List ℕ) (header : (k : ℕ) → k < 100 → getD t k 0 ≡ get
 
 -- what is asked where the place of edges is
 pub record EdgesIn (t : List ℕ) (size counted level : ℕ) : Type 0 where
-  pub header : 100 ≤ length t
-  pub level-low : level < 8
+  pub header : headerLength ≤ length t
+  pub level-low : level < maxLevels
   pub size-is : size ≡ recordSize t
-  pub size-few : size ≤ 576
+  pub size-few : size ≤ maxRecord
   pub counted-is : counted ≡ countedCount t
-  pub counted-few : counted ≤ 4
+  pub counted-few : counted ≤ maxCounted

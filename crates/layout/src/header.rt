@@ -1,30 +1,64 @@
 // The header: questions 5 to 7.
+use crate::settings;
 use crate::settings::Checked;
 use crate::settings::Settings;
 use crate::word;
 ghost use mathlib.Core.Path.{_≡_};
 ghost use mathlib.Core.Bool.{_||_};
-ghost use Prim.Native.Nat.{_+_, _-_, _*_, _≤_, _<_};
+ghost use Prim.Native.Nat.{_+_, _-_, _*_, _^_, _≤_, _<_};
 ghost use lib.ListN.{length};
 ghost use lib.Dec.{eqb};
-ghost use Rattle.format.specs.Settings.{maxText};
-ghost use Rattle.format.specs.Settings as cut;
+ghost use Rattle.format.specs.Settings.{maxLevels, maxCounted, maxRecord};
+ghost use Rattle.format.specs.HeaderPlaces.{headerLength};
 ghost use Rattle.format.specs.Layout.{recordSize};
-ghost use Rattle.format.specs.HeaderLaws.{Readable};
+ghost use Rattle.format.specs.LayoutLaws.{Readable};
 ghost use Rattle.layout.specs.Header.{headerSays, restRight, spareCounted, spareLevels, tablesMeet, HasSettings, settingsOf, settingsSay, fieldsOf};
+
+// Where the header's words stand, each place named once: six words, the places for counted bytes, ..
+pub const LAYOUT_AT: usize = 0;
+
+pub const TEXT_LENGTH_AT: usize = 4;
+
+pub const LEAF_AT: usize = 8;
+
+pub const ARITY_AT: usize = 12;
+
+pub const LEVELS_AT: usize = 16;
+
+pub const COUNTED_COUNT_AT: usize = 20;
+
+pub const COUNTED_AT: usize = 24;
+
+// .. for each level that a tree may have its count and its offset, ..
+pub const COUNTS_AT: usize = COUNTED_AT + Settings::MAX_COUNTED;
+
+pub const OFFSETS_AT: usize = COUNTS_AT + 4;
+
+pub const PAIR: usize = 8;
+
+// .. and two words for the leaf bytes; then the first record.
+const LEVELS: usize = Settings::MAX_LEVELS as usize;
+
+pub const LEAF_OFFSET_AT: usize = COUNTS_AT + PAIR * LEVELS;
+
+pub const LEAF_COUNT_AT: usize = LEAF_OFFSET_AT + 4;
+
+pub const HEADER_LENGTH: usize = LEAF_COUNT_AT + 4;
+
+const FIRST_RECORD_AT: u64 = HEADER_LENGTH as u64;
 
 // What a tree's header says. The levels' counts and offsets stay in the tree, and are read there.
 pub struct Header {
     // 1, or 2: then records have edges
     pub layout: u32,
     // n, the bytes of the text
-    pub length: u32,
+    pub text_length: u32,
     pub settings: Settings,
     // where the leaf bytes start, and how many there are
     pub leaf_offset: u32,
     pub leaf_count: u32,
     // the bytes of a full block of level 0
-    pub block: u32,
+    pub top_length: u32,
     // the bytes of a record
     pub record_size: u32,
 }
@@ -38,10 +72,10 @@ pub enum HeaderRead {
 pub fn read_header(t: &[u8]) -> HeaderRead
     ensures { λ r. ⌜ r ≡ headerSays (now (t .entry)) ⌝ }
 {
-    if t.len() < 100 {
+    if t.len() < HEADER_LENGTH {
         return HeaderRead::Refused(5);
     }
-    if !known(word::read(t, 0)) {
+    if !known(word::read(t, LAYOUT_AT)) {
         return HeaderRead::Refused(6);
     }
     let checked = header_settings(t);
@@ -66,37 +100,37 @@ fn fields(t: &[u8], settings: Settings) -> Header
     requires { ⌜ Readable (now t) × (settings ≡ settingsOf (now t)) ⌝ }
     ensures { λ r. ⌜ r ≡ fieldsOf (now (t .entry)) ⌝ }
 {
-    let layout = word::read(t, 0);
+    let layout = word::read(t, LAYOUT_AT);
     Header {
         layout,
-        length: word::read(t, 4),
+        text_length: word::read(t, TEXT_LENGTH_AT),
         settings,
-        leaf_offset: word::read(t, 92),
-        leaf_count: word::read(t, 96),
-        block: settings.block_length(0),
+        leaf_offset: word::read(t, LEAF_OFFSET_AT),
+        leaf_count: word::read(t, LEAF_COUNT_AT),
+        top_length: settings.block_length(0),
         record_size: settings.record_size(layout),
     }
 }
 
 // Question 7: the settings as the checking constructor made them, if the header is right.
 fn header_settings(t: &[u8]) -> Checked
-    requires { ⌜ 100 ≤ length (now t) ⌝ }
+    requires { ⌜ headerLength ≤ length (now t) ⌝ }
     ensures { λ r. ⌜ r ≡ settingsSay (now (t .entry)) ⌝ }
 {
-    let n = word::read(t, 4);
+    let n = word::read(t, TEXT_LENGTH_AT);
     if Settings::MAX_TEXT < n {
         return Checked::Refused(7);
     }
-    let k = word::read(t, 20) as usize;
+    let k = word::read(t, COUNTED_COUNT_AT) as usize;
     if Settings::MAX_COUNTED < k {
         return Checked::Refused(7);
     }
-    let end = 24 + k;
+    let end = COUNTED_AT + k;
     let checked = Settings::new(
-        word::read(t, 8),
-        word::read(t, 12),
-        word::read(t, 16),
-        &t[24..end],
+        word::read(t, LEAF_AT),
+        word::read(t, ARITY_AT),
+        word::read(t, LEVELS_AT),
+        &t[COUNTED_AT..end],
     );
     let Checked::Fine(settings) = checked else {
         return Checked::Refused(7);
@@ -118,33 +152,25 @@ fn rest_right(t: &[u8], n: u32, settings: Settings) -> bool
     if !spare_levels_zero(t, settings.levels as usize) {
         return false;
     }
-    let count = word::read(t, 28);
-    if count != pieces(n, settings.block_length(0)) {
+    let count = word::read(t, COUNTS_AT);
+    if count != settings::pieces(n, settings.block_length(0)) {
         return false;
     }
-    let size = settings.record_size(word::read(t, 0));
+    let size = settings.record_size(word::read(t, LAYOUT_AT));
     if !tables_meet(t, settings.levels as usize, size) {
         return false;
     }
-    t.len() as u64 == word::read(t, 92) as u64 + word::read(t, 96) as u64
+    t.len() as u64 == word::read(t, LEAF_OFFSET_AT) as u64 + word::read(t, LEAF_COUNT_AT) as u64
 }
 
-// How many blocks of b bytes, the last cut short, x bytes are cut into.
-pub fn pieces(x: u32, b: u32) -> u32
-    requires { ⌜ (x ≤ maxText) × (0 < b) × (b ≤ maxText) ⌝ }
-    ensures { λ r. ⌜ r ≡ cut.pieces x b ⌝ }
-{
-    (x + (b - 1)) / b
-}
-
-// The bytes at 24 that stand for no counted byte are zero.
+// The places for counted bytes that stand for no counted byte are zero.
 fn spare_counted_zero(t: &[u8], k: usize) -> bool
-    requires { ⌜ (100 ≤ length (now t)) × (k ≤ 4) ⌝ }
+    requires { ⌜ (headerLength ≤ length (now t)) × (k ≤ maxCounted) ⌝ }
     ensures { λ r. ⌜ r ≡ spareCounted (now (t .entry)) k ⌝ }
 {
     let mut x: usize = 0;
-    while x < 4 - k {
-        if t[24 + k + x] != 0 {
+    while x < Settings::MAX_COUNTED - k {
+        if t[COUNTED_AT + k + x] != 0 {
             return false;
         }
         x += 1;
@@ -154,16 +180,16 @@ fn spare_counted_zero(t: &[u8], k: usize) -> bool
 
 // The counts and offsets of levels that are not there are zero.
 fn spare_levels_zero(t: &[u8], levels: usize) -> bool
-    requires { ⌜ (100 ≤ length (now t)) × (levels ≤ 8) ⌝ }
+    requires { ⌜ (headerLength ≤ length (now t)) × (levels ≤ maxLevels) ⌝ }
     ensures { λ r. ⌜ r ≡ spareLevels (now (t .entry)) levels ⌝ }
 {
     let mut x: usize = 0;
-    while x < 8 - levels {
-        let count = word::read(t, 28 + 8 * (levels + x));
+    while x < LEVELS - levels {
+        let count = word::read(t, COUNTS_AT + PAIR * (levels + x));
         if count != 0 {
             return false;
         }
-        let offset = word::read(t, 32 + 8 * (levels + x));
+        let offset = word::read(t, OFFSETS_AT + PAIR * (levels + x));
         if offset != 0 {
             return false;
         }
@@ -172,28 +198,28 @@ fn spare_levels_zero(t: &[u8], levels: usize) -> bool
     true
 }
 
-// Level 0's records begin at 100, each level follows the last, then the leaf bytes.
+// Level 0's records begin after the header, each level follows the last, then the leaf bytes.
 fn tables_meet(t: &[u8], levels: usize, size: u32) -> bool
-    requires { ⌜ (100 ≤ length (now t)) × (levels ≤ 8) × (size ≡ recordSize (now t)) × (size ≤ 576) ⌝ }
+    requires { ⌜ (headerLength ≤ length (now t)) × (levels ≤ maxLevels) × (size ≡ recordSize (now t)) × (size ≤ maxRecord) ⌝ }
     ensures { λ r. ⌜ r ≡ tablesMeet (now (t .entry)) levels ⌝ }
 {
-    let mut end: u64 = 100;
+    let mut end: u64 = FIRST_RECORD_AT;
     let mut l: usize = 0;
     while l < levels {
-        let offset = word::read(t, 32 + 8 * l) as u64;
+        let offset = word::read(t, OFFSETS_AT + PAIR * l) as u64;
         if offset != end {
             return false;
         }
-        end = end + table_bytes(word::read(t, 28 + 8 * l), size);
+        end = end + table_bytes(word::read(t, COUNTS_AT + PAIR * l), size);
         l += 1;
     }
-    word::read(t, 92) as u64 == end
+    word::read(t, LEAF_OFFSET_AT) as u64 == end
 }
 
 // The bytes of so many records.
 pub fn table_bytes(count: u32, size: u32) -> u64
-    requires { ⌜ size ≤ 576 ⌝ }
-    ensures { λ r. ⌜ (r ≡ count * size) × (r ≤ 2473901162496) ⌝ }
+    requires { ⌜ size ≤ maxRecord ⌝ }
+    ensures { λ r. ⌜ (r ≡ count * size) × (r ≤ 2 ^ 32 * maxRecord) ⌝ }
 {
     count as u64 * size as u64
 }

@@ -5,17 +5,49 @@ use crate::place::BlockPlace;
 use crate::place::TextPlace;
 use crate::word;
 ghost use mathlib.Core.Path.{_≡_};
-ghost use Prim.Native.Nat.{_+_, _*_, _≤_, _<_};
+ghost use Prim.Native.Nat.{_+_, _*_, _^_, _≤_, _<_};
 ghost use lib.ListN.{length};
+ghost use Rattle.format.specs.RecordFields.{startField, kindField, linkField, gapField, beforeField, insideField, skipField, fieldBytes};
+ghost use Rattle.format.specs.Settings.{maxLevels, maxCounted, maxRecord};
+ghost use Rattle.format.specs.HeaderPlaces.{headerLength};
 ghost use Rattle.format.specs.Layout as at;
 ghost use Rattle.layout.specs.Record.{FieldIn, EdgesIn};
 
+// The words of a record, the number of each named once: of every record, ..
+pub const START: u32 = 0;
+
+pub const KIND: u32 = 1;
+
+pub const LINK: u32 = 2;
+
+pub const GAP: u32 = 3;
+
+pub const PLAIN_WORDS: u32 = 4;
+
+// .. and for each counted byte.
+pub const BEFORE: u32 = PLAIN_WORDS;
+
+pub const INSIDE: u32 = PLAIN_WORDS + 1;
+
+pub const SKIP: u32 = PLAIN_WORDS + 2;
+
+pub const COUNTED_WORDS: u32 = 3;
+
+// Their bytes, four to a word, and where two of them stand in a record.
+pub const PLAIN_BYTES: usize = 4 * PLAIN_WORDS as usize;
+
+pub const COUNTED_BYTES: usize = 4 * COUNTED_WORDS as usize;
+
+pub const KIND_AT: usize = 4 * KIND as usize;
+
+pub const LINK_AT: usize = 4 * LINK as usize;
+
 // How many blocks a level has.
 pub fn level_count(t: &[u8], level: u32) -> u32
-    requires { ⌜ (level < 8) × (100 ≤ length (now t)) ⌝ }
+    requires { ⌜ (level < maxLevels) × (headerLength ≤ length (now t)) ⌝ }
     ensures { λ r. ⌜ r ≡ at.levelCount (now (t .entry)) level ⌝ }
 {
-    word::read(t, 28 + 8 * level as usize)
+    word::read(t, header::COUNTS_AT + header::PAIR * level as usize)
 }
 
 // Word f of the record of a block, where records have `size` bytes.
@@ -23,71 +55,73 @@ pub fn field(t: &[u8], size: u32, level: u32, block: BlockNumber, f: u32) -> u32
     requires { ⌜ FieldIn (now t) size level (block .0) f ⌝ }
     ensures { λ r. ⌜ r ≡ at.field (now (t .entry)) level (block .0) f ⌝ }
 {
-    let table = word::read(t, 32 + 8 * level as usize) as usize;
+    let table = word::read(t, header::OFFSETS_AT + header::PAIR * level as usize) as usize;
     word::read(t, table + block.0 as usize * size as usize + 4 * f as usize)
 }
 
 // Where a block starts in the text.
 pub fn start(t: &[u8], size: u32, level: u32, block: BlockNumber) -> TextPlace
-    requires { ⌜ FieldIn (now t) size level (block .0) 0 ⌝ }
+    requires { ⌜ FieldIn (now t) size level (block .0) startField ⌝ }
     ensures { λ r. ⌜ r .0 ≡ at.start (now (t .entry)) level (block .0) ⌝ }
 {
-    TextPlace(field(t, size, level, block, 0))
+    TextPlace(field(t, size, level, block, START))
 }
 
 // 0 for a kept block, 1 for one that points.
 pub fn kind(t: &[u8], size: u32, level: u32, block: BlockNumber) -> u32
-    requires { ⌜ FieldIn (now t) size level (block .0) 1 ⌝ }
+    requires { ⌜ FieldIn (now t) size level (block .0) kindField ⌝ }
     ensures { λ r. ⌜ r ≡ at.kind (now (t .entry)) level (block .0) ⌝ }
 {
-    field(t, size, level, block, 1)
+    field(t, size, level, block, KIND)
 }
 
 // A kept block's first child, or on the last level its first leaf byte; the block that a pointing block points to.
 pub fn link(t: &[u8], size: u32, level: u32, block: BlockNumber) -> u32
-    requires { ⌜ FieldIn (now t) size level (block .0) 2 ⌝ }
+    requires { ⌜ FieldIn (now t) size level (block .0) linkField ⌝ }
     ensures { λ r. ⌜ r ≡ at.link (now (t .entry)) level (block .0) ⌝ }
 {
-    field(t, size, level, block, 2)
+    field(t, size, level, block, LINK)
 }
 
 // Where in the block pointed to the occurrence begins.
 pub fn gap(t: &[u8], size: u32, level: u32, block: BlockNumber) -> BlockPlace
-    requires { ⌜ FieldIn (now t) size level (block .0) 3 ⌝ }
+    requires { ⌜ FieldIn (now t) size level (block .0) gapField ⌝ }
     ensures { λ r. ⌜ r .0 ≡ at.gap (now (t .entry)) level (block .0) ⌝ }
 {
-    BlockPlace(field(t, size, level, block, 3))
+    BlockPlace(field(t, size, level, block, GAP))
 }
 
 // Of the counted byte with number c: how often it stands from the parent's start to the block's.
 pub fn before(t: &[u8], size: u32, level: u32, block: BlockNumber, c: u32) -> u32
-    requires { ⌜ FieldIn (now t) size level (block .0) (4 + 3 * c) ⌝ }
+    requires { ⌜ FieldIn (now t) size level (block .0) (beforeField c) ⌝ }
     ensures { λ r. ⌜ r ≡ at.before (now (t .entry)) level (block .0) c ⌝ }
 {
-    field(t, size, level, block, 4 + 3 * c)
+    field(t, size, level, block, BEFORE + COUNTED_WORDS * c)
 }
 
 // How often it stands in the block.
 pub fn inside(t: &[u8], size: u32, level: u32, block: BlockNumber, c: u32) -> u32
-    requires { ⌜ FieldIn (now t) size level (block .0) (5 + 3 * c) ⌝ }
+    requires { ⌜ FieldIn (now t) size level (block .0) (insideField c) ⌝ }
     ensures { λ r. ⌜ r ≡ at.inside (now (t .entry)) level (block .0) c ⌝ }
 {
-    field(t, size, level, block, 5 + 3 * c)
+    field(t, size, level, block, INSIDE + COUNTED_WORDS * c)
 }
 
 // How often it stands in the first gap bytes of the block pointed to.
 pub fn skip(t: &[u8], size: u32, level: u32, block: BlockNumber, c: u32) -> u32
-    requires { ⌜ FieldIn (now t) size level (block .0) (6 + 3 * c) ⌝ }
+    requires { ⌜ FieldIn (now t) size level (block .0) (skipField c) ⌝ }
     ensures { λ r. ⌜ r ≡ at.skip (now (t .entry)) level (block .0) c ⌝ }
 {
-    field(t, size, level, block, 6 + 3 * c)
+    field(t, size, level, block, SKIP + COUNTED_WORDS * c)
 }
 
 // Where the edges of a block stand in a layout 2 tree: after its words.
 pub fn edges(t: &[u8], size: u32, counted: u32, level: u32, block: BlockNumber) -> usize
     requires { ⌜ EdgesIn (now t) size counted level ⌝ }
-    ensures { λ r. ⌜ (r ≡ at.edgesAt (now (t .entry)) level (block .0)) × (r ≤ 2478196129856) ⌝ }
+    ensures { λ r. ⌜ (r ≡ at.edgesAt (now (t .entry)) level (block .0)) × (r ≤ 2 ^ 32 * maxRecord + 2 ^ 32 + fieldBytes maxCounted) ⌝ }
 {
-    let table = word::read(t, 32 + 8 * level as usize) as usize;
-    table + header::table_bytes(block.0, size) as usize + (16 + 12 * counted as usize)
+    let table = word::read(t, header::OFFSETS_AT + header::PAIR * level as usize) as usize;
+    table
+        + header::table_bytes(block.0, size) as usize
+        + (PLAIN_BYTES + COUNTED_BYTES * counted as usize)
 }

@@ -1,8 +1,16 @@
 // The settings of a tree, with their bounds, each named once.
+use crate::record;
 ghost use mathlib.Core.Path.{_≡_};
 ghost use Prim.Native.Nat.{_+_, _*_, _^_, _-_, _≤_, _<_};
-ghost use Rattle.format.specs.Settings.{sizesOk, rising, recordLength};
-ghost use Rattle.layout.specs.Settings.{sizes, checked, Sized};
+ghost use Rattle.format.specs.Settings.{sizesOk, rising, recordLength, maxText, maxLeaf, maxArity, maxLevels, maxCounted, maxRecord};
+ghost use Rattle.format.specs.Settings as format;
+ghost use Rattle.layout.specs.CheckedSettings.{sizes, checked};
+ghost use Rattle.layout.specs.SettingsLevel.{Sized};
+
+// The bytes of a record's words: of every record, and for each counted byte.
+const PLAIN: u32 = record::PLAIN_BYTES as u32;
+
+const COUNTED: u32 = record::COUNTED_BYTES as u32;
 
 // The settings that a tree is built with: of the counted bytes their number; the bytes themselves stay where they are lent.
 pub struct Settings {
@@ -70,12 +78,12 @@ impl Settings {
         b as u32
     }
 
-    // The bytes of a record of a layout: 16, 12 for each counted byte, and in layout 2 two edges of m bytes.
+    // The bytes of a record of a layout: its words, and in layout 2 two edges of m bytes.
     pub fn record_size(self, layout: u32) -> u32
-        requires { ⌜ (self .leaf ≤ 256) × (self .counted ≤ 4) ⌝ }
-        ensures { λ r. ⌜ (r ≡ recordLength layout (self .leaf) (self .counted)) × (r ≤ 576) ⌝ }
+        requires { ⌜ (self .leaf ≤ maxLeaf) × (self .counted ≤ maxCounted) ⌝ }
+        ensures { λ r. ⌜ (r ≡ recordLength layout (self .leaf) (self .counted)) × (r ≤ maxRecord) ⌝ }
     {
-        let words = 16 + 12 * self.counted;
+        let words = PLAIN + COUNTED * self.counted;
         if layout == Settings::EDGED {
             return words + (self.leaf + self.leaf);
         }
@@ -83,9 +91,17 @@ impl Settings {
     }
 }
 
-// leaf × arity^exponent: at most 256 × 16^7, so no product wraps.
+// How many blocks of b bytes, the last cut short, x bytes are cut into.
+pub fn pieces(x: u32, b: u32) -> u32
+    requires { ⌜ (x ≤ maxText) × (0 < b) × (b ≤ maxText) ⌝ }
+    ensures { λ r. ⌜ r ≡ format.pieces x b ⌝ }
+{
+    (x + (b - 1)) / b
+}
+
+// leaf × arity^exponent, of bounded settings: no product wraps.
 fn power(leaf: u32, arity: u32, exponent: u32) -> u64
-    requires { ⌜ (leaf ≤ 256) × (arity ≤ 16) × (exponent ≤ 7) ⌝ }
+    requires { ⌜ (leaf ≤ maxLeaf) × (arity ≤ maxArity) × (exponent < maxLevels) ⌝ }
     ensures { λ r. ⌜ r ≡ leaf * arity ^ exponent ⌝ }
 {
     let mut b: u64 = leaf as u64;

@@ -2,7 +2,7 @@
 ghost use mathlib.Core.Path.{_≡_};
 ghost use Prim.Native.Nat.{_+_, _≤_, _<_};
 ghost use lib.ListN.{length};
-ghost use Rattle.format.specs.Words.{wordAt, setWord};
+ghost use Rattle.format.specs.Words.{wordAt, setWord, putThree};
 
 fn wide(b: u8) -> u32
     ensures { λ r. ⌜ (r ≡ b) × (r < 256) ⌝ }
@@ -27,4 +27,14 @@ pub fn write(t: &mut [u8], at: usize, value: u32)
     t[at + 1] = (value / 256 % 256) as u8;
     t[at + 2] = (value / 65536 % 256) as u8;
     t[at + 3] = (value / 16777216 % 256) as u8;
+}
+
+// Three words, one after the other.
+pub fn put_three(t: &mut [u8], at: usize, a: u32, b: u32, c: u32)
+    requires { ⌜ at + 12 ≤ length (now t) ⌝ }
+    ensures { λ _. ⌜ now (t .exit) ≡ putThree (now (t .entry)) at a b c ⌝ }
+{
+    write(t, at, a);
+    write(t, at + 4, b);
+    write(t, at + 8, c);
 }

@@ -1,4 +1,4 @@
 // The list program.
 fn main() {
-    lister::run();
+    list_run::run();
 }

@@ -1,4 +1,4 @@
 // The list program on the worked book's tree of layout 1 with a wrong gap.
 fn main() {
-    lister::run();
+    list_run::run();
 }

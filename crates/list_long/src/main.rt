@@ -1,4 +1,4 @@
 // The list program on an input that is one byte too long.
 fn main() {
-    lister::run();
+    list_run::run();
 }

@@ -9,18 +9,21 @@ use native.Mathlib.Omega.{arith}
 use contract.Lifetimes.{Lfts}
 use denote.Ref.{now}
 use lib.ListN.{length, take}
-use Rattle.text.specs.ListLaws.{lt-or-ge}
 use Rattle.text.specs.Text.{countIn, placeOf}
+use Rattle.text.specs.ListLaws.{lt-or-ge}
 use Rattle.text.specs.declared.TextPlace.{TextPlace}
 use Rattle.format.specs.Layout as at
 use Rattle.format.specs.Fits.{fits}
-use Rattle.query.proofs.Calls as calls
-use Rattle.query.proofs.Calls.{Lent, Counted, Found, Check, Count, Find}
-use Rattle.query.proofs.Answering.{Among}
-use Rattle.query.proofs.Demand3.{check-answers, check-refuses}
+use Rattle.ask_rank.specs.declared.Counted.{Counted}
+use Rattle.ask_rank.specs.declared.Counted.the-variants as counted
+use Rattle.ask_select.specs.declared.Found.{Found}
+use Rattle.ask_select.specs.declared.Found.the-variants as found
+use Rattle.query.proofs.AcceptedTree.{Among}
+use Rattle.query.proofs.CheckCall.{Check, check-answers, check-refuses}
+use Rattle.query.proofs.CountCall.{Count}
+use Rattle.query.proofs.FindCall.{Find}
 use Rattle.query.proofs.OneByte.{OneByte, one-byte-back, count-before, count-near, place-same}
-use calls.counted as counted
-use calls.found as found
+use Rattle.query.proofs.OutsideCall.{Lent}
 
 -- an accepted tree that the text fits and that counts the byte, "whoever built" it, of any settings and layout
 pub record CountingTree (T : List ℕ) (byte : ℕ) (t : Lent) : Type 0 where
@@ -51,15 +54,15 @@ module _ (T : List ℕ) (byte : ℕ) (t : Lent) (k : CountingTree T byte t) wher
   -- what count answers for any number of bytes of the text
   count-of : (κs : Lfts 1) (i : ℕ) (r : Counted) → Count κs t byte i r → i ≤ length T → (e : ℕ) × (r ≡ counted.Times (countIn byte (take i T)) e)
   unfolding countIn
-  count-of κs zero r c h = (0, check-answers (k .lifetime) t (k .accepted) T (k .fitting) .count-none κs byte r c (k .counting))
+  count-of κs zero r c h = (0, check-answers (k .lifetime) t (k .accepted) T (k .fitting) .count .count-none κs byte r c (k .counting))
   count-of κs (suc i) r c h =
-      let w = check-answers (k .lifetime) t (k .accepted) T (k .fitting) .count-of κs byte (suc i) r c (k .counting) (omega arith) h in
+      let w = check-answers (k .lifetime) t (k .accepted) T (k .fitting) .count .count-of κs byte (suc i) r c (k .counting) (omega arith) h in
       (w .0, w .2)
 
   -- what find answers where there are so many
   find-of : (κs : Lfts 1) (j : ℕ) (r : Found) → Find κs t byte j r → 1 ≤ j → j ≤ countIn byte T → FoundAt r (record { 0 = placeOf byte j T })
   find-of κs j r c low high =
-      let w = check-answers (k .lifetime) t (k .accepted) T (k .fitting) .find-of κs byte j r c (k .counting) low high in
+      let w = check-answers (k .lifetime) t (k .accepted) T (k .fitting) .find .find-of κs byte j r c (k .counting) low high in
       (w .0, w .2)
 
   -- it answers a place only there
@@ -70,7 +73,7 @@ module _ (T : List ℕ) (byte : ℕ) (t : Lent) (k : CountingTree T byte t) wher
       clash e q y z = absurd (let x : _≡_ {A = ℕ} 0 1 = cc in omega arith)
 
       none : (1 ≤ j → j ≤ countIn byte T → ⊥) → (1 ≤ j) × (j ≤ countIn byte T)
-      none h = clash (is .0) 12 (is .1) (check-refuses (k .lifetime) t (k .accepted) T (k .fitting) .find-none κs byte j r c (k .counting) h)
+      none h = clash (is .0) 12 (is .1) (check-refuses (k .lifetime) t (k .accepted) T (k .fitting) .find .find-none κs byte j r c (k .counting) h)
 
       go : (0 < j) ⊎ (j ≤ 0) → (countIn byte T < j) ⊎ (j ≤ countIn byte T) → (1 ≤ j) × (j ≤ countIn byte T)
       go (inl low) (inr high) = (low, high)

@@ -7,10 +7,10 @@ use Prim.Native.Nat.{ℕ, _+_, _-_, _≤_, _<_}
 use native.Mathlib.Omega.{arith}
 use lib.ListN.{length, getD, take}
 use lib.Dec.{eqb}
+use Rattle.text.specs.Text.{countIn, placeOf, stretch}
+use Rattle.text.specs.CountLaws.{place-nth, one, count-start, count-add, count-next, Nth, nth-place, nth-high}
 use Rattle.text.specs.ListLaws.{lt-or-ge}
-use Rattle.text.specs.Text.{stretch, countIn, placeOf}
 use Rattle.text.specs.TextLaws.{stretch-ext}
-use Rattle.text.specs.CountLaws.{one, count-start, count-add, count-next, Nth, place-nth, nth-place, nth-high}
 
 -- "two texts of equal length that differ in one place", place d
 pub record OneByte (T U : List ℕ) (d : ℕ) : Type 0 where

@@ -1,4 +1,5 @@
 -- The demands on the search, as theorems over what its calls promise.
+-- docs/FORMAT.md: "Searching".
 use mathlib.Core.List.{List}
 use mathlib.Core.Bool.{Bool, true, false, cond}
 use mathlib.Core.Path.{_≡_, refl, sym, ap, _∙_}

@@ -1,6 +1,6 @@
 pub mod Modulo
-pub mod Digits
-pub mod Ahead
+pub mod FingerLaws
+pub mod ScanLaws
 pub mod Usable
-pub mod Cases
+pub mod AnswerCases
 pub mod Demands

@@ -1,4 +1,5 @@
 -- What the outside calls say, for any lent bytes. Base and modulus stand in neither answer.
+-- docs/FORMAT.md: "Searching".
 use mathlib.Core.List.{List}
 use mathlib.Core.Bool.{Bool, cond, _&&_}
 use Prim.Native.Nat.{ℕ, _+_}

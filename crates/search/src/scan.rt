@@ -9,26 +9,23 @@ ghost use Rattle.text.specs.Lists.{sameList};
 ghost use Rattle.text.specs.Text.{stretch, leftmost};
 ghost use Rattle.search.specs.Fingers.{Ready, finger};
 
-// Whether the n bytes at `at` stand at p too. h and wanted are their fingerprints: equal ones only
-// propose, and the bytes decide.
-pub fn stands(
-    text: &[u8],
-    p: TextPlace,
-    at: TextPlace,
-    n: usize,
-    h: u64,
-    wanted: u64,
-    by: Fingerprint,
-) -> bool
-    requires { ⌜ (p .0 + n ≤ length (now text)) × (at .0 + n ≤ length (now text)) ⌝ }
-    requires { ⌜ h ≡ finger (by .base) (by .modulus) (stretch (now text) (p .0) n) ⌝ }
-    requires { ⌜ wanted ≡ finger (by .base) (by .modulus) (stretch (now text) (at .0) n) ⌝ }
-    ensures { λ r. ⌜ r ≡ sameList (stretch (now (text .entry)) (p .0) n) (stretch (now (text .entry)) (at .0) n) ⌝ }
+// A place of the text, and the fingerprint of the bytes there.
+struct Printed {
+    start: TextPlace,
+    print: u64,
+}
+
+// Whether the n bytes at a place stand at another too. Equal fingerprints only propose, and the bytes decide.
+fn stands(text: &[u8], here: Printed, wanted: Printed, n: usize, by: Fingerprint) -> bool
+    requires { ⌜ (here .start .0 + n ≤ length (now text)) × (wanted .start .0 + n ≤ length (now text)) ⌝ }
+    requires { ⌜ here .print ≡ finger (by .base) (by .modulus) (stretch (now text) (here .start .0) n) ⌝ }
+    requires { ⌜ wanted .print ≡ finger (by .base) (by .modulus) (stretch (now text) (wanted .start .0) n) ⌝ }
+    ensures { λ r. ⌜ r ≡ sameList (stretch (now (text .entry)) (here .start .0) n) (stretch (now (text .entry)) (wanted .start .0) n) ⌝ }
 {
-    if h != wanted {
+    if here.print != wanted.print {
         return false;
     }
-    stretches::same_at(text, p.0 as usize, at.0 as usize, n)
+    stretches::same_at(text, here.start.0 as usize, wanted.start.0 as usize, n)
 }
 
 // The first place with the n bytes at `at`.
@@ -37,11 +34,18 @@ pub fn scan(text: &[u8], at: TextPlace, n: usize, by: Fingerprint) -> TextPlace
     ensures { λ r. ⌜ r .0 ≡ leftmost (now (text .entry)) (at .0) n ⌝ }
 {
     let top = finger::power(by, n);
-    let wanted = finger::fingerprint_at(by, text, at, n);
+    let wanted = Printed {
+        start: at,
+        print: finger::fingerprint_at(by, text, at, n),
+    };
     let mut h = finger::fingerprint_at(by, text, TextPlace(0), n);
     let mut p: u32 = 0;
     while p < at.0 {
-        if stands(text, TextPlace(p), at, n, h, wanted, by) {
+        let here = Printed {
+            start: TextPlace(p),
+            print: h,
+        };
+        if stands(text, here, wanted, n, by) {
             return TextPlace(p);
         }
         h = finger::roll(by, h, top, text[p as usize], text[p as usize + n]);

@@ -1,8 +1,9 @@
 -- Request 112, as theorems over what the calls promise, for any lent bytes. The calendar's own laws: the day after a day has the next number
 -- (`next-number`) and is a day (`next-date`), the order of dates is the order of their numbers (`in-order`), a number is one day's (`one-day`).
-use mathlib.Core.List.{List}
+-- docs/FORMAT.md: "The term of a licence".
+use mathlib.Core.List.{List, [], _∷_}
 use mathlib.Core.Bool.{Bool, true, false, cond, not, _&&_}
-use mathlib.Core.Path.{_≡_, refl, sym, ap, _∙_}
+use mathlib.Core.Path.{_≡_, refl, ap, _∙_}
 use mathlib.Core.Logic.{_⊎_, inl, inr}
 use Prim.Native.Nat.{ℕ, zero, suc, _+_, _-_, _≤_, _<_}
 use native.Mathlib.Omega.{arith}
@@ -11,18 +12,19 @@ use denote.Ref.{RefT, now}
 use lib.IntN.{ℤ, pos, negsuc, _-ℤ_}
 use lib.Dec.{ltb, leb, eqb}
 use borrow.Author.Tests.{le-leb, lt-leb, lt-ltb, le-ltb, ltb-true}
-use Rattle.runs.specs.Runs.{Function, Ends, ends}
-use Rattle.text.specs.ListLaws.{and-left, and-right, and-false, bool-cases, bool-clash, lt-or-ge}
+use Rattle.theory_machine.specs.Ends.{Ends}
+use Rattle.theory_machine.specs.OutsideCalls.{AsksNothing, Call, call, Each, each-ends, each-asks-nothing}
+use Rattle.text.specs.ListLaws.{and-left, and-right, and-false, bool-clash, lt-or-ge}
 use Rattle.term.specs.declared.Opened.{Opened}
 use Rattle.term.specs.declared.Opened.the-variants as opened
 use Rattle.term.specs.declared.Left.{Left}
 use Rattle.term.specs.declared.Left.the-variants as left
 use Rattle.term.specs.Calendar.{dayNumber, earlier, renewed}
 use Rattle.term.specs.Days.{isDay, dateIn, written}
-use Rattle.term.specs.WrittenLaws.{date-back, day-back}
+use Rattle.term.specs.DateWrittenLaws.{date-back, day-back}
 use Rattle.term.specs.Term.{numberIn, openNumber, openOn, leftNumber, daysLeft, renewNumber, renewLeaves}
-use Rattle.term.specs.Answers.{openedNumber, saysOpen, OpenedNumbered, saysNumber, saysDays, LeftNumbered}
-use Rattle.term.proofs.DayLaws.{day-date}
+use Rattle.term.specs.TermAnswers.{openedNumber, saysOpen, OpenedNumbered, saysNumber, saysDays, LeftNumbered}
+use Rattle.term.proofs.DaysLaws.{day-date}
 use Rattle.term.proofs.open_on.Reads as open-reads
 use Rattle.term.proofs.open_on as open-on
 use Rattle.term.proofs.open_on.Symbol as open-at
@@ -53,24 +55,19 @@ DaysLeft κs last today r = left-reads.Post κs (last, (today, tt)) r (last, (to
 abbrev pub Renew : (κs : Lfts 1) → (day after : Lent) → ℕ → Type 0
 Renew κs day after r = renew-reads.Post κs (day, tt) r (after, tt)
 
-abbrev opening : Function
-opening = record { routine = open-at.routine; signature = open-on.signature; clauses = open-on.spec }
+-- The calls: each ends, and reads and writes only what was lent (`Ends`), and asks nothing of its caller.
+abbrev pub calls : List Call
+calls =
+    call (record { routine = open-at.routine; signature = open-on.signature; clauses = open-on.spec }) open-met.met (λ 𝓤 H A mem run κs a. (tt, refl))
+    ∷ call (record { routine = left-at.routine; signature = days-left.signature; clauses = days-left.spec }) left-met.met (λ 𝓤 H A mem run κs a. (tt, refl))
+    ∷ call (record { routine = renew-at.routine; signature = renew.signature; clauses = renew.spec }) renew-met.met (λ 𝓤 H A mem run κs a. (tt, refl))
+    ∷ []
 
-abbrev leaving : Function
-leaving = record { routine = left-at.routine; signature = days-left.signature; clauses = days-left.spec }
+pub every-call-ends : Each Ends calls
+every-call-ends = each-ends calls
 
-abbrev renewing : Function
-renewing = record { routine = renew-at.routine; signature = renew.signature; clauses = renew.spec }
-
--- Every call ends, and reads and writes only what was lent (`Ends`). What it asks of its caller holds of any arguments.
-pub every-call-ends : Ends opening × Ends leaving × Ends renewing
-every-call-ends = (ends opening open-met.met, ends leaving left-met.met, ends renewing renew-met.met)
-
-pub trusts-no-caller :
-    ((κs : Lfts 3) (first last today : Lent) → open-reads.Asked κs (first, (last, (today, tt))))
-    × ((κs : Lfts 2) (last today : Lent) → left-reads.Asked κs (last, (today, tt)))
-    × ((κs : Lfts 1) (day : Lent) → renew-reads.Asked κs (day, tt))
-trusts-no-caller = (λ κs first last today. tt, λ κs last today. tt, λ κs day. tt)
+pub trusts-no-caller : Each AsksNothing calls
+trusts-no-caller = each-asks-nothing calls
 
 -- The numbers of two written days compare as the days do.
 module _ (xs ys : List ℕ) (a : isDay xs ≡ true) (b : isDay ys ≡ true) where

@@ -1,4 +1,5 @@
 -- The Gregorian calendar: a day is a year, a month and a day of the month; days are counted from 1 January 2000, which is number 0.
+-- docs/FORMAT.md: "The term of a licence".
 use mathlib.Core.List.{List, [], _∷_}
 use mathlib.Core.Bool.{Bool, cond, not, _&&_, _||_}
 use Prim.Native.Nat.{ℕ, _+_, _-_, _%_, _≤_}

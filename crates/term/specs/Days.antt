@@ -1,4 +1,5 @@
 -- A day written as eight digits, year, month and day (ISO 8601, basic form): "20240229".
+-- docs/FORMAT.md: "The term of a licence".
 use mathlib.Core.List.{List, [], _∷_}
 use mathlib.Core.Bool.{Bool, _&&_}
 use Prim.Native.Nat.{ℕ, _+_, _-_, _*_, _/_, _%_}

@@ -4,7 +4,7 @@ pub mod MonthLaws
 pub mod CalendarLaws
 pub mod RenewalLaws
 pub mod Days
-pub mod WrittenLaws
+pub mod DateWrittenLaws
 pub mod Term
-pub mod Answers
-pub mod Worked
+pub mod TermAnswers
+pub mod TermExamples

@@ -170,7 +170,8 @@ nth-head c x xs e = record { within = omega arith; byte-is = sym e; rank = refl 
 
 -- the list's first byte is c or not
 module _ (c x : ℕ) (xs : List ℕ) where
-  place-first : (y : Bool) → eqb c x ≡ y → 0 < countIn c (x ∷ xs) → (0 < countIn c xs → NthIn c 0 xs (placeIn c 0 xs)) → NthIn c 0 (x ∷ xs) (cond y 0 (placeIn c 0 xs + 1))
+  place-first : (y : Bool) → eqb c x ≡ y
+      → 0 < countIn c (x ∷ xs) → (0 < countIn c xs → NthIn c 0 xs (placeIn c 0 xs)) → NthIn c 0 (x ∷ xs) (cond y 0 (placeIn c 0 xs + 1))
   place-first true e h rest = nth-head c x xs (eqb-true c x e)
   place-first false e h rest =
       let z : one c x ≡ 0 = rw e in
@@ -205,7 +206,13 @@ place-nth c j T low high =
 
 pub nth-high : (c j : ℕ) (T : List ℕ) (o : ℕ) → Nth c j T 0 o → j ≤ countIn c T
 nth-high c j T o h =
-    omega (arith, h .rank, count-next-same c T 0 o (h .within) (h .byte-is), count-mono c T 0 (o + 1) (o + 1 + length T) (omega arith), count-whole c T (o + 1 + length T) (omega arith))
+    omega (
+      arith,
+      h .rank,
+      count-next-same c T 0 o (h .within) (h .byte-is),
+      count-mono c T 0 (o + 1) (o + 1 + length T) (omega arith),
+      count-whole c T (o + 1 + length T) (omega arith),
+    )
 
 -- and the only one
 pub nth-place : (c j : ℕ) (T : List ℕ) (o : ℕ) → Nth c j T 0 o → placeOf c j T ≡ o

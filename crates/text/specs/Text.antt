@@ -1,4 +1,5 @@
 -- What is asked of a text, a list of bytes.
+-- docs/FORMAT.md: "Searching", "Count", "Find".
 use mathlib.Core.List.{List, [], _∷_}
 use mathlib.Core.Bool.{Bool, cond, _&&_}
 use Prim.Native.Nat.{ℕ, zero, suc, _+_, _-_}

@@ -123,19 +123,3 @@ module _ (T : List ℕ) (s len : ℕ) where
       go : (q < leftmost T s len) ⊎ (leftmost T s len ≤ q) → leftmost T s len ≤ q
       go (inl l) = absurd (leftmost-least q l e)
       go (inr g) = g
-
-  -- a place with the same bytes, and none before it with them, is the leftmost one
-  pub leftmost-unique :
-      (r : ℕ) → stretch T r len ≡ stretch T s len → ((q : ℕ) → q < r → stretch T q len ≡ stretch T s len → ⊥) → leftmost T s len ≡ r
-  leftmost-unique r e least = go (lt-or-ge (leftmost T s len) r)
-    where
-      go : (leftmost T s len < r) ⊎ (r ≤ leftmost T s len) → leftmost T s len ≡ r
-      go (inl l) = absurd (least (leftmost T s len) l leftmost-same)
-      go (inr g) = omega (arith, leftmost-first r e)
-
--- equal stretches have one leftmost occurrence
-pub leftmost-equal : (T : List ℕ) (s q len : ℕ) → stretch T q len ≡ stretch T s len → leftmost T q len ≡ leftmost T s len
-leftmost-equal T s q len e =
-    leftmost-unique
-    T q len (leftmost T s len) (leftmost-same T s len ∙ sym e)
-    (λ k l f. leftmost-least T s len k l (f ∙ e))

@@ -1,4 +1,5 @@
 -- The demands on build and check, as theorems over what their calls promise.
+-- docs/FORMAT.md: "What is promised".
 use mathlib.Core.List.{List, _++_}
 use mathlib.Core.Path.{_≡_, sym, ap, _∙_}
 use mathlib.Core.Logic.{_↔_}
@@ -17,16 +18,16 @@ use Rattle.format.specs.Layout as at
 use Rattle.format.specs.Path.{Path, pathOf}
 use Rattle.format.specs.Fits.{textOf, fits}
 use Rattle.format.specs.Verdict.{ask, verdict}
-use Rattle.format.specs.HeaderLaws.{ask-test, ask-rest}
-use Rattle.format.specs.Building.{buildNumber, buildSize, buildLeaves}
-use Rattle.format.specs.Reading.{byteSays, spanNumber, spanLeaves}
-use Rattle.built.specs.Sizes.{Taken}
-use Rattle.accepted.specs.Accepting.{StandsFor, accepts, one-text, built-text, built-verdict, accepted-stands}
-use Rattle.paths.specs.Demands as paths
-use Rattle.margins.specs.Demands as margins
-use Rattle.builder.specs.declared.Built.{Built}
-use Rattle.builder.specs.Answers.{numberOf, sizeOf, given}
-use Rattle.builder.proofs.build.Reads as build-reads
+use Rattle.format.specs.LayoutLaws.{ask-test, ask-rest}
+use Rattle.format.specs.BuildSays.{buildNumber, buildSize, buildLeaves}
+use Rattle.format.specs.ReadSays.{byteSays, spanNumber, spanLeaves}
+use Rattle.theory_built.specs.BlockSizes.{Taken}
+use Rattle.theory_accepted.specs.AcceptedTrees.{StandsFor, accepts, one-text, built-text, built-verdict, accepted-stands}
+use Rattle.theory_paths.specs.Demands as paths
+use Rattle.theory_edges.specs.Demands as margins
+use Rattle.build_by_search.specs.declared.Built.{Built}
+use Rattle.build_by_search.specs.BuildAnswer.{numberOf, sizeOf, given}
+use Rattle.build_by_search.proofs.build.Reads as build-reads
 use Rattle.tree.proofs.check.Reads as check-reads
 
 -- r is an answer that the contract of `check` allows to a call on these bytes

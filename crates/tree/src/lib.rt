@@ -1,14 +1,14 @@
 // The tree layer's outside calls: build and build_scanned write the block tree of a text, check asks any bytes lent as a tree.
-use borders::truth;
-pub use builder::Built;
-pub use builder::build;
-pub use enough::Room;
-pub use enough::enough;
+pub use build_by_scan::Scanned;
+pub use build_by_scan::build_scanned;
+pub use build_by_scan::scan_words;
+pub use build_by_search::Built;
+pub use build_by_search::build;
+pub use build_enough::Room;
+pub use build_enough::enough;
+use check_edges::truth;
 use layout::header::Header;
 use layout::header::HeaderRead;
-pub use scanner::Scanned;
-pub use scanner::build_scanned;
-pub use scanner::scan_words;
 ghost use mathlib.Core.Path.{_≡_};
 ghost use Rattle.format.specs.Verdict.{verdict};
 ghost use Rattle.layout.specs.HeaderSays.{HeaderOf};
@@ -32,10 +32,10 @@ fn check_tables(t: &[u8], h: Header) -> u32
     requires { ⌜ HeaderOf (now t) h ⌝ }
     ensures { λ r. ⌜ r ≡ verdict (now (t .entry)) ⌝ }
 {
-    if !links::links_right(t, h) {
+    if !check_links::links_right(t, h) {
         return 8;
     }
-    if !counts::counts_right(t, h) {
+    if !check_counts::counts_right(t, h) {
         return 9;
     }
     if !truth::edges_right(t, h) {

@@ -1,5 +1,5 @@
 use borrow.Author.Needs.{needs}
-use Rattle.abi.proofs.AnswerLaws as laws
+use Rattle.abi.proofs.ExportsLaws as laws
 use Rattle.abi.proofs.bt_build.Statement.{statement}
 use Rattle.abi.proofs.bt_build.Tie as tie
 
@@ -11,6 +11,8 @@ bt-build-spec =
     (λ c. search needs)
     (λ c. search needs)
     (λ c. search needs)
-    (λ c. let z = laws.build-told _ _ _ (c .before .before .before .before .before .build .ensures .0) (c .before .before .before .before .before .build .ensures .1 .0) _ (c .before .built .given .1) in (z .0, (z .1, c .before .before .before .before .before .build .ensures .1 .1)))
+    (λ c. let w = c .before .before .before .before .before in let z = laws.build-told
+    _ _ _ (w .build .ensures .0) (w .build .ensures .1 .0) _ (c .before .built .given .1) in (z .0, (z .1, w .build .ensures .1 .1)))
     (λ c. search needs)
-    (λ c. let z = laws.build-refused _ _ _ (c .before .before .before .before .before .build .ensures .0) (c .before .before .before .before .before .build .ensures .1 .0) _ (c .before .built2 .given .1) in (z .0, (z .1, c .before .before .before .before .before .build .ensures .1 .1))))
+    (λ c. let w = c .before .before .before .before .before in let z = laws.build-refused
+    _ _ _ (w .build .ensures .0) (w .build .ensures .1 .0) _ (c .before .built2 .given .1) in (z .0, (z .1, w .build .ensures .1 .1))))

@@ -1,5 +1,5 @@
 use borrow.Author.Needs.{needs}
-use Rattle.abi.proofs.AnswerLaws as laws
+use Rattle.abi.proofs.ExportsLaws as laws
 use Rattle.abi.proofs.bt_byte.Statement.{statement}
 use Rattle.abi.proofs.bt_byte.Tie as tie
 

@@ -1,7 +1,7 @@
 use borrow.Author.Needs.{needs}
 use mathlib.Core.Path.{_≡_, ap, sym, _∙_}
-use Rattle.listing.specs.declared.Listed.{Listed}
-use Rattle.abi.specs.Answers.{listedNumber, listedSize}
+use Rattle.list_lines.specs.declared.Listed.{Listed}
+use Rattle.abi.specs.ExportAnswers.{listedNumber, listedSize}
 use Rattle.abi.proofs.bt_list.Statement.{statement}
 use Rattle.abi.proofs.bt_list.Tie as tie
 

@@ -1,5 +1,5 @@
 use borrow.Author.Needs.{needs}
-use Rattle.abi.proofs.CountLaws as laws
+use Rattle.abi.proofs.CountExportsLaws as laws
 use Rattle.abi.proofs.bt_row.Statement.{statement}
 use Rattle.abi.proofs.bt_row.Tie as tie
 

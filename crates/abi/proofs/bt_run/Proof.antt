@@ -1,7 +1,7 @@
 use borrow.Author.Needs.{needs}
 use native.Mathlib.Omega.{arith}
-use Rattle.access.proofs.ByteLaws.{part-told, part-refused}
-use Rattle.abi.proofs.AnswerLaws as laws
+use Rattle.ask_access.proofs.ByteLaws.{part-told, part-refused}
+use Rattle.abi.proofs.ExportsLaws as laws
 use Rattle.abi.proofs.bt_run.Statement.{statement}
 use Rattle.abi.proofs.bt_run.Tie as tie
 
@@ -12,7 +12,14 @@ bt-run-spec =
     (λ c κs. search needs)
     (λ c. search needs)
     (λ c. let k = part-told _ _ _ (c .before .before .before .before .run-part .ensures) _ (c .before .before .ran .given .1) in
-    omega (arith, k .length-is, laws.run-short (c .before .before .before .before .before .before .args .tree .now) (c .before .before .before .before .before .before .args .place)))
+    omega (
+      arith,
+      k .length-is,
+      laws.run-short
+          (c .before .before .before .before .before .before .args .tree .now) (c .before .before .before .before .before .before .args .place),
+    ))
     (λ c. search needs)
-    (λ c. let k = part-told _ _ _ (c .before .before .before .before .run-part .ensures) _ (c .before .before .ran .given .1) in (k .number-is, (k .from-is, k .length-is)))
-    (λ c. let k = part-refused _ _ _ (c .before .before .before .run-part .ensures) _ (c .before .ran2 .given .1) in (k .number-is, (k .from-is, k .length-is))))
+    (λ c. let k = part-told _ _ _ (c .before .before .before .before .run-part .ensures) _ (c .before .before .ran .given .1) in
+    (k .number-is, (k .from-is, k .length-is)))
+    (λ c. let k = part-refused _ _ _ (c .before .before .before .run-part .ensures) _ (c .before .ran2 .given .1) in
+    (k .number-is, (k .from-is, k .length-is))))

@@ -20,8 +20,10 @@ run-spec =
     (λ c. (omega arith, refl, refl))
     (λ c κs. search needs)
     (λ c κs. c .before .before .before .before .before .before .before .before .loop .inv .0)
-    (λ c. omega (arith, c .past .ensures .later (c .before .before .before .before .before .before .before .before .loop-test .taken), c .past .ensures .inside, c .before .before .before .before .before .before .before .before .loop-test .taken))
-    (λ c. let k = c .before .before .before .before .before .answer .kept in let i = c .before .before .before .before .before .before .before .before .before .loop .inv in (c .past .ensures .inside, k .1 .1 .0 ∙ i .1, k .1 .1 .1 .0 ∙ i .2))
+    (λ c. let w = c .before .before .before .before .before .before .before .before in
+    omega (arith, c .past .ensures .later (w .loop-test .taken), c .past .ensures .inside, w .loop-test .taken))
+    (λ c. let w = c .before .before .before .before .before in let k = w .answer .kept in
+    let i = w .before .before .before .before .loop .inv in (c .past .ensures .inside, k .1 .1 .0 ∙ i .1, k .1 .1 .1 .0 ∙ i .2))
     (λ c. c .before .loop .inv .1)
     (λ c. c .before .loop .inv .2)
     (λ c. search needs))

@@ -4,7 +4,7 @@ use native.Mathlib.Omega.{arith}
 use lib.ListN.{length, drop, length-set}
 use lib.Seq.{paste, paste-zero}
 use Rattle.columns.specs.Columns.{transposed}
-use Rattle.columns.proofs.Writing.{column-in, cell-in, cell-more}
+use Rattle.columns.proofs.ColumnsWritten.{column-in, cell-in, cell-more}
 use Rattle.columns.proofs.put_column.Statement.{statement}
 use Rattle.columns.proofs.put_column.Tie as tie
 

@@ -1,7 +1,7 @@
 use mathlib.Core.Path.{sym, _∙_}
 use borrow.Author.Needs.{needs}
 use borrow.Author.Tests.{not-true, not-false}
-use Rattle.columns.proofs.Writing.{refused-width, refused-short, not-refused}
+use Rattle.columns.proofs.ColumnsWritten.{refused-width, refused-short, not-refused}
 use Rattle.columns.proofs.refusal.Statement.{statement}
 use Rattle.columns.proofs.refusal.Tie as tie
 

@@ -3,7 +3,7 @@ use mathlib.Core.Path.{_≡_, refl, _∙_}
 use Prim.Native.Nat.{_*_, _-_, _≤_}
 use native.Mathlib.Omega.{arith}
 use lib.ListN.{length, take, drop}
-use Rattle.columns.proofs.Writing.{filled-none, filled-more, filled-all}
+use Rattle.columns.proofs.ColumnsWritten.{filled-none, filled-more, filled-all}
 use Rattle.columns.specs.Columns.{transposed}
 use Rattle.columns.proofs.transpose.Statement.{statement}
 use Rattle.columns.proofs.transpose.Tie as tie

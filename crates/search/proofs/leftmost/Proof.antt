@@ -2,7 +2,7 @@
 use native.Mathlib.Omega.{arith}
 use borrow.Author.Needs.{needs}
 use Rattle.search.proofs.Usable.{ready}
-use Rattle.search.proofs.Cases.{says-outside, says-at}
+use Rattle.search.proofs.AnswerCases.{says-outside, says-at}
 use Rattle.search.proofs.leftmost.Statement.{statement}
 use Rattle.search.proofs.leftmost.Tie as tie
 

@@ -1,6 +1,6 @@
 -- `occurs_earlier` meets its contract, by the two answers of `leftmost`.
 use borrow.Author.Needs.{needs}
-use Rattle.search.proofs.Cases.{earlier-at, earlier-outside}
+use Rattle.search.proofs.AnswerCases.{earlier-at, earlier-outside}
 use Rattle.search.proofs.occurs_earlier.Statement.{statement}
 use Rattle.search.proofs.occurs_earlier.Tie as tie
 

@@ -21,6 +21,12 @@ clear-spec =
     (λ c. omega (arith, c .before .loop .inv .1 .0))
     (λ c. omega arith)
     (λ c. omega arith)
-    (λ c. (omega arith, (simp length-set (c .before .loop .inv .1 .0), rw (c .before .loop .inv .1 .1) (fill-more (c .before .loop .i) 0 (c .before .before .args .buffer .now) (omega arith)))))
+    (λ c. (
+      omega arith,
+      (
+        simp length-set (c .before .loop .inv .1 .0),
+        rw (c .before .loop .inv .1 .1) (fill-more (c .before .loop .i) 0 (c .before .before .args .buffer .now) (omega arith)),
+      ),
+    ))
     (λ c. c .before .loop .inv .1 .0)
     (λ c. let e : c .before .loop .i ≡ c .before .before .args .n = omega arith in rw e at (c .before .loop .inv .1 .1)))

@@ -23,6 +23,8 @@ clear-at-spec =
     (λ c. omega arith)
     (λ c. omega arith)
     (λ c. omega arith)
-    (λ c. let a = c .before .before .args in let v = c .before .loop .inv in (omega arith, (simp length-set (v .1 .0), bytes-more (a .out .now) (c .before .loop .out) _ [] (a .to) 0 (c .before .loop .j) (v .1 .1) refl)))
+    (λ c. let a = c .before .before .args in let v = c .before .loop .inv in
+    (omega arith, (simp length-set (v .1 .0), bytes-more (a .out .now) (c .before .loop .out) _ [] (a .to) 0 (c .before .loop .j) (v .1 .1) refl)))
     (λ c. c .before .loop .inv .1 .0)
-    (λ c. let a = c .before .before .args in let e : c .before .loop .j ≡ a .n = omega arith in c .before .loop .inv .1 .1 ∙ ap (λ (k : ℕ). bytesWritten (a .out .now) (a .to) [] 0 k) e))
+    (λ c. let a = c .before .before .args in
+    let e : c .before .loop .j ≡ a .n = omega arith in c .before .loop .inv .1 .1 ∙ ap (λ (k : ℕ). bytesWritten (a .out .now) (a .to) [] 0 k) e))

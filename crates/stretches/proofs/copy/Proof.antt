@@ -24,6 +24,10 @@ copy-spec =
     (λ c. omega arith)
     (λ c. omega arith)
     (λ c. omega arith)
-    (λ c. let a = c .before .before .before .args in let v = c .before .before .loop .inv in (omega arith, (simp length-set (v .1 .0), bytes-more (a .out .now) (c .before .before .loop .out) _ (a .text .now) (a .to) (a .from) (c .before .before .loop .j) (v .1 .1) refl)))
+    (λ c. let w = c .before .before in let a = w .before .args in let v = w .loop .inv in (
+      omega arith,
+      (simp length-set (v .1 .0), bytes-more (a .out .now) (w .loop .out) _ (a .text .now) (a .to) (a .from) (w .loop .j) (v .1 .1) refl),
+    ))
     (λ c. c .before .loop .inv .1 .0)
-    (λ c. let a = c .before .before .args in let e : c .before .loop .j ≡ a .n = omega arith in c .before .loop .inv .1 .1 ∙ ap (λ (k : ℕ). bytesWritten (a .out .now) (a .to) (a .text .now) (a .from) k) e))
+    (λ c. let a = c .before .before .args in let e : c .before .loop .j ≡ a .n = omega arith in
+    c .before .loop .inv .1 .1 ∙ ap (λ (k : ℕ). bytesWritten (a .out .now) (a .to) (a .text .now) (a .from) k) e))

@@ -26,7 +26,23 @@ count-in-spec =
     (λ c. search needs)
     (λ c. search needs)
     (λ c. ⊎-elim
-    (λ w. (omega arith, omega (arith, count-next-same (c .before .before .before .before .args .byte) (c .before .before .before .before .args .t .now) (c .before .before .before .before .args .from) (c .before .before .before .loop .i) (omega arith) (w .0 .taken)), omega arith))
-    (λ w. (omega arith, omega (arith, count-next-other (c .before .before .before .before .args .byte) (c .before .before .before .before .args .t .now) (c .before .before .before .before .args .from) (c .before .before .before .loop .i) (omega arith) (w .0 .left)), omega arith))
+    (λ w. (
+      omega arith,
+      omega (
+        arith,
+        count-next-same (c .before .before .before .before .args .byte) (c .before .before .before .before .args .t .now)
+            (c .before .before .before .before .args .from) (c .before .before .before .loop .i) (omega arith) (w .0 .taken),
+      ),
+      omega arith,
+    ))
+    (λ w. (
+      omega arith,
+      omega (
+        arith,
+        count-next-other (c .before .before .before .before .args .byte) (c .before .before .before .before .args .t .now)
+            (c .before .before .before .before .args .from) (c .before .before .before .loop .i) (omega arith) (w .0 .left),
+      ),
+      omega arith,
+    ))
     (c .if1 .came))
     (λ c. ((let e : c .before .loop .i ≡ c .before .before .args .n = omega arith in rw e at (c .before .loop .inv .1)), omega arith)))

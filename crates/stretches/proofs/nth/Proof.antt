@@ -28,7 +28,24 @@ nth-spec =
     (λ c. search needs)
     (λ c. search needs)
     (λ c. ⊎-elim
-    (λ w. (omega arith, omega (arith, w .1 .left), omega (arith, w .1 .left, count-next-same (c .before .before .before .before .args .byte) (c .before .before .before .before .args .t .now) (c .before .before .before .before .args .from) (c .before .before .before .loop .i) (omega arith) (w .0 .taken))))
-    (λ w. (omega arith, omega arith, omega (arith, count-next-other (c .before .before .before .before .args .byte) (c .before .before .before .before .args .t .now) (c .before .before .before .before .args .from) (c .before .before .before .loop .i) (omega arith) (w .0 .left))))
+    (λ w. (
+      omega arith,
+      omega (arith, w .1 .left),
+      omega (
+        arith,
+        w .1 .left,
+        count-next-same (c .before .before .before .before .args .byte) (c .before .before .before .before .args .t .now)
+            (c .before .before .before .before .args .from) (c .before .before .before .loop .i) (omega arith) (w .0 .taken),
+      ),
+    ))
+    (λ w. (
+      omega arith,
+      omega arith,
+      omega (
+        arith,
+        count-next-other (c .before .before .before .before .args .byte) (c .before .before .before .before .args .t .now)
+            (c .before .before .before .before .args .from) (c .before .before .before .loop .i) (omega arith) (w .0 .left),
+      ),
+    ))
     (c .if1 .came))
     (λ c. laws.stands-not _ _ _ _ _ _ (omega arith) (omega arith) (omega arith)))

@@ -5,7 +5,7 @@ use native.Mathlib.Omega.{arith}
 use lib.ListN.{length, drop}
 use borrow.Author.Needs.{needs}
 use Rattle.text.specs.Lists.{sameList}
-use Rattle.stretches.proofs.Sameness.{lengths-differ, bytes-differ, bytes-agree, bytes-over}
+use Rattle.stretches.proofs.SameLaws.{lengths-differ, bytes-differ, bytes-agree, bytes-over}
 use Rattle.stretches.proofs.same.Statement.{statement}
 use Rattle.stretches.proofs.same.Tie as tie
 

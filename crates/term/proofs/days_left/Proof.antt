@@ -3,7 +3,7 @@ use borrow.Author.Needs.{needs}
 use mir.Syntax.{w32}
 use mir.ValLaws.{toZ-ofZ}
 use Rattle.term.specs.Calendar.{dayNumber}
-use Rattle.term.proofs.DayLaws.{good-is, bad-is, good-date}
+use Rattle.term.proofs.DaysLaws.{good-is, bad-is, good-date}
 use Rattle.term.proofs.TermLaws.{left-last, left-today, left-days}
 use Rattle.term.proofs.days_left.Statement.{statement}
 use Rattle.term.proofs.days_left.Tie as tie

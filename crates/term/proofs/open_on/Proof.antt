@@ -1,7 +1,7 @@
 use mathlib.Core.Path.{ap, _∙_}
 use borrow.Author.Needs.{needs}
 use Rattle.term.specs.Calendar.{dayNumber}
-use Rattle.term.proofs.DayLaws.{good-is, bad-is, good-date}
+use Rattle.term.proofs.DaysLaws.{good-is, bad-is, good-date}
 use Rattle.term.proofs.TermLaws.{first-bad, last-bad, today-bad, in-term}
 use Rattle.term.proofs.open_on.Statement.{statement}
 use Rattle.term.proofs.open_on.Tie as tie

@@ -10,7 +10,9 @@ check-spec =
     (tie.spec
     (λ c κs. search needs)
     (λ c. search needs)
-    (λ c κs. header-good (c .before .before .before .before .before .args .t .now) _ (c .before .before .before .read-header .ensures) _ (c .before .read .given .1))
+    (λ c κs. header-good (c .before .before .before .before .before .args .t .now)
+    _ (c .before .before .before .read-header .ensures) _ (c .before .read .given .1))
     (λ c. search needs)
     (λ c. search needs)
-    (λ c. header-number (c .before .before .before .before .before .args .t .now) _ _ (c .before .before .before .read-header .ensures) (c .before .read2 .given .1)))
+    (λ c. header-number (c .before .before .before .before .before .args .t .now)
+    _ _ (c .before .before .before .read-header .ensures) (c .before .read2 .given .1)))

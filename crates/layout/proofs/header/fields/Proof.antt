@@ -1,37 +1,35 @@
 use Prim.Native.Nat.{ℕ, _*_, _^_, _-_, _≤_}
 use mathlib.Core.List.{List}
-use mathlib.Core.Path.{_≡_, _∙_, ap}
+use mathlib.Core.Path.{_≡_, _∙_}
 use native.Mathlib.Omega.{arith}
 use Rattle.format.specs.Words.{wordAt}
-use Rattle.format.specs.Settings.{blockLength, recordLength}
+use Rattle.format.specs.Settings.{blockLength, recordLength, maxLeaf, maxCounted}
+use Rattle.format.specs.HeaderPlaces.{layoutAt}
+use Rattle.format.specs.SizeLaws.{sizes-alone}
 use Rattle.format.specs.Layout as at
-use Rattle.format.specs.HeaderLaws.{Readable}
+use Rattle.format.specs.LayoutLaws.{Readable}
 use Rattle.layout.proofs.header.fields.Statement.{statement}
 use Rattle.layout.proofs.header.fields.Tie as tie
 use Rattle.layout.specs.declared.settings.Settings.{Settings}
 use Rattle.layout.specs.declared.header.Header.{Header}
-use Rattle.layout.specs.Settings.{Sized}
+use Rattle.layout.specs.SettingsLevel.{Sized}
 use Rattle.layout.specs.Header.{settingsOf}
 
 -- a header is equal to another whose words are
 words : {v a g h k z v′ a′ g′ h′ k′ z′ : ℕ} {s s′ : Settings} → v ≡ v′ → a ≡ a′ → s ≡ s′ → g ≡ g′ → h ≡ h′ → k ≡ k′ → z ≡ z′
     → _≡_ {A = Header}
-    (record { layout = v; length = a; settings = s; «leaf_offset» = g; «leaf_count» = h; block = k; «record_size» = z })
-    (record { layout = v′; length = a′; settings = s′; «leaf_offset» = g′; «leaf_count» = h′; block = k′; «record_size» = z′ })
+    (record { layout = v; «text_length» = a; settings = s; «leaf_offset» = g; «leaf_count» = h; «top_length» = k; «record_size» = z })
+    (record { layout = v′; «text_length» = a′; settings = s′; «leaf_offset» = g′; «leaf_count» = h′; «top_length» = k′; «record_size» = z′ })
 words pv pa ps pg ph pk pz =
-    λ i. record { layout = pv i; length = pa i; settings = ps i; «leaf_offset» = pg i; «leaf_count» = ph i; block = pk i; «record_size» = pz i }
+    λ i. record { layout = pv i; «text_length» = pa i; settings = ps i; «leaf_offset» = pg i; «leaf_count» = ph i; «top_length» = pk i; «record_size» = pz i }
 
 module _ (t : List ℕ) (s : Settings) (f : Readable t) (is : s ≡ settingsOf t) where
   -- the settings are within their bounds
   sized : Sized s 0
   unfolding at.settings
   sized = rw is (record {
-    leaf-high = f .leaf-high;
-    arity-low = f .arity-low;
-    arity-high = f .arity-high;
-    levels-high = f .levels-high;
-    level-in = f .levels-low;
-    block-high = f .top-high;
+    bounds = sizes-alone (f .bounds);
+    level-in = f .bounds .levels-low;
   })
 
   -- and make a level 0 block this long
@@ -40,13 +38,13 @@ module _ (t : List ℕ) (s : Settings) (f : Readable t) (is : s ≡ settingsOf t
   full b e = e ∙ rw is
 
   -- and a record
-  size : (v z : ℕ) → v ≡ wordAt t 0 → z ≡ recordLength v (s .leaf) (s .counted) → z ≡ at.recordSize t
+  size : (v z : ℕ) → v ≡ wordAt t layoutAt → z ≡ recordLength v (s .leaf) (s .counted) → z ≡ at.recordSize t
   unfolding at.recordSize at.layout at.settings at.countedCount
   size v z ev e = rw (e, ev, is)
 
-  few : (s .leaf ≤ 256) × (s .counted ≤ 4)
+  few : (s .leaf ≤ maxLeaf) × (s .counted ≤ maxCounted)
   unfolding at.settings at.countedCount
-  few = rw is (f .leaf-high, f .counted-high)
+  few = rw is (f .bounds .leaf-high, f .bounds .counted-high)
 
 pub fields-spec : {M : Type 1} → statement M
 fields-spec =
@@ -59,6 +57,7 @@ fields-spec =
     (λ c κs. sized _ _ (c .before .before .before .before .before .pre .0) (c .before .before .before .before .before .pre .1))
     (λ c κs. few _ _ (c .before .before .before .before .before .before .pre .0) (c .before .before .before .before .before .before .pre .1))
     (λ c. let pre = c .before .before .before .before .before .before .before .pre in
-    words (c .before .before .before .before .before .read .ensures) (c .before .before .before .before .read2 .ensures) (pre .1) (c .before .before .before .read3 .ensures) (c .before .before .read4 .ensures)
+    words (c .before .before .before .before .before .read .ensures)
+    (c .before .before .before .before .read2 .ensures) (pre .1) (c .before .before .before .read3 .ensures) (c .before .before .read4 .ensures)
     (full _ _ (pre .0) (pre .1) _ (c .before .block-length .ensures))
     (size _ _ (pre .0) (pre .1) _ _ (c .before .before .before .before .before .read .ensures) (c .record-size .ensures .0))))

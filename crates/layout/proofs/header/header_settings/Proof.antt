@@ -1,5 +1,5 @@
 use borrow.Author.Needs.{needs}
-use borrow.Author.Tests.{lt-leb, le-leb, not-true, not-false}
+use borrow.Author.Tests.{lt-leb, not-true, not-false}
 use Rattle.format.specs.Settings.{lengthOk, maxText}
 use Rattle.layout.proofs.QuestionSeven as laws
 use Rattle.layout.proofs.header.header_settings.Statement.{statement}
@@ -25,7 +25,21 @@ header-settings-spec =
     (λ c κs. search needs)
     (λ c. search needs)
     (λ c. search needs)
-    (λ c. laws.wrong _ (laws.header-refused (c .before .before .before .before .before .before .before .before .before .before .before .before .args .t .now) _ _ _ _ (c .before .before .before .before .before .before .read3 .ensures) (c .before .before .before .before .before .read4 .ensures) (c .before .before .before .before .read5 .ensures) (c .before .before .before .before .before .before .before .before .read2 .ensures) (c .before .before .before .before .before .before .before .if2 .left) _ _ (c .before .before .new .ensures) (c .enum-told .given .1)))
-    (λ c κs. laws.has-settings (c .before .before .before .before .before .before .before .before .before .before .before .before .before .args .t .now) _ _ _ _ (c .before .before .before .before .before .before .before .read3 .ensures) (c .before .before .before .before .before .before .read4 .ensures) (c .before .before .before .before .before .read5 .ensures) (c .before .before .before .before .before .before .before .before .before .read2 .ensures) (c .before .before .before .before .before .before .before .before .if2 .left) _ (c .before .before .before .before .before .before .before .before .before .before .before .read .ensures) (c .before .before .before .before .before .before .before .before .before .before .if1 .left) _ _ (c .before .before .before .new .ensures) (c .before .checked .given .1) (c .before .before .before .before .before .before .before .before .before .before .before .before .before .pre))
-    (λ c. laws.rest-wrong (c .before .before .before .before .before .before .before .before .before .before .before .before .before .before .before .args .t .now) _ _ _ _ (c .before .before .before .before .before .before .before .before .before .read3 .ensures) (c .before .before .before .before .before .before .before .before .read4 .ensures) (c .before .before .before .before .before .before .before .read5 .ensures) (c .before .before .before .before .before .before .before .before .before .before .before .read2 .ensures) (c .before .before .before .before .before .before .before .before .before .before .if2 .left) _ (c .before .before .before .before .before .before .before .before .before .before .before .before .before .read .ensures) (c .before .before .before .before .before .before .before .before .before .before .before .before .if1 .left) _ _ (c .before .before .before .before .before .new .ensures) (c .before .before .before .checked .given .1) _ (c .before .rest-right .ensures) (not-true _ (c .if3 .taken)))
-    (λ c. laws.rest-fine (c .before .before .before .before .before .before .before .before .before .before .before .before .before .before .before .args .t .now) _ _ _ _ (c .before .before .before .before .before .before .before .before .before .read3 .ensures) (c .before .before .before .before .before .before .before .before .read4 .ensures) (c .before .before .before .before .before .before .before .read5 .ensures) (c .before .before .before .before .before .before .before .before .before .before .before .read2 .ensures) (c .before .before .before .before .before .before .before .before .before .before .if2 .left) _ (c .before .before .before .before .before .before .before .before .before .before .before .before .before .read .ensures) (c .before .before .before .before .before .before .before .before .before .before .before .before .if1 .left) _ _ (c .before .before .before .before .before .new .ensures) (c .before .before .before .checked .given .1) (c .before .before .before .before .before .before .before .before .before .before .before .before .before .before .before .pre) _ (c .before .rest-right .ensures) (not-false _ (c .if3 .left))))
+    (λ c. let w = c .before .before .before .before in let v = w .before .before in laws.wrong _ (laws.header-refused
+    (v .before .before .before .before .before .before .args .t .now) _ _ _ _ (v .read3 .ensures) (w .before .read4 .ensures) (w .read5 .ensures)
+    (v .before .before .read2 .ensures) (v .before .if2 .left) _ _ (c .before .before .new .ensures) (c .enum-told .given .1)))
+    (λ c κs. let w = c .before .before .before .before .before .before in
+    let v = w .before .before .before in laws.has-settings (v .before .before .before .before .args .t .now)
+    _ _ _ _ (w .before .read3 .ensures) (w .read4 .ensures) (c .before .before .before .before .before .read5 .ensures)
+    (v .read2 .ensures) (w .before .before .if2 .left) _ (v .before .before .read .ensures)
+    (v .before .if1 .left) _ _ (c .before .before .before .new .ensures) (c .before .checked .given .1) (v .before .before .before .before .pre))
+    (λ c. let w = c .before .before .before .before .before .before .before in
+    let v = w .before .before .before in laws.rest-wrong (v .before .before .before .before .before .args .t .now)
+    _ _ _ _ (w .before .before .read3 .ensures) (w .before .read4 .ensures) (w .read5 .ensures) (v .before .read2 .ensures) (v .if2 .left)
+    _ (v .before .before .before .read .ensures) (v .before .before .if1 .left) _ _ (c .before .before .before .before .before .new .ensures)
+    (c .before .before .before .checked .given .1) _ (c .before .rest-right .ensures) (not-true _ (c .if3 .taken)))
+    (λ c. let w = c .before .before .before .before .before .before .before in let v = w .before .before .before .before in
+    laws.rest-fine (v .before .before .before .before .args .t .now) _ _ _ _ (w .before .before .read3 .ensures)
+    (w .before .read4 .ensures) (w .read5 .ensures) (v .read2 .ensures) (w .before .before .before .if2 .left) _ (v .before .before .read .ensures)
+    (v .before .if1 .left) _ _ (c .before .before .before .before .before .new .ensures) (c .before .before .before .checked .given .1)
+    (v .before .before .before .before .pre) _ (c .before .rest-right .ensures) (not-false _ (c .if3 .left))))

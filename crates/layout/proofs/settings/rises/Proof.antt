@@ -4,7 +4,7 @@ use lib.ListN.{length, drop}
 use mathlib.Core.Path.{_≡_, refl, _∙_}
 use native.Mathlib.Omega.{arith}
 use Rattle.format.specs.Settings.{rising}
-use Rattle.layout.proofs.Rising.{more, fall, done}
+use Rattle.layout.proofs.SettingsLaws.{more, fall, done}
 use Rattle.layout.proofs.settings.rises.Statement.{statement}
 use Rattle.layout.proofs.settings.rises.Tie as tie
 

@@ -3,7 +3,7 @@ use Prim.Native.Nat.{ℕ}
 use mathlib.Core.Path.{ap}
 use lib.Dec.{leb}
 use borrow.Author.Tests.{lt-leb, le-leb}
-use Rattle.format.specs.Settings.{sizesOk, maxText}
+use Rattle.format.specs.Settings.{sizesOk, maxText, maxLeaf, minArity, maxArity, maxLevels}
 use Rattle.layout.proofs.settings.sizes_fit.Statement.{statement}
 use Rattle.layout.proofs.settings.sizes_fit.Tie as tie
 
@@ -13,14 +13,40 @@ sizes-fit-spec =
     tie.close
     (tie.spec
     (λ c. simp (lt-leb 1 _ (c .if1 .taken)))
-    (λ c. simp (le-leb 1 _ (c .before .if1 .left), lt-leb _ 256 (c .if2 .taken)))
-    (λ c. simp (le-leb 1 _ (c .before .before .if1 .left), le-leb _ 256 (c .before .if2 .left), lt-leb 2 _ (c .if3 .taken)))
-    (λ c. simp (le-leb 1 _ (c .before .before .before .if1 .left), le-leb _ 256 (c .before .before .if2 .left), le-leb 2 _ (c .before .if3 .left), lt-leb _ 16 (c .if4 .taken)))
+    (λ c. simp (le-leb 1 _ (c .before .if1 .left), lt-leb _ maxLeaf (c .if2 .taken)))
+    (λ c. simp (le-leb 1 _ (c .before .before .if1 .left), le-leb _ maxLeaf (c .before .if2 .left), lt-leb minArity _ (c .if3 .taken)))
+    (λ c. simp (
+      le-leb 1 _ (c .before .before .before .if1 .left),
+      le-leb _ maxLeaf (c .before .before .if2 .left),
+      le-leb minArity _ (c .before .if3 .left),
+      lt-leb _ maxArity (c .if4 .taken),
+    ))
     (λ c. let a = c .before .before .before .before in
-    simp (le-leb 1 _ (a .if1 .left), le-leb _ 256 (c .before .before .before .if2 .left), le-leb 2 _ (c .before .before .if3 .left), le-leb _ 16 (c .before .if4 .left), lt-leb 1 _ (c .if5 .taken)))
+    simp (
+      le-leb 1 _ (a .if1 .left),
+      le-leb _ maxLeaf (c .before .before .before .if2 .left),
+      le-leb minArity _ (c .before .before .if3 .left),
+      le-leb _ maxArity (c .before .if4 .left),
+      lt-leb 1 _ (c .if5 .taken),
+    ))
     (λ c. let a = c .before .before .before .before in
-    simp (le-leb 1 _ (a .before .if1 .left), le-leb _ 256 (a .if2 .left), le-leb 2 _ (c .before .before .before .if3 .left), le-leb _ 16 (c .before .before .if4 .left), le-leb 1 _ (c .before .if5 .left), lt-leb _ 8 (c .if6 .taken)))
+    simp (
+      le-leb 1 _ (a .before .if1 .left),
+      le-leb _ maxLeaf (a .if2 .left),
+      le-leb minArity _ (c .before .before .before .if3 .left),
+      le-leb _ maxArity (c .before .before .if4 .left),
+      le-leb 1 _ (c .before .if5 .left),
+      lt-leb _ maxLevels (c .if6 .taken),
+    ))
     (λ c κs. search needs)
     (λ c. search needs)
     (λ c. let a = c .before .before .before in
-    simp (le-leb 1 _ (a .before .before .before .if1 .left), le-leb _ 256 (a .before .before .if2 .left), le-leb 2 _ (a .before .if3 .left), le-leb _ 16 (a .if4 .left), le-leb 1 _ (c .before .before .if5 .left), le-leb _ 8 (c .before .if6 .left)) (ap (λ (b : ℕ). leb b maxText) (c .power .ensures))))
+    simp (
+      le-leb 1 _ (a .before .before .before .if1 .left),
+      le-leb _ maxLeaf (a .before .before .if2 .left),
+      le-leb minArity _ (a .before .if3 .left),
+      le-leb _ maxArity (a .if4 .left),
+      le-leb 1 _ (c .before .before .if5 .left),
+      le-leb _ maxLevels (c .before .if6 .left),
+    )
+    (ap (λ (b : ℕ). leb b maxText) (c .power .ensures))))

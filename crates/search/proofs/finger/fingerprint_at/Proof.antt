@@ -22,4 +22,5 @@ fingerprint-at-spec =
     (λ c κs. search needs)
     (λ c.
     let a = c .before .before .before .before .args in
-    c .fingerprint .ensures ∙ ap (λ (k : ℕ). finger (a .by .base) (a .by .modulus) (take k (drop (a .p .0) (a .text .now)))) (add-sub-cancel-left (a .p .0) (a .n))))
+    c .fingerprint .ensures ∙ ap
+    (λ (k : ℕ). finger (a .by .base) (a .by .modulus) (take k (drop (a .p .0) (a .text .now)))) (add-sub-cancel-left (a .p .0) (a .n))))

@@ -6,8 +6,8 @@ use borrow.Author.Needs.{needs}
 use Rattle.text.specs.Text.{stretch, leftmost}
 use Rattle.search.specs.Fingers.{finger}
 use Rattle.search.proofs.Modulo.{below}
-use Rattle.search.proofs.Digits.{finger-roll, finger-below}
-use Rattle.search.proofs.Ahead.{ahead, ahead-start, ahead-hit, ahead-miss, ahead-end}
+use Rattle.search.proofs.FingerLaws.{finger-roll, finger-below}
+use Rattle.search.proofs.ScanLaws.{ahead, ahead-start, ahead-hit, ahead-miss, ahead-end}
 use Rattle.search.proofs.scan.scan.Statement.{statement}
 use Rattle.search.proofs.scan.scan.Tie as tie
 

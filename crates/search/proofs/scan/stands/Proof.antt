@@ -1,7 +1,7 @@
 -- `stands` meets its contract: where the fingerprints differ the bytes differ, and else the bytes are compared.
 use mathlib.Core.Path.{sym}
 use borrow.Author.Needs.{needs}
-use Rattle.search.proofs.Ahead.{differ}
+use Rattle.search.proofs.ScanLaws.{differ}
 use Rattle.search.proofs.scan.stands.Statement.{statement}
 use Rattle.search.proofs.scan.stands.Tie as tie
 
@@ -9,7 +9,7 @@ pub stands-spec : {M : Type 1} → statement M
 stands-spec =
     tie.close
     (tie.spec
-    (λ c. let z = c .before .before in sym (differ _ _ _ _ _ _ (z .pre .1 .0) (z .pre .1 .1) (c .if1 .taken)))
+    (λ c. let z = c .before .before .before .before in sym (differ _ _ _ _ _ _ (z .pre .1 .0) (z .pre .1 .1) (c .if1 .taken)))
     (λ c. search needs)
     (λ c. search needs)
     (λ c κs. search needs)

@@ -1,7 +1,7 @@
 use native.Mathlib.Omega.{arith}
 use borrow.Author.Needs.{needs}
 use Rattle.term.specs.MonthLaws.{month-short}
-use Rattle.term.proofs.Tables.{number-is}
+use Rattle.term.proofs.ClosedForms.{number-is}
 use Rattle.term.proofs.calendar.number.Statement.{statement}
 use Rattle.term.proofs.calendar.number.Tie as tie
 

@@ -6,7 +6,7 @@ use borrow.Author.Count.{below-more}
 use lib.ListN.{getD}
 use Rattle.text.specs.ListLaws.{allBelow-not, allBelow-make}
 use Rattle.text.specs.Text.{isDigit}
-use Rattle.term.proofs.DayLaws.{digit-below, digit-above, digit-is}
+use Rattle.term.proofs.DaysLaws.{digit-below, digit-above, digit-is}
 use Rattle.term.proofs.days.digits.Statement.{statement}
 use Rattle.term.proofs.days.digits.Tie as tie
 

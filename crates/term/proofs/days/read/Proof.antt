@@ -3,7 +3,7 @@ use mathlib.Core.Path.{sym, _∙_}
 use borrow.Author.Needs.{needs}
 use borrow.Author.Tests.{not-true, not-false}
 use Rattle.text.specs.ListLaws.{allBelow-at}
-use Rattle.term.proofs.DayLaws.{read-long, read-other, read-good, read-none}
+use Rattle.term.proofs.DaysLaws.{read-long, read-other, read-good, read-none}
 use Rattle.term.proofs.days.read.Statement.{statement}
 use Rattle.term.proofs.days.read.Tie as tie
 

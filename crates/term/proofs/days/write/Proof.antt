@@ -1,7 +1,7 @@
 use native.Mathlib.Omega.{arith}
 use borrow.Author.Needs.{needs}
 use lib.ListN.{length-set}
-use Rattle.term.proofs.DayLaws.{eight-written}
+use Rattle.term.proofs.DaysLaws.{eight-written}
 use Rattle.term.proofs.days.write.Statement.{statement}
 use Rattle.term.proofs.days.write.Tie as tie
 

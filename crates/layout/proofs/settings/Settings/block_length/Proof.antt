@@ -5,9 +5,9 @@ use native.Mathlib.Nat.{mul-le-mul-left, pow-le-pow-right}
 use native.Mathlib.Omega.{arith}
 use Rattle.layout.proofs.settings.Settings.block_length.Statement.{statement}
 use Rattle.layout.proofs.settings.Settings.block_length.Tie as tie
-use Rattle.format.specs.Settings.{maxText}
+use Rattle.format.specs.Settings.{maxText, minArity}
 
-small : (m r H l b : ℕ) → 2 ≤ r → m * r ^ (H - 1) ≤ maxText → b ≡ m * r ^ (H - 1 - l) → b < 4294967296
+small : (m r H l b : ℕ) → minArity ≤ r → m * r ^ (H - 1) ≤ maxText → b ≡ m * r ^ (H - 1 - l) → b < 4294967296
 small m r H l b low high e =
     let one : 1 ≤ r = omega arith in
     let fall : H - 1 - l ≤ H - 1 = omega arith in
@@ -20,5 +20,5 @@ block-length-spec =
     (λ c. search needs)
     (λ c. search needs)
     (λ c κs. search needs)
-    (λ c. let h = c .before .before .pre in record { fits = small _ _ _ _ _ (h .arity-low) (h .block-high) (c .power .ensures) })
+    (λ c. let h = c .before .before .pre in record { fits = small _ _ _ _ _ (h .bounds .arity-low) (h .bounds .top-high) (c .power .ensures) })
     (λ c. search needs))

@@ -1,17 +1,18 @@
-use Prim.Native.Nat.{ℕ, _+_, _*_, _≤_}
+use Prim.Native.Nat.{ℕ, _+_, _≤_}
 use borrow.Author.Needs.{needs}
-use mathlib.Core.Path.{_≡_, sym, _∙_}
+use mathlib.Core.Path.{_≡_, sym}
 use native.Mathlib.Omega.{arith}
-use Rattle.format.specs.Settings.{recordLength}
-use Rattle.format.specs.SizeLaws.{record-plain, record-edged, record-high}
+use Rattle.format.specs.RecordFields.{fieldBytes}
+use Rattle.format.specs.Settings.{recordLength, maxLeaf, maxCounted, maxRecord}
+use Rattle.format.specs.SizeLaws.{record-plain, record-edged}
 use Rattle.layout.proofs.settings.Settings.record_size.Statement.{statement}
 use Rattle.layout.proofs.settings.Settings.record_size.Tie as tie
 
--- the length, and that it is at most 576
-pub with-edges : (v m k : ℕ) → m ≤ 256 → k ≤ 4 → v ≡ 2 → (16 + 12 * k + (m + m) ≡ recordLength v m k) × (16 + 12 * k + (m + m) ≤ 576)
+-- the length, and that it is within its bound
+pub with-edges : (v m k : ℕ) → m ≤ maxLeaf → k ≤ maxCounted → v ≡ 2 → (fieldBytes k + (m + m) ≡ recordLength v m k) × (fieldBytes k + (m + m) ≤ maxRecord)
 with-edges v m k hm hk e = (sym (record-edged v m k e), omega arith)
 
-pub without : (v m k : ℕ) → k ≤ 4 → (v ≡ 2 → ⊥) → (16 + 12 * k ≡ recordLength v m k) × (16 + 12 * k ≤ 576)
+pub without : (v m k : ℕ) → k ≤ maxCounted → (v ≡ 2 → ⊥) → (fieldBytes k ≡ recordLength v m k) × (fieldBytes k ≤ maxRecord)
 without v m k hk h = (sym (record-plain v m k h), omega arith)
 
 pub record-size-spec : {M : Type 1} → statement M

@@ -1,0 +1,14 @@
+use borrow.Author.Needs.{needs}
+use Rattle.abi.proofs.FigureExportsLaws as laws
+use Rattle.abi.proofs.figure_exports.bt_row_count.Statement.{statement}
+use Rattle.abi.proofs.figure_exports.bt_row_count.Tie as tie
+
+pub bt-row-count-spec : {M : Type 1} → statement M
+bt-row-count-spec =
+    tie.close
+    (tie.spec
+    (λ c κs. search needs)
+    (λ c. search needs)
+    (λ c. search needs)
+    (λ c. laws.count-told _ _ (c .before .before .before .row-count .ensures .says) _ (c .before .count .given .1))
+    (λ c. laws.count-refused _ _ (c .before .before .before .row-count .ensures .says) _ (c .before .count2 .given .1)))

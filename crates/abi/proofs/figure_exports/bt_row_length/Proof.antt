@@ -1,0 +1,14 @@
+use borrow.Author.Needs.{needs}
+use Rattle.abi.proofs.FigureExportsLaws as laws
+use Rattle.abi.proofs.figure_exports.bt_row_length.Statement.{statement}
+use Rattle.abi.proofs.figure_exports.bt_row_length.Tie as tie
+
+pub bt-row-length-spec : {M : Type 1} → statement M
+bt-row-length-spec =
+    tie.close
+    (tie.spec
+    (λ c κs. search needs)
+    (λ c. search needs)
+    (λ c. search needs)
+    (λ c. laws.length-told _ _ _ (c .before .before .before .row-length .ensures .says) _ (c .before .length .given .1))
+    (λ c. laws.length-refused _ _ _ (c .before .before .before .row-length .ensures .says) _ (c .before .length2 .given .1)))

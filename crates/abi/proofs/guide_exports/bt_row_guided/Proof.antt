@@ -1,0 +1,16 @@
+use borrow.Author.Needs.{needs}
+use Rattle.abi.proofs.GuideExportsLaws as laws
+use Rattle.abi.proofs.guide_exports.bt_row_guided.Statement.{statement}
+use Rattle.abi.proofs.guide_exports.bt_row_guided.Tie as tie
+
+pub bt-row-guided-spec : {M : Type 1} → statement M
+bt-row-guided-spec =
+    tie.close
+    (tie.spec
+    (λ c κs. search needs)
+    (λ c. search needs)
+    (λ c. search needs)
+    (λ c. search needs)
+    (λ c. laws.row-told _ _ _ _ _ _ (c .before .before .before .before .before .row-guided .ensures .says) _ (c .before .copied .given .1))
+    (λ c. search needs)
+    (λ c. laws.row-refused _ _ _ _ _ _ (c .before .before .before .before .before .row-guided .ensures .says) _ (c .before .copied2 .given .1)))

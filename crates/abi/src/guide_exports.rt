@@ -1,0 +1,115 @@
+// A guide to the level 0 blocks: its size, making one, checking one, and find and row with one. Any bytes may be lent as a guide.
+use query::Guided;
+use query::RowCopied;
+use query::Size;
+ghost use mathlib.Core.Path.{_≡_};
+ghost use Rattle.ask_guide.specs.Guides.{guideNumber, sizeSays, makeSays, makeLeaves};
+ghost use Rattle.ask_guided.specs.Guided.{GuidedSays};
+ghost use Rattle.format.specs.RowSays.{RowBy};
+ghost use Rattle.abi.specs.ExportAnswers.{saying};
+
+// How many words the guide of a tree has.
+#[no_mangle]
+pub extern "C" fn bt_guide_words(tree: &[u8], words: &mut u64) -> u32
+    ensures { λ r. ⌜ saying r (now (words .exit)) 0 ≡ sizeSays (now (tree .entry)) ⌝ }
+{
+    let size = query::guide_words(tree);
+    match size {
+        Size::Words(n) => {
+            *words = n;
+            0
+        }
+        Size::Refused(number) => {
+            *words = 0;
+            number
+        }
+    }
+}
+
+// Writes the guide of a tree to the start of a table, and answers its words.
+#[no_mangle]
+pub extern "C" fn bt_make_guide(tree: &[u8], table: &mut [u8], words: &mut u64) -> u32
+    ensures { λ r. ⌜ saying r (now (words .exit)) 0 ≡ makeSays (now (tree .entry)) (now (table .entry)) ⌝ }
+    ensures { λ _. ⌜ now (table .exit) ≡ makeLeaves (now (tree .entry)) (now (table .entry)) ⌝ }
+{
+    let size = query::make_guide(tree, table);
+    match size {
+        Size::Words(n) => {
+            *words = n;
+            0
+        }
+        Size::Refused(number) => {
+            *words = 0;
+            number
+        }
+    }
+}
+
+// Questions 5 to 9 of the tree, then 24 of the guide.
+#[no_mangle]
+pub extern "C" fn bt_check_guide(tree: &[u8], guide: &[u8]) -> u32
+    ensures { λ r. ⌜ r ≡ guideNumber (now (tree .entry)) (now (guide .entry)) ⌝ }
+{
+    query::check_guide(tree, guide)
+}
+
+// The place of the j-th such byte, the blocks on its path, and the steps on level 0.
+#[no_mangle]
+pub extern "C" fn bt_find_guided(
+    tree: &[u8],
+    guide: &[u8],
+    byte: u32,
+    j: u32,
+    place: &mut u32,
+    entered: &mut u32,
+    steps: &mut u32,
+) -> u32
+    ensures { λ r. ⌜ GuidedSays (now (tree .entry)) (now (guide .entry)) byte j (saying r (now (place .exit)) (now (entered .exit))) (now (steps .exit)) ⌝ }
+{
+    if 255 < byte {
+        *place = 0;
+        *entered = 0;
+        *steps = 0;
+        return query::uncounted(tree, 0);
+    }
+    let found = query::find_guided(tree, guide, byte as u8, j);
+    match found {
+        Guided::At(at, path, walked) => {
+            *place = at.0;
+            *entered = path;
+            *steps = walked;
+            0
+        }
+        Guided::Refused(number) => {
+            *place = 0;
+            *entered = 0;
+            *steps = 0;
+            number
+        }
+    }
+}
+
+// Copies row q, and answers its length.
+#[no_mangle]
+pub extern "C" fn bt_row_guided(
+    tree: &[u8],
+    guide: &[u8],
+    q: u32,
+    buffer: &mut [u8],
+    len: &mut u32,
+) -> u32
+    ensures { λ r. ⌜ RowBy (now (tree .entry))
+        (guideNumber (now (tree .entry)) (now (guide .entry))) q (now (buffer .entry)) r (now (len .exit)) (now (buffer .exit)) ⌝ }
+{
+    let copied = query::row_guided(tree, guide, q, buffer);
+    match copied {
+        RowCopied::Bytes(size) => {
+            *len = size;
+            0
+        }
+        RowCopied::Refused(number) => {
+            *len = 0;
+            number
+        }
+    }
+}

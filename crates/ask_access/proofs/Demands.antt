@@ -1,0 +1,139 @@
+-- The demands on byte and run, as theorems over what the calls promise, on every tree that passes questions 5 to 8, and on span, on every tree that
+-- the check accepts.
+-- docs/FORMAT.md: "What is promised", "Byte", "Run", "Span".
+use mathlib.Core.List.{List, _++_}
+use mathlib.Core.Option.{some}
+use mathlib.Core.Bool.{true}
+use mathlib.Core.Path.{_≡_, ap, _∙_}
+use Prim.Native.Nat.{ℕ, suc, _+_, _-_, _*_, _≤_, _<_}
+use native.Mathlib.Omega.{arith}
+use contract.Lifetimes.{Lfts}
+use denote.Ref.{RefT}
+use lib.ListN.{length, getD, take, drop}
+use Rattle.text.specs.Text.{stretch}
+use Rattle.text.specs.declared.TextPlace.{TextPlace}
+use Rattle.format.specs.Layout as at
+use Rattle.format.specs.Path.{Path, pathOf}
+use Rattle.format.specs.Fits.{linksOk, textOf, fits}
+use Rattle.format.specs.Verdict.{readable, verdict}
+use Rattle.format.specs.VerdictLaws.{accepted-readable}
+use Rattle.theory_edges.specs.Demands as margins
+use Rattle.format.specs.Said.{Said, refused}
+use Rattle.format.specs.ReadSays.{runSays, spanBlocks, spanSays}
+use Rattle.theory_paths.specs.Demands as paths
+use Rattle.ask_access.specs.declared.Answer.{Answer}
+use Rattle.ask_access.specs.declared.Answer.the-variants.{Byte, Refused}
+use Rattle.ask_access.specs.declared.Copied.{Copied}
+use Rattle.ask_access.specs.declared.Copied.the-variants as copied
+use Rattle.ask_access.specs.ReadAnswers.{said, copiedSaid, Numbered}
+use Rattle.theory_paths.specs.Visits.{path-long}
+use Rattle.ask_access.proofs.byte.Reads as byte-reads
+use Rattle.ask_access.proofs.run.Reads as run-reads
+use Rattle.ask_access.proofs.span.Reads as span-reads
+
+-- r is an answer that the contract of `byte` allows to a call with these arguments
+abbrev pub Asked : (κs : Lfts 1) → RefT (List ℕ) → TextPlace → Answer → Type 0
+Asked κs t p r = byte-reads.Post κs (t, (p, tt)) r (t, (p, tt))
+
+-- the same of `run`
+abbrev pub Run : (κs : Lfts 1) → RefT (List ℕ) → TextPlace → RefT (List ℕ) → Type 0
+Run κs t p r = run-reads.Post κs (t, (p, tt)) r (t, (p, tt))
+
+-- the same of `span`, which leaves the buffer as it stands in `after`
+abbrev pub Span : (κs : Lfts 2) → RefT (List ℕ) → TextPlace → ℕ → RefT (List ℕ) → RefT (List ℕ) → Copied → Type 0
+Span κs t p len buffer after r = span-reads.Post κs (t, (p, (len, (buffer, tt)))) r (t, (p, (len, (after, tt))))
+
+-- which answer says this
+byte-is : (r : Answer) (v n : ℕ) → 1 ≤ n → said r ≡ record { number = 0; value = v; entered = n } → r ≡ Byte v n
+byte-is (Byte w m) v n low e =
+    let z : w ≡ v = ap (λ (s : Said). s .value) e in
+    let y : m ≡ n = ap (λ (s : Said). s .entered) e in
+    cc
+byte-is (Refused q) v n low e = absurd (let z : 0 ≡ n = ap (λ (s : Said). s .entered) e in omega arith)
+
+pub copied-is : (r : Copied) (len n : ℕ) → Numbered r → copiedSaid r ≡ record { number = 0; value = len; entered = n } → r ≡ copied.Bytes len n
+copied-is (copied.Bytes m b) len n k e =
+    let z : m ≡ len = ap (λ (s : Said). s .value) e in
+    let y : b ≡ n = ap (λ (s : Said). s .entered) e in
+    cc
+copied-is (copied.Refused q) len n k e = absurd (let z : q ≡ 0 = ap (λ (s : Said). s .number) e in omega arith)
+
+pub copied-no : (r : Copied) (n : ℕ) → copiedSaid r ≡ refused (suc n) → r ≡ copied.Refused (suc n)
+copied-no (copied.Bytes m e) n s = absurd (let z : _≡_ {A = ℕ} 0 (suc n) = ap (λ (x : Said). x .number) s in omega arith)
+copied-no (copied.Refused m) n s = ap (λ (x : Said). copied.Refused (x .number)) s
+
+-- Any lent bytes.
+
+-- "the byte at p, with the blocks entered": whatever the tree, a byte that is answered is the one at the end of the place's path, and the
+-- figure of blocks entered is that path's length.
+pub figure-is-length :
+    (κs : Lfts 1) (t : RefT (List ℕ)) (p : TextPlace) (r : Answer) → Asked κs t p r → readable (t .now) ≡ 0 → p .0 < at.textLength (t .now)
+    → (q : Path) → pathOf (t .now) (p .0) ≡ some q → r ≡ Byte (at.leafByte (t .now) (q .leaf)) (length (q .visits))
+figure-is-length κs t p r a pass low q e =
+    byte-is r _ _ (path-long (t .now) (p .0) q e) (a ∙ paths.byte-by-path (t .now) pass (p .0) q e low)
+
+-- Any tree that passes questions 5 to 8.
+module _ (t : RefT (List ℕ)) (pass : readable (t .now) ≡ 0) (links : linksOk (t .now) ≡ true) where
+  -- what byte answers at a place: the byte of the text, with the length of the place's path, at most 2H - 1
+  pub record Answered (p : ℕ) (r : Answer) : Type 0 where
+    pub path : Path
+    pub path-is : pathOf (t .now) p ≡ some path
+    pub answer-is : r ≡ Byte (getD (textOf (t .now)) p 0) (length (path .visits))
+    pub short : length (path .visits) ≤ 2 * at.settings (t .now) .levels - 1
+
+  -- No place below n is refused: byte gives the text's byte there, and the length of its path.
+  pub byte-answers : (κs : Lfts 1) (p : TextPlace) (r : Answer) → p .0 < at.textLength (t .now) → Asked κs t p r → Answered (p .0) r
+  byte-answers κs p r low a =
+      let w = paths.byte-of-text (t .now) pass links (p .0) low in record {
+        path = w .0;
+        path-is = w .1;
+        answer-is = byte-is r _ _ (path-long (t .now) (p .0) (w .0) (w .1)) (a ∙ w .2);
+        short = paths.path-short (t .now) pass (p .0) (w .0) (w .1);
+      }
+
+  -- That text is the one text that fits the tree.
+  pub one-text : (T : List ℕ) → fits T (t .now) ≡ true → T ≡ textOf (t .now)
+  one-text = paths.only-text (t .now) pass links
+
+  pub text-fits : fits (textOf (t .now)) (t .now) ≡ true
+  text-fits = paths.text-fits (t .now) pass links
+
+  -- A run is a part of the lent tree, of one byte or more, and a stretch of the text from the place on.
+  pub record Stretches (p : ℕ) (r : RefT (List ℕ)) : Type 0 where
+    pub from : ℕ
+    pub size : ℕ
+    pub some-byte : 1 ≤ size
+    pub in-text : p + size ≤ at.textLength (t .now)
+    pub in-tree : from + size ≤ length (t .now)
+    pub place : r .ptr ≡ (t .ptr .0, t .ptr .1 + from)
+    pub of-tree : r .now ≡ take size (drop from (t .now))
+    pub of-text : r .now ≡ stretch (textOf (t .now)) p size
+
+  pub run-stretches : (κs : Lfts 1) (p : TextPlace) (r : RefT (List ℕ)) → p .0 < at.textLength (t .now) → Run κs t p r → Stretches (p .0) r
+  run-stretches κs p r low a =
+      let k = paths.run-of-text (t .now) pass links (p .0) low in record {
+        from = runSays (t .now) (p .0) .0;
+        size = runSays (t .now) (p .0) .1;
+        some-byte = k .some-byte;
+        in-text = k .in-text;
+        in-tree = k .in-tree;
+        place = a .1;
+        of-tree = a .0;
+        of-text = a .0 ∙ k .bytes;
+      }
+
+-- Any tree that the check accepts: a span within the text and the buffer is not refused, leaves that stretch of the text and then what stood there, and
+-- reports the blocks entered, at most twice the number of levels; 0 if it is not short.
+pub span-copies :
+    (t : RefT (List ℕ)) → verdict (t .now) ≡ 0 → (κs : Lfts 2) (p : TextPlace) (len : ℕ) (buffer after : RefT (List ℕ)) (r : Copied)
+    → p .0 + len ≤ at.textLength (t .now) → len ≤ length (buffer .now) → Span κs t p len buffer after r
+    → (r ≡ copied.Bytes len (spanBlocks (t .now) (p .0) len)) × (spanBlocks (t .now) (p .0) len ≤ 2 * at.settings (t .now) .levels)
+    × (after .now ≡ stretch (textOf (t .now)) (p .0) len ++ drop len (buffer .now))
+unfolding spanSays
+span-copies t v κs p len buffer after r low room a =
+    let z = margins.span-good (t .now) v (p .0) len (length (buffer .now)) low room in
+    let s : copiedSaid r ≡ record { number = 0; value = len; entered = spanBlocks (t .now) (p .0) len } = a .0 .says ∙ rw z in (
+      copied-is r len (spanBlocks (t .now) (p .0) len) (a .0 .numbered) s,
+      margins.span-entered (t .now) (accepted-readable (t .now) v) (p .0) len,
+      a .1 ∙ margins.span-of-text (t .now) v (p .0) len (buffer .now) low room,
+    )

@@ -1,0 +1,104 @@
+-- Reading by runs: a part of the tree's own bytes that are bytes of its text, with all their paths holding, on any tree that passes
+-- questions 5 to 7.
+use mathlib.Core.List.{List}
+use mathlib.Core.Option.{some}
+use mathlib.Core.Path.{_≡_, sym, ap, _∙_}
+use Prim.Native.Nat.{ℕ, _+_, _-_, _≤_, _<_, min}
+use native.Mathlib.Omega.{arith}
+use native.Mathlib.Nat.{add-assoc}
+use lib.ListN.{length}
+use Rattle.text.specs.Text.{stretch}
+use Rattle.text.specs.TextLaws.{stretch-ext, stretch-at}
+use Rattle.format.specs.Layout as at
+use Rattle.format.specs.Path.{Path, pathOf}
+use Rattle.format.specs.Fits.{textOf}
+use Rattle.format.specs.Verdict.{readable}
+use Rattle.format.specs.LayoutLaws.{Readable, readable-facts}
+use Rattle.format.specs.Said.{Said}
+use Rattle.format.specs.ReadSays.{byteSays, leftOver, runSays}
+use Rattle.theory_paths.specs.OneText.{text-length}
+use Rattle.theory_paths.specs.Shift.{left-most, left-within, path-further}
+use Rattle.theory_paths.specs.Reads as reads
+use Rattle.theory_paths.specs.PlaceBytes.{path-there, byte-broken}
+use Rattle.layout.specs.declared.header.Header.{Header}
+use Rattle.layout.specs.HeaderSays.{HeaderOf}
+use Rattle.ask_access.specs.declared.read_by_header.Part.{Part}
+use Rattle.ask_access.specs.declared.read_by_header.Ran.{Ran}
+use Rattle.ask_access.specs.declared.read_by_header.Ran.the-variants as ran
+use Rattle.ask_access.specs.ReadAnswers.{RunAnswer}
+use Rattle.ask_access.specs.ReadByRuns.{ReadsOn}
+
+-- nothing read
+pub reads-none : (t : List ℕ) (p from : ℕ) → p ≤ at.textLength t → from ≤ length t → ReadsOn t p from 0
+reads-none t p from h k = record {
+  in-text = omega arith;
+  in-tree = omega arith;
+  holds = λ x l. absurd (let z : ⊥ = omega arith in z);
+  bytes = λ x l. absurd (let z : ⊥ = omega arith in z);
+}
+
+-- the bytes in one stretch
+pub reads-stretch : (t : List ℕ) (p from size : ℕ) → ReadsOn t p from size → stretch t from size ≡ stretch (textOf t) p size
+reads-stretch t p from size a =
+    stretch-ext t (textOf t) from p size (a .in-tree) (omega (arith, a .in-text, text-length t)) (a .bytes)
+
+-- what is left of it after some bytes
+pub reads-rest : (t : List ℕ) (p from size k : ℕ) → ReadsOn t p from size → k ≤ size → ReadsOn t (p + k) (from + k) (size - k)
+reads-rest t p from size k a h = record {
+  in-text = omega (arith, a .in-text);
+  in-tree = omega (arith, a .in-tree);
+  holds = λ x l. rw (add-assoc p k x) (a .holds (k + x) (omega arith));
+  bytes = λ x l. rw (add-assoc p k x, add-assoc from k x) (a .bytes (k + x) (omega arith));
+}
+
+module _ (t : List ℕ) (r : readable t ≡ 0) (p : ℕ) (low : p < at.textLength t) where
+  -- the paths of a run's places hold
+  module _ (q : Path) (e : pathOf t p ≡ some q) where
+    k : Readable t
+    k = readable-facts t r
+
+    run-size : runSays t p .1 ≡ leftOver t (q .visits) (min (at.textLength t - p) (at.leafCount t - q .leaf))
+    unfolding runSays
+    run-size = rw (reads.byte-of-path t k r p low q e, e)
+
+    run-holds : (d : ℕ) → d < runSays t p .1 → byteSays t (p + d) .number ≡ 0
+    run-holds d h =
+        let most = min (at.textLength t - p) (at.leafCount t - q .leaf) in
+        let short : d < leftOver t (q .visits) most = rw run-size at h in
+        let less : d < most = omega (arith, left-most t (q .visits) most) in
+        let on = path-further t p d q e (left-within t (q .visits) most d short) (omega arith) in
+        ap (λ (s : Said). s .number) (reads.byte-of-path t k r (p + d) (omega arith) _ on)
+
+  -- a run reads on
+  pub run-reads : byteSays t p .number ≡ 0 → ReadsOn t p (runSays t p .0) (runSays t p .1)
+  unfolding stretch
+  run-reads z =
+      let w = path-there t r p low z in
+      let part = reads.run-part t (readable-facts t r) r p low (w .0) (w .1) in record {
+        in-text = part .in-text;
+        in-tree = part .in-tree;
+        holds = run-holds (w .0) (w .1);
+        bytes = stretch-at t (textOf t) (runSays t p .0) p (runSays t p .1) (part .bytes);
+      }
+
+  pub run-some : byteSays t p .number ≡ 0 → 1 ≤ runSays t p .1
+  run-some z =
+      let w = path-there t r p low z in
+      reads.run-part t (readable-facts t r) r p low (w .0) (w .1) .some-byte
+
+-- the answer of `part_at`
+module _ (t : List ℕ) (h : Header) (k : HeaderOf t h) (p : ℕ) (low : p < h .«text_length») (r : Ran) (a : RunAnswer t p r) where
+  low-text : p < at.textLength t
+  low-text = omega (arith, k .length-is)
+
+  pub part-reads : (part : Part) → r ≡ ran.At part → ReadsOn t p (part .from) (part .length) × (1 ≤ part .length)
+  part-reads part e =
+      let z : RunAnswer t p (ran.At part) = rw e at a in
+      let number = sym (z .number-is) in
+      (rw (z .from-is, z .length-is) (run-reads t (k .passes) p low-text number), rw (z .length-is) (run-some t (k .passes) p low-text number))
+
+  pub part-broken : (q : ℕ) → r ≡ ran.Refused q → (q ≡ 14) × (byteSays t p .number ≡ 14)
+  part-broken q e =
+      let z : RunAnswer t p (ran.Refused q) = rw e at a in
+      let y = byte-broken t (k .passes) p low-text (λ x. omega (arith, z .number-is, z .numbered)) in
+      (z .number-is ∙ y, y)

@@ -1,0 +1,48 @@
+-- What the reading of a row by columns answers, for any bytes lent as a tree, and what it leaves in the lent buffer.
+-- docs/FORMAT.md: "Columns before rows".
+use mathlib.Core.List.{List, _++_}
+use mathlib.Core.Bool.{Bool, cond}
+use mathlib.Core.Path.{_≡_}
+use Prim.Native.Nat.{ℕ, _+_, _*_, _/_}
+use lib.ListN.{length, drop, replicate}
+use lib.Dec.{ltb, leb, eqb}
+use Rattle.text.specs.Lists.{tabulate, allBelow}
+use Rattle.columns.specs.Columns.{widthOk}
+use Rattle.format.specs.Layout as at
+use Rattle.format.specs.Verdict.{ask, readable}
+use Rattle.format.specs.Said.{Said, unless}
+use Rattle.format.specs.ReadSays.{byteSays}
+use Rattle.ask_access.specs.declared.Copied.{Copied}
+use Rattle.ask_access.specs.ReadAnswers.{copiedSaid, Numbered}
+
+module _ (t : List ℕ) (w a : ℕ) where
+  -- the place of column b of row a
+  unfoldable pub cell : ℕ → ℕ
+  unfolding at.textLength
+  cell b = b * (at.textLength t / w) + a
+
+  -- the paths of row a's places all hold
+  unfoldable pub cellsHold : Bool
+  cellsHold = allBelow w (λ b. eqb (byteSays t (cell b) .number) 0)
+
+  -- questions 5 to 7, 20, 10 (a below rows), 13 and 14
+  unfoldable pub columnNumber : ℕ → ℕ
+  unfolding at.textLength
+  columnNumber room =
+      let asked = ask 20 (widthOk w (at.textLength t)) (ask 10 (ltb a (at.textLength t / w)) (ask 13 (leb w room) (ask 14 cellsHold 0))) in
+      cond (eqb (readable t) 0) asked (readable t)
+
+  -- a 14 leaves the w bytes zero
+  unfoldable pub columnLeaves : List ℕ → List ℕ
+  columnLeaves buffer =
+      let number = columnNumber (length buffer) in
+      cond (eqb number 0) (tabulate w (λ b. byteSays t (cell b) .value) ++ drop w buffer)
+      (cond (eqb number 14) (replicate w 0 ++ drop w buffer) buffer)
+
+  unfoldable pub columnSays : ℕ → Said
+  columnSays room = unless (columnNumber room) (record { number = 0; value = w; entered = 0 })
+
+-- the answer, with room for so many bytes
+pub record ColumnAnswer (t : List ℕ) (w a room : ℕ) (r : Copied) : Type 0 where
+  pub says : copiedSaid r ≡ columnSays t w a room
+  pub numbered : Numbered r

@@ -1,0 +1,3 @@
+pub mod ColumnRows
+pub mod ColumnRowExamples
+pub mod RowThere

@@ -1,0 +1,63 @@
+// A row read by columns from the tree of a rearranged text. It asks 5 to 7 first, of any bytes lent as a tree.
+use ask_access::Answer;
+use ask_access::Copied;
+use ask_access::read_by_header;
+use layout::header;
+use layout::header::Header;
+use layout::header::HeaderRead;
+use layout::place::TextPlace;
+ghost use mathlib.Core.Path.{_≡_};
+ghost use lib.ListN.{length};
+ghost use Rattle.layout.specs.HeaderSays.{HeaderOf};
+ghost use Rattle.ask_columns.specs.ColumnRows.{ColumnAnswer, columnLeaves};
+ghost use Rattle.ask_columns.specs.RowThere.{RowThere};
+
+// Copies row a, counted from 0, of rows of a width, end byte included, to the start of the buffer. No blocks entered are reported.
+pub fn row_by_columns(t: &[u8], width: u32, a: u32, buffer: &mut [u8]) -> Copied
+    ensures { λ r. ⌜ ColumnAnswer (now (t .entry)) width a (length (now (buffer .entry))) r ⌝ }
+    ensures { λ _. ⌜ now (buffer .exit) ≡ columnLeaves (now (t .entry)) width a (now (buffer .entry)) ⌝ }
+{
+    let read = header::read_header(t);
+    match read {
+        HeaderRead::Good(h) => row_at(t, h, width, a, buffer),
+        HeaderRead::Refused(number) => Copied::Refused(number),
+    }
+}
+
+// Questions 20, 10 and 13, by the header.
+fn row_at(t: &[u8], h: Header, width: u32, a: u32, buffer: &mut [u8]) -> Copied
+    requires { ⌜ HeaderOf (now t) h ⌝ }
+    ensures { λ r. ⌜ ColumnAnswer (now (t .entry)) width a (length (now (buffer .entry))) r ⌝ }
+    ensures { λ _. ⌜ now (buffer .exit) ≡ columnLeaves (now (t .entry)) width a (now (buffer .entry)) ⌝ }
+{
+    if !columns::divides(width, h.text_length as usize) {
+        return Copied::Refused(20);
+    }
+    let rows = h.text_length / width;
+    if rows <= a {
+        return Copied::Refused(10);
+    }
+    if buffer.len() < width as usize {
+        return Copied::Refused(13);
+    }
+    copy(t, h, width, rows, a, buffer)
+}
+
+// Question 14: reads the byte of each column, one a path; where one is refused, the row's part of the buffer is left zero.
+fn copy(t: &[u8], h: Header, width: u32, rows: u32, a: u32, buffer: &mut [u8]) -> Copied
+    requires { ⌜ RowThere (now t) h width rows a (length (now buffer)) ⌝ }
+    ensures { λ r. ⌜ ColumnAnswer (now (t .entry)) width a (length (now (buffer .entry))) r ⌝ }
+    ensures { λ _. ⌜ now (buffer .exit) ≡ columnLeaves (now (t .entry)) width a (now (buffer .entry)) ⌝ }
+{
+    let mut b: u32 = 0;
+    while b < width {
+        let answer = read_by_header::byte_at(t, h, TextPlace(b * rows + a));
+        let Answer::Byte(value, _) = answer else {
+            stretches::clear(buffer, width as usize);
+            return Copied::Refused(read_by_header::number(answer));
+        };
+        buffer[b as usize] = value;
+        b += 1;
+    }
+    Copied::Bytes(width, 0)
+}

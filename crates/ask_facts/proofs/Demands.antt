@@ -1,0 +1,94 @@
+-- What a caller learns of a tree, as theorems over what the calls promise.
+-- docs/FORMAT.md: "What is told without the text".
+use mathlib.Core.List.{List}
+use mathlib.Core.Path.{_≡_, refl, sym, ap, _∙_}
+use Prim.Native.Nat.{ℕ, zero, suc, _+_, _<_}
+use native.Mathlib.Omega.{arith}
+use contract.Lifetimes.{Lfts}
+use denote.Ref.{RefT, now}
+use borrow.Author.Tests.{ne-eqb, lt-ltb}
+use lib.ListN.{length, getD, replicate}
+use lib.Seq.{getD-take, getD-drop}
+use Rattle.text.specs.Text.{countIn}
+use Rattle.text.specs.Lists.{tabulate}
+use Rattle.format.specs.Settings.{maxCounted}
+use Rattle.format.specs.Layout as at
+use Rattle.format.specs.Fits.{textOf}
+use Rattle.format.specs.Verdict.{readable, verdict}
+use Rattle.format.specs.VerdictLaws.{accepted-readable, accepted-links}
+use Rattle.format.specs.LayoutLaws.{readable-facts}
+use Rattle.theory_paths.specs.Links.{linked-facts}
+use Rattle.theory_paths.specs.OneText.{text-length}
+use Rattle.theory_counts.specs.CountsLocal.{byteOf}
+use Rattle.theory_counts.specs.Demands as tallies
+use Rattle.theory_counts.specs.Finds as finds
+use Rattle.ask_facts.specs.Facts.{plainFigures, totalsFrom, figureCount, countedByte, totalOf, figuresOf, infoLeaves}
+use Rattle.ask_facts.proofs.info.Reads as info-reads
+use Rattle.ask_facts.proofs.version.Reads as version-reads
+
+abbrev pub Info : (κs : Lfts 2) → (t figures after : RefT (List ℕ)) → ℕ → Type 0
+Info κs t figures after r = info-reads.Post κs (t, (figures, tt)) r (t, (after, tt))
+
+abbrev pub Version : ℕ → Type 0
+Version r = version-reads.Post tt tt r tt
+
+pub version-is : (r : ℕ) → Version r → r ≡ 11400
+version-is r a = a
+
+-- where a counted byte and its total stand among the figures
+byte-figure : (t : List ℕ) (c : ℕ) → c < maxCounted → getD (figuresOf t) (plainFigures + c) 0 ≡ countedByte t c
+unfolding figuresOf tabulate
+byte-figure t zero h = refl
+byte-figure t (suc zero) h = refl
+byte-figure t (suc (suc zero)) h = refl
+byte-figure t (suc (suc (suc zero))) h = refl
+byte-figure t (suc (suc (suc (suc c)))) h = absurd (let z : ⊥ = omega arith in z)
+
+total-figure : (t : List ℕ) (c : ℕ) → c < maxCounted → getD (figuresOf t) (totalsFrom + c) 0 ≡ totalOf t c
+unfolding figuresOf tabulate
+total-figure t zero h = refl
+total-figure t (suc zero) h = refl
+total-figure t (suc (suc zero)) h = refl
+total-figure t (suc (suc (suc zero))) h = refl
+total-figure t (suc (suc (suc (suc c)))) h = absurd (let z : ⊥ = omega arith in z)
+
+-- the counted bytes of the settings
+counted-at : (t : List ℕ) (c : ℕ) → c < at.countedCount t → c < maxCounted → byteOf t c ≡ countedByte t c
+unfolding at.settings byteOf countedByte
+counted-at t c h low = rw (getD-take, getD-take, getD-drop)
+
+-- a total is how often its byte stands in the text
+total-right : (t : List ℕ) → verdict t ≡ 0 → (c : ℕ) → c < at.countedCount t → c < maxCounted → totalOf t c ≡ countIn (countedByte t c) (textOf t)
+unfolding totalOf
+total-right t v c h low =
+    let e = finds.total-is t (readable-facts t (accepted-readable t v)) (linked-facts t (accepted-links t v)) (tallies.levels t v) c h in
+    rw (lt-ltb c (at.countedCount t) h, ← counted-at t c h low) e
+
+module _ (κs : Lfts 2) (t figures after : RefT (List ℕ)) (r : ℕ) (a : Info κs t figures after r) where
+  -- a tree that passes questions 5 to 7, ..
+  pub info-told : readable (now t) ≡ 0 → (r ≡ 0) × (now after ≡ figuresOf (now t))
+  unfolding infoLeaves
+  info-told pass = (a .0 ∙ pass, a .1 ∙ rw pass)
+
+  -- .. and any other: its number, and every figure 0
+  pub info-refused : (q : ℕ) → readable (now t) ≡ suc q → (r ≡ suc q) × (now after ≡ replicate figureCount 0)
+  unfolding infoLeaves
+  info-refused q e = (a .0 ∙ e, a .1 ∙ rw (e, ne-eqb (suc q) 0 (λ z. omega arith)))
+
+  -- of an accepted tree n is the text's length, and the total of each counted byte says how often it stands in the text
+  module _ (v : verdict (now t) ≡ 0) where
+    told : now after ≡ figuresOf (now t)
+    told = info-told (accepted-readable (now t) v) .1
+
+    pub info-length : getD (now after) 1 0 ≡ length (textOf (now t))
+    unfolding figuresOf
+    info-length = rw told (sym (text-length (now t)))
+
+    pub info-totals : (c : ℕ)
+        → c < getD (now after) 6 0 → getD (now after) (totalsFrom + c) 0 ≡ countIn (getD (now after) (plainFigures + c) 0) (textOf (now t))
+    unfolding figuresOf
+    info-totals c h =
+        let few = readable-facts (now t) (accepted-readable (now t) v) .bounds .counted-high in
+        let k : c < at.countedCount (now t) = rw told at h in
+        let low : c < maxCounted = omega arith in
+        rw told (total-figure (now t) c low ∙ total-right (now t) v c k low ∙ ap (λ (b : ℕ). countIn b (textOf (now t))) (sym (byte-figure (now t) c low)))

@@ -1,0 +1,35 @@
+-- The figures of the worked book's tree, of a text of no bytes and of what is no tree, computed from the definitions.
+use mathlib.Core.List.{List, [], _∷_}
+use mathlib.Core.Path.{_≡_, refl}
+use Prim.Native.Nat.{ℕ}
+use lib.ListN.{replicate, take}
+use Rattle.text.specs.Lists.{tabulate, concat, sumBelow, countBelow, allBelow, sameList}
+use Rattle.text.specs.Text.{stretch, leftmost, firstFrom, countIn}
+use Rattle.format.specs.Words.{wordAt, wordsBytes, wordBytes}
+use Rattle.format.specs.Settings.{blockLength, pieces, recordLength, lengthOk, sizesOk, countedOk, rising, risingAfter}
+use Rattle.format.specs.Edges.{edgesOf, filledOut}
+use Rattle.format.specs.Blocks.{treeOf, header, leafBytes, levelPairs, recordBytes, levelBytes, recordIn, recordOf, target, occurrence, width, isKept}
+use Rattle.format.specs.Blocks.{startsAt, cut, keptByPairs, firstPairAt, pairAt, lengthOf, startOf}
+use Rattle.format.specs.Layout as at
+use Rattle.format.specs.Verdict.{readable}
+use Rattle.format.specs.FindSays.{total}
+use Rattle.ask_facts.specs.Facts.{countedByte, totalOf, figuresOf, infoLeaves}
+
+book : List ℕ
+book = 81 ∷ 65 ∷ 66 ∷ 67 ∷ 68 ∷ 65 ∷ 66 ∷ 67 ∷ 68 ∷ 69 ∷ 70 ∷ 71 ∷ 65 ∷ 66 ∷ 67 ∷ 68 ∷ 65 ∷ 66 ∷ 67 ∷ 68 ∷ []
+
+tree : List ℕ → List ℕ
+tree T = treeOf (record { leaf = 2; arity = 2; levels = 2; counted = 65 ∷ 70 ∷ [] }) T
+
+pub record Marked : Type 0 where
+  -- layout 2, 20 bytes, leaf 2, arity 2, 2 levels, 16 leaf bytes, 2 counted: A four times, F once; 5 and 8 blocks
+  worked : infoLeaves (tree book) ≡ 2 ∷ 20 ∷ 2 ∷ 2 ∷ 2 ∷ 16 ∷ 2 ∷ 65 ∷ 70 ∷ 0 ∷ 0 ∷ 4 ∷ 1 ∷ 0 ∷ 0 ∷ 5 ∷ 8 ∷ replicate 6 0
+  empty : infoLeaves (tree []) ≡ 2 ∷ 0 ∷ 2 ∷ 2 ∷ 2 ∷ 0 ∷ 2 ∷ 65 ∷ 70 ∷ replicate 14 0
+  short : (readable (take 99 (tree book)) ≡ 5) × (infoLeaves (take 99 (tree book)) ≡ replicate 23 0)
+
+pub marked : Marked
+unfolding book tree countedByte totalOf figuresOf infoLeaves total
+    tabulate concat sumBelow countBelow allBelow sameList wordAt wordsBytes wordBytes stretch leftmost firstFrom countIn blockLength pieces recordLength
+    lengthOk sizesOk countedOk rising risingAfter treeOf header leafBytes levelPairs recordBytes edgesOf filledOut levelBytes recordIn recordOf
+    target occurrence width isKept startsAt cut keptByPairs firstPairAt pairAt lengthOf startOf readable at.blockLengthAt at.levelCount at.levelOffset
+marked = record { worked = refl; empty = refl; short = (refl, refl) }

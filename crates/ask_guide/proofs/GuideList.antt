@@ -1,0 +1,124 @@
+-- The guide as a list of words: its length and its entries; and what an accepted guide is.
+use mathlib.Core.List.{List}
+use mathlib.Core.Bool.{true, false, cond}
+use mathlib.Core.Path.{_≡_, refl, sym, ap, _∙_}
+use Prim.Native.Nat.{ℕ, _+_, _*_, _/_, _%_, _≤_, _<_}
+use native.Mathlib.Omega.{arith}
+use lib.ListN.{length, getD}
+use lib.Dec.{eqb}
+use borrow.Author.Tests.{eq-eqb, eqb-true}
+use Rattle.text.specs.Lists.{tabulate, concat, sumBelow, sameList}
+use Rattle.text.specs.ListLaws.{length-tabulate, getD-tabulate, sumBelow-ext, sumBelow-suc, sumBelow-part, sameList-true}
+use Rattle.format.specs.Words.{wordAt}
+use Rattle.format.specs.WordLaws.{length-words}
+use Rattle.format.specs.Settings.{pieces, maxText}
+use Rattle.format.specs.PieceLaws.{pieces-start, lt-pieces}
+use Rattle.format.specs.Layout as at
+use Rattle.format.specs.Verdict.{ask, verdict}
+use Rattle.format.specs.FindSays.{total}
+use Rattle.theory_built.specs.Gather.{placed, length-concat, getD-concat}
+use Rattle.ask_guide.specs.Guides.{lastEntry, blockOf, entriesOf, entriesBefore, guideWords, guideOf, guideBytes, guideNumber, listedEvery}
+use Rattle.ask_guide.proofs.WordLists.{word-of}
+use Rattle.ask_guide.proofs.Holders.{block-few}
+
+-- entries, of a total
+pub whole-entries : (x : ℕ) → x % listedEvery ≡ 0 → x / listedEvery ≡ pieces x listedEvery
+unfolding pieces
+whole-entries x e = omega arith
+
+pub begun-entries : (x : ℕ) → (x % listedEvery ≡ 0 → ⊥) → x / listedEvery + 1 ≡ pieces x listedEvery
+unfolding pieces
+begun-entries x e = omega (arith, e)
+
+module _ (t : List ℕ) where
+  part : ℕ → List ℕ
+  part c = tabulate (entriesOf t c) (λ e. blockOf t c (listedEvery * e + 1))
+
+  part-length : (c : ℕ) → length (part c) ≡ entriesOf t c
+  unfolding part
+  part-length c = length-tabulate (entriesOf t c) (λ e. blockOf t c (listedEvery * e + 1))
+
+  parts-before : (c : ℕ) → sumBelow c (λ i. length (part i)) ≡ entriesBefore t c
+  unfolding entriesBefore
+  parts-before c = sumBelow-ext c (λ i. length (part i)) (entriesOf t) (λ i _. part-length i)
+
+  pub guide-length : length (guideOf t) ≡ guideWords t
+  unfolding guideWords guideOf part
+  guide-length = length-concat (at.countedCount t) part ∙ parts-before (at.countedCount t)
+
+  pub guide-size : length (guideBytes t) ≡ 4 * guideWords t
+  unfolding guideBytes
+  guide-size = length-words (guideOf t) ∙ ap (λ (n : ℕ). 4 * n) guide-length
+
+  module _ (c e : ℕ) (hc : c < at.countedCount t) (he : e < entriesOf t c) where
+    pub guide-entry : getD (guideOf t) (entriesBefore t c + e) 0 ≡ blockOf t c (listedEvery * e + 1)
+    unfolding guideOf part
+    guide-entry =
+        ap (λ (k : ℕ). getD (concat (tabulate (at.countedCount t) part)) (k + e) 0) (sym (parts-before c))
+        ∙ getD-concat (at.countedCount t) part c e 0 hc (rw (part-length c) he)
+        ∙ getD-tabulate (entriesOf t c) (λ e. blockOf t c (listedEvery * e + 1)) e 0 he
+
+    pub entry-below : entriesBefore t c + e < length (guideOf t)
+    unfolding entriesBefore guideWords
+    entry-below = omega (arith, guide-length, sumBelow-part (at.countedCount t) (entriesOf t) c hc)
+
+    -- the occurrence that it lists stands in the text
+    pub entry-stands : listedEvery * e + 1 ≤ total t c
+    unfolding entriesOf
+    entry-stands = omega (arith, pieces-start (total t c) listedEvery e he (omega arith))
+
+  -- the words of a counted byte end within the guide
+  pub part-ends : (c place count : ℕ) → c < at.countedCount t → place ≡ entriesBefore t c → count ≡ entriesOf t c → place + count ≤ guideWords t
+  unfolding entriesBefore guideWords
+  part-ends c place count l ep ec = omega (arith, sumBelow-part (at.countedCount t) (entriesOf t) c l)
+
+  -- the last listed occurrence not after the j-th is listed
+  pub listed : (c j : ℕ) → 1 ≤ j → j ≤ total t c → lastEntry j < entriesOf t c
+  unfolding entriesOf
+  listed c j low high = lt-pieces (total t c) listedEvery (lastEntry j) (omega arith) (omega arith)
+
+  -- summed one by one
+  pub none-before : 0 ≡ entriesBefore t 0
+  unfolding entriesBefore sumBelow
+  none-before = refl
+
+  pub one-more : (c sum n : ℕ) → sum ≡ entriesBefore t c → n ≡ entriesOf t c → sum + n ≡ entriesBefore t (c + 1)
+  unfolding entriesBefore
+  one-more c sum n e f = rw (e, f) (sym (sumBelow-suc c (entriesOf t)))
+
+  pub all-words : (c n : ℕ) → c ≡ at.countedCount t → n ≡ entriesBefore t c → n ≡ guideWords t
+  unfolding guideWords
+  all-words c n e f = f ∙ ap (entriesBefore t) e
+
+-- of an accepted tree
+module _ (t : List ℕ) (v : verdict t ≡ 0) where
+  -- each entry fits a word
+  entry-few : (i : ℕ) → i < length (guideOf t) → getD (guideOf t) i 0 < maxText
+  unfolding entriesBefore guideWords
+  entry-few i l =
+      let p = placed (at.countedCount t) (entriesOf t) i (rw (guide-length t) at l) in
+      let rank = entry-stands t (p .part) (p .place) (p .part-lt) (p .place-lt) in
+      rw (p .is, guide-entry t (p .part) (p .place) (p .part-lt) (p .place-lt))
+      (block-few t v (p .part) (p .part-lt) (listedEvery * p .place + 1) (omega arith) rank)
+
+  pub entry-word : (i : ℕ) → i < length (guideOf t) → wordAt (guideBytes t) (4 * i) ≡ getD (guideOf t) i 0
+  unfolding guideBytes
+  entry-word i l = word-of (guideOf t) i l (omega (arith, entry-few i l))
+
+-- an accepted guide
+module _ (t guide : List ℕ) (e : guideNumber t guide ≡ 0) where
+  pub guide-verdict : verdict t ≡ 0
+  unfolding guideNumber
+  guide-verdict = go (eqb (verdict t) 0) refl e
+    where
+      go : (y : _) → eqb (verdict t) 0 ≡ y → cond y (ask 24 (sameList guide (guideBytes t)) 0) (verdict t) ≡ 0 → verdict t ≡ 0
+      go true q z = eqb-true _ _ q
+      go false q z = z
+
+  pub guide-same : guide ≡ guideBytes t
+  unfolding guideNumber
+  guide-same = go (sameList guide (guideBytes t)) refl (rw (eq-eqb (verdict t) 0 guide-verdict) at e)
+    where
+      go : (y : _) → sameList guide (guideBytes t) ≡ y → ask 24 y 0 ≡ 0 → guide ≡ guideBytes t
+      go true q z = sameList-true guide (guideBytes t) q
+      go false q z = absurd (let w : ⊥ = omega arith in w)

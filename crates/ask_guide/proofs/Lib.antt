@@ -1,0 +1,5 @@
+pub mod WordLists
+pub mod Holders
+pub mod GuideList
+pub mod GuideWrittenLaws
+pub mod Demands

@@ -1,0 +1,4 @@
+pub mod Guides
+pub mod GuideAnswers
+pub mod GuideExamples
+pub mod EntriesWritten

@@ -1,0 +1,56 @@
+// The words of a guide: how many there are, and the block that each names.
+use ask_select::seek;
+use ask_select::seek::Along;
+use ask_select::seek::Blocks;
+use layout::header::Header;
+use layout::place::BlockNumber;
+use layout::record;
+ghost use mathlib.Core.Path.{_≡_};
+ghost use Prim.Native.Nat.{_+_, _*_, _/_, _^_, _≤_, _<_};
+ghost use Rattle.format.specs.Settings.{maxCounted};
+ghost use Rattle.format.specs.Layout as at;
+ghost use Rattle.layout.specs.HeaderSays.{HeaderOf};
+ghost use Rattle.ask_select.specs.Seeks.{LastBefore};
+ghost use Rattle.ask_guide.specs.Guides.{entriesOf, entriesBefore, listedEvery};
+
+// One occurrence in so many is listed.
+pub const LISTED_EVERY: u64 = 64;
+
+// How many entries a counted byte has: one for each 64 times that it stands in the text, a begun 64 counting whole.
+pub fn entries_of(t: &[u8], h: Header, number: u32) -> u64
+    requires { ⌜ (HeaderOf (now t) h) × (number < at.countedCount (now t)) ⌝ }
+    ensures { λ r. ⌜ (r ≡ entriesOf (now (t .entry)) number) × (r ≤ 2 ^ 64 / listedEvery) ⌝ }
+{
+    let all = ask_totals::total(t, h, number);
+    if all % LISTED_EVERY == 0 {
+        return all / LISTED_EVERY;
+    }
+    all / LISTED_EVERY + 1
+}
+
+// How many entries the counted bytes before one have.
+pub fn entries_before(t: &[u8], h: Header, number: u32) -> u64
+    requires { ⌜ (HeaderOf (now t) h) × (number ≤ at.countedCount (now t)) ⌝ }
+    ensures { λ r. ⌜ (r ≡ entriesBefore (now (t .entry)) number) × (r ≤ maxCounted * (2 ^ 64 / listedEvery)) ⌝ }
+{
+    let mut sum: u64 = 0;
+    let mut c: u32 = 0;
+    while c < number {
+        sum = sum + entries_of(t, h, c);
+        c += 1;
+    }
+    sum
+}
+
+// From a block of level 0 on: the last one before any whose before is j or more, with the steps to it.
+pub fn block_from(t: &[u8], h: Header, number: u32, from: BlockNumber, j: u64) -> Along
+    requires { ⌜ (HeaderOf (now t) h) × (number < at.countedCount (now t)) × (from .0 < at.levelCount (now t) 0) ⌝ }
+    ensures { λ r. ⌜ (LastBefore (now (t .entry)) number 0 (from .0) (at.levelCount (now (t .entry)) 0) j (r .block .0))
+        × (from .0 + r .steps ≡ r .block .0) ⌝ }
+{
+    let blocks = Blocks {
+        first: from,
+        end: BlockNumber(record::level_count(t, 0)),
+    };
+    seek::step_along(t, h, number, 0, blocks, j)
+}

@@ -1,0 +1,160 @@
+-- Find with a guide.
+use mathlib.Core.List.{List}
+use mathlib.Core.Path.{_≡_, refl, ap, _∙_, subst}
+use mathlib.Core.Logic.{_⊎_, inl, inr}
+use Prim.Native.Nat.{ℕ, _+_, _*_, _/_, _≤_, _<_}
+use native.Mathlib.Omega.{arith}
+use lib.ListN.{length, getD}
+use Rattle.format.specs.Words.{wordAt}
+use Rattle.format.specs.Layout as at
+use Rattle.format.specs.Verdict.{verdict}
+use Rattle.format.specs.Said.{Said, refused}
+use Rattle.format.specs.CountSays.{numberOfByte}
+use Rattle.format.specs.FindSays.{total, selectNumber, found}
+use Rattle.ask_select.specs.declared.Found.{Found}
+use Rattle.ask_select.specs.declared.Found.the-variants as find
+use Rattle.ask_select.specs.Found as select
+use Rattle.ask_select.specs.SoughtPlaces as sought
+use Rattle.ask_select.specs.Seeks.{LastBefore}
+use Rattle.ask_guide.specs.Guides.{lastEntry, lastListed, blockOf, entriesOf, entriesBefore, guideOf, guideNumber}
+use Rattle.ask_guide.proofs.Holders.{block-in, block-low, block-is}
+use Rattle.ask_guide.proofs.GuideList.{guide-length, guide-size, guide-entry, entry-below, entry-word, listed, guide-verdict, guide-same}
+use Rattle.ask_guided.specs.declared.Guided.{Guided}
+use Rattle.ask_guided.specs.declared.Guided.the-variants as guided
+use Rattle.ask_guided.specs.Guided.{stepsTo, saidGuided, stepsOf, Numbered, GuidedAnswer, stepped, foundOf, SoughtBy}
+
+-- steps put beside what was found, and taken away
+pub with-at : (f : Found) (steps : ℕ) → (p : _) (e : ℕ) → f ≡ find.At p e → stepped (find.At p e) steps ≡ stepped f steps
+with-at f steps p e q = rw q
+
+pub with-refused : (f : Found) (steps n : ℕ) → f ≡ find.Refused n → stepped (find.Refused n) steps ≡ stepped f steps
+with-refused f steps n q = rw q
+
+pub without-at : (g : Guided) (p : _) (e steps : ℕ) → g ≡ guided.At p e steps → find.At p e ≡ foundOf g
+without-at g p e steps q = rw q
+
+pub without-refused : (g : Guided) (n : ℕ) → g ≡ guided.Refused n → find.Refused n ≡ foundOf g
+without-refused g n q = rw q
+
+said-same : (f : Found) (steps : ℕ) → saidGuided (stepped f steps) ≡ select.saidFind f
+said-same (find.At p e) steps = refl
+said-same (find.Refused n) steps = refl
+
+pub numbered-same : (f : Found) (steps : ℕ) → select.Numbered f → Numbered (stepped f steps)
+numbered-same (find.At p e) steps h = tt
+numbered-same (find.Refused n) steps h = h
+
+-- without its steps it is settled by the guide's number
+pub found-by : (t guide : List ℕ) (byte j : ℕ) (g : Guided) → GuidedAnswer t guide byte j g → select.FoundBy t (guideNumber t guide) byte j (foundOf g)
+found-by t guide byte j (guided.At p e steps) a = record { says = a .says .finds; numbered = tt }
+found-by t guide byte j (guided.Refused n) a = record { says = a .says .finds; numbered = a .numbered }
+
+module _ (t guide : List ℕ) (byte c j : ℕ)
+    (hc : c < at.countedCount t) (low : 1 ≤ j) (high : j ≤ total t c) (place : ℕ) (place-is : place ≡ entriesBefore t c + lastEntry j) where
+  entry-listed : lastEntry j < entriesOf t c
+  entry-listed = listed t c j low high
+
+  module _ (g : guideNumber t guide ≡ 0) where
+    v : verdict t ≡ 0
+    v = guide-verdict t guide g
+
+    below : place < length (guideOf t)
+    below = omega (arith, entry-below t c (lastEntry j) hc entry-listed)
+
+    there : 4 * place + 4 ≤ length guide
+    there = omega (arith, below, ap (λ (l : List ℕ). length l) (guide-same t guide g), guide-size t, guide-length t)
+
+    listed-low : 1 ≤ lastListed j
+    listed-low = omega arith
+
+    listed-high : lastListed j ≤ total t c
+    listed-high = omega arith
+
+    -- it is that of the last listed occurrence not after the j-th
+    entry-is : wordAt guide (4 * place) ≡ blockOf t c (lastListed j)
+    entry-is =
+        ap (λ (l : List ℕ). wordAt l (4 * place)) (guide-same t guide g) ∙ entry-word t v place below
+        ∙ ap (λ (k : ℕ). getD (guideOf t) k 0) place-is ∙ guide-entry t c (lastEntry j) hc entry-listed
+
+    entry-in : wordAt guide (4 * place) < at.levelCount t 0
+    entry-in = rw entry-is (block-in t v c hc (lastListed j) listed-low listed-high)
+
+    entry-low : at.before t 0 (wordAt guide (4 * place)) c < j
+    entry-low = rw entry-is (omega (arith, block-low t v c hc (lastListed j) listed-low listed-high))
+
+  -- no such entry
+  pub entry-missing : length guide / 4 ≤ place → SoughtBy t guide byte c j (refused 14) 0
+  entry-missing past = record { accepted = λ g. absurd (let z : ⊥ = omega (arith, there g) in z); free = inl (refl, refl) }
+
+  -- it names no block
+  pub entry-astray : at.levelCount t 0 ≤ wordAt guide (4 * place) → SoughtBy t guide byte c j (refused 14) 0
+  entry-astray past = record { accepted = λ g. absurd (let z : ⊥ = omega (arith, entry-in g) in z); free = inl (refl, refl) }
+
+  module _ (entry block steps : ℕ) (entry-read : entry ≡ wordAt guide (4 * place))
+      (last : LastBefore t c 0 entry (at.levelCount t 0) j block) (steps-are : entry + steps ≡ block) where
+    pub stops : sought.Stopped t c j block
+    stops = record { block-in = last .high; next = last .next }
+
+    -- the steps lead to the block that holds the place
+    counted : (g : guideNumber t guide ≡ 0) → (at.before t 0 block c < j) × (steps ≡ stepsTo t c j)
+    unfolding stepsTo
+    counted g =
+        let under = last .here (rw entry-read (entry-low g)) in
+        let b = block-is t (v g) c hc j low high block (last .high) under (last .next) in
+        (under, omega (arith, steps-are, b, entry-read, entry-is g))
+
+    pub sought-by : (f : Found) → select.Numbered f
+        → sought.SoughtIn t byte c j block (select.saidFind f) → SoughtBy t guide byte c j (saidGuided (stepped f steps)) (stepsOf (stepped f steps))
+    unfolding found
+    sought-by f nb z = record {
+      accepted = λ g.
+          let k = counted g in
+          let e = z .accepted (v g) (k .0) in
+          (said-same f steps ∙ e, steps-right f nb e (k .1));
+      free = free-of f nb (z .free);
+    }
+      where
+        steps-right : (f : Found) → select.Numbered f → select.saidFind f ≡ found t byte j → steps ≡ stepsTo t c j → stepsOf (stepped f steps) ≡ stepsTo t c j
+        steps-right (find.At p e) nb r k = k
+        steps-right (find.Refused n) nb r k = absurd (let z : n ≡ 0 = ap (λ (s : Said). s .number) r in let y : ⊥ = omega arith in y)
+
+        free-of : (f : Found) → select.Numbered f
+            → (select.saidFind f ≡ refused 14) ⊎ ((select.saidFind f .number ≡ 0) × (select.saidFind f .value < at.textLength t))
+            → ((saidGuided (stepped f steps) ≡ refused 14) × (stepsOf (stepped f steps) ≡ 0))
+            ⊎ ((saidGuided (stepped f steps) .number ≡ 0) × (saidGuided (stepped f steps) .value < at.textLength t))
+        free-of (find.At p e) nb (inl r) = absurd (let z : _≡_ {A = ℕ} 0 14 = ap (λ (s : Said). s .number) r in let y : ⊥ = omega arith in y)
+        free-of (find.At p e) nb (inr r) = inr r
+        free-of (find.Refused n) nb (inl r) = inl (r, refl)
+        free-of (find.Refused n) nb (inr r) = absurd (let y : ⊥ = omega (arith, r .0) in y)
+
+module _ (t guide : List ℕ) (byte j : ℕ) where
+  -- a question before the walk refuses
+  pub guided-refused : (q : ℕ) → selectNumber t byte j ≡ q → 1 ≤ q → GuidedAnswer t guide byte j (guided.Refused q)
+  guided-refused q e l = record {
+    says = record {
+      finds = record { asked = λ m. rw e; accepted = λ z g. absurd (let y : ⊥ = omega arith in y); free = λ z g. absurd (let y : ⊥ = omega arith in y) };
+      none = λ m. refl;
+      counted = λ z g. absurd (let y : ⊥ = omega arith in y);
+    };
+    numbered = l;
+  }
+
+  pub guided-sought : (c : ℕ) (r : Guided) → c ≡ numberOfByte t byte
+      → selectNumber t byte j ≡ 0 → SoughtBy t guide byte c j (saidGuided r) (stepsOf r) → Numbered r → GuidedAnswer t guide byte j r
+  guided-sought c r e n z nb = record {
+    says = record {
+      finds = record { asked = λ m. absurd (let y : ⊥ = omega arith in y); accepted = λ _ g. z .accepted g .0; free = λ _ g. free-of (z .free) };
+      none = λ m. nothing r m;
+      counted = λ _ g. subst (λ (k : ℕ). stepsOf r ≡ stepsTo t k j) e (z .accepted g .1);
+    };
+    numbered = nb;
+  }
+    where
+      free-of : ((saidGuided r ≡ refused 14) × (stepsOf r ≡ 0)) ⊎ ((saidGuided r .number ≡ 0) × (saidGuided r .value < at.textLength t))
+          → (saidGuided r ≡ refused 14) ⊎ ((saidGuided r .number ≡ 0) × (saidGuided r .value < at.textLength t))
+      free-of (inl x) = inl (x .0)
+      free-of (inr x) = inr x
+
+      nothing : (r : Guided) → 0 < saidGuided r .number → stepsOf r ≡ 0
+      nothing (guided.At p e steps) m = absurd (let y : ⊥ = omega arith in y)
+      nothing (guided.Refused n) m = refl

@@ -1,0 +1,2 @@
+pub mod Guided
+pub mod GuidedExamples

@@ -1,0 +1,76 @@
+// Find with a guide, of a tree that passes questions 5 to 7, by its header.
+use crate::Guided;
+use ask_guide::entry_words;
+use ask_select::Found;
+use ask_select::seek;
+use ask_totals::Wanted;
+use layout::header::Header;
+use layout::place::BlockNumber;
+use layout::record;
+use layout::word;
+ghost use mathlib.Core.Path.{_≡_};
+ghost use Prim.Native.Nat.{_≤_, _<_};
+ghost use Rattle.format.specs.Layout as at;
+ghost use Rattle.format.specs.FindSays.{total};
+ghost use Rattle.layout.specs.HeaderSays.{HeaderOf};
+ghost use Rattle.theory_counts.specs.CountsLocal.{byteOf};
+ghost use Rattle.ask_guided.specs.Guided.{GuidedAnswer, Numbered, saidGuided, stepsOf, stepped, foundOf, SoughtBy};
+
+// Questions 11, 12 and 14.
+pub fn find_guided_at(t: &[u8], h: Header, guide: &[u8], byte: u8, j: u32) -> Guided
+    requires { ⌜ HeaderOf (now t) h ⌝ }
+    ensures { λ r. ⌜ GuidedAnswer (now (t .entry)) (now (guide .entry)) byte j r ⌝ }
+{
+    let number = ask_totals::number_of(t, h.settings.counted, byte);
+    if h.settings.counted <= number {
+        return Guided::Refused(11);
+    }
+    if j == 0 {
+        return Guided::Refused(12);
+    }
+    let all = ask_totals::total(t, h, number);
+    if all < j as u64 {
+        return Guided::Refused(12);
+    }
+    guided(t, h, guide, Wanted { byte, number }, j)
+}
+
+// From the entry of the last listed occurrence not after the j-th. An entry that is not there, or names no block, is 14.
+fn guided(t: &[u8], h: Header, guide: &[u8], wanted: Wanted, j: u32) -> Guided
+    requires { ⌜ (HeaderOf (now t) h) × (wanted .number < at.countedCount (now t))
+        × (wanted .byte ≡ byteOf (now t) (wanted .number)) × (1 ≤ j) × (j ≤ total (now t) (wanted .number)) ⌝ }
+    ensures { λ r. ⌜ (SoughtBy (now (t .entry)) (now (guide .entry)) (wanted .byte) (wanted .number) j (saidGuided r) (stepsOf r)) × (Numbered r) ⌝ }
+{
+    let place = entry_words::entries_before(t, h, wanted.number)
+        + (j as u64 - 1) / entry_words::LISTED_EVERY;
+    if guide.len() as u64 / 4 <= place {
+        return Guided::Refused(14);
+    }
+    let entry = word::read(guide, 4 * (place as usize));
+    if record::level_count(t, 0) <= entry {
+        return Guided::Refused(14);
+    }
+    let along = entry_words::block_from(t, h, wanted.number, BlockNumber(entry), j as u64);
+    let found = seek::seek_in(t, h, wanted, j, along.block);
+    with_steps(found, along.steps)
+}
+
+// What was found, with the steps to its block of level 0.
+fn with_steps(found: Found, steps: u32) -> Guided
+    ensures { λ r. ⌜ r ≡ stepped found steps ⌝ }
+{
+    match found {
+        Found::At(place, entered) => Guided::At(place, entered, steps),
+        Found::Refused(number) => Guided::Refused(number),
+    }
+}
+
+// What was found, without the steps.
+pub fn without_steps(guided: Guided) -> Found
+    ensures { λ r. ⌜ r ≡ foundOf guided ⌝ }
+{
+    match guided {
+        Guided::At(place, entered, _) => Found::At(place, entered),
+        Guided::Refused(number) => Found::Refused(number),
+    }
+}

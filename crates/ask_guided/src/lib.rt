@@ -1,0 +1,24 @@
+// Find with a guide: its steps on level 0 start at an entry. It asks 5 to 7 first, of any bytes lent as a tree.
+pub mod guided_find;
+
+use layout::header;
+use layout::header::HeaderRead;
+use layout::place::TextPlace;
+ghost use Rattle.ask_guided.specs.Guided.{GuidedAnswer};
+
+// A place of the text, with the number of blocks on its path and the steps on level 0, or the number of the question that refuses.
+pub enum Guided {
+    At(TextPlace, u32, u32),
+    Refused(u32),
+}
+
+// Where a counted byte stands for the j-th time, by a guide that may be any bytes.
+pub fn find_guided(t: &[u8], guide: &[u8], byte: u8, j: u32) -> Guided
+    ensures { λ r. ⌜ GuidedAnswer (now (t .entry)) (now (guide .entry)) byte j r ⌝ }
+{
+    let read = header::read_header(t);
+    match read {
+        HeaderRead::Good(h) => guided_find::find_guided_at(t, h, guide, byte, j),
+        HeaderRead::Refused(number) => Guided::Refused(number),
+    }
+}

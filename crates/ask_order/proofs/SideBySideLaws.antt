@@ -1,0 +1,270 @@
+-- Two trees read side by side: what is left to compare, place by place and run by run.
+use mathlib.Core.List.{List}
+use mathlib.Core.Bool.{cond}
+use mathlib.Core.Path.{_≡_, refl, sym, _∙_}
+use mathlib.Core.Logic.{_⊎_, inl, inr}
+use Prim.Native.Nat.{ℕ, zero, suc, _+_, _-_, _≤_, _<_, min}
+use native.Mathlib.Omega.{arith}
+use native.Mathlib.Nat.{sub-zero}
+use borrow.Author.Tests.{lt-ltb, le-ltb}
+use lib.ListN.{length, getD}
+use lib.Dec.{ltb}
+use Rattle.text.specs.ListLaws.{lt-or-ge, below-suc}
+use Rattle.format.specs.Layout as at
+use Rattle.format.specs.Verdict.{readable}
+use Rattle.format.specs.LayoutLaws.{readable-facts}
+use Rattle.format.specs.ReadSays.{byteSays}
+use Rattle.theory_paths.specs.PlaceBytes.{byte-text}
+use Rattle.layout.specs.declared.header.Header.{Header}
+use Rattle.layout.specs.declared.header.HeaderRead.{HeaderRead}
+use Rattle.layout.specs.declared.header.HeaderRead.the-variants as read
+use Rattle.layout.specs.Header.{headerSays}
+use Rattle.layout.specs.HeaderSays.{HeaderOf, header-refused}
+use Rattle.ask_access.specs.declared.read_by_header.Part.{Part}
+use Rattle.ask_access.specs.declared.read_by_header.Ran.{Ran}
+use Rattle.ask_access.specs.declared.read_by_header.Ran.the-variants as ran
+use Rattle.ask_access.specs.ReadAnswers.{RunAnswer}
+use Rattle.ask_access.specs.ReadByRuns.{ReadsOn}
+use Rattle.ask_access.proofs.RunLaws.{reads-none, reads-rest, part-reads, part-broken}
+use Rattle.ask_order.specs.declared.Compared.{Compared}
+use Rattle.ask_order.specs.declared.Compared.the-variants as compared
+use Rattle.ask_order.specs.declared.side_by_side.Progress.{Progress}
+use Rattle.ask_order.specs.declared.side_by_side.Round.{Round}
+use Rattle.ask_order.specs.declared.side_by_side.Round.the-variants as round
+use Rattle.ask_order.specs.Order.{Ordered, before, after, stands, refusedOrder, orElse, byLength, comparedFrom, orderSays}
+use Rattle.ask_order.specs.OrderAnswers.{orderSaid, OrderAnswer}
+use Rattle.ask_order.specs.Compared.{ReadsFrom, Agrees, byByte, shortest, Comparing, RoundSays}
+
+-- a byte of a part that is read is the one that byte answers
+reads-value : (t : List ℕ) (p from size x : ℕ) → readable t ≡ 0 → ReadsOn t p from size → x < size
+    → byteSays t (p + x) .value ≡ getD t (from + x) 0
+reads-value t p from size x r a h = byte-text t r (p + x) (omega (arith, a .in-text)) (a .holds x h) ∙ sym (a .bytes x h)
+
+-- the path of a part's first place holds
+first-holds : (t : List ℕ) (p from size : ℕ) → ReadsOn t p from size → 1 ≤ size → byteSays t p .number ≡ 0
+first-holds t p from size a h = let e : p + 0 ≡ p = omega arith in rw e at (a .holds 0 (omega arith))
+
+-- Place by place.
+module _ (t u : List ℕ) where
+  -- the number and the byte of a place are the same in both
+  abbrev pub SameAt : ℕ → Type 0
+  SameAt p = (byteSays t p .number ≡ 0) × (byteSays u p .number ≡ 0) × (byteSays t p .value ≡ byteSays u p .value)
+
+  -- what is left to compare from place p on
+  abbrev pub From : ℕ → Ordered
+  From p = comparedFrom t u (shortest t u - p) p
+
+  -- a place that is not the shorter end
+  module _ (p : ℕ) (low : p < shortest t u) where
+    open-place : From p ≡ orElse (byteSays t p .number) (orElse (byteSays u p .number)
+        (cond (ltb (byteSays t p .value) (byteSays u p .value)) (stands before p)
+        (cond (ltb (byteSays u p .value) (byteSays t p .value)) (stands after p) (From (p + 1)))))
+    unfolding comparedFrom
+    open-place =
+        let s : shortest t u - p ≡ suc (shortest t u - (p + 1)) = omega arith in
+        rw (s, comparedFrom)
+
+    pub first-broken : byteSays t p .number ≡ 14 → From p ≡ refusedOrder 14
+    first-broken e = open-place ∙ rw e
+
+    module _ (a : byteSays t p .number ≡ 0) where
+      pub second-broken : byteSays u p .number ≡ 14 → From p ≡ refusedOrder 14
+      second-broken e = open-place ∙ rw (a, e)
+
+      module _ (b : byteSays u p .number ≡ 0) where
+        place-same : byteSays t p .value ≡ byteSays u p .value → From p ≡ From (p + 1)
+        place-same e =
+            let y = byteSays u p .value in
+            open-place ∙ rw (a, b, e, le-ltb y y (omega arith))
+
+        pub place-differs : (byteSays t p .value ≡ byteSays u p .value → ⊥) → From p ≡ byByte (byteSays t p .value) (byteSays u p .value) p
+        unfolding byByte
+        place-differs e = open-place ∙ go (lt-or-ge x y)
+          where
+            x : ℕ
+            x = byteSays t p .value
+
+            y : ℕ
+            y = byteSays u p .value
+
+            go : (x < y) ⊎ (y ≤ x)
+                → orElse (byteSays t p .number) (orElse (byteSays u p .number)
+                (cond (ltb x y) (stands before p) (cond (ltb y x) (stands after p) (From (p + 1)))))
+                ≡ cond (ltb x y) (stands before p) (stands after p)
+            go (inl h) = rw (a, b, lt-ltb x y h)
+            go (inr h) = rw (a, b, le-ltb x y h, lt-ltb y x (omega arith))
+
+  -- so many places that are the same
+  pub places-same : (p k : ℕ) → p + k ≤ shortest t u → ((x : ℕ) → x < k → SameAt (p + x)) → From p ≡ From (p + k)
+  places-same p zero h all = let e : p + 0 ≡ p = omega arith in rw e
+  places-same p (suc k) h all =
+      let z = all k (omega arith) in
+      let e : p + suc k ≡ p + k + 1 = omega arith in
+      rw e (places-same p k (omega arith) (λ x l. all x (omega arith)) ∙ place-same (p + k) (omega arith) (z .0) (z .1) (z .2))
+
+-- Run by run.
+
+pub comparing-start : (t u : List ℕ) → readable t ≡ 0 → readable u ≡ 0
+    → Comparing t u (record { place = record { 0 = 0 }; one = record { from = 0; length = 0 }; other = record { from = 0; length = 0 } })
+unfolding orderSays
+comparing-start t u r s = record {
+  passes = r;
+  other-passes = s;
+  low = omega arith;
+  reads = reads-none t 0 0 (omega arith) (omega arith);
+  other-reads = reads-none u 0 0 (omega arith) (omega arith);
+  left = rw (sub-zero (shortest t u)) (sym asked);
+}
+  where
+    asked : orderSays t u ≡ comparedFrom t u (shortest t u) 0
+    asked = rw (r, s)
+
+-- a place below both lengths that the headers have
+module _ (t u : List ℕ) (h g : Header) (k : HeaderOf t h) (l : HeaderOf u g) (p : ℕ) (low : p < min (h .«text_length») (g .«text_length»)) where
+  pub below-both : (p < h .«text_length») × (p < g .«text_length»)
+  below-both = (omega arith, omega arith)
+
+  pub below-shortest : p < shortest t u
+  below-shortest = omega (arith, k .length-is, l .length-is)
+
+module _ (t u : List ℕ) (m : Progress) (c : Comparing t u m) where
+  -- at the shorter end
+  pub compare-end : shortest t u ≤ m .place .0 → (n k : ℕ) → n ≡ at.textLength t → k ≡ at.textLength u
+      → (x : Compared) → orderSaid x ≡ byLength n k (m .place .0) → OrderAnswer t u x
+  unfolding comparedFrom
+  compare-end past n k n-is k-is x x-is =
+      let z : shortest t u - m .place .0 ≡ 0 = omega arith in
+      let e : byLength (at.textLength t) (at.textLength u) (m .place .0) ≡ orderSays t u = rw z at (c .left) in
+      record { says = x-is ∙ rw (n-is, k-is) e }
+
+  module _ (low : m .place .0 < shortest t u) (v : Ran) (first : ReadsFrom t (m .place .0) v) where
+    -- the first tree's path breaks, ..
+    pub compare-broken : (q : ℕ) → v ≡ ran.Refused q → OrderAnswer t u (compared.Refused 14)
+    compare-broken q e =
+        let z : ReadsFrom t (m .place .0) (ran.Refused q) = rw e at first in
+        record { says = sym (first-broken t u (m .place .0) low z) ∙ c .left }
+
+    module _ (x : Part) (x-is : v ≡ ran.At x) (w : Ran) (second : ReadsFrom u (m .place .0) w) where
+      here : ReadsFrom t (m .place .0) (ran.At x)
+      here = rw x-is at first
+
+      -- .. then the second's
+      pub compare-broken-2 : (q : ℕ) → w ≡ ran.Refused q → OrderAnswer t u (compared.Refused 14)
+      compare-broken-2 q e =
+          let z : ReadsFrom u (m .place .0) (ran.Refused q) = rw e at second in
+          let holds = first-holds t (m .place .0) (x .from) (x .length) (here .0) (here .1) in
+          record { says = sym (second-broken t u (m .place .0) low holds z) ∙ c .left }
+
+      -- both hold: there is a byte of each
+      pub compare-runs : (y : Part) → w ≡ ran.At y
+          → Comparing t u (record { place = m .place; one = x; other = y }) × (1 ≤ x .length) × (1 ≤ y .length)
+      compare-runs y e =
+          let z : ReadsFrom u (m .place .0) (ran.At y) = rw e at second in
+          (record { passes = c .passes; other-passes = c .other-passes; low = c .low; reads = here .0; other-reads = z .0; left = c .left }, here .1, z .1)
+
+-- two runs, of which n bytes are compared
+module _ (t u : List ℕ) (x y : Part) (p : ℕ) (c : Comparing t u (record { place = record { 0 = p }; one = x; other = y }))
+    (n : ℕ) (n-is : n ≡ min (x .length) (y .length)) where
+  in-both : p + n ≤ shortest t u
+  in-both = omega (arith, c .reads .in-text, c .other-reads .in-text)
+
+  -- the parts lie in their trees, and the places far from where words end
+  pub runs-inside : (x .from + n ≤ length t) × (y .from + n ≤ length u)
+  runs-inside = (omega (arith, c .reads .in-tree), omega (arith, c .other-reads .in-tree))
+
+  pub place-small : p + n < 4294967296
+  place-small = omega (arith, in-both, readable-facts t (c .passes) .bounds .text-high)
+
+  pub byte-inside : (k : ℕ) → k < n → (x .from + k < length t) × (y .from + k < length u) × (p + k < 4294967296)
+  byte-inside k less = (omega (arith, c .reads .in-tree), omega (arith, c .other-reads .in-tree), omega (arith, place-small))
+
+  pub rest-inside : length t < 18446744073709551616 → (n ≤ x .length) × (x .from + x .length < 18446744073709551616)
+  rest-inside h = (omega arith, omega (arith, c .reads .in-tree))
+
+  pub rest-inside-2 : length u < 18446744073709551616 → (n ≤ y .length) × (y .from + y .length < 18446744073709551616)
+  rest-inside-2 h = (omega arith, omega (arith, c .other-reads .in-tree))
+
+  module _ (k : ℕ) (g : Agrees t (x .from) u (y .from) n k) where
+    -- the byte at each of these places, in the first tree and in the second
+    one-is : (z : ℕ) → z < n → byteSays t (p + z) .value ≡ getD t (x .from + z) 0
+    one-is z h = reads-value t p (x .from) (x .length) z (c .passes) (c .reads) (omega arith)
+
+    other-is : (z : ℕ) → z < n → byteSays u (p + z) .value ≡ getD u (y .from + z) 0
+    other-is z h = reads-value u p (y .from) (y .length) z (c .other-passes) (c .other-reads) (omega arith)
+
+    -- the places that agree
+    agreed : (z : ℕ) → z < k → SameAt t u (p + z)
+    agreed z h =
+        let l : z < n = omega (arith, g .most) in
+        (c .reads .holds z (omega arith), c .other-reads .holds z (omega arith), one-is z l ∙ g .same z h ∙ sym (other-is z l))
+
+    on : From t u (p + k) ≡ orderSays t u
+    on = sym (places-same t u p k (omega (arith, g .most, in-both)) agreed) ∙ c .left
+
+    -- the next do not
+    pub compare-differs : k < n → (z : Compared) → orderSaid z ≡ byByte (getD t (x .from + k) 0) (getD u (y .from + k) 0) (p + k) → OrderAnswer t u z
+    compare-differs less z z-is =
+        let a = one-is k less in
+        let b = other-is k less in
+        let there = c .reads .holds k (omega arith) in
+        let there-2 = c .other-reads .holds k (omega arith) in
+        let e = place-differs t u (p + k) (omega (arith, in-both)) there there-2 (λ same. g .differ less (sym a ∙ same ∙ b)) in
+        record { says = z-is ∙ sym (rw (a, b) at e) ∙ on }
+
+    -- all do
+    pub compare-on : 1 ≤ x .length → 1 ≤ y .length → n ≤ k
+        → (a b : Part) → a ≡ record { from = x .from + n; length = x .length - n } → b ≡ record { from = y .from + n; length = y .length - n }
+        → RoundSays t u p (round.On (record { place = record { 0 = p + n }; one = a; other = b }))
+    compare-on some-byte other-byte all a b a-is b-is =
+        let e : k ≡ n = omega (arith, g .most) in
+        rw (a-is, b-is) (
+          record {
+            passes = c .passes;
+            other-passes = c .other-passes;
+            low = in-both;
+            reads = reads-rest t p (x .from) (x .length) n (c .reads) (omega arith);
+            other-reads = reads-rest u p (y .from) (y .length) n (c .other-reads) (omega arith);
+            left = rw e at on;
+          },
+          omega arith,
+        )
+
+-- what a round says, by its outcome
+module _ (t u : List ℕ) (p : ℕ) (r : Round) (a : RoundSays t u p r) where
+  pub round-on : (m : Progress) → r ≡ round.On m → Comparing t u m × (p < m .place .0)
+  round-on m e = let z : RoundSays t u p (round.On m) = rw e at a in z
+
+  pub round-settled : (x : Compared) → r ≡ round.Settled x → OrderAnswer t u x
+  round-settled x e = let z : RoundSays t u p (round.Settled x) = rw e at a in z
+
+-- the run of a place
+pub read-anew : (t : List ℕ) (h : Header) → HeaderOf t h → (p : ℕ) → p < h .«text_length» → (r : Ran) → RunAnswer t p r → ReadsFrom t p r
+read-anew t h k p low (ran.At part) a = part-reads t h k p low (ran.At part) a part refl
+read-anew t h k p low (ran.Refused q) a = part-broken t h k p low (ran.Refused q) a q refl .1
+
+-- a tree that does not pass questions 5 to 7, the first or the second
+handed-on : (n k q : ℕ) (rest : Ordered) → n ≡ suc k → q ≡ suc k → refusedOrder q ≡ orElse n rest
+handed-on n k q rest e f = rw (e, f)
+
+module _ (t u : List ℕ) (x : HeaderRead) (q : ℕ) (e : x ≡ read.Refused q) where
+  pub first-unread : x ≡ headerSays t → OrderAnswer t u (compared.Refused q)
+  unfolding orderSays
+  first-unread x-is =
+      let z = header-refused t x x-is q e in
+      record { says = handed-on (readable t) (z .0) q _ (z .1) (z .2) }
+
+  pub second-unread : readable t ≡ 0 → x ≡ headerSays u → OrderAnswer t u (compared.Refused q)
+  unfolding orderSays
+  second-unread r x-is =
+      let z = header-refused u x x-is q e in
+      record { says = rw r (handed-on (readable u) (z .0) q _ (z .1) (z .2)) }
+
+-- one place more agrees
+pub agree-more : (s : List ℕ) (a : ℕ) (t : List ℕ) (b i : ℕ)
+    → ((x : ℕ) → x < i → getD s (a + x) 0 ≡ getD t (b + x) 0) → getD s (a + i) 0 ≡ getD t (b + i) 0
+    → (x : ℕ) → x < i + 1 → getD s (a + x) 0 ≡ getD t (b + x) 0
+agree-more s a t b i all here x h = go (below-suc x i (omega arith))
+  where
+    go : (x < i) ⊎ (x ≡ i) → getD s (a + x) 0 ≡ getD t (b + x) 0
+    go (inl l) = all x l
+    go (inr e) = rw e here

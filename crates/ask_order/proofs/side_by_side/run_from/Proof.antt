@@ -1,0 +1,12 @@
+use borrow.Author.Needs.{needs}
+use Rattle.ask_order.proofs.SideBySideLaws as laws
+use Rattle.ask_order.proofs.side_by_side.run_from.Statement.{statement}
+use Rattle.ask_order.proofs.side_by_side.run_from.Tie as tie
+
+pub run-from-spec : {M : Type 1} → statement M
+run-from-spec =
+    tie.close
+    (tie.spec
+    (λ c. (c .before .before .before .pre .2, c .if1 .taken))
+    (λ c κs. search needs)
+    (λ c. let pre = c .before .before .before .before .pre in laws.read-anew _ _ (pre .0) _ (pre .1) _ (c .part-at .ensures)))

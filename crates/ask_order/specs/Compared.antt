@@ -1,0 +1,51 @@
+-- Two trees read side by side.
+use mathlib.Core.List.{List}
+use mathlib.Core.Bool.{cond}
+use mathlib.Core.Path.{_≡_}
+use Prim.Native.Nat.{ℕ, _+_, _-_, _≤_, _<_, min}
+use lib.ListN.{getD}
+use lib.Dec.{ltb}
+use Rattle.format.specs.Layout as at
+use Rattle.format.specs.Verdict.{readable}
+use Rattle.format.specs.ReadSays.{byteSays}
+use Rattle.ask_access.specs.declared.read_by_header.Ran.{Ran}
+use Rattle.ask_access.specs.declared.read_by_header.Ran.the-variants as ran
+use Rattle.ask_access.specs.ReadByRuns.{ReadsOn}
+use Rattle.ask_order.specs.declared.side_by_side.Progress.{Progress}
+use Rattle.ask_order.specs.declared.side_by_side.Round.{Round}
+use Rattle.ask_order.specs.declared.side_by_side.Round.the-variants as round
+use Rattle.ask_order.specs.Order.{Ordered, before, after, stands, comparedFrom, orderSays}
+use Rattle.ask_order.specs.OrderAnswers.{OrderAnswer}
+
+-- bytes of the text from place p, at least one, or none because the path of p breaks
+abbrev pub ReadsFrom : List ℕ → ℕ → Ran → Type 0
+ReadsFrom t p (ran.At part) = ReadsOn t p (part .from) (part .length) × (1 ≤ part .length)
+ReadsFrom t p (ran.Refused q) = byteSays t p .number ≡ 14
+
+-- of n bytes from a of s and from b of t the first r agree, and the next do not
+pub record Agrees (s : List ℕ) (a : ℕ) (t : List ℕ) (b n r : ℕ) : Type 0 where
+  pub most : r ≤ n
+  pub same : (x : ℕ) → x < r → getD s (a + x) 0 ≡ getD t (b + x) 0
+  pub differ : r < n → getD s (a + r) 0 ≡ getD t (b + r) 0 → ⊥
+
+-- by the first byte that differs, at place p
+unfoldable pub byByte : ℕ → ℕ → ℕ → Ordered
+byByte x y p = cond (ltb x y) (stands before p) (stands after p)
+
+-- the bytes of the shorter text
+abbrev pub shortest : List ℕ → List ℕ → ℕ
+shortest t u = min (at.textLength t) (at.textLength u)
+
+-- both are read up to a place, and the runs at it are known so far; what is left to compare gives the answer
+pub record Comparing (t u : List ℕ) (m : Progress) : Type 0 where
+  pub passes : readable t ≡ 0
+  pub other-passes : readable u ≡ 0
+  pub low : m .place .0 ≤ shortest t u
+  pub reads : ReadsOn t (m .place .0) (m .one .from) (m .one .length)
+  pub other-reads : ReadsOn u (m .place .0) (m .other .from) (m .other .length)
+  pub left : comparedFrom t u (shortest t u - m .place .0) (m .place .0) ≡ orderSays t u
+
+-- a place or more further than p, or the answer
+abbrev pub RoundSays : List ℕ → List ℕ → ℕ → Round → Type 0
+RoundSays t u p (round.On m) = Comparing t u m × (p < m .place .0)
+RoundSays t u p (round.Settled r) = OrderAnswer t u r

@@ -1,0 +1,83 @@
+// Trees in the order of their texts: two are compared by reading both, up to the first difference.
+mod side_by_side;
+
+use layout::header;
+use layout::header::Header;
+use layout::header::HeaderRead;
+ghost use mathlib.Core.Path.{_≡_};
+ghost use Rattle.layout.specs.HeaderSays.{HeaderOf};
+ghost use Rattle.ask_order.specs.Order.{orderSays};
+ghost use Rattle.ask_order.specs.OrderAnswers.{OrderAnswer, Handed};
+
+// Where the first tree's text stands, each with the length of the shared beginning; or the number of the question that refuses.
+pub enum Compared {
+    Before(u32),
+    Same(u32),
+    After(u32),
+    Refused(u32),
+}
+
+// Compares two trees of any settings.
+pub fn compare(one: &[u8], other: &[u8]) -> Compared
+    ensures { λ r. ⌜ OrderAnswer (now (one .entry)) (now (other .entry)) r ⌝ }
+{
+    let read = header::read_header(one);
+    match read {
+        HeaderRead::Good(h) => compare_with(one, h, other),
+        HeaderRead::Refused(number) => Compared::Refused(number),
+    }
+}
+
+// The first tree passes questions 5 to 7.
+fn compare_with(one: &[u8], h: Header, other: &[u8]) -> Compared
+    requires { ⌜ HeaderOf (now one) h ⌝ }
+    ensures { λ r. ⌜ OrderAnswer (now (one .entry)) (now (other .entry)) r ⌝ }
+{
+    let read = header::read_header(other);
+    match read {
+        HeaderRead::Good(g) => side_by_side::by_places(one, h, other, g),
+        HeaderRead::Refused(number) => Compared::Refused(number),
+    }
+}
+
+// Compares two trees and hands back the one that stands first, as lent, the first given where they are the same; the empty part where the
+// comparison is refused. `order` is 1, 2 or 3: before, same, after.
+pub fn first<'a>(
+    one: &'a [u8],
+    other: &'a [u8],
+    number: &mut u32,
+    order: &mut u32,
+    shared: &mut u32,
+) -> &'a [u8]
+    ensures { λ _. ⌜ record { number = now (number .exit); order = now (order .exit); length = now (shared .exit) }
+        ≡ orderSays (now (one .entry)) (now (other .entry)) ⌝ }
+    ensures { λ r. ⌜ Handed (orderSays (now (one .entry)) (now (other .entry))) (one .entry) (other .entry) r ⌝ }
+{
+    let compared = compare(one, other);
+    match compared {
+        Compared::Before(length) => {
+            *number = 0;
+            *order = 1;
+            *shared = length;
+            one
+        }
+        Compared::Same(length) => {
+            *number = 0;
+            *order = 2;
+            *shared = length;
+            one
+        }
+        Compared::After(length) => {
+            *number = 0;
+            *order = 3;
+            *shared = length;
+            other
+        }
+        Compared::Refused(q) => {
+            *number = q;
+            *order = 0;
+            *shared = 0;
+            &one[0..0]
+        }
+    }
+}

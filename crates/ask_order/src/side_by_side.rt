@@ -1,0 +1,161 @@
+// Two trees read side by side, by runs: parts of their own bytes.
+use crate::Compared;
+use ask_access::read_by_header;
+use ask_access::read_by_header::Part;
+use ask_access::read_by_header::Ran;
+use layout::header::Header;
+use layout::place::TextPlace;
+ghost use mathlib.Core.Path.{_≡_};
+ghost use Prim.Native.Nat.{_+_, _-_, _≤_, _<_, min};
+ghost use lib.ListN.{length, getD};
+ghost use Rattle.layout.specs.HeaderSays.{HeaderOf};
+ghost use Rattle.ask_access.specs.ReadByRuns.{ReadsOn};
+ghost use Rattle.ask_order.specs.Order.{byLength};
+ghost use Rattle.ask_order.specs.OrderAnswers.{orderSaid, OrderAnswer};
+ghost use Rattle.ask_order.specs.Compared.{ReadsFrom, Agrees, byByte, Comparing, RoundSays};
+
+// How far two trees were compared: the next place, and what is left of the run of each.
+pub struct Progress {
+    pub place: TextPlace,
+    pub one: Part,
+    pub other: Part,
+}
+
+// Some places more are the same, or the comparison is settled.
+pub enum Round {
+    On(Progress),
+    Settled(Compared),
+}
+
+// Place by place, up to the first difference or the shorter end: question 14.
+pub fn by_places(one: &[u8], h: Header, other: &[u8], g: Header) -> Compared
+    requires { ⌜ (HeaderOf (now one) h) × (HeaderOf (now other) g) ⌝ }
+    ensures { λ r. ⌜ OrderAnswer (now (one .entry)) (now (other .entry)) r ⌝ }
+{
+    let most = stretches::shorter(h.text_length, g.text_length);
+    let mut m = Progress {
+        place: TextPlace(0),
+        one: Part { from: 0, length: 0 },
+        other: Part { from: 0, length: 0 },
+    };
+    while m.place.0 < most {
+        let round = read_on(one, h, other, g, m);
+        match round {
+            Round::On(next) => {
+                m = next;
+            }
+            Round::Settled(compared) => {
+                return compared;
+            }
+        }
+    }
+    by_length(h.text_length, g.text_length, m.place.0)
+}
+
+// Reads the next place in the first tree and then in the second, and compares on along their runs.
+fn read_on(one: &[u8], h: Header, other: &[u8], g: Header, m: Progress) -> Round
+    requires { ⌜ (HeaderOf (now one) h)
+        × (HeaderOf (now other) g) × (Comparing (now one) (now other) m) × (m .place .0 < min (h .«text_length») (g .«text_length»)) ⌝ }
+    ensures { λ r. ⌜ RoundSays (now (one .entry)) (now (other .entry)) (m .place .0) r ⌝ }
+{
+    let first = run_from(one, h, m.place, m.one);
+    let Ran::At(x) = first else {
+        return Round::Settled(Compared::Refused(14));
+    };
+    let second = run_from(other, g, m.place, m.other);
+    let Ran::At(y) = second else {
+        return Round::Settled(Compared::Refused(14));
+    };
+    compare_runs(one, x, other, y, m.place)
+}
+
+// The run of a place, or what is left of one that was read.
+fn run_from(t: &[u8], h: Header, at: TextPlace, held: Part) -> Ran
+    requires { ⌜ (HeaderOf (now t) h) × (at .0 < h .«text_length») × ReadsOn (now t) (at .0) (held .from) (held .length) ⌝ }
+    ensures { λ r. ⌜ ReadsFrom (now (t .entry)) (at .0) r ⌝ }
+{
+    if 0 < held.length {
+        return Ran::At(held);
+    }
+    read_by_header::part_at(t, h, at)
+}
+
+// Compares as many bytes as both runs have.
+fn compare_runs(one: &[u8], x: Part, other: &[u8], y: Part, place: TextPlace) -> Round
+    requires { ⌜ (Comparing (now one) (now other) (record { place = place; one = x; other = y })) × (1 ≤ x .length) × (1 ≤ y .length) ⌝ }
+    ensures { λ r. ⌜ RoundSays (now (one .entry)) (now (other .entry)) (place .0) r ⌝ }
+{
+    let n = shorter(x.length, y.length);
+    let same = agree(one, x.from, other, y.from, n);
+    if same < n {
+        return Round::Settled(by_byte(one, x.from, other, y.from, same, place));
+    }
+    let first = rest(x, n);
+    let second = rest(y, n);
+    Round::On(Progress {
+        place: TextPlace(place.0 + n as u32),
+        one: first,
+        other: second,
+    })
+}
+
+// What is left of a part after some bytes.
+fn rest(part: Part, n: usize) -> Part
+    requires { ⌜ (n ≤ part .length) × (part .from + part .length < 18446744073709551616) ⌝ }
+    ensures { λ r. ⌜ r ≡ record { from = part .from + n; length = part .length - n } ⌝ }
+{
+    Part {
+        from: part.from + n,
+        length: part.length - n,
+    }
+}
+
+// The shorter of two lengths.
+fn shorter(a: usize, b: usize) -> usize
+    ensures { λ r. ⌜ r ≡ min a b ⌝ }
+{
+    if b < a {
+        return b;
+    }
+    a
+}
+
+// How many bytes of two parts of n bytes agree, from their starts.
+fn agree(one: &[u8], from: usize, other: &[u8], at: usize, n: usize) -> usize
+    requires { ⌜ (from + n ≤ length (now one)) × (at + n ≤ length (now other)) ⌝ }
+    ensures { λ r. ⌜ Agrees (now (one .entry)) from (now (other .entry)) at n r ⌝ }
+{
+    let mut i: usize = 0;
+    while i < n {
+        if one[from + i] != other[at + i] {
+            return i;
+        }
+        i += 1;
+    }
+    i
+}
+
+// By the first byte that differs: the k-th of two parts, which stand at a place of the text.
+fn by_byte(one: &[u8], from: usize, other: &[u8], at: usize, k: usize, place: TextPlace) -> Compared
+    requires { ⌜ (from + k < length (now one)) × (at + k < length (now other)) × (place .0 + k < 4294967296) ⌝ }
+    ensures { λ r. ⌜ orderSaid r ≡ byByte (getD (now (one .entry)) (from + k) 0) (getD (now (other .entry)) (at + k) 0) (place .0 + k) ⌝ }
+{
+    let length = place.0 + k as u32;
+    if one[from + k] < other[at + k] {
+        return Compared::Before(length);
+    }
+    Compared::After(length)
+}
+
+// One is the beginning of the other: by their lengths.
+fn by_length(n: u32, m: u32, at: u32) -> Compared
+    ensures { λ r. ⌜ orderSaid r ≡ byLength n m at ⌝ }
+{
+    if n < m {
+        return Compared::Before(at);
+    }
+    if m < n {
+        return Compared::After(at);
+    }
+    Compared::Same(at)
+}

@@ -1,0 +1,112 @@
+-- The places of a pattern: each of the questions, and what is then left in the table.
+use mathlib.Core.List.{List, _++_}
+use mathlib.Core.Bool.{Bool, true, false, cond}
+use mathlib.Core.Path.{_≡_, refl, sym, ap, _∙_}
+use Prim.Native.Nat.{ℕ, suc, _≤_, _<_}
+use native.Mathlib.Omega.{arith}
+use borrow.Author.Tests.{le-leb, lt-leb, ne-eqb}
+use lib.ListN.{length, take, drop}
+use lib.Dec.{leb}
+use Rattle.format.specs.Layout as at
+use Rattle.format.specs.Verdict.{ask, readable}
+use Rattle.format.specs.Said.{Said, refused}
+use Rattle.format.specs.ReadSays.{pathsHold}
+use Rattle.layout.specs.declared.header.HeaderRead.{HeaderRead}
+use Rattle.layout.specs.declared.header.HeaderRead.the-variants as read
+use Rattle.layout.specs.Header.{headerSays}
+use Rattle.layout.specs.HeaderSays.{header-refused}
+use Rattle.ask_patterns.specs.declared.PlacesWritten.{PlacesWritten}
+use Rattle.ask_patterns.specs.declared.pattern_seek.Sought.{Sought}
+use Rattle.ask_patterns.specs.declared.pattern_seek.Sought.the-variants.{All, Broken}
+use Rattle.ask_patterns.specs.Places.{maxPattern, patternOk, placesOf, placesNumber, placesSays, placesLeaves}
+use Rattle.ask_patterns.specs.TableFilled.{SeekSays}
+use Rattle.ask_patterns.specs.PlacesAnswer.{placesSaid, Numbered, PlacesAnswer}
+use Rattle.ask_patterns.proofs.FillLaws.{filled-all, filled-take}
+
+-- s and what is left of the table are what is said and left
+pub record Listed (t P table : List ℕ) (s : Said) (after : List ℕ) : Type 0 where
+  pub says : s ≡ placesSays t P (length table)
+  pub leaves : after ≡ placesLeaves t P table
+
+pub answered : (t P table after : List ℕ) (r : PlacesWritten) → Numbered r → Listed t P table (placesSaid r) after
+    → PlacesAnswer t P (length table) r × (after ≡ placesLeaves t P table)
+answered t P table after r numbered k = (record { says = k .says; numbered = numbered }, k .leaves)
+
+-- what a pass says
+all-cases : (b : Bool) (x n : ℕ) → All n ≡ cond b (All x) Broken → (b ≡ true) × (n ≡ x)
+all-cases true x n e = (refl, cc)
+all-cases false x n e = absurd (let z : _≡_ {A = ℕ} 0 1 = cc in omega arith)
+
+broken-cases : (b : Bool) (x : ℕ) → Broken ≡ cond b (All x) Broken → b ≡ false
+broken-cases true x e = absurd (let z : _≡_ {A = ℕ} 0 1 = cc in omega arith)
+broken-cases false x e = refl
+
+module _ (t P table : List ℕ) where
+  -- refused: the table stays
+  number-leaves : (q : ℕ) → placesNumber t P (length table) ≡ suc q → Listed t P table (refused (suc q)) table
+  unfolding placesSays placesLeaves
+  number-leaves q e = record { says = rw e; leaves = rw (e, ne-eqb (suc q) 0 (λ z. omega arith)) }
+
+  -- a tree that does not pass questions 5 to 7
+  pub unread : (x : HeaderRead) → x ≡ headerSays t → (q : ℕ) → x ≡ read.Refused q → (1 ≤ q) × Listed t P table (refused q) table
+  unfolding placesNumber
+  unread x x-is q e =
+      let z = header-refused t x x-is q e in
+      let n : placesNumber t P (length table) ≡ suc (z .0) = rw (ne-eqb (readable t) 0 (λ y. omega arith)) (z .1) in
+      (omega arith, rw (z .2) (number-leaves (z .0) n))
+
+  -- one that does
+  module _ (passes : readable t ≡ 0) where
+    -- a pattern of no length
+    wrong-length : patternOk P ≡ false → Listed t P table (refused 16) table
+    unfolding placesNumber
+    wrong-length e = number-leaves 15 (rw (passes, e))
+
+    pub no-byte : length P < 1 → Listed t P table (refused 16) table
+    unfolding patternOk
+    no-byte h = wrong-length (rw (lt-leb 1 (length P) h))
+
+    pub too-long : 1 ≤ length P → maxPattern < length P → Listed t P table (refused 16) table
+    unfolding patternOk
+    too-long low h = wrong-length (rw (le-leb 1 (length P) low, lt-leb (length P) maxPattern h))
+
+    -- 16 is asked
+    module _ (low : 1 ≤ length P) (high : length P ≤ maxPattern) where
+      number-asked : placesNumber t P (length table) ≡ ask 14 (pathsHold t 0 (at.textLength t)) (ask 17 (leb (length (placesOf t P)) (length table)) 0)
+      unfolding placesNumber patternOk
+      number-asked = rw (passes, le-leb 1 (length P) low, le-leb (length P) maxPattern high)
+
+      -- the first pass, which leaves the table alone
+      module _ (room : ℕ) (zeros few : List ℕ) (x : Sought) (k : SeekSays t P room zeros x few) where
+        pub path-breaks : x ≡ Broken → Listed t P table (refused 14) table
+        path-breaks e =
+            let b = broken-cases (pathsHold t 0 (at.textLength t)) (length (placesOf t P)) (sym e ∙ k .says) in
+            number-leaves 13 (number-asked ∙ rw b)
+
+        module _ (n : ℕ) (e : x ≡ All n) where
+          all : (pathsHold t 0 (at.textLength t) ≡ true) × (n ≡ length (placesOf t P))
+          all = all-cases (pathsHold t 0 (at.textLength t)) (length (placesOf t P)) n (sym e ∙ k .says)
+
+          pub no-room : length table < n → Listed t P table (refused 17) table
+          no-room short = number-leaves 16 (number-asked ∙ rw (all .0, lt-leb (length (placesOf t P)) (length table) (omega (arith, all .1))))
+
+          module _ (fits : n ≤ length table) where
+            written : (last : List ℕ) → last ≡ placesOf t P ++ drop n table → Listed t P table (record { number = 0; value = n; entered = 0 }) last
+            unfolding placesSays placesLeaves
+            written last is =
+                let z : placesNumber t P (length table) ≡ 0 =
+                number-asked ∙ rw (all .0, le-leb (length (placesOf t P)) (length table) (omega (arith, all .1))) in
+                record { says = rw (z, all .1); leaves = rw z (rw (all .1) at is) }
+
+            -- few places, kept in the first pass
+            pub written-few : n ≤ room
+                → (last : List ℕ) → last ≡ take n few ++ drop n table → Listed t P table (record { number = 0; value = n; entered = 0 }) last
+            written-few small last is =
+                let kept : take n few ≡ placesOf t P = rw (k .table-is (all .0), all .1) (filled-take (placesOf t P) room zeros (omega (arith, all .1))) in
+                written last (rw kept at is)
+
+            -- many, written in the second
+            pub written-all : (y : Sought) (last : List ℕ) → SeekSays t P n table y last → Listed t P table (record { number = 0; value = n; entered = 0 }) last
+            written-all y last w =
+                written last (w .table-is (all .0)
+                ∙ filled-all (placesOf t P) n table (omega (arith, all .1)) ∙ ap (λ (m : ℕ). placesOf t P ++ drop m table) (sym (all .1)))

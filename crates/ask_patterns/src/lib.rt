@@ -1,0 +1,110 @@
+// Where a pattern stands: all its places in the bytes that a tree's paths give.
+mod pattern_seek;
+mod room;
+
+use crate::pattern_seek::Sought;
+use layout::header;
+use layout::header::Header;
+use layout::header::HeaderRead;
+ghost use mathlib.Core.Path.{_≡_};
+ghost use Prim.Native.Nat.{_≤_};
+ghost use lib.ListN.{length, take, drop};
+ghost use mathlib.Core.List.{_++_};
+ghost use Rattle.layout.specs.HeaderSays.{HeaderOf};
+ghost use Rattle.search_kmp.specs.Borders.{Borders};
+ghost use Rattle.ask_patterns.specs.Places.{maxPattern, placesLeaves};
+ghost use Rattle.ask_patterns.specs.PlacesAnswer.{PlacesAnswer, RoomAnswer};
+
+// The longest pattern that is looked for.
+pub const MAX_PATTERN: usize = 256;
+
+// So many places are kept while the text is read for the first time; more are written by reading it again.
+const FEW: usize = 256;
+
+// How many places there are, or the number of the question that refuses.
+pub enum PlacesWritten {
+    Number(u32),
+    Refused(u32),
+}
+
+// How many words are enough for a table, or the number of the question that refuses.
+pub enum PlacesRoom {
+    Words(u32),
+    Refused(u32),
+}
+
+// How many words hold all places of any pattern of so many bytes: those of a text that is nothing but places.
+pub fn places_words(t: &[u8], len: u32) -> PlacesRoom
+    ensures { λ r. ⌜ RoomAnswer (now (t .entry)) len r ⌝ }
+{
+    let read = header::read_header(t);
+    match read {
+        HeaderRead::Good(h) => room::of_length(h.text_length, len),
+        HeaderRead::Refused(number) => PlacesRoom::Refused(number),
+    }
+}
+
+// Writes all places of a pattern to the start of the table, in rising order.
+pub fn places(t: &[u8], pattern: &[u8], table: &mut [u32]) -> PlacesWritten
+    ensures { λ r. ⌜ PlacesAnswer (now (t .entry)) (now (pattern .entry)) (length (now (table .entry))) r ⌝ }
+    ensures { λ _. ⌜ now (table .exit) ≡ placesLeaves (now (t .entry)) (now (pattern .entry)) (now (table .entry)) ⌝ }
+{
+    let read = header::read_header(t);
+    match read {
+        HeaderRead::Good(h) => places_at(t, h, pattern, table),
+        HeaderRead::Refused(number) => PlacesWritten::Refused(number),
+    }
+}
+
+// Question 16.
+fn places_at(t: &[u8], h: Header, pattern: &[u8], table: &mut [u32]) -> PlacesWritten
+    requires { ⌜ HeaderOf (now t) h ⌝ }
+    ensures { λ r. ⌜ PlacesAnswer (now (t .entry)) (now (pattern .entry)) (length (now (table .entry))) r ⌝ }
+    ensures { λ _. ⌜ now (table .exit) ≡ placesLeaves (now (t .entry)) (now (pattern .entry)) (now (table .entry)) ⌝ }
+{
+    if pattern.len() < 1 {
+        return PlacesWritten::Refused(16);
+    }
+    if MAX_PATTERN < pattern.len() {
+        return PlacesWritten::Refused(16);
+    }
+    let mut borders = [0u8; MAX_PATTERN];
+    search_kmp::prepare(pattern, &mut borders);
+    fill(t, h, pattern, &borders, table)
+}
+
+// Questions 14 and 17: all places are counted before the table is touched.
+fn fill(t: &[u8], h: Header, pattern: &[u8], borders: &[u8], table: &mut [u32]) -> PlacesWritten
+    requires { ⌜ (HeaderOf (now t) h) × (1 ≤ length (now pattern)) × (length (now pattern) ≤ maxPattern)
+        × (length (now pattern) ≤ length (now borders)) × Borders (now pattern) (now borders) (length (now pattern)) ⌝ }
+    ensures { λ r. ⌜ PlacesAnswer (now (t .entry)) (now (pattern .entry)) (length (now (table .entry))) r ⌝ }
+    ensures { λ _. ⌜ now (table .exit) ≡ placesLeaves (now (t .entry)) (now (pattern .entry)) (now (table .entry)) ⌝ }
+{
+    let mut few = [0u32; FEW];
+    let counted = pattern_seek::seek(t, h, pattern, borders, FEW as u32, &mut few);
+    let Sought::All(number) = counted else {
+        return PlacesWritten::Refused(14);
+    };
+    let words = number as usize;
+    if table.len() < words {
+        return PlacesWritten::Refused(17);
+    }
+    if words <= FEW {
+        copy(&few, words, table);
+        return PlacesWritten::Number(number);
+    }
+    pattern_seek::seek(t, h, pattern, borders, number, table);
+    PlacesWritten::Number(number)
+}
+
+// Copies the first n words.
+fn copy(few: &[u32], n: usize, table: &mut [u32])
+    requires { ⌜ (n ≤ length (now few)) × (n ≤ length (now table)) ⌝ }
+    ensures { λ _. ⌜ now (table .exit) ≡ take n (now (few .entry)) ++ drop n (now (table .entry)) ⌝ }
+{
+    let mut i: usize = 0;
+    while i < n {
+        table[i] = few[i];
+        i += 1;
+    }
+}

@@ -1,0 +1,130 @@
+// One pass over the text, read by runs: each is a part of the tree's own bytes.
+use ask_access::read_by_header;
+use ask_access::read_by_header::Part;
+use ask_access::read_by_header::Ran;
+use layout::header::Header;
+use layout::place::TextPlace;
+ghost use mathlib.Core.Bool.{cond};
+ghost use mathlib.Core.List.{List};
+ghost use mathlib.Core.Path.{_≡_};
+ghost use Prim.Native.Nat.{ℕ, _+_, _-_, _≤_, _<_};
+ghost use lib.ListN.{length, set};
+ghost use lib.Dec.{ltb};
+ghost use Rattle.layout.specs.HeaderSays.{HeaderOf};
+ghost use Rattle.ask_access.specs.ReadByRuns.{ReadsOn};
+ghost use Rattle.search_kmp.specs.Borders.{Borders};
+ghost use Rattle.ask_patterns.specs.TableFilled.{Stepped, Seeking, Even, SeekSays};
+
+// How far the text was read: the place to be read next, the state of the match there, and how many places were found.
+pub struct Progress {
+    pub place: TextPlace,
+    pub state: usize,
+    pub found: u32,
+}
+
+// A part of the tree's bytes to be read, and how far the text was read before it.
+struct Unread {
+    part: Part,
+    before: Progress,
+}
+
+// How many places there are, where no path breaks.
+pub enum Sought {
+    All(u32),
+    Broken,
+}
+
+// Puts down a place that was found, if there is room for so many.
+fn note(table: &mut [u32], room: u32, found: u32, place: TextPlace)
+    requires { ⌜ room ≤ length (now table) ⌝ }
+    ensures { λ _. ⌜ now (table .exit) ≡ cond (ltb found room) (set (now (table .entry)) found (place .0)) (now (table .entry)) ⌝ }
+{
+    if found < room {
+        table[found as usize] = place.0;
+    }
+}
+
+// One byte more.
+fn step(
+    pattern: &[u8],
+    borders: &[u8],
+    byte: u8,
+    m: Progress,
+    room: u32,
+    table: &mut [u32],
+) -> Progress
+    requires { ⌜ (Even (now pattern) m) × (m .place .0 + 1 < 4294967296) × (room ≤ length (now table)) ⌝ }
+    requires { ⌜ (length (now pattern) ≤ length (now borders)) × Borders (now pattern) (now borders) (length (now pattern)) ⌝ }
+    ensures { λ r. ⌜ Stepped (now (pattern .entry)) byte room m (now (table .entry)) r (now (table .exit)) ⌝ }
+{
+    let state = search_kmp::advance(pattern, borders, m.state, byte);
+    let next = m.place.0 + 1;
+    if state != pattern.len() {
+        return Progress {
+            place: TextPlace(next),
+            state,
+            found: m.found,
+        };
+    }
+    note(table, room, m.found, TextPlace(next - pattern.len() as u32));
+    Progress {
+        place: TextPlace(next),
+        state,
+        found: m.found + 1,
+    }
+}
+
+// The bytes of a run.
+fn feed(
+    t: &[u8],
+    run: Unread,
+    pattern: &[u8],
+    borders: &[u8],
+    room: u32,
+    table: &mut [u32],
+) -> Progress
+    requires { ⌜ (ReadsOn (now t) (run .before .place .0) (run .part .from) (run .part .length)) × (run .before .place .0 + run .part .length < 4294967296)
+        × (Even (now pattern) (run .before)) × (room ≤ length (now table)) ⌝ }
+    requires { ⌜ (length (now pattern) ≤ length (now borders)) × Borders (now pattern) (now borders) (length (now pattern)) ⌝ }
+    ensures { λ r. ⌜ (r .place .0 ≡ run .before .place .0 + run .part .length)
+        × ((before : List ℕ) → Seeking (now (t .entry)) (now (pattern .entry)) room before (run .before) (now (table .entry))
+        → Seeking (now (t .entry)) (now (pattern .entry)) room before r (now (table .exit))) ⌝ }
+{
+    let from = run.part.from;
+    let size = run.part.length;
+    let mut at = run.before;
+    let mut i: usize = 0;
+    while i < size {
+        at = step(pattern, borders, t[from + i], at, room, table);
+        i += 1;
+    }
+    at
+}
+
+// The whole text; the first `room` places are written to the table.
+pub fn seek(
+    t: &[u8],
+    h: Header,
+    pattern: &[u8],
+    borders: &[u8],
+    room: u32,
+    table: &mut [u32],
+) -> Sought
+    requires { ⌜ (HeaderOf (now t) h) × (1 ≤ length (now pattern)) × (room ≤ length (now table)) ⌝ }
+    requires { ⌜ (length (now pattern) ≤ length (now borders)) × Borders (now pattern) (now borders) (length (now pattern)) ⌝ }
+    ensures { λ r. ⌜ SeekSays (now (t .entry)) (now (pattern .entry)) room (now (table .entry)) r (now (table .exit)) ⌝ }
+{
+    let mut m = Progress {
+        place: TextPlace(0),
+        state: 0,
+        found: 0,
+    };
+    while m.place.0 < h.text_length {
+        let ran = read_by_header::part_at(t, h, m.place);
+        let Ran::At(part) = ran else {
+            return Sought::Broken;
+        };
+        m = feed(t, Unread { part, before: m }, pattern, borders, room, table);
+    }
+    Sought::All(m.found)
+}

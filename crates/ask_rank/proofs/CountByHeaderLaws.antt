@@ -1,0 +1,65 @@
+-- Count, from the sums of a path.
+use mathlib.Core.List.{List}
+use mathlib.Core.Option.{Option, none, some}
+use mathlib.Core.Path.{_≡_, refl, sym, ap, _∙_}
+use Prim.Native.Nat.{ℕ, _-_, _/_, _%_, _≤_, _<_}
+use native.Mathlib.Omega.{arith}
+use borrow.Author.Tests.{lt-leb, le-leb, ne-eqb}
+use Rattle.format.specs.Layout as at
+use Rattle.format.specs.Path.{Path, pathOf}
+use Rattle.format.specs.Verdict.{readable}
+use Rattle.format.specs.Said.{Said, refused}
+use Rattle.format.specs.SaidLaws.{unless-refused}
+use Rattle.format.specs.CountSays.{countOf, numberOfByte, countSays}
+use Rattle.layout.specs.declared.header.Header.{Header}
+use Rattle.layout.specs.declared.header.HeaderRead.{HeaderRead}
+use Rattle.layout.specs.declared.header.HeaderRead.the-variants.{Refused}
+use Rattle.layout.specs.Header.{headerSays}
+use Rattle.layout.specs.HeaderSays.{HeaderOf, header-refused}
+use Rattle.ask_rank.specs.Sums.{wholeSum}
+use Rattle.ask_rank.specs.Sums.{settled, saidIn}
+use Rattle.ask_totals.proofs.TotalLaws.{not-counted, is-counted}
+use Rattle.ask_rank.proofs.SumsLaws.{broken-word}
+
+-- the finished count
+
+pub said-broken : (w : ℕ) → w ≡ 18446744073709551615 → refused 14 ≡ saidIn w
+said-broken w e = broken-word ∙ ap saidIn (sym e)
+
+pub said-word : (w : ℕ) → (w ≡ 18446744073709551615 → ⊥) → record { number = 0; value = w % 281474976710656; entered = w / 281474976710656 } ≡ saidIn w
+unfolding saidIn
+said-word w ne = rw (ne-eqb w 18446744073709551615 ne)
+
+settled-whole : (t : List ℕ) (byte c : ℕ) (r : Option Path) → settled (wholeSum t byte c r) ≡ countOf t byte c r
+unfolding settled wholeSum
+settled-whole t byte c none = refl
+settled-whole t byte c (some q) = refl
+
+-- each way out of count
+module _ (t : List ℕ) (h : Header) (k : HeaderOf t h) (byte i : ℕ) where
+  pub count-past : h .«text_length» < i → refused 10 ≡ countSays t byte i
+  unfolding countSays
+  count-past past = rw (k .passes, lt-leb i (at.textLength t) (omega (arith, k .length-is)))
+
+  module _ (low : i ≤ h .«text_length») (number : ℕ) (is : number ≡ numberOfByte t byte) where
+    pub count-none : h .settings .counted ≤ number → refused 11 ≡ countSays t byte i
+    unfolding countSays
+    count-none past = rw (k .passes, le-leb i (at.textLength t) (omega (arith, k .length-is)), not-counted t h k byte number is past)
+
+    module _ (counted : number < h .settings .counted) where
+      pub count-nothing : i ≡ 0 → record { number = 0; value = 0; entered = 0 } ≡ countSays t byte i
+      unfolding countSays
+      count-nothing z = rw (k .passes, le-leb i (at.textLength t) (omega (arith, k .length-is)), is-counted t h k byte number is counted, z)
+
+      pub count-walked : (i ≡ 0 → ⊥) → (s : Said) → s ≡ settled (wholeSum t byte number (pathOf t (i - 1))) → s ≡ countSays t byte i
+      unfolding countSays
+      count-walked n s e =
+          rw (k .passes, le-leb i (at.textLength t) (omega (arith, k .length-is)), is-counted t h k byte number is counted, ne-eqb i 0 n)
+          (e ∙ settled-whole t byte number (pathOf t (i - 1)) ∙ rw is)
+
+-- a tree that does not pass questions 5 to 7
+pub count-unread : (t : List ℕ) (byte i : ℕ) (x : HeaderRead) → x ≡ headerSays t → (q : ℕ) → x ≡ Refused q → refused q ≡ countSays t byte i
+unfolding countSays
+count-unread t byte i x x-is q e =
+    let z = header-refused t x x-is q e in
+    unless-refused (readable t) (z .0) q _ (z .1) (z .2)

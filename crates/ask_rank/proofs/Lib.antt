@@ -1,0 +1,3 @@
+pub mod SumsLaws
+pub mod CountByHeaderLaws
+mod UncountedLaws

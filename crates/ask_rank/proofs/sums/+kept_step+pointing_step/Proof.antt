@@ -1,0 +1,224 @@
+use mathlib.Core.List.{List}
+use mathlib.Core.Path.{sym, ap, _∙_}
+use Prim.Native.Nat.{ℕ, _+_, _-_, _*_, _/_, _<_}
+use native.Mathlib.Omega.{arith}
+use borrow.Author.Needs.{needs}
+use borrow.Fn.Kinds.{In}
+use borrow.Fn.PlainCycle.{Measures, is, falls, and}
+use Rattle.ask_rank.proofs.sums.kept_step.Reads as kept-step
+use Rattle.ask_rank.proofs.sums.kept_step.Kinds as kept-step-kinds
+use Rattle.ask_rank.proofs.sums.+kept_step+pointing_step.Lts-kept_step as kept-step-lts
+use Rattle.ask_rank.proofs.sums.pointing_step.Reads as pointing-step
+use Rattle.ask_rank.proofs.sums.pointing_step.Kinds as pointing-step-kinds
+use Rattle.ask_rank.proofs.sums.+kept_step+pointing_step.Lts-pointing_step as pointing-step-lts
+use Rattle.ask_rank.proofs.sums.across.Reads as across-reads
+use Rattle.ask_rank.proofs.sums.down.Reads as down-reads
+use Rattle.ask_rank.proofs.sums.leaf.Reads as leaf-reads
+use Rattle.walk_steps.proofs.child.Reads as child-reads
+use Rattle.walk_steps.proofs.fields.shape_of.Reads as shape-of-reads
+use Rattle.walk_steps.proofs.fields.whole.Reads as whole-reads
+use Rattle.walk_steps.proofs.land.Reads as land-reads
+use Rattle.walk_steps.proofs.look.Reads as look-reads
+use Rattle.walk_steps.proofs.quotient.Reads as quotient-reads
+use Rattle.format.specs.Layout as at
+use Rattle.walk_steps.proofs.StepLaws.{shapes-on}
+use Rattle.walk_path.proofs.WalkLaws as walk
+use Rattle.ask_rank.proofs.SumsLaws as laws
+use Rattle.ask_rank.proofs.sums.+kept_step+pointing_step.{statement}
+use Rattle.ask_rank.proofs.sums.+kept_step+pointing_step.Tie.{close}
+
+abbrev μ-kept-step : Measures 1 kept-step-kinds.ps ℕ
+μ-kept-step κs a = 2 * (at.settings (a .0 .now) .levels - 1 - a .1 .1 .1 .0 .level)
+
+abbrev μ-pointing-step : Measures 1 pointing-step-kinds.ps ℕ
+μ-pointing-step κs a = 2 * (at.settings (a .0 .now) .levels - 1 - a .1 .1 .1 .0 .level) + 1
+
+abbrev kept-step-at : ℕ → In 1 kept-step-kinds.ps
+kept-step-at t = and 1 kept-step-kinds.ps (is 1 kept-step-kinds.ps μ-kept-step t) kept-step.Pre
+
+abbrev kept-step-below : ℕ → In 1 kept-step-kinds.ps
+kept-step-below t =
+    and 1 kept-step-kinds.ps (falls 1 kept-step-kinds.ps _<_ μ-kept-step t) kept-step.Pre
+
+abbrev pointing-step-at : ℕ → In 1 pointing-step-kinds.ps
+pointing-step-at t =
+    and 1 pointing-step-kinds.ps (is 1 pointing-step-kinds.ps μ-pointing-step t) pointing-step.Pre
+
+abbrev pointing-step-below : ℕ → In 1 pointing-step-kinds.ps
+pointing-step-below t =
+    and
+    1
+    pointing-step-kinds.ps
+    (falls 1 pointing-step-kinds.ps _<_ μ-pointing-step t)
+    pointing-step.Pre
+
+abbrev levels : List ℕ → ℕ
+levels t = at.settings t .levels
+
+pub +kept-step+pointing-step-spec : {M : Type 1} → statement M
++kept-step+pointing-step-spec =
+    close μ-kept-step μ-pointing-step
+    (λ t. kept-step-lts.spec (
+      whole-reads.Asked,
+      whole-reads.Learnt,
+      shape-of-reads.Asked,
+      shape-of-reads.Learnt,
+      leaf-reads.Asked,
+      leaf-reads.Learnt,
+      quotient-reads.Asked,
+      quotient-reads.Learnt,
+      child-reads.Asked,
+      child-reads.Learnt,
+      down-reads.Asked,
+      down-reads.Learnt,
+      pointing-step-below t,
+      pointing-step.Post,
+    )
+    (kept-step-at t)
+    kept-step.Post
+    (λ c κs. search needs)
+    (λ c κs. rw (c .whole .ensures) (c .before .before .pre .1 .0 .on .facts .long))
+    (λ c. let k = c .before .before .before .before .pre .1 .0 in record { fits = omega (arith, k .on .level-in, k .on .facts .bounds .levels-high) })
+    (λ c κs. let w = c .before .before .before .before in rw (w .whole .ensures) (w .before .before .pre .1))
+    (λ c.
+    let s = c .before .before .before .before in
+    let w = s .before in
+    laws.by-last _ _ _ _ _ _ _ _ _ _ (w .before .before .pre .1 .0)
+    (c .before .if1 .taken ∙ shapes-on _ _ _ (w .whole .ensures) (s .shape-of .ensures) .levels-is) (rw (w .whole .ensures) at (c .leaf .ensures)))
+    (λ c κs.
+    let s = c .before .before .before in
+    let w = s .before in
+    omega (arith, shapes-on _ _ _ (w .whole .ensures) (s .shape-of .ensures) .arity-is, w .before .before .pre .1 .0 .on .facts .bounds .arity-low))
+    (λ c κs.
+    let e = c .before in
+    let s = e .before .before .before in
+    let w = s .before in
+    let S = w .before .before in
+    let x = shapes-on _ _ _ (w .whole .ensures) (s .shape-of .ensures) in
+    rw (w .whole .ensures) (walk.asks-child _ _ _ _ _ _ _ (S .pre .1 .0)
+    (λ last. e .if1 .left (last ∙ sym (x .levels-is))) _ (c .quotient .ensures ∙ ap (λ (y : ℕ). S .args .on .b / y) (x .arity-is))))
+    (λ c. search needs)
+    (λ c. search needs)
+    (λ c.
+    let m = c .before .before in
+    let e = m .before .before in
+    let s = e .before .before .before in
+    let w = s .before in
+    let S = w .before .before in
+    let x = shapes-on _ _ _ (w .whole .ensures) (s .shape-of .ensures) in
+    laws.by-off _ _ _ _ _ _ _ (S .pre .1 .0) (λ last. e .if1 .left (last ∙ sym (x .levels-is))) _ (m .before .quotient .ensures
+    ∙ ap (λ (y : ℕ). S .args .on .b / y) (x .arity-is)) _ (rw (w .whole .ensures) at (m .child .ensures)) _ _ (c .enum-told .given .1))
+    (λ c κs.
+    let m = c .before .before .before in
+    let e = m .before .before in
+    let s = e .before .before .before in
+    let w = s .before in
+    let S = w .before .before in
+    let x = shapes-on _ _ _ (w .whole .ensures) (s .shape-of .ensures) in
+    rw (w .whole .ensures) (laws.down-asks _ _ _ _ _ _ _ (S .pre .1 .0)
+    (λ last. e .if1 .left (last ∙ sym (x .levels-is))) _ (m .before .quotient .ensures ∙ ap (λ (y : ℕ). S .args .on .b / y) (x .arity-is))
+    _ (rw (w .whole .ensures) at (m .child .ensures)) _ _ _ (c .before .child2 .given .1) (S .pre .1 .1)))
+    (λ c κs.
+    let m = c .before .before .before .before in
+    let e = m .before .before in
+    let s = e .before .before .before in
+    let w = s .before in
+    let S = w .before .before in
+    let x = shapes-on _ _ _ (w .whole .ensures) (s .shape-of .ensures) in
+    let d = rw (w .whole .ensures) at (c .down .ensures) in (
+      omega (arith, S .pre .0, ap levels (w .whole .ensures), S .pre .1 .0 .on .level-in, x .levels-is, e .if1 .left),
+      rw (w .whole .ensures) (laws.to-child _ _ _ _ _ _ _ (S .pre .1 .0)
+          (λ last. e .if1 .left (last ∙ sym (x .levels-is))) _ (m .before .quotient .ensures ∙ ap (λ (y : ℕ). S .args .on .b / y) (x .arity-is))
+          _ (rw (w .whole .ensures) at (m .child .ensures)) _ _ _ (c .before .before .child2 .given .1) _ (d .0) (d .1)),
+    ))
+    (λ c.
+    let m = c .before .before .before .before .before in
+    let e = m .before .before in
+    let s = e .before .before .before in
+    let w = s .before in
+    let S = w .before .before in
+    let x = shapes-on _ _ _ (w .whole .ensures) (s .shape-of .ensures) in
+    let d = rw (w .whole .ensures) at (c .before .down .ensures) in
+    laws.by-child _ _ _ _ _ _ _ (S .pre .1 .0) (λ last. e .if1 .left (last ∙ sym (x .levels-is)))
+    _ (m .before .quotient .ensures ∙ ap (λ (y : ℕ). S .args .on .b / y) (x .arity-is)) _ (rw (w .whole .ensures) at (m .child .ensures))
+    _ _ _ (c .before .before .before .child2 .given .1) _ (d .0) _ _ (rw (w .whole .ensures) at (c .pointing-step .ensures))))
+    (λ t. pointing-step-lts.spec (
+      whole-reads.Asked,
+      whole-reads.Learnt,
+      look-reads.Asked,
+      look-reads.Learnt,
+      kept-step-below t,
+      kept-step.Post,
+      land-reads.Asked,
+      land-reads.Learnt,
+      across-reads.Asked,
+      across-reads.Learnt,
+    )
+    (pointing-step-at t)
+    pointing-step.Post
+    (λ c κs. search needs)
+    (λ c κs. let k = c .before .before .pre .1 .0 in rw (c .whole .ensures) (record { on = k .on; block-in = k .block-in }))
+    (λ c. search needs)
+    (λ c κs.
+    let m = c .before .before in
+    let w = m .before in
+    let S = w .before .before in (
+      omega (arith, S .pre .0, ap levels (w .whole .ensures)),
+      rw (w .whole .ensures)
+          (walk.may-keep _ _ _ _ _ _ _ (S .pre .1 .0) _ (rw (w .whole .ensures) at (m .look .ensures)) _ _ (c .enum-told .given .1), S .pre .1 .1),
+    ))
+    (λ c. search needs)
+    (λ c κs.
+    let m = c .before .before in
+    let w = m .before in
+    let S = w .before .before in
+    rw (w .whole .ensures) (walk.may-point _ _ _ _ _ _ _ (S .pre .1 .0) _ (rw (w .whole .ensures) at (m .look .ensures)) _ _ (c .enum-told2 .given .1)))
+    (λ c. search needs)
+    (λ c. search needs)
+    (λ c.
+    let l = c .before .before in
+    let m = l .before .before .before in
+    let w = m .before in
+    let S = w .before .before in
+    laws.by-no-land _ _ _ _ _ _ _ (S .pre .1 .0) _ (rw (w .whole .ensures) at (m .look .ensures))
+    _ _ (l .before .enum-told2 .given .1) _ (rw (w .whole .ensures) at (l .land .ensures)) _ _ (c .enum-told3 .given .1))
+    (λ c κs.
+    let l = c .before .before .before .before in
+    let m = l .before .before .before in
+    let w = m .before in
+    let S = w .before .before in
+    rw (w .whole .ensures) (
+      laws.target-across _ _ _ _ _ _ (S .args .sum) (S .pre .1 .0) _ (rw (w .whole .ensures) at (m .look .ensures))
+          _ _ (l .before .enum-told2 .given .1) _ (rw (w .whole .ensures) at (l .land .ensures)) _ _ (c .before .before .there .given .1),
+      walk.may-enter _ _ _ _ _ _ _ (S .pre .1 .0),
+      S .pre .1 .1,
+    ))
+    (λ c κs.
+    let l = c .before .before .before .before .before in
+    let m = l .before .before .before in
+    let w = m .before in
+    let S = w .before .before in
+    let d = rw (w .whole .ensures) at (c .across .ensures) in (
+      omega (arith, S .pre .0, ap levels (w .whole .ensures)),
+      rw (w .whole .ensures) (
+        laws.to-target _ _ _ _ _ _ _ (S .pre .1 .0) _ (rw (w .whole .ensures) at (m .look .ensures)) _ _ (l .before .enum-told2 .given .1)
+            _ (rw (w .whole .ensures) at (l .land .ensures)) _ _ (c .before .before .before .there .given .1) 0 _ _ (d .0),
+        d .1,
+      ),
+    ))
+    (λ c. search needs)
+    (λ c. let w = c .before .before .before .before in rw (w .whole .ensures) at (c .kept-step .ensures))
+    (λ c.
+    let l = c .before .before .before .before .before .before in
+    let m = l .before .before .before in
+    let w = m .before in
+    let S = w .before .before in
+    let d = rw (w .whole .ensures) at (c .before .across .ensures) in
+    laws.by-target _ _ _ _ _ _ _ (S .pre .1 .0)
+    _ (rw (w .whole .ensures) at (m .look .ensures)) _ _ (l .before .enum-told2 .given .1) _ (rw (w .whole .ensures) at (l .land .ensures))
+    _ _ (c .before .before .before .before .there .given .1) _ _ _ (d .0) _ (rw (w .whole .ensures) at (c .kept-step2 .ensures)))
+    (λ c.
+    let m = c .before .before in
+    let w = m .before in
+    let S = w .before .before in
+    laws.by-none _ _ _ _ _ _ _ (S .pre .1 .0) _ (rw (w .whole .ensures) at (m .look .ensures)) _ _ (c .enum-told4 .given .1)))

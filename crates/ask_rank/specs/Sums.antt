@@ -1,0 +1,69 @@
+-- What is carried down the path of a count, and what is asked where it stands.
+use mathlib.Core.List.{List, [], _∷_}
+use mathlib.Core.Option.{Option, none, some}
+use Prim.Native.Nat.{ℕ, _+_, _*_, _≤_, _<_}
+use lib.ListN.{length}
+use Rattle.text.specs.Text.{countIn}
+use Rattle.format.specs.Layout as at
+use Rattle.format.specs.Path.{Path, Visit}
+use Rattle.format.specs.CountSays.{addedAfter, added, taken, leavesReached}
+use Rattle.walk_steps.specs.Steps.{OnLevel}
+use Rattle.ask_rank.specs.declared.sums.Sum.{Sum}
+use Rattle.ask_rank.specs.declared.sums.Summed.{Summed}
+use Rattle.ask_rank.specs.declared.sums.Summed.the-variants.{At, Broken}
+use mathlib.Core.Bool.{cond}
+use mathlib.Core.List.{List}
+use Prim.Native.Nat.{ℕ, _-_, _/_, _%_, _≤_}
+use lib.Dec.{eqb, leb}
+use Rattle.format.specs.Said.{Said, refused}
+
+-- one more block entered, so much more added and taken off
+unfoldable pub onward : Sum → ℕ → ℕ → Sum
+onward s plus minus = record { entered = s .entered + 1; plus = s .plus + plus; minus = s .minus + minus }
+
+module _ (t : List ℕ) where
+  -- what is added after the first block, whose before the caller settles
+  unfoldable pub addedRest : ℕ → List Visit → ℕ
+  addedRest c [] = 0
+  addedRest c (v ∷ vs) = addedAfter t c v vs
+
+  -- a path walked to its end: its blocks counted, what is added with the leaf bytes reached, and what is taken off
+  unfoldable pub summed : ℕ → ℕ → Sum → Option Path → Summed
+  summed byte c s none = Broken
+  summed byte c s (some q) = At (record {
+    entered = s .entered + length (q .visits);
+    plus = s .plus + (addedRest c (q .visits) + countIn byte (leavesReached t q));
+    minus = s .minus + taken t c (q .visits);
+  })
+
+  -- before the first block on a path is entered
+  unfoldable pub startSum : ℕ → ℕ → Sum
+  startSum c i = record { entered = 0; plus = at.before t 0 i c; minus = 0 }
+
+  -- the sums of a whole path
+  unfoldable pub wholeSum : ℕ → ℕ → Option Path → Summed
+  wholeSum byte c none = Broken
+  wholeSum byte c (some q) =
+      At (record { entered = length (q .visits); plus = added t c (q .visits) + countIn byte (leavesReached t q); minus = taken t c (q .visits) })
+
+  -- the number of a counted byte, and sums of at most one word for each block
+  pub record Carried (c : ℕ) (s : Sum) : Type 0 where
+    pub number-in : c < at.countedCount t
+    pub plus-few : s .plus ≤ (s .entered + 1) * 4294967295
+    pub minus-few : s .minus ≤ s .entered * 4294967295
+
+  -- a pointing block and its target, the block linked to or one after it
+  pub record Across (size level i j : ℕ) : Type 0 where
+    pub on : OnLevel t size level (at.fullLength t level)
+    pub block-in : i < at.levelCount t level
+    pub target-in : j < at.levelCount t level
+    pub link-low : at.link t level i ≤ j
+
+-- the finished count, which is not below zero
+unfoldable pub settled : Summed → Said
+settled Broken = refused 14
+settled (At s) = cond (leb (s .minus) (s .plus)) (record { number = 0; value = s .plus - s .minus; entered = s .entered }) (refused 14)
+
+-- what a count's word says: how often, and 2^48 times the blocks entered; all ones where the path breaks or the count is below zero
+unfoldable pub saidIn : ℕ → Said
+saidIn w = cond (eqb w 18446744073709551615) (refused 14) (record { number = 0; value = w % 281474976710656; entered = w / 281474976710656 })

@@ -1,0 +1,25 @@
+// Count (rank): how often a counted byte stands in a prefix. It asks 5 to 7 first, of any bytes lent as a tree.
+pub mod count_by_header;
+mod sums;
+pub mod uncounted;
+
+use layout::header;
+use layout::header::HeaderRead;
+ghost use Rattle.ask_rank.specs.Counts.{CountAnswer};
+
+// How often a byte stands, with the number of blocks entered, or the number of the question that refuses.
+pub enum Counted {
+    Times(u64, u32),
+    Refused(u32),
+}
+
+// How often a counted byte stands in the first i bytes of the text.
+pub fn count(t: &[u8], byte: u8, i: u32) -> Counted
+    ensures { λ r. ⌜ CountAnswer (now (t .entry)) byte i r ⌝ }
+{
+    let read = header::read_header(t);
+    match read {
+        HeaderRead::Good(h) => count_by_header::count_at(t, h, byte, i),
+        HeaderRead::Refused(number) => Counted::Refused(number),
+    }
+}

@@ -1,0 +1,216 @@
+// The sums down the path of a place: what is added and what is taken off, apart. The step for a kept block and the step for a
+// pointing block call each other: twice the levels left, plus one if a pointer may still be followed, falls. A step carries no header,
+// and its answer is one word.
+use ask_totals::Wanted;
+use layout::header::Header;
+use layout::place::BlockNumber;
+use layout::place::On;
+use layout::place::Spot;
+use layout::place::TextPlace;
+use layout::record;
+use walk_steps::Arrived;
+use walk_steps::Next;
+use walk_steps::fields;
+ghost use mathlib.Core.Path.{_≡_};
+ghost use mathlib.Core.Bool.{cond};
+ghost use Prim.Native.Nat.{_+_, _-_, _*_, _≤_, _<_};
+ghost use lib.Dec.{eqb};
+ghost use Rattle.format.specs.Layout as at;
+ghost use Rattle.format.specs.Settings.{maxLevels};
+ghost use Rattle.format.specs.Path.{pathFrom, pathOf};
+ghost use Rattle.layout.specs.HeaderSays.{HeaderOf};
+ghost use Rattle.walk_steps.specs.Steps.{OnLevel};
+ghost use Rattle.walk_path.specs.Walk.{KeptAt, MayPoint};
+ghost use Rattle.ask_rank.specs.Sums.{Carried, Across, onward, summed, startSum, wholeSum};
+ghost use Rattle.ask_rank.specs.Sums.{settled, saidIn};
+
+// What is carried down a path: how many blocks were entered, what is added, and what is taken off.
+pub struct Sum {
+    pub entered: u32,
+    pub plus: u64,
+    pub minus: u64,
+}
+
+pub enum Summed {
+    At(Sum),
+    Broken,
+}
+
+impl Sum {
+    // With one more block entered, and so much more added and taken off.
+    fn enter(self, plus: u32, minus: u32) -> Sum
+        requires { ⌜ (self .entered ≤ 2 * maxLevels) × (self .plus ≤ 1099511627776) × (self .minus ≤ 1099511627776) ⌝ }
+        ensures { λ r. ⌜ r ≡ onward self plus minus ⌝ }
+    {
+        Sum {
+            entered: self.entered + 1,
+            plus: self.plus + plus as u64,
+            minus: self.minus + minus as u64,
+        }
+    }
+
+    // The finished count in one word: how often, and 2^48 times the blocks entered; no count is below zero.
+    fn packed(self) -> u64
+        requires { ⌜ (self .entered ≤ 2 * maxLevels + 1) × (self .plus ≤ 1099511627776) ⌝ }
+        ensures { λ r. ⌜ saidIn r ≡ settled (Summed.At self) ⌝ }
+    {
+        if self.plus < self.minus {
+            return BROKEN;
+        }
+        (self.plus - self.minus) + 281474976710656 * self.entered as u64
+    }
+}
+
+// The word of a path that breaks, or of a count below zero.
+pub const BROKEN: u64 = 18446744073709551615;
+
+// The leaf bytes of a kept block of the last level, up to a place.
+fn leaf(t: &[u8], size: u32, wanted: Wanted, on: On, spot: Spot, sum: Sum) -> u64
+    requires { ⌜ (KeptAt (now t) size (on .level) (on .b) (spot .block .0) (spot .place .0) (sum .entered)) × (Carried (now t) (wanted .number) sum) ⌝ }
+    ensures { λ r. ⌜ saidIn r ≡ settled (summed (now (t .entry)) (wanted .byte) (wanted .number) sum
+        (pathFrom (now (t .entry)) 0 (on .level) (spot .block .0) (spot .place .0))) ⌝ }
+{
+    let link = record::link(t, size, on.level, spot.block) as u64;
+    let number = link + spot.place.0 as u64;
+    let shape = fields::shape_of(t);
+    if number < shape.leaf_count as u64 {
+        let from = shape.leaf_offset as usize + link as usize;
+        let here = stretches::count_in(t, from, spot.place.0 + 1, wanted.byte);
+        let all = sum.enter(here, 0);
+        return all.packed();
+    }
+    BROKEN
+}
+
+// A pointing block, and the target that it hands a place to.
+struct Hop {
+    block: BlockNumber,
+    target: BlockNumber,
+}
+
+// From a pointing block to its target: the block's skip is taken off, and the first target's inside is added if the second is
+// entered.
+fn across(t: &[u8], size: u32, wanted: Wanted, level: u32, hop: Hop, sum: Sum) -> Sum
+    requires { ⌜ (Across (now t) size level (hop .block .0) (hop .target .0)) × (sum .entered ≤ 2 * maxLevels) × (Carried (now t) (wanted .number) sum) ⌝ }
+    ensures { λ r. ⌜ r ≡ onward sum
+        (cond (eqb (hop .target .0) (at.link (now (t .entry)) level (hop .block .0))) 0
+        (at.inside (now (t .entry)) level (at.link (now (t .entry)) level (hop .block .0)) (wanted .number)))
+        (at.skip (now (t .entry)) level (hop .block .0) (wanted .number)) ⌝ }
+    ensures { λ r. ⌜ Carried (now (t .entry)) (wanted .number) r ⌝ }
+{
+    let link = record::link(t, size, level, hop.block);
+    let skip = record::skip(t, size, level, hop.block, wanted.number);
+    if hop.target.0 == link {
+        return sum.enter(0, skip);
+    }
+    let inside = record::inside(t, size, level, BlockNumber(link), wanted.number);
+    sum.enter(inside, skip)
+}
+
+// To a child: its before is added.
+fn down(t: &[u8], size: u32, wanted: Wanted, level: u32, block: BlockNumber, sum: Sum) -> Sum
+    requires { ⌜ (OnLevel (now t) size level (at.fullLength (now t) level))
+        × (block .0 < at.levelCount (now t) level) × (sum .entered ≤ 2 * maxLevels) × (Carried (now t) (wanted .number) sum) ⌝ }
+    ensures { λ r. ⌜ r ≡ onward sum (at.before (now (t .entry)) level (block .0) (wanted .number)) 0 ⌝ }
+    ensures { λ r. ⌜ Carried (now (t .entry)) (wanted .number) r ⌝ }
+{
+    let before = record::before(t, size, level, block, wanted.number);
+    sum.enter(before, 0)
+}
+
+// From a kept block, which hands the place to a child.
+fn kept_step(t: &[u8], size: u32, wanted: Wanted, on: On, spot: Spot, sum: Sum) -> u64
+    requires { ⌜ (KeptAt (now t) size (on .level) (on .b) (spot .block .0) (spot .place .0) (sum .entered)) × (Carried (now t) (wanted .number) sum) ⌝ }
+    ensures { λ r. ⌜ saidIn r ≡ settled (summed (now (t .entry)) (wanted .byte) (wanted .number) sum
+        (pathFrom (now (t .entry)) (at.settings (now (t .entry)) .levels - 1 - on .level) (on .level) (spot .block .0) (spot .place .0))) ⌝ }
+{
+    let tree = fields::whole(t);
+    let shape = fields::shape_of(tree);
+    let under = on.level + 1;
+    if under == shape.levels {
+        return leaf(tree, size, wanted, on, spot, sum);
+    }
+    let below = walk_steps::quotient(on.b, shape.arity);
+    let child = walk_steps::child(tree, size, on.level, below, spot.block, spot.place);
+    let Arrived::At(i, p) = child else {
+        return BROKEN;
+    };
+    let further = down(tree, size, wanted, under, i, sum);
+    pointing_step(
+        tree,
+        size,
+        wanted,
+        On {
+            level: under,
+            b: below,
+        },
+        Spot { block: i, place: p },
+        further,
+    )
+}
+
+// From a block at which a pointer may still be followed: a pointing one hands the place to a kept block of its level, on the last level
+// no block points.
+fn pointing_step(t: &[u8], size: u32, wanted: Wanted, on: On, spot: Spot, sum: Sum) -> u64
+    requires { ⌜ (MayPoint (now t) size (on .level) (on .b) (spot .block .0) (spot .place .0) (sum .entered)) × (Carried (now t) (wanted .number) sum) ⌝ }
+    ensures { λ r. ⌜ saidIn r ≡ settled (summed (now (t .entry)) (wanted .byte) (wanted .number) sum
+        (pathFrom (now (t .entry)) (at.settings (now (t .entry)) .levels - 1 - on .level) (on .level) (spot .block .0) (spot .place .0))) ⌝ }
+{
+    let tree = fields::whole(t);
+    let here = walk_steps::look(tree, size, on.level, on.b, spot.block, spot.place);
+    match here {
+        Next::Kept(_, _) => kept_step(tree, size, wanted, on, spot, sum),
+        Next::Points(_, _) => {
+            let there = walk_steps::land(tree, size, on.level, on.b, spot.block, spot.place);
+            let Arrived::At(i, p) = there else {
+                return BROKEN;
+            };
+            let from = spot.block;
+            let hop = Hop {
+                block: from,
+                target: i,
+            };
+            let further = across(tree, size, wanted, on.level, hop, sum);
+            kept_step(tree, size, wanted, on, Spot { block: i, place: p }, further)
+        }
+        Next::Off => BROKEN,
+    }
+}
+
+// What the first block on a path gives before it is entered: its before.
+fn start(t: &[u8], h: Header, wanted: Wanted, block: BlockNumber) -> Sum
+    requires { ⌜ (HeaderOf (now t) h) × (block .0 < at.levelCount (now t) 0) × (wanted .number < at.countedCount (now t)) ⌝ }
+    ensures { λ r. ⌜ r ≡ startSum (now (t .entry)) (wanted .number) (block .0) ⌝ }
+    ensures { λ r. ⌜ Carried (now (t .entry)) (wanted .number) r ⌝ }
+{
+    Sum {
+        entered: 0,
+        plus: record::before(t, h.record_size, 0, block, wanted.number) as u64,
+        minus: 0,
+    }
+}
+
+// The sums down the whole path of a place of the text, settled, in one word.
+pub fn walk(t: &[u8], h: Header, wanted: Wanted, place: TextPlace) -> u64
+    requires { ⌜ (HeaderOf (now t) h) × (place .0 < h .«text_length») × (wanted .number < at.countedCount (now t)) ⌝ }
+    ensures { λ r. ⌜ saidIn r ≡ settled (wholeSum (now (t .entry)) (wanted .byte) (wanted .number) (pathOf (now (t .entry)) (place .0))) ⌝ }
+{
+    let part = walk_steps::part_of(place.0, h.top_length);
+    let rest = part.place;
+    let first = BlockNumber(part.blocks);
+    let sum = start(t, h, wanted, first);
+    pointing_step(
+        t,
+        h.record_size,
+        wanted,
+        On {
+            level: 0,
+            b: h.top_length,
+        },
+        Spot {
+            block: first,
+            place: rest,
+        },
+        sum,
+    )
+}

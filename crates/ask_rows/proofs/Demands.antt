@@ -1,0 +1,162 @@
+-- Row with a guide, a row's length and the number of rows: theorems over what the calls promise.
+-- docs/FORMAT.md: "Guides", "What is told without the text".
+use mathlib.Core.List.{List, _++_}
+use mathlib.Core.Bool.{true}
+use mathlib.Core.Path.{_≡_, sym, ap, _∙_}
+use mathlib.Core.Logic.{_⊎_, inl, inr}
+use Prim.Native.Nat.{ℕ, _-_, _≤_, _<_}
+use native.Mathlib.Omega.{arith}
+use contract.Lifetimes.{Lfts}
+use denote.Ref.{RefT, now}
+use lib.ListN.{length, drop}
+use borrow.Author.Tests.{eq-eqb, ne-eqb, lt-ltb, le-ltb}
+use Rattle.text.specs.ListLaws.{lt-or-ge}
+use Rattle.text.specs.Rows.{rowsOf, rowOf}
+use Rattle.text.specs.RowLaws.{endsOpen, rows-count}
+use Rattle.format.specs.Layout as at
+use Rattle.format.specs.Fits.{textOf}
+use Rattle.format.specs.Verdict.{verdict}
+use Rattle.format.specs.VerdictLaws.{accepted-readable, accepted-links}
+use Rattle.format.specs.Said.{Said}
+use Rattle.format.specs.CountSays.{isCounted}
+use Rattle.format.specs.RowSays.{rowNumber}
+use Rattle.theory_paths.specs.OneText.{text-length}
+use Rattle.theory_paths.specs.Demands as paths
+use Rattle.theory_counts.specs.Demands as tallies
+use Rattle.theory_counts.specs.RowsOfText.{row-lets}
+use Rattle.ask_guide.specs.Guides.{guideNumber}
+use Rattle.ask_guide.proofs.GuideList.{guide-verdict}
+use Rattle.ask_guide.proofs.Demands.{CheckGuide}
+use Rattle.ask_rows.specs.declared.RowCopied.{RowCopied}
+use Rattle.ask_rows.specs.declared.RowCopied.the-variants as row
+use Rattle.ask_rows.specs.RowAnswers.{saidRow, Numbered, RowAnswer}
+use Rattle.ask_rows.specs.declared.RowLength.{RowLength}
+use Rattle.ask_rows.specs.declared.RowLength.the-variants as size
+use Rattle.ask_rows.specs.declared.RowCount.{RowCount}
+use Rattle.ask_rows.specs.declared.RowCount.the-variants as count
+use Rattle.ask_rows.specs.RowLengths.{rowsNumber, lastOpen, rowsSays, saidLength, saidCount, LengthNumbered, CountNumbered}
+use Rattle.ask_rows.proofs.row_length.Reads as length-reads
+use Rattle.ask_rows.proofs.row_count.Reads as count-reads
+use Rattle.ask_rows.proofs.row.Reads as row-reads
+use Rattle.ask_rows.proofs.row_guided.Reads as guided-reads
+
+-- r is an answer that the contract of the call allows with these arguments, with the buffer left as `after`
+abbrev pub RowGuided : (κs : Lfts 3) → (t guide : RefT (List ℕ)) → (q : ℕ) → (buffer after : RefT (List ℕ)) → RowCopied → Type 0
+RowGuided κs t guide q buffer after r = guided-reads.Post κs (t, (guide, (q, (buffer, tt)))) r (t, (guide, (q, (after, tt))))
+
+abbrev Row : (κs : Lfts 2) → RefT (List ℕ) → (q : ℕ) → (buffer after : RefT (List ℕ)) → RowCopied → Type 0
+Row κs t q buffer after r = row-reads.Post κs (t, (q, (buffer, tt))) r (t, (q, (after, tt)))
+
+-- two answers with the same number and length are the same
+same-copied : (x y : RowCopied) → Numbered x → Numbered y → saidRow x .number ≡ saidRow y .number → saidRow x .value ≡ saidRow y .value → x ≡ y
+same-copied (row.Bytes m) (row.Bytes n) k l s z = ap row.Bytes z
+same-copied (row.Bytes m) (row.Refused n) k l s z = absurd (let y : ⊥ = omega arith in y)
+same-copied (row.Refused m) (row.Bytes n) k l s z = absurd (let y : ⊥ = omega arith in y)
+same-copied (row.Refused m) (row.Refused n) k l s z = ap row.Refused s
+
+-- on an accepted tree row has one answer
+module _ (t : List ℕ) (v : verdict t ≡ 0)
+    (q : ℕ) (buffer : List ℕ) (x y : RowCopied) (after other : List ℕ) (a : RowAnswer t q buffer x after) (b : RowAnswer t q buffer y other) where
+  one-row : (x ≡ y) × (after ≡ other)
+  one-row = go (lt-or-ge 0 (rowNumber t q)) (lt-or-ge (length buffer) (length (rowOf (textOf t) q)))
+    where
+      both : (n m : ℕ) (l : List ℕ) → (saidRow x .number ≡ n)
+          × (saidRow x .value ≡ m) × (after ≡ l) → (saidRow y .number ≡ n) × (saidRow y .value ≡ m) × (other ≡ l) → (x ≡ y) × (after ≡ other)
+      both n m l c d = (same-copied x y (a .numbered) (b .numbered) (c .0 ∙ sym (d .0)) (c .1 ∙ sym (d .1)), c .2 ∙ sym (d .2))
+
+      go : (0 < rowNumber t q) ⊎ (rowNumber t q ≤ 0)
+          → (length buffer < length (rowOf (textOf t) q)) ⊎ (length (rowOf (textOf t) q) ≤ length buffer) → (x ≡ y) × (after ≡ other)
+      go (inl l) w = both (rowNumber t q) 0 buffer (a .says .asked l) (b .says .asked l)
+      go (inr l) (inl w) = let z : rowNumber t q ≡ 0 = omega arith in both 13 0 buffer (a .says .short z v w) (b .says .short z v w)
+      go (inr l) (inr w) =
+          let z : rowNumber t q ≡ 0 = omega arith in
+          let c = a .says .accepted z v w in
+          let d = b .says .accepted z v w in
+          let n = length (rowOf (textOf t) q) in
+          both 0 n (rowOf (textOf t) q ++ drop n buffer) (c .0, c .1, c .2 ∙ ap (λ (i : ℕ). rowOf (textOf t) q ++ drop i buffer) (c .1))
+          (d .0, d .1, d .2 ∙ ap (λ (i : ℕ). rowOf (textOf t) q ++ drop i buffer) (d .1))
+
+-- "row with a guide is row by such finds; for an accepted tree and guide its answer is row's"
+pub guided-as-row : (κs : Lfts 3) (t guide : RefT (List ℕ)) (q : ℕ) (buffer after : RefT (List ℕ)) (r : RowCopied) → RowGuided κs t guide q buffer after r
+    → (κ : Lfts 2) → CheckGuide κ t guide 0 → (κ′ : Lfts 2) (left : RefT (List ℕ)) (s : RowCopied) → Row κ′ t q buffer left s → (r ≡ s) × (now after ≡ now left)
+guided-as-row κs t guide q buffer after r a κ ok κ′ left s b =
+    let g : guideNumber (now t) (now guide) ≡ 0 = sym ok in
+    let v = guide-verdict (now t) (now guide) g in
+    let z = a .says in
+    one-row (now t) v q (now buffer) r s (now after) (now left)
+    (record {
+      says = record { asked = z .asked; short = λ n w. z .short n g; accepted = λ n w. z .accepted n g; free = λ n w. absurd (w v) };
+      numbered = a .numbered;
+    }) b
+
+-- The length of a row, and the number of rows, on accepted trees.
+
+abbrev pub LengthOf : (κs : Lfts 1) → RefT (List ℕ) → (q : ℕ) → RowLength → Type 0
+LengthOf κs t q r = length-reads.Post κs (t, (q, tt)) r (t, (q, tt))
+
+abbrev pub CountOf : (κs : Lfts 1) → RefT (List ℕ) → RowCount → Type 0
+CountOf κs t r = count-reads.Post κs (t, tt) r (t, tt)
+
+bytes-are : (r : RowLength) (n : ℕ) → LengthNumbered r → saidLength r .number ≡ 0 → saidLength r .value ≡ n → r ≡ size.Bytes n
+bytes-are (size.Bytes m) n k e f = ap size.Bytes f
+bytes-are (size.Refused m) n k e f = absurd (let z : ⊥ = omega arith in z)
+
+rows-are : (r : RowCount) (n : ℕ) → CountNumbered r → saidCount r ≡ record { number = 0; value = n; entered = 0 } → r ≡ count.Rows n
+rows-are (count.Rows m) n k e = ap count.Rows (ap (λ (s : Said). s .value) e)
+rows-are (count.Refused m) n k e = absurd (let z : ⊥ = omega (arith, ap (λ (s : Said). s .number) e) in z)
+
+rows-say : (t : List ℕ) → verdict t ≡ 0 → isCounted t 10 ≡ true → rowsSays t ≡ record { number = 0; value = length (rowsOf (textOf t)); entered = 0 }
+unfolding rowsSays rowsNumber lastOpen endsOpen
+rows-say t v counted = go (lt-or-ge 0 (at.textLength t))
+  where
+    go : (0 < at.textLength t) ⊎ (at.textLength t ≤ 0) → rowsSays t ≡ record { number = 0; value = length (rowsOf (textOf t)); entered = 0 }
+    go (inl some) =
+        let w = paths.byte-of-text t (accepted-readable t v) (accepted-links t v) (at.textLength t - 1) (omega arith) in
+        rw (
+          accepted-readable t v,
+          counted,
+          ne-eqb (at.textLength t) 0 (λ e. omega arith),
+          w .2,
+          rows-count (textOf t),
+          tallies.total-of-text t v 10 counted,
+          text-length t,
+          lt-ltb 0 (at.textLength t) some,
+        )
+    go (inr none) =
+        let e : at.textLength t ≡ 0 = omega arith in
+        rw (
+          accepted-readable t v,
+          counted,
+          eq-eqb (at.textLength t) 0 e,
+          rows-count (textOf t),
+          tallies.total-of-text t v 10 counted,
+          text-length t,
+          le-ltb 0 (at.textLength t) none,
+        )
+
+module _ (κs : Lfts 1) (t : RefT (List ℕ)) (v : verdict (now t) ≡ 0) where
+  -- the number of rows is that of the text's rows; ..
+  pub rows-of-text : isCounted (now t) 10 ≡ true → (r : RowCount) → CountOf κs t r → r ≡ count.Rows (length (rowsOf (textOf (now t))))
+  rows-of-text counted r a = rows-are r (length (rowsOf (textOf (now t)))) (a .numbered) (a .says ∙ rows-say (now t) v counted)
+
+  module _ (q : ℕ) where
+    -- each of them has a length, ..
+    pub length-of-text : isCounted (now t) 10 ≡ true → 1 ≤ q → q ≤ length (rowsOf (textOf (now t))) → (r : RowLength) → LengthOf κs t q r
+        → r ≡ size.Bytes (length (rowOf (textOf (now t)) q))
+    length-of-text counted low high r a =
+        let z = a .says .accepted (row-lets (now t) v counted q low high) v in
+        bytes-are r (length (rowOf (textOf (now t)) q)) (a .numbered) (z .0) (z .1)
+
+    -- .. and a buffer of that length is enough for row: 13 is no answer
+    pub length-enough : (n : ℕ) → LengthOf κs t q (size.Bytes n) → (κ : Lfts 2) (buffer after : RefT (List ℕ)) (r : RowCopied) → Row κ t q buffer after r
+        → n ≤ length (now buffer) → (r ≡ row.Bytes n) × (now after ≡ rowOf (textOf (now t)) q ++ drop n (now buffer))
+    length-enough n a κ buffer after r b room = go (lt-or-ge 0 (rowNumber (now t) q))
+      where
+        go : (0 < rowNumber (now t) q) ⊎ (rowNumber (now t) q ≤ 0) → (r ≡ row.Bytes n) × (now after ≡ rowOf (textOf (now t)) q ++ drop n (now buffer))
+        go (inl l) = absurd (let z : ⊥ = omega (arith, a .says .asked l .0) in z)
+        go (inr l) =
+            let z : rowNumber (now t) q ≡ 0 = omega arith in
+            let size-is = a .says .accepted z v .1 in
+            let c = b .says .accepted z v (omega arith) in
+            let all : saidRow r .value ≡ n = c .1 ∙ sym size-is in
+            (same-copied r (row.Bytes n) (b .numbered) tt (c .0) all, rw all at (c .2))

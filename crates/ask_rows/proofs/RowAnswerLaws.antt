@@ -1,0 +1,194 @@
+-- Row, from its edges and the bytes between them.
+use mathlib.Core.List.{List, _++_}
+use mathlib.Core.Bool.{true, false, cond}
+use mathlib.Core.Path.{_≡_, refl, sym, ap, _∙_}
+use mathlib.Core.Logic.{_⊎_, inl, inr}
+use Prim.Native.Nat.{ℕ, zero, suc, _+_, _≤_, _<_}
+use native.Mathlib.Omega.{arith}
+use borrow.Author.Tests.{ne-eqb}
+use lib.ListN.{length, drop, replicate}
+use lib.Seq.{drop-at}
+use lib.Dec.{eqb}
+use Rattle.text.specs.Lists.{tabulate}
+use Rattle.text.specs.ListLaws.{lt-or-ge, bool-cases, length-tabulate}
+use Rattle.text.specs.Text.{stretch}
+use Rattle.text.specs.TextLaws.{length-stretch}
+use Rattle.text.specs.Rows.{rowOf}
+use Rattle.format.specs.VerdictLaws.{accepted-links}
+use Rattle.format.specs.Layout as at
+use Rattle.format.specs.Fits.{textOf}
+use Rattle.format.specs.Verdict.{readable, verdict}
+use Rattle.format.specs.Said.{Said, refused, unless}
+use Rattle.format.specs.SaidLaws.{unless-number}
+use Rattle.format.specs.ReadSays.{pathsHold, leavesSpan, copyNumber, copySays, copyLeaves}
+use Rattle.format.specs.FindSays.{selectNumber}
+use Rattle.format.specs.RowSays.{asksLast, rowNumber, rowMost, RowBy}
+use Rattle.theory_paths.specs.Demands as paths
+use Rattle.theory_paths.specs.OneText.{text-length}
+use Rattle.layout.specs.declared.header.HeaderRead.{HeaderRead}
+use Rattle.layout.specs.declared.header.HeaderRead.the-variants as header
+use Rattle.layout.specs.Header.{headerSays}
+use Rattle.ask_access.specs.ReadAnswers as access
+use Rattle.ask_access.specs.ReadAnswers.{copiedSaid}
+use Rattle.ask_access.specs.declared.Copied.{Copied}
+use Rattle.ask_access.specs.declared.Copied.the-variants as of
+use Rattle.ask_access.proofs.SpanLaws.{ByPaths, values, no-room, number-in-room}
+use Rattle.layout.specs.HeaderSays.{header-refused}
+use Rattle.ask_rows.specs.declared.row_edges.Edges.{Edges}
+use Rattle.ask_rows.specs.declared.row_edges.Edges.the-variants as edges
+use Rattle.ask_rows.specs.declared.RowCopied.{RowCopied}
+use Rattle.ask_rows.specs.declared.RowCopied.the-variants as row
+use Rattle.ask_rows.specs.RowAnswers.{saidRow, Numbered, RowAnswerBy}
+use Rattle.ask_rows.specs.RowSpans.{edgesNumber, CopyAnswer, Refuses, Spans, EdgesOf}
+
+row-refused : (t : List ℕ) (ok q n : ℕ) (buffer : List ℕ) → Refuses t ok (rowNumber t q) (rowOf (textOf t) q) n → RowBy t ok q buffer n 0 buffer
+row-refused t ok q n buffer r = record {
+  asked = λ l. (r .asked l, refl, refl);
+  short = λ z v l. absurd (r .accepted z v);
+  accepted = λ z v l. absurd (r .accepted z v);
+  free = λ z v. inr (inr (r .free z, refl, inl refl));
+}
+
+-- each way out of a span whose place and length were asked before
+record SpanWays (t : List ℕ) (p len : ℕ) (buffer : List ℕ) : Type 0 where
+  ways : ((copyNumber t p len (length buffer) ≡ 13) × (copyLeaves t p len buffer ≡ buffer))
+      ⊎ (((copyNumber t p len (length buffer) ≡ 0) × (len ≤ length buffer) × (drop len (copyLeaves t p len buffer) ≡ drop len buffer))
+      ⊎ ((copyNumber t p len (length buffer) ≡ 14) × (len ≤ length buffer) × (copyLeaves t p len buffer ≡ replicate len 0 ++ drop len buffer)))
+
+module _ (t : List ℕ) (p len : ℕ) (buffer : List ℕ) (passes : readable t ≡ 0) (within : p + len ≤ at.textLength t) where
+  leaves-is : (n : ℕ) → copyNumber t p len (length buffer) ≡ n
+      → copyLeaves t p len buffer ≡ cond (eqb n 0) (tabulate len (values t p) ++ drop len buffer) (cond (eqb n 14) (replicate len 0 ++ drop len buffer) buffer)
+  unfolding copyLeaves leavesSpan
+  leaves-is n e = rw e
+
+  span-ways : SpanWays t p len buffer
+  unfolding copyNumber
+  span-ways = go (lt-or-ge (length buffer) len) (bool-cases (pathsHold t p len))
+    where
+      go : (length buffer < len) ⊎ (len ≤ length buffer) → (pathsHold t p len ≡ true) ⊎ (pathsHold t p len ≡ false) → SpanWays t p len buffer
+      go (inl short) y = let e = no-room t p len buffer (pathsHold t p len) (tabulate len (values t p)) 0 passes within short in
+          record { ways = inl (e, leaves-is 13 e) }
+      go (inr room) (inl hold) =
+          let e : copyNumber t p len (length buffer) ≡ 0 =
+          number-in-room t p len buffer (pathsHold t p len) (tabulate len (values t p)) 0 passes within room ∙ rw hold in
+          let bytes = tabulate len (values t p) in
+          record { ways = inr (inl (e, room, ap (drop len) (leaves-is 0 e) ∙ drop-at bytes (drop len buffer) len (length-tabulate len (values t p)))) }
+      go (inr room) (inr broken) =
+          let e : copyNumber t p len (length buffer) ≡ 14 =
+          number-in-room t p len buffer (pathsHold t p len) (tabulate len (values t p)) 0 passes within room ∙ rw broken in
+          record { ways = inr (inr (e, room, leaves-is 14 e)) }
+
+unless-value : (n m : ℕ) (s a : Said) → s ≡ unless n a → n ≡ suc m → s .value ≡ 0
+unless-value n m s a e z = let f : s ≡ refused (suc m) = rw z at e in ap (λ (y : Said). y .value) f
+
+unless-none : (n : ℕ) (s a : Said) → s ≡ unless n a → n ≡ 0 → s ≡ a
+unless-none n s a e z = rw z at e
+
+module _ (t : List ℕ) (ok : ℕ) (sound : ok ≡ 0 → verdict t ≡ 0) (q p len : ℕ)
+    (buffer after : List ℕ) (s : Said) (passes : readable t ≡ 0) (sp : Spans t ok (rowNumber t q) (rowOf (textOf t) q) (rowMost t q) p len)
+    (s-is : s ≡ copySays t p len (length buffer)) (after-is : after ≡ copyLeaves t p len buffer) where
+  abbrev bytes-said : Said
+  bytes-said = record { number = 0; value = len; entered = 0 }
+
+  said-is : s ≡ unless (copyNumber t p len (length buffer)) bytes-said
+  unfolding copySays
+  said-is = s-is
+
+  s-number : s .number ≡ copyNumber t p len (length buffer)
+  s-number = ap (λ (y : Said). y .number) said-is ∙ unless-number (copyNumber t p len (length buffer)) bytes-said refl
+
+  s-none : (m : ℕ) → copyNumber t p len (length buffer) ≡ suc m → s .value ≡ 0
+  s-none m e = unless-value (copyNumber t p len (length buffer)) m s bytes-said said-is e
+
+  s-some : copyNumber t p len (length buffer) ≡ 0 → s .value ≡ len
+  s-some e = ap (λ (y : Said). y .value) (unless-none (copyNumber t p len (length buffer)) s bytes-said said-is e)
+
+  row-free : SpanWays t p len buffer
+      → ((s .number ≡ 0) × (s .value ≤ length buffer) × (s .value ≤ rowMost t q) × (drop (s .value) after ≡ drop (s .value) buffer))
+      ⊎ (((s .number ≡ 13) × (s .value ≡ 0) × (after ≡ buffer))
+      ⊎ ((s .number ≡ 14) × (s .value ≡ 0)
+      × ((after ≡ buffer) ⊎ ((k : ℕ) × (k ≤ length buffer) × (k ≤ rowMost t q) × (after ≡ replicate k 0 ++ drop k buffer)))))
+  row-free w = go (w .ways)
+    where
+      go : ((copyNumber t p len (length buffer) ≡ 13) × (copyLeaves t p len buffer ≡ buffer))
+          ⊎ (((copyNumber t p len (length buffer) ≡ 0) × (len ≤ length buffer) × (drop len (copyLeaves t p len buffer) ≡ drop len buffer))
+          ⊎ ((copyNumber t p len (length buffer) ≡ 14) × (len ≤ length buffer) × (copyLeaves t p len buffer ≡ replicate len 0 ++ drop len buffer)))
+          → ((s .number ≡ 0) × (s .value ≤ length buffer) × (s .value ≤ rowMost t q) × (drop (s .value) after ≡ drop (s .value) buffer))
+          ⊎ (((s .number ≡ 13) × (s .value ≡ 0) × (after ≡ buffer))
+          ⊎ ((s .number ≡ 14) × (s .value ≡ 0)
+          × ((after ≡ buffer) ⊎ ((k : ℕ) × (k ≤ length buffer) × (k ≤ rowMost t q) × (after ≡ replicate k 0 ++ drop k buffer)))))
+      go (inl y) = inr (inl (s-number ∙ y .0, s-none 12 (y .0), after-is ∙ y .1))
+      go (inr (inl y)) =
+          let v = s-some (y .0) in
+          inl (s-number ∙ y .0, omega (arith, y .1), omega (arith, sp .short), rw (v, after-is) (y .2))
+      go (inr (inr y)) = inr (inr (s-number ∙ y .0, s-none 13 (y .0), inr (len, y .1, sp .short, after-is ∙ y .2)))
+
+  -- the row is as long
+  row-long : ok ≡ 0 → length (rowOf (textOf t) q) ≡ len
+  row-long v = ap length (sym (sp .accepted v)) ∙ length-stretch (textOf t) p len (omega (arith, sp .within, text-length t))
+
+  pub row-spans : RowBy t ok q buffer (s .number) (s .value) after
+  unfolding copyNumber
+  row-spans = record {
+    asked = λ l. absurd (let z : ⊥ = omega (arith, sp .asked) in z);
+    short = λ z v l.
+        (let e = no-room t p len buffer (pathsHold t p len) (tabulate len (values t p)) 0 passes (sp .within) (omega (arith, row-long v)) in
+        let f = leaves-is t p len buffer passes (sp .within) 13 e in
+        (s-number ∙ e, s-none 12 e, after-is ∙ f));
+    accepted = λ z v l.
+        (let room : len ≤ length buffer = omega (arith, row-long v) in
+        let e = paths.copy-good t passes (accepted-links t (sound v)) p len (length buffer) (sp .within) room in
+        let size = s-some e in
+        let f : after ≡ stretch (textOf t) p len ++ drop len buffer =
+        after-is ∙ paths.copy-of-text t passes (accepted-links t (sound v)) p len buffer (sp .within) room in
+        (s-number ∙ e, size ∙ sym (row-long v), rw (size, ← sp .accepted v) f));
+    free = λ z v. row-free (span-ways t p len buffer passes (sp .within));
+  }
+
+-- what is copied by paths reports no block
+none-entered : (k len : ℕ) → unless k (record { number = 0; value = len; entered = 0 }) .entered ≡ 0
+none-entered zero len = refl
+none-entered (suc k) len = refl
+
+module _ (t : List ℕ) (p len room : ℕ) (x : Copied) (a : access.CopyAnswer t p len room x) where
+  -- bytes that access copied, as the row's
+  pub row-bytes : (n entered : ℕ) → x ≡ of.Bytes n entered → CopyAnswer t p len room (row.Bytes n)
+  unfolding copySays
+  row-bytes n entered e =
+      let s : copiedSaid (of.Bytes n entered) ≡ copySays t p len room = rw e at (a .says) in
+      let z : entered ≡ 0 = ap (λ (y : Said). y .entered) s ∙ none-entered (copyNumber t p len room) len in
+      record { says = rw z at s; numbered = tt }
+
+  -- its refusal, passed on
+  pub row-passed : (n : ℕ) → x ≡ of.Refused n → CopyAnswer t p len room (row.Refused n)
+  row-passed n e = record { says = rw e at (a .says); numbered = rw e at (a .numbered) }
+
+-- as the code returns it
+
+pub copied : (t : List ℕ) (p len : ℕ) (d after : List ℕ) (r : RowCopied) → Numbered r → ByPaths t p len d (saidRow r) after
+    → CopyAnswer t p len (length d) r × (after ≡ copyLeaves t p len d)
+unfolding copySays copyNumber copyLeaves
+copied t p len d after r numbered k = (record { says = k .says; numbered = numbered }, k .leaves)
+
+pub row-edges : (t : List ℕ) (ok q : ℕ) (x : Edges) (n k : ℕ) (buffer : List ℕ) → EdgesOf t ok (rowNumber t q) (rowOf (textOf t) q) (rowMost t q) x
+    → x ≡ edges.Refused k → n ≡ edgesNumber x → RowAnswerBy t ok q buffer (row.Refused n) buffer
+row-edges t ok q x n k buffer h e n-is =
+    let z : n ≡ k = n-is ∙ rw e in
+    rw z (record { says = row-refused t ok q k buffer (h .refused k e); numbered = h .refused k e .low })
+
+-- a tree that does not pass questions 5 to 7
+pub row-unread : (t : List ℕ) (ok q : ℕ) (buffer : List ℕ) (x : HeaderRead)
+    → x ≡ headerSays t → (n : ℕ) → x ≡ header.Refused n → RowAnswerBy t ok q buffer (row.Refused n) buffer
+unfolding selectNumber asksLast rowNumber
+row-unread t ok q buffer x x-is n e =
+    let z = header-refused t x x-is n e in
+    let m : rowNumber t q ≡ suc (z .0) = rw (z .1, ne-eqb (suc (z .0)) 0 (λ y. omega arith)) in
+    record {
+      says = row-refused t ok q n buffer (record {
+        low = omega (arith, z .2);
+        asked = λ l. z .2 ∙ sym m;
+        accepted = λ y v. omega arith;
+        free = λ y. absurd (let u : ⊥ = omega arith in u);
+      });
+      numbered = omega (arith, z .2);
+    }

@@ -1,0 +1,156 @@
+-- The length of a row from its edges, and the number of rows from the total and the last byte.
+use mathlib.Core.List.{List}
+use mathlib.Core.Bool.{Bool, true, false, cond}
+use mathlib.Core.Path.{_≡_, refl, sym, ap, _∙_}
+use mathlib.Core.Logic.{inl, inr}
+use Prim.Native.Nat.{ℕ, suc, _+_, _-_, _≤_, _<_}
+use native.Mathlib.Omega.{arith}
+use borrow.Author.Tests.{eq-eqb, ne-eqb, lt-ltb, le-ltb}
+use lib.ListN.{length, getD}
+use lib.Dec.{eqb}
+use Rattle.text.specs.TextLaws.{length-stretch}
+use Rattle.text.specs.Rows.{rowOf}
+use Rattle.text.specs.declared.TextPlace.{TextPlace}
+use Rattle.format.specs.WordLaws.{wordAt-lt}
+use Rattle.format.specs.RecordFields.{beforeField, insideField}
+use Rattle.format.specs.Layout as at
+use Rattle.format.specs.Fits.{textOf}
+use Rattle.format.specs.Said.{Said, refused}
+use Rattle.format.specs.SaidLaws.{unless-refused}
+use Rattle.format.specs.ReadSays.{byteSays}
+use Rattle.format.specs.CountSays.{isCounted, numberOfByte}
+use Rattle.format.specs.FindSays.{total, selectNumber}
+use Rattle.format.specs.RowSays.{asksLast, rowNumber, rowMost}
+use Rattle.theory_paths.specs.PlaceBytes.{only-14}
+use Rattle.theory_paths.specs.OneText.{text-length}
+use Rattle.layout.specs.declared.header.Header.{Header}
+use Rattle.layout.specs.declared.header.HeaderRead.{HeaderRead}
+use Rattle.layout.specs.declared.header.HeaderRead.the-variants as header
+use Rattle.layout.specs.Header.{headerSays}
+use Rattle.layout.specs.HeaderSays.{HeaderOf, header-refused}
+use Rattle.ask_access.specs.declared.Answer.{Answer}
+use Rattle.ask_access.specs.declared.Answer.the-variants as answer
+use Rattle.ask_access.specs.ReadAnswers.{said}
+use Rattle.ask_totals.proofs.TotalLaws.{not-counted, is-counted}
+use Rattle.ask_rows.specs.declared.row_edges.Edges.{Edges}
+use Rattle.ask_rows.specs.declared.row_edges.Edges.the-variants as edges
+use Rattle.ask_rows.specs.declared.RowLength.the-variants as size
+use Rattle.ask_rows.specs.declared.RowCount.the-variants as count
+use Rattle.ask_rows.specs.RowSpans.{settledBy, EdgesOf}
+use Rattle.ask_rows.specs.RowLengths.{rowsNumber, lastOpen, rowsSays, LengthAnswer, CountAnswer}
+
+-- The length of a row.
+module _ (t : List ℕ) (q : ℕ) where
+  module _ (guide : List ℕ) (x : Edges) (k : EdgesOf t (settledBy t guide false) (rowNumber t q) (rowOf (textOf t) q) (rowMost t q) x) where
+    pub length-told : (start : TextPlace) (len : ℕ) → x ≡ edges.At start len → LengthAnswer t q (size.Bytes len)
+    unfolding settledBy
+    length-told start len e =
+        let s = k .spans start len e in record {
+          says = record {
+            asked = λ l. absurd (let z : ⊥ = omega (arith, s .asked) in z);
+            accepted = λ z v. (
+              refl,
+              sym
+                  (ap length (sym (s .accepted v)) ∙ length-stretch (textOf t) (start .0) len (omega (arith, s .within, text-length t))),
+            );
+            free = λ z v. inl (refl, s .short);
+          };
+          numbered = tt;
+        }
+
+    pub length-refused : (n : ℕ) → x ≡ edges.Refused n → LengthAnswer t q (size.Refused n)
+    unfolding settledBy
+    length-refused n e =
+        let s = k .refused n e in record {
+          says = record { asked = λ l. (s .asked l, refl); accepted = λ z v. absurd (s .accepted z v); free = λ z v. inr (s .free z, refl) };
+          numbered = s .low;
+        }
+
+  -- a tree that does not pass questions 5 to 7
+  pub length-unread : (x : HeaderRead) → x ≡ headerSays t → (n : ℕ) → x ≡ header.Refused n → LengthAnswer t q (size.Refused n)
+  unfolding selectNumber asksLast rowNumber
+  length-unread x x-is n e =
+      let z = header-refused t x x-is n e in
+      let m : rowNumber t q ≡ suc (z .0) = rw (z .1, ne-eqb (suc (z .0)) 0 (λ y. omega arith)) in
+      record {
+        says = record {
+          asked = λ l. (z .2 ∙ sym m, refl);
+          accepted = λ y v. absurd (let u : ⊥ = omega arith in u);
+          free = λ y v. absurd (let u : ⊥ = omega arith in u);
+        };
+        numbered = omega (arith, z .2);
+      }
+
+-- The number of rows.
+pub count-unread : (t : List ℕ) (x : HeaderRead) → x ≡ headerSays t → (n : ℕ) → x ≡ header.Refused n → CountAnswer t (count.Refused n)
+unfolding rowsSays rowsNumber
+count-unread t x x-is n e =
+    let z = header-refused t x x-is n e in
+    let m : rowsNumber t ≡ suc (z .0) = rw (z .1, ne-eqb (suc (z .0)) 0 (λ y. omega arith)) in
+    record { says = unless-refused (rowsNumber t) (z .0) n _ m (z .2); numbered = omega (arith, z .2) }
+
+-- a total is a sum of two words
+total-small : (t : List ℕ) → ((k : ℕ) → getD t k 0 < 256) → (c : ℕ) → total t c < 8589934592
+unfolding total at.before at.inside at.field
+total-small t bytes c = go (eqb (at.levelCount t 0) 0)
+  where
+    word : (i : ℕ) → at.field t 0 (at.levelCount t 0 - 1) i < 4294967296
+    word i = wordAt-lt t _ bytes
+
+    go : (b : Bool) → cond b 0 (at.field t 0 (at.levelCount t 0 - 1) (beforeField c) + at.field t 0 (at.levelCount t 0 - 1) (insideField c)) < 8589934592
+    go true = omega arith
+    go false = omega (arith, word (beforeField c), word (insideField c))
+
+pub rows-fit : (t : List ℕ) → ((k : ℕ) → getD t k 0 < 256) → (c tens : ℕ) → tens ≡ total t c → tens + 1 < 18446744073709551616
+rows-fit t bytes c tens e = omega (arith, total-small t bytes c)
+
+module _ (t : List ℕ) (h : Header) (k : HeaderOf t h) (number : ℕ) (is : number ≡ numberOfByte t 10) where
+  pub count-11 : h .settings .counted ≤ number → CountAnswer t (count.Refused 11)
+  unfolding rowsSays rowsNumber
+  count-11 past = record { says = rw (k .passes, not-counted t h k 10 number is past); numbered = omega arith }
+
+  module _ (low : number < h .settings .counted) (tens : ℕ) (tens-is : tens ≡ total t number) where
+    counted : isCounted t 10 ≡ true
+    counted = is-counted t h k 10 number is low
+
+    all : tens ≡ total t (numberOfByte t 10)
+    all = rw (tens-is, is)
+
+    pub count-empty : h .«text_length» ≡ 0 → CountAnswer t (count.Rows tens)
+    unfolding rowsSays rowsNumber lastOpen
+    count-empty z =
+        let e : at.textLength t ≡ 0 = omega (arith, k .length-is) in
+        let z : tens ≡ tens + 0 = omega arith in
+        record { says = rw (k .passes, counted, eq-eqb (at.textLength t) 0 e, le-ltb 0 (at.textLength t) (omega arith), ← all, ← z); numbered = tt }
+
+    module _ (some-byte : h .«text_length» ≡ 0 → ⊥) (x : Answer) (x-is : said x ≡ byteSays t (h .«text_length» - 1)) where
+      here : byteSays t (at.textLength t - 1) ≡ said x
+      here = rw (← k .length-is) (sym x-is)
+
+      not-zero : eqb (at.textLength t) 0 ≡ false
+      not-zero = ne-eqb (at.textLength t) 0 (λ e. some-byte (omega (arith, k .length-is)))
+
+      pub count-broken : (m n : ℕ) → x ≡ answer.Refused m → n ≡ said x .number → CountAnswer t (count.Refused n)
+      unfolding rowsSays rowsNumber
+      count-broken m n e n-is =
+          let same : byteSays t (at.textLength t - 1) ≡ refused m = here ∙ rw e in
+          let z = only-14 t (k .passes)
+          (at.textLength t - 1) (let y : at.textLength t - 1 < at.textLength t = omega (arith, some-byte, k .length-is) in y) m (sym same) in
+          let y : n ≡ 14 = n-is ∙ ap (λ (s : Said). s .number) (sym here) ∙ z in
+          record { says = rw (k .passes, counted, not-zero, z, y); numbered = omega arith }
+
+      module _ (value figure : ℕ) (x-byte : x ≡ answer.Byte value figure) where
+        last : (n : ℕ) → n ≡ tens + cond (lastOpen t) 1 0 → CountAnswer t (count.Rows n)
+        unfolding rowsSays rowsNumber
+        last n e = record { says = rw (k .passes, counted, not-zero, here, x-byte, e, all); numbered = tt }
+
+        some : 0 < at.textLength t
+        some = omega (arith, some-byte, k .length-is)
+
+        pub count-ended : value ≡ 10 → CountAnswer t (count.Rows tens)
+        unfolding lastOpen
+        count-ended ten = last tens (rw (lt-ltb 0 (at.textLength t) some, here, x-byte, ten) (let z : tens ≡ tens + 0 = omega arith in z))
+
+        pub count-open : (value ≡ 10 → ⊥) → CountAnswer t (count.Rows (tens + 1))
+        unfolding lastOpen
+        count-open other = last (tens + 1) (rw (lt-ltb 0 (at.textLength t) some, here, x-byte, ne-eqb 10 value (λ e. other (sym e))))

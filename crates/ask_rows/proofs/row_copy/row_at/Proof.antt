@@ -1,0 +1,35 @@
+use borrow.Author.Needs.{needs}
+use native.Mathlib.Omega.{arith}
+use Rattle.ask_access.proofs.SpanLaws.{span-short}
+use Rattle.ask_rows.specs.declared.RowCopied.the-variants.{Refused}
+use Rattle.ask_rows.proofs.RowEdgesLaws as edge
+use Rattle.ask_rows.proofs.RowAnswerLaws as laws
+use Rattle.ask_rows.proofs.row_copy.row_at.Statement.{statement}
+use Rattle.ask_rows.proofs.row_copy.row_at.Tie as tie
+
+pub row-at-spec : {M : Type 1} → statement M
+row-at-spec =
+    tie.close
+    (tie.spec
+    (λ c κs. search needs)
+    (λ c. search needs)
+    (λ c. search needs)
+    (λ c κs. search needs)
+    (λ c. laws.row-edges _ _ _ _ _ _ _ (c .before .before .before .of-row .ensures) (c .before .enum-told .given .1) (c .number .ensures))
+    (λ c. search needs)
+    (λ c. let passes = c .before .before .before .before .before .before .before .before .pre .passes in
+    let edges = c .before .before .before .before .of-row .ensures .spans _ _ (c .before .before .found .given .1) in
+    let k = laws.copied _ _ _ _ _ (Refused 13) (omega arith) (span-short _ _ _ _ _ _ _ passes (edges .within) (c .if1 .taken)) in
+    record { says = laws.row-spans _ _ (edge.settled-sound _ _ _) _ _ _ _ _ _ passes edges (k .0 .says) (k .1); numbered = omega arith })
+    (λ c κs. let header = c .before .before .before .before .before .before .before .before .before .pre in
+    let edges = c .before .before .before .before .before .of-row .ensures .spans _ _ (c .before .before .before .found .given .1) in
+    (header, omega (arith, edges .within, header .length-is), c .before .if1 .left))
+    (λ c. search needs)
+    (λ c. let w = c .before .before .before .before .before .before in let edges = w .before .before .of-row .ensures .spans _ _ (w .found .given .1) in
+    let copied = c .before .before .copy .ensures in
+    record {
+      says = laws.row-spans _ _ (edge.settled-sound _ _ _)
+          _ _ _ _ _ _ (c .before .before .before .before .before .before .before .before .before .before .before .before .pre .passes)
+          edges (copied .0 .says) (copied .1);
+      numbered = copied .0 .numbered;
+    }))

@@ -1,0 +1,54 @@
+use borrow.Author.Needs.{needs}
+use native.Mathlib.Omega.{arith}
+use Rattle.ask_rows.proofs.RowEdgesLaws as laws
+use Rattle.ask_rows.proofs.row_edges.last.Statement.{statement}
+use Rattle.ask_rows.proofs.row_edges.last.Tie as tie
+
+pub last-spec : {M : Type 1} → statement M
+last-spec =
+    tie.close
+    (tie.spec
+    (λ c. omega (arith, laws.last-some _ _ (c .before .before .before .pre .0) _ (c .before .before .before .pre .1)))
+    (λ c κs. search needs)
+    (λ c. search needs)
+    (λ c. search needs)
+    (λ c κs. search needs)
+    (λ c. let w = c .before .before .before .before .before .before .before in laws.last-broken _ _ (w .pre .0) _ (w .pre .1)
+    _ (laws.settled-sound _ _ _) _ (c .before .before .before .byte-at .ensures) _ _ (c .before .enum-told .given .1) (c .number .ensures))
+    (λ c. let w = c .before .before .before .before in let v = w .before .before .before .before in laws.last-ten
+    _ _ (v .pre .0) _ (v .pre .1) _ (laws.settled-sound _ _ _) _ (w .byte-at .ensures) _ _ (c .before .before .answer .given .1) (c .if1 .taken))
+    (λ c. let w = c .before .before .before .before .before in
+    let v = w .before .before .before .before in laws.last-whole _ _ (v .pre .0) _ (v .pre .1)
+    _ (laws.settled-sound _ _ _) _ (w .byte-at .ensures) _ _ (c .before .before .before .answer .given .1) (c .before .if1 .left) (c .if2 .taken))
+    (λ c. let w = c .before .before .before .before .before .before .before .before .before in omega (arith, laws.last-low _ _ (w .pre .0) _ (w .pre .1)))
+    (λ c κs. search needs)
+    (λ c. search needs)
+    (λ c. search needs)
+    (λ c κs. search needs)
+    (λ c. let w = c .before .before .before in let v = w .before .before .before .before in
+    laws.last-no-start _ _ (v .before .before .before .before .before .before .pre .0) _ (v .before .before .before .before .before .before .pre .1)
+    _ (laws.settled-sound _ _ _) _ (v .before .before .byte-at .ensures) _ _ (v .answer .given .1) (w .before .before .if1 .left)
+    (w .before .if2 .left) _ (w .ten .ensures .says) _ _ (c .before .enum-told2 .given .1) (c .found-number .ensures) (w .ten .ensures .numbered))
+    (λ c. let w = c .before .before .before .before .before in let v = w .before .before .before .before .before in
+    omega (
+      arith,
+      laws.last-past _ _ (v .before .before .before .before .pre .0) _ (v .before .before .before .before .pre .1)
+          _ (laws.settled-sound _ _ _) _ (v .byte-at .ensures) _ _ (w .before .before .before .answer .given .1)
+          (w .before .if1 .left) (w .if2 .left) _ (c .before .before .before .before .ten .ensures .says) _ _ (c .before .before .found .given .1),
+    ))
+    (λ c. let w = c .before .before .before .before .before in let v = w .before .before .before .before in omega (
+      arith,
+      laws.last-past _ _ (v .before .before .before .before .before .before .pre .0) _ (v .before .before .before .before .before .before .pre .1)
+          _ (laws.settled-sound _ _ _) _ (v .before .before .byte-at .ensures) _ _ (v .answer .given .1)
+          (w .before .before .if1 .left) (w .before .if2 .left) _ (w .ten .ensures .says) _ _ (c .before .before .before .found .given .1),
+    ))
+    (λ c. let w = c .before .before .before .before .before .before in let v = w .before .before .before .before in omega (
+      arith,
+      laws.last-past _ _ (v .before .before .before .before .before .before .pre .0) _ (v .before .before .before .before .before .before .pre .1)
+          _ (laws.settled-sound _ _ _) _ (v .before .before .byte-at .ensures) _ _ (v .answer .given .1)
+          (w .before .before .if1 .left) (w .before .if2 .left) _ (w .ten .ensures .says) _ _ (c .before .before .before .before .found .given .1),
+    ))
+    (λ c. let w = c .before .before .before .before .before .before in let v = w .before .before .before .before in
+    laws.last-from _ _ (v .before .before .before .before .before .before .pre .0) _ (v .before .before .before .before .before .before .pre .1)
+    _ (laws.settled-sound _ _ _) _ (v .before .before .byte-at .ensures) _ _ (v .answer .given .1)
+    (w .before .before .if1 .left) (w .before .if2 .left) _ (w .ten .ensures .says) _ _ (c .before .before .before .before .found .given .1)))

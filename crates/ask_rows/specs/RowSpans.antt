@@ -1,0 +1,52 @@
+-- What settles a row, what its copying answers, and what its edges are.
+use mathlib.Core.List.{List}
+use mathlib.Core.Bool.{Bool, cond}
+use mathlib.Core.Path.{_≡_}
+use Prim.Native.Nat.{ℕ, _+_, _≤_, _<_}
+use Rattle.text.specs.Text.{stretch}
+use Rattle.format.specs.Layout as at
+use Rattle.format.specs.Fits.{textOf}
+use Rattle.format.specs.Verdict.{verdict}
+use Rattle.format.specs.Said.{refused}
+use Rattle.text.specs.declared.TextPlace.{TextPlace}
+use Rattle.format.specs.ReadSays.{copySays}
+use Rattle.ask_guide.specs.Guides.{guideNumber}
+use Rattle.ask_rows.specs.declared.RowCopied.{RowCopied}
+use Rattle.ask_rows.specs.declared.RowCopied.the-variants.{Refused}
+use Rattle.ask_rows.specs.declared.row_edges.Edges.{Edges}
+use Rattle.ask_rows.specs.declared.row_edges.Edges.the-variants as edges
+use Rattle.ask_rows.specs.RowAnswers.{Numbered, saidRow}
+
+-- the number that settles a row: the guide's, or the check's where there is none
+unfoldable pub settledBy : List ℕ → List ℕ → Bool → ℕ
+settledBy t guide guided = cond guided (guideNumber t guide) (verdict t)
+
+-- what the copying of a row answers, with room for so many bytes: what their paths give
+pub record CopyAnswer (t : List ℕ) (p len room : ℕ) (r : RowCopied) : Type 0 where
+  pub says : saidRow r ≡ copySays t p len room
+  pub numbered : Numbered r
+
+-- the number of edges that are refused
+abbrev pub edgesNumber : Edges → ℕ
+edgesNumber (edges.At start len) = 0
+edgesNumber (edges.Refused number) = number
+
+-- The edges of a row: `number` is that of the questions before the walk, `row` what the row is where `ok` is 0; it has at most `most` bytes.
+module _ (t : List ℕ) (ok number : ℕ) (row : List ℕ) where
+  -- it has none, with this number: that of a question before the walk, or free
+  pub record Refuses (n : ℕ) : Type 0 where
+    pub low : 1 ≤ n
+    pub asked : 0 < number → n ≡ number
+    pub accepted : number ≡ 0 → ok ≡ 0 → ⊥
+    pub free : number ≡ 0 → n ≡ 14
+
+  -- it is these bytes of the text
+  pub record Spans (most start len : ℕ) : Type 0 where
+    pub asked : number ≡ 0
+    pub within : start + len ≤ at.textLength t
+    pub short : len ≤ most
+    pub accepted : ok ≡ 0 → stretch (textOf t) start len ≡ row
+
+  pub record EdgesOf (most : ℕ) (r : Edges) : Type 0 where
+    pub refused : (n : ℕ) → r ≡ edges.Refused n → Refuses n
+    pub spans : (start : TextPlace) (len : ℕ) → r ≡ edges.At start len → Spans most (start .0) len

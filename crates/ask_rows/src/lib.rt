@@ -1,0 +1,73 @@
+// Row: one row of the text, without a guide and with one; its length, and how many there are. Each asks 5 to 7 first, of any bytes lent as a tree.
+mod row_copy;
+mod row_edges;
+mod row_lengths;
+
+use layout::header;
+use layout::header::HeaderRead;
+ghost use Rattle.ask_guide.specs.Guides.{guideNumber};
+ghost use Rattle.ask_rows.specs.RowAnswers.{RowAnswer, RowAnswerBy};
+ghost use Rattle.ask_rows.specs.RowLengths.{LengthAnswer, CountAnswer};
+
+// How many bytes of a row were copied, or the number of the question that refuses.
+pub enum RowCopied {
+    Bytes(u32),
+    Refused(u32),
+}
+
+// How many bytes a row has, or the number of the question that refuses.
+pub enum RowLength {
+    Bytes(u32),
+    Refused(u32),
+}
+
+// How many rows there are, or the number of the question that refuses.
+pub enum RowCount {
+    Rows(u64),
+    Refused(u32),
+}
+
+// Copies row q to the start of the buffer: what stands before the q-th byte 10, without one byte 13 directly before it, or after the last one where q
+// is one more.
+pub fn row(t: &[u8], q: u32, buffer: &mut [u8]) -> RowCopied
+    ensures { λ r. ⌜ RowAnswer (now (t .entry)) q (now (buffer .entry)) r (now (buffer .exit)) ⌝ }
+{
+    let read = header::read_header(t);
+    match read {
+        HeaderRead::Good(h) => row_copy::row_at(t, h, &t[0..0], false, q, buffer),
+        HeaderRead::Refused(number) => RowCopied::Refused(number),
+    }
+}
+
+// The same by finds with a guide, which may be any bytes.
+pub fn row_guided(t: &[u8], guide: &[u8], q: u32, buffer: &mut [u8]) -> RowCopied
+    ensures { λ r. ⌜ RowAnswerBy (now (t .entry)) (guideNumber (now (t .entry)) (now (guide .entry))) q (now (buffer .entry)) r (now (buffer .exit)) ⌝ }
+{
+    let read = header::read_header(t);
+    match read {
+        HeaderRead::Good(h) => row_copy::row_at(t, h, guide, true, q, buffer),
+        HeaderRead::Refused(number) => RowCopied::Refused(number),
+    }
+}
+
+// The length of row q, without a buffer: so many bytes hold it.
+pub fn row_length(t: &[u8], q: u32) -> RowLength
+    ensures { λ r. ⌜ LengthAnswer (now (t .entry)) q r ⌝ }
+{
+    let read = header::read_header(t);
+    match read {
+        HeaderRead::Good(h) => row_lengths::length_at(t, h, q),
+        HeaderRead::Refused(number) => RowLength::Refused(number),
+    }
+}
+
+// How many rows the text has: the total of byte 10, and one more where the last byte is another.
+pub fn row_count(t: &[u8]) -> RowCount
+    ensures { λ r. ⌜ CountAnswer (now (t .entry)) r ⌝ }
+{
+    let read = header::read_header(t);
+    match read {
+        HeaderRead::Good(h) => row_lengths::count_at(t, h),
+        HeaderRead::Refused(number) => RowCount::Refused(number),
+    }
+}

@@ -1,0 +1,84 @@
+-- What the answer of a find says: a place of the text, which is the j-th byte's where it is settled, or a refusal, which is 14 and only where it is free.
+use mathlib.Core.List.{List}
+use mathlib.Core.Path.{_≡_, sym, ap, _∙_}
+use mathlib.Core.Logic.{_⊎_, inl, inr}
+use Prim.Native.Nat.{ℕ, _≤_, _<_}
+use native.Mathlib.Omega.{arith}
+use Rattle.text.specs.ListLaws.{lt-or-ge}
+use Rattle.text.specs.Text.{placeOf}
+use Rattle.text.specs.declared.TextPlace.{TextPlace}
+use Rattle.format.specs.Layout as at
+use Rattle.format.specs.Path.{pathOf}
+use Rattle.format.specs.Fits.{textOf}
+use Rattle.format.specs.Verdict.{verdict}
+use Rattle.format.specs.VerdictLaws.{accepted-readable, accepted-links}
+use Rattle.format.specs.Said.{Said, refused}
+use Rattle.format.specs.FindSays.{selectNumber, pathLength, found, FindBy, FindSays}
+use Rattle.format.specs.FindSaysLaws.{Selected, select-passes}
+use Rattle.theory_paths.specs.Visits.{path-long}
+use Rattle.theory_paths.specs.Demands as paths
+use Rattle.theory_counts.specs.Demands as tallies
+use Rattle.ask_select.specs.declared.Found.{Found}
+use Rattle.ask_select.specs.declared.Found.the-variants.{At, Refused}
+use Rattle.ask_select.specs.Found.{saidFind}
+
+-- on an accepted tree the path of the j-th byte enters a block
+path-enters : (t : List ℕ) → verdict t ≡ 0 → (byte j : ℕ) → Selected t byte j → 1 ≤ pathLength t (pathOf t (placeOf byte j (textOf t)))
+path-enters t v byte j h =
+    let w = paths.no-path-breaks t (accepted-readable t v) (accepted-links t v) (placeOf byte j (textOf t)) (tallies.place-below t v byte j h) in
+    rw (w .1) (path-long t (placeOf byte j (textOf t)) (w .0) (w .1))
+
+-- where it is settled, find says the same
+pub by-find : (t : List ℕ) (byte j : ℕ) (s : Said) (ok : ℕ) → (ok ≡ 0 → verdict t ≡ 0) → ok ≡ 0 → FindBy t ok byte j s → FindSays t byte j s
+by-find t byte j s ok sound z f = record { asked = f .asked; accepted = λ n v. f .accepted n z; free = λ n v. absurd (v (sound z)) }
+
+module _ (t : List ℕ) (ok byte j : ℕ) (sound : ok ≡ 0 → verdict t ≡ 0) (x : Found) (says : FindBy t ok byte j (saidFind x)) where
+  module _ (n : ℕ) (e : x ≡ Refused n) (asked : selectNumber t byte j ≡ 0) where
+    said-refused : saidFind x ≡ refused n
+    said-refused = rw e
+
+    pub refused-not : ok ≡ 0 → ⊥
+    unfolding found
+    refused-not v =
+        let z = sym said-refused ∙ says .accepted asked v in
+        let y = ap (λ (s : Said). s .entered) z in
+        omega (arith, path-enters t (sound v) byte j (select-passes t byte j asked))
+
+    pub refused-free : 1 ≤ n → n ≡ 14
+    refused-free low = go (lt-or-ge 0 ok)
+      where
+        either : (saidFind x ≡ refused 14) ⊎ ((saidFind x .number ≡ 0) × (saidFind x .value < at.textLength t)) → n ≡ 14
+        either (inl s) = ap (λ (y : Said). y .number) (sym said-refused ∙ s)
+        either (inr s) = absurd (let z : n ≡ 0 = sym (ap (λ (y : Said). y .number) said-refused) ∙ s .0 in omega arith)
+
+        go : (0 < ok) ⊎ (ok ≤ 0) → n ≡ 14
+        go (inl above) = either (says .free asked (λ v. omega arith))
+        go (inr high) = absurd (refused-not (omega arith))
+
+  module _ (p : TextPlace) (e : ℕ) (is : x ≡ At p e) where
+    said-at : saidFind x ≡ record { number = 0; value = p .0; entered = e }
+    said-at = rw is
+
+    pub place-asked : selectNumber t byte j ≡ 0
+    place-asked = go (lt-or-ge 0 (selectNumber t byte j))
+      where
+        go : (0 < selectNumber t byte j) ⊎ (selectNumber t byte j ≤ 0) → selectNumber t byte j ≡ 0
+        go (inl low) = let z = ap (λ (s : Said). s .number) (sym said-at ∙ says .asked low) in omega arith
+        go (inr high) = omega arith
+
+    pub place-is : ok ≡ 0 → p .0 ≡ placeOf byte j (textOf t)
+    unfolding found
+    place-is v = ap (λ (s : Said). s .value) (sym said-at ∙ says .accepted place-asked v)
+
+    pub place-in-text : p .0 < at.textLength t
+    place-in-text = go (lt-or-ge 0 ok)
+      where
+        either : (saidFind x ≡ refused 14) ⊎ ((saidFind x .number ≡ 0) × (saidFind x .value < at.textLength t)) → p .0 < at.textLength t
+        either (inl s) = absurd (let z : _≡_ {A = ℕ} 0 14 = ap (λ (y : Said). y .number) (sym said-at ∙ s) in omega arith)
+        either (inr s) = rw (ap (λ (y : Said). y .value) said-at) at (s .1)
+
+        go : (0 < ok) ⊎ (ok ≤ 0) → p .0 < at.textLength t
+        go (inl low) = either (says .free place-asked (λ v. omega arith))
+        go (inr high) =
+            let v : ok ≡ 0 = omega arith in
+            rw (place-is v) (tallies.place-below t (sound v) byte j (select-passes t byte j place-asked))

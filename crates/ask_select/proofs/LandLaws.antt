@@ -1,0 +1,538 @@
+-- The way to the j-th byte on an accepted tree: each step has a block to go to, and lands on the place.
+use mathlib.Core.List.{List}
+use mathlib.Core.Bool.{Bool, true, false, cond}
+use mathlib.Core.Path.{_≡_, refl, sym, ap, _∙_}
+use mathlib.Core.Logic.{_⊎_, inl, inr}
+use Prim.Native.Nat.{ℕ, _+_, _-_, _*_, _≤_, _<_}
+use native.Mathlib.Omega.{arith}
+use native.Mathlib.Nat.{zero-mul}
+use borrow.Author.Tests.{ltb-true, lt-ltb, le-leb, ne-eqb}
+use lib.ListN.{length, getD}
+use lib.Dec.{ltb, leb}
+use Rattle.text.specs.ListLaws.{bool-cases, bool-clash, and-right}
+use Rattle.text.specs.Text.{stretch, countIn}
+use Rattle.format.specs.Settings.{pieces, maxText}
+use Rattle.format.specs.PieceLaws.{pieces-start, lt-pieces}
+use Rattle.format.specs.LayoutLaws.{Readable, readable-facts, full-pos}
+use Rattle.format.specs.VerdictLaws.{accepted-readable, accepted-links}
+use Rattle.format.specs.Layout as at
+use Rattle.format.specs.Path.{keptBlock, pointingBlock}
+use Rattle.format.specs.Verdict.{verdict}
+use Rattle.theory_paths.specs.Links.{H, N, s, len, Linked, linked-facts}
+use Rattle.theory_paths.specs.Links as links
+use Rattle.theory_paths.specs.BlockStarts.{len-small, len-pos}
+use Rattle.theory_paths.specs.PlacesLand.{kept-block, pointing-block}
+use Rattle.layout.specs.declared.header.Header.{Header}
+use Rattle.layout.specs.declared.place.BlockNumber.{BlockNumber}
+use Rattle.layout.specs.declared.place.BlockPlace.{BlockPlace}
+use Rattle.walk_steps.specs.declared.Next.the-variants as next
+use Rattle.walk_steps.specs.QuestionStands.{OnLevel, InTable}
+use Rattle.walk_steps.specs.Steps.{nextAt}
+use Rattle.walk_steps.proofs.NextLaws.{pointing-not-kept}
+use Rattle.walk_steps.proofs.StepLaws.{kept-in, pointing-in}
+use Rattle.walk_steps.proofs.QuestionStandsLaws.{b-small, b-pos}
+use Rattle.theory_counts.specs.LevelTrue.{Level, tally}
+use Rattle.theory_counts.specs.CountsLocal.{byteOf, inLeaves}
+use Rattle.theory_counts.specs.CountedStretches.{leaves-end, leaves-tally}
+use Rattle.theory_counts.specs.Finds as finds
+use Rattle.theory_counts.specs.Demands as demands
+use Rattle.ask_totals.specs.declared.Wanted.{Wanted}
+use Rattle.ask_select.specs.declared.seek.Placed.{Placed}
+use Rattle.ask_select.specs.declared.seek.Placed.the-variants as placed
+use Rattle.ask_select.specs.declared.seek.Child.{Child}
+use Rattle.ask_select.specs.declared.seek.Child.the-variants as child
+use Rattle.ask_select.specs.declared.seek.Target.{Target}
+use Rattle.ask_select.specs.declared.seek.Target.the-variants as target
+use Rattle.stretches.specs.Stretches.{Stands}
+use Rattle.ask_select.specs.Seeks.{moved, Near, restIn, KeptIn, PointsIn, Siblings, LastBefore, picked, Chosen, ChildWith, Aimed, targetAt}
+use Rattle.ask_select.specs.Seeks.{TargetWith, Seeking, Landed, FoundIn}
+
+-- What a pick says.
+
+abbrev picked-cases : (low kept points : Bool) (i o rest : ℕ) → Child
+picked-cases low kept points i o rest =
+    cond low (restIn (cond kept (next.Kept (record { 0 = i }) (record { 0 = o }))
+    (cond points (next.Points (record { 0 = i }) (record { 0 = o })) next.Off)) rest) child.Off
+
+case-kept : (low kept points : Bool) (i o rest : ℕ) (x : BlockNumber) (p : BlockPlace) (r : ℕ) → picked-cases low kept points i o rest ≡ child.Kept x p r
+    → (low ≡ true) × (kept ≡ true) × (x ≡ record { 0 = i }) × (p ≡ record { 0 = o }) × (r ≡ rest)
+case-kept true true points i o rest x p r e = (refl, refl, cc, cc, cc)
+case-kept true false true i o rest x p r e = absurd (let z : _≡_ {A = ℕ} 0 1 = cc in omega arith)
+case-kept true false false i o rest x p r e = absurd (let z : _≡_ {A = ℕ} 0 1 = cc in omega arith)
+case-kept false kept points i o rest x p r e = absurd (let z : _≡_ {A = ℕ} 0 1 = cc in omega arith)
+
+case-points : (low kept points : Bool) (i o rest : ℕ) (x : BlockNumber) (p : BlockPlace) (r : ℕ) → picked-cases low kept points i o rest ≡ child.Points x p r
+    → (low ≡ true) × (points ≡ true) × (x ≡ record { 0 = i }) × (p ≡ record { 0 = o }) × (r ≡ rest)
+case-points true true points i o rest x p r e = absurd (let z : _≡_ {A = ℕ} 0 1 = cc in omega arith)
+case-points true false true i o rest x p r e = (refl, refl, cc, cc, cc)
+case-points true false false i o rest x p r e = absurd (let z : _≡_ {A = ℕ} 0 1 = cc in omega arith)
+case-points false kept points i o rest x p r e = absurd (let z : _≡_ {A = ℕ} 0 1 = cc in omega arith)
+
+case-off : (low kept points : Bool) (i o rest : ℕ) → picked-cases low kept points i o rest ≡ child.Off → low ≡ true → (kept ≡ true) ⊎ (points ≡ true) → ⊥
+case-off true true points i o rest e l s = (let z : _≡_ {A = ℕ} 0 1 = cc in omega arith)
+case-off true false true i o rest e l s = (let z : _≡_ {A = ℕ} 0 1 = cc in omega arith)
+case-off true false false i o rest e l (inl k) = (let z : _≡_ {A = Bool} true false = sym k in bool-clash false k refl)
+case-off true false false i o rest e l (inr k) = bool-clash false k refl
+case-off false kept points i o rest e l s = bool-clash false l refl
+
+pub record Picked (t : List ℕ) (c level i o j x p r : ℕ) : Type 0 where
+  pub low : at.before t level i c < j
+  pub block-is : x ≡ i
+  pub place-is : p ≡ o
+  pub rest-is : r ≡ j - at.before t level i c
+
+module _ (t : List ℕ) (c level i o j : ℕ) where
+  pub picked-kept : (x : BlockNumber) (p : BlockPlace) (r : ℕ)
+      → picked t c level i o j ≡ child.Kept x p r → (Picked t c level i o j (x .0) (p .0) r) × (keptBlock t level i ≡ true)
+  unfolding picked nextAt
+  picked-kept x p r e =
+      let z = case-kept (ltb (at.before t level i c) j) (keptBlock t level i) (pointingBlock t level i) i o (j - at.before t level i c) x p r e in (
+        record {
+          low = ltb-true _ _ (z .0);
+          block-is = ap (λ (n : BlockNumber). n .0) (z .2);
+          place-is = ap (λ (n : BlockPlace). n .0) (z .3);
+          rest-is = z .4;
+        },
+        z .1,
+      )
+
+  pub picked-points : (x : BlockNumber) (p : BlockPlace) (r : ℕ)
+      → picked t c level i o j ≡ child.Points x p r → (Picked t c level i o j (x .0) (p .0) r) × (pointingBlock t level i ≡ true)
+  unfolding picked nextAt
+  picked-points x p r e =
+      let z = case-points (ltb (at.before t level i c) j) (keptBlock t level i) (pointingBlock t level i) i o (j - at.before t level i c) x p r e in (
+        record {
+          low = ltb-true _ _ (z .0);
+          block-is = ap (λ (n : BlockNumber). n .0) (z .2);
+          place-is = ap (λ (n : BlockPlace). n .0) (z .3);
+          rest-is = z .4;
+        },
+        z .1,
+      )
+
+  pub picked-off : picked t c level i o j ≡ child.Off → at.before t level i c < j → (keptBlock t level i ≡ true) ⊎ (pointingBlock t level i ≡ true) → ⊥
+  unfolding picked nextAt
+  picked-off e low s = case-off
+      (ltb (at.before t level i c) j) (keptBlock t level i) (pointingBlock t level i) i o (j - at.before t level i c) e (lt-ltb _ _ low) s
+
+-- Accepted trees.
+
+module _ (t : List ℕ) (v : verdict t ≡ 0) where
+  abbrev pub k : Readable t
+  k = readable-facts t (accepted-readable t v)
+
+  abbrev pub d : Linked t
+  d = linked-facts t (accepted-links t v)
+
+  abbrev pub a : (m : ℕ) → m < H t → Level t m
+  a = demands.levels t v
+
+  -- every block is kept or points
+  pub one-of : (l i : ℕ) → l < H t → i < N t l → (keptBlock t l i ≡ true) ⊎ (pointingBlock t l i ≡ true)
+  one-of l i hl hi = go (bool-cases (at.isKept t l i))
+    where
+      go : (at.isKept t l i ≡ true) ⊎ (at.isKept t l i ≡ false) → (keptBlock t l i ≡ true) ⊎ (pointingBlock t l i ≡ true)
+      go (inl kept) = inl (kept-block t l i hi kept)
+      go (inr un) = inr (pointing-block t l i hi (d .points l i hl hi un))
+
+  module _ (c : ℕ) (hc : c < at.countedCount t) where
+    -- the children of a kept block are there
+    module _ (l i : ℕ) (hl : l + 1 < H t) (hi : i < N t l) (kept : at.isKept t l i ≡ true) where
+      pub some-child : 0 < pieces (len t l i) (at.fullLength t (l + 1))
+      some-child =
+          let pos = full-pos t k (l + 1) in
+          lt-pieces (len t l i) (at.fullLength t (l + 1)) 0 pos (omega (arith, zero-mul (at.fullLength t (l + 1)), len-pos t k d l i (omega arith) hi))
+
+      pub children-end : at.link t l i + pieces (len t l i) (at.fullLength t (l + 1)) ≤ N t (l + 1)
+      children-end =
+          let w = pieces (len t l i) (at.fullLength t (l + 1)) in
+          omega (arith, finds.child-in t k d a c hc l i hl hi kept (w - 1) (omega (arith, some-child)), some-child)
+
+      pub first-none : at.before t (l + 1) (at.link t l i) c ≡ 0
+      first-none =
+          let e : at.link t l i + 0 ≡ at.link t l i = omega arith in
+          rw e at (finds.first-before t k d a c hc l i hl hi kept some-child)
+
+is-kept : (t : List ℕ) (l i : ℕ) → keptBlock t l i ≡ true → at.isKept t l i ≡ true
+unfolding keptBlock
+is-kept t l i h = and-right (ltb i (N t l)) (at.isKept t l i) h
+
+-- The child that is chosen.
+module _ (t : List ℕ) (h : Header) (c level b i below j link count : ℕ)
+    (kept : KeptIn t h level b i) (lower : OnLevel t h (level + 1) below) (hc : c < at.countedCount t) (low : 1 ≤ j)
+    (link-is : link ≡ at.link t level i) (count-is : count ≡ pieces (at.blockLengthAt t level i) below) where
+  hi : i < N t level
+  hi = kept-in t level i (kept .kept)
+
+  nothing : (verdict t ≡ 0 → ⊥) → ChildWith t c level i below j child.Off
+  nothing never = record {
+    kept = λ x o r e. absurd (let z : _≡_ {A = ℕ} 0 1 = cc in omega arith);
+    points = λ x o r e. absurd (let z : _≡_ {A = ℕ} 0 1 = cc in omega arith);
+    off = λ e. never;
+  }
+
+  pub child-past : at.levelCount t (level + 1) < link + count → ChildWith t c level i below j child.Off
+  child-past past = nothing (λ v. (let e = children-end t v c hc level i (lower .level-in) hi (is-kept t level i (kept .kept)) in
+      let f = rw (← lower .b-is, ← count-is, ← link-is) at e in omega arith))
+
+  pub child-none : count ≡ 0 → ChildWith t c level i below j child.Off
+  child-none none = nothing (λ v. (let e = some-child t v c hc level i (lower .level-in) hi (is-kept t level i (kept .kept)) in
+      let f = rw (← lower .b-is, ← count-is) at e in omega arith))
+
+  pub siblings : link + count ≤ at.levelCount t (level + 1) → (count ≡ 0 → ⊥) → Siblings t h c (level + 1) link (link + count)
+  siblings end some = record { header = lower .header; level-in = lower .level-in; number-in = hc; some = omega (arith, some); end-in = end }
+
+  module _ (x : ℕ) (end : link + count ≤ at.levelCount t (level + 1)) (last : LastBefore t c (level + 1) link (link + count) j x) where
+    pub child-there : InTable t h (level + 1) below x
+    child-there = record { on = lower; block-in = omega (arith, last .high) }
+
+    pub child-place : (x - link) * below < at.blockLengthAt t level i
+    child-place = pieces-start (at.blockLengthAt t level i) below (x - link) (omega (arith, last .low, last .high)) (b-pos t h (level + 1) below lower)
+
+    pub child-place-small : (x - link) * below < maxText
+    child-place-small = omega (arith, child-place, len-small t level i, kept .on .b-is, b-small t h level b (kept .on))
+
+    chosen : (y p r : ℕ) → Picked t c (level + 1) x ((x - link) * below) j y p r → Chosen t c level i below j y p r
+    chosen y p r q =
+        let same = q .block-is in record {
+          link-low = omega (arith, last .low);
+          within = omega (arith, last .low, last .high);
+          in-table = omega (arith, last .high);
+          place-is = rw (same, ← link-is) (q .place-is);
+          place-low = omega (arith, child-place-small, q .place-is);
+          before-low = rw same (q .low);
+          rest-is = rw same (q .rest-is);
+          next = λ m. (rw same (last .next (omega (arith, last .low))));
+        }
+
+    pub child-picked : (r : Child) → r ≡ picked t c (level + 1) x ((x - link) * below) j → ChildWith t c level i below j r
+    child-picked r r-is = record {
+      kept = λ y p q e. (let z = picked-kept t c (level + 1) x ((x - link) * below) j y p q (sym r-is ∙ e) in
+          (chosen (y .0) (p .0) q (z .0), rw (z .0 .block-is) (z .1)));
+      points = λ y p q e. (let z = picked-points t c (level + 1) x ((x - link) * below) j y p q (sym r-is ∙ e) in
+          (chosen (y .0) (p .0) q (z .0), rw (z .0 .block-is) (z .1)));
+      off = λ e v. picked-off t c (level + 1) x ((x - link) * below) j (sym r-is ∙ e)
+          (last .here (rw link-is (omega (arith, first-none t v c hc level i (lower .level-in) hi (is-kept t level i (kept .kept))))))
+          (one-of t v (level + 1) x (lower .level-in) (omega (arith, last .high)));
+    }
+
+-- The target that is chosen.
+
+case-target : (kept : Bool) (i f r : ℕ) (x : BlockNumber) (g : BlockPlace) (q : ℕ)
+    → cond kept (target.Kept (record { 0 = i }) (record { 0 = f }) r) target.Off ≡ target.Kept x g q
+    → (kept ≡ true) × (x ≡ record { 0 = i }) × (g .0 ≡ f) × (q ≡ r)
+case-target true i f r x g q e = let y : g ≡ record { 0 = f } = cc in (refl, cc, ap (λ (n : BlockPlace). n .0) y, cc)
+case-target false i f r x g q e = absurd (let z : _≡_ {A = ℕ} 0 1 = cc in omega arith)
+
+case-no-target : (kept : Bool) (i f r : ℕ) → cond kept (target.Kept (record { 0 = i }) (record { 0 = f }) r) target.Off ≡ target.Off → kept ≡ true → ⊥
+case-no-target true i f r e k = let z : _≡_ {A = ℕ} 0 1 = cc in omega arith
+case-no-target false i f r e k = bool-clash false k refl
+
+pub target-kept : (t : List ℕ) (level i f r kind : ℕ)
+    → i < N t level → kind ≡ at.kind t level i → kind ≡ 0 → target.Kept (record { 0 = i }) (record { 0 = f }) r ≡ targetAt t level i f r
+unfolding targetAt keptBlock at.isKept
+target-kept t level i f r kind hi is z = rw (lt-ltb _ _ hi, ← is, z)
+
+pub target-other : (t : List ℕ) (level i f r kind : ℕ) → i < N t level → kind ≡ at.kind t level i → (kind ≡ 0 → ⊥) → target.Off ≡ targetAt t level i f r
+unfolding targetAt keptBlock at.isKept
+target-other t level i f r kind hi is z = rw (lt-ltb _ _ hi, ← is, ne-eqb kind 0 z)
+
+not-kept : (t : List ℕ) (l i : ℕ) → pointingBlock t l i ≡ true → at.isKept t l i ≡ false
+not-kept t l i p = go (bool-cases (at.isKept t l i))
+  where
+    go : (at.isKept t l i ≡ true) ⊎ (at.isKept t l i ≡ false) → at.isKept t l i ≡ false
+    go (inl kept) = bool-clash (keptBlock t l i) (kept-block t l i (pointing-in t l i p) kept) (pointing-not-kept t l i p)
+    go (inr un) = un
+
+module _ (t : List ℕ) (h : Header)
+    (c level b i j link : ℕ) (p : PointsIn t h level b i) (hc : c < at.countedCount t) (low : 1 ≤ j) (link-is : link ≡ at.link t level i) where
+  at-block : i < N t level
+  at-block = pointing-in t level i (p .points)
+
+  no-aim : (verdict t ≡ 0 → j ≤ at.inside t level i c → ⊥) → TargetWith t c level i b j target.Off
+  no-aim never = record { kept = λ x f r e. absurd (let z : _≡_ {A = ℕ} 0 1 = cc in omega arith); off = λ e. never }
+
+  module _ (v : verdict t ≡ 0) where
+    points-at : links.Pointing t level i
+    points-at = d t v .points level i (p .on .level-in) at-block (not-kept t level i (p .points))
+
+  pub aim-past : at.levelCount t level ≤ link → TargetWith t c level i b j target.Off
+  aim-past past = no-aim (λ v high. omega (arith, points-at v .target-below))
+
+  module _ (skip inside rank : ℕ) (skip-is : skip ≡ at.skip t level i c)
+      (skip-small : skip ≤ 4294967295) (inside-is : inside ≡ at.inside t level link c) (rank-is : rank ≡ j + skip) where
+    inside-link : inside ≡ at.inside t level (at.link t level i) c
+    inside-link = rw link-is at inside-is
+
+    pub aim-first : (r : Target) → rank ≤ inside → r ≡ targetAt t level link 0 rank → TargetWith t c level i b j r
+    unfolding targetAt
+    aim-first r within r-is = record {
+      kept = λ x f q e.
+          (let z = case-target (keptBlock t level link) link 0 rank x f q (sym r-is ∙ e) in
+          let same : x .0 ≡ link = ap (λ (n : BlockNumber). n .0) (z .1) in
+          let kept : keptBlock t level (x .0) ≡ true = rw same (z .0) in
+          record {
+            kept = kept;
+            rest-low = omega (arith, z .3);
+            rest-high = omega (arith, z .3);
+            forward-low = omega (arith, z .2);
+            either = inl (same ∙ link-is, z .2, z .3 ∙ rank-is ∙ ap (λ (n : ℕ). j + n) skip-is, omega (arith, z .3, inside-link));
+          });
+      off = λ e v high.
+          case-no-target (keptBlock t level link)
+          link 0 rank (sym r-is ∙ e) (rw link-is (kept-block t level (at.link t level i) (points-at v .target-below) (points-at v .target-kept)));
+    }
+
+    module _ (past : inside < rank) where
+      follows : (v : verdict t ≡ 0) → j ≤ at.inside t level i c → links.Follows t level (at.link t level i)
+      follows v high =
+          finds.second-holds t (k t v)
+          (d t v) (a t v) c hc level i j (p .on .level-in) at-block (not-kept t level i (p .points)) low high (omega (arith, inside-link)) .0
+
+      pub aim-no-second : link < at.levelCount t level → at.levelCount t level - link ≡ 1 → TargetWith t c level i b j target.Off
+      aim-no-second within one = no-aim (λ v high. omega (arith, follows v high .below))
+
+      pub aim-second : (r : Target) → r ≡ targetAt t level (link + 1) b (rank - inside) → TargetWith t c level i b j r
+      unfolding targetAt
+      aim-second r r-is = record {
+        kept = λ x f q e.
+            (let z = case-target (keptBlock t level (link + 1)) (link + 1) b (rank - inside) x f q (sym r-is ∙ e) in
+            let same : x .0 ≡ link + 1 = ap (λ (n : BlockNumber). n .0) (z .1) in
+            let kept : keptBlock t level (x .0) ≡ true = rw same (z .0) in
+            record {
+              kept = kept;
+              rest-low = omega (arith, z .3);
+              rest-high = omega (arith, z .3);
+              forward-low = omega (arith, z .2);
+              either = inr (omega (arith, same), z .2, omega (arith, inside-link), omega (arith, z .3, inside-link));
+            });
+        off = λ e v high.
+            case-no-target (keptBlock t level (link + 1)) (link + 1) b (rank - inside) (sym r-is ∙ e)
+            (rw link-is (kept-block t level (at.link t level i + 1) (follows v high .below) (follows v high .kept)));
+      }
+
+-- The leaf bytes.
+
+near-off : (most : ℕ) → Near placed.Off most
+near-off most = record { near = λ o e x. absurd (let z : _≡_ {A = ℕ} 0 1 = cc in omega arith) }
+
+module _ (t : List ℕ) (c level i j : ℕ) where
+  pub not-found : (most : ℕ) → (verdict t ≡ 0 → c < at.countedCount t → j ≤ at.inside t level i c → ⊥) → FoundIn t c level i j most placed.Off
+  not-found most never = record { near = near-off most; right = λ v hc high. absurd (never v hc high) }
+
+module _ (t : List ℕ) (h : Header) (w : Wanted)
+    (level b i j link n : ℕ) (kept : KeptIn t h level b i) (w-is : Seeking t h w level b j (level + 2)) (last : level + 1 ≡ h .settings .levels)
+    (link-is : link ≡ at.link t level i) (n-is : (n ≡ at.blockLengthAt t level i) × (n ≤ b)) where
+  bottom : level + 1 ≡ H t
+  bottom = last ∙ kept .on .header .levels-is
+
+  leaf-block : i < N t level
+  leaf-block = kept-in t level i (kept .kept)
+
+  pub leaf-past : h .«leaf_count» < link + n → FoundIn t (w .number) level i j 1 placed.Off
+  leaf-past past = not-found t
+      (w .number) level i j 1 (λ v hc high. omega (arith, leaves-end t (k t v) (d t v) level i bottom leaf-block, n-is .0, kept .on .header .count-is))
+
+  pub leaf-room : link + n ≤ h .«leaf_count» → h .«leaf_offset» + link + n ≤ length t
+  leaf-room within = omega (arith, kept .on .header .facts .size, kept .on .header .offset-is, kept .on .header .count-is)
+
+  module _ (r : ℕ) (z : Stands t (h .«leaf_offset» + link) n (w .byte) j r) where
+    same-stretch : (x : ℕ) → countIn (w .byte) (stretch t (h .«leaf_offset» + link) x) ≡ inLeaves t level i x (w .number)
+    unfolding inLeaves
+    same-stretch x = rw (kept .on .header .offset-is, link-is, w-is .byte-is)
+
+    pub leaf-fewer : n ≤ r → FoundIn t (w .number) level i j 1 placed.Off
+    unfolding tally
+    leaf-fewer past = not-found t (w .number) level i j 1 (λ v hc high.
+        (let e = leaves-tally t (k t v) (d t v) level i (len t level i) (w .number) bottom leaf-block (omega arith) in
+        let f = a t v level (omega (arith, bottom)) i (w .number) leaf-block hc .inside-is in
+        let g : countIn (w .byte) (stretch t (h .«leaf_offset» + link) n) ≡ inLeaves t level i (len t level i) (w .number) = same-stretch n ∙ rw (n-is .0) in
+        omega (arith, z .fewer past)))
+
+    pub leaf-found : r < n → FoundIn t (w .number) level i j 1 (placed.At (record { 0 = r }) 1)
+    unfolding at.leafByte
+    leaf-found within = record {
+      near = record {
+        near = λ o e x. (let p : record { 0 = r } ≡ o = cc in let q : 1 ≡ e = cc in
+            let p₀ : r ≡ o .0 = ap (λ (y : BlockPlace). y .0) p in (omega (arith, n-is .1, b-small t h level b (kept .on)), omega arith));
+      };
+      right = λ v hc high. record {
+        place = record { 0 = r };
+        entered = 1;
+        is = refl;
+        lands =
+            let byte-at : getD t (at.leafOffset t + (at.link t level i + r)) 0 ≡ byteOf t (w .number) =
+            (let e : h .«leaf_offset» + link + r ≡ at.leafOffset t + (at.link t level i + r) = omega (arith, kept .on .header .offset-is) in
+            rw e at (z .here within .0) ∙ w-is .byte-is) in
+            finds.lands-leaf t (k t v) (d t v) (a t v) (w .number) hc level i j r bottom leaf-block (omega (arith, n-is .0)) byte-at
+            (ap (λ (y : ℕ). y + 1) (sym (same-stretch r)) ∙ z .here within .1);
+      };
+    }
+
+-- Places moved.
+
+near-case : (o : BlockPlace) (e f g m : ℕ) (x : Bool) (p : BlockPlace) (q : ℕ)
+    → cond x (placed.At (record { 0 = f + o .0 - g }) (e + 1)) placed.Off ≡ placed.At p q
+    → o .0 ≤ e * maxText → e ≤ m → f ≤ maxText → (p .0 ≤ q * maxText) × (q ≤ m + 1)
+near-case o e f g m true p q h a c s =
+    let p₁ : record { 0 = f + o .0 - g } ≡ p = cc in
+    let p₀ : f + o .0 - g ≡ p .0 = ap (λ (y : BlockPlace). y .0) p₁ in
+    let q₀ : e + 1 ≡ q = cc in
+    (omega arith, omega arith)
+near-case o e f g m false p q h a c s = absurd (let z : _≡_ {A = ℕ} 0 1 = cc in omega arith)
+
+near-moved : (x r : Placed) (f g m : ℕ) → Near x m → f ≤ maxText → r ≡ moved x f g → Near r (m + 1)
+unfolding moved
+near-moved (placed.At o e) r f g m n s r-is = record {
+  near = λ p q h. near-case o e f g m (leb g (f + o .0)) p q (sym r-is ∙ h) (n .near o e refl .0) (n .near o e refl .1) s;
+}
+near-moved placed.Off r f g m n s r-is = rw r-is (near-off (m + 1))
+
+pub near-more : (r : Placed) (m n : ℕ) → Near r m → m ≤ n → Near r n
+near-more r m n h l = record { near = λ o e x. (h .near o e x .0, omega (arith, h .near o e x .1)) }
+
+moved-to : (x r : Placed) (f g : ℕ) (o : BlockPlace) (e p q : ℕ)
+    → r ≡ moved x f g → x ≡ placed.At o e → g ≤ f + o .0 → p ≡ f + o .0 - g → q ≡ e + 1 → r ≡ placed.At (record { 0 = p }) q
+unfolding moved
+moved-to x r f g o e p q r-is is low p-is q-is = rw (r-is, is, le-leb g (f + o .0) low, p-is, q-is)
+
+lands-same : (t : List ℕ) (v : verdict t ≡ 0) (c : ℕ) (hc : c < at.countedCount t) (l x y n m o e : ℕ) → x ≡ y → n ≡ m
+    → finds.Lands t (k t v) (d t v) (a t v) c hc l x n o e → finds.Lands t (k t v) (d t v) (a t v) c hc l y m o e
+lands-same t v c hc l x y n m o e p q z = rw (← p, ← q) z
+
+-- From a kept block to a child.
+module _ (t : List ℕ) (h : Header) (w : Wanted)
+    (level b i j below : ℕ) (kept : KeptIn t h level b i) (seeks : Seeking t h w level b j (level + 2)) (lower : OnLevel t h (level + 1) below) where
+  abbrev c : ℕ
+  c = w .number
+
+  module _ (x o rest : ℕ) (ch : Chosen t c level i below j x o rest) where
+    pub to-child : (most : ℕ) → level + 2 ≤ most → Seeking t h w (level + 1) below rest most
+    to-child most m = record {
+      on = lower;
+      number-in = seeks .number-in;
+      byte-is = seeks .byte-is;
+      low = omega (arith, ch .rest-is, ch .before-low);
+      few = few rest (omega (arith, ch .rest-is, seeks .few));
+    }
+      where
+        few : (y : ℕ) → y ≤ (level + 2) * 4294967295 → y ≤ most * 4294967295
+        few y l = omega arith
+
+    pub by-child : (m most : ℕ) (r r₁ : Placed) → FoundIn t c (level + 1) x rest m r₁ → r ≡ moved r₁ o 0 → m + 1 ≤ most → FoundIn t c level i j most r
+    by-child m most r r₁ f r-is l = record {
+      near = near-more r (m + 1) most (near-moved r₁ r o 0 m (f .near) (ch .place-low) r-is) l;
+      right = λ v hc high. go v hc high;
+    }
+      where
+        go : (v : verdict t ≡ 0) (hc : c < at.countedCount t) → j ≤ at.inside t level i c → Landed t v c hc level i j r
+        go v hc high =
+            let n = x - at.link t level i in
+            let hi = kept-in t level i (kept .kept) in
+            let k₁ = is-kept t level i (kept .kept) in
+            let hl = lower .level-in in
+            let e : at.link t level i + n ≡ x = omega (arith, ch .link-low) in
+            let e₁ : at.link t level i + (n + 1) ≡ x + 1 = omega (arith, ch .link-low) in
+            let within : n < pieces (len t level i) (at.fullLength t (level + 1)) = rw (lower .b-is) at (ch .within) in
+            let next : n + 1 < pieces (len t level i) (at.fullLength t (level + 1)) → j ≤ at.before t (level + 1) (at.link t level i + (n + 1)) c =
+            λ q. rw e₁ (ch .next (rw (lower .b-is) q)) in
+            let holds : j ≤ at.before t (level + 1) x c + at.inside t (level + 1) x c =
+            rw e at (finds.child-holds t (k t v) (d t v) (a t v) c hc level i hl hi k₁ n j within high next) in
+            let z = f .right v hc (omega (arith, ch .rest-is, ch .before-low)) in
+            let q = z .place in
+            let lands : finds.Lands t (k t v)
+            (d t v) (a t v) c hc (level + 1) (at.link t level i + n) (j - at.before t (level + 1) (at.link t level i + n) c) (q .0) (z .entered) =
+            lands-same t v c hc (level + 1) x (at.link t level i + n)
+            rest (j - at.before t (level + 1) (at.link t level i + n) c) (q .0) (z .entered) (sym e) (rw e (ch .rest-is)) (z .lands) in
+            let low : at.before t (level + 1) (at.link t level i + n) c < j = rw e (ch .before-low) in
+            let place : o ≡ n * at.fullLength t (level + 1) = ch .place-is ∙ rw (lower .b-is) in record {
+              place = record { 0 = n * at.fullLength t (level + 1) + q .0 };
+              entered = z .entered + 1;
+              is = moved-to r₁ r o 0 q (z .entered) (n * at.fullLength t (level + 1) + q .0) (z .entered + 1) r-is (z .is) (omega arith) (omega arith) refl;
+              lands = finds.lands-child t (k t v) (d t v) (a t v) c hc level i n j (q .0) (z .entered) hl hi k₁ within low lands;
+            }
+
+  pub no-child : (most : ℕ) → (verdict t ≡ 0 → ⊥) → FoundIn t c level i j most placed.Off
+  no-child most never = not-found t c level i j most (λ v hc high. never v)
+
+-- From a pointing block to its target.
+module _ (t : List ℕ) (h : Header) (w : Wanted) (level b i j : ℕ) (points : PointsIn t h level b i) (seeks : Seeking t h w level b j (level + 1)) where
+  pub last-points : (most : ℕ) → level + 1 ≡ h .settings .levels → FoundIn t (w .number) level i j most placed.Off
+  last-points most last =
+      not-found t (w .number) level i j most (λ v hc high.
+      omega (
+        arith,
+        points-at t h (w .number) level b i j (at.link t level i) points (seeks .number-in) (seeks .low) refl v .above,
+        points .on .header .levels-is,
+      ))
+
+  module _ (x forward rest : ℕ) (am : Aimed t (w .number) level i b j x forward rest) where
+    pub aimed-kept : KeptIn t h level b x
+    aimed-kept = record { on = points .on; kept = am .kept }
+
+    pub to-aimed : Seeking t h w level b rest (level + 2)
+    to-aimed = record {
+      on = points .on;
+      number-in = seeks .number-in;
+      byte-is = seeks .byte-is;
+      low = am .rest-low;
+      few = omega (arith, seeks .few, am .rest-high);
+    }
+
+    pub by-aimed : (gap m most : ℕ) (r r₁ : Placed) → gap ≡ at.gap t level i → FoundIn t (w .number) level x rest m r₁ → r ≡ moved r₁ forward gap → m + 1 ≤ most
+        → FoundIn t (w .number) level i j most r
+    by-aimed gap m most r r₁ gap-is f r-is l = record {
+      near = near-more r (m + 1) most (near-moved r₁ r forward gap m (f .near) (omega (arith, am .forward-low, b-small t h level b (points .on))) r-is) l;
+      right = λ v hc high. go v hc high (am .either);
+    }
+      where
+        go : (v : verdict t ≡ 0) (hc : w .number < at.countedCount t) → j ≤ at.inside t level i (w .number)
+            → ((x ≡ at.link t level i)
+            × (forward ≡ 0) × (rest ≡ j + at.skip t level i (w .number)) × (rest ≤ at.inside t level (at.link t level i) (w .number)))
+            ⊎ ((x ≡ at.link t level i + 1) × (forward ≡ b) × (at.inside t level (at.link t level i) (w .number) < j + at.skip t level i (w .number))
+            × (rest ≡ j + at.skip t level i (w .number) - at.inside t level (at.link t level i) (w .number)))
+            → Landed t v (w .number) hc level i j r
+        go v hc high (inl s) =
+            let c = w .number in
+            let hi = pointing-in t level i (points .points) in
+            let un = not-kept t level i (points .points) in
+            let most-here : rest ≤ at.inside t level x c = rw (s .0) (s .3) in
+            let z = f .right v hc most-here in
+            let q = z .place in
+            let lands : finds.Lands t (k t v) (d t v) (a t v) c hc level (at.link t level i) (j + at.skip t level i c) (q .0) (z .entered) =
+            lands-same t v c hc level x (at.link t level i) rest (j + at.skip t level i c) (q .0) (z .entered) (s .0) (s .2) (z .lands) in
+            let got = finds.lands-first
+            t (k t v) (d t v) (a t v) c hc level i j (points .on .level-in) hi un (seeks .low) high (q .0) (z .entered) lands in record {
+              place = record { 0 = q .0 - at.gap t level i };
+              entered = z .entered + 1;
+              is = moved-to r₁ r forward
+                  gap q (z .entered) (q .0 - at.gap t level i) (z .entered + 1) r-is (z .is) (omega (arith, got .0, s .1)) (omega (arith, s .1)) refl;
+              lands = got .1;
+            }
+        go v hc high (inr s) =
+            let c = w .number in
+            let hi = pointing-in t level i (points .points) in
+            let un = not-kept t level i (points .points) in
+            let second = finds.second-holds t (k t v) (d t v) (a t v) c hc level i j (points .on .level-in) hi un (seeks .low) high (s .2) in
+            let most-here : rest ≤ at.inside t level x c = rw (s .0, s .3) (second .1) in
+            let z = f .right v hc most-here in
+            let q = z .place in
+            let lands : finds.Lands t (k t v) (d t v)
+            (a t v) c hc level (at.link t level i + 1) (j + at.skip t level i c - at.inside t level (at.link t level i) c) (q .0) (z .entered) =
+            lands-same t v c hc level x (at.link t level i + 1)
+            rest (j + at.skip t level i c - at.inside t level (at.link t level i) c) (q .0) (z .entered) (s .0) (s .3) (z .lands) in
+            let got = finds.lands-second
+            t (k t v) (d t v) (a t v) c hc level i j (points .on .level-in) hi un (seeks .low) high (s .2) (q .0) (z .entered) lands in
+            let full = points .on .b-is in record {
+              place = record { 0 = at.fullLength t level + q .0 - at.gap t level i };
+              entered = z .entered + 1;
+              is = moved-to r₁ r forward gap q (z .entered) (at.fullLength t level + q .0 - at.gap t level i)
+                  (z .entered + 1) r-is (z .is) (omega (arith, got .0, s .1)) (omega (arith, s .1)) refl;
+              lands = got .1;
+            }
+
+  pub no-aimed : (most : ℕ) → (verdict t ≡ 0 → j ≤ at.inside t level i (w .number) → ⊥) → FoundIn t (w .number) level i j most placed.Off
+  no-aimed most never = not-found t (w .number) level i j most (λ v hc high. never v high)
+
+pub found-more : (t : List ℕ) (c level i j m n : ℕ) (r : Placed) → FoundIn t c level i j m r → m ≤ n → FoundIn t c level i j n r
+found-more t c level i j m n r f l = record { near = near-more r m n (f .near) l; right = f .right }

@@ -1,0 +1,4 @@
+pub mod SeekLaws
+pub mod LandLaws
+pub mod FindByHeaderLaws
+pub mod FoundLaws

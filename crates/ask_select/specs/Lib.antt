@@ -1,0 +1,3 @@
+pub mod Seeks
+pub mod Found
+pub mod SoughtPlaces

@@ -1,0 +1,138 @@
+-- What is asked and answered on the way to the j-th byte.
+use mathlib.Core.List.{List}
+use mathlib.Core.Bool.{true, cond}
+use mathlib.Core.Path.{_≡_}
+use mathlib.Core.Logic.{_⊎_}
+use Prim.Native.Nat.{ℕ, _+_, _-_, _*_, _≤_, _<_}
+use lib.Dec.{ltb, leb}
+use Rattle.format.specs.Settings.{pieces, maxText}
+use Rattle.format.specs.Layout as at
+use Rattle.format.specs.Path.{keptBlock, pointingBlock}
+use Rattle.format.specs.Verdict.{verdict}
+use Rattle.layout.specs.declared.header.Header.{Header}
+use Rattle.layout.specs.declared.place.BlockNumber.{BlockNumber}
+use Rattle.layout.specs.declared.place.BlockPlace.{BlockPlace}
+use Rattle.walk_steps.specs.declared.Next.{Next}
+use Rattle.walk_steps.specs.declared.Next.the-variants as next
+use Rattle.layout.specs.HeaderSays.{HeaderOf}
+use Rattle.walk_steps.specs.QuestionStands.{OnLevel}
+use Rattle.walk_steps.specs.Steps.{nextAt}
+use Rattle.theory_counts.specs.CountsLocal.{byteOf}
+use Rattle.theory_counts.specs.Finds.{Lands}
+use Rattle.theory_counts.specs.Demands as demands
+use Rattle.format.specs.LayoutLaws.{readable-facts}
+use Rattle.format.specs.VerdictLaws.{accepted-readable, accepted-links}
+use Rattle.theory_paths.specs.Links.{linked-facts}
+use Rattle.ask_totals.specs.declared.Wanted.{Wanted}
+use Rattle.ask_select.specs.declared.seek.Placed.{Placed}
+use Rattle.ask_select.specs.declared.seek.Placed.the-variants as placed
+use Rattle.ask_select.specs.declared.seek.Child.{Child}
+use Rattle.ask_select.specs.declared.seek.Child.the-variants as child
+use Rattle.ask_select.specs.declared.seek.Target.{Target}
+use Rattle.ask_select.specs.declared.seek.Target.the-variants as target
+
+-- a place moved on by the bytes before it and back by a gap, with one more block entered
+unfoldable pub moved : Placed → ℕ → ℕ → Placed
+moved (placed.At o e) forward back = cond (leb back (forward + o .0)) (placed.At (record { 0 = forward + o .0 - back }) (e + 1)) placed.Off
+moved placed.Off forward back = placed.Off
+
+-- a place that is not far off: a block's length for each block entered
+pub record Near (r : Placed) (most : ℕ) : Type 0 where
+  pub near : (o : BlockPlace) (e : ℕ) → r ≡ placed.At o e → (o .0 ≤ e * maxText) × (e ≤ most)
+
+-- the rest of j in a block that was arrived at
+abbrev pub restIn : Next → ℕ → Child
+restIn (next.Kept i o) rest = child.Kept i o rest
+restIn (next.Points i o) rest = child.Points i o rest
+restIn next.Off rest = child.Off
+
+module _ (t : List ℕ) where
+  -- a kept block of a level, and a pointing one
+  pub record KeptIn (h : Header) (level b i : ℕ) : Type 0 where
+    pub on : OnLevel t h level b
+    pub kept : keptBlock t level i ≡ true
+
+  pub record PointsIn (h : Header) (level b i : ℕ) : Type 0 where
+    pub on : OnLevel t h level b
+    pub points : pointingBlock t level i ≡ true
+
+  -- some blocks of a level, one after the other
+  pub record Siblings (h : Header) (c level first end : ℕ) : Type 0 where
+    pub header : HeaderOf t h
+    pub level-in : level < at.settings t .levels
+    pub number-in : c < at.countedCount t
+    pub some : first < end
+    pub end-in : end ≤ at.levelCount t level
+
+  -- one of them that was stepped to
+  pub record Passed (c level first end j r : ℕ) : Type 0 where
+    pub low : first ≤ r
+    pub high : r < end
+    pub here : at.before t level first c < j → at.before t level r c < j
+
+  -- the last of them before any whose before is j or more
+  pub record LastBefore (c level first end j r : ℕ) : Type 0 where
+    pub low : first ≤ r
+    pub high : r < end
+    pub here : at.before t level first c < j → at.before t level r c < j
+    pub next : r + 1 < end → j ≤ at.before t level (r + 1) c
+
+  -- what is left of j past a block's before, with what the block is
+  unfoldable pub picked : ℕ → ℕ → ℕ → ℕ → ℕ → Child
+  picked c level i o j = cond (ltb (at.before t level i c) j) (restIn (nextAt t level i o) (j - at.before t level i c)) child.Off
+
+  -- the child of block i that is chosen for j: its number x, where it starts in the block, and what is left of j
+  pub record Chosen (c level i below j : ℕ) (x o rest : ℕ) : Type 0 where
+    pub link-low : at.link t level i ≤ x
+    pub within : x - at.link t level i < pieces (at.blockLengthAt t level i) below
+    pub in-table : x < at.levelCount t (level + 1)
+    pub place-is : o ≡ (x - at.link t level i) * below
+    pub place-low : o ≤ maxText
+    pub before-low : at.before t (level + 1) x c < j
+    pub rest-is : rest ≡ j - at.before t (level + 1) x c
+    pub next : x - at.link t level i + 1 < pieces (at.blockLengthAt t level i) below → j ≤ at.before t (level + 1) (x + 1) c
+
+  -- it is kept or it points; on an accepted tree there is one
+  pub record ChildWith (c level i below j : ℕ) (r : Child) : Type 0 where
+    pub kept : (x : BlockNumber) (o : BlockPlace) (rest : ℕ)
+        → r ≡ child.Kept x o rest → (Chosen c level i below j (x .0) (o .0) rest) × (keptBlock t (level + 1) (x .0) ≡ true)
+    pub points : (x : BlockNumber) (o : BlockPlace) (rest : ℕ)
+        → r ≡ child.Points x o rest → (Chosen c level i below j (x .0) (o .0) rest) × (pointingBlock t (level + 1) (x .0) ≡ true)
+    pub off : r ≡ child.Off → verdict t ≡ 0 → ⊥
+
+  -- the target of pointing block i that has the j-th byte: the first with all of j and the skip, or the second with the rest
+  pub record Aimed (c level i b j : ℕ) (x forward rest : ℕ) : Type 0 where
+    pub kept : keptBlock t level x ≡ true
+    pub rest-low : 1 ≤ rest
+    pub rest-high : rest ≤ j + 4294967295
+    pub forward-low : forward ≤ b
+    pub either : ((x ≡ at.link t level i) × (forward ≡ 0) × (rest ≡ j + at.skip t level i c) × (rest ≤ at.inside t level (at.link t level i) c))
+        ⊎ ((x ≡ at.link t level i + 1) × (forward ≡ b) × (at.inside t level (at.link t level i) c < j + at.skip t level i c)
+        × (rest ≡ j + at.skip t level i c - at.inside t level (at.link t level i) c))
+
+  -- a block pointed to, if it is kept
+  unfoldable pub targetAt : ℕ → ℕ → ℕ → ℕ → Target
+  targetAt level i forward rest = cond (keptBlock t level i) (target.Kept (record { 0 = i }) (record { 0 = forward }) rest) target.Off
+
+  pub record TargetWith (c level i b j : ℕ) (r : Target) : Type 0 where
+    pub kept : (x : BlockNumber) (forward : BlockPlace) (rest : ℕ) → r ≡ target.Kept x forward rest → Aimed c level i b j (x .0) (forward .0) rest
+    pub off : r ≡ target.Off → verdict t ≡ 0 → j ≤ at.inside t level i c → ⊥
+
+  -- a level, a counted byte, and the number of the one that is looked for
+  pub record Seeking (h : Header) (w : Wanted) (level b j most : ℕ) : Type 0 where
+    pub on : OnLevel t h level b
+    pub number-in : w .number < at.countedCount t
+    pub byte-is : w .byte ≡ byteOf t (w .number)
+    pub low : 1 ≤ j
+    pub few : j ≤ most * 4294967295
+
+  -- on an accepted tree the j-th byte of block i stands at the place found, and its path from there enters so many blocks
+  pub record Landed (v : verdict t ≡ 0) (c : ℕ) (hc : c < at.countedCount t) (level i j : ℕ) (r : Placed) : Type 0 where
+    pub place : BlockPlace
+    pub entered : ℕ
+    pub is : r ≡ placed.At place entered
+    pub lands : Lands t (readable-facts t (accepted-readable t v)) (linked-facts t (accepted-links t v)) (demands.levels t v) c hc level i j (place .0) entered
+
+  pub record FoundIn (c level i j most : ℕ) (r : Placed) : Type 0 where
+    pub near : Near r most
+    pub right : (v : verdict t ≡ 0) (hc : c < at.countedCount t) → j ≤ at.inside t level i c → Landed v c hc level i j r

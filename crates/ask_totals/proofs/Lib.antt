@@ -1,0 +1,2 @@
+mod NamedLaws
+pub mod TotalLaws

@@ -1,0 +1,14 @@
+-- What is asked where the number of a counted byte is looked for.
+use mathlib.Core.List.{List}
+use mathlib.Core.Path.{_≡_}
+use Prim.Native.Nat.{ℕ, _≤_}
+use lib.ListN.{length}
+use Rattle.format.specs.Settings.{maxCounted}
+use Rattle.format.specs.HeaderPlaces.{headerLength}
+use Rattle.format.specs.Layout as at
+
+-- k bytes are counted
+pub record Names (t : List ℕ) (k : ℕ) : Type 0 where
+  pub long : headerLength ≤ length t
+  pub k-is : k ≡ at.countedCount t
+  pub k-low : k ≤ maxCounted

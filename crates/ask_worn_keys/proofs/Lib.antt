@@ -1,0 +1,4 @@
+pub mod RowScans
+pub mod SearchLaws
+pub mod MatchAnswerLaws
+pub mod Demands

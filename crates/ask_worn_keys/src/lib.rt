@@ -1,0 +1,52 @@
+// A worn key: the rows of a book that match a range of depths for each cut, one at a time.
+mod search;
+
+use layout::header;
+use layout::header::HeaderRead;
+ghost use mathlib.Core.Path.{_≡_};
+ghost use Rattle.ask_worn_keys.specs.MatchAnswer.{MatchAnswer, markAfter, Moved};
+
+// The row shown, on which the mark then stands; or none, and where the mark then stands; or the number of the question that refuses.
+pub enum Shown {
+    Row(u32),
+    Nothing(u32),
+    Refused(u32),
+}
+
+// A mark: the number of the row shown last, 0 before the first row.
+pub struct Mark {
+    pub row: u32,
+}
+
+// Moves a lent mark on to the next row that matches, and shows it.
+pub fn show(mark: &mut Mark, t: &[u8], question: &[u8]) -> Shown
+    ensures { λ r. ⌜ Moved (now (t .entry)) (now (question .entry)) (now (mark .entry) .row) r (now (mark .exit) .row) ⌝ }
+{
+    let at = mark.row;
+    let shown = next_match(t, question, at);
+    let next = after(shown, at);
+    mark.row = next;
+    shown
+}
+
+// The first row after a mark that matches.
+pub fn next_match(t: &[u8], question: &[u8], mark: u32) -> Shown
+    ensures { λ r. ⌜ MatchAnswer (now (t .entry)) (now (question .entry)) mark r ⌝ }
+{
+    let read = header::read_header(t);
+    match read {
+        HeaderRead::Good(h) => search::match_at(t, h, question, mark),
+        HeaderRead::Refused(number) => Shown::Refused(number),
+    }
+}
+
+// Where a mark stands after an answer: a refusal leaves it.
+pub fn after(shown: Shown, mark: u32) -> u32
+    ensures { λ r. ⌜ r ≡ markAfter shown mark ⌝ }
+{
+    match shown {
+        Shown::Row(q) => q,
+        Shown::Nothing(m) => m,
+        Shown::Refused(_) => mark,
+    }
+}

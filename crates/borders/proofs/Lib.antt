@@ -1,3 +1,0 @@
-pub mod GatherLaws
-pub mod WholeLaws
-pub mod TruthLaws

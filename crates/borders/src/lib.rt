@@ -1,3 +1,0 @@
-// Spans read by edges, and question 9 of the edges.
-pub mod gather;
-pub mod truth;

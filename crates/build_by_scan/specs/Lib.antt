@@ -1,0 +1,4 @@
+pub mod ScannedSays
+pub mod ScannedAnswer
+pub mod ItemTable
+pub mod ScanExamples

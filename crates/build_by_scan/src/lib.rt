@@ -1,0 +1,83 @@
+// The builder with one scan a level: it enters the blocks and pairs of a level in a lent table of words and passes once over the text.
+// It writes what the first builder writes.
+mod scanned_fill;
+mod scanned_levels;
+mod table;
+
+use layout::settings::Checked;
+use layout::settings::Settings;
+ghost use mathlib.Core.Path.{_≡_};
+ghost use lib.ListN.{length};
+ghost use Rattle.theory_built.specs.BlockSizes.{Taken};
+ghost use Rattle.build_by_search.specs.BuildAnswer.{given};
+ghost use Rattle.build_records.specs.State.{settingsOf};
+ghost use Rattle.build_by_scan.specs.ScannedAnswer.{numberOf, sizeOf, windowsSaid};
+ghost use Rattle.build_by_scan.specs.ScannedSays.{tableWords, scanNumber, scanSize, scanWindows, scanLeaves, TableLeft};
+
+// How many words the table must have for a text of n bytes.
+pub fn scan_words(n: u32, leaf: u32) -> u64
+    ensures { λ r. ⌜ r ≡ tableWords n leaf ⌝ }
+{
+    if leaf == 0 {
+        return 0;
+    }
+    4 * ((n as u64 + (leaf - 1) as u64) / leaf as u64)
+}
+
+// The tree's size and the windows looked up, or the number of the question that refuses it.
+pub enum Scanned {
+    Size(u32, u32),
+    Refused(u32),
+}
+
+// Writes the block tree of a text into a buffer: questions 1 to 3, then 18 (the table has fewer than four words for each leaf length
+// of text), then 4. Refused by 1, 2, 3 or 18, table and buffer are unchanged; by 4 the buffer is all zero. What the table holds afterwards is free.
+pub fn build_scanned(
+    text: &[u8],
+    leaf: u32,
+    arity: u32,
+    levels: u32,
+    counted: &[u8],
+    words: &mut [u32],
+    out: &mut [u8],
+) -> Scanned
+    ensures number { λ r. ⌜ numberOf r
+        ≡ scanNumber (given leaf arity levels (now (counted .entry))) (now (text .entry)) (now (out .entry)) (length (now (words .entry))) ⌝ }
+    ensures size { λ r. ⌜ sizeOf r
+        ≡ scanSize (given leaf arity levels (now (counted .entry))) (now (text .entry)) (now (out .entry)) (length (now (words .entry))) ⌝ }
+    ensures windows { λ r. ⌜ windowsSaid r
+        ≡ scanWindows (given leaf arity levels (now (counted .entry))) (now (text .entry)) (now (out .entry)) (length (now (words .entry))) ⌝ }
+    ensures buffer { λ _. ⌜ now (out .exit)
+        ≡ scanLeaves (given leaf arity levels (now (counted .entry))) (now (text .entry)) (now (out .entry)) (length (now (words .entry))) ⌝ }
+    ensures table { λ r. ⌜ TableLeft (numberOf r) (now (words .entry)) (now (words .exit)) ⌝ }
+{
+    if (Settings::MAX_TEXT as usize) < text.len() {
+        return Scanned::Refused(1);
+    }
+    let checked = Settings::new(leaf, arity, levels, counted);
+    match checked {
+        Checked::Fine(s) => scan_with(text, counted, s, words, out),
+        Checked::Refused(q) => Scanned::Refused(q),
+    }
+}
+
+// The same with settings that questions 1 to 3 take.
+fn scan_with(text: &[u8], counted: &[u8], s: Settings, words: &mut [u32], out: &mut [u8]) -> Scanned
+    requires { ⌜ Taken (settingsOf s (now counted)) (now text) ⌝ }
+    ensures { λ r. ⌜ numberOf r ≡ scanNumber (settingsOf s (now (counted .entry))) (now (text .entry)) (now (out .entry)) (length (now (words .entry))) ⌝ }
+    ensures { λ r. ⌜ sizeOf r ≡ scanSize (settingsOf s (now (counted .entry))) (now (text .entry)) (now (out .entry)) (length (now (words .entry))) ⌝ }
+    ensures { λ r. ⌜ windowsSaid r ≡ scanWindows (settingsOf s (now (counted .entry))) (now (text .entry)) (now (out .entry)) (length (now (words .entry))) ⌝ }
+    ensures { λ _. ⌜ now (out .exit) ≡ scanLeaves (settingsOf s (now (counted .entry))) (now (text .entry)) (now (out .entry)) (length (now (words .entry))) ⌝ }
+    ensures { λ r. ⌜ TableLeft (numberOf r) (now (words .entry)) (now (words .exit)) ⌝ }
+{
+    if (words.len() as u64) < scan_words(text.len() as u32, s.leaf) {
+        return Scanned::Refused(18);
+    }
+    let wrote = scanned_levels::write_tree(out, words, text, counted, s);
+    if wrote.size == 0 {
+        let all = out.len();
+        stretches::clear(out, all);
+        return Scanned::Refused(4);
+    }
+    Scanned::Size(wrote.size, wrote.windows)
+}

@@ -1,0 +1,140 @@
+// The records of a level above the last, written in order from what the table says.
+use crate::table;
+use build_marking::Marked;
+use build_marking::pair;
+use build_marking::pair::Pair;
+use build_marking::target;
+use build_records::level_written;
+use build_records::level_written::Level;
+use build_records::record_written;
+use build_records::record_written::Block;
+use build_records::record_written::Link;
+use layout::place::BlockNumber;
+ghost use mathlib.Core.Path.{_≡_};
+ghost use Prim.Native.Nat.{_+_, _*_, _≤_, _<_};
+ghost use lib.ListN.{length};
+ghost use Rattle.format.specs.Blocks.{treeOf};
+ghost use Rattle.format.specs.Settings.{maxText, pieces};
+ghost use Rattle.build_marking.specs.MarkingRule.{Next, pairOf};
+ghost use Rattle.build_records.specs.Grown.{Grown};
+ghost use Rattle.build_records.specs.State.{settingsOf, On, BlockIs};
+ghost use Rattle.build_levels.specs.Trees.{Ready, Written};
+ghost use Rattle.build_by_scan.specs.ScannedSays.{windowsAt};
+ghost use Rattle.build_by_scan.specs.ItemTable.{Told};
+
+// How many blocks stand below a level, and how many windows were looked up for it.
+pub struct Put {
+    pub below: u32,
+    pub windows: u32,
+}
+
+// How a block and the next one stand, by the table.
+fn pair_in(
+    words: &[u32],
+    text: &[u8],
+    counted: &[u8],
+    out: &[u8],
+    level: Level,
+    i: BlockNumber,
+) -> Pair
+    requires { ⌜ On (settingsOf (level .settings) (now counted)) (now text) (now out) level (i .0)
+        × Told (settingsOf (level .settings) (now counted)) (now text) (level .number) (now words) ⌝ }
+    ensures { λ r. ⌜ r ≡ pairOf (settingsOf (level .settings) (now (counted .entry))) (now (text .entry)) (level .number) (i .0) ⌝ }
+{
+    if i.0 + 1 == level.count {
+        return Pair::Apart;
+    }
+    let start = level_written::start(counted, out, level, i);
+    let next = level_written::start(counted, out, level, BlockNumber(i.0 + 1));
+    if next.0 != start.0 + level.size {
+        return Pair::Apart;
+    }
+    if words[3 * (2 * i.0 as usize + 1) + 2] != start.0 {
+        return Pair::Again;
+    }
+    Pair::First
+}
+
+// What the record of a block is to say, by the table.
+fn block_in(
+    words: &[u32],
+    text: &[u8],
+    counted: &[u8],
+    out: &[u8],
+    level: Level,
+    b: Marked,
+) -> Block
+    requires { ⌜ Next (settingsOf (level .settings) (now counted)) (now text) (now out) level (b .number .0) (b .kept) (b .link .0)
+        × Told (settingsOf (level .settings) (now counted)) (now text) (level .number) (now words) ⌝ }
+    ensures { λ r. ⌜ BlockIs (settingsOf (level .settings) (now (counted .entry))) (now (text .entry)) (level .number) (b .number .0) r ⌝ }
+{
+    let i = b.number;
+    if b.kept {
+        let link = b.link;
+        return target::kept_block(text, counted, out, level, i, link);
+    }
+    let place = scan_passes::place_of(words, text.len() as u32, 2 * i.0);
+    target::pointing_block(text, counted, out, level, i, place)
+}
+
+// Writes the records of a level whose starts stand in place, and answers how many blocks stand below.
+fn fill_scanned(out: &mut [u8], words: &[u32], text: &[u8], counted: &[u8], level: Level) -> u32
+    requires { ⌜ Ready (settingsOf (level .settings) (now counted)) (now text) (now out) level
+        × Told (settingsOf (level .settings) (now counted)) (now text) (level .number) (now words) ⌝ }
+    ensures { λ _. ⌜ Grown (treeOf (settingsOf (level .settings) (now (counted .entry))) (now (text .entry))) (now (out .entry)) (now (out .exit)) ⌝ }
+    ensures { λ r. ⌜ Written (settingsOf (level .settings) (now (counted .entry))) (now (text .entry)) (now (out .exit)) level r ⌝ }
+{
+    let mut left = Pair::Apart;
+    let mut link: u32 = 0;
+    let mut i: u32 = 0;
+    while i < level.count {
+        let right = pair_in(words, text, counted, out, level, BlockNumber(i));
+        let kept = pair::keeps(left, right);
+        let marked = Marked {
+            number: BlockNumber(i),
+            kept,
+            link: Link(link),
+        };
+        let block = block_in(words, text, counted, out, level, marked);
+        link = link + record_written::put_block(out, text, counted, level, BlockNumber(i), block);
+        left = right;
+        i += 1;
+    }
+    link
+}
+
+// Scans for a level above the last, and answers how many windows were looked up; the level of a text without bytes has no block, and none.
+fn scan_level(words: &mut [u32], text: &[u8], counted: &[u8], out: &[u8], level: Level) -> u32
+    requires { ⌜ Ready (settingsOf (level .settings) (now counted)) (now text) (now out) level × (level .number + 1 < level .settings .levels)
+        × (4 * pieces (length (now text)) (level .settings .leaf) ≤ length (now words)) ⌝ }
+    ensures { λ _. ⌜ Told (settingsOf (level .settings) (now (counted .entry))) (now (text .entry)) (level .number) (now (words .exit)) ⌝ }
+    ensures { λ r. ⌜ (r ≡ windowsAt (settingsOf (level .settings) (now (counted .entry))) (now (text .entry)) (level .number)) × (r ≤ 4 * maxText) ⌝ }
+{
+    if level.count == 0 {
+        return 0;
+    }
+    let it = table::items_of(text, counted, level);
+    scan_passes::scan(words, text, out, it)
+}
+
+// Scans for a level above the last, and writes its records.
+pub fn put_level(
+    out: &mut [u8],
+    words: &mut [u32],
+    text: &[u8],
+    counted: &[u8],
+    level: Level,
+) -> Put
+    requires { ⌜ Ready (settingsOf (level .settings) (now counted)) (now text) (now out) level × (level .number + 1 < level .settings .levels)
+        × (4 * pieces (length (now text)) (level .settings .leaf) ≤ length (now words)) ⌝ }
+    ensures { λ _. ⌜ Grown (treeOf (settingsOf (level .settings) (now (counted .entry))) (now (text .entry))) (now (out .entry)) (now (out .exit)) ⌝ }
+    ensures { λ r. ⌜ Written (settingsOf (level .settings) (now (counted .entry))) (now (text .entry)) (now (out .exit)) level (r .below) ⌝ }
+    ensures { λ r. ⌜ (r .windows ≡ windowsAt (settingsOf (level .settings) (now (counted .entry))) (now (text .entry)) (level .number))
+        × (r .windows ≤ 4 * maxText) ⌝ }
+{
+    let windows = scan_level(words, text, counted, out, level);
+    Put {
+        below: fill_scanned(out, words, text, counted, level),
+        windows,
+    }
+}

@@ -1,0 +1,74 @@
+// The tree, level by level.
+use crate::scanned_fill;
+use build_levels::level_step;
+use build_levels::level_step::Step;
+use build_records::level_written::Level;
+use layout::settings::Settings;
+ghost use mathlib.Core.Path.{_≡_};
+ghost use Prim.Native.Nat.{_+_, _*_, _≤_, _<_};
+ghost use lib.ListN.{length};
+ghost use Rattle.format.specs.Blocks.{treeOf};
+ghost use Rattle.format.specs.Settings.{pieces};
+ghost use Rattle.theory_built.specs.BlockSizes.{Taken};
+ghost use Rattle.build_records.specs.Grown.{Grown};
+ghost use Rattle.build_records.specs.State.{settingsOf};
+ghost use Rattle.build_levels.specs.Trees.{Ready, Finished};
+ghost use Rattle.build_by_scan.specs.ScannedSays.{windowsOf};
+
+// The tree's size, 0 where it does not fit, and the windows looked up.
+pub struct Wrote {
+    pub size: u32,
+    pub windows: u32,
+}
+
+// Writes the levels from the first on.
+fn put_levels(out: &mut [u8], words: &mut [u32], text: &[u8], counted: &[u8], first: Level) -> Wrote
+    requires { ⌜ Ready (settingsOf (first .settings) (now counted)) (now text) (now out) first × (first .number ≡ 0)
+        × (4 * pieces (length (now text)) (first .settings .leaf) ≤ length (now words)) ⌝ }
+    ensures { λ _. ⌜ Grown (treeOf (settingsOf (first .settings) (now (counted .entry))) (now (text .entry))) (now (out .entry)) (now (out .exit)) ⌝ }
+    ensures { λ r. ⌜ Finished (treeOf (settingsOf (first .settings) (now (counted .entry))) (now (text .entry))) (now (out .exit)) (r .size) ⌝ }
+    ensures { λ r. ⌜ ((r .size ≡ 0 → ⊥) → r .windows ≡ windowsOf (settingsOf (first .settings) (now (counted .entry))) (now (text .entry))) ⌝ }
+{
+    let mut level = first;
+    let mut windows: u32 = 0;
+    while level.number + 1 < first.settings.levels {
+        let put = scanned_fill::put_level(out, words, text, counted, level);
+        windows = windows + put.windows;
+        let step = level_step::go_down(out, text, counted, level, put.below);
+        let Step::To(next) = step else {
+            return Wrote {
+                size: 0,
+                windows: 0,
+            };
+        };
+        level = next;
+    }
+    let count = build_by_search::level_fill::fill_level(out, text, counted, level);
+    Wrote {
+        size: level_step::finish(out, text, counted, level, count),
+        windows,
+    }
+}
+
+// Writes the tree.
+pub fn write_tree(
+    out: &mut [u8],
+    words: &mut [u32],
+    text: &[u8],
+    counted: &[u8],
+    s: Settings,
+) -> Wrote
+    requires { ⌜ Taken (settingsOf s (now counted)) (now text) × (4 * pieces (length (now text)) (s .leaf) ≤ length (now words)) ⌝ }
+    ensures { λ _. ⌜ Grown (treeOf (settingsOf s (now (counted .entry))) (now (text .entry))) (now (out .entry)) (now (out .exit)) ⌝ }
+    ensures { λ r. ⌜ Finished (treeOf (settingsOf s (now (counted .entry))) (now (text .entry))) (now (out .exit)) (r .size) ⌝ }
+    ensures { λ r. ⌜ ((r .size ≡ 0 → ⊥) → r .windows ≡ windowsOf (settingsOf s (now (counted .entry))) (now (text .entry))) ⌝ }
+{
+    let step = level_step::begin(out, text, counted, s);
+    let Step::To(first) = step else {
+        return Wrote {
+            size: 0,
+            windows: 0,
+        };
+    };
+    put_levels(out, words, text, counted, first)
+}

@@ -1,0 +1,30 @@
+// How the table is divided for a level.
+use build_records::level_written;
+use build_records::level_written::Level;
+use layout::settings;
+use scan_entries::Items;
+ghost use mathlib.Core.Path.{_≡_};
+ghost use Prim.Native.Nat.{_+_, _*_, _≤_};
+ghost use lib.ListN.{length};
+ghost use Rattle.format.specs.Settings.{maxText, pieces, maxLeaf, maxCounted};
+ghost use Rattle.format.specs.Blocks.{recordBytes};
+ghost use Rattle.build_records.specs.State.{settingsOf};
+ghost use Rattle.build_by_scan.specs.ItemTable.{itemsSay};
+
+// The items of a level. More than 16 heads to an item would only spread them over more memory.
+pub fn items_of(text: &[u8], counted: &[u8], level: Level) -> Items
+    requires { ⌜ (length (now counted) ≤ maxCounted)
+        × (1 ≤ level .count) × (1 ≤ level .settings .leaf) × (level .settings .leaf ≤ maxLeaf) × (length (now text) ≤ maxText)
+        × (level .count + level .count ≤ pieces (length (now text)) (level .settings .leaf) + 1) ⌝ }
+    ensures { λ r. ⌜ r ≡ itemsSay (length (now (text .entry))) (recordBytes (settingsOf (level .settings) (now (counted .entry)))) level ⌝ }
+{
+    let items = level.count + level.count - 1;
+    let words = 4 * settings::pieces(text.len() as u32, level.settings.leaf);
+    Items {
+        records: level.table,
+        step: level_written::record_size(counted, level.settings) as u32,
+        size: level.size,
+        items,
+        heads: stretches::shorter(words - 3 * items, 16 * items),
+    }
+}

@@ -1,0 +1,3 @@
+pub mod LevelFillLaws
+pub mod AllLevelsLaws
+pub mod BuildOutcomes

@@ -1,0 +1,44 @@
+// The tree, level by level.
+use crate::level_fill;
+use build_levels::level_step;
+use build_levels::level_step::Step;
+use build_records::level_written::Level;
+use layout::settings::Settings;
+ghost use Prim.Native.Nat.{_+_, _<_};
+ghost use Rattle.format.specs.Blocks.{treeOf};
+ghost use Rattle.theory_built.specs.BlockSizes.{Taken};
+ghost use Rattle.build_records.specs.Grown.{Grown};
+ghost use Rattle.build_records.specs.State.{settingsOf};
+ghost use Rattle.build_levels.specs.Trees.{Ready, Finished};
+
+// Writes the levels from the first on; the tree's size, 0 where it does not fit.
+fn put_levels(out: &mut [u8], text: &[u8], counted: &[u8], first: Level) -> u32
+    requires { ⌜ Ready (settingsOf (first .settings) (now counted)) (now text) (now out) first ⌝ }
+    ensures { λ _. ⌜ Grown (treeOf (settingsOf (first .settings) (now (counted .entry))) (now (text .entry))) (now (out .entry)) (now (out .exit)) ⌝ }
+    ensures { λ r. ⌜ Finished (treeOf (settingsOf (first .settings) (now (counted .entry))) (now (text .entry))) (now (out .exit)) r ⌝ }
+{
+    let mut level = first;
+    while level.number + 1 < first.settings.levels {
+        let count = level_fill::fill_level(out, text, counted, level);
+        let step = level_step::go_down(out, text, counted, level, count);
+        let Step::To(next) = step else {
+            return 0;
+        };
+        level = next;
+    }
+    let count = level_fill::fill_level(out, text, counted, level);
+    level_step::finish(out, text, counted, level, count)
+}
+
+// Writes the tree; its size, 0 where it does not fit.
+pub fn write_tree(out: &mut [u8], text: &[u8], counted: &[u8], s: Settings) -> u32
+    requires { ⌜ Taken (settingsOf s (now counted)) (now text) ⌝ }
+    ensures { λ _. ⌜ Grown (treeOf (settingsOf s (now (counted .entry))) (now (text .entry))) (now (out .entry)) (now (out .exit)) ⌝ }
+    ensures { λ r. ⌜ Finished (treeOf (settingsOf s (now (counted .entry))) (now (text .entry))) (now (out .exit)) r ⌝ }
+{
+    let step = level_step::begin(out, text, counted, s);
+    let Step::To(first) = step else {
+        return 0;
+    };
+    put_levels(out, text, counted, first)
+}

@@ -1,0 +1,57 @@
+// The builder: byte for byte the block tree of its text, written into a lent buffer.
+mod all_levels;
+pub mod level_fill;
+
+use layout::settings::Checked;
+use layout::settings::Settings;
+ghost use mathlib.Core.Path.{_≡_};
+ghost use Rattle.format.specs.BuildSays.{buildNumber, buildSize, buildLeaves};
+ghost use Rattle.theory_built.specs.BlockSizes.{Taken};
+ghost use Rattle.build_by_search.specs.BuildAnswer.{numberOf, sizeOf, given};
+ghost use Rattle.build_records.specs.State.{settingsOf};
+
+// The tree's size, or the number of the question that refuses it.
+pub enum Built {
+    Size(u32),
+    Refused(u32),
+}
+
+// Writes the block tree of a text into a buffer: questions 1 to 4 in order. Refused by 1, 2 or 3, the buffer is
+// unchanged; by 4 it is all zero. It needs no memory besides the buffer.
+pub fn build(
+    text: &[u8],
+    leaf: u32,
+    arity: u32,
+    levels: u32,
+    counted: &[u8],
+    out: &mut [u8],
+) -> Built
+    ensures number { λ r. ⌜ numberOf r ≡ buildNumber (given leaf arity levels (now (counted .entry))) (now (text .entry)) (now (out .entry)) ⌝ }
+    ensures size { λ r. ⌜ sizeOf r ≡ buildSize (given leaf arity levels (now (counted .entry))) (now (text .entry)) (now (out .entry)) ⌝ }
+    ensures buffer { λ _. ⌜ now (out .exit) ≡ buildLeaves (given leaf arity levels (now (counted .entry))) (now (text .entry)) (now (out .entry)) ⌝ }
+{
+    if (Settings::MAX_TEXT as usize) < text.len() {
+        return Built::Refused(1);
+    }
+    let checked = Settings::new(leaf, arity, levels, counted);
+    match checked {
+        Checked::Fine(s) => build_with(text, counted, s, out),
+        Checked::Refused(q) => Built::Refused(q),
+    }
+}
+
+// The same with settings that questions 1 to 3 take.
+fn build_with(text: &[u8], counted: &[u8], s: Settings, out: &mut [u8]) -> Built
+    requires { ⌜ Taken (settingsOf s (now counted)) (now text) ⌝ }
+    ensures { λ r. ⌜ numberOf r ≡ buildNumber (settingsOf s (now (counted .entry))) (now (text .entry)) (now (out .entry)) ⌝ }
+    ensures { λ r. ⌜ sizeOf r ≡ buildSize (settingsOf s (now (counted .entry))) (now (text .entry)) (now (out .entry)) ⌝ }
+    ensures { λ _. ⌜ now (out .exit) ≡ buildLeaves (settingsOf s (now (counted .entry))) (now (text .entry)) (now (out .entry)) ⌝ }
+{
+    let size = all_levels::write_tree(out, text, counted, s);
+    if size == 0 {
+        let all = out.len();
+        stretches::clear(out, all);
+        return Built::Refused(4);
+    }
+    Built::Size(size)
+}

@@ -1,0 +1,123 @@
+-- The sum over the levels, and the answers.
+use mathlib.Core.List.{[]}
+use mathlib.Core.Bool.{Bool, true, false, cond}
+use mathlib.Core.Path.{_≡_, refl, sym, _∙_}
+use Prim.Native.Nat.{ℕ, _+_, _-_, _*_, _^_, _≤_, _<_}
+use native.Mathlib.Omega.{arith}
+use native.Mathlib.Nat.{one-le-pow, mul-le-mul, mul-le-mul-left, pow-le-pow-right, le-trans, div-le-self}
+use lib.Dec.{leb}
+use borrow.Author.Tests.{le-leb, lt-leb}
+use Rattle.text.specs.Lists.{sumBelow}
+use Rattle.text.specs.ListLaws.{sumBelow-suc}
+use Rattle.format.specs.Settings.{pieces, lengthOk, sizesOk, countedOk, rising, recordLength, maxText, maxLevels, maxCounted, maxRecord}
+use Rattle.format.specs.HeaderPlaces.{headerLength}
+use Rattle.format.specs.Blocks.{builtLayout}
+use Rattle.format.specs.SizeLaws.{Sizes, within-bounds}
+use Rattle.layout.specs.declared.settings.Settings as code
+use Rattle.layout.specs.declared.settings.Checked.{Checked}
+use Rattle.layout.specs.declared.settings.Checked.the-variants as checked-is
+use Rattle.layout.specs.CheckedSettings.{checked, sizes}
+use Rattle.layout.specs.SettingsLevel.{Sized}
+use Rattle.build_enough.specs.declared.Room.the-variants.{Bytes, Refused}
+use Rattle.build_enough.specs.Enough.{blocksAtMost, enoughFor, enoughSays}
+
+module _ (s : code.Settings) (z : Sized s 0) (low : 1 ≤ s .leaf) where
+  pub sized-at : (l : ℕ) → l < s .levels → Sized s l
+  sized-at l e = record {
+    bounds = z .bounds;
+    level-in = e;
+  }
+
+  pub block-low : (l : ℕ) → 0 < s .leaf * s .arity ^ (s .levels - 1 - l)
+  block-low l = mul-le-mul {n₁ = 1} {m₁ = 1} low (one-le-pow (s .levels - 1 - l) (s .arity) (omega (arith, z .bounds .arity-low)))
+
+  pub block-few : (l : ℕ) → s .leaf * s .arity ^ (s .levels - 1 - l) ≤ maxText
+  block-few l = le-trans (mul-le-mul-left (s .leaf) (pow-le-pow-right {n = s .arity}
+      (omega (arith, z .bounds .arity-low)) (let e : s .levels - 1 - l ≤ s .levels - 1 = omega arith in e))) (z .bounds .top-high)
+
+  -- the blocks of the first levels
+  abbrev pub upTo : ℕ → ℕ → ℕ
+  upTo n l = sumBelow l (λ l. pieces n (s .leaf * s .arity ^ (s .levels - 1 - l)))
+
+  pieces-few : (n b : ℕ) → n ≤ maxText → b ≤ maxText → pieces n b ≤ (2 * maxText)
+  unfolding pieces
+  pieces-few n b h k = omega (arith, div-le-self (n + (b - 1)) b)
+
+  module _ (n l sum b p : ℕ) (small : n ≤ maxText) (b-is : b ≡ s .leaf * s .arity ^ (s .levels - 1 - l)) (p-is : p ≡ pieces n b) where
+    pub one-level : sum ≡ upTo n l → sum + p ≡ upTo n (l + 1)
+    one-level e = rw (e, p-is, b-is) (sym (sumBelow-suc l (λ l. pieces n (s .leaf * s .arity ^ (s .levels - 1 - l)))))
+
+    pub level-few : p ≤ (2 * maxText)
+    level-few = rw p-is (pieces-few n b small (rw b-is (block-few l)))
+
+pub none-first : (f : ℕ → ℕ) → 0 ≡ sumBelow 0 f
+unfolding sumBelow
+none-first f = refl
+
+-- the answers
+module _ (n m r H k : ℕ) where
+  pub long : maxText < n → Refused 1 ≡ enoughSays n m r H k
+  unfolding enoughSays lengthOk
+  long h = rw (lt-leb n maxText h)
+
+  module _ (high : n ≤ maxText) (x : Checked) (is : x ≡ checked m r H []) where
+    nothing-counted : countedOk [] ≡ true
+    unfolding countedOk rising
+    nothing-counted = refl
+
+    by-sizes : (y : Bool) → sizesOk (sizes m r H) ≡ y
+        → x ≡ cond y (checked-is.Fine (record { leaf = m; arity = r; levels = H; counted = 0 })) (checked-is.Refused 2)
+    unfolding checked
+    by-sizes y e = is ∙ rw (e, nothing-counted)
+
+    module _ (y : Bool) (e : sizesOk (sizes m r H) ≡ y) where
+      said : enoughSays n m r H k ≡ cond y (cond (leb k maxCounted) (Bytes (enoughFor n m r H k)) (Refused 3)) (Refused 2)
+      unfolding enoughSays lengthOk
+      said = rw (le-leb n maxText high, e)
+
+    pub sizes-refused : (q : ℕ) → x ≡ checked-is.Refused q → Refused 2 ≡ enoughSays n m r H k
+    sizes-refused q e = go (sizesOk (sizes m r H)) refl
+      where
+        fine : (s : code.Settings) → checked-is.Refused q ≡ checked-is.Fine s → ⊥
+        fine s e = let z : _≡_ {A = ℕ} 0 1 = cc in omega arith
+
+        go : (y : Bool) → sizesOk (sizes m r H) ≡ y → Refused 2 ≡ enoughSays n m r H k
+        go true f = absurd (fine _ (sym e ∙ by-sizes true f))
+        go false f = sym (said false f)
+
+    module _ (s : code.Settings) (e : x ≡ checked-is.Fine s) where
+      fine-is : (sizesOk (sizes m r H) ≡ true) × (s ≡ record { leaf = m; arity = r; levels = H; counted = 0 })
+      fine-is = go (sizesOk (sizes m r H)) refl
+        where
+          refused : checked-is.Fine s ≡ checked-is.Refused 2 → ⊥
+          refused e = let z : _≡_ {A = ℕ} 0 1 = cc in omega arith
+
+          same : (u : code.Settings) → checked-is.Fine s ≡ checked-is.Fine u → s ≡ u
+          same u e = cc
+
+          go : (y : Bool) → sizesOk (sizes m r H) ≡ y → (sizesOk (sizes m r H) ≡ true) × (s ≡ record { leaf = m; arity = r; levels = H; counted = 0 })
+          go true f = (f, same _ (sym e ∙ by-sizes true f))
+          go false f = absurd (refused (sym e ∙ by-sizes false f))
+
+      facts : Sizes m r H
+      facts = within-bounds 0 0 (sizes m r H) (omega arith) (fine-is .0) (omega arith)
+
+      pub fine-sized : Sized s 0 × (1 ≤ s .leaf)
+      fine-sized = rw (fine-is .1) (
+        record {
+          bounds = facts;
+          level-in = facts .levels-low;
+        },
+        facts .leaf-low,
+      )
+
+      pub many-counted : maxCounted < k → Refused 3 ≡ enoughSays n m r H k
+      many-counted h = sym (said true (fine-is .0) ∙ rw (lt-leb k maxCounted h))
+
+      pub enough-is : k ≤ maxCounted → (sum : ℕ) → sum ≡ blocksAtMost n (s .leaf) (s .arity) (s .levels)
+          → (z : ℕ) → z ≡ recordLength builtLayout (s .leaf) k → Bytes (headerLength + n + z * sum) ≡ enoughSays n m r H k
+      enough-is h sum e′ z ez = sym (said true (fine-is .0) ∙ rw (le-leb k maxCounted h, e′, ez, fine-is .1))
+
+-- the records of all levels are few
+pub bytes-few : (z sum : ℕ) → z ≤ maxRecord → sum ≤ maxLevels * (2 * maxText) → z * sum ≤ maxRecord * (maxLevels * (2 * maxText))
+bytes-few z sum h l = mul-le-mul h l

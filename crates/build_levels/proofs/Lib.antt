@@ -1,0 +1,5 @@
+pub mod LeafLaws
+pub mod HeaderWrittenLaws
+pub mod LevelZeroLaws
+pub mod LevelStepLaws
+pub mod WrittenTree

@@ -1,0 +1,69 @@
+-- A tree that is being written, level by level.
+use mathlib.Core.List.{List}
+use mathlib.Core.Path.{_≡_}
+use mathlib.Core.Logic.{_⊎_}
+use Prim.Native.Nat.{ℕ, suc, _+_, _-_, _*_, _/_, _^_, _≤_, _<_}
+use lib.ListN.{length}
+use Rattle.text.specs.Lists.{sumBelow}
+use Rattle.format.specs.Settings.{Settings, pieces}
+use Rattle.format.specs.HeaderPlaces.{countAt, headerLength}
+use Rattle.format.specs.Blocks.{treeOf}
+use Rattle.theory_built.specs.Structure.{widthOf}
+use Rattle.theory_built.specs.Pairs.{offset}
+use Rattle.layout.specs.declared.settings.Settings as code
+use Rattle.build_records.specs.declared.level_written.Level.{Level}
+use Rattle.build_levels.specs.declared.level_step.Step.{Step}
+use Rattle.build_levels.specs.declared.level_step.Step.the-variants.{To, Full}
+use Rattle.build_records.specs.Grown.{Within}
+use Rattle.build_records.specs.RecordPlaces.{recordPlace}
+use Rattle.build_records.specs.State.{settingsOf, LevelIs, Filled}
+
+-- level 0 of a text of n bytes
+abbrev pub firstOf : code.Settings → ℕ → Level
+firstOf s n = record {
+  settings = s;
+  number = 0;
+  above = 1;
+  size = s .leaf * s .arity ^ (s .levels - 1 - 0);
+  below = s .leaf * s .arity ^ (s .levels - 1 - 0) / s .arity;
+  count = pieces n (s .leaf * s .arity ^ (s .levels - 1 - 0));
+  table = headerLength;
+}
+
+-- the level below one, with its number of blocks
+abbrev pub nextOf : Level → ℕ → List ℕ → Level
+nextOf level count cs = record {
+  settings = level .settings;
+  number = level .number + 1;
+  above = level .size;
+  size = level .below;
+  below = level .below / level .settings .arity;
+  count = count;
+  table = recordPlace (level .table) (level .count) (settingsOf (level .settings) cs);
+}
+
+module _ (S : Settings) (T : List ℕ) where
+  -- everything above a level is written, with the header's words for the levels above it, and its starts are in place
+  pub record Ready (out : List ℕ) (level : Level) : Type 0 where
+    pub level-is : LevelIs S T level
+    pub filled : Filled S T out (level .number) 0
+    pub header : Within (treeOf S T) out 0 (countAt (level .number))
+
+  -- the records of a level are written too, with `total` blocks or leaf bytes below them
+  pub record Written (out : List ℕ) (level : Level) (total : ℕ) : Type 0 where
+    pub level-is : LevelIs S T level
+    pub room : offset S T (suc (level .number)) ≤ length out
+    pub body : Within (treeOf S T) out headerLength (offset S T (suc (level .number)))
+    pub header : Within (treeOf S T) out 0 (countAt (level .number))
+    pub total-is : total ≡ sumBelow (level .count) (widthOf S T (level .number))
+
+  -- a step to the level with this number: it is ready, or the tree does not fit
+  pub record StepIs (out : List ℕ) (s : code.Settings) (number : ℕ) (step : Step) : Type 0 where
+    pub to : (next : Level) → step ≡ To next → (next .settings ≡ s) × (next .number ≡ number) × Ready out next
+    pub full : step ≡ Full → length out < length (treeOf S T)
+
+-- the buffer holds the whole tree, of r bytes; or the tree does not fit, and r is 0
+abbrev pub Finished : List ℕ → List ℕ → ℕ → Type 0
+Finished D out r =
+    ((r ≡ 0) × (length out < length D))
+    ⊎ ((r ≡ length D) × (length D ≤ length out) × Within D out 0 (length D))

@@ -1,0 +1,4 @@
+pub mod OccurrencesLaws
+pub mod PairLaws
+pub mod TargetStep
+pub mod TargetLaws

@@ -1,0 +1,2 @@
+pub mod MarkingRule
+pub mod TargetSearch

@@ -1,0 +1,32 @@
+// Marking: which blocks of a level are kept, and where the others point.
+mod occurrences;
+pub mod pair;
+pub mod target;
+
+use build_records::level_written::Level;
+use build_records::record_written::Block;
+use build_records::record_written::Link;
+use layout::place::BlockNumber;
+ghost use Rattle.build_records.specs.State.{settingsOf, BlockIs};
+ghost use Rattle.build_marking.specs.MarkingRule.{Next};
+
+// A block as it is marked: its number, whether it is kept, and the link that its record then has.
+pub struct Marked {
+    pub number: BlockNumber,
+    pub kept: bool,
+    pub link: Link,
+}
+
+// What the record of a block is to say.
+pub fn block_at(text: &[u8], counted: &[u8], out: &[u8], level: Level, b: Marked) -> Block
+    requires { ⌜ Next (settingsOf (level .settings) (now counted)) (now text) (now out) level (b .number .0) (b .kept) (b .link .0) ⌝ }
+    ensures { λ r. ⌜ BlockIs (settingsOf (level .settings) (now (counted .entry))) (now (text .entry)) (level .number) (b .number .0) r ⌝ }
+{
+    let i = b.number;
+    if b.kept {
+        let link = b.link;
+        return target::kept_block(text, counted, out, level, i, link);
+    }
+    let place = occurrences::first_place(text, counted, out, level, i);
+    target::pointing_block(text, counted, out, level, i, place)
+}

@@ -1,0 +1,11 @@
+pub mod LevelWrittenLaws
+pub mod RecordWrittenLaws
+pub mod Growth
+pub mod Neighbours
+pub mod StateLaws
+pub mod RecordsRead
+pub mod Widths
+pub mod RecordCounts
+pub mod EdgeBytes
+pub mod WrittenStartsLaws
+pub mod BelowLaws

@@ -1,0 +1,56 @@
+-- Starts written one after the other grow into the tree that has them.
+use mathlib.Core.List.{List}
+use mathlib.Core.Path.{_≡_, _∙_}
+use mathlib.Core.Logic.{_⊎_, inl, inr}
+use Prim.Native.Nat.{ℕ, zero, suc, _+_, _*_, _≤_, _<_}
+use native.Mathlib.Omega.{arith}
+use native.Mathlib.Numerals.{add-one}
+use native.Mathlib.Nat.{suc-mul, mul-le-mul-right, mul-le-mul}
+use lib.ListN.{length}
+use Rattle.text.specs.ListLaws.{below-suc}
+use Rattle.format.specs.Settings.{maxText, maxRecord}
+use Rattle.format.specs.Words.{setWord}
+use Rattle.theory_built.specs.BuiltBytes.{Stands}
+use Rattle.build_records.specs.Grown.{Grown, Within}
+use Rattle.build_records.specs.WrittenStarts.{startsWritten}
+use Rattle.build_records.proofs.Growth.{grown-none, grown-then, within-grown, word-grown, word-within}
+
+-- one start more
+pub starts-more : (t u v : List ℕ) (at step s b j : ℕ) → u ≡ startsWritten t at step s b j → v ≡ setWord u (at + j * step) (s + j * b)
+    → v ≡ startsWritten t at step s b (j + 1)
+starts-more t u v at step s b j e f = f ∙ rw (e, add-one j)
+
+-- a place of the list, and a start, before the end
+pub part-below : (j n x : ℕ) → j < n → j * x + x ≤ n * x
+part-below j n x l = omega (arith, suc-mul j x, mul-le-mul-right {m = suc j} {n = n} x l)
+
+pub few-steps : (j n step : ℕ) → j < n → n ≤ maxText → step ≤ maxRecord → j * step ≤ maxRecord * maxText
+few-steps j n step l k m = mul-le-mul (let z : j ≤ maxText = omega arith in z) m
+
+module _ (D t : List ℕ) (at step s b : ℕ) where
+  module _ (n : ℕ) (stand : (j : ℕ) → j < n → Stands D (at + j * step) (s + j * b)) (fits : (j : ℕ) → j < n → at + j * step + 4 ≤ length t)
+      (inside : (j : ℕ) → j < n → at + j * step + 4 ≤ length D) where
+    pub starts-grown : (j : ℕ) → j ≤ n → Grown D t (startsWritten t at step s b j)
+    starts-grown zero l = grown-none D t
+    starts-grown (suc j) l =
+        let g = starts-grown j (omega arith) in
+        grown-then D t (startsWritten t at step s b j) (startsWritten t at step s b (suc j)) g
+        (word-grown D (startsWritten t at step s b j)
+        (at + j * step) (s + j * b) (omega (arith, fits j (omega arith), g .same-length)) (stand j (omega arith)) (inside j (omega arith)))
+
+    pub starts-within : (j : ℕ) → j ≤ n → (x : ℕ) → x < j → Within D (startsWritten t at step s b j) (at + x * step) (at + x * step + 4)
+    starts-within zero l x k = absurd (let z : ⊥ = omega arith in z)
+    starts-within (suc j) l x k = go (below-suc x j k) (starts-within j (omega arith) x)
+      where
+        go : (x < j) ⊎ (x ≡ j) → (x < j → Within D (startsWritten t at step s b j) (at + x * step) (at + x * step + 4))
+            → Within D (startsWritten t at step s b (suc j)) (at + x * step) (at + x * step + 4)
+        go (inl y) r =
+            let g = starts-grown j (omega arith) in
+            within-grown D (startsWritten t at step s b j) (startsWritten t at step s b (suc j)) (at + x * step) (at + x * step + 4)
+            (word-grown D (startsWritten t at step s b j)
+            (at + j * step) (s + j * b) (omega (arith, fits j (omega arith), g .same-length)) (stand j (omega arith)) (inside j (omega arith)))
+            (r y)
+        go (inr y) r =
+            let g = starts-grown j (omega arith) in
+            rw y (word-within D (startsWritten t at step s b j)
+            (at + j * step) (s + j * b) (omega (arith, fits j (omega arith), g .same-length)) (stand j (omega arith)))

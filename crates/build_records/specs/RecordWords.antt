@@ -1,0 +1,15 @@
+-- What the builder writes of a record.
+use mathlib.Core.List.{List, []}
+use mathlib.Core.Bool.{cond}
+use Prim.Native.Nat.{ℕ, _+_, _-_}
+use lib.Dec.{eqb}
+use Rattle.format.specs.Words.{wordAt}
+use Rattle.stretches.specs.Stretches.{bytesWritten}
+
+-- an edge of m bytes at a place: so many bytes of T, then zeros
+abbrev pub edgeWritten : List ℕ → ℕ → List ℕ → ℕ → ℕ → ℕ → List ℕ
+edgeWritten t at T from own m = bytesWritten (bytesWritten t at T from own) (at + own) [] 0 (m - own)
+
+-- the count before a block: none at its parent's start, else the sum of the two words at `left`
+abbrev pub beforeSays : List ℕ → ℕ → ℕ → ℕ → ℕ
+beforeSays t left s parent = cond (eqb s parent) 0 (wordAt t left + wordAt t (left + 4))

@@ -1,0 +1,89 @@
+-- What is known while a level of the tree of T is written.
+use mathlib.Core.List.{List}
+use mathlib.Core.Path.{_≡_}
+use Prim.Native.Nat.{ℕ, suc, _+_, _*_, _≤_, _<_}
+use lib.ListN.{length}
+use Rattle.text.specs.Lists.{sumBelow}
+use Rattle.text.specs.Text.{stretch, countIn}
+use Rattle.format.specs.Settings.{Settings, blockLength}
+use Rattle.format.specs.HeaderPlaces.{headerLength}
+use Rattle.format.specs.Blocks.{treeOf, recordBytes}
+use Rattle.layout.specs.declared.settings.Settings as code
+use Rattle.theory_built.specs.BlockSizes.{Taken}
+use Rattle.theory_built.specs.Structure.{count, start, bytesIn, widthOf}
+use Rattle.theory_built.specs.Pairs.{offset}
+use Rattle.theory_built.specs.BuiltRecords.{parentOf, kindOf, linkOf, gapOf, skipOf}
+use Rattle.build_records.specs.declared.level_written.Level.{Level}
+use Rattle.build_records.specs.declared.level_written.Stretch.{Stretch}
+use Rattle.build_records.specs.declared.record_written.Block.{Block}
+use Rattle.build_records.specs.Grown.{Within}
+
+-- the settings that the code holds, with the counted bytes that it was lent
+abbrev pub settingsOf : code.Settings → List ℕ → Settings
+settingsOf s cs = record { leaf = s .leaf; arity = s .arity; levels = s .levels; counted = cs }
+
+module _ (S : Settings) (T : List ℕ) where
+  -- the code's level is that of the tree
+  pub record LevelIs (level : Level) : Type 0 where
+    pub taken : Taken S T
+    pub number-in : level .number < S .levels
+    pub leaf-is : level .settings .leaf ≡ S .leaf
+    pub above-low : 0 < level .above
+    pub above-is : (k : ℕ) → level .number ≡ suc k → level .above ≡ blockLength S k
+    pub size-is : level .size ≡ blockLength S (level .number)
+    pub below-is : suc (level .number) < S .levels → level .below ≡ blockLength S (suc (level .number))
+    pub count-is : level .count ≡ count S T (level .number)
+    pub table-is : level .table ≡ offset S T (level .number)
+
+  -- where the record of block i of level l stands
+  abbrev pub placeAt : ℕ → ℕ → ℕ
+  placeAt l i = offset S T l + i * recordBytes S
+
+  -- the buffer has room for the records of level l, with their starts in place, and everything before the record of block i is written
+  pub record Filled (out : List ℕ) (l i : ℕ) : Type 0 where
+    pub room : offset S T (suc l) ≤ length out
+    pub body : Within (treeOf S T) out headerLength (placeAt l i)
+    pub starts : (x : ℕ) → x < count S T l → Within (treeOf S T) out (placeAt l x) (placeAt l x + 4)
+
+  -- the bytes of block i of level l, as the code reads them
+  pub record StretchIs (l i : ℕ) (r : Stretch) : Type 0 where
+    pub start-is : r .start .0 ≡ start S T l i
+    pub length-is : r .length ≡ bytesIn S T l i
+    pub fits : r .start .0 + r .length ≤ length T
+
+  -- what the code knows of block i of level l, whose record it is about to write
+  pub record BlockIs (l i : ℕ) (block : Block) : Type 0 where
+    pub start-is : block .start .0 ≡ start S T l i
+    pub length-is : block .length ≡ bytesIn S T l i
+    pub parent-is : block .parent .0 ≡ parentOf S T l (start S T l i)
+    pub kind-is : block .kind ≡ kindOf S T l i
+    pub link-is : block .link .0 ≡ linkOf S T l i
+    pub gap-is : block .gap .0 ≡ gapOf S T l i
+    pub skip-is : (c : ℕ) → countIn c (stretch T (block .from .0) (block .gap .0)) ≡ skipOf S T l i c
+    pub skip-in : block .from .0 + block .gap .0 ≤ length T
+
+  -- the record of block i of a level is about to be written
+  pub record Writing (out : List ℕ) (level : Level) (i : ℕ) (block : Block) : Type 0 where
+    pub level-is : LevelIs level
+    pub filled : Filled out (level .number) i
+    pub block-in : i < level .count
+    pub block-is : BlockIs (level .number) i block
+
+  -- block i of a level is next in turn
+  pub record On (out : List ℕ) (level : Level) (i : ℕ) : Type 0 where
+    pub level-is : LevelIs level
+    pub filled : Filled out (level .number) i
+    pub block-in : i < level .count
+
+  -- the starts of blocks a to b of level l stand in the buffer
+  pub record Started (out : List ℕ) (l a b : ℕ) : Type 0 where
+    pub starts : (x : ℕ) → a ≤ x → x < b → Within (treeOf S T) out (placeAt l x) (placeAt l x + 4)
+
+  -- the records of a level are written, there is room for those of the next, and the starts of the blocks below the first i are in place
+  pub record Below (out : List ℕ) (level next : Level) (i : ℕ) : Type 0 where
+    pub level-is : LevelIs level
+    pub next-is : LevelIs next
+    pub follows : next .number ≡ suc (level .number)
+    pub room : offset S T (suc (suc (level .number))) ≤ length out
+    pub body : Within (treeOf S T) out headerLength (offset S T (suc (level .number)))
+    pub done : Started out (suc (level .number)) 0 (sumBelow i (widthOf S T (level .number)))

@@ -1,0 +1,72 @@
+// The starts of a level's blocks, put in place from the kept blocks above.
+use crate::level_written;
+use crate::level_written::Level;
+use layout::place::BlockNumber;
+use layout::place::TextPlace;
+use layout::record;
+use layout::settings;
+use layout::word;
+ghost use mathlib.Core.Path.{_≡_};
+ghost use Prim.Native.Nat.{suc, _+_, _<_};
+ghost use Rattle.text.specs.Lists.{sumBelow};
+ghost use Rattle.format.specs.Blocks.{treeOf};
+ghost use Rattle.theory_built.specs.Structure.{widthOf};
+ghost use Rattle.build_records.specs.Grown.{Grown};
+ghost use Rattle.build_records.specs.WrittenStarts.{startsWritten, StartsAsk};
+ghost use Rattle.build_records.specs.State.{settingsOf, Below, Started, Filled};
+
+// Writes the starts of n blocks of a size, one in each record from a place on.
+pub fn put_starts(out: &mut [u8], at: usize, step: usize, start: TextPlace, size: u32, n: u32)
+    requires { ⌜ StartsAsk (now out) at step (start .0) size n ⌝ }
+    ensures { λ _. ⌜ now (out .exit) ≡ startsWritten (now (out .entry)) at step (start .0) size n ⌝ }
+{
+    let mut j: u32 = 0;
+    while j < n {
+        word::write(out, at + j as usize * step, start.0 + j * size);
+        j += 1;
+    }
+}
+
+// Puts the starts of the children of a block in place.
+fn put_children_of(
+    out: &mut [u8],
+    text: &[u8],
+    counted: &[u8],
+    level: Level,
+    next: Level,
+    i: BlockNumber,
+)
+    requires { ⌜ Below (settingsOf (level .settings) (now counted)) (now text) (now out) level next (i .0) × (i .0 < level .count) ⌝ }
+    ensures { λ _. ⌜ Grown (treeOf (settingsOf (level .settings) (now (counted .entry))) (now (text .entry))) (now (out .entry)) (now (out .exit)) ⌝ }
+    ensures { λ _. ⌜ Started (settingsOf (level .settings) (now (counted .entry))) (now (text .entry)) (now (out .exit)) (suc (level .number)) 0
+        (sumBelow (i .0 + 1) (widthOf (settingsOf (level .settings) (now (counted .entry))) (now (text .entry)) (level .number))) ⌝ }
+{
+    let at = level_written::place(counted, level, i);
+    if word::read(out, at + record::KIND_AT) != 0 {
+        return;
+    }
+    let first = BlockNumber(word::read(out, at + record::LINK_AT));
+    let own = level_written::stretch_of(text, counted, out, level, i);
+    let children = settings::pieces(own.length, next.size);
+    put_starts(
+        out,
+        level_written::place(counted, next, first),
+        level_written::record_size(counted, level.settings),
+        own.start,
+        next.size,
+        children,
+    );
+}
+
+// Puts the starts of all children of a level's blocks in place.
+pub fn put_children(out: &mut [u8], text: &[u8], counted: &[u8], level: Level, next: Level)
+    requires { ⌜ Below (settingsOf (level .settings) (now counted)) (now text) (now out) level next 0 ⌝ }
+    ensures { λ _. ⌜ Grown (treeOf (settingsOf (level .settings) (now (counted .entry))) (now (text .entry))) (now (out .entry)) (now (out .exit)) ⌝ }
+    ensures { λ _. ⌜ Filled (settingsOf (level .settings) (now (counted .entry))) (now (text .entry)) (now (out .exit)) (suc (level .number)) 0 ⌝ }
+{
+    let mut i: u32 = 0;
+    while i < level.count {
+        put_children_of(out, text, counted, level, next, BlockNumber(i));
+        i += 1;
+    }
+}

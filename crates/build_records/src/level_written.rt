@@ -1,0 +1,75 @@
+// A level of the tree that is being written.
+use layout::cut;
+use layout::place::BlockNumber;
+use layout::place::TextPlace;
+use layout::record;
+use layout::settings::Settings;
+use layout::word;
+ghost use mathlib.Core.Path.{_≡_};
+ghost use Prim.Native.Nat.{_+_, _*_, _≤_};
+ghost use lib.ListN.{length};
+ghost use Rattle.theory_built.specs.BlockSizes.{maxTable};
+ghost use Rattle.format.specs.Settings.{maxText, maxLeaf, maxCounted, maxRecord};
+ghost use Rattle.format.specs.Words.{wordAt};
+ghost use Rattle.format.specs.RecordFields.{plainBytes};
+ghost use Rattle.format.specs.Blocks.{recordBytes};
+ghost use Rattle.build_records.specs.RecordPlaces.{recordPlace};
+ghost use Rattle.build_records.specs.State.{settingsOf, On, StretchIs};
+
+pub struct Level {
+    pub settings: Settings,
+    // its number, from 0
+    pub number: u32,
+    // the block lengths of the level above, of this one and of the one below
+    pub above: u32,
+    pub size: u32,
+    pub below: u32,
+    // how many blocks it has, and where their records begin
+    pub count: u32,
+    pub table: u32,
+}
+
+// The bytes of a block: where they start, and how many they are.
+pub struct Stretch {
+    pub start: TextPlace,
+    pub length: u32,
+}
+
+// The bytes of a record: its words, and two edges.
+pub fn record_size(counted: &[u8], s: Settings) -> usize
+    requires { ⌜ (length (now counted) ≤ maxCounted) × (s .leaf ≤ maxLeaf) ⌝ }
+    ensures { λ r. ⌜ (r ≡ recordBytes (settingsOf s (now (counted .entry)))) × (plainBytes ≤ r) × (r ≤ maxRecord) ⌝ }
+{
+    let edge = s.leaf as usize;
+    record::PLAIN_BYTES + record::COUNTED_BYTES * counted.len() + (edge + edge)
+}
+
+// Where the record of a block stands.
+pub fn place(counted: &[u8], level: Level, block: BlockNumber) -> usize
+    requires { ⌜ (length (now counted) ≤ maxCounted) × (level .table ≤ maxTable) × (block .0 ≤ maxText) × (level .settings .leaf ≤ maxLeaf) ⌝ }
+    ensures { λ r. ⌜ (r ≡ recordPlace (level .table) (block .0) (settingsOf (level .settings) (now (counted .entry))))
+        × (r ≤ maxTable + maxRecord * maxText) ⌝ }
+{
+    level.table as usize + block.0 as usize * record_size(counted, level.settings)
+}
+
+// Where a block starts, read from its record.
+pub fn start(counted: &[u8], out: &[u8], level: Level, block: BlockNumber) -> TextPlace
+    requires { ⌜ (length (now counted) ≤ maxCounted) × (level .table ≤ maxTable) × (block .0 ≤ maxText) × (level .settings .leaf ≤ maxLeaf)
+        × (recordPlace (level .table) (block .0) (settingsOf (level .settings) (now counted)) + 4 ≤ length (now out)) ⌝ }
+    ensures { λ r. ⌜ r .0 ≡ wordAt (now (out .entry)) (recordPlace (level .table) (block .0) (settingsOf (level .settings) (now (counted .entry)))) ⌝ }
+{
+    TextPlace(word::read(out, place(counted, level, block)))
+}
+
+// The bytes of a block of a level whose starts stand in place.
+pub fn stretch_of(text: &[u8], counted: &[u8], out: &[u8], level: Level, i: BlockNumber) -> Stretch
+    requires { ⌜ On (settingsOf (level .settings) (now counted)) (now text) (now out) level (i .0) ⌝ }
+    ensures { λ r. ⌜ StretchIs (settingsOf (level .settings) (now (counted .entry))) (now (text .entry)) (level .number) (i .0) r ⌝ }
+{
+    let start = start(counted, out, level, i);
+    Stretch {
+        start,
+        length: cut::length_from(text.len() as u32, start, level.size),
+    }
+}

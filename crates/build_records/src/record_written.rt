@@ -1,0 +1,203 @@
+// A block's record, written.
+use crate::level_written;
+use crate::level_written::Level;
+use layout::place::BlockNumber;
+use layout::place::BlockPlace;
+use layout::place::TextPlace;
+use layout::record;
+use layout::settings;
+use layout::word;
+ghost use mathlib.Core.Path.{_≡_};
+ghost use Prim.Native.Nat.{_+_, _-_, _*_, _≤_, _<_};
+ghost use lib.ListN.{length};
+ghost use Rattle.text.specs.Text.{stretch, countIn};
+ghost use Rattle.format.specs.Settings.{maxText};
+ghost use Rattle.format.specs.Words.{wordAt, putThree};
+ghost use Rattle.format.specs.RecordFields.{plainBytes, countedBytes};
+ghost use Rattle.format.specs.HeaderPlaces.{headerLength};
+ghost use Rattle.format.specs.Blocks.{treeOf};
+ghost use Rattle.theory_built.specs.Structure.{widthOf};
+ghost use Rattle.build_records.specs.Grown.{Grown, Within};
+ghost use Rattle.build_records.specs.State.{settingsOf, Writing, placeAt};
+ghost use Rattle.build_records.specs.RecordWords.{beforeSays, edgeWritten};
+
+// What a record links to: a kept block's first child, or on the last level its first leaf byte; the block that a pointing block points
+// to. It is a type of its own, so that it is not handed in for a block's number.
+pub struct Link(pub u32);
+
+// What a record says, and where the bytes stand that it counts.
+pub struct Block {
+    pub start: TextPlace,
+    pub length: u32,
+    // its parent's start
+    pub parent: TextPlace,
+    pub kind: u32,
+    pub link: Link,
+    // the start of the block pointed to
+    pub from: TextPlace,
+    pub gap: BlockPlace,
+}
+
+// The counts of one byte: before the block in its parent, inside it, and in the gap of the block pointed to.
+fn put_count(out: &mut [u8], text: &[u8], byte: u8, at: usize, block: Block, before: u32)
+    requires { ⌜ (at + countedBytes ≤ length (now out)) × (length (now text) ≤ maxText)
+        × (block .start .0 + block .length ≤ length (now text)) × (block .from .0 + block .gap .0 ≤ length (now text)) ⌝ }
+    ensures { λ _. ⌜ now (out .exit) ≡ putThree (now (out .entry)) at before
+        (countIn byte (stretch (now (text .entry)) (block .start .0) (block .length)))
+        (countIn byte (stretch (now (text .entry)) (block .from .0) (block .gap .0))) ⌝ }
+{
+    let inside = stretches::count_in(text, block.start.0 as usize, block.length, byte);
+    let skip = stretches::count_in(text, block.from.0 as usize, block.gap.0, byte);
+    word::put_three(out, at, before, inside, skip);
+}
+
+// The count before a block, at a place of its record: none at its parent's start, else what the block on the left, one record
+// before, has before it and inside.
+fn count_before(out: &[u8], at: usize, size: usize, block: Block) -> u32
+    requires { ⌜ ((block .start .0 ≡ block .parent .0 → ⊥) → (size ≤ at) × (at - size + 8 ≤ length (now out))
+        × (wordAt (now out) (at - size) + wordAt (now out) (at - size + 4) < 4294967296)) ⌝ }
+    ensures { λ r. ⌜ r ≡ beforeSays (now (out .entry)) (at - size) (block .start .0) (block .parent .0) ⌝ }
+{
+    if block.start.0 == block.parent.0 {
+        return 0;
+    }
+    let left = at - size;
+    word::read(out, left) + word::read(out, left + 4)
+}
+
+// A place for counts in a record: the block's number, and that of the counted byte.
+struct Slot {
+    block: BlockNumber,
+    byte: usize,
+}
+
+// The counts of a block, of one counted byte.
+fn put_count_of(out: &mut [u8], text: &[u8], counted: &[u8], level: Level, block: Block, of: Slot)
+    requires { ⌜ Writing (settingsOf (level .settings) (now counted)) (now text) (now out) level (of .block .0) block × (of .byte < length (now counted)) ⌝ }
+    ensures { λ _. ⌜ Grown (treeOf (settingsOf (level .settings) (now (counted .entry))) (now (text .entry))) (now (out .entry)) (now (out .exit)) ⌝ }
+    ensures { λ _. ⌜ Within (treeOf (settingsOf (level .settings) (now (counted .entry))) (now (text .entry))) (now (out .exit))
+        (placeAt (settingsOf (level .settings) (now (counted .entry))) (now (text .entry)) (level .number) (of .block .0)
+        + plainBytes + countedBytes * of .byte)
+        (placeAt (settingsOf (level .settings) (now (counted .entry))) (now (text .entry)) (level .number) (of .block .0)
+        + plainBytes + countedBytes * of .byte + countedBytes) ⌝ }
+{
+    let i = of.block;
+    let c = of.byte;
+    let at = level_written::place(counted, level, i)
+        + record::PLAIN_BYTES
+        + record::COUNTED_BYTES * c;
+    let size = level_written::record_size(counted, level.settings);
+    let b = count_before(out, at, size, block);
+    put_count(out, text, counted[c], at, block, b);
+}
+
+// The counts of a block, for each counted byte.
+fn put_counts(
+    out: &mut [u8],
+    text: &[u8],
+    counted: &[u8],
+    level: Level,
+    i: BlockNumber,
+    block: Block,
+)
+    requires { ⌜ Writing (settingsOf (level .settings) (now counted)) (now text) (now out) level (i .0) block ⌝ }
+    ensures { λ _. ⌜ Grown (treeOf (settingsOf (level .settings) (now (counted .entry))) (now (text .entry))) (now (out .entry)) (now (out .exit)) ⌝ }
+    ensures { λ _. ⌜ Within (treeOf (settingsOf (level .settings) (now (counted .entry))) (now (text .entry))) (now (out .exit))
+        (placeAt (settingsOf (level .settings) (now (counted .entry))) (now (text .entry)) (level .number) (i .0) + plainBytes)
+        (placeAt (settingsOf (level .settings) (now (counted .entry)))
+        (now (text .entry)) (level .number) (i .0) + plainBytes + countedBytes * length (now (counted .entry))) ⌝ }
+{
+    let mut c: usize = 0;
+    while c < counted.len() {
+        let of = Slot { block: i, byte: c };
+        put_count_of(out, text, counted, level, block, of);
+        c += 1;
+    }
+}
+
+// An edge of m bytes: `own` bytes of the text, then zeros.
+fn put_edge(out: &mut [u8], text: &[u8], at: usize, from: TextPlace, own: usize, m: usize)
+    requires { ⌜ (at + m ≤ length (now out)) × (from .0 + own ≤ length (now text)) × (own ≤ m) ⌝ }
+    ensures { λ _. ⌜ now (out .exit) ≡ edgeWritten (now (out .entry)) at (now (text .entry)) (from .0) own m ⌝ }
+{
+    stretches::copy(out, at, text, from.0 as usize, own);
+    stretches::clear_at(out, at + own, m - own);
+}
+
+// The edges of a block, after its counts: its first m bytes, and its last m bytes.
+fn put_edges(
+    out: &mut [u8],
+    text: &[u8],
+    counted: &[u8],
+    level: Level,
+    i: BlockNumber,
+    block: Block,
+)
+    requires { ⌜ Writing (settingsOf (level .settings) (now counted)) (now text) (now out) level (i .0) block ⌝ }
+    ensures { λ _. ⌜ Grown (treeOf (settingsOf (level .settings) (now (counted .entry))) (now (text .entry))) (now (out .entry)) (now (out .exit)) ⌝ }
+    ensures { λ _. ⌜ Within (treeOf (settingsOf (level .settings) (now (counted .entry))) (now (text .entry))) (now (out .exit))
+        (placeAt (settingsOf (level .settings) (now (counted .entry)))
+        (now (text .entry)) (level .number) (i .0) + plainBytes + countedBytes * length (now (counted .entry)))
+        (placeAt (settingsOf (level .settings) (now (counted .entry))) (now (text .entry)) (level .number) (i .0 + 1)) ⌝ }
+{
+    let m = level.settings.leaf as usize;
+    let short = stretches::shorter(level.settings.leaf, block.length);
+    let own = short as usize;
+    let at = level_written::place(counted, level, i)
+        + record::PLAIN_BYTES
+        + record::COUNTED_BYTES * counted.len();
+    let last = TextPlace(block.start.0 + (block.length - short));
+    put_edge(out, text, at, block.start, own, m);
+    put_edge(out, text, at + m, last, own, m);
+}
+
+// The record of a block.
+fn put_record(
+    out: &mut [u8],
+    text: &[u8],
+    counted: &[u8],
+    level: Level,
+    i: BlockNumber,
+    block: Block,
+)
+    requires { ⌜ Writing (settingsOf (level .settings) (now counted)) (now text) (now out) level (i .0) block ⌝ }
+    ensures { λ _. ⌜ Grown (treeOf (settingsOf (level .settings) (now (counted .entry))) (now (text .entry))) (now (out .entry)) (now (out .exit)) ⌝ }
+    ensures { λ _. ⌜ Within (treeOf (settingsOf (level .settings) (now (counted .entry))) (now (text .entry))) (now (out .exit))
+        headerLength (placeAt (settingsOf (level .settings) (now (counted .entry))) (now (text .entry)) (level .number) (i .0 + 1)) ⌝ }
+{
+    let at = level_written::place(counted, level, i);
+    word::put_three(
+        out,
+        at + record::KIND_AT,
+        block.kind,
+        block.link.0,
+        block.gap.0,
+    );
+    put_counts(out, text, counted, level, i, block);
+    put_edges(out, text, counted, level, i, block);
+}
+
+// Writes the record of a block, and answers what the block has one level below: leaf bytes on the last level, else children; nothing where it points.
+pub fn put_block(
+    out: &mut [u8],
+    text: &[u8],
+    counted: &[u8],
+    level: Level,
+    i: BlockNumber,
+    block: Block,
+) -> u32
+    requires { ⌜ Writing (settingsOf (level .settings) (now counted)) (now text) (now out) level (i .0) block ⌝ }
+    ensures { λ r. ⌜ r ≡ widthOf (settingsOf (level .settings) (now (counted .entry))) (now (text .entry)) (level .number) (i .0) ⌝ }
+    ensures { λ _. ⌜ Grown (treeOf (settingsOf (level .settings) (now (counted .entry))) (now (text .entry))) (now (out .entry)) (now (out .exit)) ⌝ }
+    ensures { λ _. ⌜ Within (treeOf (settingsOf (level .settings) (now (counted .entry))) (now (text .entry))) (now (out .exit))
+        headerLength (placeAt (settingsOf (level .settings) (now (counted .entry))) (now (text .entry)) (level .number) (i .0 + 1)) ⌝ }
+{
+    put_record(out, text, counted, level, i, block);
+    if block.kind != 0 {
+        return 0;
+    }
+    if level.number + 1 == level.settings.levels {
+        return block.length;
+    }
+    settings::pieces(block.length, level.below)
+}

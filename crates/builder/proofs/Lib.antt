@@ -1,3 +1,0 @@
-pub mod Filling
-pub mod Levelling
-pub mod Outcomes

@@ -1,0 +1,124 @@
+// The library's answers, printed in the format of the cases: ` => `, the number of the question that refuses or 0, the figures, and what
+// a lent buffer holds, in hexadecimal.
+pub mod column_replies;
+pub mod guide_replies;
+pub mod licence_replies;
+pub mod order_replies;
+mod say;
+
+use query::Answer;
+use query::Copied;
+use query::Counted;
+use query::Found;
+use query::PlacesWritten;
+use query::Ran;
+use query::RowCopied;
+use query::Shown;
+use query::TextPlace;
+use tree::Built;
+use tree::Scanned;
+
+// The sizes that a line asks a tree to be built with: m, r and H.
+pub struct Sizes {
+    pub leaf: u32,
+    pub arity: u32,
+    pub levels: u32,
+}
+
+// Build, into a lent buffer.
+pub fn build(text: &[u8], by: Sizes, counted: &[u8], out: &mut [u8]) {
+    let answer = tree::build(text, by.leaf, by.arity, by.levels, counted, out);
+    match answer {
+        Built::Size(n) => say::buffer(0, n as u64, out),
+        Built::Refused(number) => say::buffer(number, 0, out),
+    }
+}
+
+// Build with one scan a level, in a lent table; what the table then holds is free, and is not printed.
+pub fn scan(text: &[u8], by: Sizes, counted: &[u8], work: &mut [u32], out: &mut [u8]) {
+    let answer = tree::build_scanned(text, by.leaf, by.arity, by.levels, counted, work, out);
+    match answer {
+        Scanned::Size(n, windows) => say::two_and_buffer(0, n as u64, windows as u64, out),
+        Scanned::Refused(number) => say::two_and_buffer(number, 0, 0, out),
+    }
+}
+
+pub fn check(tree: &[u8]) {
+    say::number(tree::check(tree));
+}
+
+// What the list program prints.
+pub fn list(tree: &[u8]) {
+    let mut out = [0u8; list_lines::MAX_LINES];
+    let n = list_lines::print(tree, &mut out);
+    say::lines(&out[..n]);
+}
+
+pub fn byte(tree: &[u8], at: u32) {
+    let answer = query::byte(tree, TextPlace(at));
+    match answer {
+        Answer::Byte(value, entered) => say::three(0, value as u64, entered as u64),
+        Answer::Refused(number) => say::three(number, 0, 0),
+    }
+}
+
+// Where the run is in the tree's bytes, and its length.
+pub fn run(tree: &[u8], at: u32) {
+    let ran = query::run_part(tree, TextPlace(at));
+    match ran {
+        Ran::At(part) => say::three(0, part.from as u64, part.length as u64),
+        Ran::Refused(number) => say::three(number, 0, 0),
+    }
+}
+
+pub fn count(tree: &[u8], byte: u8, i: u32) {
+    let answer = query::count(tree, byte, i);
+    match answer {
+        Counted::Times(times, entered) => say::three(0, times, entered as u64),
+        Counted::Refused(number) => say::three(number, 0, 0),
+    }
+}
+
+pub fn find(tree: &[u8], byte: u8, j: u32) {
+    let answer = query::find(tree, byte, j);
+    match answer {
+        Found::At(place, entered) => say::three(0, place.0 as u64, entered as u64),
+        Found::Refused(number) => say::three(number, 0, 0),
+    }
+}
+
+// A span's figure is the blocks entered.
+pub fn span(tree: &[u8], at: u32, len: u32, buffer: &mut [u8]) {
+    let answer = query::span(tree, TextPlace(at), len, buffer);
+    match answer {
+        Copied::Bytes(_, entered) => say::buffer(0, entered as u64, buffer),
+        Copied::Refused(number) => say::buffer(number, 0, buffer),
+    }
+}
+
+pub fn row(tree: &[u8], q: u32, buffer: &mut [u8]) {
+    let answer = query::row(tree, q, buffer);
+    match answer {
+        RowCopied::Bytes(copied) => say::buffer(0, copied as u64, buffer),
+        RowCopied::Refused(number) => say::buffer(number, 0, buffer),
+    }
+}
+
+// How many places there are, and the words of the lent table.
+pub fn places(tree: &[u8], pattern: &[u8], table: &mut [u32]) {
+    let answer = query::places(tree, pattern, table);
+    match answer {
+        PlacesWritten::Number(n) => say::table(0, n as u64, table),
+        PlacesWritten::Refused(number) => say::table(number, 0, table),
+    }
+}
+
+// The row shown, 0 for none, and where the mark then stands.
+pub fn next_match(tree: &[u8], ranges: &[u8], mark: u32) {
+    let answer = query::next_match(tree, ranges, mark);
+    match answer {
+        Shown::Row(q) => say::three(0, q as u64, q as u64),
+        Shown::Nothing(m) => say::three(0, 0, m as u64),
+        Shown::Refused(number) => say::three(number, 0, mark as u64),
+    }
+}

@@ -1,0 +1,3 @@
+pub mod LineWordsLaws
+pub mod NameLineLaws
+pub mod GivenBytesLaws

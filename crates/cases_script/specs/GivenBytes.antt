@@ -1,0 +1,96 @@
+-- The bytes that lines give.
+use mathlib.Core.List.{List, [], _++_}
+use mathlib.Core.Bool.{cond}
+use mathlib.Core.Path.{_≡_}
+use Prim.Native.Nat.{ℕ, _-_, _*_, _%_}
+use lib.ListN.{length, getD, take, replicate}
+use lib.Dec.{ltb}
+use Rattle.text.specs.Lists.{tabulate}
+use Rattle.cases_tokens.specs.Parts.{tokenOf}
+use Rattle.cases_tokens.specs.Decimals.{numberOf, valueOf, figuresRight}
+use Rattle.cases_tokens.specs.Hexadecimals.{hexBytes, hexOf, madeSize}
+use Rattle.cases_tokens.specs.declared.hexadecimal.Fault.{Fault}
+use Rattle.cases_tokens.specs.declared.hexadecimal.Fault.the-variants as fault
+use Rattle.cases_tokens.specs.declared.hexadecimal.Made.{Made}
+use Rattle.cases_tokens.specs.declared.hexadecimal.Made.the-variants.{Bytes, Wrong}
+use Rattle.cases_script.specs.LineWords.{giftOf}
+use Rattle.cases_script.specs.NameLine.{givingLine}
+use Rattle.cases_script.specs.declared.line_words.Gift.{Gift}
+use Rattle.cases_script.specs.declared.line_words.Gift.the-variants as gift
+
+-- what a line gives: bytes, or a fault
+pub data Given : Type 0 where
+  bytes : List ℕ → Given
+  none : Fault → Given
+
+abbrev pub madeOf : Given → Made
+madeOf (bytes b) = Bytes (length b)
+madeOf (none f) = Wrong f
+
+abbrev pub bytesOf : Given → List ℕ
+bytesOf (bytes b) = b
+bytesOf (none f) = []
+
+-- r says how many bytes are given or the fault, and the bytes stand at the start of the buffer
+pub record Gives (buffer : List ℕ) (r : Made) (g : Given) : Type 0 where
+  pub answer : r ≡ madeOf g
+  pub put : take (madeSize r) buffer ≡ bytesOf g
+
+abbrev pub firstOf : Made → List ℕ → Given
+firstOf (Bytes n) b = bytes (take n b)
+firstOf (Wrong f) b = none f
+
+-- bytes in hexadecimal, given to a buffer of so many bytes
+unfoldable pub hexGiven : List ℕ → ℕ → Given
+hexGiven word room = firstOf (hexOf word room) (hexBytes word)
+
+-- the number that token k of a line says
+unfoldable pub figureOf : List ℕ → ℕ → ℕ
+figureOf line k = valueOf (numberOf (tokenOf line k))
+
+-- the bytes, so many times over
+unfoldable pub repeated : List ℕ → ℕ → List ℕ
+repeated b times = tabulate (length b * times) (λ i. getD b (i % length b) 0)
+
+abbrev pub timesOver : Given → ℕ → ℕ → Given
+timesOver (bytes b) times room = cond (ltb room (length b * times)) (none fault.Room) (bytes (repeated b times))
+timesOver (none f) times room = none f
+
+-- repeat NAME HEX TIMES
+unfoldable pub repeatGiven : List ℕ → ℕ → Given
+repeatGiven line room = cond (figuresRight line 3 4) (timesOver (hexGiven (tokenOf line 2) room) (figureOf line 3) room) (none fault.Number)
+
+abbrev pub plainBy : Gift → List ℕ → ℕ → Given
+plainBy gift.Text line room = hexGiven (tokenOf line 2) room
+plainBy gift.Repeat line room = repeatGiven line room
+plainBy gift.Tree line room = hexGiven (tokenOf line 2) room
+plainBy gift.Pad line room = none fault.Name
+plainBy gift.Nothing line room = none fault.Name
+
+-- text NAME HEX, tree NAME HEX, or repeat
+unfoldable pub plainGiven : List ℕ → ℕ → Given
+plainGiven line room = plainBy (giftOf line) line room
+
+abbrev pub padTo : Given → ℕ → ℕ → Given
+padTo (bytes b) to room = cond (ltb to (length b)) (none fault.Number) (cond (ltb room to) (none fault.Room) (bytes (b ++ replicate (to - length b) 0)))
+padTo (none f) to room = none f
+
+-- pad NAME TREE LENGTH: the bytes named TREE, with zeros after them
+unfoldable pub padGiven : List ℕ → List ℕ → ℕ → Given
+padGiven script line room =
+    cond (figuresRight line 3 4) (padTo (plainGiven (givingLine script (tokenOf line 2)) room) (figureOf line 3) room) (none fault.Number)
+
+abbrev pub makeBy : Gift → List ℕ → List ℕ → ℕ → Given
+makeBy gift.Text script line room = plainGiven line room
+makeBy gift.Repeat script line room = plainGiven line room
+makeBy gift.Tree script line room = plainGiven line room
+makeBy gift.Pad script line room = padGiven script line room
+makeBy gift.Nothing script line room = plainGiven line room
+
+-- what a line gives, given the lines of a script
+unfoldable pub makeGiven : List ℕ → List ℕ → ℕ → Given
+makeGiven script line room = makeBy (giftOf line) script line room
+
+-- what has this name in the lines of a script
+unfoldable pub namedGiven : List ℕ → List ℕ → ℕ → Given
+namedGiven script name room = makeGiven script (givingLine script name) room

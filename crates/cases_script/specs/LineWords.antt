@@ -1,0 +1,66 @@
+-- The words that lines begin with, in bytes.
+use mathlib.Core.List.{List, [], _∷_}
+use mathlib.Core.Bool.{Bool, true, cond}
+use Prim.Native.Nat.{ℕ, zero, suc, _+_}
+use lib.ListN.{getD}
+use lib.Dec.{eqb}
+use Rattle.text.specs.Lists.{sameList}
+use Rattle.cases_tokens.specs.Parts.{tokenOf}
+use Rattle.cases_script.specs.declared.line_words.Gift.{Gift}
+use Rattle.cases_script.specs.declared.line_words.Gift.the-variants as gift
+use Rattle.cases_script.specs.declared.line_words.Question.{Question}
+use Rattle.cases_script.specs.declared.line_words.Question.the-variants as question
+
+-- which of so many words of a line this one is, looked for from word k on; the number after them where it is none
+unfoldable pub wordFrom : List ℕ → List ℕ → ℕ → ℕ → ℕ
+wordFrom words word k zero = k
+wordFrom words word k (suc more) = cond (sameList word (tokenOf words k)) k (wordFrom words word (k + 1) more)
+
+-- which of the first n words of a line this one is, counted from 0; n where it is none of them
+unfoldable pub wordNumber : List ℕ → ℕ → List ℕ → ℕ
+wordNumber words n word = wordFrom words word 0 n
+
+-- the words of lines that give bytes a name: text, repeat, tree, pad
+unfoldable pub giftWords : List ℕ
+giftWords =
+    116 ∷ 101 ∷ 120 ∷ 116 ∷ 32 ∷
+    114 ∷ 101 ∷ 112 ∷ 101 ∷ 97 ∷ 116 ∷ 32 ∷
+    116 ∷ 114 ∷ 101 ∷ 101 ∷ 32 ∷
+    112 ∷ 97 ∷ 100 ∷ []
+
+-- the number of the word by which a line gives bytes a name; 4 where it gives none
+unfoldable pub giftNumber : List ℕ → ℕ
+giftNumber line = wordNumber giftWords 4 (tokenOf line 0)
+
+-- how a line gives bytes a name
+unfoldable pub giftOf : List ℕ → Gift
+giftOf line = getD (gift.Text ∷ gift.Repeat ∷ gift.Tree ∷ gift.Pad ∷ gift.Nothing ∷ []) (giftNumber line) gift.Nothing
+
+-- the words of lines that ask: build, check, list, byte, count, find, span, run, row, places, scan, match
+unfoldable pub questionWords : List ℕ
+questionWords =
+    98 ∷ 117 ∷ 105 ∷ 108 ∷ 100 ∷ 32 ∷
+    99 ∷ 104 ∷ 101 ∷ 99 ∷ 107 ∷ 32 ∷
+    108 ∷ 105 ∷ 115 ∷ 116 ∷ 32 ∷
+    98 ∷ 121 ∷ 116 ∷ 101 ∷ 32 ∷
+    99 ∷ 111 ∷ 117 ∷ 110 ∷ 116 ∷ 32 ∷
+    102 ∷ 105 ∷ 110 ∷ 100 ∷ 32 ∷
+    115 ∷ 112 ∷ 97 ∷ 110 ∷ 32 ∷
+    114 ∷ 117 ∷ 110 ∷ 32 ∷
+    114 ∷ 111 ∷ 119 ∷ 32 ∷
+    112 ∷ 108 ∷ 97 ∷ 99 ∷ 101 ∷ 115 ∷ 32 ∷
+    115 ∷ 99 ∷ 97 ∷ 110 ∷ 32 ∷
+    109 ∷ 97 ∷ 116 ∷ 99 ∷ 104 ∷ []
+
+-- what a line asks
+unfoldable pub questionOf : List ℕ → Question
+questionOf line =
+    getD
+    (question.Build ∷ question.Check ∷ question.List ∷ question.Byte ∷ question.Count ∷ question.Find ∷ question.Span ∷ question.Run ∷
+    question.Row ∷ question.Places ∷ question.Scan ∷ question.Match ∷ question.Nothing ∷ [])
+    (wordNumber questionWords 12 (tokenOf line 0)) question.Nothing
+
+-- an empty line, or one that begins with byte 35, `#`
+unfoldable pub isComment : List ℕ → Bool
+isComment [] = true
+isComment (b ∷ line) = eqb b 35

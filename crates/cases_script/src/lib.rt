@@ -1,0 +1,14 @@
+// Cases written as lines: what each line asks, and the bytes of the texts and trees that lines give a name.
+mod given_bytes;
+mod line_words;
+mod name_line;
+
+pub use given_bytes::fill;
+pub use given_bytes::make;
+pub use given_bytes::named;
+pub use line_words::Gift;
+pub use line_words::Question;
+pub use line_words::gift_of;
+pub use line_words::is_comment;
+pub use line_words::question_of;
+pub use name_line::gives_bytes;

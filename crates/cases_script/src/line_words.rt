@@ -1,0 +1,109 @@
+// The word that a line begins with.
+ghost use mathlib.Core.Path.{_≡_};
+ghost use Prim.Native.Nat.{_≤_};
+ghost use Rattle.cases_script.specs.LineWords.{wordNumber, giftNumber, giftOf, questionOf, isComment};
+
+// How a line gives bytes a name.
+pub enum Gift {
+    Nothing,
+    Text,
+    Repeat,
+    Tree,
+    Pad,
+}
+
+// What a line asks.
+pub enum Question {
+    Nothing,
+    Build,
+    Check,
+    List,
+    Byte,
+    Count,
+    Find,
+    Span,
+    Run,
+    Row,
+    Places,
+    Scan,
+    Match,
+}
+
+// How the words `text repeat tree pad` give bytes, in this order; nothing after the last.
+const GIFTS: [Gift; 5] = [
+    Gift::Text,
+    Gift::Repeat,
+    Gift::Tree,
+    Gift::Pad,
+    Gift::Nothing,
+];
+
+// What the words that ask ask, in the order of `question_of`; nothing after the last.
+const QUESTIONS: [Question; 13] = [
+    Question::Build,
+    Question::Check,
+    Question::List,
+    Question::Byte,
+    Question::Count,
+    Question::Find,
+    Question::Span,
+    Question::Run,
+    Question::Row,
+    Question::Places,
+    Question::Scan,
+    Question::Match,
+    Question::Nothing,
+];
+
+// Which of the first n words of a line of words this one is, counted from 0; n where it is none of them.
+fn number(words: &[u8], n: u32, word: &[u8]) -> u32
+    ensures { λ r. ⌜ r ≡ wordNumber (now (words .entry)) n (now (word .entry)) ⌝ }
+    ensures { λ r. ⌜ r ≤ n ⌝ }
+{
+    let mut k: u32 = 0;
+    while k < n {
+        if check::same(word, cases_tokens::token(words, k)) {
+            return k;
+        }
+        k += 1;
+    }
+    n
+}
+
+// The number of the word by which a line gives bytes a name; 4 where it gives none.
+pub fn gift_number(line: &[u8]) -> u32
+    ensures { λ r. ⌜ r ≡ giftNumber (now (line .entry)) ⌝ }
+    ensures { λ r. ⌜ r ≤ 4 ⌝ }
+{
+    number(b"text repeat tree pad", 4, cases_tokens::token(line, 0))
+}
+
+// How a line gives bytes a name.
+pub fn gift_of(line: &[u8]) -> Gift
+    ensures { λ r. ⌜ r ≡ giftOf (now (line .entry)) ⌝ }
+{
+    let k = gift_number(line);
+    GIFTS[k as usize]
+}
+
+// What a line asks.
+pub fn question_of(line: &[u8]) -> Question
+    ensures { λ r. ⌜ r ≡ questionOf (now (line .entry)) ⌝ }
+{
+    let k = number(
+        b"build check list byte count find span run row places scan match",
+        12,
+        cases_tokens::token(line, 0),
+    );
+    QUESTIONS[k as usize]
+}
+
+// Whether a line asks nothing and gives nothing: it is empty or begins with `#`.
+pub fn is_comment(line: &[u8]) -> bool
+    ensures { λ r. ⌜ r ≡ isComment (now (line .entry)) ⌝ }
+{
+    if line.len() == 0 {
+        return true;
+    }
+    line[0] == 35
+}

@@ -1,0 +1,3 @@
+pub mod PartsLaws
+pub mod DecimalLaws
+pub mod HexadecimalLaws

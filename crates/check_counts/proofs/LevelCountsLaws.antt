@@ -1,0 +1,87 @@
+-- A level's counts, and those of all levels.
+use mathlib.Core.List.{List}
+use mathlib.Core.Bool.{true, false}
+use mathlib.Core.Path.{_≡_, sym, _∙_}
+use mathlib.Core.Logic.{_⊎_, inl, inr}
+use Prim.Native.Nat.{ℕ, zero, suc, _-_, _≤_, _<_}
+use native.Mathlib.Omega.{arith}
+use native.Mathlib.Nat.{pos-of-ne-zero}
+use borrow.Author.Tests.{ne-eqb}
+use Rattle.text.specs.Lists.{allBelow}
+use Rattle.text.specs.ListLaws.{bool-cases, bool-clash, lt-or-ge, allBelow-make, allBelow-not}
+use Rattle.format.specs.Settings.{blockLength}
+use Rattle.format.specs.Layout as at
+use Rattle.format.specs.Fits.{textOf, countsTrue}
+use Rattle.layout.specs.declared.header.Header.{Header}
+use Rattle.theory_counts.specs.CountsLocal.{upLength, blockLocal, levelLocal}
+use Rattle.theory_counts.specs.LevelTrue.{Level, counts-facts, counts-make}
+use Rattle.theory_counts.specs.CountsExact.{level-true, level-local}
+use Rattle.check_counts.specs.CountsAsked.{Linking, TrueBelow}
+use Rattle.check_counts.specs.Hand.{upFrom}
+use Rattle.check_counts.proofs.CountsHeader as facts
+
+module _ (t : List ℕ) (h : Header) (w : Linking t h) where
+  pub counted-low : (c : ℕ) → c < h .settings .counted → c < at.countedCount t
+  counted-low c l = omega (arith, facts.counted-is t h w)
+
+  up-top : upFrom h 0 ≡ upLength t 0
+  unfolding upFrom upLength
+  up-top = facts.length-is t h w
+
+  up-under : (l : ℕ) → upFrom h (suc l) ≡ upLength t (suc l)
+  unfolding upFrom upLength at.fullLength blockLength
+  up-under l =
+      let e : suc l - 1 ≡ l = omega arith in
+      rw (ne-eqb (suc l) 0 (λ z. omega arith), e, facts.leaf-is t h w, facts.arity-is t h w, facts.levels-is t h w)
+
+  pub up-is : (level up : ℕ) → up ≡ upFrom h level → up ≡ upLength t level
+  up-is zero up e = e ∙ up-top
+  up-is (suc l) up e = e ∙ up-under l
+
+  -- One block, all counted bytes.
+  module _ (level i : ℕ) where
+    pub bytes-done : (c : ℕ) → ((x : ℕ) → x < c → blockLocal t level i x ≡ true)
+        → h .settings .counted ≤ c → true ≡ allBelow (at.countedCount t) (blockLocal t level i)
+    bytes-done c f l = sym (allBelow-make (at.countedCount t) (blockLocal t level i) (λ x hx. f x (omega (arith, facts.counted-is t h w))))
+
+    pub bytes-fail : (c : ℕ) → c < h .settings .counted → blockLocal t level i c ≡ false → false ≡ allBelow (at.countedCount t) (blockLocal t level i)
+    bytes-fail c l e = sym (allBelow-not (at.countedCount t) (blockLocal t level i) c (counted-low c l) e)
+
+  -- All levels.
+  module _ (left : ℕ) (some : left ≡ 0 → ⊥) (low : left ≤ at.settings t .levels) (f : (m : ℕ) → left ≤ m → m < at.settings t .levels → Level t m) where
+    pub below-left : TrueBelow t h (left - 1)
+    below-left m l hm = f m (omega arith) hm
+
+    pub level-low : left - 1 < at.settings t .levels
+    level-low = omega (arith, pos-of-ne-zero some)
+
+    pub level-done : levelLocal t (left - 1) ≡ true → (m : ℕ) → left - 1 ≤ m → m < at.settings t .levels → Level t m
+    level-done e m l hm = go (lt-or-ge (left - 1) m)
+      where
+        go : (left - 1 < m) ⊎ (m ≤ left - 1) → Level t m
+        go (inl lt) = below-left m lt hm
+        go (inr ge) =
+            let z : m ≡ left - 1 = omega arith in
+            rw z (level-true t (w .header .facts) (facts.linked t h w) (left - 1) level-low below-left e)
+
+    pub level-fail : levelLocal t (left - 1) ≡ false → false ≡ countsTrue (textOf t) t
+    level-fail e = go (bool-cases (countsTrue (textOf t) t))
+      where
+        go : (countsTrue (textOf t) t ≡ true) ⊎ (countsTrue (textOf t) t ≡ false) → false ≡ countsTrue (textOf t) t
+        go (inl y) =
+            bool-clash (levelLocal t (left - 1))
+            (level-local t (w .header .facts) (facts.linked t h w) (left - 1) level-low below-left (counts-facts t y (left - 1) level-low)) e
+        go (inr n) = sym n
+
+  pub levels-done : (left : ℕ) → left ≡ 0 → ((m : ℕ) → left ≤ m → m < at.settings t .levels → Level t m) → true ≡ countsTrue (textOf t) t
+  levels-done left z f = sym (counts-make t (λ l hl. f l (omega arith) hl))
+
+-- One level, all blocks.
+module _ (t : List ℕ) (level n : ℕ) (n-is : n ≡ at.levelCount t level) where
+  pub blocks-done : (i : ℕ) → ((x : ℕ) → x < i → allBelow (at.countedCount t) (blockLocal t level x) ≡ true) → n ≤ i → true ≡ levelLocal t level
+  unfolding levelLocal
+  blocks-done i f l = sym (allBelow-make (at.levelCount t level) (λ x. allBelow (at.countedCount t) (blockLocal t level x)) (λ x hx. f x (omega arith)))
+
+  pub blocks-fail : (i : ℕ) → i < n → allBelow (at.countedCount t) (blockLocal t level i) ≡ false → false ≡ levelLocal t level
+  unfolding levelLocal
+  blocks-fail i l e = sym (allBelow-not (at.levelCount t level) (λ x. allBelow (at.countedCount t) (blockLocal t level x)) i (omega arith) e)

@@ -1,0 +1,4 @@
+pub mod CountsHeader
+pub mod PrefixLaws
+pub mod BlockCountsLaws
+pub mod LevelCountsLaws

@@ -1,0 +1,38 @@
+-- What the check of counts asks where it looks at a block: questions 5 to 8 are passed, and what it looks at is in its table.
+use mathlib.Core.List.{List}
+use mathlib.Core.Bool.{true}
+use mathlib.Core.Path.{_≡_}
+use Prim.Native.Nat.{ℕ, _<_}
+use Rattle.format.specs.Layout as at
+use Rattle.format.specs.Fits.{linksOk}
+use Rattle.theory_counts.specs.LevelTrue.{Level}
+use Rattle.layout.specs.declared.header.Header.{Header}
+use Rattle.layout.specs.HeaderSays.{HeaderOf}
+
+module _ (t : List ℕ) (h : Header) where
+  -- the tree passes questions 5 to 8, and this is its header
+  pub record Linking : Type 0 where
+    pub header : HeaderOf t h
+    pub links : linksOk t ≡ true
+
+  -- a block of one of its levels, and the number of a counted byte
+  pub record InTable (level i c : ℕ) : Type 0 where
+    pub tree : Linking
+    pub level-in : level < at.settings t .levels
+    pub block-in : i < at.levelCount t level
+    pub number-in : c < at.countedCount t
+
+  -- a place of the block
+  pub record InBlock (level i o c : ℕ) : Type 0 where
+    pub table : InTable level i c
+    pub place-in : o < at.blockLengthAt t level i
+
+  -- the counts of the levels below are true of the text
+  abbrev pub TrueBelow : ℕ → Type 0
+  TrueBelow level = (m : ℕ) → level < m → m < at.settings t .levels → Level t m
+
+  -- the block is kept, and what is below it is true
+  pub record InKept (level i o c : ℕ) : Type 0 where
+    pub block : InBlock level i o c
+    pub kept : at.isKept t level i ≡ true
+    pub below : TrueBelow level

@@ -1,0 +1,34 @@
+-- Where a block hands a place to, and what that adds and takes off, as the code's struct.
+use mathlib.Core.List.{List}
+use mathlib.Core.Bool.{cond}
+use Prim.Native.Nat.{ℕ, _+_, _-_, _*_, _/_, _%_, _^_}
+use lib.Dec.{eqb}
+use Rattle.format.specs.Layout as at
+use Rattle.theory_counts.specs.CountsLocal.{handBlock, handPlace, handPlus, handMinus}
+use Rattle.layout.specs.declared.header.Header.{Header}
+use Rattle.check_counts.specs.declared.prefix.Hand.{Hand}
+
+module _ (t : List ℕ) where
+  -- what i adds and takes off as it hands on place o
+  unfoldable pub handOf : ℕ → ℕ → ℕ → ℕ → Hand
+  handOf l i o c = record {
+    block = record { 0 = handBlock t l i o };
+    place = record { 0 = handPlace t l i o };
+    plus = handPlus t l i o c;
+    minus = handMinus t l i c;
+  }
+
+  -- the same of kept block i's child that holds place o, with the child's before
+  unfoldable pub stepOf : ℕ → ℕ → ℕ → ℕ → Hand
+  stepOf l i o c =
+      let j = at.link t l i + o / at.fullLength t (l + 1) in
+      let p = o % at.fullLength t (l + 1) in record {
+        block = record { 0 = handBlock t (l + 1) j p };
+        place = record { 0 = handPlace t (l + 1) j p };
+        plus = at.before t (l + 1) j c + handPlus t (l + 1) j p c;
+        minus = handMinus t (l + 1) j c;
+      }
+
+-- the block length of the level above, by the header; of the text above level 0
+unfoldable pub upFrom : Header → ℕ → ℕ
+upFrom h level = cond (eqb level 0) (h .«text_length») (h .settings .leaf * h .settings .arity ^ (h .settings .levels - 1 - (level - 1)))

@@ -1,0 +1,2 @@
+pub mod CountsAsked
+pub mod Hand

@@ -1,0 +1,60 @@
+// The counts of one level, whose levels below are true already.
+use crate::block_counts;
+use layout::header::Header;
+use layout::place::BlockNumber;
+use layout::place::On;
+use layout::record;
+ghost use mathlib.Core.Path.{_≡_};
+ghost use Prim.Native.Nat.{_+_, _-_, _<_};
+ghost use Rattle.text.specs.Lists.{allBelow};
+ghost use Rattle.format.specs.Layout as at;
+ghost use Rattle.theory_counts.specs.CountsLocal.{upLength, blockLocal, levelLocal};
+ghost use Rattle.layout.specs.SettingsLevel.{Sized};
+ghost use Rattle.check_counts.specs.CountsAsked.{Linking, TrueBelow};
+ghost use Rattle.check_counts.specs.Hand.{upFrom};
+
+// All counted bytes of one block.
+fn block_counts_right(t: &[u8], h: Header, level: u32, b: u32, up: u32, block: BlockNumber) -> bool
+    requires { ⌜ (b ≡ at.fullLength (now t) level) × (up ≡ upLength (now t) level) × Linking (now t) h × (level < at.settings (now t) .levels)
+        × (block .0 < at.levelCount (now t) level) × TrueBelow (now t) h level ⌝ }
+    ensures { λ r. ⌜ r ≡ allBelow (at.countedCount (now (t .entry))) (blockLocal (now (t .entry)) level (block .0)) ⌝ }
+{
+    let k = h.settings.counted;
+    let mut c: u32 = 0;
+    while c < k {
+        if !block_counts::block_right(t, h, On { level, b }, up, block, c) {
+            return false;
+        }
+        c += 1;
+    }
+    true
+}
+
+// The block length of the level above; above level 0 stands the text.
+fn up_length(h: Header, level: u32) -> u32
+    requires { ⌜ Sized (h .settings) level ⌝ }
+    ensures { λ r. ⌜ r ≡ upFrom h level ⌝ }
+{
+    if level == 0 {
+        return h.text_length;
+    }
+    h.settings.block_length(level - 1)
+}
+
+// One pass over the records of a level.
+pub fn level_right(t: &[u8], h: Header, level: u32) -> bool
+    requires { ⌜ Linking (now t) h × (level < at.settings (now t) .levels) × TrueBelow (now t) h level ⌝ }
+    ensures { λ r. ⌜ r ≡ levelLocal (now (t .entry)) level ⌝ }
+{
+    let b = h.settings.block_length(level);
+    let up = up_length(h, level);
+    let n = record::level_count(t, level);
+    let mut i: u32 = 0;
+    while i < n {
+        if !block_counts_right(t, h, level, b, up, BlockNumber(i)) {
+            return false;
+        }
+        i += 1;
+    }
+    true
+}

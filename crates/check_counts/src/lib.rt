@@ -1,0 +1,25 @@
+// Question 9: are all before, inside and skip true?
+use layout::header::Header;
+ghost use mathlib.Core.Path.{_≡_};
+ghost use Rattle.format.specs.Fits.{textOf, countsTrue};
+ghost use Rattle.check_counts.specs.CountsAsked.{Linking};
+
+mod block_counts;
+mod level_counts;
+mod prefix;
+
+// Of a tree that passes questions 5 to 8, with its header: are its counts true of the one text that fits it? The levels are looked at
+// from the last one up.
+pub fn counts_right(t: &[u8], h: Header) -> bool
+    requires { ⌜ Linking (now t) h ⌝ }
+    ensures { λ r. ⌜ r ≡ countsTrue (textOf (now (t .entry))) (now (t .entry)) ⌝ }
+{
+    let mut left = h.settings.levels;
+    while left != 0 {
+        if !level_counts::level_right(t, h, left - 1) {
+            return false;
+        }
+        left = left - 1;
+    }
+    true
+}

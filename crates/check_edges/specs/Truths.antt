@@ -1,0 +1,35 @@
+-- What is asked where edges are checked, and what the test of one edge says.
+use mathlib.Core.List.{List}
+use mathlib.Core.Bool.{Bool, true, false, _&&_}
+use mathlib.Core.Path.{_≡_}
+use Prim.Native.Nat.{ℕ, _+_, _-_, _<_}
+use lib.ListN.{replicate}
+use Rattle.text.specs.Lists.{sameList}
+use Rattle.text.specs.Text.{stretch}
+use Rattle.format.specs.Layout as at
+use Rattle.format.specs.Fits.{linksOk}
+use Rattle.layout.specs.declared.header.Header.{Header}
+use Rattle.layout.specs.HeaderSays.{HeaderOf}
+use Rattle.walk_steps.specs.QuestionStands.{OnLevel}
+use Rattle.walk_short.specs.declared.gather.Gathered.{Gathered}
+use Rattle.walk_short.specs.declared.gather.Gathered.the-variants.{At, Broken}
+
+-- a tree that passes questions 5 to 8, with its header
+pub record Linking (t : List ℕ) (h : Header) : Type 0 where
+  pub header : HeaderOf t h
+  pub linked : linksOk t ≡ true
+
+-- a block of a layout 2 tree that passes questions 5 to 8
+pub record Edged (t : List ℕ) (h : Header) (level b i : ℕ) : Type 0 where
+  pub tree : Linking t h
+  pub two : at.layout t ≡ 2
+  pub on : OnLevel t h level b
+  pub block-in : i < at.levelCount t level
+
+-- the m bytes at a are the x bytes that were found, and then zeros
+abbrev pub foundIs : List ℕ → ℕ → ℕ → ℕ → Gathered → Bool
+foundIs t m a x Broken = false
+foundIs t m a x (At q) =
+    sameList (stretch t a (q .size)) (stretch t (q .from) (q .size))
+    && sameList (stretch t (a + q .size) (x - q .size)) (stretch t (q .next) (x - q .size))
+    && sameList (stretch t (a + x) (m - x)) (replicate (m - x) 0)

@@ -1,0 +1,2 @@
+// Question 9 of the edges.
+pub mod truth;

@@ -1,0 +1,102 @@
+// Question 9 of the edges: is each edge of each block what the short span's walk gives from that block?
+use layout::header::Header;
+use layout::place::Ahead;
+use layout::place::BlockNumber;
+use layout::place::BlockPlace;
+use layout::place::On;
+use layout::record;
+use walk_short::gather;
+use walk_short::gather::Gathered;
+use walk_short::gather::Stretch;
+ghost use mathlib.Core.Path.{_≡_};
+ghost use Prim.Native.Nat.{_+_, _≤_, _<_};
+ghost use lib.ListN.{length};
+ghost use Rattle.format.specs.Settings.{maxLeaf};
+ghost use Rattle.format.specs.Layout as at;
+ghost use Rattle.format.specs.Fits.{textOf, edgesTrue};
+ghost use Rattle.theory_edges.specs.EdgesLocal.{edgesLocal, levelEdges};
+ghost use Rattle.walk_short.specs.Gathered.{Within};
+ghost use Rattle.check_edges.specs.Truths.{Linking, Edged, foundIs};
+
+// An edge, the m bytes at a place: `own` bytes that were found, then zeros.
+fn edge_right(t: &[u8], m: u32, at: usize, own: u32, found: Gathered) -> bool
+    requires { ⌜ (at + m ≤ length (now t)) × (own ≤ m) × (m ≤ maxLeaf) × Within (now t) own found ⌝ }
+    ensures { λ r. ⌜ r ≡ foundIs (now (t .entry)) m at own found ⌝ }
+{
+    let Gathered::At(q) = found else {
+        return false;
+    };
+    if !stretches::same_at(t, at, q.from, q.size as usize) {
+        return false;
+    }
+    let rest = own - q.size;
+    if !stretches::same_at(t, at + q.size as usize, q.next, rest as usize) {
+        return false;
+    }
+    stretches::zeros(t, at + own as usize, m - own)
+}
+
+// Both edges of a block.
+fn block_right(t: &[u8], h: Header, level: u32, b: u32, block: BlockNumber) -> bool
+    requires { ⌜ Edged (now t) h level b (block .0) ⌝ }
+    ensures { λ r. ⌜ r ≡ edgesLocal (now (t .entry)) level (block .0) ⌝ }
+{
+    let m = h.settings.leaf;
+    let length = walk_steps::block_length(t, h.record_size, level, b, block);
+    let own = stretches::shorter(m, length);
+    let at = record::edges(t, h.record_size, h.settings.counted, level, block);
+    let on = On { level, b };
+    let here = Ahead {
+        first: block,
+        steps: 0,
+    };
+    let front = Stretch {
+        place: BlockPlace(0),
+        len: own,
+    };
+    let first = gather::gather(t, h, on, here, front, 0);
+    if !edge_right(t, m, at, own, first) {
+        return false;
+    }
+    let back = Stretch {
+        place: BlockPlace(length - own),
+        len: own,
+    };
+    let last = gather::gather(t, h, on, here, back, 0);
+    edge_right(t, m, at + m as usize, own, last)
+}
+
+// The edges of a level's blocks.
+fn level_right(t: &[u8], h: Header, level: u32) -> bool
+    requires { ⌜ (Linking (now t) h) × (at.layout (now t) ≡ 2) × (level < at.settings (now t) .levels) ⌝ }
+    ensures { λ r. ⌜ r ≡ levelEdges (now (t .entry)) level ⌝ }
+{
+    let b = h.settings.block_length(level);
+    let n = record::level_count(t, level);
+    let mut i: u32 = 0;
+    while i < n {
+        if !block_right(t, h, level, b, BlockNumber(i)) {
+            return false;
+        }
+        i += 1;
+    }
+    true
+}
+
+// Of a tree that passes questions 5 to 8, with its header: are its edges true of the one text that fits it? Layout 1 has none.
+pub fn edges_right(t: &[u8], h: Header) -> bool
+    requires { ⌜ Linking (now t) h ⌝ }
+    ensures { λ r. ⌜ r ≡ edgesTrue (textOf (now (t .entry))) (now (t .entry)) ⌝ }
+{
+    if h.layout != 2 {
+        return true;
+    }
+    let mut l: u32 = 0;
+    while l < h.settings.levels {
+        if !level_right(t, h, l) {
+            return false;
+        }
+        l += 1;
+    }
+    true
+}

@@ -1,0 +1,56 @@
+-- The header's words as the accessors of `Layout` name them, and the parts of a level.
+use mathlib.Core.List.{List}
+use mathlib.Core.Logic.{_≢_}
+use mathlib.Core.Path.{_≡_, sym, ap, _∙_}
+use Prim.Native.Nat.{ℕ, _+_, _-_, _*_, _^_, _≤_, _<_}
+use native.Mathlib.Omega.{arith}
+use borrow.Author.Tests.{eq-eqb, ne-eqb}
+use lib.ListN.{length}
+use Rattle.format.specs.Settings.{maxLevels}
+use Rattle.format.specs.HeaderPlaces.{headerLength}
+use Rattle.format.specs.Layout as at
+use Rattle.format.specs.Fits.{lastLevel}
+use Rattle.layout.specs.declared.header.Header.{Header}
+use Rattle.layout.specs.HeaderSays.{HeaderOf, full-is}
+use Rattle.check_links.specs.LevelAsked.{partLength, roomBelow}
+
+module _ (t : List ℕ) (h : Header) (k : HeaderOf t h) where
+  pub levels-is : h .settings .levels ≡ at.settings t .levels
+  levels-is = k .levels-is
+
+  pub size-is : h .«record_size» ≡ at.recordSize t
+  size-is = k .size-is
+
+  pub length-is : h .«text_length» ≡ at.textLength t
+  length-is = k .length-is
+
+  leaves-is : h .«leaf_count» ≡ at.leafCount t
+  leaves-is = k .count-is
+
+  pub last-is : h .settings .levels - 1 ≡ lastLevel t
+  unfolding lastLevel
+  last-is = ap (λ (x : ℕ). x - 1) levels-is
+
+  pub table-there : (l : ℕ) → l < h .settings .levels → (l < maxLevels) × (headerLength ≤ length t)
+  table-there l i = (omega (arith, levels-is, k .facts .bounds .levels-high), k .facts .long)
+
+  module _ (l : ℕ) where
+    pub part-last : l ≡ h .settings .levels - 1 → 1 ≡ partLength t l
+    unfolding partLength
+    part-last e = rw (eq-eqb l (lastLevel t) (e ∙ last-is))
+
+    pub room-last : l ≡ h .settings .levels - 1 → h .«leaf_count» ≡ roomBelow t l
+    unfolding roomBelow
+    room-last e = rw (eq-eqb l (lastLevel t) (e ∙ last-is)) leaves-is
+
+    module _ (n : l ≡ h .settings .levels - 1 → ⊥) where
+      pub part-above : (b : ℕ) → b ≡ h .settings .leaf * h .settings .arity ^ (h .settings .levels - 1 - (l + 1)) → b ≡ partLength t l
+      unfolding partLength
+      part-above b e = rw (ne-eqb l (lastLevel t) (λ q. n (q ∙ sym last-is))) (full-is t h k (l + 1) b e)
+
+      pub room-above : (c : ℕ) → c ≡ at.levelCount t (l + 1) → c ≡ roomBelow t l
+      unfolding roomBelow
+      room-above c e = rw (ne-eqb l (lastLevel t) (λ q. n (q ∙ sym last-is))) e
+
+      pub below-in : l < h .settings .levels → l + 1 < h .settings .levels
+      below-in i = let m : l ≢ h .settings .levels - 1 = n in omega arith

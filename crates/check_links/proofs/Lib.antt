@@ -1,0 +1,3 @@
+mod BlockLinksLaws
+mod TreeLaws
+mod LevelReadLaws

@@ -1,0 +1,70 @@
+// Question 8: whether starts, kinds, links, gaps, the counts of levels and the leaf count of a tree are right.
+mod block_links;
+mod level_read;
+
+use crate::level_read::Level;
+use layout::header::Header;
+use layout::place::BlockNumber;
+use layout::record;
+ghost use mathlib.Core.Path.{_≡_};
+ghost use Prim.Native.Nat.{_<_};
+ghost use Rattle.text.specs.Lists.{allBelow};
+ghost use Rattle.format.specs.Fits.{linksOk};
+ghost use Rattle.layout.specs.HeaderSays.{HeaderOf};
+ghost use Rattle.check_links.specs.LevelAsked.{LevelOf, startAsCut, levelRight};
+
+// Question 8, of a tree that passes questions 5 to 7 and has the header h.
+pub fn links_right(t: &[u8], h: Header) -> bool
+    requires { ⌜ HeaderOf (now t) h ⌝ }
+    ensures { λ r. ⌜ r ≡ linksOk (now (t .entry)) ⌝ }
+{
+    if !starts_right(t, level_read::level_of(t, h, 0)) {
+        return false;
+    }
+    let mut l: u32 = 0;
+    while l < h.settings.levels {
+        if !level_right(t, level_read::level_of(t, h, l)) {
+            return false;
+        }
+        l += 1;
+    }
+    true
+}
+
+// The blocks of level 0 start where the text is cut.
+fn starts_right(t: &[u8], v: Level) -> bool
+    requires { ⌜ LevelOf (now t) v × (v .number ≡ 0) ⌝ }
+    ensures { λ r. ⌜ r ≡ allBelow (v .count) (startAsCut (now (t .entry))) ⌝ }
+{
+    let mut i: u32 = 0;
+    while i < v.count {
+        let start = record::start(t, v.size, 0, BlockNumber(i));
+        if start.0 as u64 != i as u64 * v.full as u64 {
+            return false;
+        }
+        i += 1;
+    }
+    true
+}
+
+// The blocks of a level are right, and so is the count one level below. `passed` counts the children of the blocks passed: it is
+// the link of the next kept block, and never passes the next level's count.
+fn level_right(t: &[u8], v: Level) -> bool
+    requires { ⌜ LevelOf (now t) v ⌝ }
+    ensures { λ r. ⌜ r ≡ levelRight (now (t .entry)) (v .number) ⌝ }
+{
+    let mut passed: u32 = 0;
+    let mut i: u32 = 0;
+    while i < v.count {
+        let width = block_links::width(t, v, BlockNumber(i));
+        if v.room - passed < width {
+            return false;
+        }
+        if !block_links::block_right(t, v, BlockNumber(i), passed, width) {
+            return false;
+        }
+        passed += width;
+        i += 1;
+    }
+    passed == v.room
+}

@@ -1,2 +1,0 @@
-pub mod ColumnRows
-pub mod Worked

@@ -1,4 +1,0 @@
-pub mod HeaderFacts
-pub mod PrefixLaws
-pub mod BlockLaws
-pub mod LevelLaws

@@ -1,3 +1,0 @@
-pub mod Enough
-pub mod Order
-pub mod Sizes

@@ -1,4 +1,0 @@
-pub mod Heads
-pub mod Entries
-pub mod Entering
-pub mod Looking

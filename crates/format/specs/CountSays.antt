@@ -1,0 +1,82 @@
+-- What count answers, for any bytes lent as a tree.
+-- docs/FORMAT.md: "Count".
+use mathlib.Core.List.{List, [], _∷_}
+use mathlib.Core.Option.{Option, none, some}
+use mathlib.Core.Bool.{Bool, cond}
+use Prim.Native.Nat.{ℕ, _+_, _-_}
+use lib.ListN.{length}
+use lib.Dec.{ltb, leb, eqb}
+use Rattle.text.specs.Text.{stretch, countIn}
+use Rattle.format.specs.Layout as at
+use Rattle.format.specs.Path.{Path, Visit, pathOf}
+use Rattle.format.specs.Verdict.{ask, readable}
+use Rattle.format.specs.Said.{Said, refused, unless}
+
+-- the place of c in the list; the length where it is not there
+unfoldable pub indexOf : ℕ → List ℕ → ℕ
+indexOf c [] = 0
+indexOf c (x ∷ xs) =
+    let later = indexOf c xs in
+    cond (eqb c x) 0 (later + 1)
+
+module _ (t : List ℕ) where
+  -- Count (rank). Of the counted byte with number c: what is added after visit u, and what is taken off. A target is the second
+  -- visit of a level: in place of its before the pointing block's skip is taken off, and the first target's inside is added if the
+  -- second is entered.
+  unfoldable pub addedAfter : ℕ → Visit → List Visit → ℕ
+  unfolding at.before at.inside at.link
+  addedAfter c u [] = 0
+  addedAfter c u (v ∷ vs) =
+      let first = at.link t (u .level) (u .block) in
+      let target = cond (eqb (v .block) first) 0 (at.inside t (u .level) first c) in
+      cond (eqb (u .level) (v .level)) target (at.before t (v .level) (v .block) c) + addedAfter c v vs
+
+  unfoldable pub added : ℕ → List Visit → ℕ
+  unfolding at.before
+  added c [] = 0
+  added c (v ∷ vs) = at.before t (v .level) (v .block) c + addedAfter c v vs
+
+  unfoldable pub takenAfter : ℕ → Visit → List Visit → ℕ
+  unfolding at.skip
+  takenAfter c u [] = 0
+  takenAfter c u (v ∷ vs) = cond (eqb (u .level) (v .level)) (at.skip t (u .level) (u .block) c) 0 + takenAfter c v vs
+
+  unfoldable pub taken : ℕ → List Visit → ℕ
+  taken c [] = 0
+  taken c (v ∷ vs) = takenAfter c v vs
+
+  unfoldable pub lastPlace : List Visit → ℕ
+  lastPlace [] = 0
+  lastPlace (v ∷ vs) = lastPlaceAfter v vs
+    where
+      lastPlaceAfter : Visit → List Visit → ℕ
+      lastPlaceAfter v [] = v .place
+      lastPlaceAfter v (w ∷ ws) = lastPlaceAfter w ws
+
+  -- the bytes of the last block up to the place reached, it included
+  unfoldable pub leavesReached : Path → List ℕ
+  unfolding at.leafOffset
+  leavesReached p = let o = lastPlace (p .visits) in stretch t (at.leafOffset t + (p .leaf - o)) (o + 1)
+
+  abbrev pub countOf : ℕ → ℕ → Option Path → Said
+  countOf byte c none = refused 14
+  countOf byte c (some p) =
+      let plus = added c (p .visits) + countIn byte (leavesReached p) in
+      let minus = taken c (p .visits) in
+      cond (leb minus plus) (record { number = 0; value = plus - minus; entered = length (p .visits) }) (refused 14)
+
+  unfoldable pub isCounted : ℕ → Bool
+  unfolding at.settings at.countedCount
+  isCounted byte = ltb (indexOf byte (at.settings t .counted)) (length (at.settings t .counted))
+
+  unfoldable pub numberOfByte : ℕ → ℕ
+  unfolding at.settings
+  numberOfByte byte = indexOf byte (at.settings t .counted)
+
+  unfoldable pub countSays : ℕ → ℕ → Said
+  unfolding at.textLength
+  countSays byte i =
+      let asked = ask 10 (leb i (at.textLength t)) (ask 11 (isCounted byte) 0) in
+      let none-asked : Said = record { number = 0; value = 0; entered = 0 } in
+      let walked = countOf byte (numberOfByte byte) (pathOf t (i - 1)) in
+      unless (readable t) (unless asked (cond (eqb i 0) none-asked walked))

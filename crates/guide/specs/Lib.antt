@@ -1,3 +1,0 @@
-pub mod Guides
-pub mod Making
-pub mod Worked

@@ -1,2 +1,0 @@
-pub mod GuidedLaws
-pub mod Demands

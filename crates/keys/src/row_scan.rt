@@ -1,0 +1,48 @@
+// A stretch of the text, scanned for a row that matches.
+use crate::form;
+use crate::form::Form;
+ghost use mathlib.Core.Path.{_≡_};
+ghost use Prim.Native.Nat.{_+_, _*_, _≤_, _<_};
+ghost use lib.ListN.{length};
+ghost use Rattle.keys.specs.RowScanned.{turnOf, scanOf, OnLow};
+ghost use Rattle.keys.specs.Keys.{maxCuts};
+
+// The number of the first row that ends in the stretch and matches; or how far the row is in which the stretch ends, and its number.
+pub enum Scanned {
+    Found(u32),
+    On(Form, u32),
+}
+
+// One byte more of a row so far read, with its number.
+fn turn(ranges: &[u8], form: Form, row: u32, byte: u8) -> Scanned
+    requires { ⌜ (length (now ranges) ≤ 2 * maxCuts) × (row + 1 < 4294967296) ⌝ }
+    ensures { λ r. ⌜ r ≡ turnOf (now (ranges .entry)) form row byte ⌝ }
+{
+    if byte == 10 {
+        if form::done(ranges, form) {
+            return Scanned::Found(row);
+        }
+        return Scanned::On(Form::Code(0), row + 1);
+    }
+    Scanned::On(form::step(ranges, form, byte), row)
+}
+
+// A stretch of the text, from a row so far read, with its number.
+pub fn scan(ranges: &[u8], part: &[u8], form: Form, row: u32) -> Scanned
+    requires { ⌜ (length (now ranges) ≤ 2 * maxCuts) × (row + length (now part) < 4294967296) ⌝ }
+    ensures { λ r. ⌜ (r ≡ scanOf (now (ranges .entry)) (now (part .entry)) form row) × (OnLow row (length (now (part .entry))) r) ⌝ }
+{
+    let mut so_far = form;
+    let mut q = row;
+    let mut i = 0;
+    while i < part.len() {
+        let next = turn(ranges, so_far, q, part[i]);
+        let Scanned::On(after, number) = next else {
+            return next;
+        };
+        so_far = after;
+        q = number;
+        i += 1;
+    }
+    Scanned::On(so_far, q)
+}

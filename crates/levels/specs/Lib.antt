@@ -1,3 +1,0 @@
-pub mod Head
-pub mod Leaves
-pub mod Trees

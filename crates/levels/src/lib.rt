@@ -1,4 +1,0 @@
-// From level to level: the header, level 0, the way down and the leaf bytes; everything of a tree but what its records say.
-mod head;
-mod leaf;
-pub mod step;

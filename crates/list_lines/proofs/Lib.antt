@@ -1,0 +1,5 @@
+pub mod WrittenLaws
+mod PutLaws
+mod LineLaws
+mod ListAnswerLaws
+pub mod Demands

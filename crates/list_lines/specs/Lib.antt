@@ -1,0 +1,5 @@
+pub mod Written
+pub mod Lines
+pub mod LevelTable
+pub mod ListExamples
+pub mod ListSays

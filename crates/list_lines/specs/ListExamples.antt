@@ -1,0 +1,40 @@
+-- The worked book (docs/FORMAT.md, "Example"): what the list program prints of its tree, and of one that is cut short.
+use mathlib.Core.List.{List, [], _∷_}
+use mathlib.Core.Path.{_≡_, refl}
+use Prim.Native.Nat.{ℕ}
+use lib.ListN.{take}
+use Rattle.text.specs.Lists.{tabulate, concat, sumBelow, countBelow, allBelow, sameList}
+use Rattle.format.specs.Words.{wordAt, wordsBytes, wordBytes}
+use Rattle.text.specs.Text.{stretch, leftmost, firstFrom, countIn, placeOf, placeIn}
+use Rattle.format.specs.Settings.{Settings, blockLength, pieces, recordLength, lengthOk, sizesOk, countedOk, rising, risingAfter}
+use Rattle.format.specs.Edges.{edgesOf, filledOut}
+use Rattle.format.specs.Blocks.{treeOf, header, leafBytes, levelPairs, recordBytes, levelBytes, recordIn, recordOf, target, occurrence, width, isKept}
+use Rattle.format.specs.Blocks.{startsAt, cut, keptByPairs, firstPairAt, pairAt, lengthOf, startOf}
+use Rattle.format.specs.Layout as at
+use Rattle.format.specs.Path.{pathOf, pathFrom, targetPlace, targetBlock, pointingBlock, keptBlock, lands, landBlock, landPlace, landVisits}
+use Rattle.format.specs.Fits.{linksOk, textOf, fits, countsTrue, edgesTrue, blockEdgesTrue, lastLevel, widthAt, keptRight, pointingRight, blockRight}
+use Rattle.format.specs.Fits.{countBelowRight, blockFits, blockCountsTrue}
+use Rattle.format.specs.Verdict.{verdict, readable}
+use Rattle.list_lines.specs.Lines.{digitsWithin, decimal, figure, line, levelLine, linesBelow, refusedLine, inputNumber, printed}
+
+book : List ℕ
+book = 81 ∷ 65 ∷ 66 ∷ 67 ∷ 68 ∷ 65 ∷ 66 ∷ 67 ∷ 68 ∷ 69 ∷ 70 ∷ 71 ∷ 65 ∷ 66 ∷ 67 ∷ 68 ∷ 65 ∷ 66 ∷ 67 ∷ 68 ∷ []
+
+two : Settings
+two = record { leaf = 2; arity = 2; levels = 2; counted = 65 ∷ [] }
+
+-- 0 5 4 1, and 1 8 8 0; refused 7; refused 5
+pub record Printed : Type 0 where
+  book-lines : printed (treeOf two book) ≡ 48 ∷ 32 ∷ 53 ∷ 32 ∷ 52 ∷ 32 ∷ 49 ∷ 10 ∷ 49 ∷ 32 ∷ 56 ∷ 32 ∷ 56 ∷ 32 ∷ 48 ∷ 10 ∷ []
+  short-tree : printed (take 531 (treeOf two book)) ≡ 114 ∷ 101 ∷ 102 ∷ 117 ∷ 115 ∷ 101 ∷ 100 ∷ 32 ∷ 55 ∷ 10 ∷ []
+  short-header : printed (take 99 (treeOf two book)) ≡ 114 ∷ 101 ∷ 102 ∷ 117 ∷ 115 ∷ 101 ∷ 100 ∷ 32 ∷ 53 ∷ 10 ∷ []
+  three-digits : decimal 532 ≡ 53 ∷ 51 ∷ 50 ∷ []
+
+pub shown : Printed
+unfolding book two tabulate concat sumBelow countBelow allBelow sameList wordAt wordsBytes wordBytes stretch
+    leftmost firstFrom countIn placeOf placeIn blockLength pieces lengthOk sizesOk countedOk rising risingAfter treeOf header leafBytes levelPairs
+    recordBytes recordLength edgesOf filledOut levelBytes recordIn recordOf target occurrence width isKept startsAt cut keptByPairs firstPairAt
+    pairAt lengthOf startOf pathOf pathFrom targetPlace targetBlock pointingBlock keptBlock lands landBlock landPlace landVisits linksOk textOf fits
+    countsTrue edgesTrue blockEdgesTrue lastLevel widthAt keptRight pointingRight blockRight countBelowRight blockFits blockCountsTrue verdict readable
+    at.leafByte at.blockLengthAt at.levelCount at.levelOffset digitsWithin decimal figure line levelLine linesBelow refusedLine inputNumber printed
+shown = record { book-lines = refl; short-tree = refl; short-header = refl; three-digits = refl }

@@ -1,0 +1,131 @@
+// The list program's questions, its lines and what it prints.
+mod kinds;
+mod put;
+
+use layout::header;
+use layout::header::Header;
+use layout::header::HeaderRead;
+use layout::record;
+use layout::settings::Settings;
+ghost use mathlib.Core.Path.{_≡_};
+ghost use Prim.Native.Nat.{_+_, _≤_};
+ghost use lib.ListN.{length};
+ghost use Rattle.format.specs.Layout as at;
+ghost use Rattle.layout.specs.HeaderSays.{HeaderOf};
+ghost use Rattle.list_lines.specs.Written.{Put};
+ghost use Rattle.list_lines.specs.Lines.{line, levelLine, linesBelow, refusedLine, inputNumber, printed, maxLine, maxLines, maxRefused};
+ghost use Rattle.list_lines.specs.ListSays.{listSays, listLeaves};
+ghost use Rattle.list_lines.specs.LevelTable.{Level};
+
+// The longest tree that is listed.
+pub const MAX_INPUT: usize = 65536;
+
+// The most bytes of a line: four numbers of at most ten digits, each with the byte after it.
+const MAX_LINE: usize = 4 * (10 + 1);
+
+// The most bytes that are put or printed: a line for each level.
+pub const MAX_LINES: usize = Settings::MAX_LEVELS as usize * MAX_LINE;
+
+// How many bytes of lines were put, or the number of the question that refuses.
+pub enum Listed {
+    Bytes(u32),
+    Refused(u32),
+}
+
+// Puts a line for each level of a tree at the start of a buffer. Questions 15, 5 to 9 and 13.
+pub fn list(tree: &[u8], out: &mut [u8]) -> Listed
+    ensures { λ r. ⌜ r ≡ listSays (now (tree .entry)) (length (now (out .entry))) ⌝ }
+    ensures { λ _. ⌜ now (out .exit) ≡ listLeaves (now (tree .entry)) (now (out .entry)) ⌝ }
+{
+    let number = input_number(tree);
+    if number != 0 {
+        return Listed::Refused(number);
+    }
+    let mut lines = [0u8; MAX_LINES];
+    let size = level_lines(tree, &mut lines);
+    if out.len() < size {
+        return Listed::Refused(13);
+    }
+    put::bytes(out, 0, &lines[..size]);
+    Listed::Bytes(size as u32)
+}
+
+// Puts what the list program prints at the start of a buffer, and answers how many bytes that is: a line for each level of an accepted
+// tree, else the number of the question that refuses it.
+pub fn print(input: &[u8], out: &mut [u8; MAX_LINES]) -> usize
+    ensures { λ r. ⌜ Put (now (out .entry)) (now (out .exit)) 0 r (printed (now (input .entry))) maxLines ⌝ }
+{
+    let number = input_number(input);
+    if number != 0 {
+        return refused(number, out);
+    }
+    level_lines(input, out)
+}
+
+// Question 15, then the check's.
+fn input_number(input: &[u8]) -> u32
+    ensures { λ r. ⌜ r ≡ inputNumber (now (input .entry)) ⌝ }
+{
+    if MAX_INPUT < input.len() {
+        return 15;
+    }
+    tree::check(input)
+}
+
+// Puts the line of a refused tree.
+fn refused(number: u32, out: &mut [u8]) -> usize
+    requires { ⌜ maxRefused ≤ length (now out) ⌝ }
+    ensures { λ r. ⌜ Put (now (out .entry)) (now (out .exit)) 0 r (refusedLine number) maxRefused ⌝ }
+{
+    let end = put::bytes(out, 0, b"refused ");
+    put::number_and(out, end, number, 10)
+}
+
+// Puts the lines of an accepted tree's levels.
+fn level_lines(t: &[u8], out: &mut [u8]) -> usize
+    requires { ⌜ (inputNumber (now t) ≡ 0) × (maxLines ≤ length (now out)) ⌝ }
+    ensures { λ r. ⌜ Put (now (out .entry)) (now (out .exit)) 0 r (printed (now (t .entry))) maxLines ⌝ }
+{
+    let read = header::read_header(t);
+    match read {
+        HeaderRead::Good(h) => levels(t, h, out),
+        HeaderRead::Refused(number) => refused(number, out),
+    }
+}
+
+// Puts the lines of all levels.
+fn levels(t: &[u8], h: Header, out: &mut [u8]) -> usize
+    requires { ⌜ HeaderOf (now t) h × (maxLines ≤ length (now out)) ⌝ }
+    ensures { λ r. ⌜ Put (now (out .entry)) (now (out .exit)) 0 r (linesBelow (now (t .entry)) (at.settings (now (t .entry)) .levels)) maxLines ⌝ }
+{
+    let count = h.settings.levels;
+    let mut end: usize = 0;
+    let mut l: u32 = 0;
+    while l < count {
+        end = level_line(t, h.record_size, l, out, end);
+        l += 1;
+    }
+    end
+}
+
+// Puts the line of a level: its number, how many blocks it has, how many are kept, how many point.
+fn level_line(t: &[u8], size: u32, level: u32, out: &mut [u8], at: usize) -> usize
+    requires { ⌜ Level (now t) size level × (at + maxLine ≤ length (now out)) ⌝ }
+    ensures { λ r. ⌜ Put (now (out .entry)) (now (out .exit)) at r (levelLine (now (t .entry)) level) maxLine ⌝ }
+{
+    let blocks = record::level_count(t, level);
+    let kept = kinds::count_of(t, size, level, 0);
+    let pointing = kinds::count_of(t, size, level, 1);
+    four(out, at, level, blocks, kept, pointing)
+}
+
+// Puts four numbers on a line.
+fn four(out: &mut [u8], at: usize, a: u32, b: u32, c: u32, d: u32) -> usize
+    requires { ⌜ at + maxLine ≤ length (now out) ⌝ }
+    ensures { λ r. ⌜ Put (now (out .entry)) (now (out .exit)) at r (line a b c d) maxLine ⌝ }
+{
+    let end_a = put::number_and(out, at, a, 32);
+    let end_b = put::number_and(out, end_a, b, 32);
+    let end_c = put::number_and(out, end_b, c, 32);
+    put::number_and(out, end_c, d, 10)
+}

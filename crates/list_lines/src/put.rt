@@ -1,0 +1,38 @@
+// Bytes and numbers put into a lent buffer. Each function answers the place after what it put.
+ghost use Prim.Native.Nat.{_+_, _≤_};
+ghost use lib.ListN.{length};
+ghost use Rattle.list_lines.specs.Written.{Put};
+ghost use Rattle.list_lines.specs.Lines.{decimal, figure, maxFigure};
+
+// Puts the bytes of s at `at`.
+pub fn bytes(out: &mut [u8], at: usize, s: &[u8]) -> usize
+    requires { ⌜ at + length (now s) ≤ length (now out) ⌝ }
+    ensures { λ r. ⌜ Put (now (out .entry)) (now (out .exit)) at r (now (s .entry)) (length (now (s .entry))) ⌝ }
+{
+    let mut i: usize = 0;
+    while i < s.len() {
+        out[at + i] = s[i];
+        i += 1;
+    }
+    at + s.len()
+}
+
+// Puts a number's digits: at most 10.
+pub fn number(out: &mut [u8], at: usize, n: u32) -> usize
+    requires { ⌜ at + 10 ≤ length (now out) ⌝ }
+    ensures { λ r. ⌜ Put (now (out .entry)) (now (out .exit)) at r (decimal n) 10 ⌝ }
+{
+    let mut digits = [0u8; 20];
+    let k = io::decimal(n as u64, &mut digits);
+    bytes(out, at, &digits[..k])
+}
+
+// Puts a number, and a byte after it.
+pub fn number_and(out: &mut [u8], at: usize, n: u32, after: u8) -> usize
+    requires { ⌜ at + maxFigure ≤ length (now out) ⌝ }
+    ensures { λ r. ⌜ Put (now (out .entry)) (now (out .exit)) at r (figure n after) maxFigure ⌝ }
+{
+    let end = number(out, at, n);
+    out[end] = after;
+    end + 1
+}

@@ -1,5 +1,0 @@
-pub mod WrittenLaws
-mod DigitLaws
-mod LineLaws
-mod ListLaws
-pub mod Demands

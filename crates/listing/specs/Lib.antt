@@ -1,5 +1,0 @@
-pub mod Written
-pub mod Lines
-pub mod Tables
-pub mod Worked
-pub mod Says

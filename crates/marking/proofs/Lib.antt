@@ -1,4 +1,0 @@
-pub mod Findings
-pub mod Pairing
-pub mod Halving
-pub mod Targeting

@@ -1,0 +1,72 @@
+-- The calls of the library, a line for each, and what demand 1 says of every one of them. The exported calls, list and the calls
+-- on a licence's days stand in the `Demands` of their crates.
+use mathlib.Core.List.{List, [], _∷_}
+use Rattle.query.proofs.OutsideCall.{AsksNothing, Call, Each, Ends, each-ends, each-asks-nothing}
+use Rattle.query.proofs.LeftmostCall
+use Rattle.query.proofs.BuildCall
+use Rattle.query.proofs.BuildScannedCall
+use Rattle.query.proofs.EnoughCall
+use Rattle.query.proofs.CheckCall
+use Rattle.query.proofs.ByteCall
+use Rattle.query.proofs.RunCall
+use Rattle.query.proofs.SpanCall
+use Rattle.query.proofs.CountCall
+use Rattle.query.proofs.FindCall
+use Rattle.query.proofs.RowCall
+use Rattle.query.proofs.RowLengthCall
+use Rattle.query.proofs.RowCountCall
+use Rattle.query.proofs.PlacesCall
+use Rattle.query.proofs.PlacesWordsCall
+use Rattle.query.proofs.NextMatchCall
+use Rattle.query.proofs.ColumnsCall
+use Rattle.query.proofs.ColumnRowCall
+use Rattle.query.proofs.GuideCall
+use Rattle.query.proofs.FindGuidedCall
+use Rattle.query.proofs.RowGuidedCall
+use Rattle.query.proofs.OrderCall
+use Rattle.query.proofs.InfoCall
+
+abbrev pub calls : List Call
+calls =
+    LeftmostCall.leftmost-call
+    ∷ LeftmostCall.occurs-earlier-call
+    ∷ BuildCall.build-call
+    ∷ BuildScannedCall.build-scanned-call
+    ∷ BuildScannedCall.scan-words-call
+    ∷ EnoughCall.enough-call
+    ∷ CheckCall.check-call
+    ∷ ByteCall.byte-call
+    ∷ RunCall.run-call
+    ∷ RunCall.run-part-call
+    ∷ SpanCall.span-call
+    ∷ CountCall.count-call
+    ∷ CountCall.uncounted-call
+    ∷ FindCall.find-call
+    ∷ RowCall.row-call
+    ∷ RowLengthCall.row-length-call
+    ∷ RowCountCall.row-count-call
+    ∷ PlacesCall.places-call
+    ∷ PlacesWordsCall.places-words-call
+    ∷ NextMatchCall.next-match-call
+    ∷ NextMatchCall.show-call
+    ∷ ColumnsCall.to-columns-call
+    ∷ ColumnsCall.from-columns-call
+    ∷ ColumnRowCall.row-by-columns-call
+    ∷ GuideCall.guide-words-call
+    ∷ GuideCall.make-guide-call
+    ∷ GuideCall.check-guide-call
+    ∷ FindGuidedCall.find-guided-call
+    ∷ RowGuidedCall.row-guided-call
+    ∷ OrderCall.compare-call
+    ∷ OrderCall.first-call
+    ∷ InfoCall.info-call
+    ∷ InfoCall.version-call
+    ∷ []
+
+-- "Every call ends, on every text, setting, tree and question; reads and writes only what was lent" (`Ends`).
+pub every-call-ends : Each Ends calls
+every-call-ends = each-ends calls
+
+-- "trusts no caller to have checked a tree": what a call asks of its caller holds of any arguments (`AsksNothing`).
+pub trusts-no-caller : Each AsksNothing calls
+trusts-no-caller = each-asks-nothing calls

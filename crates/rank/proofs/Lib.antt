@@ -1,4 +1,0 @@
-pub mod ScanLaws
-pub mod SumLaws
-pub mod CountingLaws
-mod UncountedLaws

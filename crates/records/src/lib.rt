@@ -1,4 +1,0 @@
-// What is written of a level: the starts of its blocks and their records, given what each block is.
-pub mod below;
-pub mod level;
-pub mod record;

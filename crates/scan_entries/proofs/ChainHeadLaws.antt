@@ -1,0 +1,93 @@
+-- Heads of chains: their marks and links.
+use mathlib.Core.Path.{_≡_, sym, ap, ap₂, _∙_}
+use Prim.Native.Nat.{ℕ, zero, suc, _+_, _*_, _/_, _%_, _^_, _≤_, _<_, max}
+use native.Mathlib.Omega.{arith}
+use native.Mathlib.Nat.{mod-lt, mul-lt-mul-of-pos-right, mul-le-mul, div-lt-iff-lt-mul, mul-comm, pow-suc, div-one, div-div-eq-div-mul}
+use native.Mathlib.Nat.{mul-add-div-right, mul-add-mod-self-right, mod-eq-of-lt, div-eq-of-lt, mul-div-cancel, pow-le-pow-right, add-zero, one-mul}
+use lib.Bits.{bitOr, or-step, or-lt}
+use lib.Pow.{pow-pos}
+use Rattle.scan_entries.specs.ChainHeads.{maxItems, linkOf, markOf, Pushed}
+
+pub bucket-lt : (h heads : ℕ) → h < 4294967296 → 1 ≤ heads → h * heads / 4294967296 < heads
+bucket-lt h heads l m =
+    let p : h * heads < 4294967296 * heads = mul-lt-mul-of-pos-right l (omega arith) in
+    div-lt-iff-lt-mul {k = 4294967296} (omega arith) .1 (omega (arith, p, mul-comm 4294967296 heads))
+
+pub bucket-fits : (h heads : ℕ) → h < 4294967296 → heads < 4294967296 → h * heads ≤ 18446744065119617025
+bucket-fits h heads l m = mul-le-mul {n₂ = 4294967295} {m₂ = 4294967295} (omega arith) (omega arith)
+
+-- binary digits
+digit-lt : (x : ℕ) → x % 2 < 2
+digit-lt x = mod-lt x (omega arith)
+
+max-digits : (a b : ℕ) → max (a % 2) (b % 2) < 2
+max-digits a b = omega (arith, digit-lt a, digit-lt b)
+
+half : (x j : ℕ) → x / 2 ^ suc j ≡ x / 2 / 2 ^ j
+half x j = ap (λ (k : ℕ). x / k) (pow-suc 2 j ∙ mul-comm (2 ^ j) 2) ∙ sym (div-div-eq-div-mul x 2 (2 ^ j))
+
+or-odd : (a b : ℕ) → bitOr a b % 2 ≡ max (a % 2) (b % 2)
+or-odd a b =
+    ap (λ (x : ℕ). x % 2) (or-step a b)
+    ∙ mul-add-mod-self-right (bitOr (a / 2) (b / 2)) 2 (max (a % 2) (b % 2))
+    ∙ mod-eq-of-lt (max-digits a b)
+
+or-half : (a b : ℕ) → bitOr a b / 2 ≡ bitOr (a / 2) (b / 2)
+or-half a b =
+    ap (λ (x : ℕ). x / 2) (or-step a b)
+    ∙ mul-add-div-right {m = 2} (omega arith) (bitOr (a / 2) (b / 2)) (max (a % 2) (b % 2))
+    ∙ ap (λ (x : ℕ). bitOr (a / 2) (b / 2) + x) (div-eq-of-lt (max-digits a b))
+    ∙ add-zero (bitOr (a / 2) (b / 2))
+
+or-digit : (j a b : ℕ) → bitOr a b / 2 ^ j % 2 ≡ max (a / 2 ^ j % 2) (b / 2 ^ j % 2)
+or-digit zero a b = rw (div-one, div-one, div-one) (or-odd a b)
+or-digit (suc j) a b =
+    ap (λ (x : ℕ). x % 2) (half (bitOr a b) j ∙ ap (λ (x : ℕ). x / 2 ^ j) (or-half a b))
+    ∙ or-digit j (a / 2) (b / 2)
+    ∙ ap₂ max (ap (λ (x : ℕ). x % 2) (sym (half a j))) (ap (λ (x : ℕ). x % 2) (sym (half b j)))
+
+-- the marks of a head, and the new one
+module _ (w h x : ℕ) (fits : w < 4294967296) (few : x < maxItems) where
+  abbrev k : ℕ
+  k = h % 8
+
+  abbrev one-mark : ℕ
+  one-mark = 1 * 2 ^ k % 4294967296
+
+  abbrev marks : ℕ
+  marks = bitOr (w / 16777216) one-mark
+
+  k-few : k ≤ 7
+  k-few = omega (arith, mod-lt h {m = 8} (omega arith))
+
+  pow-few : 2 ^ k ≤ 128
+  pow-few = pow-le-pow-right {n = 2} (omega arith) {i = k} {j = 7} k-few
+
+  one-is : one-mark ≡ 2 ^ k
+  one-is = ap (λ (y : ℕ). y % 4294967296) (one-mul (2 ^ k)) ∙ mod-eq-of-lt {n = 2 ^ k} {m = 4294967296} (omega (arith, pow-few))
+
+  marks-lt : marks < 256
+  marks-lt = or-lt 8 (w / 16777216) one-mark (omega arith) (omega (arith, one-is, pow-few))
+
+  pub marks-fit : marks * 16777216 ≤ 4278190080
+  marks-fit = omega (arith, marks-lt)
+
+  abbrev new : ℕ
+  new = marks * 16777216 + (x + 1)
+
+  new-high : new / 16777216 ≡ marks
+  new-high = mul-add-div-right {m = 16777216} (omega arith) marks (x + 1) ∙ omega (arith, div-eq-of-lt {n = x + 1} {m = 16777216} (omega arith))
+
+  pub is-pushed : Pushed w h x new
+  unfolding linkOf markOf
+  is-pushed = record {
+    link = mul-add-mod-self-right marks 16777216 (x + 1) ∙ mod-eq-of-lt {n = x + 1} {m = 16777216} (omega arith);
+    mark = ap (λ (y : ℕ). y / 2 ^ k % 2) new-high ∙ or-digit k (w / 16777216) one-mark ∙ own;
+    others = λ j e. ap (λ (y : ℕ). y / 2 ^ j % 2) new-high ∙ or-digit j (w / 16777216) one-mark ∙ omega (arith, e, digit-lt (one-mark / 2 ^ j));
+  }
+    where
+      here : one-mark / 2 ^ k % 2 ≡ 1
+      here = ap (λ (y : ℕ). y / 2 ^ k % 2) (one-is ∙ sym (one-mul (2 ^ k))) ∙ ap (λ (y : ℕ). y % 2) (mul-div-cancel 1 {n = 2 ^ k} (pow-pos k))
+
+      own : max (w / 16777216 / 2 ^ k % 2) (one-mark / 2 ^ k % 2) ≡ 1
+      own = omega (arith, here, digit-lt (w / 16777216 / 2 ^ k))

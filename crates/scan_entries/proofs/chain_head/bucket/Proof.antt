@@ -1,0 +1,15 @@
+use native.Mathlib.Omega.{arith}
+use mathlib.Core.Path.{refl}
+use Rattle.scan_entries.specs.ChainHeads.{bucketOf}
+use Rattle.scan_entries.proofs.ChainHeadLaws.{bucket-lt, bucket-fits}
+use Rattle.scan_entries.proofs.chain_head.bucket.Statement.{statement}
+use Rattle.scan_entries.proofs.chain_head.bucket.Tie as tie
+
+pub bucket-spec : {M : Type 1} → statement M
+unfolding bucketOf
+bucket-spec =
+    tie.close
+    (tie.spec
+    (λ c. omega (arith, bucket-fits _ _ (c .fits .h .fits) (c .fits .heads .fits)))
+    (λ c. omega (arith, bucket-lt _ _ (c .fits .h .fits) (c .pre), c .fits .heads .fits))
+    (λ c. (refl, bucket-lt _ _ (c .fits .h .fits) (c .pre))))

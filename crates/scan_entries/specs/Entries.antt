@@ -1,0 +1,102 @@
+-- The items of a level, its blocks and pairs, in a table of words.
+use mathlib.Core.List.{List}
+use mathlib.Core.Path.{_≡_}
+use Prim.Native.Nat.{ℕ, suc, _+_, _-_, _*_, _/_, _%_, _≤_, _<_, min}
+use lib.ListN.{length, getD}
+use Rattle.text.specs.Text.{stretch}
+use Rattle.format.specs.Words.{wordAt}
+use Rattle.format.specs.Settings.{maxText}
+use Rattle.scan_windows.specs.Prints.{print}
+use Rattle.scan_entries.specs.declared.Items.{Items}
+use Rattle.scan_entries.specs.declared.Run.{Run}
+use Rattle.scan_entries.specs.ChainHeads.{maxItems, linkOf, markOf, bucketOf}
+
+-- The three words of item x: the link to the next item of its chain, its fingerprint, the place where its bytes were found; and, after
+-- the words of all items, the heads of the chains.
+unfoldable pub nextIn : List ℕ → ℕ → ℕ
+nextIn W x = getD W (3 * x) 0
+
+unfoldable pub printIn : List ℕ → ℕ → ℕ
+printIn W x = getD W (3 * x + 1) 0
+
+unfoldable pub placeIn : List ℕ → ℕ → ℕ
+placeIn W x = getD W (3 * x + 2) 0
+
+unfoldable pub headIn : ℕ → List ℕ → ℕ → ℕ
+headIn items W g = getD W (3 * items + g) 0
+
+-- Item 2 i is block i, item 2 i + 1 the pair of blocks i and i + 1. Starts stand in the records of the buffer `out`.
+module _ (T out : List ℕ) (it : Items) where
+  unfoldable pub startAt : ℕ → ℕ
+  startAt x = wordAt out (it .records + x / 2 * it .step)
+
+  unfoldable pub lengthAt : ℕ → ℕ
+  lengthAt x = min (it .size * (x % 2 + 1)) (length T - startAt x)
+
+  unfoldable pub bytesAt : ℕ → List ℕ
+  bytesAt x = stretch T (startAt x) (lengthAt x)
+
+  unfoldable pub chainAt : ℕ → ℕ
+  chainAt x = bucketOf (it .heads) (print (bytesAt x))
+
+  -- the records are there, and each block starts in the text
+  pub record Placed : Type 0 where
+    pub few : length T ≤ maxText
+    pub items-few : it .items ≤ maxItems
+    pub size-few : it .size ≤ maxText
+    pub starts : (x : ℕ) → x < it .items → it .records + x / 2 * it .step + 4 ≤ length out
+    pub within : (x : ℕ) → x < it .items → startAt x < length T
+
+  -- a table of n words has room for three words of each item and for the heads of the chains
+  pub record Laid (n : ℕ) : Type 0 where
+    pub placed : Placed
+    pub heads-low : 1 ≤ it .heads
+    pub room : 3 * it .items + it .heads ≤ n
+
+  -- the bytes of an item, as the code reads them
+  pub record RunIs (x : ℕ) (r : Run) : Type 0 where
+    pub start-is : r .start .0 ≡ startAt x
+    pub length-is : r .length ≡ lengthAt x
+    pub fits : r .start .0 + r .length ≤ length T
+
+  module _ (W : List ℕ) where
+    -- an item in a chain has a place of the text; any other has the text's length or more there
+    abbrev pub Listed : ℕ → Type 0
+    Listed x = placeIn W x < length T
+
+    -- the chain from link e has only items of chain g below k
+    pub record Link (g k e : ℕ) : Type 0 where
+      pub low : e ≤ k
+      pub listed : (y : ℕ) → e ≡ suc y → Listed y
+      pub chain : (y : ℕ) → e ≡ suc y → chainAt y ≡ g
+      -- and all of them
+      pub all : (y : ℕ) → y < k → Listed y → chainAt y ≡ g → y < e
+
+    -- items below k are entered
+    pub record Chained (k : ℕ) : Type 0 where
+      pub within : k ≤ it .items
+      pub next : (x : ℕ) → x < k → Listed x → Link (chainAt x) x (nextIn W x)
+      pub prints : (x : ℕ) → x < k → Listed x → printIn W x ≡ print (bytesAt x)
+      pub heads : (g : ℕ) → g < it .heads → Link g k (linkOf (headIn (it .items) W g))
+      pub marks : (x : ℕ) → x < k → Listed x → markOf (headIn (it .items) W (chainAt x)) (print (bytesAt x) % 8) ≡ 1
+
+    -- of the places below q, none before the one found has the bytes of item x
+    pub record Found (x q : ℕ) : Type 0 where
+      pub near : placeIn W x ≤ startAt x
+      pub same : stretch T (placeIn W x) (lengthAt x) ≡ bytesAt x
+      pub none : (r : ℕ) → r < q → r < placeIn W x → stretch T r (lengthAt x) ≡ bytesAt x → ⊥
+
+  -- A window was looked up, or several: the chains are as they were, and what was found stays found.
+  pub record Searched (W Z : List ℕ) : Type 0 where
+    pub same-length : length Z ≡ length W
+    pub nexts : (x : ℕ) → x < it .items → nextIn Z x ≡ nextIn W x
+    pub prints : (x : ℕ) → x < it .items → printIn Z x ≡ printIn W x
+    pub heads : (g : ℕ) → g < it .heads → headIn (it .items) Z g ≡ headIn (it .items) W g
+    pub listed : (x : ℕ) → x < it .items → Listed W x → Listed Z x
+    pub others : (x : ℕ) → x < it .items → length T ≤ placeIn W x → placeIn Z x ≡ placeIn W x
+    pub found : (x q : ℕ) → x < it .items → Listed W x → Found W x q → Found Z x q
+
+  -- the window of n bytes at p was looked up
+  pub record Looked (W Z : List ℕ) (p n : ℕ) : Type 0 where
+    pub searched : Searched W Z
+    pub here : (x : ℕ) → x < it .items → Listed W x → lengthAt x ≡ n → Found W x p → Found Z x (p + 1)

@@ -1,0 +1,4 @@
+pub mod ChainHeads
+pub mod Entries
+pub mod ItemsEntered
+pub mod LookedUp

@@ -1,0 +1,28 @@
+// Heads of chains.
+ghost use mathlib.Core.Path.{_≡_};
+ghost use Prim.Native.Nat.{_+_, _%_, _<_, _≤_};
+ghost use lib.Dec.{eqb};
+ghost use Rattle.scan_entries.specs.ChainHeads.{maxItems, markOf, bucketOf, Pushed};
+
+// The number of the chain for a fingerprint.
+pub fn bucket(h: u32, heads: u32) -> u32
+    requires { ⌜ 1 ≤ heads ⌝ }
+    ensures { λ r. ⌜ (r ≡ bucketOf heads h) × (r < heads) ⌝ }
+{
+    (h as u64 * heads as u64 / 4294967296) as u32
+}
+
+// Whether the chain of a head may have an item with this fingerprint.
+pub fn marked(w: u32, h: u32) -> bool
+    ensures { λ r. ⌜ r ≡ eqb (markOf w (h % 8)) 1 ⌝ }
+{
+    (w / 16777216 >> (h % 8)) % 2 == 1
+}
+
+// A head with item x put in front of its chain.
+pub fn pushed(w: u32, h: u32, x: u32) -> u32
+    requires { ⌜ x < maxItems ⌝ }
+    ensures { λ r. ⌜ Pushed w h x r ⌝ }
+{
+    (w / 16777216 | 1 << (h % 8)) * 16777216 + (x + 1)
+}

@@ -1,0 +1,33 @@
+// The blocks and pairs of a level, entered in a lent table of words by fingerprint, and windows of the text looked up in it.
+mod chain_head;
+pub mod entry;
+pub mod item;
+pub mod lookup;
+
+use text::TextPlace;
+
+// The items of a level, its blocks and pairs, and how the table is divided. Item 2 i is block i, item 2 i + 1 the pair of blocks
+// i and i + 1.
+pub struct Items {
+    // where the records of the level begin in the buffer that is written, and how many bytes each has
+    pub records: u32,
+    pub step: u32,
+    // the bytes of a full block
+    pub size: u32,
+    // how many items there are: the table has three words for each, then the heads of the chains
+    pub items: u32,
+    pub heads: u32,
+}
+
+// The bytes of an item: where they start, and how many they are.
+pub struct Run {
+    pub start: TextPlace,
+    pub length: u32,
+}
+
+// A probe into the table: the fingerprint of bytes of the text, where they start, and how many they are.
+pub struct Probe {
+    pub print: u32,
+    pub start: TextPlace,
+    pub length: u32,
+}

@@ -1,0 +1,109 @@
+-- What the table says once the pass is over.
+use mathlib.Core.List.{List}
+use mathlib.Core.Path.{_≡_, sym, ap, _∙_, subst}
+use mathlib.Core.Logic.{_⊎_, inl, inr}
+use Prim.Native.Nat.{ℕ, _+_, _-_, _/_, _≤_, _<_}
+use native.Mathlib.Omega.{arith}
+use lib.ListN.{length}
+use borrow.Author.Tests.{lt-ltb, le-ltb}
+use Rattle.text.specs.ListLaws.{lt-or-ge}
+use Rattle.text.specs.Text.{stretch, leftmost}
+use Rattle.text.specs.TextLaws.{leftmost-le}
+use Rattle.scan_entries.specs.declared.Items.{Items}
+use Rattle.scan_entries.specs.Entries.{Laid, Listed, startAt, lengthAt, bytesAt, placeIn}
+use Rattle.scan_passes.specs.Passes.{Present, Ordered, Entrants, Passed, Answered, placeOut}
+use Rattle.scan_passes.proofs.ItemLengths.{pair-longer, pair-there, block-length}
+use Rattle.scan_passes.proofs.PassLaws.{leftmost-same-bytes}
+
+module _ (T out : List ℕ) (it : Items) (W Z : List ℕ) (e : Entrants T out it W (it .items)) (o : Ordered T out it) (q : Passed T out it W Z) where
+  module _ (x : ℕ) (xl : x < it .items) (p : Present T out it x) where
+    -- an item in a chain
+    module _ (i : Listed T out it W x) where
+      place-listed : placeIn Z x < length T
+      place-listed = q .searched .listed x xl i
+
+      out-listed : placeOut (length T) Z x ≡ leftmost T (startAt T out it x) (lengthAt T out it x)
+      unfolding placeOut
+      out-listed = rw (lt-ltb (placeIn Z x) (length T) place-listed) (q .found x xl i)
+
+    -- a twin
+    module _ (u : length T ≤ placeIn W x) where
+      y : ℕ
+      y = placeIn W x - length T
+
+      w : (y < x) × Listed T out it W y × (lengthAt T out it y ≡ lengthAt T out it x) × (bytesAt T out it y ≡ bytesAt T out it x)
+      unfolding y
+      w = e .twin x xl p (placeIn W x - length T) (omega arith)
+
+      kept : placeIn Z x ≡ placeIn W x
+      kept = q .searched .others x xl u
+
+      twin-first : leftmost T (startAt T out it y) (lengthAt T out it y) ≡ leftmost T (startAt T out it x) (lengthAt T out it x)
+      unfolding bytesAt
+      twin-first =
+          ap (leftmost T (startAt T out it y)) (w .2)
+          ∙ leftmost-same-bytes T (startAt T out it y) (startAt T out it x) (lengthAt T out it x)
+          (ap (stretch T (startAt T out it y)) (sym (w .2)) ∙ w .3)
+
+      out-twin : placeOut (length T) Z x ≡ leftmost T (startAt T out it x) (lengthAt T out it x)
+      unfolding placeOut y
+      out-twin = rw (le-ltb (placeIn Z x) (length T) (omega (arith, kept)))
+          (ap (λ (k : ℕ). placeIn Z (k - length T)) kept ∙ q .found y (omega (arith, w .0)) (w .1) ∙ twin-first)
+
+      twin-low : placeIn Z x < length T + x
+      unfolding y
+      twin-low = omega (arith, kept, w .0)
+
+      -- a twin of the same length stands before it in the text
+      block-before : y / 2 < x / 2 → startAt T out it y < startAt T out it x
+      block-before l = omega (arith, o .rising y x l xl, o .size-low)
+
+      apart : (y / 2 < x / 2) ⊎ (x / 2 ≤ y / 2) → y / 2 < x / 2
+      apart (inl a) = a
+      apart (inr a) = absurd (let z : ⊥ = omega (
+        arith,
+        w .0,
+        w .2,
+        block-length T out it y (omega (arith, w .0)),
+        pair-longer T out it o (e .laid .placed) x (omega (arith, w .0)) xl (pair-there T out it o (e .laid .placed) x (omega (arith, w .0)) p),
+      ) in z)
+
+      not-first : leftmost T (startAt T out it x) (lengthAt T out it x) ≡ startAt T out it x → ⊥
+      not-first f = omega (arith, block-before (apart (lt-or-ge (y / 2) (x / 2))), leftmost-le T (startAt T out it y) (lengthAt T out it y), twin-first)
+
+    pub place-out : placeOut (length T) Z x ≡ leftmost T (startAt T out it x) (lengthAt T out it x)
+    place-out = go (lt-or-ge (placeIn W x) (length T))
+      where
+        go : (placeIn W x < length T) ⊎ (length T ≤ placeIn W x) → placeOut (length T) Z x ≡ leftmost T (startAt T out it x) (lengthAt T out it x)
+        go (inl i) = out-listed i
+        go (inr u) = out-twin u
+
+    pub twins-low : length T ≤ placeIn Z x → placeIn Z x < length T + x
+    twins-low l = go (lt-or-ge (placeIn W x) (length T))
+      where
+        go : (placeIn W x < length T) ⊎ (length T ≤ placeIn W x) → placeIn Z x < length T + x
+        go (inl i) = absurd (let z : ⊥ = omega (arith, place-listed i) in z)
+        go (inr u) = twin-low u
+
+    pub is-first : placeIn Z x ≡ startAt T out it x → leftmost T (startAt T out it x) (lengthAt T out it x) ≡ startAt T out it x
+    is-first f = go (lt-or-ge (placeIn W x) (length T))
+      where
+        go : (placeIn W x < length T) ⊎ (length T ≤ placeIn W x) → leftmost T (startAt T out it x) (lengthAt T out it x) ≡ startAt T out it x
+        go (inl i) = sym (q .found x xl i) ∙ f
+        go (inr u) = absurd (let z : ⊥ = omega (arith, kept u, e .laid .placed .within x xl) in z)
+
+    pub is-again : (placeIn Z x ≡ startAt T out it x → ⊥) → leftmost T (startAt T out it x) (lengthAt T out it x) ≡ startAt T out it x → ⊥
+    is-again n f = go (lt-or-ge (placeIn W x) (length T))
+      where
+        go : (placeIn W x < length T) ⊎ (length T ≤ placeIn W x) → ⊥
+        go (inl i) = n (q .found x xl i ∙ f)
+        go (inr u) = not-first u f
+
+  pub answered : Answered T out it Z
+  answered = record {
+    laid = subst (λ (k : ℕ). Laid T out it k) (sym (q .searched .same-length)) (e .laid);
+    place = place-out;
+    twins = twins-low;
+    first = is-first;
+    again = is-again;
+  }

@@ -1,0 +1,216 @@
+-- The pass, place by place.
+use mathlib.Core.List.{List}
+use mathlib.Core.Path.{_≡_, refl, sym, ap, _∙_, subst}
+use mathlib.Core.Logic.{_⊎_, inl, inr}
+use Prim.Native.Nat.{ℕ, _+_, _≤_, _<_}
+use native.Mathlib.Omega.{arith}
+use lib.ListN.{length}
+use Rattle.text.specs.ListLaws.{lt-or-ge}
+use Rattle.text.specs.Text.{stretch, leftmost}
+use Rattle.text.specs.TextLaws.{leftmost-same, leftmost-first}
+use Rattle.scan_windows.specs.declared.Window.{Window}
+use Rattle.scan_windows.specs.Windows.{placesOf, Standing}
+use Rattle.scan_windows.proofs.WindowLaws.{places-none, places-some, within}
+use Rattle.scan_entries.specs.declared.Items.{Items}
+use Rattle.scan_entries.specs.Entries.{Laid, Listed, Found, Searched, Looked, startAt, lengthAt, bytesAt, placeIn}
+use Rattle.scan_entries.specs.LookedUp.{Asks}
+use Rattle.scan_entries.proofs.ItemLaws.{fits}
+use Rattle.scan_entries.proofs.Chains.{searched-none, searched-then, chained-after, passed-after}
+use Rattle.scan_passes.specs.declared.Lengths.{Lengths}
+use Rattle.scan_passes.specs.Passes.{Ordered, Entrants, Covers, Asked, Stepped, Passed}
+use Rattle.scan_passes.proofs.ItemLengths.{length-low}
+
+-- a window that stands nowhere any more
+pub stands-still : (T : List ℕ) (n p : ℕ) (w : Window) → Standing T n p w → w .places ≤ p → Standing T n (p + 1) w
+stands-still T n p w s l = record {
+  len-is = s .len-is;
+  fits = s .fits;
+  few = s .few;
+  places-is = s .places-is;
+  top-is = s .top-is;
+  print-is = λ m. absurd (let z : ⊥ = omega arith in z);
+  looked-is = omega (arith, s .looked-is);
+}
+
+pub of-len : (T : List ℕ) (n p : ℕ) (w : Window) → Standing T n p w → Standing T (w .len) p w
+of-len T n p w s = subst (λ (k : ℕ). Standing T k p w) (sym (s .len-is)) s
+
+pub of-same : (T : List ℕ) (n p : ℕ) (w r : Window) → Standing T n p w → Standing T (w .len) (p + 1) r → Standing T n (p + 1) r
+of-same T n p w r s t = subst (λ (k : ℕ). Standing T k (p + 1) r) (s .len-is) t
+
+places-most : (size n : ℕ) → n ≤ size → placesOf size n ≤ size
+places-most size n l = go (lt-or-ge 0 n)
+  where
+    go : (0 < n) ⊎ (n ≤ 0) → placesOf size n ≤ size
+    go (inl a) = omega (arith, places-some size n (λ e. omega arith))
+    go (inr a) = omega (arith, places-none size n (omega arith))
+
+-- it was looked up everywhere
+pub looked-all : (T : List ℕ) (n p : ℕ) (w : Window) → Standing T n p w → length T ≤ p → w .looked ≡ placesOf (length T) n
+looked-all T n p w s l = omega (arith, s .looked-is, s .places-is, places-most (length T) n (s .fits))
+
+pub looked-few : (T : List ℕ) (n p : ℕ) (w : Window) → Standing T n p w → w .looked ≤ length T
+looked-few T n p w s = omega (arith, s .looked-is, s .places-is, places-most (length T) n (s .fits))
+
+looked-of : (T : List ℕ) (n m p : ℕ) (w : Window) → n ≡ m → Standing T n p w → length T ≤ p → w .looked ≡ placesOf (length T) m
+looked-of T n m p w e s l = looked-all T n p w s l ∙ ap (placesOf (length T)) e
+
+pub looked-sum : (T : List ℕ) (na nb nc nd ma mb mc md p : ℕ) (a b c d : Window) → na ≡ ma → nb ≡ mb → nc ≡ mc → nd ≡ md
+    → Standing T na p a → Standing T nb p b → Standing T nc p c → Standing T nd p d → length T ≤ p
+    → a .looked + b .looked + c .looked + d .looked ≡ placesOf (length T) ma + placesOf (length T) mb + placesOf (length T) mc + placesOf (length T) md
+looked-sum T na nb nc nd ma mb mc md p a b c d ea eb ec ed sa sb sc sd l =
+    rw (looked-of T na ma p a ea sa l, looked-of T nb mb p b eb sb l, looked-of T nc mc p c ec sc l, looked-of T nd md p d ed sd l)
+
+-- the same bytes first stand at the same place
+pub leftmost-same-bytes : (T : List ℕ) (s t n : ℕ) → stretch T s n ≡ stretch T t n → leftmost T s n ≡ leftmost T t n
+leftmost-same-bytes T s t n e = omega (
+  arith,
+  leftmost-first T s n (leftmost T t n) (leftmost-same T t n ∙ sym e),
+  leftmost-first T t n (leftmost T s n) (leftmost-same T s n ∙ e),
+)
+
+module _ (T out : List ℕ) (it : Items) where
+  pub asked-after : (W Z : List ℕ) → Searched T out it W Z → Asked T out it W → Asked T out it Z
+  asked-after W Z s a = record {
+    laid = subst (λ (k : ℕ). Laid T out it k) (sym (s .same-length)) (a .laid);
+    chained = chained-after T out it W Z s (it .items) (a .laid .heads-low) (a .chained);
+    low = a .low;
+  }
+
+  module _ (W : List ℕ) (n p : ℕ) (w : Window) (a : Asked T out it W) (s : Standing T n p w) where
+    -- the window does not stand at p: an item of its length was found before
+    pub stepped-past : w .places ≤ p → Stepped T out it W W n p
+    stepped-past l = record {
+      searched = searched-none T out it W;
+      here = λ x xl i en f. passed-after T out it W x p n (omega (
+        arith,
+        f .near,
+        fits T out it (a .laid .placed) x xl,
+        a .low x xl,
+        s .places-is,
+        places-some (length T) n (λ e. omega (arith, a .low x xl)),
+      )) f;
+    }
+
+    pub window-asks : p < w .places → Asks T out it W (w .print) p n
+    window-asks l = record {
+      laid = a .laid;
+      chained = a .chained;
+      fits = within T n p w s l;
+      print-is = s .print-is l;
+    }
+
+    pub stepped-look : (Z : List ℕ) → Looked T out it W Z p n → Stepped T out it W Z n p
+    stepped-look Z k = record { searched = k .searched; here = k .here }
+
+  -- before place p
+  pub record Passing (na nb nc nd : ℕ) (W Z : List ℕ) (p : ℕ) (a b c d : Window) : Type 0 where
+    pub within : p ≤ length T
+    pub asked : Asked T out it Z
+    pub searched : Searched T out it W Z
+    pub found : (x : ℕ) → x < it .items → Listed T out it W x → Found T out it Z x p
+    pub a-is : Standing T na p a
+    pub b-is : Standing T nb p b
+    pub c-is : Standing T nc p c
+    pub d-is : Standing T nd p d
+
+  module _ (l : Lengths) (W : List ℕ) (e : Entrants T out it W (it .items)) (o : Ordered T out it) (v : Covers T out it W l)
+      (na nb nc nd : ℕ) (ea : na ≡ l .block) (eb : nb ≡ l .pair) (ec : nc ≡ l .last) (ed : nd ≡ l .ending) where
+    first-found : (x : ℕ) → x < it .items → Listed T out it W x → Found T out it W x 0
+    unfolding bytesAt
+    first-found x xl i = record {
+      near = omega (arith, e .own x xl i);
+      same = ap (λ (k : ℕ). stretch T k (lengthAt T out it x)) (e .own x xl i);
+      none = λ r m. absurd (let z : ⊥ = omega arith in z);
+    }
+
+    pub passing-first : (a b c d : Window) → Standing T na 0 a → Standing T nb 0 b → Standing T nc 0 c → Standing T nd 0 d → Passing na nb nc nd W W 0 a b c d
+    passing-first a b c d sa sb sc sd = record {
+      within = omega arith;
+      asked = record { laid = e .laid; chained = e .chained; low = length-low T out it o (e .laid .placed) };
+      searched = searched-none T out it W;
+      found = first-found;
+      a-is = sa;
+      b-is = sb;
+      c-is = sc;
+      d-is = sd;
+    }
+
+    module _ (Z : List ℕ) (p : ℕ) (a b c d : Window) (q : Passing na nb nc nd W Z p a b c d) (more : p < length T) where
+      -- after the four look-ups
+      module _ (Z₁ Z₂ Z₃ Z₄ : List ℕ) (a′ b′ c′ d′ : Window) (s₁ : Stepped T out it Z Z₁ (a .len) p) (s₂ : Stepped T out it Z₁ Z₂ (b .len) p)
+          (s₃ : Stepped T out it Z₂ Z₃ (c .len) p) (s₄ : Stepped T out it Z₃ Z₄ (d .len) p)
+          (sa : Standing T (a .len) (p + 1) a′)
+          (sb : Standing T (b .len) (p + 1) b′) (sc : Standing T (c .len) (p + 1) c′) (sd : Standing T (d .len) (p + 1) d′) where
+        t₂ : Searched T out it Z Z₂
+        t₂ = searched-then T out it Z Z₁ Z₂ (s₁ .searched) (s₂ .searched)
+
+        t₃ : Searched T out it Z Z₃
+        t₃ = searched-then T out it Z Z₂ Z₃ t₂ (s₃ .searched)
+
+        t₄ : Searched T out it Z Z₄
+        t₄ = searched-then T out it Z Z₃ Z₄ t₃ (s₄ .searched)
+
+        module _ (x : ℕ) (xl : x < it .items) (i : Listed T out it W x) where
+          j : Listed T out it Z x
+          j = q .searched .listed x xl i
+
+          f : Found T out it Z x p
+          f = q .found x xl i
+
+          by-a : lengthAt T out it x ≡ l .block → Found T out it Z₄ x (p + 1)
+          by-a en =
+              let g = s₁ .here x xl j (en ∙ sym ea ∙ sym (q .a-is .len-is)) f in
+              let j₁ = s₁ .searched .listed x xl j in
+              searched-then T out it Z₁ Z₂ Z₄ (s₂ .searched) (searched-then T out it Z₂ Z₃ Z₄ (s₃ .searched) (s₄ .searched)) .found x (p + 1) xl j₁ g
+
+          by-b : lengthAt T out it x ≡ l .pair → Found T out it Z₄ x (p + 1)
+          by-b en =
+              let j₁ = s₁ .searched .listed x xl j in
+              let g = s₂ .here x xl j₁ (en ∙ sym eb ∙ sym (q .b-is .len-is)) (s₁ .searched .found x p xl j f) in
+              searched-then T out it Z₂ Z₃ Z₄ (s₃ .searched) (s₄ .searched) .found x (p + 1) xl (t₂ .listed x xl j) g
+
+          by-c : lengthAt T out it x ≡ l .last → Found T out it Z₄ x (p + 1)
+          by-c en =
+              let g = s₃ .here x xl (t₂ .listed x xl j) (en ∙ sym ec ∙ sym (q .c-is .len-is)) (t₂ .found x p xl j f) in
+              s₄ .searched .found x (p + 1) xl (t₃ .listed x xl j) g
+
+          by-d : lengthAt T out it x ≡ l .ending → Found T out it Z₄ x (p + 1)
+          by-d en = s₄ .here x xl (t₃ .listed x xl j) (en ∙ sym ed ∙ sym (q .d-is .len-is)) (t₃ .found x p xl j f)
+
+          by-length : (lengthAt T out it x ≡ l .block)
+              ⊎ ((lengthAt T out it x ≡ l .pair) ⊎ ((lengthAt T out it x ≡ l .last) ⊎ (lengthAt T out it x ≡ l .ending))) → Found T out it Z₄ x (p + 1)
+          by-length (inl en) = by-a en
+          by-length (inr (inl en)) = by-b en
+          by-length (inr (inr (inl en))) = by-c en
+          by-length (inr (inr (inr en))) = by-d en
+
+        pub passing-next : Passing na nb nc nd W Z₄ (p + 1) a′ b′ c′ d′
+        passing-next = record {
+          within = omega arith;
+          asked = asked-after Z Z₄ t₄ (q .asked);
+          searched = searched-then T out it W Z Z₄ (q .searched) t₄;
+          found = λ x xl i. by-length x xl i (v .one x xl i);
+          a-is = of-same T na p a a′ (q .a-is) sa;
+          b-is = of-same T nb p b b′ (q .b-is) sb;
+          c-is = of-same T nc p c c′ (q .c-is) sc;
+          d-is = of-same T nd p d d′ (q .d-is) sd;
+        }
+
+    -- the pass is over
+    pub passing-over : (Z : List ℕ) (p : ℕ) (a b c d : Window) → Passing na nb nc nd W Z p a b c d → length T ≤ p → Passed T out it W Z
+    unfolding bytesAt
+    passing-over Z p a b c d q over = record {
+      searched = q .searched;
+      found = λ x xl i.
+          let f = q .found x xl i in
+          let s = startAt T out it x in
+          let n = lengthAt T out it x in
+          go (placeIn Z x) s n (f .same) (λ r m e. f .none r (omega (arith, f .near, e .0, q .asked .laid .placed .within x xl)) (e .0) (e .1))
+          (lt-or-ge (leftmost T s n) (placeIn Z x));
+    }
+      where
+        go : (place s n : ℕ) → stretch T place n ≡ stretch T s n → ((r : ℕ) → (r ≡ r) → (r < place) × (stretch T r n ≡ stretch T s n) → ⊥)
+            → (leftmost T s n < place) ⊎ (place ≤ leftmost T s n) → place ≡ leftmost T s n
+        go place s n same none (inl a) = absurd (none (leftmost T s n) refl (a, leftmost-same T s n))
+        go place s n same none (inr a) = omega (arith, leftmost-first T s n place same)

@@ -1,0 +1,19 @@
+use native.Mathlib.Omega.{arith}
+use mathlib.Core.Path.{ap₂, _∙_}
+use Prim.Native.Nat.{ℕ}
+use Rattle.text.specs.Text.{stretch}
+use Rattle.scan_windows.specs.Prints.{print}
+use Rattle.scan_entries.specs.Entries.{bytesAt}
+use Rattle.scan_passes.proofs.enter.block_print.Statement.{statement}
+use Rattle.scan_passes.proofs.enter.block_print.Tie as tie
+
+pub block-print-spec : {M : Type 1} → statement M
+unfolding bytesAt
+block-print-spec =
+    tie.close
+    (tie.spec
+    (λ c. omega (arith, c .before .before .before .pre .0 .items-few, c .before .before .before .pre .1))
+    (λ c κs. (c .before .before .before .pre .0, c .before .before .before .pre .1))
+    (λ c κs. c .run-of .ensures .fits)
+    (λ c. c .fingerprint-at .ensures ∙ ap₂ (λ (s n : ℕ). print (stretch (c .before .before .before .before .before .args .text .now) s n))
+    (c .before .run-of .ensures .start-is) (c .before .run-of .ensures .length-is)))

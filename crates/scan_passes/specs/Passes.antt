@@ -1,0 +1,123 @@
+-- One pass over the text for a level: what stands in the table before, on the way and afterwards.
+use mathlib.Core.List.{List}
+use mathlib.Core.Bool.{cond}
+use mathlib.Core.Path.{_≡_}
+use mathlib.Core.Logic.{_⊎_}
+use Prim.Native.Nat.{ℕ, _+_, _-_, _*_, _/_, _%_, _≤_, _<_}
+use lib.ListN.{length}
+use lib.Dec.{eqb, ltb}
+use Rattle.text.specs.Text.{leftmost}
+use Rattle.scan_windows.specs.Windows.{placesOf}
+use Rattle.scan_entries.specs.declared.Items.{Items}
+use Rattle.scan_entries.specs.Entries.{Laid, Chained, Listed, Found, Searched, startAt, lengthAt, bytesAt, placeIn}
+use Rattle.scan_passes.specs.declared.Lengths.{Lengths}
+
+-- the lengths with one more, in its place by how it compares with the length of a full block; 0 is none
+abbrev pub notedBy : Lengths → ℕ → ℕ → Lengths
+notedBy l size n =
+    cond (eqb n 0) l
+    (cond (ltb n size) (record { block = l .block; pair = l .pair; last = n; ending = l .ending })
+    (cond (eqb n size) (record { block = n; pair = l .pair; last = l .last; ending = l .ending })
+    (cond (eqb n (size + size)) (record { block = l .block; pair = n; last = l .last; ending = l .ending })
+    (record { block = l .block; pair = l .pair; last = l .last; ending = n }))))
+
+-- a length stands in its place
+pub record Among (size : ℕ) (l : Lengths) (n : ℕ) : Type 0 where
+  pub short : n < size → l .last ≡ n
+  pub full : n ≡ size → l .block ≡ n
+  pub both : n ≡ size + size → l .pair ≡ n
+  pub cut : size < n → n < size + size → l .ending ≡ n
+
+-- where item x first stands, by the table of a text of n bytes: its own place, or its twin's
+unfoldable pub placeOut : ℕ → List ℕ → ℕ → ℕ
+placeOut n W x = cond (ltb (placeIn W x) n) (placeIn W x) (placeIn W (placeIn W x - n))
+
+module _ (T out : List ℕ) (it : Items) where
+  -- item x is there: a block, or two that follow each other in the text
+  abbrev pub Present : ℕ → Type 0
+  Present x = (x % 2 ≡ 0) ⊎ (startAt T out it (x + 1) ≡ startAt T out it x + it .size)
+
+  -- the level's blocks rise, and there is a last one
+  pub record Ordered : Type 0 where
+    pub size-low : 1 ≤ it .size
+    pub last : ℕ
+    pub items-are : it .items ≡ 2 * last + 1
+    pub rising : (x y : ℕ) → x / 2 < y / 2 → y < it .items → startAt T out it x + it .size ≤ startAt T out it y
+
+  -- item x was taken: entered, or left out where it is not there
+  pub record Took (W Z : List ℕ) (x : ℕ) : Type 0 where
+    pub same-length : length Z ≡ length W
+    pub chained : Chained T out it Z (x + 1)
+    pub before : (y : ℕ) → y < x → placeIn Z y ≡ placeIn W y
+    pub there : Listed T out it Z x → Present x
+    pub own : Listed T out it Z x → placeIn Z x ≡ startAt T out it x
+    pub twin : Present x → (y : ℕ) → placeIn Z x ≡ length T + y
+        → (y < x) × Listed T out it Z y × (lengthAt T out it y ≡ lengthAt T out it x) × (bytesAt T out it y ≡ bytesAt T out it x)
+
+  -- items below k were taken
+  pub record Entrants (W : List ℕ) (k : ℕ) : Type 0 where
+    pub laid : Laid T out it (length W)
+    pub chained : Chained T out it W k
+    pub there : (x : ℕ) → x < k → Listed T out it W x → Present x
+    pub own : (x : ℕ) → x < k → Listed T out it W x → placeIn W x ≡ startAt T out it x
+    pub twin : (x : ℕ) → x < k → Present x → (y : ℕ) → placeIn W x ≡ length T + y
+        → (y < x) × Listed T out it W y × (lengthAt T out it y ≡ lengthAt T out it x) × (bytesAt T out it y ≡ bytesAt T out it x)
+
+  -- the length of pair x, 0 where it is not there
+  pub record PairSays (x n : ℕ) : Type 0 where
+    pub some : Present x → n ≡ lengthAt T out it x
+    pub none : (Present x → ⊥) → n ≡ 0
+
+  -- some item below k that is there has n bytes
+  abbrev pub Has : ℕ → ℕ → Type 0
+  Has k n = (x : ℕ) × (x < k) × Present x × (lengthAt T out it x ≡ n)
+
+  -- the lengths of the items below k that are there, and no others
+  pub record Noted (k : ℕ) (l : Lengths) : Type 0 where
+    pub covers : (x : ℕ) → x < k → Present x → Among (it .size) l (lengthAt T out it x)
+    pub block-is : (l .block ≡ 0) ⊎ ((l .block ≡ it .size) × Has k (l .block))
+    pub pair-is : (l .pair ≡ 0) ⊎ ((l .pair ≡ it .size + it .size) × Has k (l .pair))
+    pub last-is : (l .last ≡ 0) ⊎ ((l .last < it .size) × Has k (l .last))
+    pub ending-is : (l .ending ≡ 0) ⊎ ((it .size < l .ending) × (l .ending < it .size + it .size) × Has k (l .ending))
+
+  -- every item in a chain has one of the lengths, and none is longer than the text
+  pub record Covers (W : List ℕ) (l : Lengths) : Type 0 where
+    pub one : (x : ℕ) → x < it .items → Listed T out it W x
+        → (lengthAt T out it x ≡ l .block) ⊎ ((lengthAt T out it x ≡ l .pair) ⊎ ((lengthAt T out it x ≡ l .last) ⊎ (lengthAt T out it x ≡ l .ending)))
+    pub block-in : l .block ≤ length T
+    pub pair-in : l .pair ≤ length T
+    pub last-in : l .last ≤ length T
+    pub ending-in : l .ending ≤ length T
+
+  -- all items are entered
+  pub record Asked (W : List ℕ) : Type 0 where
+    pub laid : Laid T out it (length W)
+    pub chained : Chained T out it W (it .items)
+    pub low : (x : ℕ) → x < it .items → 1 ≤ lengthAt T out it x
+
+  -- the window of n bytes was looked up at p, where it stands there
+  pub record Stepped (W Z : List ℕ) (n p : ℕ) : Type 0 where
+    pub searched : Searched T out it W Z
+    pub here : (x : ℕ) → x < it .items → Listed T out it W x → lengthAt T out it x ≡ n → Found T out it W x p → Found T out it Z x (p + 1)
+
+  -- the pass is over: every item in a chain has the place where it first stands
+  pub record Passed (W Z : List ℕ) : Type 0 where
+    pub searched : Searched T out it W Z
+    pub found : (x : ℕ) → x < it .items → Listed T out it W x → placeIn Z x ≡ leftmost T (startAt T out it x) (lengthAt T out it x)
+
+  -- what the table then says of the items that are there
+  pub record Answered (W : List ℕ) : Type 0 where
+    pub laid : Laid T out it (length W)
+    pub place : (x : ℕ) → x < it .items → Present x → placeOut (length T) W x ≡ leftmost T (startAt T out it x) (lengthAt T out it x)
+    pub twins : (x : ℕ) → x < it .items → Present x → length T ≤ placeIn W x → placeIn W x < length T + x
+    pub first : (x : ℕ) → x < it .items
+        → Present x → placeIn W x ≡ startAt T out it x → leftmost T (startAt T out it x) (lengthAt T out it x) ≡ startAt T out it x
+    pub again : (x : ℕ) → x < it .items
+        → Present x → (placeIn W x ≡ startAt T out it x → ⊥) → leftmost T (startAt T out it x) (lengthAt T out it x) ≡ startAt T out it x → ⊥
+
+  -- the windows looked up: for each length, one at every place
+  pub record Counted (r : ℕ) : Type 0 where
+    pub lengths : Lengths
+    pub noted : Noted (it .items) lengths
+    pub sum : r ≡ placesOf (length T)
+        (lengths .block) + placesOf (length T) (lengths .pair) + placesOf (length T) (lengths .last) + placesOf (length T) (lengths .ending)

@@ -1,0 +1,162 @@
+// The blocks and pairs of a level entered, in their order, with the lengths that they have.
+use crate::Lengths;
+use layout::place::BlockNumber;
+use scan_entries::Items;
+use scan_entries::entry;
+use scan_entries::item;
+ghost use mathlib.Core.Path.{_≡_};
+ghost use Prim.Native.Nat.{_+_, _-_, _*_, _%_, _^_, _≤_, _<_};
+ghost use lib.ListN.{length};
+ghost use Rattle.format.specs.Settings.{maxText};
+ghost use Rattle.scan_windows.specs.Prints.{print};
+ghost use Rattle.scan_entries.specs.Entries.{Laid, Placed, bytesAt};
+ghost use Rattle.scan_entries.specs.ItemsEntered.{Turn};
+ghost use Rattle.scan_passes.specs.Passes.{Ordered, Entrants, Noted, notedBy, Took, PairSays};
+
+// The fingerprints of a block and of the next one, and the power of the base that a full block gives.
+struct Prints {
+    own: u32,
+    next: u32,
+    top: u32,
+}
+
+// The lengths with one more; 0 is none.
+fn noted(l: Lengths, size: u32, n: u32) -> Lengths
+    requires { ⌜ size ≤ maxText ⌝ }
+    ensures { λ r. ⌜ r ≡ notedBy l size n ⌝ }
+{
+    if n == 0 {
+        return l;
+    }
+    if n < size {
+        return Lengths {
+            block: l.block,
+            pair: l.pair,
+            last: n,
+            ending: l.ending,
+        };
+    }
+    if n == size {
+        return Lengths {
+            block: n,
+            pair: l.pair,
+            last: l.last,
+            ending: l.ending,
+        };
+    }
+    if n == size + size {
+        return Lengths {
+            block: l.block,
+            pair: n,
+            last: l.last,
+            ending: l.ending,
+        };
+    }
+    Lengths {
+        block: l.block,
+        pair: l.pair,
+        last: l.last,
+        ending: n,
+    }
+}
+
+// The fingerprint of block i.
+fn block_print(text: &[u8], out: &[u8], it: Items, i: BlockNumber) -> u32
+    requires { ⌜ Placed (now text) (now out) it × (2 * i .0 < it .items) ⌝ }
+    ensures { λ r. ⌜ r ≡ print (bytesAt (now (text .entry)) (now (out .entry)) it (2 * i .0)) ⌝ }
+{
+    let own = item::run_of(text, out, it, 2 * i.0);
+    scan_windows::fingerprint_at(text, own.start, own.length)
+}
+
+// The power of the base that the second block of a pair of n bytes gives; `top` is that of a full block.
+fn pair_power(n: u32, size: u32, top: u32) -> u32
+    requires { ⌜ (size ≤ n) × (size ≤ maxText) × (top ≡ 1540483477 ^ size % 4294967296) ⌝ }
+    ensures { λ r. ⌜ r ≡ 1540483477 ^ (n - size) % 4294967296 ⌝ }
+{
+    if n == size + size {
+        return top;
+    }
+    scan_windows::power(n - size)
+}
+
+// Enters the pair of blocks i and i + 1, where they are one; its length, 0 where they are none.
+fn enter_pair(
+    words: &mut [u32],
+    text: &[u8],
+    out: &[u8],
+    it: Items,
+    i: BlockNumber,
+    both: Prints,
+) -> u32
+    requires { ⌜ Turn (now text) (now out) it (now words) (2 * i .0 + 1) × Ordered (now text) (now out) it × (2 * i .0 + 2 < it .items) ⌝ }
+    requires { ⌜ (both .own ≡ print (bytesAt (now text) (now out) it (2 * i .0))) × (both .next ≡ print (bytesAt (now text) (now out) it (2 * i .0 + 2)))
+        × (both .top ≡ 1540483477 ^ it .size % 4294967296) ⌝ }
+    ensures { λ _. ⌜ Took (now (text .entry)) (now (out .entry)) it (now (words .entry)) (now (words .exit)) (2 * i .0 + 1) ⌝ }
+    ensures { λ r. ⌜ PairSays (now (text .entry)) (now (out .entry)) it (2 * i .0 + 1) r ⌝ }
+{
+    let x = 2 * i.0 + 1;
+    let own = item::run_of(text, out, it, x);
+    let second = item::run_of(text, out, it, x + 1);
+    if second.start.0 != own.start.0 + it.size {
+        entry::skip(words, text, out, it, x);
+        return 0;
+    }
+    let power = pair_power(own.length, it.size, both.top);
+    entry::enter(
+        words,
+        text,
+        out,
+        it,
+        x,
+        scan_windows::join(both.own, power, both.next),
+    );
+    own.length
+}
+
+// Enters block i and the pair of blocks i and i + 1; the pair's length, 0 where there is none.
+fn enter_both(
+    words: &mut [u32],
+    text: &[u8],
+    out: &[u8],
+    it: Items,
+    i: BlockNumber,
+    both: Prints,
+) -> u32
+    requires { ⌜ Entrants (now text) (now out) it (now words) (2 * i .0) × Ordered (now text) (now out) it × (2 * i .0 + 2 < it .items) ⌝ }
+    requires { ⌜ (both .own ≡ print (bytesAt (now text) (now out) it (2 * i .0))) × (both .next ≡ print (bytesAt (now text) (now out) it (2 * i .0 + 2)))
+        × (both .top ≡ 1540483477 ^ it .size % 4294967296) ⌝ }
+    ensures { λ _. ⌜ Entrants (now (text .entry)) (now (out .entry)) it (now (words .exit)) (2 * i .0 + 2) ⌝ }
+    ensures { λ r. ⌜ PairSays (now (text .entry)) (now (out .entry)) it (2 * i .0 + 1) r ⌝ }
+{
+    entry::enter(words, text, out, it, 2 * i.0, both.own);
+    enter_pair(words, text, out, it, i, both)
+}
+
+// Enters all blocks and pairs of a level.
+pub fn enter_level(words: &mut [u32], text: &[u8], out: &[u8], it: Items) -> Lengths
+    requires { ⌜ Laid (now text) (now out) it (length (now words)) × Ordered (now text) (now out) it ⌝ }
+    ensures { λ r. ⌜ Entrants (now (text .entry)) (now (out .entry)) it (now (words .exit)) (it .items)
+        × Noted (now (text .entry)) (now (out .entry)) it (it .items) r ⌝ }
+{
+    entry::clear(words, 3 * it.items as usize, it.heads as usize);
+    let top = scan_windows::power(it.size);
+    let mut l = Lengths {
+        block: 0,
+        pair: 0,
+        last: 0,
+        ending: 0,
+    };
+    let mut h = block_print(text, out, it, BlockNumber(0));
+    let mut i: u32 = 0;
+    while 2 * i + 1 < it.items {
+        let next = block_print(text, out, it, BlockNumber(i + 1));
+        let both = Prints { own: h, next, top };
+        let n = enter_both(words, text, out, it, BlockNumber(i), both);
+        l = noted(noted(l, it.size, it.size), it.size, n);
+        h = next;
+        i += 1;
+    }
+    entry::enter(words, text, out, it, 2 * i, h);
+    noted(l, it.size, item::run_of(text, out, it, 2 * i).length)
+}

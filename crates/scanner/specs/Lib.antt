@@ -1,4 +1,0 @@
-pub mod Scanning
-pub mod Answers
-pub mod Tables
-pub mod ScanWorked

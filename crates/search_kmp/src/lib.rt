@@ -1,0 +1,58 @@
+// A pattern sought in bytes that come one at a time (Knuth, Morris, Pratt): the state is how many of the pattern's first bytes
+// are the last ones read, the longest that are. A byte is read once, and none is kept.
+ghost use mathlib.Core.Path.{_≡_};
+ghost use mathlib.Core.Bool.{_&&_};
+ghost use Prim.Native.Nat.{_+_, _≤_, _<_};
+ghost use lib.ListN.{length, getD};
+ghost use lib.Dec.{ltb, eqb};
+ghost use Rattle.search_kmp.specs.Borders.{Next, Borders};
+
+fn wide(byte: u8) -> usize
+    ensures { λ r. ⌜ (r ≡ byte) × (r < 256) ⌝ }
+{
+    byte as usize
+}
+
+// Whether a byte is the pattern's at k.
+fn fits(pattern: &[u8], k: usize, byte: u8) -> bool
+    ensures { λ r. ⌜ r ≡ (ltb k (length (now (pattern .entry))) && eqb (getD (now (pattern .entry)) k 0) byte) ⌝ }
+{
+    if k < pattern.len() {
+        return pattern[k] == byte;
+    }
+    false
+}
+
+// The state after one byte more. Number k - 1 of the borders belongs to the pattern's first k bytes.
+pub fn advance(pattern: &[u8], borders: &[u8], state: usize, byte: u8) -> usize
+    requires { ⌜ (state ≤ length (now pattern)) × (length (now pattern) ≤ length (now borders)) × Borders (now pattern) (now borders) state ⌝ }
+    ensures { λ r. ⌜ (r ≤ length (now (pattern .entry))) × (r ≤ state + 1) × Next (now (pattern .entry)) state byte r ⌝ }
+{
+    let mut k = state;
+    while 0 < k {
+        if fits(pattern, k, byte) {
+            return k + 1;
+        }
+        k = wide(borders[k - 1]);
+    }
+    if fits(pattern, 0, byte) {
+        return 1;
+    }
+    0
+}
+
+// Fills in the borders of a pattern: for its first k bytes, how many of its first bytes are also the last of these, the
+// longest that are not all of them.
+pub fn prepare(pattern: &[u8], borders: &mut [u8])
+    requires { ⌜ (1 ≤ length (now pattern)) × (length (now pattern) ≤ 256) × (length (now pattern) ≤ length (now borders)) ⌝ }
+    ensures { λ _. ⌜ Borders (now (pattern .entry)) (now (borders .exit)) (length (now (pattern .entry))) ⌝ }
+{
+    borders[0] = 0;
+    let mut k: usize = 0;
+    let mut i: usize = 1;
+    while i < pattern.len() {
+        k = advance(pattern, borders, k, pattern[i]);
+        borders[i] = k as u8;
+        i += 1;
+    }
+}

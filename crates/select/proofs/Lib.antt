@@ -1,4 +1,0 @@
-pub mod SeekLaws
-pub mod LandLaws
-pub mod FindingLaws
-pub mod FoundLaws

@@ -1,0 +1,57 @@
+-- Which trees the check accepts, which text they stand for, and that the built tree is one of them.
+use mathlib.Core.List.{List}
+use mathlib.Core.Bool.{true}
+use mathlib.Core.Path.{_≡_, sym}
+use mathlib.Core.Logic.{_↔_}
+use Prim.Native.Nat.{ℕ}
+use Rattle.format.specs.Settings.{Settings}
+use Rattle.format.specs.Blocks.{treeOf}
+use Rattle.format.specs.Fits.{linksOk, textOf, fits, countsTrue, edgesTrue}
+use Rattle.format.specs.Verdict.{readable, verdict}
+use Rattle.format.specs.VerdictLaws as verdicts
+use Rattle.theory_paths.specs.Demands as paths
+use Rattle.theory_built.specs.BlockSizes.{Taken}
+use Rattle.theory_built.specs.Built.{built, built-accepted}
+
+-- Questions 5 to 8 hold of t, T fits it, and its counts and, in layout 2, its edges are true of T.
+pub record StandsFor (t T : List ℕ) : Type 0 where
+  pub readable-is : readable t ≡ 0
+  pub linked : linksOk t ≡ true
+  pub fitting : fits T t ≡ true
+  pub counted : countsTrue T t ≡ true
+  pub edged : edgesTrue T t ≡ true
+
+module _ (t : List ℕ) where
+  -- An accepted tree stands for the text that its paths give, ..
+  pub accepted-stands : verdict t ≡ 0 → StandsFor t (textOf t)
+  accepted-stands v = record {
+    readable-is = verdicts.accepted-readable t v;
+    linked = verdicts.accepted-links t v;
+    fitting = paths.text-fits t (verdicts.accepted-readable t v) (verdicts.accepted-links t v);
+    counted = verdicts.accepted-counts t v;
+    edged = verdicts.accepted-edges t v;
+  }
+
+  -- .. and for no other: exactly one text fits a tree that passes questions 5 to 8.
+  pub one-text : readable t ≡ 0 → linksOk t ≡ true → (T : List ℕ) → fits T t ≡ true → T ≡ textOf t
+  one-text = paths.only-text t
+
+  -- A tree that stands for some text is accepted.
+  pub stands-accepted : (T : List ℕ) → StandsFor t T → verdict t ≡ 0
+  stands-accepted T s =
+      let e : T ≡ textOf t = one-text (s .readable-is) (s .linked) T (s .fitting) in
+      verdicts.accepted t (s .readable-is) (s .linked) (rw e at (s .counted)) (rw e at (s .edged))
+
+  -- So the check accepts bytes exactly when questions 5 to 8 hold, a text fits, and the counts and the edges are true of it.
+  pub accepts : (verdict t ≡ 0) ↔ ((T : List ℕ) × StandsFor t T)
+  accepts = (λ v. (textOf t, accepted-stands v), λ s. stands-accepted (s .0) (s .1))
+
+-- For every text and all settings that questions 1 to 3 let through:
+module _ (S : Settings) (T : List ℕ) (h : Taken S T) where
+  -- the one text that fits the built tree is the input,
+  pub built-text : textOf (treeOf S T) ≡ T
+  built-text = let b = built S T h in sym (one-text (treeOf S T) (b .read) (b .linked) T (b .fitting))
+
+  -- and the check accepts it.
+  pub built-verdict : verdict (treeOf S T) ≡ 0
+  built-verdict = built-accepted S T h built-text

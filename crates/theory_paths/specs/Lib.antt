@@ -1,0 +1,12 @@
+pub mod Links
+pub mod BlockStarts
+pub mod PlacesLand
+pub mod Visits
+pub mod Shift
+pub mod PathWalk
+pub mod Reach
+pub mod FitsFacts
+pub mod OneText
+pub mod Reads
+pub mod Demands
+pub mod PlaceBytes

@@ -1,0 +1,196 @@
+use mathlib.Core.List.{List}
+use mathlib.Core.Path.{sym, ap, _∙_}
+use Prim.Native.Nat.{ℕ, _+_, _-_, _*_, _/_, _<_}
+use native.Mathlib.Omega.{arith}
+use borrow.Author.Needs.{needs}
+use borrow.Fn.Kinds.{In}
+use borrow.Fn.PlainCycle.{Measures, is, falls, and}
+use Rattle.walk_path.proofs.kept_step.Reads as kept-step
+use Rattle.walk_path.proofs.kept_step.Kinds as kept-step-kinds
+use Rattle.walk_path.proofs.+kept_step+pointing_step.Lts-kept_step as kept-step-lts
+use Rattle.walk_path.proofs.pointing_step.Reads as pointing-step
+use Rattle.walk_path.proofs.pointing_step.Kinds as pointing-step-kinds
+use Rattle.walk_path.proofs.+kept_step+pointing_step.Lts-pointing_step as pointing-step-lts
+use Rattle.walk_steps.proofs.child.Reads as child-reads
+use Rattle.walk_steps.proofs.fields.shape_of.Reads as shape-of-reads
+use Rattle.walk_steps.proofs.fields.whole.Reads as whole-reads
+use Rattle.walk_steps.proofs.land.Reads as land-reads
+use Rattle.walk_steps.proofs.look.Reads as look-reads
+use Rattle.walk_steps.proofs.quotient.Reads as quotient-reads
+use Rattle.walk_path.proofs.Trail.enter.Reads as enter-reads
+use Rattle.walk_path.proofs.leaf.Reads as leaf-reads
+use Rattle.format.specs.Layout as at
+use Rattle.walk_steps.proofs.StepLaws.{shapes-on}
+use Rattle.walk_path.proofs.WalkLaws as laws
+use Rattle.walk_path.proofs.+kept_step+pointing_step.{statement}
+use Rattle.walk_path.proofs.+kept_step+pointing_step.Tie.{close}
+
+abbrev μ-kept-step : Measures 1 kept-step-kinds.ps ℕ
+μ-kept-step κs a = 2 * (at.settings (a .0 .now) .levels - 1 - a .1 .1 .0 .level)
+
+abbrev μ-pointing-step : Measures 1 pointing-step-kinds.ps ℕ
+μ-pointing-step κs a = 2 * (at.settings (a .0 .now) .levels - 1 - a .1 .1 .0 .level) + 1
+
+abbrev kept-step-at : ℕ → In 1 kept-step-kinds.ps
+kept-step-at t = and 1 kept-step-kinds.ps (is 1 kept-step-kinds.ps μ-kept-step t) kept-step.Pre
+
+abbrev kept-step-below : ℕ → In 1 kept-step-kinds.ps
+kept-step-below t =
+    and 1 kept-step-kinds.ps (falls 1 kept-step-kinds.ps _<_ μ-kept-step t) kept-step.Pre
+
+abbrev pointing-step-at : ℕ → In 1 pointing-step-kinds.ps
+pointing-step-at t =
+    and 1 pointing-step-kinds.ps (is 1 pointing-step-kinds.ps μ-pointing-step t) pointing-step.Pre
+
+abbrev pointing-step-below : ℕ → In 1 pointing-step-kinds.ps
+pointing-step-below t =
+    and
+    1
+    pointing-step-kinds.ps
+    (falls 1 pointing-step-kinds.ps _<_ μ-pointing-step t)
+    pointing-step.Pre
+
+abbrev levels : List ℕ → ℕ
+levels t = at.settings t .levels
+
+pub +kept-step+pointing-step-spec : {M : Type 1} → statement M
++kept-step+pointing-step-spec =
+    close μ-kept-step μ-pointing-step
+    (λ t. kept-step-lts.spec (
+      whole-reads.Asked,
+      whole-reads.Learnt,
+      shape-of-reads.Asked,
+      shape-of-reads.Learnt,
+      leaf-reads.Asked,
+      leaf-reads.Learnt,
+      quotient-reads.Asked,
+      quotient-reads.Learnt,
+      enter-reads.Asked,
+      enter-reads.Learnt,
+      child-reads.Asked,
+      child-reads.Learnt,
+      pointing-step-below t,
+      pointing-step.Post,
+    )
+    (kept-step-at t)
+    kept-step.Post
+    (λ c κs. search needs)
+    (λ c κs. rw (c .whole .ensures) (c .before .before .pre .1 .on .facts .long))
+    (λ c. let k = c .before .before .before .before .pre .1 in record { fits = omega (arith, k .on .level-in, k .on .facts .bounds .levels-high) })
+    (λ c κs. let w = c .before .before .before .before in rw (w .whole .ensures) (w .before .before .pre .1))
+    (λ c.
+    let s = c .before .before .before .before in
+    let w = s .before in
+    laws.kept-last _ _ _ _ _ _ _ (w .before .before .pre .1) _
+    (c .before .if1 .taken ∙ shapes-on _ _ _ (w .whole .ensures) (s .shape-of .ensures) .levels-is) (rw (w .whole .ensures) at (c .leaf .ensures)))
+    (λ c κs.
+    let s = c .before .before .before in
+    let w = s .before in
+    omega (arith, shapes-on _ _ _ (w .whole .ensures) (s .shape-of .ensures) .arity-is, w .before .before .pre .1 .on .facts .bounds .arity-low))
+    (λ c κs. let k = c .before .before .before .before .before .before .before .pre .1 in (laws.entered-fits _ _ _ _ _ _ _ k, k .place-in))
+    (λ c κs.
+    let e = c .before .before in
+    let s = e .before .before .before in
+    let w = s .before in
+    let x = shapes-on _ _ _ (w .whole .ensures) (s .shape-of .ensures) in
+    rw (w .whole .ensures) (laws.asks-child _ _ _ _ _ _ _ (w .before .before .pre .1) (λ last. e .if1 .left (last ∙ sym (x .levels-is)))
+    _ (c .before .quotient .ensures ∙ ap (λ (y : ℕ). e .before .before .before .before .before .before .args .on .b / y) (x .arity-is))))
+    (λ c. search needs)
+    (λ c. search needs)
+    (λ c.
+    let m = c .before .before in
+    let e = m .before .before .before in
+    let s = e .before .before .before in
+    let w = s .before in
+    let S = w .before .before in
+    let x = shapes-on _ _ _ (w .whole .ensures) (s .shape-of .ensures) in
+    sym laws.broken-word ∙ laws.child-none _ _ _ _ _ _ _ (S .pre .1)
+    (λ last. e .if1 .left (last ∙ sym (x .levels-is))) _ (m .before .before .quotient .ensures ∙ ap (λ (y : ℕ). S .args .on .b / y) (x .arity-is))
+    _ (m .before .enter .ensures) _ (rw (w .whole .ensures) at (m .child .ensures)) (c .enum-told .given .1))
+    (λ c κs.
+    let m = c .before .before .before in
+    let e = m .before .before .before in
+    let s = e .before .before .before in
+    let w = s .before in
+    let S = w .before .before in
+    let x = shapes-on _ _ _ (w .whole .ensures) (s .shape-of .ensures) in (
+      omega (arith, S .pre .0, ap levels (w .whole .ensures), S .pre .1 .on .level-in, x .levels-is, e .if1 .left),
+      rw (w .whole .ensures) (laws.child-may _ _ _ _ _ _ _ (S .pre .1)
+          (λ last. e .if1 .left (last ∙ sym (x .levels-is))) _ (m .before .before .quotient .ensures ∙ ap (λ (y : ℕ). S .args .on .b / y) (x .arity-is))
+          _ (m .before .enter .ensures) _ (rw (w .whole .ensures) at (m .child .ensures)) _ _ (c .before .child2 .given .1)),
+    ))
+    (λ c.
+    let m = c .before .before .before .before in
+    let e = m .before .before .before in
+    let s = e .before .before .before in
+    let w = s .before in
+    let S = w .before .before in
+    let x = shapes-on _ _ _ (w .whole .ensures) (s .shape-of .ensures) in
+    laws.child-by _ _ _ _ _ _ _ (S .pre .1) (λ last. e .if1 .left (last ∙ sym (x .levels-is))) _ (m .before .before .quotient .ensures
+    ∙ ap (λ (y : ℕ). S .args .on .b / y) (x .arity-is)) _ (m .before .enter .ensures) _ (rw (w .whole .ensures) at (m .child .ensures))
+    _ _ _ (c .before .before .child2 .given .1) (rw (w .whole .ensures) at (c .pointing-step .ensures))))
+    (λ t. pointing-step-lts.spec (
+      whole-reads.Asked,
+      whole-reads.Learnt,
+      look-reads.Asked,
+      look-reads.Learnt,
+      kept-step-below t,
+      kept-step.Post,
+      enter-reads.Asked,
+      enter-reads.Learnt,
+      land-reads.Asked,
+      land-reads.Learnt,
+    )
+    (pointing-step-at t)
+    pointing-step.Post
+    (λ c κs. search needs)
+    (λ c κs. let k = c .before .before .pre .1 in rw (c .whole .ensures) (record { on = k .on; block-in = k .block-in }))
+    (λ c. search needs)
+    (λ c κs.
+    let m = c .before .before in
+    let w = m .before in
+    let S = w .before .before in (
+      omega (arith, S .pre .0, ap levels (w .whole .ensures)),
+      rw (w .whole .ensures) (laws.may-keep _ _ _ _ _ _ _ (S .pre .1) _ (rw (w .whole .ensures) at (m .look .ensures)) _ _ (c .enum-told .given .1)),
+    ))
+    (λ c. search needs)
+    (λ c κs. let S = c .before .before .before .before .before in (laws.may-enter _ _ _ _ _ _ _ (S .pre .1), S .pre .1 .place-in))
+    (λ c κs.
+    let m = c .before .before .before in
+    let w = m .before in
+    let S = w .before .before in
+    rw (w .whole .ensures) (laws.may-point _ _ _ _ _ _ _ (S .pre .1) _ (rw (w .whole .ensures) at (m .look .ensures)) _ _ (c .before .enum-told2 .given .1)))
+    (λ c. search needs)
+    (λ c. search needs)
+    (λ c.
+    let l = c .before .before in
+    let m = l .before .before .before .before in
+    let w = m .before in
+    let S = w .before .before in
+    sym laws.broken-word ∙ laws.land-none _ _ _ _ _ _ _ (S .pre .1) _ (rw (w .whole .ensures) at (m .look .ensures))
+    _ _ (l .before .before .enum-told2 .given .1) _ (rw (w .whole .ensures) at (l .land .ensures)) (c .enum-told3 .given .1))
+    (λ c κs.
+    let l = c .before .before .before in
+    let m = l .before .before .before .before in
+    let w = m .before in
+    let S = w .before .before in (
+      omega (arith, S .pre .0, ap levels (w .whole .ensures)),
+      rw (w .whole .ensures)
+          (laws.land-to _ _ _ _ _ _ _ (S .pre .1) _ (rw (w .whole .ensures) at (m .look .ensures)) _ _ (l .before .before .enum-told2 .given .1)
+          _ (rw (w .whole .ensures) at (l .land .ensures)) _ (l .before .enter .ensures) _ _ (c .before .there .given .1)),
+    ))
+    (λ c. search needs)
+    (λ c. let w = c .before .before .before .before in rw (w .whole .ensures) at (c .kept-step .ensures))
+    (λ c.
+    let l = c .before .before .before .before in
+    let m = l .before .before .before .before in
+    let w = m .before in
+    let S = w .before .before in
+    laws.land-by _ _ _ _ _ _ _ (S .pre .1)
+    _ (rw (w .whole .ensures) at (m .look .ensures)) _ _ (l .before .before .enum-told2 .given .1) _ (rw (w .whole .ensures) at (l .land .ensures))
+    _ (l .before .enter .ensures) _ _ (c .before .before .there .given .1) _ (rw (w .whole .ensures) at (c .kept-step2 .ensures)))
+    (λ c.
+    let m = c .before .before in
+    let w = m .before in
+    let S = w .before .before in
+    sym laws.broken-word ∙ laws.may-off _ _ _ _ _ _ _ (S .pre .1) _ (rw (w .whole .ensures) at (m .look .ensures)) (c .enum-told4 .given .1)))

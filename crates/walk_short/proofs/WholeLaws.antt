@@ -1,0 +1,311 @@
+-- The whole walk of a short span: each case of a level, and the levels below.
+use mathlib.Core.List.{List, [], _∷_}
+use mathlib.Core.Option.{Option, none, some}
+use mathlib.Core.Bool.{true, false}
+use mathlib.Core.Path.{_≡_, refl, sym, ap, _∙_}
+use mathlib.Core.Logic.{_⊎_, inl, inr}
+use Prim.Native.Nat.{ℕ, suc, _+_, _-_, _*_, _/_, _%_, _≤_, _<_}
+use native.Mathlib.Omega.{arith}
+use native.Mathlib.Nat.{mod-lt, add-zero}
+use borrow.Author.Tests.{le-leb, lt-leb}
+use lib.ListN.{length}
+use Rattle.text.specs.ListLaws.{lt-or-ge, bool-cases}
+use Rattle.format.specs.Settings.{maxText, maxLeaf, maxLevels}
+use Rattle.format.specs.Layout as at
+use Rattle.format.specs.Path.{Visit, visit, keptBlock, pointingBlock, targetBlock, targetPlace}
+use Rattle.format.specs.LayoutLaws.{Readable, full-pos}
+use Rattle.format.specs.Short.{Short, led, byEdges, inLeaf, shortFrom, shortOf}
+use Rattle.theory_edges.specs.SpanSteps as margins
+use Rattle.theory_edges.specs.SpanPlaces as places
+use Rattle.theory_paths.specs.Shift.{target-small}
+use Rattle.layout.specs.declared.header.Header.{Header}
+use Rattle.layout.specs.declared.place.BlockNumber.{BlockNumber}
+use Rattle.layout.specs.declared.place.BlockPlace.{BlockPlace}
+use Rattle.layout.specs.HeaderSays.{HeaderOf}
+use Rattle.walk_steps.specs.QuestionStands.{OnLevel}
+use Rattle.walk_steps.proofs.QuestionStandsLaws.{b-small}
+use Rattle.walk_steps.proofs.QuestionStandsLaws.{level-below, on-top}
+use Rattle.walk_short.specs.declared.gather.Parts.{Parts}
+use Rattle.walk_short.specs.declared.gather.Gathered.{Gathered}
+use Rattle.walk_short.specs.declared.gather.Gathered.the-variants.{At, Broken}
+use Rattle.walk_short.specs.declared.gather.Land.{Land}
+use Rattle.walk_short.specs.declared.gather.Land.the-variants as land
+use Rattle.walk_short.specs.Gathered.{gathered, downTo, pointedTo, landing, Crossing, Walking, Within}
+use Rattle.walk_short.proofs.GatherLaws.{gathered-led, child-pos}
+
+gathered-none : (n : ℕ) → Broken ≡ gathered n none
+unfolding gathered
+gathered-none n = refl
+
+module _ (t : List ℕ) (h : Header) (level b i o len entered : ℕ) (w : Walking t h level b o len entered) where
+  abbrev H : ℕ
+  H = at.settings t .levels
+
+  facts : Readable t
+  facts = w .on .header .facts
+
+  -- the walk from here
+  abbrev Whole : Gathered → Type 0
+  Whole r = r ≡ gathered entered (shortFrom t (H - 1 - level) level i o len)
+
+  pub sum-few : o + len ≤ maxText + maxLeaf
+  sum-few = omega (arith, w .place-in, w .short, w .on .header .leaf-is, facts .bounds .leaf-high, b-small t h level b (w .on))
+
+  pub entered-few : entered ≤ 2 * maxLevels - 2
+  entered-few = omega (arith, w .few, w .on .level-in, facts .bounds .levels-high)
+
+  pub over-asks : b < o + len → Crossing t h level b o entered
+  over-asks past = record { on = w .on; place-in = w .place-in; near = omega (arith, w .short); few = omega (arith, w .few) }
+
+  pub over-by : b < o + len → (r : Gathered) → r ≡ gathered entered (byEdges t level i o) → Whole r
+  over-by past r e = e ∙ ap (gathered entered) (sym (margins.over t (H - 1 - level) level i o len (omega (arith, w .on .b-is))))
+
+  -- the span lies in the block
+  module _ (fits : o + len ≤ b) where
+    fits-full : o + len ≤ at.fullLength t level
+    fits-full = omega (arith, w .on .b-is)
+
+    pub last-by : level + 1 ≡ h .settings .levels → (r : Gathered) → r ≡ gathered entered (inLeaf t level i o len) → Whole r
+    last-by last r e =
+        let z : H - 1 - level ≡ 0 = omega (arith, w .on .header .levels-is) in
+        e ∙ rw (z, margins.last-is t level i o len fits-full)
+
+    module _ (more : level + 1 ≡ h .settings .levels → ⊥) where
+      below : ℕ
+      below = H - 1 - (level + 1)
+
+      left : H - 1 - level ≡ suc below
+      unfolding below
+      left = omega (arith, w .on .header .levels-is, w .on .level-in, more)
+
+      abbrev c : ℕ
+      c = at.fullLength t (level + 1)
+
+      pub c-is : (x : ℕ) → x ≡ b / h .settings .arity → x ≡ at.fullLength t (level + 1)
+      c-is x e = e ∙ level-below t h level b (w .on) more .b-is
+
+      -- the cases of a level
+      record Inside (j p n : ℕ) : Type 0 where
+        land-is : landing t level i o len ≡ downTo t level c j p n
+        few : n ≤ 2
+        walk-is : (vs : List Visit)
+            × (length vs ≡ n) × (shortFrom t (suc below) level i o len ≡ led vs (shortFrom t below (level + 1) (at.link t level j + p / c) (p % c) len))
+
+      record Between (j p : ℕ) : Type 0 where
+        land-is : landing t level i o len ≡ land.Over (record { 0 = j }) (record { 0 = p })
+        place-in : p < b
+        past : b < p + len
+        walk-is : shortFrom t (suc below) level i o len ≡ led (visit level i o ∷ []) (byEdges t level j p)
+
+      record Off : Type 0 where
+        land-is : landing t level i o len ≡ land.Off
+        walk-is : shortFrom t (suc below) level i o len ≡ none
+
+      Cases : Type 0
+      Cases = ((j : ℕ) × (p : ℕ) × (n : ℕ) × Inside j p n) ⊎ (((j : ℕ) × (p : ℕ) × Between j p) ⊎ Off)
+
+      abbrev j : ℕ
+      j = targetBlock t level i o
+
+      abbrev p : ℕ
+      p = targetPlace t level i o
+
+      kept-case : keptBlock t level i ≡ true → Inside i o 1
+      unfolding landing
+      kept-case kept = record {
+        land-is = rw kept;
+        few = omega arith;
+        walk-is = (visit level i o ∷ [], refl, margins.kept-step t level i o len fits-full below kept);
+      }
+
+      target-case : keptBlock t level i ≡ false → pointingBlock t level i ≡ true → p + len ≤ at.fullLength t level → keptBlock t level j ≡ true → Inside j p 2
+      unfolding landing pointedTo
+      target-case un pt inside kept = record {
+        land-is = rw (un, pt, le-leb (p + len) (at.fullLength t level) inside, kept);
+        few = omega arith;
+        walk-is = (visit level i o ∷ visit level j p ∷ [], refl, margins.points-step t level i o len fits-full below un pt kept inside);
+      }
+
+      off-case : keptBlock t level i ≡ false → pointingBlock t level i ≡ true → p + len ≤ at.fullLength t level → keptBlock t level j ≡ false → Off
+      unfolding landing pointedTo
+      off-case un pt inside kept = record {
+        land-is = rw (un, pt, le-leb (p + len) (at.fullLength t level) inside, kept);
+        walk-is = margins.off-target t level i o len fits-full below un pt kept inside;
+      }
+
+      none-case : keptBlock t level i ≡ false → pointingBlock t level i ≡ false → Off
+      unfolding landing
+      none-case un pt = record { land-is = rw (un, pt); walk-is = margins.off-step t level i o len fits-full below un pt }
+
+      between-case : keptBlock t level i ≡ false → pointingBlock t level i ≡ true → at.fullLength t level < p + len → Between j p
+      unfolding landing pointedTo
+      between-case un pt past = record {
+        land-is = rw (un, pt, lt-leb (p + len) (at.fullLength t level) past);
+        place-in = rw (w .on .b-is) (target-small t level i o pt (omega (arith, w .place-in, w .on .b-is)));
+        past = omega (arith, w .on .b-is);
+        walk-is = margins.between-step t level i o len fits-full below un pt past;
+      }
+
+      cases : Cases
+      unfolding Cases
+      cases = go (bool-cases (keptBlock t level i))
+          (bool-cases (pointingBlock t level i)) (lt-or-ge (at.fullLength t level) (p + len)) (bool-cases (keptBlock t level j))
+        where
+          go : (keptBlock t level i ≡ true) ⊎ (keptBlock t level i ≡ false) → (pointingBlock t level i ≡ true) ⊎ (pointingBlock t level i ≡ false)
+              → (at.fullLength t level < p + len) ⊎ (p + len ≤ at.fullLength t level) → (keptBlock t level j ≡ true) ⊎ (keptBlock t level j ≡ false)
+              → ((j : ℕ) × (p : ℕ) × (n : ℕ) × Inside j p n) ⊎ (((j : ℕ) × (p : ℕ) × Between j p) ⊎ Off)
+          go (inl kept) y z v = inl (i, o, 1, kept-case kept)
+          go (inr un) (inr pt) z v = inr (inr (none-case un pt))
+          go (inr un) (inl pt) (inl past) v = inr (inl (j, p, between-case un pt past))
+          go (inr un) (inl pt) (inr inside) (inl kept) = inl (j, p, 2, target-case un pt inside kept)
+          go (inr un) (inl pt) (inr inside) (inr off) = inr (inr (off-case un pt inside off))
+
+      -- what the walk does with where it lands
+      module _ (x : Land) (x-is : x ≡ landing t level i o len) where
+        clash : {A : Type 0} → _≡_ {A = ℕ} 0 1 → A
+        clash e = absurd (let z : ⊥ = omega arith in z)
+
+        pub down-asks : (f : BlockNumber) (s : ℕ) (q : BlockPlace) (n : ℕ)
+            → x ≡ land.Down f s q n → Walking t h (level + 1) (b / h .settings .arity) (q .0) len (entered + n)
+        unfolding Cases downTo
+        down-asks f s q n e = go cases
+          where
+            on : OnLevel t h (level + 1) (b / h .settings .arity)
+            on = level-below t h level b (w .on) more
+
+            go : ((j : ℕ) × (p : ℕ) × (n : ℕ) × Inside j p n)
+                ⊎ (((j : ℕ) × (p : ℕ) × Between j p) ⊎ Off) → Walking t h (level + 1) (b / h .settings .arity) (q .0) len (entered + n)
+            go (inl (j, p, k, v)) =
+                let same : land.Down f s q n ≡ land.Down (record { 0 = at.link t level j }) (p / c) (record { 0 = p % c }) k = sym e ∙ x-is ∙ v .land-is in
+                let place : q .0 ≡ p % c = ap (λ (y : BlockPlace). y .0) (let z : q ≡ record { 0 = p % c } = cc in z) in
+                let number : n ≡ k = cc in record {
+                  on = on;
+                  place-in = rw (place, on .b-is) (mod-lt p (child-pos t h level b (w .on)));
+                  short = w .short;
+                  few = omega (arith, w .few, v .few);
+                }
+            go (inr (inl (j, p, v))) =
+                let same : land.Down f s q n ≡ land.Over (record { 0 = j }) (record { 0 = p }) = sym e ∙ x-is ∙ v .land-is in
+                clash (let z : _≡_ {A = ℕ} 0 1 = cc in z)
+            go (inr (inr v)) =
+                let same : land.Down f s q n ≡ land.Off = sym e ∙ x-is ∙ v .land-is in
+                clash (let z : _≡_ {A = ℕ} 0 1 = cc in z)
+
+        pub down-by : (f : BlockNumber) (s : ℕ) (q : BlockPlace) (n : ℕ) → x ≡ land.Down f s q n → (r : Gathered)
+            → r ≡ gathered (entered + n) (shortFrom t (H - 1 - (level + 1)) (level + 1) (f .0 + s) (q .0) len) → Whole r
+        unfolding Cases downTo below
+        down-by f s q n e r r-is = go cases
+          where
+            go : ((j : ℕ) × (p : ℕ) × (n : ℕ) × Inside j p n) ⊎ (((j : ℕ) × (p : ℕ) × Between j p) ⊎ Off) → Whole r
+            go (inl (j, p, k, v)) =
+                let same : land.Down f s q n ≡ land.Down (record { 0 = at.link t level j }) (p / c) (record { 0 = p % c }) k = sym e ∙ x-is ∙ v .land-is in
+                let place : q .0 ≡ p % c = ap (λ (y : BlockPlace). y .0) (let z : q ≡ record { 0 = p % c } = cc in z) in
+                let first : f .0 ≡ at.link t level j = ap (λ (y : BlockNumber). y .0) (let z : f ≡ record { 0 = at.link t level j } = cc in z) in
+                let steps : s ≡ p / c = cc in
+                let number : n ≡ k = cc in
+                let u = v .walk-is in
+                r-is ∙ rw (place, first, steps, number)
+                (gathered-led (u .0) entered k (shortFrom t (H - 1 - (level + 1)) (level + 1) (at.link t level j + p / c) (p % c) len) (u .1))
+                ∙ ap (gathered entered) (sym (u .2)) ∙ rw left
+            go (inr (inl (j, p, v))) =
+                let same : land.Down f s q n ≡ land.Over (record { 0 = j }) (record { 0 = p }) = sym e ∙ x-is ∙ v .land-is in
+                clash (let z : _≡_ {A = ℕ} 0 1 = cc in z)
+            go (inr (inr v)) =
+                let same : land.Down f s q n ≡ land.Off = sym e ∙ x-is ∙ v .land-is in
+                clash (let z : _≡_ {A = ℕ} 0 1 = cc in z)
+
+        over-case : (f : BlockNumber) (q : BlockPlace) → x ≡ land.Over f q → Between (f .0) (q .0)
+        unfolding Cases downTo
+        over-case f q e = go cases
+          where
+            go : ((j : ℕ) × (p : ℕ) × (n : ℕ) × Inside j p n) ⊎ (((j : ℕ) × (p : ℕ) × Between j p) ⊎ Off) → Between (f .0) (q .0)
+            go (inl (j, p, k, v)) =
+                let same : land.Over f q ≡ land.Down (record { 0 = at.link t level j }) (p / c) (record { 0 = p % c }) k = sym e ∙ x-is ∙ v .land-is in
+                clash (let z : _≡_ {A = ℕ} 0 1 = cc in z)
+            go (inr (inl (j, p, v))) =
+                let same : land.Over f q ≡ land.Over (record { 0 = j }) (record { 0 = p }) = sym e ∙ x-is ∙ v .land-is in
+                let first : f .0 ≡ j = ap (λ (y : BlockNumber). y .0) (let z : f ≡ record { 0 = j } = cc in z) in
+                let place : q .0 ≡ p = ap (λ (y : BlockPlace). y .0) (let z : q ≡ record { 0 = p } = cc in z) in
+                rw (first, place) v
+            go (inr (inr v)) =
+                let same : land.Over f q ≡ land.Off = sym e ∙ x-is ∙ v .land-is in
+                clash (let z : _≡_ {A = ℕ} 0 1 = cc in z)
+
+        pub between-asks : (f : BlockNumber) (q : BlockPlace) → x ≡ land.Over f q → Crossing t h level b (q .0) (entered + 1)
+        between-asks f q e =
+            let v = over-case f q e in
+            record { on = w .on; place-in = v .place-in; near = omega (arith, v .past, w .short); few = omega (arith, w .few) }
+
+        pub between-by : (f : BlockNumber) (q : BlockPlace)
+            → x ≡ land.Over f q → (r : Gathered) → r ≡ gathered (entered + 1) (byEdges t level (f .0 + 0) (q .0)) → Whole r
+        between-by f q e r r-is =
+            let v = over-case f q e in
+            r-is ∙ rw (add-zero (f .0)) (gathered-led (visit level i o ∷ []) entered 1 (byEdges t level (f .0) (q .0)) refl)
+            ∙ ap (gathered entered) (sym (v .walk-is)) ∙ rw left
+
+        pub off-by : x ≡ land.Off → Whole Broken
+        unfolding Cases downTo
+        off-by e = go cases
+          where
+            go : ((j : ℕ) × (p : ℕ) × (n : ℕ) × Inside j p n) ⊎ (((j : ℕ) × (p : ℕ) × Between j p) ⊎ Off) → Whole Broken
+            go (inl (j, p, k, v)) =
+                let same : land.Off ≡ land.Down (record { 0 = at.link t level j }) (p / c) (record { 0 = p % c }) k = sym e ∙ x-is ∙ v .land-is in
+                clash (let z : _≡_ {A = ℕ} 0 1 = cc in z)
+            go (inr (inl (j, p, v))) =
+                let same : land.Off ≡ land.Over (record { 0 = j }) (record { 0 = p }) = sym e ∙ x-is ∙ v .land-is in
+                clash (let z : _≡_ {A = ℕ} 0 1 = cc in z)
+            go (inr (inr v)) = gathered-none entered ∙ ap (gathered entered) (sym (v .walk-is)) ∙ rw left
+
+        -- with so few blocks entered
+        pub down-few : (f : BlockNumber) (s : ℕ) (q : BlockPlace) (n : ℕ) → x ≡ land.Down f s q n → n ≤ 2
+        unfolding Cases downTo
+        down-few f s q n e = go cases
+          where
+            go : ((j : ℕ) × (p : ℕ) × (n : ℕ) × Inside j p n) ⊎ (((j : ℕ) × (p : ℕ) × Between j p) ⊎ Off) → n ≤ 2
+            go (inl (j, p, k, v)) =
+                let same : land.Down f s q n ≡ land.Down (record { 0 = at.link t level j }) (p / c) (record { 0 = p % c }) k = sym e ∙ x-is ∙ v .land-is in
+                let number : n ≡ k = cc in omega (arith, v .few)
+            go (inr (inl (j, p, v))) =
+                let same : land.Down f s q n ≡ land.Over (record { 0 = j }) (record { 0 = p }) = sym e ∙ x-is ∙ v .land-is in
+                clash (let z : _≡_ {A = ℕ} 0 1 = cc in z)
+            go (inr (inr v)) =
+                let same : land.Down f s q n ≡ land.Off = sym e ∙ x-is ∙ v .land-is in
+                clash (let z : _≡_ {A = ℕ} 0 1 = cc in z)
+
+-- From a place of the text, and from a block.
+module _ (t : List ℕ) (h : Header) (k : HeaderOf t h) where
+  pub top-pos : 0 < h .«top_length»
+  top-pos = rw (k .block-is) (full-pos t (k .facts) 0)
+
+  pub top-asks : (p len : ℕ) → len ≤ h .settings .leaf → Walking t h 0 (h .«top_length») (p % h .«top_length») len 0
+  top-asks p len short = record { on = on-top t h k; place-in = mod-lt p top-pos; short = short; few = omega arith }
+
+  -- what was found stands in the tree
+  pub within-tree : at.layout t ≡ 2
+      → (len : ℕ) → 0 < len → len ≤ h .settings .leaf → (below l i o : ℕ) → l + below + 1 ≡ at.settings t .levels → o < at.fullLength t l
+      → (r : Gathered) (n : ℕ) → r ≡ gathered n (shortFrom t below l i o len) → Within t len r
+  unfolding gathered
+  within-tree two len low short below l i o lev ho r n e =
+      go (shortFrom t below l i o len) e (places.short-in t (k .facts) two len low (rw (k .leaf-is) at short) below l i o lev ho)
+    where
+      go : (x : Option Short) → r ≡ gathered n x → ((q : Short) → x ≡ some q → places.Inside t len q) → Within t len r
+      go none e f = rw e tt
+      go (some q) e f = let z = f q refl in rw e (z .few, z .first-in, z .next-in)
+
+  pub top-by : (p len : ℕ) → at.layout t ≡ 2 → 1 ≤ len → len ≤ h .settings .leaf → (r : Gathered)
+      → r ≡ gathered 0 (shortFrom t (at.settings t .levels - 1 - 0) 0 (p / h .«top_length» + 0) (p % h .«top_length») len)
+      → (r ≡ gathered 0 (shortOf t p len)) × Within t len r
+  unfolding shortOf
+  top-by p len two low short r e =
+      let z : at.settings t .levels - 1 - 0 ≡ at.settings t .levels - 1 = omega arith in
+      let same : r ≡ gathered 0 (shortFrom t (at.settings t .levels - 1) 0 (p / at.fullLength t 0) (p % at.fullLength t 0) len) =
+      rw (z, add-zero (p / h .«top_length»), k .block-is) at e in (
+        same,
+        within-tree two len low short (at.settings t .levels - 1)
+            0 (p / at.fullLength t 0) (p % at.fullLength t 0) (omega (arith, k .facts .bounds .levels-low)) (mod-lt p (full-pos t (k .facts) 0)) r 0 same,
+      )
+
+-- the two parts that a walk finds, within the tree
+pub parts-in : (t : List ℕ) (x : ℕ) (found : Gathered) (q : Parts) → found ≡ At q → Within t x found
+    → (q .size ≤ x) × (q .from + q .size ≤ length t) × (q .next + (x - q .size) ≤ length t)
+parts-in t x found q is w = rw is at w

@@ -1,0 +1,28 @@
+use borrow.Author.Needs.{needs}
+use native.Mathlib.Omega.{arith}
+use Rattle.walk_steps.proofs.StepLaws.{kept-in}
+use Rattle.walk_steps.proofs.QuestionStandsLaws.{field-there}
+use Rattle.walk_short.proofs.GatherLaws as laws
+use Rattle.walk_short.proofs.gather.leaf_part.Statement.{statement}
+use Rattle.walk_short.proofs.gather.leaf_part.Tie as tie
+
+pub leaf-part-spec : {M : Type 1} → statement M
+leaf-part-spec =
+    tie.close
+    (tie.spec
+    (λ c κs. let p = c .before .pre in field-there _ _ _ _ 2 (p .0) (p .1) (kept-in _ _ _ (p .2)) (omega arith))
+    (λ c. search needs)
+    (λ c. search needs)
+    (λ c. search needs)
+    (λ c. search needs)
+    (λ c. search needs)
+    (λ c. search needs)
+    (λ c. let w = c .before .before .before .before in
+    let p = w .before .before .pre in laws.leaf-past _ _ (p .0) _ _ _ _ _ _ (p .2) (w .link .ensures) (c .if1 .taken))
+    (λ c. search needs)
+    (λ c. search needs)
+    (λ c. search needs)
+    (λ c. search needs)
+    (λ c. search needs)
+    (λ c. let w = c .before .before .before .before .before .before in
+    let p = w .before .before .pre in laws.leaf-at _ _ (p .0) _ _ _ _ _ _ (p .2) (w .link .ensures) (c .before .before .if1 .left)))

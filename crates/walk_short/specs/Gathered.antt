@@ -1,0 +1,57 @@
+-- What the walk of a short span answers, and what is asked where it stands.
+use mathlib.Core.List.{List}
+use mathlib.Core.Option.{Option, none, some}
+use mathlib.Core.Bool.{cond}
+use Prim.Native.Nat.{ℕ, _+_, _-_, _*_, _/_, _%_, _≤_, _<_}
+use lib.ListN.{length}
+use lib.Dec.{leb}
+use Rattle.format.specs.Layout as at
+use Rattle.format.specs.Path.{keptBlock, pointingBlock, targetBlock, targetPlace}
+use Rattle.format.specs.Short as format
+use Rattle.layout.specs.declared.header.Header.{Header}
+use Rattle.walk_steps.specs.QuestionStands.{OnLevel}
+use Rattle.walk_short.specs.declared.gather.Gathered.{Gathered}
+use Rattle.walk_short.specs.declared.gather.Gathered.the-variants.{At, Broken}
+use Rattle.walk_short.specs.declared.gather.Land.{Land}
+use Rattle.walk_short.specs.declared.gather.Land.the-variants as land
+
+-- what was found, with so many blocks entered before
+unfoldable pub gathered : ℕ → Option format.Short → Gathered
+gathered entered none = Broken
+gathered entered (some q) = At (record { entered = entered + length (q .visits); from = q .from; size = q .size; next = q .next })
+
+module _ (t : List ℕ) where
+  -- to the children, of c bytes, of kept block i
+  unfoldable pub downTo : ℕ → ℕ → ℕ → ℕ → ℕ → Land
+  downTo l c i o n = land.Down (record { 0 = at.link t l i }) (o / c) (record { 0 = o % c }) n
+
+  -- from pointing block i
+  unfoldable pub pointedTo : ℕ → ℕ → ℕ → ℕ → Land
+  pointedTo l i o len =
+      let j = targetBlock t l i o in
+      let p = targetPlace t l i o in
+      cond (leb (p + len) (at.fullLength t l)) (cond (keptBlock t l j) (downTo l (at.fullLength t (l + 1)) j p 2) land.Off)
+      (land.Over (record { 0 = j }) (record { 0 = p }))
+
+  unfoldable pub landing : ℕ → ℕ → ℕ → ℕ → Land
+  landing l i o len =
+      cond (keptBlock t l i) (downTo l (at.fullLength t (l + 1)) i o 1) (cond (pointingBlock t l i) (pointedTo l i o len) land.Off)
+
+  -- a block of a layout 2 tree whose end a short span crosses, fewer than m bytes before it
+  pub record Crossing (h : Header) (level b o entered : ℕ) : Type 0 where
+    pub on : OnLevel t h level b
+    pub place-in : o < b
+    pub near : b ≤ o + h .settings .leaf
+    pub few : entered ≤ 2 * level + 1
+
+  -- a place in a block of a layout 2 tree, and the blocks entered before it
+  pub record Walking (h : Header) (level b o len entered : ℕ) : Type 0 where
+    pub on : OnLevel t h level b
+    pub place-in : o < b
+    pub short : len ≤ h .settings .leaf
+    pub few : entered ≤ 2 * level
+
+-- the bytes that were found stand in the tree
+abbrev pub Within : List ℕ → ℕ → Gathered → Type 0
+Within t len (At q) = (q .size ≤ len) × (q .from + q .size ≤ length t) × (q .next + (len - q .size) ≤ length t)
+Within t len Broken = Unit {0}

@@ -1,0 +1,239 @@
+// The walk of a short span: it goes down only while the span lies in one block, and where it crosses a border two edges give it.
+use layout::header::Header;
+use layout::place::Ahead;
+use layout::place::BlockNumber;
+use layout::place::BlockPlace;
+use layout::place::On;
+use layout::place::Spot;
+use layout::place::TextPlace;
+use layout::record;
+use walk_steps::Next;
+ghost use mathlib.Core.Bool.{true, _&&_};
+ghost use mathlib.Core.Path.{_≡_};
+ghost use Prim.Native.Nat.{_+_, _-_, _*_, _/_, _%_, _≤_, _<_};
+ghost use lib.Dec.{ltb};
+ghost use Rattle.format.specs.Settings.{maxText, maxLevels};
+ghost use Rattle.format.specs.Layout as at;
+ghost use Rattle.format.specs.Path.{keptBlock};
+ghost use Rattle.format.specs.Short.{byEdges, inLeaf, shortFrom, shortOf};
+ghost use Rattle.layout.specs.HeaderSays.{HeaderOf};
+ghost use Rattle.walk_steps.specs.QuestionStands.{OnLevel, Pointing};
+ghost use Rattle.walk_short.specs.Gathered.{gathered, downTo, pointedTo, landing, Crossing, Walking, Within};
+
+// Where the bytes of a span stand in the tree: `size` of them at `from`, the others at `next`; and how many blocks were entered.
+pub struct Parts {
+    pub entered: u32,
+    pub from: usize,
+    pub size: u32,
+    pub next: usize,
+}
+
+pub enum Gathered {
+    At(Parts),
+    Broken,
+}
+
+// Where a span lands on a level: a kept block holds it, which hands it to the block some steps after its first child, with so
+// many blocks entered on the way; or it goes over the end of a block.
+pub enum Land {
+    Down(BlockNumber, u32, BlockPlace, u32),
+    Over(BlockNumber, BlockPlace),
+    Off,
+}
+
+// A span's bytes: the place of the first in a block, and how many they are.
+pub struct Stretch {
+    pub place: BlockPlace,
+    pub len: u32,
+}
+
+// A span over the end of a block: the end of its last edge, and the beginning of the next block's first one. The block is
+// taken as full, and no kind is read.
+fn over(t: &[u8], h: Header, on: On, ahead: Ahead, place: BlockPlace, entered: u32) -> Gathered
+    requires { ⌜ Crossing (now t) h (on .level) (on .b) (place .0) entered ⌝ }
+    ensures { λ r. ⌜ r ≡ gathered entered (byEdges (now (t .entry)) (on .level) (ahead .first .0 + ahead .steps) (place .0)) ⌝ }
+{
+    let count = record::level_count(t, on.level) as u64;
+    let number = ahead.first.0 as u64 + ahead.steps as u64;
+    if count <= number + 1 {
+        return Gathered::Broken;
+    }
+    let m = h.settings.leaf;
+    let left = on.b - place.0;
+    let edges = record::edges(
+        t,
+        h.record_size,
+        h.settings.counted,
+        on.level,
+        BlockNumber(number as u32),
+    );
+    Gathered::At(Parts {
+        entered: entered + 2,
+        from: edges + (m + m - left) as usize,
+        size: left,
+        next: edges + h.record_size as usize,
+    })
+}
+
+// A span in a kept block of the last level: leaf bytes.
+fn leaf_part(
+    t: &[u8],
+    h: Header,
+    level: u32,
+    block: BlockNumber,
+    span: Stretch,
+    entered: u32,
+) -> Gathered
+    requires { ⌜ (HeaderOf (now t) h) × (level < at.settings (now t) .levels) × (keptBlock (now t) level (block .0) ≡ true) × (entered ≤ 2 * maxLevels) ⌝ }
+    ensures { λ r. ⌜ r ≡ gathered entered (inLeaf (now (t .entry)) level (block .0) (span .place .0) (span .len)) ⌝ }
+{
+    let link = record::link(t, h.record_size, level, block) as u64;
+    let end = link + span.place.0 as u64 + span.len as u64;
+    if (h.leaf_count as u64) < end {
+        return Gathered::Broken;
+    }
+    Gathered::At(Parts {
+        entered: entered + 1,
+        from: h.leaf_offset as usize + (link as usize + span.place.0 as usize),
+        size: span.len,
+        next: 0,
+    })
+}
+
+// A span in a block of the last level, where no block points.
+fn last(t: &[u8], h: Header, on: On, ahead: Ahead, span: Stretch, entered: u32) -> Gathered
+    requires { ⌜ (OnLevel (now t) h (on .level) (on .b)) × (entered ≤ 2 * maxLevels) ⌝ }
+    ensures { λ r. ⌜ r ≡ gathered entered (inLeaf (now (t .entry)) (on .level) (ahead .first .0 + ahead .steps) (span .place .0) (span .len)) ⌝ }
+{
+    let next = walk_steps::look_after(t, h.record_size, on, ahead, span.place);
+    match next {
+        Next::Kept(i, p) => {
+            let there = Stretch {
+                place: p,
+                len: span.len,
+            };
+            leaf_part(t, h, on.level, i, there, entered)
+        }
+        Next::Points(_, _) => Gathered::Broken,
+        Next::Off => Gathered::Broken,
+    }
+}
+
+// From a kept block that holds a span to its children, of c bytes.
+fn into(t: &[u8], h: Header, level: u32, c: u32, spot: Spot, entered: u32) -> Land
+    requires { ⌜ (HeaderOf (now t) h) × (level < at.settings (now t) .levels) × (spot .block .0 < at.levelCount (now t) level) × (0 < c) ⌝ }
+    ensures { λ r. ⌜ r ≡ downTo (now (t .entry)) level c (spot .block .0) (spot .place .0) entered ⌝ }
+{
+    let link = record::link(t, h.record_size, level, spot.block);
+    Land::Down(
+        BlockNumber(link),
+        spot.place.0 / c,
+        BlockPlace(spot.place.0 % c),
+        entered,
+    )
+}
+
+// Whether the end of a block of b bytes falls between the first and the last of some bytes.
+fn splits(b: u32, place: BlockPlace, len: u32) -> bool
+    requires { ⌜ (b ≤ maxText) × (len ≤ maxText) ⌝ }
+    ensures { λ r. ⌜ r ≡ (ltb (place .0) b && ltb b (place .0 + len)) ⌝ }
+{
+    if b <= place.0 {
+        return false;
+    }
+    b < place.0 + len
+}
+
+// Where a pointing block hands a span: to a kept block that holds it, or over the border of its two targets.
+fn pointed(t: &[u8], h: Header, on: On, c: u32, block: BlockNumber, span: Stretch) -> Land
+    requires { ⌜ (Pointing (now t) h (on .level) (on .b) (block .0) (span .place .0)) × (span .place .0 + span .len ≤ on .b)
+        × (c ≡ at.fullLength (now t) (on .level + 1)) ⌝ }
+    ensures { λ r. ⌜ r ≡ pointedTo (now (t .entry)) (on .level) (block .0) (span .place .0) (span .len) ⌝ }
+{
+    let link = record::link(t, h.record_size, on.level, block);
+    let gap = record::gap(t, h.record_size, on.level, block);
+    let sum = BlockPlace(gap.0 + span.place.0);
+    if splits(on.b, sum, span.len) {
+        return Land::Over(BlockNumber(link), sum);
+    }
+    let next = walk_steps::target(t, h.record_size, on.level, on.b, block, span.place);
+    match next {
+        Next::Kept(i, p) => into(t, h, on.level, c, Spot { block: i, place: p }, 2),
+        Next::Points(_, _) => Land::Off,
+        Next::Off => Land::Off,
+    }
+}
+
+// Where a span that lies in a block above the last level lands; c is the length of the block's children.
+fn settle(t: &[u8], h: Header, on: On, c: u32, ahead: Ahead, span: Stretch) -> Land
+    requires { ⌜ (OnLevel (now t) h (on .level) (on .b)) × (span .place .0 < on .b) × (span .place .0 + span .len ≤ on .b)
+        × (c ≡ at.fullLength (now t) (on .level + 1)) ⌝ }
+    ensures { λ r. ⌜ r ≡ landing (now (t .entry)) (on .level) (ahead .first .0 + ahead .steps) (span .place .0) (span .len) ⌝ }
+{
+    let next = walk_steps::look_after(t, h.record_size, on, ahead, span.place);
+    match next {
+        Next::Kept(i, p) => into(t, h, on.level, c, Spot { block: i, place: p }, 1),
+        Next::Points(i, p) => {
+            let there = Stretch {
+                place: p,
+                len: span.len,
+            };
+            pointed(t, h, on, c, i, there)
+        }
+        Next::Off => Land::Off,
+    }
+}
+
+// The walk from the block some steps after another; the levels left fall.
+pub fn gather(t: &[u8], h: Header, on: On, ahead: Ahead, span: Stretch, entered: u32) -> Gathered
+    requires { ⌜ Walking (now t) h (on .level) (on .b) (span .place .0) (span .len) entered ⌝ }
+    ensures { λ r. ⌜ r ≡ gathered entered (shortFrom (now (t .entry)) (at.settings (now (t .entry)) .levels - 1 - on .level) (on .level)
+        (ahead .first .0 + ahead .steps) (span .place .0) (span .len)) ⌝ }
+{
+    if on.b < span.place.0 + span.len {
+        return over(t, h, on, ahead, span.place, entered);
+    }
+    let down = on.level + 1;
+    if down == h.settings.levels {
+        return last(t, h, on, ahead, span, entered);
+    }
+    let c = on.b / h.settings.arity;
+    let land = settle(t, h, on, c, ahead, span);
+    match land {
+        Land::Down(first, steps, place, n) => gather(
+            t,
+            h,
+            On { level: down, b: c },
+            Ahead { first, steps },
+            Stretch {
+                place,
+                len: span.len,
+            },
+            entered + n,
+        ),
+        Land::Over(first, p) => over(t, h, on, Ahead { first, steps: 0 }, p, entered + 1),
+        Land::Off => Gathered::Broken,
+    }
+}
+
+// The walk from a place of the text.
+pub fn from_text(t: &[u8], h: Header, p: TextPlace, len: u32) -> Gathered
+    requires { ⌜ (HeaderOf (now t) h) × (at.layout (now t) ≡ 2) × (1 ≤ len) × (len ≤ h .settings .leaf) × (p .0 + len ≤ h .«text_length») ⌝ }
+    ensures { λ r. ⌜ (r ≡ gathered 0 (shortOf (now (t .entry)) (p .0) len)) × Within (now (t .entry)) len r ⌝ }
+{
+    let b = h.top_length;
+    gather(
+        t,
+        h,
+        On { level: 0, b },
+        Ahead {
+            first: BlockNumber(p.0 / b),
+            steps: 0,
+        },
+        Stretch {
+            place: BlockPlace(p.0 % b),
+            len,
+        },
+        0,
+    )
+}

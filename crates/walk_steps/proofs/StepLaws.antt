@@ -1,0 +1,208 @@
+-- The steps of a path, from what was read to what they give.
+use mathlib.Core.List.{List}
+use mathlib.Core.Bool.{true, cond, _&&_}
+use mathlib.Core.Logic.{_⊎_, inl, inr}
+use mathlib.Core.Path.{_≡_, ap, _∙_}
+use Prim.Native.Nat.{ℕ, _+_, _-_, _*_, _/_, _%_, _≤_, _<_, min}
+use native.Mathlib.Omega.{arith}
+use native.Mathlib.Nat.{add-zero, zero-mul, one-mul, div-add-mod'}
+use lib.Dec.{ltb}
+use borrow.Author.Tests.{ltb-true, lt-ltb, le-ltb, eq-eqb, ne-eqb}
+use Rattle.text.specs.ListLaws.{lt-or-ge, and-left, and-right, and-false}
+use Rattle.format.specs.Settings.{maxText}
+use Rattle.format.specs.Words.{wordAt}
+use Rattle.format.specs.RecordFields.{plainWords}
+use Rattle.format.specs.HeaderPlaces.{textLengthAt, arityAt, levelsAt, leafOffsetAt, leafCountAt}
+use Rattle.format.specs.Layout as at
+use Rattle.format.specs.Path.{keptBlock, pointingBlock, targetBlock, targetPlace}
+use Rattle.format.specs.LayoutLaws.{full-pos, full-small, level0-holds}
+use Rattle.theory_paths.specs.PlacesLand.{target-first, target-second}
+use Rattle.layout.specs.Record.{FieldIn, field-in}
+use Rattle.layout.specs.declared.place.BlockNumber.{BlockNumber}
+use Rattle.layout.specs.declared.place.BlockPlace.{BlockPlace}
+use Rattle.walk_steps.specs.declared.fields.Shape.{Shape}
+use Rattle.walk_steps.specs.declared.Part.{Part}
+use Rattle.walk_steps.specs.declared.Next.{Next}
+use Rattle.walk_steps.specs.declared.Next.the-variants.{Kept, Points, Off}
+use Rattle.walk_steps.specs.declared.Arrived.the-variants as arrived
+use Rattle.walk_steps.proofs.NextLaws.{next-kept, next-points, next-off}
+use Rattle.walk_steps.specs.Steps.{OnLevel, InTable, Pointing, nextAt, childAt, landAt, shapeOf}
+
+-- the first four fields of a block of a table can be read
+pub field-there : (t : List ℕ) (size level b i f : ℕ) → OnLevel t size level b → i < at.levelCount t level → f < plainWords → FieldIn t size level i f
+field-there t size level b i f on hi hf = field-in t (on .facts) size level i f (on .size-is) (on .level-in) hi (omega arith)
+
+module _ (t : List ℕ) (size level b : ℕ) (on : OnLevel t size level b) where
+  pub b-pos : 0 < b
+  b-pos = rw (on .b-is) (full-pos t (on .facts) level)
+
+  pub b-small : b ≤ maxText
+  b-small = rw (on .b-is) (full-small t (on .facts) level)
+
+  -- a block past the table
+  pub look-past : (i o : ℕ) → at.levelCount t level ≤ i → Off ≡ nextAt t level i o
+  unfolding nextAt keptBlock pointingBlock
+  look-past i o p = rw (le-ltb i (at.levelCount t level) p)
+
+-- what the kind and the gap of a block of the table say
+module _ (t : List ℕ) (size level b i o k : ℕ) (there : InTable t size level b i) (k-is : k ≡ at.kind t level i) where
+  pub look-kept : k ≡ 0 → Kept (record { 0 = i }) (record { 0 = o }) ≡ nextAt t level i o
+  unfolding nextAt keptBlock at.isKept
+  look-kept z = rw (lt-ltb _ _ (there .block-in), ← k-is, z)
+
+  pub look-other : (k ≡ 0 → ⊥) → (k ≡ 1 → ⊥) → Off ≡ nextAt t level i o
+  unfolding nextAt keptBlock at.isKept pointingBlock at.isPointing
+  look-other z n = rw (lt-ltb _ _ (there .block-in), ← k-is, ne-eqb k 0 z, ne-eqb k 1 n)
+
+  module _ (g : ℕ) (g-is : g ≡ at.gap t level i) (z : k ≡ 0 → ⊥) (one : k ≡ 1) where
+    pub look-points : g < b → Points (record { 0 = i }) (record { 0 = o }) ≡ nextAt t level i o
+    unfolding nextAt keptBlock at.isKept pointingBlock at.isPointing
+    look-points s = rw (lt-ltb _ _ (there .block-in), ← k-is, ne-eqb k 0 z, eq-eqb k 1 one, ← g-is, ← there .on .b-is, lt-ltb g b s)
+
+    pub look-wide : b ≤ g → Off ≡ nextAt t level i o
+    unfolding nextAt keptBlock at.isKept pointingBlock at.isPointing
+    look-wide s = rw (lt-ltb _ _ (there .block-in), ← k-is, ne-eqb k 0 z, eq-eqb k 1 one, ← g-is, ← there .on .b-is, le-ltb g b s)
+
+-- the block of level 0 that holds a place is in its table
+pub first-there : (t : List ℕ) (size b p : ℕ) → OnLevel t size 0 b → p < at.textLength t → p / b < at.levelCount t 0
+first-there t size b p on small = rw (on .b-is) (level0-holds t (on .facts) p small)
+
+-- what it says of a block that it is kept, or that it points
+module _ (t : List ℕ) (level i : ℕ) where
+  pub kept-in : keptBlock t level i ≡ true → i < at.levelCount t level
+  unfolding keptBlock
+  kept-in k = ltb-true _ _ (and-left (ltb i (at.levelCount t level)) (at.isKept t level i) k)
+
+  pub pointing-in : pointingBlock t level i ≡ true → i < at.levelCount t level
+  unfolding pointingBlock
+  pointing-in k =
+      let within = ltb i (at.levelCount t level) in
+      let points = at.isPointing t level i in
+      ltb-true _ _ (and-left within points (and-left (within && points) (ltb (at.gap t level i) (at.fullLength t level)) k))
+
+  pub pointing-gap : pointingBlock t level i ≡ true → at.gap t level i < at.fullLength t level
+  unfolding pointingBlock
+  pointing-gap k = ltb-true _ _ (and-right (ltb i (at.levelCount t level) && at.isPointing t level i) (ltb (at.gap t level i) (at.fullLength t level)) k)
+
+-- the link of a kept block whose children's level is known
+pub link-there : (t : List ℕ) (size level b i : ℕ) → OnLevel t size (level + 1) b → i < at.levelCount t level → FieldIn t size level i 2
+link-there t size level b i on hi = field-in t (on .facts) size level i 2 (on .size-is) (omega (arith, on .level-in)) hi (omega arith)
+
+module _ (t : List ℕ) (size level b i o : ℕ) (s : Pointing t size level b i o) where
+  pub pointing-there : (f : ℕ) → f < plainWords → FieldIn t size level i f
+  pointing-there f hf = field-there t size level b i f (s .on) (pointing-in t level i (s .points)) hf
+
+  -- gap + place is below twice the block length
+  pub sum-small : (g : ℕ) → g ≡ at.gap t level i → g + o < (2 * maxText)
+  sum-small g e = omega (arith, pointing-gap t level i (s .points), s .on .b-is, s .place-in, b-small t size level b (s .on))
+
+  module _ (k g : ℕ) (k-is : k ≡ at.link t level i) (g-is : g ≡ at.gap t level i) (r : Next) where
+    target-here : g + o < b → r ≡ nextAt t level (k + 0) (g + o) → r ≡ nextAt t level (targetBlock t level i o) (targetPlace t level i o)
+    target-here small e =
+        let z = target-first t level i o (omega (arith, s .on .b-is)) in
+        e ∙ rw (z .0, z .1, k-is, g-is, add-zero)
+
+    target-next : b ≤ g + o → r ≡ nextAt t level (k + 1) (g + o - b) → r ≡ nextAt t level (targetBlock t level i o) (targetPlace t level i o)
+    target-next large e =
+        let z = target-second t level i o (omega (arith, s .on .b-is)) in
+        e ∙ rw (z .0, z .1, k-is, g-is, s .on .b-is)
+
+    pub target-by : (over : ℕ) → over ≡ cond (ltb (g + o) b) 0 1 → r ≡ nextAt t level (k + over) (g + o - over * b)
+        → r ≡ nextAt t level (targetBlock t level i o) (targetPlace t level i o)
+    target-by over over-is e = go (lt-or-ge (g + o) b)
+      where
+        go : (g + o < b) ⊎ (b ≤ g + o) → r ≡ nextAt t level (targetBlock t level i o) (targetPlace t level i o)
+        go (inl small) =
+            let z : over ≡ 0 = over-is ∙ rw (lt-ltb (g + o) b small) in
+            let p : g + o - over * b ≡ g + o = omega (arith, z, zero-mul b, ap (λ (x : ℕ). x * b) z) in
+            target-here small (e ∙ ap (nextAt t level (k + over)) p ∙ ap (λ (x : ℕ). nextAt t level (k + x) (g + o)) z)
+        go (inr large) =
+            let z : over ≡ 1 = over-is ∙ rw (le-ltb (g + o) b large) in
+            let p : g + o - over * b ≡ g + o - b = omega (arith, one-mul b, ap (λ (x : ℕ). x * b) z) in
+            target-next large (e ∙ ap (nextAt t level (k + over)) p ∙ ap (λ (x : ℕ). nextAt t level (k + x) (g + o - b)) z)
+
+-- a block's length
+
+module _ (t : List ℕ) (size level b i start n : ℕ) (k : InTable t size level b i) (start-is : start ≡ at.start t level i) (n-is : n ≡ at.textLength t) where
+  pub length-is : (r : ℕ) → (r ≡ min b (n - start)) × (r ≤ b) → (r ≡ at.blockLengthAt t level i) × (r ≤ b)
+  unfolding at.blockLengthAt
+  length-is r e = (e .0 ∙ rw (k .on .b-is, start-is, n-is), e .1)
+
+-- the part of a place
+pub rest-is : (x b q : ℕ) → q ≡ x / b → (q * b ≤ x) × (x - q * b ≡ x % b)
+rest-is x b q e =
+    let d : x / b * b + x % b ≡ x = div-add-mod' x b in
+    let f : q * b ≡ x / b * b = ap (λ (y : ℕ). y * b) e in
+    (omega arith, omega arith)
+
+-- the child that a place is handed to
+module _ (t : List ℕ) (l k link count o b : ℕ)
+    (x : Part) (link-is : link ≡ k) (count-is : count ≡ at.levelCount t l) (x-is : x ≡ record { blocks = o / b; place = record { 0 = o % b } }) where
+  blocks-are : x .blocks ≡ o / b
+  blocks-are = ap (λ (y : Part). y .blocks) x-is
+
+  pub child-past : count ≤ link + x .blocks → arrived.Off ≡ childAt t l (k + o / b) (o % b)
+  unfolding childAt
+  child-past high = rw (le-ltb (k + o / b) (at.levelCount t l) (omega (arith, link-is, blocks-are, count-is)))
+
+  pub child-there : (q : BlockPlace)
+      → q ≡ x .place → link + x .blocks < count → arrived.At (record { 0 = link + x .blocks }) q ≡ childAt t l (k + o / b) (o % b)
+  unfolding childAt
+  child-there q q-is low =
+      let f : q ≡ record { 0 = o % b } = q-is ∙ ap (λ (y : Part). y .place) x-is in
+      let z : k + o / b < at.levelCount t l = omega (arith, link-is, blocks-are, count-is) in
+      rw (lt-ltb (k + o / b) (at.levelCount t l) z, f, link-is, blocks-are)
+
+-- the kept block that a place is handed to
+module _ (t : List ℕ) (l i o : ℕ) where
+  pub land-last : at.settings t .levels ≤ l + 1 → arrived.Off ≡ landAt t l i o
+  unfolding landAt
+  land-last last = rw (le-ltb _ _ last)
+
+  module _ (x : Next) (x-is : x ≡ nextAt t l (targetBlock t l i o) (targetPlace t l i o)) where
+    pub land-kept : (j : BlockNumber) (p : BlockPlace) → l + 1 < at.settings t .levels → x ≡ Kept j p → arrived.At j p ≡ landAt t l i o
+    unfolding landAt
+    land-kept j p more e =
+        let z = next-kept t l (targetBlock t l i o) (targetPlace t l i o) x x-is j p e in
+        rw (lt-ltb _ _ more, z .0) (rw (z .1, z .2))
+
+    pub land-points : (j : BlockNumber) (p : BlockPlace) → x ≡ Points j p → arrived.Off ≡ landAt t l i o
+    unfolding landAt
+    land-points j p e = rw (next-points t l (targetBlock t l i o) (targetPlace t l i o) x x-is j p e .0, and-false (ltb (l + 1) (at.settings t .levels)))
+
+    pub land-off : x ≡ Off → arrived.Off ≡ landAt t l i o
+    unfolding landAt
+    land-off e = rw (next-off t l (targetBlock t l i o) (targetPlace t l i o) x x-is e .0, and-false (ltb (l + 1) (at.settings t .levels)))
+
+-- what is read of the header
+pub shape-is : (t : List ℕ) (n r h off count : ℕ)
+    → n ≡ wordAt t textLengthAt → r ≡ wordAt t arityAt → h ≡ wordAt t levelsAt → off ≡ wordAt t leafOffsetAt → count ≡ wordAt t leafCountAt
+    → record { length = n; arity = r; levels = h; «leaf_offset» = off; «leaf_count» = count } ≡ shapeOf t
+unfolding shapeOf at.textLength at.settings at.leafOffset at.leafCount
+shape-is t n r h off count a b c d e = rw (a, b, c, d, e)
+
+pub record Shapes (t : List ℕ) (x : Shape) : Type 0 where
+  pub length-is : x .length ≡ at.textLength t
+  pub arity-is : x .arity ≡ at.settings t .arity
+  pub levels-is : x .levels ≡ at.settings t .levels
+  pub offset-is : x .«leaf_offset» ≡ at.leafOffset t
+  pub count-is : x .«leaf_count» ≡ at.leafCount t
+
+pub shapes : (t : List ℕ) (x : Shape) → x ≡ shapeOf t → Shapes t x
+unfolding shapeOf
+shapes t x e = record {
+  length-is = ap (λ (y : Shape). y .length) e;
+  arity-is = ap (λ (y : Shape). y .arity) e;
+  levels-is = ap (λ (y : Shape). y .levels) e;
+  offset-is = ap (λ (y : Shape). y .«leaf_offset») e;
+  count-is = ap (λ (y : Shape). y .«leaf_count») e;
+}
+
+-- read from the same bytes, lent on
+pub shapes-on : (t u : List ℕ) (x : Shape) → u ≡ t → x ≡ shapeOf u → Shapes t x
+shapes-on t u x e f = shapes t x (f ∙ ap shapeOf e)
+
+-- the part of a place
+pub part-is : (x b q : ℕ)
+    → q ≡ x / b → _≡_ {A = Part} (record { blocks = q; place = record { 0 = x - q * b } }) (record { blocks = x / b; place = record { 0 = x % b } })
+part-is x b q e = rw (rest-is x b q e .1, e)

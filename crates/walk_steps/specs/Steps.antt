@@ -1,0 +1,62 @@
+-- What a step of a path gives, and what is asked where it is made.
+use mathlib.Core.List.{List}
+use mathlib.Core.Bool.{Bool, true, cond, _&&_}
+use mathlib.Core.Path.{_≡_}
+use Prim.Native.Nat.{ℕ, _+_, _<_}
+use lib.Dec.{ltb}
+use Rattle.format.specs.Layout as at
+use Rattle.format.specs.LayoutLaws.{Readable}
+use Rattle.format.specs.Path.{keptBlock, pointingBlock, targetBlock, targetPlace}
+use Rattle.walk_steps.specs.declared.fields.Shape.{Shape}
+use Rattle.walk_steps.specs.declared.Next.{Next}
+use Rattle.walk_steps.specs.declared.Next.the-variants.{Kept, Points, Off}
+use Rattle.walk_steps.specs.declared.Arrived.{Arrived}
+use Rattle.walk_steps.specs.declared.Arrived.the-variants as arrived
+
+-- a block, if a test lets it through
+abbrev pub arriving : Bool → ℕ → ℕ → Arrived
+arriving x i o = cond x (arrived.At (record { 0 = i }) (record { 0 = o })) arrived.Off
+
+module _ (t : List ℕ) where
+  -- block i of level l, arrived at with place o
+  unfoldable pub nextAt : ℕ → ℕ → ℕ → Next
+  nextAt l i o =
+      cond (keptBlock t l i) (Kept (record { 0 = i }) (record { 0 = o }))
+      (cond (pointingBlock t l i) (Points (record { 0 = i }) (record { 0 = o })) Off)
+
+  -- the child i of level l that a kept block hands place o to
+  unfoldable pub childAt : ℕ → ℕ → ℕ → Arrived
+  childAt l i o = arriving (ltb i (at.levelCount t l)) i o
+
+  -- the kept block that a pointing block i of level l hands place o to
+  unfoldable pub landAt : ℕ → ℕ → ℕ → Arrived
+  landAt l i o = arriving (ltb (l + 1) (at.settings t .levels) && keptBlock t l (targetBlock t l i o)) (targetBlock t l i o) (targetPlace t l i o)
+
+  -- what a step needs of the header
+  unfoldable pub shapeOf : Shape
+  unfolding at.textLength at.settings at.leafOffset at.leafCount
+  shapeOf = record {
+    length = at.textLength t;
+    arity = at.settings t .arity;
+    levels = at.settings t .levels;
+    «leaf_offset» = at.leafOffset t;
+    «leaf_count» = at.leafCount t;
+  }
+
+  -- a level of a tree that passes questions 5 to 7, with the bytes of its records and its block length
+  pub record OnLevel (size level b : ℕ) : Type 0 where
+    pub facts : Readable t
+    pub size-is : size ≡ at.recordSize t
+    pub level-in : level < at.settings t .levels
+    pub b-is : b ≡ at.fullLength t level
+
+  -- a block of that level
+  pub record InTable (size level b i : ℕ) : Type 0 where
+    pub on : OnLevel size level b
+    pub block-in : i < at.levelCount t level
+
+  -- a pointing block of that level, and a place in it
+  pub record Pointing (size level b i o : ℕ) : Type 0 where
+    pub on : OnLevel size level b
+    pub place-in : o < b
+    pub points : pointingBlock t level i ≡ true

@@ -1,0 +1,190 @@
+// The steps of a path: what the block arrived at is, and the block that it hands a place to. A number past the
+// table, also one past 32 bits, is no block; the path itself reads no starts. `size` is the bytes of a record.
+pub mod fields;
+
+use layout::cut;
+use layout::place::Ahead;
+use layout::place::BlockNumber;
+use layout::place::BlockPlace;
+use layout::place::On;
+use layout::record;
+ghost use mathlib.Core.Path.{_≡_};
+ghost use mathlib.Core.Bool.{cond};
+ghost use Prim.Native.Nat.{_+_, _*_, _/_, _%_, _≤_, _<_};
+ghost use lib.Dec.{ltb};
+ghost use Rattle.format.specs.Layout as at;
+ghost use Rattle.format.specs.Path.{targetBlock, targetPlace};
+ghost use Rattle.walk_steps.specs.Steps.{OnLevel, InTable, Pointing, nextAt, childAt, landAt};
+
+// The block that a path arrives at, and the place in it.
+pub enum Next {
+    Kept(BlockNumber, BlockPlace),
+    Points(BlockNumber, BlockPlace),
+    // past the table, of a kind above 1, or pointing with a gap that is not below the block length
+    Off,
+}
+
+// The block that a place is handed to, and the place in it.
+pub enum Arrived {
+    At(BlockNumber, BlockPlace),
+    // past the table, or where a kept block is due no such one
+    Off,
+}
+
+// How many blocks of a length end before a place, and the place in the next one.
+pub struct Part {
+    pub blocks: u32,
+    pub place: BlockPlace,
+}
+
+// x / b, by a shift where b is a power of two.
+pub fn quotient(x: u32, b: u32) -> u32
+    requires { ⌜ 0 < b ⌝ }
+    ensures { λ r. ⌜ r ≡ x / b ⌝ }
+{
+    let shift = u32::trailing_zeros(b);
+    let power: u64 = 1 << shift;
+    if power == b as u64 {
+        return (x as u64 >> shift) as u32;
+    }
+    x / b
+}
+
+// The part of a place among blocks of b bytes.
+pub fn part_of(place: u32, b: u32) -> Part
+    requires { ⌜ 0 < b ⌝ }
+    ensures { λ r. ⌜ r ≡ record { blocks = place / b; place = record { 0 = place % b } } ⌝ }
+{
+    let blocks = quotient(place, b);
+    Part {
+        blocks,
+        place: BlockPlace(place - blocks * b),
+    }
+}
+
+// What a block of the table is.
+pub fn look(t: &[u8], size: u32, level: u32, b: u32, block: BlockNumber, place: BlockPlace) -> Next
+    requires { ⌜ InTable (now t) size level b (block .0) ⌝ }
+    ensures { λ r. ⌜ r ≡ nextAt (now (t .entry)) level (block .0) (place .0) ⌝ }
+{
+    let kind = record::kind(t, size, level, block);
+    if kind == 0 {
+        return Next::Kept(block, place);
+    }
+    if kind != 1 {
+        return Next::Off;
+    }
+    let gap = record::gap(t, size, level, block);
+    if gap.0 < b {
+        return Next::Points(block, place);
+    }
+    Next::Off
+}
+
+// What the block some steps after another is.
+pub fn look_after(t: &[u8], size: u32, on: On, ahead: Ahead, place: BlockPlace) -> Next
+    requires { ⌜ OnLevel (now t) size (on .level) (on .b) ⌝ }
+    ensures { λ r. ⌜ r ≡ nextAt (now (t .entry)) (on .level) (ahead .first .0 + ahead .steps) (place .0) ⌝ }
+{
+    let count = record::level_count(t, on.level) as u64;
+    let number = ahead.first.0 as u64 + ahead.steps as u64;
+    if count <= number {
+        return Next::Off;
+    }
+    look(t, size, on.level, on.b, BlockNumber(number as u32), place)
+}
+
+// The child that a kept block hands a place to; b is the block length of the children's level.
+pub fn child(
+    t: &[u8],
+    size: u32,
+    level: u32,
+    b: u32,
+    block: BlockNumber,
+    place: BlockPlace,
+) -> Arrived
+    requires { ⌜ (OnLevel (now t) size (level + 1) b) × (block .0 < at.levelCount (now t) level) ⌝ }
+    ensures { λ r. ⌜ r ≡ childAt (now (t .entry)) (level + 1) (at.link (now (t .entry)) level (block .0) + place .0 / b) (place .0 % b) ⌝ }
+{
+    let link = record::link(t, size, level, block) as u64;
+    let count = record::level_count(t, level + 1) as u64;
+    let part = part_of(place.0, b);
+    let number = link + part.blocks as u64;
+    if count <= number {
+        return Arrived::Off;
+    }
+    let rest = part.place;
+    Arrived::At(BlockNumber(number as u32), rest)
+}
+
+// 1 where a place is past a block of b bytes, else 0.
+fn past(place: u32, b: u32) -> u32
+    ensures { λ r. ⌜ (r ≡ cond (ltb place b) 0 1) × (r ≤ 1) × (r * b ≤ place) ⌝ }
+{
+    if place < b {
+        return 0;
+    }
+    1
+}
+
+// The block that a pointing block hands a place to: link at gap + place, or, if that is b or more, the next at that less b.
+pub fn target(
+    t: &[u8],
+    size: u32,
+    level: u32,
+    b: u32,
+    block: BlockNumber,
+    place: BlockPlace,
+) -> Next
+    requires { ⌜ Pointing (now t) size level b (block .0) (place .0) ⌝ }
+    ensures { λ r. ⌜ r ≡ nextAt (now (t .entry))
+        level (targetBlock (now (t .entry)) level (block .0) (place .0)) (targetPlace (now (t .entry)) level (block .0) (place .0)) ⌝ }
+{
+    let link = record::link(t, size, level, block);
+    let gap = record::gap(t, size, level, block);
+    let sum = gap.0 + place.0;
+    let over = past(sum, b);
+    look_after(
+        t,
+        size,
+        On { level, b },
+        Ahead {
+            first: BlockNumber(link),
+            steps: over,
+        },
+        BlockPlace(sum - over * b),
+    )
+}
+
+// The kept block that a pointing block above the last level hands a place to.
+pub fn land(
+    t: &[u8],
+    size: u32,
+    level: u32,
+    b: u32,
+    block: BlockNumber,
+    place: BlockPlace,
+) -> Arrived
+    requires { ⌜ Pointing (now t) size level b (block .0) (place .0) ⌝ }
+    ensures { λ r. ⌜ r ≡ landAt (now (t .entry)) level (block .0) (place .0) ⌝ }
+{
+    let shape = fields::shape_of(t);
+    if level + 1 == shape.levels {
+        return Arrived::Off;
+    }
+    match target(t, size, level, b, block, place) {
+        Next::Kept(i, p) => Arrived::At(i, p),
+        Next::Points(_, _) => Arrived::Off,
+        Next::Off => Arrived::Off,
+    }
+}
+
+// The bytes of a block: b, or n less its start where that is shorter.
+pub fn block_length(t: &[u8], size: u32, level: u32, b: u32, block: BlockNumber) -> u32
+    requires { ⌜ InTable (now t) size level b (block .0) ⌝ }
+    ensures { λ r. ⌜ (r ≡ at.blockLengthAt (now (t .entry)) level (block .0)) × (r ≤ b) ⌝ }
+{
+    let start = record::start(t, size, level, block);
+    let shape = fields::shape_of(t);
+    cut::length_from(shape.length, start, b)
+}

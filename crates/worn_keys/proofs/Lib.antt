@@ -1,4 +1,0 @@
-pub mod RowScans
-pub mod SearchLaws
-pub mod AnswerLaws
-pub mod Demands
