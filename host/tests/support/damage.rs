@@ -1,4 +1,5 @@
 //! Texts, settings and trees for the differential test: good ones, damaged ones and wild ones.
+#![allow(dead_code)] // each test uses a part
 
 use super::Rng;
 use crate::model::build::{assemble, Choice};
