@@ -49,7 +49,7 @@ pub fn byte_at(t: &[u8], h: Header, at: TextPlace) -> Answer
 }
 
 // The byte of a place in the text, by what is held of the place: question 14.
-pub fn next_byte(t: &[u8], h: Header, at: TextPlace, held: Reached) -> Read
+fn next_byte(t: &[u8], h: Header, at: TextPlace, held: Reached) -> Read
     requires { ⌜ (HeaderOf (now t) h) × (at .0 < h .«text_length») × (Held (now t) h (at .0) held) ⌝ }
     ensures { λ r. ⌜ (said (r .answer) ≡ byteSays (now (t .entry)) (at .0)) × (Held (now (t .entry)) h (at .0 + 1) (r .held)) ⌝ }
 {

@@ -1,5 +1,5 @@
 // Count (rank): how often a counted byte stands in a prefix. It asks 5 to 7 first, of any bytes lent as a tree.
-pub mod count_by_header;
+mod count_by_header;
 mod sums;
 pub mod uncounted;
 

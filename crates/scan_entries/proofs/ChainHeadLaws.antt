@@ -2,7 +2,7 @@
 use mathlib.Core.Path.{_≡_, sym, ap, ap₂, _∙_}
 use Prim.Native.Nat.{ℕ, zero, suc, _+_, _*_, _/_, _%_, _^_, _≤_, _<_, max}
 use native.Mathlib.Omega.{arith}
-use native.Mathlib.Nat.{mod-lt, mul-lt-mul-of-pos-right, mul-le-mul, div-lt-iff-lt-mul, mul-comm, pow-suc, div-one, div-div-eq-div-mul}
+use native.Mathlib.Nat.{mod-lt, mul-lt-mul-of-pos-right, div-lt-iff-lt-mul, mul-comm, pow-suc, div-one, div-div-eq-div-mul}
 use native.Mathlib.Nat.{mul-add-div-right, mul-add-mod-self-right, mod-eq-of-lt, div-eq-of-lt, mul-div-cancel, pow-le-pow-right, add-zero, one-mul}
 use lib.Bits.{bitOr, or-step, or-lt}
 use lib.Pow.{pow-pos}
@@ -12,9 +12,6 @@ pub bucket-lt : (h heads : ℕ) → h < 4294967296 → 1 ≤ heads → h * heads
 bucket-lt h heads l m =
     let p : h * heads < 4294967296 * heads = mul-lt-mul-of-pos-right l (omega arith) in
     div-lt-iff-lt-mul {k = 4294967296} (omega arith) .1 (omega (arith, p, mul-comm 4294967296 heads))
-
-pub bucket-fits : (h heads : ℕ) → h < 4294967296 → heads < 4294967296 → h * heads ≤ 18446744065119617025
-bucket-fits h heads l m = mul-le-mul {n₂ = 4294967295} {m₂ = 4294967295} (omega arith) (omega arith)
 
 -- binary digits
 digit-lt : (x : ℕ) → x % 2 < 2
