@@ -229,6 +229,18 @@ uint32_t bt_from_columns(const uint8_t *text, size_t text_len, uint32_t width, u
  *   answers   0, 5, 6, 7, 20 (by the tree's text length), 10 (a is not below the number of rows), 13, 14 (the path of one of the row's bytes breaks) */
 uint32_t bt_column_row(const uint8_t *tree, size_t tree_len, uint32_t width, uint32_t a, uint8_t *buffer, size_t buffer_len);
 
+/* The SHA-256 (FIPS 180-4) of a tree's text: of the bytes that its paths give, on a tree that bt_check accepts of the one text that fits.
+ *   lent      tree
+ *   written   out: the digest in its first 32 bytes, the rest as it was. BT_PATH leaves zeros in the first 32 bytes; any other refusal leaves it as it was
+ *   answers   0, 5, 6, 7, 13 (out has fewer than 32 bytes), 14 (the path of some place of the text breaks) */
+uint32_t bt_digest(const uint8_t *tree, size_t tree_len, uint8_t *out, size_t out_len);
+
+/* That of a text: the digest of the tree that bt_build writes of it is the same.
+ *   lent      text
+ *   written   out: the digest in its first 32 bytes, the rest as it was; as it was on a refusal
+ *   answers   0, 13 */
+uint32_t bt_digest_text(const uint8_t *text, size_t text_len, uint8_t *out, size_t out_len);
+
 /* A guide to the level 0 blocks, kept beside a tree: for each counted byte in order, the number of the level 0 block that holds its 1st, 65th, 129th
  * occurrence and so on, a word each, four bytes, lowest first. bt_find and bt_row step through level 0 from its first block; with a guide they start at
  * an entry. How many words the guide of a tree has:

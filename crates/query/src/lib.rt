@@ -9,6 +9,7 @@ pub use ask_access::run;
 pub use ask_access::run_part;
 pub use ask_access::span;
 pub use ask_columns::row_by_columns;
+pub use ask_digest::digest;
 pub use ask_facts::FIGURES;
 pub use ask_facts::info;
 pub use ask_facts::version;
