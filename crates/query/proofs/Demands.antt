@@ -121,12 +121,13 @@ pub use Rattle.query.proofs.ColumnRowCall.{column-answer, column-zeros,
 -- .. It refuses a width of 0 or one that does not divide the length with 20, then an output shorter than the input with 21, output untouched."
 pub use Rattle.columns.proofs.Demands.{to-columns, from-columns}
 pub use Rattle.query.proofs.ColumnsCall.{to-columns-numbers, from-columns-numbers}
--- Digest. "the SHA-256 (FIPS 180-4) of the bytes that the tree's paths give, on an accepted tree of its text, written to the first 32 bytes of a lent buffer":
--- of a tree that the check accepts and of what build writes, `digest-of` of `Answers`; of the one text that fits, and of build and the digest of the text, ..
-pub use Rattle.ask_digest.proofs.Demands.{digest-accepted, digest-bytes, digest-built}
+-- Digest. "the SHA-256 (FIPS 180-4) of the bytes that the paths of places 0 to n - 1 give, on an accepted tree of its text, is written to the first 32
+-- bytes of a buffer": `digest-of` of `Answers`, for every tree that the check accepts and for what build writes. For the one text that fits, and for build
+-- and digest_text together: digest-accepted, digest-built.
+pub use Rattle.query_digest.proofs.Demands.{digest-accepted, digest-bytes, digest-built}
 pub use Rattle.sha256.proofs.Demands.{digest-text-short, digest-text-written, digest-text-bytes}
--- .. "It asks 5 to 7, 13, then 14, and a 14 leaves the 32 bytes zero."
-pub use Rattle.ask_digest.proofs.Demands.{digest-unread, digest-short, digest-broken}
+-- "It asks 5 to 7, then 13: the buffer has fewer than 32 bytes, then 14: the path of some place below n breaks. A 14 leaves the 32 bytes zero."
+pub use Rattle.query_digest.proofs.Demands.{digest-unread, digest-short, digest-broken}
 pub use Rattle.query.proofs.DigestCall.{digest-numbers, digest-zeros, digest-unchanged, digest-text-numbers}
 -- A text of no bytes "builds a tree of the header alone .. and the check accepts it. Its counts of 0 bytes are 0, its totals are 0, it has no row, and
 -- a byte is refused with 10": `built-tree` and `scanned-tree` below hold of it as of any text; of a tree with n 0 that the check accepts, whoever made it, ..

@@ -1,4 +1,4 @@
--- digest(tree, out): the SHA-256 of the tree's text; digest_text(text, out): that of a text.
+-- digest(tree, out): the SHA-256 of a tree's text; digest_text(text, out): the SHA-256 of a text.
 use mathlib.Core.List.{List, [], _∷_, _++_}
 use mathlib.Core.Bool.{Bool, true, false, cond}
 use mathlib.Core.Path.{_≡_, refl, sym, _∙_}
@@ -18,19 +18,19 @@ use Rattle.format.specs.VerdictLaws.{accepted-readable}
 use Rattle.format.specs.ReadSays.{pathsHold, leavesSpan}
 use Rattle.theory_accepted.specs.AcceptedTrees.{accepted-stands}
 use Rattle.sha256.specs.Sha256.{sha256}
-use Rattle.sha256.specs.DigestText.{digestTextNumber}
-use Rattle.ask_digest.specs.Digest.{digestSays, digestLeaves}
-use Rattle.ask_digest.proofs.Demands as digests
+use Rattle.sha256.specs.DigestText.{digestTextRefusal}
+use Rattle.query_digest.specs.Digest.{digestRefusal, digestBuffer}
+use Rattle.query_digest.proofs.Demands as digests
 use Rattle.query.proofs.OutsideCall.{Call, Lent, call}
 use Rattle.query.proofs.RefusalNumbers.{OneOf, asks-one, readable-one, then-one}
-use Rattle.ask_digest.proofs.digest as digest-code
-use Rattle.ask_digest.proofs.digest.Symbol as digest-symbol
-use Rattle.ask_digest.proofs.digest.Met as digest-met
+use Rattle.query_digest.proofs.digest as digest-code
+use Rattle.query_digest.proofs.digest.Symbol as digest-symbol
+use Rattle.query_digest.proofs.digest.Met as digest-met
 use Rattle.sha256.proofs.digest_text as digest-text-code
 use Rattle.sha256.proofs.digest_text.Symbol as digest-text-symbol
 use Rattle.sha256.proofs.digest_text.Met as digest-text-met
--- what the contracts allow, where the buffer is left as `after`: `Digest κs tree out after r`, and `DigestText κs text out after r`
-pub use Rattle.ask_digest.proofs.Demands.{Digest}
+-- What the contracts allow, with the buffer left as `after`: `Digest κs tree out after r`, `DigestText κs text out after r`.
+pub use Rattle.query_digest.proofs.Demands.{Digest}
 pub use Rattle.sha256.proofs.Demands.{DigestText}
 
 abbrev pub digest-call : Call
@@ -43,17 +43,17 @@ digest-text-call =
     call (record { routine = digest-text-symbol.routine; signature = digest-text-code.signature; clauses = digest-text-code.spec }) digest-text-met.met
     (λ 𝓤 H A mem run κs a. (tt, refl))
 
--- Any lent bytes.
+-- Any bytes.
 
--- the numbers that its questions can give
-digest-one : (t : List ℕ) (room : ℕ) → OneOf (5 ∷ 6 ∷ 7 ∷ 13 ∷ 14 ∷ 0 ∷ []) (digestSays t room)
-unfolding digestSays
+-- The numbers that digest can return.
+digest-one : (t : List ℕ) (room : ℕ) → OneOf (5 ∷ 6 ∷ 7 ∷ 13 ∷ 14 ∷ 0 ∷ []) (digestRefusal t room)
+unfolding digestRefusal
 digest-one t room =
     then-one (5 ∷ 6 ∷ 7 ∷ []) (13 ∷ 14 ∷ 0 ∷ []) (readable t) _ (readable-one t)
     (asks-one ((13, leb 32 room) ∷ (14, pathsHold t 0 (at.textLength t)) ∷ []))
 
-text-one : (room : ℕ) → OneOf (13 ∷ 0 ∷ []) (digestTextNumber room)
-unfolding digestTextNumber
+text-one : (room : ℕ) → OneOf (13 ∷ 0 ∷ []) (digestTextRefusal room)
+unfolding digestTextRefusal
 text-one room = go (leb 32 room)
   where
     go : (b : Bool) → OneOf (13 ∷ 0 ∷ []) (cond b 0 13)
@@ -61,34 +61,34 @@ text-one room = go (leb 32 room)
     go false = inl refl
 
 module _ (κs : Lfts 2) (t out after : Lent) (r : ℕ) where
-  -- The digest of a tree answers 0, 5, 6, 7, 13 or 14; ..
+  -- digest returns 0, 5, 6, 7, 13 or 14.
   pub digest-numbers : Digest κs t out after r → OneOf (5 ∷ 6 ∷ 7 ∷ 13 ∷ 14 ∷ 0 ∷ []) r
   digest-numbers a = rw (a .0) (digest-one (now t) (length (now out)))
 
-  -- .. a 14 leaves the 32 bytes zero, ..
+  -- 14 leaves the first 32 bytes zero.
   pub digest-zeros : Digest κs t out after r → r ≡ 14 → now after ≡ replicate 32 0 ++ drop 32 (now out)
-  unfolding digestLeaves leavesSpan
-  digest-zeros a e = let n : digestSays (now t) (length (now out)) ≡ 14 = sym (a .0) ∙ e in a .1 ∙ rw n
+  unfolding digestBuffer leavesSpan
+  digest-zeros a e = let n : digestRefusal (now t) (length (now out)) ≡ 14 = sym (a .0) ∙ e in a .1 ∙ rw n
 
-  -- .. and any other refusal leaves the buffer unchanged.
+  -- Any other refusal leaves the buffer unchanged.
   pub digest-unchanged : Digest κs t out after r → 1 ≤ r → (r ≡ 14 → ⊥) → now after ≡ now out
-  unfolding digestLeaves leavesSpan
+  unfolding digestBuffer leavesSpan
   digest-unchanged a low other = a .1 ∙ rw (← a .0, ne-eqb r 0 (λ z. omega arith), ne-eqb r 14 other)
 
-  -- The digest of a text answers 0 or 13.
+  -- digest_text returns 0 or 13.
   pub digest-text-numbers : DigestText κs t out after r → OneOf (13 ∷ 0 ∷ []) r
   digest-text-numbers a = rw (a .0) (text-one (length (now out)))
 
--- Answered from the text T by the tree t: the SHA-256 of T, in the first 32 bytes.
+-- The tree t gives the SHA-256 of the text T, in the first 32 bytes.
 pub record Answers (t : Lent) (S : Settings) (T : List ℕ) : Type 0 where
   pub digest-of : (κs : Lfts 2) (out after : Lent) (r : ℕ) → Digest κs t out after r → 32 ≤ length (now out)
       → (r ≡ 0) × (now after ≡ sha256 T ++ drop 32 (now out))
 
--- Refused, the buffer unchanged: 13.
+-- 13 leaves the buffer unchanged.
 pub record Refuses (t : Lent) (S : Settings) (T : List ℕ) : Type 0 where
   pub digest-short : (κs : Lfts 2) (out after : Lent) (r : ℕ) → Digest κs t out after r → length (now out) < 32 → (r ≡ 13) × (now after ≡ now out)
 
--- Any tree that the check accepts, and the one text that fits it.
+-- Every tree that the check accepts, with the one text that fits it.
 module _ (t : Lent) (v : verdict (now t) ≡ 0) where
   pub accepted-answers : Answers t (at.settings (now t)) (textOf (now t))
   accepted-answers = record {
