@@ -2,6 +2,7 @@
 //
 //   compare            books of 1 MiB: for each call the peer's time, the library's, and the library's by the peer's
 //   compare sizes      the library's calls on books of 64 KiB, 1 MiB and 8 MiB
+//   compare digest     SHA-256 beside plain C (sha256.c), and a tree's digest beside its parts, on books of 1 MiB
 //
 // Each call asks the header's questions anew, the peer's too. A time is the shortest of many rounds, each round taken by both in turn.
 #include "blocktree.h"
@@ -16,6 +17,11 @@ using peer::u32;
 using peer::u64;
 using peer::u8;
 using Bytes = std::vector<u8>;
+
+extern "C" {
+void sha256_gcc(const u8* text, size_t n, u8* out);
+void sha256_clang(const u8* text, size_t n, u8* out);
+}
 
 static volatile u64 sink;
 
@@ -232,7 +238,55 @@ static void sizes() {
     std::printf(" |\n");
 }
 
+// digest_text beside plain C, ns for a byte of a text.
+static void digest_texts(const Bytes& text) {
+    u8 ours[32], theirs[32];
+    double library = 1e18, gcc = 1e18, clang = 1e18;
+    for (int round = 0; round < 25; round++) {
+        shortest(library, text.size(), [&] { sink = bt_digest_text(text.data(), text.size(), ours, sizeof ours); });
+        shortest(gcc, text.size(), [&] { sha256_gcc(text.data(), text.size(), theirs); });
+        demand(!std::memcmp(ours, theirs, 32), "digest by gcc");
+#ifdef WITH_CLANG
+        shortest(clang, text.size(), [&] { sha256_clang(text.data(), text.size(), theirs); });
+        demand(!std::memcmp(ours, theirs, 32), "digest by clang");
+#endif
+    }
+    std::printf("\n| SHA-256 of %zu bytes | ns a byte | Library by it |\n|---|---:|---:|\n| `bt_digest_text` | %.2f | |\n", text.size(), library);
+    std::printf("| plain C, gcc -O3 | %.2f | %.2f |\n", gcc, library / gcc);
+    if (clang < 1e18) std::printf("| plain C, clang -O3 | %.2f | %.2f |\n", clang, library / clang);
+}
+
+// digest of a tree beside digest_text of its text and the span of the whole text, ns for a byte of the text.
+static void digest_tree(const char* name, const Bytes& text, const Bytes& tree) {
+    u8 of_tree[32], of_text[32];
+    Bytes all(text.size());
+    const u32 n = (u32)text.size();
+    u32 entered;
+    double digest = 1e18, hashed = 1e18, span = 1e18;
+    for (int round = 0; round < 25; round++) {
+        shortest(digest, n, [&] { sink = bt_digest(tree.data(), tree.size(), of_tree, sizeof of_tree); });
+        shortest(hashed, n, [&] { sink = bt_digest_text(text.data(), n, of_text, sizeof of_text); });
+        shortest(span, n, [&] { sink = bt_span(tree.data(), tree.size(), 0, n, all.data(), n, &entered); });
+        demand(!std::memcmp(of_tree, of_text, 32) && all == text, "digest of a tree");
+    }
+    std::printf("| %s | %.2f | %.2f | %.2f | %.2f |\n", name, digest, hashed, span, digest / (hashed + span));
+}
+
+static void digests() {
+    digest_texts(book(1048576, 92, 500, 1));
+    std::printf("\n| Tree of 1 MiB | `bt_digest`, ns a byte | `bt_digest_text` | span of the text | Digest by their sum |\n|---|---:|---:|---:|---:|\n");
+    const struct { const char* name; u32 relisted, corrected, leaf, arity, levels; } trees[] = {
+        {"repetitive, 64/2/4", 92, 500, 64, 2, 4}, {"repetitive, 24/3/5", 92, 500, 24, 3, 5}, {"repetitive, 16/4/4", 92, 500, 16, 4, 4}, {"mixed, 64/2/4", 55, 60, 64, 2, 4},
+    };
+    for (const auto& t : trees) {
+        const Bytes text = book(1048576, t.relisted, t.corrected, 1), tree = tree_of(text, t.leaf, t.arity, t.levels);
+        digest_tree(t.name, text, tree);
+        digest_tree((std::string(t.name) + ", layout 1").c_str(), text, without_edges(tree));
+    }
+}
+
 int main(int argc, char** argv) {
+    if (argc > 1 && std::string(argv[1]) == "digest") return digests(), 0;
     if (argc > 1 && std::string(argv[1]) == "sizes") return sizes(), 0;
     compare("Repetitive", book(1048576, 92, 500, 1), 64, 2, 4);
     compare("Mixed", book(1048576, 55, 60, 1), 64, 2, 4);

@@ -83,7 +83,7 @@ def read(path):
 
 
 # how many of a question's words are names
-place_words = dict.fromkeys("build list byte run count find span row column places match guide guidecheck guided".split(), 1)
+place_words = dict.fromkeys("build list byte run count find span row column digest places match guide guidecheck guided".split(), 1)
 place_words["order"] = 2
 
 
@@ -109,6 +109,8 @@ def shortened(kind, words, answer):
         length = {"span": lambda: int(words[1]), "row": lambda: int(answer[1]), "column": lambda: int(words[0])}[kind]()
         answered = answer[2][: 2 * length] or "-" if number == "0" else "-"
         return words[:-1], " ".join([number, answer[1], answered] if kind == "span" else [number, answered])
+    if kind == "digest":
+        return [], " ".join([number, answer[1][:64] if number == "0" else "-"])
     if kind in ("places", "guide"):
         count = int(answer[1])
         return words[:-1], " ".join([number, ",".join(answer[2].split(",")[:count]) if count else "-"])

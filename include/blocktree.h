@@ -15,8 +15,9 @@
  *  - Nobody has to check a tree first: each call is safe on any bytes, reads nothing outside them and ends. On a tree that bt_check refuses, bt_find may
  *    answer any place below n with any number of blocks, bt_row any bytes, bt_row_length any length up to n, and bt_next_match any row after the mark or none, or each of them may
  *    answer BT_PATH (bt_row also BT_BUFFER). All other answers are settled on any bytes. On a tree that bt_check accepts BT_PATH is never the answer.
- *  - A tree carries no checksum of its maker's text: bt_check says that it stands for a text, not for which. A flipped leaf byte, with the counts and edges
- *    that it is in, makes a good tree of another text, and a wrong key. Keep a digest of the tree beside it.
+ *  - bt_check says that a tree stands for a text, not for which: a changed leaf byte, with the counts and edges that it is in, makes a valid tree of
+ *    another text, and a wrong key. So the office prints the SHA-256 of the book, 32 bytes, and the machine compares them with what bt_digest writes of the
+ *    tree (examples/c/check_digest.c). A digest is as good as the way it came: store it apart from the tree, where whoever can change the tree cannot write.
  *  - Places in the text start at 0; occurrences and rows are numbered from 1, but the rows that bt_column_row reads from 0.
  */
 #ifndef BLOCKTREE_H
@@ -40,9 +41,10 @@ extern "C" {
 #define BT_MAX_CUTS 10u    /* cuts of a worn key: 1 to this */
 #define BT_LIST_LENGTH 352u /* a buffer of so many bytes holds all that bt_list writes */
 #define BT_FIGURES 23u     /* figures that bt_info writes */
+#define BT_DIGEST 32u      /* bytes of a SHA-256, which bt_digest and bt_digest_text write */
 
 /* The version of this header: major * 10000 + minor * 100 + patch. bt_version answers that of the archive. */
-#define BT_VERSION 11400u
+#define BT_VERSION 11500u
 uint32_t bt_version(void);
 
 /* What the numbers mean. */
@@ -228,6 +230,19 @@ uint32_t bt_from_columns(const uint8_t *text, size_t text_len, uint32_t width, u
  *             it was
  *   answers   0, 5, 6, 7, 20 (by the tree's text length), 10 (a is not below the number of rows), 13, 14 (the path of one of the row's bytes breaks) */
 uint32_t bt_column_row(const uint8_t *tree, size_t tree_len, uint32_t width, uint32_t a, uint8_t *buffer, size_t buffer_len);
+
+/* The SHA-256 (FIPS 180-4) of a tree's text, read part by part: of the bytes that the tree's paths give, which on a tree that bt_check accepts are the one
+ * text that fits it. Check first: on other trees the paths can give bytes that no text has.
+ *   lent      tree
+ *   written   out: the digest in its first 32 bytes, the rest as it was. BT_PATH leaves zeros in the first 32 bytes; any other refusal leaves it as it was
+ *   answers   0, 5, 6, 7, 13 (out has fewer than 32 bytes), 14 (the path of some place of the text breaks) */
+uint32_t bt_digest(const uint8_t *tree, size_t tree_len, uint8_t *out, size_t out_len);
+
+/* The SHA-256 of a text, or of any other bytes. The tree that bt_build writes of a text has this digest too.
+ *   lent      text
+ *   written   out: the digest in its first 32 bytes, the rest as it was; as it was on a refusal
+ *   answers   0, 13 */
+uint32_t bt_digest_text(const uint8_t *text, size_t text_len, uint8_t *out, size_t out_len);
 
 /* A guide to the level 0 blocks, kept beside a tree: for each counted byte in order, the number of the level 0 block that holds its 1st, 65th, 129th
  * occurrence and so on, a word each, four bytes, lowest first. bt_find and bt_row step through level 0 from its first block; with a guide they start at

@@ -85,6 +85,7 @@ ASKED = {
     "column": lambda tree, width, a: copied(lambda: tree.row_by_columns(int(width), int(a))),
     "places": lambda tree, pattern: tables(lambda: tree.places(from_hex(pattern))),
     "match": lambda tree, ranges, mark: match(tree, depths(ranges), int(mark)),
+    "digest": lambda tree: copied(tree.digest),
     "guide": lambda tree: tables(lambda: guide(tree)),
     "guidecheck": lambda tree, words: _call("bt_check_guide", tree.bytes, entries(words)),
     "guided": lambda tree, words, c, j: _call("bt_find_guided", tree.bytes, entries(words), int(c), int(j)),

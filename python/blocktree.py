@@ -13,14 +13,15 @@ Over the proved library, by ctypes, from libblocktree.so: the one that BLOCKTREE
 the system finds it (`make shared`, `make install`). Python 3.8 or later, Linux on x86-64.
 
 Texts, trees, rows and patterns are bytes. Places start at 0; rows and occurrences are numbered from 1. What the library refuses raises Refused, whose
-`number` is the library's; docs/FORMAT.md says what each means. A tree carries no checksum of its maker's text: keep a digest beside it (hashlib.sha256).
+`number` is the library's; docs/FORMAT.md says what each means. Which text a tree stands for, Tree.digest() says: compare it with the SHA-256 that the
+office printed of the book.
 """
 
 import ctypes
 import ctypes.util
 import os
 
-__all__ = ["Refused", "Tree", "build", "enough", "scan_words", "to_columns", "from_columns", "open_on", "days_left", "renew"]
+__all__ = ["Refused", "Tree", "build", "enough", "scan_words", "to_columns", "from_columns", "digest_text", "open_on", "days_left", "renew"]
 
 REASONS = {
     1: "a text must have at most 8,388,608 bytes",
@@ -51,6 +52,7 @@ REASONS = {
 }
 
 MAX_TEXT = 8_388_608
+DIGEST = 32
 LIST_LENGTH = 512
 BEFORE, SAME, AFTER = 1, 2, 3
 
@@ -84,6 +86,8 @@ _CALLS = {
     "bt_to_columns": "bytes n32 buffer",
     "bt_from_columns": "bytes n32 buffer",
     "bt_column_row": "bytes n32 n32 buffer",
+    "bt_digest": "bytes buffer",
+    "bt_digest_text": "bytes buffer",
     "bt_guide_words": "bytes out64",
     "bt_make_guide": "bytes buffer out64",
     "bt_check_guide": "bytes bytes",
@@ -200,6 +204,17 @@ def to_columns(text, width):
 def from_columns(text, width):
     """And back."""
     return _turned("bt_from_columns", text, width)
+
+
+def _digest(name, lent):
+    out = bytearray(DIGEST)
+    _ask(name, lent, out)
+    return bytes(out)
+
+
+def digest_text(text):
+    """The SHA-256 of any bytes, as 32 bytes; .hex() is what sha256sum prints."""
+    return _digest("bt_digest_text", text)
 
 
 def open_on(first, last, today):
@@ -329,6 +344,10 @@ class Tree:
         room = bytearray(min(width, len(self), MAX_TEXT))
         _ask("bt_column_row", self.bytes, width, a, room)
         return bytes(room)
+
+    def digest(self):
+        """The SHA-256 of the tree's text, as 32 bytes."""
+        return _digest("bt_digest", self.bytes)
 
     def make_guide(self):
         """The guide to the level 0 blocks."""

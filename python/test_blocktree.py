@@ -4,6 +4,7 @@
 """
 
 import doctest
+import hashlib
 import os
 import re
 import sys
@@ -115,6 +116,8 @@ ASKED = {
     "columns": lambda named, t, width, room: with_buffer("bt_to_columns", named[t], int(width), room=int(room)),
     "rows": lambda named, t, width, room: with_buffer("bt_from_columns", named[t], int(width), room=int(room)),
     "column": lambda named, t, width, a, room: column(named[t], int(width), int(a), int(room)),
+    "digest": lambda named, t, room: with_buffer("bt_digest", named[t], room=int(room)),
+    "digest_text": lambda named, t, room: with_buffer("bt_digest_text", named[t], room=int(room)),
     "guide": lambda named, t, words: make_guide(named[t], int(words)),
     "guidecheck": lambda named, t, word: _call("bt_check_guide", named[t], guide(word)),
     "guided": lambda named, t, word, b, j: _call("bt_find_guided", named[t], guide(word), int(b), int(j)),
@@ -156,7 +159,7 @@ def own_functions():
     assert (len(book), len(book.bytes), book.rows(), book.text()) == (2800, 5884, 200, text)
     assert book.info() == {"layout": 2, "length": 2800, "leaf": 24, "arity": 8, "levels": 3, "leaf_bytes": 1072, "totals": {10: 200}, "blocks": [2, 15, 45]}
     assert [book.row_length(number) for number in (1, 40, 200)] == [13, 13, 13]
-    assert blocktree.version() == (1, 14, 0)
+    assert blocktree.version() == (1, 15, 0)
     guide = book.make_guide()
     book.check_guide(guide)
     for number in range(1, 201, 7):
@@ -167,6 +170,7 @@ def own_functions():
     assert list(book.matches([(5, 5), (2, 2), (1, 1), (6, 6), (1, 2)])) == [39, 40, 79, 80, 119, 120, 159, 160, 199, 200]
     assert (book.byte(14), book.count(10, 1400), book.span(14, 6), book.run(14)[:3]) == (67, 100, b"CH0502", b"CH0")
     assert book.list() == "0 2 2 0\n1 15 6 9\n2 45 45 0\n"
+    assert book.digest() == blocktree.digest_text(text) == hashlib.sha256(text).digest()
     turned = blocktree.to_columns(text, 14)
     assert blocktree.from_columns(turned, 14) == text
     columns = blocktree.Tree(blocktree.build(turned, 256, 2, 1))
@@ -174,6 +178,15 @@ def own_functions():
     assert book.compare(columns) == (blocktree.AFTER, 1) and book.compare(book) == (blocktree.SAME, 2800)
     assert blocktree.open_on(b"20240101", b"20241231", b"20240301") and blocktree.days_left(b"20191231", b"20300101") == -3654
     assert blocktree.renew(b"20240229") == b"20250228"
+
+
+def digests():
+    """Beside hashlib, on all lengths around the ends of blocks, as texts and as trees."""
+    for length in [*range(0, 200), *range(1016, 1034), 4095, 4096, 4097, 1 << 20]:
+        text = bytes((place * place >> 3) & 255 for place in range(length))
+        due = hashlib.sha256(text).digest()
+        assert blocktree.digest_text(text) == due
+        assert blocktree.Tree(blocktree.build(text, 64, 2, 2, b"")).digest() == due
 
 
 def refusals():
@@ -190,6 +203,7 @@ def refusals():
         (12, lambda: book.row(2)),
         (12, lambda: book.row_length(2)),
         (5, lambda: blocktree.Tree(b"", checked=False).info()),
+        (5, lambda: blocktree.Tree(b"", checked=False).digest()),
         (16, lambda: book.places(b"")),
         (19, lambda: book.next_match([])),
         (20, lambda: blocktree.to_columns(b"ABC", 2)),
@@ -213,6 +227,7 @@ def refusals():
 if __name__ == "__main__":
     counts = [run_file(path) for path in FILES]
     own_functions()
+    digests()
     refusals()
     failed, tried = doctest.testmod(blocktree)
     assert (failed, tried > 3) == (0, True)

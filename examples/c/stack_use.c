@@ -43,6 +43,8 @@ static void next_match(void) { uint32_t mark = 0; do bt_next_match(tree, size, r
 static void to_columns(void) { bt_to_columns(text, TEXT, 10, turned, TEXT); }
 static void from_columns(void) { bt_from_columns(text, TEXT, 10, turned, TEXT); }
 static void column_row(void) { bt_column_row(tree, size, 10, 5, row, TEXT); }
+static void digest(void) { uint8_t out[BT_DIGEST]; bt_digest(tree, size, out, sizeof out); }
+static void digest_text(void) { uint8_t out[BT_DIGEST]; bt_digest_text(text, TEXT, out, sizeof out); }
 static void guide_words(void) { bt_guide_words(tree, size, &words); }
 static void make_guide(void) { bt_make_guide(tree, size, guide, 4 * words, &large); }
 static void check_guide(void) { bt_check_guide(tree, size, guide, 4 * words); }
@@ -101,6 +103,7 @@ int main(void)
         {"bt_byte", byte}, {"bt_run", run}, {"bt_span", span}, {"bt_count", count}, {"bt_find", find}, {"bt_row", rows}, {"bt_places", places},
         {"bt_version", version}, {"bt_info", info}, {"bt_row_length", row_length}, {"bt_row_count", row_count}, {"bt_places_words", places_words},
         {"bt_next_match", next_match}, {"bt_to_columns", to_columns}, {"bt_from_columns", from_columns}, {"bt_column_row", column_row},
+        {"bt_digest", digest}, {"bt_digest_text", digest_text},
         {"bt_guide_words", guide_words}, {"bt_make_guide", make_guide}, {"bt_check_guide", check_guide}, {"bt_find_guided", find_guided},
         {"bt_row_guided", row_guided}, {"bt_order", order}, {"bt_list", list}, {"bt_open_on", open_on}, {"bt_days_left", days_left}, {"bt_renew", renew},
     };

@@ -38,6 +38,8 @@ mod declared {
         pub fn bt_to_columns(text: *const u8, text_len: usize, width: u32, out: *mut u8, out_len: usize) -> u32;
         pub fn bt_from_columns(text: *const u8, text_len: usize, width: u32, out: *mut u8, out_len: usize) -> u32;
         pub fn bt_column_row(tree: *const u8, tree_len: usize, width: u32, a: u32, buffer: *mut u8, buffer_len: usize) -> u32;
+        pub fn bt_digest(tree: *const u8, tree_len: usize, out: *mut u8, out_len: usize) -> u32;
+        pub fn bt_digest_text(text: *const u8, text_len: usize, out: *mut u8, out_len: usize) -> u32;
         pub fn bt_guide_words(tree: *const u8, tree_len: usize, words: *mut u64) -> u32;
         pub fn bt_make_guide(tree: *const u8, tree_len: usize, table: *mut u8, table_len: usize, words: *mut u64) -> u32;
         pub fn bt_check_guide(tree: *const u8, tree_len: usize, guide: *const u8, guide_len: usize) -> u32;
@@ -201,6 +203,16 @@ pub fn from_columns(text: &[u8], width: u32, out: &mut [u8]) -> u32 {
 /// The number; row `a` read by columns.
 pub fn column_row(tree: &[u8], width: u32, a: u32, buffer: &mut [u8]) -> u32 {
     unsafe { declared::bt_column_row(tree.as_ptr(), tree.len(), width, a, buffer.as_mut_ptr(), buffer.len()) }
+}
+
+/// The number; the SHA-256 of the tree's text is in the first 32 bytes.
+pub fn digest(tree: &[u8], out: &mut [u8]) -> u32 {
+    unsafe { declared::bt_digest(tree.as_ptr(), tree.len(), out.as_mut_ptr(), out.len()) }
+}
+
+/// The number; the SHA-256 of the text is in the first 32 bytes.
+pub fn digest_text(text: &[u8], out: &mut [u8]) -> u32 {
+    unsafe { declared::bt_digest_text(text.as_ptr(), text.len(), out.as_mut_ptr(), out.len()) }
 }
 
 /// The number and the words of a guide.

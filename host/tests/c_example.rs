@@ -47,6 +47,11 @@ fn builds_with_one_scan_a_level() {
     assert_eq!(printed("build_scanned"), "table of 56 words, 470 windows looked up\nboth trees are the same\n");
 }
 
+#[test]
+fn checks_a_digest() {
+    assert_eq!(printed("check_digest"), "the tree of 1060 bytes is of the printed text\nanother text is found out\n");
+}
+
 /// Each call's stack is as small as README.md says.
 #[test]
 fn stack_use() {

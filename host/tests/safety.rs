@@ -282,6 +282,7 @@ fn files_that_are_too_long_are_not_read() {
         "stats long",
         "row 1 long",
         "text long",
+        "digest long",
         "compare small.tree long",
         "shelf long",
         "picture long",
@@ -297,7 +298,7 @@ fn files_that_are_too_long_are_not_read() {
     assert!(start.elapsed() < Duration::from_secs(20));
 }
 
-// 4: a tree carries no checksum
+// 4: which text a tree stands for
 
 #[test]
 fn a_tree_is_held_against_its_book() {
@@ -336,22 +337,59 @@ fn a_tree_from_another_builder() {
 #[test]
 fn digests() {
     let folder = Folder::with_tree("digests");
-    let digest = folder.shell("sha256sum small.tree").printed()[..64].to_owned();
-    assert!(folder.run("build small.txt -f").printed().contains(&format!("\nsha256 {digest}\n")));
-    let good = format!("small.tree: a good tree of 2,800 bytes of text; sha256 {digest}\n");
+    let of = |file: &str| folder.shell(&format!("sha256sum {file}")).printed()[..64].to_owned();
+    let (tree, text) = (of("small.tree"), of("small.txt"));
+    assert!(folder.run("build small.txt -f").printed().contains(&format!("\nSHA-256 of the tree {tree}\nSHA-256 of its text {text}\n")));
+    let good = format!("small.tree: valid tree of 2,800 bytes of text; SHA-256 of the tree {tree}, of its text {text}\n");
     folder.run("check small.tree").succeeds().prints(&good);
-    folder.run(&format!("check --sha256 {digest} small.tree")).succeeds().prints(&good);
-    folder.run(&format!("check --sha256={} small.tree", digest.to_uppercase())).succeeds().prints(&good);
-    let wrong = "0".repeat(64);
-    let says = format!("codebook: small.tree: a good tree, but not the one that is meant: its SHA-256 is {digest}\n");
-    folder.run(&format!("check --sha256 {wrong} small.tree")).status(1).prints("").says(&says);
     for words in [
-        format!("--sha256 {} small.tree", &wrong[1..]),
-        format!("--sha256 {}g small.tree", &wrong[1..]),
-        format!("--sha256 {wrong} small.tree small.tree"),
+        format!("--sha256 {tree}"),
+        format!("--sha256={}", tree.to_uppercase()),
+        format!("--text-sha256 {text}"),
+        format!("--text-sha256={} --sha256 {tree}", text.to_uppercase()),
     ] {
-        folder.run(&format!("check {words}")).status(2).prints("");
+        folder.run(&format!("check {words} small.tree")).succeeds().prints(&good);
     }
+    let wrong = "0".repeat(64);
+    let says = |what: &str, digest: &str| format!("codebook: small.tree: valid tree, but {what} is {digest}, not {wrong}\n");
+    folder.run(&format!("check --sha256 {wrong} small.tree")).status(1).prints("").says(&says("its SHA-256", &tree));
+    folder.run(&format!("check --text-sha256 {wrong} small.tree")).status(1).prints("").says(&says("the SHA-256 of its text", &text));
+    folder.run(&format!("check --text-sha256 {wrong} --sha256 {wrong} small.tree")).status(1).says(&says("its SHA-256", &tree));
+    // one digest for the other
+    folder.run(&format!("check --text-sha256 {tree} small.tree")).status(1);
+    for option in ["--sha256", "--text-sha256"] {
+        let usage = "\nusage: codebook check [TREE]... [--sha256 HEX] [--text-sha256 HEX] [--json]\n";
+        for word in [&wrong[1..], &format!("{}g", &wrong[1..]), &format!("{wrong}0")] {
+            let says = format!("codebook: {option} is 64 hexadecimal digits, not '{word}'{usage}");
+            folder.run(&format!("check {option} {word} small.tree")).status(2).prints("").says(&says);
+        }
+        let says = format!("codebook: {option} is the digest of one tree{usage}");
+        folder.run(&format!("check {option} {wrong} small.tree small.tree")).status(2).prints("").says(&says);
+    }
+}
+
+/// `digest` prints what sha256sum prints of the book; a tree that is refused has no line.
+#[test]
+fn digests_of_texts() {
+    let folder = Folder::with_tree("texts");
+    let line = folder.shell("sha256sum small.txt").printed().replace("small.txt", "small.tree");
+    folder.run("digest small.tree").succeeds().prints(&line).says("");
+    folder.run("digest -q --unchecked small.tree").succeeds().prints(&line);
+    folder.shell("codebook digest small.tree | sed s/tree/txt/ | sha256sum -c --quiet").succeeds();
+    folder.pipe("digest", &folder.read("small.tree")).succeeds().prints(&line.replace("small.tree", "-"));
+    folder.shell("codebook digest - < small.tree").succeeds().prints(&line.replace("small.tree", "-"));
+    folder.run("digest --json small.tree").succeeds().prints(&format!("{{\"tree\":\"small.tree\",\"text_sha256\":\"{}\"}}\n", &line[..64]));
+    // the digest is of the text, whatever the tree
+    folder.run("build small.txt -q -o large.tree --leaf 1 --arity 2 --levels 1").succeeds();
+    folder.run("digest large.tree").succeeds().prints(&line.replace("small.tree", "large.tree"));
+    // the kind of the first block is no kind
+    let mut tree = folder.read("small.tree");
+    tree[104] = 2;
+    folder.write("damaged.tree", &tree);
+    assert!(folder.run("digest damaged.tree").status(1).prints("").errors().starts_with("codebook: damaged.tree: refused (8): "));
+    assert!(folder.run("digest --unchecked damaged.tree").status(1).prints("").errors().starts_with("codebook: damaged.tree: refused (14): "));
+    folder.write("cut.tree", &tree[..99]);
+    assert!(folder.run("digest --unchecked cut.tree").status(1).prints("").errors().starts_with("codebook: cut.tree: refused (5): "));
 }
 
 // 5: what a reader would miss

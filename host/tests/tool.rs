@@ -11,7 +11,7 @@ const NO_SMALLER: &str = "the tree is no smaller than the text: the book is shor
 
 /// What is printed before the digest.
 fn before_digest(done: &folder::Done) -> String {
-    done.printed().split("sha256 ").next().unwrap_or_default().to_owned()
+    done.printed().split("SHA-256 of the tree ").next().unwrap_or_default().to_owned()
 }
 
 #[test]
@@ -29,7 +29,8 @@ leaf  arity  levels  tree's bytes
 chosen: leaf 24, arity 8, levels 3, since its tree is the smallest of these 6
 ";
     let ending = "5,884 bytes, 210.1 % of the text; leaf 24, arity 8, levels 3; bytes counted: 10\n\
-                  sha256 52b68fb8c050a721ad41325cbab54baa513f37c762b2e90bffd1283ca2b82927\n";
+                  SHA-256 of the tree 52b68fb8c050a721ad41325cbab54baa513f37c762b2e90bffd1283ca2b82927\n\
+                  SHA-256 of its text e913aa0d736292973c8ab01c65bd84ff6524fb868d54c9621602942b5dfceb6e\n";
     let warning = |book: &str| format!("codebook: {book}: warning: {NO_SMALLER}\n");
     folder.run("build small.txt -o small.tree").succeeds().prints(&format!("{report}small.tree: {ending}")).says(&warning("small.txt"));
     assert_eq!(folder.read("small.tree").len(), 5884);
@@ -356,7 +357,7 @@ fn trees_from_standard_input() {
     let tree = folder.read("small.tree");
     folder.pipe("row 2", &tree).succeeds().prints("CH0502 444225\n");
     folder.pipe("row 2 -", &tree).succeeds().prints("CH0502 444225\n");
-    assert!(folder.pipe("check", &tree).succeeds().printed().starts_with("standard input: a good tree of 2,800 bytes of text; sha256 "));
+    assert!(folder.pipe("check", &tree).succeeds().printed().starts_with("standard input: valid tree of 2,800 bytes of text; SHA-256 of the tree "));
     folder
         .pipe("check", b"")
         .status(1)
@@ -442,7 +443,7 @@ fn book_without_rows() {
     let built = folder.run("build empty.txt -o empty.tree --leaf 2 --arity 2 --levels 2");
     let sizes = "empty.txt: 0 bytes\nempty.tree: 100 bytes, an empty text; leaf 2, arity 2, levels 2; bytes counted: 10\n";
     assert_eq!(before_digest(built.succeeds()), sizes);
-    assert!(folder.run("check empty.tree").succeeds().printed().starts_with("empty.tree: a good tree of 0 bytes of text; "));
+    assert!(folder.run("check empty.tree").succeeds().printed().starts_with("empty.tree: valid tree of 0 bytes of text; "));
     folder.run("list empty.tree").succeeds().prints("0 0 0 0\n1 0 0 0\n");
     folder.run("text empty.tree").succeeds().prints("");
     folder.run("count 10 0 empty.tree").succeeds().prints("0 (0 blocks entered)\n");
@@ -516,8 +517,8 @@ fn calls_that_are_not_right() {
     let byte = "usage: codebook byte PLACE [TREE] [--json] [--unchecked]";
     usage("byte -14 x", &format!("PLACE is a number from 0 to 4294967295; -14 is negative\n{byte}"));
     usage("byte 1 a.tree b.tree", &format!("'b.tree' is one word too many\n{byte}"));
-    usage("check --all", "there is no option '--all'\nusage: codebook check [TREE]... [--sha256 HEX] [--json]");
-    usage("check --json=1", "--json has no value\nusage: codebook check [TREE]... [--sha256 HEX] [--json]");
+    usage("check --all", "there is no option '--all'\nusage: codebook check [TREE]... [--sha256 HEX] [--text-sha256 HEX] [--json]");
+    usage("check --json=1", "--json has no value\nusage: codebook check [TREE]... [--sha256 HEX] [--text-sha256 HEX] [--json]");
     usage("text -x", "there is no option '-x'\nusage: codebook text [TREE] [--unchecked]");
     let count = "usage: codebook count BYTE LENGTH [TREE] [--json] [--unchecked]";
     usage("count 256 4 x", &format!("a byte is a number from 0 to 255 or one character that is no digit, not '256'\n{count}"));
@@ -587,7 +588,7 @@ fn help() {
     overview.succeeds().says("");
     let text = overview.printed();
     let commands: Vec<&str> = text.lines().filter(|line| line.starts_with("  ")).map(|line| line[2..17].trim_end()).collect();
-    assert_eq!(commands.len(), 30);
+    assert_eq!(commands.len(), 31);
     for command in commands {
         let help = folder.run(&format!("{command} --help"));
         help.succeeds().says("");

@@ -8,7 +8,7 @@ mod support;
 use codebook::calls;
 use judge::{find_agrees, match_agrees, row_agrees, FILL, FILL_WORD};
 use model::read::Answer;
-use model::{build, check, columns, dates, guides, keys, order, read, Shape};
+use model::{build, check, columns, dates, guides, keys, order, read, sha256, Shape};
 use std::collections::HashMap;
 use std::fmt::Display;
 use support::{from_hex, to_hex};
@@ -35,6 +35,8 @@ struct Calls {
     to_columns: fn(&[u8], u32, &mut [u8]) -> u32,
     from_columns: fn(&[u8], u32, &mut [u8]) -> u32,
     column_row: fn(&[u8], u32, u32, &mut [u8]) -> (u32, u32),
+    digest: fn(&[u8], &mut [u8]) -> u32,
+    digest_text: fn(&[u8], &mut [u8]) -> u32,
     open_on: fn(&[u8], &[u8], &[u8]) -> (u32, u32),
     days_left: fn(&[u8], &[u8]) -> (u32, i32),
     renew: fn(&[u8]) -> (u32, Vec<u8>),
@@ -70,6 +72,8 @@ fn library() {
             0 => (0, width),
             number => (number, 0),
         },
+        digest: calls::digest,
+        digest_text: calls::digest_text,
         open_on: calls::open_on,
         days_left: calls::days_left,
         renew: |day| {
@@ -102,6 +106,8 @@ fn model() {
         to_columns: columns::to_columns,
         from_columns: columns::from_columns,
         column_row: columns::row,
+        digest: sha256::digest,
+        digest_text: sha256::digest_text,
         open_on: dates::open_on,
         days_left: dates::days_left,
         renew: dates::renew,
@@ -194,6 +200,11 @@ fn item(calls: &Calls, bytes: &HashMap<&str, Vec<u8>>, item: &[&str], expected: 
             let mut table = vec![FILL_WORD; item[3].parse().expect("a length")];
             let (refusal, places) = (calls.places)(subject, &from_hex(item[2]), &mut table);
             format!("{refusal} {places} {}", words(&table))
+        }
+        "digest" | "digest_text" => {
+            let mut out = lent(2);
+            let refusal = if item[0] == "digest" { (calls.digest)(subject, &mut out) } else { (calls.digest_text)(subject, &mut out) };
+            format!("{refusal} {}", to_hex(&out))
         }
         "columns" | "rows" => {
             let mut out = lent(3);

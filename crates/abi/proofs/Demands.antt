@@ -83,6 +83,12 @@ use Rattle.abi.proofs.column_exports.bt_from_columns.Met as bt-from-col
 use Rattle.abi.proofs.column_exports.bt_column_row as bt-column-row-of
 use Rattle.abi.proofs.column_exports.bt_column_row.Symbol as bt-column-row-at
 use Rattle.abi.proofs.column_exports.bt_column_row.Met as bt-column-row-met
+use Rattle.abi.proofs.digest_exports.bt_digest as bt-digest-of
+use Rattle.abi.proofs.digest_exports.bt_digest.Symbol as bt-digest-at
+use Rattle.abi.proofs.digest_exports.bt_digest.Met as bt-digest-met
+use Rattle.abi.proofs.digest_exports.bt_digest_text as bt-digest-text-of
+use Rattle.abi.proofs.digest_exports.bt_digest_text.Symbol as bt-digest-text-at
+use Rattle.abi.proofs.digest_exports.bt_digest_text.Met as bt-digest-text-met
 use Rattle.abi.proofs.figure_exports.bt_version as bt-version-of
 use Rattle.abi.proofs.figure_exports.bt_version.Symbol as bt-version-at
 use Rattle.abi.proofs.figure_exports.bt_version.Met as bt-version-met
@@ -160,6 +166,10 @@ calls =
     }) bt-from-columns-met.met
     (λ 𝓤 H A mem run κs a. (tt, refl))
     ∷ call (record { routine = bt-column-row-at.routine; signature = bt-column-row-of.signature; clauses = bt-column-row-of.spec }) bt-column-row-met.met
+    (λ 𝓤 H A mem run κs a. (tt, refl))
+    ∷ call (record { routine = bt-digest-at.routine; signature = bt-digest-of.signature; clauses = bt-digest-of.spec }) bt-digest-met.met
+    (λ 𝓤 H A mem run κs a. (tt, refl))
+    ∷ call (record { routine = bt-digest-text-at.routine; signature = bt-digest-text-of.signature; clauses = bt-digest-text-of.spec }) bt-digest-text-met.met
     (λ 𝓤 H A mem run κs a. (tt, refl))
     ∷ call (record { routine = bt-version-at.routine; signature = bt-version-of.signature; clauses = bt-version-of.spec }) bt-version-met.met
     (λ 𝓤 H A mem run κs a. (tt, refl))

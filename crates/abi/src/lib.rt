@@ -1,6 +1,7 @@
 // The calls exported to C. Each answers a number: 0, or the number of the question that refuses. Figures are written behind
 // references, 0 on a refusal. Any bytes may be lent as a tree.
 mod column_exports;
+mod digest_exports;
 pub mod figure_exports;
 pub mod guide_exports;
 pub mod licence_exports;

@@ -1,6 +1,7 @@
 // What a line asks, put to the library.
 use crate::beside;
 use crate::column_cases;
+use crate::digest_cases;
 use crate::guide_cases;
 use crate::licence_cases;
 use crate::order_cases;
@@ -36,6 +37,9 @@ pub fn line(script: &[u8], line: &[u8], bytes: &mut [u8], lent: &mut [u8]) {
 // A line with a word of another file, or with no such word.
 fn other(script: &[u8], line: &[u8], bytes: &mut [u8], lent: &mut [u8]) {
     if column_cases::line(script, line, bytes, lent) {
+        return;
+    }
+    if digest_cases::line(script, line, bytes, lent) {
         return;
     }
     if licence_cases::line(line) {

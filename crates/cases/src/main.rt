@@ -3,6 +3,7 @@
 mod ask;
 mod beside;
 mod column_cases;
+mod digest_cases;
 mod guide_cases;
 mod licence_cases;
 mod order_cases;

@@ -1,6 +1,7 @@
 // The library's answers, printed in the format of the cases: ` => `, the number of the question that refuses or 0, the figures, and what
 // a lent buffer holds, in hexadecimal.
 pub mod column_replies;
+pub mod digest_replies;
 pub mod guide_replies;
 pub mod licence_replies;
 pub mod order_replies;

@@ -20,6 +20,7 @@ use Rattle.query.proofs.PlacesWordsCall
 use Rattle.query.proofs.NextMatchCall
 use Rattle.query.proofs.ColumnsCall
 use Rattle.query.proofs.ColumnRowCall
+use Rattle.query.proofs.DigestCall
 use Rattle.query.proofs.GuideCall
 use Rattle.query.proofs.FindGuidedCall
 use Rattle.query.proofs.RowGuidedCall
@@ -52,6 +53,8 @@ calls =
     ∷ ColumnsCall.to-columns-call
     ∷ ColumnsCall.from-columns-call
     ∷ ColumnRowCall.row-by-columns-call
+    ∷ DigestCall.digest-call
+    ∷ DigestCall.digest-text-call
     ∷ GuideCall.guide-words-call
     ∷ GuideCall.make-guide-call
     ∷ GuideCall.check-guide-call

@@ -17,6 +17,7 @@ pub mod PlacesWordsCall
 pub mod NextMatchCall
 pub mod ColumnsCall
 pub mod ColumnRowCall
+pub mod DigestCall
 pub mod TreeAnswers
 pub mod LeftmostCall
 pub mod EnoughCall

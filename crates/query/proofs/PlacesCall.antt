@@ -3,13 +3,13 @@ use mathlib.Core.List.{List, [], _∷_, _++_}
 use mathlib.Core.Option.{some}
 use mathlib.Core.Bool.{true, _&&_}
 use mathlib.Core.Path.{_≡_, sym, ap, _∙_, refl}
-use Prim.Native.Nat.{ℕ, zero, suc, _+_, _≤_, _<_}
+use Prim.Native.Nat.{ℕ, _+_, _≤_, _<_}
 use native.Mathlib.Omega.{arith}
 use contract.Lifetimes.{Lfts}
 use denote.Ref.{now}
 use lib.ListN.{length, getD, drop}
-use lib.Dec.{eqb, leb}
-use borrow.Author.Tests.{ne-eqb, leb-true, eqb-true}
+use lib.Dec.{leb}
+use borrow.Author.Tests.{ne-eqb, leb-true}
 use Rattle.text.specs.ListLaws.{and-left, and-right}
 use Rattle.format.specs.Settings.{Settings}
 use Rattle.format.specs.Layout as at
@@ -18,11 +18,11 @@ use Rattle.format.specs.Fits.{linksOk, textOf}
 use Rattle.format.specs.Verdict.{readable, verdict, ask}
 use Rattle.format.specs.VerdictLaws.{accepted-readable, accepted-links}
 use Rattle.format.specs.Said.{Said, refused}
-use Rattle.format.specs.ReadSays.{byteSays, pathsHold}
+use Rattle.format.specs.ReadSays.{pathsHold}
 use Rattle.format.specs.LayoutLaws.{readable-facts, ask-test, ask-rest}
 use Rattle.format.specs.SaidLaws.{unless-passes, then-is, unless-number}
 use Rattle.theory_paths.specs.Demands as paths
-use Rattle.theory_paths.specs.PlaceBytes.{path-there}
+use Rattle.theory_paths.specs.PlaceBytes.{hold-at, path-there}
 use Rattle.theory_paths.specs.Reads.{text-of-path}
 use Rattle.ask_patterns.specs.PlacesLaws.{places-all, AllPlaces}
 use Rattle.ask_patterns.proofs.Demands as patterns
@@ -69,17 +69,6 @@ passed t P room h =
       hold = ask-test 13 (pathsHold t 0 (at.textLength t)) seventeen b;
       fits = leb-true (length (placesOf t P)) room (ask-test 16 (leb (length (placesOf t P)) room) 0 c);
     }
-
--- the path of each of some places holds
-hold-at : (t : List ℕ) (len p x : ℕ) → pathsHold t p len ≡ true → x < len → byteSays t (p + x) .number ≡ 0
-unfolding pathsHold
-hold-at t zero p x h l = absurd (let z : ⊥ = omega arith in z)
-hold-at t (suc len) p zero h l =
-    let z : p + 0 ≡ p = omega arith in
-    rw z (eqb-true _ 0 (and-left (eqb (byteSays t p .number) 0) (pathsHold t (p + 1) len) h))
-hold-at t (suc len) p (suc x) h l =
-    let z : p + suc x ≡ p + 1 + x = omega arith in
-    rw z (hold-at t len (p + 1) x (and-right (eqb (byteSays t p .number) 0) (pathsHold t (p + 1) len) h) (omega arith))
 
 -- the numbers that the questions can give
 places-one : (t P : List ℕ) (room : ℕ) → OneOf (5 ∷ 6 ∷ 7 ∷ 16 ∷ 14 ∷ 17 ∷ 0 ∷ []) (placesNumber t P room)

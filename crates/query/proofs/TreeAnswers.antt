@@ -19,6 +19,7 @@ use Rattle.query.proofs.RowCall
 use Rattle.query.proofs.PlacesCall
 use Rattle.query.proofs.NextMatchCall
 use Rattle.query.proofs.ColumnRowCall
+use Rattle.query.proofs.DigestCall
 
 -- every question put to the tree t is answered from the text T; S are the settings
 pub record Answers (t : Lent) (S : Settings) (T : List ℕ) : Type 0 where
@@ -31,6 +32,7 @@ pub record Answers (t : Lent) (S : Settings) (T : List ℕ) : Type 0 where
   pub places : PlacesCall.Answers t S T
   pub next-match : NextMatchCall.Answers t S T
   pub column-row : ColumnRowCall.Answers t S T
+  pub digest : DigestCall.Answers t S T
 
 -- and where a question refuses, its number is answered, in the order of docs/FORMAT.md, "The questions, in order", and a lent buffer is unchanged
 pub record Refuses (t : Lent) (S : Settings) (T : List ℕ) : Type 0 where
@@ -43,6 +45,7 @@ pub record Refuses (t : Lent) (S : Settings) (T : List ℕ) : Type 0 where
   pub places : PlacesCall.Refuses t S T
   pub next-match : NextMatchCall.Refuses t S T
   pub column-row : ColumnRowCall.Refuses t S T
+  pub digest : DigestCall.Refuses t S T
 
 -- Any tree that the check accepts, and the one text that fits it.
 module _ (t : Lent) (v : verdict (now t) ≡ 0) where
@@ -57,6 +60,7 @@ module _ (t : Lent) (v : verdict (now t) ≡ 0) where
     places = PlacesCall.accepted-answers t v;
     next-match = NextMatchCall.accepted-answers t v;
     column-row = ColumnRowCall.accepted-answers t v;
+    digest = DigestCall.accepted-answers t v;
   }
 
   pub accepted-refuses : Refuses t (at.settings (now t)) (textOf (now t))
@@ -70,4 +74,5 @@ module _ (t : Lent) (v : verdict (now t) ≡ 0) where
     places = PlacesCall.accepted-refuses t v;
     next-match = NextMatchCall.accepted-refuses t v;
     column-row = ColumnRowCall.accepted-refuses t v;
+    digest = DigestCall.accepted-refuses t v;
   }

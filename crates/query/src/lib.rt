@@ -42,3 +42,4 @@ pub use ask_worn_keys::Shown;
 pub use ask_worn_keys::next_match;
 pub use ask_worn_keys::show;
 pub use layout::place::TextPlace;
+pub use query_digest::digest;

@@ -1,22 +1,51 @@
 -- The byte of a place of the text, of a tree that passes questions 5 to 7: the place's path gives it, or breaks, and it is refused with 14.
 use mathlib.Core.List.{List}
 use mathlib.Core.Option.{Option, none, some}
-use mathlib.Core.Bool.{true}
+use mathlib.Core.Bool.{Bool, true, false, _&&_}
 use mathlib.Core.Path.{_≡_, refl, sym, ap, _∙_}
-use Prim.Native.Nat.{ℕ, _<_}
+use Prim.Native.Nat.{ℕ, zero, suc, _+_, _<_}
 use native.Mathlib.Omega.{arith}
-use borrow.Author.Tests.{lt-ltb}
+use borrow.Author.Tests.{lt-ltb, eqb-true}
+use lib.Dec.{eqb}
 use lib.ListN.{getD}
+use Rattle.text.specs.ListLaws.{and-left, and-right}
 use Rattle.format.specs.Layout as at
 use Rattle.format.specs.Path.{Path, pathOf}
 use Rattle.format.specs.Fits.{linksOk, textOf}
 use Rattle.format.specs.Verdict.{readable}
 use Rattle.format.specs.LayoutLaws.{readable-facts}
 use Rattle.format.specs.Said.{Said, refused}
-use Rattle.format.specs.ReadSays.{byteOf, byteSays}
+use Rattle.format.specs.ReadSays.{byteOf, byteSays, pathsHold}
 use Rattle.theory_paths.specs.Visits.{path-long}
 use Rattle.theory_paths.specs.Reads.{byte-of-path, text-of-path}
 use Rattle.theory_paths.specs.Demands.{byte-of-text}
+
+-- Where the paths of some places hold, each of them holds. They hold exactly where those of a first part and those of the rest hold.
+
+and-assoc : (a b c : Bool) → (a && (b && c)) ≡ ((a && b) && c)
+and-assoc true b c = refl
+and-assoc false b c = refl
+
+pub hold-at : (t : List ℕ) (len p x : ℕ) → pathsHold t p len ≡ true → x < len → byteSays t (p + x) .number ≡ 0
+unfolding pathsHold
+hold-at t zero p x h l = absurd (let z : ⊥ = omega arith in z)
+hold-at t (suc len) p zero h l =
+    let e : p + 0 ≡ p = omega arith in
+    rw e (eqb-true (byteSays t p .number) 0 (and-left (eqb (byteSays t p .number) 0) (pathsHold t (p + 1) len) h))
+hold-at t (suc len) p (suc x) h l =
+    let e : p + suc x ≡ p + 1 + x = omega arith in
+    rw e (hold-at t len (p + 1) x (and-right (eqb (byteSays t p .number) 0) (pathsHold t (p + 1) len) h) (omega arith))
+
+pub holds-split : (t : List ℕ) (x p rest : ℕ) → pathsHold t p (x + rest) ≡ (pathsHold t p x && pathsHold t (p + x) rest)
+unfolding pathsHold
+holds-split t zero p rest =
+    let a : 0 + rest ≡ rest = omega arith in
+    let b : p + 0 ≡ p = omega arith in
+    rw (a, b)
+holds-split t (suc x) p rest =
+    let a : suc x + rest ≡ suc (x + rest) = omega arith in
+    let b : p + suc x ≡ p + 1 + x = omega arith in
+    rw (a, b, pathsHold, holds-split t x (p + 1) rest) (and-assoc (eqb (byteSays t p .number) 0) (pathsHold t (p + 1) x) (pathsHold t (p + 1 + x) rest))
 
 module _ (t : List ℕ) (r : readable t ≡ 0) (p : ℕ) (low : p < at.textLength t) where
   pub byte-path : byteSays t p ≡ byteOf t (pathOf t p)

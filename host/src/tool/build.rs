@@ -7,10 +7,16 @@ use crate::output::Output;
 use crate::say::{self, grouped};
 use crate::table::{ARITY, COLUMNS, COUNT, FORCE, LEAF, LEVELS, OUTPUT};
 use crate::trials::{self, Chosen, Trial};
-use crate::{book, by_columns, sha256, values, Failure};
-use codebook::{Refusal, Settings};
+use crate::{book, by_columns, values, Failure};
+use codebook::{digest_text, Digest, Refusal, Settings, Tree};
 use std::ffi::OsString;
 use std::path::{Path, PathBuf};
+
+/// The SHA-256 of a tree, and that of its text.
+struct Digests {
+    tree: Digest,
+    text: Digest,
+}
 
 /// What was built, and what there is to say of it.
 pub struct Built {
@@ -117,15 +123,16 @@ fn write(given: &Given, text: &Input, built: &Built, output: Output) -> Result<(
         warnings.push("the tree is no smaller than the text: the book is short, or repeats itself too little".to_owned());
     }
     let (name, standard) = (output.name.clone(), output.is_standard());
-    let digest = sha256::hex(&chosen.tree);
     output.write(&chosen.tree)?;
     if given.quiet() {
         return Ok(());
     }
+    let text_digest = Tree::unchecked(&chosen.tree).digest().map_err(|refusal| Failure::library(&name, refusal, refusal.to_string()))?;
+    let digests = Digests { tree: digest_text(&chosen.tree), text: text_digest };
     let report = match (given.json(), given.words.len() > 1) {
-        (true, _) => object(text, built, &name, &digest, &warnings).line(),
-        (false, true) => line(text.bytes.len(), chosen, &name, &digest),
-        (false, false) => report(text.bytes.len(), built, &name, &digest),
+        (true, _) => object(text, built, &name, &digests, &warnings).line(),
+        (false, true) => line(text.bytes.len(), chosen, &name, &digests),
+        (false, false) => report(text.bytes.len(), built, &name, &digests),
     };
     if standard {
         say::tell(&report);
@@ -139,7 +146,7 @@ fn write(given: &Given, text: &Input, built: &Built, output: Output) -> Result<(
 }
 
 /// What was tried, what was chosen and why, and the tree beside the text.
-fn report(length: usize, built: &Built, name: &str, digest: &str) -> String {
+fn report(length: usize, built: &Built, name: &str, digests: &Digests) -> String {
     let Built { chosen, title, besides } = built;
     let mut text = format!("{title}: {} bytes\n", grouped(length as u64));
     if chosen.tried.len() > 1 {
@@ -150,12 +157,14 @@ fn report(length: usize, built: &Built, name: &str, digest: &str) -> String {
         text += &format!("chosen: {}, since its tree is the smallest of these {}\n", shape(&chosen.settings), chosen.tried.len());
     }
     let compared = besides.as_ref().map_or(String::new(), |compared| compared.words(chosen.tree.len()));
-    text + &format!("{}sha256 {digest}\n{compared}", sizes(length, chosen, name))
+    let Digests { tree, text: its_text } = digests;
+    text + &format!("{}SHA-256 of the tree {tree}\nSHA-256 of its text {its_text}\n{compared}", sizes(length, chosen, name))
 }
 
 /// One of several.
-fn line(length: usize, chosen: &Chosen, name: &str, digest: &str) -> String {
-    format!("{}; sha256 {digest}\n", sizes(length, chosen, name).trim_end())
+fn line(length: usize, chosen: &Chosen, name: &str, digests: &Digests) -> String {
+    let Digests { tree, text } = digests;
+    format!("{}; SHA-256 of the tree {tree}, of its text {text}\n", sizes(length, chosen, name).trim_end())
 }
 
 fn sizes(length: usize, chosen: &Chosen, name: &str) -> String {
@@ -169,13 +178,13 @@ fn sizes(length: usize, chosen: &Chosen, name: &str) -> String {
     )
 }
 
-fn object(text: &Input, built: &Built, name: &str, digest: &str, warnings: &[String]) -> Object {
+fn object(text: &Input, built: &Built, name: &str, digests: &Digests, warnings: &[String]) -> Object {
     let Chosen { settings, tree, tried } = &built.chosen;
     let tried = tried.iter().map(|trial| shaped(Object::new(), &trial.settings).number("size", trial.size));
     let object = Object::new().text("book", &text.name).number("length", text.bytes.len()).text("tree", name).number("size", tree.len());
-    let object = shaped(object, settings).numbers("counted", &settings.counted).text("sha256", digest).objects("tried", tried);
+    let object = shaped(object, settings).numbers("counted", &settings.counted).text("sha256", &digests.tree.to_string()).objects("tried", tried);
     let object = built.besides.as_ref().map_or(object.clone(), |compared| compared.members(object));
-    object.texts("warnings", warnings)
+    object.texts("warnings", warnings).text("text_sha256", &digests.text.to_string())
 }
 
 fn shaped(object: Object, settings: &Settings) -> Object {

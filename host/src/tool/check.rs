@@ -1,12 +1,12 @@
-//! `check` and `verify`: is it a good tree, the one that its maker gave, the tree of that book?
+//! `check` and `verify`: is it a valid tree, with the digests that its maker printed, of that book?
 
 use crate::given::Given;
 use crate::input::{self, Input, TEXT, TREE};
 use crate::json::Object;
 use crate::say::{self, grouped, several};
-use crate::table::{COLUMNS, SHA256};
-use crate::{by_columns, sha256, values, Failure};
-use codebook::{build_scanned, Refusal, Tree};
+use crate::table::{Opt, COLUMNS, SHA256, TEXT_SHA256};
+use crate::{by_columns, values, Failure};
+use codebook::{build_scanned, digest_text, Digest, Refusal, Tree};
 use std::path::Path;
 
 /// A tree that the check accepts, unless it is not asked.
@@ -28,28 +28,42 @@ pub fn refused(input: &Input, refusal: Refusal) -> Failure {
 }
 
 pub fn check(given: &Given) -> Result<(), Failure> {
-    let due = given.value(&SHA256).map(|word| digest(given, &word.to_string_lossy())).transpose()?;
+    let (due, text_due) = (expected(given, &SHA256)?, expected(given, &TEXT_SHA256)?);
     given.each(|path| {
         let input = input::read(path, &TREE)?;
-        let length = open(&input, false)?.text_length();
-        let digest = sha256::hex(&input.bytes);
-        if due.as_ref().is_some_and(|due| *due != digest) {
-            return Err(Failure::refused(&input.name, format!("a good tree, but not the one that is meant: its SHA-256 is {digest}")));
+        let tree = open(&input, false)?;
+        let (length, digest) = (tree.text_length(), digest_text(&input.bytes));
+        let text_digest = tree.digest().map_err(|refusal| refused(&input, refusal))?;
+        for (due, found, what) in [(due, digest, "its SHA-256"), (text_due, text_digest, "the SHA-256 of its text")] {
+            differs(&input, what, due, found)?;
         }
-        let object = Object::new().text("tree", &input.name).flag("good", true).number("length", length).text("sha256", &digest);
-        report(given, &object, &format!("{}: a good tree of {} of text; sha256 {digest}\n", input.name, several(length, "byte")))
+        let object = Object::new().text("tree", &input.name).flag("good", true).number("length", length);
+        let object = digests(object, &digest, &text_digest);
+        let sizes = several(length, "byte");
+        report(given, &object, &format!("{}: valid tree of {sizes} of text; SHA-256 of the tree {digest}, of its text {text_digest}\n", input.name))
     })
 }
 
-/// A digest that was given: 64 hexadecimal digits, of one tree.
-fn digest(given: &Given, word: &str) -> Result<String, Failure> {
+/// Both digests of a tree, as members of its object.
+fn digests(object: Object, tree: &Digest, text: &Digest) -> Object {
+    object.text("sha256", &tree.to_string()).text("text_sha256", &text.to_string())
+}
+
+/// The digest that an option gives, of one tree.
+fn expected(given: &Given, option: &Opt) -> Result<Option<Digest>, Failure> {
+    let Some(word) = given.value(option) else { return Ok(None) };
     if given.words.len() > 1 {
-        return Err(given.usage("--sha256 is the digest of one tree"));
+        return Err(given.usage(format!("{} is the digest of one tree", option.long)));
     }
-    if word.len() != 64 || !word.bytes().all(|byte| byte.is_ascii_hexdigit()) {
-        return Err(given.usage(format!("--sha256 is 64 hexadecimal digits, not '{word}'")));
+    given.reading(values::digest(option.long, word)).map(Some)
+}
+
+/// A failure where a digest is not the expected one.
+fn differs(input: &Input, what: &str, due: Option<Digest>, found: Digest) -> Result<(), Failure> {
+    match due {
+        Some(due) if due != found => Err(Failure::refused(&input.name, format!("valid tree, but {what} is {found}, not {due}"))),
+        _ => Ok(()),
     }
-    Ok(word.to_ascii_lowercase())
 }
 
 /// What is said where all is well.
@@ -84,7 +98,7 @@ fn verify_one(given: &Given, book: &Path, tree: &Path) -> Result<(), Failure> {
     }
     let built = tree.layout() == 2 && build_scanned(&due, &tree.settings()).is_ok_and(|scanned| scanned.tree == input.bytes);
     let object = Object::new().text("tree", &input.name).text("book", &book.name).flag("good", true).flag("as_built", built);
-    let object = object.text("sha256", &sha256::hex(&input.bytes));
+    let object = digests(object, &digest_text(&input.bytes), &digest_text(&due));
     let which = if built { "the block tree" } else { "a good tree, though not the one that build makes," };
     report(given, &object, &format!("{}: {which} of {}, {}\n", input.name, book.name, several(due.len() as u64, "byte")))
 }

@@ -20,8 +20,8 @@ builds the trees of code books, checks trees from anyone, and answers from them,
 const TAIL: &str = "\
 .SH EXAMPLES
 .nf
-codebook build book.txt                     # book.tree, and its SHA\\-256
-codebook check \\-\\-sha256 HEX book.tree      # is it that tree, and a good one?
+codebook build book.txt                     # book.tree, its SHA\\-256 and that of its text
+codebook check \\-\\-text\\-sha256 HEX book.tree # is it a valid tree, and of that text?
 codebook row 5..20 book.tree
 codebook worn 43221 45223 book.tree         # rows with cuts 4, 3 to 5, 2, 2, 1 to 3
 codebook picture book.tree \\-o book.svg
@@ -37,12 +37,13 @@ A file that is written is made under no name, or under a hidden one, in the same
 .B CODEBOOK_NAMED
 If set, files are made under a hidden name, as on file systems that have no nameless files.
 .SH NOTES
-A tree carries no checksum of its text: a tree with one leaf byte changed, and its edges with it, is a good tree of another text, and gives a wrong key. Keep the SHA-256 that
+A tree with one leaf byte changed, and its edges with it, is a valid tree of another text, and gives a wrong key. Keep the SHA-256 of the text that
 .B build
-prints, and give it to
-.BR \"check \\-\\-sha256\" ;
-or hold the tree against its book with
+prints, apart from the tree, and give it to
+.BR \"check \\-\\-text\\-sha256\" ;
+or compare the tree with its book by
 .BR verify .
+A digest is as good as the way it came.
 ";
 
 /// All of codebook.1.

@@ -1,6 +1,6 @@
 //! The one table of commands and options: calls are read by it, and help, the manual page and the completions are printed from it.
 
-use crate::{build, by_columns, check, given::Given, guide, help, licence, picture, questions, shelf, stats, Failure};
+use crate::{build, by_columns, check, digest, given::Given, guide, help, licence, picture, questions, shelf, stats, Failure};
 
 /// What the commands on licences share.
 macro_rules! licence_days {
@@ -75,7 +75,8 @@ pub static COLUMNS: Opt =
     valued("--columns", "W", "the rows of W bytes, end byte included, stand by columns; auto finds the width of rows that all have one");
 pub static ROW_COLUMNS: Opt =
     valued("--columns", "W", "the tree is of a book by columns, of rows of W bytes, end byte included; that is yours to know");
-pub static SHA256: Opt = valued("--sha256", "HEX", "the digest that the tree must have");
+pub static SHA256: Opt = valued("--sha256", "HEX", "the SHA-256 that the tree must have");
+pub static TEXT_SHA256: Opt = valued("--text-sha256", "HEX", "the SHA-256 that the tree's text must have");
 pub static GUIDE: Opt = Opt {
     long: "--guide",
     short: None,
@@ -105,7 +106,7 @@ const fn any(name: &'static str) -> Word {
 static TREE: [Word; 1] = [maybe("TREE")];
 static TREES: [Word; 1] = [any("TREE")];
 
-pub static COMMANDS: [Command; 30] = [
+pub static COMMANDS: [Command; 31] = [
     Command {
         name: "build",
         words: &[any("BOOK")],
@@ -117,7 +118,7 @@ pub static COMMANDS: [Command; 30] = [
             " bytes. Its tree goes to a file with the book's name and the ending .tree, or to FILE; where FILE is a folder, into that one. The tree of standard input goes to standard output. \
              An existing file is left alone unless --force is given, and is replaced whole or not at all.\n\
              Where no settings are given, a short list is tried (256/2/1, 64/4/3, 48/2/5, 32/4/4, 24/8/3 and 16/4/4 as leaf/arity/levels), the smallest tree is kept, and what each gave is printed. \
-             The SHA-256 of the tree is printed, to be kept with it: a tree carries no checksum.\n\
+             The SHA-256 of the tree and that of its text are printed, to be printed with the book or kept apart from the tree: check compares them.\n\
              Warnings tell what a reader would miss: rows that are not code, space, cuts; a byte order mark; no row at all; a tree that is no smaller than its text.\n\
              With --columns the tree is that of the book by columns, and it is said whether that makes it smaller. Such a tree is read by row --columns; it does not say itself that its text is rearranged."
         ),
@@ -126,19 +127,28 @@ pub static COMMANDS: [Command; 30] = [
     Command {
         name: "check",
         words: &TREES,
-        options: &[&SHA256, &JSON],
+        options: &[&SHA256, &TEXT_SHA256, &JSON],
         summary: "check trees, from anyone",
-        details: "Says whether a tree is right in all its parts and its counts and edges are true, and prints its SHA-256. The check alone is no checksum: a tree with one leaf byte changed, and its edges with it, is a good tree of another book, and gives a wrong key. \
-                  So hold the tree against the digest that its maker gave with --sha256, or against the book with verify.",
+        details: "Says whether a tree is valid: right in all its parts, with true counts and edges. Prints the SHA-256 of the tree and of its text. \
+                  A tree with one leaf byte changed, and its edges with it, is a valid tree of another book, and gives a wrong key. So compare the text with the digest that the maker of the book printed (--text-sha256), or the tree's file with that of the tree (--sha256). \
+                  A digest is as good as the way it came: one that came with the tree shows nothing.",
         run: check::check,
     },
     Command {
         name: "verify",
         words: &[one("BOOK"), one("TREE"), any("BOOK TREE")],
         options: &[&COLUMNS, &JSON],
-        summary: "hold trees against their books",
+        summary: "compare trees with their books",
         details: "Says whether TREE is a good tree of the text BOOK, and whether it is the one that build makes, byte for byte; where it is not of that text, which byte differs first.",
         run: check::verify,
+    },
+    Command {
+        name: "digest",
+        words: &TREES,
+        options: &[&JSON, &UNCHECKED],
+        summary: "print the SHA-256 of trees' texts",
+        details: "One line for each tree, as sha256sum prints it: the SHA-256 of the tree's text, two spaces, the tree's name. It is the digest that sha256sum prints of the book.",
+        run: digest::digest,
     },
     Command {
         name: "list",

@@ -1,6 +1,6 @@
 //! Words of a call as numbers, bytes and ranges; what is wrong with one is said in words.
 
-use codebook::Range;
+use codebook::{Digest, Range};
 use std::ffi::OsStr;
 use std::os::unix::ffi::OsStrExt;
 
@@ -21,6 +21,12 @@ pub fn number(what: &str, word: &OsStr) -> Result<u32, String> {
         _ if negative => Err(format!("{what} is a number from 0 to 4294967295; {text} is negative")),
         _ => Err(format!("{what} is a number from 0 to 4294967295, not '{text}'")),
     }
+}
+
+/// A SHA-256 in hexadecimal.
+pub fn digest(what: &str, word: &OsStr) -> Result<Digest, String> {
+    let text = word.to_string_lossy();
+    Digest::from_hex(&text).ok_or_else(|| format!("{what} is 64 hexadecimal digits, not '{text}'"))
 }
 
 /// A width, or `auto`.

