@@ -169,6 +169,20 @@ pub use Rattle.query.proofs.RowLengthCall.{length-numbers}
 -- .. The words of a table for the places of any pattern of some length: on any tree that passes questions 5 to 7 they hold all places, and 17 is no answer.
 pub use Rattle.ask_patterns.proofs.Demands.{room-holds, room-enough}
 pub use Rattle.query.proofs.PlacesWordsCall.{room-numbers}
+-- A tree without its edges. For any bytes that pass questions 5 to 7 the same tree in layout 1 is written to the start of the buffer and its size answered;
+-- refused with 5, 6 or 7, then with 13 where it does not fit, the buffer is unchanged. ..
+pub use Rattle.drop_edges.proofs.Demands.{refused-first, refused-room, written, enough, lent-on}
+pub use Rattle.query.proofs.DropCall.{without-edges-numbers}
+-- .. Its settings, counts, records' words and leaf bytes are the tree's; so are its paths and its text, and the check answers of it what it answers of the
+-- tree with the edges left aside. A tree of layout 1 is copied as it is, and what is written is never larger than the tree. ..
+pub use Rattle.drop_edges.proofs.Demands.{written-readable, written-text, written-byte, written-verdict, written-same, written-shorter}
+pub use Rattle.theory_plain.specs.PlainAccepted.{plain-length, plain-saves, built-plain-length}
+-- .. Where the check accepts the tree, it accepts what was written, the same text fits, and every question is answered from it as from the tree. ..
+pub use Rattle.drop_edges.proofs.Demands.{written-accepted, written-only}
+pub use Rattle.query.proofs.DropCall.{without-edges-answers, without-edges-refuses}
+-- .. Of the tree that build writes of a text it is the block tree of that text in layout 1.
+pub use Rattle.drop_edges.proofs.Demands.{written-built}
+pub use Rattle.theory_plain.specs.TreeInLayout.{same-built}
 
 -- The roads to a tree, each in one theorem.
 

@@ -1,0 +1,2 @@
+pub mod DropWritten
+pub mod Demands

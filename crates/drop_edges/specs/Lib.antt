@@ -1,0 +1,3 @@
+pub mod DropSays
+pub mod DropAnswer
+pub mod DropState

@@ -1,0 +1,14 @@
+pub mod WithoutEdges
+pub mod PlainSizes
+pub mod LinksMade
+pub mod TreesAgree
+pub mod TreesExact
+pub mod PathsAgree
+pub mod PlainBytes
+pub mod PlainReads
+pub mod TreeInLayout
+pub mod PairsInLayout
+pub mod PlainBuilt
+pub mod PlainSame
+pub mod PlainAccepted
+pub mod PlainExamples
