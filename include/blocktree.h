@@ -97,12 +97,11 @@ uint32_t bt_build_scanned(const uint8_t *text, size_t text_len, uint32_t leaf, u
 /* How many words the table of bt_build_scanned must have for a text of n bytes: four for each leaf length, a begun one counting whole (0 where leaf is 0). */
 uint64_t bt_scan_words(uint32_t n, uint32_t leaf);
 
-/* Write a tree in layout 1, without its edges: the same tree of the same text, each record its words alone, never larger than the tree. bt_check accepts it
- * where it accepts the tree, and every question is then answered from the same text; bt_run's offset is that of its own bytes, and bt_span reads each span
- * by its bytes' paths and reports 0 blocks.
+/* Write a tree in layout 1, without its edges. It is never larger; bt_check accepts it if it accepts the tree, and every question then has the same answer,
+ * with two exceptions: bt_run returns an offset into the written tree, and bt_span finds each byte by its path and reports 0 blocks entered.
  *   lent      tree: any bytes
- *   written   out: the tree in its first *size bytes, the rest as it was; as it was on a refusal
- *             *size: its size; tree_len bytes are always enough. A tree of layout 1 is copied as it is
+ *   written   out: the tree in its first *size bytes, the rest unchanged; unchanged if the call is refused
+ *             *size: its size; a buffer of tree_len bytes is always large enough. A tree of layout 1 is copied
  *   answers   0, 5, 6, 7, 13, asked in this order
  * tree and out must not overlap. */
 uint32_t bt_without_edges(const uint8_t *tree, size_t tree_len, uint8_t *out, size_t out_len, uint64_t *size);

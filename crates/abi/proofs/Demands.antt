@@ -98,9 +98,9 @@ use Rattle.abi.proofs.figure_exports.bt_row_length.Met as bt-row-length
 use Rattle.abi.proofs.figure_exports.bt_places_words as bt-places-words-of
 use Rattle.abi.proofs.figure_exports.bt_places_words.Symbol as bt-places-words-at
 use Rattle.abi.proofs.figure_exports.bt_places_words.Met as bt-places-words-met
-use Rattle.abi.proofs.plain_exports.bt_without_edges as bt-without-edges-of
-use Rattle.abi.proofs.plain_exports.bt_without_edges.Symbol as bt-without-edges-at
-use Rattle.abi.proofs.plain_exports.bt_without_edges.Met as bt-without-edges-met
+use Rattle.abi.proofs.without_edges_exports.bt_without_edges as bt-without-edges-of
+use Rattle.abi.proofs.without_edges_exports.bt_without_edges.Symbol as bt-without-edges-at
+use Rattle.abi.proofs.without_edges_exports.bt_without_edges.Met as bt-without-edges-met
 
 abbrev pub calls : List Call
 calls =

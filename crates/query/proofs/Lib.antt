@@ -28,7 +28,7 @@ pub mod FindGuidedCall
 pub mod RowGuidedCall
 pub mod OrderCall
 pub mod InfoCall
-pub mod DropCall
+pub mod WithoutEdgesCall
 pub mod EveryCall
 pub mod RowsByColumns
 pub mod EmptyText

@@ -41,6 +41,6 @@ pub use ask_worn_keys::Mark;
 pub use ask_worn_keys::Shown;
 pub use ask_worn_keys::next_match;
 pub use ask_worn_keys::show;
-pub use drop_edges::Dropped;
-pub use drop_edges::without_edges;
+pub use build_without_edges::WithoutEdgesAnswer;
+pub use build_without_edges::without_edges;
 pub use layout::place::TextPlace;

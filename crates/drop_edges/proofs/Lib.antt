@@ -1,2 +1,0 @@
-pub mod DropWritten
-pub mod Demands

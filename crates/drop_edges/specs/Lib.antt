@@ -1,3 +1,0 @@
-pub mod DropSays
-pub mod DropAnswer
-pub mod DropState
