@@ -22,6 +22,7 @@ mod say;
 mod sha256;
 mod shelf;
 mod signals;
+mod slim;
 mod spool;
 mod stats;
 mod table;

@@ -14,6 +14,7 @@ pub mod guides;
 pub mod keys;
 pub mod order;
 pub mod read;
+pub mod without_edges;
 
 /// The longest text, and the longest block of level 0.
 pub const MAX_TEXT: u64 = 8_388_608;
