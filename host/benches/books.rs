@@ -123,9 +123,11 @@ fn by_columns(quick: bool) {
 
 /// Trees with edges and without: the sizes that the tool's lists give, short spans at the same settings, and the rewriting.
 fn by_layouts(quick: bool) {
-    let sizes = &[65_536, 1_048_576, MAX_TEXT][..if quick { 1 } else { 3 }];
+    let sizes = &[65_536, 1_048_576][..if quick { 1 } else { 2 }];
     let books = || sizes.iter().flat_map(|&size| KINDS.map(|(kind, name)| (book(kind, size, 1), name)));
-    println!("\n## With edges and without\n\n| Book | Text | Layout 2 | The same without edges | Layout 1, by its own list |\n|---|---:|---:|---:|---:|");
+    println!(
+        "\n## With edges and without\n\n| Book | Text | Layout 2 | The same without edges | Layout 1, by its own list |\n|---|---:|---:|---:|---:|"
+    );
     let small = (include_bytes!("../../books/small.txt").to_vec(), "`books/small.txt`");
     for (text, name) in std::iter::once(small).chain(books()) {
         size_layouts(&text, name);
@@ -178,8 +180,7 @@ fn time_layouts(text: &[u8], name: &str) {
 fn time_without_edges(text: &[u8], name: &str) {
     let tree = fast::tree(text, BOTH_LAYOUTS, COUNTED);
     let [mut ours, mut theirs] = [vec![0; tree.len()], vec![0; tree.len()]];
-    let times =
-        both(9, || calls::without_edges(black_box(&tree), &mut ours), || without_edges::without_edges(black_box(&tree), &mut theirs));
+    let times = both(9, || calls::without_edges(black_box(&tree), &mut ours), || without_edges::without_edges(black_box(&tree), &mut theirs));
     assert!(ours == theirs, "both write the same");
     let ratio = times[0].as_secs_f64() / times[1].as_secs_f64();
     println!("| {name} | {} | {} | {} | {} | {ratio:.2} |", text.len(), tree.len(), shown(times[0]), shown(times[1]));

@@ -75,7 +75,7 @@ pub static COLUMNS: Opt =
     valued("--columns", "W", "the rows of W bytes, end byte included, stand by columns; auto finds the width of rows that all have one");
 pub static ROW_COLUMNS: Opt =
     valued("--columns", "W", "the tree is of a book by columns, of rows of W bytes, end byte included; that is yours to know");
-pub static SMALL: Opt = flag("--small", None, "a tree without edges (layout 1): smaller; spans are read byte by byte");
+pub static SMALL: Opt = flag("--small", None, "a tree without edges (layout 1): smaller; spans of nearly a leaf length take longer");
 pub static SHA256: Opt = valued("--sha256", "HEX", "the digest that the tree must have");
 pub static GUIDE: Opt = Opt {
     long: "--guide",
@@ -131,7 +131,7 @@ pub static COMMANDS: [Command; 31] = [
         options: &[&OUTPUT, &FORCE, &JSON],
         summary: "write trees without their edges",
         details: "Checks each TREE and writes it in layout 1, without its edges: the same tree of the same text, never larger. It goes to a file with the tree's name and the ending .small.tree, or to FILE; where FILE is a folder, into that one. The TREE that is read is never overwritten. The tree of standard input goes to standard output. \
-                  Every question has the same answer; spans no longer than a leaf take more steps, since their bytes are found one by one. A TREE that has no edges is copied.",
+                  Every question has the same answer; spans of nearly a leaf length take longer. A TREE that has no edges is copied.",
         run: slim::slim,
     },
     Command {
