@@ -64,7 +64,10 @@ fn several_trees() {
     folder.run("slim small.tree a.tree -o small -q").succeeds();
     assert_eq!(folder.read("small/a.small.tree"), folder.read("a.small.tree"));
     let line = folder.run("slim a.tree -f --json").succeeds().printed();
-    assert!(line.starts_with("{\"tree\":\"a.tree\",\"size\":") && line.contains(",\"written\":\"a.small.tree\",\"written_size\":132,\"sha256\":\""), "{line}");
+    assert!(
+        line.starts_with("{\"tree\":\"a.tree\",\"size\":") && line.contains(",\"written\":\"a.small.tree\",\"written_size\":188,\"sha256\":\""),
+        "{line}"
+    );
 }
 
 /// The tree is checked first, and nothing is written of a refused one.
@@ -115,10 +118,15 @@ fn what_edges_cost() {
     let folder = Folder::with_tree("edges-cost");
     folder.run("slim small.tree -q").succeeds();
     let stats = folder.run("stats small.small.tree").succeeds().printed();
-    assert!(stats.contains("\nlayout      1, without edges\n") && stats.contains("\n  edges                0    0.0 %\n") && !stats.contains("codebook slim"), "{stats}");
+    assert!(
+        stats.contains("\nlayout      1, without edges\n")
+            && stats.contains("\n  edges                0    0.0 %\n")
+            && !stats.contains("codebook slim"),
+        "{stats}"
+    );
     let line = folder.run("stats small.tree small.small.tree --json").succeeds().printed();
     assert!(line.contains("\"layout\":2,\"leaf\"") && line.contains("],\"size_without_edges\":2908}\n") && line.ends_with("}]}\n"), "{line}");
-    let text = book(Kind::Repetitive, 16_000, 3);
+    let text = book(Kind::Repetitive, 65_536, 1);
     folder.write("book.txt", &text);
     let done = folder.run("build book.txt --leaf 64 --arity 2 --levels 4");
     let tree = folder.read("book.tree");
@@ -127,7 +135,11 @@ fn what_edges_cost() {
     let told = |size: usize| format!(": warning: --small would give {} bytes, ", grouped(size));
     assert!(done.succeeds().errors().contains(&told(small.len())), "{}", done.errors());
     // of the list, the size that it gives
-    assert!(folder.run("build small.txt -f").succeeds().errors().ends_with("small.txt: warning: --small would give 1,928 bytes, 68.9 % of the text\n"));
+    assert!(folder
+        .run("build small.txt -f")
+        .succeeds()
+        .errors()
+        .ends_with("small.txt: warning: --small would give 1,928 bytes, 68.9 % of the text\n"));
     folder.run("build small.txt -f --small").succeeds().says("");
     assert_eq!(folder.read("small.tree").len(), 1928);
     // not where that is no smaller than the text, or the tree is

@@ -526,7 +526,7 @@ fn calls_that_are_not_right() {
     let count = "usage: codebook count BYTE LENGTH [TREE] [--json] [--unchecked]";
     usage("count 256 4 x", &format!("a byte is a number from 0 to 255 or one character that is no digit, not '256'\n{count}"));
     usage("count -1 4 x", &format!("a byte is a number from 0 to 255 or one character that is no digit; -1 is negative\n{count}"));
-    let build = "usage: codebook build [BOOK]... [-o FILE] [-f] [--leaf M] [--arity R] [--levels H] [--count BYTES] [--columns W] [--json]";
+    let build = "usage: codebook build [BOOK]... [-o FILE] [-f] [--small] [--leaf M] [--arity R] [--levels H] [--count BYTES] [--columns W] [--json]";
     usage("build small.txt -o", &format!("-o needs a value\n{build}"));
     usage("build --leaf 64", &format!("--leaf, --arity and --levels go together: give all three, or none to have a short list tried\n{build}"));
     usage("build -o .", &format!("-o is a file where standard input is read\n{build}"));
