@@ -83,7 +83,7 @@ def read(path):
 
 
 # how many of a question's words are names
-place_words = dict.fromkeys("build list byte run count find span row column digest places match guide guidecheck guided".split(), 1)
+place_words = dict.fromkeys("build list byte run count find span row column digest places match guide guidecheck guided without_edges".split(), 1)
 place_words["order"] = 2
 
 
@@ -111,6 +111,8 @@ def shortened(kind, words, answer):
         return words[:-1], " ".join([number, answer[1], answered] if kind == "span" else [number, answered])
     if kind == "digest":
         return [], " ".join([number, answer[1][:64] if number == "0" else "-"])
+    if kind == "without_edges":
+        return words[:-1], " ".join([number, answer[2][: 2 * int(answer[1])] if number == "0" else "-"])
     if kind in ("places", "guide"):
         count = int(answer[1])
         return words[:-1], " ".join([number, ",".join(answer[2].split(",")[:count]) if count else "-"])
@@ -141,6 +143,8 @@ def made():
             short = shortened(kind, words, answer) if all(place in paths for place in places) else None
             if short:
                 trees = [paths[place] for place in places]
+                if kind == "without_edges" and trees[0].startswith("good/"):
+                    files.enter("good", "%s-%s-without-edges.tree" % (source, names[0]), from_hex(short[1].split(" ")[1]))
                 good = all(tree.startswith("good/") for tree in trees)
                 files.line("answers.txt" if good else "answers-refused.txt", [kind] + trees + short[0], short[1])
     for path in sorted(files.bytes):

@@ -99,6 +99,15 @@ uint32_t bt_build_scanned(const uint8_t *text, size_t text_len, uint32_t leaf, u
 /* How many words the table of bt_build_scanned must have for a text of n bytes: four for each leaf length, a begun one counting whole (0 where leaf is 0). */
 uint64_t bt_scan_words(uint32_t n, uint32_t leaf);
 
+/* Write a tree in layout 1, without its edges. It is never larger; bt_check accepts it if it accepts the tree, and every question then has the same answer,
+ * with two exceptions: bt_run returns an offset into the written tree, and bt_span finds each byte by its path and reports 0 blocks entered.
+ *   lent      tree: any bytes
+ *   written   out: the tree in its first *size bytes, the rest unchanged; unchanged if the call is refused
+ *             *size: its size; a buffer of tree_len bytes is always large enough. A tree of layout 1 is copied
+ *   answers   0, 5, 6, 7, 13, asked in this order
+ * tree and out must not overlap. */
+uint32_t bt_without_edges(const uint8_t *tree, size_t tree_len, uint8_t *out, size_t out_len, uint64_t *size);
+
 /* How large a buffer is enough for the tree of any text of n bytes, with `counted` counted bytes: for one that bt_build makes, and for any of either
  * layout that bt_check accepts.
  *   written   *size: that many bytes are enough

@@ -90,6 +90,7 @@ ASKED = {
     "guidecheck": lambda tree, words: _call("bt_check_guide", tree.bytes, entries(words)),
     "guided": lambda tree, words, c, j: _call("bt_find_guided", tree.bytes, entries(words), int(c), int(j)),
     "order": lambda tree, other: order(tree, opened(other)),
+    "without_edges": lambda tree: copied(tree.without_edges),
 }
 
 

@@ -95,6 +95,7 @@ _CALLS = {
     "bt_row_guided": "bytes bytes n32 buffer out32",
     "bt_order": "bytes bytes out32 out32 out32",
     "bt_list": "bytes buffer out32",
+    "bt_without_edges": "bytes buffer out64",
     "bt_open_on": "bytes bytes bytes out32",
     "bt_days_left": "bytes bytes outi32",
     "bt_renew": "buffer",
@@ -358,6 +359,12 @@ class Tree:
     def check_guide(self, guide):
         """Refused where it is not exactly the guide of this tree."""
         _ask("bt_check_guide", self.bytes, guide)
+
+    def without_edges(self):
+        """The bytes of the same tree in layout 1, without its edges: never larger, and with the same answers. A tree of layout 1 is copied."""
+        room = bytearray(len(self.bytes))
+        size = _ask("bt_without_edges", self.bytes, room)
+        return bytes(room[:size])
 
     def list(self):
         """The lines of the list program, one for each level: level, blocks, kept, pointing."""

@@ -122,6 +122,7 @@ ASKED = {
     "guidecheck": lambda named, t, word: _call("bt_check_guide", named[t], guide(word)),
     "guided": lambda named, t, word, b, j: _call("bt_find_guided", named[t], guide(word), int(b), int(j)),
     "order": lambda named, t, other: order(named[t], named[other]),
+    "without_edges": lambda named, t, room: with_buffer("bt_without_edges", named[t], room=int(room)),
     "renew": lambda named, day: renew(from_hex(day)),
     "open": lambda named, *days: _call("bt_open_on", *map(from_hex, days)),
     "left": lambda named, *days: _call("bt_days_left", *map(from_hex, days)),
@@ -171,6 +172,9 @@ def own_functions():
     assert (book.byte(14), book.count(10, 1400), book.span(14, 6), book.run(14)[:3]) == (67, 100, b"CH0502", b"CH0")
     assert book.list() == "0 2 2 0\n1 15 6 9\n2 45 45 0\n"
     assert book.digest() == blocktree.digest_text(text) == hashlib.sha256(text).digest()
+    small = blocktree.Tree(book.without_edges())
+    assert (len(small.bytes), small.info()["layout"], small.text(), small.without_edges()) == (2908, 1, text, small.bytes)
+    assert small.compare(book) == (blocktree.SAME, 2800) and small.make_guide() == guide
     turned = blocktree.to_columns(text, 14)
     assert blocktree.from_columns(turned, 14) == text
     columns = blocktree.Tree(blocktree.build(turned, 256, 2, 1))
@@ -204,6 +208,7 @@ def refusals():
         (12, lambda: book.row_length(2)),
         (5, lambda: blocktree.Tree(b"", checked=False).info()),
         (5, lambda: blocktree.Tree(b"", checked=False).digest()),
+        (7, lambda: blocktree.Tree(book.bytes + b"\0", checked=False).without_edges()),
         (16, lambda: book.places(b"")),
         (19, lambda: book.next_match([])),
         (20, lambda: blocktree.to_columns(b"ABC", 2)),

@@ -14,7 +14,7 @@
 #define TEXT 200000
 #define TREE 40000000
 
-static uint8_t stack[STACK], text[TEXT], turned[TEXT], row[TEXT], small[65536], *tree, *guide;
+static uint8_t stack[STACK], text[TEXT], turned[TEXT], row[TEXT], small[65536], *tree, *guide, *smaller;
 static uint32_t *table, small_size, size, place, number, third, words32;
 static uint64_t large, words;
 static ucontext_t here, there;
@@ -51,6 +51,7 @@ static void check_guide(void) { bt_check_guide(tree, size, guide, 4 * words); }
 static void find_guided(void) { for (uint32_t j = 1; j < 6000; j += 7) bt_find_guided(tree, size, guide, 4 * words, 10, j, &place, &third, &number); }
 static void row_guided(void) { for (uint32_t q = 1; q < 6000; q += 7) bt_row_guided(tree, size, guide, 4 * words, q, row, TEXT, &third); }
 static void order(void) { bt_order(tree, size, tree, size, &place, &third, &number); }
+static void without_edges(void) { bt_without_edges(tree, size, smaller, TREE, &large); }
 static void list(void) { bt_list(small, small_size, row, TEXT, &third); }
 static void open_on(void) { bt_open_on(day, 8, day, 8, day, 8, &number); }
 static void days_left(void) { int32_t left; bt_days_left(day, 8, day, 8, &left); }
@@ -105,12 +106,13 @@ int main(void)
         {"bt_next_match", next_match}, {"bt_to_columns", to_columns}, {"bt_from_columns", from_columns}, {"bt_column_row", column_row},
         {"bt_digest", digest}, {"bt_digest_text", digest_text},
         {"bt_guide_words", guide_words}, {"bt_make_guide", make_guide}, {"bt_check_guide", check_guide}, {"bt_find_guided", find_guided},
-        {"bt_row_guided", row_guided}, {"bt_order", order}, {"bt_list", list}, {"bt_open_on", open_on}, {"bt_days_left", days_left}, {"bt_renew", renew},
+        {"bt_row_guided", row_guided}, {"bt_order", order}, {"bt_without_edges", without_edges}, {"bt_list", list}, {"bt_open_on", open_on}, {"bt_days_left", days_left}, {"bt_renew", renew},
     };
     tree = malloc(TREE);
     guide = malloc(TEXT);
+    smaller = malloc(TREE);
     table = malloc(sizeof *table * 2 * TEXT);
-    if (!tree || !guide || !table) return 1;
+    if (!tree || !guide || !smaller || !table) return 1;
     write_text();
     if (bt_build(text, 600, 2, 3, 8, counted, 4, small, sizeof small, &small_size) != BT_OK) return 1;
     const size_t none = used(nothing);

@@ -8,6 +8,7 @@
 //!     cargo bench -- sizes      the library's calls on books of 64 KiB, 1 MiB and 8 MiB, and the first builder on 8 MiB (slow)
 //!     cargo bench -- licence    the term of a licence only
 //!     cargo bench -- orders     the order of two trees only
+//!     cargo bench -- layouts    trees with edges and without: sizes, short spans, the rewriting
 //!
 //! Prints the tables of docs/BENCHMARKS.md. Nothing is asserted about time; that both give the same answers is.
 
@@ -16,8 +17,8 @@ mod model;
 #[path = "../tests/support/mod.rs"]
 mod support;
 
-use codebook::{calls, MAX_TEXT, SHORT_LIST};
-use model::{check, columns, dates, fast, guides, keys, order, read, Shape};
+use codebook::{calls, MAX_TEXT, SHORT_LIST, SMALL_LIST};
+use model::{check, columns, dates, fast, guides, keys, order, read, without_edges, Shape};
 use std::hint::black_box;
 use std::io::Write;
 use std::process::{Command, Stdio};
@@ -51,6 +52,9 @@ fn main() {
         time_orders();
         return;
     }
+    if told("layouts") {
+        return by_layouts(quick);
+    }
     for &size in &[65_536, 1_048_576][..if quick { 1 } else { 2 }] {
         time_builders(size);
     }
@@ -81,6 +85,7 @@ fn main() {
         }
     }
     by_columns(quick);
+    by_layouts(quick);
     time_licences();
     if !quick {
         time_guides();
@@ -114,6 +119,71 @@ fn by_columns(quick: bool) {
             time_rows(&even_book(kind, size, 1), name);
         }
     }
+}
+
+/// Trees with edges and without: the sizes that the tool's lists give, short spans at the same settings, and the rewriting.
+fn by_layouts(quick: bool) {
+    let sizes = &[65_536, 1_048_576][..if quick { 1 } else { 2 }];
+    let books = || sizes.iter().flat_map(|&size| KINDS.map(|(kind, name)| (book(kind, size, 1), name)));
+    println!(
+        "\n## With edges and without\n\n| Book | Text | Layout 2 | The same without edges | Layout 1, by its own list |\n|---|---:|---:|---:|---:|"
+    );
+    let small = (include_bytes!("../../books/small.txt").to_vec(), "`books/small.txt`");
+    for (text, name) in std::iter::once(small).chain(books()) {
+        size_layouts(&text, name);
+    }
+    println!("\n| Book | Text | Span of | Layout 2 | Layout 1 | Ratio |\n|---|---:|---:|---:|---:|---:|");
+    for (text, name) in books() {
+        time_layouts(&text, name);
+    }
+    println!("\n| Book | Text | Tree | `without_edges` | Model | Ratio |\n|---|---:|---:|---:|---:|---:|");
+    for (text, name) in books() {
+        time_without_edges(&text, name);
+    }
+}
+
+const BOTH_LAYOUTS: Shape = Shape { m: 128, r: 2, h: 4 };
+
+fn size_layouts(text: &[u8], name: &str) {
+    let percent = |part: usize| format!("{part} ({:.1} %)", 100.0 * part as f64 / text.len() as f64);
+    let sized = |(m, r, h): (u32, u32, u32)| {
+        let tree = fast::tree(text, Shape::new(m, r, h), COUNTED);
+        let size = without_edges::without_edges(&tree, &mut vec![0; tree.len()]).1 as usize;
+        (tree.len(), size, format!("{m}/{r}/{h}"))
+    };
+    let (edged, same, by) = SHORT_LIST.into_iter().map(sized).min_by_key(|(size, ..)| *size).expect("a list");
+    let (_, smallest, small_by) = SMALL_LIST.into_iter().map(sized).min_by_key(|(_, size, _)| *size).expect("a list");
+    println!("| {name} | {} | {} with {by} | {} | {} with {small_by} |", text.len(), percent(edged), percent(same), percent(smallest));
+}
+
+/// Spans at random places, by both trees, in turn.
+fn time_layouts(text: &[u8], name: &str) {
+    let edged = fast::tree(text, BOTH_LAYOUTS, COUNTED);
+    let mut small = vec![0; edged.len()];
+    let (number, size) = calls::without_edges(&edged, &mut small);
+    assert_eq!((number, calls::check(&small[..size as usize])), (0, 0));
+    let small = &small[..size as usize];
+    let mut rng = Rng::new(text.len() as u64);
+    let places: Vec<u32> = (0..4000).map(|_| rng.below(text.len() - 100) as u32).collect();
+    for length in [8, 32, 100] {
+        let [mut one, mut other] = [[0; 100]; 2];
+        let span = |tree: &[u8], place: u32, buffer: &mut [u8; 100]| {
+            assert_eq!(calls::span(black_box(tree), place, length, buffer).0, 0);
+            *buffer
+        };
+        let times = each(&places, |place| span(small, place, &mut one), |place| span(&edged, place, &mut other));
+        let ratio = times[0].as_secs_f64() / times[1].as_secs_f64();
+        println!("| {name} | {} | {length} | {} | {} | {ratio:.2} |", text.len(), shown(times[1]), shown(times[0]));
+    }
+}
+
+fn time_without_edges(text: &[u8], name: &str) {
+    let tree = fast::tree(text, BOTH_LAYOUTS, COUNTED);
+    let [mut ours, mut theirs] = [vec![0; tree.len()], vec![0; tree.len()]];
+    let times = both(9, || calls::without_edges(black_box(&tree), &mut ours), || without_edges::without_edges(black_box(&tree), &mut theirs));
+    assert!(ours == theirs, "both write the same");
+    let ratio = times[0].as_secs_f64() / times[1].as_secs_f64();
+    println!("| {name} | {} | {} | {} | {} | {ratio:.2} |", text.len(), tree.len(), shown(times[0]), shown(times[1]));
 }
 
 const EVEN_KINDS: [(Kind, &str); 3] =

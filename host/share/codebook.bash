@@ -5,6 +5,7 @@ _codebook() {
     COMPREPLY=()
     if [ "$COMP_CWORD" -eq 1 ]; then
         choices='build check verify digest list stats picture row byte run span count find places match worn text to-columns from-columns guide compare shelf licence sizes help version manual completion --help --version'
+        choices='build slim check verify list stats picture row byte run span count find places match worn text to-columns from-columns guide compare shelf licence sizes help version manual completion --help --version'
     else
         case $command in
         guide) command="$command ${COMP_WORDS[2]}"; [ "$COMP_CWORD" -eq 2 ] && choices='make check' ;;
@@ -15,6 +16,12 @@ _codebook() {
         case $word in -*) case $command in
         'build') choices='-o --output -f --force --leaf --arity --levels --count --columns --json -q --quiet -h --help' ;;
         'check') choices='--sha256 --text-sha256 --json -q --quiet -h --help' ;;
+        help) choices='build slim check verify list stats picture row byte run span count find places match worn text to-columns from-columns guide compare shelf licence sizes help version manual completion' ;;
+        esac
+        case $word in -*) case $command in
+        'build') choices='-o --output -f --force --small --leaf --arity --levels --count --columns --json -q --quiet -h --help' ;;
+        'slim') choices='-o --output -f --force --json -q --quiet -h --help' ;;
+        'check') choices='--sha256 --json -q --quiet -h --help' ;;
         'verify') choices='--columns --json -q --quiet -h --help' ;;
         'digest') choices='--json --unchecked -q --quiet -h --help' ;;
         'list') choices='-q --quiet -h --help' ;;

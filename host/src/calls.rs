@@ -106,6 +106,7 @@ mod declared {
         pub fn bt_row_count(tree: *const u8, tree_len: usize, rows: *mut u64) -> u32;
         pub fn bt_row_length(tree: *const u8, tree_len: usize, q: u32, length: *mut u32) -> u32;
         pub fn bt_places_words(tree: *const u8, tree_len: usize, length: u32, words: *mut u32) -> u32;
+        pub fn bt_without_edges(tree: *const u8, tree_len: usize, out: *mut u8, out_len: usize, size: *mut u64) -> u32;
     }
 }
 
@@ -340,4 +341,11 @@ pub fn places_words(tree: &[u8], length: u32) -> (u32, u32) {
     let mut words = 0;
     let number = unsafe { declared::bt_places_words(tree.as_ptr(), tree.len(), length, &mut words) };
     (number, words)
+}
+
+/// The number and the size of the tree in layout 1 that is written.
+pub fn without_edges(tree: &[u8], out: &mut [u8]) -> (u32, u64) {
+    let mut size = 0;
+    let number = unsafe { declared::bt_without_edges(tree.as_ptr(), tree.len(), out.as_mut_ptr(), out.len(), &mut size) };
+    (number, size)
 }

@@ -37,6 +37,9 @@ pub use refusal::Refusal;
 /// Settings worth trying on a book, as leaf length, arity and levels: from few and large blocks to many and small ones.
 pub const SHORT_LIST: [(u32, u32, u32); 6] = [(256, 2, 1), (64, 4, 3), (48, 2, 5), (32, 4, 4), (24, 8, 3), (16, 4, 4)];
 
+/// The same for trees without edges (layout 1), whose records cost less and whose leaves may be larger.
+pub const SMALL_LIST: [(u32, u32, u32); 7] = [(256, 2, 1), (256, 2, 2), (192, 2, 2), (128, 2, 2), (96, 2, 2), (96, 2, 4), (64, 2, 5)];
+
 /// How a tree is laid out, and which bytes it can count and find.
 #[derive(Clone, Debug, PartialEq, Eq)]
 pub struct Settings {
@@ -228,6 +231,15 @@ impl<'a> Tree<'a> {
             rows.push(row);
         }
         Ok(rows)
+    }
+
+    /// The same tree in layout 1, without its edges; a tree of layout 1 is copied. It is never larger, and every question returns the same from it, but
+    /// that `run_at` returns offsets into the new bytes and `span` reports 0 blocks entered.
+    pub fn without_edges(&self) -> Result<Vec<u8>, Refusal> {
+        let mut out = vec![0; self.bytes.len()];
+        let (number, size) = calls::without_edges(self.bytes, &mut out);
+        out.truncate(size as usize);
+        answer(number, out)
     }
 
     /// The whole text.

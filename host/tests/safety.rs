@@ -331,7 +331,11 @@ fn a_tree_from_another_builder() {
     let words = [1, 1, 2, 2, 1, 0, 0, 1, 100].into_iter().chain([0; 14]).chain([116, 1, 0, 0, 0, 0]);
     let tree: Vec<u8> = words.flat_map(u32::to_le_bytes).chain(*b"A").collect();
     folder.write("A.tree", &tree);
-    folder.run("verify A.txt A.tree").succeeds().prints("A.tree: a good tree, though not the one that build makes, of A.txt, 1 byte\n");
+    folder.run("verify A.txt A.tree").succeeds().prints("A.tree: the block tree, without edges, of A.txt, 1 byte\n");
+    // every block kept, though one could point
+    folder.write("kept.txt", b"QABCDABCDEFGABCDABCD");
+    folder.write("kept.tree", include_bytes!("../../conformance/good/cases-KEEPALL-70.tree"));
+    folder.run("verify kept.txt kept.tree").succeeds().prints("kept.tree: a good tree, though not the one that build makes, of kept.txt, 20 bytes\n");
 }
 
 #[test]

@@ -31,7 +31,10 @@ chosen: leaf 24, arity 8, levels 3, since its tree is the smallest of these 6
     let ending = "5,884 bytes, 210.1 % of the text; leaf 24, arity 8, levels 3; bytes counted: 10\n\
                   SHA-256 of the tree 52b68fb8c050a721ad41325cbab54baa513f37c762b2e90bffd1283ca2b82927\n\
                   SHA-256 of its text e913aa0d736292973c8ab01c65bd84ff6524fb868d54c9621602942b5dfceb6e\n";
-    let warning = |book: &str| format!("codebook: {book}: warning: {NO_SMALLER}\n");
+    let warning = |book: &str| {
+        let small = "--small would give 1,928 bytes, 68.9 % of the text";
+        format!("codebook: {book}: warning: {NO_SMALLER}\ncodebook: {book}: warning: {small}\n")
+    };
     folder.run("build small.txt -o small.tree").succeeds().prints(&format!("{report}small.tree: {ending}")).says(&warning("small.txt"));
     assert_eq!(folder.read("small.tree").len(), 5884);
     // in a pipe the tree goes to standard output and the report to standard error
@@ -100,7 +103,7 @@ fn answers() {
         "\
 small.tree: 5,884 bytes, 210.1 % of the text
 text        2,800 bytes
-layout      2
+layout      2, with edges, for short spans in one walk
 settings    leaf 24, arity 8, levels 3
 counted     10 '\\n': 200 times
 rows        200
@@ -109,6 +112,7 @@ the tree's bytes
   records          1,736   29.5 %
   edges            2,976   50.6 %
   leaf bytes       1,072   18.2 %
+without edges 2,908 bytes, 103.9 % of the text: codebook slim
 level  block length    blocks      kept  pointing
     0         1,536         2         2         0
     1           192        15         6         9
@@ -450,9 +454,9 @@ fn book_without_rows() {
     folder.run("match 4 empty.tree").succeeds().prints("no row matches\n");
     folder.run("places A empty.tree").succeeds().prints("");
     folder.run("stats empty.tree").succeeds().prints(
-        "empty.tree: 100 bytes, an empty text\ntext        0 bytes\nlayout      2\nsettings    leaf 2, arity 2, levels 2\n\
+        "empty.tree: 100 bytes, an empty text\ntext        0 bytes\nlayout      2, with edges, for short spans in one walk\nsettings    leaf 2, arity 2, levels 2\n\
          counted     10 '\\n': 0 times\nrows        0\nthe tree's bytes\n  header             100  100.0 %\n  records              0    0.0 %\n\
-         \x20 edges                0    0.0 %\n  leaf bytes           0    0.0 %\nlevel  block length    blocks      kept  pointing\n    0             4         0         0         0\n    1             2         0         0         0\n",
+         \x20 edges                0    0.0 %\n  leaf bytes           0    0.0 %\nwithout edges 100 bytes, an empty text: codebook slim\nlevel  block length    blocks      kept  pointing\n    0             4         0         0         0\n    1             2         0         0         0\n",
     );
     folder.run("row 1 empty.tree").status(1).says("codebook: empty.tree: row 1: refused (12): the book has no rows\n");
     folder.run("row .. empty.tree").succeeds().prints("");
@@ -523,10 +527,10 @@ fn calls_that_are_not_right() {
     let count = "usage: codebook count BYTE LENGTH [TREE] [--json] [--unchecked]";
     usage("count 256 4 x", &format!("a byte is a number from 0 to 255 or one character that is no digit, not '256'\n{count}"));
     usage("count -1 4 x", &format!("a byte is a number from 0 to 255 or one character that is no digit; -1 is negative\n{count}"));
-    let build = "usage: codebook build [BOOK]... [-o FILE] [-f] [--leaf M] [--arity R] [--levels H] [--count BYTES] [--columns W] [--json]";
+    let build = "usage: codebook build [BOOK]... [-o FILE] [-f] [--small] [--leaf M] [--arity R] [--levels H] [--count BYTES] [--columns W] [--json]";
     usage("build small.txt -o", &format!("-o needs a value\n{build}"));
     usage("build --leaf 64", &format!("--leaf, --arity and --levels go together: give all three, or none to have a short list tried\n{build}"));
-    usage("build -o .", &format!("-o is a file where the book comes from standard input\n{build}"));
+    usage("build -o .", &format!("-o is a file where standard input is read\n{build}"));
     usage("check none.tree", "none.tree: cannot be read: No such file or directory (os error 2)");
     usage("build none.txt -o x", "none.txt: cannot be read: No such file or directory (os error 2)");
     usage("check .", ".: cannot be read: Is a directory (os error 21)");
@@ -596,14 +600,14 @@ fn help() {
         assert_eq!(folder.run(&format!("help {command}")).output.stdout, help.output.stdout);
     }
     let version = folder.run("--version").succeeds().printed();
-    assert!(version.starts_with("codebook ") && version.ends_with("\nblock trees: builds layout 2, reads layouts 1 and 2\n"));
+    assert!(version.starts_with("codebook ") && version.ends_with("\nblock trees: builds layout 2, and layout 1 with --small; reads both\n"));
     assert_eq!((folder.run("-V").printed(), folder.run("version").printed()), (version.clone(), version));
 }
 
 #[test]
 fn help_names_the_short_list() {
     let help = Folder::new("list").run("build --help").output.stdout;
-    for (leaf, arity, levels) in codebook::SHORT_LIST {
+    for (leaf, arity, levels) in codebook::SHORT_LIST.into_iter().chain(codebook::SMALL_LIST) {
         assert!(String::from_utf8_lossy(&help).contains(&format!("{leaf}/{arity}/{levels}")));
     }
 }

@@ -8,7 +8,7 @@ mod support;
 use codebook::calls;
 use judge::{find_agrees, match_agrees, row_agrees, FILL, FILL_WORD};
 use model::read::Answer;
-use model::{build, check, columns, dates, guides, keys, order, read, sha256, Shape};
+use model::{build, check, columns, dates, guides, keys, order, read, sha256, without_edges, Shape};
 use std::collections::HashMap;
 use std::fmt::Display;
 use support::{from_hex, to_hex};
@@ -44,6 +44,7 @@ struct Calls {
     check_guide: fn(&[u8], &[u8]) -> u32,
     find_guided: fn(&[u8], &[u8], u32, u32) -> Answer<(u32, u32, u32, u32)>,
     order: fn(&[u8], &[u8]) -> (u32, u32, u32, u32),
+    without_edges: fn(&[u8], &mut [u8]) -> (u32, u64),
 }
 
 #[test]
@@ -85,6 +86,7 @@ fn library() {
         check_guide: calls::check_guide,
         find_guided: |tree, guide, byte, j| Answer::Settled(calls::find_guided(tree, guide, byte, j)),
         order: calls::order,
+        without_edges: calls::without_edges,
     });
 }
 
@@ -115,6 +117,7 @@ fn model() {
         check_guide: guides::check_guide,
         find_guided: guides::find,
         order: order::order,
+        without_edges: without_edges::without_edges,
     });
 }
 
@@ -228,6 +231,11 @@ fn item(calls: &Calls, bytes: &HashMap<&str, Vec<u8>>, item: &[&str], expected: 
         "guidecheck" => (calls.check_guide)(subject, &guide(item[2])).to_string(),
         "guided" => return find_guided(calls, subject, &guide(item[2]), number(3), number(4), expected),
         "order" => order::words((calls.order)(subject, &bytes[item[2]])),
+        "without_edges" => {
+            let mut buffer = lent(2);
+            let (refusal, size) = (calls.without_edges)(subject, &mut buffer);
+            format!("{refusal} {size} {}", to_hex(&buffer))
+        }
         "match" => return next_match(calls, subject, &ranges(item[2]), number(3), expected),
         "find" => return find(calls, subject, number(2), number(3), expected),
         "row" => return row(calls, subject, number(2), lent(3), expected),

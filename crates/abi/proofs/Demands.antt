@@ -104,6 +104,9 @@ use Rattle.abi.proofs.figure_exports.bt_row_length.Met as bt-row-length
 use Rattle.abi.proofs.figure_exports.bt_places_words as bt-places-words-of
 use Rattle.abi.proofs.figure_exports.bt_places_words.Symbol as bt-places-words-at
 use Rattle.abi.proofs.figure_exports.bt_places_words.Met as bt-places-words-met
+use Rattle.abi.proofs.without_edges_exports.bt_without_edges as bt-without-edges-of
+use Rattle.abi.proofs.without_edges_exports.bt_without_edges.Symbol as bt-without-edges-at
+use Rattle.abi.proofs.without_edges_exports.bt_without_edges.Met as bt-without-edges-met
 
 abbrev pub calls : List Call
 calls =
@@ -184,6 +187,12 @@ calls =
       signature = bt-places-words-of.signature;
       clauses = bt-places-words-of.spec;
     }) bt-places-words-met.met
+    (λ 𝓤 H A mem run κs a. (tt, refl))
+    ∷ call (record {
+      routine = bt-without-edges-at.routine;
+      signature = bt-without-edges-of.signature;
+      clauses = bt-without-edges-of.spec;
+    }) bt-without-edges-met.met
     (λ 𝓤 H A mem run κs a. (tt, refl))
     ∷ []
 

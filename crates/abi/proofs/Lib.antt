@@ -7,5 +7,6 @@ pub mod ColumnExportsLaws
 pub mod LicenceExportsLaws
 pub mod GuideExportsLaws
 pub mod OrderExportsLaws
+pub mod WithoutEdgesExportsLaws
 pub mod FigureExportsLaws
 pub mod Demands

@@ -6,6 +6,7 @@ pub mod figure_exports;
 pub mod guide_exports;
 pub mod licence_exports;
 pub mod order_exports;
+pub mod without_edges_exports;
 
 use list_lines::Listed;
 use query::Answer;

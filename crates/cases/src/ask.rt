@@ -5,6 +5,7 @@ use crate::digest_cases;
 use crate::guide_cases;
 use crate::licence_cases;
 use crate::order_cases;
+use crate::without_edges_cases;
 use crate::wrong;
 use cases_replies::Sizes;
 use cases_script::Gift;
@@ -49,6 +50,9 @@ fn other(script: &[u8], line: &[u8], bytes: &mut [u8], lent: &mut [u8]) {
         return;
     }
     if order_cases::line(script, line, bytes) {
+        return;
+    }
+    if without_edges_cases::line(script, line, bytes, lent) {
         return;
     }
     wrong::say(b"no such word");

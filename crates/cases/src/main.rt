@@ -7,6 +7,7 @@ mod digest_cases;
 mod guide_cases;
 mod licence_cases;
 mod order_cases;
+mod without_edges_cases;
 mod wrong;
 
 ghost use Prim.Native.Nat.{_≤_};

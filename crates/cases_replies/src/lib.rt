@@ -6,6 +6,7 @@ pub mod guide_replies;
 pub mod licence_replies;
 pub mod order_replies;
 mod say;
+pub mod without_edges_replies;
 
 use query::Answer;
 use query::Copied;

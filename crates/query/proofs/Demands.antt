@@ -177,6 +177,21 @@ pub use Rattle.query.proofs.RowLengthCall.{length-numbers}
 -- .. The words of a table for the places of any pattern of some length: on any tree that passes questions 5 to 7 they hold all places, and 17 is no answer.
 pub use Rattle.ask_patterns.proofs.Demands.{room-holds, room-enough}
 pub use Rattle.query.proofs.PlacesWordsCall.{room-numbers}
+-- A tree without its edges. "Of any bytes that pass questions 5 to 7, the same tree is written in layout 1 to the start of a lent buffer, and its size is
+-- returned .. It is refused with 5, 6 or 7, then with 13 if the buffer is too small for it; a refused call leaves the buffer unchanged. The bytes of the
+-- buffer past the tree are always unchanged."
+pub use Rattle.build_without_edges.proofs.Demands.{refused-unreadable, refused-room, written-tree, tree-size-suffices, lent-on}
+pub use Rattle.query.proofs.WithoutEdgesCall.{without-edges-numbers}
+-- "The written tree has the same settings, counts, links, leaf bytes, paths and text. The check returns for it what it returns for the given tree if edges are
+-- ignored .. A tree of layout 1 is copied, and the written tree is never larger than the given one."
+pub use Rattle.build_without_edges.proofs.Demands.{written-readable, written-text, written-byte, written-verdict, written-same, written-shorter}
+pub use Rattle.theory_without_edges.specs.Layout1Accepted.{layout1-length, layout1-saves, built-layout1-length}
+-- "If the check accepts the given tree, it accepts the written one, the same text fits it and no other, and every question is answered from that text."
+pub use Rattle.build_without_edges.proofs.Demands.{written-accepted, written-only}
+pub use Rattle.query.proofs.WithoutEdgesCall.{without-edges-answers, without-edges-refuses}
+-- "If the given tree is the one that build writes of a text, the written tree is the block tree of that text in layout 1."
+pub use Rattle.build_without_edges.proofs.Demands.{written-built}
+pub use Rattle.theory_without_edges.specs.TreeInLayout.{same-built}
 
 -- The roads to a tree, each in one theorem.
 

@@ -26,6 +26,7 @@ use Rattle.query.proofs.FindGuidedCall
 use Rattle.query.proofs.RowGuidedCall
 use Rattle.query.proofs.OrderCall
 use Rattle.query.proofs.InfoCall
+use Rattle.query.proofs.WithoutEdgesCall
 
 abbrev pub calls : List Call
 calls =
@@ -64,6 +65,7 @@ calls =
     ∷ OrderCall.first-call
     ∷ InfoCall.info-call
     ∷ InfoCall.version-call
+    ∷ WithoutEdgesCall.without-edges-call
     ∷ []
 
 -- "Every call ends, on every text, setting, tree and question; reads and writes only what was lent" (`Ends`).

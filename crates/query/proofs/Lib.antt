@@ -29,6 +29,7 @@ pub mod FindGuidedCall
 pub mod RowGuidedCall
 pub mod OrderCall
 pub mod InfoCall
+pub mod WithoutEdgesCall
 pub mod EveryCall
 pub mod RowsByColumns
 pub mod EmptyText

@@ -41,5 +41,7 @@ pub use ask_worn_keys::Mark;
 pub use ask_worn_keys::Shown;
 pub use ask_worn_keys::next_match;
 pub use ask_worn_keys::show;
+pub use build_without_edges::WithoutEdgesAnswer;
+pub use build_without_edges::without_edges;
 pub use layout::place::TextPlace;
 pub use query_digest::digest;

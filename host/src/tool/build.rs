@@ -5,8 +5,9 @@ use crate::input::{Input, Source, TEXT};
 use crate::json::Object;
 use crate::output::Output;
 use crate::say::{self, grouped};
-use crate::table::{ARITY, COLUMNS, COUNT, FORCE, LEAF, LEVELS, OUTPUT};
-use crate::trials::{self, Chosen, Trial};
+use crate::stats;
+use crate::table::{ARITY, COLUMNS, COUNT, FORCE, LEAF, LEVELS, OUTPUT, SMALL};
+use crate::trials::{self, Chosen, Request, Trial};
 use crate::{book, by_columns, values, Failure};
 use codebook::{digest_text, Digest, Refusal, Settings, Tree};
 use std::ffi::OsString;
@@ -25,32 +26,35 @@ pub struct Built {
     pub title: String,
     /// Said after the report.
     pub besides: Option<by_columns::Compared>,
+    /// The size that --small would give, if that is smaller than the text and the tree is not.
+    pub small: Option<usize>,
 }
 
 pub fn build(given: &Given) -> Result<(), Failure> {
     let counted = counted(given)?;
     let settings = settings(given, &counted)?;
-    apart(given)?;
+    let request = Request { settings, counted, small: given.has(&SMALL), quiet: given.quiet() };
+    apart(given, "tree")?;
     given.each(|path| {
         let source = Source::open(path)?;
-        let output = Output::create(target(given, path)?.as_deref(), given.has(&FORCE), &source)?;
+        let output = Output::create(target(given, path, "tree")?.as_deref(), given.has(&FORCE), &source)?;
         let text = source.read(&TEXT)?;
         let built = match given.value(&COLUMNS) {
-            None => plain(&text, settings.as_ref(), &counted, given.quiet())?,
-            Some(width) => by_columns::build(&text, settings.as_ref(), &counted, given.reading(values::width("--columns", width))?, given.quiet())?,
+            None => plain(&text, &request)?,
+            Some(width) => by_columns::build(&text, &request, given.reading(values::width("--columns", width))?)?,
         };
         write(given, &text, &built, output)
     })
 }
 
-/// Several books go to several files.
-fn apart(given: &Given) -> Result<(), Failure> {
+/// Several books or trees go to several files.
+pub fn apart(given: &Given, ending: &str) -> Result<(), Failure> {
     if given.words.len() > 1 && given.path(&OUTPUT).is_some_and(|path| !path.is_dir()) {
-        return Err(given.usage("-o is a folder where several books are built"));
+        return Err(given.usage("-o is a folder where several files are written"));
     }
     let mut targets: Vec<(PathBuf, &OsString)> = Vec::new();
     for book in &given.words {
-        let Some(target) = target(given, Some(Path::new(book)))? else { continue };
+        let Some(target) = target(given, Some(Path::new(book)), ending)? else { continue };
         let target = spelled_out(&target);
         if let Some((_, other)) = targets.iter().find(|(path, _)| *path == target) {
             let (one, other) = (other.to_string_lossy(), book.to_string_lossy());
@@ -81,36 +85,33 @@ pub fn settings(given: &Given, counted: &[u8]) -> Result<Option<Settings>, Failu
     }
 }
 
-/// The file to write: the one that is named, or one named after the book, in the folder that is named or beside it. None is standard output.
-fn target(given: &Given, book: Option<&Path>) -> Result<Option<PathBuf>, Failure> {
+/// The file to write: the one that is named, or one named after the file that is read, in the folder that is named or beside it. None is standard output.
+pub fn target(given: &Given, book: Option<&Path>, ending: &str) -> Result<Option<PathBuf>, Failure> {
     let book = book.filter(|&path| path != Path::new("-"));
     match (given.path(&OUTPUT), book) {
-        (Some(folder), Some(book)) if folder.is_dir() => Ok(Some(folder.join(book.with_extension("tree").file_name().unwrap_or_default()))),
-        (Some(folder), None) if folder.is_dir() => Err(given.usage("-o is a file where the book comes from standard input")),
+        (Some(folder), Some(book)) if folder.is_dir() => Ok(Some(folder.join(book.with_extension(ending).file_name().unwrap_or_default()))),
+        (Some(folder), None) if folder.is_dir() => Err(given.usage("-o is a file where standard input is read")),
         (Some(path), _) => Ok(Some(path.to_path_buf())),
-        (None, book) => Ok(book.map(|book| book.with_extension("tree"))),
+        (None, book) => Ok(book.map(|book| book.with_extension(ending))),
     }
 }
 
-fn plain(text: &Input, settings: Option<&Settings>, counted: &[u8], quiet: bool) -> Result<Built, Failure> {
-    let chosen = chosen(&text.name, &text.bytes, settings, counted, quiet)?;
-    Ok(Built { chosen, title: text.name.clone(), besides: None })
+fn plain(text: &Input, request: &Request) -> Result<Built, Failure> {
+    let chosen = chosen(&text.name, &text.bytes, request)?;
+    let small = smaller(&text.bytes, &chosen, request);
+    Ok(Built { chosen, title: text.name.clone(), besides: None, small })
 }
 
-/// The tree with the settings, or the best of the short list.
-pub fn chosen(name: &str, text: &[u8], settings: Option<&Settings>, counted: &[u8], quiet: bool) -> Result<Chosen, Failure> {
-    let chosen = match settings {
-        Some(settings) => trials::one(text, settings, quiet),
-        None => trials::best(text, counted, quiet),
-    };
-    chosen.map_err(|refusal| Failure::library(name, refusal, format!("{refusal}{}", cause(refusal, settings, counted))))
+/// The tree with the settings, or the best of the layout's list.
+pub fn chosen(name: &str, text: &[u8], request: &Request) -> Result<Chosen, Failure> {
+    trials::best(text, request).map_err(|refusal| Failure::library(name, refusal, format!("{refusal}{}", cause(refusal, request))))
 }
 
 /// What was given that is refused.
-fn cause(refusal: Refusal, settings: Option<&Settings>, counted: &[u8]) -> String {
-    match (refusal, settings) {
+fn cause(refusal: Refusal, request: &Request) -> String {
+    match (refusal, &request.settings) {
         (Refusal::Settings, Some(settings)) => format!("; given: {}", shape(settings)),
-        (Refusal::Counted, _) => format!("; given: {}", listed(counted)),
+        (Refusal::Counted, _) => format!("; given: {}", listed(&request.counted)),
         _ => String::new(),
     }
 }
@@ -121,6 +122,7 @@ fn write(given: &Given, text: &Input, built: &Built, output: Output) -> Result<(
     let mut warnings = book::warnings(&text.bytes, &chosen.settings.counted);
     if !text.bytes.is_empty() && chosen.tree.len() >= text.bytes.len() {
         warnings.push("the tree is no smaller than the text: the book is short, or repeats itself too little".to_owned());
+        warnings.extend(built.small.map(|size| format!("--small would give {} bytes, {}", grouped(size as u64), share(size, text.bytes.len()))));
     }
     let (name, standard) = (output.name.clone(), output.is_standard());
     output.write(&chosen.tree)?;
@@ -145,9 +147,21 @@ fn write(given: &Given, text: &Input, built: &Built, output: Output) -> Result<(
     Ok(())
 }
 
+/// The size that --small would give, if that is smaller than the text and the tree is not; not looked for where no warning is printed.
+pub fn smaller(text: &[u8], chosen: &Chosen, request: &Request) -> Option<usize> {
+    if request.small || request.quiet || chosen.tree.len() < text.len() {
+        return None;
+    }
+    let size = match request.settings {
+        Some(_) => stats::without_edges(Tree::unchecked(&chosen.tree)) as usize,
+        None => trials::best(text, &Request { settings: None, counted: request.counted.clone(), small: true, quiet: true }).ok()?.tree.len(),
+    };
+    (size < text.len()).then_some(size)
+}
+
 /// What was tried, what was chosen and why, and the tree beside the text.
 fn report(length: usize, built: &Built, name: &str, digests: &Digests) -> String {
-    let Built { chosen, title, besides } = built;
+    let Built { chosen, title, besides, .. } = built;
     let mut text = format!("{title}: {} bytes\n", grouped(length as u64));
     if chosen.tried.len() > 1 {
         text += "leaf  arity  levels  tree's bytes\n";
@@ -170,11 +184,12 @@ fn line(length: usize, chosen: &Chosen, name: &str, digests: &Digests) -> String
 fn sizes(length: usize, chosen: &Chosen, name: &str) -> String {
     let Chosen { settings, tree, .. } = chosen;
     format!(
-        "{name}: {} bytes, {}; {}; bytes counted: {}\n",
+        "{name}: {} bytes, {}; {}; bytes counted: {}{}\n",
         grouped(tree.len() as u64),
         share(tree.len(), length),
         shape(settings),
-        listed(&settings.counted)
+        listed(&settings.counted),
+        if Tree::unchecked(tree).layout() == 1 { "; without edges" } else { "" }
     )
 }
 
@@ -184,7 +199,9 @@ fn object(text: &Input, built: &Built, name: &str, digests: &Digests, warnings: 
     let object = Object::new().text("book", &text.name).number("length", text.bytes.len()).text("tree", name).number("size", tree.len());
     let object = shaped(object, settings).numbers("counted", &settings.counted).text("sha256", &digests.tree.to_string()).objects("tried", tried);
     let object = built.besides.as_ref().map_or(object.clone(), |compared| compared.members(object));
-    object.texts("warnings", warnings).text("text_sha256", &digests.text.to_string())
+    let tree = Tree::unchecked(tree);
+    let object = stats::saving(object.texts("warnings", warnings).number("layout", tree.layout()), tree);
+    object.text("text_sha256", &digests.text.to_string())
 }
 
 fn shaped(object: Object, settings: &Settings) -> Object {

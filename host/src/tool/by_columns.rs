@@ -6,6 +6,7 @@ use crate::input::{Input, Source, TEXT};
 use crate::json::Object;
 use crate::output::Output;
 use crate::say::{grouped, several};
+use crate::trials::Request;
 use crate::values::{self, Width};
 use crate::Failure;
 use codebook::{row_width, Refusal, Settings};
@@ -35,13 +36,14 @@ impl Compared {
 }
 
 /// Build the tree of a book by columns, and that of the book as it stands, to say which is smaller.
-pub fn build(text: &Input, settings: Option<&Settings>, counted: &[u8], width: Width, quiet: bool) -> Result<Built, Failure> {
+pub fn build(text: &Input, request: &Request, width: Width) -> Result<Built, Failure> {
     let (turned, width) = turned(text, width)?;
-    let plain = build::chosen(&text.name, &text.bytes, settings, counted, quiet)?;
-    let chosen = build::chosen(&text.name, &turned, settings, counted, quiet)?;
+    let plain = build::chosen(&text.name, &text.bytes, request)?;
+    let chosen = build::chosen(&text.name, &turned, request)?;
     let rows = several(text.bytes.len() as u64 / u64::from(width), "row");
     let title = format!("{}, {rows} of {width} bytes by columns", text.name);
-    Ok(Built { chosen, title, besides: Some(Compared { width, settings: plain.settings, size: plain.tree.len() }) })
+    let small = build::smaller(&turned, &chosen, request);
+    Ok(Built { chosen, title, small, besides: Some(Compared { width, settings: plain.settings, size: plain.tree.len() }) })
 }
 
 /// A book by columns, and the width of its rows.

@@ -5,8 +5,8 @@ use crate::input::{self, Input, TEXT, TREE};
 use crate::json::Object;
 use crate::say::{self, grouped, several};
 use crate::table::{Opt, COLUMNS, SHA256, TEXT_SHA256};
-use crate::{by_columns, values, Failure};
-use codebook::{build_scanned, digest_text, Digest, Refusal, Tree};
+use crate::{by_columns, trials, values, Failure};
+use codebook::{digest_text, Digest, Refusal, Tree};
 use std::path::Path;
 
 /// A tree that the check accepts, unless it is not asked.
@@ -96,10 +96,15 @@ fn verify_one(given: &Given, book: &Path, tree: &Path) -> Result<(), Failure> {
     if let Some(words) = difference(&due, &text) {
         return Err(Failure::refused(&input.name, format!("not a tree of {}: {words}", book.name)));
     }
-    let built = tree.layout() == 2 && build_scanned(&due, &tree.settings()).is_ok_and(|scanned| scanned.tree == input.bytes);
+    let small = tree.layout() == 1;
+    let built = trials::build(&due, &tree.settings(), small).is_ok_and(|built| built == input.bytes);
     let object = Object::new().text("tree", &input.name).text("book", &book.name).flag("good", true).flag("as_built", built);
     let object = digests(object, &digest_text(&input.bytes), &digest_text(&due));
-    let which = if built { "the block tree" } else { "a good tree, though not the one that build makes," };
+    let which = match (built, small) {
+        (true, false) => "the block tree",
+        (true, true) => "the block tree, without edges,",
+        (false, _) => "a good tree, though not the one that build makes,",
+    };
     report(given, &object, &format!("{}: {which} of {}, {}\n", input.name, book.name, several(due.len() as u64, "byte")))
 }
 

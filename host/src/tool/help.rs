@@ -11,7 +11,7 @@ const LINE: usize = 110;
 const OPTION: usize = 22;
 
 /// The format, as the library builds and reads it.
-pub const LAYOUTS: &str = "block trees: builds layout 2, reads layouts 1 and 2";
+pub const LAYOUTS: &str = "block trees: builds layout 2, and layout 1 with --small; reads both";
 
 /// The last words of every help.
 pub const ENDING: &str =

@@ -22,6 +22,7 @@ mod reasons;
 mod say;
 mod shelf;
 mod signals;
+mod slim;
 mod spool;
 mod stats;
 mod table;

@@ -31,6 +31,19 @@ pub fn parts(tree: Tree) -> [(&'static str, u64); 4] {
     [("header", 100), ("records", records), ("edges", edges), ("leaf bytes", tree.leaf_bytes().into())]
 }
 
+/// The size that a tree has without its edges.
+pub fn without_edges(tree: Tree) -> u64 {
+    parts(tree).iter().filter(|(part, _)| *part != "edges").map(|(_, bytes)| bytes).sum()
+}
+
+/// What a tree with edges would have without them.
+pub fn saving(object: Object, tree: Tree) -> Object {
+    match tree.layout() {
+        2 => object.number("size_without_edges", without_edges(tree)),
+        _ => object,
+    }
+}
+
 /// How often each counted byte stands.
 fn totals(tree: Tree) -> Vec<(u8, u64)> {
     let total = |&byte: &u8| (byte, tree.count(byte, tree.text_length()).map_or(0, |count| count.value));
@@ -53,7 +66,8 @@ fn line(name: &str, tree: Tree) -> String {
 fn table(name: &str, tree: Tree) -> String {
     let (settings, length) = (tree.settings(), tree.text_length());
     let mut text = format!("{name}: {} bytes, {}\n", grouped(tree.size() as u64), share(tree.size(), length as usize));
-    text += &format!("text        {} bytes\nlayout      {}\nsettings    {}\n", grouped(length), tree.layout(), shape(&settings));
+    let edges = if tree.layout() == 2 { "with edges, for short spans in one walk" } else { "without edges" };
+    text += &format!("text        {} bytes\nlayout      {}, {edges}\nsettings    {}\n", grouped(length), tree.layout(), shape(&settings));
     for (byte, total) in totals(tree) {
         text += &format!("counted     {byte} '{}': {} times\n", [byte].escape_ascii(), grouped(total));
     }
@@ -63,6 +77,10 @@ fn table(name: &str, tree: Tree) -> String {
     text += "the tree's bytes\n";
     for (part, bytes) in parts(tree) {
         text += &format!("  {part:<10}{:>12}  {:>5.1} %\n", grouped(bytes), 100.0 * bytes as f64 / tree.size() as f64);
+    }
+    if tree.layout() == 2 {
+        let size = without_edges(tree);
+        text += &format!("without edges {} bytes, {}: codebook slim\n", grouped(size), share(size as usize, length as usize));
     }
     text + &levels(tree)
 }
@@ -88,7 +106,7 @@ fn object(name: &str, tree: Tree) -> Object {
     let object = Object::new().text("tree", name).number("size", tree.size()).number("length", tree.text_length()).number("layout", tree.layout());
     let object = object.number("leaf", settings.leaf).number("arity", settings.arity).objects("counted", counted);
     let object = tree.rows().map_or(object.clone(), |rows| object.number("rows", rows));
-    object.object("bytes", &bytes).objects("levels", levels)
+    saving(object.object("bytes", &bytes).objects("levels", levels), tree)
 }
 
 /// The lines of the list program; one line a tree where there are several.

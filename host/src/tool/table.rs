@@ -1,6 +1,6 @@
 //! The one table of commands and options: calls are read by it, and help, the manual page and the completions are printed from it.
 
-use crate::{build, by_columns, check, digest, given::Given, guide, help, licence, picture, questions, shelf, stats, Failure};
+use crate::{build, by_columns, check, digest, given::Given, guide, help, licence, picture, questions, shelf, slim, stats, Failure};
 
 /// What the commands on licences share.
 macro_rules! licence_days {
@@ -75,6 +75,7 @@ pub static COLUMNS: Opt =
     valued("--columns", "W", "the rows of W bytes, end byte included, stand by columns; auto finds the width of rows that all have one");
 pub static ROW_COLUMNS: Opt =
     valued("--columns", "W", "the tree is of a book by columns, of rows of W bytes, end byte included; that is yours to know");
+pub static SMALL: Opt = flag("--small", None, "a tree without edges (layout 1): smaller; spans of nearly a leaf length take longer");
 pub static SHA256: Opt = valued("--sha256", "HEX", "the SHA-256 that the tree must have");
 pub static TEXT_SHA256: Opt = valued("--text-sha256", "HEX", "the SHA-256 that the tree's text must have");
 pub static GUIDE: Opt = Opt {
@@ -106,11 +107,11 @@ const fn any(name: &'static str) -> Word {
 static TREE: [Word; 1] = [maybe("TREE")];
 static TREES: [Word; 1] = [any("TREE")];
 
-pub static COMMANDS: [Command; 31] = [
+pub static COMMANDS: [Command; 32] = [
     Command {
         name: "build",
         words: &[any("BOOK")],
-        options: &[&OUTPUT, &FORCE, &LEAF, &ARITY, &LEVELS, &COUNT, &COLUMNS, &JSON],
+        options: &[&OUTPUT, &FORCE, &SMALL, &LEAF, &ARITY, &LEVELS, &COUNT, &COLUMNS, &JSON],
         summary: "build the trees of books",
         details: concat!(
             "A BOOK is any text of up to ",
@@ -118,11 +119,21 @@ pub static COMMANDS: [Command; 31] = [
             " bytes. Its tree goes to a file with the book's name and the ending .tree, or to FILE; where FILE is a folder, into that one. The tree of standard input goes to standard output. \
              An existing file is left alone unless --force is given, and is replaced whole or not at all.\n\
              Where no settings are given, a short list is tried (256/2/1, 64/4/3, 48/2/5, 32/4/4, 24/8/3 and 16/4/4 as leaf/arity/levels), the smallest tree is kept, and what each gave is printed. \
+             With --small the tree has no edges, and the list is that of such trees (256/2/1, 256/2/2, 192/2/2, 128/2/2, 96/2/2, 96/2/4 and 64/2/5). \
              The SHA-256 of the tree and that of its text are printed, to be printed with the book or kept apart from the tree: check compares them.\n\
-             Warnings tell what a reader would miss: rows that are not code, space, cuts; a byte order mark; no row at all; a tree that is no smaller than its text.\n\
+             Warnings tell what a reader would miss: rows that are not code, space, cuts; a byte order mark; no row at all; a tree that is no smaller than its text, and what --small would give where that is smaller.\n\
              With --columns the tree is that of the book by columns, and it is said whether that makes it smaller. Such a tree is read by row --columns; it does not say itself that its text is rearranged."
         ),
         run: build::build,
+    },
+    Command {
+        name: "slim",
+        words: &TREES,
+        options: &[&OUTPUT, &FORCE, &JSON],
+        summary: "write trees without their edges",
+        details: "Checks each TREE and writes it in layout 1, without its edges: the same tree of the same text, never larger. It goes to a file with the tree's name and the ending .small.tree, or to FILE; where FILE is a folder, into that one. The TREE that is read is never overwritten. The tree of standard input goes to standard output. \
+                  Every question has the same answer; spans of nearly a leaf length take longer. A TREE that has no edges is copied.",
+        run: slim::slim,
     },
     Command {
         name: "check",

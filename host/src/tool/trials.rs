@@ -1,7 +1,7 @@
 //! Which settings suit a book: a short list is tried, each once, and the smallest tree is kept.
 
 use crate::progress;
-use codebook::{build_scanned, one_level_size, Refusal, Settings, SHORT_LIST};
+use codebook::{build_scanned, one_level_size, Refusal, Settings, Tree, SHORT_LIST, SMALL_LIST};
 use std::sync::atomic::{AtomicUsize, Ordering};
 use std::sync::Mutex;
 use std::thread;
@@ -20,24 +20,35 @@ pub struct Chosen {
     pub tried: Vec<Trial>,
 }
 
-/// The smallest tree of the short list; of equal ones the first.
-pub fn best(text: &[u8], counted: &[u8], quiet: bool) -> Result<Chosen, Refusal> {
-    let list = SHORT_LIST.map(|(leaf, arity, levels)| Settings { leaf, arity, levels, counted: counted.to_vec() });
-    choose(text, &list, quiet)
+/// What the caller asks for.
+pub struct Request {
+    /// None to have a list tried.
+    pub settings: Option<Settings>,
+    pub counted: Vec<u8>,
+    /// Layout 1: a tree without edges.
+    pub small: bool,
+    pub quiet: bool,
 }
 
-/// The tree with these settings.
-pub fn one(text: &[u8], settings: &Settings, quiet: bool) -> Result<Chosen, Refusal> {
-    choose(text, std::slice::from_ref(settings), quiet)
+/// The tree with the settings, or the smallest tree of the layout's list; of equal ones the first.
+pub fn best(text: &[u8], request: &Request) -> Result<Chosen, Refusal> {
+    let list: &[(u32, u32, u32)] = if request.small { &SMALL_LIST } else { &SHORT_LIST };
+    match &request.settings {
+        Some(settings) => choose(text, std::slice::from_ref(settings), request),
+        None => {
+            let settings = |&(leaf, arity, levels): &(u32, u32, u32)| Settings { leaf, arity, levels, counted: request.counted.clone() };
+            choose(text, &list.iter().map(settings).collect::<Vec<_>>(), request)
+        }
+    }
 }
 
 /// What a candidate gave: its size, and its tree where it was built.
 type Tried = Result<(usize, Option<Vec<u8>>), Refusal>;
 
-fn choose(text: &[u8], list: &[Settings], quiet: bool) -> Result<Chosen, Refusal> {
+fn choose(text: &[u8], list: &[Settings], request: &Request) -> Result<Chosen, Refusal> {
     let mut sizes = Vec::new();
     let mut smallest: Option<(usize, Option<Vec<u8>>)> = None;
-    for (at, tried) in all(text, list, quiet).into_iter().enumerate() {
+    for (at, tried) in all(text, list, request).into_iter().enumerate() {
         let (size, tree) = tried?;
         match &smallest {
             Some((best, _)) if sizes[*best] <= size => {}
@@ -47,22 +58,22 @@ fn choose(text: &[u8], list: &[Settings], quiet: bool) -> Result<Chosen, Refusal
     }
     let (at, tree) = smallest.expect("the list is not empty");
     let settings = list[at].clone();
-    let tree = tree.map_or_else(|| build_scanned(text, &settings).map(|scanned| scanned.tree), Ok)?;
+    let tree = tree.map_or_else(|| build(text, &settings, request.small), Ok)?;
     let tried = list.iter().zip(sizes).map(|(settings, size)| Trial { settings: settings.clone(), size }).collect();
     Ok(Chosen { settings, tree, tried })
 }
 
 /// Try each settings, as many at a time as there are processors. Of trees that are built only the smallest is kept.
-fn all(text: &[u8], list: &[Settings], quiet: bool) -> Vec<Tried> {
+fn all(text: &[u8], list: &[Settings], request: &Request) -> Vec<Tried> {
     let next = AtomicUsize::new(0);
     let results: Mutex<Vec<Option<Tried>>> = Mutex::new(list.iter().map(|_| None).collect());
     let workers = thread::available_parallelism().map_or(1, usize::from).min(list.len());
     let costs: Vec<u64> = list.iter().map(|settings| cost(text, settings)).collect();
-    progress::show(&costs, quiet, |done| {
+    progress::show(&costs, request.quiet, |done| {
         let work = || loop {
             let at = next.fetch_add(1, Ordering::Relaxed);
             let Some(settings) = list.get(at) else { return };
-            let tried = attempt(text, settings, list.len() > 1);
+            let tried = attempt(text, settings, request.small, list.len() > 1);
             enter(&mut results.lock().expect("no build panics"), at, tried);
             done(at);
         };
@@ -79,10 +90,22 @@ fn all(text: &[u8], list: &[Settings], quiet: bool) -> Vec<Tried> {
 }
 
 /// A tree of one level has no blocks that point: its size is computed.
-fn attempt(text: &[u8], settings: &Settings, computed: bool) -> Tried {
+fn attempt(text: &[u8], settings: &Settings, small: bool, computed: bool) -> Tried {
+    let leaf = settings.leaf as usize;
     match one_level_size(text.len(), settings)? {
+        Some(size) if computed && small => Ok((size - text.len().div_ceil(leaf) * 2 * leaf, None)),
         Some(size) if computed => Ok((size, None)),
-        _ => build_scanned(text, settings).map(|scanned| (scanned.tree.len(), Some(scanned.tree))),
+        _ => build(text, settings, small).map(|tree| (tree.len(), Some(tree))),
+    }
+}
+
+/// The tree, without its edges if it is to be small.
+pub fn build(text: &[u8], settings: &Settings, small: bool) -> Result<Vec<u8>, Refusal> {
+    let tree = build_scanned(text, settings)?.tree;
+    if small {
+        Tree::unchecked(&tree).without_edges()
+    } else {
+        Ok(tree)
     }
 }
 

@@ -15,6 +15,7 @@ pub mod keys;
 pub mod order;
 pub mod read;
 pub mod sha256;
+pub mod without_edges;
 
 /// The longest text, and the longest block of level 0.
 pub const MAX_TEXT: u64 = 8_388_608;

@@ -1,0 +1,2 @@
+pub mod WithoutEdgesLaws
+pub mod Demands

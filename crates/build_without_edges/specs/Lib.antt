@@ -1,0 +1,2 @@
+pub mod WithoutEdgesAnswers
+pub mod WithoutEdgesState

@@ -1,0 +1,67 @@
+-- Computed examples: the trees of docs/FORMAT.md, "Example", without their edges are its trees of layout 1, and a tree of layout 1 is unchanged.
+use mathlib.Core.List.{List, [], _∷_, _++_}
+use mathlib.Core.Path.{_≡_, refl}
+use Prim.Native.Nat.{ℕ}
+use lib.ListN.{length, replicate, take}
+use Rattle.text.specs.Lists.{tabulate, concat, sumBelow, countBelow, sameList}
+use Rattle.text.specs.Text.{stretch, leftmost, firstFrom, countIn}
+use Rattle.format.specs.Words.{setWord, wordAt, wordsBytes, wordBytes}
+use Rattle.format.specs.Settings.{Settings, blockLength, pieces, recordLength}
+use Rattle.format.specs.Edges.{edgesOf, filledOut}
+use Rattle.format.specs.Blocks.{treeOf, header, leafBytes, levelPairs, recordBytes, levelBytes, recordIn, recordOf, target, occurrence, width, isKept}
+use Rattle.format.specs.Blocks.{startsAt, cut, keptByPairs, firstPairAt, pairAt, lengthOf, startOf}
+use Rattle.format.specs.Layout as at
+use Rattle.theory_without_edges.specs.WithoutEdges.{layout1RecordSize, layout1Offset, offsetsIn, layout1Header, recordCount}
+use Rattle.theory_without_edges.specs.WithoutEdges.{layout1Record, layout1Records, layout1LeafBytes}
+use Rattle.theory_without_edges.specs.WithoutEdges.{withoutEdges}
+use Rattle.theory_without_edges.specs.TreeInLayout.{treeIn, headerIn, pairsIn, levelIn, bytesOf, sizeIn}
+
+book : List ℕ
+book = 81 ∷ 65 ∷ 66 ∷ 67 ∷ 68 ∷ 65 ∷ 66 ∷ 67 ∷ 68 ∷ 69 ∷ 70 ∷ 71 ∷ 65 ∷ 66 ∷ 67 ∷ 68 ∷ 65 ∷ 66 ∷ 67 ∷ 68 ∷ []
+
+twelve : List ℕ
+twelve = replicate 12 65
+
+two : Settings
+two = record { leaf = 2; arity = 2; levels = 2; counted = 65 ∷ [] }
+
+uncounted : Settings
+uncounted = record { leaf = 2; arity = 2; levels = 2; counted = [] }
+
+-- the words of the records of level l
+words : Settings → List ℕ → ℕ → List ℕ
+words S T l = concat (tabulate (length (startsAt S T l)) (recordOf S T l (startsAt S T l)))
+
+-- the trees in layout 1, by hand: the header's words, the records without edges, the leaf bytes
+older : List ℕ
+older =
+    wordsBytes (1 ∷ 20 ∷ 2 ∷ 2 ∷ 2 ∷ 1 ∷ 65 ∷ 5 ∷ 100 ∷ 8 ∷ 240 ∷ []) ++ replicate
+    48 0 ++ wordsBytes (464 ∷ 16 ∷ words two book 0 ++ words two book 1) ++ take 16 book
+
+older-twelve : List ℕ
+older-twelve =
+    wordsBytes (1 ∷ 12 ∷ 2 ∷ 2 ∷ 2 ∷ 0 ∷ 0 ∷ 3 ∷ 100 ∷ 4 ∷ 148 ∷ []) ++ replicate
+    48 0 ++ wordsBytes (212 ∷ 8 ∷ words uncounted twelve 0 ++ words uncounted twelve 1) ++ replicate 8 65
+
+pub record Marked : Type 0 where
+  -- 532 and 248 bytes with edges, 480 and 220 without
+  book-layout1 : (withoutEdges (treeOf two book) ≡ older) × (length (treeOf two book) ≡ 532) × (length older ≡ 480)
+  twelve-layout1 : (withoutEdges (treeOf uncounted twelve) ≡ older-twelve) × (length (treeOf uncounted twelve) ≡ 248) × (length older-twelve ≡ 220)
+  book-in-layout : treeIn 1 two book ≡ older
+  stays : (withoutEdges older ≡ older) × (withoutEdges older-twelve ≡ older-twelve)
+  -- the tree of the empty text is its header
+  empty : length (withoutEdges (treeOf two [])) ≡ 100
+
+pub marked : Marked
+unfolding book twelve two uncounted words older older-twelve withoutEdges layout1RecordSize layout1Offset offsetsIn layout1Header recordCount
+    layout1Record layout1Records layout1LeafBytes treeIn headerIn pairsIn levelIn bytesOf sizeIn tabulate concat sumBelow countBelow sameList setWord
+    wordAt wordsBytes wordBytes stretch leftmost firstFrom countIn blockLength pieces recordLength treeOf header leafBytes levelPairs recordBytes
+    edgesOf filledOut levelBytes recordIn recordOf target occurrence width isKept startsAt cut keptByPairs firstPairAt pairAt lengthOf startOf
+    at.levelCount at.levelOffset
+marked = record {
+  book-layout1 = (refl, refl, refl);
+  twelve-layout1 = (refl, refl, refl);
+  book-in-layout = refl;
+  stays = (refl, refl);
+  empty = refl;
+}

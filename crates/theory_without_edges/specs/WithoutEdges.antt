@@ -1,0 +1,61 @@
+-- A tree without its edges is the same tree in layout 1: the header with the layout word 1 and the offsets of layout 1, the words of each record, the
+-- leaf bytes. The definition takes any bytes; bytes that pass questions 5 to 7 give a tree that passes them too.
+-- docs/FORMAT.md: "A tree without its edges".
+use mathlib.Core.List.{List, _++_}
+use Prim.Native.Nat.{ℕ, zero, suc, _+_, _*_, _<_}
+use lib.ListN.{getD, take}
+use Rattle.text.specs.Lists.{tabulate, concat, sumBelow}
+use Rattle.text.specs.Text.{stretch}
+use Rattle.format.specs.Words.{setWord}
+use Rattle.format.specs.RecordFields.{fieldBytes}
+use Rattle.format.specs.HeaderPlaces.{layoutAt, offsetAt, leafOffsetAt, headerLength}
+use Rattle.format.specs.Layout as at
+
+-- the layout without edges
+abbrev pub edgelessLayout : ℕ
+edgelessLayout = 1
+
+-- every number of the list is a byte
+abbrev pub AllBytes : List ℕ → Type 0
+AllBytes t = (x : ℕ) → getD t x 0 < 256
+
+module _ (t : List ℕ) where
+  -- the size of a record without its edges
+  unfoldable pub layout1RecordSize : ℕ
+  unfolding at.countedCount
+  layout1RecordSize = fieldBytes (at.countedCount t)
+
+  -- the offset of level l in layout 1; for l = levels, the offset of the leaf bytes
+  unfoldable pub layout1Offset : ℕ → ℕ
+  unfolding at.levelCount
+  layout1Offset l = headerLength + sumBelow l (at.levelCount t) * layout1RecordSize
+
+  -- the header h with the offsets of its first l levels replaced
+  unfoldable pub offsetsIn : ℕ → List ℕ → List ℕ
+  offsetsIn zero h = h
+  offsetsIn (suc l) h = setWord (offsetsIn l h) (offsetAt l) (layout1Offset l)
+
+  unfoldable pub layout1Header : List ℕ
+  unfolding at.settings
+  layout1Header =
+      let H = at.settings t .levels in
+      setWord (offsetsIn H (setWord (take headerLength t) layoutAt edgelessLayout)) leafOffsetAt (layout1Offset H)
+
+  -- the records of all levels, in their order; j counts from 0
+  unfoldable pub recordCount : ℕ
+  unfolding at.settings at.levelCount
+  recordCount = sumBelow (at.settings t .levels) (at.levelCount t)
+
+  unfoldable pub layout1Record : ℕ → List ℕ
+  unfolding at.recordSize
+  layout1Record j = stretch t (headerLength + j * at.recordSize t) layout1RecordSize
+
+  unfoldable pub layout1Records : List ℕ
+  layout1Records = concat (tabulate recordCount layout1Record)
+
+  unfoldable pub layout1LeafBytes : List ℕ
+  unfolding at.leafOffset at.leafCount
+  layout1LeafBytes = stretch t (at.leafOffset t) (at.leafCount t)
+
+  unfoldable pub withoutEdges : List ℕ
+  withoutEdges = layout1Header ++ layout1Records ++ layout1LeafBytes

@@ -1,0 +1,52 @@
+//! `slim`: trees without their edges.
+
+use crate::build::{apart, target};
+use crate::check::{open, refused};
+use crate::given::Given;
+use crate::input::{Input, Source, TREE};
+use crate::json::Object;
+use crate::output::Output;
+use crate::say::{self, grouped};
+use crate::table::FORCE;
+use crate::{sha256, Failure};
+
+/// The ending of a name that is not given.
+const ENDING: &str = "small.tree";
+
+pub fn slim(given: &Given) -> Result<(), Failure> {
+    apart(given, ENDING)?;
+    given.each(|path| {
+        let source = Source::open(path)?;
+        let output = Output::create(target(given, path, ENDING)?.as_deref(), given.has(&FORCE), &source)?;
+        let input = source.read(&TREE)?;
+        let tree = open(&input, false)?;
+        let small = tree.without_edges().map_err(|refusal| refused(&input, refusal))?;
+        write(given, &input, &small, output)?;
+        if tree.layout() == 1 && !given.quiet() {
+            say::tell(&format!("codebook: {}: warning: it has no edges already, and was copied\n", input.name));
+        }
+        Ok(())
+    })
+}
+
+/// Write the tree; then say what it has, where the tree does not go.
+fn write(given: &Given, input: &Input, small: &[u8], output: Output) -> Result<(), Failure> {
+    let (name, standard) = (output.name.clone(), output.is_standard());
+    output.write(small)?;
+    let digest = sha256::hex(small);
+    let report = if given.json() {
+        let object = Object::new().text("tree", &input.name).number("size", input.bytes.len());
+        object.text("written", &name).number("written_size", small.len()).text("sha256", &digest).line()
+    } else {
+        let share = 100.0 * small.len() as f64 / input.bytes.len() as f64;
+        format!("{name}: {} bytes, {share:.1} % of {}; sha256 {digest}\n", grouped(small.len() as u64), input.name)
+    };
+    match (given.quiet(), standard) {
+        (true, _) => Ok(()),
+        (false, true) => {
+            say::tell(&report);
+            Ok(())
+        }
+        (false, false) => say::print(report.as_bytes()),
+    }
+}
