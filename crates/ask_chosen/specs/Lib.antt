@@ -1,0 +1,3 @@
+pub mod ChosenSays
+pub mod ChosenAnswer
+pub mod RowsAfter

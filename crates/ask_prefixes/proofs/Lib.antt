@@ -1,0 +1,2 @@
+pub mod PrefixSeekLaws
+pub mod Demands

@@ -1,0 +1,19 @@
+use mathlib.Core.Path.{sym, _∙_}
+use borrow.Author.Needs.{needs}
+use Rattle.prefixes.specs.Agreements.{agreeing}
+use Rattle.ask_chosen.proofs.RowsAfterLaws.{end-whole, end-none, end-some}
+use Rattle.ask_prefixes.proofs.prefix_seek.end_of_text.Statement.{statement}
+use Rattle.ask_prefixes.proofs.prefix_seek.end_of_text.Tie as tie
+
+pub end-of-text-spec : {M : Type 1} → statement M
+end-of-text-spec =
+    tie.close
+    (tie.spec
+    (λ c κs. search needs)
+    (λ c. end-whole (agreeing _) _ _ (sym (c .before .whole .ensures) ∙ c .if1 .taken))
+    (λ c κs. search needs)
+    (λ c. search needs)
+    (λ c. end-none (agreeing _) _ _
+    (sym (c .before .before .before .whole .ensures) ∙ c .before .before .if1 .left) (sym (c .before .none .ensures) ∙ c .if2 .taken))
+    (λ c. end-some (agreeing _) _ _
+    (sym (c .before .before .before .whole .ensures) ∙ c .before .before .if1 .left) (sym (c .before .none .ensures) ∙ c .if2 .left)))

@@ -1,0 +1,3 @@
+pub mod AgreementLaws
+pub mod AgreementReads
+pub mod PrefixScanLaws
