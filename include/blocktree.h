@@ -13,7 +13,7 @@
  *  - Every pointer is non-null, also where its length is 0 (pass the address of any byte), and points to as many bytes, or words of a table, as its
  *    length says; pointers to figures and to words are aligned.
  *  - Nobody has to check a tree first: each call is safe on any bytes, reads nothing outside them and ends. On a tree that bt_check refuses, bt_find may
- *    answer any place below n with any number of blocks, bt_row any bytes, bt_row_length any length up to n, and bt_next_match any row after the mark or none, or each of them may
+ *    answer any place below n with any number of blocks, bt_row any bytes, bt_row_length any length up to n, bt_next_match and bt_next_with_prefix any row after the mark or none, or each of them may
  *    answer BT_PATH (bt_row also BT_BUFFER). All other answers are settled on any bytes. On a tree that bt_check accepts BT_PATH is never the answer.
  *  - A tree carries no checksum of its maker's text: bt_check says that it stands for a text, not for which. A flipped leaf byte, with the counts and edges
  *    that it is in, makes a good tree of another text, and a wrong key. Keep a digest of the tree beside it.
@@ -209,6 +209,17 @@ uint32_t bt_places_words(const uint8_t *tree, size_t tree_len, uint32_t length, 
  * Called again and again from mark 0, with the same ranges, until *row is 0, it shows each match once, in row order. The text after the mark is read once,
  * up to the match. */
 uint32_t bt_next_match(const uint8_t *tree, size_t tree_len, const uint8_t *ranges, size_t ranges_len, uint32_t *mark, uint32_t *row);
+
+/* Rows by their first bytes: move a mark on to the next row that starts with a prefix, say a code and the space after it. Rows are those of bt_row: a
+ * byte 13 directly before the byte 10 that ends a row is not part of it. A prefix with a byte 10 starts no row.
+ *   lent      tree, prefix: 1 to BT_MAX_PATTERN bytes
+ *   written   *mark is in and out, as of bt_next_match: the number of the row shown last, 0 before the first. It goes to the row that is shown; if no row
+ *             after it starts with the prefix, to the number of rows, or it stays if it stands there or beyond. A refusal leaves it as it was
+ *             *row: the row that is shown; 0 with BT_OK means that there is no further one
+ *   answers   0, 5, 6, 7, 16, 11 (byte 10 is not counted), 14
+ * Called again and again from mark 0, with the same prefix, until *row is 0, it shows each row that starts with the prefix once, in row order. The text
+ * after the mark is read once, up to the end of the row. */
+uint32_t bt_next_with_prefix(const uint8_t *tree, size_t tree_len, const uint8_t *prefix, size_t prefix_len, uint32_t *mark, uint32_t *row);
 
 /* Columns before rows: a text of rows of one width, end byte included, rearranged; the byte in column b of row a goes to place b * rows + a, both counted
  * from 0. In books with rows of one width columns repeat more than rows, and the tree of the rearranged text can be smaller.

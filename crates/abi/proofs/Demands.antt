@@ -44,6 +44,9 @@ use Rattle.abi.proofs.bt_places.Met as bt-places-met
 use Rattle.abi.proofs.bt_next_match as bt-next-match-of
 use Rattle.abi.proofs.bt_next_match.Symbol as bt-next-match-at
 use Rattle.abi.proofs.bt_next_match.Met as bt-next-match-met
+use Rattle.abi.proofs.bt_next_with_prefix as bt-next-with-prefix-of
+use Rattle.abi.proofs.bt_next_with_prefix.Symbol as bt-next-with-prefix-at
+use Rattle.abi.proofs.bt_next_with_prefix.Met as bt-next-with-prefix-met
 use Rattle.abi.proofs.bt_list as bt-list-of
 use Rattle.abi.proofs.bt_list.Symbol as bt-list-at
 use Rattle.abi.proofs.bt_list.Met as bt-list-met
@@ -130,6 +133,12 @@ calls =
     ∷ call (record { routine = bt-places-at.routine; signature = bt-places-of.signature; clauses = bt-places-of.spec }) bt-places-met.met
     (λ 𝓤 H A mem run κs a. (tt, refl))
     ∷ call (record { routine = bt-next-match-at.routine; signature = bt-next-match-of.signature; clauses = bt-next-match-of.spec }) bt-next-match-met.met
+    (λ 𝓤 H A mem run κs a. (tt, refl))
+    ∷ call (record {
+      routine = bt-next-with-prefix-at.routine;
+      signature = bt-next-with-prefix-of.signature;
+      clauses = bt-next-with-prefix-of.spec;
+    }) bt-next-with-prefix-met.met
     (λ 𝓤 H A mem run κs a. (tt, refl))
     ∷ call (record { routine = bt-list-at.routine; signature = bt-list-of.signature; clauses = bt-list-of.spec }) bt-list-met.met
     (λ 𝓤 H A mem run κs a. (tt, refl))

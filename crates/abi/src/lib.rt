@@ -32,7 +32,10 @@ ghost use Rattle.build_enough.specs.Enough.{enoughSays};
 ghost use Rattle.list_lines.specs.ListSays.{listSays, listLeaves};
 ghost use Rattle.ask_patterns.specs.Places.{placesSays, placesLeaves};
 ghost use Rattle.build_by_scan.specs.ScannedSays.{tableWords, scanNumber, scanSize, scanWindows, scanLeaves, TableLeft};
+ghost use Rattle.prefixes.specs.Prefixes.{startsWith};
+ghost use Rattle.ask_chosen.specs.ChosenSays.{ChosenSays};
 ghost use Rattle.ask_worn_keys.specs.MatchSays.{MatchSays};
+ghost use Rattle.ask_prefixes.specs.PrefixSays.{prefixNumber};
 ghost use Rattle.abi.specs.ExportAnswers.{saying, roomNumber, roomSize, listedNumber, listedSize};
 
 // Builds the tree of a text.
@@ -312,6 +315,37 @@ pub extern "C" fn bt_next_match(tree: &[u8], ranges: &[u8], mark: &mut u32, row:
 {
     let at = *mark;
     let shown = query::next_match(tree, ranges, at);
+    match shown {
+        Shown::Row(q) => {
+            *row = q;
+            *mark = q;
+            0
+        }
+        Shown::Nothing(m) => {
+            *row = 0;
+            *mark = m;
+            0
+        }
+        Shown::Refused(number) => {
+            *row = 0;
+            number
+        }
+    }
+}
+
+// Moves the mark on to the next row that starts with the prefix, and answers that row, 0 for none. A refusal leaves the mark.
+#[no_mangle]
+pub extern "C" fn bt_next_with_prefix(
+    tree: &[u8],
+    prefix: &[u8],
+    mark: &mut u32,
+    row: &mut u32,
+) -> u32
+    ensures { λ r. ⌜ ChosenSays (now (tree .entry)) (prefixNumber (now (tree .entry)) (now (prefix .entry))) (startsWith (now (prefix .entry)))
+        (now (mark .entry)) (record { number = r; row = now (row .exit); mark = now (mark .exit) }) ⌝ }
+{
+    let at = *mark;
+    let shown = query::next_row_with_prefix(tree, prefix, at);
     match shown {
         Shown::Row(q) => {
             *row = q;

@@ -1,17 +1,12 @@
 // A worn key: the rows of a book that match a range of depths for each cut, one at a time.
 mod search;
 
+use ask_chosen::Shown;
 use layout::header;
 use layout::header::HeaderRead;
 ghost use mathlib.Core.Path.{_≡_};
-ghost use Rattle.ask_worn_keys.specs.MatchAnswer.{MatchAnswer, markAfter, Moved};
-
-// The row shown, on which the mark then stands; or none, and where the mark then stands; or the number of the question that refuses.
-pub enum Shown {
-    Row(u32),
-    Nothing(u32),
-    Refused(u32),
-}
+ghost use Rattle.ask_chosen.specs.ChosenAnswer.{markAfter};
+ghost use Rattle.ask_worn_keys.specs.MatchAnswer.{MatchAnswer, Moved};
 
 // A mark: the number of the row shown last, 0 before the first row.
 pub struct Mark {

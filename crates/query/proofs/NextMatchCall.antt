@@ -19,8 +19,9 @@ use Rattle.keys.specs.Matches.{nextMatch, shownFor}
 use Rattle.ask_worn_keys.specs.MatchSays.{matchNumber}
 use Rattle.ask_worn_keys.proofs.Demands.{refusal-is}
 use Rattle.ask_worn_keys.proofs.Demands as worn-keys
-use Rattle.ask_worn_keys.specs.declared.Shown.{Shown}
-use Rattle.ask_worn_keys.specs.declared.Shown.the-variants as shown
+use Rattle.ask_chosen.specs.declared.Shown.{Shown}
+use Rattle.ask_chosen.specs.declared.Shown.the-variants as shown
+use Rattle.ask_chosen.specs.ChosenSays.{tenAsked, askedWith}
 use Rattle.query.proofs.AcceptedTree.{Among, among-counted, not-counted}
 use Rattle.query.proofs.OutsideCall.{Call, Lent, call}
 use Rattle.query.proofs.RefusalNumbers.{OneOf, asks-one, not-zero, of-left, of-right, readable-one, then-one}
@@ -48,7 +49,7 @@ show-call =
 
 -- the numbers that the questions before the walk can give
 match-one : (t ranges : List ℕ) → OneOf (5 ∷ 6 ∷ 7 ∷ 19 ∷ 11 ∷ 0 ∷ []) (matchNumber t ranges)
-unfolding matchNumber
+unfolding matchNumber askedWith tenAsked
 match-one t ranges =
     then-one (5 ∷ 6 ∷ 7 ∷ []) (19 ∷ 11 ∷ 0 ∷ []) (readable t) _ (readable-one t)
     (asks-one ((19, rangesOk ranges) ∷ (11, isCounted t 10) ∷ []))
@@ -81,8 +82,7 @@ module _ (t : Lent) (v : verdict (now t) ≡ 0) where
 
   -- questions 19 and 11 let the search for a match through
   match-through : (ranges : List ℕ) → rangesOk ranges ≡ true → Among 10 (at.settings (now t) .counted) → matchNumber (now t) ranges ≡ 0
-  unfolding matchNumber
-  match-through ranges ok k = rw (pass, ok, among-counted (now t) 10 k)
+  match-through ranges ok k = worn-keys.match-through (now t) ranges pass ok (among-counted (now t) 10 k)
 
   pub accepted-answers : Answers t (at.settings (now t)) (textOf (now t))
   accepted-answers = record {

@@ -18,6 +18,7 @@ use Rattle.query.proofs.FindCall
 use Rattle.query.proofs.RowCall
 use Rattle.query.proofs.PlacesCall
 use Rattle.query.proofs.NextMatchCall
+use Rattle.query.proofs.PrefixRowCall
 use Rattle.query.proofs.ColumnRowCall
 
 -- every question put to the tree t is answered from the text T; S are the settings
@@ -30,6 +31,7 @@ pub record Answers (t : Lent) (S : Settings) (T : List ℕ) : Type 0 where
   pub row : RowCall.Answers t S T
   pub places : PlacesCall.Answers t S T
   pub next-match : NextMatchCall.Answers t S T
+  pub prefix-row : PrefixRowCall.Answers t S T
   pub column-row : ColumnRowCall.Answers t S T
 
 -- and where a question refuses, its number is answered, in the order of docs/FORMAT.md, "The questions, in order", and a lent buffer is unchanged
@@ -42,6 +44,7 @@ pub record Refuses (t : Lent) (S : Settings) (T : List ℕ) : Type 0 where
   pub row : RowCall.Refuses t S T
   pub places : PlacesCall.Refuses t S T
   pub next-match : NextMatchCall.Refuses t S T
+  pub prefix-row : PrefixRowCall.Refuses t S T
   pub column-row : ColumnRowCall.Refuses t S T
 
 -- Any tree that the check accepts, and the one text that fits it.
@@ -56,6 +59,7 @@ module _ (t : Lent) (v : verdict (now t) ≡ 0) where
     row = RowCall.accepted-answers t v;
     places = PlacesCall.accepted-answers t v;
     next-match = NextMatchCall.accepted-answers t v;
+    prefix-row = PrefixRowCall.accepted-answers t v;
     column-row = ColumnRowCall.accepted-answers t v;
   }
 
@@ -69,5 +73,6 @@ module _ (t : Lent) (v : verdict (now t) ≡ 0) where
     row = RowCall.accepted-refuses t v;
     places = PlacesCall.accepted-refuses t v;
     next-match = NextMatchCall.accepted-refuses t v;
+    prefix-row = PrefixRowCall.accepted-refuses t v;
     column-row = ColumnRowCall.accepted-refuses t v;
   }

@@ -43,13 +43,14 @@ use denote.Triple.Table.{entered, cited}
 use denote.Triple.Walked.{says, Stays, stay-ref, stay-none-slice, walkOf, goes-ref, goes-none-slice, Walks, ends-at, walked, walk-meets}
 use denote.Exit.{yes}
 use denote.Signature.{plain}
-use Rattle.ask_worn_keys.specs.MatchAnswer.{MatchAnswer, markAfter}
+use Rattle.ask_worn_keys.specs.MatchAnswer.{MatchAnswer}
+use Rattle.ask_chosen.specs.ChosenAnswer.{markAfter}
 use Rattle.ask_worn_keys.specs.declared.Mark.{Mark}
 use Rattle.ask_worn_keys.proofs.Mark as T
 use Rattle.ask_worn_keys.proofs.Mark.Laws as T′
-use Rattle.ask_worn_keys.specs.declared.Shown.{Shown}
-use Rattle.ask_worn_keys.proofs.Shown as S
-use Rattle.ask_worn_keys.proofs.Shown.Laws as S′
+use Rattle.ask_chosen.specs.declared.Shown.{Shown}
+use Rattle.ask_chosen.proofs.Shown as S
+use Rattle.ask_chosen.proofs.Shown.Laws as S′
 use Rattle.ask_worn_keys.proofs.next_match as next-match
 use Rattle.ask_worn_keys.proofs.next_match.Symbol as next-match-def
 use Rattle.ask_worn_keys.proofs.next_match.Symbol.{name as #worn_keys·next-match}

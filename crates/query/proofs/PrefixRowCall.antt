@@ -1,0 +1,90 @@
+-- next_row_with_prefix(tree, prefix, mark): the next row after a mark whose first bytes are the prefix. What holds of the mark stands in the `Demands` of
+-- its crate.
+use mathlib.Core.List.{List, [], _∷_}
+use mathlib.Core.Bool.{true, false, cond}
+use mathlib.Core.Path.{_≡_, refl}
+use mathlib.Core.Logic.{_⊎_, inl, inr}
+use Prim.Native.Nat.{ℕ}
+use contract.Lifetimes.{Lfts}
+use denote.Ref.{now}
+use lib.ListN.{length}
+use lib.Dec.{eqb}
+use Rattle.text.specs.Rows.{rowsOf}
+use Rattle.format.specs.Settings.{Settings}
+use Rattle.format.specs.Layout as at
+use Rattle.format.specs.Fits.{textOf}
+use Rattle.format.specs.Verdict.{readable, verdict}
+use Rattle.format.specs.VerdictLaws.{accepted-readable}
+use Rattle.format.specs.CountSays.{isCounted}
+use Rattle.chosen_rows.specs.Chosen.{shownNext}
+use Rattle.prefixes.specs.Prefixes.{nextWithPrefix}
+use Rattle.ask_patterns.specs.Places.{patternOk}
+use Rattle.ask_chosen.specs.declared.Shown.{Shown}
+use Rattle.ask_chosen.specs.declared.Shown.the-variants as shown
+use Rattle.ask_chosen.specs.ChosenSays.{tenAsked, askedWith}
+use Rattle.ask_prefixes.specs.PrefixSays.{prefixNumber}
+use Rattle.ask_prefixes.proofs.Demands as prefixes
+use Rattle.query.proofs.AcceptedTree.{Among, among-counted, not-counted}
+use Rattle.query.proofs.OutsideCall.{Call, Lent, call}
+use Rattle.query.proofs.RefusalNumbers.{OneOf, asks-one, not-zero, of-left, of-right, readable-one, then-one}
+use Rattle.ask_prefixes.proofs.next_row_with_prefix as next-code
+use Rattle.ask_prefixes.proofs.next_row_with_prefix.Symbol as next-symbol
+use Rattle.ask_prefixes.proofs.next_row_with_prefix.Met as next-met
+-- what the contract allows: `NextRowWithPrefix κs tree prefix mark r`
+pub use Rattle.ask_prefixes.proofs.Demands.{NextRowWithPrefix}
+
+abbrev pub next-row-with-prefix-call : Call
+next-row-with-prefix-call =
+    call (record { routine = next-symbol.routine; signature = next-code.signature; clauses = next-code.spec }) next-met.met
+    (λ 𝓤 H A mem run κs a. (tt, refl))
+
+-- Any lent bytes.
+
+-- the numbers that the questions before the walk can give
+prefix-one : (t prefix : List ℕ) → OneOf (5 ∷ 6 ∷ 7 ∷ 16 ∷ 11 ∷ 0 ∷ []) (prefixNumber t prefix)
+unfolding prefixNumber askedWith tenAsked
+prefix-one t prefix =
+    then-one (5 ∷ 6 ∷ 7 ∷ []) (16 ∷ 11 ∷ 0 ∷ []) (readable t) _ (readable-one t)
+    (asks-one ((16, patternOk prefix) ∷ (11, isCounted t 10) ∷ []))
+
+-- A refusal is 5, 6, 7, 16, 11 or 14.
+pub prefix-numbers : (κs : Lfts 2) (t prefix : Lent) (mark n : ℕ)
+    → NextRowWithPrefix κs t prefix mark (shown.Refused n) → OneOf (5 ∷ 6 ∷ 7 ∷ 16 ∷ 11 ∷ 14 ∷ []) n
+prefix-numbers κs t prefix mark n a = go (prefixes.prefix-refusal (now t) (now prefix) mark n a)
+  where
+    go : (n ≡ prefixNumber (now t) (now prefix)) ⊎ ((n ≡ 14) × (verdict (now t) ≡ 0 → ⊥)) → OneOf (5 ∷ 6 ∷ 7 ∷ 16 ∷ 11 ∷ 14 ∷ []) n
+    go (inl e) = of-left (5 ∷ 6 ∷ 7 ∷ 16 ∷ 11 ∷ []) (14 ∷ []) n (not-zero (5 ∷ 6 ∷ 7 ∷ 16 ∷ 11 ∷ []) n (a .numbered) (rw e (prefix-one (now t) (now prefix))))
+    go (inr h) = of-right (5 ∷ 6 ∷ 7 ∷ 16 ∷ 11 ∷ []) (14 ∷ []) n (inl (h .0))
+
+-- Answered from the text T by the tree t with the settings S: the next row after the mark that starts with the prefix; or none, and the mark goes to the
+-- number of rows.
+pub record Answers (t : Lent) (S : Settings) (T : List ℕ) : Type 0 where
+  pub prefix-of : (κs : Lfts 2) (prefix : Lent) (mark : ℕ) (r : Shown) → NextRowWithPrefix κs t prefix mark r
+      → patternOk (now prefix) ≡ true → Among 10 (S .counted)
+      → r ≡ cond (eqb (nextWithPrefix (now prefix) (rowsOf T) mark) 0)
+      (shown.Nothing (shownNext (nextWithPrefix (now prefix) (rowsOf T) mark) (length (rowsOf T)) mark .mark))
+      (shown.Row (nextWithPrefix (now prefix) (rowsOf T) mark))
+
+-- Refused: a prefix that has not 1 to 256 bytes with 16, before 11.
+pub record Refuses (t : Lent) (S : Settings) (T : List ℕ) : Type 0 where
+  pub prefix-length : (κs : Lfts 2) (prefix : Lent) (mark : ℕ) (r : Shown) → NextRowWithPrefix κs t prefix mark r
+      → patternOk (now prefix) ≡ false → r ≡ shown.Refused 16
+  pub prefix-other : (κs : Lfts 2) (prefix : Lent) (mark : ℕ) (r : Shown) → NextRowWithPrefix κs t prefix mark r → patternOk (now prefix) ≡ true
+      → (Among 10 (S .counted) → ⊥) → r ≡ shown.Refused 11
+
+-- Any tree that the check accepts, and the one text that fits it.
+module _ (t : Lent) (v : verdict (now t) ≡ 0) where
+  pass : readable (now t) ≡ 0
+  pass = accepted-readable (now t) v
+
+  pub accepted-answers : Answers t (at.settings (now t)) (textOf (now t))
+  accepted-answers = record {
+    prefix-of = λ κs prefix mark r a ok k. prefixes.prefix-is (now t) (now prefix) v mark r a
+        (prefixes.prefix-through (now t) (now prefix) pass ok (among-counted (now t) 10 k));
+  }
+
+  pub accepted-refuses : Refuses t (at.settings (now t)) (textOf (now t))
+  accepted-refuses = record {
+    prefix-length = λ κs prefix mark r a wrong. prefixes.prefix-length (now t) (now prefix) mark r a pass wrong;
+    prefix-other = λ κs prefix mark r a ok other. prefixes.prefix-uncounted (now t) (now prefix) mark r a pass ok (not-counted (now t) v 10 other);
+  }
