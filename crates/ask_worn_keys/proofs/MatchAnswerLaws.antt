@@ -9,11 +9,11 @@ use Rattle.layout.specs.declared.header.HeaderRead.{HeaderRead}
 use Rattle.layout.specs.declared.header.HeaderRead.the-variants as read
 use Rattle.layout.specs.Header.{headerSays}
 use Rattle.keys.specs.Keys.{rangesOk, matches}
-use Rattle.ask_chosen.specs.declared.Shown.{Shown}
-use Rattle.ask_chosen.specs.declared.Shown.the-variants.{Refused}
-use Rattle.ask_chosen.specs.ChosenSays.{tenAsked}
-use Rattle.ask_chosen.specs.ChosenAnswer.{ChosenAnswer}
-use Rattle.ask_chosen.proofs.ChosenAnswerLaws.{ask-unread, ask-bad, ask-good}
+use Rattle.query_row_filter.specs.declared.NextRowAnswer.{NextRowAnswer}
+use Rattle.query_row_filter.specs.declared.NextRowAnswer.the-variants.{Refused}
+use Rattle.query_row_filter.specs.AllowedOutcome.{newlineRefusal}
+use Rattle.query_row_filter.specs.AllowedAnswer.{AllowedAnswer}
+use Rattle.query_row_filter.proofs.AllowedAnswerLaws.{ask-unread, ask-bad, ask-good}
 use Rattle.ask_worn_keys.specs.MatchSays.{matchNumber}
 use Rattle.ask_worn_keys.specs.MatchAnswer.{MatchAnswer}
 
@@ -27,6 +27,6 @@ module _ (t ranges : List ℕ) (mark : ℕ) where
     unfolding matchNumber
     match-19 e = ask-bad t (matches ranges) mark 19 (rangesOk ranges) pass e (omega arith)
 
-    pub match-good : rangesOk ranges ≡ true → (r : Shown) → ChosenAnswer t (tenAsked t) (matches ranges) mark r → MatchAnswer t ranges mark r
+    pub match-good : rangesOk ranges ≡ true → (r : NextRowAnswer) → AllowedAnswer t (newlineRefusal t) (matches ranges) mark r → MatchAnswer t ranges mark r
     unfolding matchNumber
     match-good e r a = ask-good t (matches ranges) mark 19 (rangesOk ranges) pass e r a

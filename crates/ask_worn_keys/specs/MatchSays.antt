@@ -3,14 +3,14 @@
 -- docs/FORMAT.md: "Keys", "What is left free".
 use mathlib.Core.List.{List}
 use Prim.Native.Nat.{ℕ}
-use Rattle.chosen_rows.specs.Chosen.{ShownSaid}
+use Rattle.row_filter.specs.SelectedRows.{NextRowOutcome}
 use Rattle.keys.specs.Keys.{rangesOk, matches}
-use Rattle.ask_chosen.specs.ChosenSays.{askedWith, ChosenSays}
+use Rattle.query_row_filter.specs.AllowedOutcome.{queryRefusal, AllowedOutcome}
 
 -- questions 5 to 7, 19 and 11
 unfoldable pub matchNumber : List ℕ → List ℕ → ℕ
-matchNumber t ranges = askedWith t 19 (rangesOk ranges)
+matchNumber t ranges = queryRefusal t 19 (rangesOk ranges)
 
 -- of the rows that match
-abbrev pub MatchSays : List ℕ → List ℕ → ℕ → ShownSaid → Type 0
-MatchSays t ranges mark s = ChosenSays t (matchNumber t ranges) (matches ranges) mark s
+abbrev pub MatchSays : List ℕ → List ℕ → ℕ → NextRowOutcome → Type 0
+MatchSays t ranges mark s = AllowedOutcome t (matchNumber t ranges) (matches ranges) mark s

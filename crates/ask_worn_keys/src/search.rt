@@ -1,9 +1,9 @@
 // The search for a match, of a tree that passes questions 5 to 7, by its header.
 use ask_access::read_by_header;
 use ask_access::read_by_header::Ran;
-use ask_chosen::Shown;
-use ask_chosen::rows_after;
-use ask_chosen::rows_after::Begins;
+use query_row_filter::NextRowAnswer;
+use query_row_filter::rows_after;
+use query_row_filter::rows_after::RowsStart;
 use keys::form;
 use keys::form::Form;
 use keys::ranges;
@@ -15,31 +15,31 @@ ghost use mathlib.Core.Path.{_≡_};
 ghost use mathlib.Core.Bool.{true};
 ghost use Prim.Native.Nat.{_≤_};
 ghost use Rattle.layout.specs.HeaderSays.{HeaderOf};
-ghost use Rattle.chosen_rows.specs.RowMachine.{atEnd};
+ghost use Rattle.row_filter.specs.RowAutomaton.{atEndOfText};
 ghost use Rattle.keys.specs.Keys.{rangesOk};
-ghost use Rattle.keys.specs.Forms.{keyed};
-ghost use Rattle.ask_chosen.specs.RowsAfter.{soughtShown, Searched};
+ghost use Rattle.keys.specs.Forms.{keyAutomaton};
+ghost use Rattle.query_row_filter.specs.RowsAfter.{answerOf, SearchFrom};
 ghost use Rattle.ask_worn_keys.specs.MatchAnswer.{MatchAnswer};
 
 // Questions 19, 11 and 14.
-pub fn match_at(t: &[u8], h: Header, question: &[u8], mark: u32) -> Shown
+pub fn match_at(t: &[u8], h: Header, question: &[u8], mark: u32) -> NextRowAnswer
     requires { ⌜ HeaderOf (now t) h ⌝ }
     ensures { λ r. ⌜ MatchAnswer (now (t .entry)) (now (question .entry)) mark r ⌝ }
 {
     if !ranges::good(question) {
-        return Shown::Refused(19);
+        return NextRowAnswer::Refused(19);
     }
-    let begins = rows_after::begin(t, h, mark);
-    match begins {
-        Begins::At(place, tens) => rows_after::limit(from(t, h, question, place, mark + 1), tens),
-        Begins::Answered(shown) => shown,
+    let start = rows_after::begin(t, h, mark);
+    match start {
+        RowsStart::At(place, tens) => rows_after::limit(from(t, h, question, place, mark + 1), tens),
+        RowsStart::Answered(shown) => shown,
     }
 }
 
 // Scans the text from a place on, where row q begins, by runs of the tree's leaf bytes.
-fn from(t: &[u8], h: Header, question: &[u8], place: TextPlace, q: u32) -> Shown
+fn from(t: &[u8], h: Header, question: &[u8], place: TextPlace, q: u32) -> NextRowAnswer
     requires { ⌜ (HeaderOf (now t) h) × (rangesOk (now question) ≡ true) × (place .0 ≤ h .«text_length») × (1 ≤ q) × (q ≤ h .«text_length») ⌝ }
-    ensures { λ r. ⌜ Searched (now (t .entry)) (keyed (now (question .entry))) (place .0) q r ⌝ }
+    ensures { λ r. ⌜ SearchFrom (now (t .entry)) (keyAutomaton (now (question .entry))) (place .0) q r ⌝ }
 {
     let mut so_far = Form::Code(0);
     let mut row = q;
@@ -47,14 +47,14 @@ fn from(t: &[u8], h: Header, question: &[u8], place: TextPlace, q: u32) -> Shown
     while at < h.text_length {
         let ran = read_by_header::part_at(t, h, TextPlace(at));
         let Ran::At(part) = ran else {
-            return Shown::Refused(14);
+            return NextRowAnswer::Refused(14);
         };
         let begin = part.from;
         let end = begin + part.length;
         let scanned = row_scan::scan(question, &t[begin..end], so_far, row);
         match scanned {
             Scanned::Found(number) => {
-                return Shown::Row(number);
+                return NextRowAnswer::Row(number);
             }
             Scanned::On(form, number) => {
                 so_far = form;
@@ -67,15 +67,15 @@ fn from(t: &[u8], h: Header, question: &[u8], place: TextPlace, q: u32) -> Shown
 }
 
 // The text ends in row q: a row with no byte is none.
-fn end_of_text(question: &[u8], form: Form, q: u32) -> Shown
+fn end_of_text(question: &[u8], form: Form, q: u32) -> NextRowAnswer
     requires { ⌜ 1 ≤ q ⌝ }
-    ensures { λ r. ⌜ r ≡ soughtShown (atEnd (keyed (now (question .entry))) form q) ⌝ }
+    ensures { λ r. ⌜ r ≡ answerOf (atEndOfText (keyAutomaton (now (question .entry))) form q) ⌝ }
 {
     if form::whole(question, form) {
-        return Shown::Row(q);
+        return NextRowAnswer::Row(q);
     }
     if form::none(form) {
-        return Shown::Nothing(q - 1);
+        return NextRowAnswer::Nothing(q - 1);
     }
-    Shown::Nothing(q)
+    NextRowAnswer::Nothing(q)
 }

@@ -13,7 +13,7 @@ use query::Found;
 use query::PlacesWritten;
 use query::Ran;
 use query::RowCopied;
-use query::Shown;
+use query::NextRowAnswer;
 use query::TextPlace;
 use tree::Built;
 use tree::Scanned;
@@ -117,8 +117,8 @@ pub fn places(tree: &[u8], pattern: &[u8], table: &mut [u32]) {
 pub fn next_match(tree: &[u8], ranges: &[u8], mark: u32) {
     let answer = query::next_match(tree, ranges, mark);
     match answer {
-        Shown::Row(q) => say::three(0, q as u64, q as u64),
-        Shown::Nothing(m) => say::three(0, 0, m as u64),
-        Shown::Refused(number) => say::three(number, 0, mark as u64),
+        NextRowAnswer::Row(q) => say::three(0, q as u64, q as u64),
+        NextRowAnswer::Nothing(m) => say::three(0, 0, m as u64),
+        NextRowAnswer::Refused(number) => say::three(number, 0, mark as u64),
     }
 }

@@ -1,7 +1,7 @@
 -- A stretch scanned byte by byte.
 use mathlib.Core.Path.{_≡_}
 use Prim.Native.Nat.{ℕ, _+_, _≤_}
-use Rattle.chosen_rows.specs.RowMachine.{Scan, found, on, OnLow}
+use Rattle.row_filter.specs.RowAutomaton.{Scan, found, on, RowBetween}
 use Rattle.keys.specs.declared.form.Form.{Form}
 use Rattle.keys.specs.declared.row_scan.Scanned.{Scanned}
 use Rattle.keys.specs.declared.row_scan.Scanned.the-variants.{Found, On}
@@ -17,5 +17,5 @@ module _ (r : Scanned) (n : ℕ) where
   pub is-found : (y : Scan Form) → r ≡ Found n → found n ≡ y → asScan r ≡ y
   is-found y e f = rw e f
 
-  pub low-found : (q more : ℕ) → r ≡ Found n → q ≤ n → n ≤ q + more → OnLow q more (asScan r)
+  pub low-found : (q more : ℕ) → r ≡ Found n → q ≤ n → n ≤ q + more → RowBetween q more (asScan r)
   low-found q more e a b = rw e (a, b)

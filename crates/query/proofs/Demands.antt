@@ -96,8 +96,8 @@ pub use Rattle.ask_worn_keys.proofs.Demands.{row-rises, none-moves}
 -- .. "On an accepted tree, from mark 0 to none, with the question kept and the mark moved by nothing else, each match and no other row is shown,
 -- once, in row order", ..
 pub use Rattle.ask_worn_keys.proofs.Demands.{all-matches}
--- .. that is, the list rises (`chosen-rise`) and has exactly the rows that match (`chosen-in`, `in-chosen`), ..
-pub use Rattle.chosen_rows.specs.ChosenLaws.{all-shown, chosen-rise, chosen-in, in-chosen}
+-- .. that is, the list rises (`selected-rise`) and has exactly the rows that match (`selected-in`, `in-selected`), ..
+pub use Rattle.row_filter.specs.SelectedRowLaws.{all-shown, selected-rise, selected-in, in-selected}
 -- .. "and widening a range loses no match." ..
 pub use Rattle.ask_worn_keys.proofs.Demands.{wider-loses-none}
 -- .. "It refuses a number of cuts outside 1 to 10, a depth above 9 or a low above its high with 19, after question 7 and before 11; ..
@@ -107,16 +107,16 @@ pub use Rattle.query.proofs.NextMatchCall.{match-numbers}
 pub use Rattle.ask_worn_keys.proofs.Demands.{refusal-leaves, row-after, none-after}
 -- Rows by their first bytes. The next row after the mark that starts with the prefix, else none, with the mark at the number of rows: `prefix-of` of
 -- `Answers`; of the mark, ..
-pub use Rattle.ask_prefixes.proofs.Demands.{prefix-rises}
+pub use Rattle.query_prefix.proofs.Demands.{prefix-rises}
 -- .. on an accepted tree, from mark 0 to none, exactly the rows that start with the prefix are shown, each once, in row order, and it comes to none; ..
-pub use Rattle.ask_prefixes.proofs.Demands.{all-with-prefix, in-order, each-shown, only-shown, comes-to-none}
+pub use Rattle.query_prefix.proofs.Demands.{all-with-prefix, in-order, each-shown, only-shown, comes-to-none}
 -- .. a longer prefix shows rows of the shorter one's, in the same order; one with a byte 10 shows none. ..
-pub use Rattle.ask_prefixes.proofs.Demands.{longer-narrows, longer-shows-fewer, ten-shows-none}
+pub use Rattle.query_prefix.proofs.Demands.{longer-narrows, longer-shows-fewer, newline-shows-none}
 -- .. Refused: 5 to 7, then 16, then 11, then 14; ..
-pub use Rattle.ask_prefixes.proofs.Demands.{prefix-unread, prefix-length, prefix-uncounted}
+pub use Rattle.query_prefix.proofs.Demands.{prefix-unread, prefix-length, prefix-uncounted}
 pub use Rattle.query.proofs.PrefixRowCall.{prefix-numbers}
 -- .. any refusal leaves the mark; and what holds of a row shown on a tree that the check refuses.
-pub use Rattle.ask_prefixes.proofs.Demands.{prefix-leaves, prefix-row-after, prefix-none-after}
+pub use Rattle.query_prefix.proofs.Demands.{prefix-keeps-mark, prefix-row-after, prefix-none-after}
 -- Columns. "the byte in column b of row a goes to b × rows + a, both counted from 0. Its inverse restores the text, ..
 pub use Rattle.columns.specs.ColumnLaws.{columns-at, columns-moves, uncolumns-moves, restored, rearranged}
 pub use Rattle.columns.proofs.Demands.{there-and-back, back-and-there}

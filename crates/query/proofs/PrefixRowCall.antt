@@ -16,22 +16,22 @@ use Rattle.format.specs.Fits.{textOf}
 use Rattle.format.specs.Verdict.{readable, verdict}
 use Rattle.format.specs.VerdictLaws.{accepted-readable}
 use Rattle.format.specs.CountSays.{isCounted}
-use Rattle.chosen_rows.specs.Chosen.{shownNext}
-use Rattle.prefixes.specs.Prefixes.{nextWithPrefix}
+use Rattle.row_filter.specs.SelectedRows.{outcomeOfNext}
+use Rattle.prefix_match.specs.PrefixRows.{nextWithPrefix}
 use Rattle.ask_patterns.specs.Places.{patternOk}
-use Rattle.ask_chosen.specs.declared.Shown.{Shown}
-use Rattle.ask_chosen.specs.declared.Shown.the-variants as shown
-use Rattle.ask_chosen.specs.ChosenSays.{tenAsked, askedWith}
-use Rattle.ask_prefixes.specs.PrefixSays.{prefixNumber}
-use Rattle.ask_prefixes.proofs.Demands as prefixes
+use Rattle.query_row_filter.specs.declared.NextRowAnswer.{NextRowAnswer}
+use Rattle.query_row_filter.specs.declared.NextRowAnswer.the-variants as shown
+use Rattle.query_row_filter.specs.AllowedOutcome.{newlineRefusal, queryRefusal}
+use Rattle.query_prefix.specs.PrefixRefusals.{prefixRefusal}
+use Rattle.query_prefix.proofs.Demands as prefixes
 use Rattle.query.proofs.AcceptedTree.{Among, among-counted, not-counted}
 use Rattle.query.proofs.OutsideCall.{Call, Lent, call}
 use Rattle.query.proofs.RefusalNumbers.{OneOf, asks-one, not-zero, of-left, of-right, readable-one, then-one}
-use Rattle.ask_prefixes.proofs.next_row_with_prefix as next-code
-use Rattle.ask_prefixes.proofs.next_row_with_prefix.Symbol as next-symbol
-use Rattle.ask_prefixes.proofs.next_row_with_prefix.Met as next-met
+use Rattle.query_prefix.proofs.next_row_with_prefix as next-code
+use Rattle.query_prefix.proofs.next_row_with_prefix.Symbol as next-symbol
+use Rattle.query_prefix.proofs.next_row_with_prefix.Met as next-met
 -- what the contract allows: `NextRowWithPrefix κs tree prefix mark r`
-pub use Rattle.ask_prefixes.proofs.Demands.{NextRowWithPrefix}
+pub use Rattle.query_prefix.proofs.Demands.{NextRowWithPrefix}
 
 abbrev pub next-row-with-prefix-call : Call
 next-row-with-prefix-call =
@@ -41,8 +41,8 @@ next-row-with-prefix-call =
 -- Any lent bytes.
 
 -- the numbers that the questions before the walk can give
-prefix-one : (t prefix : List ℕ) → OneOf (5 ∷ 6 ∷ 7 ∷ 16 ∷ 11 ∷ 0 ∷ []) (prefixNumber t prefix)
-unfolding prefixNumber askedWith tenAsked
+prefix-one : (t prefix : List ℕ) → OneOf (5 ∷ 6 ∷ 7 ∷ 16 ∷ 11 ∷ 0 ∷ []) (prefixRefusal t prefix)
+unfolding prefixRefusal queryRefusal newlineRefusal
 prefix-one t prefix =
     then-one (5 ∷ 6 ∷ 7 ∷ []) (16 ∷ 11 ∷ 0 ∷ []) (readable t) _ (readable-one t)
     (asks-one ((16, patternOk prefix) ∷ (11, isCounted t 10) ∷ []))
@@ -52,24 +52,24 @@ pub prefix-numbers : (κs : Lfts 2) (t prefix : Lent) (mark n : ℕ)
     → NextRowWithPrefix κs t prefix mark (shown.Refused n) → OneOf (5 ∷ 6 ∷ 7 ∷ 16 ∷ 11 ∷ 14 ∷ []) n
 prefix-numbers κs t prefix mark n a = go (prefixes.prefix-refusal (now t) (now prefix) mark n a)
   where
-    go : (n ≡ prefixNumber (now t) (now prefix)) ⊎ ((n ≡ 14) × (verdict (now t) ≡ 0 → ⊥)) → OneOf (5 ∷ 6 ∷ 7 ∷ 16 ∷ 11 ∷ 14 ∷ []) n
+    go : (n ≡ prefixRefusal (now t) (now prefix)) ⊎ ((n ≡ 14) × (verdict (now t) ≡ 0 → ⊥)) → OneOf (5 ∷ 6 ∷ 7 ∷ 16 ∷ 11 ∷ 14 ∷ []) n
     go (inl e) = of-left (5 ∷ 6 ∷ 7 ∷ 16 ∷ 11 ∷ []) (14 ∷ []) n (not-zero (5 ∷ 6 ∷ 7 ∷ 16 ∷ 11 ∷ []) n (a .numbered) (rw e (prefix-one (now t) (now prefix))))
     go (inr h) = of-right (5 ∷ 6 ∷ 7 ∷ 16 ∷ 11 ∷ []) (14 ∷ []) n (inl (h .0))
 
 -- Answered from the text T by the tree t with the settings S: the next row after the mark that starts with the prefix; or none, and the mark goes to the
 -- number of rows.
 pub record Answers (t : Lent) (S : Settings) (T : List ℕ) : Type 0 where
-  pub prefix-of : (κs : Lfts 2) (prefix : Lent) (mark : ℕ) (r : Shown) → NextRowWithPrefix κs t prefix mark r
+  pub prefix-of : (κs : Lfts 2) (prefix : Lent) (mark : ℕ) (r : NextRowAnswer) → NextRowWithPrefix κs t prefix mark r
       → patternOk (now prefix) ≡ true → Among 10 (S .counted)
       → r ≡ cond (eqb (nextWithPrefix (now prefix) (rowsOf T) mark) 0)
-      (shown.Nothing (shownNext (nextWithPrefix (now prefix) (rowsOf T) mark) (length (rowsOf T)) mark .mark))
+      (shown.Nothing (outcomeOfNext (nextWithPrefix (now prefix) (rowsOf T) mark) (length (rowsOf T)) mark .mark))
       (shown.Row (nextWithPrefix (now prefix) (rowsOf T) mark))
 
 -- Refused: a prefix that has not 1 to 256 bytes with 16, before 11.
 pub record Refuses (t : Lent) (S : Settings) (T : List ℕ) : Type 0 where
-  pub prefix-length : (κs : Lfts 2) (prefix : Lent) (mark : ℕ) (r : Shown) → NextRowWithPrefix κs t prefix mark r
+  pub prefix-length : (κs : Lfts 2) (prefix : Lent) (mark : ℕ) (r : NextRowAnswer) → NextRowWithPrefix κs t prefix mark r
       → patternOk (now prefix) ≡ false → r ≡ shown.Refused 16
-  pub prefix-other : (κs : Lfts 2) (prefix : Lent) (mark : ℕ) (r : Shown) → NextRowWithPrefix κs t prefix mark r → patternOk (now prefix) ≡ true
+  pub prefix-other : (κs : Lfts 2) (prefix : Lent) (mark : ℕ) (r : NextRowAnswer) → NextRowWithPrefix κs t prefix mark r → patternOk (now prefix) ≡ true
       → (Among 10 (S .counted) → ⊥) → r ≡ shown.Refused 11
 
 -- Any tree that the check accepts, and the one text that fits it.

@@ -1,5 +1,5 @@
 use borrow.Author.Needs.{needs}
-use Rattle.abi.proofs.ShownExportsLaws as laws
+use Rattle.abi.proofs.NextRowExportsLaws as laws
 use Rattle.abi.proofs.bt_next_with_prefix.Statement.{statement}
 use Rattle.abi.proofs.bt_next_with_prefix.Tie as tie
 
@@ -11,6 +11,6 @@ bt-next-with-prefix-spec =
     (λ c. search needs)
     (λ c. search needs)
     (λ c. search needs)
-    (λ c. laws.shown-row _ _ _ _ _ (c .before .before .before .next-row-with-prefix .ensures) _ (c .before .shown .given .1))
-    (λ c. laws.shown-none _ _ _ _ _ (c .before .before .before .next-row-with-prefix .ensures) _ (c .before .shown2 .given .1))
-    (λ c. laws.shown-refused _ _ _ _ _ (c .before .before .before .next-row-with-prefix .ensures) _ (c .before .shown3 .given .1)))
+    (λ c. laws.next-row-shown _ _ _ _ _ (c .before .before .before .next-row-with-prefix .ensures) _ (c .before .shown .given .1))
+    (λ c. laws.next-row-none _ _ _ _ _ (c .before .before .before .next-row-with-prefix .ensures) _ (c .before .shown2 .given .1))
+    (λ c. laws.next-row-refused _ _ _ _ _ (c .before .before .before .next-row-with-prefix .ensures) _ (c .before .shown3 .given .1)))

@@ -1,7 +1,7 @@
 use mathlib.Core.Path.{sym, _∙_}
 use borrow.Author.Needs.{needs}
-use Rattle.keys.specs.Forms.{keyed}
-use Rattle.ask_chosen.proofs.RowsAfterLaws.{end-whole, end-none, end-some}
+use Rattle.keys.specs.Forms.{keyAutomaton}
+use Rattle.query_row_filter.proofs.RowsAfterLaws.{end-whole, end-none, end-some}
 use Rattle.ask_worn_keys.proofs.search.end_of_text.Statement.{statement}
 use Rattle.ask_worn_keys.proofs.search.end_of_text.Tie as tie
 
@@ -10,10 +10,10 @@ end-of-text-spec =
     tie.close
     (tie.spec
     (λ c κs. search needs)
-    (λ c. end-whole (keyed _) _ _ (sym (c .before .whole .ensures) ∙ c .if1 .taken))
+    (λ c. end-whole (keyAutomaton _) _ _ (sym (c .before .whole .ensures) ∙ c .if1 .taken))
     (λ c κs. search needs)
     (λ c. search needs)
-    (λ c. end-none (keyed _) _ _
+    (λ c. end-none (keyAutomaton _) _ _
     (sym (c .before .before .before .whole .ensures) ∙ c .before .before .if1 .left) (sym (c .before .none .ensures) ∙ c .if2 .taken))
-    (λ c. end-some (keyed _) _ _
+    (λ c. end-some (keyAutomaton _) _ _
     (sym (c .before .before .before .whole .ensures) ∙ c .before .before .if1 .left) (sym (c .before .none .ensures) ∙ c .if2 .left)))

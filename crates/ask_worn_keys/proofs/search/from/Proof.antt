@@ -7,19 +7,19 @@ use Rattle.format.specs.Fits.{textOf}
 use Rattle.format.specs.VerdictLaws.{accepted-links}
 use Rattle.theory_paths.specs.OneText.{text-length}
 use Rattle.theory_paths.specs.PlaceBytes.{never-14}
-use Rattle.chosen_rows.specs.RowMachine.{scanOf}
-use Rattle.keys.specs.Forms.{keyed}
+use Rattle.row_filter.specs.RowAutomaton.{scanBytes}
+use Rattle.keys.specs.Forms.{keyAutomaton}
 use Rattle.keys.proofs.RangesLaws.{range-short}
 use Rattle.keys.proofs.RowScanLaws.{as-found, as-on}
 use Rattle.ask_access.proofs.RunLaws.{part-reads, part-broken}
-use Rattle.ask_chosen.proofs.RowsAfterLaws.{from-broken, from-on, from-found, from-end, part-short, part-cut}
+use Rattle.query_row_filter.proofs.RowsAfterLaws.{from-broken, from-on, from-found, from-end, part-short, part-cut}
 use Rattle.ask_worn_keys.proofs.search.from.Statement.{statement}
 use Rattle.ask_worn_keys.proofs.search.from.Tie as tie
 
 abbrev Inv-loop : tie.InvT-loop
 Inv-loop t h question q so-far₀ row₀ at₀ so-far row at =
     ((at₀ ≤ at) × (at ≤ h .«text_length»)) × ((q ≤ row) × (row + at₀ ≤ q + at))
-    × (scanOf (keyed question) (drop at (textOf t)) so-far row ≡ scanOf (keyed question) (drop at₀ (textOf t)) so-far₀ q)
+    × (scanBytes (keyAutomaton question) (drop at (textOf t)) so-far row ≡ scanBytes (keyAutomaton question) (drop at₀ (textOf t)) so-far₀ q)
 
 abbrev μ-loop : tie.MeasureT-loop
 μ-loop t h question q so-far₀ row₀ at₀ so-far row at = h .«text_length» - at
@@ -35,7 +35,7 @@ from-spec =
     (λ c. search needs)
     (λ c. search needs)
     (λ c. let pa = c .before .before in let l = pa .before .before .before in let s = l .before .before .before in
-    from-broken _ (keyed _) _ _ (λ v. never-14 _ (s .pre .0 .passes) (l .loop .at) (omega (arith, pa .before .if1 .taken, s .pre .0 .length-is))
+    from-broken _ (keyAutomaton _) _ _ (λ v. never-14 _ (s .pre .0 .passes) (l .loop .at) (omega (arith, pa .before .if1 .taken, s .pre .0 .length-is))
     (accepted-links _ v) (part-broken _ _ (s .pre .0) (l .loop .at) (pa .before .if1 .taken) _ (pa .part-at .ensures) _ (c .enum-told .given .1) .1)))
     (λ c. let g = c .before .before in let pa = g .before .before in let l = pa .before .before .before in let s = l .before .before .before in
     let run = part-reads _ _ (s .pre .0) (l .loop .at) (pa .before .if1 .taken) _ (pa .part-at .ensures) _ (g .ran .given .1) in
@@ -60,7 +60,7 @@ from-spec =
     (λ c. let w = c .before in let k = w .before .before in let g = k .before .before .before .before in
     let pa = g .before .before in let l = pa .before .before .before in let s = l .before .before .before in
     let run = part-reads _ _ (s .pre .0) (l .loop .at) (pa .before .if1 .taken) _ (pa .part-at .ensures) _ (g .ran .given .1) in
-    from-found (s .args .t .now) (keyed (s .args .question .now)) (s .args .place .0) (s .args .q) (l .loop .at) (l .loop .row) (l .loop .so-far)
+    from-found (s .args .t .now) (keyAutomaton (s .args .question .now)) (s .args .place .0) (s .args .q) (l .loop .at) (l .loop .row) (l .loop .so-far)
     (l .loop .inv .2) (l .loop .inv .1 .0) _ _ (run .0) _ (part-cut (s .args .t .now) (g .ran .given .0 .0 .from) (g .ran .given .0 .0 .length))
     _ (k .scan .ensures .0) (k .scan .ensures .1) _ (as-found _ _ _ (w .scanned .given .1) refl))
     (λ c. search needs)
@@ -79,11 +79,11 @@ from-spec =
     (λ c. let w = c .before .before in let k = w .before .before in let g = k .before .before .before .before in
     let pa = g .before .before in let l = pa .before .before .before in let s = l .before .before .before in
     let run = part-reads _ _ (s .pre .0) (l .loop .at) (pa .before .if1 .taken) _ (pa .part-at .ensures) _ (g .ran .given .1) in
-    let z = from-on (s .args .t .now) (keyed (s .args .question .now)) (s .args .place .0) (s .args .q) (l .loop .at) (l .loop .row) (l .loop .so-far)
+    let z = from-on (s .args .t .now) (keyAutomaton (s .args .question .now)) (s .args .place .0) (s .args .q) (l .loop .at) (l .loop .row) (l .loop .so-far)
     (l .loop .inv .2) (l .loop .inv .1 .0) _ _ (run .0) _ (part-cut (s .args .t .now) (g .ran .given .0 .0 .from) (g .ran .given .0 .0 .length))
     _ (k .scan .ensures .0) (k .scan .ensures .1) _ _ (as-on _ _ _ _ (w .scanned2 .given .1) refl) in
     ((omega arith, omega (arith, run .0 .in-text, s .pre .0 .length-is)), (z .1, omega (arith, z .2)), z .0))
     (λ c κs. omega arith)
     (λ c. let l = c .before .before .before in let s = l .before .before .before in
-    from-end _ (keyed _) _ _ (l .loop .at) _ _ (l .loop .inv .2) (l .loop .inv .1 .0)
+    from-end _ (keyAutomaton _) _ _ (l .loop .at) _ _ (l .loop .inv .2) (l .loop .inv .1 .0)
     (omega (arith, text-length (s .args .t .now), c .before .if1 .left, s .pre .0 .length-is)) (omega arith) _ (c .end-of-text .ensures)))

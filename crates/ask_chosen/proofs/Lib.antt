@@ -1,3 +1,0 @@
-pub mod RowsAfterLaws
-pub mod ChosenAnswerLaws
-pub mod ChosenDemands

@@ -1,3 +1,0 @@
-pub mod ChosenSays
-pub mod ChosenAnswer
-pub mod RowsAfter

@@ -1,2 +1,0 @@
-pub mod PrefixSeekLaws
-pub mod Demands

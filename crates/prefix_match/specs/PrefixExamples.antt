@@ -1,0 +1,42 @@
+-- Examples, computed from the definitions. Bytes: 49 '1', 50 '2', 65 'A', 66 'B', 67 'C'.
+use mathlib.Core.List.{List, [], _∷_}
+use mathlib.Core.Path.{_≡_, refl}
+use Prim.Native.Nat.{ℕ}
+use Rattle.text.specs.Rows.{rowsOf}
+use Rattle.text.specs.Lists.{sameList}
+use Rattle.row_filter.specs.SelectedRows.{selectedFrom, selectedRows, firstSelectedFrom, nextSelected, outcomeOfNext, nextSelectedOutcome}
+use Rattle.prefix_match.specs.PrefixRows.{startsWith, rowsWithPrefix, nextWithPrefix}
+
+-- AB1, 10, B, 10, AB, 13 10, CAB, 10, AB2
+book : List ℕ
+book = 65 ∷ 66 ∷ 49 ∷ 10 ∷ 66 ∷ 10 ∷ 65 ∷ 66 ∷ 13 ∷ 10 ∷ 67 ∷ 65 ∷ 66 ∷ 10 ∷ 65 ∷ 66 ∷ 50 ∷ []
+
+pub record Examples : Type 0 where
+  -- AB starts rows 1, 3 and 5, and not row 4, which only contains it
+  all : rowsWithPrefix (65 ∷ 66 ∷ []) (rowsOf book) ≡ 1 ∷ 3 ∷ 5 ∷ []
+  -- a longer prefix: the last row, that no byte 10 ends
+  longer : rowsWithPrefix (65 ∷ 66 ∷ 50 ∷ []) (rowsOf book) ≡ 5 ∷ []
+  -- a byte 13 directly before the byte 10 is not the row's; at the text's end it is
+  thirteen : rowsWithPrefix (65 ∷ 66 ∷ 13 ∷ []) (rowsOf book) ≡ []
+  thirteen-last : rowsWithPrefix (65 ∷ 13 ∷ []) (rowsOf (65 ∷ 13 ∷ [])) ≡ 1 ∷ []
+  -- a prefix with a byte 10
+  ten : rowsWithPrefix (66 ∷ 10 ∷ []) (rowsOf book) ≡ []
+  -- after the mark, never on it; none moves the mark to the number of rows, and not back
+  after-1 : nextWithPrefix (65 ∷ 66 ∷ []) (rowsOf book) 1 ≡ 3
+  from-3 : nextSelectedOutcome (startsWith (65 ∷ 66 ∷ [])) (rowsOf book) 3 ≡ record { refusal = 0; row = 5; mark = 5 }
+  none : nextSelectedOutcome (startsWith (66 ∷ [])) (rowsOf book) 2 ≡ record { refusal = 0; row = 0; mark = 5 }
+  beyond : nextSelectedOutcome (startsWith (65 ∷ [])) (rowsOf book) 7 ≡ record { refusal = 0; row = 0; mark = 7 }
+
+pub examples : Examples
+unfolding book rowsOf sameList startsWith selectedFrom selectedRows rowsWithPrefix firstSelectedFrom nextSelected nextWithPrefix outcomeOfNext nextSelectedOutcome
+examples = record {
+  all = refl;
+  longer = refl;
+  thirteen = refl;
+  thirteen-last = refl;
+  ten = refl;
+  after-1 = refl;
+  from-3 = refl;
+  none = refl;
+  beyond = refl;
+}

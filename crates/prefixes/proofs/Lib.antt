@@ -1,3 +1,0 @@
-pub mod AgreementLaws
-pub mod AgreementReads
-pub mod PrefixScanLaws

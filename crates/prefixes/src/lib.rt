@@ -1,3 +1,0 @@
-// Prefixes of rows: how far the bytes of a row agree with a prefix, and a stretch of a text scanned for a row that starts with it.
-pub mod agreement;
-pub mod prefix_scan;

@@ -1,0 +1,95 @@
+// Where the rows after a mark begin, in a tree that passes questions 5 to 7; and no more of them than the total of byte 10 lets through.
+use crate::NextRowAnswer;
+use ask_select::Found;
+use ask_select::find_by_header;
+use layout::header::Header;
+use layout::place::TextPlace;
+ghost use mathlib.Core.Path.{_≡_};
+ghost use mathlib.Core.Bool.{true};
+ghost use Prim.Native.Nat.{_+_, _≤_};
+ghost use lib.Dec.{ltb};
+ghost use Rattle.format.specs.CountSays.{isCounted, numberOfByte};
+ghost use Rattle.format.specs.FindSays.{total};
+ghost use Rattle.layout.specs.HeaderSays.{HeaderOf};
+ghost use Rattle.query_row_filter.specs.RowsAfter.{StartIs, BeginIs, limited};
+
+// Where the rows after a mark begin, and the total of byte 10; or the answer, where none begin or that is not known.
+pub enum RowsStart {
+    At(TextPlace, u64),
+    Answered(NextRowAnswer),
+}
+
+// Question 11. A mark at the number of rows or beyond stays.
+pub fn begin(t: &[u8], h: Header, mark: u32) -> RowsStart
+    requires { ⌜ HeaderOf (now t) h ⌝ }
+    ensures { λ r. ⌜ BeginIs (now (t .entry)) mark r ⌝ }
+{
+    let number = ask_totals::number_of(t, h.settings.counted, 10);
+    if h.settings.counted <= number {
+        return RowsStart::Answered(NextRowAnswer::Refused(11));
+    }
+    if h.text_length <= mark {
+        return RowsStart::Answered(NextRowAnswer::Nothing(mark));
+    }
+    let newlines = ask_totals::total(t, h, number);
+    if newlines < mark as u64 {
+        return RowsStart::Answered(NextRowAnswer::Nothing(mark));
+    }
+    let place = start(t, h, mark);
+    let StartPlace::At(p) = place else {
+        return RowsStart::Answered(NextRowAnswer::Refused(14));
+    };
+    RowsStart::At(p, newlines)
+}
+
+// Where the rows after a mark begin.
+pub enum StartPlace {
+    At(TextPlace),
+    Broken,
+}
+
+// Past the byte 10 that ends the row of a mark; the text's start for mark 0.
+fn start(t: &[u8], h: Header, mark: u32) -> StartPlace
+    requires { ⌜ (HeaderOf (now t) h) × (isCounted (now t) 10 ≡ true) × (mark ≤ total (now t) (numberOfByte (now t) 10)) ⌝ }
+    ensures { λ r. ⌜ StartIs (now (t .entry)) mark r ⌝ }
+{
+    if mark == 0 {
+        return StartPlace::At(TextPlace(0));
+    }
+    let found = find_by_header::find_at(t, h, 10, mark);
+    let Found::At(end, _) = found else {
+        return StartPlace::Broken;
+    };
+    StartPlace::At(TextPlace(end.0 + 1))
+}
+
+// Whether a number of rows is above the total and one more.
+fn past(q: u32, newlines: u64) -> bool
+    ensures { λ r. ⌜ r ≡ ltb (newlines + 1) q ⌝ }
+{
+    if q as u64 <= newlines {
+        return false;
+    }
+    newlines + 1 < q as u64
+}
+
+// So many rows are in no tree that the check accepts.
+pub fn limit(answer: NextRowAnswer, newlines: u64) -> NextRowAnswer
+    ensures { λ r. ⌜ r ≡ limited newlines answer ⌝ }
+{
+    match answer {
+        NextRowAnswer::Row(q) => {
+            if past(q, newlines) {
+                return NextRowAnswer::Refused(14);
+            }
+            NextRowAnswer::Row(q)
+        }
+        NextRowAnswer::Nothing(m) => {
+            if past(m, newlines) {
+                return NextRowAnswer::Refused(14);
+            }
+            NextRowAnswer::Nothing(m)
+        }
+        NextRowAnswer::Refused(number) => NextRowAnswer::Refused(number),
+    }
+}
