@@ -333,7 +333,7 @@ pub extern "C" fn bt_next_match(tree: &[u8], ranges: &[u8], mark: &mut u32, row:
     }
 }
 
-// Moves the mark on to the next row that starts with the prefix, and answers that row, 0 for none. A refusal leaves the mark.
+// Moves the mark to the next row that starts with the prefix and returns that row, 0 for none. A refusal leaves the mark.
 #[no_mangle]
 pub extern "C" fn bt_next_with_prefix(
     tree: &[u8],
@@ -345,8 +345,8 @@ pub extern "C" fn bt_next_with_prefix(
         (now (mark .entry)) (record { refusal = r; row = now (row .exit); mark = now (mark .exit) }) ⌝ }
 {
     let at = *mark;
-    let shown = query::next_row_with_prefix(tree, prefix, at);
-    match shown {
+    let answer = query::next_row_with_prefix(tree, prefix, at);
+    match answer {
         NextRowAnswer::Row(q) => {
             *row = q;
             *mark = q;

@@ -90,17 +90,20 @@ module _ (ranges : List ℕ) where
 
       fits : i < n → isWhole ranges (runFrom (keyAutomaton ranges) (Cuts (i + 1)) xs) ≡ (eqb (i + 1 + length xs) n && allFit ranges (i + 1) xs)
           → (b : Bool) → cutFits ranges i x ≡ b
-          → isWhole ranges (runFrom (keyAutomaton ranges) (inCuts ranges i x) xs) ≡ (eqb (i + suc (length xs)) n && (cutFits ranges i x && allFit ranges (i + 1) xs))
+          → isWhole ranges (runFrom (keyAutomaton ranges) (inCuts ranges i x) xs)
+          ≡ (eqb (i + suc (length xs)) n && (cutFits ranges i x && allFit ranges (i + 1) xs))
       fits l rest true e = rw (in-fits i x true l e, e, more) rest
       fits l rest false e = rw (in-fits i x false l e, e, wrong-run xs) (sym (and-false (eqb (i + suc (length xs)) n)))
 
       past : n ≤ i → (b : Bool) → eqb 13 x ≡ b
-          → isWhole ranges (runFrom (keyAutomaton ranges) (inCuts ranges i x) xs) ≡ (eqb (i + suc (length xs)) n && (cutFits ranges i x && allFit ranges (i + 1) xs))
+          → isWhole ranges (runFrom (keyAutomaton ranges) (inCuts ranges i x) xs)
+          ≡ (eqb (i + suc (length xs)) n && (cutFits ranges i x && allFit ranges (i + 1) xs))
       past g true e = rw (in-past i x true g e, ended-run xs, ne-eqb (i + suc (length xs)) n (λ z. omega arith))
       past g false e = rw (in-past i x false g e, wrong-run xs, ne-eqb (i + suc (length xs)) n (λ z. omega arith))
 
       go : (i < n) ⊎ (n ≤ i) → isWhole ranges (runFrom (keyAutomaton ranges) (Cuts (i + 1)) xs) ≡ (eqb (i + 1 + length xs) n && allFit ranges (i + 1) xs)
-          → isWhole ranges (runFrom (keyAutomaton ranges) (inCuts ranges i x) xs) ≡ (eqb (i + suc (length xs)) n && (cutFits ranges i x && allFit ranges (i + 1) xs))
+          → isWhole ranges (runFrom (keyAutomaton ranges) (inCuts ranges i x) xs)
+          ≡ (eqb (i + suc (length xs)) n && (cutFits ranges i x && allFit ranges (i + 1) xs))
       go (inl l) rest = fits l rest (cutFits ranges i x) refl
       go (inr g) rest = past g (eqb 13 x) refl
 
@@ -129,7 +132,8 @@ module _ (ranges : List ℕ) where
   cuts-other x xs e = let z : suc (length (codeOf xs)) + 1 ≡ suc (length (codeOf xs) + 1) = omega arith in rw (code-other x xs e, z)
 
   -- after k bytes of the code
-  code-run : (k : ℕ) (xs : List ℕ) → k ≤ maxCode → isWhole ranges (runFrom (keyAutomaton ranges) (Code k) xs) ≡ keyGood k (length (codeOf xs)) (length xs) (cutsOf xs)
+  code-run : (k : ℕ) (xs : List ℕ) → k ≤ maxCode
+      → isWhole ranges (runFrom (keyAutomaton ranges) (Code k) xs) ≡ keyGood k (length (codeOf xs)) (length xs) (cutsOf xs)
   unfolding runFrom stepOf isWhole
   code-run k [] h = by (leb 1 (k + length (codeOf [])) && leb (k + length (codeOf [])) maxCode) (le-ltb (length (codeOf [])) 0 (omega arith))
     where
@@ -356,7 +360,7 @@ module _ (ranges : List ℕ) where
       by true = refl
       by false = refl
 
--- The machine reads keys.
+-- The automaton accepts exactly the rows that match.
 module _ (ranges : List ℕ) where
   -- a row with a byte is not read to none
   abbrev Started : Form → Type 0

@@ -1,4 +1,4 @@
--- How far a row's bytes agree with a prefix says whether the row starts with it.
+-- The prefix automaton accepts exactly the rows that start with the prefix.
 use mathlib.Core.List.{List, [], _∷_}
 use mathlib.Core.Bool.{Bool, true, false, cond}
 use mathlib.Core.Path.{_≡_, refl, sym, _∙_}
@@ -40,7 +40,7 @@ module _ (prefix : List ℕ) where
   mismatch-run [] = refl
   mismatch-run (x ∷ xs) = mismatch-run xs
 
-  -- one byte after k bytes
+  -- one byte after k equal bytes
   after-longer : (k x : ℕ) → n ≤ k → afterMatched prefix k x ≡ Longer
   unfolding afterMatched
   after-longer k x h = rw (le-leb n k h)
@@ -49,7 +49,7 @@ module _ (prefix : List ℕ) where
   unfolding afterMatched
   after-in k x b h e = rw (lt-leb n k h, e)
 
-  -- after k bytes of the prefix the others are to follow
+  -- after k equal bytes the rest of the prefix must follow
   matched-run : (k : ℕ) (xs : List ℕ) → prefixAtEnd prefix (run (Matched k) xs) ≡ sameList (take (n - k) xs) (drop k prefix)
   unfolding runFrom prefixStep prefixAtEnd sameList
   matched-run k [] = by (lt-or-ge k n)
@@ -83,7 +83,7 @@ module _ (prefix : List ℕ) where
   unfolding startsWith
   at-end-is row = let z : n - 0 ≡ n = omega arith in rw z at (matched-run 0 row)
 
-  -- a byte 13, and any other
+  -- a last byte 13, and any other last byte
   after-13 : (state : PrefixState) (z : ℕ) (b : Bool)
       → eqb 13 z ≡ b → prefixAtNewline prefix (prefixStep prefix state z) ≡ cond b (prefixAtEnd prefix state) (prefixAtEnd prefix (prefixStep prefix state z))
   unfolding prefixStep prefixAtNewline prefixAtEnd endsWithoutCr
@@ -93,7 +93,7 @@ module _ (prefix : List ℕ) where
   after-13 Mismatch z false e = refl
   after-13 (Matched k) z b e = by (lt-or-ge k n) b e
     where
-      -- the last byte of the prefix is the one read
+      -- the byte just read is the prefix's last
       last : k + 1 ≡ n → getD prefix k 0 ≡ z → getD prefix (n - 1) 0 ≡ z
       last l f = let s : n - 1 ≡ k = omega arith in rw s f
 
@@ -119,7 +119,7 @@ module _ (prefix : List ℕ) where
       by (inr g) true d = rw (after-longer k z g, le-leb n k g)
       by (inr g) false d = rw (after-longer k z g)
 
-  -- a row with a byte is not read to none
+  -- after a byte the state is not that of an unread row
   abbrev Started : PrefixState → Type 0
   Started state = noByteRead state ≡ false
 
@@ -152,7 +152,9 @@ module _ (prefix : List ℕ) where
     unfolding runFrom noByteRead
     recognizes = record {
       at-end-is = at-end-is;
-      at-newline-is = newline-trimmed (prefixAutomaton prefix) (startsWith prefix) at-end-is (not-done ∙ sym no-bytes) (λ ys z b e. after-13 (run (Matched 0) ys) z b e);
+      at-newline-is =
+          newline-trimmed (prefixAutomaton prefix) (startsWith prefix) at-end-is (not-done ∙ sym no-bytes)
+          (λ ys z b e. after-13 (run (Matched 0) ys) z b e);
       no-byte-first = refl;
       no-byte-then = λ x xs. started-run (prefixStep prefix (Matched 0) x) xs (started-step (Matched 0) x);
       empty-rejected = sym (at-end-is []) ∙ no-bytes;

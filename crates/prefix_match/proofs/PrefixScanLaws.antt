@@ -1,4 +1,4 @@
--- A stretch scanned byte by byte.
+-- The scan of the code, case by case.
 use mathlib.Core.Path.{_≡_}
 use Prim.Native.Nat.{ℕ, _+_, _≤_}
 use Rattle.row_filter.specs.RowAutomaton.{Scan, found, on, RowBetween}

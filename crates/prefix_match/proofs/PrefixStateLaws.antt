@@ -1,4 +1,4 @@
--- One step of the agreement of a row with a prefix.
+-- One step of the prefix automaton.
 use mathlib.Core.List.{List}
 use mathlib.Core.Bool.{false, not}
 use mathlib.Core.Path.{_≡_}

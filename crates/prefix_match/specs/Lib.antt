@@ -1,4 +1,4 @@
--- Rows that start with a prefix, and how their bytes are read.
+-- Rows that start with a prefix, and the automaton that recognizes them.
 pub mod PrefixRows
 pub mod PrefixRowLaws
 pub mod PrefixStates

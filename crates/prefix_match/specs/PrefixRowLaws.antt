@@ -1,4 +1,4 @@
--- Laws of rows that start with a prefix: a longer prefix shows no other rows, and one with a byte 10 none.
+-- Laws of rows that start with a prefix: extending the prefix adds no row; a prefix with a byte 10 starts no row.
 use mathlib.Core.List.{List, [], _∷_, _++_}
 use mathlib.Core.Bool.{Bool, true, false, cond, _&&_}
 use mathlib.Core.Path.{_≡_, refl, ap}
@@ -24,7 +24,7 @@ starts-less (x ∷ p) q (y ∷ row) h =
     and-both (and-left (eqb y x) (sameList (take (length (p ++ q)) row) (p ++ q)) h)
     (starts-less p q row (and-right (eqb y x) (sameList (take (length (p ++ q)) row) (p ++ q)) h))
 
--- the rows that start with a longer prefix are among those that start with the shorter one
+-- the rows of an extended prefix are a subsequence of those of the prefix
 pub longer-sublist : (p q : List ℕ) (rows : List (List ℕ)) → Sublist (rowsWithPrefix (p ++ q) rows) (rowsWithPrefix p rows)
 unfolding rowsWithPrefix
 longer-sublist p q rows = selected-sublist (startsWith (p ++ q)) (startsWith p) (starts-less p q) rows
@@ -52,7 +52,7 @@ rows-plain (x ∷ xs) = go (eqb 10 x) (eqb 13 x && eqb 10 (getD xs 0 0)) refl (r
     go false true e r = r
     go false false e r = first-plain x (rowsOf xs) (rw e) r
 
--- so a prefix with one starts none
+-- a prefix with a byte 10 starts no row
 module _ (prefix : List ℕ) (ten : 1 ≤ countIn 10 prefix) where
   not-plain : (row : List ℕ) → countIn 10 row ≡ 0 → startsWith prefix row ≡ false
   unfolding startsWith

@@ -1,4 +1,4 @@
--- A stretch of a text, scanned for a row that starts with a prefix.
+-- The scan of the code as the scan of the definitions.
 use Rattle.row_filter.specs.RowAutomaton.{Scan, found, on}
 use Rattle.prefix_match.specs.declared.prefix_state.PrefixState.{PrefixState}
 use Rattle.prefix_match.specs.declared.prefix_scan.PrefixScan.{PrefixScan}

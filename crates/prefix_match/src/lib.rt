@@ -1,3 +1,3 @@
-// Prefixes of rows: how far the bytes of a row agree with a prefix, and a stretch of a text scanned for a row that starts with it.
+// The automaton of a prefix: its states, and the scan of bytes for a row that starts with the prefix.
 pub mod prefix_state;
 pub mod prefix_scan;

@@ -1,4 +1,4 @@
-// A stretch of the text, scanned for a row that starts with the prefix.
+// Scans bytes of a text for a row that starts with a prefix.
 use crate::prefix_state;
 use crate::prefix_state::PrefixState;
 ghost use mathlib.Core.Path.{_≡_};
@@ -8,13 +8,13 @@ ghost use Rattle.row_filter.specs.RowAutomaton.{scanByte, scanBytes, RowBetween
 ghost use Rattle.prefix_match.specs.PrefixStates.{prefixAutomaton};
 ghost use Rattle.prefix_match.specs.PrefixScanned.{asPrefixScan};
 
-// The number of the first row that ends in the stretch and starts with the prefix; or how far the row is in which the stretch ends, and its number.
+// Found: the first row that ends in the scanned bytes and starts with the prefix. On: none; the state and number of the row in which these bytes end.
 pub enum PrefixScan {
     Found(u32),
     On(PrefixState, u32),
 }
 
-// One byte more of a row so far read, with its number.
+// Scans one byte.
 fn scan_byte(prefix: &[u8], state: PrefixState, row: u32, byte: u8) -> PrefixScan
     requires { ⌜ (1 ≤ length (now prefix)) × (length (now prefix) < 4294967296) × (row + 1 < 4294967296) ⌝ }
     ensures { λ r. ⌜ asPrefixScan r ≡ scanByte (prefixAutomaton (now (prefix .entry))) state row byte ⌝ }
@@ -28,7 +28,7 @@ fn scan_byte(prefix: &[u8], state: PrefixState, row: u32, byte: u8) -> PrefixSca
     PrefixScan::On(prefix_state::step(prefix, state, byte), row)
 }
 
-// A stretch of the text, from a row so far read, with its number.
+// Scans bytes, from a state in the row with this number.
 pub fn scan(prefix: &[u8], part: &[u8], state: PrefixState, row: u32) -> PrefixScan
     requires { ⌜ (1 ≤ length (now prefix)) × (length (now prefix) < 4294967296) × (row + length (now part) < 4294967296) ⌝ }
     ensures { λ r. ⌜ (asPrefixScan r ≡ scanBytes (prefixAutomaton (now (prefix .entry))) (now (part .entry)) state row)

@@ -1,20 +1,20 @@
-// How far a row, read byte by byte, agrees with a prefix.
+// The states of the automaton that recognizes rows starting with a prefix.
 ghost use mathlib.Core.Path.{_≡_};
 ghost use Prim.Native.Nat.{_≤_, _<_};
 ghost use lib.ListN.{length};
 ghost use Rattle.prefix_match.specs.PrefixStates.{prefixStep, afterMatched, prefixAtEnd, prefixAtNewline, endsWithoutCr, noByteRead};
 
-// How far the bytes of a row that were read are those of the prefix.
+// The state after some bytes of a row.
 pub enum PrefixState {
-    // so many bytes, all of them the prefix's
+    // this many bytes, all equal to those of the prefix
     Matched(u32),
-    // all bytes of the prefix, and more
+    // more bytes than the prefix has, the first of them equal to it
     Longer,
-    // a byte that is not the prefix's
+    // some byte differs from the prefix
     Mismatch,
 }
 
-// With one more byte.
+// One more byte.
 pub fn step(prefix: &[u8], state: PrefixState, byte: u8) -> PrefixState
     requires { ⌜ length (now prefix) < 4294967296 ⌝ }
     ensures { λ r. ⌜ r ≡ prefixStep (now (prefix .entry)) state byte ⌝ }
@@ -26,7 +26,7 @@ pub fn step(prefix: &[u8], state: PrefixState, byte: u8) -> PrefixState
     }
 }
 
-// After so many bytes of the prefix.
+// One more byte after k equal bytes.
 fn after_matched(prefix: &[u8], k: u32, byte: u8) -> PrefixState
     requires { ⌜ length (now prefix) < 4294967296 ⌝ }
     ensures { λ r. ⌜ r ≡ afterMatched (now (prefix .entry)) k byte ⌝ }
@@ -41,7 +41,7 @@ fn after_matched(prefix: &[u8], k: u32, byte: u8) -> PrefixState
     PrefixState::Mismatch
 }
 
-// Whether a row that ends here, with the text, starts with the prefix.
+// Whether a row starts with the prefix if the text ends here.
 pub fn at_end(prefix: &[u8], state: PrefixState) -> bool
     ensures { λ r. ⌜ r ≡ prefixAtEnd (now (prefix .entry)) state ⌝ }
 {
@@ -52,7 +52,7 @@ pub fn at_end(prefix: &[u8], state: PrefixState) -> bool
     }
 }
 
-// Whether a row that a byte 10 ends here starts with the prefix: one byte 13 before it is not the row's.
+// Whether a row starts with the prefix if a byte 10 ends it here. A byte 13 before that byte is not part of the row.
 pub fn at_newline(prefix: &[u8], state: PrefixState) -> bool
     requires { ⌜ 1 ≤ length (now prefix) ⌝ }
     ensures { λ r. ⌜ r ≡ prefixAtNewline (now (prefix .entry)) state ⌝ }
@@ -64,7 +64,7 @@ pub fn at_newline(prefix: &[u8], state: PrefixState) -> bool
     }
 }
 
-// All bytes of the prefix, and the last of them not 13.
+// The whole prefix was read, and its last byte is not 13.
 fn ends_without_cr(prefix: &[u8], k: u32) -> bool
     requires { ⌜ 1 ≤ length (now prefix) ⌝ }
     ensures { λ r. ⌜ r ≡ endsWithoutCr (now (prefix .entry)) k ⌝ }
@@ -76,7 +76,7 @@ fn ends_without_cr(prefix: &[u8], k: u32) -> bool
     prefix[last] != 13
 }
 
-// Whether no byte of the row was read.
+// Whether no byte of the row has been read.
 pub fn no_byte(state: PrefixState) -> bool
     ensures { λ r. ⌜ r ≡ noByteRead state ⌝ }
 {

@@ -105,17 +105,17 @@ pub use Rattle.ask_worn_keys.proofs.Demands.{match-unread, match-ranges, match-
 pub use Rattle.query.proofs.NextMatchCall.{match-numbers}
 -- .. any refusal leaves the mark. On a tree the check refuses, the match shown is left free as row is": what holds of it all the same.
 pub use Rattle.ask_worn_keys.proofs.Demands.{refusal-leaves, row-after, none-after}
--- Rows by their first bytes. The next row after the mark that starts with the prefix, else none, with the mark at the number of rows: `prefix-of` of
--- `Answers`; of the mark, ..
+-- Rows by their first bytes. On an accepted tree the answer is the next row after the mark that starts with the prefix, or none, with the mark at the number
+-- of rows: `prefix-of` of `Answers`. A returned row is after the mark.
 pub use Rattle.query_prefix.proofs.Demands.{prefix-rises}
--- .. on an accepted tree, from mark 0 to none, exactly the rows that start with the prefix are shown, each once, in row order, and it comes to none; ..
+-- Repeated calls from mark 0 return exactly the rows that start with the prefix, each once, in row order, then none.
 pub use Rattle.query_prefix.proofs.Demands.{all-with-prefix, in-order, each-shown, only-shown, comes-to-none}
--- .. a longer prefix shows rows of the shorter one's, in the same order; one with a byte 10 shows none. ..
+-- Extending the prefix returns a subsequence; a prefix with a byte 10 starts no row.
 pub use Rattle.query_prefix.proofs.Demands.{longer-narrows, longer-shows-fewer, newline-shows-none}
--- .. Refused: 5 to 7, then 16, then 11, then 14; ..
+-- Refusals: 5 to 7, then 16, 11 and 14.
 pub use Rattle.query_prefix.proofs.Demands.{prefix-unread, prefix-length, prefix-uncounted}
 pub use Rattle.query.proofs.PrefixRowCall.{prefix-numbers}
--- .. any refusal leaves the mark; and what holds of a row shown on a tree that the check refuses.
+-- A refusal leaves the mark. A row returned from a refused tree is after the mark too, and at most total + 1 of byte 10.
 pub use Rattle.query_prefix.proofs.Demands.{prefix-keeps-mark, prefix-row-after, prefix-none-after}
 -- Columns. "the byte in column b of row a goes to b × rows + a, both counted from 0. Its inverse restores the text, ..
 pub use Rattle.columns.specs.ColumnLaws.{columns-at, columns-moves, uncolumns-moves, restored, rearranged}

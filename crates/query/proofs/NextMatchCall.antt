@@ -71,7 +71,8 @@ pub record Answers (t : Lent) (S : Settings) (T : List ℕ) : Type 0 where
 
 -- Refused: "It refuses a number of cuts outside 1 to 10, a depth above 9 or a low above its high with 19, .. before 11".
 pub record Refuses (t : Lent) (S : Settings) (T : List ℕ) : Type 0 where
-  pub match-ranges : (κs : Lfts 2) (ranges : Lent) (mark : ℕ) (r : NextRowAnswer) → NextMatch κs t ranges mark r → rangesOk (now ranges) ≡ false → r ≡ shown.Refused 19
+  pub match-ranges : (κs : Lfts 2) (ranges : Lent) (mark : ℕ) (r : NextRowAnswer) → NextMatch κs t ranges mark r → rangesOk (now ranges) ≡ false
+      → r ≡ shown.Refused 19
   pub match-other : (κs : Lfts 2) (ranges : Lent) (mark : ℕ) (r : NextRowAnswer) → NextMatch κs t ranges mark r → rangesOk (now ranges) ≡ true
       → (Among 10 (S .counted) → ⊥) → r ≡ shown.Refused 11
 

@@ -1,5 +1,5 @@
--- next_row_with_prefix(tree, prefix, mark): the next row after a mark whose first bytes are the prefix. What holds of the mark stands in the `Demands` of
--- its crate.
+-- next_row_with_prefix(tree, prefix, mark): the next row after a mark that starts with the prefix. The theorems about repeated calls are in `Demands` of its
+-- crate.
 use mathlib.Core.List.{List, [], _∷_}
 use mathlib.Core.Bool.{true, false, cond}
 use mathlib.Core.Path.{_≡_, refl}
@@ -16,14 +16,14 @@ use Rattle.format.specs.Fits.{textOf}
 use Rattle.format.specs.Verdict.{readable, verdict}
 use Rattle.format.specs.VerdictLaws.{accepted-readable}
 use Rattle.format.specs.CountSays.{isCounted}
-use Rattle.row_filter.specs.SelectedRows.{outcomeOfNext}
+use Rattle.row_filter.specs.SelectedRows.{outcomeAt}
 use Rattle.prefix_match.specs.PrefixRows.{nextWithPrefix}
 use Rattle.ask_patterns.specs.Places.{patternOk}
 use Rattle.query_row_filter.specs.declared.NextRowAnswer.{NextRowAnswer}
-use Rattle.query_row_filter.specs.declared.NextRowAnswer.the-variants as shown
+use Rattle.query_row_filter.specs.declared.NextRowAnswer.the-variants as answer
 use Rattle.query_row_filter.specs.AllowedOutcome.{newlineRefusal, queryRefusal}
 use Rattle.query_prefix.specs.PrefixRefusals.{prefixRefusal}
-use Rattle.query_prefix.proofs.Demands as prefixes
+use Rattle.query_prefix.proofs.Demands as query-prefix
 use Rattle.query.proofs.AcceptedTree.{Among, among-counted, not-counted}
 use Rattle.query.proofs.OutsideCall.{Call, Lent, call}
 use Rattle.query.proofs.RefusalNumbers.{OneOf, asks-one, not-zero, of-left, of-right, readable-one, then-one}
@@ -49,28 +49,28 @@ prefix-one t prefix =
 
 -- A refusal is 5, 6, 7, 16, 11 or 14.
 pub prefix-numbers : (κs : Lfts 2) (t prefix : Lent) (mark n : ℕ)
-    → NextRowWithPrefix κs t prefix mark (shown.Refused n) → OneOf (5 ∷ 6 ∷ 7 ∷ 16 ∷ 11 ∷ 14 ∷ []) n
-prefix-numbers κs t prefix mark n a = go (prefixes.prefix-refusal (now t) (now prefix) mark n a)
+    → NextRowWithPrefix κs t prefix mark (answer.Refused n) → OneOf (5 ∷ 6 ∷ 7 ∷ 16 ∷ 11 ∷ 14 ∷ []) n
+prefix-numbers κs t prefix mark n a = go (query-prefix.prefix-refusal (now t) (now prefix) mark n a)
   where
     go : (n ≡ prefixRefusal (now t) (now prefix)) ⊎ ((n ≡ 14) × (verdict (now t) ≡ 0 → ⊥)) → OneOf (5 ∷ 6 ∷ 7 ∷ 16 ∷ 11 ∷ 14 ∷ []) n
     go (inl e) = of-left (5 ∷ 6 ∷ 7 ∷ 16 ∷ 11 ∷ []) (14 ∷ []) n (not-zero (5 ∷ 6 ∷ 7 ∷ 16 ∷ 11 ∷ []) n (a .numbered) (rw e (prefix-one (now t) (now prefix))))
     go (inr h) = of-right (5 ∷ 6 ∷ 7 ∷ 16 ∷ 11 ∷ []) (14 ∷ []) n (inl (h .0))
 
--- Answered from the text T by the tree t with the settings S: the next row after the mark that starts with the prefix; or none, and the mark goes to the
--- number of rows.
+-- The answer from the text T of the tree t with the settings S: the next row after the mark that starts with the prefix; or none, with the mark at the number
+-- of rows.
 pub record Answers (t : Lent) (S : Settings) (T : List ℕ) : Type 0 where
   pub prefix-of : (κs : Lfts 2) (prefix : Lent) (mark : ℕ) (r : NextRowAnswer) → NextRowWithPrefix κs t prefix mark r
       → patternOk (now prefix) ≡ true → Among 10 (S .counted)
       → r ≡ cond (eqb (nextWithPrefix (now prefix) (rowsOf T) mark) 0)
-      (shown.Nothing (outcomeOfNext (nextWithPrefix (now prefix) (rowsOf T) mark) (length (rowsOf T)) mark .mark))
-      (shown.Row (nextWithPrefix (now prefix) (rowsOf T) mark))
+      (answer.Nothing (outcomeAt (nextWithPrefix (now prefix) (rowsOf T) mark) (length (rowsOf T)) mark .mark))
+      (answer.Row (nextWithPrefix (now prefix) (rowsOf T) mark))
 
--- Refused: a prefix that has not 1 to 256 bytes with 16, before 11.
+-- 16 for a prefix without a byte or of more than 256, before 11.
 pub record Refuses (t : Lent) (S : Settings) (T : List ℕ) : Type 0 where
   pub prefix-length : (κs : Lfts 2) (prefix : Lent) (mark : ℕ) (r : NextRowAnswer) → NextRowWithPrefix κs t prefix mark r
-      → patternOk (now prefix) ≡ false → r ≡ shown.Refused 16
+      → patternOk (now prefix) ≡ false → r ≡ answer.Refused 16
   pub prefix-other : (κs : Lfts 2) (prefix : Lent) (mark : ℕ) (r : NextRowAnswer) → NextRowWithPrefix κs t prefix mark r → patternOk (now prefix) ≡ true
-      → (Among 10 (S .counted) → ⊥) → r ≡ shown.Refused 11
+      → (Among 10 (S .counted) → ⊥) → r ≡ answer.Refused 11
 
 -- Any tree that the check accepts, and the one text that fits it.
 module _ (t : Lent) (v : verdict (now t) ≡ 0) where
@@ -79,12 +79,12 @@ module _ (t : Lent) (v : verdict (now t) ≡ 0) where
 
   pub accepted-answers : Answers t (at.settings (now t)) (textOf (now t))
   accepted-answers = record {
-    prefix-of = λ κs prefix mark r a ok k. prefixes.prefix-is (now t) (now prefix) v mark r a
-        (prefixes.prefix-through (now t) (now prefix) pass ok (among-counted (now t) 10 k));
+    prefix-of = λ κs prefix mark r a ok k. query-prefix.prefix-is (now t) (now prefix) v mark r a
+        (query-prefix.prefix-through (now t) (now prefix) pass ok (among-counted (now t) 10 k));
   }
 
   pub accepted-refuses : Refuses t (at.settings (now t)) (textOf (now t))
   accepted-refuses = record {
-    prefix-length = λ κs prefix mark r a wrong. prefixes.prefix-length (now t) (now prefix) mark r a pass wrong;
-    prefix-other = λ κs prefix mark r a ok other. prefixes.prefix-uncounted (now t) (now prefix) mark r a pass ok (not-counted (now t) v 10 other);
+    prefix-length = λ κs prefix mark r a wrong. query-prefix.prefix-length (now t) (now prefix) mark r a pass wrong;
+    prefix-other = λ κs prefix mark r a ok other. query-prefix.prefix-uncounted (now t) (now prefix) mark r a pass ok (not-counted (now t) v 10 other);
   }

@@ -1,4 +1,4 @@
--- What docs/FORMAT.md, "Rows by their first bytes", says of a prefix, as theorems over what the call promises: `PrefixAnswer` is its contract.
+-- The sentences of docs/FORMAT.md, "Rows by their first bytes", as theorems over the contract `PrefixAnswer` of `next_row_with_prefix`.
 use mathlib.Core.List.{List, [], _++_}
 use mathlib.Core.Bool.{true, false, cond}
 use mathlib.Core.Path.{_≡_, _∙_}
@@ -13,7 +13,7 @@ use Rattle.text.specs.Rows.{rowsOf, rowOf}
 use Rattle.format.specs.Fits.{textOf}
 use Rattle.format.specs.Verdict.{readable, verdict}
 use Rattle.format.specs.CountSays.{isCounted}
-use Rattle.row_filter.specs.SelectedRows.{outcomeOfNext, nextSelectedOutcome}
+use Rattle.row_filter.specs.SelectedRows.{outcomeAt, nextOutcome}
 use Rattle.row_filter.specs.SelectedRowLaws.{In, Rising, Sublist, selected-rise, selected-in, in-selected}
 use Rattle.prefix_match.specs.PrefixRows.{startsWith, rowsWithPrefix, nextWithPrefix}
 use Rattle.prefix_match.specs.PrefixRowLaws.{longer-sublist, longer-in, newline-starts-none}
@@ -26,18 +26,18 @@ use Rattle.query_row_filter.proofs.NextRowTheorems as next-row
 use Rattle.query_prefix.specs.PrefixRefusals.{prefixRefusal}
 use Rattle.query_prefix.proofs.next_row_with_prefix.Reads as next-reads
 
--- r is an answer that the contract of `next_row_with_prefix` allows to a call with these arguments
+-- the contract of `next_row_with_prefix` allows the answer r to these arguments
 abbrev pub NextRowWithPrefix : (κs : Lfts 2) → (t prefix : RefT (List ℕ)) → ℕ → NextRowAnswer → Type 0
 NextRowWithPrefix κs t prefix mark r = next-reads.Post κs (t, (prefix, (mark, tt))) r (t, (prefix, (mark, tt)))
 
 abbrev pub PrefixAnswer : List ℕ → List ℕ → ℕ → NextRowAnswer → Type 0
 PrefixAnswer t prefix mark r = AllowedAnswer t (prefixRefusal t prefix) (startsWith prefix) mark r
 
--- a mark that the caller moves by each answer
+-- an allowed answer, and the mark before and after it
 abbrev pub PrefixMoved : List ℕ → List ℕ → ℕ → NextRowAnswer → ℕ → Type 0
 PrefixMoved t prefix before r after = MarkMoved t (prefixRefusal t prefix) (startsWith prefix) before r after
 
--- the contract is this
+-- the contract is `PrefixAnswer`
 pub next-answers : (κs : Lfts 2) (t prefix : RefT (List ℕ)) (mark : ℕ) (r : NextRowAnswer) → NextRowWithPrefix κs t prefix mark r
     → PrefixAnswer (t .now) (prefix .now) mark r
 next-answers κs t prefix mark r p = p
@@ -52,18 +52,18 @@ module _ (t prefix : List ℕ) where
     prefix-unread q e = next-row.refused-first t (prefixRefusal t prefix) (startsWith prefix) mark r a q (next-row.asked-unread t 16 (patternOk prefix) q e)
 
     module _ (pass : readable t ≡ 0) where
-      -- a prefix that has not 1 to 256 bytes, after question 7 ..
+      -- 16, after question 7: the prefix has no byte or more than 256
       pub prefix-length : patternOk prefix ≡ false → r ≡ Refused 16
       unfolding prefixRefusal
       prefix-length e = next-row.refused-first t (prefixRefusal t prefix) (startsWith prefix) mark r a 15 (next-row.asked-bad t 16 (patternOk prefix) pass e)
 
-      -- .. and before 11
+      -- 11, after 16
       pub prefix-uncounted : patternOk prefix ≡ true → isCounted t 10 ≡ false → r ≡ Refused 11
       unfolding prefixRefusal
       prefix-uncounted ok e =
           next-row.refused-first t (prefixRefusal t prefix) (startsWith prefix) mark r a 10 (next-row.asked-uncounted t 16 (patternOk prefix) pass ok e)
 
-  -- questions 16 and 11 let a search through
+  -- the search starts if questions 5 to 7, 16 and 11 pass
   pub prefix-through : readable t ≡ 0 → patternOk prefix ≡ true → isCounted t 10 ≡ true → prefixRefusal t prefix ≡ 0
   unfolding prefixRefusal
   prefix-through = next-row.asked-all t 16 (patternOk prefix)
@@ -72,7 +72,7 @@ module _ (t prefix : List ℕ) where
   pub prefix-keeps-mark : (mark n after : ℕ) → PrefixMoved t prefix mark (Refused n) after → after ≡ mark
   prefix-keeps-mark = next-row.refusal-leaves t (prefixRefusal t prefix) (startsWith prefix)
 
-  -- a refusal is a question's before the walk, or 14, on a tree that the check refuses
+  -- a refusal is that of the questions before the walk; or 14, on a tree that the check refuses
   pub prefix-refusal : (mark n : ℕ) → PrefixAnswer t prefix mark (Refused n) → (n ≡ prefixRefusal t prefix) ⊎ ((n ≡ 14) × (verdict t ≡ 0 → ⊥))
   prefix-refusal = next-row.refusal-is t (prefixRefusal t prefix) (startsWith prefix)
 
@@ -80,11 +80,11 @@ module _ (t prefix : List ℕ) where
   unfolding prefixRefusal
   counted-of h = next-row.asked-counted t 15 (patternOk prefix) h
 
-  -- a row that is shown stands after the mark, and is at most one more than the total of byte 10, also where it is free
+  -- a returned row, free or not, is after the mark and at most total + 1 of byte 10
   pub prefix-row-after : (mark n : ℕ) → PrefixAnswer t prefix mark (Row n) → (mark < n) × (n ≤ maxRows t)
   prefix-row-after = next-row.row-after t (prefixRefusal t prefix) (startsWith prefix) counted-of
 
-  -- none does not move the mark back, nor, unless it stood there, past that number
+  -- none leaves the mark, or moves it forward up to that number
   pub prefix-none-after : (mark m : ℕ) → PrefixAnswer t prefix mark (Nothing m) → (mark ≤ m) × ((m ≡ mark) ⊎ (m ≤ maxRows t))
   prefix-none-after = next-row.none-after t (prefixRefusal t prefix) (startsWith prefix) counted-of
 
@@ -93,52 +93,52 @@ module _ (t prefix : List ℕ) where
     abbrev rows : List (List ℕ)
     rows = rowsOf (textOf t)
 
-    -- where no question refuses, the answer is settled by `nextWithPrefix`: that row, or none, with the mark at the number of rows, but not back
+    -- where no question refuses: the row `nextWithPrefix`; or none, with the mark moved to the number of rows, never back
     pub prefix-is : (mark : ℕ) (r : NextRowAnswer) → PrefixAnswer t prefix mark r → prefixRefusal t prefix ≡ 0
         → r ≡ cond (eqb (nextWithPrefix prefix rows mark) 0)
-        (Nothing (outcomeOfNext (nextWithPrefix prefix rows mark) (length rows) mark .mark)) (Row (nextWithPrefix prefix rows mark))
-    unfolding nextWithPrefix nextSelectedOutcome
+        (Nothing (outcomeAt (nextWithPrefix prefix rows mark) (length rows) mark .mark)) (Row (nextWithPrefix prefix rows mark))
+    unfolding nextWithPrefix nextOutcome
     prefix-is = next-row.answer-is t (prefixRefusal t prefix) (startsWith prefix) v
 
-    -- a row that is shown stands after the mark, which goes to it
+    -- a returned row is after the mark and becomes the mark
     pub prefix-rises : (mark n after : ℕ) → PrefixMoved t prefix mark (Row n) after → (mark < n) × (n ≤ length rows) × (after ≡ n)
     prefix-rises = next-row.row-rises t (prefixRefusal t prefix) (startsWith prefix) v
 
-    -- the caller asks again and again, with the prefix kept and the mark moved by nothing else: these rows are shown, then none
+    -- repeated calls with the same prefix, each from the mark that the one before left, return these rows, then none
     abbrev pub PrefixCalls : ℕ → List ℕ → Type 0
     PrefixCalls = next-row.Calls t (prefixRefusal t prefix) (startsWith prefix) v
 
-    -- from mark 0 to none, exactly the rows that start with the prefix are shown ..
+    -- from mark 0 to none, the rows returned are exactly those that start with the prefix
     pub all-with-prefix : (ns : List ℕ) → PrefixCalls 0 ns → ns ≡ rowsWithPrefix prefix rows
     unfolding rowsWithPrefix
     all-with-prefix = next-row.all-called t (prefixRefusal t prefix) (startsWith prefix) v
 
-    -- .. each once, in row order ..
+    -- each row once, in row order
     pub in-order : (ns : List ℕ) → PrefixCalls 0 ns → Rising 1 ns
     unfolding rowsWithPrefix
     in-order ns a = rw (all-with-prefix ns a) (selected-rise (startsWith prefix) rows)
 
-    -- .. none is left out ..
+    -- every row that starts with the prefix is returned
     pub each-shown : (ns : List ℕ) → PrefixCalls 0 ns → (n : ℕ) → 1 ≤ n → n ≤ length rows → startsWith prefix (rowOf (textOf t) n) ≡ true → In n ns
     unfolding rowsWithPrefix rowOf
     each-shown ns a n low high s = rw (all-with-prefix ns a) (selected-in (startsWith prefix) rows n low high s)
 
-    -- .. and no other is shown
+    -- no other row is returned
     pub only-shown : (ns : List ℕ) → PrefixCalls 0 ns → (n : ℕ) → In n ns → (1 ≤ n) × (n ≤ length rows) × (startsWith prefix (rowOf (textOf t) n) ≡ true)
     unfolding rowsWithPrefix rowOf
     only-shown ns a n i = in-selected (startsWith prefix) rows n (rw (all-with-prefix ns a) at i)
 
-    -- and calls that keep the contract do come to none after them
+    -- calls that keep the contract do return them all, then none
     pub comes-to-none : prefixRefusal t prefix ≡ 0
         → ((mark : ℕ) → mark ≤ length rows → (r : NextRowAnswer) × PrefixAnswer t prefix mark r) → PrefixCalls 0 (rowsWithPrefix prefix rows)
     unfolding rowsWithPrefix
     comes-to-none = next-row.comes-to-none t (prefixRefusal t prefix) (startsWith prefix) v
 
-    -- a prefix with a byte 10 matches no row
+    -- a prefix with a byte 10 starts no row
     pub newline-shows-none : 1 ≤ countIn 10 prefix → (ns : List ℕ) → PrefixCalls 0 ns → ns ≡ []
     newline-shows-none ten ns a = all-with-prefix ns a ∙ newline-starts-none prefix ten (textOf t)
 
--- A longer prefix narrows: what it shows are rows shown for the shorter one, in the same order.
+-- Extending a prefix: the rows returned are a subsequence of those of the shorter prefix.
 module _ (t p q : List ℕ) (v : verdict t ≡ 0) (ns ms : List ℕ) (longer : PrefixCalls t (p ++ q) v 0 ns) (shorter : PrefixCalls t p v 0 ms) where
   pub longer-narrows : Sublist ns ms
   longer-narrows = rw (all-with-prefix t (p ++ q) v ns longer, all-with-prefix t p v ms shorter) (longer-sublist p q (rowsOf (textOf t)))

@@ -1,4 +1,4 @@
--- The questions before the search for a prefix.
+-- The questions before the search, test by test.
 use mathlib.Core.List.{List}
 use mathlib.Core.Path.{_≡_}
 use Prim.Native.Nat.{ℕ, _≤_, _<_}
@@ -36,7 +36,8 @@ module _ (t prefix : List ℕ) (mark : ℕ) where
           ask-bad t (startsWith prefix) mark 16 (patternOk prefix) pass (rw (le-leb 1 (length prefix) some, lt-leb (length prefix) maxPattern h)) (omega arith)
 
       pub prefix-good : length prefix ≤ maxPattern
-          → (r : NextRowAnswer) → AllowedAnswer t (newlineRefusal t) (startsWith prefix) mark r → AllowedAnswer t (prefixRefusal t prefix) (startsWith prefix) mark r
+          → (r : NextRowAnswer) → AllowedAnswer t (newlineRefusal t) (startsWith prefix) mark r
+          → AllowedAnswer t (prefixRefusal t prefix) (startsWith prefix) mark r
       unfolding prefixRefusal patternOk
       prefix-good h r a =
           ask-good t (startsWith prefix) mark 16 (patternOk prefix) pass (rw (le-leb 1 (length prefix) some, le-leb (length prefix) maxPattern h)) r a

@@ -1,4 +1,4 @@
-// Rows by their first bytes: the rows of a book that start with a prefix, one at a time after a mark.
+// Rows by their first bytes: the next row after a mark that starts with a prefix.
 mod prefix_search;
 
 use query_row_filter::NextRowAnswer;

@@ -1,4 +1,4 @@
-// The search for a row that starts with a prefix, of a tree that passes questions 5 to 7, by its header.
+// The search for the next row that starts with a prefix, in a tree that passes questions 5 to 7.
 use ask_access::read_by_header;
 use ask_access::read_by_header::Ran;
 use query_row_filter::NextRowAnswer;
@@ -40,7 +40,7 @@ pub fn next_at(t: &[u8], h: Header, prefix: &[u8], mark: u32) -> NextRowAnswer
     }
 }
 
-// Scans the text from a place on, where row q begins, by runs of the tree's leaf bytes.
+// Scans the text from the place where row q begins, by runs of leaf bytes.
 fn from(t: &[u8], h: Header, prefix: &[u8], place: TextPlace, q: u32) -> NextRowAnswer
     requires { ⌜ (HeaderOf (now t) h) × (1 ≤ length (now prefix)) × (length (now prefix) ≤ maxPattern)
         × (place .0 ≤ h .«text_length») × (1 ≤ q) × (q ≤ h .«text_length») ⌝ }
@@ -71,7 +71,7 @@ fn from(t: &[u8], h: Header, prefix: &[u8], place: TextPlace, q: u32) -> NextRow
     end_of_text(prefix, so_far, row)
 }
 
-// The text ends in row q: a row with no byte is none.
+// The text ends in row q. A row without a byte does not count.
 fn end_of_text(prefix: &[u8], state: PrefixState, q: u32) -> NextRowAnswer
     requires { ⌜ 1 ≤ q ⌝ }
     ensures { λ r. ⌜ r ≡ answerOf (atEndOfText (prefixAutomaton (now (prefix .entry))) state q) ⌝ }

@@ -1,4 +1,4 @@
--- The answer of the search for the next chosen row, question by question.
+-- The answer of a search for the next selected row, question by question.
 use mathlib.Core.List.{List}
 use mathlib.Core.Bool.{Bool, true, false, cond}
 use mathlib.Core.Path.{_≡_, refl, sym, ap, _∙_}
@@ -22,7 +22,7 @@ use Rattle.layout.specs.declared.header.HeaderRead.{HeaderRead}
 use Rattle.layout.specs.declared.header.HeaderRead.the-variants as read
 use Rattle.layout.specs.Header.{headerSays}
 use Rattle.layout.specs.HeaderSays.{header-refused}
-use Rattle.row_filter.specs.SelectedRows.{NextRowOutcome, firstSelectedFrom, nextSelected, outcomeOfNext, nextSelectedOutcome}
+use Rattle.row_filter.specs.SelectedRows.{NextRowOutcome, firstSelected, nextSelected, outcomeAt, nextOutcome}
 use Rattle.row_filter.specs.SelectedRowLaws.{Next, no-more, next, next-of}
 use Rattle.row_filter.specs.RowAutomaton.{Automaton, Recognizes, scanBytes, finishScan}
 use Rattle.row_filter.specs.RowAutomatonLaws.{result, scan-rows}
@@ -44,7 +44,7 @@ refuses t selected mark refusal n e low = record {
   numbered = low;
 }
 
--- questions 5 to 7, one of the question itself, and 11
+-- questions 5 to 7, the query's own, and 11
 module _ (t : List ℕ) (selected : List ℕ → Bool) (mark k : ℕ) (ok : Bool) where
   pub ask-unread : (x : HeaderRead) → x ≡ headerSays t → (q : ℕ) → x ≡ read.Refused q → AllowedAnswer t (queryRefusal t k ok) selected mark (Refused q)
   unfolding queryRefusal
@@ -72,7 +72,7 @@ module _ (t : List ℕ) (mark : ℕ) where
     unfolding newlineRefusal
     asked = rw counted
 
-    settles : (r : NextRowAnswer) → (verdict t ≡ 0 → outcomeOf mark r ≡ nextSelectedOutcome selected (rowsOf (textOf t)) mark) → FreeOutcome t mark (outcomeOf mark r)
+    settles : (r : NextRowAnswer) → (verdict t ≡ 0 → outcomeOf mark r ≡ nextOutcome selected (rowsOf (textOf t)) mark) → FreeOutcome t mark (outcomeOf mark r)
         → Numbered r → AllowedAnswer t (newlineRefusal t) selected mark r
     settles r a f n = record {
       says = record { asked = λ l. absurd (let x : ⊥ = omega (arith, asked) in x); accepted = λ z v. a v; free = λ z v. f };
@@ -83,7 +83,7 @@ module _ (t : List ℕ) (mark : ℕ) where
     pub newline-14 : (verdict t ≡ 0 → ⊥) → AllowedAnswer t (newlineRefusal t) selected mark (Refused 14)
     newline-14 never = settles (Refused 14) (λ v. absurd (never v)) (inl refl) (omega arith)
 
-    -- a mark at the number of rows or beyond stays
+    -- a mark at or above the number of rows stays
     stays : (rows : ℕ) → rows ≤ mark → cond (leb mark rows) rows mark ≡ mark
     stays rows h = by (leb mark rows) refl
       where
@@ -92,7 +92,7 @@ module _ (t : List ℕ) (mark : ℕ) where
         by false e = refl
 
     newline-stays : (verdict t ≡ 0 → length (rowsOf (textOf t)) ≤ mark) → AllowedAnswer t (newlineRefusal t) selected mark (Nothing mark)
-    unfolding nextSelectedOutcome outcomeOfNext nextSelected firstSelectedFrom
+    unfolding nextOutcome outcomeAt nextSelected firstSelected
     newline-stays few = settles (Nothing mark)
         (λ v. rw (drop-of-length-le (rowsOf (textOf t)) (few v), stays (length (rowsOf (textOf t))) (few v)))
         (inr (inl (refl, refl, omega arith, inl refl))) tt
@@ -103,8 +103,9 @@ module _ (t : List ℕ) (mark : ℕ) where
     pub few-bytes : at.textLength t ≤ mark → AllowedAnswer t (newlineRefusal t) selected mark (Nothing mark)
     few-bytes h = newline-stays (λ v. omega (arith, rows-few (textOf t), text-length t))
 
-  -- what the function says that looks where the rows begin
-  pub begin-answered : (s : NextRowAnswer) → ((selected : List ℕ → Bool) → AllowedAnswer t (newlineRefusal t) selected mark s) → BeginIs t mark (begins.Answered s)
+  -- the contract of `begin`
+  pub begin-answered : (s : NextRowAnswer) → ((selected : List ℕ → Bool) → AllowedAnswer t (newlineRefusal t) selected mark s)
+      → BeginIs t mark (begins.Answered s)
   begin-answered s a = record {
     begins-at = λ p newlines e. absurd (let z : _≡_ {A = ℕ} 0 1 = cc in omega arith);
     answered = λ r e selected. (let z : s ≡ r = cc in rw (← z) (a selected));
@@ -117,12 +118,12 @@ module _ (t : List ℕ) (mark : ℕ) where
   }
 
 -- the rows after the mark, scanned from where they begin
-module _ {S : Type 0} (m : Automaton S) (selected : List ℕ → Bool) (reads : Recognizes m selected) (t : List ℕ) (mark p newlines : ℕ) (b : StartFacts t mark p newlines) (r : NextRowAnswer)
-    (s : SearchFrom t m p (mark + 1) r) where
+module _ {S : Type 0} (m : Automaton S) (selected : List ℕ → Bool) (reads : Recognizes m selected)
+    (t : List ℕ) (mark p newlines : ℕ) (b : StartFacts t mark p newlines) (r : NextRowAnswer) (s : SearchFrom t m p (mark + 1) r) where
   abbrev rows : List (List ℕ)
   rows = drop mark (rowsOf (textOf t))
 
-  -- on an accepted tree they are scanned to the end or to a chosen row
+  -- on an accepted tree the scan ends at a selected row or at the text's end
   right : verdict t ≡ 0 → r ≡ answerOf (result selected (mark + 1) rows)
   right v = by (s .settled)
     where
@@ -161,28 +162,29 @@ module _ {S : Type 0} (m : Automaton S) (selected : List ℕ → Bool) (reads : 
   numbers (Refused n) h = omega arith
 
   -- an accepted tree
-  small : eqb (firstSelectedFrom selected (mark + 1) (drop mark (rowsOf (textOf t)))) 0 ≡ false
-      → verdict t ≡ 0 → Next selected (rowsOf (textOf t)) mark → firstSelectedFrom selected (mark + 1) (drop mark (rowsOf (textOf t))) ≤ newlines + 1
-  unfolding nextSelectedOutcome outcomeOfNext nextSelected
-  small e v (no-more f _) = absurd (eqb-false (firstSelectedFrom selected (mark + 1) (drop mark (rowsOf (textOf t)))) 0 e (rw e at f))
+  small : eqb (firstSelected selected (mark + 1) (drop mark (rowsOf (textOf t)))) 0 ≡ false
+      → verdict t ≡ 0 → Next selected (rowsOf (textOf t)) mark → firstSelected selected (mark + 1) (drop mark (rowsOf (textOf t))) ≤ newlines + 1
+  unfolding nextOutcome outcomeAt nextSelected
+  small e v (no-more f _) = absurd (eqb-false (firstSelected selected (mark + 1) (drop mark (rowsOf (textOf t)))) 0 e (rw e at f))
   small e v (next n l k is _) =
-      let z : nextSelectedOutcome selected (rowsOf (textOf t)) mark .row ≡ firstSelectedFrom selected (mark + 1) (drop mark (rowsOf (textOf t))) = rw e in
-      let y : nextSelectedOutcome selected (rowsOf (textOf t)) mark .row ≡ n = ap (λ (x : NextRowOutcome). x .row) is in
+      let z : nextOutcome selected (rowsOf (textOf t)) mark .row ≡ firstSelected selected (mark + 1) (drop mark (rowsOf (textOf t))) = rw e in
+      let y : nextOutcome selected (rowsOf (textOf t)) mark .row ≡ n = ap (λ (x : NextRowOutcome). x .row) is in
       omega (arith, rows-total t v (b .counted) .1, b .total-is)
 
-  shown-is : verdict t ≡ 0 → outcomeOf mark (limited newlines (answerOf (result selected (mark + 1) rows))) ≡ nextSelectedOutcome selected (rowsOf (textOf t)) mark
-  unfolding nextSelectedOutcome outcomeOfNext nextSelected limited
-  shown-is v = by (eqb (firstSelectedFrom selected (mark + 1) (drop mark (rowsOf (textOf t)))) 0) refl
+  shown-is : verdict t ≡ 0 → outcomeOf mark (limited newlines (answerOf (result selected (mark + 1) rows))) ≡ nextOutcome selected (rowsOf (textOf t)) mark
+  unfolding nextOutcome outcomeAt nextSelected limited
+  shown-is v = by (eqb (firstSelected selected (mark + 1) (drop mark (rowsOf (textOf t)))) 0) refl
     where
-      by : (c : Bool) → eqb (firstSelectedFrom selected (mark + 1) (drop mark (rowsOf (textOf t)))) 0 ≡ c
-          → outcomeOf mark (limited newlines (answerOf (result selected (mark + 1) rows))) ≡ nextSelectedOutcome selected (rowsOf (textOf t)) mark
+      by : (c : Bool) → eqb (firstSelected selected (mark + 1) (drop mark (rowsOf (textOf t)))) 0 ≡ c
+          → outcomeOf mark (limited newlines (answerOf (result selected (mark + 1) rows))) ≡ nextOutcome selected (rowsOf (textOf t)) mark
       by true e =
           let R = length (rowsOf (textOf t)) in
           let low : mark ≤ R = omega (arith, rows-total t v (b .counted) .0, b .mark-high, b .total-is) in
           let k : mark + 1 - 1 + length (drop mark (rowsOf (textOf t))) ≡ R = rw (length-drop mark (rowsOf (textOf t))) (omega arith) in
           rw (e, k, le-ltb (newlines + 1) R (omega (arith, rows-total t v (b .counted) .1, b .total-is)), le-leb mark R low)
       by false e =
-          rw (e, le-ltb (newlines + 1) (firstSelectedFrom selected (mark + 1) (drop mark (rowsOf (textOf t)))) (small e v (next-of selected (rowsOf (textOf t)) mark)))
+          let low = small e v (next-of selected (rowsOf (textOf t)) mark) in
+          rw (e, le-ltb (newlines + 1) (firstSelected selected (mark + 1) (drop mark (rowsOf (textOf t)))) low)
 
   pub answer-found : AllowedAnswer t (newlineRefusal t) selected mark (limited newlines r)
   answer-found =

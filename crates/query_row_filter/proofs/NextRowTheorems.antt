@@ -1,4 +1,4 @@
--- What is asked of chosen rows shown one at a time, as theorems over what a call promises, whatever the test: `AllowedAnswer` is the contract.
+-- Theorems over the contract of any search for the next selected row, whatever the predicate: `AllowedAnswer` is that contract.
 use mathlib.Core.List.{List, [], _∷_}
 use mathlib.Core.Bool.{Bool, true, false, cond}
 use mathlib.Core.Path.{_≡_, refl, sym, ap, _∙_}
@@ -17,66 +17,66 @@ use Rattle.format.specs.Said.{refused}
 use Rattle.format.specs.SaidLaws.{unless-passes, then-is}
 use Rattle.format.specs.CountSays.{isCounted}
 use Rattle.theory_counts.specs.RowsOfText.{rows-total}
-use Rattle.row_filter.specs.SelectedRows.{NextRowOutcome, selectedRows, nextSelected, outcomeOfNext, nextSelectedOutcome}
+use Rattle.row_filter.specs.SelectedRows.{NextRowOutcome, selectedRows, nextSelected, outcomeAt, nextOutcome}
 use Rattle.row_filter.specs.SelectedRowLaws.{Next, no-more, next, next-of, Shows, shown-all, all-shown}
 use Rattle.query_row_filter.specs.declared.NextRowAnswer.{NextRowAnswer}
 use Rattle.query_row_filter.specs.declared.NextRowAnswer.the-variants.{Row, Nothing, Refused}
 use Rattle.query_row_filter.specs.AllowedOutcome.{refusedAt, newlineRefusal, queryRefusal, maxRows, FreeOutcome}
 use Rattle.query_row_filter.specs.AllowedAnswer.{outcomeOf, Numbered, AllowedAnswer, MarkMoved}
 
--- which refusal says this
+-- the outcome of a refusal determines the answer
 refused-is : (mark : ℕ) (r : NextRowAnswer) (q : ℕ) → outcomeOf mark r ≡ refusedAt (suc q) mark → r ≡ Refused (suc q)
 refused-is mark (Row n) q e = absurd (let z : ⊥ = omega (arith, ap (λ (s : NextRowOutcome). s .refusal) e) in z)
 refused-is mark (Nothing m) q e = absurd (let z : ⊥ = omega (arith, ap (λ (s : NextRowOutcome). s .refusal) e) in z)
 refused-is mark (Refused p) q e = ap Refused (ap (λ (s : NextRowOutcome). s .refusal) e)
 
--- what is said on an accepted tree: none leaves the mark, or moves it to the number of rows; and nothing is refused
+-- on an accepted tree none leaves the mark or moves it to the number of rows, and nothing is refused
 module _ (q R mark : ℕ) where
-  next-marks : outcomeOfNext q R mark .row ≡ 0 → (mark ≤ outcomeOfNext q R mark .mark) × ((outcomeOfNext q R mark .mark ≡ mark) ⊎ (outcomeOfNext q R mark .mark ≡ R))
-  unfolding outcomeOfNext
+  next-marks : outcomeAt q R mark .row ≡ 0 → (mark ≤ outcomeAt q R mark .mark) × ((outcomeAt q R mark .mark ≡ mark) ⊎ (outcomeAt q R mark .mark ≡ R))
+  unfolding outcomeAt
   next-marks z = go (eqb q 0) refl (leb mark R) refl
     where
       said : Bool → Bool → NextRowOutcome
       said none low = cond none (record { refusal = 0; row = 0; mark = cond low R mark }) (record { refusal = 0; row = q; mark = q })
 
-      is : (b c : Bool) → eqb q 0 ≡ b → leb mark R ≡ c → outcomeOfNext q R mark ≡ said b c
+      is : (b c : Bool) → eqb q 0 ≡ b → leb mark R ≡ c → outcomeAt q R mark ≡ said b c
       is b c e f = rw (e, f)
 
       go : (b : Bool) → eqb q 0 ≡ b → (c : Bool)
-          → leb mark R ≡ c → (mark ≤ outcomeOfNext q R mark .mark) × ((outcomeOfNext q R mark .mark ≡ mark) ⊎ (outcomeOfNext q R mark .mark ≡ R))
+          → leb mark R ≡ c → (mark ≤ outcomeAt q R mark .mark) × ((outcomeAt q R mark .mark ≡ mark) ⊎ (outcomeAt q R mark .mark ≡ R))
       go true e true f = rw (is true true e f) (leb-true mark R f, inr refl)
       go true e false f = rw (is true false e f) (omega arith, inl refl)
       go false e c f = absurd (eqb-false q 0 e (sym (ap (λ (s : NextRowOutcome). s .row) (is false c e f)) ∙ z))
 
-  next-only : (n : ℕ) → 1 ≤ n → refusedAt n mark ≡ outcomeOfNext q R mark → ⊥
-  unfolding outcomeOfNext
+  next-only : (n : ℕ) → 1 ≤ n → refusedAt n mark ≡ outcomeAt q R mark → ⊥
+  unfolding outcomeAt
   next-only n low e = go (eqb q 0) refl
     where
       go : (b : Bool) → eqb q 0 ≡ b → ⊥
-      go true f = let z : outcomeOfNext q R mark .refusal ≡ 0 = rw f in omega (arith, ap (λ (s : NextRowOutcome). s .refusal) e)
-      go false f = let z : outcomeOfNext q R mark .refusal ≡ 0 = rw f in omega (arith, ap (λ (s : NextRowOutcome). s .refusal) e)
+      go true f = let z : outcomeAt q R mark .refusal ≡ 0 = rw f in omega (arith, ap (λ (s : NextRowOutcome). s .refusal) e)
+      go false f = let z : outcomeAt q R mark .refusal ≡ 0 = rw f in omega (arith, ap (λ (s : NextRowOutcome). s .refusal) e)
 
-  -- the answer that says it
-  next-answer : (r : NextRowAnswer) → Numbered r → outcomeOf mark r ≡ outcomeOfNext q R mark
-      → r ≡ cond (eqb q 0) (Nothing (outcomeOfNext q R mark .mark)) (Row q)
-  unfolding outcomeOfNext
+  -- the outcome determines the answer
+  next-answer : (r : NextRowAnswer) → Numbered r → outcomeOf mark r ≡ outcomeAt q R mark
+      → r ≡ cond (eqb q 0) (Nothing (outcomeAt q R mark .mark)) (Row q)
+  unfolding outcomeAt
   next-answer r low s = go r low s (eqb q 0) refl
     where
-      none : (b : Bool) → eqb q 0 ≡ b → b ≡ true → outcomeOfNext q R mark .row ≡ 0
+      none : (b : Bool) → eqb q 0 ≡ b → b ≡ true → outcomeAt q R mark .row ≡ 0
       none b e f = rw (e ∙ f)
 
-      one : (b : Bool) → eqb q 0 ≡ b → b ≡ false → outcomeOfNext q R mark .row ≡ q
+      one : (b : Bool) → eqb q 0 ≡ b → b ≡ false → outcomeAt q R mark .row ≡ q
       one b e f = rw (e ∙ f)
 
       go : (x : NextRowAnswer) → Numbered x
-          → outcomeOf mark x ≡ outcomeOfNext q R mark → (b : Bool) → eqb q 0 ≡ b → x ≡ cond b (Nothing (outcomeOfNext q R mark .mark)) (Row q)
+          → outcomeOf mark x ≡ outcomeAt q R mark → (b : Bool) → eqb q 0 ≡ b → x ≡ cond b (Nothing (outcomeAt q R mark .mark)) (Row q)
       go (Row n) low s true e = absurd (let y : ⊥ = omega (arith, ap (λ (w : NextRowOutcome). w .row) s, none true e refl) in y)
       go (Row n) low s false e = ap Row (ap (λ (w : NextRowOutcome). w .row) s ∙ one false e refl)
       go (Nothing m) low s true e = ap Nothing (ap (λ (w : NextRowOutcome). w .mark) s)
       go (Nothing m) low s false e = absurd (let y : ⊥ = omega (arith, ap (λ (w : NextRowOutcome). w .row) s, one false e refl, eqb-false q 0 e) in y)
       go (Refused n) low s b e = absurd (next-only n low s)
 
--- The questions before the walk: 5 to 7, one of the question itself, and 11.
+-- The questions before the walk: 5 to 7, the query's own, and 11.
 module _ (t : List ℕ) (k : ℕ) (ok : Bool) where
   pub asked-unread : (q : ℕ) → readable t ≡ suc q → queryRefusal t k ok ≡ suc q
   unfolding queryRefusal
@@ -110,11 +110,11 @@ module _ (t : List ℕ) (refusal : ℕ) (selected : List ℕ → Bool) where
   refusal-leaves mark n after m = m .mark-is
 
   module _ (mark : ℕ) (r : NextRowAnswer) (a : AllowedAnswer t refusal selected mark r) where
-    -- a question that refuses before the walk is the answer
+    -- a question that refuses before the walk determines the answer
     pub refused-first : (q : ℕ) → refusal ≡ suc q → r ≡ Refused (suc q)
     refused-first q e = refused-is mark r q (a .says .asked (rw e (omega arith)) ∙ rw e)
 
-    -- an answer with number 0 was let through by every question before the walk
+    -- an answer that is no refusal passed every question before the walk
     let-through : outcomeOf mark r .refusal ≡ 0 → refusal ≡ 0
     let-through z = go (lt-or-ge 0 refusal)
       where
@@ -128,20 +128,21 @@ module _ (t : List ℕ) (refusal : ℕ) (selected : List ℕ → Bool) where
     abbrev rows : List (List ℕ)
     rows = rowsOf (textOf t)
 
-    settled : (mark : ℕ) (r : NextRowAnswer) → AllowedAnswer t refusal selected mark r → outcomeOf mark r .refusal ≡ 0 → outcomeOf mark r ≡ nextSelectedOutcome selected rows mark
+    settled : (mark : ℕ) (r : NextRowAnswer) → AllowedAnswer t refusal selected mark r → outcomeOf mark r .refusal ≡ 0
+        → outcomeOf mark r ≡ nextOutcome selected rows mark
     settled mark r a z = a .says .accepted (let-through mark r a z) v
 
-    -- where no question refuses, the next chosen row is shown; or none, and the mark goes to where `nextSelectedOutcome` says
+    -- where no question refuses: the next selected row; or none, with the mark of `nextOutcome`
     pub answer-is : (mark : ℕ) (r : NextRowAnswer) → AllowedAnswer t refusal selected mark r → refusal ≡ 0
-        → r ≡ cond (eqb (nextSelected selected rows mark) 0) (Nothing (nextSelectedOutcome selected rows mark .mark)) (Row (nextSelected selected rows mark))
-    unfolding nextSelectedOutcome
+        → r ≡ cond (eqb (nextSelected selected rows mark) 0) (Nothing (nextOutcome selected rows mark .mark)) (Row (nextSelected selected rows mark))
+    unfolding nextOutcome
     answer-is mark r a z = next-answer (nextSelected selected rows mark) (length rows) mark r (a .numbered) (a .says .accepted z v)
 
-    -- a row that is shown stands after the mark, which goes to it: so it comes to none after as many calls as there are rows, at most
+    -- a returned row is after the mark and becomes the mark: so there are at most as many calls before none as rows
     pub row-rises : (mark n after : ℕ) → MarkMoved t refusal selected mark (Row n) after → (mark < n) × (n ≤ length rows) × (after ≡ n)
     row-rises mark n after m = go (next-of selected rows mark)
       where
-        is : record { refusal = 0; row = n; mark = n } ≡ nextSelectedOutcome selected rows mark
+        is : record { refusal = 0; row = n; mark = n } ≡ nextOutcome selected rows mark
         is = settled mark (Row n) (m .answer) refl
 
         go : Next selected rows mark → (mark < n) × (n ≤ length rows) × (after ≡ n)
@@ -152,12 +153,12 @@ module _ (t : List ℕ) (refusal : ℕ) (selected : List ℕ → Bool) where
 
     -- "If no row after it matches, the answer is none and the mark goes to the number of rows; a mark already there or beyond stays."
     pub none-moves : (mark m after : ℕ) → MarkMoved t refusal selected mark (Nothing m) after
-        → (nextSelectedOutcome selected rows mark .row ≡ 0) × (after ≡ nextSelectedOutcome selected rows mark .mark)
+        → (nextOutcome selected rows mark .row ≡ 0) × (after ≡ nextOutcome selected rows mark .mark)
     none-moves mark m after k =
         let e = settled mark (Nothing m) (k .answer) refl in
         (sym (ap (λ (s : NextRowOutcome). s .row) e), k .mark-is ∙ ap (λ (s : NextRowOutcome). s .mark) e)
 
-    -- the caller asks again and again, with the question kept and the mark moved by nothing else: these rows are shown, then none
+    -- repeated calls with the same query, each from the mark that the one before left, return these rows, then none
     abbrev pub Calls : ℕ → List ℕ → Type 0
     Calls mark [] = (m : ℕ) × (after : ℕ) × MarkMoved t refusal selected mark (Nothing m) after
     Calls mark (n ∷ ns) = (after : ℕ) × MarkMoved t refusal selected mark (Row n) after × Calls after ns
@@ -172,10 +173,10 @@ module _ (t : List ℕ) (refusal : ℕ) (selected : List ℕ → Bool) where
     pub all-called : (ns : List ℕ) → Calls 0 ns → ns ≡ selectedRows selected rows
     all-called ns a = shown-all selected rows ns (shows 0 ns a)
 
-    -- and where no question refuses, it does come to none after them: of calls that keep the contract at each mark up to the number of rows
+    -- where no question refuses, calls that keep the contract do return all selected rows, then none
     module _ (through : refusal ≡ 0) (call : (mark : ℕ) → mark ≤ length rows → (r : NextRowAnswer) × AllowedAnswer t refusal selected mark r) where
       answer-row : (mark n : ℕ) (r : NextRowAnswer) → AllowedAnswer t refusal selected mark r → 1 ≤ n
-          → nextSelectedOutcome selected rows mark ≡ record { refusal = 0; row = n; mark = n } → r ≡ Row n
+          → nextOutcome selected rows mark ≡ record { refusal = 0; row = n; mark = n } → r ≡ Row n
       answer-row mark n r a low e = go r (a .numbered) (a .says .accepted through v ∙ e)
         where
           go : (x : NextRowAnswer) → Numbered x → outcomeOf mark x ≡ record { refusal = 0; row = n; mark = n } → x ≡ Row n
@@ -183,11 +184,12 @@ module _ (t : List ℕ) (refusal : ℕ) (selected : List ℕ → Bool) where
           go (Nothing k) l s = absurd (let y : ⊥ = omega (arith, ap (λ (w : NextRowOutcome). w .row) s) in y)
           go (Refused k) l s = absurd (let y : ⊥ = omega (arith, ap (λ (w : NextRowOutcome). w .refusal) s) in y)
 
-      answer-none : (mark : ℕ) (r : NextRowAnswer) → AllowedAnswer t refusal selected mark r → nextSelectedOutcome selected rows mark .row ≡ 0 → (m : ℕ) × (r ≡ Nothing m)
-      unfolding nextSelectedOutcome
+      answer-none : (mark : ℕ) (r : NextRowAnswer) → AllowedAnswer t refusal selected mark r → nextOutcome selected rows mark .row ≡ 0
+          → (m : ℕ) × (r ≡ Nothing m)
+      unfolding nextOutcome
       answer-none mark r a e = go r (a .numbered) (a .says .accepted through v)
         where
-          go : (x : NextRowAnswer) → Numbered x → outcomeOf mark x ≡ nextSelectedOutcome selected rows mark → (m : ℕ) × (x ≡ Nothing m)
+          go : (x : NextRowAnswer) → Numbered x → outcomeOf mark x ≡ nextOutcome selected rows mark → (m : ℕ) × (x ≡ Nothing m)
           go (Row k) l s = absurd (let y : ⊥ = omega (arith, ap (λ (w : NextRowOutcome). w .row) s) in y)
           go (Nothing k) l s = (k, refl)
           go (Refused k) l s = absurd (next-only (nextSelected selected rows mark) (length rows) mark k l s)
@@ -208,7 +210,7 @@ module _ (t : List ℕ) (refusal : ℕ) (selected : List ℕ → Bool) where
 
   -- Any lent bytes again: what holds of every answer, also of one that is free.
   module _ (counted-of : refusal ≡ 0 → isCounted t 10 ≡ true) where
-    -- a row that is shown stands after the mark, and is at most one more than the total of byte 10
+    -- a returned row is after the mark and at most total + 1 of byte 10
     pub row-after : (mark n : ℕ) → AllowedAnswer t refusal selected mark (Row n) → (mark < n) × (n ≤ maxRows t)
     row-after mark n a = go (lt-or-ge 0 (verdict t))
       where
@@ -227,9 +229,9 @@ module _ (t : List ℕ) (refusal : ℕ) (selected : List ℕ → Bool) where
             let w = row-rises v mark n n (record { answer = a; mark-is = refl }) in
             (w .0, omega (arith, w .1, rows-total t v (counted-of through) .1))
 
-    -- none does not move the mark back, nor, unless it stood there, past that number
+    -- none leaves the mark, or moves it forward up to that number
     pub none-after : (mark m : ℕ) → AllowedAnswer t refusal selected mark (Nothing m) → (mark ≤ m) × ((m ≡ mark) ⊎ (m ≤ maxRows t))
-    unfolding nextSelectedOutcome
+    unfolding nextOutcome
     none-after mark m a = go (lt-or-ge 0 (verdict t))
       where
         through : refusal ≡ 0
@@ -239,7 +241,7 @@ module _ (t : List ℕ) (refusal : ℕ) (selected : List ℕ → Bool) where
         R = length (rowsOf (textOf t))
 
         said : NextRowOutcome
-        said = nextSelectedOutcome selected (rowsOf (textOf t)) mark
+        said = nextOutcome selected (rowsOf (textOf t)) mark
 
         free : FreeOutcome t mark (record { refusal = 0; row = 0; mark = m }) → (mark ≤ m) × ((m ≡ mark) ⊎ (m ≤ maxRows t))
         free (inl e) = absurd (let z : ⊥ = omega (arith, ap (λ (s : NextRowOutcome). s .refusal) e) in z)
@@ -258,9 +260,9 @@ module _ (t : List ℕ) (refusal : ℕ) (selected : List ℕ → Bool) where
             let w = none-moves v mark m m (record { answer = a; mark-is = refl }) in
             moved v (w .1) (next-marks (nextSelected selected (rowsOf (textOf t)) mark) R mark (w .0))
 
-  -- a refusal is a question's before the walk, or 14, on a tree that the check refuses
+  -- a refusal is that of the questions before the walk; or 14, on a tree that the check refuses
   pub refusal-is : (mark n : ℕ) → AllowedAnswer t refusal selected mark (Refused n) → (n ≡ refusal) ⊎ ((n ≡ 14) × (verdict t ≡ 0 → ⊥))
-  unfolding nextSelectedOutcome
+  unfolding nextOutcome
   refusal-is mark n a = go (lt-or-ge 0 refusal) (lt-or-ge 0 (verdict t))
     where
       free : FreeOutcome t mark (refusedAt n mark) → n ≡ 14

@@ -1,4 +1,4 @@
--- The search for the next chosen row, step by step.
+-- The search for the next selected row, step by step.
 use mathlib.Core.List.{List, [], _++_}
 use mathlib.Core.Bool.{Bool, true, false, cond}
 use mathlib.Core.Path.{_≡_, refl, sym, ap, _∙_}
@@ -30,12 +30,12 @@ use Rattle.query_row_filter.specs.declared.NextRowAnswer.the-variants.{R
 use Rattle.query_row_filter.specs.declared.rows_after.StartPlace.the-variants as start
 use Rattle.query_row_filter.specs.RowsAfter.{StartIs, FromRow, answerOf, SearchFrom, limited}
 
--- the rest of a text, from a stretch on
+-- the rest of a text, cut after x bytes
 rest-parts : (T : List ℕ) (p x : ℕ) → drop p T ≡ stretch T p x ++ drop (p + x) T
 unfolding stretch
 rest-parts T p x = sym (take-append-drop x (drop p T)) ∙ ap (λ (r : List ℕ). take x (drop p T) ++ r) (drop-drop x p T)
 
--- no more rows than one more than the total
+-- a row number above total + 1 becomes 14
 module _ (newlines : ℕ) (x : NextRowAnswer) where
   pub limit-row : (q : ℕ) (b : Bool) → x ≡ Row q → ltb (newlines + 1) q ≡ b → cond b (Refused 14) (Row q) ≡ limited newlines x
   unfolding limited
@@ -68,18 +68,18 @@ start-broken t mark never = record {
   broken = λ e v. never v;
 }
 
--- past a byte 10
+-- after a byte 10
 pub start-past : (t : List ℕ) (mark p : ℕ)
     → Selected t 10 mark → p < at.textLength t → (verdict t ≡ 0 → p ≡ placeOf 10 mark (textOf t)) → StartIs t mark (start.At (record { 0 = p + 1 }))
 start-past t mark p s low is =
     start-at t mark (p + 1) (omega arith) (λ v. rows-past (textOf t) mark p (rw (is v) (tallies.stands t v 10 mark s)))
 
--- questions 11 and 12 of the byte 10 that a mark's row ends with
+-- questions 11 and 12 pass for the byte 10 that ends the mark's row
 pub start-asked : (t : List ℕ) (h : Header) (mark : ℕ)
     → HeaderOf t h → isCounted t 10 ≡ true → (mark ≡ 0 → ⊥) → mark ≤ total t (numberOfByte t 10) → Selected t 10 mark
 start-asked t h mark k c some high = record { pass = k .passes; counted = c; low = omega (arith, some); high = high }
 
--- The text scanned by runs: row q begins at place p₀, and the text is scanned up to place p, in the row so far read.
+-- The text is scanned by runs. Row q begins at place p₀; the scan has reached place p, in state f of row `row`.
 module _ {S : Type 0} (t : List ℕ) (m : Automaton S) (p₀ q : ℕ) where
   abbrev T : List ℕ
   T = textOf t
@@ -91,7 +91,7 @@ module _ {S : Type 0} (t : List ℕ) (m : Automaton S) (p₀ q : ℕ) where
   from-broken never = record { settled = inr (refl, never); rows = refl }
 
   module _ (p row : ℕ) (f : S) (far : scanBytes m (drop p T) f row ≡ whole) (above : q ≤ row) where
-    -- a run from there, as it was scanned
+    -- one more run
     module _ (a x : ℕ) (run : ReadsOn t p a x)
         (part : List ℕ) (part-is : part ≡ stretch t a x) (r : Scan S) (r-is : r ≡ scanBytes m part f row) (low : RowBetween row (length part) r) where
       short : length part ≤ x
@@ -132,7 +132,7 @@ module _ {S : Type 0} (t : List ℕ) (m : Automaton S) (p₀ q : ℕ) where
         let w : on f row ≡ whole = rw e at far in
         rw s-is (record { settled = inl (rw (← w)); rows = end-low some })
 
--- a part of the tree's bytes, as the code cuts it
+-- the slice of the tree's bytes that the code takes
 pub part-cut : (t : List ℕ) (a x : ℕ) → take (a + x - a) (drop a t) ≡ stretch t a x
 unfolding stretch
 part-cut t a x = let e : a + x - a ≡ x = omega arith in rw e

@@ -1,5 +1,5 @@
--- What the search for the next row that a test chooses answers, for any bytes lent as a tree: settled by the questions before the walk and on
--- accepted trees, and named as free on the others.
+-- The outcomes that a search for the next selected row may have, for any bytes as a tree: one where a question refuses or the tree is accepted; on other trees
+-- those that are left free.
 -- docs/FORMAT.md: "Keys", "What is left free".
 use mathlib.Core.List.{List}
 use mathlib.Core.Bool.{Bool, cond}
@@ -12,7 +12,7 @@ use Rattle.format.specs.Fits.{textOf}
 use Rattle.format.specs.Verdict.{ask, readable, verdict}
 use Rattle.format.specs.CountSays.{isCounted, numberOfByte}
 use Rattle.format.specs.FindSays.{total}
-use Rattle.row_filter.specs.SelectedRows.{NextRowOutcome, nextSelectedOutcome}
+use Rattle.row_filter.specs.SelectedRows.{NextRowOutcome, nextOutcome}
 
 -- a refusal leaves the mark
 abbrev pub refusedAt : ℕ → ℕ → NextRowOutcome
@@ -23,24 +23,24 @@ module _ (t : List ℕ) where
   unfoldable pub newlineRefusal : ℕ
   newlineRefusal = ask 11 (isCounted t 10) 0
 
-  -- questions 5 to 7, then one of the question itself, then 11
+  -- questions 5 to 7, then the query's own with its number, then 11
   unfoldable pub queryRefusal : ℕ → Bool → ℕ
   queryRefusal refusal ok = cond (eqb (readable t) 0) (ask refusal ok newlineRefusal) (readable t)
 
-  -- the most rows that question 12 lets through: one more than the total of byte 10
+  -- no row number above this passes question 12
   abbrev pub maxRows : ℕ
   maxRows = total t (numberOfByte t 10) + 1
 
-  -- what is left free on a tree that the check refuses: 14 with the mark as it was; or none, with the mark not moved back, nor past the most rows
-  -- unless it stood there; or a row after the mark, with the mark on it
+  -- on a tree that the check refuses: 14, and the mark unchanged; or none, and the mark unchanged or moved forward up to `maxRows`; or a row after the mark,
+  -- up to `maxRows`, and the mark on it
   abbrev pub FreeOutcome : ℕ → NextRowOutcome → Type 0
   FreeOutcome mark s =
       (s ≡ refusedAt 14 mark)
       ⊎ (((s .refusal ≡ 0) × (s .row ≡ 0) × (mark ≤ s .mark) × ((s .mark ≡ mark) ⊎ (s .mark ≤ maxRows)))
       ⊎ ((s .refusal ≡ 0) × (mark < s .row) × (s .row ≤ maxRows) × (s .mark ≡ s .row)))
 
--- the questions before the walk give a number, or 0; the rows are those that a test chooses
+-- `refusal` is that of the questions before the walk, 0 if they all pass
 pub record AllowedOutcome (t : List ℕ) (refusal : ℕ) (selected : List ℕ → Bool) (mark : ℕ) (s : NextRowOutcome) : Type 0 where
   pub asked : 0 < refusal → s ≡ refusedAt refusal mark
-  pub accepted : refusal ≡ 0 → verdict t ≡ 0 → s ≡ nextSelectedOutcome selected (rowsOf (textOf t)) mark
+  pub accepted : refusal ≡ 0 → verdict t ≡ 0 → s ≡ nextOutcome selected (rowsOf (textOf t)) mark
   pub free : refusal ≡ 0 → (verdict t ≡ 0 → ⊥) → FreeOutcome t mark s

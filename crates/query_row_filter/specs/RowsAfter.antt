@@ -1,4 +1,4 @@
--- What is asked and answered on the way to the next chosen row.
+-- Contracts of the steps of a search for the next selected row.
 use mathlib.Core.List.{List}
 use mathlib.Core.Bool.{Bool, true, cond}
 use mathlib.Core.Path.{_≡_}
@@ -23,13 +23,13 @@ use Rattle.query_row_filter.specs.declared.rows_after.StartPlace.the-var
 use Rattle.query_row_filter.specs.AllowedOutcome.{newlineRefusal}
 use Rattle.query_row_filter.specs.AllowedAnswer.{AllowedAnswer}
 
--- where the rows after a mark begin, on an accepted tree
+-- the place is in the text, and on an accepted tree the rows after the mark begin there; the walk fails on no accepted tree
 pub record StartIs (t : List ℕ) (mark : ℕ) (r : StartPlace) : Type 0 where
   pub place-in : (p : TextPlace) → r ≡ start.At p → p .0 ≤ at.textLength t
   pub place-is : (p : TextPlace) → r ≡ start.At p → verdict t ≡ 0 → rowsOf (drop (p .0) (textOf t)) ≡ drop mark (rowsOf (textOf t))
   pub broken : r ≡ start.Broken → verdict t ≡ 0 → ⊥
 
--- they begin at place p
+-- the rows after the mark begin at place p of a tree with this total of byte 10
 pub record StartFacts (t : List ℕ) (mark p newlines : ℕ) : Type 0 where
   pub counted : isCounted t 10 ≡ true
   pub total-is : newlines ≡ total t (numberOfByte t 10)
@@ -38,28 +38,28 @@ pub record StartFacts (t : List ℕ) (mark p newlines : ℕ) : Type 0 where
   pub place-in : p ≤ at.textLength t
   pub place-is : verdict t ≡ 0 → rowsOf (drop p (textOf t)) ≡ drop mark (rowsOf (textOf t))
 
--- or the answer is known, whatever the test
+-- the rows after the mark begin somewhere, or the answer is settled whatever the predicate
 pub record BeginIs (t : List ℕ) (mark : ℕ) (r : RowsStart) : Type 0 where
   pub begins-at : (p : TextPlace) (newlines : ℕ) → r ≡ begins.At p newlines → StartFacts t mark (p .0) newlines
   pub answered : (s : NextRowAnswer) → r ≡ begins.Answered s → (selected : List ℕ → Bool) → AllowedAnswer t (newlineRefusal t) selected mark s
 
--- rows from number q on
+-- the answer names no row below q
 abbrev pub FromRow : ℕ → NextRowAnswer → Type 0
 FromRow q (Row n) = q ≤ n
 FromRow q (Nothing n) = q ≤ n + 1
 FromRow q (Refused number) = number ≡ 14
 
--- what a search comes to, as an answer
+-- the answer of a search
 abbrev pub answerOf : SearchResult → NextRowAnswer
 answerOf (at-row q) = Row q
 answerOf (nothing m) = Nothing m
 
--- what a search from a place gives, where row q begins: the scan of the text from there on; or 14, on a tree that the check refuses
+-- the answer of a search from place p, where row q begins: that of the text's scan from there; or 14, on a tree that the check refuses
 pub record SearchFrom {S : Type 0} (t : List ℕ) (m : Automaton S) (p q : ℕ) (r : NextRowAnswer) : Type 0 where
   pub settled : (r ≡ answerOf (finishScan m (scanBytes m (drop p (textOf t)) (m .start) q))) ⊎ ((r ≡ Refused 14) × (verdict t ≡ 0 → ⊥))
   pub rows : FromRow q r
 
--- no more rows than one more than the total
+-- a row number above total + 1 becomes 14
 unfoldable pub limited : ℕ → NextRowAnswer → NextRowAnswer
 limited newlines (Row q) = cond (ltb (newlines + 1) q) (Refused 14) (Row q)
 limited newlines (Nothing m) = cond (ltb (newlines + 1) m) (Refused 14) (Nothing m)

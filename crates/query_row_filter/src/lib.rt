@@ -1,7 +1,7 @@
-// Rows that a test of their bytes chooses, shown one at a time after a mark: what the questions for them share, whatever the test.
+// What all searches for the next selected row share, whatever the predicate: where the rows after a mark begin, and what is returned.
 pub mod rows_after;
 
-// The row shown, on which the mark then stands; or none, and where the mark then stands; or the number of the question that refuses.
+// The next row, which is the new mark; or none, with the new mark; or a refusal, which leaves the mark.
 pub enum NextRowAnswer {
     Row(u32),
     Nothing(u32),

@@ -1,4 +1,4 @@
-// Where the rows after a mark begin, in a tree that passes questions 5 to 7; and no more of them than the total of byte 10 lets through.
+// Where the rows after a mark begin, in a tree that passes questions 5 to 7, and the largest row number that may be returned.
 use crate::NextRowAnswer;
 use ask_select::Found;
 use ask_select::find_by_header;
@@ -13,13 +13,13 @@ ghost use Rattle.format.specs.FindSays.{total};
 ghost use Rattle.layout.specs.HeaderSays.{HeaderOf};
 ghost use Rattle.query_row_filter.specs.RowsAfter.{StartIs, BeginIs, limited};
 
-// Where the rows after a mark begin, and the total of byte 10; or the answer, where none begin or that is not known.
+// Where the rows after a mark begin, with the total of byte 10; or the answer of the call, if no row begins there or the place is not found.
 pub enum RowsStart {
     At(TextPlace, u64),
     Answered(NextRowAnswer),
 }
 
-// Question 11. A mark at the number of rows or beyond stays.
+// Question 11. A mark at or above the number of rows stays.
 pub fn begin(t: &[u8], h: Header, mark: u32) -> RowsStart
     requires { ⌜ HeaderOf (now t) h ⌝ }
     ensures { λ r. ⌜ BeginIs (now (t .entry)) mark r ⌝ }
@@ -42,13 +42,13 @@ pub fn begin(t: &[u8], h: Header, mark: u32) -> RowsStart
     RowsStart::At(p, newlines)
 }
 
-// Where the rows after a mark begin.
+// Where the rows after a mark begin; Broken if the walk to that place fails.
 pub enum StartPlace {
     At(TextPlace),
     Broken,
 }
 
-// Past the byte 10 that ends the row of a mark; the text's start for mark 0.
+// The place after the byte 10 that ends the mark's row (select); for mark 0 the text's start.
 fn start(t: &[u8], h: Header, mark: u32) -> StartPlace
     requires { ⌜ (HeaderOf (now t) h) × (isCounted (now t) 10 ≡ true) × (mark ≤ total (now t) (numberOfByte (now t) 10)) ⌝ }
     ensures { λ r. ⌜ StartIs (now (t .entry)) mark r ⌝ }
@@ -63,7 +63,7 @@ fn start(t: &[u8], h: Header, mark: u32) -> StartPlace
     StartPlace::At(TextPlace(end.0 + 1))
 }
 
-// Whether a number of rows is above the total and one more.
+// Whether a row number is above total + 1. The sum does not overflow: it is only formed where q is above the total.
 fn past(q: u32, newlines: u64) -> bool
     ensures { λ r. ⌜ r ≡ ltb (newlines + 1) q ⌝ }
 {
@@ -73,7 +73,7 @@ fn past(q: u32, newlines: u64) -> bool
     newlines + 1 < q as u64
 }
 
-// So many rows are in no tree that the check accepts.
+// No accepted tree has a row number above total + 1.
 pub fn limit(answer: NextRowAnswer, newlines: u64) -> NextRowAnswer
     ensures { λ r. ⌜ r ≡ limited newlines answer ⌝ }
 {

@@ -1,4 +1,4 @@
--- Rows chosen by a test of their bytes, and machines that read a row byte by byte.
+-- Rows selected by a predicate on their bytes, and automata that read a row byte by byte.
 pub mod SelectedRows
 pub mod SelectedRowLaws
 pub mod RowAutomaton

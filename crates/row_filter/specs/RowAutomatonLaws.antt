@@ -1,4 +1,4 @@
--- What a machine finds in a text are the chosen ones among its rows.
+-- Scanning a text with an automaton finds the first row that its predicate selects.
 use mathlib.Core.List.{List, [], _∷_, _++_, append-nil, append-assoc}
 use mathlib.Core.Bool.{Bool, true, false, cond}
 use mathlib.Core.Path.{_≡_, refl, sym, ap, _∙_}
@@ -13,7 +13,7 @@ use Rattle.text.specs.Text.{countIn}
 use Rattle.text.specs.CountLaws.{one, count-cons, count-nil, count-append}
 use Rattle.text.specs.Rows.{rowsOf}
 use Rattle.text.specs.RowLaws.{trimmed, rows-split, rows-one, rows-open}
-use Rattle.row_filter.specs.SelectedRows.{firstSelectedFrom}
+use Rattle.row_filter.specs.SelectedRows.{firstSelected}
 use Rattle.row_filter.specs.SelectedRowLaws.{first-cons}
 use Rattle.row_filter.specs.RowAutomaton.{Automaton, Scan, found, on, SearchResult, at-row, nothing, resumeScan, RowBetween, runFrom, scanByte, scanBytes}
 use Rattle.row_filter.specs.RowAutomaton.{atEndOfText, finishScan, Recognizes}
@@ -49,7 +49,7 @@ module _ {S : Type 0} (m : Automaton S) where
     pub found-next : (n : ℕ) → found n ≡ scanByte m s q x → (q ≤ n) × (n ≤ q + 1)
     found-next n e = rw (← e) at byte-bounds
 
-  -- byte i of a stretch, and the rest
+  -- byte i of the scanned bytes, and the rest
   module _ (part : List ℕ) (i : ℕ) (h : i < length part) (s : S) (q : ℕ) where
     open-scan : scanBytes m (drop i part) s q ≡ resumeScan (scanBytes m (drop (i + 1) part)) (scanByte m s q (getD part i 0))
     unfolding scanBytes
@@ -65,7 +65,7 @@ module _ {S : Type 0} (m : Automaton S) where
   unfolding scanBytes
   scan-end part i e s q = rw (e, drop-length part)
 
-  -- a stretch in two parts
+  -- scanning two parts one after the other
   pub scan-append : (xs ys : List ℕ) (s : S) (q : ℕ) → scanBytes m (xs ++ ys) s q ≡ resumeScan (scanBytes m ys) (scanBytes m xs s q)
   unfolding scanBytes
   scan-append [] ys s q = refl
@@ -81,9 +81,9 @@ module _ {S : Type 0} (m : Automaton S) where
   run-snoc s [] x = refl
   run-snoc s (y ∷ p) x = run-snoc (m .step s y) p x
 
--- Rows that a byte 10 ends: one byte 13 before it is not the row's.
+-- Rows ended by a byte 10: one byte 13 before it is not part of the row.
 
--- a list with one more at the end
+-- a list as its front and its last element
 snoc-last : (j : ℕ) (row : List ℕ) → length row ≡ suc j → row ≡ take j row ++ getD row j 0 ∷ []
 snoc-last j row e = sym (take-all (suc j) row (omega arith)) ∙ take-suc row j 0 (omega arith)
 
@@ -93,11 +93,12 @@ trim-snoc ys z =
     let n : length (ys ++ z ∷ []) - 1 ≡ length ys = rw (length-append ys (z ∷ [])) (omega arith) in
     rw (n, getD-append-seam ys z [] 0, take-append-seam ys (z ∷ []))
 
--- a machine that is done after a byte 13 where it was whole before it, and after another byte where it is whole, reads rows as they are trimmed
+-- `at-newline` is right if it agrees with `at-end` of the state before a last byte 13, and with `at-end` of the state itself after any other byte
 module _ {S : Type 0} (m : Automaton S) (selected : List ℕ → Bool) (at-end-is : (row : List ℕ) → m .at-end (runFrom m (m .start) row) ≡ selected row)
     (none-yet : m .at-newline (m .start) ≡ m .at-end (m .start))
     (after-13 : (ys : List ℕ) (z : ℕ) (b : Bool) → eqb 13 z ≡ b
-    → m .at-newline (m .step (runFrom m (m .start) ys) z) ≡ cond b (m .at-end (runFrom m (m .start) ys)) (m .at-end (m .step (runFrom m (m .start) ys) z))) where
+    → m .at-newline (m .step (runFrom m (m .start) ys) z)
+    ≡ cond b (m .at-end (runFrom m (m .start) ys)) (m .at-end (m .step (runFrom m (m .start) ys) z))) where
   done-snoc : (ys : List ℕ) (z : ℕ) (b : Bool) → eqb 13 z ≡ b → m .at-newline (runFrom m (m .start) (ys ++ z ∷ [])) ≡ selected (cond b ys (ys ++ z ∷ []))
   done-snoc ys z true e = rw (run-snoc m (m .start) ys z) (after-13 ys z true e ∙ at-end-is ys)
   done-snoc ys z false e =
@@ -115,9 +116,9 @@ module _ {S : Type 0} (m : Automaton S) (selected : List ℕ → Bool) (at-end-i
       ap (λ (r : List ℕ). m .at-newline (runFrom m (m .start) r)) e
       ∙ done-snoc ys z (eqb 13 z) refl ∙ sym (ap (λ (r : List ℕ). selected (trimmed r)) e ∙ ap selected (trim-snoc ys z))
 
--- the first chosen row among rows numbered from q on, or how many rows there are in all
+-- the first selected row of a list that begins with row q, or the number of rows
 abbrev pub result : (List ℕ → Bool) → ℕ → List (List ℕ) → SearchResult
-result selected q rows = cond (eqb (firstSelectedFrom selected q rows) 0) (nothing (q - 1 + length rows)) (at-row (firstSelectedFrom selected q rows))
+result selected q rows = cond (eqb (firstSelected selected q rows) 0) (nothing (q - 1 + length rows)) (at-row (firstSelected selected q rows))
 
 module _ (selected : List ℕ → Bool) where
   result-cons : (q : ℕ) (row : List ℕ) (rows : List (List ℕ)) (b : Bool)
@@ -128,10 +129,10 @@ module _ (selected : List ℕ → Bool) where
       rw (first-cons selected q row rows false e, z)
 
   result-none : (q : ℕ) → result selected q [] ≡ nothing (q - 1)
-  unfolding firstSelectedFrom
+  unfolding firstSelected
   result-none q = let z : q - 1 + 0 ≡ q - 1 = omega arith in rw z
 
--- a byte 10 ends a row, and no other byte does
+-- a byte 10 ends a row; no other byte does
 rows-next : (p : List ℕ) (x : ℕ) (xs : List ℕ) → countIn 10 p ≡ 0 → eqb 10 x ≡ true → rowsOf (p ++ x ∷ xs) ≡ trimmed p ∷ rowsOf xs
 rows-next p x xs h e =
     ap (λ (y : ℕ). rowsOf (p ++ y ∷ xs)) (sym (eqb-true 10 x e)) ∙ rows-split p xs ∙ ap (λ (r : List (List ℕ)). r ++ rowsOf xs) (rows-one p h)
@@ -145,7 +146,7 @@ module _ {S : Type 0} (m : Automaton S) (selected : List ℕ → Bool) (r : Reco
   abbrev read : List ℕ → S
   read = runFrom m (m .start)
 
-  -- the text ends in a row of which p is read
+  -- the text ends in a row of which the bytes p have been read
   end-rows : (p : List ℕ) (q : ℕ) → 1 ≤ q → countIn 10 p ≡ 0 → atEndOfText m (read p) q ≡ result selected q (rowsOf (p ++ []))
   unfolding atEndOfText rowsOf runFrom
   end-rows [] q low h = rw (r .at-end-is [] ∙ r .empty-rejected, r .no-byte-first) (sym (result-none selected q))

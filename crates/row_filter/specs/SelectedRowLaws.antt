@@ -1,4 +1,4 @@
--- Laws of chosen rows: shown one after the other from mark 0 they are all that are chosen, each once, in row order; a test that chooses more loses none.
+-- Laws of selected rows: repeated searches from mark 0 return every selected row once, in row order; a weaker predicate loses no row.
 use mathlib.Core.List.{List, [], _∷_}
 use mathlib.Core.Bool.{Bool, true, false, cond}
 use mathlib.Core.Path.{_≡_, refl, sym, ap, _∙_}
@@ -10,15 +10,15 @@ use lib.ListN.{length, getD, drop, length-drop}
 use lib.Seq.{drop-drop}
 use borrow.Author.Tests.{ne-eqb}
 use Rattle.text.specs.ListLaws.{bool-clash}
-use Rattle.row_filter.specs.SelectedRows.{NextRowOutcome, selectedFrom, selectedRows, firstSelectedFrom, nextSelected, outcomeOfNext, nextSelectedOutcome}
+use Rattle.row_filter.specs.SelectedRows.{NextRowOutcome, selectedFrom, selectedRows, firstSelected, nextSelected, outcomeAt, nextOutcome}
 
--- The first of rows numbered from q on that is chosen, and those after it.
+-- The first selected row of a list that begins with row q, and the selected rows after it.
 
--- there is none, or n is the first, and the others are those after it
+-- no row is selected; or row q + k is the first, and the others are the selected rows after it
 data First (selected : List ℕ → Bool) (q : ℕ) (rows : List (List ℕ)) : Type 0 where
-  none : firstSelectedFrom selected q rows ≡ 0 → selectedFrom selected q rows ≡ [] → First selected q rows
-  first : (k : ℕ) → firstSelectedFrom selected q rows ≡ q + k → k < length rows → selectedFrom selected q rows ≡ (q + k) ∷ selectedFrom selected (q + k + 1) (drop (k + 1) rows)
-      → First selected q rows
+  none : firstSelected selected q rows ≡ 0 → selectedFrom selected q rows ≡ [] → First selected q rows
+  first : (k : ℕ) → firstSelected selected q rows ≡ q + k → k < length rows
+      → selectedFrom selected q rows ≡ (q + k) ∷ selectedFrom selected (q + k + 1) (drop (k + 1) rows) → First selected q rows
 
 module _ (selected : List ℕ → Bool) where
   selected-cons : (q : ℕ) (row : List ℕ) (rows : List (List ℕ)) (b : Bool) → selected row ≡ b
@@ -27,12 +27,12 @@ module _ (selected : List ℕ → Bool) where
   selected-cons q row rows b e = rw e
 
   pub first-cons : (q : ℕ) (row : List ℕ) (rows : List (List ℕ)) (b : Bool) → selected row ≡ b
-      → firstSelectedFrom selected q (row ∷ rows) ≡ cond b q (firstSelectedFrom selected (q + 1) rows)
-  unfolding firstSelectedFrom
+      → firstSelected selected q (row ∷ rows) ≡ cond b q (firstSelected selected (q + 1) rows)
+  unfolding firstSelected
   first-cons q row rows b e = rw e
 
   first-of : (q : ℕ) (rows : List (List ℕ)) → First selected q rows
-  unfolding firstSelectedFrom selectedFrom
+  unfolding firstSelected selectedFrom
   first-of q [] = none refl refl
   first-of q (row ∷ rows) = go (selected row) refl (first-of (q + 1) rows)
     where
@@ -45,18 +45,19 @@ module _ (selected : List ℕ → Bool) where
           let s : q + 1 + k ≡ q + (k + 1) = omega arith in
           first (k + 1) (first-cons q row rows false e ∙ f ∙ s) (omega arith) (selected-cons q row rows false e ∙ m ∙ rw (s, add-one (k + 1)))
 
--- A mark, and the rows chosen after it.
+-- The selected rows after a mark.
 module _ (selected : List ℕ → Bool) (rows : List (List ℕ)) where
   abbrev pub after : ℕ → List ℕ
   after mark = selectedFrom selected (mark + 1) (drop mark rows)
 
-  -- there is no further one, or the next one is n, and the others are those after n
+  -- no row after the mark is selected; or n is the next, and the others are the selected rows after n
   pub data Next (mark : ℕ) : Type 0 where
-    no-more : nextSelectedOutcome selected rows mark .row ≡ 0 → after mark ≡ [] → Next mark
-    next : (n : ℕ) → mark < n → n ≤ length rows → nextSelectedOutcome selected rows mark ≡ record { refusal = 0; row = n; mark = n } → after mark ≡ n ∷ after n → Next mark
+    no-more : nextOutcome selected rows mark .row ≡ 0 → after mark ≡ [] → Next mark
+    next : (n : ℕ) → mark < n → n ≤ length rows → nextOutcome selected rows mark ≡ record { refusal = 0; row = n; mark = n }
+        → after mark ≡ n ∷ after n → Next mark
 
   pub next-of : (mark : ℕ) → Next mark
-  unfolding nextSelectedOutcome outcomeOfNext nextSelected
+  unfolding nextOutcome outcomeAt nextSelected
   next-of mark = go (first-of selected (mark + 1) (drop mark rows))
     where
       go : First selected (mark + 1) (drop mark rows) → Next mark
@@ -67,12 +68,12 @@ module _ (selected : List ℕ → Bool) (rows : List (List ℕ)) where
           let size : k < length rows - mark = rw (length-drop mark rows) at l in
           next n (omega arith) (omega arith) (rw (f, ne-eqb n 0 (λ z. omega arith))) (m ∙ rw (drop-drop (k + 1) mark rows, e))
 
-  -- these rows are shown, one after the other, from a mark on, and then none
+  -- repeated searches from a mark return these rows, then none
   abbrev pub Shows : ℕ → List ℕ → Type 0
-  Shows mark [] = nextSelectedOutcome selected rows mark .row ≡ 0
-  Shows mark (n ∷ ns) = (nextSelectedOutcome selected rows mark ≡ record { refusal = 0; row = n; mark = n }) × (1 ≤ n) × Shows n ns
+  Shows mark [] = nextOutcome selected rows mark .row ≡ 0
+  Shows mark (n ∷ ns) = (nextOutcome selected rows mark ≡ record { refusal = 0; row = n; mark = n }) × (1 ≤ n) × Shows n ns
 
-  -- what is shown from a mark on are the chosen rows after it
+  -- the rows returned from a mark are the selected rows after it
   shown-are : (mark : ℕ) (ns : List ℕ) → Shows mark ns → ns ≡ after mark
   shown-are mark [] h = go (next-of mark)
     where
@@ -87,11 +88,11 @@ module _ (selected : List ℕ → Bool) (rows : List (List ℕ)) where
           let z : n ≡ k = ap (λ (x : NextRowOutcome). x .row) (sym (h .0) ∙ e) in
           rw (rest, z) (sym m)
 
-  -- and from every mark it comes to none after them
+  -- from every mark the searches return the selected rows after it, then none
   comes-to : (mark : ℕ) (ns : List ℕ) → after mark ≡ ns → Shows mark ns
   comes-to mark [] e = go (next-of mark)
     where
-      go : Next mark → nextSelectedOutcome selected rows mark .row ≡ 0
+      go : Next mark → nextOutcome selected rows mark .row ≡ 0
       go (no-more f m) = f
       go (next n l k s m) = absurd (let z : _≡_ {A = ℕ} (length (n ∷ after n)) 0 = ap length (sym m ∙ e) in let y : ⊥ = omega arith in y)
   comes-to mark (n ∷ ns) e = go (next-of mark) (λ k f. comes-to k ns f)
@@ -103,7 +104,7 @@ module _ (selected : List ℕ → Bool) (rows : List (List ℕ)) where
           let w : after n ≡ ns = ap after (sym z) ∙ ap (drop 1) (sym m ∙ e) in
           (s ∙ rw z, omega arith, rest n w)
 
-  -- from mark 0 they are all that are chosen, and then none
+  -- from mark 0: exactly the selected rows, then none
   pub shown-all : (ns : List ℕ) → Shows 0 ns → ns ≡ selectedRows selected rows
   unfolding selectedRows
   shown-all ns h = shown-are 0 ns h
@@ -112,14 +113,14 @@ module _ (selected : List ℕ → Bool) (rows : List (List ℕ)) where
   unfolding selectedRows
   all-shown = comes-to 0 (selectedFrom selected 1 rows) refl
 
--- The list of chosen rows: it rises, and has exactly the numbers of the rows that are chosen.
+-- The list of selected rows is ascending and contains exactly the selected row numbers.
 
--- n stands in the list
+-- n is in the list
 abbrev pub In : ℕ → List ℕ → Type 0
 In n [] = ⊥
 In n (x ∷ xs) = (n ≡ x) ⊎ In n xs
 
--- each is above the one before, the first at least q
+-- strictly ascending, from q or above
 abbrev pub Rising : ℕ → List ℕ → Type 0
 Rising q [] = Unit {0}
 Rising q (x ∷ xs) = (q ≤ x) × Rising (x + 1) xs
@@ -170,12 +171,12 @@ module _ (selected : List ℕ → Bool) where
       go false e j rest = later (rest j)
 
 module _ (selected : List ℕ → Bool) (rows : List (List ℕ)) where
-  -- it rises: each row once, in row order
+  -- ascending: each row once, in row order
   pub selected-rise : Rising 1 (selectedRows selected rows)
   unfolding selectedRows
   selected-rise = from-rise selected 1 rows
 
-  -- row n of them, from 1
+  -- a selected row is in the list, and each number of the list is that of a selected row
   pub selected-in : (n : ℕ) → 1 ≤ n → n ≤ length rows → selected (getD rows (n - 1) []) ≡ true → In n (selectedRows selected rows)
   unfolding selectedRows
   selected-in n low high m =
@@ -189,14 +190,14 @@ module _ (selected : List ℕ → Bool) (rows : List (List ℕ)) where
       let e : f .0 ≡ n - 1 = omega (arith, f .1) in
       (omega (arith, f .1), omega (arith, f .1, f .2), rw e at (f .3))
 
--- a test that holds wherever another does loses none of its rows
+-- a weaker predicate selects every row that the stronger one selects
 pub more-selected : (less more : List ℕ → Bool) → ((row : List ℕ) → less row ≡ true → more row ≡ true)
     → (rows : List (List ℕ)) (n : ℕ) → In n (selectedRows less rows) → In n (selectedRows more rows)
 more-selected less more wider rows n i =
     let f = in-selected less rows n i in
     selected-in more rows n (f .0) (f .1) (wider (getD rows (n - 1) []) (f .2))
 
--- the list is what is left of the other where numbers are left out of it
+-- the first list is a subsequence of the second
 pub data Sublist : List ℕ → List ℕ → Type 0 where
   nil : Sublist [] []
   skip : (y : ℕ) (xs ys : List ℕ) → Sublist xs ys → Sublist xs (y ∷ ys)

@@ -1,4 +1,4 @@
--- Rows chosen by a test of their bytes: their numbers in row order, and the next one after a mark.
+-- Rows selected by a predicate on their bytes: their numbers in row order, and the next one after a mark.
 -- docs/FORMAT.md: "Keys".
 use mathlib.Core.List.{List, [], _∷_}
 use mathlib.Core.Bool.{Bool, cond}
@@ -6,41 +6,41 @@ use Prim.Native.Nat.{ℕ, _+_}
 use lib.ListN.{length, drop}
 use lib.Dec.{leb, eqb}
 
--- what is shown: the number of a question that refuses, or 0; the row, 0 for none; and where the mark then stands
+-- the result of a search: the refusal, 0 for none; the row, 0 for none; the new mark
 pub record NextRowOutcome : Type 0 where
   pub refusal : ℕ
   pub row : ℕ
   pub mark : ℕ
 
 module _ (selected : List ℕ → Bool) where
-  -- the numbers of those chosen among rows numbered from q on
+  -- the numbers of the selected rows, where the list begins with row q
   unfoldable pub selectedFrom : ℕ → List (List ℕ) → List ℕ
   selectedFrom q [] = []
   selectedFrom q (row ∷ rows) =
       let rest = selectedFrom (q + 1) rows in
       cond (selected row) (q ∷ rest) rest
 
-  -- of all rows, in row order
+  -- the numbers of all selected rows of a text, ascending
   unfoldable pub selectedRows : List (List ℕ) → List ℕ
   selectedRows rows = selectedFrom 1 rows
 
-  -- the first of them; 0 where there is none
-  unfoldable pub firstSelectedFrom : ℕ → List (List ℕ) → ℕ
-  firstSelectedFrom q [] = 0
-  firstSelectedFrom q (row ∷ rows) =
-      let rest = firstSelectedFrom (q + 1) rows in
+  -- the first selected row, where the list begins with row q; 0 if there is none
+  unfoldable pub firstSelected : ℕ → List (List ℕ) → ℕ
+  firstSelected q [] = 0
+  firstSelected q (row ∷ rows) =
+      let rest = firstSelected (q + 1) rows in
       cond (selected row) q rest
 
-  -- the first row after a mark that is chosen; 0 where there is none
+  -- the first selected row after a mark; 0 if there is none
   unfoldable pub nextSelected : List (List ℕ) → ℕ → ℕ
-  nextSelected rows mark = firstSelectedFrom (mark + 1) (drop mark rows)
+  nextSelected rows mark = firstSelected (mark + 1) (drop mark rows)
 
--- the next row is q, with the mark on it; if there is none, the mark goes to the number of rows, but not back
-unfoldable pub outcomeOfNext : ℕ → ℕ → ℕ → NextRowOutcome
-outcomeOfNext q rows mark =
+-- a row q moves the mark to q; none (q = 0) moves it to the number of rows, never back
+unfoldable pub outcomeAt : ℕ → ℕ → ℕ → NextRowOutcome
+outcomeAt q rows mark =
     cond (eqb q 0) (record { refusal = 0; row = 0; mark = cond (leb mark rows) rows mark })
     (record { refusal = 0; row = q; mark = q })
 
--- of the rows that a test chooses
-unfoldable pub nextSelectedOutcome : (List ℕ → Bool) → List (List ℕ) → ℕ → NextRowOutcome
-nextSelectedOutcome selected rows mark = outcomeOfNext (nextSelected selected rows mark) (length rows) mark
+-- the result of the search for the next selected row
+unfoldable pub nextOutcome : (List ℕ → Bool) → List (List ℕ) → ℕ → NextRowOutcome
+nextOutcome selected rows mark = outcomeAt (nextSelected selected rows mark) (length rows) mark

@@ -1,1 +1,1 @@
-// Rows of a text that a test of their bytes chooses: definitions in specs/, with their laws. No functions.
+// Rows of a text selected by a predicate on their bytes. The definitions and their laws are in specs/; there are no functions.

@@ -12,7 +12,8 @@ use Rattle.keys.proofs.row_scan.scan.Tie as tie
 
 abbrev Inv-loop : tie.InvT-loop
 Inv-loop ranges part row so-far₀ q₀ i₀ so-far q i =
-    (i ≤ length part) × ((row ≤ q) × (q ≤ row + i)) × (scanBytes (keyAutomaton ranges) (drop i part) so-far q ≡ scanBytes (keyAutomaton ranges) part so-far₀ row)
+    (i ≤ length part) × ((row ≤ q) × (q ≤ row + i))
+    × (scanBytes (keyAutomaton ranges) (drop i part) so-far q ≡ scanBytes (keyAutomaton ranges) part so-far₀ row)
 
 abbrev μ-loop : tie.MeasureT-loop
 μ-loop ranges part row so-far₀ q₀ i₀ so-far q i = length part - i

@@ -12,7 +12,8 @@ use Rattle.prefix_match.proofs.prefix_scan.scan.Tie as tie
 
 abbrev Inv-loop : tie.InvT-loop
 Inv-loop prefix part row so-far₀ q₀ i₀ so-far q i =
-    (i ≤ length part) × ((row ≤ q) × (q ≤ row + i)) × (scanBytes (prefixAutomaton prefix) (drop i part) so-far q ≡ scanBytes (prefixAutomaton prefix) part so-far₀ row)
+    (i ≤ length part) × ((row ≤ q) × (q ≤ row + i))
+    × (scanBytes (prefixAutomaton prefix) (drop i part) so-far q ≡ scanBytes (prefixAutomaton prefix) part so-far₀ row)
 
 abbrev μ-loop : tie.MeasureT-loop
 μ-loop prefix part row so-far₀ q₀ i₀ so-far q i = length part - i

@@ -13,6 +13,7 @@ at-newline-spec =
     (λ c κs. search needs)
     (λ c. search needs)
     (λ c. search needs)
-    (λ c. let z = c .before .before in c .ends-without-cr .ensures ∙ sym (ap (prefixAtNewline (z .before .before .before .args .prefix .now)) (z .state .given .1)))
+    (λ c. let z = c .before .before in let a = z .before .before .before .args in
+    c .ends-without-cr .ensures ∙ sym (ap (prefixAtNewline (a .prefix .now)) (z .state .given .1)))
     (λ c. search needs)
     (λ c. search needs))
