@@ -1,9 +1,9 @@
 // A worn key: the rows of a book that match a range of depths for each cut, one at a time.
 mod search;
 
-use query_row_filter::NextRowAnswer;
 use layout::header;
 use layout::header::HeaderRead;
+use query_row_filter::NextRowAnswer;
 ghost use mathlib.Core.Path.{_≡_};
 ghost use Rattle.query_row_filter.specs.AllowedAnswer.{markAfter};
 ghost use Rattle.ask_worn_keys.specs.MatchAnswer.{MatchAnswer, Moved};

@@ -1,9 +1,6 @@
 // The search for a match, of a tree that passes questions 5 to 7, by its header.
 use ask_access::read_by_header;
 use ask_access::read_by_header::Ran;
-use query_row_filter::NextRowAnswer;
-use query_row_filter::rows_after;
-use query_row_filter::rows_after::RowsStart;
 use keys::form;
 use keys::form::Form;
 use keys::ranges;
@@ -11,6 +8,9 @@ use keys::row_scan;
 use keys::row_scan::Scanned;
 use layout::header::Header;
 use layout::place::TextPlace;
+use query_row_filter::NextRowAnswer;
+use query_row_filter::rows_after;
+use query_row_filter::rows_after::RowsStart;
 ghost use mathlib.Core.Path.{_≡_};
 ghost use mathlib.Core.Bool.{true};
 ghost use Prim.Native.Nat.{_≤_};
@@ -31,7 +31,10 @@ pub fn match_at(t: &[u8], h: Header, question: &[u8], mark: u32) -> NextRowAnswe
     }
     let start = rows_after::begin(t, h, mark);
     match start {
-        RowsStart::At(place, tens) => rows_after::limit(from(t, h, question, place, mark + 1), tens),
+        RowsStart::At(place, tens) => rows_after::limit(
+            from(t, h, question, place, mark + 1),
+            tens,
+        ),
         RowsStart::Answered(shown) => shown,
     }
 }

@@ -1,9 +1,9 @@
 // Rows by their first bytes: the next row after a mark that starts with a prefix.
 mod prefix_search;
 
-use query_row_filter::NextRowAnswer;
 use layout::header;
 use layout::header::HeaderRead;
+use query_row_filter::NextRowAnswer;
 ghost use Rattle.prefix_match.specs.PrefixRows.{startsWith};
 ghost use Rattle.query_row_filter.specs.AllowedAnswer.{AllowedAnswer};
 ghost use Rattle.query_prefix.specs.PrefixRefusals.{prefixRefusal};

@@ -1,15 +1,15 @@
 // The search for the next row that starts with a prefix, in a tree that passes questions 5 to 7.
 use ask_access::read_by_header;
 use ask_access::read_by_header::Ran;
+use layout::header::Header;
+use layout::place::TextPlace;
+use prefix_match::prefix_scan;
+use prefix_match::prefix_scan::PrefixScan;
+use prefix_match::prefix_state;
+use prefix_match::prefix_state::PrefixState;
 use query_row_filter::NextRowAnswer;
 use query_row_filter::rows_after;
 use query_row_filter::rows_after::RowsStart;
-use layout::header::Header;
-use layout::place::TextPlace;
-use prefix_match::prefix_state;
-use prefix_match::prefix_state::PrefixState;
-use prefix_match::prefix_scan;
-use prefix_match::prefix_scan::PrefixScan;
 ghost use mathlib.Core.Path.{_≡_};
 ghost use Prim.Native.Nat.{_≤_};
 ghost use lib.ListN.{length};
@@ -35,7 +35,10 @@ pub fn next_at(t: &[u8], h: Header, prefix: &[u8], mark: u32) -> NextRowAnswer
     }
     let start = rows_after::begin(t, h, mark);
     match start {
-        RowsStart::At(place, newlines) => rows_after::limit(from(t, h, prefix, place, mark + 1), newlines),
+        RowsStart::At(place, newlines) => rows_after::limit(
+            from(t, h, prefix, place, mark + 1),
+            newlines,
+        ),
         RowsStart::Answered(answer) => answer,
     }
 }
