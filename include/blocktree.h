@@ -210,15 +210,15 @@ uint32_t bt_places_words(const uint8_t *tree, size_t tree_len, uint32_t length, 
  * up to the match. */
 uint32_t bt_next_match(const uint8_t *tree, size_t tree_len, const uint8_t *ranges, size_t ranges_len, uint32_t *mark, uint32_t *row);
 
-/* Rows by their first bytes: move a mark on to the next row that starts with a prefix, say a code and the space after it. Rows are those of bt_row: a
- * byte 13 directly before the byte 10 that ends a row is not part of it. A prefix with a byte 10 starts no row.
- *   lent      tree, prefix: 1 to BT_MAX_PATTERN bytes
- *   written   *mark is in and out, as of bt_next_match: the number of the row shown last, 0 before the first. It goes to the row that is shown; if no row
- *             after it starts with the prefix, to the number of rows, or it stays if it stands there or beyond. A refusal leaves it as it was
- *             *row: the row that is shown; 0 with BT_OK means that there is no further one
+/* Rows by their first bytes: moves a mark to the next row that starts with a prefix, say a code and the space after it. Rows are those of bt_row: a byte
+ * 13 directly before the byte 10 that ends a row is not part of it. No row starts with a prefix that contains a byte 10.
+ *   lent      tree; prefix, 1 to BT_MAX_PATTERN bytes
+ *   written   *mark is in and out, as for bt_next_match: 0 before the first call. It moves to the returned row; if no row after it starts with the prefix,
+ *             to the number of rows, unless it is there or above already. A refusal leaves it unchanged
+ *             *row: the returned row; 0 with BT_OK means that there is none
  *   answers   0, 5, 6, 7, 16, 11 (byte 10 is not counted), 14
- * Called again and again from mark 0, with the same prefix, until *row is 0, it shows each row that starts with the prefix once, in row order. The text
- * after the mark is read once, up to the end of the row. */
+ * Repeated calls from mark 0 with the same prefix, until *row is 0, return each row that starts with the prefix once, in row order. A call finds the end of
+ * the mark's row (bt_find) and reads the text from there to the end of the returned row. */
 uint32_t bt_next_with_prefix(const uint8_t *tree, size_t tree_len, const uint8_t *prefix, size_t prefix_len, uint32_t *mark, uint32_t *row);
 
 /* Columns before rows: a text of rows of one width, end byte included, rearranged; the byte in column b of row a goes to place b * rows + a, both counted

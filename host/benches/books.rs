@@ -8,6 +8,7 @@
 //!     cargo bench -- sizes      the library's calls on books of 64 KiB, 1 MiB and 8 MiB, and the first builder on 8 MiB (slow)
 //!     cargo bench -- licence    the term of a licence only
 //!     cargo bench -- orders     the order of two trees only
+//!     cargo bench -- prefixes   rows by their first bytes, on books of 1 MiB and 8 MiB
 //!
 //! Prints the tables of docs/BENCHMARKS.md. Nothing is asserted about time; that both give the same answers is.
 
@@ -17,7 +18,7 @@ mod model;
 mod support;
 
 use codebook::{calls, MAX_TEXT, SHORT_LIST};
-use model::{check, columns, dates, fast, guides, keys, order, read, Shape};
+use model::{check, columns, dates, fast, guides, keys, order, prefix, read, Shape};
 use std::hint::black_box;
 use std::io::Write;
 use std::process::{Command, Stdio};
@@ -50,6 +51,9 @@ fn main() {
     if told("orders") {
         time_orders();
         return;
+    }
+    if told("prefixes") {
+        return time_prefixes();
     }
     for &size in &[65_536, 1_048_576][..if quick { 1 } else { 2 }] {
         time_builders(size);
@@ -85,6 +89,7 @@ fn main() {
     if !quick {
         time_guides();
         time_orders();
+        time_prefixes();
     }
 }
 
@@ -428,6 +433,41 @@ fn time_matches(text: &[u8], name: &str, shape: Shape) {
         let call = library / (all() as u32 + 1);
         println!("| {name} | {words} | {} | {} | {} | {} | {} |", plain(), shown(library), shown(call), shown(model), shown(span));
     }
+}
+
+/// All rows that start with a prefix, a call for each and one that returns none: by the library; and by the model, which reads the text back once and compares
+/// the beginning of each row. The trees of 8 MiB have 32,768 blocks of level 0.
+fn time_prefixes() {
+    println!("\n## Rows by their first bytes, byte 10 counted\n");
+    println!("| Book | Text | Leaf/arity/levels | Prefix | Rows | Library, all calls | A call | Model |\n|---|---:|---|---|---:|---:|---:|---:|");
+    for (size, shape) in [(1_048_576, Shape { m: 64, r: 2, h: 4 }), (8_388_608, Shape { m: 256, r: 2, h: 1 })] {
+        for (kind, name) in KINDS {
+            let text = book(kind, size, 1);
+            let tree = fast::tree(&text, shape, COUNTED);
+            let rows = read::rows_of(&text);
+            let space = |row: &[u8]| row.iter().position(|&byte| byte == b' ').expect("a code");
+            let middle = rows[rows.len() / 2];
+            for (words, wanted) in [("a code and its space", &middle[..=space(middle)]), ("two letters", &middle[..2])] {
+                let line = time_prefix(&tree, wanted);
+                println!("| {name} | {size} | {}/{}/{} | {words} | {line} |", shape.m, shape.r, shape.h);
+            }
+        }
+    }
+}
+
+/// The rows, and the times, of one prefix.
+fn time_prefix(tree: &[u8], wanted: &[u8]) -> String {
+    let tree = || black_box(tree);
+    let all = || {
+        let (mut mark, mut rows) = (0, 0);
+        while calls::next_with_prefix(tree(), wanted, &mut mark).1 != 0 {
+            rows += 1;
+        }
+        rows
+    };
+    let plain = || prefix::rows_with_prefix(&read::text(&read::Tree::open(tree()).expect("a tree")), wanted).len();
+    let [library, model] = both(3, all, plain);
+    format!("{} | {} | {} | {}", plain(), shown(library), shown(library / (all() as u32 + 1)), shown(model))
 }
 
 /// Find and row with a guide and without, next to the model's find with a binary search over level 0; and making and checking a guide.

@@ -35,6 +35,7 @@ mod declared {
             number: *mut u32,
         ) -> u32;
         pub fn bt_next_match(tree: *const u8, tree_len: usize, ranges: *const u8, ranges_len: usize, mark: *mut u32, row: *mut u32) -> u32;
+        pub fn bt_next_with_prefix(tree: *const u8, tree_len: usize, prefix: *const u8, prefix_len: usize, mark: *mut u32, row: *mut u32) -> u32;
         pub fn bt_to_columns(text: *const u8, text_len: usize, width: u32, out: *mut u8, out_len: usize) -> u32;
         pub fn bt_from_columns(text: *const u8, text_len: usize, width: u32, out: *mut u8, out_len: usize) -> u32;
         pub fn bt_column_row(tree: *const u8, tree_len: usize, width: u32, a: u32, buffer: *mut u8, buffer_len: usize) -> u32;
@@ -185,6 +186,13 @@ pub fn places(tree: &[u8], pattern: &[u8], table: &mut [u32]) -> (u32, u32) {
 pub fn next_match(tree: &[u8], ranges: &[u8], mark: &mut u32) -> (u32, u32) {
     let mut row = 0;
     let number = unsafe { declared::bt_next_match(tree.as_ptr(), tree.len(), ranges.as_ptr(), ranges.len(), mark, &mut row) };
+    (number, row)
+}
+
+/// The refusal or 0, and the next row that starts with the prefix, 0 for none; the mark is moved.
+pub fn next_with_prefix(tree: &[u8], prefix: &[u8], mark: &mut u32) -> (u32, u32) {
+    let mut row = 0;
+    let number = unsafe { declared::bt_next_with_prefix(tree.as_ptr(), tree.len(), prefix.as_ptr(), prefix.len(), mark, &mut row) };
     (number, row)
 }
 
