@@ -281,7 +281,10 @@ mod tests {
         let read = |text: &str| Manifest::read(text.as_bytes());
         assert_eq!(read("{}"), Ok(manifest(None, None)));
         assert_eq!(read(r#" { "edition" : "3", "maker":"Ilko" } "#), Ok(manifest(Some("Ilko"), Some("3"))));
-        assert_eq!(read(r#"{"maker":"\u00dc\ud83d\udd11\/\n\"","x":[1,-0.5e+3,{"maker":2},[],true,false,null]}"#), Ok(manifest(Some("Ü🔑/\n\""), None)));
+        assert_eq!(
+            read(r#"{"maker":"\u00dc\ud83d\udd11\/\n\"","x":[1,-0.5e+3,{"maker":2},[],true,false,null]}"#),
+            Ok(manifest(Some("Ü🔑/\n\""), None))
+        );
         let deep = format!("{{\"x\":{}{}}}", "[".repeat(MAX_DEPTH - 1), "]".repeat(MAX_DEPTH - 1));
         assert_eq!(read(&deep), Ok(manifest(None, None)));
     }
@@ -301,11 +304,27 @@ mod tests {
         let deep = "[".repeat(MAX_DEPTH + 1);
         wrong(&deep, "it is nested more than 32 deep");
         assert_eq!(Manifest::read(b"{\"maker\":\"\xff\"}"), Err("it is not UTF-8".to_owned()));
-        let malformed = [
-            "{", "{\"a\"", "{\"a\":", "{\"a\":1", "{a:1}", "{\"a\":01}", "{\"a\":-}", "{\"a\":1.}", "{\"a\":1e}", "{\"a\":+1}", "{\"a\":[1,]}", "{\"a\":[1 2]}",
-            "{\"a\":tru}", "{\"a\":\"\t\"}", "{\"a\":\"\\x\"}", "{\"a\":\"\\u12\"}", "{\"a\":\"\\u12g4\"}", "{\"a\":\"\\udc00\"}", "{\"a\":\"\\ud800\\u0041\"}", "{\"a\":\"\\",
-        ];
-        for text in malformed {
+        let malformed = r#"{
+{"a"
+{"a":
+{"a":1
+{a:1}
+{"a":01}
+{"a":-}
+{"a":1.}
+{"a":1e}
+{"a":+1}
+{"a":[1,]}
+{"a":[1 2]}
+{"a":tru}
+{"a":"\x"}
+{"a":"\u12"}
+{"a":"\u12g4"}
+{"a":"\udc00"}
+{"a":"\ud800\u0041"}
+{"a":"\"#;
+        assert!(Manifest::read(b"{\"a\":\"\t\"}").is_err());
+        for text in malformed.lines() {
             assert!(Manifest::read(text.as_bytes()).is_err(), "{text}");
         }
     }

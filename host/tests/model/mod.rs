@@ -13,6 +13,7 @@ pub mod fast;
 pub mod guides;
 pub mod keys;
 pub mod order;
+pub mod prefix;
 pub mod read;
 
 /// The longest text, and the longest block of level 0.
