@@ -341,8 +341,8 @@ pub extern "C" fn bt_next_with_prefix(
     mark: &mut u32,
     row: &mut u32,
 ) -> u32
-    ensures { λ r. ⌜ AllowedOutcome (now (tree .entry)) (prefixRefusal (now (tree .entry)) (now (prefix .entry))) (startsWith (now (prefix .entry)))
-        (now (mark .entry)) (record { refusal = r; row = now (row .exit); mark = now (mark .exit) }) ⌝ }
+    ensures { λ r. ⌜ AllowedOutcome (now (tree .entry)) (verdict (now (tree .entry))) (prefixRefusal (now (tree .entry)) (now (prefix .entry)))
+        (startsWith (now (prefix .entry))) (now (mark .entry)) (record { refusal = r; row = now (row .exit); mark = now (mark .exit) }) ⌝ }
 {
     let at = *mark;
     let answer = query::next_row_with_prefix(tree, prefix, at);

@@ -34,25 +34,28 @@ module _ (t ranges : List ℕ) where
 
   -- "any refusal leaves the mark"
   pub refusal-leaves : (mark n after : ℕ) → Moved t ranges mark (Refused n) after → after ≡ mark
-  refusal-leaves = next-row.refusal-leaves t (matchNumber t ranges) (matches ranges)
+  refusal-leaves = next-row.refusal-leaves t (verdict t) (λ v. v) (matchNumber t ranges) (matches ranges)
 
   module _ (mark : ℕ) (r : NextRowAnswer) (a : MatchAnswer t ranges mark r) where
     -- questions 5 to 7
     pub match-unread : (q : ℕ) → readable t ≡ suc q → r ≡ Refused (suc q)
     unfolding matchNumber
-    match-unread q e = next-row.refused-first t (matchNumber t ranges) (matches ranges) mark r a q (next-row.asked-unread t 19 (rangesOk ranges) q e)
+    match-unread q e =
+        next-row.refused-first t (verdict t) (λ v. v) (matchNumber t ranges) (matches ranges) mark r a q (next-row.asked-unread t 19 (rangesOk ranges) q e)
 
     module _ (pass : readable t ≡ 0) where
       -- "It refuses a number of cuts outside 1 to 10, a depth above 9 or a low above its high with 19, after question 7 ..
       pub match-ranges : rangesOk ranges ≡ false → r ≡ Refused 19
       unfolding matchNumber
-      match-ranges e = next-row.refused-first t (matchNumber t ranges) (matches ranges) mark r a 18 (next-row.asked-bad t 19 (rangesOk ranges) pass e)
+      match-ranges e =
+          next-row.refused-first t (verdict t) (λ v. v) (matchNumber t ranges) (matches ranges) mark r a 18 (next-row.asked-bad t 19 (rangesOk ranges) pass e)
 
       -- .. and before 11"
       pub match-uncounted : rangesOk ranges ≡ true → isCounted t 10 ≡ false → r ≡ Refused 11
       unfolding matchNumber
       match-uncounted ok e =
-          next-row.refused-first t (matchNumber t ranges) (matches ranges) mark r a 10 (next-row.asked-uncounted t 19 (rangesOk ranges) pass ok e)
+          next-row.refused-first t (verdict t) (λ v. v) (matchNumber t ranges) (matches ranges) mark r a 10
+          (next-row.asked-uncounted t 19 (rangesOk ranges) pass ok e)
 
   -- questions 19 and 11 let a search through
   pub match-through : readable t ≡ 0 → rangesOk ranges ≡ true → isCounted t 10 ≡ true → matchNumber t ranges ≡ 0
@@ -72,40 +75,40 @@ module _ (t ranges : List ℕ) where
     pub match-is : (mark : ℕ) (r : NextRowAnswer) → MatchAnswer t ranges mark r → matchNumber t ranges ≡ 0
         → r ≡ cond (eqb (nextMatch ranges T mark) 0) (Nothing (shownFor ranges T mark .mark)) (Row (nextMatch ranges T mark))
     unfolding nextMatch shownFor
-    match-is = next-row.answer-is t (matchNumber t ranges) (matches ranges) v
+    match-is = next-row.answer-is t (verdict t) (λ v. v) (matchNumber t ranges) (matches ranges) v
 
     -- a row that is shown stands after the mark, which goes to it: so it comes to none after as many calls as there are rows, at most
     pub row-rises : (mark n after : ℕ) → Moved t ranges mark (Row n) after → (mark < n) × (n ≤ length (rowsOf T)) × (after ≡ n)
-    row-rises = next-row.row-rises t (matchNumber t ranges) (matches ranges) v
+    row-rises = next-row.row-rises t (verdict t) (λ v. v) (matchNumber t ranges) (matches ranges) v
 
     -- "If no row after it matches, the answer is none and the mark goes to the number of rows; a mark already there or beyond stays."
     pub none-moves : (mark m after : ℕ) → Moved t ranges mark (Nothing m) after
         → (shownFor ranges T mark .row ≡ 0) × (after ≡ shownFor ranges T mark .mark)
     unfolding shownFor
-    none-moves = next-row.none-moves t (matchNumber t ranges) (matches ranges) v
+    none-moves = next-row.none-moves t (verdict t) (λ v. v) (matchNumber t ranges) (matches ranges) v
 
     -- the machine asks again and again, with the question kept and the mark moved by nothing else: these rows are shown, then none
     abbrev pub Asked : ℕ → List ℕ → Type 0
-    Asked = next-row.Calls t (matchNumber t ranges) (matches ranges) v
+    Asked = next-row.Calls t (verdict t) (λ v. v) (matchNumber t ranges) (matches ranges) v
 
     -- "On an accepted tree, from mark 0 to none, .. each match and no other row is shown, once, in row order"
     pub all-matches : (ns : List ℕ) → Asked 0 ns → ns ≡ matchesOf ranges T
     unfolding matchesOf
-    all-matches = next-row.all-called t (matchNumber t ranges) (matches ranges) v
+    all-matches = next-row.all-called t (verdict t) (λ v. v) (matchNumber t ranges) (matches ranges) v
 
   -- Any lent bytes again: what holds of every answer, also of one that is free.
 
   -- a row that is shown stands after the mark, and is at most one more than the total of byte 10
   pub row-after : (mark n : ℕ) → MatchAnswer t ranges mark (Row n) → (mark < n) × (n ≤ maxRows t)
-  row-after = next-row.row-after t (matchNumber t ranges) (matches ranges) counted-of
+  row-after = next-row.row-after t (verdict t) (λ v. v) (matchNumber t ranges) (matches ranges) counted-of
 
   -- none does not move the mark back, nor, unless it stood there, past that number
   pub none-after : (mark m : ℕ) → MatchAnswer t ranges mark (Nothing m) → (mark ≤ m) × ((m ≡ mark) ⊎ (m ≤ maxRows t))
-  none-after = next-row.none-after t (matchNumber t ranges) (matches ranges) counted-of
+  none-after = next-row.none-after t (verdict t) (λ v. v) (matchNumber t ranges) (matches ranges) counted-of
 
   -- a refusal is a question's before the walk, or 14, on a tree that the check refuses
   pub refusal-is : (mark n : ℕ) → MatchAnswer t ranges mark (Refused n) → (n ≡ matchNumber t ranges) ⊎ ((n ≡ 14) × (verdict t ≡ 0 → ⊥))
-  refusal-is = next-row.refusal-is t (matchNumber t ranges) (matches ranges)
+  refusal-is = next-row.refusal-is t (verdict t) (λ v. v) (matchNumber t ranges) (matches ranges)
 
 -- ".. and widening a range loses no match": what is shown to a question is shown to a wider one.
 pub wider-loses-none : (t r s : List ℕ) (v : verdict t ≡ 0) → Wider r s → (ns ms : List ℕ) → Asked t r v 0 ns → Asked t s v 0 ms → (n : ℕ) → In n ns → In n ms

@@ -4,7 +4,7 @@ use mathlib.Core.Bool.{true, false}
 use mathlib.Core.Path.{_≡_}
 use Prim.Native.Nat.{ℕ}
 use native.Mathlib.Omega.{arith}
-use Rattle.format.specs.Verdict.{readable}
+use Rattle.format.specs.Verdict.{readable, verdict}
 use Rattle.layout.specs.declared.header.HeaderRead.{HeaderRead}
 use Rattle.layout.specs.declared.header.HeaderRead.the-variants as read
 use Rattle.layout.specs.Header.{headerSays}
@@ -20,13 +20,14 @@ use Rattle.ask_worn_keys.specs.MatchAnswer.{MatchAnswer}
 module _ (t ranges : List ℕ) (mark : ℕ) where
   pub match-unread : (x : HeaderRead) → x ≡ headerSays t → (q : ℕ) → x ≡ read.Refused q → MatchAnswer t ranges mark (Refused q)
   unfolding matchNumber
-  match-unread x is q e = ask-unread t (matches ranges) mark 19 (rangesOk ranges) x is q e
+  match-unread x is q e = ask-unread t (verdict t) (matches ranges) mark 19 (rangesOk ranges) x is q e
 
   module _ (pass : readable t ≡ 0) where
     pub match-19 : rangesOk ranges ≡ false → MatchAnswer t ranges mark (Refused 19)
     unfolding matchNumber
-    match-19 e = ask-bad t (matches ranges) mark 19 (rangesOk ranges) pass e (omega arith)
+    match-19 e = ask-bad t (verdict t) (matches ranges) mark 19 (rangesOk ranges) pass e (omega arith)
 
-    pub match-good : rangesOk ranges ≡ true → (r : NextRowAnswer) → AllowedAnswer t (newlineRefusal t) (matches ranges) mark r → MatchAnswer t ranges mark r
+    pub match-good : rangesOk ranges ≡ true → (r : NextRowAnswer) → AllowedAnswer t (verdict t) (newlineRefusal t) (matches ranges) mark r
+        → MatchAnswer t ranges mark r
     unfolding matchNumber
-    match-good e r a = ask-good t (matches ranges) mark 19 (rangesOk ranges) pass e r a
+    match-good e r a = ask-good t (verdict t) (matches ranges) mark 19 (rangesOk ranges) pass e r a

@@ -1,14 +1,15 @@
 -- The answer of the search for the next match by its number and figures, and the mark that it moves (docs/FORMAT.md, "Keys").
 use mathlib.Core.List.{List}
 use Prim.Native.Nat.{ℕ}
+use Rattle.format.specs.Verdict.{verdict}
 use Rattle.keys.specs.Keys.{matches}
 use Rattle.query_row_filter.specs.declared.NextRowAnswer.{NextRowAnswer}
 use Rattle.query_row_filter.specs.AllowedAnswer.{AllowedAnswer, MarkMoved}
 use Rattle.ask_worn_keys.specs.MatchSays.{matchNumber}
 
 abbrev pub MatchAnswer : List ℕ → List ℕ → ℕ → NextRowAnswer → Type 0
-MatchAnswer t ranges mark r = AllowedAnswer t (matchNumber t ranges) (matches ranges) mark r
+MatchAnswer t ranges mark r = AllowedAnswer t (verdict t) (matchNumber t ranges) (matches ranges) mark r
 
 -- a lent mark moved on: the answer from where it stood, and where it then stands
 abbrev pub Moved : List ℕ → List ℕ → ℕ → NextRowAnswer → ℕ → Type 0
-Moved t ranges before r after = MarkMoved t (matchNumber t ranges) (matches ranges) before r after
+Moved t ranges before r after = MarkMoved t (verdict t) (matchNumber t ranges) (matches ranges) before r after

@@ -3,6 +3,7 @@
 -- docs/FORMAT.md: "Keys", "What is left free".
 use mathlib.Core.List.{List}
 use Prim.Native.Nat.{ℕ}
+use Rattle.format.specs.Verdict.{verdict}
 use Rattle.row_filter.specs.SelectedRows.{NextRowOutcome}
 use Rattle.keys.specs.Keys.{rangesOk, matches}
 use Rattle.query_row_filter.specs.AllowedOutcome.{queryRefusal, AllowedOutcome}
@@ -13,4 +14,4 @@ matchNumber t ranges = queryRefusal t 19 (rangesOk ranges)
 
 -- of the rows that match
 abbrev pub MatchSays : List ℕ → List ℕ → ℕ → NextRowOutcome → Type 0
-MatchSays t ranges mark s = AllowedOutcome t (matchNumber t ranges) (matches ranges) mark s
+MatchSays t ranges mark s = AllowedOutcome t (verdict t) (matchNumber t ranges) (matches ranges) mark s

@@ -29,7 +29,7 @@ pub fn match_at(t: &[u8], h: Header, question: &[u8], mark: u32) -> NextRowAnswe
     if !ranges::good(question) {
         return NextRowAnswer::Refused(19);
     }
-    let start = rows_after::begin(t, h, mark);
+    let start = rows_after::begin(t, h, &t[0..0], false, mark);
     match start {
         RowsStart::At(place, tens) => rows_after::limit(
             from(t, h, question, place, mark + 1),

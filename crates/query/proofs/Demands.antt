@@ -115,7 +115,10 @@ pub use Rattle.query_prefix.proofs.Demands.{longer-narrows, longer-shows-fewer,
 -- Refusals: 5 to 7, then 16, 11 and 14.
 pub use Rattle.query_prefix.proofs.Demands.{prefix-unread, prefix-length, prefix-uncounted}
 pub use Rattle.query.proofs.PrefixRowCall.{prefix-numbers}
--- A refusal leaves the mark. A row returned from a refused tree is after the mark too, and at most total + 1 of byte 10.
+-- With a guide: for an accepted tree and guide the same answer, so that all of this holds of it too.
+pub use Rattle.query_prefix.proofs.Demands.{guided-as-prefix}
+pub use Rattle.query.proofs.PrefixRowCall.{prefix-guided-numbers}
+-- A refusal leaves the mark. A row returned from a refused tree, or with a wrong guide, is after the mark too, and at most total + 1 of byte 10.
 pub use Rattle.query_prefix.proofs.Demands.{prefix-keeps-mark, prefix-row-after, prefix-none-after}
 -- Columns. "the byte in column b of row a goes to b × rows + a, both counted from 0. Its inverse restores the text, ..
 pub use Rattle.columns.specs.ColumnLaws.{columns-at, columns-moves, uncolumns-moves, restored, rearranged}

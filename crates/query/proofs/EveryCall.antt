@@ -51,6 +51,7 @@ calls =
     ∷ NextMatchCall.next-match-call
     ∷ NextMatchCall.show-call
     ∷ PrefixRowCall.next-row-with-prefix-call
+    ∷ PrefixRowCall.next-row-with-prefix-guided-call
     ∷ ColumnsCall.to-columns-call
     ∷ ColumnsCall.from-columns-call
     ∷ ColumnRowCall.row-by-columns-call

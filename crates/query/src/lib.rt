@@ -42,4 +42,5 @@ pub use ask_worn_keys::next_match;
 pub use ask_worn_keys::show;
 pub use layout::place::TextPlace;
 pub use query_prefix::next_row_with_prefix;
+pub use query_prefix::next_row_with_prefix_guided;
 pub use query_row_filter::NextRowAnswer;

@@ -18,26 +18,27 @@ use Rattle.query_row_filter.proofs.AllowedAnswerLaws.{ask-unread, ask-bad, ask-
 use Rattle.prefix_match.specs.PrefixRows.{startsWith}
 use Rattle.query_prefix.specs.PrefixRefusals.{prefixRefusal}
 
-module _ (t prefix : List ℕ) (mark : ℕ) where
+module _ (t : List ℕ) (ok : ℕ) (prefix : List ℕ) (mark : ℕ) where
   pub prefix-unread : (x : HeaderRead) → x ≡ headerSays t → (q : ℕ) → x ≡ read.Refused q
-      → AllowedAnswer t (prefixRefusal t prefix) (startsWith prefix) mark (Refused q)
+      → AllowedAnswer t ok (prefixRefusal t prefix) (startsWith prefix) mark (Refused q)
   unfolding prefixRefusal
-  prefix-unread x is q e = ask-unread t (startsWith prefix) mark 16 (patternOk prefix) x is q e
+  prefix-unread x is q e = ask-unread t ok (startsWith prefix) mark 16 (patternOk prefix) x is q e
 
   module _ (pass : readable t ≡ 0) where
-    pub prefix-short : length prefix < 1 → AllowedAnswer t (prefixRefusal t prefix) (startsWith prefix) mark (Refused 16)
+    pub prefix-short : length prefix < 1 → AllowedAnswer t ok (prefixRefusal t prefix) (startsWith prefix) mark (Refused 16)
     unfolding prefixRefusal patternOk
-    prefix-short h = ask-bad t (startsWith prefix) mark 16 (patternOk prefix) pass (rw (lt-leb 1 (length prefix) h)) (omega arith)
+    prefix-short h = ask-bad t ok (startsWith prefix) mark 16 (patternOk prefix) pass (rw (lt-leb 1 (length prefix) h)) (omega arith)
 
     module _ (some : 1 ≤ length prefix) where
-      pub prefix-long : maxPattern < length prefix → AllowedAnswer t (prefixRefusal t prefix) (startsWith prefix) mark (Refused 16)
+      pub prefix-long : maxPattern < length prefix → AllowedAnswer t ok (prefixRefusal t prefix) (startsWith prefix) mark (Refused 16)
       unfolding prefixRefusal patternOk
       prefix-long h =
-          ask-bad t (startsWith prefix) mark 16 (patternOk prefix) pass (rw (le-leb 1 (length prefix) some, lt-leb (length prefix) maxPattern h)) (omega arith)
+          ask-bad t ok (startsWith prefix) mark 16 (patternOk prefix) pass
+          (rw (le-leb 1 (length prefix) some, lt-leb (length prefix) maxPattern h)) (omega arith)
 
       pub prefix-good : length prefix ≤ maxPattern
-          → (r : NextRowAnswer) → AllowedAnswer t (newlineRefusal t) (startsWith prefix) mark r
-          → AllowedAnswer t (prefixRefusal t prefix) (startsWith prefix) mark r
+          → (r : NextRowAnswer) → AllowedAnswer t ok (newlineRefusal t) (startsWith prefix) mark r
+          → AllowedAnswer t ok (prefixRefusal t prefix) (startsWith prefix) mark r
       unfolding prefixRefusal patternOk
       prefix-good h r a =
-          ask-good t (startsWith prefix) mark 16 (patternOk prefix) pass (rw (le-leb 1 (length prefix) some, le-leb (length prefix) maxPattern h)) r a
+          ask-good t ok (startsWith prefix) mark 16 (patternOk prefix) pass (rw (le-leb 1 (length prefix) some, le-leb (length prefix) maxPattern h)) r a

@@ -18,14 +18,23 @@ ghost use Rattle.row_filter.specs.RowAutomaton.{atEndOfText};
 ghost use Rattle.prefix_match.specs.PrefixRows.{startsWith};
 ghost use Rattle.prefix_match.specs.PrefixStates.{prefixAutomaton};
 ghost use Rattle.ask_patterns.specs.Places.{maxPattern};
+ghost use Rattle.ask_rows.specs.RowSpans.{settledBy};
 ghost use Rattle.query_row_filter.specs.AllowedAnswer.{AllowedAnswer};
 ghost use Rattle.query_row_filter.specs.RowsAfter.{answerOf, SearchFrom};
 ghost use Rattle.query_prefix.specs.PrefixRefusals.{prefixRefusal};
 
-// Questions 16, 11 and 14.
-pub fn next_at(t: &[u8], h: Header, prefix: &[u8], mark: u32) -> NextRowAnswer
+// Questions 16, 11 and 14. The guide is used if `used` is true.
+pub fn next_at(
+    t: &[u8],
+    h: Header,
+    guide: &[u8],
+    used: bool,
+    prefix: &[u8],
+    mark: u32,
+) -> NextRowAnswer
     requires { ⌜ HeaderOf (now t) h ⌝ }
-    ensures { λ r. ⌜ AllowedAnswer (now (t .entry)) (prefixRefusal (now (t .entry)) (now (prefix .entry))) (startsWith (now (prefix .entry))) mark r ⌝ }
+    ensures { λ r. ⌜ AllowedAnswer (now (t .entry)) (settledBy (now (t .entry)) (now (guide .entry)) used)
+        (prefixRefusal (now (t .entry)) (now (prefix .entry))) (startsWith (now (prefix .entry))) mark r ⌝ }
 {
     if prefix.len() < 1 {
         return NextRowAnswer::Refused(16);
@@ -33,7 +42,7 @@ pub fn next_at(t: &[u8], h: Header, prefix: &[u8], mark: u32) -> NextRowAnswer
     if ask_patterns::MAX_PATTERN < prefix.len() {
         return NextRowAnswer::Refused(16);
     }
-    let start = rows_after::begin(t, h, mark);
+    let start = rows_after::begin(t, h, guide, used, mark);
     match start {
         RowsStart::At(place, newlines) => rows_after::limit(
             from(t, h, prefix, place, mark + 1),

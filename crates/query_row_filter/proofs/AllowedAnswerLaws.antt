@@ -34,8 +34,8 @@ use Rattle.query_row_filter.specs.AllowedAnswer.{outcomeOf, Numbered, Al
 use Rattle.query_row_filter.specs.RowsAfter.{FromRow, answerOf, SearchFrom, StartFacts, BeginIs, limited}
 
 -- a refusal before the walk
-pub refuses : (t : List ℕ) (selected : List ℕ → Bool) (mark refusal n : ℕ) → refusal ≡ n → 1 ≤ n → AllowedAnswer t refusal selected mark (Refused n)
-refuses t selected mark refusal n e low = record {
+pub refuses : (t : List ℕ) (ok : ℕ) (selected : List ℕ → Bool) (mark refusal n : ℕ) → refusal ≡ n → 1 ≤ n → AllowedAnswer t ok refusal selected mark (Refused n)
+refuses t ok selected mark refusal n e low = record {
   says = record {
     asked = λ l. rw e;
     accepted = λ z v. absurd (let x : ⊥ = omega arith in x);
@@ -45,42 +45,43 @@ refuses t selected mark refusal n e low = record {
 }
 
 -- questions 5 to 7, the query's own, and 11
-module _ (t : List ℕ) (selected : List ℕ → Bool) (mark k : ℕ) (ok : Bool) where
-  pub ask-unread : (x : HeaderRead) → x ≡ headerSays t → (q : ℕ) → x ≡ read.Refused q → AllowedAnswer t (queryRefusal t k ok) selected mark (Refused q)
+module _ (t : List ℕ) (settled : ℕ) (selected : List ℕ → Bool) (mark k : ℕ) (ok : Bool) where
+  pub ask-unread : (x : HeaderRead) → x ≡ headerSays t → (q : ℕ) → x ≡ read.Refused q → AllowedAnswer t settled (queryRefusal t k ok) selected mark (Refused q)
   unfolding queryRefusal
   ask-unread x is q e =
       let z = header-refused t x is q e in
-      refuses t selected mark _ q (rw (ne-eqb (readable t) 0 (λ y. omega (arith, z .1))) (z .1 ∙ sym (z .2))) (omega (arith, z .2))
+      refuses t settled selected mark _ q (rw (ne-eqb (readable t) 0 (λ y. omega (arith, z .1))) (z .1 ∙ sym (z .2))) (omega (arith, z .2))
 
   module _ (pass : readable t ≡ 0) where
-    pub ask-bad : ok ≡ false → 1 ≤ k → AllowedAnswer t (queryRefusal t k ok) selected mark (Refused k)
+    pub ask-bad : ok ≡ false → 1 ≤ k → AllowedAnswer t settled (queryRefusal t k ok) selected mark (Refused k)
     unfolding queryRefusal
-    ask-bad e low = refuses t selected mark _ k (rw (pass, e)) low
+    ask-bad e low = refuses t settled selected mark _ k (rw (pass, e)) low
 
-    pub ask-good : ok ≡ true → (r : NextRowAnswer) → AllowedAnswer t (newlineRefusal t) selected mark r → AllowedAnswer t (queryRefusal t k ok) selected mark r
+    pub ask-good : ok ≡ true → (r : NextRowAnswer) → AllowedAnswer t settled (newlineRefusal t) selected mark r
+        → AllowedAnswer t settled (queryRefusal t k ok) selected mark r
     unfolding queryRefusal
     ask-good e r a = let z : queryRefusal t k ok ≡ newlineRefusal t = rw (pass, e) in rw z a
 
-module _ (t : List ℕ) (mark : ℕ) where
+module _ (t : List ℕ) (ok mark : ℕ) where
   -- "11": byte 10 is not counted
-  pub newline-11 : (selected : List ℕ → Bool) → isCounted t 10 ≡ false → AllowedAnswer t (newlineRefusal t) selected mark (Refused 11)
+  pub newline-11 : (selected : List ℕ → Bool) → isCounted t 10 ≡ false → AllowedAnswer t ok (newlineRefusal t) selected mark (Refused 11)
   unfolding newlineRefusal
-  newline-11 selected e = refuses t selected mark _ 11 (rw e) (omega arith)
+  newline-11 selected e = refuses t ok selected mark _ 11 (rw e) (omega arith)
 
   module _ (counted : isCounted t 10 ≡ true) (selected : List ℕ → Bool) where
     asked : newlineRefusal t ≡ 0
     unfolding newlineRefusal
     asked = rw counted
 
-    settles : (r : NextRowAnswer) → (verdict t ≡ 0 → outcomeOf mark r ≡ nextOutcome selected (rowsOf (textOf t)) mark) → FreeOutcome t mark (outcomeOf mark r)
-        → Numbered r → AllowedAnswer t (newlineRefusal t) selected mark r
+    settles : (r : NextRowAnswer) → (ok ≡ 0 → outcomeOf mark r ≡ nextOutcome selected (rowsOf (textOf t)) mark) → FreeOutcome t mark (outcomeOf mark r)
+        → Numbered r → AllowedAnswer t ok (newlineRefusal t) selected mark r
     settles r a f n = record {
       says = record { asked = λ l. absurd (let x : ⊥ = omega (arith, asked) in x); accepted = λ z v. a v; free = λ z v. f };
       numbered = n;
     }
 
     -- a broken path
-    pub newline-14 : (verdict t ≡ 0 → ⊥) → AllowedAnswer t (newlineRefusal t) selected mark (Refused 14)
+    pub newline-14 : (ok ≡ 0 → ⊥) → AllowedAnswer t ok (newlineRefusal t) selected mark (Refused 14)
     newline-14 never = settles (Refused 14) (λ v. absurd (never v)) (inl refl) (omega arith)
 
     -- a mark at or above the number of rows stays
@@ -91,27 +92,27 @@ module _ (t : List ℕ) (mark : ℕ) where
         by true e = omega (arith, leb-true mark rows e)
         by false e = refl
 
-    newline-stays : (verdict t ≡ 0 → length (rowsOf (textOf t)) ≤ mark) → AllowedAnswer t (newlineRefusal t) selected mark (Nothing mark)
+    newline-stays : (ok ≡ 0 → length (rowsOf (textOf t)) ≤ mark) → AllowedAnswer t ok (newlineRefusal t) selected mark (Nothing mark)
     unfolding nextOutcome outcomeAt nextSelected firstSelected
     newline-stays few = settles (Nothing mark)
         (λ v. rw (drop-of-length-le (rowsOf (textOf t)) (few v), stays (length (rowsOf (textOf t))) (few v)))
         (inr (inl (refl, refl, omega arith, inl refl))) tt
 
-    pub few-total : total t (numberOfByte t 10) < mark → AllowedAnswer t (newlineRefusal t) selected mark (Nothing mark)
-    few-total h = newline-stays (λ v. omega (arith, rows-total t v counted .1))
+    pub few-total : (ok ≡ 0 → verdict t ≡ 0) → total t (numberOfByte t 10) < mark → AllowedAnswer t ok (newlineRefusal t) selected mark (Nothing mark)
+    few-total sound h = newline-stays (λ v. omega (arith, rows-total t (sound v) counted .1))
 
-    pub few-bytes : at.textLength t ≤ mark → AllowedAnswer t (newlineRefusal t) selected mark (Nothing mark)
+    pub few-bytes : at.textLength t ≤ mark → AllowedAnswer t ok (newlineRefusal t) selected mark (Nothing mark)
     few-bytes h = newline-stays (λ v. omega (arith, rows-few (textOf t), text-length t))
 
   -- the contract of `begin`
-  pub begin-answered : (s : NextRowAnswer) → ((selected : List ℕ → Bool) → AllowedAnswer t (newlineRefusal t) selected mark s)
-      → BeginIs t mark (begins.Answered s)
+  pub begin-answered : (s : NextRowAnswer) → ((selected : List ℕ → Bool) → AllowedAnswer t ok (newlineRefusal t) selected mark s)
+      → BeginIs t ok mark (begins.Answered s)
   begin-answered s a = record {
     begins-at = λ p newlines e. absurd (let z : _≡_ {A = ℕ} 0 1 = cc in omega arith);
     answered = λ r e selected. (let z : s ≡ r = cc in rw (← z) (a selected));
   }
 
-  pub begin-at : (p : TextPlace) (newlines : ℕ) → StartFacts t mark (p .0) newlines → BeginIs t mark (begins.At p newlines)
+  pub begin-at : (p : TextPlace) (newlines : ℕ) → StartFacts t ok mark (p .0) newlines → BeginIs t ok mark (begins.At p newlines)
   begin-at p newlines b = record {
     begins-at = λ q n e. (let z : p ≡ q = cc in let y : newlines ≡ n = cc in rw (← z, ← y) b);
     answered = λ r e selected. absurd (let z : _≡_ {A = ℕ} 0 1 = cc in omega arith);
@@ -119,20 +120,21 @@ module _ (t : List ℕ) (mark : ℕ) where
 
 -- the rows after the mark, scanned from where they begin
 module _ {S : Type 0} (m : Automaton S) (selected : List ℕ → Bool) (reads : Recognizes m selected)
-    (t : List ℕ) (mark p newlines : ℕ) (b : StartFacts t mark p newlines) (r : NextRowAnswer) (s : SearchFrom t m p (mark + 1) r) where
+    (t : List ℕ) (ok mark p newlines : ℕ) (sound : ok ≡ 0 → verdict t ≡ 0)
+    (b : StartFacts t ok mark p newlines) (r : NextRowAnswer) (s : SearchFrom t m p (mark + 1) r) where
   abbrev rows : List (List ℕ)
   rows = drop mark (rowsOf (textOf t))
 
-  -- on an accepted tree the scan ends at a selected row or at the text's end
-  right : verdict t ≡ 0 → r ≡ answerOf (result selected (mark + 1) rows)
+  -- where it is settled the scan ends at a selected row or at the text's end
+  right : ok ≡ 0 → r ≡ answerOf (result selected (mark + 1) rows)
   right v = by (s .settled)
     where
       by : (r ≡ answerOf (finishScan m (scanBytes m (drop p (textOf t)) (m .start) (mark + 1))))
           ⊎ ((r ≡ Refused 14) × (verdict t ≡ 0 → ⊥)) → r ≡ answerOf (result selected (mark + 1) rows)
       by (inl e) = e ∙ ap answerOf (scan-rows m selected reads (drop p (textOf t)) (mark + 1) (omega arith) ∙ ap (result selected (mark + 1)) (b .place-is v))
-      by (inr e) = absurd (e .1 v)
+      by (inr e) = absurd (e .1 (sound v))
 
-  -- a tree that the check refuses
+  -- else
   free-of : (x : NextRowAnswer) → FromRow (mark + 1) x → FreeOutcome t mark (outcomeOf mark (limited newlines x))
   unfolding limited
   free-of (Row q) h = by (ltb (newlines + 1) q) refl
@@ -161,17 +163,17 @@ module _ {S : Type 0} (m : Automaton S) (selected : List ℕ → Bool) (reads : 
       by false = tt
   numbers (Refused n) h = omega arith
 
-  -- an accepted tree
+  -- where it is settled
   small : eqb (firstSelected selected (mark + 1) (drop mark (rowsOf (textOf t)))) 0 ≡ false
-      → verdict t ≡ 0 → Next selected (rowsOf (textOf t)) mark → firstSelected selected (mark + 1) (drop mark (rowsOf (textOf t))) ≤ newlines + 1
+      → ok ≡ 0 → Next selected (rowsOf (textOf t)) mark → firstSelected selected (mark + 1) (drop mark (rowsOf (textOf t))) ≤ newlines + 1
   unfolding nextOutcome outcomeAt nextSelected
   small e v (no-more f _) = absurd (eqb-false (firstSelected selected (mark + 1) (drop mark (rowsOf (textOf t)))) 0 e (rw e at f))
   small e v (next n l k is _) =
       let z : nextOutcome selected (rowsOf (textOf t)) mark .row ≡ firstSelected selected (mark + 1) (drop mark (rowsOf (textOf t))) = rw e in
       let y : nextOutcome selected (rowsOf (textOf t)) mark .row ≡ n = ap (λ (x : NextRowOutcome). x .row) is in
-      omega (arith, rows-total t v (b .counted) .1, b .total-is)
+      omega (arith, rows-total t (sound v) (b .counted) .1, b .total-is)
 
-  shown-is : verdict t ≡ 0 → outcomeOf mark (limited newlines (answerOf (result selected (mark + 1) rows))) ≡ nextOutcome selected (rowsOf (textOf t)) mark
+  shown-is : ok ≡ 0 → outcomeOf mark (limited newlines (answerOf (result selected (mark + 1) rows))) ≡ nextOutcome selected (rowsOf (textOf t)) mark
   unfolding nextOutcome outcomeAt nextSelected limited
   shown-is v = by (eqb (firstSelected selected (mark + 1) (drop mark (rowsOf (textOf t)))) 0) refl
     where
@@ -179,15 +181,15 @@ module _ {S : Type 0} (m : Automaton S) (selected : List ℕ → Bool) (reads : 
           → outcomeOf mark (limited newlines (answerOf (result selected (mark + 1) rows))) ≡ nextOutcome selected (rowsOf (textOf t)) mark
       by true e =
           let R = length (rowsOf (textOf t)) in
-          let low : mark ≤ R = omega (arith, rows-total t v (b .counted) .0, b .mark-high, b .total-is) in
+          let low : mark ≤ R = omega (arith, rows-total t (sound v) (b .counted) .0, b .mark-high, b .total-is) in
           let k : mark + 1 - 1 + length (drop mark (rowsOf (textOf t))) ≡ R = rw (length-drop mark (rowsOf (textOf t))) (omega arith) in
-          rw (e, k, le-ltb (newlines + 1) R (omega (arith, rows-total t v (b .counted) .1, b .total-is)), le-leb mark R low)
+          rw (e, k, le-ltb (newlines + 1) R (omega (arith, rows-total t (sound v) (b .counted) .1, b .total-is)), le-leb mark R low)
       by false e =
           let low = small e v (next-of selected (rowsOf (textOf t)) mark) in
           rw (e, le-ltb (newlines + 1) (firstSelected selected (mark + 1) (drop mark (rowsOf (textOf t)))) low)
 
-  pub answer-found : AllowedAnswer t (newlineRefusal t) selected mark (limited newlines r)
+  pub answer-found : AllowedAnswer t ok (newlineRefusal t) selected mark (limited newlines r)
   answer-found =
-      settles t mark (b .counted) selected (limited newlines r)
+      settles t ok mark (b .counted) selected (limited newlines r)
       (λ v. ap (λ (x : NextRowAnswer). outcomeOf mark (limited newlines x)) (right v) ∙ shown-is v)
       (free-of r (s .rows)) (numbers r (s .rows))

@@ -30,6 +30,27 @@ refused-is mark (Row n) q e = absurd (let z : ⊥ = omega (arith, ap (λ (s : Ne
 refused-is mark (Nothing m) q e = absurd (let z : ⊥ = omega (arith, ap (λ (s : NextRowOutcome). s .refusal) e) in z)
 refused-is mark (Refused p) q e = ap Refused (ap (λ (s : NextRowOutcome). s .refusal) e)
 
+-- two answers with the same outcome are the same
+same-answer : (mark : ℕ) (x y : NextRowAnswer) → Numbered x → Numbered y → outcomeOf mark x ≡ outcomeOf mark y → x ≡ y
+same-answer mark (Row a) (Row b) k l e = ap Row (ap (λ (s : NextRowOutcome). s .row) e)
+same-answer mark (Row a) (Nothing m) k l e = absurd (let z : ⊥ = omega (arith, ap (λ (s : NextRowOutcome). s .row) e) in z)
+same-answer mark (Row a) (Refused n) k l e = absurd (let z : ⊥ = omega (arith, ap (λ (s : NextRowOutcome). s .refusal) e) in z)
+same-answer mark (Nothing m) (Row b) k l e = absurd (let z : ⊥ = omega (arith, ap (λ (s : NextRowOutcome). s .row) e) in z)
+same-answer mark (Nothing m) (Nothing n) k l e = ap Nothing (ap (λ (s : NextRowOutcome). s .mark) e)
+same-answer mark (Nothing m) (Refused n) k l e = absurd (let z : ⊥ = omega (arith, ap (λ (s : NextRowOutcome). s .refusal) e) in z)
+same-answer mark (Refused n) (Row b) k l e = absurd (let z : ⊥ = omega (arith, ap (λ (s : NextRowOutcome). s .refusal) e) in z)
+same-answer mark (Refused n) (Nothing m) k l e = absurd (let z : ⊥ = omega (arith, ap (λ (s : NextRowOutcome). s .refusal) e) in z)
+same-answer mark (Refused n) (Refused m) k l e = ap Refused (ap (λ (s : NextRowOutcome). s .refusal) e)
+
+-- settled answers to the same search are equal, whatever settles them
+pub one-answer : (t : List ℕ) (refusal : ℕ) (selected : List ℕ → Bool) (mark ok other : ℕ) → ok ≡ 0 → other ≡ 0 → (x y : NextRowAnswer)
+    → AllowedAnswer t ok refusal selected mark x → AllowedAnswer t other refusal selected mark y → x ≡ y
+one-answer t refusal selected mark ok other v w x y a b = same-answer mark x y (a .numbered) (b .numbered) (go (lt-or-ge 0 refusal))
+  where
+    go : (0 < refusal) ⊎ (refusal ≤ 0) → outcomeOf mark x ≡ outcomeOf mark y
+    go (inl l) = a .says .asked l ∙ sym (b .says .asked l)
+    go (inr l) = let z : refusal ≡ 0 = omega arith in a .says .accepted z v ∙ sym (b .says .accepted z w)
+
 -- on an accepted tree none leaves the mark or moves it to the number of rows, and nothing is refused
 module _ (q R mark : ℕ) where
   next-marks : outcomeAt q R mark .row ≡ 0 → (mark ≤ outcomeAt q R mark .mark) × ((outcomeAt q R mark .mark ≡ mark) ⊎ (outcomeAt q R mark .mark ≡ R))
@@ -102,14 +123,15 @@ asked-counted t k ok h =
     let a = unless-passes (readable t) (refused more) (sym (then-is (readable t) more) ∙ h) in
     ask-test 10 (isCounted t 10) 0 (ask-rest k ok eleven (a .1))
 
-module _ (t : List ℕ) (refusal : ℕ) (selected : List ℕ → Bool) where
+-- `ok` is 0 where the outcome is settled.
+module _ (t : List ℕ) (ok : ℕ) (sound : ok ≡ 0 → verdict t ≡ 0) (refusal : ℕ) (selected : List ℕ → Bool) where
   -- Any lent bytes.
 
   -- "any refusal leaves the mark"
-  pub refusal-leaves : (mark n after : ℕ) → MarkMoved t refusal selected mark (Refused n) after → after ≡ mark
+  pub refusal-leaves : (mark n after : ℕ) → MarkMoved t ok refusal selected mark (Refused n) after → after ≡ mark
   refusal-leaves mark n after m = m .mark-is
 
-  module _ (mark : ℕ) (r : NextRowAnswer) (a : AllowedAnswer t refusal selected mark r) where
+  module _ (mark : ℕ) (r : NextRowAnswer) (a : AllowedAnswer t ok refusal selected mark r) where
     -- a question that refuses before the walk determines the answer
     pub refused-first : (q : ℕ) → refusal ≡ suc q → r ≡ Refused (suc q)
     refused-first q e = refused-is mark r q (a .says .asked (rw e (omega arith)) ∙ rw e)
@@ -123,23 +145,23 @@ module _ (t : List ℕ) (refusal : ℕ) (selected : List ℕ → Bool) where
             let x : ⊥ = omega arith in x)
         go (inr g) = omega arith
 
-  -- A tree that the check accepts.
-  module _ (v : verdict t ≡ 0) where
+  -- A settled outcome.
+  module _ (v : ok ≡ 0) where
     abbrev rows : List (List ℕ)
     rows = rowsOf (textOf t)
 
-    settled : (mark : ℕ) (r : NextRowAnswer) → AllowedAnswer t refusal selected mark r → outcomeOf mark r .refusal ≡ 0
+    settled : (mark : ℕ) (r : NextRowAnswer) → AllowedAnswer t ok refusal selected mark r → outcomeOf mark r .refusal ≡ 0
         → outcomeOf mark r ≡ nextOutcome selected rows mark
     settled mark r a z = a .says .accepted (let-through mark r a z) v
 
     -- where no question refuses: the next selected row; or none, with the mark of `nextOutcome`
-    pub answer-is : (mark : ℕ) (r : NextRowAnswer) → AllowedAnswer t refusal selected mark r → refusal ≡ 0
+    pub answer-is : (mark : ℕ) (r : NextRowAnswer) → AllowedAnswer t ok refusal selected mark r → refusal ≡ 0
         → r ≡ cond (eqb (nextSelected selected rows mark) 0) (Nothing (nextOutcome selected rows mark .mark)) (Row (nextSelected selected rows mark))
     unfolding nextOutcome
     answer-is mark r a z = next-answer (nextSelected selected rows mark) (length rows) mark r (a .numbered) (a .says .accepted z v)
 
     -- a returned row is after the mark and becomes the mark: so there are at most as many calls before none as rows
-    pub row-rises : (mark n after : ℕ) → MarkMoved t refusal selected mark (Row n) after → (mark < n) × (n ≤ length rows) × (after ≡ n)
+    pub row-rises : (mark n after : ℕ) → MarkMoved t ok refusal selected mark (Row n) after → (mark < n) × (n ≤ length rows) × (after ≡ n)
     row-rises mark n after m = go (next-of selected rows mark)
       where
         is : record { refusal = 0; row = n; mark = n } ≡ nextOutcome selected rows mark
@@ -152,7 +174,7 @@ module _ (t : List ℕ) (refusal : ℕ) (selected : List ℕ → Bool) where
             (omega arith, omega arith, m .mark-is)
 
     -- "If no row after it matches, the answer is none and the mark goes to the number of rows; a mark already there or beyond stays."
-    pub none-moves : (mark m after : ℕ) → MarkMoved t refusal selected mark (Nothing m) after
+    pub none-moves : (mark m after : ℕ) → MarkMoved t ok refusal selected mark (Nothing m) after
         → (nextOutcome selected rows mark .row ≡ 0) × (after ≡ nextOutcome selected rows mark .mark)
     none-moves mark m after k =
         let e = settled mark (Nothing m) (k .answer) refl in
@@ -160,8 +182,8 @@ module _ (t : List ℕ) (refusal : ℕ) (selected : List ℕ → Bool) where
 
     -- repeated calls with the same query, each from the mark that the one before left, return these rows, then none
     abbrev pub Calls : ℕ → List ℕ → Type 0
-    Calls mark [] = (m : ℕ) × (after : ℕ) × MarkMoved t refusal selected mark (Nothing m) after
-    Calls mark (n ∷ ns) = (after : ℕ) × MarkMoved t refusal selected mark (Row n) after × Calls after ns
+    Calls mark [] = (m : ℕ) × (after : ℕ) × MarkMoved t ok refusal selected mark (Nothing m) after
+    Calls mark (n ∷ ns) = (after : ℕ) × MarkMoved t ok refusal selected mark (Row n) after × Calls after ns
 
     shows : (mark : ℕ) (ns : List ℕ) → Calls mark ns → Shows selected rows mark ns
     shows mark [] a = none-moves mark (a .0) (a .1) (a .2) .0
@@ -174,8 +196,8 @@ module _ (t : List ℕ) (refusal : ℕ) (selected : List ℕ → Bool) where
     all-called ns a = shown-all selected rows ns (shows 0 ns a)
 
     -- where no question refuses, calls that keep the contract do return all selected rows, then none
-    module _ (through : refusal ≡ 0) (call : (mark : ℕ) → mark ≤ length rows → (r : NextRowAnswer) × AllowedAnswer t refusal selected mark r) where
-      answer-row : (mark n : ℕ) (r : NextRowAnswer) → AllowedAnswer t refusal selected mark r → 1 ≤ n
+    module _ (through : refusal ≡ 0) (call : (mark : ℕ) → mark ≤ length rows → (r : NextRowAnswer) × AllowedAnswer t ok refusal selected mark r) where
+      answer-row : (mark n : ℕ) (r : NextRowAnswer) → AllowedAnswer t ok refusal selected mark r → 1 ≤ n
           → nextOutcome selected rows mark ≡ record { refusal = 0; row = n; mark = n } → r ≡ Row n
       answer-row mark n r a low e = go r (a .numbered) (a .says .accepted through v ∙ e)
         where
@@ -184,7 +206,7 @@ module _ (t : List ℕ) (refusal : ℕ) (selected : List ℕ → Bool) where
           go (Nothing k) l s = absurd (let y : ⊥ = omega (arith, ap (λ (w : NextRowOutcome). w .row) s) in y)
           go (Refused k) l s = absurd (let y : ⊥ = omega (arith, ap (λ (w : NextRowOutcome). w .refusal) s) in y)
 
-      answer-none : (mark : ℕ) (r : NextRowAnswer) → AllowedAnswer t refusal selected mark r → nextOutcome selected rows mark .row ≡ 0
+      answer-none : (mark : ℕ) (r : NextRowAnswer) → AllowedAnswer t ok refusal selected mark r → nextOutcome selected rows mark .row ≡ 0
           → (m : ℕ) × (r ≡ Nothing m)
       unfolding nextOutcome
       answer-none mark r a e = go r (a .numbered) (a .says .accepted through v)
@@ -202,7 +224,7 @@ module _ (t : List ℕ) (refusal : ℕ) (selected : List ℕ → Bool) where
       asks mark (n ∷ ns) high h =
           let a = call mark high in
           let e = answer-row mark n (a .0) (a .1) (h .1) (h .0) in
-          let m : MarkMoved t refusal selected mark (Row n) n = record { answer = rw e at (a .1); mark-is = refl } in
+          let m : MarkMoved t ok refusal selected mark (Row n) n = record { answer = rw e at (a .1); mark-is = refl } in
           (n, m, asks n ns (row-rises mark n n m .1) (h .2))
 
       pub comes-to-none : Calls 0 (selectedRows selected rows)
@@ -211,8 +233,8 @@ module _ (t : List ℕ) (refusal : ℕ) (selected : List ℕ → Bool) where
   -- Any lent bytes again: what holds of every answer, also of one that is free.
   module _ (counted-of : refusal ≡ 0 → isCounted t 10 ≡ true) where
     -- a returned row is after the mark and at most total + 1 of byte 10
-    pub row-after : (mark n : ℕ) → AllowedAnswer t refusal selected mark (Row n) → (mark < n) × (n ≤ maxRows t)
-    row-after mark n a = go (lt-or-ge 0 (verdict t))
+    pub row-after : (mark n : ℕ) → AllowedAnswer t ok refusal selected mark (Row n) → (mark < n) × (n ≤ maxRows t)
+    row-after mark n a = go (lt-or-ge 0 ok)
       where
         through : refusal ≡ 0
         through = let-through mark (Row n) a refl
@@ -222,17 +244,17 @@ module _ (t : List ℕ) (refusal : ℕ) (selected : List ℕ → Bool) where
         free (inr (inl h)) = absurd (let z : ⊥ = omega (arith, a .numbered, h .1) in z)
         free (inr (inr h)) = (h .1, h .2)
 
-        go : (0 < verdict t) ⊎ (verdict t ≤ 0) → (mark < n) × (n ≤ maxRows t)
+        go : (0 < ok) ⊎ (ok ≤ 0) → (mark < n) × (n ≤ maxRows t)
         go (inl low) = free (a .says .free through (λ v. omega arith))
         go (inr high) =
-            let v : verdict t ≡ 0 = omega arith in
+            let v : ok ≡ 0 = omega arith in
             let w = row-rises v mark n n (record { answer = a; mark-is = refl }) in
-            (w .0, omega (arith, w .1, rows-total t v (counted-of through) .1))
+            (w .0, omega (arith, w .1, rows-total t (sound v) (counted-of through) .1))
 
     -- none leaves the mark, or moves it forward up to that number
-    pub none-after : (mark m : ℕ) → AllowedAnswer t refusal selected mark (Nothing m) → (mark ≤ m) × ((m ≡ mark) ⊎ (m ≤ maxRows t))
+    pub none-after : (mark m : ℕ) → AllowedAnswer t ok refusal selected mark (Nothing m) → (mark ≤ m) × ((m ≡ mark) ⊎ (m ≤ maxRows t))
     unfolding nextOutcome
-    none-after mark m a = go (lt-or-ge 0 (verdict t))
+    none-after mark m a = go (lt-or-ge 0 ok)
       where
         through : refusal ≡ 0
         through = let-through mark (Nothing m) a refl
@@ -248,29 +270,29 @@ module _ (t : List ℕ) (refusal : ℕ) (selected : List ℕ → Bool) where
         free (inr (inl h)) = (h .2, h .3)
         free (inr (inr h)) = absurd (let z : ⊥ = omega (arith, h .1) in z)
 
-        moved : (v : verdict t ≡ 0) → m ≡ said .mark → (mark ≤ said .mark) × ((said .mark ≡ mark) ⊎ (said .mark ≡ R))
+        moved : (v : ok ≡ 0) → m ≡ said .mark → (mark ≤ said .mark) × ((said .mark ≡ mark) ⊎ (said .mark ≡ R))
             → (mark ≤ m) × ((m ≡ mark) ⊎ (m ≤ maxRows t))
         moved v e (l, inl s) = (omega arith, inl (e ∙ s))
-        moved v e (l, inr s) = (omega arith, inr (omega (arith, rows-total t v (counted-of through) .1)))
+        moved v e (l, inr s) = (omega arith, inr (omega (arith, rows-total t (sound v) (counted-of through) .1)))
 
-        go : (0 < verdict t) ⊎ (verdict t ≤ 0) → (mark ≤ m) × ((m ≡ mark) ⊎ (m ≤ maxRows t))
+        go : (0 < ok) ⊎ (ok ≤ 0) → (mark ≤ m) × ((m ≡ mark) ⊎ (m ≤ maxRows t))
         go (inl low) = free (a .says .free through (λ v. omega arith))
         go (inr high) =
-            let v : verdict t ≡ 0 = omega arith in
+            let v : ok ≡ 0 = omega arith in
             let w = none-moves v mark m m (record { answer = a; mark-is = refl }) in
             moved v (w .1) (next-marks (nextSelected selected (rowsOf (textOf t)) mark) R mark (w .0))
 
-  -- a refusal is that of the questions before the walk; or 14, on a tree that the check refuses
-  pub refusal-is : (mark n : ℕ) → AllowedAnswer t refusal selected mark (Refused n) → (n ≡ refusal) ⊎ ((n ≡ 14) × (verdict t ≡ 0 → ⊥))
+  -- a refusal is that of the questions before the walk; or 14, where the outcome is not settled
+  pub refusal-is : (mark n : ℕ) → AllowedAnswer t ok refusal selected mark (Refused n) → (n ≡ refusal) ⊎ ((n ≡ 14) × (ok ≡ 0 → ⊥))
   unfolding nextOutcome
-  refusal-is mark n a = go (lt-or-ge 0 refusal) (lt-or-ge 0 (verdict t))
+  refusal-is mark n a = go (lt-or-ge 0 refusal) (lt-or-ge 0 ok)
     where
       free : FreeOutcome t mark (refusedAt n mark) → n ≡ 14
       free (inl e) = ap (λ (s : NextRowOutcome). s .refusal) e
       free (inr (inl h)) = absurd (let z : ⊥ = omega (arith, a .numbered, h .0) in z)
       free (inr (inr h)) = absurd (let z : ⊥ = omega (arith, a .numbered, h .0) in z)
 
-      go : (0 < refusal) ⊎ (refusal ≤ 0) → (0 < verdict t) ⊎ (verdict t ≤ 0) → (n ≡ refusal) ⊎ ((n ≡ 14) × (verdict t ≡ 0 → ⊥))
+      go : (0 < refusal) ⊎ (refusal ≤ 0) → (0 < ok) ⊎ (ok ≤ 0) → (n ≡ refusal) ⊎ ((n ≡ 14) × (ok ≡ 0 → ⊥))
       go (inl l) w = inl (ap (λ (s : NextRowOutcome). s .refusal) (a .says .asked l))
       go (inr z) (inl w) = inr (free (a .says .free (omega arith) (λ v. omega arith)), λ v. omega arith)
       go (inr z) (inr w) =

@@ -50,29 +50,29 @@ module _ (newlines : ℕ) (x : NextRowAnswer) where
   limit-refused n e = rw e
 
 -- where the rows after a mark begin
-start-at : (t : List ℕ) (mark p : ℕ)
-    → p ≤ at.textLength t → (verdict t ≡ 0 → rowsOf (drop p (textOf t)) ≡ drop mark (rowsOf (textOf t))) → StartIs t mark (start.At (record { 0 = p }))
-start-at t mark p low is = record {
+start-at : (t : List ℕ) (ok mark p : ℕ)
+    → p ≤ at.textLength t → (ok ≡ 0 → rowsOf (drop p (textOf t)) ≡ drop mark (rowsOf (textOf t))) → StartIs t ok mark (start.At (record { 0 = p }))
+start-at t ok mark p low is = record {
   place-in = λ s e. (let z : record { 0 = p } ≡ s = cc in let y : p ≡ s .0 = ap (λ (w : TextPlace). w .0) z in rw (← y) low);
   place-is = λ s e v. (let z : record { 0 = p } ≡ s = cc in let y : p ≡ s .0 = ap (λ (w : TextPlace). w .0) z in rw (← y) (is v));
   broken = λ e v. absurd (let z : _≡_ {A = ℕ} 0 1 = cc in omega arith);
 }
 
-pub start-first : (t : List ℕ) (mark : ℕ) → mark ≡ 0 → StartIs t mark (start.At (record { 0 = 0 }))
-start-first t mark e = rw e (start-at t 0 0 (omega arith) (λ v. refl))
+pub start-first : (t : List ℕ) (ok mark : ℕ) → mark ≡ 0 → StartIs t ok mark (start.At (record { 0 = 0 }))
+start-first t ok mark e = rw e (start-at t ok 0 0 (omega arith) (λ v. refl))
 
-pub start-broken : (t : List ℕ) (mark : ℕ) → (verdict t ≡ 0 → ⊥) → StartIs t mark start.Broken
-start-broken t mark never = record {
+pub start-broken : (t : List ℕ) (ok mark : ℕ) → (ok ≡ 0 → ⊥) → StartIs t ok mark start.Broken
+start-broken t ok mark never = record {
   place-in = λ s e. absurd (let z : _≡_ {A = ℕ} 0 1 = cc in omega arith);
   place-is = λ s e v. absurd (never v);
   broken = λ e v. never v;
 }
 
 -- after a byte 10
-pub start-past : (t : List ℕ) (mark p : ℕ)
-    → Selected t 10 mark → p < at.textLength t → (verdict t ≡ 0 → p ≡ placeOf 10 mark (textOf t)) → StartIs t mark (start.At (record { 0 = p + 1 }))
-start-past t mark p s low is =
-    start-at t mark (p + 1) (omega arith) (λ v. rows-past (textOf t) mark p (rw (is v) (tallies.stands t v 10 mark s)))
+pub start-past : (t : List ℕ) (ok mark p : ℕ) → (ok ≡ 0 → verdict t ≡ 0)
+    → Selected t 10 mark → p < at.textLength t → (ok ≡ 0 → p ≡ placeOf 10 mark (textOf t)) → StartIs t ok mark (start.At (record { 0 = p + 1 }))
+start-past t ok mark p sound s low is =
+    start-at t ok mark (p + 1) (omega arith) (λ v. rows-past (textOf t) mark p (rw (is v) (tallies.stands t (sound v) 10 mark s)))
 
 -- questions 11 and 12 pass for the byte 10 that ends the mark's row
 pub start-asked : (t : List ℕ) (h : Header) (mark : ℕ)

@@ -26,11 +26,11 @@ Numbered (Row q) = 1 ≤ q
 Numbered (Nothing m) = Unit {0}
 Numbered (Refused refusal) = 1 ≤ refusal
 
-pub record AllowedAnswer (t : List ℕ) (refusal : ℕ) (selected : List ℕ → Bool) (mark : ℕ) (r : NextRowAnswer) : Type 0 where
-  pub says : AllowedOutcome t refusal selected mark (outcomeOf mark r)
+pub record AllowedAnswer (t : List ℕ) (ok refusal : ℕ) (selected : List ℕ → Bool) (mark : ℕ) (r : NextRowAnswer) : Type 0 where
+  pub says : AllowedOutcome t ok refusal selected mark (outcomeOf mark r)
   pub numbered : Numbered r
 
 -- an allowed answer to a search from the mark `before`, and the mark `after` it
-pub record MarkMoved (t : List ℕ) (refusal : ℕ) (selected : List ℕ → Bool) (before : ℕ) (r : NextRowAnswer) (after : ℕ) : Type 0 where
-  pub answer : AllowedAnswer t refusal selected before r
+pub record MarkMoved (t : List ℕ) (ok refusal : ℕ) (selected : List ℕ → Bool) (before : ℕ) (r : NextRowAnswer) (after : ℕ) : Type 0 where
+  pub answer : AllowedAnswer t ok refusal selected before r
   pub mark-is : after ≡ markAfter r before

@@ -1,5 +1,5 @@
--- The outcomes that a search for the next selected row may have, for any bytes as a tree: one where a question refuses or the tree is accepted; on other trees
--- those that are left free.
+-- The outcomes that a search for the next selected row may have, for any bytes as a tree and as a guide: one where a question refuses or both are accepted;
+-- else those that are left free.
 -- docs/FORMAT.md: "Keys", "What is left free".
 use mathlib.Core.List.{List}
 use mathlib.Core.Bool.{Bool, cond}
@@ -9,7 +9,7 @@ use Prim.Native.Nat.{ℕ, _+_, _≤_, _<_}
 use lib.Dec.{eqb}
 use Rattle.text.specs.Rows.{rowsOf}
 use Rattle.format.specs.Fits.{textOf}
-use Rattle.format.specs.Verdict.{ask, readable, verdict}
+use Rattle.format.specs.Verdict.{ask, readable}
 use Rattle.format.specs.CountSays.{isCounted, numberOfByte}
 use Rattle.format.specs.FindSays.{total}
 use Rattle.row_filter.specs.SelectedRows.{NextRowOutcome, nextOutcome}
@@ -39,8 +39,9 @@ module _ (t : List ℕ) where
       ⊎ (((s .refusal ≡ 0) × (s .row ≡ 0) × (mark ≤ s .mark) × ((s .mark ≡ mark) ⊎ (s .mark ≤ maxRows)))
       ⊎ ((s .refusal ≡ 0) × (mark < s .row) × (s .row ≤ maxRows) × (s .mark ≡ s .row)))
 
--- `refusal` is that of the questions before the walk, 0 if they all pass
-pub record AllowedOutcome (t : List ℕ) (refusal : ℕ) (selected : List ℕ → Bool) (mark : ℕ) (s : NextRowOutcome) : Type 0 where
+-- `refusal` is that of the questions before the walk, 0 if they all pass; the outcome is settled where `ok` is 0: for a search without a guide that is the
+-- check's result, for one with a guide the result of checking the guide
+pub record AllowedOutcome (t : List ℕ) (ok refusal : ℕ) (selected : List ℕ → Bool) (mark : ℕ) (s : NextRowOutcome) : Type 0 where
   pub asked : 0 < refusal → s ≡ refusedAt refusal mark
-  pub accepted : refusal ≡ 0 → verdict t ≡ 0 → s ≡ nextOutcome selected (rowsOf (textOf t)) mark
-  pub free : refusal ≡ 0 → (verdict t ≡ 0 → ⊥) → FreeOutcome t mark s
+  pub accepted : refusal ≡ 0 → ok ≡ 0 → s ≡ nextOutcome selected (rowsOf (textOf t)) mark
+  pub free : refusal ≡ 0 → (ok ≡ 0 → ⊥) → FreeOutcome t mark s

@@ -23,25 +23,25 @@ use Rattle.query_row_filter.specs.declared.rows_after.StartPlace.the-var
 use Rattle.query_row_filter.specs.AllowedOutcome.{newlineRefusal}
 use Rattle.query_row_filter.specs.AllowedAnswer.{AllowedAnswer}
 
--- the place is in the text, and on an accepted tree the rows after the mark begin there; the walk fails on no accepted tree
-pub record StartIs (t : List ℕ) (mark : ℕ) (r : StartPlace) : Type 0 where
+-- the place is in the text, and where `ok` is 0 the rows after the mark begin there and the walk does not fail
+pub record StartIs (t : List ℕ) (ok mark : ℕ) (r : StartPlace) : Type 0 where
   pub place-in : (p : TextPlace) → r ≡ start.At p → p .0 ≤ at.textLength t
-  pub place-is : (p : TextPlace) → r ≡ start.At p → verdict t ≡ 0 → rowsOf (drop (p .0) (textOf t)) ≡ drop mark (rowsOf (textOf t))
-  pub broken : r ≡ start.Broken → verdict t ≡ 0 → ⊥
+  pub place-is : (p : TextPlace) → r ≡ start.At p → ok ≡ 0 → rowsOf (drop (p .0) (textOf t)) ≡ drop mark (rowsOf (textOf t))
+  pub broken : r ≡ start.Broken → ok ≡ 0 → ⊥
 
 -- the rows after the mark begin at place p of a tree with this total of byte 10
-pub record StartFacts (t : List ℕ) (mark p newlines : ℕ) : Type 0 where
+pub record StartFacts (t : List ℕ) (ok mark p newlines : ℕ) : Type 0 where
   pub counted : isCounted t 10 ≡ true
   pub total-is : newlines ≡ total t (numberOfByte t 10)
   pub mark-high : mark ≤ newlines
   pub mark-low : mark < at.textLength t
   pub place-in : p ≤ at.textLength t
-  pub place-is : verdict t ≡ 0 → rowsOf (drop p (textOf t)) ≡ drop mark (rowsOf (textOf t))
+  pub place-is : ok ≡ 0 → rowsOf (drop p (textOf t)) ≡ drop mark (rowsOf (textOf t))
 
 -- the rows after the mark begin somewhere, or the answer is settled whatever the predicate
-pub record BeginIs (t : List ℕ) (mark : ℕ) (r : RowsStart) : Type 0 where
-  pub begins-at : (p : TextPlace) (newlines : ℕ) → r ≡ begins.At p newlines → StartFacts t mark (p .0) newlines
-  pub answered : (s : NextRowAnswer) → r ≡ begins.Answered s → (selected : List ℕ → Bool) → AllowedAnswer t (newlineRefusal t) selected mark s
+pub record BeginIs (t : List ℕ) (ok mark : ℕ) (r : RowsStart) : Type 0 where
+  pub begins-at : (p : TextPlace) (newlines : ℕ) → r ≡ begins.At p newlines → StartFacts t ok mark (p .0) newlines
+  pub answered : (s : NextRowAnswer) → r ≡ begins.Answered s → (selected : List ℕ → Bool) → AllowedAnswer t ok (newlineRefusal t) selected mark s
 
 -- the answer names no row below q
 abbrev pub FromRow : ℕ → NextRowAnswer → Type 0

@@ -1,7 +1,7 @@
 // Where the rows after a mark begin, in a tree that passes questions 5 to 7, and the largest row number that may be returned.
 use crate::NextRowAnswer;
+use ask_rows::row_edges;
 use ask_select::Found;
-use ask_select::find_by_header;
 use layout::header::Header;
 use layout::place::TextPlace;
 ghost use mathlib.Core.Path.{_≡_};
@@ -11,6 +11,7 @@ ghost use lib.Dec.{ltb};
 ghost use Rattle.format.specs.CountSays.{isCounted, numberOfByte};
 ghost use Rattle.format.specs.FindSays.{total};
 ghost use Rattle.layout.specs.HeaderSays.{HeaderOf};
+ghost use Rattle.ask_rows.specs.RowSpans.{settledBy};
 ghost use Rattle.query_row_filter.specs.RowsAfter.{StartIs, BeginIs, limited};
 
 // Where the rows after a mark begin, with the total of byte 10; or the answer of the call, if no row begins there or the place is not found.
@@ -19,10 +20,10 @@ pub enum RowsStart {
     Answered(NextRowAnswer),
 }
 
-// Question 11. A mark at or above the number of rows stays.
-pub fn begin(t: &[u8], h: Header, mark: u32) -> RowsStart
+// Question 11. A mark at or above the number of rows stays. The guide is used if `used` is true.
+pub fn begin(t: &[u8], h: Header, guide: &[u8], used: bool, mark: u32) -> RowsStart
     requires { ⌜ HeaderOf (now t) h ⌝ }
-    ensures { λ r. ⌜ BeginIs (now (t .entry)) mark r ⌝ }
+    ensures { λ r. ⌜ BeginIs (now (t .entry)) (settledBy (now (t .entry)) (now (guide .entry)) used) mark r ⌝ }
 {
     let number = ask_totals::number_of(t, h.settings.counted, 10);
     if h.settings.counted <= number {
@@ -35,7 +36,7 @@ pub fn begin(t: &[u8], h: Header, mark: u32) -> RowsStart
     if newlines < mark as u64 {
         return RowsStart::Answered(NextRowAnswer::Nothing(mark));
     }
-    let place = start(t, h, mark);
+    let place = start(t, h, guide, used, mark);
     let StartPlace::At(p) = place else {
         return RowsStart::Answered(NextRowAnswer::Refused(14));
     };
@@ -49,14 +50,14 @@ pub enum StartPlace {
 }
 
 // The place after the byte 10 that ends the mark's row (select); for mark 0 the text's start.
-fn start(t: &[u8], h: Header, mark: u32) -> StartPlace
+fn start(t: &[u8], h: Header, guide: &[u8], used: bool, mark: u32) -> StartPlace
     requires { ⌜ (HeaderOf (now t) h) × (isCounted (now t) 10 ≡ true) × (mark ≤ total (now t) (numberOfByte (now t) 10)) ⌝ }
-    ensures { λ r. ⌜ StartIs (now (t .entry)) mark r ⌝ }
+    ensures { λ r. ⌜ StartIs (now (t .entry)) (settledBy (now (t .entry)) (now (guide .entry)) used) mark r ⌝ }
 {
     if mark == 0 {
         return StartPlace::At(TextPlace(0));
     }
-    let found = find_by_header::find_at(t, h, 10, mark);
+    let found = row_edges::ten(t, h, guide, used, mark);
     let Found::At(end, _) = found else {
         return StartPlace::Broken;
     };

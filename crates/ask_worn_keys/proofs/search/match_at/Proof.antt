@@ -5,22 +5,27 @@ use borrow.Author.Tests.{not-true, not-false}
 use Rattle.keys.specs.Keys.{matches}
 use Rattle.keys.specs.Forms.{keyAutomaton}
 use Rattle.keys.proofs.RowForms.{reads}
+use Rattle.ask_rows.specs.RowSpans.{settledBy}
 use Rattle.query_row_filter.proofs.AllowedAnswerLaws.{answer-found}
 use Rattle.ask_worn_keys.proofs.MatchAnswerLaws.{match-19, match-good}
 use Rattle.ask_worn_keys.proofs.search.match_at.Statement.{statement}
 use Rattle.ask_worn_keys.proofs.search.match_at.Tie as tie
 
 pub match-at-spec : {M : Type 1} → statement M
+unfolding settledBy
 match-at-spec =
     tie.close
     (tie.spec
     (λ c κs. search needs)
     (λ c. let s = c .before .before .before .before in match-19 _ _ _ (s .pre .passes) (sym (c .before .good2 .ensures) ∙ not-true _ (c .if1 .taken)))
+    (λ c. search needs)
+    (λ c. search needs)
+    (λ c. search needs)
     (λ c κs. search needs)
     (λ c. search needs)
-    (λ c. let g = c .before in let b = g .before .before in let e = b .before in let s = e .before .before .before .before in
+    (λ c. let g = c .before in let b = g .before .before in let e = b .before .before in let s = e .before .before .before .before in
     omega (arith, b .begin .ensures .begins-at _ _ (g .start .given .1) .mark-low, s .pre .length-is, s .pre .facts .bounds .text-high))
-    (λ c κs. let g = c .before in let b = g .before .before in let e = b .before in let s = e .before .before .before .before in
+    (λ c κs. let g = c .before in let b = g .before .before in let e = b .before .before in let s = e .before .before .before .before in
     let at = b .begin .ensures .begins-at _ _ (g .start .given .1) in (
       s .pre,
       sym (e .before .good2 .ensures) ∙ not-false _ (e .if1 .left),
@@ -30,12 +35,12 @@ match-at-spec =
     ))
     (λ c κs. search needs)
     (λ c. search needs)
-    (λ c. let g = c .before .before .before in let b = g .before .before in let e = b .before in let s = e .before .before .before .before in
+    (λ c. let g = c .before .before .before in let b = g .before .before in let e = b .before .before in let s = e .before .before .before .before in
     let question = s .args .question .now in
     let ok = sym (e .before .good2 .ensures) ∙ not-false _ (e .if1 .left) in
     let at = b .begin .ensures .begins-at _ _ (g .start .given .1) in
     rw (c .limit .ensures) (match-good _ _ _ (s .pre .passes) ok _
-    (answer-found (keyAutomaton question) (matches question) (reads question ok) _ _ _ _ at _ (c .before .from .ensures))))
-    (λ c. let g = c .before in let b = g .before .before in let e = b .before in let s = e .before .before .before .before in
+    (answer-found (keyAutomaton question) (matches question) (reads question ok) _ _ _ _ _ (λ v. v) at _ (c .before .from .ensures))))
+    (λ c. let g = c .before in let b = g .before .before in let e = b .before .before in let s = e .before .before .before .before in
     match-good _ _ _ (s .pre .passes) (sym (e .before .good2 .ensures) ∙ not-false _ (e .if1 .left)) _
     (b .begin .ensures .answered _ (g .start2 .given .1) (matches (s .args .question .now)))))
