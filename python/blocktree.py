@@ -90,6 +90,7 @@ _CALLS = {
     "bt_check_guide": "bytes bytes",
     "bt_find_guided": "bytes bytes n32 n32 out32 out32 out32",
     "bt_row_guided": "bytes bytes n32 buffer out32",
+    "bt_next_with_prefix_guided": "bytes bytes bytes mark out32",
     "bt_order": "bytes bytes out32 out32 out32",
     "bt_list": "bytes buffer out32",
     "bt_open_on": "bytes bytes bytes out32",
@@ -325,12 +326,14 @@ class Tree:
             yield row
             row = self.next_match(ranges, row)
 
-    def next_with_prefix(self, prefix, mark=0):
+    def next_with_prefix(self, prefix, mark=0, guide=None):
         """The first row after `mark` that starts with `prefix`, 1 to 256 bytes; None if there is none."""
         # bytes(5) is five zeros, so a number is no prefix
         if not isinstance(prefix, (bytes, bytearray, memoryview)):
             raise TypeError("a prefix is bytes, not %s" % type(prefix).__name__)
-        return _ask("bt_next_with_prefix", self.bytes, prefix, mark)[1] or None
+        if guide is None:
+            return _ask("bt_next_with_prefix", self.bytes, prefix, mark)[1] or None
+        return _ask("bt_next_with_prefix_guided", self.bytes, guide, prefix, mark)[1] or None
 
     def rows_with_prefix(self, prefix, guide=None):
         """All rows that start with `prefix`, in row order, each with its number."""
@@ -338,9 +341,9 @@ class Tree:
         def rows(number):
             while number:
                 yield number, self.row(number, guide)
-                number = self.next_with_prefix(prefix, number)
+                number = self.next_with_prefix(prefix, number, guide)
 
-        return rows(self.next_with_prefix(prefix))
+        return rows(self.next_with_prefix(prefix, 0, guide))
 
     def row_by_columns(self, width, a):
         """Row a, from 0, all `width` bytes of it, from the tree of a text by columns."""

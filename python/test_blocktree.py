@@ -173,6 +173,7 @@ def own_functions():
     assert list(book.matches([(5, 5), (2, 2), (1, 1), (6, 6), (1, 2)])) == [39, 40, 79, 80, 119, 120, 159, 160, 199, 200]
     assert list(book.rows_with_prefix(b"CH0502 ")) == [(number, rows[number - 1]) for number in (2, 42, 82, 122, 162)]
     assert [number for number, _ in book.rows_with_prefix(b"CH", guide)] == [number for number in range(1, 201) if rows[number - 1].startswith(b"CH")]
+    assert (book.next_with_prefix(b"CH0502 ", 42, guide), book.next_with_prefix(b"CH0502 ", 162, guide)) == (82, None)
     assert (book.next_with_prefix(b"CH0502 ", 42), book.next_with_prefix(b"CH0502 ", 162), book.next_with_prefix(bytearray(b"x"))) == (82, None, None)
     assert (book.byte(14), book.count(10, 1400), book.span(14, 6), book.run(14)[:3]) == (67, 100, b"CH0502", b"CH0")
     assert book.list() == "0 2 2 0\n1 15 6 9\n2 45 45 0\n"

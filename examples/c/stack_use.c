@@ -49,6 +49,7 @@ static void make_guide(void) { bt_make_guide(tree, size, guide, 4 * words, &larg
 static void check_guide(void) { bt_check_guide(tree, size, guide, 4 * words); }
 static void find_guided(void) { for (uint32_t j = 1; j < 6000; j += 7) bt_find_guided(tree, size, guide, 4 * words, 10, j, &place, &third, &number); }
 static void row_guided(void) { for (uint32_t q = 1; q < 6000; q += 7) bt_row_guided(tree, size, guide, 4 * words, q, row, TEXT, &third); }
+static void next_with_prefix_guided(void) { uint32_t mark = 0; do bt_next_with_prefix_guided(tree, size, guide, 4 * words, (const uint8_t *)"K0", 2, &mark, &number); while (number && mark < 500); }
 static void order(void) { bt_order(tree, size, tree, size, &place, &third, &number); }
 static void list(void) { bt_list(small, small_size, row, TEXT, &third); }
 static void open_on(void) { bt_open_on(day, 8, day, 8, day, 8, &number); }
@@ -103,7 +104,7 @@ int main(void)
         {"bt_version", version}, {"bt_info", info}, {"bt_row_length", row_length}, {"bt_row_count", row_count}, {"bt_places_words", places_words},
         {"bt_next_match", next_match}, {"bt_next_with_prefix", next_with_prefix}, {"bt_to_columns", to_columns}, {"bt_from_columns", from_columns}, {"bt_column_row", column_row},
         {"bt_guide_words", guide_words}, {"bt_make_guide", make_guide}, {"bt_check_guide", check_guide}, {"bt_find_guided", find_guided},
-        {"bt_row_guided", row_guided}, {"bt_order", order}, {"bt_list", list}, {"bt_open_on", open_on}, {"bt_days_left", days_left}, {"bt_renew", renew},
+        {"bt_row_guided", row_guided}, {"bt_next_with_prefix_guided", next_with_prefix_guided}, {"bt_order", order}, {"bt_list", list}, {"bt_open_on", open_on}, {"bt_days_left", days_left}, {"bt_renew", renew},
     };
     tree = malloc(TREE);
     guide = malloc(TEXT);
@@ -114,7 +115,7 @@ int main(void)
     const size_t none = used(nothing);
     for (size_t i = 0; i < sizeof calls / sizeof *calls; i++) {
         const size_t bytes = used(calls[i].function);
-        printf("%-19s %5lu\n", calls[i].name, (unsigned long)(bytes > none ? bytes - none : 0));
+        printf("%-26s %5lu\n", calls[i].name, (unsigned long)(bytes > none ? bytes - none : 0));
     }
     return bt_check(tree, size) != BT_OK;
 }

@@ -435,11 +435,12 @@ fn time_matches(text: &[u8], name: &str, shape: Shape) {
     }
 }
 
-/// All rows that start with a prefix, a call for each and one that returns none: by the library; and by the model, which reads the text back once and compares
+/// All rows that start with a prefix, a call for each and one that returns none: by the library, without a guide and with one; and by the model, which reads the text back once and compares
 /// the beginning of each row. The trees of 8 MiB have 32,768 blocks of level 0.
 fn time_prefixes() {
     println!("\n## Rows by their first bytes, byte 10 counted\n");
-    println!("| Book | Text | Leaf/arity/levels | Prefix | Rows | Library, all calls | A call | Model |\n|---|---:|---|---|---:|---:|---:|---:|");
+    println!("| Book | Text | Leaf/arity/levels | Prefix | Rows | All calls | A call | All calls with a guide | A call | Model |");
+    println!("|---|---:|---|---|---:|---:|---:|---:|---:|---:|");
     for (size, shape) in [(1_048_576, Shape { m: 64, r: 2, h: 4 }), (8_388_608, Shape { m: 256, r: 2, h: 1 })] {
         for (kind, name) in KINDS {
             let text = book(kind, size, 1);
@@ -448,7 +449,7 @@ fn time_prefixes() {
             let space = |row: &[u8]| row.iter().position(|&byte| byte == b' ').expect("a code");
             let middle = rows[rows.len() / 2];
             for (words, wanted) in [("a code and its space", &middle[..=space(middle)]), ("two letters", &middle[..2])] {
-                let line = time_prefix(&tree, wanted);
+                let line = time_prefix(&tree, &guides::guide(&tree).expect("an accepted tree"), wanted);
                 println!("| {name} | {size} | {}/{}/{} | {words} | {line} |", shape.m, shape.r, shape.h);
             }
         }
@@ -456,18 +457,21 @@ fn time_prefixes() {
 }
 
 /// The rows, and the times, of one prefix.
-fn time_prefix(tree: &[u8], wanted: &[u8]) -> String {
-    let tree = || black_box(tree);
-    let all = || {
+fn time_prefix(tree: &[u8], guide: &[u8], wanted: &[u8]) -> String {
+    let (tree, guide) = (|| black_box(tree), || black_box(guide));
+    let count = |next: &dyn Fn(&mut u32) -> (u32, u32)| {
         let (mut mark, mut rows) = (0, 0);
-        while calls::next_with_prefix(tree(), wanted, &mut mark).1 != 0 {
+        while next(&mut mark).1 != 0 {
             rows += 1;
         }
         rows
     };
+    let all = || count(&|mark| calls::next_with_prefix(tree(), wanted, mark));
+    let guided = || count(&|mark| calls::next_with_prefix_guided(tree(), guide(), wanted, mark));
     let plain = || prefix::rows_with_prefix(&read::text(&read::Tree::open(tree()).expect("a tree")), wanted).len();
-    let [library, model] = both(3, all, plain);
-    format!("{} | {} | {} | {}", plain(), shown(library), shown(library / (all() as u32 + 1)), shown(model))
+    let ([library, model], [with, _]) = (both(3, all, plain), both(3, guided, all));
+    let a_call = |all: Duration| shown(all / (plain() as u32 + 1));
+    format!("{} | {} | {} | {} | {} | {}", plain(), shown(library), a_call(library), shown(with), a_call(with), shown(model))
 }
 
 /// Find and row with a guide and without, next to the model's find with a binary search over level 0; and making and checking a guide.

@@ -63,6 +63,16 @@ mod declared {
             buffer_len: usize,
             length: *mut u32,
         ) -> u32;
+        pub fn bt_next_with_prefix_guided(
+            tree: *const u8,
+            tree_len: usize,
+            guide: *const u8,
+            guide_len: usize,
+            prefix: *const u8,
+            prefix_len: usize,
+            mark: *mut u32,
+            row: *mut u32,
+        ) -> u32;
         pub fn bt_order(
             one: *const u8,
             one_len: usize,
@@ -244,6 +254,14 @@ pub fn row_guided(tree: &[u8], guide: &[u8], q: u32, buffer: &mut [u8]) -> (u32,
     let number =
         unsafe { declared::bt_row_guided(tree.as_ptr(), tree.len(), guide.as_ptr(), guide.len(), q, buffer.as_mut_ptr(), buffer.len(), &mut length) };
     (number, length)
+}
+
+/// As `next_with_prefix`, with a guide.
+pub fn next_with_prefix_guided(tree: &[u8], guide: &[u8], prefix: &[u8], mark: &mut u32) -> (u32, u32) {
+    let mut row = 0;
+    let (tree, guide, prefix) = ((tree.as_ptr(), tree.len()), (guide.as_ptr(), guide.len()), (prefix.as_ptr(), prefix.len()));
+    let number = unsafe { declared::bt_next_with_prefix_guided(tree.0, tree.1, guide.0, guide.1, prefix.0, prefix.1, mark, &mut row) };
+    (number, row)
 }
 
 /// The number, where the first stands (1 before, 2 same, 3 after), the length of the shared beginning, and which stands first (1 or 2).

@@ -6,6 +6,7 @@ use crate::{calls, Refusal, Tree, MAX_TEXT};
 /// The numbers of the rows that start with a prefix, in row order; a refusal ends them.
 pub struct RowsWithPrefix<'a> {
     tree: Tree<'a>,
+    guide: Option<&'a [u8]>,
     prefix: &'a [u8],
     mark: u32,
     ended: bool,
@@ -18,7 +19,10 @@ impl Iterator for RowsWithPrefix<'_> {
         if self.ended {
             return None;
         }
-        let found = self.tree.next_with_prefix(self.prefix, &mut self.mark);
+        let found = match self.guide {
+            None => self.tree.next_with_prefix(self.prefix, &mut self.mark),
+            Some(guide) => self.tree.next_with_prefix_guided(guide, self.prefix, &mut self.mark),
+        };
         self.ended = !matches!(found, Ok(Some(_)));
         found.transpose()
     }
@@ -32,9 +36,16 @@ impl<'a> Tree<'a> {
         answer(number, (row != 0).then_some(row))
     }
 
-    /// All rows that start with `prefix`, by their numbers.
-    pub fn rows_with_prefix(&self, prefix: &'a [u8]) -> RowsWithPrefix<'a> {
-        RowsWithPrefix { tree: *self, prefix, mark: 0, ended: false }
+    /// As `next_with_prefix`, from an entry of the guide on: faster on trees with many blocks of level 0. Safe with any bytes as a guide; one that is not the
+    /// tree's can lead to a wrong row.
+    pub fn next_with_prefix_guided(&self, guide: &[u8], prefix: &[u8], mark: &mut u32) -> Result<Option<u32>, Refusal> {
+        let (number, row) = calls::next_with_prefix_guided(self.bytes, guide, prefix, mark);
+        answer(number, (row != 0).then_some(row))
+    }
+
+    /// All rows that start with `prefix`, by their numbers, found with the tree's guide if one is given.
+    pub fn rows_with_prefix(&self, guide: Option<&'a [u8]>, prefix: &'a [u8]) -> RowsWithPrefix<'a> {
+        RowsWithPrefix { tree: *self, guide, prefix, mark: 0, ended: false }
     }
 
     /// Row `q`, from 1, read into `buffer`, with the tree's guide if one is given. The buffer grows when the row does not fit, and can be used for the next row.
@@ -65,14 +76,20 @@ mod tests {
     fn rows_in_order_then_none() {
         let bytes = tree(b"AB 1\nB 2\nAB 3\r\nA");
         let tree = Tree::checked(&bytes).expect("a tree");
-        let rows = |prefix: &'static [u8]| tree.rows_with_prefix(prefix).collect::<Result<Vec<u32>, Refusal>>();
+        let guide = tree.make_guide().expect("a guide");
+        let rows = |prefix: &'static [u8]| {
+            let [plain, guided] =
+                [None, Some(guide.as_slice())].map(|guide| tree.rows_with_prefix(guide, prefix).collect::<Result<Vec<u32>, Refusal>>());
+            assert_eq!(plain, guided);
+            plain
+        };
         assert_eq!((rows(b"A"), rows(b"AB"), rows(b"AB 3\r"), rows(b"C")), (Ok(vec![1, 3, 4]), Ok(vec![1, 3]), Ok(vec![]), Ok(vec![])));
         assert_eq!(rows(b""), Err(Refusal::Pattern));
         let mut mark = 7;
         assert_eq!((tree.next_with_prefix(b"A", &mut mark), mark), (Ok(None), 7));
         assert_eq!((tree.next_with_prefix(&[0; 257], &mut mark), mark), (Err(Refusal::Pattern), 7));
         // a refusal is returned once, and ends the rows
-        let mut refused = tree.rows_with_prefix(b"");
+        let mut refused = tree.rows_with_prefix(None, b"");
         assert_eq!((refused.next(), refused.next()), (Some(Err(Refusal::Pattern)), None));
     }
 

@@ -31,17 +31,22 @@ fn rows_of_a_code() {
     folder.run("code --prefix \\n small.tree").status(1).prints("").says("codebook: no row begins with '\\n'\n");
 }
 
-/// More rows than are read without a guide.
+/// With a guide, and with one that is made on the way.
 #[test]
 fn many_rows() {
     let folder = Folder::with_tree("many-rows");
     let book = String::from_utf8(folder.read("small.txt")).expect("a book");
     let rows: Vec<usize> = (1..=200).filter(|&q| book.lines().nth(q - 1).is_some_and(|row| row.starts_with("CH"))).collect();
-    assert!(rows.len() > 64);
+    assert_eq!(rows.len(), 140);
     folder.run("guide make small.tree -o small.guide").succeeds();
     for words in ["", " --guide small.guide", " --unchecked --guide small.guide"] {
         folder.run(&format!("code --prefix CH small.tree{words}")).succeeds().prints(&lines(&folder, "small.tree", &rows));
     }
+    let many: String = (0..3000).map(|row| format!("K{row} {}\n", row % 10)).collect();
+    folder.write("many.txt", many.as_bytes());
+    folder.run("build many.txt --leaf 16 --arity 4 --levels 2 -q").succeeds();
+    let all: String = many.lines().zip(1..).map(|(row, q)| format!("many.tree: row {q}: {row}\n")).collect();
+    folder.run("code --prefix K many.tree").succeeds().prints(&all).says("");
     folder.write("wrong.guide", b"\0\0\0\0");
     let done = folder.run("code --prefix CH small.tree --guide wrong.guide");
     assert!(done.status(1).errors().starts_with("codebook: wrong.guide: refused (24)"));

@@ -575,7 +575,7 @@ fn ask_book(rng: &mut Rng, text: &[u8], shape: Shape, counted: &[u8], tree: &[u8
         let row = text[..row].iter().rposition(|&byte| byte == 10).map_or(0, |end| end + 1);
         let wanted = &text[row..text.len().min(row + length)];
         let expected = if counted.contains(&10) { Ok(prefix::rows_with_prefix(text, wanted)) } else { Err(Refusal::NotCounted) };
-        assert_eq!(Tree::unchecked(tree).rows_with_prefix(wanted).collect::<Result<Vec<u32>, Refusal>>(), expected, "{shape:?}");
+        assert_eq!(Tree::unchecked(tree).rows_with_prefix(None, wanted).collect::<Result<Vec<u32>, Refusal>>(), expected, "{shape:?}");
     }
 }
 

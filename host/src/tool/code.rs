@@ -7,11 +7,11 @@ use crate::json::Object;
 use crate::manifest::Manifest;
 use crate::table::{self, PREFIX, UNCHECKED};
 use crate::{say, values, Failure};
-use codebook::Refusal;
+use codebook::{Refusal, Tree};
 use std::path::Path;
 
-/// A guide is made where more rows than this are to be read.
-const ROWS_WITHOUT_GUIDE: usize = 64;
+/// After this many rows a guide is made for the others: it takes about as long as the finds of some hundred rows.
+const ROWS_WITHOUT_GUIDE: usize = 256;
 
 pub fn code(given: &Given) -> Result<(), Failure> {
     let prefix = prefix(given)?;
@@ -62,23 +62,26 @@ fn rows(given: &Given, prefix: &[u8], path: Option<&Path>) -> Result<bool, Failu
     if let Some(guide) = guide.as_ref().filter(|_| !unchecked) {
         tree.check_guide(&guide.bytes).map_err(|refusal| refused(guide, refusal))?;
     }
-    let numbers = tree.rows_with_prefix(prefix).collect::<Result<Vec<u32>, Refusal>>().map_err(|refusal| failure(&input, refusal, prefix))?;
-    if numbers.is_empty() {
-        return Ok(false);
-    }
-    let made = match &guide {
-        None if numbers.len() > ROWS_WITHOUT_GUIDE => tree.make_guide().ok(),
-        _ => None,
-    };
-    let guide = guide.map(|guide| guide.bytes).or(made);
     let book = Book { name: &input.name, manifest: manifest(given, path) };
-    let mut printed = Vec::new();
-    let mut buffer = Vec::new();
-    for q in numbers {
+    let mut guide = guide.map(|guide| guide.bytes);
+    let (mut mark, mut found) = (0, 0);
+    let (mut printed, mut buffer) = (Vec::new(), Vec::new());
+    while let Some(q) = next(tree, guide.as_deref(), prefix, &mut mark).map_err(|refusal| failure(&input, refusal, prefix))? {
         let row = tree.read_row(guide.as_deref(), q, &mut buffer).map_err(|refusal| failure(&input, refusal, prefix))?;
         book.print(given.json(), q, row, &mut printed);
+        found += 1;
+        if found == ROWS_WITHOUT_GUIDE && guide.is_none() {
+            guide = tree.make_guide().ok();
+        }
     }
-    say::print(&printed).map(|()| true)
+    say::print(&printed).map(|()| found > 0)
+}
+
+fn next(tree: Tree, guide: Option<&[u8]>, prefix: &[u8], mark: &mut u32) -> Result<Option<u32>, Refusal> {
+    match guide {
+        None => tree.next_with_prefix(prefix, mark),
+        Some(guide) => tree.next_with_prefix_guided(guide, prefix, mark),
+    }
 }
 
 /// The manifest beside a tree. What is wrong with it is told, and the rows are printed without it.

@@ -1,7 +1,7 @@
 //! Rows by their first bytes: the next row after a mark that starts with a prefix.
 
 use super::read::{rows_of, text, Answer, Tree};
-use super::{check, MAX_PATTERN};
+use super::{check, guides, MAX_PATTERN};
 
 /// The numbers of the rows of a text that start with a prefix, in row order.
 pub fn rows_with_prefix(text: &[u8], prefix: &[u8]) -> Vec<u32> {
@@ -10,11 +10,21 @@ pub fn rows_with_prefix(text: &[u8], prefix: &[u8]) -> Vec<u32> {
 
 /// The refusal or 0, the row, 0 for none, and the mark afterwards. Free answers name no row above the total of byte 10 plus one.
 pub fn next_with_prefix(bytes: &[u8], prefix: &[u8], mark: u32) -> Answer<(u32, u32, u32)> {
+    next_by(bytes, || check::check(bytes), prefix, mark)
+}
+
+/// The same with a guide.
+pub fn next_with_prefix_guided(bytes: &[u8], guide: &[u8], prefix: &[u8], mark: u32) -> Answer<(u32, u32, u32)> {
+    next_by(bytes, || guides::check_guide(bytes, guide), prefix, mark)
+}
+
+/// Settled where `check` gives 0.
+fn next_by(bytes: &[u8], check: impl Fn() -> u32, prefix: &[u8], mark: u32) -> Answer<(u32, u32, u32)> {
     let (tree, c) = match questions(bytes, prefix) {
         Ok(tree) => tree,
         Err(number) => return Answer::Settled((number, 0, mark)),
     };
-    if check::check(bytes) != 0 {
+    if check() != 0 {
         return Answer::Free(tree.total(c) + 1);
     }
     let text = text(&tree);
