@@ -60,7 +60,7 @@ pub guided-as-prefix : (κs : Lfts 3) (t guide prefix : RefT (List ℕ)) (mark :
     → (κ : Lfts 2) → CheckGuide κ t guide 0 → (κ′ : Lfts 2) (s : NextRowAnswer) → NextRowWithPrefix κ′ t prefix mark s → r ≡ s
 guided-as-prefix κs t guide prefix mark r a κ ok κ′ s b =
     let g : guideNumber (now t) (now guide) ≡ 0 = sym ok in
-    next-row.one-answer (now t) (prefixRefusal (now t) (now prefix)) (startsWith (now prefix)) mark
+    next-row.one-next-row (now t) (prefixRefusal (now t) (now prefix)) (startsWith (now prefix)) mark
     (guideNumber (now t) (now guide)) (verdict (now t)) g (guide-verdict (now t) (now guide) g) r s a b
 
 module _ (t prefix : List ℕ) where
@@ -97,7 +97,7 @@ module _ (t : List ℕ) (ok : ℕ) (sound : ok ≡ 0 → verdict t ≡ 0) (prefi
           next-row.refused-first t ok sound (prefixRefusal t prefix) (startsWith prefix) mark r a 10
           (next-row.asked-uncounted t 16 (patternOk prefix) pass good e)
 
-  -- any refusal leaves the mark
+  -- a refusal leaves the mark
   pub prefix-keeps-mark : (mark n after : ℕ) → PrefixMoved t ok prefix mark (Refused n) after → after ≡ mark
   prefix-keeps-mark = next-row.refusal-leaves t ok sound (prefixRefusal t prefix) (startsWith prefix)
 

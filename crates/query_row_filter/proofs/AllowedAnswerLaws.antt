@@ -63,7 +63,7 @@ module _ (t : List ℕ) (settled : ℕ) (selected : List ℕ → Bool) (mark k :
     ask-good e r a = let z : queryRefusal t k ok ≡ newlineRefusal t = rw (pass, e) in rw z a
 
 module _ (t : List ℕ) (ok mark : ℕ) where
-  -- "11": byte 10 is not counted
+  -- 11: byte 10 is not counted
   pub newline-11 : (selected : List ℕ → Bool) → isCounted t 10 ≡ false → AllowedAnswer t ok (newlineRefusal t) selected mark (Refused 11)
   unfolding newlineRefusal
   newline-11 selected e = refuses t ok selected mark _ 11 (rw e) (omega arith)

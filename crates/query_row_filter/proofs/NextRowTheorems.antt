@@ -31,21 +31,21 @@ refused-is mark (Nothing m) q e = absurd (let z : ⊥ = omega (arith, ap (λ (s 
 refused-is mark (Refused p) q e = ap Refused (ap (λ (s : NextRowOutcome). s .refusal) e)
 
 -- two answers with the same outcome are the same
-same-answer : (mark : ℕ) (x y : NextRowAnswer) → Numbered x → Numbered y → outcomeOf mark x ≡ outcomeOf mark y → x ≡ y
-same-answer mark (Row a) (Row b) k l e = ap Row (ap (λ (s : NextRowOutcome). s .row) e)
-same-answer mark (Row a) (Nothing m) k l e = absurd (let z : ⊥ = omega (arith, ap (λ (s : NextRowOutcome). s .row) e) in z)
-same-answer mark (Row a) (Refused n) k l e = absurd (let z : ⊥ = omega (arith, ap (λ (s : NextRowOutcome). s .refusal) e) in z)
-same-answer mark (Nothing m) (Row b) k l e = absurd (let z : ⊥ = omega (arith, ap (λ (s : NextRowOutcome). s .row) e) in z)
-same-answer mark (Nothing m) (Nothing n) k l e = ap Nothing (ap (λ (s : NextRowOutcome). s .mark) e)
-same-answer mark (Nothing m) (Refused n) k l e = absurd (let z : ⊥ = omega (arith, ap (λ (s : NextRowOutcome). s .refusal) e) in z)
-same-answer mark (Refused n) (Row b) k l e = absurd (let z : ⊥ = omega (arith, ap (λ (s : NextRowOutcome). s .refusal) e) in z)
-same-answer mark (Refused n) (Nothing m) k l e = absurd (let z : ⊥ = omega (arith, ap (λ (s : NextRowOutcome). s .refusal) e) in z)
-same-answer mark (Refused n) (Refused m) k l e = ap Refused (ap (λ (s : NextRowOutcome). s .refusal) e)
+same-next-row : (mark : ℕ) (x y : NextRowAnswer) → Numbered x → Numbered y → outcomeOf mark x ≡ outcomeOf mark y → x ≡ y
+same-next-row mark (Row a) (Row b) k l e = ap Row (ap (λ (s : NextRowOutcome). s .row) e)
+same-next-row mark (Row a) (Nothing m) k l e = absurd (let z : ⊥ = omega (arith, ap (λ (s : NextRowOutcome). s .row) e) in z)
+same-next-row mark (Row a) (Refused n) k l e = absurd (let z : ⊥ = omega (arith, ap (λ (s : NextRowOutcome). s .refusal) e) in z)
+same-next-row mark (Nothing m) (Row b) k l e = absurd (let z : ⊥ = omega (arith, ap (λ (s : NextRowOutcome). s .row) e) in z)
+same-next-row mark (Nothing m) (Nothing n) k l e = ap Nothing (ap (λ (s : NextRowOutcome). s .mark) e)
+same-next-row mark (Nothing m) (Refused n) k l e = absurd (let z : ⊥ = omega (arith, ap (λ (s : NextRowOutcome). s .refusal) e) in z)
+same-next-row mark (Refused n) (Row b) k l e = absurd (let z : ⊥ = omega (arith, ap (λ (s : NextRowOutcome). s .refusal) e) in z)
+same-next-row mark (Refused n) (Nothing m) k l e = absurd (let z : ⊥ = omega (arith, ap (λ (s : NextRowOutcome). s .refusal) e) in z)
+same-next-row mark (Refused n) (Refused m) k l e = ap Refused (ap (λ (s : NextRowOutcome). s .refusal) e)
 
 -- settled answers to the same search are equal, whatever settles them
-pub one-answer : (t : List ℕ) (refusal : ℕ) (selected : List ℕ → Bool) (mark ok other : ℕ) → ok ≡ 0 → other ≡ 0 → (x y : NextRowAnswer)
+pub one-next-row : (t : List ℕ) (refusal : ℕ) (selected : List ℕ → Bool) (mark ok other : ℕ) → ok ≡ 0 → other ≡ 0 → (x y : NextRowAnswer)
     → AllowedAnswer t ok refusal selected mark x → AllowedAnswer t other refusal selected mark y → x ≡ y
-one-answer t refusal selected mark ok other v w x y a b = same-answer mark x y (a .numbered) (b .numbered) (go (lt-or-ge 0 refusal))
+one-next-row t refusal selected mark ok other v w x y a b = same-next-row mark x y (a .numbered) (b .numbered) (go (lt-or-ge 0 refusal))
   where
     go : (0 < refusal) ⊎ (refusal ≤ 0) → outcomeOf mark x ≡ outcomeOf mark y
     go (inl l) = a .says .asked l ∙ sym (b .says .asked l)
@@ -127,7 +127,7 @@ asked-counted t k ok h =
 module _ (t : List ℕ) (ok : ℕ) (sound : ok ≡ 0 → verdict t ≡ 0) (refusal : ℕ) (selected : List ℕ → Bool) where
   -- Any lent bytes.
 
-  -- "any refusal leaves the mark"
+  -- a refusal leaves the mark
   pub refusal-leaves : (mark n after : ℕ) → MarkMoved t ok refusal selected mark (Refused n) after → after ≡ mark
   refusal-leaves mark n after m = m .mark-is
 
@@ -173,7 +173,7 @@ module _ (t : List ℕ) (ok : ℕ) (sound : ok ≡ 0 → verdict t ≡ 0) (refus
             let z : n ≡ k = ap (λ (s : NextRowOutcome). s .row) (is ∙ e) in
             (omega arith, omega arith, m .mark-is)
 
-    -- "If no row after it matches, the answer is none and the mark goes to the number of rows; a mark already there or beyond stays."
+    -- none is returned only if no selected row is left, and the mark is then that of `nextOutcome`
     pub none-moves : (mark m after : ℕ) → MarkMoved t ok refusal selected mark (Nothing m) after
         → (nextOutcome selected rows mark .row ≡ 0) × (after ≡ nextOutcome selected rows mark .mark)
     none-moves mark m after k =
@@ -191,7 +191,7 @@ module _ (t : List ℕ) (ok : ℕ) (sound : ok ≡ 0 → verdict t ≡ 0) (refus
         let e = settled mark (Row n) (a .1 .answer) refl in
         (sym e, a .1 .answer .numbered, rw (a .1 .mark-is) at (shows (a .0) ns (a .2)))
 
-    -- "from mark 0 to none, .. each match and no other row is shown, once, in row order"
+    -- repeated calls from mark 0 return exactly the selected rows
     pub all-called : (ns : List ℕ) → Calls 0 ns → ns ≡ selectedRows selected rows
     all-called ns a = shown-all selected rows ns (shows 0 ns a)
 
