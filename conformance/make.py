@@ -83,7 +83,7 @@ def read(path):
 
 
 # how many of a question's words are names
-place_words = dict.fromkeys("build list byte run count find span row column digest places match guide guidecheck guided without_edges".split(), 1)
+place_words = dict.fromkeys("build list byte run count find span row column digest places match prefix guide guidecheck guided without_edges".split(), 1)
 place_words["order"] = 2
 
 

@@ -13,7 +13,7 @@
  *  - Every pointer is non-null, also where its length is 0 (pass the address of any byte), and points to as many bytes, or words of a table, as its
  *    length says; pointers to figures and to words are aligned.
  *  - Nobody has to check a tree first: each call is safe on any bytes, reads nothing outside them and ends. On a tree that bt_check refuses, bt_find may
- *    answer any place below n with any number of blocks, bt_row any bytes, bt_row_length any length up to n, and bt_next_match any row after the mark or none, or each of them may
+ *    answer any place below n with any number of blocks, bt_row any bytes, bt_row_length any length up to n, bt_next_match and bt_next_with_prefix any row after the mark or none, or each of them may
  *    answer BT_PATH (bt_row also BT_BUFFER). All other answers are settled on any bytes. On a tree that bt_check accepts BT_PATH is never the answer.
  *  - bt_check says that a tree stands for a text, not for which: a changed leaf byte, with the counts and edges that it is in, makes a valid tree of
  *    another text, and a wrong key. So the office prints the SHA-256 of the book, 32 bytes, and the machine compares them with what bt_digest writes of the
@@ -221,6 +221,17 @@ uint32_t bt_places_words(const uint8_t *tree, size_t tree_len, uint32_t length, 
  * up to the match. */
 uint32_t bt_next_match(const uint8_t *tree, size_t tree_len, const uint8_t *ranges, size_t ranges_len, uint32_t *mark, uint32_t *row);
 
+/* Rows by their first bytes: moves a mark to the next row that starts with a prefix, say a code and the space after it. Rows are those of bt_row: a byte
+ * 13 directly before the byte 10 that ends a row is not part of it. No row starts with a prefix that contains a byte 10.
+ *   lent      tree; prefix, 1 to BT_MAX_PATTERN bytes
+ *   written   *mark is in and out, as for bt_next_match: 0 before the first call. It moves to the returned row; if no row after it starts with the prefix,
+ *             to the number of rows, unless it is there or above already. A refusal leaves it unchanged
+ *             *row: the returned row; 0 with BT_OK means that there is none
+ *   answers   0, 5, 6, 7, 16, 11 (byte 10 is not counted), 14
+ * Repeated calls from mark 0 with the same prefix, until *row is 0, return each row that starts with the prefix once, in row order. A call finds the end of
+ * the mark's row (bt_find) and reads the text from there to the end of the returned row. */
+uint32_t bt_next_with_prefix(const uint8_t *tree, size_t tree_len, const uint8_t *prefix, size_t prefix_len, uint32_t *mark, uint32_t *row);
+
 /* Columns before rows: a text of rows of one width, end byte included, rearranged; the byte in column b of row a goes to place b * rows + a, both counted
  * from 0. In books with rows of one width columns repeat more than rows, and the tree of the rearranged text can be smaller.
  *   lent      text, of any length
@@ -288,6 +299,14 @@ uint32_t bt_find_guided(const uint8_t *tree, size_t tree_len, const uint8_t *gui
  *   answers   0, 5, 6, 7, 11, 12, 13, 14 */
 uint32_t bt_row_guided(const uint8_t *tree, size_t tree_len, const uint8_t *guide, size_t guide_len, uint32_t q, uint8_t *buffer, size_t buffer_len,
                        uint32_t *length);
+
+/* bt_next_with_prefix with a guide: the end of the mark's row is found from an entry of the guide on. Repeated calls on a tree with many blocks of level 0
+ * spend most of their time in that find, which a guide makes short.
+ *   lent      tree; guide; prefix, 1 to BT_MAX_PATTERN bytes
+ *   written   *mark, *row: as bt_next_with_prefix
+ *   answers   0, 5, 6, 7, 16, 11, 14. Where bt_check_guide accepts the guide, the answer of bt_next_with_prefix; else any row after the mark, none, or BT_PATH */
+uint32_t bt_next_with_prefix_guided(const uint8_t *tree, size_t tree_len, const uint8_t *guide, size_t guide_len, const uint8_t *prefix, size_t prefix_len,
+                                    uint32_t *mark, uint32_t *row);
 
 /* Where the first of two trees stands, by bt_order. */
 enum bt_standing { BT_BEFORE = 1, BT_SAME = 2, BT_AFTER = 3 };

@@ -48,6 +48,11 @@ def match(tree, lent, mark):
     return number, row, after
 
 
+def prefix(tree, lent, mark):
+    number, after, row = _call("bt_next_with_prefix", tree.bytes, lent, mark)
+    return number, row, after
+
+
 def order(one, other):
     number, where, shared, first = _call("bt_order", one.bytes, other.bytes)
     return number, ["-", "before", "same", "after"][where], shared, first
@@ -85,6 +90,7 @@ ASKED = {
     "column": lambda tree, width, a: copied(lambda: tree.row_by_columns(int(width), int(a))),
     "places": lambda tree, pattern: tables(lambda: tree.places(from_hex(pattern))),
     "match": lambda tree, ranges, mark: match(tree, depths(ranges), int(mark)),
+    "prefix": lambda tree, word, mark: prefix(tree, from_hex(word), int(mark)),
     "digest": lambda tree: copied(tree.digest),
     "guide": lambda tree: tables(lambda: guide(tree)),
     "guidecheck": lambda tree, words: _call("bt_check_guide", tree.bytes, entries(words)),

@@ -83,6 +83,7 @@ _CALLS = {
     "bt_places": "bytes bytes words out32",
     "bt_places_words": "bytes n32 out32",
     "bt_next_match": "bytes bytes mark out32",
+    "bt_next_with_prefix": "bytes bytes mark out32",
     "bt_to_columns": "bytes n32 buffer",
     "bt_from_columns": "bytes n32 buffer",
     "bt_column_row": "bytes n32 n32 buffer",
@@ -93,6 +94,7 @@ _CALLS = {
     "bt_check_guide": "bytes bytes",
     "bt_find_guided": "bytes bytes n32 n32 out32 out32 out32",
     "bt_row_guided": "bytes bytes n32 buffer out32",
+    "bt_next_with_prefix_guided": "bytes bytes bytes mark out32",
     "bt_order": "bytes bytes out32 out32 out32",
     "bt_list": "bytes buffer out32",
     "bt_without_edges": "bytes buffer out64",
@@ -339,6 +341,25 @@ class Tree:
         while row:
             yield row
             row = self.next_match(ranges, row)
+
+    def next_with_prefix(self, prefix, mark=0, guide=None):
+        """The first row after `mark` that starts with `prefix`, 1 to 256 bytes; None if there is none."""
+        # bytes(5) is five zeros, so a number is no prefix
+        if not isinstance(prefix, (bytes, bytearray, memoryview)):
+            raise TypeError("a prefix is bytes, not %s" % type(prefix).__name__)
+        if guide is None:
+            return _ask("bt_next_with_prefix", self.bytes, prefix, mark)[1] or None
+        return _ask("bt_next_with_prefix_guided", self.bytes, guide, prefix, mark)[1] or None
+
+    def rows_with_prefix(self, prefix, guide=None):
+        """All rows that start with `prefix`, in row order, each with its number."""
+
+        def rows(number):
+            while number:
+                yield number, self.row(number, guide)
+                number = self.next_with_prefix(prefix, number, guide)
+
+        return rows(self.next_with_prefix(prefix, 0, guide))
 
     def row_by_columns(self, width, a):
         """Row a, from 0, all `width` bytes of it, from the tree of a text by columns."""

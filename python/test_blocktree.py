@@ -65,6 +65,11 @@ def match(tree, lent, mark):
     return number, row, after
 
 
+def prefix(tree, lent, mark):
+    number, after, row = _call("bt_next_with_prefix", tree, lent, mark)
+    return number, row, after
+
+
 def listed(tree):
     try:
         lines = blocktree.Tree(tree, checked=False).list()
@@ -113,6 +118,7 @@ ASKED = {
     "row": lambda named, t, q, room: with_buffer("bt_row", named[t], int(q), room=int(room)),
     "places": lambda named, t, pattern, words: places(named[t], from_hex(pattern), int(words)),
     "match": lambda named, t, word, mark: match(named[t], ranges(word), int(mark)),
+    "prefix": lambda named, t, word, mark: prefix(named[t], from_hex(word), int(mark)),
     "columns": lambda named, t, width, room: with_buffer("bt_to_columns", named[t], int(width), room=int(room)),
     "rows": lambda named, t, width, room: with_buffer("bt_from_columns", named[t], int(width), room=int(room)),
     "column": lambda named, t, width, a, room: column(named[t], int(width), int(a), int(room)),
@@ -169,6 +175,10 @@ def own_functions():
     assert book.places(b"CH0502") == [14, 574, 1134, 1694, 2254]
     assert book.places(b"4") == [place for place in range(2800) if text[place] == ord("4")]
     assert list(book.matches([(5, 5), (2, 2), (1, 1), (6, 6), (1, 2)])) == [39, 40, 79, 80, 119, 120, 159, 160, 199, 200]
+    assert list(book.rows_with_prefix(b"CH0502 ")) == [(number, rows[number - 1]) for number in (2, 42, 82, 122, 162)]
+    assert [number for number, _ in book.rows_with_prefix(b"CH", guide)] == [number for number in range(1, 201) if rows[number - 1].startswith(b"CH")]
+    assert (book.next_with_prefix(b"CH0502 ", 42, guide), book.next_with_prefix(b"CH0502 ", 162, guide)) == (82, None)
+    assert (book.next_with_prefix(b"CH0502 ", 42), book.next_with_prefix(b"CH0502 ", 162), book.next_with_prefix(bytearray(b"x"))) == (82, None, None)
     assert (book.byte(14), book.count(10, 1400), book.span(14, 6), book.run(14)[:3]) == (67, 100, b"CH0502", b"CH0")
     assert book.list() == "0 2 2 0\n1 15 6 9\n2 45 45 0\n"
     assert book.digest() == blocktree.digest_text(text) == hashlib.sha256(text).digest()
@@ -210,6 +220,8 @@ def refusals():
         (5, lambda: blocktree.Tree(b"", checked=False).digest()),
         (7, lambda: blocktree.Tree(book.bytes + b"\0", checked=False).without_edges()),
         (16, lambda: book.places(b"")),
+        (16, lambda: book.next_with_prefix(b"")),
+        (16, lambda: book.rows_with_prefix(bytes(257))),
         (19, lambda: book.next_match([])),
         (20, lambda: blocktree.to_columns(b"ABC", 2)),
         (22, lambda: blocktree.renew(b"2024")),
@@ -221,6 +233,13 @@ def refusals():
             assert refused.number == number and str(refused).startswith("refused (%d): " % number)
         else:
             raise AssertionError("%d did not come" % number)
+    for prefix in ("A", 1, [65], None):
+        for ask in (book.next_with_prefix, book.rows_with_prefix):
+            try:
+                ask(prefix)
+            except TypeError:
+                continue
+            raise AssertionError("%r was lent" % (prefix,))
     for number in (-1, 1 << 32):
         try:
             book.row(number)

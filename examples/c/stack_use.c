@@ -40,6 +40,7 @@ static void row_count(void) { bt_row_count(tree, size, &large); }
 static void places_words(void) { bt_places_words(tree, size, 1, &third); }
 static void places(void) { bt_places(tree, size, (const uint8_t *)"1", 1, table, words32, &number); }
 static void next_match(void) { uint32_t mark = 0; do bt_next_match(tree, size, ranges, sizeof ranges, &mark, &number); while (number && mark < 500); }
+static void next_with_prefix(void) { uint32_t mark = 0; do bt_next_with_prefix(tree, size, (const uint8_t *)"K0", 2, &mark, &number); while (number && mark < 500); }
 static void to_columns(void) { bt_to_columns(text, TEXT, 10, turned, TEXT); }
 static void from_columns(void) { bt_from_columns(text, TEXT, 10, turned, TEXT); }
 static void column_row(void) { bt_column_row(tree, size, 10, 5, row, TEXT); }
@@ -50,6 +51,7 @@ static void make_guide(void) { bt_make_guide(tree, size, guide, 4 * words, &larg
 static void check_guide(void) { bt_check_guide(tree, size, guide, 4 * words); }
 static void find_guided(void) { for (uint32_t j = 1; j < 6000; j += 7) bt_find_guided(tree, size, guide, 4 * words, 10, j, &place, &third, &number); }
 static void row_guided(void) { for (uint32_t q = 1; q < 6000; q += 7) bt_row_guided(tree, size, guide, 4 * words, q, row, TEXT, &third); }
+static void next_with_prefix_guided(void) { uint32_t mark = 0; do bt_next_with_prefix_guided(tree, size, guide, 4 * words, (const uint8_t *)"K0", 2, &mark, &number); while (number && mark < 500); }
 static void order(void) { bt_order(tree, size, tree, size, &place, &third, &number); }
 static void without_edges(void) { bt_without_edges(tree, size, smaller, TREE, &large); }
 static void list(void) { bt_list(small, small_size, row, TEXT, &third); }
@@ -103,10 +105,11 @@ int main(void)
         {"bt_scan_words", scan_words}, {"bt_enough", enough}, {"bt_build", build}, {"bt_build_scanned", build_scanned}, {"bt_check", check},
         {"bt_byte", byte}, {"bt_run", run}, {"bt_span", span}, {"bt_count", count}, {"bt_find", find}, {"bt_row", rows}, {"bt_places", places},
         {"bt_version", version}, {"bt_info", info}, {"bt_row_length", row_length}, {"bt_row_count", row_count}, {"bt_places_words", places_words},
-        {"bt_next_match", next_match}, {"bt_to_columns", to_columns}, {"bt_from_columns", from_columns}, {"bt_column_row", column_row},
+        {"bt_next_match", next_match}, {"bt_next_with_prefix", next_with_prefix}, {"bt_to_columns", to_columns}, {"bt_from_columns", from_columns}, {"bt_column_row", column_row},
         {"bt_digest", digest}, {"bt_digest_text", digest_text},
         {"bt_guide_words", guide_words}, {"bt_make_guide", make_guide}, {"bt_check_guide", check_guide}, {"bt_find_guided", find_guided},
-        {"bt_row_guided", row_guided}, {"bt_order", order}, {"bt_without_edges", without_edges}, {"bt_list", list}, {"bt_open_on", open_on}, {"bt_days_left", days_left}, {"bt_renew", renew},
+        {"bt_row_guided", row_guided}, {"bt_next_with_prefix_guided", next_with_prefix_guided}, {"bt_order", order}, {"bt_without_edges", without_edges}, {"bt_list", list},
+        {"bt_open_on", open_on}, {"bt_days_left", days_left}, {"bt_renew", renew},
     };
     tree = malloc(TREE);
     guide = malloc(TEXT);
@@ -118,7 +121,7 @@ int main(void)
     const size_t none = used(nothing);
     for (size_t i = 0; i < sizeof calls / sizeof *calls; i++) {
         const size_t bytes = used(calls[i].function);
-        printf("%-17s %5lu\n", calls[i].name, (unsigned long)(bytes > none ? bytes - none : 0));
+        printf("%-26s %5lu\n", calls[i].name, (unsigned long)(bytes > none ? bytes - none : 0));
     }
     return bt_check(tree, size) != BT_OK;
 }

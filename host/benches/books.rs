@@ -9,6 +9,7 @@
 //!     cargo bench -- licence    the term of a licence only
 //!     cargo bench -- orders     the order of two trees only
 //!     cargo bench -- layouts    trees with edges and without: sizes, short spans, the rewriting
+//!     cargo bench -- prefixes   rows by their first bytes, on books of 1 MiB and 8 MiB
 //!
 //! Prints the tables of docs/BENCHMARKS.md. Nothing is asserted about time; that both give the same answers is.
 
@@ -18,7 +19,7 @@ mod model;
 mod support;
 
 use codebook::{calls, MAX_TEXT, SHORT_LIST, SMALL_LIST};
-use model::{check, columns, dates, fast, guides, keys, order, read, without_edges, Shape};
+use model::{check, columns, dates, fast, guides, keys, order, prefix, read, without_edges, Shape};
 use std::hint::black_box;
 use std::io::Write;
 use std::process::{Command, Stdio};
@@ -55,6 +56,9 @@ fn main() {
     if told("layouts") {
         return by_layouts(quick);
     }
+    if told("prefixes") {
+        return time_prefixes();
+    }
     for &size in &[65_536, 1_048_576][..if quick { 1 } else { 2 }] {
         time_builders(size);
     }
@@ -90,6 +94,7 @@ fn main() {
     if !quick {
         time_guides();
         time_orders();
+        time_prefixes();
     }
 }
 
@@ -498,6 +503,45 @@ fn time_matches(text: &[u8], name: &str, shape: Shape) {
         let call = library / (all() as u32 + 1);
         println!("| {name} | {words} | {} | {} | {} | {} | {} |", plain(), shown(library), shown(call), shown(model), shown(span));
     }
+}
+
+/// All rows that start with a prefix, a call for each and one that returns none: by the library, without a guide and with one; and by the model, which reads the text back once and compares
+/// the beginning of each row. The trees of 8 MiB have 32,768 blocks of level 0.
+fn time_prefixes() {
+    println!("\n## Rows by their first bytes, byte 10 counted\n");
+    println!("| Book | Text | Leaf/arity/levels | Prefix | Rows | All calls | A call | All calls with a guide | A call | Model |");
+    println!("|---|---:|---|---|---:|---:|---:|---:|---:|---:|");
+    for (size, shape) in [(1_048_576, Shape { m: 64, r: 2, h: 4 }), (8_388_608, Shape { m: 256, r: 2, h: 1 })] {
+        for (kind, name) in KINDS {
+            let text = book(kind, size, 1);
+            let tree = fast::tree(&text, shape, COUNTED);
+            let rows = read::rows_of(&text);
+            let space = |row: &[u8]| row.iter().position(|&byte| byte == b' ').expect("a code");
+            let middle = rows[rows.len() / 2];
+            for (words, wanted) in [("a code and its space", &middle[..=space(middle)]), ("two letters", &middle[..2])] {
+                let line = time_prefix(&tree, &guides::guide(&tree).expect("an accepted tree"), wanted);
+                println!("| {name} | {size} | {}/{}/{} | {words} | {line} |", shape.m, shape.r, shape.h);
+            }
+        }
+    }
+}
+
+/// The rows, and the times, of one prefix.
+fn time_prefix(tree: &[u8], guide: &[u8], wanted: &[u8]) -> String {
+    let (tree, guide) = (|| black_box(tree), || black_box(guide));
+    let count = |next: &dyn Fn(&mut u32) -> (u32, u32)| {
+        let (mut mark, mut rows) = (0, 0);
+        while next(&mut mark).1 != 0 {
+            rows += 1;
+        }
+        rows
+    };
+    let all = || count(&|mark| calls::next_with_prefix(tree(), wanted, mark));
+    let guided = || count(&|mark| calls::next_with_prefix_guided(tree(), guide(), wanted, mark));
+    let plain = || prefix::rows_with_prefix(&read::text(&read::Tree::open(tree()).expect("a tree")), wanted).len();
+    let ([library, model], [with, _]) = (both(3, all, plain), both(3, guided, all));
+    let a_call = |all: Duration| shown(all / (plain() as u32 + 1));
+    format!("{} | {} | {} | {} | {} | {}", plain(), shown(library), a_call(library), shown(with), a_call(with), shown(model))
 }
 
 /// Find and row with a guide and without, next to the model's find with a binary search over level 0; and making and checking a guide.

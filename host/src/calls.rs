@@ -35,6 +35,7 @@ mod declared {
             number: *mut u32,
         ) -> u32;
         pub fn bt_next_match(tree: *const u8, tree_len: usize, ranges: *const u8, ranges_len: usize, mark: *mut u32, row: *mut u32) -> u32;
+        pub fn bt_next_with_prefix(tree: *const u8, tree_len: usize, prefix: *const u8, prefix_len: usize, mark: *mut u32, row: *mut u32) -> u32;
         pub fn bt_to_columns(text: *const u8, text_len: usize, width: u32, out: *mut u8, out_len: usize) -> u32;
         pub fn bt_from_columns(text: *const u8, text_len: usize, width: u32, out: *mut u8, out_len: usize) -> u32;
         pub fn bt_column_row(tree: *const u8, tree_len: usize, width: u32, a: u32, buffer: *mut u8, buffer_len: usize) -> u32;
@@ -63,6 +64,16 @@ mod declared {
             buffer: *mut u8,
             buffer_len: usize,
             length: *mut u32,
+        ) -> u32;
+        pub fn bt_next_with_prefix_guided(
+            tree: *const u8,
+            tree_len: usize,
+            guide: *const u8,
+            guide_len: usize,
+            prefix: *const u8,
+            prefix_len: usize,
+            mark: *mut u32,
+            row: *mut u32,
         ) -> u32;
         pub fn bt_order(
             one: *const u8,
@@ -191,6 +202,13 @@ pub fn next_match(tree: &[u8], ranges: &[u8], mark: &mut u32) -> (u32, u32) {
     (number, row)
 }
 
+/// The refusal or 0, and the next row that starts with the prefix, 0 for none; the mark is moved.
+pub fn next_with_prefix(tree: &[u8], prefix: &[u8], mark: &mut u32) -> (u32, u32) {
+    let mut row = 0;
+    let number = unsafe { declared::bt_next_with_prefix(tree.as_ptr(), tree.len(), prefix.as_ptr(), prefix.len(), mark, &mut row) };
+    (number, row)
+}
+
 /// The number; the text rearranged by columns.
 pub fn to_columns(text: &[u8], width: u32, out: &mut [u8]) -> u32 {
     unsafe { declared::bt_to_columns(text.as_ptr(), text.len(), width, out.as_mut_ptr(), out.len()) }
@@ -249,6 +267,14 @@ pub fn row_guided(tree: &[u8], guide: &[u8], q: u32, buffer: &mut [u8]) -> (u32,
     let number =
         unsafe { declared::bt_row_guided(tree.as_ptr(), tree.len(), guide.as_ptr(), guide.len(), q, buffer.as_mut_ptr(), buffer.len(), &mut length) };
     (number, length)
+}
+
+/// As `next_with_prefix`, with a guide.
+pub fn next_with_prefix_guided(tree: &[u8], guide: &[u8], prefix: &[u8], mark: &mut u32) -> (u32, u32) {
+    let mut row = 0;
+    let (tree, guide, prefix) = ((tree.as_ptr(), tree.len()), (guide.as_ptr(), guide.len()), (prefix.as_ptr(), prefix.len()));
+    let number = unsafe { declared::bt_next_with_prefix_guided(tree.0, tree.1, guide.0, guide.1, prefix.0, prefix.1, mark, &mut row) };
+    (number, row)
 }
 
 /// The number, where the first stands (1 before, 2 same, 3 after), the length of the shared beginning, and which stands first (1 or 2).

@@ -21,6 +21,7 @@ mod facts;
 mod guides;
 mod order;
 mod parts;
+mod prefix;
 mod refusal;
 
 pub use bounds::{LIST_LENGTH, MAX_PATTERN, MAX_TEXT, MAX_TREE};
@@ -31,6 +32,7 @@ pub use facts::{version, Info};
 pub use guides::Guided;
 pub use order::Compared;
 pub use parts::{Block, Level};
+pub use prefix::RowsWithPrefix;
 use refusal::answer;
 pub use refusal::Refusal;
 

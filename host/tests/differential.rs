@@ -9,10 +9,10 @@ mod judge;
 mod model;
 mod support;
 
-use codebook::{calls, MAX_TEXT};
+use codebook::{calls, Refusal, Tree, MAX_TEXT};
 use judge::{find_agrees, lent, match_agrees, row_agrees, FILL, FILL_WORD};
 use model::read::Answer;
-use model::{build, check, fast, keys, read, Shape};
+use model::{build, check, fast, keys, prefix, read, Shape};
 use std::collections::{BTreeMap, BTreeSet};
 use support::books::{book, Kind};
 use support::{rounds, setting, to_hex, Rng};
@@ -258,6 +258,7 @@ fn ask(rng: &mut Rng, tree: &[u8], questions: usize) {
         let ranges = ranges(rng);
         let mark = if rng.one_in(8) { damage::odd_word(rng, n as u32) } else { rng.below(6) as u32 };
         ask_match(tree, &ranges, mark);
+        ask_prefix(tree, &pattern, mark);
     }
 }
 
@@ -342,6 +343,48 @@ fn all_matches(tree: &[u8], ranges: &[u8]) -> Vec<u32> {
         match ask_match(tree, ranges, shown.last().copied().unwrap_or(0)) {
             (0, 0, _) => return shown,
             (0, row, _) => shown.push(row),
+            other => panic!("{other:?} {}", to_hex(tree)),
+        }
+    }
+}
+
+/// The next row after a mark that starts with a prefix.
+fn ask_prefix(tree: &[u8], wanted: &[u8], mark: u32) -> (u32, u32, u32) {
+    let mut after = mark;
+    let (number, row) = calls::next_with_prefix(tree, wanted, &mut after);
+    let (expected, got) = (prefix::next_with_prefix(tree, wanted, mark), (number, row, after));
+    assert!(match_agrees(expected, mark, got), "prefix {} {mark} gives {got:?}, not {expected:?} {}", to_hex(wanted), to_hex(tree));
+    got
+}
+
+/// The rows returned from mark 0 to none are those that start with the prefix, once each, in order; those of a longer prefix are among them.
+#[test]
+fn rows_by_their_first_bytes() {
+    rounds(4000, |rng| {
+        let mut text = Vec::new();
+        for _ in 0..rng.below(16) {
+            text.extend((0..rng.below(6)).map(|_| *rng.pick(b"AAB \r")));
+            text.extend_from_slice(rng.pick::<&[u8]>(&[b"\n", b"\n", b"\r\n", b"\r\r\n", b"\n\n", b"A"]));
+        }
+        text.push(*rng.pick(b"AB\n\r"));
+        let shape = damage::shape(rng);
+        let tree = damage::other_tree(rng, &text, shape, b"\n").into_boxed_slice();
+        let long: Vec<u8> = (0..rng.within(2, 5)).map(|_| *rng.pick(b"AAAB \r\n")).collect();
+        let short = &long[..rng.within(1, long.len() - 1)];
+        let all = [&long[..], short].map(|wanted| all_with_prefix(&tree, wanted));
+        assert_eq!(all, [&long[..], short].map(|wanted| prefix::rows_with_prefix(&text, wanted)));
+        assert!(all[0].iter().all(|row| all[1].contains(row)));
+        assert!(!short.contains(&10) || all[1].is_empty());
+    });
+}
+
+/// The rows that are returned from mark 0 to none.
+fn all_with_prefix(tree: &[u8], wanted: &[u8]) -> Vec<u32> {
+    let mut rows = Vec::new();
+    loop {
+        match ask_prefix(tree, wanted, rows.last().copied().unwrap_or(0)) {
+            (0, 0, _) => return rows,
+            (0, row, _) => rows.push(row),
             other => panic!("{other:?} {}", to_hex(tree)),
         }
     }
@@ -527,6 +570,13 @@ fn ask_book(rng: &mut Rng, text: &[u8], shape: Shape, counted: &[u8], tree: &[u8
         assert_eq!(calls::places(tree, &text[from..from + length], &mut table), (0, places.len() as u32), "{shape:?}");
         assert!(*table == *places, "{shape:?}");
     }
+    for length in [2, 5, 8] {
+        let row = rng.within(0, text.len() - length);
+        let row = text[..row].iter().rposition(|&byte| byte == 10).map_or(0, |end| end + 1);
+        let wanted = &text[row..text.len().min(row + length)];
+        let expected = if counted.contains(&10) { Ok(prefix::rows_with_prefix(text, wanted)) } else { Err(Refusal::NotCounted) };
+        assert_eq!(Tree::unchecked(tree).rows_with_prefix(None, wanted).collect::<Result<Vec<u32>, Refusal>>(), expected, "{shape:?}");
+    }
 }
 
 /// The book's tree, once it is compared and asked.
@@ -568,10 +618,12 @@ fn every_number_is_reached() {
             note("find", if let Answer::Settled(answer) = read::find(&tree, 10, j) { answer.0 } else { FREE });
             note("places", read::places(&tree, &text[..text.len().min(p as usize % 3)], &mut [0; 2]).0);
             note("match", if let Answer::Settled(answer) = keys::next_match(&tree, &ranges(rng), j) { answer.0 } else { FREE });
+            let wanted: &[u8] = if p == 0 { &[] } else { &text[..text.len().min(p as usize % 3 + 1)] };
+            note("prefix", if let Answer::Settled(answer) = prefix::next_with_prefix(&tree, wanted, j) { answer.0 } else { FREE });
             note("row", if let Answer::Settled(answer) = read::row(&tree, j, &mut buffer) { answer.0 } else { FREE });
         }
     }
-    let expected: [(&str, &[u32]); 10] = [
+    let expected: [(&str, &[u32]); 11] = [
         ("check", &[0, 5, 6, 7, 8, 9]),
         ("list", &[0, 5, 6, 7, 8, 9]),
         ("byte", &[0, 5, 6, 7, 10, 14]),
@@ -582,6 +634,7 @@ fn every_number_is_reached() {
         ("row", &[0, 5, 6, 7, 11, 12, 13, 14, FREE]),
         ("places", &[0, 5, 6, 7, 14, 16, 17]),
         ("match", &[0, 5, 6, 7, 11, 19, FREE]),
+        ("prefix", &[0, 5, 6, 7, 11, 16, FREE]),
     ];
     for (question, numbers) in expected {
         assert_eq!(reached[question], numbers.iter().copied().collect(), "{question}");

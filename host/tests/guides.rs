@@ -11,9 +11,9 @@ mod model;
 mod support;
 
 use codebook::calls;
-use judge::{find_agrees, lent, row_agrees};
+use judge::{find_agrees, lent, match_agrees, row_agrees};
 use model::read::{Answer, Tree};
-use model::{fast, guides, read, Shape};
+use model::{fast, guides, prefix, read, Shape};
 use support::books::{book, Kind};
 use support::{rounds, to_hex, Rng};
 
@@ -73,6 +73,12 @@ fn ask_with(rng: &mut Rng, tree: &[u8], guide: &[u8]) {
     let answer = guides::row(tree, guide, q, &mut expected);
     let got = calls::row_guided(tree, guide, q, &mut buffer);
     assert!(row_agrees((answer, &expected), (got, &buffer)), "row {q} in {space} gives {got:?} {} {}", to_hex(guide), to_hex(tree));
+
+    let wanted: Vec<u8> = (0..rng.below(4)).map(|_| *rng.pick(b"AAB\r\n")).collect();
+    let mut mark = q;
+    let (number, row) = calls::next_with_prefix_guided(tree, guide, &wanted, &mut mark);
+    let (expected, got) = (prefix::next_with_prefix_guided(tree, guide, &wanted, q), (number, row, mark));
+    assert!(match_agrees(expected, q, got), "prefix {} {q} gives {got:?} {} {}", to_hex(&wanted), to_hex(guide), to_hex(tree));
 }
 
 fn ask(rng: &mut Rng, tree: &[u8]) {
@@ -142,6 +148,13 @@ fn long_books() {
         for q in (0..read::rows_of(&text).len() as u32 + 3).step_by(11) {
             assert_eq!(calls::row_guided(&tree, &guide, q, &mut guided), calls::row(&tree, q, &mut plain), "{m}/{r}/{h} row {q}");
             assert!(plain == guided);
+        }
+        for wanted in [&text[..1], &text[..3]] {
+            let found = |guide| codebook::Tree::unchecked(&tree).rows_with_prefix(guide, wanted).collect::<Result<Vec<u32>, codebook::Refusal>>();
+            assert_eq!(
+                (found(Some(&guide)), found(None)),
+                (Ok(prefix::rows_with_prefix(&text, wanted)), Ok(prefix::rows_with_prefix(&text, wanted)))
+            );
         }
     }
 }

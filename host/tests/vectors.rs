@@ -8,7 +8,7 @@ mod support;
 use codebook::calls;
 use judge::{find_agrees, match_agrees, row_agrees, FILL, FILL_WORD};
 use model::read::Answer;
-use model::{build, check, columns, dates, guides, keys, order, read, sha256, without_edges, Shape};
+use model::{build, check, columns, dates, guides, keys, order, prefix, read, sha256, without_edges, Shape};
 use std::collections::HashMap;
 use std::fmt::Display;
 use support::{from_hex, to_hex};
@@ -16,6 +16,9 @@ use support::{from_hex, to_hex};
 const VECTORS: &str = include_str!("vectors.txt");
 /// What the program `cases` must write; its lines that are wrong on purpose are its own.
 const CASES: &str = include_str!("../../crates/cases/stdout");
+
+/// The next row after a mark that bytes ask for.
+type NextRow = fn(&[u8], &[u8], u32) -> Answer<(u32, u32, u32)>;
 
 /// The calls of one implementation.
 #[allow(clippy::type_complexity)]
@@ -31,7 +34,8 @@ struct Calls {
     find: fn(&[u8], u32, u32) -> Answer<(u32, u32, u32)>,
     row: fn(&[u8], u32, &mut [u8]) -> Answer<(u32, u32)>,
     places: fn(&[u8], &[u8], &mut [u32]) -> (u32, u32),
-    next_match: fn(&[u8], &[u8], u32) -> Answer<(u32, u32, u32)>,
+    next_match: NextRow,
+    next_with_prefix: NextRow,
     to_columns: fn(&[u8], u32, &mut [u8]) -> u32,
     from_columns: fn(&[u8], u32, &mut [u8]) -> u32,
     column_row: fn(&[u8], u32, u32, &mut [u8]) -> (u32, u32),
@@ -64,6 +68,11 @@ fn library() {
         next_match: |tree, ranges, mark| {
             let mut after = mark;
             let (number, row) = calls::next_match(tree, ranges, &mut after);
+            Answer::Settled((number, row, after))
+        },
+        next_with_prefix: |tree, prefix, mark| {
+            let mut after = mark;
+            let (number, row) = calls::next_with_prefix(tree, prefix, &mut after);
             Answer::Settled((number, row, after))
         },
         to_columns: calls::to_columns,
@@ -105,6 +114,7 @@ fn model() {
         row: read::row,
         places: read::places,
         next_match: keys::next_match,
+        next_with_prefix: prefix::next_with_prefix,
         to_columns: columns::to_columns,
         from_columns: columns::from_columns,
         column_row: columns::row,
@@ -236,7 +246,8 @@ fn item(calls: &Calls, bytes: &HashMap<&str, Vec<u8>>, item: &[&str], expected: 
             let (refusal, size) = (calls.without_edges)(subject, &mut buffer);
             format!("{refusal} {size} {}", to_hex(&buffer))
         }
-        "match" => return next_match(calls, subject, &ranges(item[2]), number(3), expected),
+        "match" => return next_row(calls.next_match, subject, &ranges(item[2]), number(3), expected),
+        "prefix" => return next_row(calls.next_with_prefix, subject, &from_hex(item[2]), number(3), expected),
         "find" => return find(calls, subject, number(2), number(3), expected),
         "row" => return row(calls, subject, number(2), lent(3), expected),
         other => panic!("no such item: {other}"),
@@ -325,13 +336,13 @@ fn ranges(token: &str) -> Vec<u8> {
     pairs.map_or_else(|| from_hex(token), |pairs| pairs.concat())
 }
 
-fn next_match(calls: &Calls, tree: &[u8], ranges: &[u8], mark: u32, expected: &[&str]) -> Result<(), String> {
+fn next_row(call: NextRow, tree: &[u8], wanted: &[u8], mark: u32, expected: &[&str]) -> Result<(), String> {
     let number = |at: usize| expected[at].parse::<u32>().expect("a number");
     let expected = match expected {
         ["free"] => Answer::Free(u64::MAX),
         _ => Answer::Settled((number(0), number(1), number(2))),
     };
-    let got = (calls.next_match)(tree, ranges, mark);
+    let got = call(tree, wanted, mark);
     let agrees = match got {
         Answer::Settled(got) => match_agrees(expected, mark, got),
         Answer::Free(_) => matches!(expected, Answer::Free(_)),

@@ -44,6 +44,9 @@ use Rattle.abi.proofs.bt_places.Met as bt-places-met
 use Rattle.abi.proofs.bt_next_match as bt-next-match-of
 use Rattle.abi.proofs.bt_next_match.Symbol as bt-next-match-at
 use Rattle.abi.proofs.bt_next_match.Met as bt-next-match-met
+use Rattle.abi.proofs.bt_next_with_prefix as bt-next-with-prefix-of
+use Rattle.abi.proofs.bt_next_with_prefix.Symbol as bt-next-with-prefix-at
+use Rattle.abi.proofs.bt_next_with_prefix.Met as bt-next-with-prefix-met
 use Rattle.abi.proofs.bt_list as bt-list-of
 use Rattle.abi.proofs.bt_list.Symbol as bt-list-at
 use Rattle.abi.proofs.bt_list.Met as bt-list-met
@@ -62,6 +65,9 @@ use Rattle.abi.proofs.guide_exports.bt_find_guided.Met as bt-find-guide
 use Rattle.abi.proofs.guide_exports.bt_row_guided as bt-row-guided-of
 use Rattle.abi.proofs.guide_exports.bt_row_guided.Symbol as bt-row-guided-at
 use Rattle.abi.proofs.guide_exports.bt_row_guided.Met as bt-row-guided-met
+use Rattle.abi.proofs.guide_exports.bt_next_with_prefix_guided as bt-next-with-prefix-guided-of
+use Rattle.abi.proofs.guide_exports.bt_next_with_prefix_guided.Symbol as bt-next-with-prefix-guided-at
+use Rattle.abi.proofs.guide_exports.bt_next_with_prefix_guided.Met as bt-next-with-prefix-guided-met
 use Rattle.abi.proofs.licence_exports.bt_open_on as bt-open-on-of
 use Rattle.abi.proofs.licence_exports.bt_open_on.Symbol as bt-open-on-at
 use Rattle.abi.proofs.licence_exports.bt_open_on.Met as bt-open-on-met
@@ -140,6 +146,12 @@ calls =
     (λ 𝓤 H A mem run κs a. (tt, refl))
     ∷ call (record { routine = bt-next-match-at.routine; signature = bt-next-match-of.signature; clauses = bt-next-match-of.spec }) bt-next-match-met.met
     (λ 𝓤 H A mem run κs a. (tt, refl))
+    ∷ call (record {
+      routine = bt-next-with-prefix-at.routine;
+      signature = bt-next-with-prefix-of.signature;
+      clauses = bt-next-with-prefix-of.spec;
+    }) bt-next-with-prefix-met.met
+    (λ 𝓤 H A mem run κs a. (tt, refl))
     ∷ call (record { routine = bt-list-at.routine; signature = bt-list-of.signature; clauses = bt-list-of.spec }) bt-list-met.met
     (λ 𝓤 H A mem run κs a. (tt, refl))
     ∷ call (record { routine = bt-guide-words-at.routine; signature = bt-guide-words-of.signature; clauses = bt-guide-words-of.spec }) bt-guide-words-met.met
@@ -151,6 +163,12 @@ calls =
     ∷ call (record { routine = bt-find-guided-at.routine; signature = bt-find-guided-of.signature; clauses = bt-find-guided-of.spec }) bt-find-guided-met.met
     (λ 𝓤 H A mem run κs a. (tt, refl))
     ∷ call (record { routine = bt-row-guided-at.routine; signature = bt-row-guided-of.signature; clauses = bt-row-guided-of.spec }) bt-row-guided-met.met
+    (λ 𝓤 H A mem run κs a. (tt, refl))
+    ∷ call (record {
+      routine = bt-next-with-prefix-guided-at.routine;
+      signature = bt-next-with-prefix-guided-of.signature;
+      clauses = bt-next-with-prefix-guided-of.spec;
+    }) bt-next-with-prefix-guided-met.met
     (λ 𝓤 H A mem run κs a. (tt, refl))
     ∷ call (record { routine = bt-open-on-at.routine; signature = bt-open-on-of.signature; clauses = bt-open-on-of.spec }) bt-open-on-met.met
     (λ 𝓤 H A mem run κs a. (tt, refl))

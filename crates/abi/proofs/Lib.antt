@@ -2,7 +2,7 @@ pub mod ExportsLaws
 pub mod CountExportsLaws
 pub mod PlacesExportsLaws
 pub mod ScanExportsLaws
-pub mod MatchExportsLaws
+pub mod NextRowExportsLaws
 pub mod ColumnExportsLaws
 pub mod LicenceExportsLaws
 pub mod GuideExportsLaws

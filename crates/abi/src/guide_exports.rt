@@ -1,11 +1,15 @@
-// A guide to the level 0 blocks: its size, making one, checking one, and find and row with one. Any bytes may be lent as a guide.
+// A guide to the level 0 blocks: its size, making one, checking one; find, row and rows by their first bytes with one. Any bytes may be lent as a guide.
 use query::Guided;
+use query::NextRowAnswer;
 use query::RowCopied;
 use query::Size;
 ghost use mathlib.Core.Path.{_≡_};
 ghost use Rattle.ask_guide.specs.Guides.{guideNumber, sizeSays, makeSays, makeLeaves};
 ghost use Rattle.ask_guided.specs.Guided.{GuidedSays};
 ghost use Rattle.format.specs.RowSays.{RowBy};
+ghost use Rattle.prefix_match.specs.PrefixRows.{startsWith};
+ghost use Rattle.query_row_filter.specs.AllowedOutcome.{AllowedOutcome};
+ghost use Rattle.query_prefix.specs.PrefixRefusals.{prefixRefusal};
 ghost use Rattle.abi.specs.ExportAnswers.{saying};
 
 // How many words the guide of a tree has.
@@ -109,6 +113,39 @@ pub extern "C" fn bt_row_guided(
         }
         RowCopied::Refused(number) => {
             *len = 0;
+            number
+        }
+    }
+}
+
+// Moves the mark to the next row that starts with the prefix and returns that row, 0 for none. A refusal leaves the mark.
+#[no_mangle]
+pub extern "C" fn bt_next_with_prefix_guided(
+    tree: &[u8],
+    guide: &[u8],
+    prefix: &[u8],
+    mark: &mut u32,
+    row: &mut u32,
+) -> u32
+    ensures { λ r. ⌜ AllowedOutcome (now (tree .entry)) (guideNumber (now (tree .entry)) (now (guide .entry)))
+        (prefixRefusal (now (tree .entry)) (now (prefix .entry))) (startsWith (now (prefix .entry)))
+        (now (mark .entry)) (record { refusal = r; row = now (row .exit); mark = now (mark .exit) }) ⌝ }
+{
+    let at = *mark;
+    let answer = query::next_row_with_prefix_guided(tree, guide, prefix, at);
+    match answer {
+        NextRowAnswer::Row(q) => {
+            *row = q;
+            *mark = q;
+            0
+        }
+        NextRowAnswer::Nothing(m) => {
+            *row = 0;
+            *mark = m;
+            0
+        }
+        NextRowAnswer::Refused(number) => {
+            *row = 0;
             number
         }
     }

@@ -13,10 +13,10 @@ use query::Answer;
 use query::Copied;
 use query::Counted;
 use query::Found;
+use query::NextRowAnswer;
 use query::PlacesWritten;
 use query::Ran;
 use query::RowCopied;
-use query::Shown;
 use query::TextPlace;
 use tree::Built;
 use tree::Room;
@@ -34,7 +34,10 @@ ghost use Rattle.build_enough.specs.Enough.{enoughSays};
 ghost use Rattle.list_lines.specs.ListSays.{listSays, listLeaves};
 ghost use Rattle.ask_patterns.specs.Places.{placesSays, placesLeaves};
 ghost use Rattle.build_by_scan.specs.ScannedSays.{tableWords, scanNumber, scanSize, scanWindows, scanLeaves, TableLeft};
+ghost use Rattle.prefix_match.specs.PrefixRows.{startsWith};
+ghost use Rattle.query_row_filter.specs.AllowedOutcome.{AllowedOutcome};
 ghost use Rattle.ask_worn_keys.specs.MatchSays.{MatchSays};
+ghost use Rattle.query_prefix.specs.PrefixRefusals.{prefixRefusal};
 ghost use Rattle.abi.specs.ExportAnswers.{saying, roomNumber, roomSize, listedNumber, listedSize};
 
 // Builds the tree of a text.
@@ -310,22 +313,53 @@ pub extern "C" fn bt_places(tree: &[u8], pattern: &[u8], table: &mut [u32], numb
 #[no_mangle]
 pub extern "C" fn bt_next_match(tree: &[u8], ranges: &[u8], mark: &mut u32, row: &mut u32) -> u32
     ensures { λ r. ⌜ MatchSays
-        (now (tree .entry)) (now (ranges .entry)) (now (mark .entry)) (record { number = r; row = now (row .exit); mark = now (mark .exit) }) ⌝ }
+        (now (tree .entry)) (now (ranges .entry)) (now (mark .entry)) (record { refusal = r; row = now (row .exit); mark = now (mark .exit) }) ⌝ }
 {
     let at = *mark;
     let shown = query::next_match(tree, ranges, at);
     match shown {
-        Shown::Row(q) => {
+        NextRowAnswer::Row(q) => {
             *row = q;
             *mark = q;
             0
         }
-        Shown::Nothing(m) => {
+        NextRowAnswer::Nothing(m) => {
             *row = 0;
             *mark = m;
             0
         }
-        Shown::Refused(number) => {
+        NextRowAnswer::Refused(number) => {
+            *row = 0;
+            number
+        }
+    }
+}
+
+// Moves the mark to the next row that starts with the prefix and returns that row, 0 for none. A refusal leaves the mark.
+#[no_mangle]
+pub extern "C" fn bt_next_with_prefix(
+    tree: &[u8],
+    prefix: &[u8],
+    mark: &mut u32,
+    row: &mut u32,
+) -> u32
+    ensures { λ r. ⌜ AllowedOutcome (now (tree .entry)) (verdict (now (tree .entry))) (prefixRefusal (now (tree .entry)) (now (prefix .entry)))
+        (startsWith (now (prefix .entry))) (now (mark .entry)) (record { refusal = r; row = now (row .exit); mark = now (mark .exit) }) ⌝ }
+{
+    let at = *mark;
+    let answer = query::next_row_with_prefix(tree, prefix, at);
+    match answer {
+        NextRowAnswer::Row(q) => {
+            *row = q;
+            *mark = q;
+            0
+        }
+        NextRowAnswer::Nothing(m) => {
+            *row = 0;
+            *mark = m;
+            0
+        }
+        NextRowAnswer::Refused(number) => {
             *row = 0;
             number
         }

@@ -1,6 +1,6 @@
 // Row: one row of the text, without a guide and with one; its length, and how many there are. Each asks 5 to 7 first, of any bytes lent as a tree.
 mod row_copy;
-mod row_edges;
+pub mod row_edges;
 mod row_lengths;
 
 use layout::header;

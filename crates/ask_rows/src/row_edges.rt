@@ -128,7 +128,7 @@ fn without_mark(t: &[u8], h: Header, start: TextPlace, len: u32) -> Edges
 }
 
 // The place of the j-th byte 10, by the guide if it is used.
-fn ten(t: &[u8], h: Header, guide: &[u8], used: bool, j: u32) -> Found
+pub fn ten(t: &[u8], h: Header, guide: &[u8], used: bool, j: u32) -> Found
     requires { ⌜ HeaderOf (now t) h ⌝ }
     ensures { λ r. ⌜ FoundBy (now (t .entry)) (settledBy (now (t .entry)) (now (guide .entry)) used) 10 j r ⌝ }
 {

@@ -1,4 +1,2 @@
-pub mod RowScans
-pub mod SearchLaws
 pub mod MatchAnswerLaws
 pub mod Demands

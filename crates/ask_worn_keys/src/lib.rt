@@ -3,15 +3,10 @@ mod search;
 
 use layout::header;
 use layout::header::HeaderRead;
+use query_row_filter::NextRowAnswer;
 ghost use mathlib.Core.Path.{_≡_};
-ghost use Rattle.ask_worn_keys.specs.MatchAnswer.{MatchAnswer, markAfter, Moved};
-
-// The row shown, on which the mark then stands; or none, and where the mark then stands; or the number of the question that refuses.
-pub enum Shown {
-    Row(u32),
-    Nothing(u32),
-    Refused(u32),
-}
+ghost use Rattle.query_row_filter.specs.AllowedAnswer.{markAfter};
+ghost use Rattle.ask_worn_keys.specs.MatchAnswer.{MatchAnswer, Moved};
 
 // A mark: the number of the row shown last, 0 before the first row.
 pub struct Mark {
@@ -19,7 +14,7 @@ pub struct Mark {
 }
 
 // Moves a lent mark on to the next row that matches, and shows it.
-pub fn show(mark: &mut Mark, t: &[u8], question: &[u8]) -> Shown
+pub fn show(mark: &mut Mark, t: &[u8], question: &[u8]) -> NextRowAnswer
     ensures { λ r. ⌜ Moved (now (t .entry)) (now (question .entry)) (now (mark .entry) .row) r (now (mark .exit) .row) ⌝ }
 {
     let at = mark.row;
@@ -30,23 +25,23 @@ pub fn show(mark: &mut Mark, t: &[u8], question: &[u8]) -> Shown
 }
 
 // The first row after a mark that matches.
-pub fn next_match(t: &[u8], question: &[u8], mark: u32) -> Shown
+pub fn next_match(t: &[u8], question: &[u8], mark: u32) -> NextRowAnswer
     ensures { λ r. ⌜ MatchAnswer (now (t .entry)) (now (question .entry)) mark r ⌝ }
 {
     let read = header::read_header(t);
     match read {
         HeaderRead::Good(h) => search::match_at(t, h, question, mark),
-        HeaderRead::Refused(number) => Shown::Refused(number),
+        HeaderRead::Refused(number) => NextRowAnswer::Refused(number),
     }
 }
 
 // Where a mark stands after an answer: a refusal leaves it.
-pub fn after(shown: Shown, mark: u32) -> u32
+pub fn after(shown: NextRowAnswer, mark: u32) -> u32
     ensures { λ r. ⌜ r ≡ markAfter shown mark ⌝ }
 {
     match shown {
-        Shown::Row(q) => q,
-        Shown::Nothing(m) => m,
-        Shown::Refused(_) => mark,
+        NextRowAnswer::Row(q) => q,
+        NextRowAnswer::Nothing(m) => m,
+        NextRowAnswer::Refused(_) => mark,
     }
 }

@@ -30,7 +30,12 @@ pub fn line(script: &[u8], line: &[u8], bytes: &mut [u8], lent: &mut [u8]) {
     match question {
         Question::Nothing => other(script, line, bytes, lent),
         Question::Build | Question::Scan => build(script, line, question, bytes, lent),
-        Question::Places | Question::Match => beside::ask(script, line, question, bytes),
+        Question::Places | Question::Match | Question::Prefix => beside::ask(
+            script,
+            line,
+            question,
+            bytes,
+        ),
         _ => of_tree(script, line, question, bytes, lent),
     }
 }

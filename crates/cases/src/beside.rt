@@ -30,10 +30,11 @@ fn of_tree(question: Question, tree: &[u8], line: &[u8]) {
     }
 }
 
-// The same with the bytes: the next match after a mark, or the places of a pattern.
+// The same with the bytes: the next match after a mark, the next row after it that starts with a prefix, or the places of a pattern.
 fn put(question: Question, tree: &[u8], beside: &[u8], number: u32) {
     match question {
         Question::Match => cases_replies::next_match(tree, beside, number),
+        Question::Prefix => cases_replies::next_row_with_prefix(tree, beside, number),
         _ => places(tree, beside, number as usize),
     }
 }

@@ -12,10 +12,10 @@ use query::Answer;
 use query::Copied;
 use query::Counted;
 use query::Found;
+use query::NextRowAnswer;
 use query::PlacesWritten;
 use query::Ran;
 use query::RowCopied;
-use query::Shown;
 use query::TextPlace;
 use tree::Built;
 use tree::Scanned;
@@ -115,12 +115,19 @@ pub fn places(tree: &[u8], pattern: &[u8], table: &mut [u32]) {
     }
 }
 
-// The row shown, 0 for none, and where the mark then stands.
 pub fn next_match(tree: &[u8], ranges: &[u8], mark: u32) {
-    let answer = query::next_match(tree, ranges, mark);
+    next_row(query::next_match(tree, ranges, mark), mark);
+}
+
+pub fn next_row_with_prefix(tree: &[u8], prefix: &[u8], mark: u32) {
+    next_row(query::next_row_with_prefix(tree, prefix, mark), mark);
+}
+
+// The next row, 0 for none, and the mark afterwards.
+fn next_row(answer: NextRowAnswer, mark: u32) {
     match answer {
-        Shown::Row(q) => say::three(0, q as u64, q as u64),
-        Shown::Nothing(m) => say::three(0, 0, m as u64),
-        Shown::Refused(number) => say::three(number, 0, mark as u64),
+        NextRowAnswer::Row(q) => say::three(0, q as u64, q as u64),
+        NextRowAnswer::Nothing(m) => say::three(0, 0, m as u64),
+        NextRowAnswer::Refused(number) => say::three(number, 0, mark as u64),
     }
 }

@@ -50,15 +50,16 @@ questionWords =
     114 ∷ 111 ∷ 119 ∷ 32 ∷
     112 ∷ 108 ∷ 97 ∷ 99 ∷ 101 ∷ 115 ∷ 32 ∷
     115 ∷ 99 ∷ 97 ∷ 110 ∷ 32 ∷
-    109 ∷ 97 ∷ 116 ∷ 99 ∷ 104 ∷ []
+    109 ∷ 97 ∷ 116 ∷ 99 ∷ 104 ∷ 32 ∷
+    112 ∷ 114 ∷ 101 ∷ 102 ∷ 105 ∷ 120 ∷ []
 
 -- what a line asks
 unfoldable pub questionOf : List ℕ → Question
 questionOf line =
     getD
     (question.Build ∷ question.Check ∷ question.List ∷ question.Byte ∷ question.Count ∷ question.Find ∷ question.Span ∷ question.Run ∷
-    question.Row ∷ question.Places ∷ question.Scan ∷ question.Match ∷ question.Nothing ∷ [])
-    (wordNumber questionWords 12 (tokenOf line 0)) question.Nothing
+    question.Row ∷ question.Places ∷ question.Scan ∷ question.Match ∷ question.Prefix ∷ question.Nothing ∷ [])
+    (wordNumber questionWords 13 (tokenOf line 0)) question.Nothing
 
 -- an empty line, or one that begins with byte 35, `#`
 unfoldable pub isComment : List ℕ → Bool

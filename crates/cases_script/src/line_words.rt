@@ -27,6 +27,7 @@ pub enum Question {
     Places,
     Scan,
     Match,
+    Prefix,
 }
 
 // How the words `text repeat tree pad` give bytes, in this order; nothing after the last.
@@ -39,7 +40,7 @@ const GIFTS: [Gift; 5] = [
 ];
 
 // What the words that ask ask, in the order of `question_of`; nothing after the last.
-const QUESTIONS: [Question; 13] = [
+const QUESTIONS: [Question; 14] = [
     Question::Build,
     Question::Check,
     Question::List,
@@ -52,6 +53,7 @@ const QUESTIONS: [Question; 13] = [
     Question::Places,
     Question::Scan,
     Question::Match,
+    Question::Prefix,
     Question::Nothing,
 ];
 
@@ -91,8 +93,8 @@ pub fn question_of(line: &[u8]) -> Question
     ensures { λ r. ⌜ r ≡ questionOf (now (line .entry)) ⌝ }
 {
     let k = number(
-        b"build check list byte count find span run row places scan match",
-        12,
+        b"build check list byte count find span run row places scan match prefix",
+        13,
         cases_tokens::token(line, 0),
     );
     QUESTIONS[k as usize]

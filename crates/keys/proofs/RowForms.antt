@@ -15,7 +15,9 @@ use Rattle.text.specs.Conjunctions.{parts}
 use Rattle.keys.specs.declared.form.Form.{Form}
 use Rattle.keys.specs.declared.form.Form.the-variants.{Code, Cuts, Ended, Wrong}
 use Rattle.keys.specs.Keys.{cutCount, low, high, rangesOk, codeOf, cutsOf, isKey, depth, matches, maxCode, maxCuts, maxDepth}
-use Rattle.keys.specs.Forms.{inCode, cutFits, inCuts, stepOf, isWhole, isDone, runFrom}
+use Rattle.keys.specs.Forms.{inCode, cutFits, inCuts, stepOf, isWhole, isDone, isNone, keyAutomaton}
+use Rattle.row_filter.specs.RowAutomaton.{runFrom, Recognizes}
+use Rattle.row_filter.specs.RowAutomatonLaws.{newline-trimmed}
 
 bool-same : (a b : Bool) → (a ≡ true → b ≡ true) → (b ≡ true → a ≡ true) → a ≡ b
 bool-same true b f g = sym (f refl)
@@ -47,12 +49,12 @@ module _ (ranges : List ℕ) where
   abbrev n : ℕ
   n = cutCount ranges
 
-  wrong-run : (xs : List ℕ) → isWhole ranges (runFrom ranges Wrong xs) ≡ false
+  wrong-run : (xs : List ℕ) → isWhole ranges (runFrom (keyAutomaton ranges) Wrong xs) ≡ false
   unfolding runFrom stepOf isWhole
   wrong-run [] = refl
   wrong-run (x ∷ xs) = wrong-run xs
 
-  ended-run : (xs : List ℕ) → isWhole ranges (runFrom ranges Ended xs) ≡ false
+  ended-run : (xs : List ℕ) → isWhole ranges (runFrom (keyAutomaton ranges) Ended xs) ≡ false
   unfolding runFrom stepOf isWhole
   ended-run [] = refl
   ended-run (x ∷ xs) = wrong-run xs
@@ -74,7 +76,7 @@ module _ (ranges : List ℕ) where
   in-other k x b e f = rw (e, f)
 
   -- after i cuts
-  cuts-run : (i : ℕ) (xs : List ℕ) → isWhole ranges (runFrom ranges (Cuts i) xs) ≡ (eqb (i + length xs) n && allFit ranges i xs)
+  cuts-run : (i : ℕ) (xs : List ℕ) → isWhole ranges (runFrom (keyAutomaton ranges) (Cuts i) xs) ≡ (eqb (i + length xs) n && allFit ranges i xs)
   unfolding runFrom stepOf isWhole allFit
   cuts-run i [] = let z : i + 0 ≡ i = omega arith in rw z (and-true (eqb i n))
     where
@@ -86,19 +88,22 @@ module _ (ranges : List ℕ) where
       more : i + suc (length xs) ≡ i + 1 + length xs
       more = omega arith
 
-      fits : i < n → isWhole ranges (runFrom ranges (Cuts (i + 1)) xs) ≡ (eqb (i + 1 + length xs) n && allFit ranges (i + 1) xs)
+      fits : i < n → isWhole ranges (runFrom (keyAutomaton ranges) (Cuts (i + 1)) xs) ≡ (eqb (i + 1 + length xs) n && allFit ranges (i + 1) xs)
           → (b : Bool) → cutFits ranges i x ≡ b
-          → isWhole ranges (runFrom ranges (inCuts ranges i x) xs) ≡ (eqb (i + suc (length xs)) n && (cutFits ranges i x && allFit ranges (i + 1) xs))
+          → isWhole ranges (runFrom (keyAutomaton ranges) (inCuts ranges i x) xs)
+          ≡ (eqb (i + suc (length xs)) n && (cutFits ranges i x && allFit ranges (i + 1) xs))
       fits l rest true e = rw (in-fits i x true l e, e, more) rest
       fits l rest false e = rw (in-fits i x false l e, e, wrong-run xs) (sym (and-false (eqb (i + suc (length xs)) n)))
 
       past : n ≤ i → (b : Bool) → eqb 13 x ≡ b
-          → isWhole ranges (runFrom ranges (inCuts ranges i x) xs) ≡ (eqb (i + suc (length xs)) n && (cutFits ranges i x && allFit ranges (i + 1) xs))
+          → isWhole ranges (runFrom (keyAutomaton ranges) (inCuts ranges i x) xs)
+          ≡ (eqb (i + suc (length xs)) n && (cutFits ranges i x && allFit ranges (i + 1) xs))
       past g true e = rw (in-past i x true g e, ended-run xs, ne-eqb (i + suc (length xs)) n (λ z. omega arith))
       past g false e = rw (in-past i x false g e, wrong-run xs, ne-eqb (i + suc (length xs)) n (λ z. omega arith))
 
-      go : (i < n) ⊎ (n ≤ i) → isWhole ranges (runFrom ranges (Cuts (i + 1)) xs) ≡ (eqb (i + 1 + length xs) n && allFit ranges (i + 1) xs)
-          → isWhole ranges (runFrom ranges (inCuts ranges i x) xs) ≡ (eqb (i + suc (length xs)) n && (cutFits ranges i x && allFit ranges (i + 1) xs))
+      go : (i < n) ⊎ (n ≤ i) → isWhole ranges (runFrom (keyAutomaton ranges) (Cuts (i + 1)) xs) ≡ (eqb (i + 1 + length xs) n && allFit ranges (i + 1) xs)
+          → isWhole ranges (runFrom (keyAutomaton ranges) (inCuts ranges i x) xs)
+          ≡ (eqb (i + suc (length xs)) n && (cutFits ranges i x && allFit ranges (i + 1) xs))
       go (inl l) rest = fits l rest (cutFits ranges i x) refl
       go (inr g) rest = past g (eqb 13 x) refl
 
@@ -127,7 +132,8 @@ module _ (ranges : List ℕ) where
   cuts-other x xs e = let z : suc (length (codeOf xs)) + 1 ≡ suc (length (codeOf xs) + 1) = omega arith in rw (code-other x xs e, z)
 
   -- after k bytes of the code
-  code-run : (k : ℕ) (xs : List ℕ) → k ≤ maxCode → isWhole ranges (runFrom ranges (Code k) xs) ≡ keyGood k (length (codeOf xs)) (length xs) (cutsOf xs)
+  code-run : (k : ℕ) (xs : List ℕ) → k ≤ maxCode
+      → isWhole ranges (runFrom (keyAutomaton ranges) (Code k) xs) ≡ keyGood k (length (codeOf xs)) (length xs) (cutsOf xs)
   unfolding runFrom stepOf isWhole
   code-run k [] h = by (leb 1 (k + length (codeOf [])) && leb (k + length (codeOf [])) maxCode) (le-ltb (length (codeOf [])) 0 (omega arith))
     where
@@ -136,7 +142,7 @@ module _ (ranges : List ℕ) where
       by false e = refl
   code-run k (x ∷ xs) h = go (eqb 32 x) refl (code-run (k + 1) xs)
     where
-      space : (b : Bool) → eqb k 0 ≡ b → eqb 32 x ≡ true → isWhole ranges (runFrom ranges (inCode k x) xs) ≡ keyGood k 0 (suc (length xs)) xs
+      space : (b : Bool) → eqb k 0 ≡ b → eqb 32 x ≡ true → isWhole ranges (runFrom (keyAutomaton ranges) (inCode k x) xs) ≡ keyGood k 0 (suc (length xs)) xs
       space true f e = rw (in-space k x true e f, wrong-run xs, lt-leb 1 (k + 0) (omega (arith, eqb-true k 0 f)))
       space false f e =
           let low : 1 ≤ k + 0 = omega (arith, eqb-false k 0 f) in
@@ -148,8 +154,8 @@ module _ (ranges : List ℕ) where
       no-more false c d = refl
 
       other : (b : Bool) → leb maxCode k ≡ b → eqb 32 x ≡ false
-          → (k + 1 ≤ maxCode → isWhole ranges (runFrom ranges (Code (k + 1)) xs) ≡ keyGood (k + 1) (length (codeOf xs)) (length xs) (cutsOf xs))
-          → isWhole ranges (runFrom ranges (inCode k x) xs) ≡ keyGood k (suc (length (codeOf xs))) (suc (length xs)) (cutsOf xs)
+          → (k + 1 ≤ maxCode → isWhole ranges (runFrom (keyAutomaton ranges) (Code (k + 1)) xs) ≡ keyGood (k + 1) (length (codeOf xs)) (length xs) (cutsOf xs))
+          → isWhole ranges (runFrom (keyAutomaton ranges) (inCode k x) xs) ≡ keyGood k (suc (length (codeOf xs))) (suc (length xs)) (cutsOf xs)
       other true f e rest =
           rw (in-other k x true e f, wrong-run xs, lt-leb (k + suc (length (codeOf xs))) maxCode (omega (arith, leb-true maxCode k f)))
           (no-more (leb 1 (k + suc (length (codeOf xs)))) (ltb (suc (length (codeOf xs))) (suc (length xs))) (cutsGood (cutsOf xs)))
@@ -158,8 +164,8 @@ module _ (ranges : List ℕ) where
           rw (in-other k x false e f, z, leb·suc-suc (suc (length (codeOf xs))) (length xs)) (rest (omega (arith, leb-false maxCode k f)))
 
       go : (b : Bool) → eqb 32 x ≡ b
-          → (k + 1 ≤ maxCode → isWhole ranges (runFrom ranges (Code (k + 1)) xs) ≡ keyGood (k + 1) (length (codeOf xs)) (length xs) (cutsOf xs))
-          → isWhole ranges (runFrom ranges (inCode k x) xs) ≡ keyGood k (length (codeOf (x ∷ xs))) (suc (length xs)) (cutsOf (x ∷ xs))
+          → (k + 1 ≤ maxCode → isWhole ranges (runFrom (keyAutomaton ranges) (Code (k + 1)) xs) ≡ keyGood (k + 1) (length (codeOf xs)) (length xs) (cutsOf xs))
+          → isWhole ranges (runFrom (keyAutomaton ranges) (inCode k x) xs) ≡ keyGood k (length (codeOf (x ∷ xs))) (suc (length xs)) (cutsOf (x ∷ xs))
       go true e rest = rw (code-space x xs e, cuts-space x xs e) (space (eqb k 0) refl e)
       go false e rest = rw (code-other x xs e, cuts-other x xs e) (other (leb maxCode k) refl e rest)
 
@@ -251,13 +257,13 @@ module _ (ranges : List ℕ) (ok : rangesOk ranges ≡ true) where
         (allBelow-make (length cuts) digitAt (λ j l. each j (omega arith) .0))) size) (allBelow-make (cutCount ranges) rangeAt (λ j l. each j l .1))
 
     -- a row that no byte 10 ends matches exactly where its bytes are read to a whole key
-    pub whole-is : isWhole ranges (runFrom ranges (Code 0) row) ≡ matches ranges row
-    whole-is = code-run ranges 0 row (omega arith) ∙ bool-same good (matches ranges row) good-to good-from
+    at-end-is : isWhole ranges (runFrom (keyAutomaton ranges) (Code 0) row) ≡ matches ranges row
+    at-end-is = code-run ranges 0 row (omega arith) ∙ bool-same good (matches ranges row) good-to good-from
 
 -- One byte 13 before the byte 10 that ends a row.
 module _ (ranges : List ℕ) where
   -- no more cuts than there are ranges
-  abbrev pub Few : Form → Type 0
+  abbrev Few : Form → Type 0
   Few (Code k) = Unit {0}
   Few (Cuts i) = i ≤ cutCount ranges
   Few Ended = Unit {0}
@@ -290,7 +296,7 @@ module _ (ranges : List ℕ) where
   few-step Ended x = tt
   few-step Wrong x = tt
 
-  pub few-run : (f : Form) (xs : List ℕ) → Few f → Few (runFrom ranges f xs)
+  few-run : (f : Form) (xs : List ℕ) → Few f → Few (runFrom (keyAutomaton ranges) f xs)
   unfolding runFrom
   few-run f [] h = h
   few-run f (x ∷ xs) h = few-run (stepOf ranges f x) xs (few-step f x)
@@ -338,7 +344,7 @@ module _ (ranges : List ℕ) where
       by (inl l) false f = rw (in-fits ranges i x false l f)
       by (inr g) b f = rw (in-past ranges i x false g e)
 
-  pub step-13 : (f : Form) (x : ℕ) (b : Bool)
+  step-13 : (f : Form) (x : ℕ) (b : Bool)
       → Few f → eqb 13 x ≡ b → isDone ranges (stepOf ranges f x) ≡ cond b (isWhole ranges f) (isWhole ranges (stepOf ranges f x))
   unfolding stepOf isDone isWhole
   step-13 (Code k) x b few e = code-13 k x b e
@@ -353,3 +359,62 @@ module _ (ranges : List ℕ) where
       by : (b : Bool) → isDone ranges Wrong ≡ cond b (isWhole ranges Wrong) (isWhole ranges Wrong)
       by true = refl
       by false = refl
+
+-- The automaton accepts exactly the rows that match.
+module _ (ranges : List ℕ) where
+  -- a row with a byte is not read to none
+  abbrev Started : Form → Type 0
+  Started (Code k) = 1 ≤ k
+  Started (Cuts i) = Unit {0}
+  Started Ended = Unit {0}
+  Started Wrong = Unit {0}
+
+  started-code : (k x : ℕ) → Started (inCode k x)
+  unfolding inCode
+  started-code k x = by (eqb 32 x) (eqb k 0) (leb maxCode k)
+    where
+      by : (a b c : Bool) → Started (cond a (cond b Wrong (Cuts 0)) (cond c Wrong (Code (k + 1))))
+      by true true c = tt
+      by true false c = tt
+      by false b true = tt
+      by false b false = omega arith
+
+  started-cuts : (i x : ℕ) → Started (inCuts ranges i x)
+  unfolding inCuts
+  started-cuts i x = by (ltb i (cutCount ranges)) (cutFits ranges i x) (eqb 13 x)
+    where
+      by : (a b c : Bool) → Started (cond a (cond b (Cuts (i + 1)) Wrong) (cond c Ended Wrong))
+      by true true c = tt
+      by true false c = tt
+      by false b true = tt
+      by false b false = tt
+
+  started-step : (f : Form) (x : ℕ) → Started (stepOf ranges f x)
+  unfolding stepOf
+  started-step (Code k) x = started-code k x
+  started-step (Cuts i) x = started-cuts i x
+  started-step Ended x = tt
+  started-step Wrong x = tt
+
+  started-run : (f : Form) (xs : List ℕ) → Started f → Started (runFrom (keyAutomaton ranges) f xs)
+  unfolding runFrom
+  started-run f [] h = h
+  started-run f (x ∷ xs) h = started-run (stepOf ranges f x) xs (started-step f x)
+
+  started-none : (f : Form) → Started f → isNone f ≡ false
+  unfolding isNone
+  started-none (Code k) h = ne-eqb k 0 (λ z. omega arith)
+  started-none (Cuts i) h = refl
+  started-none Ended h = refl
+  started-none Wrong h = refl
+
+  pub reads : rangesOk ranges ≡ true → Recognizes (keyAutomaton ranges) (matches ranges)
+  unfolding runFrom isNone isWhole isDone
+  reads ok = record {
+    at-end-is = at-end-is ranges ok;
+    at-newline-is = newline-trimmed (keyAutomaton ranges) (matches ranges)
+        (at-end-is ranges ok) refl (λ ys z b e. step-13 ranges (runFrom (keyAutomaton ranges) (Code 0) ys) z b (few-run ranges (Code 0) ys tt) e);
+    no-byte-first = refl;
+    no-byte-then = λ x xs. started-none (runFrom (keyAutomaton ranges) (Code 0) (x ∷ xs)) (started-run (stepOf ranges (Code 0) x) xs (started-step (Code 0) x));
+    empty-rejected = sym (at-end-is ranges ok []);
+  }

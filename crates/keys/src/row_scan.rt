@@ -4,7 +4,9 @@ use crate::form::Form;
 ghost use mathlib.Core.Path.{_≡_};
 ghost use Prim.Native.Nat.{_+_, _*_, _≤_, _<_};
 ghost use lib.ListN.{length};
-ghost use Rattle.keys.specs.RowScanned.{turnOf, scanOf, OnLow};
+ghost use Rattle.row_filter.specs.RowAutomaton.{scanByte, scanBytes, RowBetween};
+ghost use Rattle.keys.specs.Forms.{keyAutomaton};
+ghost use Rattle.keys.specs.RowScanned.{asScan};
 ghost use Rattle.keys.specs.Keys.{maxCuts};
 
 // The number of the first row that ends in the stretch and matches; or how far the row is in which the stretch ends, and its number.
@@ -16,7 +18,7 @@ pub enum Scanned {
 // One byte more of a row so far read, with its number.
 fn turn(ranges: &[u8], form: Form, row: u32, byte: u8) -> Scanned
     requires { ⌜ (length (now ranges) ≤ 2 * maxCuts) × (row + 1 < 4294967296) ⌝ }
-    ensures { λ r. ⌜ r ≡ turnOf (now (ranges .entry)) form row byte ⌝ }
+    ensures { λ r. ⌜ asScan r ≡ scanByte (keyAutomaton (now (ranges .entry))) form row byte ⌝ }
 {
     if byte == 10 {
         if form::done(ranges, form) {
@@ -30,7 +32,8 @@ fn turn(ranges: &[u8], form: Form, row: u32, byte: u8) -> Scanned
 // A stretch of the text, from a row so far read, with its number.
 pub fn scan(ranges: &[u8], part: &[u8], form: Form, row: u32) -> Scanned
     requires { ⌜ (length (now ranges) ≤ 2 * maxCuts) × (row + length (now part) < 4294967296) ⌝ }
-    ensures { λ r. ⌜ (r ≡ scanOf (now (ranges .entry)) (now (part .entry)) form row) × (OnLow row (length (now (part .entry))) r) ⌝ }
+    ensures { λ r. ⌜ (asScan r ≡ scanBytes (keyAutomaton (now (ranges .entry))) (now (part .entry)) form row)
+        × (RowBetween row (length (now (part .entry))) (asScan r)) ⌝ }
 {
     let mut so_far = form;
     let mut q = row;

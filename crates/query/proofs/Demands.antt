@@ -96,8 +96,8 @@ pub use Rattle.ask_worn_keys.proofs.Demands.{row-rises, none-moves}
 -- .. "On an accepted tree, from mark 0 to none, with the question kept and the mark moved by nothing else, each match and no other row is shown,
 -- once, in row order", ..
 pub use Rattle.ask_worn_keys.proofs.Demands.{all-matches}
--- .. that is, the list rises (`matches-rise`) and has exactly the rows that match (`match-shown`, `shown-match`), ..
-pub use Rattle.keys.specs.MatchLaws.{all-shown, matches-rise, match-shown, shown-match}
+-- .. that is, the list rises (`selected-rise`) and has exactly the rows that match (`selected-in`, `in-selected`), ..
+pub use Rattle.row_filter.specs.SelectedRowLaws.{all-shown, selected-rise, selected-in, in-selected}
 -- .. "and widening a range loses no match." ..
 pub use Rattle.ask_worn_keys.proofs.Demands.{wider-loses-none}
 -- .. "It refuses a number of cuts outside 1 to 10, a depth above 9 or a low above its high with 19, after question 7 and before 11; ..
@@ -105,6 +105,21 @@ pub use Rattle.ask_worn_keys.proofs.Demands.{match-unread, match-ranges, match-
 pub use Rattle.query.proofs.NextMatchCall.{match-numbers}
 -- .. any refusal leaves the mark. On a tree the check refuses, the match shown is left free as row is": what holds of it all the same.
 pub use Rattle.ask_worn_keys.proofs.Demands.{refusal-leaves, row-after, none-after}
+-- Rows by their first bytes. On an accepted tree the answer is the next row after the mark that starts with the prefix, or none, with the mark at the number
+-- of rows: `prefix-of` of `Answers`. A returned row is after the mark.
+pub use Rattle.query_prefix.proofs.Demands.{prefix-rises}
+-- Repeated calls from mark 0 return exactly the rows that start with the prefix, each once, in row order, then none.
+pub use Rattle.query_prefix.proofs.Demands.{all-with-prefix, in-order, each-shown, only-shown, comes-to-none}
+-- Extending the prefix returns a subsequence; a prefix with a byte 10 starts no row.
+pub use Rattle.query_prefix.proofs.Demands.{longer-narrows, longer-shows-fewer, newline-shows-none}
+-- Refusals: 5 to 7, then 16, 11 and 14.
+pub use Rattle.query_prefix.proofs.Demands.{prefix-unread, prefix-length, prefix-uncounted}
+pub use Rattle.query.proofs.PrefixRowCall.{prefix-numbers}
+-- With a guide: for an accepted tree and guide the same answer, so that all of this holds of it too.
+pub use Rattle.query_prefix.proofs.Demands.{guided-as-prefix}
+pub use Rattle.query.proofs.PrefixRowCall.{prefix-guided-numbers}
+-- A refusal leaves the mark. A row returned from a refused tree, or with a wrong guide, is after the mark too, and at most total + 1 of byte 10.
+pub use Rattle.query_prefix.proofs.Demands.{prefix-keeps-mark, prefix-row-after, prefix-none-after}
 -- Columns. "the byte in column b of row a goes to b × rows + a, both counted from 0. Its inverse restores the text, ..
 pub use Rattle.columns.specs.ColumnLaws.{columns-at, columns-moves, uncolumns-moves, restored, rearranged}
 pub use Rattle.columns.proofs.Demands.{there-and-back, back-and-there}

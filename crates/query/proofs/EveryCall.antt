@@ -18,6 +18,7 @@ use Rattle.query.proofs.RowCountCall
 use Rattle.query.proofs.PlacesCall
 use Rattle.query.proofs.PlacesWordsCall
 use Rattle.query.proofs.NextMatchCall
+use Rattle.query.proofs.PrefixRowCall
 use Rattle.query.proofs.ColumnsCall
 use Rattle.query.proofs.ColumnRowCall
 use Rattle.query.proofs.DigestCall
@@ -51,6 +52,8 @@ calls =
     ∷ PlacesWordsCall.places-words-call
     ∷ NextMatchCall.next-match-call
     ∷ NextMatchCall.show-call
+    ∷ PrefixRowCall.next-row-with-prefix-call
+    ∷ PrefixRowCall.next-row-with-prefix-guided-call
     ∷ ColumnsCall.to-columns-call
     ∷ ColumnsCall.from-columns-call
     ∷ ColumnRowCall.row-by-columns-call

@@ -15,6 +15,7 @@ pub mod RowCountCall
 pub mod PlacesCall
 pub mod PlacesWordsCall
 pub mod NextMatchCall
+pub mod PrefixRowCall
 pub mod ColumnsCall
 pub mod ColumnRowCall
 pub mod DigestCall

@@ -19,8 +19,9 @@ use Rattle.keys.specs.Matches.{nextMatch, shownFor}
 use Rattle.ask_worn_keys.specs.MatchSays.{matchNumber}
 use Rattle.ask_worn_keys.proofs.Demands.{refusal-is}
 use Rattle.ask_worn_keys.proofs.Demands as worn-keys
-use Rattle.ask_worn_keys.specs.declared.Shown.{Shown}
-use Rattle.ask_worn_keys.specs.declared.Shown.the-variants as shown
+use Rattle.query_row_filter.specs.declared.NextRowAnswer.{NextRowAnswer}
+use Rattle.query_row_filter.specs.declared.NextRowAnswer.the-variants as shown
+use Rattle.query_row_filter.specs.AllowedOutcome.{newlineRefusal, queryRefusal}
 use Rattle.query.proofs.AcceptedTree.{Among, among-counted, not-counted}
 use Rattle.query.proofs.OutsideCall.{Call, Lent, call}
 use Rattle.query.proofs.RefusalNumbers.{OneOf, asks-one, not-zero, of-left, of-right, readable-one, then-one}
@@ -48,7 +49,7 @@ show-call =
 
 -- the numbers that the questions before the walk can give
 match-one : (t ranges : List ℕ) → OneOf (5 ∷ 6 ∷ 7 ∷ 19 ∷ 11 ∷ 0 ∷ []) (matchNumber t ranges)
-unfolding matchNumber
+unfolding matchNumber queryRefusal newlineRefusal
 match-one t ranges =
     then-one (5 ∷ 6 ∷ 7 ∷ []) (19 ∷ 11 ∷ 0 ∷ []) (readable t) _ (readable-one t)
     (asks-one ((19, rangesOk ranges) ∷ (11, isCounted t 10) ∷ []))
@@ -64,14 +65,15 @@ match-numbers κs t ranges mark n a = go (refusal-is (now t) (now ranges) mark n
 -- Answered from the text T by the tree t with the settings S: "the mark .. is moved on to the next match"; "if no row after it matches, the answer is none
 -- and the mark goes to the number of rows".
 pub record Answers (t : Lent) (S : Settings) (T : List ℕ) : Type 0 where
-  pub match-of : (κs : Lfts 2) (ranges : Lent) (mark : ℕ) (r : Shown) → NextMatch κs t ranges mark r
+  pub match-of : (κs : Lfts 2) (ranges : Lent) (mark : ℕ) (r : NextRowAnswer) → NextMatch κs t ranges mark r
       → rangesOk (now ranges) ≡ true → Among 10 (S .counted)
       → r ≡ cond (eqb (nextMatch (now ranges) T mark) 0) (shown.Nothing (shownFor (now ranges) T mark .mark)) (shown.Row (nextMatch (now ranges) T mark))
 
 -- Refused: "It refuses a number of cuts outside 1 to 10, a depth above 9 or a low above its high with 19, .. before 11".
 pub record Refuses (t : Lent) (S : Settings) (T : List ℕ) : Type 0 where
-  pub match-ranges : (κs : Lfts 2) (ranges : Lent) (mark : ℕ) (r : Shown) → NextMatch κs t ranges mark r → rangesOk (now ranges) ≡ false → r ≡ shown.Refused 19
-  pub match-other : (κs : Lfts 2) (ranges : Lent) (mark : ℕ) (r : Shown) → NextMatch κs t ranges mark r → rangesOk (now ranges) ≡ true
+  pub match-ranges : (κs : Lfts 2) (ranges : Lent) (mark : ℕ) (r : NextRowAnswer) → NextMatch κs t ranges mark r → rangesOk (now ranges) ≡ false
+      → r ≡ shown.Refused 19
+  pub match-other : (κs : Lfts 2) (ranges : Lent) (mark : ℕ) (r : NextRowAnswer) → NextMatch κs t ranges mark r → rangesOk (now ranges) ≡ true
       → (Among 10 (S .counted) → ⊥) → r ≡ shown.Refused 11
 
 -- Any tree that the check accepts, and the one text that fits it.
@@ -81,8 +83,7 @@ module _ (t : Lent) (v : verdict (now t) ≡ 0) where
 
   -- questions 19 and 11 let the search for a match through
   match-through : (ranges : List ℕ) → rangesOk ranges ≡ true → Among 10 (at.settings (now t) .counted) → matchNumber (now t) ranges ≡ 0
-  unfolding matchNumber
-  match-through ranges ok k = rw (pass, ok, among-counted (now t) 10 k)
+  match-through ranges ok k = worn-keys.match-through (now t) ranges pass ok (among-counted (now t) 10 k)
 
   pub accepted-answers : Answers t (at.settings (now t)) (textOf (now t))
   accepted-answers = record {

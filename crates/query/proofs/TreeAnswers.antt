@@ -18,6 +18,7 @@ use Rattle.query.proofs.FindCall
 use Rattle.query.proofs.RowCall
 use Rattle.query.proofs.PlacesCall
 use Rattle.query.proofs.NextMatchCall
+use Rattle.query.proofs.PrefixRowCall
 use Rattle.query.proofs.ColumnRowCall
 use Rattle.query.proofs.DigestCall
 
@@ -31,6 +32,7 @@ pub record Answers (t : Lent) (S : Settings) (T : List ℕ) : Type 0 where
   pub row : RowCall.Answers t S T
   pub places : PlacesCall.Answers t S T
   pub next-match : NextMatchCall.Answers t S T
+  pub prefix-row : PrefixRowCall.Answers t S T
   pub column-row : ColumnRowCall.Answers t S T
   pub digest : DigestCall.Answers t S T
 
@@ -44,6 +46,7 @@ pub record Refuses (t : Lent) (S : Settings) (T : List ℕ) : Type 0 where
   pub row : RowCall.Refuses t S T
   pub places : PlacesCall.Refuses t S T
   pub next-match : NextMatchCall.Refuses t S T
+  pub prefix-row : PrefixRowCall.Refuses t S T
   pub column-row : ColumnRowCall.Refuses t S T
   pub digest : DigestCall.Refuses t S T
 
@@ -59,6 +62,7 @@ module _ (t : Lent) (v : verdict (now t) ≡ 0) where
     row = RowCall.accepted-answers t v;
     places = PlacesCall.accepted-answers t v;
     next-match = NextMatchCall.accepted-answers t v;
+    prefix-row = PrefixRowCall.accepted-answers t v;
     column-row = ColumnRowCall.accepted-answers t v;
     digest = DigestCall.accepted-answers t v;
   }
@@ -73,6 +77,7 @@ module _ (t : Lent) (v : verdict (now t) ≡ 0) where
     row = RowCall.accepted-refuses t v;
     places = PlacesCall.accepted-refuses t v;
     next-match = NextMatchCall.accepted-refuses t v;
+    prefix-row = PrefixRowCall.accepted-refuses t v;
     column-row = ColumnRowCall.accepted-refuses t v;
     digest = DigestCall.accepted-refuses t v;
   }

@@ -43,6 +43,11 @@ impl Failure {
         Failure::refused("", "")
     }
 
+    /// Some of many files failed, and each has been told; the worst of their statuses.
+    pub fn worst(status: u8) -> Self {
+        Failure { status, ..Failure::told() }
+    }
+
     pub fn status(&self) -> u8 {
         self.status
     }

@@ -1,6 +1,6 @@
 //! The one table of commands and options: calls are read by it, and help, the manual page and the completions are printed from it.
 
-use crate::{build, by_columns, check, digest, given::Given, guide, help, licence, picture, questions, shelf, slim, stats, Failure};
+use crate::{build, by_columns, check, code, digest, given::Given, guide, help, licence, picture, questions, shelf, slim, stats, Failure};
 
 /// What the commands on licences share.
 macro_rules! licence_days {
@@ -87,6 +87,7 @@ pub static GUIDE: Opt = Opt {
 };
 pub static FROM: Opt = valued("--from", "ROW", "start at this row, from 1");
 pub static AFTER: Opt = valued("--after", "ROW", "the next match after this row, and no other; 0 is before the first row");
+pub static PREFIX: Opt = flag("--prefix", None, "CODE is the beginning of a row, not a whole code");
 pub static UNCHECKED: Opt = flag("--unchecked", None, "do not check the tree first; on a tree that the check refuses the answer can be wrong");
 
 /// Options of every command.
@@ -107,7 +108,7 @@ const fn any(name: &'static str) -> Word {
 static TREE: [Word; 1] = [maybe("TREE")];
 static TREES: [Word; 1] = [any("TREE")];
 
-pub static COMMANDS: [Command; 32] = [
+pub static COMMANDS: [Command; 33] = [
     Command {
         name: "build",
         words: &[any("BOOK")],
@@ -242,6 +243,16 @@ pub static COMMANDS: [Command; 32] = [
         details: "TEXT is 1 to 256 bytes, as they stand in the book; \\n is byte 10, \\r byte 13, \\t byte 9, \\xHH the byte of that hexadecimal number, \\\\ a backslash. Places start at 0 and may overlap. Nothing is printed where it stands nowhere. \
                   A TEXT that begins with - goes after --.",
         run: questions::ask,
+    },
+    Command {
+        name: "code",
+        words: &[one("CODE"), any("TREE")],
+        options: &[&PREFIX, &GUIDE, &JSON, &UNCHECKED],
+        summary: "print the rows of a code, in one or several books",
+        details: "The rows that begin with CODE and one space; with --prefix those that begin with CODE. CODE has 1 to 255 bytes, with --prefix 1 to 256; \\n, \\r, \\t, \\\\ and \\xHH are one byte each, as in places. The tree must count byte 10. \
+                  Each row is printed after the tree's name and the row's number. Where a file TREE.json lies beside the tree, its members maker and edition are printed too.\n\
+                  The status is 0 where a row was printed and no tree failed, 1 where no row begins so or a tree is refused, 2 where the call or a file is not right.",
+        run: code::code,
     },
     Command {
         name: "match",

@@ -13,6 +13,7 @@ pub mod fast;
 pub mod guides;
 pub mod keys;
 pub mod order;
+pub mod prefix;
 pub mod read;
 pub mod sha256;
 pub mod without_edges;

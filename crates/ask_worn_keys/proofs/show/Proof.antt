@@ -43,13 +43,14 @@ use denote.Triple.Table.{entered, cited}
 use denote.Triple.Walked.{says, Stays, stay-ref, stay-none-slice, walkOf, goes-ref, goes-none-slice, Walks, ends-at, walked, walk-meets}
 use denote.Exit.{yes}
 use denote.Signature.{plain}
-use Rattle.ask_worn_keys.specs.MatchAnswer.{MatchAnswer, markAfter}
+use Rattle.ask_worn_keys.specs.MatchAnswer.{MatchAnswer}
+use Rattle.query_row_filter.specs.AllowedAnswer.{markAfter}
 use Rattle.ask_worn_keys.specs.declared.Mark.{Mark}
 use Rattle.ask_worn_keys.proofs.Mark as T
 use Rattle.ask_worn_keys.proofs.Mark.Laws as T′
-use Rattle.ask_worn_keys.specs.declared.Shown.{Shown}
-use Rattle.ask_worn_keys.proofs.Shown as S
-use Rattle.ask_worn_keys.proofs.Shown.Laws as S′
+use Rattle.query_row_filter.specs.declared.NextRowAnswer.{NextRowAnswer}
+use Rattle.query_row_filter.proofs.NextRowAnswer as S
+use Rattle.query_row_filter.proofs.NextRowAnswer.Laws as S′
 use Rattle.ask_worn_keys.proofs.next_match as next-match
 use Rattle.ask_worn_keys.proofs.next_match.Symbol as next-match-def
 use Rattle.ask_worn_keys.proofs.next_match.Symbol.{name as #worn_keys·next-match}
@@ -109,7 +110,7 @@ module _ {M : Type 1} (𝓤 : URA M) (H : Heap 𝓤) (A : Atoms 𝓤) (W : Given
   abbrev moved : ℕ → Mark
   moved r = record { row = r }
 
-  abbrev Found : Shown → Type 0
+  abbrev Found : NextRowAnswer → Type 0
   Found f = MatchAnswer (t .now) (g .now) (h .row) f
 
   -- the call of `next_match`
@@ -134,27 +135,27 @@ module _ {M : Type 1} (𝓤 : URA M) (H : Heap 𝓤) (A : Atoms 𝓤) (W : Given
       (t, (g, (h .row, tt))) (s ∷ [], (z ∷ [], (vint w32 (h .row) ∷ [], tt)))) ∷ []) ∵ join ! $ frame ! $ done !) $
       frame ! $ move ! (1 ∷ 0 ∷ []) $ frame ! $ done !
 
-  said : (f : Shown) → ent 𝓤
+  said : (f : NextRowAnswer) → ent 𝓤
       (ensured 𝓤 H A next-match.ended (next-match.clauses 𝓤 H A at-mem run) (κ′, (κ″, tt)) (t, (g, (h .row, tt))) tt f) (fact 𝓤 (Found f))
   said f = exE 𝓤 _ (λ ws. snd∗ 𝓤 (sem 𝓤 H A (lasts next-match.ended (κ′, (κ″, tt)) (t, (g, (h .row, tt))) ws)) (fact 𝓤 (Found f)))
 
   -- the call of `after`, at the answer f with the machine value u
-  abbrev to-after : Shown → Val → After 𝓤 H A at-mem run .Ghost
+  abbrev to-after : NextRowAnswer → Val → After 𝓤 H A at-mem run .Ghost
   to-after f u = ((tt, tt, tt, (f, (h .row, tt)), (u ∷ [], (vint w32 (h .row) ∷ [], tt))), tt)
 
-  goes-after : h .row < 2 ^ 32 → (f : Shown) (u : Val) → ent 𝓤 (sem 𝓤 H A (S.the-row .own f (u ∷ []))) (After 𝓤 H A at-mem run .pre (to-after f u))
+  goes-after : h .row < 2 ^ 32 → (f : NextRowAnswer) (u : Val) → ent 𝓤 (sem 𝓤 H A (S.the-row .own f (u ∷ []))) (After 𝓤 H A at-mem run .pre (to-after f u))
   goes-after at-fits f u =
       qed W (‵ (S.the-row .own f (u ∷ [])) ∷ []) ∵ nothing ! $ owned ! u32
       (Is u32) (uint-makes 𝓤 H A W w32) (h .row) _ (refl, at-fits) $ fjoin ! $ move ! (1 ∷ 0 ∷ []) $ fjoin ! $ nothing ! $ join ! $ frame ! $ done !
 
-  said-after : (f : Shown) (r : ℕ)
+  said-after : (f : NextRowAnswer) (r : ℕ)
       → ent 𝓤 (ensured 𝓤 H A after.ended (after.clauses 𝓤 H A at-mem run) tt (f, (h .row, tt)) tt r) (fact 𝓤 (r ≡ markAfter f (h .row)))
   said-after f r = exE 𝓤 _ (λ ws. snd∗ 𝓤 (sem 𝓤 H A (lasts after.ended tt (f, (h .row, tt)) ws)) (fact 𝓤 (r ≡ markAfter f (h .row))))
 
   made : (r : ℕ) → r < 2 ^ 32 → Is (T.the-row) (moved r) (mach r ∷ [])
   made r fits = LL.owes T.the-type T′.the-laws (moved r) ((refl, fits), tt)
 
-  exits : (f : Shown) (u : Val) (r : ℕ)
+  exits : (f : NextRowAnswer) (u : Val) (r : ℕ)
       → Is S.the-row f (u ∷ []) → Found f → r ≡ markAfter f (h .row) → ent 𝓤 (⋆ 𝓤 H A (‵ (fobs γ (T.the-row .coded .code (moved r))) ∷ ‵
       (fbor κ (Body (mem (T.the-row)) b o γ)) ∷ ‵ (flft κ q) ∷ (‵ (flft κ′ q′) ⊛ ‵ (flft κ″ q″) ⊛ ‵ ftrue) ∷ (‵ Own ⊛ ‵ Own₂) ∷ [])) (Post u)
   exits f u r is e e′ =
@@ -188,7 +189,7 @@ module _ {M : Type 1} (𝓤 : URA M) (H : Heap 𝓤) (A : Atoms 𝓤) (W : Given
         -- [what `find_at` asks; what t owns; the cell; what a Mark owns; the open borrow; obs; auth; _6 7; ..]
         calls-at ! fm (NextMatch 𝓤 H A at-mem run) known to (and-then ! (load ! (from ! (stop !)) (look ! 15 refl))
         (and-then ! (load ! (from ! (stop !)) (look ! 13 refl)) (and-then ! (load ! (from ! (stop !)) (look ! 11 refl)) (no-more !)))) (λ u.
-        use1 W (later (some (λ (f : Shown). ((‵ (flft κ′ q′) ⊛ ‵ (flft κ″ q″) ⊛ ‵ ftrue) ⊛ ‵ (S.the-row .own f (u ∷ [])))
+        use1 W (later (some (λ (f : NextRowAnswer). ((‵ (flft κ′ q′) ⊛ ‵ (flft κ″ q″) ⊛ ‵ ftrue) ⊛ ‵ (S.the-row .own f (u ∷ [])))
         ⊛ raw (ensured 𝓤 H A next-match.ended (next-match.clauses 𝓤 H A at-mem run) (κ′, (κ″, tt)) (t, (g, (h .row, tt))) tt f))))
         (id⊢ 𝓤 _) $ await ! tt $ pick ! (λ f.
         split ! $ move ! (1 ∷ []) $ use1 W (raw (fact 𝓤 (Found f))) (said f) $ heard ! (Found f) (λ e. split ! $ move ! (1 ∷ []) $

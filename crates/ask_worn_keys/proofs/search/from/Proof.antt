@@ -4,26 +4,25 @@ use native.Mathlib.Omega.{arith}
 use borrow.Author.Needs.{needs}
 use lib.ListN.{length, drop}
 use Rattle.format.specs.Fits.{textOf}
-use Rattle.theory_paths.specs.OneText.{text-length}
-use Rattle.keys.specs.RowScanned.{scanOf}
 use Rattle.format.specs.VerdictLaws.{accepted-links}
+use Rattle.theory_paths.specs.OneText.{text-length}
 use Rattle.theory_paths.specs.PlaceBytes.{never-14}
-use Rattle.ask_access.proofs.RunLaws.{part-reads, part-broken}
-use Rattle.ask_worn_keys.proofs.SearchLaws.{from-broken, from-on, from-found, from-end, part-short, part-cut, low-more}
+use Rattle.row_filter.specs.RowAutomaton.{scanBytes}
+use Rattle.keys.specs.Forms.{keyAutomaton}
 use Rattle.keys.proofs.RangesLaws.{range-short}
+use Rattle.keys.proofs.RowScanLaws.{as-found, as-on}
+use Rattle.ask_access.proofs.RunLaws.{part-reads, part-broken}
+use Rattle.query_row_filter.proofs.RowsAfterLaws.{from-broken, from-on, from-found, from-end, part-short, part-cut}
 use Rattle.ask_worn_keys.proofs.search.from.Statement.{statement}
 use Rattle.ask_worn_keys.proofs.search.from.Tie as tie
 
 abbrev Inv-loop : tie.InvT-loop
 Inv-loop t h question q so-far₀ row₀ at₀ so-far row at =
-    ((at₀ ≤ at) × (at ≤ h .«text_length»))
-    × ((q ≤ row) × (row + at₀ ≤ q + at)) × (scanOf question (drop at (textOf t)) so-far row ≡ scanOf question (drop at₀ (textOf t)) so-far₀ q)
+    ((at₀ ≤ at) × (at ≤ h .«text_length»)) × ((q ≤ row) × (row + at₀ ≤ q + at))
+    × (scanBytes (keyAutomaton question) (drop at (textOf t)) so-far row ≡ scanBytes (keyAutomaton question) (drop at₀ (textOf t)) so-far₀ q)
 
 abbrev μ-loop : tie.MeasureT-loop
 μ-loop t h question q so-far₀ row₀ at₀ so-far row at = h .«text_length» - at
-
-loop-holds : tie.Need-loop-holds Inv-loop μ-loop
-loop-holds c = ((omega arith, omega arith), (omega arith, omega arith), refl)
 
 pub from-spec : {M : Type 1} → statement M
 from-spec =
@@ -31,13 +30,13 @@ from-spec =
     (tie.spec
     Inv-loop
     μ-loop
-    loop-holds
+    (λ c. ((omega arith, omega arith), (omega arith, omega arith), refl))
     (λ c κs. search needs)
     (λ c. search needs)
     (λ c. search needs)
     (λ c. let pa = c .before .before in let l = pa .before .before .before in let s = l .before .before .before in
-    from-broken _ _ _ _ (λ v. never-14 _ (s .pre .0 .passes) (l .loop .at) (omega (arith, pa .before .if1 .taken, s .pre .0 .length-is)) (accepted-links
-    _ v) (part-broken _ _ (s .pre .0) (l .loop .at) (pa .before .if1 .taken) _ (pa .part-at .ensures) _ (c .enum-told .given .1) .1)))
+    from-broken _ (keyAutomaton _) _ _ (λ v. never-14 _ (s .pre .0 .passes) (l .loop .at) (omega (arith, pa .before .if1 .taken, s .pre .0 .length-is))
+    (accepted-links _ v) (part-broken _ _ (s .pre .0) (l .loop .at) (pa .before .if1 .taken) _ (pa .part-at .ensures) _ (c .enum-told .given .1) .1)))
     (λ c. let g = c .before .before in let pa = g .before .before in let l = pa .before .before .before in let s = l .before .before .before in
     let run = part-reads _ _ (s .pre .0) (l .loop .at) (pa .before .if1 .taken) _ (pa .part-at .ensures) _ (g .ran .given .1) in
     omega (arith, run .0 .in-tree))
@@ -58,39 +57,33 @@ from-spec =
       ),
     ))
     (λ c. search needs)
-    (λ c. search needs)
-    (λ c κs. search needs)
-    (λ c. let g = c .before .before .before .before .before .before .before in
+    (λ c. let w = c .before in let k = w .before .before in let g = k .before .before .before .before in
     let pa = g .before .before in let l = pa .before .before .before in let s = l .before .before .before in
     let run = part-reads _ _ (s .pre .0) (l .loop .at) (pa .before .if1 .taken) _ (pa .part-at .ensures) _ (g .ran .given .1) in
-    let k = c .before .before .before in
-    from-found (s .args .t .now) (s .args .question .now) (s .args .place .0) (s .args .q) (l .loop .at) (l .loop .row) (l .loop .so-far)
+    from-found (s .args .t .now) (keyAutomaton (s .args .question .now)) (s .args .place .0) (s .args .q) (l .loop .at) (l .loop .row) (l .loop .so-far)
     (l .loop .inv .2) (l .loop .inv .1 .0) _ _ (run .0) _ (part-cut (s .args .t .now) (g .ran .given .0 .0 .from) (g .ran .given .0 .0 .length))
-    _ (k .scan .ensures .0) (low-more (l .loop .row) _ (g .ran .given .0 .0 .length)
-    (k .scan .result) (part-short (s .args .t .now) (g .ran .given .0 .0 .from) (g .ran .given .0 .0 .length)) (k .scan .ensures .1))
-    _ (c .before .enum-told2 .given .1) _ (c .found .ensures))
-    (λ c. let g = c .before .before .before .before .before .before .before .before in
+    _ (k .scan .ensures .0) (k .scan .ensures .1) _ (as-found _ _ _ (w .scanned .given .1) refl))
+    (λ c. search needs)
+    (λ c. let w = c .before .before in let k = w .before .before in let g = k .before .before .before .before in
     let pa = g .before .before in let l = pa .before .before .before in let s = l .before .before .before in
     let run = part-reads _ _ (s .pre .0) (l .loop .at) (pa .before .if1 .taken) _ (pa .part-at .ensures) _ (g .ran .given .1) in
     omega (arith, run .0 .in-text, s .pre .0 .facts .bounds .text-high))
-    (λ c. let g = c .before .before .before .before .before .before .before .before in
+    (λ c. let w = c .before .before in let k = w .before .before in let g = k .before .before .before .before in
     let pa = g .before .before in let l = pa .before .before .before in let s = l .before .before .before in
     let run = part-reads _ _ (s .pre .0) (l .loop .at) (pa .before .if1 .taken) _ (pa .part-at .ensures) _ (g .ran .given .1) in
     omega (arith, run .0 .in-text, s .pre .0 .facts .bounds .text-high))
-    (λ c. let g = c .before .before .before .before .before .before .before .before in
+    (λ c. let w = c .before .before in let k = w .before .before in let g = k .before .before .before .before in
     let pa = g .before .before in let l = pa .before .before .before in let s = l .before .before .before in
     let run = part-reads _ _ (s .pre .0) (l .loop .at) (pa .before .if1 .taken) _ (pa .part-at .ensures) _ (g .ran .given .1) in
     omega (arith, run .0 .in-text, run .1, s .pre .0 .length-is))
-    (λ c. let g = c .before .before .before .before .before .before .before .before in
+    (λ c. let w = c .before .before in let k = w .before .before in let g = k .before .before .before .before in
     let pa = g .before .before in let l = pa .before .before .before in let s = l .before .before .before in
     let run = part-reads _ _ (s .pre .0) (l .loop .at) (pa .before .if1 .taken) _ (pa .part-at .ensures) _ (g .ran .given .1) in
-    let n = c .before .before in let k = n .before .before in
-    let z = from-on (s .args .t .now) (s .args .question .now) (s .args .place .0) (s .args .q) (l .loop .at) (l .loop .row) (l .loop .so-far)
+    let z = from-on (s .args .t .now) (keyAutomaton (s .args .question .now)) (s .args .place .0) (s .args .q) (l .loop .at) (l .loop .row) (l .loop .so-far)
     (l .loop .inv .2) (l .loop .inv .1 .0) _ _ (run .0) _ (part-cut (s .args .t .now) (g .ran .given .0 .0 .from) (g .ran .given .0 .0 .length))
-    _ (k .scan .ensures .0) (low-more (l .loop .row) _ (g .ran .given .0 .0 .length) (k .scan .result)
-    (part-short (s .args .t .now) (g .ran .given .0 .0 .from) (g .ran .given .0 .0 .length)) (k .scan .ensures .1)) _ _ (n .scanned .given .1) in
+    _ (k .scan .ensures .0) (k .scan .ensures .1) _ _ (as-on _ _ _ _ (w .scanned2 .given .1) refl) in
     ((omega arith, omega (arith, run .0 .in-text, s .pre .0 .length-is)), (z .1, omega (arith, z .2)), z .0))
     (λ c κs. omega arith)
     (λ c. let l = c .before .before .before in let s = l .before .before .before in
-    from-end _ _ _ _ (l .loop .at) _ _ (l .loop .inv .2) (l .loop .inv .1 .0)
+    from-end _ (keyAutomaton _) _ _ (l .loop .at) _ _ (l .loop .inv .2) (l .loop .inv .1 .0)
     (omega (arith, text-length (s .args .t .now), c .before .if1 .left, s .pre .0 .length-is)) (omega arith) _ (c .end-of-text .ensures)))

@@ -1,62 +1,46 @@
-use mathlib.Core.Path.{sym, ap, _∙_}
+use mathlib.Core.Path.{sym, _∙_}
 use native.Mathlib.Omega.{arith}
 use borrow.Author.Needs.{needs}
 use borrow.Author.Tests.{not-true, not-false}
-use Rattle.format.specs.FindSays.{total}
-use Rattle.ask_totals.proofs.TotalLaws.{is-counted, not-counted}
-use Rattle.ask_worn_keys.proofs.MatchAnswerLaws as laws
+use Rattle.keys.specs.Keys.{matches}
+use Rattle.keys.specs.Forms.{keyAutomaton}
+use Rattle.keys.proofs.RowForms.{reads}
+use Rattle.ask_rows.specs.RowSpans.{settledBy}
+use Rattle.query_row_filter.proofs.AllowedAnswerLaws.{answer-found}
+use Rattle.ask_worn_keys.proofs.MatchAnswerLaws.{match-19, match-good}
 use Rattle.ask_worn_keys.proofs.search.match_at.Statement.{statement}
 use Rattle.ask_worn_keys.proofs.search.match_at.Tie as tie
 
 pub match-at-spec : {M : Type 1} → statement M
+unfolding settledBy
 match-at-spec =
     tie.close
     (tie.spec
     (λ c κs. search needs)
-    (λ c. let s = c .before .before .before .before in
-    laws.match-19 _ _ _ (s .pre .passes) (sym (c .before .good2 .ensures) ∙ not-true _ (c .if1 .taken)))
+    (λ c. let s = c .before .before .before .before in match-19 _ _ _ (s .pre .passes) (sym (c .before .good2 .ensures) ∙ not-true _ (c .if1 .taken)))
+    (λ c. search needs)
+    (λ c. search needs)
+    (λ c. search needs)
     (λ c κs. search needs)
-    (λ c. let n = c .before .before in let e = n .before in let s = e .before .before .before .before in
-    laws.match-11 _ _ _ (s .pre .passes)
-    (sym (e .before .good2 .ensures) ∙ not-false _ (e .if1 .left)) (not-counted _ _ (s .pre) 10 _ (n .number-of .ensures .0) (c .if2 .taken)))
-    (λ c. let d = c .before .before in let n = d .before .before in let e = n .before in let s = e .before .before .before .before in
-    laws.match-stays _ _ _ (s .pre .passes)
-    (sym (e .before .good2 .ensures) ∙ not-false _ (e .if1 .left)) (is-counted _ _ (s .pre) 10 _ (n .number-of .ensures .0) (d .if2 .left))
-    (laws.few-bytes _ _ _ (s .pre .passes) (sym (e .before .good2 .ensures) ∙ not-false _ (e .if1 .left))
-    (is-counted _ _ (s .pre) 10 _ (n .number-of .ensures .0) (d .if2 .left)) (omega (arith, c .if3 .taken, s .pre .length-is))))
-    (λ c κs. search needs)
-    (λ c. let f = c .before in
-    let d = f .before .before .before in let n = d .before .before in let e = n .before in let s = e .before .before .before .before in
-    let all = f .total .ensures ∙ ap (total (s .args .t .now)) (n .number-of .ensures .0) in
-    laws.match-stays _ _ _ (s .pre .passes)
-    (sym (e .before .good2 .ensures) ∙ not-false _ (e .if1 .left)) (is-counted _ _ (s .pre) 10 _ (n .number-of .ensures .0) (d .if2 .left))
-    (laws.few-total _ _ _ (s .pre .passes) (sym (e .before .good2 .ensures) ∙ not-false _ (e .if1 .left))
-    (is-counted _ _ (s .pre) 10 _ (n .number-of .ensures .0) (d .if2 .left)) (omega (arith, c .if4 .taken, all))))
-    (λ c κs. let f = c .before in
-    let d = f .before .before .before in let n = d .before .before in let e = n .before in let s = e .before .before .before .before in
-    let all = f .total .ensures ∙ ap (total (s .args .t .now)) (n .number-of .ensures .0) in
-    (s .pre, is-counted _ _ (s .pre) 10 _ (n .number-of .ensures .0) (d .if2 .left), omega (arith, c .if4 .left, all)))
     (λ c. search needs)
-    (λ c. search needs)
-    (λ c. let b = c .before .before in let f = b .before .before in
-    let d = f .before .before .before in let n = d .before .before in let e = n .before in let s = e .before .before .before .before in
-    laws.match-14 _ _ _ (s .pre .passes)
-    (sym (e .before .good2 .ensures) ∙ not-false _ (e .if1 .left)) (is-counted _ _ (s .pre) 10 _ (n .number-of .ensures .0) (d .if2 .left))
-    (b .start .ensures .broken (c .enum-told .given .1)))
-    (λ c. search needs)
-    (λ c κs. let g = c .before in let b = g .before .before in let f = b .before .before in
-    let d = f .before .before .before in let n = d .before .before in let e = n .before in let s = e .before .before .before .before in (
+    (λ c. let g = c .before in let b = g .before .before in let e = b .before .before in let s = e .before .before .before .before in
+    omega (arith, b .begin .ensures .begins-at _ _ (g .start .given .1) .mark-low, s .pre .length-is, s .pre .facts .bounds .text-high))
+    (λ c κs. let g = c .before in let b = g .before .before in let e = b .before .before in let s = e .before .before .before .before in
+    let at = b .begin .ensures .begins-at _ _ (g .start .given .1) in (
       s .pre,
       sym (e .before .good2 .ensures) ∙ not-false _ (e .if1 .left),
-      omega (arith, b .start .ensures .place-in _ (g .begins .given .1), s .pre .length-is),
+      omega (arith, at .place-in, s .pre .length-is),
       omega arith,
-      omega (arith, f .before .if3 .left),
+      omega (arith, at .mark-low, s .pre .length-is),
     ))
     (λ c κs. search needs)
-    (λ c. let g = c .before .before .before in let b = g .before .before in let f = b .before .before in
-    let d = f .before .before .before in let n = d .before .before in let e = n .before in let s = e .before .before .before .before in
-    let all = f .total .ensures ∙ ap (total (s .args .t .now)) (n .number-of .ensures .0) in
-    rw (c .limit .ensures)
-    (laws.match-found _ _ _ (s .pre .passes)
-    (sym (e .before .good2 .ensures) ∙ not-false _ (e .if1 .left)) (is-counted _ _ (s .pre) 10 _ (n .number-of .ensures .0) (d .if2 .left))
-    (omega (arith, b .before .if4 .left, all)) _ (b .start .ensures .place-is _ (g .begins .given .1)) _ (c .before .from .ensures) _ all)))
+    (λ c. search needs)
+    (λ c. let g = c .before .before .before in let b = g .before .before in let e = b .before .before in let s = e .before .before .before .before in
+    let question = s .args .question .now in
+    let ok = sym (e .before .good2 .ensures) ∙ not-false _ (e .if1 .left) in
+    let at = b .begin .ensures .begins-at _ _ (g .start .given .1) in
+    rw (c .limit .ensures) (match-good _ _ _ (s .pre .passes) ok _
+    (answer-found (keyAutomaton question) (matches question) (reads question ok) _ _ _ _ _ (λ v. v) at _ (c .before .from .ensures))))
+    (λ c. let g = c .before in let b = g .before .before in let e = b .before .before in let s = e .before .before .before .before in
+    match-good _ _ _ (s .pre .passes) (sym (e .before .good2 .ensures) ∙ not-false _ (e .if1 .left)) _
+    (b .begin .ensures .answered _ (g .start2 .given .1) (matches (s .args .question .now)))))

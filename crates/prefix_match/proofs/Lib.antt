@@ -1,0 +1,3 @@
+pub mod PrefixStateLaws
+pub mod PrefixRecognized
+pub mod PrefixScanLaws

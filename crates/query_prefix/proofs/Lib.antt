@@ -1,0 +1,2 @@
+pub mod PrefixSearchLaws
+pub mod Demands

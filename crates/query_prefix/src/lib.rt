@@ -1,0 +1,40 @@
+// Rows by their first bytes: the next row after a mark that starts with a prefix, without a guide and with one.
+mod prefix_search;
+
+use layout::header;
+use layout::header::HeaderRead;
+use query_row_filter::NextRowAnswer;
+ghost use Rattle.format.specs.Verdict.{verdict};
+ghost use Rattle.prefix_match.specs.PrefixRows.{startsWith};
+ghost use Rattle.ask_guide.specs.Guides.{guideNumber};
+ghost use Rattle.query_row_filter.specs.AllowedAnswer.{AllowedAnswer};
+ghost use Rattle.query_prefix.specs.PrefixRefusals.{prefixRefusal};
+
+// The first row after a mark that starts with a prefix.
+pub fn next_row_with_prefix(t: &[u8], prefix: &[u8], mark: u32) -> NextRowAnswer
+    ensures { λ r. ⌜ AllowedAnswer (now (t .entry)) (verdict (now (t .entry)))
+        (prefixRefusal (now (t .entry)) (now (prefix .entry))) (startsWith (now (prefix .entry))) mark r ⌝ }
+{
+    let read = header::read_header(t);
+    match read {
+        HeaderRead::Good(h) => prefix_search::next_at(t, h, &t[0..0], false, prefix, mark),
+        HeaderRead::Refused(number) => NextRowAnswer::Refused(number),
+    }
+}
+
+// The same with a guide, which may be any bytes: the search begins at the end of the mark's row, found from an entry of the guide.
+pub fn next_row_with_prefix_guided(
+    t: &[u8],
+    guide: &[u8],
+    prefix: &[u8],
+    mark: u32,
+) -> NextRowAnswer
+    ensures { λ r. ⌜ AllowedAnswer (now (t .entry)) (guideNumber (now (t .entry)) (now (guide .entry)))
+        (prefixRefusal (now (t .entry)) (now (prefix .entry))) (startsWith (now (prefix .entry))) mark r ⌝ }
+{
+    let read = header::read_header(t);
+    match read {
+        HeaderRead::Good(h) => prefix_search::next_at(t, h, guide, true, prefix, mark),
+        HeaderRead::Refused(number) => NextRowAnswer::Refused(number),
+    }
+}

@@ -1,0 +1,3 @@
+pub mod RowsAfterLaws
+pub mod AllowedAnswerLaws
+pub mod NextRowTheorems

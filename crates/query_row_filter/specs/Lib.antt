@@ -1,0 +1,3 @@
+pub mod AllowedOutcome
+pub mod AllowedAnswer
+pub mod RowsAfter

@@ -1,0 +1,96 @@
+// Where the rows after a mark begin, in a tree that passes questions 5 to 7, and the largest row number that may be returned.
+use crate::NextRowAnswer;
+use ask_rows::row_edges;
+use ask_select::Found;
+use layout::header::Header;
+use layout::place::TextPlace;
+ghost use mathlib.Core.Path.{_≡_};
+ghost use mathlib.Core.Bool.{true};
+ghost use Prim.Native.Nat.{_+_, _≤_};
+ghost use lib.Dec.{ltb};
+ghost use Rattle.format.specs.CountSays.{isCounted, numberOfByte};
+ghost use Rattle.format.specs.FindSays.{total};
+ghost use Rattle.layout.specs.HeaderSays.{HeaderOf};
+ghost use Rattle.ask_rows.specs.RowSpans.{settledBy};
+ghost use Rattle.query_row_filter.specs.RowsAfter.{StartIs, BeginIs, limited};
+
+// Where the rows after a mark begin, with the total of byte 10; or the answer of the call, if no row begins there or the place is not found.
+pub enum RowsStart {
+    At(TextPlace, u64),
+    Answered(NextRowAnswer),
+}
+
+// Question 11. A mark at or above the number of rows stays. The guide is used if `used` is true.
+pub fn begin(t: &[u8], h: Header, guide: &[u8], used: bool, mark: u32) -> RowsStart
+    requires { ⌜ HeaderOf (now t) h ⌝ }
+    ensures { λ r. ⌜ BeginIs (now (t .entry)) (settledBy (now (t .entry)) (now (guide .entry)) used) mark r ⌝ }
+{
+    let number = ask_totals::number_of(t, h.settings.counted, 10);
+    if h.settings.counted <= number {
+        return RowsStart::Answered(NextRowAnswer::Refused(11));
+    }
+    if h.text_length <= mark {
+        return RowsStart::Answered(NextRowAnswer::Nothing(mark));
+    }
+    let newlines = ask_totals::total(t, h, number);
+    if newlines < mark as u64 {
+        return RowsStart::Answered(NextRowAnswer::Nothing(mark));
+    }
+    let place = start(t, h, guide, used, mark);
+    let StartPlace::At(p) = place else {
+        return RowsStart::Answered(NextRowAnswer::Refused(14));
+    };
+    RowsStart::At(p, newlines)
+}
+
+// Where the rows after a mark begin; Broken if the walk to that place fails.
+pub enum StartPlace {
+    At(TextPlace),
+    Broken,
+}
+
+// The place after the byte 10 that ends the mark's row (select); for mark 0 the text's start.
+fn start(t: &[u8], h: Header, guide: &[u8], used: bool, mark: u32) -> StartPlace
+    requires { ⌜ (HeaderOf (now t) h) × (isCounted (now t) 10 ≡ true) × (mark ≤ total (now t) (numberOfByte (now t) 10)) ⌝ }
+    ensures { λ r. ⌜ StartIs (now (t .entry)) (settledBy (now (t .entry)) (now (guide .entry)) used) mark r ⌝ }
+{
+    if mark == 0 {
+        return StartPlace::At(TextPlace(0));
+    }
+    let found = row_edges::ten(t, h, guide, used, mark);
+    let Found::At(end, _) = found else {
+        return StartPlace::Broken;
+    };
+    StartPlace::At(TextPlace(end.0 + 1))
+}
+
+// Whether a row number is above total + 1. The sum does not overflow: it is only formed where q is above the total.
+fn past(q: u32, newlines: u64) -> bool
+    ensures { λ r. ⌜ r ≡ ltb (newlines + 1) q ⌝ }
+{
+    if q as u64 <= newlines {
+        return false;
+    }
+    newlines + 1 < q as u64
+}
+
+// No accepted tree has a row number above total + 1.
+pub fn limit(answer: NextRowAnswer, newlines: u64) -> NextRowAnswer
+    ensures { λ r. ⌜ r ≡ limited newlines answer ⌝ }
+{
+    match answer {
+        NextRowAnswer::Row(q) => {
+            if past(q, newlines) {
+                return NextRowAnswer::Refused(14);
+            }
+            NextRowAnswer::Row(q)
+        }
+        NextRowAnswer::Nothing(m) => {
+            if past(m, newlines) {
+                return NextRowAnswer::Refused(14);
+            }
+            NextRowAnswer::Nothing(m)
+        }
+        NextRowAnswer::Refused(number) => NextRowAnswer::Refused(number),
+    }
+}
