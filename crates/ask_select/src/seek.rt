@@ -184,20 +184,20 @@ fn child_with(t: &[u8], h: Header, number: u32, on: On, parent: Parent, j: u64) 
         parent.below,
     );
     let table = record::level_count(t, on.level + 1) as u64;
-    if table < link as u64 + count as u64 {
+    if table < link.0 as u64 + count as u64 {
         return Child::Off;
     }
     if count == 0 {
         return Child::Off;
     }
     let children = Blocks {
-        first: BlockNumber(link),
-        end: BlockNumber(link + count),
+        first: BlockNumber(link.0),
+        end: BlockNumber(link.0 + count),
     };
     let i = last_before(t, h, number, on.level + 1, children, j);
     let spot = Spot {
         block: i,
-        place: BlockPlace((i.0 - link) * parent.below),
+        place: BlockPlace((i.0 - link.0) * parent.below),
     };
     let under = On {
         level: on.level + 1,
@@ -233,22 +233,22 @@ fn target_with(t: &[u8], h: Header, number: u32, on: On, block: BlockNumber, j: 
 {
     let link = record::link(t, h.record_size, on.level, block);
     let count = record::level_count(t, on.level);
-    if count <= link {
+    if count <= link.0 {
         return Target::Off;
     }
     let rank = j + record::skip(t, h.record_size, on.level, block, number) as u64;
-    let inside = record::inside(t, h.record_size, on.level, BlockNumber(link), number) as u64;
+    let inside = record::inside(t, h.record_size, on.level, BlockNumber(link.0), number) as u64;
     if rank <= inside {
-        return kept_target(t, h, on.level, BlockNumber(link), BlockPlace(0), rank);
+        return kept_target(t, h, on.level, BlockNumber(link.0), BlockPlace(0), rank);
     }
-    if count - link == 1 {
+    if count - link.0 == 1 {
         return Target::Off;
     }
     kept_target(
         t,
         h,
         on.level,
-        BlockNumber(link + 1),
+        BlockNumber(link.0 + 1),
         BlockPlace(on.b),
         rank - inside,
     )
@@ -260,12 +260,12 @@ fn leaf_place(t: &[u8], h: Header, wanted: Wanted, on: On, block: BlockNumber, j
         × (on .level + 1 ≡ h .settings .levels) ⌝ }
     ensures { λ r. ⌜ FoundIn (now (t .entry)) (wanted .number) (on .level) (block .0) j 1 r ⌝ }
 {
-    let link = record::link(t, h.record_size, on.level, block) as u64;
+    let link = record::link(t, h.record_size, on.level, block);
     let len = walk_steps::block_length(t, h.record_size, on.level, on.b, block);
-    if (h.leaf_count as u64) < link + len as u64 {
+    if (h.leaf_count as u64) < link.0 as u64 + len as u64 {
         return Placed::Off;
     }
-    let from = h.leaf_offset as usize + link as usize;
+    let from = h.leaf_offset as usize + link.0 as usize;
     let place = stretches::nth(t, from, len, wanted.byte, j);
     if place < len {
         return Placed::At(BlockPlace(place), 1);
