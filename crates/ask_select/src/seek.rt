@@ -87,21 +87,30 @@ fn largest_before(t: &[u8], h: Header, number: u32, level: u32, block: BlockNumb
     larger(larger(a, b), larger(c, d))
 }
 
-// Steps by fours, as long as no before of the four is j or more.
-fn by_fours(t: &[u8], h: Header, number: u32, level: u32, blocks: Blocks, j: u64) -> BlockNumber
+// Steps by fours, as long as no before of the four is j or more; the steps are counted on the way.
+fn by_fours(t: &[u8], h: Header, number: u32, level: u32, blocks: Blocks, j: u64) -> Along
     requires { ⌜ Siblings (now t) h number level (blocks .first .0) (blocks .end .0) ⌝ }
-    ensures { λ r. ⌜ Passed (now (t .entry)) number level (blocks .first .0) (blocks .end .0) j (r .0) ⌝ }
+    ensures { λ r. ⌜ (Passed (now (t .entry)) number level (blocks .first .0) (blocks .end .0) j (r .block .0))
+        × (blocks .first .0 + r .steps ≡ r .block .0) ⌝ }
 {
     let last = blocks.end.0;
     let mut i: u32 = blocks.first.0;
+    let mut steps: u32 = 0;
     while 4 < last - i {
         let most = largest_before(t, h, number, level, BlockNumber(i)) as u64;
         if j <= most {
-            return BlockNumber(i);
+            return Along {
+                block: BlockNumber(i),
+                steps,
+            };
         }
         i += 4;
+        steps += 4;
     }
-    BlockNumber(i)
+    Along {
+        block: BlockNumber(i),
+        steps,
+    }
 }
 
 // Of the blocks from first on, before end: the last one before any whose before is j or more, with the steps to it, counted on the way.
@@ -112,8 +121,8 @@ pub fn step_along(t: &[u8], h: Header, number: u32, level: u32, blocks: Blocks, 
 {
     let near = by_fours(t, h, number, level, blocks, j);
     let last = blocks.end.0;
-    let mut i: u32 = near.0;
-    let mut steps: u32 = near.0 - blocks.first.0;
+    let mut i: u32 = near.block.0;
+    let mut steps: u32 = near.steps;
     while i + 1 < last {
         let next = record::before(t, h.record_size, level, BlockNumber(i + 1), number) as u64;
         if j <= next {
