@@ -123,7 +123,7 @@ pub use Rattle.columns.proofs.Demands.{to-columns, from-columns}
 pub use Rattle.query.proofs.ColumnsCall.{to-columns-numbers, from-columns-numbers}
 -- A text of no bytes "builds a tree of the header alone .. and the check accepts it. Its counts of 0 bytes are 0, its totals are 0, it has no row, and
 -- a byte is refused with 10": `built-tree` and `scanned-tree` below hold of it as of any text; of a tree with n 0 that the check accepts, whoever made it, ..
-pub use Rattle.query.proofs.EmptyText.{empty-header, empty-text, empty-answers}
+pub use Rattle.query.proofs.EmptyText.{empty-counts, empty-offsets, empty-header, empty-text, empty-answers}
 -- .. and of what is answered from the empty text: ..
 pub use Rattle.query.proofs.EmptyText.{empty-byte, empty-run, empty-span, empty-span-past, empty-count, empty-count-past, empty-find, empty-row}
 -- One byte corrected. "two texts of equal length that differ in one place": `OneByte`. "each count over the first i bytes differs by at most one, and not at
