@@ -13,8 +13,9 @@
  *  - Every pointer is non-null, also where its length is 0 (pass the address of any byte), and points to as many bytes, or words of a table, as its
  *    length says; pointers to figures and to words are aligned.
  *  - Nobody has to check a tree first: each call is safe on any bytes, reads nothing outside them and ends. On a tree that bt_check refuses, bt_find may
- *    answer any place below n with any number of blocks, bt_row any bytes, bt_row_length any length up to n, and bt_next_match any row after the mark or none, or each of them may
- *    answer BT_PATH (bt_row also BT_BUFFER). All other answers are settled on any bytes. On a tree that bt_check accepts BT_PATH is never the answer.
+ *    answer any place below n with any number of blocks, bt_row the bytes that the tree's paths give from any place on, bt_row_length any length up to n,
+ *    and bt_next_match any row after the mark or none, or each of them may answer BT_PATH (bt_row also BT_BUFFER, if the buffer is shorter than such
+ *    bytes). All other answers are settled on any bytes. On a tree that bt_check accepts BT_PATH is never the answer.
  *  - A tree carries no checksum of its maker's text: bt_check says that it stands for a text, not for which. A flipped leaf byte, with the counts and edges
  *    that it is in, makes a good tree of another text, and a wrong key. Keep a digest of the tree beside it.
  *  - Places in the text start at 0; occurrences and rows are numbered from 1, but the rows that bt_column_row reads from 0.
@@ -258,7 +259,7 @@ uint32_t bt_find_guided(const uint8_t *tree, size_t tree_len, const uint8_t *gui
                         uint32_t *entered, uint32_t *steps);
 
 /* Row with a guide, by such finds. For a tree and a guide that bt_check_guide accepts it is bt_row's; else free as bt_row is on a tree that bt_check
- * refuses.
+ * refuses: on an accepted tree it still answers bytes of the text, but from any place on.
  *   lent      tree, guide, buffer
  *   written   buffer, *length as bt_row
  *   answers   0, 5, 6, 7, 11, 12, 13, 14 */
