@@ -13,8 +13,9 @@
  *  - Every pointer is non-null, also where its length is 0 (pass the address of any byte), and points to as many bytes, or words of a table, as its
  *    length says; pointers to figures and to words are aligned.
  *  - Nobody has to check a tree first: each call is safe on any bytes, reads nothing outside them and ends. On a tree that bt_check refuses, bt_find may
- *    answer any place below n with any number of blocks, bt_row any bytes, bt_row_length any length up to n, bt_next_match and bt_next_with_prefix any row after the mark or none, or each of them may
- *    answer BT_PATH (bt_row also BT_BUFFER). All other answers are settled on any bytes. On a tree that bt_check accepts BT_PATH is never the answer.
+ *    answer any place below n with any number of blocks, bt_row the bytes that the tree's paths give from any place on, bt_row_length any length up to n,
+ *    bt_next_match and bt_next_with_prefix any row after the mark or none, or each of them may answer BT_PATH (bt_row also BT_BUFFER, if the buffer is
+ *    shorter than such bytes). All other answers are settled on any bytes. On a tree that bt_check accepts BT_PATH is never the answer.
  *  - bt_check says that a tree stands for a text, not for which: a changed leaf byte, with the counts and edges that it is in, makes a valid tree of
  *    another text, and a wrong key. So the office prints the SHA-256 of the book, 32 bytes, and the machine compares them with what bt_digest writes of the
  *    tree (examples/c/check_digest.c). A digest is as good as the way it came: store it apart from the tree, where whoever can change the tree cannot write.
@@ -293,7 +294,7 @@ uint32_t bt_find_guided(const uint8_t *tree, size_t tree_len, const uint8_t *gui
                         uint32_t *entered, uint32_t *steps);
 
 /* Row with a guide, by such finds. For a tree and a guide that bt_check_guide accepts it is bt_row's; else free as bt_row is on a tree that bt_check
- * refuses.
+ * refuses: on an accepted tree it still answers bytes of the text, but from any place on.
  *   lent      tree, guide, buffer
  *   written   buffer, *length as bt_row
  *   answers   0, 5, 6, 7, 11, 12, 13, 14 */

@@ -429,7 +429,7 @@ fn ask_at(rng: &mut Rng, tree: &[u8], p: u32) {
     let (mut expected, mut buffer) = (lent(space), lent(space));
     let answer = read::row(tree, j, &mut expected);
     let got = calls::row(tree, j, &mut buffer);
-    assert!(row_agrees((answer, &expected), (got, &buffer)), "row {j} in {space} gives {got:?} {} {}", to_hex(&buffer), to_hex(tree));
+    assert!(row_agrees(tree, (answer, &expected), (got, &buffer)), "row {j} in {space} gives {got:?} {} {}", to_hex(&buffer), to_hex(tree));
 }
 
 /// Books of some length: the trees byte for byte, and many questions to each.
@@ -649,7 +649,9 @@ fn free_answers_are_judged() {
     let shown = |got| match_agrees(Answer::Free(5), 3, got);
     assert!([(14, 0, 3), (0, 0, 3), (0, 0, 5), (0, 4, 4), (0, 5, 5)].into_iter().all(shown));
     assert!(![(14, 0, 4), (0, 0, 2), (0, 0, 6), (0, 3, 3), (0, 6, 6), (0, 4, 5), (11, 0, 3)].into_iter().any(shown));
-    let free = (Answer::Free(3), [].as_slice());
-    assert!(row_agrees(free, ((0, 2), &[1, 2, FILL])) && row_agrees(free, ((14, 0), &[0, 0, FILL])) && row_agrees(free, ((13, 0), &[FILL])));
-    assert!(!row_agrees(free, ((0, 1), &[1, 2, FILL])) && !row_agrees(free, ((14, 0), &[0, 1])) && !row_agrees(free, ((0, 4), &[1; 4])));
+    let free = |tree: &[u8], got, buffer: &[u8]| row_agrees(tree, (Answer::Free(4), &[]), (got, buffer));
+    let tree = build::plain_tree(b"ABAC", Shape::new(2, 2, 2), b"A");
+    assert!(free(&tree, (0, 2), b"BA\xEE") && free(&tree, (0, 0), b"\xEE") && free(&tree, (14, 0), b"\0\0\xEE") && free(&tree, (13, 0), b"\xEE"));
+    assert!(!free(&tree, (0, 2), b"BC\xEE") && !free(&tree, (0, 1), b"BA\xEE") && !free(&tree, (0, 5), b"ABAC\xEE") && !free(&tree, (0, 5), b"ABACA"));
+    assert!(!free(&tree, (14, 0), b"\0\x01") && !free(&tree, (13, 0), &[FILL; 4]));
 }

@@ -72,7 +72,7 @@ fn ask_with(rng: &mut Rng, tree: &[u8], guide: &[u8]) {
     let (mut expected, mut buffer) = (lent(space), lent(space));
     let answer = guides::row(tree, guide, q, &mut expected);
     let got = calls::row_guided(tree, guide, q, &mut buffer);
-    assert!(row_agrees((answer, &expected), (got, &buffer)), "row {q} in {space} gives {got:?} {} {}", to_hex(guide), to_hex(tree));
+    assert!(row_agrees(tree, (answer, &expected), (got, &buffer)), "row {q} in {space} gives {got:?} {} {}", to_hex(guide), to_hex(tree));
 
     let wanted: Vec<u8> = (0..rng.below(4)).map(|_| *rng.pick(b"AAB\r\n")).collect();
     let mut mark = q;

@@ -319,7 +319,7 @@ fn row(calls: &Calls, tree: &[u8], q: u32, mut buffer: Vec<u8>, expected: &[&str
     };
     let got = (calls.row)(tree, q, &mut buffer);
     let agrees = match got {
-        Answer::Settled(got) => row_agrees((answer, &expected_buffer), (got, &buffer)),
+        Answer::Settled(got) => row_agrees(tree, (answer, &expected_buffer), (got, &buffer)),
         Answer::Free(_) => got == answer,
     };
     if agrees {

@@ -3,6 +3,7 @@ use crate::Answer;
 use crate::Copied;
 use layout::header::Header;
 use layout::place::TextPlace;
+use layout::settings::Settings;
 use walk_path::Reached;
 use walk_path::Walked;
 use walk_path::held;
@@ -109,7 +110,7 @@ pub fn span_at(t: &[u8], h: Header, at: TextPlace, len: u32, buffer: &mut [u8]) 
 fn is_short(h: Header, len: u32) -> bool
     ensures { λ r. ⌜ r ≡ (eqb (h .layout) 2 && leb 1 len && leb len (h .settings .leaf)) ⌝ }
 {
-    if h.layout != 2 {
+    if h.layout != Settings::EDGED {
         return false;
     }
     if len < 1 {

@@ -23,6 +23,7 @@ use Rattle.format.specs.FindSays.{total}
 use Rattle.layout.specs.declared.header.Header.{Header}
 use Rattle.layout.specs.HeaderSays.{HeaderOf}
 use Rattle.ask_select.specs.Seeks.{Siblings, LastBefore}
+use Rattle.ask_select.proofs.SeekLaws.{last-here}
 use Rattle.ask_guide.specs.Guides.{entriesOf, entriesBefore, guideWords, guideOf, guideBytes, guideNumber, sizeSays, makeNumber}
 use Rattle.ask_guide.specs.Guides.{makeSays, makeLeaves, listedEvery}
 use Rattle.ask_guide.specs.EntriesWritten.{written, Puts, Compared}
@@ -55,14 +56,17 @@ module _ (t : List ℕ) (c e : ℕ) (v : verdict t ≡ 0) (hc : c < at.countedCo
 
   module _ (from block : ℕ)
       (low : at.before t 0 from c < listedEvery * e + 1) (last : LastBefore t c 0 from (at.levelCount t 0) (listedEvery * e + 1) block) where
+    here : at.before t 0 block c < listedEvery * e + 1
+    here = last-here t c 0 from (at.levelCount t 0) (listedEvery * e + 1) block last low
+
     pub entry-found : (place : ℕ) → place ≡ entriesBefore t c → block ≡ getD (guideOf t) (place + e) 0
     entry-found place p =
-        block-is t v c hc (listedEvery * e + 1) (omega arith) rank block (last .high) (last .here low) (last .next)
+        block-is t v c hc (listedEvery * e + 1) (omega arith) rank block (last .high) here (last .next)
         ∙ sym (guide-entry t c e hc he) ∙ ap (λ (k : ℕ). getD (guideOf t) (k + e) 0) (sym p)
 
     -- the next is looked for from there
     pub entry-next : (block < at.levelCount t 0) × (at.before t 0 block c < listedEvery * (e + 1) + 1)
-    entry-next = (last .high, omega (arith, last .here low))
+    entry-next = (last .high, omega (arith, here))
 
   pub entry-there : (place : ℕ) → place ≡ entriesBefore t c → place + e < length (guideOf t)
   entry-there place p = omega (arith, entry-below t c e hc he)

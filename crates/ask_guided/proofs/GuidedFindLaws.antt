@@ -16,6 +16,7 @@ use Rattle.ask_select.specs.declared.Found.the-variants as find
 use Rattle.ask_select.specs.Found as select
 use Rattle.ask_select.specs.SoughtPlaces as sought
 use Rattle.ask_select.specs.Seeks.{LastBefore}
+use Rattle.ask_select.proofs.SeekLaws.{last-here}
 use Rattle.ask_guide.specs.Guides.{lastEntry, lastListed, blockOf, entriesOf, entriesBefore, guideOf, guideNumber}
 use Rattle.ask_guide.proofs.Holders.{block-in, block-low, block-is}
 use Rattle.ask_guide.proofs.GuideList.{guide-length, guide-size, guide-entry, entry-below, entry-word, listed, guide-verdict, guide-same}
@@ -99,7 +100,7 @@ module _ (t guide : List ℕ) (byte c j : ℕ)
     counted : (g : guideNumber t guide ≡ 0) → (at.before t 0 block c < j) × (steps ≡ stepsTo t c j)
     unfolding stepsTo
     counted g =
-        let under = last .here (rw entry-read (entry-low g)) in
+        let under = last-here t c 0 entry (at.levelCount t 0) j block last (rw entry-read (entry-low g)) in
         let b = block-is t (v g) c hc j low high block (last .high) under (last .next) in
         (under, omega (arith, steps-are, b, entry-read, entry-is g))
 

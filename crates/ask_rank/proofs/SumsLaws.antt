@@ -23,7 +23,7 @@ use Rattle.layout.specs.declared.place.BlockPlace.{BlockPlace}
 use Rattle.layout.specs.Record.{FieldIn, field-in}
 use Rattle.walk_steps.specs.declared.Next.{Next}
 use Rattle.walk_steps.specs.declared.Next.the-variants.{Points, Off}
-use Rattle.walk_steps.specs.declared.Part.{Part}
+use Rattle.layout.specs.declared.place.Spot.{Spot}
 use Rattle.walk_steps.specs.declared.Arrived.{Arrived}
 use Rattle.walk_steps.specs.declared.Arrived.the-variants as arrived
 use Rattle.walk_steps.specs.Steps.{OnLevel, nextAt, childAt, landAt}
@@ -312,16 +312,17 @@ whole t byte c n i o (some q) e =
     let g = goes-head t (goes t n 0 i o q e) in
     rw (g .1) (same _ _ _ _ _ _ (omega arith) (omega arith) (omega arith))
 
-module _ (t : List ℕ) (size byte c b p : ℕ) (on : OnLevel t size 0 b) (x : Part) (x-is : x ≡ record { blocks = p / b; place = record { 0 = p % b } }) where
+module _ (t : List ℕ) (size byte c b p : ℕ) (on : OnLevel t size 0 b) (x : Spot)
+    (x-is : x ≡ record { block = record { 0 = p / b }; place = record { 0 = p % b } }) where
   top : pathOf t p ≡ pathFrom t (at.settings t .levels - 1 - 0) 0 (p / b) (p % b)
   unfolding pathOf
   top = let z : at.settings t .levels - 1 - 0 ≡ at.settings t .levels - 1 = omega arith in rw (z, on .b-is)
 
-  pub first-may : (s : Sum) → s .entered ≡ 0 → p < at.textLength t → MayPoint t size 0 b (x .blocks) (x .place .0) (s .entered)
+  pub first-may : (s : Sum) → s .entered ≡ 0 → p < at.textLength t → MayPoint t size 0 b (x .block .0) (x .place .0) (s .entered)
   first-may s z low = rw z (walk.top-may t size b p on x x-is low)
 
   pub first-by : (s : Sum) (r : Said)
-      → s ≡ startSum t c (x .blocks) → r ≡ settled (summed t byte c s (pathFrom t (at.settings t .levels - 1 - 0) 0 (x .blocks) (x .place .0)))
+      → s ≡ startSum t c (x .block .0) → r ≡ settled (summed t byte c s (pathFrom t (at.settings t .levels - 1 - 0) 0 (x .block .0) (x .place .0)))
       → r ≡ settled (wholeSum t byte c (pathOf t p))
   first-by s r s-is f =
       let g = rw (s-is, x-is) at f in

@@ -70,11 +70,11 @@ fn leaf(t: &[u8], size: u32, wanted: Wanted, on: On, spot: Spot, sum: Sum) -> u6
     ensures { λ r. ⌜ saidIn r ≡ settled (summed (now (t .entry)) (wanted .byte) (wanted .number) sum
         (pathFrom (now (t .entry)) 0 (on .level) (spot .block .0) (spot .place .0))) ⌝ }
 {
-    let link = record::link(t, size, on.level, spot.block) as u64;
-    let number = link + spot.place.0 as u64;
+    let link = record::link(t, size, on.level, spot.block);
+    let number = link.0 as u64 + spot.place.0 as u64;
     let shape = fields::shape_of(t);
     if number < shape.leaf_count as u64 {
-        let from = shape.leaf_offset as usize + link as usize;
+        let from = shape.leaf_offset as usize + link.0 as usize;
         let here = stretches::count_in(t, from, spot.place.0 + 1, wanted.byte);
         let all = sum.enter(here, 0);
         return all.packed();
@@ -100,10 +100,10 @@ fn across(t: &[u8], size: u32, wanted: Wanted, level: u32, hop: Hop, sum: Sum) -
 {
     let link = record::link(t, size, level, hop.block);
     let skip = record::skip(t, size, level, hop.block, wanted.number);
-    if hop.target.0 == link {
+    if hop.target.0 == link.0 {
         return sum.enter(0, skip);
     }
-    let inside = record::inside(t, size, level, BlockNumber(link), wanted.number);
+    let inside = record::inside(t, size, level, BlockNumber(link.0), wanted.number);
     sum.enter(inside, skip)
 }
 
@@ -195,10 +195,8 @@ pub fn walk(t: &[u8], h: Header, wanted: Wanted, place: TextPlace) -> u64
     requires { ⌜ (HeaderOf (now t) h) × (place .0 < h .«text_length») × (wanted .number < at.countedCount (now t)) ⌝ }
     ensures { λ r. ⌜ saidIn r ≡ settled (wholeSum (now (t .entry)) (wanted .byte) (wanted .number) (pathOf (now (t .entry)) (place .0))) ⌝ }
 {
-    let part = walk_steps::part_of(place.0, h.top_length);
-    let rest = part.place;
-    let first = BlockNumber(part.blocks);
-    let sum = start(t, h, wanted, first);
+    let spot = walk_steps::top_spot(place, h.top_length);
+    let sum = start(t, h, wanted, spot.block);
     pointing_step(
         t,
         h.record_size,
@@ -207,10 +205,7 @@ pub fn walk(t: &[u8], h: Header, wanted: Wanted, place: TextPlace) -> u64
             level: 0,
             b: h.top_length,
         },
-        Spot {
-            block: first,
-            place: rest,
-        },
+        spot,
         sum,
     )
 }

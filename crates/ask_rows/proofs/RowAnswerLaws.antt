@@ -1,21 +1,18 @@
 -- Row, from its edges and the bytes between them.
 use mathlib.Core.List.{List, _++_}
-use mathlib.Core.Bool.{true, false, cond}
+use mathlib.Core.Bool.{cond}
 use mathlib.Core.Path.{_≡_, refl, sym, ap, _∙_}
-use mathlib.Core.Logic.{_⊎_, inl, inr}
-use Prim.Native.Nat.{ℕ, zero, suc, _+_, _≤_, _<_}
+use mathlib.Core.Logic.{inl, inr}
+use Prim.Native.Nat.{ℕ, zero, suc, _+_, _≤_}
 use native.Mathlib.Omega.{arith}
 use borrow.Author.Tests.{ne-eqb}
 use lib.ListN.{length, drop, replicate}
-use lib.Seq.{drop-at}
 use lib.Dec.{eqb}
 use Rattle.text.specs.Lists.{tabulate}
-use Rattle.text.specs.ListLaws.{lt-or-ge, bool-cases, length-tabulate}
 use Rattle.text.specs.Text.{stretch}
 use Rattle.text.specs.TextLaws.{length-stretch}
 use Rattle.text.specs.Rows.{rowOf}
 use Rattle.format.specs.VerdictLaws.{accepted-links}
-use Rattle.format.specs.Layout as at
 use Rattle.format.specs.Fits.{textOf}
 use Rattle.format.specs.Verdict.{readable, verdict}
 use Rattle.format.specs.Said.{Said, refused, unless}
@@ -32,7 +29,7 @@ use Rattle.ask_access.specs.ReadAnswers as access
 use Rattle.ask_access.specs.ReadAnswers.{copiedSaid}
 use Rattle.ask_access.specs.declared.Copied.{Copied}
 use Rattle.ask_access.specs.declared.Copied.the-variants as of
-use Rattle.ask_access.proofs.SpanLaws.{ByPaths, values, no-room, number-in-room}
+use Rattle.ask_access.proofs.SpanLaws.{ByPaths, values, no-room}
 use Rattle.layout.specs.HeaderSays.{header-refused}
 use Rattle.ask_rows.specs.declared.row_edges.Edges.{Edges}
 use Rattle.ask_rows.specs.declared.row_edges.Edges.the-variants as edges
@@ -46,37 +43,15 @@ row-refused t ok q n buffer r = record {
   asked = λ l. (r .asked l, refl, refl);
   short = λ z v l. absurd (r .accepted z v);
   accepted = λ z v l. absurd (r .accepted z v);
-  free = λ z v. inr (inr (r .free z, refl, inl refl));
+  free = λ z v. inl (r .free z, refl, refl);
 }
 
--- each way out of a span whose place and length were asked before
-record SpanWays (t : List ℕ) (p len : ℕ) (buffer : List ℕ) : Type 0 where
-  ways : ((copyNumber t p len (length buffer) ≡ 13) × (copyLeaves t p len buffer ≡ buffer))
-      ⊎ (((copyNumber t p len (length buffer) ≡ 0) × (len ≤ length buffer) × (drop len (copyLeaves t p len buffer) ≡ drop len buffer))
-      ⊎ ((copyNumber t p len (length buffer) ≡ 14) × (len ≤ length buffer) × (copyLeaves t p len buffer ≡ replicate len 0 ++ drop len buffer)))
-
-module _ (t : List ℕ) (p len : ℕ) (buffer : List ℕ) (passes : readable t ≡ 0) (within : p + len ≤ at.textLength t) where
-  leaves-is : (n : ℕ) → copyNumber t p len (length buffer) ≡ n
+-- what a copy's number leaves in the buffer
+module _ (t : List ℕ) (p len : ℕ) (buffer : List ℕ) where
+  pub leaves-is : (n : ℕ) → copyNumber t p len (length buffer) ≡ n
       → copyLeaves t p len buffer ≡ cond (eqb n 0) (tabulate len (values t p) ++ drop len buffer) (cond (eqb n 14) (replicate len 0 ++ drop len buffer) buffer)
   unfolding copyLeaves leavesSpan
   leaves-is n e = rw e
-
-  span-ways : SpanWays t p len buffer
-  unfolding copyNumber
-  span-ways = go (lt-or-ge (length buffer) len) (bool-cases (pathsHold t p len))
-    where
-      go : (length buffer < len) ⊎ (len ≤ length buffer) → (pathsHold t p len ≡ true) ⊎ (pathsHold t p len ≡ false) → SpanWays t p len buffer
-      go (inl short) y = let e = no-room t p len buffer (pathsHold t p len) (tabulate len (values t p)) 0 passes within short in
-          record { ways = inl (e, leaves-is 13 e) }
-      go (inr room) (inl hold) =
-          let e : copyNumber t p len (length buffer) ≡ 0 =
-          number-in-room t p len buffer (pathsHold t p len) (tabulate len (values t p)) 0 passes within room ∙ rw hold in
-          let bytes = tabulate len (values t p) in
-          record { ways = inr (inl (e, room, ap (drop len) (leaves-is 0 e) ∙ drop-at bytes (drop len buffer) len (length-tabulate len (values t p)))) }
-      go (inr room) (inr broken) =
-          let e : copyNumber t p len (length buffer) ≡ 14 =
-          number-in-room t p len buffer (pathsHold t p len) (tabulate len (values t p)) 0 passes within room ∙ rw broken in
-          record { ways = inr (inr (e, room, leaves-is 14 e)) }
 
 unless-value : (n m : ℕ) (s a : Said) → s ≡ unless n a → n ≡ suc m → s .value ≡ 0
 unless-value n m s a e z = let f : s ≡ refused (suc m) = rw z at e in ap (λ (y : Said). y .value) f
@@ -103,26 +78,6 @@ module _ (t : List ℕ) (ok : ℕ) (sound : ok ≡ 0 → verdict t ≡ 0) (q p l
   s-some : copyNumber t p len (length buffer) ≡ 0 → s .value ≡ len
   s-some e = ap (λ (y : Said). y .value) (unless-none (copyNumber t p len (length buffer)) s bytes-said said-is e)
 
-  row-free : SpanWays t p len buffer
-      → ((s .number ≡ 0) × (s .value ≤ length buffer) × (s .value ≤ rowMost t q) × (drop (s .value) after ≡ drop (s .value) buffer))
-      ⊎ (((s .number ≡ 13) × (s .value ≡ 0) × (after ≡ buffer))
-      ⊎ ((s .number ≡ 14) × (s .value ≡ 0)
-      × ((after ≡ buffer) ⊎ ((k : ℕ) × (k ≤ length buffer) × (k ≤ rowMost t q) × (after ≡ replicate k 0 ++ drop k buffer)))))
-  row-free w = go (w .ways)
-    where
-      go : ((copyNumber t p len (length buffer) ≡ 13) × (copyLeaves t p len buffer ≡ buffer))
-          ⊎ (((copyNumber t p len (length buffer) ≡ 0) × (len ≤ length buffer) × (drop len (copyLeaves t p len buffer) ≡ drop len buffer))
-          ⊎ ((copyNumber t p len (length buffer) ≡ 14) × (len ≤ length buffer) × (copyLeaves t p len buffer ≡ replicate len 0 ++ drop len buffer)))
-          → ((s .number ≡ 0) × (s .value ≤ length buffer) × (s .value ≤ rowMost t q) × (drop (s .value) after ≡ drop (s .value) buffer))
-          ⊎ (((s .number ≡ 13) × (s .value ≡ 0) × (after ≡ buffer))
-          ⊎ ((s .number ≡ 14) × (s .value ≡ 0)
-          × ((after ≡ buffer) ⊎ ((k : ℕ) × (k ≤ length buffer) × (k ≤ rowMost t q) × (after ≡ replicate k 0 ++ drop k buffer)))))
-      go (inl y) = inr (inl (s-number ∙ y .0, s-none 12 (y .0), after-is ∙ y .1))
-      go (inr (inl y)) =
-          let v = s-some (y .0) in
-          inl (s-number ∙ y .0, omega (arith, y .1), omega (arith, sp .short), rw (v, after-is) (y .2))
-      go (inr (inr y)) = inr (inr (s-number ∙ y .0, s-none 13 (y .0), inr (len, y .1, sp .short, after-is ∙ y .2)))
-
   -- the row is as long
   row-long : ok ≡ 0 → length (rowOf (textOf t) q) ≡ len
   row-long v = ap length (sym (sp .accepted v)) ∙ length-stretch (textOf t) p len (omega (arith, sp .within, text-length t))
@@ -133,7 +88,7 @@ module _ (t : List ℕ) (ok : ℕ) (sound : ok ≡ 0 → verdict t ≡ 0) (q p l
     asked = λ l. absurd (let z : ⊥ = omega (arith, sp .asked) in z);
     short = λ z v l.
         (let e = no-room t p len buffer (pathsHold t p len) (tabulate len (values t p)) 0 passes (sp .within) (omega (arith, row-long v)) in
-        let f = leaves-is t p len buffer passes (sp .within) 13 e in
+        let f = leaves-is t p len buffer 13 e in
         (s-number ∙ e, s-none 12 e, after-is ∙ f));
     accepted = λ z v l.
         (let room : len ≤ length buffer = omega (arith, row-long v) in
@@ -142,7 +97,15 @@ module _ (t : List ℕ) (ok : ℕ) (sound : ok ≡ 0 → verdict t ≡ 0) (q p l
         let f : after ≡ stretch (textOf t) p len ++ drop len buffer =
         after-is ∙ paths.copy-of-text t passes (accepted-links t (sound v)) p len buffer (sp .within) room in
         (s-number ∙ e, size ∙ sym (row-long v), rw (size, ← sp .accepted v) f));
-    free = λ z v. row-free (span-ways t p len buffer passes (sp .within));
+    free = λ z v. inr (record {
+      start = p;
+      len = len;
+      within = sp .within;
+      short = sp .short;
+      number-is = ap (λ (y : Said). y .number) s-is;
+      size-is = ap (λ (y : Said). y .value) s-is;
+      after-is = after-is;
+    });
   }
 
 -- what is copied by paths reports no block

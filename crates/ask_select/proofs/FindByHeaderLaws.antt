@@ -38,6 +38,7 @@ use Rattle.ask_select.specs.declared.seek.Placed.the-variants as placed
 use Rattle.ask_select.specs.declared.seek.Child.{Child}
 use Rattle.ask_select.specs.declared.seek.Child.the-variants as child
 use Rattle.ask_select.specs.Seeks.{KeptIn, PointsIn, Siblings, LastBefore, picked, Seeking, FoundIn}
+use Rattle.ask_select.proofs.SeekLaws.{last-here}
 use Rattle.ask_select.specs.SoughtPlaces.{placedIn, Sought, Stopped, SoughtIn}
 use Rattle.ask_totals.proofs.TotalLaws.{some-block, not-counted, is-counted}
 use Rattle.ask_select.proofs.LandLaws.{Picked, k, d, a, picked-kept, picked-points, picked-off, one-of}
@@ -167,7 +168,7 @@ module _ (t : List ℕ) (c j block : ℕ) (hc : c < at.countedCount t) (low : 1 
       under v =
           let f = finds.top-before t (k t v) (d t v) (a t v) c hc 0 (omega (arith, last .high)) in
           let e : at.before t 0 0 c ≡ 0 = f ∙ rw (zero-mul (at.fullLength t 0)) (tally-none t c 0) in
-          last .here (omega arith)
+          last-here t c 0 0 (at.levelCount t 0) j block last (omega arith)
 
 -- the questions before the walk
 

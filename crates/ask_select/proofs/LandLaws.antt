@@ -46,6 +46,7 @@ use Rattle.ask_select.specs.declared.seek.Target.the-variants as target
 use Rattle.stretches.specs.Stretches.{Stands}
 use Rattle.ask_select.specs.Seeks.{moved, Near, restIn, KeptIn, PointsIn, Siblings, LastBefore, picked, Chosen, ChildWith, Aimed, targetAt}
 use Rattle.ask_select.specs.Seeks.{TargetWith, Seeking, Landed, FoundIn}
+use Rattle.ask_select.proofs.SeekLaws.{last-here}
 
 -- What a pick says.
 
@@ -212,7 +213,8 @@ module _ (t : List ℕ) (h : Header) (c level b i below j link count : ℕ)
       points = λ y p q e. (let z = picked-points t c (level + 1) x ((x - link) * below) j y p q (sym r-is ∙ e) in
           (chosen (y .0) (p .0) q (z .0), rw (z .0 .block-is) (z .1)));
       off = λ e v. picked-off t c (level + 1) x ((x - link) * below) j (sym r-is ∙ e)
-          (last .here (rw link-is (omega (arith, first-none t v c hc level i (lower .level-in) hi (is-kept t level i (kept .kept))))))
+          (last-here t c (level + 1) link (link + count) j x last
+          (rw link-is (omega (arith, first-none t v c hc level i (lower .level-in) hi (is-kept t level i (kept .kept))))))
           (one-of t v (level + 1) x (lower .level-in) (omega (arith, last .high)));
     }
 

@@ -64,17 +64,17 @@ module _ (t : List ℕ) where
     pub some : first < end
     pub end-in : end ≤ at.levelCount t level
 
-  -- one of them that was stepped to
+  -- block r of them, reached from the first by blocks whose before is below j, r included
   pub record Passed (c level first end j r : ℕ) : Type 0 where
     pub low : first ≤ r
     pub high : r < end
-    pub here : at.before t level first c < j → at.before t level r c < j
+    pub passed : (i : ℕ) → first < i → i ≤ r → at.before t level i c < j
 
   -- the last of them before any whose before is j or more
   pub record LastBefore (c level first end j r : ℕ) : Type 0 where
     pub low : first ≤ r
     pub high : r < end
-    pub here : at.before t level first c < j → at.before t level r c < j
+    pub passed : (i : ℕ) → first < i → i ≤ r → at.before t level i c < j
     pub next : r + 1 < end → j ≤ at.before t level (r + 1) c
 
   -- what is left of j past a block's before, with what the block is

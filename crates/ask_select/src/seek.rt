@@ -87,21 +87,30 @@ fn largest_before(t: &[u8], h: Header, number: u32, level: u32, block: BlockNumb
     larger(larger(a, b), larger(c, d))
 }
 
-// Steps by fours, as long as no before of the four is j or more.
-fn by_fours(t: &[u8], h: Header, number: u32, level: u32, blocks: Blocks, j: u64) -> BlockNumber
+// Steps by fours, as long as no before of the four is j or more; the steps are counted on the way.
+fn by_fours(t: &[u8], h: Header, number: u32, level: u32, blocks: Blocks, j: u64) -> Along
     requires { ⌜ Siblings (now t) h number level (blocks .first .0) (blocks .end .0) ⌝ }
-    ensures { λ r. ⌜ Passed (now (t .entry)) number level (blocks .first .0) (blocks .end .0) j (r .0) ⌝ }
+    ensures { λ r. ⌜ (Passed (now (t .entry)) number level (blocks .first .0) (blocks .end .0) j (r .block .0))
+        × (blocks .first .0 + r .steps ≡ r .block .0) ⌝ }
 {
     let last = blocks.end.0;
     let mut i: u32 = blocks.first.0;
+    let mut steps: u32 = 0;
     while 4 < last - i {
         let most = largest_before(t, h, number, level, BlockNumber(i)) as u64;
         if j <= most {
-            return BlockNumber(i);
+            return Along {
+                block: BlockNumber(i),
+                steps,
+            };
         }
         i += 4;
+        steps += 4;
     }
-    BlockNumber(i)
+    Along {
+        block: BlockNumber(i),
+        steps,
+    }
 }
 
 // Of the blocks from first on, before end: the last one before any whose before is j or more, with the steps to it, counted on the way.
@@ -112,8 +121,8 @@ pub fn step_along(t: &[u8], h: Header, number: u32, level: u32, blocks: Blocks, 
 {
     let near = by_fours(t, h, number, level, blocks, j);
     let last = blocks.end.0;
-    let mut i: u32 = near.0;
-    let mut steps: u32 = near.0 - blocks.first.0;
+    let mut i: u32 = near.block.0;
+    let mut steps: u32 = near.steps;
     while i + 1 < last {
         let next = record::before(t, h.record_size, level, BlockNumber(i + 1), number) as u64;
         if j <= next {
@@ -184,20 +193,20 @@ fn child_with(t: &[u8], h: Header, number: u32, on: On, parent: Parent, j: u64) 
         parent.below,
     );
     let table = record::level_count(t, on.level + 1) as u64;
-    if table < link as u64 + count as u64 {
+    if table < link.0 as u64 + count as u64 {
         return Child::Off;
     }
     if count == 0 {
         return Child::Off;
     }
     let children = Blocks {
-        first: BlockNumber(link),
-        end: BlockNumber(link + count),
+        first: BlockNumber(link.0),
+        end: BlockNumber(link.0 + count),
     };
     let i = last_before(t, h, number, on.level + 1, children, j);
     let spot = Spot {
         block: i,
-        place: BlockPlace((i.0 - link) * parent.below),
+        place: BlockPlace((i.0 - link.0) * parent.below),
     };
     let under = On {
         level: on.level + 1,
@@ -233,22 +242,22 @@ fn target_with(t: &[u8], h: Header, number: u32, on: On, block: BlockNumber, j: 
 {
     let link = record::link(t, h.record_size, on.level, block);
     let count = record::level_count(t, on.level);
-    if count <= link {
+    if count <= link.0 {
         return Target::Off;
     }
     let rank = j + record::skip(t, h.record_size, on.level, block, number) as u64;
-    let inside = record::inside(t, h.record_size, on.level, BlockNumber(link), number) as u64;
+    let inside = record::inside(t, h.record_size, on.level, BlockNumber(link.0), number) as u64;
     if rank <= inside {
-        return kept_target(t, h, on.level, BlockNumber(link), BlockPlace(0), rank);
+        return kept_target(t, h, on.level, BlockNumber(link.0), BlockPlace(0), rank);
     }
-    if count - link == 1 {
+    if count - link.0 == 1 {
         return Target::Off;
     }
     kept_target(
         t,
         h,
         on.level,
-        BlockNumber(link + 1),
+        BlockNumber(link.0 + 1),
         BlockPlace(on.b),
         rank - inside,
     )
@@ -260,12 +269,12 @@ fn leaf_place(t: &[u8], h: Header, wanted: Wanted, on: On, block: BlockNumber, j
         × (on .level + 1 ≡ h .settings .levels) ⌝ }
     ensures { λ r. ⌜ FoundIn (now (t .entry)) (wanted .number) (on .level) (block .0) j 1 r ⌝ }
 {
-    let link = record::link(t, h.record_size, on.level, block) as u64;
+    let link = record::link(t, h.record_size, on.level, block);
     let len = walk_steps::block_length(t, h.record_size, on.level, on.b, block);
-    if (h.leaf_count as u64) < link + len as u64 {
+    if (h.leaf_count as u64) < link.0 as u64 + len as u64 {
         return Placed::Off;
     }
-    let from = h.leaf_offset as usize + link as usize;
+    let from = h.leaf_offset as usize + link.0 as usize;
     let place = stretches::nth(t, from, len, wanted.byte, j);
     if place < len {
         return Placed::At(BlockPlace(place), 1);

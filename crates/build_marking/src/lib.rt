@@ -5,8 +5,8 @@ pub mod target;
 
 use build_records::level_written::Level;
 use build_records::record_written::Block;
-use build_records::record_written::Link;
 use layout::place::BlockNumber;
+use layout::place::Link;
 ghost use Rattle.build_records.specs.State.{settingsOf, BlockIs};
 ghost use Rattle.build_marking.specs.MarkingRule.{Next};
 

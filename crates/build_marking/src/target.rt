@@ -2,9 +2,9 @@
 use build_records::level_written;
 use build_records::level_written::Level;
 use build_records::record_written::Block;
-use build_records::record_written::Link;
 use layout::place::BlockNumber;
 use layout::place::BlockPlace;
+use layout::place::Link;
 use layout::place::TextPlace;
 ghost use mathlib.Core.Bool.{true, false};
 ghost use mathlib.Core.Path.{_≡_};

@@ -3,6 +3,7 @@ use crate::level_written;
 use crate::level_written::Level;
 use layout::place::BlockNumber;
 use layout::place::BlockPlace;
+use layout::place::Link;
 use layout::place::TextPlace;
 use layout::record;
 use layout::settings;
@@ -20,10 +21,6 @@ ghost use Rattle.theory_built.specs.Structure.{widthOf};
 ghost use Rattle.build_records.specs.Grown.{Grown, Within};
 ghost use Rattle.build_records.specs.State.{settingsOf, Writing, placeAt};
 ghost use Rattle.build_records.specs.RecordWords.{beforeSays, edgeWritten};
-
-// What a record links to: a kept block's first child, or on the last level its first leaf byte; the block that a pointing block points
-// to. It is a type of its own, so that it is not handed in for a block's number.
-pub struct Link(pub u32);
 
 // What a record says, and where the bytes stand that it counts.
 pub struct Block {

@@ -45,7 +45,7 @@ fn kept_inside(t: &[u8], h: Header, level: u32, b: u32, block: BlockNumber, c: u
         return prefix::in_leaves(t, h, level, block, length, c);
     }
     let link = record::link(t, size, level, block);
-    let last = BlockNumber(link + (length - 1) / (b / h.settings.arity));
+    let last = BlockNumber(link.0 + (length - 1) / (b / h.settings.arity));
     let to_last = record::before(t, size, down, last, c) as u64;
     let in_last = record::inside(t, size, down, last, c) as u64;
     to_last + in_last
@@ -77,7 +77,7 @@ fn pointing_skip(t: &[u8], h: Header, level: u32, b: u32, block: BlockNumber, c:
     }
     let link = record::link(t, h.record_size, level, block);
     let there = Spot {
-        block: BlockNumber(link),
+        block: BlockNumber(link.0),
         place: BlockPlace(gap.0 - 1),
     };
     prefix::up_to(t, h, On { level, b }, there, c)

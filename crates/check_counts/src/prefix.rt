@@ -27,7 +27,7 @@ pub fn in_leaves(t: &[u8], h: Header, level: u32, block: BlockNumber, n: u32, c:
     ensures { λ r. ⌜ (r ≡ inLeaves (now (t .entry)) level (block .0) n c) × (r ≤ n) ⌝ }
 {
     let link = record::link(t, h.record_size, level, block);
-    let from = h.leaf_offset as usize + link as usize;
+    let from = h.leaf_offset as usize + link.0 as usize;
     let byte = t[header::COUNTED_AT + c as usize];
     stretches::count_in(t, from, n, byte) as u64
 }
@@ -55,16 +55,16 @@ pub fn hand_on(t: &[u8], h: Header, on: On, spot: Spot, c: u32) -> Hand
     let at = gap.0 + spot.place.0;
     if at < on.b {
         return Hand {
-            block: BlockNumber(link),
+            block: BlockNumber(link.0),
             place: BlockPlace(at),
             plus: 0,
             minus: skip,
         };
     }
     Hand {
-        block: BlockNumber(link + 1),
+        block: BlockNumber(link.0 + 1),
         place: BlockPlace(at - on.b),
-        plus: record::inside(t, size, on.level, BlockNumber(link), c) as u64,
+        plus: record::inside(t, size, on.level, BlockNumber(link.0), c) as u64,
         minus: skip,
     }
 }
@@ -76,7 +76,7 @@ fn step(t: &[u8], h: Header, level: u32, b: u32, spot: Spot, c: u32) -> Hand
     ensures { λ r. ⌜ (r ≡ stepOf (now (t .entry)) level (spot .block .0) (spot .place .0) c) × (r .plus < 8589934592) ⌝ }
 {
     let link = record::link(t, h.record_size, level, spot.block);
-    let child = BlockNumber(link + spot.place.0 / b);
+    let child = BlockNumber(link.0 + spot.place.0 / b);
     let before = record::before(t, h.record_size, level + 1, child, c);
     let under = On {
         level: level + 1,

@@ -5,6 +5,7 @@ use layout::place::BlockNumber;
 use layout::place::BlockPlace;
 use layout::place::On;
 use layout::record;
+use layout::settings::Settings;
 use walk_short::gather;
 use walk_short::gather::Gathered;
 use walk_short::gather::Stretch;
@@ -88,7 +89,7 @@ pub fn edges_right(t: &[u8], h: Header) -> bool
     requires { ⌜ Linking (now t) h ⌝ }
     ensures { λ r. ⌜ r ≡ edgesTrue (textOf (now (t .entry))) (now (t .entry)) ⌝ }
 {
-    if h.layout != 2 {
+    if h.layout != Settings::EDGED {
         return true;
     }
     let mut l: u32 = 0;

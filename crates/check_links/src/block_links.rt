@@ -45,7 +45,7 @@ fn kept_right(t: &[u8], v: Level, block: BlockNumber, before: u32, width: u32) -
     ensures { λ r. ⌜ r ≡ keptRight (now (t .entry)) (v .number) (block .0) ⌝ }
 {
     let link = record::link(t, v.size, v.number, block);
-    if link != before {
+    if link.0 != before {
         return false;
     }
     let gap = record::gap(t, v.size, v.number, block);
@@ -56,7 +56,7 @@ fn kept_right(t: &[u8], v: Level, block: BlockNumber, before: u32, width: u32) -
         return true;
     }
     let start = record::start(t, v.size, v.number, block);
-    children_right(t, v, start, BlockNumber(link), width)
+    children_right(t, v, start, BlockNumber(link.0), width)
 }
 
 // The children of a block that starts at `start` start as cut; `first` is the first of them.
@@ -91,7 +91,7 @@ fn pointing_right(t: &[u8], v: Level, block: BlockNumber) -> bool
     if v.full <= gap.0 {
         return false;
     }
-    let target = BlockNumber(record::link(t, v.size, v.number, block));
+    let target = BlockNumber(record::link(t, v.size, v.number, block).0);
     let start = record::start(t, v.size, v.number, block);
     let length = cut::length_from(v.length, start, v.full);
     if !target_right(t, v, target, gap, length, start) {

@@ -72,14 +72,14 @@ module _ (t : List ℕ) where
   textOf = tabulate (at.textLength t) (λ p. leafOf (pathOf t p))
 
 module _ (T t : List ℕ) where
-  -- the text has block i's bytes: its leaf bytes on the last level, those of its occurrence where it points
+  -- block i's bytes in the text are its leaf bytes if it is on the last level, and those of its occurrence if it points (kind 1)
   unfoldable pub blockFits : ℕ → ℕ → Bool
-  unfolding lastLevel at.blockLengthAt at.start at.link at.gap at.isKept
+  unfolding lastLevel at.blockLengthAt at.start at.link at.gap at.isPointing
   blockFits l i =
       let bytes = stretch T (at.start t l i) (at.blockLengthAt t l i) in
       let leaves = tabulate (at.blockLengthAt t l i) (λ o. at.leafByte t (at.link t l i + o)) in
       let pointedTo = stretch T (at.start t l (at.link t l i) + at.gap t l i) (at.blockLengthAt t l i) in
-      cond (at.isKept t l i) (not (eqb l (lastLevel t)) || sameList bytes leaves) (sameList bytes pointedTo)
+      (not (eqb l (lastLevel t)) || sameList bytes leaves) && (not (at.isPointing t l i) || sameList bytes pointedTo)
 
   unfoldable pub fits : Bool
   unfolding at.textLength at.settings at.levelCount

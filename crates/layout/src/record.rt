@@ -2,6 +2,7 @@
 use crate::header;
 use crate::place::BlockNumber;
 use crate::place::BlockPlace;
+use crate::place::Link;
 use crate::place::TextPlace;
 use crate::word;
 ghost use mathlib.Core.Path.{_≡_};
@@ -76,11 +77,11 @@ pub fn kind(t: &[u8], size: u32, level: u32, block: BlockNumber) -> u32
 }
 
 // A kept block's first child, or on the last level its first leaf byte; the block that a pointing block points to.
-pub fn link(t: &[u8], size: u32, level: u32, block: BlockNumber) -> u32
+pub fn link(t: &[u8], size: u32, level: u32, block: BlockNumber) -> Link
     requires { ⌜ FieldIn (now t) size level (block .0) linkField ⌝ }
-    ensures { λ r. ⌜ r ≡ at.link (now (t .entry)) level (block .0) ⌝ }
+    ensures { λ r. ⌜ r .0 ≡ at.link (now (t .entry)) level (block .0) ⌝ }
 {
-    field(t, size, level, block, LINK)
+    Link(field(t, size, level, block, LINK))
 }
 
 // Where in the block pointed to the occurrence begins.

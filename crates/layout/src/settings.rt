@@ -33,11 +33,15 @@ impl Settings {
     // of a text's length, and of the length of a level 0 block
     pub const MAX_TEXT: u32 = 8388608;
 
+    pub const MIN_LEAF: u32 = 1;
+
     pub const MAX_LEAF: u32 = 256;
 
     pub const MIN_ARITY: u32 = 2;
 
     pub const MAX_ARITY: u32 = 16;
+
+    pub const MIN_LEVELS: u32 = 1;
 
     pub const MAX_LEVELS: u32 = 8;
 
@@ -118,7 +122,7 @@ fn power(leaf: u32, arity: u32, exponent: u32) -> u64
 fn sizes_fit(leaf: u32, arity: u32, levels: u32) -> bool
     ensures { λ r. ⌜ r ≡ sizesOk (sizes leaf arity levels) ⌝ }
 {
-    if leaf < 1 {
+    if leaf < Settings::MIN_LEAF {
         return false;
     }
     if Settings::MAX_LEAF < leaf {
@@ -130,7 +134,7 @@ fn sizes_fit(leaf: u32, arity: u32, levels: u32) -> bool
     if Settings::MAX_ARITY < arity {
         return false;
     }
-    if levels < 1 {
+    if levels < Settings::MIN_LEVELS {
         return false;
     }
     if Settings::MAX_LEVELS < levels {

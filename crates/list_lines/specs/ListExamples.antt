@@ -28,6 +28,8 @@ pub record Printed : Type 0 where
   book-lines : printed (treeOf two book) ≡ 48 ∷ 32 ∷ 53 ∷ 32 ∷ 52 ∷ 32 ∷ 49 ∷ 10 ∷ 49 ∷ 32 ∷ 56 ∷ 32 ∷ 56 ∷ 32 ∷ 48 ∷ 10 ∷ []
   short-tree : printed (take 531 (treeOf two book)) ≡ 114 ∷ 101 ∷ 102 ∷ 117 ∷ 115 ∷ 101 ∷ 100 ∷ 32 ∷ 55 ∷ 10 ∷ []
   short-header : printed (take 99 (treeOf two book)) ≡ 114 ∷ 101 ∷ 102 ∷ 117 ∷ 115 ∷ 101 ∷ 100 ∷ 32 ∷ 53 ∷ 10 ∷ []
+  -- a text of no bytes: 0 0 0 0, and 1 0 0 0
+  no-text : printed (treeOf two []) ≡ 48 ∷ 32 ∷ 48 ∷ 32 ∷ 48 ∷ 32 ∷ 48 ∷ 10 ∷ 49 ∷ 32 ∷ 48 ∷ 32 ∷ 48 ∷ 32 ∷ 48 ∷ 10 ∷ []
   three-digits : decimal 532 ≡ 53 ∷ 51 ∷ 50 ∷ []
 
 pub shown : Printed
@@ -37,4 +39,4 @@ unfolding book two tabulate concat sumBelow countBelow allBelow sameList wordAt 
     pairAt lengthOf startOf pathOf pathFrom targetPlace targetBlock pointingBlock keptBlock lands landBlock landPlace landVisits linksOk textOf fits
     countsTrue edgesTrue blockEdgesTrue lastLevel widthAt keptRight pointingRight blockRight countBelowRight blockFits blockCountsTrue verdict readable
     at.leafByte at.blockLengthAt at.levelCount at.levelOffset digitsWithin decimal figure line levelLine linesBelow refusedLine inputNumber printed
-shown = record { book-lines = refl; short-tree = refl; short-header = refl; three-digits = refl }
+shown = record { book-lines = refl; short-tree = refl; short-header = refl; no-text = refl; three-digits = refl }

@@ -38,7 +38,7 @@ pub use Rattle.query.proofs.EveryCall.{trusts-no-caller}
 -- .. leaves each lent buffer as this page says."
 pub use Rattle.query.proofs.BuildCall.{build-answer, build-zeros, build-unchanged}
 pub use Rattle.query.proofs.SpanCall.{span-answer, span-zeros, span-unchanged}
-pub use Rattle.query.proofs.RowCall.{row-answer, row-leaves}
+pub use Rattle.query.proofs.RowCall.{row-answer, row-free, row-free-short, row-leaves}
 -- With the room that enough answers, build is not refused for want of it.
 pub use Rattle.query.proofs.BuildCall.{build-has-room}
 -- Demand 2. "The builder's output is, byte for byte, the block tree of its text as this page defines it; ..
@@ -146,7 +146,7 @@ pub use Rattle.query_digest.proofs.Demands.{digest-unread, digest-short, digest
 pub use Rattle.query.proofs.DigestCall.{digest-numbers, digest-zeros, digest-unchanged, digest-text-numbers}
 -- A text of no bytes "builds a tree of the header alone .. and the check accepts it. Its counts of 0 bytes are 0, its totals are 0, it has no row, and
 -- a byte is refused with 10": `built-tree` and `scanned-tree` below hold of it as of any text; of a tree with n 0 that the check accepts, whoever made it, ..
-pub use Rattle.query.proofs.EmptyText.{empty-header, empty-text, empty-answers}
+pub use Rattle.query.proofs.EmptyText.{empty-counts, empty-offsets, empty-header, empty-text, empty-answers}
 -- .. and of what is answered from the empty text: ..
 pub use Rattle.query.proofs.EmptyText.{empty-byte, empty-run, empty-span, empty-span-past, empty-count, empty-count-past, empty-find, empty-row}
 -- One byte corrected. "two texts of equal length that differ in one place": `OneByte`. "each count over the first i bytes differs by at most one, and not at
@@ -169,7 +169,7 @@ pub use Rattle.ask_rows.proofs.Demands.{guided-as-row}
 -- .. "A guide never checked may at worst lead to a wrong place below n or to 14; that is left free": the questions before are settled for any bytes.
 pub use Rattle.ask_guided.proofs.Demands.{guided-asked, guided-worst}
 pub use Rattle.query.proofs.FindGuidedCall.{guided-below, guided-numbers}
-pub use Rattle.query.proofs.RowGuidedCall.{row-guided-answer, row-guided-numbers, row-guided-leaves}
+pub use Rattle.query.proofs.RowGuidedCall.{row-guided-answer, row-guided-free, row-guided-free-short, row-guided-numbers, row-guided-leaves}
 pub use Rattle.query.proofs.GuideCall.{check-guide-numbers, make-guide-numbers, guide-words-numbers}
 -- The order of books. "compared by reading: before, same or after, and the length of the shared beginning. Besides, the call hands back the tree that
 -- stands first, as lent, the first given if they are the same", whatever the settings and layouts: the answer depends on the texts alone. ..

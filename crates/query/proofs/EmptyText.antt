@@ -3,26 +3,28 @@
 use mathlib.Core.List.{List, []}
 use mathlib.Core.Bool.{true}
 use mathlib.Core.Path.{_≡_, sym, ap, _∙_}
-use Prim.Native.Nat.{ℕ, _+_, _-_, _≤_, _*_, _^_}
+use mathlib.Core.Logic.{_⊎_, inl, inr}
+use Prim.Native.Nat.{ℕ, zero, suc, _+_, _-_, _≤_, _<_, _*_}
 use native.Mathlib.Omega.{arith}
+use native.Mathlib.Nat.{zero-mul}
+use native.Mathlib.Numerals.{add-one}
 use contract.Lifetimes.{Lfts}
 use denote.Ref.{now}
 use lib.ListN.{length}
 use Rattle.text.specs.Text.{countIn, stretch}
 use Rattle.text.specs.Rows.{rowsOf}
-use Rattle.text.specs.ListLaws.{sumBelow-none}
+use Rattle.text.specs.ListLaws.{lt-or-ge, sumBelow-none}
 use Rattle.text.specs.declared.TextPlace.{TextPlace}
-use Rattle.text.specs.Lists.{tabulate}
-use Rattle.format.specs.Settings.{Settings, pieces}
+use Rattle.text.specs.Lists.{tabulate, sumBelow}
+use Rattle.format.specs.Settings.{Settings, maxLevels}
 use Rattle.format.specs.HeaderPlaces.{headerLength}
 use Rattle.format.specs.Layout as at
 use Rattle.format.specs.Fits.{textOf, fits}
 use Rattle.format.specs.VerdictLaws.{accepted-readable, accepted-links}
-use Rattle.format.specs.LayoutLaws.{readable-facts}
+use Rattle.format.specs.LayoutLaws.{Readable, readable-facts}
 use Rattle.format.specs.PieceLaws.{pieces-none}
+use Rattle.theory_paths.specs.Links.{Linked, linked-facts}
 use Rattle.theory_accepted.specs.AcceptedTrees.{one-text}
-use Rattle.build_enough.specs.Enough.{blocksAtMost}
-use Rattle.build_enough.specs.EnoughHolds.{accepted-enough}
 use Rattle.ask_access.specs.declared.Answer.{Answer}
 use Rattle.ask_access.specs.declared.Answer.the-variants as answer
 use Rattle.ask_access.specs.declared.Copied.{Copied}
@@ -83,19 +85,54 @@ module _ (t : Lent) (S : Settings) (answers : Answers t S []) (refuses : Refuses
   unfolding rowsOf
   empty-row κ q buffer after r w k = refuses .row .row-none κ q buffer after r w k (λ low high. omega arith)
 
--- No bytes are cut into no blocks.
-no-blocks : (m r H : ℕ) → blocksAtMost 0 m r H ≡ 0
-unfolding blocksAtMost
-no-blocks m r H = sumBelow-none H (λ l. pieces 0 (m * r ^ (H - 1 - l))) (λ l lh. pieces-none (m * r ^ (H - 1 - l)))
-
--- A tree with n 0 that the check accepts, whoever made it.
+-- A tree with n 0 that the check accepts, whoever made it and whatever its settings.
 module _ (κs : Lfts 1) (t : Lent) (c : Check κs t 0) (none : at.textLength (now t) ≡ 0) where
-  -- "a tree of the header alone": no level has a block, and no leaf byte is there; ..
+  k : Readable (now t)
+  k = readable-facts (now t) (accepted-readable (now t) (sym c))
+
+  d : Linked (now t)
+  d = linked-facts (now t) (accepted-links (now t) (sym c))
+
+  -- level 0 has no block, and a level below a level of no blocks has none
+  no-blocks : (l : ℕ) → l < at.settings (now t) .levels → at.levelCount (now t) l ≡ 0
+  unfolding sumBelow
+  no-blocks zero h = k .level0 ∙ rw none (pieces-none (at.fullLength (now t) 0))
+  no-blocks (suc l) h =
+      let e = d .next-count l (omega arith) in
+      sym (rw (no-blocks l (omega arith), add-one l) at e)
+
+  no-sum : (l : ℕ) → l ≤ at.settings (now t) .levels → sumBelow l (at.levelCount (now t)) ≡ 0
+  no-sum l h = sumBelow-none l (at.levelCount (now t)) (λ i il. no-blocks i (omega arith))
+
+  -- every count is 0: of the used levels, of the unused ones, and of the leaf bytes; ..
+  pub empty-counts : ((l : ℕ) → l < maxLevels → at.levelCount (now t) l ≡ 0) × (at.leafCount (now t) ≡ 0)
+  unfolding sumBelow
+  empty-counts = ((λ l h. level l h (lt-or-ge l (at.settings (now t) .levels))), leaves)
+    where
+      level : (l : ℕ) → l < maxLevels → (l < at.settings (now t) .levels) ⊎ (at.settings (now t) .levels ≤ l) → at.levelCount (now t) l ≡ 0
+      level l h (inl used) = no-blocks l used
+      level l h (inr unused) = k .count-unused l unused h
+
+      leaves : at.leafCount (now t) ≡ 0
+      leaves =
+          let H = at.settings (now t) .levels in
+          sym (rw (no-blocks (H - 1) (omega (arith, k .bounds .levels-low))) at (d .leaf-count (omega (arith, k .bounds .levels-low))))
+
+  -- .. the offsets of the used levels and of the leaf bytes are 100, those of the unused levels 0; ..
+  pub empty-offsets : ((l : ℕ) → l < at.settings (now t) .levels → at.levelOffset (now t) l ≡ headerLength)
+      × ((l : ℕ) → at.settings (now t) .levels ≤ l → l < maxLevels → at.levelOffset (now t) l ≡ 0) × (at.leafOffset (now t) ≡ headerLength)
+  empty-offsets = (
+    (λ l h. k .level-at l h ∙ rw (no-sum l (omega arith)) (after-none (at.recordSize (now t)))),
+    k .offset-unused,
+    k .leaf-at ∙ rw (no-sum (at.settings (now t) .levels) (omega arith)) (after-none (at.recordSize (now t))),
+  )
+    where
+      after-none : (size : ℕ) → headerLength + 0 * size ≡ headerLength
+      after-none size = rw (zero-mul size) (omega arith)
+
+  -- .. the tree is the header alone; ..
   pub empty-header : length (now t) ≡ headerLength
-  empty-header =
-      let most = accepted-enough (now t) (accepted-readable (now t) (sym c)) (accepted-links (now t) (sym c)) in
-      let size = rw (none, no-blocks (at.settings (now t) .leaf) (at.settings (now t) .arity) (at.settings (now t) .levels)) at most in
-      omega (arith, size, readable-facts (now t) (accepted-readable (now t) (sym c)) .long)
+  empty-header = omega (arith, k .size, empty-offsets .2, empty-counts .1)
 
   -- .. exactly one text fits it, the empty one, ..
   text-none : textOf (now t) ≡ []

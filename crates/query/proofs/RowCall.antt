@@ -2,11 +2,12 @@
 use mathlib.Core.List.{List, [], _∷_, _++_}
 use mathlib.Core.Path.{_≡_, ap, _∙_, refl}
 use mathlib.Core.Logic.{_⊎_}
-use Prim.Native.Nat.{ℕ, suc, _≤_, _<_}
+use Prim.Native.Nat.{ℕ, suc, _+_, _≤_, _<_}
 use native.Mathlib.Omega.{arith}
 use contract.Lifetimes.{Lfts}
 use denote.Ref.{now}
 use lib.ListN.{length, drop}
+use Rattle.text.specs.Text.{stretch}
 use Rattle.text.specs.Rows.{rowOf, rowsOf}
 use Rattle.format.specs.Settings.{Settings}
 use Rattle.format.specs.Layout as at
@@ -22,6 +23,7 @@ use Rattle.query.proofs.AcceptedTree.{Among, among-counted, not-counted
 use Rattle.query.proofs.OutsideCall.{Call, Lent, call}
 use Rattle.query.proofs.RefusalNumbers.{OneOf}
 use Rattle.query.proofs.RowOutcomes.{RowOutcome, Zeros, outcome-copied, row-outcome, row-outcome-leaves, row-outcome-numbers}
+use Rattle.query.proofs.RowOutcomes.{free-copied, free-short}
 use Rattle.ask_rows.proofs.row as row-code
 use Rattle.ask_rows.proofs.row.Symbol as row-symbol
 use Rattle.ask_rows.proofs.row.Met as row-met
@@ -44,6 +46,16 @@ module _ (κs : Lfts 2) (t : Lent) (q : ℕ) (buffer after : Lent) where
   -- An answer fits, and the bytes past it are unchanged; ..
   pub row-answer : (m : ℕ) → Row κs t q buffer after (rows.Bytes m) → (m ≤ length (now buffer)) × (drop m (now after) ≡ drop m (now buffer))
   row-answer m a = outcome-copied (now t) q (now buffer) m (now after) (outcome-of 0 m (a .says))
+
+  -- .. on a tree that the check refuses its bytes are those that the paths give from some place of the text on, and 13 says that the buffer is
+  -- shorter than some such bytes; ..
+  pub row-free : (verdict (now t) ≡ 0 → ⊥) → (m : ℕ) → Row κs t q buffer after (rows.Bytes m)
+      → (p : ℕ) × (p + m ≤ at.textLength (now t)) × (now after ≡ stretch (textOf (now t)) p m ++ drop m (now buffer))
+  row-free refuses m a = free-copied (now t) q (now buffer) (verdict (now t)) 0 m (now after) (a .says) refuses refl
+
+  pub row-free-short : (verdict (now t) ≡ 0 → ⊥) → Row κs t q buffer after (rows.Refused 13)
+      → (p : ℕ) × (len : ℕ) × (p + len ≤ at.textLength (now t)) × (length (now buffer) < len)
+  row-free-short refuses a = free-short (now t) q (now buffer) (verdict (now t)) 13 0 (now after) (a .says) refuses refl
 
   module _ (n : ℕ) (a : Row κs t q buffer after (rows.Refused n)) where
     -- .. a refusal is 5, 6, 7, 11, 12, 13 or 14; ..

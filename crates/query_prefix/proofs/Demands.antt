@@ -10,6 +10,7 @@ use lib.ListN.{length}
 use lib.Dec.{eqb}
 use Rattle.text.specs.Text.{countIn}
 use Rattle.text.specs.Rows.{rowsOf, rowOf}
+use Rattle.text.specs.RowLaws.{row-at}
 use Rattle.format.specs.Fits.{textOf}
 use Rattle.format.specs.Verdict.{readable, verdict}
 use Rattle.format.specs.CountSays.{isCounted}
@@ -145,13 +146,15 @@ module _ (t : List ℕ) (ok : ℕ) (sound : ok ≡ 0 → verdict t ≡ 0) (prefi
 
     -- every row that starts with the prefix is returned
     pub each-shown : (ns : List ℕ) → PrefixCalls 0 ns → (n : ℕ) → 1 ≤ n → n ≤ length rows → startsWith prefix (rowOf (textOf t) n) ≡ true → In n ns
-    unfolding rowsWithPrefix rowOf
-    each-shown ns a n low high s = rw (all-with-prefix ns a) (selected-in (startsWith prefix) rows n low high s)
+    unfolding rowsWithPrefix
+    each-shown ns a n low high s = rw (all-with-prefix ns a) (selected-in (startsWith prefix) rows n low high (rw (row-at (textOf t) n low) at s))
 
     -- no other row is returned
     pub only-shown : (ns : List ℕ) → PrefixCalls 0 ns → (n : ℕ) → In n ns → (1 ≤ n) × (n ≤ length rows) × (startsWith prefix (rowOf (textOf t) n) ≡ true)
-    unfolding rowsWithPrefix rowOf
-    only-shown ns a n i = in-selected (startsWith prefix) rows n (rw (all-with-prefix ns a) at i)
+    unfolding rowsWithPrefix
+    only-shown ns a n i =
+        let f = in-selected (startsWith prefix) rows n (rw (all-with-prefix ns a) at i) in
+        (f .0, f .1, rw (row-at (textOf t) n (f .0)) (f .2))
 
     -- calls that keep the contract do return them all, then none
     pub comes-to-none : prefixRefusal t prefix ≡ 0

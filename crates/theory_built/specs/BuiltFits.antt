@@ -1,6 +1,6 @@
 -- The text fits the tree that is built of it.
 use mathlib.Core.List.{List}
-use mathlib.Core.Bool.{Bool, true, false, cond, not, _||_}
+use mathlib.Core.Bool.{Bool, true, false, not, _&&_, _||_}
 use mathlib.Core.Path.{_≡_, refl, sym, _∙_}
 use mathlib.Core.Logic.{_⊎_, inl, inr}
 use Prim.Native.Nat.{ℕ, suc, _+_, _-_, _<_}
@@ -21,7 +21,8 @@ use Rattle.text.specs.TextLaws.{length-stretch, getD-stretch}
 use Rattle.theory_built.specs.Structure.{count, start, bytesIn, keptAt, widthOf}
 use Rattle.theory_built.specs.BuiltLeaves.{kept-last, leaf-at, bytes-fit}
 use Rattle.theory_built.specs.BuiltTargets.{placeOf, targetOf, points-to, placeOf-same}
-use Rattle.theory_built.specs.ReadBack.{read-textLength, read-levelCount, read-leafByte, read-start, read-link, read-gap, read-blockLength, read-isKept}
+use Rattle.theory_built.specs.ReadBack.{read-textLength, read-levelCount, read-leafByte, read-start, read-link, read-gap}
+use Rattle.theory_built.specs.ReadBack.{read-blockLength, read-isPointing}
 use Rattle.theory_built.specs.BuiltLinks.{levels-are, not-last, upper-or-last, link-kept, link-points, gap-points}
 
 module _ (S : Settings) (T : List ℕ) (h : Taken S T) where
@@ -67,7 +68,7 @@ module _ (S : Settings) (T : List ℕ) (h : Taken S T) where
 
     block-fits : blockFits T t l i ≡ true
     unfolding blockFits
-    block-fits = rw (read-isKept S T h l i e il) (go (keptAt S T l i) refl (upper-or-last S T h l e))
+    block-fits = rw (read-isPointing S T h l i e il) (go (keptAt S T l i) refl (upper-or-last S T h l e))
       where
         bytes : List ℕ
         bytes = stretch T (at.start t l i) (at.blockLengthAt t l i)
@@ -79,10 +80,10 @@ module _ (S : Settings) (T : List ℕ) (h : Taken S T) where
         pointedTo = stretch T (at.start t l (at.link t l i) + at.gap t l i) (at.blockLengthAt t l i)
 
         go : (y : Bool) → keptAt S T l i ≡ y → (suc l < S .levels) ⊎ (suc l ≡ S .levels)
-            → cond y (not (eqb l (lastLevel t)) || sameList bytes leaves) (sameList bytes pointedTo) ≡ true
-        go true y (inl z) = or-left _ (not-eq-true (not-last S T h l z))
-        go true y (inr z) = or-right (not (eqb l (lastLevel t))) (eq-sameList bytes leaves (leaves-fit z))
-        go false y (inl z) = eq-sameList bytes pointedTo (target-fits z y)
+            → ((not (eqb l (lastLevel t)) || sameList bytes leaves) && (not (not y) || sameList bytes pointedTo)) ≡ true
+        go true y (inl z) = and-both (or-left _ (not-eq-true (not-last S T h l z))) refl
+        go true y (inr z) = and-both (or-right (not (eqb l (lastLevel t))) (eq-sameList bytes leaves (leaves-fit z))) refl
+        go false y (inl z) = and-both (or-left _ (not-eq-true (not-last S T h l z))) (eq-sameList bytes pointedTo (target-fits z y))
         go false y (inr z) = bool-clash (keptAt S T l i) (kept-last S T l i z) y
 
   blocks-fit : allBelow (at.settings t .levels) (λ l. allBelow (at.levelCount t l) (blockFits T t l)) ≡ true

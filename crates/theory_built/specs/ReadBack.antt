@@ -1,6 +1,6 @@
 -- The built tree read by the layout gives what it was built from: the header, the records and the leaf bytes.
 use mathlib.Core.List.{List}
-use mathlib.Core.Bool.{Bool, true, false, cond}
+use mathlib.Core.Bool.{Bool, true, false, cond, not}
 use mathlib.Core.Path.{_≡_, refl, sym, ap, _∙_}
 use Prim.Native.Nat.{ℕ, suc, _+_, _*_, _≤_, _<_}
 use native.Mathlib.Omega.{arith}
@@ -182,5 +182,13 @@ module _ (S : Settings) (T : List ℕ) (h : Taken S T) where
     read-isKept = rw read-kind (go (keptAt S T l i))
       where
         go : (y : Bool) → eqb (cond y 0 1) 0 ≡ y
+        go true = refl
+        go false = refl
+
+    pub read-isPointing : at.isPointing (treeOf S T) l i ≡ not (keptAt S T l i)
+    unfolding at.isPointing kindOf
+    read-isPointing = rw read-kind (go (keptAt S T l i))
+      where
+        go : (y : Bool) → eqb (cond y 0 1) 1 ≡ not y
         go true = refl
         go false = refl

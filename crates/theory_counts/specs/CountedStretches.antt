@@ -12,7 +12,7 @@ use Rattle.text.specs.CountLaws.{count-add, count-none, count-stretch-le}
 use Rattle.format.specs.LayoutLaws.{Readable}
 use Rattle.format.specs.Layout as at
 use Rattle.format.specs.Fits.{widthAt, textOf}
-use Rattle.theory_paths.specs.Links.{H, N, s, len, width-last, Linked}
+use Rattle.theory_paths.specs.Links.{H, N, s, len, width-last, Linked, pointing-kind}
 use Rattle.theory_paths.specs.BlockStarts.{len-end, start-below, last-kept}
 use Rattle.theory_paths.specs.FitsFacts.{Fitting, fits-facts}
 use Rattle.theory_paths.specs.OneText.{text-length, text-fits}
@@ -63,7 +63,7 @@ module _ (t : List ℕ) where
         stretch-ext (textOf t) t (s t (H t - 1) i) (at.leafOffset t + at.link t (H t - 1) i) x
         (block-end (H t - 1) i x (omega (arith, k .bounds .levels-low)) hi hx) (omega (arith, leaf-end i hi, k .size))
         (λ o ho. (let e : at.leafOffset t + at.link t (H t - 1) i + o ≡ at.leafOffset t + (at.link t (H t - 1) i + o) = omega arith in
-        rw e (fitting .leaves i o hi (last-kept t k d i hi) (omega arith)))) in
+        rw e (fitting .leaves i o hi (omega arith)))) in
         ap (countIn (byteOf t c)) (sym same)
 
     pub leaves-tally : (l i x c : ℕ) → l + 1 ≡ H t → i < N t l → x ≤ len t l i → inLeaves t l i x c ≡ tally t c (s t l i) x
@@ -83,4 +83,4 @@ module _ (t : List ℕ) where
         let p = d .points l i hl hi un in
         ap (countIn (byteOf t c)) (stretch-ext (textOf t) (textOf t) (s t l i) (s t l (at.link t l i) + at.gap t l i) x
         (block-end l i x hl hi hx) (omega (arith, p .ends, start-below t k d l i hl hi, text-length t))
-        (λ o ho. fitting .points l i o hl hi un (omega arith)))
+        (λ o ho. fitting .points l i o hl hi (pointing-kind t l i p) (omega arith)))

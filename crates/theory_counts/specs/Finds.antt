@@ -20,7 +20,7 @@ use Rattle.format.specs.Layout as at
 use Rattle.format.specs.Path.{Path, Visit, visit, entered, targetBlock, targetPlace, pathFrom, pathOf}
 use Rattle.format.specs.Fits.{textOf}
 use Rattle.format.specs.FindSays.{total, pathLength}
-use Rattle.theory_paths.specs.Links.{H, N, b, s, len, Pointing, Follows, Linked}
+use Rattle.theory_paths.specs.Links.{H, N, b, s, len, Pointing, Follows, Linked, pointing-kind}
 use Rattle.theory_paths.specs.BlockStarts.{len-small, len-inside, len-pos, start-below, Parent, in-parent, child, last-kept, leaf-below, target-full}
 use Rattle.theory_paths.specs.BlockStarts.{second-inside}
 use Rattle.theory_paths.specs.PlacesLand.{kept-block, kept-not, pointing-block, from-last, from-kept, from-pointing, target, target-first, target-second}
@@ -193,7 +193,7 @@ module _ (t : List ℕ) (k : Readable t) (d : Linked t) (a : (m : ℕ) → m < H
         inside = ho;
         nth = record {
           within = omega (arith, len-inside t l i o ho, text-length t);
-          byte-is = fitting t k d .leaves i o hi kept ho ∙ byte-is;
+          byte-is = fitting t k d .leaves i o hi ho ∙ byte-is;
           rank = omega (arith, leaves-tally t k d l i o c (omega (arith, k .bounds .levels-low)) hi (omega arith));
         };
         entered-is = rw (e, from-last t l i o (kept-block t l i hi kept) (leaf-below t k d i o hi ho));
@@ -284,7 +284,7 @@ module _ (t : List ℕ) (k : Readable t) (d : Linked t) (a : (m : ℕ) → m < H
           inside = within;
           nth = record {
             within = omega (arith, len-inside t l i o within, text-length t);
-            byte-is = fitting t k d .points l i o hl hi un within ∙ later .byte-is;
+            byte-is = fitting t k d .points l i o hl hi (pointing-kind t l i (d .points l i hl hi un)) within ∙ later .byte-is;
             rank = omega (arith, later .rank, points-tally t k d l i o c hi un (omega arith) hl);
           };
         }

@@ -17,7 +17,7 @@ use Rattle.format.specs.Layout as at
 use Rattle.format.specs.LayoutLaws.{Readable, full-pos, full-last, full-falls, edges-inside, leaf-start-inside, level0-holds}
 use Rattle.format.specs.Path.{Visit, visit, targetBlock, targetPlace}
 use Rattle.format.specs.Short.{Short, led, byEdges, shortFrom, shortOf, shortBytes}
-use Rattle.theory_paths.specs.Links.{H, N, b, s, len, Linked, Pointing}
+use Rattle.theory_paths.specs.Links.{H, N, b, s, len, Linked, Pointing, pointing-kind}
 use Rattle.theory_paths.specs.BlockStarts.{len-small, len-end, start-below, child, last-kept, leaf-below}
 use Rattle.theory_paths.specs.PlacesLand.{kept-block, kept-not, pointing-block, target, target-first, target-second}
 use Rattle.theory_paths.specs.FitsFacts.{Fitting}
@@ -208,7 +208,7 @@ module _ (T t : List ℕ) (k : Readable t) (d : Linked t) (two : at.layout t ≡
       (λ y hy.
       let here : s t l i + o + y ≡ s t l i + (o + y) = omega arith in
       let there : s t l (at.link t l i) + at.gap t l i + o + y ≡ s t l (at.link t l i) + at.gap t l i + (o + y) = omega arith in
-      rw (here, there) (sym (f .points l i (o + y) hl hi un (omega arith))))
+      rw (here, there) (sym (f .points l i (o + y) hl hi (pointing-kind t l i p) (omega arith))))
 
   pointing-walk : (below l i o : ℕ) → i < N t l → at.isKept t l i ≡ false → Pointing t l i → o + x ≤ len t l i → Level (l + 1) → Kept l → Rest below (l + 1)
       → Reads (shortFrom t (suc below) l i o x) (s t l i + o)
@@ -274,7 +274,7 @@ module _ (T t : List ℕ) (k : Readable t) (d : Linked t) (two : at.layout t ≡
       (λ y hy.
       let here : from + y ≡ at.leafOffset t + (link + (o + y)) = omega arith in
       let there : s t l i + o + y ≡ s t l i + (o + y) = omega arith in
-      rw (here, there) (sym (f .leaves i (o + y) hi kept (omega arith)))) in record {
+      rw (here, there) (sym (f .leaves i (o + y) hi (omega arith)))) in record {
         found = record { visits = visit l i o ∷ []; from = from; size = x; next = 0 };
         is = last-step t l i o x (inside-block l i o ho) (kept-block t l i hi kept) in-leaves;
         few = omega arith;

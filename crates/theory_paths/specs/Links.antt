@@ -67,9 +67,13 @@ module _ (t : List ℕ) where
     pub ends : s l (at.link t l i) + at.gap t l i + len l i ≤ s l i
     pub next : b l < at.gap t l i + len l i → Follows l (at.link t l i)
 
-  pub pointing-not-kept : (l i : ℕ) → Pointing l i → at.isKept t l i ≡ false
-  unfolding at.isKept
-  pointing-not-kept l i p = rw (p .kind-is)
+  pub pointing-kind : (l i : ℕ) → Pointing l i → at.isPointing t l i ≡ true
+  unfolding at.isPointing
+  pointing-kind l i p = rw (p .kind-is)
+
+  pub points-not-kept : (l i : ℕ) → at.isPointing t l i ≡ true → at.isKept t l i ≡ false
+  unfolding at.isPointing at.isKept
+  points-not-kept l i h = rw (eqb-true (at.kind t l i) 1 h)
 
   pub record Linked : Type 0 where
     pub start0 : (i : ℕ) → i < N 0 → s 0 i ≡ i * b 0

@@ -11,7 +11,7 @@ use Rattle.format.specs.LayoutLaws.{Readable}
 use Rattle.format.specs.Layout as at
 use Rattle.format.specs.Path.{visit, targetBlock, targetPlace, pathFrom, pathOf}
 use Rattle.format.specs.Fits.{leafOf, textOf, fits}
-use Rattle.theory_paths.specs.Links.{H, N, s, len, pointing-not-kept, Linked}
+use Rattle.theory_paths.specs.Links.{H, N, s, len, pointing-kind, points-not-kept, Linked}
 use Rattle.theory_paths.specs.BlockStarts.{len-inside, last-kept, leaf-below}
 use Rattle.theory_paths.specs.PlacesLand.{leaf-entered, from-last, kept-block, kept-not, pointing-block, from-pointing, target}
 use Rattle.theory_paths.specs.PathWalk.{Carries, walk-text}
@@ -56,8 +56,8 @@ module _ (t : List ℕ) (k : Readable t) (d : Linked t) where
   pub text-fits : fits (textOf t) t ≡ true
   text-fits = fits-make (textOf t) t k d record {
     size = text-length t;
-    leaves = λ i o hi kept ho. text-leaf i o hi ho;
-    points = text-points;
+    leaves = text-leaf;
+    points = λ l i o hl hi points ho. text-points l i o hl hi (points-not-kept t l i points) ho;
   }
 
   -- and any text that fits is this one
@@ -66,8 +66,8 @@ module _ (t : List ℕ) (k : Readable t) (d : Linked t) where
       let low : 0 < H t = omega (arith, k .bounds .levels-low) in
       let f = fits-facts T t low h in
       let c : Carries t k d (λ x y. at.leafByte t x ≡ getD T y 0) = record {
-        leaf = λ i o hi ho. sym (f .leaves i o hi (last-kept t k d i hi) ho);
-        points = λ l i o x hi p ho e. e ∙ sym (f .points l i o (omega (arith, p .above)) hi (pointing-not-kept t l i p) ho);
+        leaf = λ i o hi ho. sym (f .leaves i o hi ho);
+        points = λ l i o x hi p ho e. e ∙ sym (f .points l i o (omega (arith, p .above)) hi (pointing-kind t l i p) ho);
       } in
       ext-getD 0 T (textOf t) (f .size ∙ sym (text-length t)) (λ p hp.
       let below : p < at.textLength t = omega (arith, f .size) in

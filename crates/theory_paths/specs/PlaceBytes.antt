@@ -3,12 +3,14 @@ use mathlib.Core.List.{List}
 use mathlib.Core.Option.{Option, none, some}
 use mathlib.Core.Bool.{Bool, true, false, _&&_}
 use mathlib.Core.Path.{_≡_, refl, sym, ap, _∙_}
-use Prim.Native.Nat.{ℕ, zero, suc, _+_, _<_}
+use Prim.Native.Nat.{ℕ, zero, suc, _+_, _≤_, _<_}
 use native.Mathlib.Omega.{arith}
 use borrow.Author.Tests.{lt-ltb, eqb-true}
-use lib.Dec.{eqb}
 use lib.ListN.{getD}
+use lib.Dec.{eqb}
+use Rattle.text.specs.Lists.{tabulate}
 use Rattle.text.specs.ListLaws.{and-left, and-right}
+use Rattle.text.specs.Text.{stretch}
 use Rattle.format.specs.Layout as at
 use Rattle.format.specs.Path.{Path, pathOf}
 use Rattle.format.specs.Fits.{linksOk, textOf}
@@ -17,6 +19,8 @@ use Rattle.format.specs.LayoutLaws.{readable-facts}
 use Rattle.format.specs.Said.{Said, refused}
 use Rattle.format.specs.ReadSays.{byteOf, byteSays, pathsHold}
 use Rattle.theory_paths.specs.Visits.{path-long}
+use Rattle.theory_paths.specs.FitsFacts.{stretch-tabulate}
+use Rattle.theory_paths.specs.OneText.{text-length}
 use Rattle.theory_paths.specs.Reads.{byte-of-path, text-of-path}
 use Rattle.theory_paths.specs.Demands.{byte-of-text}
 
@@ -88,3 +92,11 @@ module _ (t : List ℕ) (r : readable t ≡ 0) (p : ℕ) (low : p < at.textLengt
   -- in a tree that passes question 8 it is answered
   pub never-14 : linksOk t ≡ true → byteSays t p .number ≡ 14 → ⊥
   never-14 links z = let y = ap (λ (s : Said). s .number) (byte-of-text t r links p low .2) in omega arith
+
+-- The bytes of places whose paths all hold are those of the text, in any tree that passes questions 5 to 7.
+module _ (t : List ℕ) (r : readable t ≡ 0) where
+  pub held-bytes : (p len : ℕ) → p + len ≤ at.textLength t → pathsHold t p len ≡ true
+      → tabulate len (λ x. byteSays t (p + x) .value) ≡ stretch (textOf t) p len
+  held-bytes p len within hold =
+      sym (stretch-tabulate (textOf t) p len (λ x. byteSays t (p + x) .value) (omega (arith, text-length t))
+      (λ o ho. sym (byte-text t r (p + o) (omega arith) (hold-at t len p o hold ho))))

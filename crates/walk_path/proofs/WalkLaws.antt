@@ -20,7 +20,7 @@ use Rattle.layout.specs.declared.place.BlockNumber.{BlockNumber}
 use Rattle.layout.specs.declared.place.BlockPlace.{BlockPlace}
 use Rattle.walk_steps.specs.declared.Next.{Next}
 use Rattle.walk_steps.specs.declared.Next.the-variants.{Kept, Points, Off}
-use Rattle.walk_steps.specs.declared.Part.{Part}
+use Rattle.layout.specs.declared.place.Spot.{Spot}
 use Rattle.walk_steps.specs.declared.Arrived.{Arrived}
 use Rattle.walk_steps.specs.declared.Arrived.the-variants as arrived
 use Rattle.walk_path.specs.declared.Trail.{Trail}
@@ -250,8 +250,9 @@ module _ (t : List ℕ) (size level b i o : ℕ) (trail : Trail) (k : MayPoint t
 
 -- the start, on level 0
 
-module _ (t : List ℕ) (size b p : ℕ) (on : OnLevel t size 0 b) (x : Part) (x-is : x ≡ record { blocks = p / b; place = record { 0 = p % b } }) where
-  pub top-may : p < at.textLength t → MayPoint t size 0 b (x .blocks) (x .place .0) 0
+module _ (t : List ℕ) (size b p : ℕ) (on : OnLevel t size 0 b) (x : Spot)
+    (x-is : x ≡ record { block = record { 0 = p / b }; place = record { 0 = p % b } }) where
+  pub top-may : p < at.textLength t → MayPoint t size 0 b (x .block .0) (x .place .0) 0
   top-may low =
       rw x-is (record {
         on = on;
@@ -261,7 +262,7 @@ module _ (t : List ℕ) (size b p : ℕ) (on : OnLevel t size 0 b) (x : Part) (x
       })
 
   pub top-by : (trail : Trail) (r : Walked)
-      → r ≡ walked t trail (pathFrom t (at.settings t .levels - 1 - 0) 0 (x .blocks) (x .place .0)) → r ≡ walked t trail (pathOf t p)
+      → r ≡ walked t trail (pathFrom t (at.settings t .levels - 1 - 0) 0 (x .block .0) (x .place .0)) → r ≡ walked t trail (pathOf t p)
   unfolding pathOf
   top-by trail r e =
       let z : at.settings t .levels - 1 - 0 ≡ at.settings t .levels - 1 = omega arith in

@@ -81,8 +81,8 @@ fn leaf(t: &[u8], size: u32, on: On, block: BlockNumber, place: BlockPlace, trai
     requires { ⌜ KeptAt (now t) size (on .level) (on .b) (block .0) (place .0) (trail .entered) ⌝ }
     ensures { λ r. ⌜ walkedIn r ≡ walked (now (t .entry)) trail (pathFrom (now (t .entry)) 0 (on .level) (block .0) (place .0)) ⌝ }
 {
-    let link = record::link(t, size, on.level, block) as u64;
-    let number = link + place.0 as u64;
+    let link = record::link(t, size, on.level, block);
+    let number = link.0 as u64 + place.0 as u64;
     let shape = fields::shape_of(t);
     if number < shape.leaf_count as u64 {
         return packed(number as u32, trail.enter(on.b, place));
@@ -161,8 +161,7 @@ pub fn walk(t: &[u8], h: Header, at: TextPlace) -> Walked
         entered: 0,
         left: h.text_length - at.0,
     };
-    let part = walk_steps::part_of(at.0, h.top_length);
-    let rest = part.place;
+    let spot = walk_steps::top_spot(at, h.top_length);
     unpacked(pointing_step(
         t,
         h.record_size,
@@ -170,8 +169,8 @@ pub fn walk(t: &[u8], h: Header, at: TextPlace) -> Walked
             level: 0,
             b: h.top_length,
         },
-        BlockNumber(part.blocks),
-        rest,
+        spot.block,
+        spot.place,
         trail,
     ))
 }

@@ -87,14 +87,14 @@ fn leaf_part(
     requires { ⌜ (HeaderOf (now t) h) × (level < at.settings (now t) .levels) × (keptBlock (now t) level (block .0) ≡ true) × (entered ≤ 2 * maxLevels) ⌝ }
     ensures { λ r. ⌜ r ≡ gathered entered (inLeaf (now (t .entry)) level (block .0) (span .place .0) (span .len)) ⌝ }
 {
-    let link = record::link(t, h.record_size, level, block) as u64;
-    let end = link + span.place.0 as u64 + span.len as u64;
+    let link = record::link(t, h.record_size, level, block);
+    let end = link.0 as u64 + span.place.0 as u64 + span.len as u64;
     if (h.leaf_count as u64) < end {
         return Gathered::Broken;
     }
     Gathered::At(Parts {
         entered: entered + 1,
-        from: h.leaf_offset as usize + (link as usize + span.place.0 as usize),
+        from: h.leaf_offset as usize + (link.0 as usize + span.place.0 as usize),
         size: span.len,
         next: 0,
     })
@@ -126,7 +126,7 @@ fn into(t: &[u8], h: Header, level: u32, c: u32, spot: Spot, entered: u32) -> La
 {
     let link = record::link(t, h.record_size, level, spot.block);
     Land::Down(
-        BlockNumber(link),
+        BlockNumber(link.0),
         spot.place.0 / c,
         BlockPlace(spot.place.0 % c),
         entered,
@@ -154,7 +154,7 @@ fn pointed(t: &[u8], h: Header, on: On, c: u32, block: BlockNumber, span: Stretc
     let gap = record::gap(t, h.record_size, on.level, block);
     let sum = BlockPlace(gap.0 + span.place.0);
     if splits(on.b, sum, span.len) {
-        return Land::Over(BlockNumber(link), sum);
+        return Land::Over(BlockNumber(link.0), sum);
     }
     let next = walk_steps::target(t, h.record_size, on.level, on.b, block, span.place);
     match next {

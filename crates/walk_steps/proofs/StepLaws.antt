@@ -20,6 +20,7 @@ use Rattle.theory_paths.specs.PlacesLand.{target-first, target-second}
 use Rattle.layout.specs.Record.{FieldIn, field-in}
 use Rattle.layout.specs.declared.place.BlockNumber.{BlockNumber}
 use Rattle.layout.specs.declared.place.BlockPlace.{BlockPlace}
+use Rattle.layout.specs.declared.place.Spot.{Spot}
 use Rattle.walk_steps.specs.declared.fields.Shape.{Shape}
 use Rattle.walk_steps.specs.declared.Part.{Part}
 use Rattle.walk_steps.specs.declared.Next.{Next}
@@ -206,3 +207,8 @@ shapes-on t u x e f = shapes t x (f ∙ ap shapeOf e)
 pub part-is : (x b q : ℕ)
     → q ≡ x / b → _≡_ {A = Part} (record { blocks = q; place = record { 0 = x - q * b } }) (record { blocks = x / b; place = record { 0 = x % b } })
 part-is x b q e = rw (rest-is x b q e .1, e)
+
+pub top-spot-is : (x b q : ℕ) → q ≡ x / b
+    → _≡_ {A = Spot} (record { block = record { 0 = q }; place = record { 0 = x - q * b } })
+    (record { block = record { 0 = x / b }; place = record { 0 = x % b } })
+top-spot-is x b q e = rw (rest-is x b q e .1, e)

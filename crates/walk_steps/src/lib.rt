@@ -7,6 +7,8 @@ use layout::place::Ahead;
 use layout::place::BlockNumber;
 use layout::place::BlockPlace;
 use layout::place::On;
+use layout::place::Spot;
+use layout::place::TextPlace;
 use layout::record;
 ghost use mathlib.Core.Path.{_≡_};
 ghost use mathlib.Core.Bool.{cond};
@@ -31,7 +33,7 @@ pub enum Arrived {
     Off,
 }
 
-// How many blocks of a length end before a place, and the place in the next one.
+// How many children of a block end before a place in it, and the place in the next one.
 pub struct Part {
     pub blocks: u32,
     pub place: BlockPlace,
@@ -50,15 +52,27 @@ pub fn quotient(x: u32, b: u32) -> u32
     x / b
 }
 
-// The part of a place among blocks of b bytes.
-pub fn part_of(place: u32, b: u32) -> Part
+// The part of a place in a block among its children of b bytes.
+pub fn part_of(place: BlockPlace, b: u32) -> Part
     requires { ⌜ 0 < b ⌝ }
-    ensures { λ r. ⌜ r ≡ record { blocks = place / b; place = record { 0 = place % b } } ⌝ }
+    ensures { λ r. ⌜ r ≡ record { blocks = place .0 / b; place = record { 0 = place .0 % b } } ⌝ }
 {
-    let blocks = quotient(place, b);
+    let blocks = quotient(place.0, b);
     Part {
         blocks,
-        place: BlockPlace(place - blocks * b),
+        place: BlockPlace(place.0 - blocks * b),
+    }
+}
+
+// The block of level 0 that holds a place of the text, and the place in that block; b is the block length of level 0.
+pub fn top_spot(place: TextPlace, b: u32) -> Spot
+    requires { ⌜ 0 < b ⌝ }
+    ensures { λ r. ⌜ r ≡ record { block = record { 0 = place .0 / b }; place = record { 0 = place .0 % b } } ⌝ }
+{
+    let blocks = quotient(place.0, b);
+    Spot {
+        block: BlockNumber(blocks),
+        place: BlockPlace(place.0 - blocks * b),
     }
 }
 
@@ -106,10 +120,10 @@ pub fn child(
     requires { ⌜ (OnLevel (now t) size (level + 1) b) × (block .0 < at.levelCount (now t) level) ⌝ }
     ensures { λ r. ⌜ r ≡ childAt (now (t .entry)) (level + 1) (at.link (now (t .entry)) level (block .0) + place .0 / b) (place .0 % b) ⌝ }
 {
-    let link = record::link(t, size, level, block) as u64;
+    let link = record::link(t, size, level, block);
     let count = record::level_count(t, level + 1) as u64;
-    let part = part_of(place.0, b);
-    let number = link + part.blocks as u64;
+    let part = part_of(place, b);
+    let number = link.0 as u64 + part.blocks as u64;
     if count <= number {
         return Arrived::Off;
     }
@@ -117,11 +131,11 @@ pub fn child(
     Arrived::At(BlockNumber(number as u32), rest)
 }
 
-// 1 where a place is past a block of b bytes, else 0.
-fn past(place: u32, b: u32) -> u32
-    ensures { λ r. ⌜ (r ≡ cond (ltb place b) 0 1) × (r ≤ 1) × (r * b ≤ place) ⌝ }
+// 1 where a place, counted from a block's start, is past the block's b bytes, else 0.
+fn past(place: BlockPlace, b: u32) -> u32
+    ensures { λ r. ⌜ (r ≡ cond (ltb (place .0) b) 0 1) × (r ≤ 1) × (r * b ≤ place .0) ⌝ }
 {
-    if place < b {
+    if place.0 < b {
         return 0;
     }
     1
@@ -142,17 +156,17 @@ pub fn target(
 {
     let link = record::link(t, size, level, block);
     let gap = record::gap(t, size, level, block);
-    let sum = gap.0 + place.0;
+    let sum = BlockPlace(gap.0 + place.0);
     let over = past(sum, b);
     look_after(
         t,
         size,
         On { level, b },
         Ahead {
-            first: BlockNumber(link),
+            first: BlockNumber(link.0),
             steps: over,
         },
-        BlockPlace(sum - over * b),
+        BlockPlace(sum.0 - over * b),
     )
 }
 

@@ -1,6 +1,6 @@
 //! Which answers the format lets pass where it leaves them open: find, row and match on a tree that the check refuses.
 
-use crate::model::read::Answer;
+use crate::model::read::{byte_at, Answer, Tree};
 
 /// What every byte of a lent buffer holds before a call.
 pub const FILL: u8 = 0xEE;
@@ -22,14 +22,15 @@ pub fn find_agrees(expected: Answer<(u32, u32, u32)>, got: (u32, u32, u32)) -> b
     }
 }
 
-/// Do `got` (number, length) and the buffer agree with the expected answer and buffer?
-pub fn row_agrees(expected: (Answer<(u32, u32)>, &[u8]), got: ((u32, u32), &[u8])) -> bool {
+/// Do `got` (number, length) and the buffer agree with the expected answer and buffer? A free row is what the tree's paths give from some place on; 13 is
+/// let pass if the buffer is shorter than the text.
+pub fn row_agrees(tree: &[u8], expected: (Answer<(u32, u32)>, &[u8]), got: ((u32, u32), &[u8])) -> bool {
     let ((number, length), buffer) = got;
     match expected.0 {
         Answer::Settled(answer) => got == (answer, expected.1),
         Answer::Free(n) => match number {
-            0 => u64::from(length) <= n && length as usize <= buffer.len() && filled(&buffer[length as usize..]),
-            13 => length == 0 && filled(buffer),
+            0 => length as usize <= buffer.len() && given_by_paths(tree, &buffer[..length as usize]) && filled(&buffer[length as usize..]),
+            13 => length == 0 && (buffer.len() as u64) < n && filled(buffer),
             14 => length == 0 && filled(&buffer[buffer.iter().take_while(|&&byte| byte == 0).count()..]),
             _ => false,
         },
@@ -45,6 +46,13 @@ pub fn match_agrees(expected: Answer<(u32, u32, u32)>, mark: u32, got: (u32, u32
         (Answer::Free(most), (0, row, after)) => mark < row && u64::from(row) <= most && after == row,
         _ => false,
     }
+}
+
+/// Do the paths of a tree give these bytes from some place of the text on?
+fn given_by_paths(tree: &[u8], part: &[u8]) -> bool {
+    let Ok(tree) = Tree::open(tree) else { return false };
+    let from = |place: u64| (place..).zip(part).all(|(p, &byte)| p < tree.n && byte_at(&tree, p).is_some_and(|(here, _)| here == byte));
+    (0..=tree.n).any(from)
 }
 
 fn filled(part: &[u8]) -> bool {

@@ -18,9 +18,9 @@ leaf-spec =
     (λ c. search needs)
     (λ c. search needs)
     (λ c κs. search needs)
-    (λ c κs. laws.trail-fits _ _ _ _ _ _ _ (c .before .before .before .before .before .before .before .pre) _ (c .enter .ensures))
+    (λ c κs. laws.trail-fits _ _ _ _ _ _ _ (c .before .before .before .before .before .before .before .before .pre) _ (c .enter .ensures))
     (λ c. let z = c .before .before .before in
-    laws.leaf-at _ _ _ _ _ _ _ (z .before .before .before .before .before .pre) _ _ _ _ (z .before .before .before .link .ensures) refl (omega
+    laws.leaf-at _ _ _ _ _ _ _ (z .before .before .before .before .before .before .pre) _ _ _ _ (z .before .before .before .before .link .ensures) refl (omega
     (arith, shapes _ _ (z .before .shape-of .ensures) .count-is, c .before .before .if1 .taken)) (c .before .enter .ensures) (c .packed .ensures))
-    (λ c. let z = c .before in sym laws.broken-word ∙ laws.leaf-past _ _ _ _ _ _ _ (z .before .before .before .before .before .pre)
-    _ (z .before .before .before .link .ensures) (omega (arith, shapes _ _ (z .before .shape-of .ensures) .count-is, c .if1 .left))))
+    (λ c. let z = c .before in sym laws.broken-word ∙ laws.leaf-past _ _ _ _ _ _ _ (z .before .before .before .before .before .before .pre)
+    _ (z .before .before .before .before .link .ensures) (omega (arith, shapes _ _ (z .before .shape-of .ensures) .count-is, c .if1 .left))))

@@ -10,14 +10,14 @@ child-spec =
     (tie.spec
     (λ c κs. laws.link-there _ _ _ _ _ (c .before .pre .0) (c .before .pre .1))
     (λ c. search needs)
-    (λ c. search needs)
     (λ c κs. search needs)
     (λ c. search needs)
     (λ c κs. laws.b-pos _ _ _ _ (c .before .before .before .pre .0))
     (λ c. search needs)
     (λ c. search needs)
-    (λ c. let w = c .before .before in
+    (λ c. search needs)
+    (λ c. let w = c .before .before .before in
     laws.child-past _ _ _ _ _ _ _ _ (w .before .before .link .ensures) (w .before .level-count .ensures) (w .part-of .ensures) (c .if1 .taken))
     (λ c. search needs)
-    (λ c. let w = c .before .before .before in laws.child-there
+    (λ c. let w = c .before .before .before .before in laws.child-there
     _ _ _ _ _ _ _ _ (w .before .before .link .ensures) (w .before .level-count .ensures) (w .part-of .ensures) _ refl (c .before .if1 .left)))

@@ -9,6 +9,6 @@ part-of-spec =
     tie.close
     (tie.spec
     (λ c. search needs)
-    (λ c. record { fits = omega (arith, c .before .fits .place .fits, laws.rest-is _ _ _ (c .quotient .ensures) .0) })
-    (λ c. omega (arith, laws.rest-is _ _ _ (c .quotient .ensures) .0))
-    (λ c. laws.part-is _ _ _ (c .quotient .ensures)))
+    (λ c. record { fits = omega (arith, c .before .good .0 .1 .1 .0 .1, laws.rest-is _ _ _ (c .quotient .ensures) .0) })
+    (λ c. omega (arith, laws.rest-is _ _ _ (c .before .quotient .ensures) .0))
+    (λ c. laws.part-is _ _ _ (c .before .quotient .ensures)))

@@ -19,25 +19,32 @@ leaf-spec =
     (λ c. search needs)
     (λ c. search needs)
     (λ c. search needs)
+    (λ c. search needs)
     (λ c κs.
-    let T = c .before .before in
+    let T = c .before .before .before in
     let P = T .before .before in
-    let L = P .before .before in
+    let L = P .before .before .before in
     let S = L .before .before in
     let x = shapes _ _ (P .shape-of .ensures) in
     laws.leaf-fits _ _ _ _ _ _ _ _ _ (S .pre .0 .on) (L .link .ensures) (x .offset-is) (x .count-is) (T .if1 .taken))
-    (λ c κs. search needs)
     (λ c κs.
     let T = c .before .before .before .before in
     let P = T .before .before in
-    let L = P .before .before in
+    let L = P .before .before .before in
+    let S = L .before .before in
+    let few = laws.entered-small _ _ _ _ _ _ _ (S .pre .0) in
+    let small = laws.carried-small _ _ _ (S .pre .1) few in (few, small .0, small .1))
+    (λ c κs.
+    let T = c .before .before .before .before .before in
+    let P = T .before .before in
+    let L = P .before .before .before in
     let S = L .before .before in
     let x = shapes _ _ (P .shape-of .ensures) in
     laws.carried-word _ _ _ _ _ (S .pre .1) (laws.entered-small _ _ _ _ _ _ _ (S .pre .0)) (c .enter .ensures) (omega arith))
     (λ c.
-    let T = c .before .before .before .before .before in
+    let T = c .before .before .before .before .before .before in
     let P = T .before .before in
-    let L = P .before .before in
+    let L = P .before .before .before in
     let S = L .before .before in
     let x = shapes _ _ (P .shape-of .ensures) in
     c .packed .ensures ∙ laws.leaf-sum _ _ _ _ _ _ _ _ _ _ (S .pre .0) _ (L .link .ensures)
@@ -45,7 +52,7 @@ leaf-spec =
     (λ c.
     let T = c in
     let P = T .before .before in
-    let L = P .before .before in
+    let L = P .before .before .before in
     let S = L .before .before in
     let x = shapes _ _ (P .shape-of .ensures) in
     laws.leaf-none _ _ _ _ _ _ _ _ _ _ (S .pre .0) _ (L .link .ensures) (omega (arith, x .count-is, c .if1 .left))))

@@ -1,21 +1,24 @@
-use Prim.Native.Nat.{_-_, _≤_, _<_}
+use mathlib.Core.Path.{_≡_}
+use Prim.Native.Nat.{ℕ, _+_, _-_, _≤_, _<_}
 use native.Mathlib.Omega.{arith}
 use borrow.Author.Needs.{needs}
 use Rattle.format.specs.Layout as at
+use Rattle.ask_select.proofs.SeekLaws as laws
 use Rattle.ask_select.proofs.seek.by_fours.Statement.{statement}
 use Rattle.ask_select.proofs.seek.by_fours.Tie as tie
 
 abbrev Inv-loop : tie.InvT-loop
-Inv-loop t h number level j last i₀ i = (i₀ ≤ i) × (i < last) × (at.before t level i₀ number < j → at.before t level i number < j)
+Inv-loop t h number level j last i₀ steps₀ i steps =
+    (i₀ ≤ i) × (i < last) × ((k : ℕ) → i₀ < k → k ≤ i → at.before t level k number < j) × (steps₀ + (i - i₀) ≡ steps)
 
 abbrev μ-loop : tie.MeasureT-loop
-μ-loop t h number level j last i₀ i = last - i
+μ-loop t h number level j last i₀ steps₀ i steps = last - i
 
 pub by-fours-spec : {M : Type 1} → statement M
 by-fours-spec =
     tie.close
     (tie.spec Inv-loop μ-loop
-    (λ c. (omega arith, omega (arith, c .before .pre .some), (λ x. x)))
+    (λ c. (omega arith, omega (arith, c .before .pre .some), (λ k low high. absurd (let z : ⊥ = omega arith in z)), omega arith))
     (λ c. omega (arith, c .loop .inv .1))
     (λ c κs. let s = c .before .before .before .pre in (
       s .header,
@@ -25,13 +28,23 @@ by-fours-spec =
       omega (arith, c .before .loop .inv .1, c .loop-test .taken),
     ))
     (λ c. search needs)
-    (λ c. let l = c .before .before .before in record { low = l .loop .inv .0; high = l .loop .inv .1; here = l .loop .inv .2 })
+    (λ c. let l = c .before .before .before in (
+      record { low = l .loop .inv .0; high = l .loop .inv .1; passed = l .loop .inv .2 },
+      omega (arith, l .loop .inv .0, l .loop .inv .3),
+    ))
     (λ c. let l = c .before .before .before in
     omega (arith, l .before .before .good .1 .1 .1 .1 .0 .1 .1 .1 .0 .1 .1 .0 .1, l .loop .inv .1, c .before .before .loop-test .taken))
+    (λ c. let l = c .before .before .before in
+    let word = l .before .before .good .1 .1 .1 .1 .0 .1 .1 .1 .0 .1 .1 .0 .1 in
+    omega (arith, word, l .loop .inv .0, l .loop .inv .1, l .loop .inv .3, c .before .before .loop-test .taken))
     (λ c. let l = c .before .before .before in omega (arith, l .loop .inv .1, c .before .before .loop-test .taken))
     (λ c. let l = c .before .before .before in (
       omega (arith, l .loop .inv .0),
       omega (arith, l .loop .inv .1, c .before .before .loop-test .taken),
-      (λ x. omega (arith, c .before .largest-before .ensures .3, c .if1 .left)),
+      laws.four-passed (λ k. at.before _ _ k _) _ _ _ _ (l .loop .inv .2) (c .before .largest-before .ensures) (omega (arith, c .if1 .left)),
+      omega (arith, l .loop .inv .0, l .loop .inv .3),
     ))
-    (λ c. let l = c .before in record { low = l .loop .inv .0; high = l .loop .inv .1; here = l .loop .inv .2 }))
+    (λ c. let l = c .before in (
+      record { low = l .loop .inv .0; high = l .loop .inv .1; passed = l .loop .inv .2 },
+      omega (arith, l .loop .inv .0, l .loop .inv .3),
+    )))

@@ -21,45 +21,50 @@ child-with-spec =
     (λ c. search needs)
     (λ c. search needs)
     (λ c. search needs)
-    (λ c. let w = c .before .before .before .before .before .before .before in laws.child-past _ _ _ _ _ _ _ _ _ _ (w .pre .0) (w .pre .1) (w .pre .2)
-    (w .pre .3) (c .before .before .before .before .before .link .ensures) (rw (c .before .before .before .before .block-length .ensures .0)
-    at (c .before .before .before .pieces .ensures)) (omega (arith, c .before .level-count .ensures, c .if1 .taken)))
-    (λ c. let w = c .before .before .before .before .before in
+    (λ c. let w = c .before .before .before .before .before .before .before .before in laws.child-past _ _ _ _ _ _ _ _ _ _ (w .pre .0) (w .pre .1) (w .pre .2)
+    (w .pre .3) (c .before .before .before .before .before .before .link .ensures) (rw (c .before .before .before .before .before .block-length .ensures .0)
+    at (c .before .before .before .before .pieces .ensures)) (omega (arith, c .before .before .level-count .ensures, c .if1 .taken)))
+    (λ c. let w = c .before .before .before .before .before .before in
     let v = w .before .before .before in laws.child-none _ _ _ _ _ _ _ _ _ _ (v .pre .0) (v .pre .1) (v .pre .2) (v .pre .3)
-    (w .before .link .ensures) (rw (w .block-length .ensures .0) at (c .before .before .before .before .pieces .ensures)) (c .if2 .taken))
+    (w .before .link .ensures) (rw (w .block-length .ensures .0) at (c .before .before .before .before .before .pieces .ensures)) (c .if2 .taken))
     (λ c. search needs)
     (λ c. search needs)
-    (λ c κs. let w = c .before .before .before .before .before in let v = w .before .before .before .before in laws.siblings _ _ _ _ _ _ _ _ _ _
+    (λ c κs. let w = c .before .before .before .before .before .before .before in let v = w .before .before .before .before in laws.siblings _ _ _ _ _ _ _ _ _ _
     (v .pre .0) (v .pre .1) (v .pre .2) (v .pre .3) (w .before .before .link .ensures) (rw (w .before .block-length .ensures .0) at
-    (w .pieces .ensures)) (omega (arith, c .before .before .before .level-count .ensures, c .before .before .if1 .left)) (c .before .if2 .left))
+    (w .pieces .ensures)) (omega (arith, c .before .before .before .before .before .level-count .ensures, c .before .before .before .if1 .left))
+    (c .before .before .if2 .left))
     (λ c. search needs)
-    (λ c. let w = c .before .before .before .before .before .before .before .before in
+    (λ c. let w = c .before .before .before .before .before .before .before .before .before .before .before in
     let v = w .before .before .before .before in omega (
       arith,
       laws.child-place-small _ _ _ _ _ _ _ _ _ _ (v .pre .0)
           (v .pre .1) (v .pre .2) (v .pre .3) (w .before .before .link .ensures) (rw (w .before .block-length .ensures .0) at (w .pieces .ensures)) _
-          (omega (arith, c .before .before .before .before .before .before .level-count .ensures, c .before .before .before .before .before .if1 .left))
-          (c .before .before .last-before .ensures),
+          (omega (
+            arith,
+            c .before .before .before .before .before .before .before .before .before .level-count .ensures,
+            c .before .before .before .before .before .before .before .if1 .left,
+          )) (c .before .before .before .last-before .ensures),
     ))
-    (λ c. let k = c .before .before .before .before .before .before .before .before .before .before .before .before .before .pre .0 .on in
+    (λ c. let w = c .before .before .before .before .before .before .before .before in
+    let k = w .before .before .before .before .before .before .before .before .pre .0 .on in
     record { fits = omega (arith, k .level-in, k .header .facts .bounds .levels-high) })
-    (λ c κs. let w = c .before .before .before .before .before .before .before .before .before in
+    (λ c κs. let w = c .before .before .before .before .before .before .before .before .before .before .before .before in
     let v = w .before .before .before .before in (
       laws.child-there _ _ _ _ _ _ _ _ _ _ (v .pre .0)
           (v .pre .1) (v .pre .2) (v .pre .3) (w .before .before .link .ensures) (rw (w .before .block-length .ensures .0) at (w .pieces .ensures))
           _ (omega (
             arith,
-            c .before .before .before .before .before .before .before .level-count .ensures,
-            c .before .before .before .before .before .before .if1 .left,
-          )) (c .before .before .before .last-before .ensures),
+            c .before .before .before .before .before .before .before .before .before .before .level-count .ensures,
+            c .before .before .before .before .before .before .before .before .if1 .left,
+          )) (c .before .before .before .before .last-before .ensures),
       v .pre .2,
     ))
-    (λ c. let w = c .before .before .before .before .before .before .before .before .before .before in
+    (λ c. let w = c .before .before .before .before .before .before .before .before .before .before .before .before .before in
     let v = w .before .before .before .before in laws.child-picked _ _ _ _ _ _ _ _ _ _ (v .pre .0)
     (v .pre .1) (v .pre .2) (v .pre .3) (w .before .before .link .ensures) (rw (w .before .block-length .ensures .0) at (w .pieces .ensures))
     _ (omega (
       arith,
-      c .before .before .before .before .before .before .before .before .level-count .ensures,
-      c .before .before .before .before .before .before .before .if1 .left,
+      c .before .before .before .before .before .before .before .before .before .before .before .level-count .ensures,
+      c .before .before .before .before .before .before .before .before .before .if1 .left,
     ))
-    (c .before .before .before .before .last-before .ensures) _ (c .pick .ensures)))
+    (c .before .before .before .before .before .last-before .ensures) _ (c .pick .ensures)))

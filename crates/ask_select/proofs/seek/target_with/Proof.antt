@@ -14,29 +14,30 @@ target-with-spec =
     (λ c κs. (totals.field-there _ _ _ _ _ 2 (c .before .pre .0 .on .header)
     (c .before .pre .0 .on .level-in) (pointing-in _ _ _ (c .before .pre .0 .points)) (c .before .pre .1) (omega arith)))
     (λ c κs. search needs)
-    (λ c. let w = c .before .before .before .before in laws.aim-past _ _ _ _ _ _ _ _
-    (w .pre .0) (w .pre .1) (w .pre .2) (c .before .before .link .ensures) (omega (arith, c .before .level-count .ensures, c .if1 .taken)))
-    (λ c κs. let w = c .before .before .before .before in totals.field-there
+    (λ c. let w = c .before .before .before .before .before in laws.aim-past _ _ _ _ _ _ _ _
+    (w .pre .0) (w .pre .1) (w .pre .2) (c .before .before .before .link .ensures) (omega (arith, c .before .before .level-count .ensures, c .if1 .taken)))
+    (λ c κs. let w = c .before .before .before .before .before in totals.field-there
     _ _ _ _ _ _ (w .pre .0 .on .header) (w .pre .0 .on .level-in) (pointing-in _ _ _ (w .pre .0 .points)) (w .pre .1) (omega arith))
     (λ c. search needs)
     (λ c. search needs)
-    (λ c κs. let w = c .before .before .before .before .before in totals.field-there _ _ _ _ _ _ (w .pre .0 .on .header)
-    (w .pre .0 .on .level-in) (omega (arith, c .before .before .level-count .ensures, c .before .if1 .left)) (w .pre .1) (omega arith))
+    (λ c κs. let w = c .before .before .before .before .before .before in totals.field-there _ _ _ _ _ _ (w .pre .0 .on .header)
+    (w .pre .0 .on .level-in) (omega (arith, c .before .before .before .level-count .ensures, c .before .if1 .left)) (w .pre .1) (omega arith))
     (λ c. search needs)
-    (λ c κs. let w = c .before .before .before in let v = w .before .before .before .before in
-    (v .pre .0 .on .header, v .pre .0 .on .level-in, omega (arith, w .before .level-count .ensures, w .if1 .left)))
-    (λ c. let w = c .before .before .before .before .before .before in let v = w .before .before in
+    (λ c κs. let w = c .before .before .before in let v = w .before .before .before .before .before in
+    (v .pre .0 .on .header, v .pre .0 .on .level-in, omega (arith, w .before .before .level-count .ensures, w .if1 .left)))
+    (λ c. let w = c .before .before .before .before .before .before .before in let v = w .before .before in
     laws.aim-first _ _ _ _ _ _ _ _ (v .pre .0) (v .pre .1) (v .pre .2) (w .link .ensures) _ _ _ (c .before .before .before .skip .ensures)
     (omega arith) (c .before .before .inside .ensures) refl _ (c .before .if2 .taken) (c .kept-target .ensures))
     (λ c. search needs)
-    (λ c. let w = c .before .before .before .before .before in
+    (λ c. let w = c .before .before .before .before .before .before .before in
     let v = w .before .before .before in laws.aim-no-second _ _ _ _ _ _ _ _ (v .pre .0) (v .pre .1) (v .pre .2) (w .before .link .ensures)
-    _ _ _ (c .before .before .before .skip .ensures) (omega arith) (c .before .before .inside .ensures) refl (c .before .if2 .left)
-    (omega (arith, w .level-count .ensures, c .before .before .before .before .if1 .left)) (omega (arith, w .level-count .ensures, c .if3 .taken)))
+    _ _ _ (c .before .before .before .before .skip .ensures) (omega arith) (c .before .before .before .inside .ensures) refl (c .before .before .if2 .left)
+    (omega (arith, w .level-count .ensures, c .before .before .before .before .before .if1 .left)) (omega (arith, w .level-count .ensures, c .if3 .taken)))
     (λ c. search needs)
     (λ c. search needs)
-    (λ c κs. let w = c .before .before .before .before in let v = w .before .before .before .before in
-    (v .pre .0 .on .header, v .pre .0 .on .level-in, omega (arith, w .before .level-count .ensures, w .if1 .left, c .if3 .left)))
-    (λ c. let w = c .before .before .before .before .before .before .before in let v = w .before .before in
-    laws.aim-second _ _ _ _ _ _ _ _ (v .pre .0) (v .pre .1) (v .pre .2) (w .link .ensures) _ _ _ (c .before .before .before .before .skip .ensures)
-    (omega arith) (c .before .before .before .inside .ensures) refl (c .before .before .if2 .left) _ (c .kept-target2 .ensures)))
+    (λ c κs. let w = c .before .before .before .before .before .before in let v = w .before .before .before .before .before in
+    (v .pre .0 .on .header, v .pre .0 .on .level-in, omega (arith, w .before .before .level-count .ensures, w .if1 .left, c .before .if3 .left)))
+    (λ c. let w = c .before .before .before .before .before .before .before .before .before .before in let v = w .before .before in
+    laws.aim-second _ _ _ _ _ _ _ _ (v .pre .0) (v .pre .1) (v .pre .2) (w .link .ensures) _ _ _
+    (c .before .before .before .before .before .before .skip .ensures) (omega arith) (c .before .before .before .before .before .inside .ensures) refl
+    (c .before .before .before .before .if2 .left) _ (c .kept-target2 .ensures)))

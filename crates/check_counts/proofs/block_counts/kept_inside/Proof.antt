@@ -34,34 +34,34 @@ kept-inside-spec =
     (w .pre .1 .tree) _ _ (w .pre .0) (facts.not-last _ _ (w .pre .1 .tree) _ (w .pre .1 .level-in) (c .before .before .if1 .left)))
     (laws.length-is _ _ _ _ _ (w .pre .1) _ _ _ (w .pre .0) (c .before .before .before .before .before .start .ensures)
     (c .before .before .before .before .length-from .ensures .0)) (c .before .link .ensures))
-    (λ c. let w = c .before .before .before .before .before .before .before in omega (
+    (λ c. let w = c .before .before .before .before .before .before .before .before in omega (
       arith,
       facts.count-lt (w .args .t .now) (w .args .level + 1)
-          (λ k. c .before .before .before .before .before .before .shared-slice-known .given k .fits),
+          (λ k. c .before .before .before .before .before .before .before .shared-slice-known .given k .fits),
       laws.last-there _ _ _ _ _ (w .pre .1)
-          (w .pre .2) (facts.not-last _ _ (w .pre .1 .tree) _ (w .pre .1 .level-in) (c .before .before .if1 .left)) _ _ _ (facts.below-is _ _
-          (w .pre .1 .tree) _ _ (w .pre .0) (facts.not-last _ _ (w .pre .1 .tree) _ (w .pre .1 .level-in) (c .before .before .if1 .left)))
-          (laws.length-is _ _ _ _ _ (w .pre .1) _ _ _ (w .pre .0) (c .before .before .before .before .before .start .ensures)
-          (c .before .before .before .before .length-from .ensures .0)) (c .before .link .ensures) .block-in,
+          (w .pre .2) (facts.not-last _ _ (w .pre .1 .tree) _ (w .pre .1 .level-in) (c .before .before .before .if1 .left)) _ _ _ (facts.below-is _ _
+          (w .pre .1 .tree) _ _ (w .pre .0) (facts.not-last _ _ (w .pre .1 .tree) _ (w .pre .1 .level-in) (c .before .before .before .if1 .left)))
+          (laws.length-is _ _ _ _ _ (w .pre .1) _ _ _ (w .pre .0) (c .before .before .before .before .before .before .start .ensures)
+          (c .before .before .before .before .before .length-from .ensures .0)) (c .before .before .link .ensures) .block-in,
     ))
-    (λ c κs. let w = c .before .before .before .before .before .before .before in facts.before-there _ _ _ _ _ (laws.last-there _ _ _ _ _ (w .pre .1)
-    (w .pre .2) (facts.not-last _ _ (w .pre .1 .tree) _ (w .pre .1 .level-in) (c .before .before .if1 .left)) _ _ _ (facts.below-is _ _
-    (w .pre .1 .tree) _ _ (w .pre .0) (facts.not-last _ _ (w .pre .1 .tree) _ (w .pre .1 .level-in) (c .before .before .if1 .left)))
-    (laws.length-is _ _ _ _ _ (w .pre .1) _ _ _ (w .pre .0) (c .before .before .before .before .before .start .ensures)
-    (c .before .before .before .before .length-from .ensures .0)) (c .before .link .ensures)))
-    (λ c. search needs)
-    (λ c κs. let w = c .before .before .before .before .before .before .before .before in
-    facts.inside-there _ _ _ _ _ (laws.last-there _ _ _ _ _ (w .pre .1)
+    (λ c κs. let w = c .before .before .before .before .before .before .before .before in facts.before-there _ _ _ _ _ (laws.last-there _ _ _ _ _ (w .pre .1)
     (w .pre .2) (facts.not-last _ _ (w .pre .1 .tree) _ (w .pre .1 .level-in) (c .before .before .before .if1 .left)) _ _ _ (facts.below-is _ _
     (w .pre .1 .tree) _ _ (w .pre .0) (facts.not-last _ _ (w .pre .1 .tree) _ (w .pre .1 .level-in) (c .before .before .before .if1 .left)))
     (laws.length-is _ _ _ _ _ (w .pre .1) _ _ _ (w .pre .0) (c .before .before .before .before .before .before .start .ensures)
     (c .before .before .before .before .before .length-from .ensures .0)) (c .before .before .link .ensures)))
     (λ c. search needs)
-    (λ c. search needs)
-    (λ c. let w = c .before .before .before .before .before .before .before .before .before in
-    laws.inside-above _ _ _ _ _ (w .pre .1) (w .pre .2) (facts.not-last _ _
-    (w .pre .1 .tree) _ (w .pre .1 .level-in) (c .before .before .before .before .if1 .left)) _ _ _ (facts.below-is _ _ (w .pre .1 .tree)
-    _ _ (w .pre .0) (facts.not-last _ _ (w .pre .1 .tree) _ (w .pre .1 .level-in) (c .before .before .before .before .if1 .left)))
+    (λ c κs. let w = c .before .before .before .before .before .before .before .before .before in
+    facts.inside-there _ _ _ _ _ (laws.last-there _ _ _ _ _ (w .pre .1)
+    (w .pre .2) (facts.not-last _ _ (w .pre .1 .tree) _ (w .pre .1 .level-in) (c .before .before .before .before .if1 .left)) _ _ _ (facts.below-is _ _
+    (w .pre .1 .tree) _ _ (w .pre .0) (facts.not-last _ _ (w .pre .1 .tree) _ (w .pre .1 .level-in) (c .before .before .before .before .if1 .left)))
     (laws.length-is _ _ _ _ _ (w .pre .1) _ _ _ (w .pre .0) (c .before .before .before .before .before .before .before .start .ensures)
-    (c .before .before .before .before .before .before .length-from .ensures .0))
-    (c .before .before .before .link .ensures) _ _ (c .before .before2 .ensures) (c .inside .ensures)))
+    (c .before .before .before .before .before .before .length-from .ensures .0)) (c .before .before .before .link .ensures)))
+    (λ c. search needs)
+    (λ c. search needs)
+    (λ c. let w = c .before .before .before .before .before .before .before .before .before .before in
+    laws.inside-above _ _ _ _ _ (w .pre .1) (w .pre .2) (facts.not-last _ _
+    (w .pre .1 .tree) _ (w .pre .1 .level-in) (c .before .before .before .before .before .if1 .left)) _ _ _ (facts.below-is _ _ (w .pre .1 .tree)
+    _ _ (w .pre .0) (facts.not-last _ _ (w .pre .1 .tree) _ (w .pre .1 .level-in) (c .before .before .before .before .before .if1 .left)))
+    (laws.length-is _ _ _ _ _ (w .pre .1) _ _ _ (w .pre .0) (c .before .before .before .before .before .before .before .before .start .ensures)
+    (c .before .before .before .before .before .before .before .length-from .ensures .0))
+    (c .before .before .before .before .link .ensures) _ _ (c .before .before2 .ensures) (c .inside .ensures)))

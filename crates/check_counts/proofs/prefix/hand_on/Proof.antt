@@ -26,22 +26,22 @@ hand-on-spec =
           _ _ _ (w .before .link .ensures) (w .gap .ensures) (c .before .before .before .before .skip .ensures) (c .if2 .taken),
       omega arith,
     ))
-    (λ c. let w = c .before .before .before .before .before .before in let v = w .before .before .before .before in
+    (λ c. let w = c .before .before .before .before .before .before .before in let v = w .before .before .before .before in
     omega (
       arith,
       facts.count-lt (v .before .args .t .now) (v .before .args .on .level) (λ k. v .shared-slice-known .given k .fits),
       laws.next-there
           _ _ _ _ _ _ _ (v .before .pre .0) (v .before .pre .1) _ (w .before .before .kind .ensures) (w .before .if1 .left) _ _ _ (w .link .ensures)
-          (c .before .before .before .before .before .gap .ensures) (c .before .before .before .before .skip .ensures) (c .if2 .left),
+          (c .before .before .before .before .before .before .gap .ensures) (c .before .before .before .before .before .skip .ensures) (c .before .if2 .left),
     ))
-    (λ c κs. let w = c .before .before .before .before .before in let v = w .before .before .before in facts.inside-there
+    (λ c κs. let w = c .before .before .before .before .before .before in let v = w .before .before .before in facts.inside-there
     _ _ _ _ _ (laws.target-there _ _ _ _ _ _ _ (v .before .before .before .before .pre .0) (v .before .before .before .before .pre .1)
     _ (v .before .kind .ensures) (v .if1 .left) _ _ _ (w .before .before .link .ensures) (w .before .gap .ensures) (w .skip .ensures)))
     (λ c. search needs)
-    (λ c. let w = c .before .before .before .before .before .before in
+    (λ c. let w = c .before .before .before .before .before .before .before in
     let v = w .before .before .before in (
       laws.hand-second _ _ _ _ _ _ _ (v .before .before .before .before .pre .0)
           (v .before .before .before .before .pre .1) _ (v .before .kind .ensures) (v .if1 .left) _ _ _ (w .before .before .link .ensures)
-          (w .before .gap .ensures) (w .skip .ensures) _ (c .inside .ensures) (c .before .before .if2 .left),
+          (w .before .gap .ensures) (w .skip .ensures) _ (c .inside .ensures) (c .before .before .before .if2 .left),
       omega (arith, c .inside .ok),
     )))

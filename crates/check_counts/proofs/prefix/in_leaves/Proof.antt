@@ -14,12 +14,13 @@ in-leaves-spec =
     (λ c. search needs)
     (λ c. search needs)
     (λ c. search needs)
-    (λ c. let w = c .before .before .before .before in
+    (λ c. let w = c .before .before .before .before .before in
     omega (arith, w .pre .0 .tree .header .facts .long, w .pre .0 .tree .header .facts .bounds .counted-high, w .pre .0 .number-in))
-    (λ c κs. let w = c .before .before .before .before in laws.leaves-fit _ _ _ _ _ _ _ (w .pre .0) (w .pre .1) (w .pre .2) (c .before .before .link .ensures))
+    (λ c κs. let w = c .before .before .before .before .before in
+    laws.leaves-fit _ _ _ _ _ _ _ (w .pre .0) (w .pre .1) (w .pre .2) (c .before .before .before .link .ensures))
     (λ c. search needs)
-    (λ c. let w = c .before .before .before .before .before in (
+    (λ c. let w = c .before .before .before .before .before .before in (
       laws.leaves-are _ _ _ _ _ _ _
-          (w .pre .0) (w .pre .1) (w .pre .2) (c .before .before .before .link .ensures) _ (c .count-in .ensures .0),
+          (w .pre .0) (w .pre .1) (w .pre .2) (c .before .before .before .before .link .ensures) _ (c .count-in .ensures .0),
       c .count-in .ensures .1,
     )))

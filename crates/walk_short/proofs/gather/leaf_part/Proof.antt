@@ -17,12 +17,13 @@ leaf-part-spec =
     (λ c. search needs)
     (λ c. search needs)
     (λ c. search needs)
-    (λ c. let w = c .before .before .before .before in
+    (λ c. let w = c .before .before .before .before .before in
     let p = w .before .before .pre in laws.leaf-past _ _ (p .0) _ _ _ _ _ _ (p .2) (w .link .ensures) (c .if1 .taken))
     (λ c. search needs)
     (λ c. search needs)
     (λ c. search needs)
     (λ c. search needs)
     (λ c. search needs)
-    (λ c. let w = c .before .before .before .before .before .before in
-    let p = w .before .before .pre in laws.leaf-at _ _ (p .0) _ _ _ _ _ _ (p .2) (w .link .ensures) (c .before .before .if1 .left)))
+    (λ c. search needs)
+    (λ c. let w = c .before .before .before .before .before .before .before .before in
+    let p = w .before .before .pre in laws.leaf-at _ _ (p .0) _ _ _ _ _ _ (p .2) (w .link .ensures) (c .before .before .before .if1 .left)))
