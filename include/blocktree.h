@@ -14,7 +14,9 @@
  *    length says; pointers to figures and to words are aligned.
  *  - Nobody has to check a tree first: each call is safe on any bytes, reads nothing outside them and ends. On a tree that bt_check refuses, bt_find may
  *    answer any place below n with any number of blocks, bt_row any bytes, bt_row_length any length up to n, and bt_next_match any row after the mark or none, or each of them may
- *    answer BT_PATH (bt_row also BT_BUFFER). All other answers are settled on any bytes. On a tree that bt_check accepts BT_PATH is never the answer.
+ *    answer BT_PATH (bt_row also BT_BUFFER). All other answers are settled on any bytes, but for the two calls with a guide.
+ *  - With a guide that bt_check_guide refuses, bt_find_guided is free as bt_find is on a refused tree, and bt_row_guided as bt_row, also on a tree that
+ *    bt_check accepts. No other call returns BT_PATH on an accepted tree.
  *  - A tree carries no checksum of its maker's text: bt_check says that it stands for a text, not for which. A flipped leaf byte, with the counts and edges
  *    that it is in, makes a good tree of another text, and a wrong key. Keep a digest of the tree beside it.
  *  - Places in the text start at 0; occurrences and rows are numbered from 1, but the rows that bt_column_row reads from 0.

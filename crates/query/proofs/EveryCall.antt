@@ -28,7 +28,8 @@ use Rattle.query.proofs.InfoCall
 
 abbrev pub calls : List Call
 calls =
-    LeftmostCall.leftmost-call
+    LeftmostCall.fingerprint-new-call
+    ∷ LeftmostCall.leftmost-call
     ∷ LeftmostCall.occurs-earlier-call
     ∷ BuildCall.build-call
     ∷ BuildScannedCall.build-scanned-call
