@@ -4,32 +4,36 @@
     docs/must_fail_logs.py            # after `rt ci` or `rt must-fail`: every edit
     docs/must_fail_logs.py NAME..     # the edits of some crates
 
-An edit shows something where it changes code or a definition and the prover then finds a fact that is false. The first error of its log
-(target/must-fail/NAME/LABEL/.log) must therefore be one of FACTS: the prover computed both sides and they differ, or it found numbers at
-which the goal fails, or it tried every way to prove a goal of the proof file and found none. Any other first error is one of form: a path of the proof
-file that leads nowhere, a tuple or function where the need has another shape, a rewrite whose term is not there, a name that is not in scope.
-Such an error says that the proof file no longer fits the code, and would come of a right program too. An edit of a proof and an edit without
-a log count as well. Needs python3 and nothing else."""
+An edit shows something where it changes code or a definition and the prover then finds that a fact does not hold: a goal that no rule
+proves, numbers at which a goal fails, two propositions that differ in a term. Such is the first error of its log
+(target/must-fail/NAME/LABEL/.log), unless it is one of FORMS: a path of the proof file that leads nowhere, a tuple or a function where the
+need has another shape, a rewrite whose term is not there, a declaration that waits on a refused one, a name that is not in scope. An error of form says that
+the proof file no longer fits the code, and would come of a right program too. An edit of a proof, an edit without a log and a log without an
+error count as well. Needs python3 and nothing else."""
 
 import re
 import sys
 from pathlib import Path
 
 ROOT = Path(__file__).resolve().parents[1]
-# what the prover says of a fact that is false
-FACTS = [
-    r"computed as far as they go, the two types differ only where one has",
-    r"`omega`: the goal does not follow from what it read",
-    r"`omega`: the hypotheses are not absurd",
-    r"`search`: no proof of .*? was found\. Every way was tried",
-    r"`cc`: ",
-    r"must be a path whose two ends are equal, and .*? is none",
+# what the prover says where the proof file does not fit the code
+FORMS = [
+    r"has no field",
+    r"has no `Need-",
+    r"is not a tuple|not a tuple",
+    r"a tuple is checked against",
+    r"λ has \d+ binders?",
+    r"on the face",
+    r"no occurrence of the path's left endpoint",
+    r"was not admitted",
+    r"not in scope|is not declared|cannot be named from here",
 ]
 
 
 def first_error(log):
-    """The first error of a log with the lines that go on with it."""
+    """The first error of a log with the lines that go on with it; of a function without a proof file, what is not proved of it."""
     found = re.search(r"^\S+:\d+:\d+: error: (.*?)(?=^\S+:\d+:\d+: |^note: |^(?:fn|struct|enum) |\Z)", log, re.M | re.S)
+    found = found or re.search(r"^note: \S+:\d+:\d+: (it is not proved .*)$", log, re.M)
     return found[1] if found else ""
 
 
@@ -44,7 +48,7 @@ def shows_nothing(edit):
     error = first_error(log.read_text())
     if not error:
         return "its log has no error"
-    if not any(re.search(fact, error, re.S) for fact in FACTS):
+    if any(re.search(form, error, re.S) for form in FORMS):
         return "its first error is one of form: " + " ".join(error.split())[:300]
     return None
 

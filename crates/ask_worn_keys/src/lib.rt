@@ -24,6 +24,22 @@ pub fn show(mark: &mut Mark, t: &[u8], question: &[u8]) -> NextRowAnswer
     shown
 }
 
+// The answer of `show`, and the mark after it.
+pub struct AdvanceAnswer {
+    pub answer: NextRowAnswer,
+    pub row: u32,
+}
+
+// Moves a mark of its own, on a given row, with `show`.
+pub fn advance(t: &[u8], question: &[u8], row: u32) -> AdvanceAnswer
+    ensures { λ r. ⌜ Moved (now (t .entry)) (now (question .entry)) row (r .answer) (r .row) ⌝ }
+{
+    let mut mark = Mark { row };
+    let answer = show(&mut mark, t, question);
+    let after = mark.row;
+    AdvanceAnswer { answer, row: after }
+}
+
 // The first row after a mark that matches.
 pub fn next_match(t: &[u8], question: &[u8], mark: u32) -> NextRowAnswer
     ensures { λ r. ⌜ MatchAnswer (now (t .entry)) (now (question .entry)) mark r ⌝ }

@@ -115,8 +115,16 @@ pub fn places(tree: &[u8], pattern: &[u8], table: &mut [u32]) {
     }
 }
 
+// The next match, 0 for none, and the mark as `show` leaves it.
 pub fn next_match(tree: &[u8], ranges: &[u8], mark: u32) {
-    next_row(query::next_match(tree, ranges, mark), mark);
+    let moved = ask_worn_keys::advance(tree, ranges, mark);
+    let answer = moved.answer;
+    let row = moved.row as u64;
+    match answer {
+        NextRowAnswer::Row(q) => say::three(0, q as u64, row),
+        NextRowAnswer::Nothing(_) => say::three(0, 0, row),
+        NextRowAnswer::Refused(number) => say::three(number, 0, row),
+    }
 }
 
 pub fn next_row_with_prefix(tree: &[u8], prefix: &[u8], mark: u32) {
