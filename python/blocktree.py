@@ -7,20 +7,21 @@
     b'CH0502 1424'
     >>> book.row(3)
     Traceback (most recent call last):
-    blocktree.Refused: refused (12): the text has no occurrence or row of this number; numbers start at 1
+    blocktree.RefusedError: refused (12): the text has no occurrence or row of this number; numbers start at 1
 
 Over the proved library, by ctypes, from libblocktree.so: the one that BLOCKTREE_LIBRARY names, or beside this file, in ../../lib or ../target, or where
 the system finds it (`make shared`, `make install`). Python 3.8 or later, Linux on x86-64.
 
-Texts, trees, rows and patterns are bytes. Places start at 0; rows and occurrences are numbered from 1. What the library refuses raises Refused, whose
-`number` is the library's; docs/FORMAT.md says what each means. A tree carries no checksum of its maker's text: keep a digest beside it (hashlib.sha256).
+Texts, trees, rows and patterns are bytes. Places start at 0; rows and occurrences are numbered from 1. What the library refuses raises RefusedError,
+whose `number` is the library's; docs/FORMAT.md says what each means. A tree carries no checksum of its maker's text: keep a digest beside it
+(hashlib.sha256).
 """
 
 import ctypes
 import ctypes.util
 import os
 
-__all__ = ["Refused", "Tree", "build", "enough", "scan_words", "to_columns", "from_columns", "open_on", "days_left", "renew"]
+__all__ = ["RefusedError", "Tree", "build", "enough", "scan_words", "to_columns", "from_columns", "open_on", "days_left", "renew"]
 
 REASONS = {
     1: "a text must have at most 8,388,608 bytes",
@@ -55,12 +56,19 @@ LIST_LENGTH = 512
 BEFORE, SAME, AFTER = 1, 2, 3
 
 
-class Refused(Exception):
-    """The library refused; `number` says why."""
+class RefusedError(Exception):
+    """The library refused; `number` says why. It can be pickled, so it also comes back from another process."""
 
-    def __init__(self, number):
-        super().__init__("refused (%d): %s" % (number, REASONS.get(number, "a number that this module does not know")))
+    def __init__(self, number: int) -> None:
+        super().__init__(number)
         self.number = number
+
+    def __str__(self) -> str:
+        return "refused (%d): %s" % (self.number, REASONS.get(self.number, "a number that this module does not know"))
+
+
+# deprecated: the name of RefusedError up to 1.14
+Refused = RefusedError
 
 
 # What each call is lent, in order. bytes: read; buffer: a bytearray, written; words: an array of _words, written; n32: a number; out32, out64, outi32: a
@@ -156,10 +164,10 @@ def _call(name, *given):
 
 
 def _ask(name, *given):
-    """The figures: none, one, or all of them in a tuple. Refused where the number is not 0."""
+    """The figures: none, one, or all of them in a tuple. RefusedError where the number is not 0."""
     number, *figures = _call(name, *given)
     if number:
-        raise Refused(number)
+        raise RefusedError(number)
     return figures[0] if len(figures) == 1 else tuple(figures)
 
 
@@ -236,7 +244,7 @@ class Tree:
         figures = (ctypes.c_uint64 * 23)()
         number = _LIBRARY.bt_info(ctypes.c_char_p(self.bytes), ctypes.c_size_t(len(self.bytes)), figures)
         if number:
-            raise Refused(number)
+            raise RefusedError(number)
         layout, length, leaf, arity, levels, leaf_bytes, counted = figures[:7]
         totals = dict(zip(figures[7 : 7 + counted], figures[11 : 11 + counted]))
         return {
@@ -290,7 +298,7 @@ class Tree:
             room = bytearray(min(len(self), MAX_TEXT))
             refusal, length = _call(name, self.bytes, *lent, number, room)
         if refusal:
-            raise Refused(refusal)
+            raise RefusedError(refusal)
         return bytes(room[:length])
 
     def row_length(self, number):
@@ -309,7 +317,7 @@ class Tree:
             table = _words(_ask("bt_places_words", self.bytes, len(pattern)))
             number, places = _call("bt_places", self.bytes, pattern, table)
         if number:
-            raise Refused(number)
+            raise RefusedError(number)
         return table[:places]
 
     def next_match(self, ranges, mark=0):
@@ -337,7 +345,7 @@ class Tree:
         return bytes(room[: 4 * words])
 
     def check_guide(self, guide):
-        """Refused where it is not exactly the guide of this tree."""
+        """RefusedError where it is not exactly the guide of this tree."""
         _ask("bt_check_guide", self.bytes, guide)
 
     def list(self):

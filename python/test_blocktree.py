@@ -4,7 +4,9 @@
 """
 
 import doctest
+import multiprocessing
 import os
+import pickle
 import re
 import sys
 
@@ -67,7 +69,7 @@ def match(tree, lent, mark):
 def listed(tree):
     try:
         lines = blocktree.Tree(tree, checked=False).list()
-    except blocktree.Refused as refused:
+    except blocktree.RefusedError as refused:
         lines = "refused %d\n" % refused.number
     return (lines.replace("\n", "/"),)
 
@@ -198,7 +200,7 @@ def refusals():
     ]:
         try:
             ask()
-        except blocktree.Refused as refused:
+        except blocktree.RefusedError as refused:
             assert refused.number == number and str(refused).startswith("refused (%d): " % number)
         else:
             raise AssertionError("%d did not come" % number)
@@ -210,10 +212,31 @@ def refusals():
         raise AssertionError("%d was lent" % number)
 
 
+def ask_row(tree, number):
+    return blocktree.Tree(tree).row(number)
+
+
+def from_another_process():
+    """A refusal survives pickling, and comes back from a worker process."""
+    refused = pickle.loads(pickle.dumps(blocktree.RefusedError(12)))
+    assert type(refused) is blocktree.RefusedError is blocktree.Refused
+    assert (refused.number, str(refused)) == (12, str(blocktree.RefusedError(12)))
+    tree = blocktree.build(b"A 1\n", 2, 2, 2)
+    with multiprocessing.Pool(1) as pool:
+        assert pool.apply_async(ask_row, (tree, 1)).get(timeout=60) == b"A 1"
+        try:
+            pool.apply_async(ask_row, (tree, 2)).get(timeout=60)
+        except blocktree.RefusedError as refused:
+            assert refused.number == 12
+        else:
+            raise AssertionError("row 2 was answered")
+
+
 if __name__ == "__main__":
     counts = [run_file(path) for path in FILES]
     own_functions()
     refusals()
+    from_another_process()
     failed, tried = doctest.testmod(blocktree)
     assert (failed, tried > 3) == (0, True)
     print("%s cases, all as they should be" % " and ".join(map(str, counts)))
