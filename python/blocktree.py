@@ -12,7 +12,7 @@
 Over the proved library, by ctypes, from libblocktree.so: the one that BLOCKTREE_LIBRARY names, or beside this file, in ../../lib or ../target, or where
 the system finds it (`make shared`, `make install`). Python 3.8 or later, Linux on x86-64.
 
-Texts, trees, rows and patterns are bytes. Places start at 0; rows and occurrences are numbered from 1. What the library refuses raises RefusedError,
+Texts, trees, rows and patterns are bytes; what is given may be any bytes-like object. Places start at 0; rows and occurrences are numbered from 1. What the library refuses raises RefusedError,
 whose `number` is the library's; docs/FORMAT.md says what each means. A tree carries no checksum of its maker's text: keep a digest beside it
 (hashlib.sha256).
 """
@@ -135,6 +135,11 @@ def _number(value):
     return ctypes.c_uint32(value)
 
 
+def _bytes(value):
+    """The bytes of a bytes-like object. Anything else raises TypeError: bytes(5) would be five zero bytes."""
+    return value if isinstance(value, bytes) else memoryview(value).tobytes()
+
+
 def _words(number):
     """A table of so many words."""
     return (ctypes.c_uint32 * number)()
@@ -147,7 +152,7 @@ def _call(name, *given):
         if kind == "n32":
             words.append(_number(next(given)))
         elif kind == "bytes":
-            lent = bytes(next(given))
+            lent = _bytes(next(given))
             words += [ctypes.c_char_p(lent), ctypes.c_size_t(len(lent))]
         elif kind == "buffer":
             lent = next(given)
@@ -179,7 +184,7 @@ def version():
 
 def enough(n, leaf, arity, levels, counted=b"\n"):
     """A size that holds the tree of any text of n bytes."""
-    return _ask("bt_enough", n, leaf, arity, levels, len(counted))
+    return _ask("bt_enough", n, leaf, arity, levels, len(_bytes(counted)))
 
 
 def scan_words(n, leaf):
@@ -189,12 +194,14 @@ def scan_words(n, leaf):
 
 def build(text, leaf, arity, levels, counted=b"\n"):
     """The tree of a text; `counted` are the bytes that it can count and find, rising."""
+    text = _bytes(text)
     room = bytearray(enough(min(len(text), 0xFFFFFFFF), leaf, arity, levels, counted))
     size, _ = _ask("bt_build_scanned", text, leaf, arity, levels, counted, _words(scan_words(len(text), leaf)), room)
     return bytes(room[:size])
 
 
 def _turned(name, text, width):
+    text = _bytes(text)
     out = bytearray(len(text))
     _ask(name, text, width, out)
     return bytes(out)
@@ -222,7 +229,7 @@ def days_left(last, today):
 
 def renew(day):
     """The same day one year later; 29 February becomes 28 February."""
-    lent = bytearray(day)
+    lent = bytearray(_bytes(day))
     _ask("bt_renew", lent)
     return bytes(lent)
 
@@ -231,7 +238,7 @@ class Tree:
     """A tree's bytes. They are checked unless told otherwise: on a tree that the check refuses answers can be wrong, though nothing outside it is read."""
 
     def __init__(self, tree, checked=True):
-        self.bytes = bytes(tree)
+        self.bytes = _bytes(tree)
         if checked:
             _ask("bt_check", self.bytes)
 

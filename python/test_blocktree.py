@@ -212,6 +212,30 @@ def refusals():
         raise AssertionError("%d was lent" % number)
 
 
+def other_types():
+    """A number, a string or a list in place of bytes is a TypeError; any bytes-like object is good."""
+    book = blocktree.Tree(bytearray(blocktree.build(memoryview(b"A 1\n"), 2, 2, 2)))
+    assert book.places(bytearray(b"1")) == book.places(memoryview(b"x1x")[1:2]) == [2]
+    for wrong in (5, "5", [5], None):
+        for ask in (
+            lambda: blocktree.Tree(wrong),
+            lambda: blocktree.build(wrong, 2, 2, 2),
+            lambda: blocktree.build(b"", 2, 2, 2, wrong),
+            lambda: blocktree.enough(5, 2, 2, 2, wrong),
+            lambda: blocktree.to_columns(wrong, 1),
+            lambda: blocktree.from_columns(wrong, 1),
+            lambda: blocktree.open_on(wrong, b"20240101", b"20240101"),
+            lambda: blocktree.renew(wrong),
+            lambda: book.places(wrong),
+            lambda: book.check_guide(wrong),
+        ):
+            try:
+                ask()
+            except TypeError:
+                continue
+            raise AssertionError("%r was taken for bytes" % (wrong,))
+
+
 def ask_row(tree, number):
     return blocktree.Tree(tree).row(number)
 
@@ -236,6 +260,7 @@ if __name__ == "__main__":
     counts = [run_file(path) for path in FILES]
     own_functions()
     refusals()
+    other_types()
     from_another_process()
     failed, tried = doctest.testmod(blocktree)
     assert (failed, tried > 3) == (0, True)
