@@ -1,10 +1,12 @@
 """Block trees of code books: build them, check them, ask them.
 
     >>> import blocktree
-    >>> tree = blocktree.build(b"CH0501 1423\\nCH0502 1424\\n", leaf=64, arity=2, levels=4)
+    >>> tree = blocktree.build(b"CH0501 1423\\nCH0502 1424\\n")
     >>> book = blocktree.Tree(tree)
     >>> book.row(2)
     b'CH0502 1424'
+    >>> list(book.iter_rows()), book[0:6]
+    ([b'CH0501 1423', b'CH0502 1424'], b'CH0501')
     >>> book.row(3)
     Traceback (most recent call last):
     blocktree.RefusedError: refused (12): the text has no occurrence or row of this number; numbers start at 1
@@ -20,8 +22,13 @@ whose `number` is the library's; docs/FORMAT.md says what each means. A tree car
 import ctypes
 import ctypes.util
 import os
+from typing import Any, Dict, Iterable, Iterator, List, Optional, Tuple, Union, overload
 
-__all__ = ["RefusedError", "Tree", "build", "enough", "scan_words", "to_columns", "from_columns", "open_on", "days_left", "renew"]
+__version__ = "1.14.0"
+
+__all__ = ["RefusedError", "Tree", "build", "enough", "scan_words", "to_columns", "from_columns", "open_on", "days_left", "renew", "version"]
+
+Bytes = Union[bytes, bytearray, memoryview]
 
 REASONS = {
     1: "a text must have at most 8,388,608 bytes",
@@ -50,6 +57,9 @@ REASONS = {
     24: "this is no guide of this tree: it has too few or too many words, or an entry is wrong",
     25: "the table is too short for the guide",
 }
+
+# The settings that build tries where none are given, as leaf, arity and levels: those of `codebook build`.
+SHORT_LIST = [(256, 2, 1), (64, 4, 3), (48, 2, 5), (32, 4, 4), (24, 8, 3), (16, 4, 4)]
 
 MAX_TEXT = 8_388_608
 LIST_LENGTH = 512
@@ -107,7 +117,7 @@ _CALLS = {
 _FIGURES = {"out32": ctypes.c_uint32, "out64": ctypes.c_uint64, "outi32": ctypes.c_int32, "mark": ctypes.c_uint32}
 
 
-def _library():
+def _library() -> ctypes.CDLL:
     here = os.path.dirname(os.path.abspath(__file__))
     name = "libblocktree.so"
     paths = [os.path.join(here, place, name) for place in (".", "../../lib", "../target")]
@@ -128,47 +138,49 @@ def _library():
 _LIBRARY = _library()
 
 
-def _number(value):
+def _number(value: int) -> ctypes.c_uint32:
     """A number that the library can be lent: one below 0 or past 32 bits is the caller's mistake."""
     if not 0 <= value < 1 << 32:
         raise OverflowError("%d is not a number from 0 to 4294967295" % value)
     return ctypes.c_uint32(value)
 
 
-def _bytes(value):
+def _bytes(value: Bytes) -> bytes:
     """The bytes of a bytes-like object. Anything else raises TypeError: bytes(5) would be five zero bytes."""
     return value if isinstance(value, bytes) else memoryview(value).tobytes()
 
 
-def _words(number):
+def _words(number: int) -> Any:
     """A table of so many words."""
     return (ctypes.c_uint32 * number)()
 
 
-def _call(name, *given):
+def _call(name: str, *given: Any) -> Tuple[int, ...]:
     """The answer's number and all figures, in order. Buffers and words are written in place; no pointer is null, also where its length is 0."""
-    words, figures, given = [], [], iter(given)
+    words: List[Any] = []
+    figures: List[Any] = []
+    rest = iter(given)
     for kind in _CALLS[name].split():
         if kind == "n32":
-            words.append(_number(next(given)))
+            words.append(_number(next(rest)))
         elif kind == "bytes":
-            lent = _bytes(next(given))
+            lent = _bytes(next(rest))
             words += [ctypes.c_char_p(lent), ctypes.c_size_t(len(lent))]
         elif kind == "buffer":
-            lent = next(given)
+            lent = next(rest)
             room = (ctypes.c_uint8 * len(lent)).from_buffer(lent) if lent else (ctypes.c_uint8 * 1)()
             words += [room, ctypes.c_size_t(len(lent))]
         elif kind == "words":
-            lent = next(given)
+            lent = next(rest)
             words += [lent if len(lent) else _words(1), ctypes.c_size_t(len(lent))]
         else:
-            figures.append(_FIGURES[kind](next(given) if kind == "mark" else 0))
+            figures.append(_number(next(rest)) if kind == "mark" else _FIGURES[kind](0))
             words.append(ctypes.byref(figures[-1]))
     number = getattr(_LIBRARY, name)(*words)
     return (number, *(figure.value for figure in figures))
 
 
-def _ask(name, *given):
+def _ask(name: str, *given: Any) -> Any:
     """The figures: none, one, or all of them in a tuple. RefusedError where the number is not 0."""
     number, *figures = _call(name, *given)
     if number:
@@ -176,58 +188,67 @@ def _ask(name, *given):
     return figures[0] if len(figures) == 1 else tuple(figures)
 
 
-def version():
+def version() -> Tuple[int, int, int]:
     """The library's version: major, minor, patch."""
     number = _LIBRARY.bt_version()
     return number // 10000, number // 100 % 100, number % 100
 
 
-def enough(n, leaf, arity, levels, counted=b"\n"):
+def enough(n: int, leaf: int, arity: int, levels: int, counted: Bytes = b"\n") -> int:
     """A size that holds the tree of any text of n bytes."""
     return _ask("bt_enough", n, leaf, arity, levels, len(_bytes(counted)))
 
 
-def scan_words(n, leaf):
+def scan_words(n: int, leaf: int) -> int:
     """The words of the table that build works in."""
     return _LIBRARY.bt_scan_words(_number(n), _number(leaf))
 
 
-def build(text, leaf, arity, levels, counted=b"\n"):
-    """The tree of a text; `counted` are the bytes that it can count and find, rising."""
+def build(text: Bytes, leaf: Optional[int] = None, arity: Optional[int] = None, levels: Optional[int] = None, counted: Bytes = b"\n") -> bytes:
+    """The tree of a text; `counted` are the bytes that it can count and find, rising. Without settings it is the tree of `codebook build`: each of
+    SHORT_LIST is tried, and the smallest tree is returned, of equal ones the first. That takes six builds; give settings where time matters."""
+    if leaf is not None and arity is not None and levels is not None:
+        return _build(text, leaf, arity, levels, counted)
+    if (leaf, arity, levels) != (None, None, None):
+        raise TypeError("leaf, arity and levels go together: give all three, or none")
+    return min((_build(text, *settings, counted) for settings in SHORT_LIST), key=len)
+
+
+def _build(text: Bytes, leaf: int, arity: int, levels: int, counted: Bytes) -> bytes:
     text = _bytes(text)
     room = bytearray(enough(min(len(text), 0xFFFFFFFF), leaf, arity, levels, counted))
     size, _ = _ask("bt_build_scanned", text, leaf, arity, levels, counted, _words(scan_words(len(text), leaf)), room)
     return bytes(room[:size])
 
 
-def _turned(name, text, width):
+def _turned(name: str, text: Bytes, width: int) -> bytes:
     text = _bytes(text)
     out = bytearray(len(text))
     _ask(name, text, width, out)
     return bytes(out)
 
 
-def to_columns(text, width):
+def to_columns(text: Bytes, width: int) -> bytes:
     """A text of rows of `width` bytes, end byte included, by columns."""
     return _turned("bt_to_columns", text, width)
 
 
-def from_columns(text, width):
+def from_columns(text: Bytes, width: int) -> bytes:
     """And back."""
     return _turned("bt_from_columns", text, width)
 
 
-def open_on(first, last, today):
+def open_on(first: Bytes, last: Bytes, today: Bytes) -> bool:
     """Is a book licensed from `first` to `last`, both included, open on `today`? Days are eight digits, as b"20240229"."""
     return _ask("bt_open_on", first, last, today) == 1
 
 
-def days_left(last, today):
+def days_left(last: Bytes, today: Bytes) -> int:
     """Days from `today` to `last`; below 0 after it."""
     return _ask("bt_days_left", last, today)
 
 
-def renew(day):
+def renew(day: Bytes) -> bytes:
     """The same day one year later; 29 February becomes 28 February."""
     lent = bytearray(_bytes(day))
     _ask("bt_renew", lent)
@@ -237,16 +258,32 @@ def renew(day):
 class Tree:
     """A tree's bytes. They are checked unless told otherwise: on a tree that the check refuses answers can be wrong, though nothing outside it is read."""
 
-    def __init__(self, tree, checked=True):
+    def __init__(self, tree: Bytes, checked: bool = True) -> None:
         self.bytes = _bytes(tree)
         if checked:
             _ask("bt_check", self.bytes)
 
-    def __len__(self):
+    def __len__(self) -> int:
         """Bytes of the text, as the header has it."""
         return int.from_bytes(self.bytes[4:8], "little")
 
-    def info(self):
+    @overload
+    def __getitem__(self, index: int) -> int: ...
+
+    @overload
+    def __getitem__(self, index: slice) -> bytes: ...
+
+    def __getitem__(self, index: Union[int, slice]) -> Union[int, bytes]:
+        """tree[14] and tree[14:20] are those of the text's bytes; a row is row(number)."""
+        places = range(len(self))[index]
+        if isinstance(places, int):
+            return self.byte(places)
+        if not places:
+            return b""
+        low = min(places[0], places[-1])
+        return self.span(low, abs(places[-1] - places[0]) + 1)[places[0] - low :: places.step]
+
+    def info(self) -> Dict[str, Any]:
         """What the tree says of itself: layout, text length, settings, leaf bytes, the counted bytes with their totals, the blocks of each level."""
         figures = (ctypes.c_uint64 * 23)()
         number = _LIBRARY.bt_info(ctypes.c_char_p(self.bytes), ctypes.c_size_t(len(self.bytes)), figures)
@@ -265,37 +302,37 @@ class Tree:
             "blocks": figures[15 : 15 + levels],
         }
 
-    def byte(self, place):
+    def byte(self, place: int) -> int:
         """The byte at a place."""
         return _ask("bt_byte", self.bytes, place)[0]
 
-    def run(self, place):
+    def run(self, place: int) -> bytes:
         """The bytes of the text from a place on that lie side by side in the tree."""
         offset, length = _ask("bt_run", self.bytes, place)
         return self.bytes[offset : offset + length]
 
-    def span(self, place, length):
+    def span(self, place: int, length: int) -> bytes:
         """`length` bytes from a place on."""
         # what lies past the text's end is refused whatever the buffer
         room = bytearray(length if place + length <= min(len(self), MAX_TEXT) else 0)
         _ask("bt_span", self.bytes, place, length, room)
         return bytes(room)
 
-    def text(self):
+    def text(self) -> bytes:
         """The whole text."""
         return self.span(0, len(self))
 
-    def count(self, byte, length):
+    def count(self, byte: int, length: int) -> int:
         """How often a counted byte stands in the first `length` bytes."""
         return _ask("bt_count", self.bytes, byte, length)[0]
 
-    def find(self, byte, number, guide=None):
+    def find(self, byte: int, number: int, guide: Optional[Bytes] = None) -> int:
         """Where a counted byte stands for the number-th time, from 1."""
         if guide is None:
             return _ask("bt_find", self.bytes, byte, number)[0]
         return _ask("bt_find_guided", self.bytes, guide, byte, number)[0]
 
-    def row(self, number, guide=None):
+    def row(self, number: int, guide: Optional[Bytes] = None) -> bytes:
         """Row `number`, from 1, without its end."""
         name, lent = ("bt_row", []) if guide is None else ("bt_row_guided", [guide])
         # a short buffer is enough mostly, and one as long as the text always
@@ -308,15 +345,20 @@ class Tree:
             raise RefusedError(refusal)
         return bytes(room[:length])
 
-    def row_length(self, number):
+    def iter_rows(self, first: int = 1, last: Optional[int] = None) -> Iterator[bytes]:
+        """The rows from `first` to `last`, both included, in row order; to the last one where `last` is not given."""
+        for number in range(first, (self.rows() if last is None else last) + 1):
+            yield self.row(number)
+
+    def row_length(self, number: int) -> int:
         """Bytes of row `number`, from 1, without its end."""
         return _ask("bt_row_length", self.bytes, number)
 
-    def rows(self):
+    def rows(self) -> int:
         """How many rows there are."""
         return _ask("bt_row_count", self.bytes)
 
-    def places(self, pattern):
+    def places(self, pattern: Bytes) -> List[int]:
         """All places of a pattern of 1 to 256 bytes, rising."""
         table = _words(min(4096, len(self)))
         number, places = _call("bt_places", self.bytes, pattern, table)
@@ -327,41 +369,41 @@ class Tree:
             raise RefusedError(number)
         return table[:places]
 
-    def next_match(self, ranges, mark=0):
+    def next_match(self, ranges: Iterable[Tuple[int, int]], mark: int = 0) -> Optional[int]:
         """The first row after `mark` that matches a worn key; None where there is none. A range is a low and a high depth for each cut: [(4, 4), (3, 5)]."""
         lent = bytes(depth for low_high in ranges for depth in low_high)
         return _ask("bt_next_match", self.bytes, lent, mark)[1] or None
 
-    def matches(self, ranges):
+    def matches(self, ranges: Iterable[Tuple[int, int]]) -> Iterator[int]:
         """All rows that match, in row order."""
         row = self.next_match(ranges)
         while row:
             yield row
             row = self.next_match(ranges, row)
 
-    def row_by_columns(self, width, a):
+    def row_by_columns(self, width: int, a: int) -> bytes:
         """Row a, from 0, all `width` bytes of it, from the tree of a text by columns."""
         room = bytearray(min(width, len(self), MAX_TEXT))
         _ask("bt_column_row", self.bytes, width, a, room)
         return bytes(room)
 
-    def make_guide(self):
+    def make_guide(self) -> bytes:
         """The guide to the level 0 blocks."""
         room = bytearray(4 * min(_ask("bt_guide_words", self.bytes), MAX_TEXT // 16 + 4))
         words = _ask("bt_make_guide", self.bytes, room)
         return bytes(room[: 4 * words])
 
-    def check_guide(self, guide):
+    def check_guide(self, guide: Bytes) -> None:
         """RefusedError where it is not exactly the guide of this tree."""
         _ask("bt_check_guide", self.bytes, guide)
 
-    def list(self):
+    def list(self) -> str:
         """The lines of the list program, one for each level: level, blocks, kept, pointing."""
         room = bytearray(LIST_LENGTH)
         length = _ask("bt_list", self.bytes, room)
         return room[:length].decode("ascii")
 
-    def compare(self, other):
+    def compare(self, other: "Tree") -> Tuple[int, int]:
         """BEFORE, SAME or AFTER, where this tree's text stands beside the other's, and how many bytes they share from their start on."""
         order, shared, _ = _ask("bt_order", self.bytes, other.bytes)
         return order, shared

@@ -4,11 +4,13 @@
 """
 
 import doctest
+import inspect
 import multiprocessing
 import os
 import pickle
 import re
 import sys
+import typing
 
 HERE = os.path.dirname(os.path.abspath(__file__))
 sys.path.insert(0, HERE)
@@ -178,6 +180,51 @@ def own_functions():
     assert blocktree.renew(b"20240229") == b"20250228"
 
 
+def settings_left_out():
+    """build without settings makes the smallest tree of the short list; some of them alone are a mistake."""
+    text = open(os.path.join(HERE, "../books/small.txt"), "rb").read()
+    trees = [blocktree.build(text, *settings) for settings in blocktree.SHORT_LIST]
+    assert blocktree.build(text) == blocktree.build(text, 24, 8, 3) == min(trees, key=len)
+    assert blocktree.Tree(blocktree.build(text, counted=b"")).info()["totals"] == {}
+    for some in ({"leaf": 24}, {"arity": 8, "levels": 3}):
+        try:
+            blocktree.build(text, **some)
+        except TypeError:
+            continue
+        raise AssertionError("%r was enough" % some)
+
+
+def as_a_sequence():
+    """Lengths, indices and slices are those of the text's bytes; rows are iterated by number."""
+    text = b"A 1\r\nBC 23\n\nD 4"
+    book = blocktree.Tree(blocktree.build(text, 2, 2, 2))
+    assert len(book) == len(text) and list(book) == list(text)
+    for index in range(-len(text), len(text)):
+        assert book[index] == text[index]
+    bounds = [None, -99, -14, -3, 0, 1, 5, 14, 99]
+    for index in [slice(start, stop, step) for start in bounds for stop in bounds for step in (None, 1, 3, -1, -2)]:
+        assert book[index] == text[index], index
+    for index in (len(text), -len(text) - 1):
+        try:
+            book[index]
+        except IndexError:
+            continue
+        raise AssertionError("%d is an index" % index)
+    assert list(book.iter_rows()) == [b"A 1", b"BC 23", b"", b"D 4"]
+    assert list(book.iter_rows(2, 3)) == [b"BC 23", b""] and list(book.iter_rows(5)) == []
+    assert list(blocktree.Tree(blocktree.build(b"")).iter_rows()) == []
+
+
+def hints():
+    """Every public function and method has a type for each argument and for its answer, which a reader of hints can evaluate."""
+    functions = [getattr(blocktree, name) for name in blocktree.__all__ if inspect.isfunction(getattr(blocktree, name))]
+    functions += [method for name, method in inspect.getmembers(blocktree.Tree, inspect.isfunction)]
+    assert len(functions) > 25
+    for function in functions:
+        known = set(typing.get_type_hints(function)) - {"return"}
+        assert known == set(inspect.signature(function).parameters) - {"self"} and "return" in function.__annotations__, function
+
+
 def refusals():
     """Every refusal raises its number, and a number that is none is not lent."""
     book = blocktree.Tree(blocktree.build(b"A 1\n", 2, 2, 2))
@@ -205,11 +252,12 @@ def refusals():
         else:
             raise AssertionError("%d did not come" % number)
     for number in (-1, 1 << 32):
-        try:
-            book.row(number)
-        except OverflowError:
-            continue
-        raise AssertionError("%d was lent" % number)
+        for ask in (book.row, lambda mark: book.next_match([(1, 1)], mark)):
+            try:
+                ask(number)
+            except OverflowError:
+                continue
+            raise AssertionError("%d was lent" % number)
 
 
 def other_types():
@@ -259,6 +307,9 @@ def from_another_process():
 if __name__ == "__main__":
     counts = [run_file(path) for path in FILES]
     own_functions()
+    settings_left_out()
+    as_a_sequence()
+    hints()
     refusals()
     other_types()
     from_another_process()
