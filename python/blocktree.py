@@ -12,7 +12,8 @@
     blocktree.RefusedError: refused (12): the text has no occurrence or row of this number; numbers start at 1
 
 Over the proved library, by ctypes, from libblocktree.so: the one that BLOCKTREE_LIBRARY names, or beside this file, in ../../lib or ../target, or where
-the system finds it (`make shared`, `make install`). Python 3.8 or later, Linux on x86-64.
+the loader finds it, or in the lib folder of the prefix that `codebook` is installed in, of Python's prefix or of /usr/local. `make install` installs it.
+Python 3.8 or later, Linux on x86-64.
 
 Texts, trees, rows and patterns are bytes; what is given may be any bytes-like object. Places start at 0; rows and occurrences are numbered from 1. What the library refuses raises RefusedError,
 whose `number` is the library's; docs/FORMAT.md says what each means. A tree carries no checksum of its maker's text: keep a digest beside it
@@ -20,8 +21,9 @@ whose `number` is the library's; docs/FORMAT.md says what each means. A tree car
 """
 
 import ctypes
-import ctypes.util
 import os
+import shutil
+import sys
 from typing import Any, Dict, Iterable, Iterator, List, Optional, Tuple, Union, overload
 
 __version__ = "1.14.0"
@@ -117,15 +119,28 @@ _CALLS = {
 _FIGURES = {"out32": ctypes.c_uint32, "out64": ctypes.c_uint64, "outi32": ctypes.c_int32, "mark": ctypes.c_uint32}
 
 
-def _library() -> ctypes.CDLL:
+def _opened() -> ctypes.CDLL:
+    """The shared library: the one that is named, or beside this file, or where the loader finds it, or installed beside the tool or below a usual prefix."""
+    named = os.environ.get("BLOCKTREE_LIBRARY")
+    if named:
+        return ctypes.CDLL(named)
     here = os.path.dirname(os.path.abspath(__file__))
-    name = "libblocktree.so"
-    paths = [os.path.join(here, place, name) for place in (".", "../../lib", "../target")]
-    found = [path for path in paths if os.path.exists(path)]
-    path = os.environ.get("BLOCKTREE_LIBRARY") or (found[0] if found else ctypes.util.find_library("blocktree"))
-    if not path:
-        raise OSError("%s is not found; build it with `make shared`, or name it in BLOCKTREE_LIBRARY" % name)
-    library = ctypes.CDLL(path)
+    beside = [os.path.join(here, place, "libblocktree.so") for place in (".", "../../lib", "../target")]
+    tool = shutil.which("codebook")
+    prefixes = ([os.path.join(os.path.dirname(os.path.realpath(tool)), "..")] if tool else []) + [sys.prefix, "/usr/local"]
+    installed = [os.path.join(prefix, "lib/libblocktree.so") for prefix in prefixes]
+    soname = "libblocktree.so." + __version__.split(".")[0]
+    for path in [path for path in beside if os.path.exists(path)] + [soname] + [path for path in installed if os.path.exists(path)]:
+        try:
+            return ctypes.CDLL(path)
+        except OSError:
+            if path != soname:
+                raise
+    raise ImportError("libblocktree.so is not found: install it with `make install`, or name it in BLOCKTREE_LIBRARY")
+
+
+def _library() -> ctypes.CDLL:
+    library = _opened()
     for call in _CALLS:
         getattr(library, call).restype = ctypes.c_uint32
     library.bt_version.restype = ctypes.c_uint32

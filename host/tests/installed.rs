@@ -72,6 +72,7 @@ fn install_and_uninstall() {
     assert!(output(Command::new(root.join("bin/codebook")).arg("--version")).stdout.starts_with(b"codebook "));
     c_program(&root);
     python_module(&root.join("share/blocktree"));
+    pip_install(&root);
     make(&root, "uninstall");
     assert_eq!(files(&root), ["built.so"]);
 }
@@ -102,6 +103,24 @@ fn python_module(path: &Path) {
         Err(_) => println!("python3 is not installed: not tried"),
         Ok(output) => assert_eq!(output.stdout, b"B 2\n", "{}", String::from_utf8_lossy(&output.stderr)),
     }
+}
+
+/// `pip install ./python` without a network gives the module and its hints; it finds the library that is installed beside the tool.
+fn pip_install(root: &Path) {
+    let target = folder("pip");
+    let mut pip = Command::new("python3");
+    pip.args(["-m", "pip"]).env("PIP_DISABLE_PIP_VERSION_CHECK", "1").env("PYTHONDONTWRITEBYTECODE", "1");
+    if !Command::new("python3").args(["-m", "pip", "--version"]).output().is_ok_and(|done| done.status.success()) {
+        println!("pip is not installed: not tried");
+        return;
+    }
+    output(pip.args(["install", "--quiet", "--no-index", "--target"]).arg(&target).arg(repository().join("python")));
+    assert!(target.join("blocktree/py.typed").exists());
+    let line = "import blocktree; print(blocktree.__version__, blocktree.Tree(blocktree.build(b'A 1\\nB 2\\n')).row(2).decode())";
+    let path = format!("{}:{}", root.join("bin").display(), std::env::var("PATH").unwrap_or_default());
+    let mut python = Command::new("python3");
+    python.args(["-B", "-c", line]).current_dir(&target).env("PYTHONPATH", &target).env("PATH", path).env_remove("BLOCKTREE_LIBRARY");
+    assert_eq!(String::from_utf8_lossy(&output(&mut python).stdout), format!("{} B 2\n", env!("CARGO_PKG_VERSION")));
 }
 
 /// What file(1) says of a tree, of a book, and of other trees.
@@ -145,6 +164,14 @@ fn python_reasons() {
         let (_, words) = words.split_once("): ").expect("words");
         assert!(module.contains(&format!("    {}: \"{words}\",\n", refusal.number())), "{words}");
     }
+}
+
+/// The module's version is the tool's, and so are the settings that it tries.
+#[test]
+fn python_version_and_settings() {
+    let module = fs::read_to_string(repository().join("python/blocktree.py")).expect("the module");
+    assert!(module.contains(concat!("\n__version__ = \"", env!("CARGO_PKG_VERSION"), "\"\n")));
+    assert!(module.contains(&format!("\nSHORT_LIST = {:?}\n", codebook::SHORT_LIST)));
 }
 
 /// What is missing is told at once.
