@@ -104,9 +104,9 @@ int main(void)
         {"bt_guide_words", guide_words}, {"bt_make_guide", make_guide}, {"bt_check_guide", check_guide}, {"bt_find_guided", find_guided},
         {"bt_row_guided", row_guided}, {"bt_order", order}, {"bt_list", list}, {"bt_open_on", open_on}, {"bt_days_left", days_left}, {"bt_renew", renew},
     };
-    tree = malloc(TREE);
-    guide = malloc(TEXT);
-    table = malloc(sizeof *table * 2 * TEXT);
+    tree = (uint8_t *)malloc(TREE);
+    guide = (uint8_t *)malloc(TEXT);
+    table = (uint32_t *)malloc(sizeof *table * 2 * TEXT);
     if (!tree || !guide || !table) return 1;
     write_text();
     if (bt_build(text, 600, 2, 3, 8, counted, 4, small, sizeof small, &small_size) != BT_OK) return 1;
