@@ -22,8 +22,8 @@ fn output(command: &mut Command) -> Output {
     output
 }
 
-/// make, with the tool and the archive that are tested.
-fn make(root: &Path, target: &str) {
+/// make, with the tool and the archive that are tested; what it says.
+fn make(root: &Path, target: &str) -> String {
     let set = |name: &str, value: &Path| format!("{name}={}", value.display());
     let values = [
         set("PREFIX", root),
@@ -31,7 +31,29 @@ fn make(root: &Path, target: &str) {
         set("ARCHIVE", Path::new(env!("BLOCKTREE_ARCHIVE"))),
         set("SHARED", &root.join("built.so")),
     ];
-    output(Command::new("make").arg("-s").arg("-C").arg(repository()).args(values).arg(target));
+    let done = output(Command::new("make").arg("-s").arg("-C").arg(repository()).args(values).arg(target));
+    String::from_utf8_lossy(&done.stdout).into_owned()
+}
+
+/// The shared library's name in programs: by the first number of the version.
+const SONAME: &str = concat!("libblocktree.so.", env!("CARGO_PKG_VERSION_MAJOR"));
+
+/// Whether the loader must be told of an installed library; with an `ldconfig` that says what is given.
+#[test]
+fn the_loader() {
+    let folder = folder("loader");
+    let said = |known: &str, searched: &str| {
+        let script =
+            format!("#!/bin/sh\ncase $1 in -p) echo '\tlibblocktree.so.1 (libc6,x86-64) => {known}' ;; *) echo '{searched}: (from x)' ;; esac\n");
+        fs::write(folder.join("ldconfig"), script).expect("a file");
+        fs::set_permissions(folder.join("ldconfig"), std::os::unix::fs::PermissionsExt::from_mode(0o755)).expect("permissions");
+        let path = format!("{}:{}", folder.display(), std::env::var("PATH").unwrap_or_default());
+        let done = output(Command::new(repository().join("host/loader")).args(["/srv/lib", "libblocktree.so.1"]).env("PATH", path));
+        String::from_utf8_lossy(&done.stdout).into_owned()
+    };
+    assert_eq!(said("/srv/lib/libblocktree.so.1", "/srv/lib"), "");
+    assert_eq!(said("/lib/libblocktree.so.1", "/srv/lib"), "run ldconfig as root, so that programs find /srv/lib/libblocktree.so.1\n");
+    assert!(said("/lib/libblocktree.so.1", "/usr/srv/lib").starts_with("the loader does not search /srv/lib: "));
 }
 
 /// All files below a folder, by name.
@@ -51,7 +73,8 @@ fn files(folder: &Path) -> Vec<String> {
 #[test]
 fn install_and_uninstall() {
     let root = folder("installed");
-    make(&root, "install");
+    let said = make(&root, "install");
+    assert!(said.starts_with(&format!("the loader does not search {}: link programs with -Wl,-rpath,", root.join("lib").display())), "{said}");
     let installed = [
         "CHANGELOG.md",
         "FORMAT.md",
@@ -68,7 +91,12 @@ fn install_and_uninstall() {
         "codebook",
         "codebook.1",
     ];
-    assert_eq!(files(&root), [installed.as_slice(), &["libblocktree.a", "libblocktree.so", "libblocktree.so.0"]].concat());
+    let libraries = ["libblocktree.a", "libblocktree.so", SONAME, concat!("libblocktree.so.", env!("CARGO_PKG_VERSION"))];
+    assert_eq!(files(&root), [installed.as_slice(), &libraries].concat());
+    if let Ok(told) = Command::new("readelf").arg("-d").arg(root.join("lib/libblocktree.so")).output() {
+        let told = String::from_utf8_lossy(&told.stdout).into_owned();
+        assert!(told.contains(&format!("Library soname: [{SONAME}]")), "{told}");
+    }
     assert!(output(Command::new(root.join("bin/codebook")).arg("--version")).stdout.starts_with(b"codebook "));
     c_program(&root);
     python_module(&root.join("share/blocktree"));
