@@ -223,6 +223,28 @@ fn needs() {
     assert!(done.status.success() && done.stderr.starts_with(b"warning: rt is 'another'; "), "{done:?}");
 }
 
+/// The demo, without proving and building: its book is long and repeats itself, so that its tree is the smaller of the two.
+#[test]
+fn the_demo() {
+    let root = folder("demo");
+    for name in ["host/target/release", "tools", "books"] {
+        fs::create_dir_all(root.join(name)).expect("a folder");
+    }
+    for name in ["demo", "toolchain", "host/needs", "host/make-archive", "host/Cargo.toml", "books/make_repeating"] {
+        fs::copy(repository().join(name), root.join(name)).expect("a file");
+    }
+    std::os::unix::fs::symlink(env!("CARGO_BIN_EXE_codebook"), root.join("host/target/release/codebook")).expect("a link");
+    fs::write(root.join("tools/cargo"), "#!/bin/sh\n").expect("a file");
+    fs::set_permissions(root.join("tools/cargo"), std::os::unix::fs::PermissionsExt::from_mode(0o755)).expect("permissions");
+    let path = format!("{}:{}", root.join("tools").display(), std::env::var("PATH").unwrap_or_default());
+    let done = output(Command::new(root.join("demo")).env("PATH", path).env("BLOCKTREE_ARCHIVE", env!("BLOCKTREE_ARCHIVE")));
+    let said = String::from_utf8_lossy(&done.stdout).into_owned();
+    assert!(said.ends_with("\nthe tree's text is the book\n"), "{said}");
+    let size = |name: &str| fs::metadata(root.join("target").join(name)).expect("a file").len();
+    assert!(size("repeating.txt") >= 256 * 1024 && size("repeating.tree") < size("repeating.txt"), "{said}");
+    assert!(!String::from_utf8_lossy(&done.stderr).contains("warning: the tree is no smaller"), "{said}");
+}
+
 /// Proofs are made again where a crate changed, and only there; with an `rt` that writes down that it was called.
 #[test]
 fn the_archive_is_made_of_the_crates_as_they_stand() {
@@ -234,6 +256,7 @@ fn the_archive_is_made_of_the_crates_as_they_stand() {
     fs::write(root.join("crates.txt"), "text:\nabi: text # the calls\nother: abi\n").expect("a file");
     fs::write(root.join("crates/abi/source"), "1").expect("a file");
     let rt = "#!/bin/sh\n[ \"$1\" = version ] && exec echo one\necho proved >> calls\n[ -e fails ] && { echo no proof; exit 1; }\n\
+              echo 'fn text::f: proved'; echo 'rt: text proved (1 s)'; sleep 2; echo 'rt: abi proved (2 s)'; echo 'rt: ok, 2 crates proved'\n\
               mkdir -p target/staticlib && cp crates/abi/source target/staticlib/libabi.a\n";
     fs::write(root.join("tools/rt"), rt).expect("a file");
     fs::set_permissions(root.join("tools/rt"), std::os::unix::fs::PermissionsExt::from_mode(0o755)).expect("permissions");
@@ -242,7 +265,12 @@ fn the_archive_is_made_of_the_crates_as_they_stand() {
     let calls = || fs::read_to_string(root.join("calls")).unwrap_or_default().lines().count();
     let archive = || fs::read_to_string(root.join("target/libblocktree.a")).unwrap_or_default();
     let said = String::from_utf8_lossy(&run().stderr).into_owned();
-    assert!(said.starts_with("the library is proved: 2 crates, "), "{said}");
+    // a line for each crate, with the time so far, where there is no terminal too
+    let said: Vec<&str> = said.lines().map(|line| line.trim_start_matches([' ', '0', '1', '2', '3', '4', '5', '6', '7', '8', '9'])).collect();
+    assert_eq!(said.len(), 4, "{said:?}");
+    assert!(said[0].starts_with("proving the library, 2 crates: some ten minutes"), "{said:?}");
+    assert_eq!(said[1..3], ["s   1 of 2  text", "s   2 of 2  abi"]);
+    assert!(said[3].starts_with("the library is proved: 2 crates, "), "{said:?}");
     assert!(run().stderr.is_empty());
     assert_eq!((calls(), archive()), (1, "1".to_owned()));
     fs::write(root.join("crates/abi/source"), "2").expect("a file");
