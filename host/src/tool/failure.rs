@@ -43,6 +43,11 @@ impl Failure {
         Failure::refused("", "")
     }
 
+    /// The same as trouble, where status 1 has another meaning.
+    pub fn trouble(self) -> Self {
+        Failure { status: 2, ..self }
+    }
+
     pub fn status(&self) -> u8 {
         self.status
     }
