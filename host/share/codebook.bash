@@ -4,28 +4,20 @@ _codebook() {
     local word=${COMP_WORDS[COMP_CWORD]} command=${COMP_WORDS[1]} choices=
     COMPREPLY=()
     if [ "$COMP_CWORD" -eq 1 ]; then
-        choices='build check verify digest list stats picture row byte run span count find places match worn text to-columns from-columns guide compare shelf licence sizes help version manual completion --help --version'
-        choices='build slim check verify list stats picture row byte run span count find places match worn text to-columns from-columns guide compare shelf licence sizes help version manual completion --help --version'
-        choices='build check verify list stats picture row byte run span count find places code match worn text to-columns from-columns guide compare shelf licence sizes help version manual completion --help --version'
+        choices='build import check verify diff list stats picture row byte run span count find places match worn text to-columns from-columns guide compare shelf licence sizes help version manual completion --help --version'
     else
         case $command in
         guide) command="$command ${COMP_WORDS[2]}"; [ "$COMP_CWORD" -eq 2 ] && choices='make check' ;;
         licence) command="$command ${COMP_WORDS[2]}"; [ "$COMP_CWORD" -eq 2 ] && choices='open left renew' ;;
         completion) choices='bash zsh' ;;
-        help) choices='build check verify digest list stats picture row byte run span count find places match worn text to-columns from-columns guide compare shelf licence sizes help version manual completion' ;;
-        help) choices='build check verify list stats picture row byte run span count find places code match worn text to-columns from-columns guide compare shelf licence sizes help version manual completion' ;;
+        help) choices='build import check verify diff list stats picture row byte run span count find places match worn text to-columns from-columns guide compare shelf licence sizes help version manual completion' ;;
         esac
         case $word in -*) case $command in
         'build') choices='-o --output -f --force --leaf --arity --levels --count --columns --json -q --quiet -h --help' ;;
-        'check') choices='--sha256 --text-sha256 --json -q --quiet -h --help' ;;
-        help) choices='build slim check verify list stats picture row byte run span count find places match worn text to-columns from-columns guide compare shelf licence sizes help version manual completion' ;;
-        esac
-        case $word in -*) case $command in
-        'build') choices='-o --output -f --force --small --leaf --arity --levels --count --columns --json -q --quiet -h --help' ;;
-        'slim') choices='-o --output -f --force --json -q --quiet -h --help' ;;
+        'import') choices='-o --output -f --force --code --cuts --separator --lenient --json -q --quiet -h --help' ;;
         'check') choices='--sha256 --json -q --quiet -h --help' ;;
         'verify') choices='--columns --json -q --quiet -h --help' ;;
-        'digest') choices='--json --unchecked -q --quiet -h --help' ;;
+        'diff') choices='--json -q --quiet -h --help' ;;
         'list') choices='-q --quiet -h --help' ;;
         'stats') choices='--json -q --quiet -h --help' ;;
         'picture') choices='-o --output -f --force -q --quiet -h --help' ;;
@@ -36,7 +28,6 @@ _codebook() {
         'count') choices='--json --unchecked -q --quiet -h --help' ;;
         'find') choices='--guide --json --unchecked -q --quiet -h --help' ;;
         'places') choices='--json --unchecked -q --quiet -h --help' ;;
-        'code') choices='--prefix --guide --json --unchecked -q --quiet -h --help' ;;
         'match') choices='--from --after --json --unchecked -q --quiet -h --help' ;;
         'worn') choices='--from --after --json --unchecked -q --quiet -h --help' ;;
         'text') choices='--unchecked -q --quiet -h --help' ;;

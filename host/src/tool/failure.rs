@@ -48,6 +48,11 @@ impl Failure {
         Failure { status, ..Failure::told() }
     }
 
+    /// The same as trouble, where status 1 has another meaning.
+    pub fn trouble(self) -> Self {
+        Failure { status: 2, ..self }
+    }
+
     pub fn status(&self) -> u8 {
         self.status
     }

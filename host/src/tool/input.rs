@@ -24,6 +24,8 @@ pub struct Limit {
 
 pub static TEXT: Limit = Limit { most: MAX_TEXT as u64, what: "a text", refusal: Some(Refusal::Text) };
 pub static TREE: Limit = Limit { most: MAX_TREE, what: "a tree", refusal: None };
+/// What `import` reads: besides code and cuts it has other columns, and two bytes for a character.
+pub static TABLE: Limit = Limit { most: 16 * MAX_TEXT as u64, what: "a table", refusal: None };
 /// An entry for each 64 bytes of text, and one begun for each counted byte.
 pub static GUIDE: Limit = Limit { most: 4 * (MAX_TEXT as u64 / 64 + 4), what: "a guide", refusal: None };
 

@@ -8,7 +8,8 @@ use crate::json::Object;
 use crate::output::Output;
 use crate::say::{self, grouped};
 use crate::table::FORCE;
-use crate::{sha256, Failure};
+use crate::Failure;
+use codebook::{digest_text, Digest};
 
 /// The ending of a name that is not given.
 const ENDING: &str = "small.tree";
@@ -21,7 +22,8 @@ pub fn slim(given: &Given) -> Result<(), Failure> {
         let input = source.read(&TREE)?;
         let tree = open(&input, false)?;
         let small = tree.without_edges().map_err(|refusal| refused(&input, refusal))?;
-        write(given, &input, &small, output)?;
+        let text = tree.digest().map_err(|refusal| refused(&input, refusal))?;
+        write(given, &input, &small, &text, output)?;
         if tree.layout() == 1 && !given.quiet() {
             say::tell(&format!("codebook: {}: warning: it has no edges already, and was copied\n", input.name));
         }
@@ -30,16 +32,18 @@ pub fn slim(given: &Given) -> Result<(), Failure> {
 }
 
 /// Write the tree; then say what it has, where the tree does not go.
-fn write(given: &Given, input: &Input, small: &[u8], output: Output) -> Result<(), Failure> {
+fn write(given: &Given, input: &Input, small: &[u8], text: &Digest, output: Output) -> Result<(), Failure> {
     let (name, standard) = (output.name.clone(), output.is_standard());
     output.write(small)?;
-    let digest = sha256::hex(small);
+    let digest = digest_text(small);
     let report = if given.json() {
         let object = Object::new().text("tree", &input.name).number("size", input.bytes.len());
-        object.text("written", &name).number("written_size", small.len()).text("sha256", &digest).line()
+        let object = object.text("written", &name).number("written_size", small.len());
+        object.text("sha256", &digest.to_string()).text("text_sha256", &text.to_string()).line()
     } else {
         let share = 100.0 * small.len() as f64 / input.bytes.len() as f64;
-        format!("{name}: {} bytes, {share:.1} % of {}; sha256 {digest}\n", grouped(small.len() as u64), input.name)
+        let sizes = format!("{name}: {} bytes, {share:.1} % of {}", grouped(small.len() as u64), input.name);
+        format!("{sizes}; SHA-256 of the tree {digest}, of its text {text}\n")
     };
     match (given.quiet(), standard) {
         (true, _) => Ok(()),

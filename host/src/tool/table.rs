@@ -1,6 +1,8 @@
 //! The one table of commands and options: calls are read by it, and help, the manual page and the completions are printed from it.
 
-use crate::{build, by_columns, check, code, digest, given::Given, guide, help, licence, picture, questions, shelf, slim, stats, Failure};
+use crate::{
+    build, by_columns, check, code, diff, digest, given::Given, guide, help, import, licence, picture, questions, shelf, slim, stats, Failure,
+};
 
 /// What the commands on licences share.
 macro_rules! licence_days {
@@ -89,6 +91,11 @@ pub static FROM: Opt = valued("--from", "ROW", "start at this row, from 1");
 pub static AFTER: Opt = valued("--after", "ROW", "the next match after this row, and no other; 0 is before the first row");
 pub static PREFIX: Opt = flag("--prefix", None, "CODE is the beginning of a row, not a whole code");
 pub static UNCHECKED: Opt = flag("--unchecked", None, "do not check the tree first; on a tree that the check refuses the answer can be wrong");
+pub static CODE: Opt = valued("--code", "COLUMN", "the column of the codes, by its number from 1 or by its name in the header line; otherwise code");
+pub static CUTS: Opt = valued("--cuts", "COLUMN", "the column of the cuts, likewise; otherwise cuts");
+pub static SEPARATOR: Opt =
+    valued("--separator", "BYTE", "what separates the columns, as ';' or '\\t'; otherwise the first tab, semicolon or comma is taken");
+pub static LENIENT: Opt = flag("--lenient", None, "status 0 even if lines are dropped");
 
 /// Options of every command.
 pub static COMMON: [&Opt; 2] = [&QUIET, &HELP];
@@ -108,7 +115,7 @@ const fn any(name: &'static str) -> Word {
 static TREE: [Word; 1] = [maybe("TREE")];
 static TREES: [Word; 1] = [any("TREE")];
 
-pub static COMMANDS: [Command; 33] = [
+pub static COMMANDS: [Command; 35] = [
     Command {
         name: "build",
         words: &[any("BOOK")],
@@ -137,6 +144,17 @@ pub static COMMANDS: [Command; 33] = [
         run: slim::slim,
     },
     Command {
+        name: "import",
+        words: &[maybe("FILE")],
+        options: &[&OUTPUT, &FORCE, &CODE, &CUTS, &SEPARATOR, &LENIENT, &JSON],
+        summary: "make a book from a CSV or TAB file",
+        details: "Each line of FILE becomes a row of code, space, cuts. Columns are separated by tabs, semicolons or commas, and may be quoted; in a file without any of these, the spaces after the code separate the cuts. \
+                  Byte order marks, UTF-16, line ends of any kind, blank lines and header lines are understood. The columns are those that a header line names code and cuts, or that the options name; a file of two columns needs neither.\n\
+                  Cuts are written 442231, 4-4-2-2-3-1 or 4 4 2 2 3 1. Nothing is guessed: a line whose code is not 1 to 12 bytes other than space, or whose cuts are not 1 to 10 digits, is dropped and listed with its number and the reason, and the status is 1. \
+                  Without -o the book goes to standard output.",
+        run: import::import,
+    },
+    Command {
         name: "check",
         words: &TREES,
         options: &[&SHA256, &TEXT_SHA256, &JSON],
@@ -161,6 +179,16 @@ pub static COMMANDS: [Command; 33] = [
         summary: "print the SHA-256 of trees' texts",
         details: "One line for each tree, as sha256sum prints it: the SHA-256 of the tree's text, two spaces, the tree's name. It is the digest that sha256sum prints of the book.",
         run: digest::digest,
+    },
+    Command {
+        name: "diff",
+        words: &[one("ONE"), one("OTHER")],
+        options: &[&JSON],
+        summary: "print the rows that differ between two books or trees",
+        details: "Rows are compared by code, the bytes before the first space: a row is removed, added, or changed, if the same code has other cuts. Their order does not matter, and a code may have several rows. ONE and OTHER are trees, which are checked first, or books. \
+                  The text of a tree by columns is turned back first, by text and from-columns.\n\
+                  Status: 0 the rows are the same, 1 they differ, 2 trouble.",
+        run: diff::diff,
     },
     Command {
         name: "list",
