@@ -27,7 +27,7 @@ pub fn build(given: &Given) -> Result<(), Failure> {
     apart(given)?;
     given.each(|path| {
         let source = Source::open(path)?;
-        let output = Output::create(target(given, path)?.as_deref(), given.has(&FORCE), &source)?;
+        let output = Output::create(target(given, path)?.as_deref(), given.has(&FORCE), &source)?.timed(given, &source)?;
         let text = source.read(&TEXT)?;
         let built = match given.value(&COLUMNS) {
             None => plain(&text, settings.as_ref(), &counted, given.quiet())?,

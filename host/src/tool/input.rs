@@ -79,8 +79,13 @@ impl Source {
         }
     }
 
+    /// None where it is not an ordinary file.
+    pub fn metadata(&self) -> Option<Metadata> {
+        self.file.metadata().ok().filter(Metadata::is_file)
+    }
+
     pub fn identity(&self) -> Option<Identity> {
-        self.file.metadata().ok().and_then(|metadata| Identity::of(&metadata))
+        self.metadata().and_then(|metadata| Identity::of(&metadata))
     }
 
     /// Read all of it, unless it is longer than it may be.

@@ -1,5 +1,6 @@
 //! codebook: builds, checks and reads block trees of code books.
 
+mod attributes;
 mod book;
 mod build;
 mod by_columns;

@@ -1,14 +1,17 @@
 //! Where a command writes: made ready before the work begins, so that a place that cannot be written is told at once, and filled at its end.
 
+use crate::attributes::{Access, Times};
 use crate::given::Given;
 use crate::input::{Identity, Source};
 use crate::spool::Spool;
-use crate::table::{FORCE, OUTPUT};
+use crate::table::{FORCE, KEEP_TIME, OUTPUT};
 use crate::{say, Failure};
 use std::fs::{self, File, Metadata, OpenOptions};
 use std::io::{self, ErrorKind, IsTerminal, Write};
 use std::os::fd::AsFd;
 use std::path::Path;
+
+const EXISTS: &str = "exists; --force overwrites it";
 
 pub struct Output {
     /// What to call it.
@@ -26,7 +29,16 @@ enum Place {
 impl Output {
     /// The file that the call names, or standard output.
     pub fn of(given: &Given, source: &Source) -> Result<Self, Failure> {
-        Output::create(given.path(&OUTPUT), given.has(&FORCE), source)
+        Output::create(given.path(&OUTPUT), given.has(&FORCE), source)?.timed(given, source)
+    }
+
+    /// With --keep-time a file gets the times of what is read.
+    pub fn timed(mut self, given: &Given, source: &Source) -> Result<Self, Failure> {
+        if let (Place::File(spool), true) = (&mut self.place, given.has(&KEEP_TIME)) {
+            let metadata = source.metadata().ok_or_else(|| given.usage(format!("--keep-time: {} is not a file, and has no times", source.name)))?;
+            spool.times = Some(Times::of(&metadata));
+        }
+        Ok(self)
     }
 
     /// A file, or standard output where it is `-` or none. It must not be the file that is read.
@@ -70,9 +82,10 @@ impl Output {
             Err(error) => return Err(unwritten(error)),
         };
         if old.is_some() && !force {
-            return Err(Failure::file(&name, "exists; --force overwrites it"));
+            return Err(Failure::file(&name, EXISTS));
         }
-        let spool = Spool::create(target, old.map(|old| old.permissions())).map_err(unwritten)?;
+        let access: Vec<Access> = source.metadata().iter().chain(&old).map(Access::of).collect();
+        let spool = Spool::create(target, force, &access).map_err(unwritten)?;
         Ok(Output { name, place: Place::File(spool) })
     }
 
@@ -87,7 +100,11 @@ impl Output {
             Place::Special(mut file) => file.write_all(bytes),
             Place::File(spool) => spool.finish(bytes),
         };
-        written.map_err(|error| Failure::file(&self.name, format!("cannot be written: {error}")))
+        written.map_err(|error| match error.kind() {
+            // it has come meanwhile
+            ErrorKind::AlreadyExists => Failure::file(&self.name, EXISTS),
+            _ => Failure::file(&self.name, format!("cannot be written: {error}")),
+        })
     }
 }
 

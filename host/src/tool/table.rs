@@ -63,6 +63,7 @@ pub static QUIET: Opt = flag("--quiet", Some('q'), "no report, warning or progre
 pub static JSON: Opt = flag("--json", None, "one JSON object a line; docs/JSON.md describes them");
 pub static OUTPUT: Opt = Opt { long: "--output", short: Some('o'), value: Some("FILE"), file: true, help: "the file to write; - is standard output" };
 pub static FORCE: Opt = flag("--force", Some('f'), "overwrite a file that exists");
+pub static KEEP_TIME: Opt = flag("--keep-time", None, "give the file the times of the one that is read");
 pub static LEAF: Opt = valued("--leaf", "M", "bytes of a block of the last level, 1 to 256");
 pub static ARITY: Opt = valued("--arity", "R", "children of a block, 2 to 16");
 pub static LEVELS: Opt = valued("--levels", "H", concat!("levels, 1 to 8; M x R^(H-1) is at most ", codebook::longest!()));
@@ -109,13 +110,13 @@ pub static COMMANDS: [Command; 30] = [
     Command {
         name: "build",
         words: &[any("BOOK")],
-        options: &[&OUTPUT, &FORCE, &LEAF, &ARITY, &LEVELS, &COUNT, &COLUMNS, &JSON],
+        options: &[&OUTPUT, &FORCE, &KEEP_TIME, &LEAF, &ARITY, &LEVELS, &COUNT, &COLUMNS, &JSON],
         summary: "build the trees of books",
         details: concat!(
             "A BOOK is any text of up to ",
             codebook::longest!(),
             " bytes. Its tree goes to a file with the book's name and the ending .tree, or to FILE; where FILE is a folder, into that one. The tree of standard input goes to standard output. \
-             An existing file is left alone unless --force is given, and is replaced whole or not at all.\n\
+             An existing file is left alone unless --force is given, and is replaced whole or not at all. The tree gets the permissions of its book, never wider ones.\n\
              Where no settings are given, a short list is tried (256/2/1, 64/4/3, 48/2/5, 32/4/4, 24/8/3 and 16/4/4 as leaf/arity/levels), the smallest tree is kept, and what each gave is printed. \
              The SHA-256 of the tree is printed, to be kept with it: a tree carries no checksum.\n\
              Warnings tell what a reader would miss: rows that are not code, space, cuts; a byte order mark; no row at all; a tree that is no smaller than its text.\n\
@@ -159,7 +160,7 @@ pub static COMMANDS: [Command; 30] = [
     Command {
         name: "picture",
         words: &TREE,
-        options: &[&OUTPUT, &FORCE],
+        options: &[&OUTPUT, &FORCE, &KEEP_TIME],
         summary: "draw a tree's levels as an SVG file",
         details: "Each level is a bar of its blocks in the text's order. Kept blocks are tall and dark; pointing blocks are low, in the colour of the place that they point to, which the strip at the top shows. Few pointing blocks have an arrow besides. Blocks narrower than a pixel are merged.",
         run: picture::picture,
@@ -250,7 +251,7 @@ pub static COMMANDS: [Command; 30] = [
     Command {
         name: "to-columns",
         words: &[one("WIDTH"), maybe("BOOK")],
-        options: &[&OUTPUT, &FORCE],
+        options: &[&OUTPUT, &FORCE, &KEEP_TIME],
         summary: "rearrange a book's rows of one width by columns",
         details: "WIDTH counts the byte that ends a row; auto finds it, where all rows have one. The byte in column b of row a goes to place b x rows + a, both counted from 0. Without -o the bytes go to standard output.",
         run: by_columns::to_columns,
@@ -258,7 +259,7 @@ pub static COMMANDS: [Command; 30] = [
     Command {
         name: "from-columns",
         words: &[one("WIDTH"), maybe("FILE")],
-        options: &[&OUTPUT, &FORCE],
+        options: &[&OUTPUT, &FORCE, &KEEP_TIME],
         summary: "rearrange a book by columns back to rows",
         details: "The inverse of to-columns for the same width, which a book by columns does not show. Without -o the bytes go to standard output.",
         run: by_columns::from_columns,
@@ -266,7 +267,7 @@ pub static COMMANDS: [Command; 30] = [
     Command {
         name: "guide make",
         words: &TREE,
-        options: &[&OUTPUT, &FORCE, &JSON],
+        options: &[&OUTPUT, &FORCE, &KEEP_TIME, &JSON],
         summary: "make the guide of a tree",
         details: "A guide has the number of the level 0 block that holds the 1st, 65th, 129th occurrence and so on of each byte that the tree counts. find and row with --guide start there and not at the first block. Without -o the guide goes to standard output.",
         run: guide::make,
