@@ -147,3 +147,67 @@ fn a_file_that_comes_meanwhile() {
         }
     }
 }
+
+// files that are read and written at once
+
+/// Standard output goes to a file that is read, or written: nothing is added to it.
+#[test]
+fn standard_output_is_no_file_of_the_call() {
+    let folder = Folder::with_tree("appended");
+    fs::hard_link(folder.0.join("small.tree"), folder.0.join("hard.tree")).expect("a link");
+    folder.run("guide make small.tree -o small.guide").succeeds();
+    let (tree, book, guide) = (folder.read("small.tree"), folder.read("small.txt"), folder.read("small.guide"));
+    for (line, name) in [
+        ("codebook text small.tree >> small.tree", "small.tree"),
+        ("codebook text hard.tree >> small.tree", "hard.tree"),
+        ("codebook text --json small.tree >> small.tree", "small.tree"),
+        ("codebook text < small.tree >> small.tree", "standard input"),
+        ("codebook text --json < small.tree >> small.tree", "standard input"),
+        ("codebook row 1 small.tree --json >> ./small.tree", "small.tree"),
+        ("codebook row none small.tree --json >> small.tree", "small.tree"),
+        ("codebook check small.txt small.tree >> small.tree", "small.tree"),
+        ("codebook verify small.txt small.tree >> small.txt", "small.txt"),
+        ("codebook row 1 small.tree --guide=small.guide >> small.guide", "small.guide"),
+        ("codebook build small.txt -o - >> small.txt", "small.txt"),
+        ("codebook build small.txt -f -o small.tree >> small.tree", "small.tree"),
+        ("codebook build -o - < small.txt >> small.txt", "standard input"),
+    ] {
+        folder.shell(line).status(2).says(&format!("codebook: {name}: standard output goes to this file too; it is left as it is\n"));
+        assert!(
+            (folder.read("small.tree"), folder.read("small.txt"), folder.read("small.guide")) == (tree.clone(), book.clone(), guide.clone()),
+            "{line}"
+        );
+    }
+    // the shell has emptied the book before the tool starts: no tree of nothing is written to it
+    folder.shell("codebook build -o - small.txt > small.txt").status(2);
+    assert_eq!(folder.read("small.txt"), b"");
+}
+
+/// What is read later is not written before.
+#[test]
+fn no_tree_is_written_to_another_book() {
+    let folder = Folder::new("both");
+    folder.write("small.tree", b"A 1\n");
+    let says = "codebook: small.tree is read, and the tree of small.txt would be written to it\n";
+    let done = folder.run("build small.txt ./small.tree --force");
+    assert!(done.status(2).errors().starts_with(&says.replacen("small.tree", "./small.tree", 1)), "{}", done.errors());
+    assert_eq!(folder.read("small.tree"), b"A 1\n");
+}
+
+/// Two books would go to standard output, or one input be read twice.
+#[test]
+fn standard_input_twice() {
+    let folder = Folder::with_tree("twice");
+    folder.run("guide make small.tree -o small.guide").succeeds();
+    for words in ["build - -", "check - small.tree -", "compare - -", "verify - -", "shelf - -", "guide check - -", "row 1 - --guide -"] {
+        let done = folder.pipe(words, &folder.read("small.tree"));
+        let says = "codebook: - is standard input, which can be read once only\nusage: codebook ";
+        assert!(done.status(2).errors().starts_with(says), "{words}: {}", done.errors());
+        done.prints("");
+    }
+    folder.run("build small.txt small.tree -o -").status(2).prints("");
+    // a pattern may be -
+    folder.write("dash.txt", b"A-B 1\n");
+    folder.run("build dash.txt -q").succeeds();
+    folder.pipe("places -- - -", &folder.read("dash.tree")).succeeds().prints("1\n");
+}

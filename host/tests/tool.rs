@@ -515,7 +515,7 @@ fn calls_that_are_not_right() {
     usage("row 20..5 x", &format!("20..5: row 20 stands after row 5\n{row}"));
     let byte = "usage: codebook byte PLACE [TREE] [--json] [--unchecked]";
     usage("byte -14 x", &format!("PLACE is a number from 0 to 4294967295; -14 is negative\n{byte}"));
-    usage("byte 1 a.tree b.tree", &format!("'b.tree' is one word too many\n{byte}"));
+    usage("byte 1 a.tree b.tree", &format!("unexpected argument 'b.tree'\n{byte}"));
     usage("check --all", "there is no option '--all'\nusage: codebook check [TREE]... [--sha256 HEX] [--json]");
     usage("check --json=1", "--json has no value\nusage: codebook check [TREE]... [--sha256 HEX] [--json]");
     usage("text -x", "there is no option '-x'\nusage: codebook text [TREE] [--unchecked]");
@@ -574,7 +574,7 @@ fn orders_that_are_refused() {
     folder.run("compare small.tree damaged.tree --unchecked").status(1).says(&format!("codebook: small.tree and damaged.tree: {path}\n"));
     let usage = "usage: codebook compare ONE OTHER [--json] [--unchecked]";
     folder.run("compare small.tree").status(2).says(&format!("codebook: OTHER is missing\n{usage}\n"));
-    folder.run("compare a b c").status(2).says(&format!("codebook: 'c' is one word too many\n{usage}\n"));
+    folder.run("compare a b c").status(2).says(&format!("codebook: unexpected argument 'c'\n{usage}\n"));
     folder.run("shelf").status(2).says("codebook: TREE is missing\nusage: codebook shelf TREE... [--json]\n");
     folder.run("shelf --unchecked small.tree").status(2).says("codebook: there is no option '--unchecked'\nusage: codebook shelf TREE... [--json]\n");
     folder.run("shelf none.tree").status(2).says("codebook: none.tree: cannot be read: No such file or directory (os error 2)\n");
@@ -639,8 +639,8 @@ fn licences() {
         ("close 20240101", "licence is followed by open, left or renew, not 'close'; see codebook help licence".to_owned()),
         ("open 20240101", format!("LAST is missing\n{open}")),
         ("renew", format!("DAY is missing\n{renew}")),
-        ("renew 20240101 20240101", format!("'20240101' is one word too many\n{renew}")),
-        ("left 20240101 20240101 x", format!("'x' is one word too many\n{left}")),
+        ("renew 20240101 20240101", format!("unexpected argument '20240101'\n{renew}")),
+        ("left 20240101 20240101 x", format!("unexpected argument 'x'\n{left}")),
         ("left 20240101 --unchecked", format!("there is no option '--unchecked'\n{left}")),
     ] {
         folder.run(&format!("licence {words}")).status(2).prints("").says(&format!("codebook: {says}\n"));

@@ -1,7 +1,7 @@
 //! `build`: the trees of books.
 
 use crate::given::Given;
-use crate::input::{Input, Source, TEXT};
+use crate::input::{Identity, Input, Source, TEXT};
 use crate::json::Object;
 use crate::output::Output;
 use crate::say::{self, grouped};
@@ -10,6 +10,7 @@ use crate::trials::{self, Chosen, Trial};
 use crate::{book, by_columns, sha256, values, Failure};
 use codebook::{Refusal, Settings};
 use std::ffi::OsString;
+use std::fs;
 use std::path::{Path, PathBuf};
 
 /// What was built, and what there is to say of it.
@@ -45,6 +46,10 @@ fn apart(given: &Given) -> Result<(), Failure> {
     let mut targets: Vec<(PathBuf, &OsString)> = Vec::new();
     for book in &given.words {
         let Some(target) = target(given, Some(Path::new(book)))? else { continue };
+        if let Some(read) = given.words.iter().find(|read| *read != book && same_file(Path::new(read), &target)) {
+            let (read, book) = (read.to_string_lossy(), book.to_string_lossy());
+            return Err(given.usage(format!("{read} is read, and the tree of {book} would be written to it")));
+        }
         let target = spelled_out(&target);
         if let Some((_, other)) = targets.iter().find(|(path, _)| *path == target) {
             let (one, other) = (other.to_string_lossy(), book.to_string_lossy());
@@ -53,6 +58,12 @@ fn apart(given: &Given) -> Result<(), Failure> {
         targets.push((target, book));
     }
     Ok(())
+}
+
+/// Do both names lead to one ordinary file?
+fn same_file(one: &Path, other: &Path) -> bool {
+    let identity = |path: &Path| fs::metadata(path).ok().and_then(|file| Identity::of(&file));
+    identity(one).is_some_and(|one| Some(one) == identity(other))
 }
 
 /// One spelling for one place.

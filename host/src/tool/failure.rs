@@ -15,17 +15,24 @@ pub struct Failure {
     name: String,
     /// Empty where all has been said.
     words: String,
+    /// Standard output takes an object that says it.
+    object: bool,
 }
 
 impl Failure {
     /// The call, or a file that it names, is not right.
     pub fn usage(words: impl Into<String>) -> Self {
-        Failure { status: 2, number: None, name: String::new(), words: words.into() }
+        Failure { status: 2, number: None, name: String::new(), words: words.into(), object: true }
     }
 
     /// A file that cannot be read or written, or must not be.
     pub fn file(name: &str, words: impl Into<String>) -> Self {
         Failure { name: name.to_owned(), ..Failure::usage(words) }
+    }
+
+    /// Standard output is a file that the call reads or writes: not even an object may be added to it.
+    pub fn output_used(name: &str) -> Self {
+        Failure { object: false, ..Failure::file(name, "standard output goes to this file too; it is left as it is") }
     }
 
     /// The tool refuses what the library was not asked.
@@ -54,7 +61,7 @@ impl Failure {
         }
         let name = if self.name.is_empty() { String::new() } else { format!("{}: ", self.name) };
         say::tell(&format!("codebook: {name}{}\n", self.words));
-        if json {
+        if json && self.object {
             let mut object = Object::new().text("failed", &self.name).number("status", self.status);
             if let Some(number) = self.number {
                 object = object.number("refused", number);

@@ -1,6 +1,6 @@
 //! The words of a call, read by the table.
 
-use crate::table::{self, Command, Due, Opt};
+use crate::table::{self, Command, Due, Opt, Word};
 use crate::values;
 use crate::Failure;
 use std::ffi::{OsStr, OsString};
@@ -95,9 +95,17 @@ impl Given {
         }
         let endless = due.last().is_some_and(|word| matches!(word.due, Due::AnyTimes | Due::AtLeastOnce));
         match self.words.get(due.len()) {
-            Some(more) if !endless => Err(self.usage(format!("'{}' is one word too many", more.to_string_lossy()))),
+            Some(more) if !endless => Err(self.usage(format!("unexpected argument '{}'", more.to_string_lossy()))),
+            _ if self.standard_inputs() > 1 => Err(self.usage("- is standard input, which can be read once only")),
             _ => Ok(()),
         }
+    }
+
+    /// How many of the files are `-`.
+    fn standard_inputs(&self) -> usize {
+        let files =
+            self.words.iter().enumerate().filter(|(at, _)| self.command.words.get(*at).or(self.command.words.last()).is_some_and(Word::is_file));
+        files.map(|(_, word)| word.as_os_str()).chain(self.value(&table::GUIDE)).filter(|&word| word == "-").count()
     }
 
     pub fn has(&self, option: &Opt) -> bool {

@@ -3,9 +3,11 @@
 use crate::say::grouped;
 use crate::Failure;
 use codebook::{Refusal, MAX_TEXT, MAX_TREE};
-use std::fs::{File, Metadata};
+use std::ffi::{OsStr, OsString};
+use std::fs::{self, File, Metadata};
 use std::io::{self, IsTerminal, Read};
 use std::os::fd::AsFd;
+use std::os::unix::ffi::OsStrExt;
 use std::os::unix::fs::MetadataExt;
 use std::path::Path;
 
@@ -45,7 +47,7 @@ pub struct Source {
 }
 
 /// A file on its device: what two names of it have in common.
-#[derive(PartialEq, Eq)]
+#[derive(Clone, Copy, PartialEq, Eq)]
 pub struct Identity(u64, u64);
 
 impl Identity {
@@ -53,6 +55,22 @@ impl Identity {
     pub fn of(metadata: &Metadata) -> Option<Self> {
         metadata.is_file().then(|| Identity(metadata.dev(), metadata.ino()))
     }
+}
+
+/// The file that standard output goes to, if it is an ordinary one.
+fn standard_output() -> Option<Identity> {
+    let file = io::stdout().as_fd().try_clone_to_owned().map(File::from).ok()?;
+    Identity::of(&file.metadata().ok()?)
+}
+
+/// A word of the call that names the file that standard output goes to, `/dev/stdout` excepted: what is printed would spoil that file.
+pub fn output_used<'a>(words: &'a [OsString]) -> Option<Failure> {
+    let output = standard_output()?;
+    let is_output = |path: &Path| path != Path::new("/dev/stdout") && fs::metadata(path).is_ok_and(|file| Identity::of(&file) == Some(output));
+    // --guide=FILE names a file too
+    let value = |word: &'a OsString| word.as_bytes().splitn(2, |&byte| byte == b'=').last().map_or(word.as_os_str(), OsStr::from_bytes);
+    let used = words.iter().flat_map(|word| [word.as_os_str(), value(word)]).find(|word| is_output(Path::new(word)))?;
+    Some(Failure::output_used(&used.to_string_lossy()))
 }
 
 impl Source {
@@ -73,10 +91,12 @@ impl Source {
             return Err(Failure::usage("no file is given, and nothing is piped in; - reads from the terminal"));
         }
         let name = "standard input".to_owned();
-        match stdin.as_fd().try_clone_to_owned() {
-            Ok(file) => Ok(Source { name, file: file.into() }),
-            Err(error) => Err(unread(&name, &error)),
+        let file = stdin.as_fd().try_clone_to_owned().map_err(|error| unread(&name, &error))?;
+        let source = Source { name, file: file.into() };
+        if source.identity().is_some_and(|identity| Some(identity) == standard_output()) {
+            return Err(Failure::output_used(&source.name));
         }
+        Ok(source)
     }
 
     /// None where it is not an ordinary file.

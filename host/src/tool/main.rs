@@ -31,10 +31,15 @@ mod values;
 
 use failure::Failure;
 use given::Given;
+use std::ffi::OsString;
 use std::process::ExitCode;
 
 fn main() -> ExitCode {
-    let given = match Given::read(std::env::args_os().skip(1).collect()) {
+    let words: Vec<OsString> = std::env::args_os().skip(1).collect();
+    if let Some(failure) = input::output_used(&words) {
+        return stop(&failure, false);
+    }
+    let given = match Given::read(words) {
         Ok(given) => given,
         Err(failure) => return stop(&failure, false),
     };

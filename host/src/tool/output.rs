@@ -8,7 +8,6 @@ use crate::table::{FORCE, KEEP_TIME, OUTPUT};
 use crate::{say, Failure};
 use std::fs::{self, File, Metadata, OpenOptions};
 use std::io::{self, ErrorKind, IsTerminal, Write};
-use std::os::fd::AsFd;
 use std::path::Path;
 
 const EXISTS: &str = "exists; --force overwrites it";
@@ -45,21 +44,15 @@ impl Output {
     pub fn create(path: Option<&Path>, force: bool, source: &Source) -> Result<Self, Failure> {
         match path {
             Some(path) if path != Path::new("-") && path != Path::new("/dev/stdout") => Output::file(path, force, source),
-            _ => Output::standard(path.is_some(), source),
+            _ => Output::standard(path.is_some()),
         }
     }
 
-    fn standard(told: bool, source: &Source) -> Result<Self, Failure> {
-        let stdout = io::stdout();
-        if !told && stdout.is_terminal() {
+    fn standard(told: bool) -> Result<Self, Failure> {
+        if !told && io::stdout().is_terminal() {
             return Err(Failure::usage("this would go to the terminal; give -o FILE, or -o - if that is meant"));
         }
-        let name = "standard output".to_owned();
-        let metadata = stdout.as_fd().try_clone_to_owned().and_then(|file| File::from(file).metadata());
-        if let Ok(metadata) = metadata {
-            apart(&name, &metadata, source)?;
-        }
-        Ok(Output { name, place: Place::Standard })
+        Ok(Output { name: "standard output".to_owned(), place: Place::Standard })
     }
 
     fn file(path: &Path, force: bool, source: &Source) -> Result<Self, Failure> {

@@ -362,6 +362,13 @@ pub static COMMANDS: [Command; 30] = [
     },
 ];
 
+impl Word {
+    /// It names a file that is read; `-` is standard input.
+    pub fn is_file(&self) -> bool {
+        matches!(self.name, "BOOK" | "TREE" | "BOOK TREE" | "FILE" | "GUIDE" | "ONE" | "OTHER")
+    }
+}
+
 impl Command {
     pub fn named(name: &str) -> Option<&'static Command> {
         COMMANDS.iter().find(|command| command.name == name)
