@@ -1,7 +1,7 @@
 //! A guide to the level 0 blocks, kept beside a tree: finds and rows with it start near the block that they look for.
 
 use crate::refusal::answer;
-use crate::{calls, Refusal, Tree, MAX_TEXT};
+use crate::{calls, copied, Refusal, Tree, MAX_TEXT};
 
 /// A place, the blocks on its path, and the steps on level 0 that led to it.
 #[derive(Clone, Copy, Debug, PartialEq, Eq)]
@@ -40,9 +40,6 @@ impl Tree<'_> {
 
     /// Row `q`, from 1, as `row` has it. Safe with any bytes as a guide; one that is not the tree's can lead to a wrong row.
     pub fn row_guided(&self, guide: &[u8], q: u32) -> Result<Vec<u8>, Refusal> {
-        let mut buffer = vec![0; MAX_TEXT.min(self.text_length() as usize)];
-        let (number, length) = calls::row_guided(self.bytes, guide, q, &mut buffer);
-        buffer.truncate(length as usize);
-        answer(number, buffer)
+        copied(|buffer| calls::row_guided(self.bytes, guide, q, buffer))
     }
 }
