@@ -269,7 +269,7 @@ fn a_tree_is_held_against_its_book() {
     folder.write("short.txt", &folder.read("small.txt")[..2000]);
     let says = "codebook: small.tree: not a tree of short.txt: byte 2,000, in row 143, differs first: the book ends there, the tree's text has 2,800 bytes\n";
     folder.run("verify short.txt small.tree").status(1).says(says);
-    folder.run("build small.txt -o columns.tree --columns 14").succeeds();
+    folder.run("build small.txt -o columns.tree --columns 14 --allow-larger").succeeds();
     folder.run("verify small.txt columns.tree").status(1);
     folder.run("verify small.txt columns.tree --columns auto").succeeds().prints("columns.tree: the block tree of small.txt, 2,800 bytes\n");
     folder.run("verify small.txt").status(2);

@@ -212,10 +212,10 @@ chosen: leaf 256, arity 2, levels 1, since its tree is the smallest of these 6
 columns.tree: 8,840 bytes, 315.7 % of the text; leaf 256, arity 2, levels 1; bytes counted: 10
 ";
     let compared = "by columns 8,840 bytes, by rows 5,884 (leaf 24, arity 8, levels 3): columns do not make it smaller\n";
-    let built = folder.run("build small.txt -o columns.tree --columns auto");
+    let built = folder.run("build small.txt -o columns.tree --columns auto --allow-larger");
     assert_eq!(before_digest(built.succeeds()), report);
     assert!(built.printed().ends_with(compared));
-    folder.run("build small.txt -o given.tree --columns 14").succeeds();
+    folder.run("build small.txt -o given.tree --columns 14 --allow-larger").succeeds();
     assert_eq!(folder.read("columns.tree"), folder.read("given.tree"));
     let text = String::from_utf8(folder.read("small.txt")).expect("a text");
     for (at, row) in text.lines().enumerate().step_by(17) {
@@ -229,9 +229,9 @@ columns.tree: 8,840 bytes, 315.7 % of the text; leaf 256, arity 2, levels 1; byt
     folder.pipe("to-columns 4", b"AB1\nAB2\nAC3\n").succeeds().prints("AAABBC123\n\n\n").says("");
     folder.pipe("to-columns 3", b"").succeeds().prints("");
     // a row's end is left out as row has it
-    folder.write("ends.txt", b"AB\r\nA\r\r\nABC\nABCD");
+    folder.write("ends.txt", b"AB\r\nA\r\r\nABC\n");
     folder.run("build ends.txt --columns 4 --leaf 4 --arity 2 --levels 1").succeeds();
-    folder.run("row .. --columns 4 ends.tree").succeeds().prints("AB\nA\r\nABC\nABCD\n");
+    folder.run("row .. --columns 4 ends.tree").succeeds().prints("AB\nA\r\nABC\n");
 }
 
 /// Rows that all differ in a number, in columns that repeat.
@@ -251,7 +251,7 @@ fn columns_that_make_it_smaller() {
 #[test]
 fn by_columns_that_is_refused() {
     let folder = Folder::new("refused-columns");
-    folder.run("build small.txt -o columns.tree --columns 14 --leaf 16 --arity 4 --levels 3").succeeds();
+    folder.run("build small.txt -o columns.tree --columns 14 --leaf 16 --arity 4 --levels 3 --allow-larger").succeeds();
     let width = "refused (20): the width must be above 0 and divide the text's length";
     for given in [0, 13, 2801] {
         let says = format!("codebook: small.txt: {width}; given: {given}, of 2,800 bytes\n");
@@ -269,10 +269,10 @@ fn by_columns_that_is_refused() {
             .says(&format!("codebook: columns.tree: row {row} --columns 14: {past}\n"));
     }
     folder.write("uneven.txt", b"AB\nABC\n");
-    let uneven = "codebook: uneven.txt: its rows do not all have one width; give it\n";
-    folder.run("to-columns auto uneven.txt").status(2).prints("").says(uneven);
-    folder.run("build uneven.txt -o no.tree --columns auto").status(2).prints("").says(uneven);
-    let usage = "usage: codebook to-columns WIDTH [BOOK] [-o FILE] [-f]";
+    let uneven = "codebook: uneven.txt: the rows do not all have one width: with its end row 1 has 3 bytes, row 2 has 4\n";
+    folder.run("to-columns auto uneven.txt").status(1).prints("").says(uneven);
+    folder.run("build uneven.txt -o no.tree --columns auto").status(1).prints("").says(uneven);
+    let usage = "usage: codebook to-columns WIDTH [BOOK] [-o FILE] [-f] [--keep-time]";
     folder.run("to-columns").status(2).says(&format!("codebook: WIDTH is missing\n{usage}\n"));
     folder
         .run("to-columns wide small.txt")
@@ -522,7 +522,7 @@ fn calls_that_are_not_right() {
     let count = "usage: codebook count BYTE LENGTH [TREE] [--json] [--unchecked]";
     usage("count 256 4 x", &format!("a byte is a number from 0 to 255 or one character that is no digit, not '256'\n{count}"));
     usage("count -1 4 x", &format!("a byte is a number from 0 to 255 or one character that is no digit; -1 is negative\n{count}"));
-    let build = "usage: codebook build [BOOK]... [-o FILE] [-f] [--leaf M] [--arity R] [--levels H] [--count BYTES] [--columns W] [--json]";
+    let build = "usage: codebook build [BOOK]... [-o FILE] [-f] [--keep-time] [--leaf M] [--arity R] [--levels H] [--count BYTES] [--columns W] [--allow-larger] [--json]";
     usage("build small.txt -o", &format!("-o needs a value\n{build}"));
     usage("build --leaf 64", &format!("--leaf, --arity and --levels go together: give all three, or none to have a short list tried\n{build}"));
     usage("build -o .", &format!("-o is a file where the book comes from standard input\n{build}"));

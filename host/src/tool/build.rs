@@ -5,7 +5,7 @@ use crate::input::{Identity, Input, Source, TEXT};
 use crate::json::Object;
 use crate::output::Output;
 use crate::say::{self, grouped};
-use crate::table::{ARITY, COLUMNS, COUNT, FORCE, LEAF, LEVELS, OUTPUT};
+use crate::table::{ALLOW_LARGER, ARITY, COLUMNS, COUNT, FORCE, LEAF, LEVELS, OUTPUT};
 use crate::trials::{self, Chosen, Trial};
 use crate::{book, by_columns, sha256, values, Failure};
 use codebook::{Refusal, Settings};
@@ -34,7 +34,13 @@ pub fn build(given: &Given) -> Result<(), Failure> {
             None => plain(&text, settings.as_ref(), &counted, given.quiet())?,
             Some(width) => by_columns::build(&text, settings.as_ref(), &counted, given.reading(values::width("--columns", width))?, given.quiet())?,
         };
-        write(given, &text, &built, output)
+        match &built.besides {
+            Some(compared) if compared.is_larger(built.chosen.tree.len()) && !given.has(&ALLOW_LARGER) => {
+                let words = format!("{}; it is not written; --allow-larger writes it", compared.words(built.chosen.tree.len()).trim_end());
+                Err(Failure::refused(&text.name, words))
+            }
+            _ => write(given, &text, &built, output),
+        }
     })
 }
 

@@ -6,7 +6,7 @@ use crate::input::{self, GUIDE, TREE};
 use crate::json::Object;
 use crate::say::{self, several};
 use crate::table::{self, AFTER, FROM, ROW_COLUMNS, UNCHECKED};
-use crate::{reasons, values, Failure};
+use crate::{by_columns, reasons, values, Failure};
 use codebook::{text_rows, Range, Reached, Refusal, Tree};
 
 /// A question.
@@ -83,7 +83,11 @@ pub fn ask(given: &Given) -> Result<(), Failure> {
     }
     let guide = guide.as_ref().map(|guide| guide.bytes.as_slice());
     let mut page = Page { json: given.json(), bytes: Vec::new() };
-    question.answer(tree, guide, &mut page).map_err(|refusal| reasons::failure(&input.name, refusal, &question, tree))?;
+    let failure = |refusal: Refusal| reasons::failure(&input.name, refusal, &question, tree);
+    if let Some(words) = question.mismatch(tree).map_err(failure)? {
+        return Err(reasons::refused(&input.name, &question, &words));
+    }
+    question.answer(tree, guide, &mut page).map_err(failure)?;
     if page.bytes.is_empty() && matches!(question, Question::Match(..) | Question::Next(..)) && !given.json() {
         return say::print(b"no row matches\n");
     }
@@ -121,6 +125,14 @@ impl Question {
             (Some(_), Some(_)) => Err(given.usage("--from and --after do not go together")),
             (_, Some(mark)) => Ok(Question::Next(ranges, mark)),
             (from, None) => Ok(Question::Match(ranges, from.unwrap_or(1).saturating_sub(1))),
+        }
+    }
+
+    /// Why the tree is not one that the question is meant for.
+    fn mismatch(&self, tree: Tree) -> Result<Option<String>, Refusal> {
+        match *self {
+            Question::ColumnRows(_, _, width) => by_columns::mismatch(tree, width),
+            _ => Ok(None),
         }
     }
 

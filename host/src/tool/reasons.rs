@@ -16,6 +16,12 @@ pub fn failure(name: &str, refusal: Refusal, question: &Question, tree: Tree) ->
     Failure::library(name, refusal, format!("{asked}{why}"))
 }
 
+/// What was asked, and why the tool does not put it to the tree.
+pub fn refused(name: &str, question: &Question, words: &str) -> Failure {
+    let asked = asked(question).map_or(String::new(), |words| format!("{words}: "));
+    Failure::refused(name, format!("{asked}{words}"))
+}
+
 /// The question in words.
 fn asked(question: &Question) -> Option<String> {
     let rows = |first: &u32, last: &Option<u32>| match last {

@@ -74,8 +74,8 @@ pub static COUNT: Opt = valued(
 );
 pub static COLUMNS: Opt =
     valued("--columns", "W", "the rows of W bytes, end byte included, stand by columns; auto finds the width of rows that all have one");
-pub static ROW_COLUMNS: Opt =
-    valued("--columns", "W", "the tree is of a book by columns, of rows of W bytes, end byte included; that is yours to know");
+pub static ALLOW_LARGER: Opt = flag("--allow-larger", None, "write the tree by columns though the one by rows is smaller");
+pub static ROW_COLUMNS: Opt = valued("--columns", "W", "the tree is of a book by columns, of rows of W bytes, end byte included");
 pub static SHA256: Opt = valued("--sha256", "HEX", "the digest that the tree must have");
 pub static GUIDE: Opt = Opt {
     long: "--guide",
@@ -110,7 +110,7 @@ pub static COMMANDS: [Command; 30] = [
     Command {
         name: "build",
         words: &[any("BOOK")],
-        options: &[&OUTPUT, &FORCE, &KEEP_TIME, &LEAF, &ARITY, &LEVELS, &COUNT, &COLUMNS, &JSON],
+        options: &[&OUTPUT, &FORCE, &KEEP_TIME, &LEAF, &ARITY, &LEVELS, &COUNT, &COLUMNS, &ALLOW_LARGER, &JSON],
         summary: "build the trees of books",
         details: concat!(
             "A BOOK is any text of up to ",
@@ -120,7 +120,7 @@ pub static COMMANDS: [Command; 30] = [
              Where no settings are given, a short list is tried (256/2/1, 64/4/3, 48/2/5, 32/4/4, 24/8/3 and 16/4/4 as leaf/arity/levels), the smallest tree is kept, and what each gave is printed. \
              The SHA-256 of the tree is printed, to be kept with it: a tree carries no checksum.\n\
              Warnings tell what a reader would miss: rows that are not code, space, cuts; a byte order mark; no row at all; a tree that is no smaller than its text.\n\
-             With --columns the tree is that of the book by columns, and it is said whether that makes it smaller. Such a tree is read by row --columns; it does not say itself that its text is rearranged."
+             With --columns the tree is that of the book by columns, whose rows all have W bytes, byte 10 at the end and nowhere else. It is not written where the tree by rows is smaller, unless --allow-larger is given. Such a tree is read by row --columns; it does not say itself that its text is rearranged."
         ),
         run: build::build,
     },
@@ -171,7 +171,7 @@ pub static COMMANDS: [Command; 30] = [
         options: &[&GUIDE, &ROW_COLUMNS, &JSON, &UNCHECKED],
         summary: "print a row of the book, or several",
         details: "ROWS is a number from 1 to the number of rows, or a range such as 5..20, both included, 5.. or ..20. A row ends in byte 10, or in bytes 13 and 10; the tree must count byte 10 (it does unless build was told otherwise). \
-                  It is printed with a plain line end, without the 13. If the book's last byte is another one, what stands after the last byte 10 is a row too.",
+                  It is printed with a plain line end, without the 13. If the book's last byte is another one, what follows the last byte 10 is a row too. With --columns a width at which the rows do not all end in byte 10 is refused.",
         run: questions::ask,
     },
     Command {
@@ -253,7 +253,7 @@ pub static COMMANDS: [Command; 30] = [
         words: &[one("WIDTH"), maybe("BOOK")],
         options: &[&OUTPUT, &FORCE, &KEEP_TIME],
         summary: "rearrange a book's rows of one width by columns",
-        details: "WIDTH counts the byte that ends a row; auto finds it, where all rows have one. The byte in column b of row a goes to place b x rows + a, both counted from 0. Without -o the bytes go to standard output.",
+        details: "WIDTH counts the byte that ends a row; auto finds it. All rows must have this width. The byte in column b of row a goes to place b x rows + a, both counted from 0. Without -o the bytes go to standard output.",
         run: by_columns::to_columns,
     },
     Command {
@@ -261,7 +261,7 @@ pub static COMMANDS: [Command; 30] = [
         words: &[one("WIDTH"), maybe("FILE")],
         options: &[&OUTPUT, &FORCE, &KEEP_TIME],
         summary: "rearrange a book by columns back to rows",
-        details: "The inverse of to-columns for the same width, which a book by columns does not show. Without -o the bytes go to standard output.",
+        details: "The inverse of to-columns for the same width; a width at which the rows do not all end in byte 10 is refused. Without -o the bytes go to standard output.",
         run: by_columns::from_columns,
     },
     Command {
