@@ -122,8 +122,8 @@ fn places() {
     folder.run("places CH0502 small.tree").succeeds().prints("14\n574\n1134\n1694\n2254\n").says("");
     folder.run("places 4\\nHON1003 small.tree").succeeds().prints("418\n978\n1538\n2098\n2658\n");
     folder.run("places \\x43H0502\\x20 small.tree --unchecked").succeeds().prints("14\n574\n1134\n1694\n2254\n");
-    folder.run("places CH9 small.tree").succeeds().prints("").says("");
-    folder.pipe("places -- -", &folder.read("small.tree")).succeeds().prints("");
+    folder.run("places CH9 small.tree").status(1).prints("").says("codebook: small.tree: 'CH9' does not occur\n");
+    folder.pipe("places -- -", &folder.read("small.tree")).status(1).prints("").says("codebook: standard input: '-' does not occur\n");
     // more places than the first table has words
     folder.write("a.txt", &[b'A'; 5000]);
     folder.run("build a.txt -o a.tree --leaf 64 --arity 2 --levels 6").succeeds();
@@ -136,7 +136,7 @@ fn places_that_are_refused() {
     let folder = Folder::with_tree("refused-places");
     let bounds = "small.tree: places: refused (16): a pattern must have 1 to 256 bytes; this one has 257";
     folder.run(&format!("places {} small.tree", "C".repeat(257))).status(1).prints("").says(&format!("codebook: {bounds}\n"));
-    folder.run(&format!("places {} small.tree", "C".repeat(256))).succeeds().prints("");
+    folder.run(&format!("places {} small.tree", "C".repeat(256))).status(1).prints("");
     let mut tree = folder.read("small.tree");
     tree[104] = 2;
     folder.write("kind.tree", &tree);
@@ -160,10 +160,10 @@ fn matches() {
     folder.run("worn 52161 52165 small.tree --from 121").succeeds().prints(last);
     folder.run("worn 52161 52165 small.tree --after 121").succeeds().prints("row 159: HON1011 52161\n");
     folder.run("match 5216[1-5] small.tree --after 159").succeeds().prints("row 160: HON1012 52162\n");
-    folder.run("worn 52161 52165 small.tree --after 200").succeeds().prints("no row matches\n");
+    folder.run("worn 52161 52165 small.tree --after 200").status(1).prints("").says("codebook: small.tree: no row matches\n");
     folder.run("match ????? small.tree --from 200 --unchecked").succeeds().prints("row 200: HON1012 52162\n");
     for none in ["9", "???", "44422[6-9]", "????? --from 201", "????? --from 4294967295"] {
-        folder.run(&format!("match {none} small.tree")).succeeds().prints("no row matches\n");
+        folder.run(&format!("match {none} small.tree")).status(1).prints("").says("codebook: small.tree: no row matches\n");
     }
     // the last row has no end byte, and a byte 13 at its end is no cut
     folder.write("open.txt", b"A 12\r\nB 12\nC 12\r");
@@ -446,8 +446,8 @@ fn book_without_rows() {
     folder.run("list empty.tree").succeeds().prints("0 0 0 0\n1 0 0 0\n");
     folder.run("text empty.tree").succeeds().prints("");
     folder.run("count 10 0 empty.tree").succeeds().prints("0 (0 blocks entered)\n");
-    folder.run("match 4 empty.tree").succeeds().prints("no row matches\n");
-    folder.run("places A empty.tree").succeeds().prints("");
+    folder.run("match 4 empty.tree").status(1).prints("").says("codebook: empty.tree: no row matches\n");
+    folder.run("places A empty.tree").status(1).prints("").says("codebook: empty.tree: 'A' does not occur\n");
     folder.run("stats empty.tree").succeeds().prints(
         "empty.tree: 100 bytes, an empty text\ntext        0 bytes\nlayout      2\nsettings    leaf 2, arity 2, levels 2\n\
          counted     10 '\\n': 0 times\nrows        0\nthe tree's bytes\n  header             100  100.0 %\n  records              0    0.0 %\n\
@@ -617,8 +617,9 @@ fn licences() {
     prints("open 20240101 20241231 20240101", "open, 365 days left");
     prints("open 20240101 20241231 20241230", "open, 1 day left");
     prints("open 20240101 20241231 20241231", "open, 0 days left");
-    prints("open 20240101 20241231 20250101", "closed, 1 day past");
-    prints("open 20240101 20241231 20231231", "closed: it opens on 20240101");
+    for (today, line) in [("20250101", "closed, 1 day past\n"), ("20231231", "closed: it opens on 20240101\n")] {
+        folder.run(&format!("licence open 20240101 20241231 {today}")).status(1).prints(line).says("");
+    }
     prints("left 20240301 20240228", "2");
     prints("left 20191231 20300101", "-3654");
     prints("left 20240229 20240229", "0");

@@ -43,13 +43,16 @@ fn books_of_another_width() {
         ("AB 1\nAB 2\nAB 34", 5, "these are not rows of 5 bytes: row 3 does not end in byte 10"),
         ("AB 1", 2, "these are not rows of 2 bytes: row 1 does not end in byte 10"),
     ] {
-        let text = if text.len() % width == 0 { text.to_owned() } else { format!("{text}\n") };
-        folder.write("book.txt", &text.as_bytes()[..text.len() / width * width]);
+        folder.write("book.txt", text.as_bytes());
         for words in [format!("to-columns {width} book.txt"), format!("build book.txt -o no.tree --columns {width}")] {
             folder.run(&words).status(1).prints("").says(&format!("codebook: book.txt: {why}\n"));
         }
     }
-    for (text, why) in [("AB\nAB", "the rows do not all have one width: with its end row 1 has 3 bytes, row 2 has 2"), ("A", "the last row does not end in byte 10"), ("", "the book has no rows, and so no width")] {
+    for (text, why) in [
+        ("AB\nAB", "the rows do not all have one width: with its end row 1 has 3 bytes, row 2 has 2"),
+        ("A", "the last row does not end in byte 10"),
+        ("", "the book has no rows, and so no width"),
+    ] {
         folder.write("book.txt", text.as_bytes());
         folder.run("build book.txt -o no.tree --columns auto").status(1).prints("").says(&format!("codebook: book.txt: {why}\n"));
     }

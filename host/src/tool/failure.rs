@@ -7,7 +7,7 @@ use codebook::Refusal;
 /// What is said, and the status that the tool ends with.
 #[derive(Debug)]
 pub struct Failure {
-    /// 1 for a refusal, 2 for a call or a file that is not right.
+    /// 1 where nothing is found or the library refused, 2 for a call or a file that is not right.
     status: u8,
     /// The library's number.
     number: Option<u32>,
@@ -45,9 +45,14 @@ impl Failure {
         Failure { number: Some(refusal.number()), ..Failure::refused(name, words) }
     }
 
-    /// Some of many files failed, and each has been told.
-    pub fn told() -> Self {
-        Failure::refused("", "")
+    /// Nothing is found: no object says so.
+    pub fn nothing(name: &str, words: impl Into<String>) -> Self {
+        Failure { object: false, ..Failure::refused(name, words) }
+    }
+
+    /// All has been said; only the status is left.
+    pub fn told(status: u8) -> Self {
+        Failure { status, ..Failure::usage("") }
     }
 
     pub fn status(&self) -> u8 {

@@ -161,15 +161,15 @@ impl Given {
         self.all(self.words.iter().map(|word| work(Some(Path::new(word)))))
     }
 
-    /// Tell each failure; one is enough to fail.
+    /// Tell each failure; the status is the highest.
     pub fn all(&self, done: impl Iterator<Item = Result<(), Failure>>) -> Result<(), Failure> {
-        let mut failed = false;
+        let mut status = 0;
         for failure in done.filter_map(Result::err) {
             failure.tell(self.json());
-            failed = true;
+            status = status.max(failure.status());
         }
-        if failed {
-            return Err(Failure::told());
+        if status > 0 {
+            return Err(Failure::told(status));
         }
         Ok(())
     }

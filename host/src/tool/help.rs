@@ -15,7 +15,7 @@ pub const LAYOUTS: &str = "block trees: builds layout 2, reads layouts 1 and 2";
 
 /// The last words of every help.
 pub const ENDING: &str =
-    "No file, or -, is standard input. Status: 0 done, 1 refused, or one of several files failed, 2 a call or a file that is not right.";
+    "No file, or -, is standard input. Status: 0 done or found, 1 refused or nothing found, 2 a wrong call, or a file that cannot be read or written; of several files the highest.";
 
 /// The tool, or a command.
 pub fn show(given: &Given) -> Result<(), Failure> {

@@ -88,10 +88,11 @@ pub fn ask(given: &Given) -> Result<(), Failure> {
         return Err(reasons::refused(&input.name, &question, &words));
     }
     question.answer(tree, guide, &mut page).map_err(failure)?;
-    if page.bytes.is_empty() && matches!(question, Question::Match(..) | Question::Next(..)) && !given.json() {
-        return say::print(b"no row matches\n");
+    match question.nothing() {
+        Some(_) if page.bytes.is_empty() && given.quiet() => Err(Failure::told(1)),
+        Some(words) if page.bytes.is_empty() => Err(Failure::nothing(&input.name, words)),
+        _ => say::print(&page.bytes),
     }
-    say::print(&page.bytes)
 }
 
 impl Question {
@@ -125,6 +126,15 @@ impl Question {
             (Some(_), Some(_)) => Err(given.usage("--from and --after do not go together")),
             (_, Some(mark)) => Ok(Question::Next(ranges, mark)),
             (from, None) => Ok(Question::Match(ranges, from.unwrap_or(1).saturating_sub(1))),
+        }
+    }
+
+    /// What is said where a search finds nothing; None for a question that is no search.
+    fn nothing(&self) -> Option<String> {
+        match self {
+            Question::Places(pattern) => Some(format!("'{}' does not occur", pattern.escape_ascii())),
+            Question::Match(..) | Question::Next(..) => Some("no row matches".to_owned()),
+            _ => None,
         }
     }
 

@@ -219,7 +219,7 @@ pub static COMMANDS: [Command; 30] = [
         words: &[one("TEXT"), maybe("TREE")],
         options: &[&JSON, &UNCHECKED],
         summary: "print all places of a code fragment, one to a line",
-        details: "TEXT is 1 to 256 bytes, as they stand in the book; \\n is byte 10, \\r byte 13, \\t byte 9, \\xHH the byte of that hexadecimal number, \\\\ a backslash. Places start at 0 and may overlap. Nothing is printed where it stands nowhere. \
+        details: "TEXT is 1 to 256 bytes, as they stand in the book; \\n is byte 10, \\r byte 13, \\t byte 9, \\xHH the byte of that hexadecimal number, \\\\ a backslash. Places start at 0 and may overlap. Where there is none the status is 1. \
                   A TEXT that begins with - goes after --.",
         run: questions::ask,
     },
@@ -229,7 +229,7 @@ pub static COMMANDS: [Command; 30] = [
         options: &[&FROM, &AFTER, &JSON, &UNCHECKED],
         summary: "print the rows that match a worn key",
         details: "CUTS is, for each of 1 to 10 cuts, a depth from 0 to 9, a range of depths such as [3-5], or ? for any: 44[3-5]22? or 4,4,3-5,2,2,0-9. A row is a key if it is a code of 1 to 12 bytes other than space, one space, and 1 to 10 digits. \
-                  It matches with as many cuts as are asked for, each in its range. The tree must count byte 10. Prints each row that matches with its number, or 'no row matches'.",
+                  It matches with as many cuts as are asked for, each in its range. The tree must count byte 10. Prints each row that matches with its number. Where none does the status is 1.",
         run: questions::ask,
     },
     Command {
@@ -301,7 +301,7 @@ pub static COMMANDS: [Command; 30] = [
         words: &[one("FIRST"), one("LAST"), maybe("TODAY")],
         options: &[&JSON],
         summary: "say whether a book is open, with the days left",
-        details: licence_days!("Open from the first day to the last, both included; or closed, and why."),
+        details: licence_days!("Open from the first day to the last, both included; or closed, and why, with status 1."),
         run: licence::open,
     },
     Command {
