@@ -36,7 +36,8 @@ def run_build(words):
             book, leaf, arity, levels, counted = question.split(" ")
             listed = "none" if counted == "-" else ",".join(str(byte) for byte in bytes.fromhex(counted))
             tree = os.path.join(folder, "%d.tree" % number)
-            status = command(words, book=book, leaf=leaf, arity=arity, levels=levels, counted=listed, tree=tree)
+            hexed = "none" if counted == "-" else ",".join("0x%02x" % byte for byte in bytes.fromhex(counted))
+            status = command(words, book=book, leaf=leaf, arity=arity, levels=levels, counted=listed, counted_hex=hexed, tree=tree)
             if not answer.startswith("good/"):
                 yield question, answer, "built" if status == 0 else answer
                 continue

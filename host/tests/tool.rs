@@ -89,9 +89,9 @@ fn answers() {
     folder.run("byte 13 small.tree").succeeds().prints("10 '\\n' (3 blocks entered)\n");
     folder.run("span 14 6 small.tree").succeeds().prints("CH0502");
     folder.run("span 2800 0 small.tree").succeeds().prints("");
-    folder.run("count 10 2800 small.tree").succeeds().prints("200 (3 blocks entered)\n");
+    folder.run("count 0x0a 2800 small.tree").succeeds().prints("200 (3 blocks entered)\n");
     folder.run("count \\n 0 small.tree").succeeds().prints("0 (0 blocks entered)\n");
-    folder.run("find 10 1 small.tree").succeeds().prints("13 (3 blocks entered)\n");
+    folder.run("find \\x0a 1 small.tree").succeeds().prints("13 (3 blocks entered)\n");
     let text = folder.run("text small.tree");
     text.succeeds().says("");
     assert_eq!(text.output.stdout, folder.read("small.txt"));
@@ -114,6 +114,18 @@ level  block length    blocks      kept  pointing
     2            24        45        45         0
 ",
     );
+}
+
+/// A byte by its number is 0x35 or \x35; a digit is the character.
+#[test]
+fn digits_are_characters() {
+    let folder = Folder::new("digits");
+    folder.write("five.txt", b"A 55\x05\n");
+    folder.run("build five.txt -q --leaf 4 --arity 2 --levels 1 --count 0x05,5").succeeds();
+    for (byte, times) in [("5", 2), ("0x35", 2), ("\\x35", 2), ("0x05", 1), ("\\x05", 1)] {
+        folder.run(&format!("count {byte} 6 five.tree")).succeeds().prints(&format!("{times} (1 block entered)\n"));
+    }
+    folder.run("find 5 2 five.tree").succeeds().prints("3 (1 block entered)\n");
 }
 
 #[test]
@@ -293,8 +305,8 @@ fn guides() {
     folder.run("row 120 small.tree --guide small.guide").succeeds().prints(row);
     folder.run("row 120 small.tree --guide=small.guide --unchecked").succeeds().prints(row);
     for number in [1, 64, 65, 200] {
-        let plain = folder.run(&format!("find 10 {number} small.tree")).printed();
-        let guided = folder.run(&format!("find 10 {number} small.tree --guide small.guide")).printed();
+        let plain = folder.run(&format!("find \\n {number} small.tree")).printed();
+        let guided = folder.run(&format!("find \\n {number} small.tree --guide small.guide")).printed();
         assert!(guided.starts_with(plain.trim_end_matches(")\n")) && guided.ends_with(" on level 0)\n"), "{plain}{guided}");
     }
     // a guide with a word too many, of another tree, and none
@@ -302,7 +314,7 @@ fn guides() {
     folder.write("wrong.guide", &[0; 20]);
     let says = format!("codebook: wrong.guide: {wrong}\n");
     folder.run("guide check wrong.guide small.tree").status(1).prints("").says(&says);
-    for question in ["row 120", "find 10 1"] {
+    for question in ["row 120", "find \\n 1"] {
         folder.run(&format!("{question} small.tree --guide wrong.guide")).status(1).prints("").says(&says);
     }
     folder.run("row 1 small.tree --guide none.guide").status(2);
@@ -373,13 +385,15 @@ fn refused_questions() {
     for row in ["0", "201", "0..3", "199..201", "201.."] {
         refused(&format!("row {row} small.tree"), &format!("row {row}: refused (12): rows go from 1 to 200"));
     }
-    refused("find 10 201 small.tree", "find 10 201: refused (12): numbers of byte 10 go from 1 to 200");
+    refused("find \\n 201 small.tree", "find 0x0a 201: refused (12): numbers of byte 10 go from 1 to 200");
     refused("byte 2800 small.tree", "byte 2800: refused (10): places go from 0 to 2,799");
     refused("run 2800 small.tree", "run 2800: refused (10): places go from 0 to 2,799");
     refused("span 2799 2 small.tree", &format!("span 2799 2: {past}"));
     refused("span 4294967295 4294967295 small.tree", &format!("span 4294967295 4294967295: {past}"));
-    refused("count 10 2801 small.tree", &format!("count 10 2801: {past}"));
-    refused("count A 5 small.tree", "count 65 5: refused (11): the tree does not count this byte; it counts: 10");
+    refused("count 0x0a 2801 small.tree", &format!("count 0x0a 2801: {past}"));
+    refused("count A 5 small.tree", "count A 5: refused (11): the tree does not count this byte; it counts: 0x0a");
+    // a digit is a character
+    refused("count 5 100 small.tree", "count 5 100: refused (11): the tree does not count this byte; it counts: 0x0a");
 }
 
 #[test]
@@ -430,7 +444,7 @@ fn texts_that_are_refused() {
         .status(1)
         .says(&format!("codebook: small.txt: {settings}; given: leaf 256, arity 16, levels 5\n"));
     let counted = "refused (3): at most 4 bytes can be counted, and each must be above the one before";
-    folder.run("build small.txt -o no.tree --count 65,10").status(1).says(&format!("codebook: small.txt: {counted}; given: 65, 10\n"));
+    folder.run("build small.txt -o no.tree --count 0x41,0x0a").status(1).says(&format!("codebook: small.txt: {counted}; given: A, 0x0a\n"));
     folder.run("build small.txt -o no.tree --count 1,2,3,4,5").status(1).says(&format!("codebook: small.txt: {counted}; given: 1, 2, 3, 4, 5\n"));
     assert!(!folder.0.join("no.tree").exists());
 }
@@ -445,7 +459,7 @@ fn book_without_rows() {
     assert!(folder.run("check empty.tree").succeeds().printed().starts_with("empty.tree: a good tree of 0 bytes of text; "));
     folder.run("list empty.tree").succeeds().prints("0 0 0 0\n1 0 0 0\n");
     folder.run("text empty.tree").succeeds().prints("");
-    folder.run("count 10 0 empty.tree").succeeds().prints("0 (0 blocks entered)\n");
+    folder.run("count \\n 0 empty.tree").succeeds().prints("0 (0 blocks entered)\n");
     folder.run("match 4 empty.tree").status(1).prints("").says("codebook: empty.tree: no row matches\n");
     folder.run("places A empty.tree").status(1).prints("").says("codebook: empty.tree: 'A' does not occur\n");
     folder.run("stats empty.tree").succeeds().prints(
@@ -520,8 +534,10 @@ fn calls_that_are_not_right() {
     usage("check --json=1", "--json has no value\nusage: codebook check [TREE]... [--sha256 HEX] [--json]");
     usage("text -x", "there is no option '-x'\nusage: codebook text [TREE] [--unchecked]");
     let count = "usage: codebook count BYTE LENGTH [TREE] [--json] [--unchecked]";
-    usage("count 256 4 x", &format!("a byte is a number from 0 to 255 or one character that is no digit, not '256'\n{count}"));
-    usage("count -1 4 x", &format!("a byte is a number from 0 to 255 or one character that is no digit; -1 is negative\n{count}"));
+    let byte = "a byte is one character, 0x00 to 0xff, \\n, \\r, \\t, \\\\ or \\xHH";
+    usage("count 256 4 x", &format!("{byte}, not '256'\n{count}"));
+    usage("count 10 4 x", &format!("{byte}, not '10'; byte 10 is 0x0a\n{count}"));
+    usage("count -1 4 x", &format!("{byte}, not '-1'\n{count}"));
     let build = "usage: codebook build [BOOK]... [-o FILE] [-f] [--keep-time] [--leaf M] [--arity R] [--levels H] [--count BYTES] [--columns W] [--allow-larger] [--json]";
     usage("build small.txt -o", &format!("-o needs a value\n{build}"));
     usage("build --leaf 64", &format!("--leaf, --arity and --levels go together: give all three, or none to have a short list tried\n{build}"));

@@ -7,7 +7,7 @@ use crate::output::Output;
 use crate::say::{self, grouped};
 use crate::table::{ALLOW_LARGER, ARITY, COLUMNS, COUNT, FORCE, LEAF, LEVELS, OUTPUT};
 use crate::trials::{self, Chosen, Trial};
-use crate::{book, by_columns, sha256, values, Failure};
+use crate::{book, by_columns, reasons, sha256, values, Failure};
 use codebook::{Refusal, Settings};
 use std::ffi::OsString;
 use std::fs;
@@ -121,7 +121,7 @@ pub fn chosen(name: &str, text: &[u8], settings: Option<&Settings>, counted: &[u
 fn cause(refusal: Refusal, settings: Option<&Settings>, counted: &[u8]) -> String {
     match (refusal, settings) {
         (Refusal::Settings, Some(settings)) => format!("; given: {}", shape(settings)),
-        (Refusal::Counted, _) => format!("; given: {}", listed(counted)),
+        (Refusal::Counted, _) => format!("; given: {}", reasons::all_typed(counted)),
         _ => String::new(),
     }
 }

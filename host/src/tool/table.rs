@@ -70,7 +70,7 @@ pub static LEVELS: Opt = valued("--levels", "H", concat!("levels, 1 to 8; M x R^
 pub static COUNT: Opt = valued(
     "--count",
     "BYTES",
-    "the bytes to count and find, at most 4, rising, parted by commas, as 10,65 or \\n,A; or none. Otherwise 10, which ends a row",
+    "the bytes to count and find, at most 4, rising, separated by commas, as \\n,A or 0x0a,0x41; or none. Otherwise \\n, which ends a row",
 );
 pub static COLUMNS: Opt =
     valued("--columns", "W", "the rows of W bytes, end byte included, stand by columns; auto finds the width of rows that all have one");
@@ -203,7 +203,7 @@ pub static COMMANDS: [Command; 30] = [
         words: &[one("BYTE"), one("LENGTH"), maybe("TREE")],
         options: &[&JSON, &UNCHECKED],
         summary: "print how often a byte stands in the first LENGTH bytes",
-        details: "BYTE is a number from 0 to 255, one character that is no digit, or \\n, \\r, \\t, \\\\ or \\xHH; the tree must count it. Prints how often, and how many blocks were entered.",
+        details: "BYTE is one character, its number as 0x0a, or \\n, \\r, \\t, \\\\ or \\xHH; the tree must count it. Prints how often, and how many blocks were entered.",
         run: questions::ask,
     },
     Command {
@@ -211,7 +211,7 @@ pub static COMMANDS: [Command; 30] = [
         words: &[one("BYTE"), one("NUMBER"), maybe("TREE")],
         options: &[&GUIDE, &JSON, &UNCHECKED],
         summary: "print the place where a byte stands for the NUMBER-th time",
-        details: "NUMBER goes from 1 to how often the byte stands in the book. BYTE is a number from 0 to 255, one character that is no digit, or \\n, \\r, \\t, \\\\ or \\xHH; the tree must count it. Prints the place, and how many blocks lead to it.",
+        details: "NUMBER goes from 1 to how often the byte stands in the book. BYTE is one character, its number as 0x0a, or \\n, \\r, \\t, \\\\ or \\xHH; the tree must count it. Prints the place, and how many blocks lead to it.",
         run: questions::ask,
     },
     Command {
