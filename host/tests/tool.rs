@@ -284,7 +284,7 @@ fn by_columns_that_is_refused() {
     let uneven = "codebook: uneven.txt: the rows do not all have one width: with its end row 1 has 3 bytes, row 2 has 4\n";
     folder.run("to-columns auto uneven.txt").status(1).prints("").says(uneven);
     folder.run("build uneven.txt -o no.tree --columns auto").status(1).prints("").says(uneven);
-    let usage = "usage: codebook to-columns WIDTH [BOOK] [-o FILE] [-f] [--keep-time]";
+    let usage = "usage: codebook to-columns WIDTH [BOOK] [-o FILE] [-f] [--keep-time] [--json]";
     folder.run("to-columns").status(2).says(&format!("codebook: WIDTH is missing\n{usage}\n"));
     folder
         .run("to-columns wide small.txt")
@@ -532,7 +532,7 @@ fn calls_that_are_not_right() {
     usage("byte 1 a.tree b.tree", &format!("unexpected argument 'b.tree'\n{byte}"));
     usage("check --all", "there is no option '--all'\nusage: codebook check [TREE]... [--sha256 HEX] [--json]");
     usage("check --json=1", "--json has no value\nusage: codebook check [TREE]... [--sha256 HEX] [--json]");
-    usage("text -x", "there is no option '-x'\nusage: codebook text [TREE] [--unchecked]");
+    usage("text -x", "there is no option '-x'\nusage: codebook text [TREE] [--json] [--unchecked]");
     let count = "usage: codebook count BYTE LENGTH [TREE] [--json] [--unchecked]";
     let byte = "a byte is one character, 0x00 to 0xff, \\n, \\r, \\t, \\\\ or \\xHH";
     usage("count 256 4 x", &format!("{byte}, not '256'\n{count}"));

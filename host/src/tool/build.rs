@@ -136,7 +136,7 @@ fn write(given: &Given, text: &Input, built: &Built, output: Output) -> Result<(
     let (name, standard) = (output.name.clone(), output.is_standard());
     let digest = sha256::hex(&chosen.tree);
     output.write(&chosen.tree)?;
-    if given.quiet() {
+    if given.quiet() && !given.json() {
         return Ok(());
     }
     let report = match (given.json(), given.words.len() > 1) {
@@ -149,7 +149,7 @@ fn write(given: &Given, text: &Input, built: &Built, output: Output) -> Result<(
     } else {
         say::print(report.as_bytes())?;
     }
-    for warning in warnings {
+    for warning in warnings.iter().filter(|_| !given.quiet()) {
         say::tell(&format!("codebook: {}: warning: {warning}\n", text.name));
     }
     Ok(())

@@ -4,7 +4,7 @@ use crate::build::{self, Built};
 use crate::given::Given;
 use crate::input::{Input, Source, TEXT};
 use crate::json::Object;
-use crate::output::Output;
+use crate::output::{self, Output};
 use crate::say::{grouped, several};
 use crate::values::{self, Width};
 use crate::Failure;
@@ -64,7 +64,7 @@ pub fn turned(text: &Input, width: Width) -> Result<(Vec<u8>, u32), Failure> {
 
 pub fn to_columns(given: &Given) -> Result<(), Failure> {
     let width = given.reading(values::width("WIDTH", &given.words[0]))?;
-    rearrange(given, |text| turned(text, width).map(|(turned, _)| turned))
+    rearrange(given, |text| turned(text, width))
 }
 
 pub fn from_columns(given: &Given) -> Result<(), Failure> {
@@ -72,16 +72,21 @@ pub fn from_columns(given: &Given) -> Result<(), Failure> {
     rearrange(given, |text| {
         let turned = codebook::from_columns(&text.bytes, width).map_err(|refusal| refused(refusal, width, text))?;
         match unended(&turned, width) {
-            None => Ok(turned),
+            None => Ok((turned, width)),
             Some(_) => Err(Failure::refused(&text.name, wrong_width(width, turned.len() as u64, ends(&turned)))),
         }
     })
 }
 
-fn rearrange(given: &Given, turn: impl Fn(&Input) -> Result<Vec<u8>, Failure>) -> Result<(), Failure> {
+fn rearrange(given: &Given, turn: impl Fn(&Input) -> Result<(Vec<u8>, u32), Failure>) -> Result<(), Failure> {
     let source = Source::open(given.file(1))?;
     let output = Output::of(given, &source)?;
-    output.write(&turn(&source.read(&TEXT)?)?)
+    let (name, standard) = (output.name.clone(), output.is_standard());
+    let text = source.read(&TEXT)?;
+    let (turned, width) = turn(&text)?;
+    output.write(&turned)?;
+    let object = Object::new().text("book", &text.name).number("length", turned.len()).number("columns", width).text("output", &name);
+    output::report(given, standard, &object, "")
 }
 
 /// How often byte 10 occurs.

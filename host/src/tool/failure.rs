@@ -15,6 +15,8 @@ pub struct Failure {
     name: String,
     /// Empty where all has been said.
     words: String,
+    /// How the command is called, where the call is wrong.
+    usage: Option<String>,
     /// Standard output takes an object that says it.
     object: bool,
 }
@@ -22,7 +24,11 @@ pub struct Failure {
 impl Failure {
     /// The call, or a file that it names, is not right.
     pub fn usage(words: impl Into<String>) -> Self {
-        Failure { status: 2, number: None, name: String::new(), words: words.into(), object: true }
+        Failure { status: 2, number: None, name: String::new(), words: words.into(), usage: None, object: true }
+    }
+
+    pub fn with_usage(self, usage: String) -> Self {
+        Failure { usage: Some(usage), ..self }
     }
 
     /// A file that cannot be read or written, or must not be.
@@ -65,14 +71,19 @@ impl Failure {
             return;
         }
         let name = if self.name.is_empty() { String::new() } else { format!("{}: ", self.name) };
-        say::tell(&format!("codebook: {name}{}\n", self.words));
+        let usage = self.usage.as_ref().map_or(String::new(), |usage| format!("usage: {usage}\n"));
+        say::tell(&format!("codebook: {name}{}\n{usage}", self.words));
         if json && self.object {
             let mut object = Object::new().text("failed", &self.name).number("status", self.status);
             if let Some(number) = self.number {
                 object = object.number("refused", number);
             }
+            object = object.text("words", &self.words);
+            if let Some(usage) = &self.usage {
+                object = object.text("usage", usage);
+            }
             // where nobody reads it there is no more to say: the call has failed already
-            let _ = say::print(object.text("words", &self.words).line().as_bytes());
+            let _ = say::print(object.line().as_bytes());
         }
     }
 }

@@ -142,7 +142,7 @@ impl Given {
 
     /// The call is not right.
     pub fn usage(&self, words: impl Into<String>) -> Failure {
-        Failure::usage(format!("{}\nusage: {}", words.into(), self.command.usage()))
+        Failure::usage(words).with_usage(self.command.usage())
     }
 
     pub fn json(&self) -> bool {
@@ -173,6 +173,11 @@ impl Given {
         }
         Ok(())
     }
+}
+
+/// Does a call ask for objects, be it right or wrong?
+pub fn asks_for_json(words: &[OsString]) -> bool {
+    words.iter().take_while(|word| *word != "--").any(|word| word == table::JSON.long)
 }
 
 /// The command that the words begin with, and the words after it.

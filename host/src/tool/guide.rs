@@ -4,8 +4,8 @@ use crate::check::{open, refused, report};
 use crate::given::Given;
 use crate::input::{self, Source, GUIDE, TREE};
 use crate::json::Object;
-use crate::output::Output;
-use crate::say::{self, several};
+use crate::output::{self, Output};
+use crate::say::several;
 use crate::Failure;
 
 pub fn make(given: &Given) -> Result<(), Failure> {
@@ -17,13 +17,7 @@ pub fn make(given: &Given) -> Result<(), Failure> {
     output.write(&guide)?;
     let entries = guide.len() as u64 / 4;
     let words = format!("{}: a guide of {} to {name}\n", input.name, several(entries, "entry"));
-    if standard {
-        if !given.quiet() {
-            say::tell(&words);
-        }
-        return Ok(());
-    }
-    report(given, &Object::new().text("tree", &input.name).text("guide", &name).number("entries", entries), &words)
+    output::report(given, standard, &Object::new().text("tree", &input.name).text("guide", &name).number("entries", entries), &words)
 }
 
 pub fn check(given: &Given) -> Result<(), Failure> {

@@ -1,6 +1,7 @@
 //! What `help`, `--version`, `manual` and `completion` print, all from the table.
 
 use crate::given::Given;
+use crate::json::Object;
 use crate::table::{Command, COMMANDS};
 use crate::{completion, manual, say, Failure};
 
@@ -21,13 +22,21 @@ pub const ENDING: &str =
 pub fn show(given: &Given) -> Result<(), Failure> {
     let name = given.words.iter().map(|word| word.to_string_lossy()).collect::<Vec<_>>().join(" ");
     if name.is_empty() {
-        return say::print(overview().as_bytes());
+        return print(given, &overview());
     }
     let commands: Vec<&Command> = COMMANDS.iter().filter(|command| command.name == name || command.name.split(' ').next() == Some(&name)).collect();
     if commands.is_empty() {
         return Err(Failure::usage(format!("there is no command '{name}'; see codebook --help")));
     }
-    say::print(commands.iter().map(|command| text(command)).collect::<Vec<_>>().join("\n").as_bytes())
+    print(given, &commands.iter().map(|command| text(command)).collect::<Vec<_>>().join("\n"))
+}
+
+/// Print a text as it is, or in an object.
+pub fn print(given: &Given, text: &str) -> Result<(), Failure> {
+    match given.json() {
+        true => say::print(Object::new().text("text", text).line().as_bytes()),
+        false => say::print(text.as_bytes()),
+    }
 }
 
 /// The text of `codebook --help`.
@@ -75,12 +84,16 @@ fn folded(words: &str, indent: &str) -> String {
     text + indent + line.trim_end() + "\n"
 }
 
-pub fn version(_: &Given) -> Result<(), Failure> {
-    say::print(format!("codebook {}\n{LAYOUTS}\n", env!("CARGO_PKG_VERSION")).as_bytes())
+pub fn version(given: &Given) -> Result<(), Failure> {
+    let version = env!("CARGO_PKG_VERSION");
+    match given.json() {
+        true => say::print(Object::new().text("version", version).number("builds", 2).numbers("reads", &[1, 2]).line().as_bytes()),
+        false => say::print(format!("codebook {version}\n{LAYOUTS}\n").as_bytes()),
+    }
 }
 
-pub fn manual(_: &Given) -> Result<(), Failure> {
-    say::print(manual::page().as_bytes())
+pub fn manual(given: &Given) -> Result<(), Failure> {
+    print(given, &manual::page())
 }
 
 pub fn completion(given: &Given) -> Result<(), Failure> {
@@ -89,5 +102,5 @@ pub fn completion(given: &Given) -> Result<(), Failure> {
         "zsh" => completion::zsh(),
         other => return Err(given.usage(format!("SHELL is bash or zsh, not '{other}'"))),
     };
-    say::print(script.as_bytes())
+    print(given, &script)
 }

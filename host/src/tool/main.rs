@@ -39,14 +39,17 @@ fn main() -> ExitCode {
     if let Some(failure) = input::output_used(&words) {
         return stop(&failure, false);
     }
-    let given = match Given::read(words) {
-        Ok(given) => given,
-        Err(failure) => return stop(&failure, false),
-    };
-    let done = if given.has(&table::HELP) { say::print(help::text(given.command).as_bytes()) } else { (given.command.run)(&given) };
-    match done {
+    let json = given::asks_for_json(&words);
+    match Given::read(words).and_then(|given| run(&given)) {
         Ok(()) => ExitCode::SUCCESS,
-        Err(failure) => stop(&failure, given.json()),
+        Err(failure) => stop(&failure, json),
+    }
+}
+
+fn run(given: &Given) -> Result<(), Failure> {
+    match given.has(&table::HELP) {
+        true => help::print(given, &help::text(given.command)),
+        false => (given.command.run)(given),
     }
 }
 

@@ -3,6 +3,7 @@
 use crate::attributes::{Access, Times};
 use crate::given::Given;
 use crate::input::{Identity, Source};
+use crate::json::Object;
 use crate::spool::Spool;
 use crate::table::{FORCE, KEEP_TIME, OUTPUT};
 use crate::{say, Failure};
@@ -99,6 +100,20 @@ impl Output {
             _ => Failure::file(&self.name, format!("cannot be written: {error}")),
         })
     }
+}
+
+/// Say what was written: on standard error where the bytes themselves are on standard output. Empty words are not said.
+pub fn report(given: &Given, standard: bool, object: &Object, words: &str) -> Result<(), Failure> {
+    let line = match (given.json(), given.quiet()) {
+        (true, _) => object.line(),
+        (false, true) => return Ok(()),
+        (false, false) => words.to_owned(),
+    };
+    if standard {
+        say::tell(&line);
+        return Ok(());
+    }
+    say::print(line.as_bytes())
 }
 
 /// What is read must not be written, under whatever name.

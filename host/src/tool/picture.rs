@@ -1,11 +1,11 @@
 //! `picture`: a tree's levels as an SVG drawing.
 
 use crate::build::{shape, share};
-use crate::check::{open, report};
+use crate::check::open;
 use crate::given::Given;
 use crate::input::{Source, TREE};
 use crate::json::Object;
-use crate::output::Output;
+use crate::output::{self, Output};
 use crate::say::{grouped, several};
 use crate::stats::parts;
 use crate::Failure;
@@ -29,10 +29,8 @@ pub fn picture(given: &Given) -> Result<(), Failure> {
     let svg = draw(&input.name, open(&input, false)?);
     let (name, standard) = (output.name.clone(), output.is_standard());
     output.write(svg.as_bytes())?;
-    if standard {
-        return Ok(());
-    }
-    report(given, &Object::new(), &format!("{}: its picture to {name}\n", input.name))
+    let words = if standard { String::new() } else { format!("{}: its picture to {name}\n", input.name) };
+    output::report(given, standard, &Object::new().text("tree", &input.name).text("picture", &name), &words)
 }
 
 /// All of the drawing.

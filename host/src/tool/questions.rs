@@ -8,6 +8,7 @@ use crate::say::{self, several};
 use crate::table::{self, AFTER, FROM, ROW_COLUMNS, UNCHECKED};
 use crate::{by_columns, reasons, values, Failure};
 use codebook::{text_rows, Range, Reached, Refusal, Tree};
+use std::io::Write;
 
 /// A question.
 #[derive(Clone, Debug, PartialEq, Eq)]
@@ -57,7 +58,8 @@ impl Page {
     /// A row that matches, with its number.
     fn matching(&mut self, q: u32, row: &[u8]) {
         if !self.json {
-            self.bytes.extend_from_slice(format!("row {q}: ").as_bytes());
+            // memory takes all that is written
+            let _ = write!(self.bytes, "row {q}: ");
         }
         self.row(q, row);
     }
@@ -196,6 +198,11 @@ impl Question {
                 page.figure(&value.to_string(), entered, Object::new().number("byte", byte).number("length", length).number("count", value));
             }
             Question::Find(byte, number) => found(tree, guide, byte, number, page)?,
+            _ if page.json => {
+                let text = tree.text()?;
+                page.add("", || Object::new().number("length", text.len()).bytes("text", &text));
+            }
+            // no copy of a long text
             _ => page.bytes = tree.text()?,
         }
         Ok(())

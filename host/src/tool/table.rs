@@ -144,7 +144,7 @@ pub static COMMANDS: [Command; 30] = [
     Command {
         name: "list",
         words: &TREES,
-        options: &[],
+        options: &[&JSON],
         summary: "list a tree's levels",
         details: "One line for each level: level, blocks, kept, pointing. A refused tree gives the line 'refused N'. With several trees, one line for each, the levels parted by /. For trees of at most 65,536 bytes; stats is for all.",
         run: stats::list,
@@ -160,7 +160,7 @@ pub static COMMANDS: [Command; 30] = [
     Command {
         name: "picture",
         words: &TREE,
-        options: &[&OUTPUT, &FORCE, &KEEP_TIME],
+        options: &[&OUTPUT, &FORCE, &KEEP_TIME, &JSON],
         summary: "draw a tree's levels as an SVG file",
         details: "Each level is a bar of its blocks in the text's order. Kept blocks are tall and dark; pointing blocks are low, in the colour of the place that they point to, which the strip at the top shows. Few pointing blocks have an arrow besides. Blocks narrower than a pixel are merged.",
         run: picture::picture,
@@ -243,7 +243,7 @@ pub static COMMANDS: [Command; 30] = [
     Command {
         name: "text",
         words: &TREE,
-        options: &[&UNCHECKED],
+        options: &[&JSON, &UNCHECKED],
         summary: "print the whole book",
         details: "The bytes as they are, and nothing else.",
         run: questions::ask,
@@ -251,7 +251,7 @@ pub static COMMANDS: [Command; 30] = [
     Command {
         name: "to-columns",
         words: &[one("WIDTH"), maybe("BOOK")],
-        options: &[&OUTPUT, &FORCE, &KEEP_TIME],
+        options: &[&OUTPUT, &FORCE, &KEEP_TIME, &JSON],
         summary: "rearrange a book's rows of one width by columns",
         details: "WIDTH counts the byte that ends a row; auto finds it. All rows must have this width. The byte in column b of row a goes to place b x rows + a, both counted from 0. Without -o the bytes go to standard output.",
         run: by_columns::to_columns,
@@ -259,7 +259,7 @@ pub static COMMANDS: [Command; 30] = [
     Command {
         name: "from-columns",
         words: &[one("WIDTH"), maybe("FILE")],
-        options: &[&OUTPUT, &FORCE, &KEEP_TIME],
+        options: &[&OUTPUT, &FORCE, &KEEP_TIME, &JSON],
         summary: "rearrange a book by columns back to rows",
         details: "The inverse of to-columns for the same width; a width at which the rows do not all end in byte 10 is refused. Without -o the bytes go to standard output.",
         run: by_columns::from_columns,
@@ -331,7 +331,7 @@ pub static COMMANDS: [Command; 30] = [
     Command {
         name: "help",
         words: &[any("COMMAND")],
-        options: &[],
+        options: &[&JSON],
         summary: "say how the tool, or a command, is called",
         details: "The same as COMMAND --help.",
         run: help::show,
@@ -339,7 +339,7 @@ pub static COMMANDS: [Command; 30] = [
     Command {
         name: "version",
         words: &[],
-        options: &[],
+        options: &[&JSON],
         summary: "print the tool's version and the layouts that it knows",
         details: "The same as codebook --version.",
         run: help::version,
@@ -347,7 +347,7 @@ pub static COMMANDS: [Command; 30] = [
     Command {
         name: "manual",
         words: &[],
-        options: &[],
+        options: &[&JSON],
         summary: "print the manual page, codebook.1",
         details: "In the form of man(7).",
         run: help::manual,
@@ -355,7 +355,7 @@ pub static COMMANDS: [Command; 30] = [
     Command {
         name: "completion",
         words: &[one("SHELL")],
-        options: &[],
+        options: &[&JSON],
         summary: "print the completion for a shell",
         details: "SHELL is bash or zsh.",
         run: help::completion,
