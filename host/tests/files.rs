@@ -211,3 +211,27 @@ fn standard_input_twice() {
     folder.run("build dash.txt -q").succeeds();
     folder.pipe("places -- - -", &folder.read("dash.tree")).succeeds().prints("1\n");
 }
+
+// names
+
+/// An ending that is not .txt or .csv is a part of the name.
+#[test]
+fn trees_of_books_with_endings() {
+    let folder = Folder::new("endings");
+    for book in ["Ford.2023", "Ford.2024", "Opel", "Audi.csv"] {
+        folder.write(book, format!("{book} 1\n").as_bytes());
+    }
+    folder.run("build Ford.2023 Ford.2024 Opel Audi.csv -q").succeeds();
+    std::fs::create_dir(folder.0.join("trees")).expect("a folder");
+    folder.run("build Ford.2023 Ford.2024 -q -o trees").succeeds();
+    for (tree, row) in [
+        ("Ford.2023.tree", "Ford.2023 1\n"),
+        ("Ford.2024.tree", "Ford.2024 1\n"),
+        ("Opel.tree", "Opel 1\n"),
+        ("Audi.tree", "Audi.csv 1\n"),
+        ("trees/Ford.2023.tree", "Ford.2023 1\n"),
+        ("trees/Ford.2024.tree", "Ford.2024 1\n"),
+    ] {
+        folder.run(&format!("row 1 {tree}")).succeeds().prints(row);
+    }
+}

@@ -128,7 +128,6 @@ fn a_book_is_not_overwritten_by_its_tree() {
         let says = "codebook: small.tree: is the file that is read (small.tree); it is left as it is\n";
         folder.run(&format!("{command} small.tree -f -o small.tree")).status(2).says(says);
     }
-    folder.run("build small.tree --force").status(2);
     assert_eq!(folder.read("small.tree"), tree);
 }
 

@@ -96,11 +96,22 @@ pub fn settings(given: &Given, counted: &[u8]) -> Result<Option<Settings>, Failu
 fn target(given: &Given, book: Option<&Path>) -> Result<Option<PathBuf>, Failure> {
     let book = book.filter(|&path| path != Path::new("-"));
     match (given.path(&OUTPUT), book) {
-        (Some(folder), Some(book)) if folder.is_dir() => Ok(Some(folder.join(book.with_extension("tree").file_name().unwrap_or_default()))),
+        (Some(folder), Some(book)) if folder.is_dir() => Ok(Some(folder.join(tree_name(book).file_name().unwrap_or_default()))),
         (Some(folder), None) if folder.is_dir() => Err(given.usage("-o is a file where the book comes from standard input")),
         (Some(path), _) => Ok(Some(path.to_path_buf())),
-        (None, book) => Ok(book.map(|book| book.with_extension("tree"))),
+        (None, book) => Ok(book.map(tree_name)),
     }
+}
+
+/// The name of a book's tree: .tree in place of .txt or .csv, else after the whole name, of which any other ending is a part.
+fn tree_name(book: &Path) -> PathBuf {
+    let text = book.extension().is_some_and(|ending| ending.eq_ignore_ascii_case("txt") || ending.eq_ignore_ascii_case("csv"));
+    if text {
+        return book.with_extension("tree");
+    }
+    let mut name = book.as_os_str().to_owned();
+    name.push(".tree");
+    name.into()
 }
 
 fn plain(text: &Input, settings: Option<&Settings>, counted: &[u8], quiet: bool) -> Result<Built, Failure> {
@@ -217,4 +228,21 @@ pub fn share(tree: usize, text: usize) -> String {
         return "an empty text".to_owned();
     }
     format!("{:.1} % of the text", 100.0 * tree as f64 / text as f64)
+}
+
+#[cfg(test)]
+mod tests {
+    use super::tree_name;
+    use std::path::Path;
+
+    #[test]
+    fn names_of_trees() {
+        let name = |book: &str| tree_name(Path::new(book)).to_string_lossy().into_owned();
+        assert_eq!((name("small.txt"), name("a/small.csv"), name("SMALL.TXT")), ("small.tree".into(), "a/small.tree".into(), "SMALL.tree".into()));
+        assert_eq!(
+            (name("Ford.2023"), name("a.b/Ford.2024"), name("Ford")),
+            ("Ford.2023.tree".into(), "a.b/Ford.2024.tree".into(), "Ford.tree".into())
+        );
+        assert_eq!((name(".txt"), name("small.tree"), name("small.")), (".txt.tree".into(), "small.tree.tree".into(), "small..tree".into()));
+    }
 }

@@ -115,7 +115,7 @@ pub static COMMANDS: [Command; 30] = [
         details: concat!(
             "A BOOK is any text of up to ",
             codebook::longest!(),
-            " bytes. Its tree goes to a file with the book's name and the ending .tree, or to FILE; where FILE is a folder, into that one. The tree of standard input goes to standard output. \
+            " bytes. Its tree goes to a file with the book's name and the ending .tree, in place of .txt or .csv or after any other ending, or to FILE; where FILE is a folder, into that one. The tree of standard input goes to standard output. \
              An existing file is left alone unless --force is given, and is replaced whole or not at all. The tree gets the permissions of its book, never wider ones.\n\
              Where no settings are given, a short list is tried (256/2/1, 64/4/3, 48/2/5, 32/4/4, 24/8/3 and 16/4/4 as leaf/arity/levels), the smallest tree is kept, and what each gave is printed. \
              The SHA-256 of the tree is printed, to be kept with it: a tree carries no checksum.\n\
