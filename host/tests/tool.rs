@@ -156,8 +156,8 @@ fn places_that_are_refused() {
     folder.run("places CH0502 kind.tree --unchecked").status(1).prints("").says(&format!("codebook: kind.tree: places: {path}\n"));
     let usage = "usage: codebook places TEXT [TREE] [--json] [--unchecked]";
     folder.run("places").status(2).says(&format!("codebook: TEXT is missing\n{usage}\n"));
-    for pattern in ["CH\\", "CH\\q", "\\x4", "\\x+4", "\\xg0"] {
-        let escapes = "a backslash begins \\n, \\r, \\t, \\\\ or \\xHH, a byte in hexadecimal";
+    for (pattern, given) in [("CH\\", "\\"), ("CH\\q", "\\q"), ("\\x4", "\\x4"), ("\\x+4", "\\x+4"), ("\\xg0AB", "\\xg0")] {
+        let escapes = format!("a backslash begins \\n, \\r, \\t, \\\\ or \\xHH, a byte in hexadecimal, not '{given}'");
         folder.run(&format!("places {pattern} small.tree")).status(2).prints("").says(&format!("codebook: {escapes}\n{usage}\n"));
     }
 }
@@ -310,7 +310,7 @@ fn guides() {
         assert!(guided.starts_with(plain.trim_end_matches(")\n")) && guided.ends_with(" on level 0)\n"), "{plain}{guided}");
     }
     // a guide with a word too many, of another tree, and none
-    let wrong = "refused (24): this is no guide of this tree: it has too few or too many words, or an entry is wrong";
+    let wrong = "refused (24): this is no guide of this tree: it has too few or too many words, or an entry is wrong; it has 20 bytes, and the tree's guide 16";
     folder.write("wrong.guide", &[0; 20]);
     let says = format!("codebook: wrong.guide: {wrong}\n");
     folder.run("guide check wrong.guide small.tree").status(1).prints("").says(&says);
@@ -417,13 +417,12 @@ fn damaged_trees() {
     damaged("count.tree", 120, 7);
     folder.run("check count.tree").status(1).says("codebook: count.tree: refused (9): a count or an edge in the tree is not true\n");
     damaged("layout.tree", 0, 3);
-    folder
-        .run("row 1 layout.tree")
-        .status(1)
-        .says("codebook: layout.tree: refused (6): the layout is neither 1 nor 2; this is no block tree, or one of another version\n");
+    folder.run("row 1 layout.tree").status(1).says(
+        "codebook: layout.tree: refused (6): the layout is neither 1 nor 2; this is no block tree, or one of another version; its layout is 3\n",
+    );
     folder.write("cut.tree", &tree[..tree.len() - 1]);
     folder.run("check cut.tree").status(1).says(
-        "codebook: cut.tree: refused (7): the header is not right: its settings, unused places or offsets, or the file is longer or shorter than it says\n",
+        "codebook: cut.tree: refused (7): the header is not right: its settings, unused places or offsets, or the file is longer or shorter than it says; it has 5,883 bytes, and by its header 5,884\n",
     );
 }
 
@@ -519,7 +518,7 @@ fn calls_that_are_not_right() {
         folder.run(words).status(2).prints("").says(&format!("codebook: {says}\n"));
     };
     usage("", "no command given; see codebook --help");
-    usage("--json stats x", "'--json' stands before the command; options stand after it; see codebook --help");
+    usage("--quiet stats x", "'--quiet' stands before the command; options stand after it; see codebook --help");
     usage("print small.tree", "there is no command 'print'; see codebook --help");
     let row = "usage: codebook row ROWS [TREE] [--guide GUIDE] [--columns W] [--json] [--unchecked]";
     usage("row", &format!("ROWS is missing\n{row}"));
@@ -531,7 +530,7 @@ fn calls_that_are_not_right() {
     usage("byte -14 x", &format!("PLACE is a number from 0 to 4294967295; -14 is negative\n{byte}"));
     usage("byte 1 a.tree b.tree", &format!("unexpected argument 'b.tree'\n{byte}"));
     usage("check --all", "there is no option '--all'\nusage: codebook check [TREE]... [--sha256 HEX] [--json]");
-    usage("check --json=1", "--json has no value\nusage: codebook check [TREE]... [--sha256 HEX] [--json]");
+    usage("check --json=1", "--json has no value; given: '1'\nusage: codebook check [TREE]... [--sha256 HEX] [--json]");
     usage("text -x", "there is no option '-x'\nusage: codebook text [TREE] [--json] [--unchecked]");
     let count = "usage: codebook count BYTE LENGTH [TREE] [--json] [--unchecked]";
     let byte = "a byte is one character, 0x00 to 0xff, \\n, \\r, \\t, \\\\ or \\xHH";
@@ -544,7 +543,7 @@ fn calls_that_are_not_right() {
     usage("build -o .", &format!("-o is a file where the book comes from standard input\n{build}"));
     usage("check none.tree", "none.tree: cannot be read: No such file or directory (os error 2)");
     usage("build none.txt -o x", "none.txt: cannot be read: No such file or directory (os error 2)");
-    usage("check .", ".: cannot be read: Is a directory (os error 21)");
+    usage("check .", ".: is a directory, not a file");
 }
 
 #[test]

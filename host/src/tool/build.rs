@@ -46,8 +46,8 @@ pub fn build(given: &Given) -> Result<(), Failure> {
 
 /// Several books go to several files.
 fn apart(given: &Given) -> Result<(), Failure> {
-    if given.words.len() > 1 && given.path(&OUTPUT).is_some_and(|path| !path.is_dir()) {
-        return Err(given.usage("-o is a folder where several books are built"));
+    if let Some(path) = given.path(&OUTPUT).filter(|path| given.words.len() > 1 && !path.is_dir()) {
+        return Err(given.usage(format!("several books need a folder after -o, and '{}' is none", path.display())));
     }
     let mut targets: Vec<(PathBuf, &OsString)> = Vec::new();
     for book in &given.words {

@@ -1,6 +1,7 @@
 //! The words of a call, read by the table.
 
-use crate::table::{self, Command, Due, Opt, Word};
+use crate::nearest::suggestion;
+use crate::table::{self, Command, Due, Opt, Word, COMMANDS};
 use crate::values;
 use crate::Failure;
 use std::ffi::{OsStr, OsString};
@@ -51,9 +52,12 @@ impl Given {
         let name = String::from_utf8_lossy(parts.next().unwrap_or_default()).into_owned();
         let joined = parts.next().map(|value| OsString::from_vec(value.to_vec()));
         let option = self.command.all_options().find(|option| option.long == name);
-        let option = option.ok_or_else(|| self.usage(format!("there is no option '{name}'")))?;
+        let option = option.ok_or_else(|| {
+            let meant = suggestion(&name, self.command.all_options().map(|option| option.long)).unwrap_or_default();
+            self.usage(format!("there is no option '{name}'{meant}"))
+        })?;
         match (option.value, joined) {
-            (None, Some(_)) => Err(self.usage(format!("{name} has no value"))),
+            (None, Some(value)) => Err(self.usage(format!("{name} has no value; given: '{}'", value.to_string_lossy()))),
             (None, None) => self.push(option, OsString::new()),
             (Some(_), Some(value)) => self.push(option, value),
             (Some(_), None) => self.push_next(option, &name, words.next()),
@@ -72,6 +76,10 @@ impl Given {
                 self.short(rest, words)
             }
             (Some(_), []) => self.push_next(option, &format!("-{letter}"), words.next()),
+            (Some(_), [b'=', rest @ ..]) => {
+                let value = String::from_utf8_lossy(rest);
+                Err(self.usage(format!("write -{letter} {value} or {}={value}, not -{letter}={value}", option.long)))
+            }
             (Some(_), rest) => self.push(option, OsString::from_vec(rest.to_vec())),
         }
     }
@@ -198,7 +206,7 @@ fn command(words: &[OsString]) -> Result<(&'static Command, &[OsString]), Failur
         return Err(Failure::usage(format!("'{name}' stands before the command; options stand after it; see codebook --help")));
     }
     if seconds.is_empty() {
-        return Err(Failure::usage(format!("there is no command '{name}'; see codebook --help")));
+        return Err(unknown(&name));
     }
     let due = match &seconds[..] {
         [others @ .., last] if !others.is_empty() => format!("{} or {last}", others.join(", ")),
@@ -219,4 +227,11 @@ fn command(words: &[OsString]) -> Result<(&'static Command, &[OsString]), Failur
                 .ok_or_else(|| Failure::usage(format!("{name} is followed by {due}, not '{second}'; see codebook help {name}")))
         }
     }
+}
+
+/// There is no such command.
+pub fn unknown(name: &str) -> Failure {
+    let first_words = COMMANDS.iter().filter_map(|command| command.name.split(' ').next());
+    let meant = suggestion(name, first_words).unwrap_or("; see codebook --help".to_owned());
+    Failure::usage(format!("there is no command '{name}'{meant}"))
 }

@@ -1,12 +1,12 @@
 //! What `help`, `--version`, `manual` and `completion` print, all from the table.
 
-use crate::given::Given;
+use crate::given::{self, Given};
 use crate::json::Object;
 use crate::table::{Command, COMMANDS};
 use crate::{completion, manual, say, Failure};
 
 /// Bytes of a line of help.
-const LINE: usize = 110;
+const LINE: usize = 80;
 
 /// Where an option's help begins.
 const OPTION: usize = 22;
@@ -26,7 +26,7 @@ pub fn show(given: &Given) -> Result<(), Failure> {
     }
     let commands: Vec<&Command> = COMMANDS.iter().filter(|command| command.name == name || command.name.split(' ').next() == Some(&name)).collect();
     if commands.is_empty() {
-        return Err(Failure::usage(format!("there is no command '{name}'; see codebook --help")));
+        return Err(given::unknown(&name));
     }
     print(given, &commands.iter().map(|command| text(command)).collect::<Vec<_>>().join("\n"))
 }
@@ -50,7 +50,7 @@ fn overview() -> String {
 
 /// The text of `codebook COMMAND --help`.
 pub fn text(command: &Command) -> String {
-    let mut text = folded(&command.usage(), "    ").replacen("    ", "", 1) + "\n";
+    let mut text = usage(command) + "\n";
     text += &folded(&format!("{}.", capital(command.summary)), "");
     for paragraph in command.details.lines() {
         text += &folded(paragraph, "");
@@ -61,6 +61,21 @@ pub fn text(command: &Command) -> String {
         text += &format!("  {:<width$}{}", option.forms(), &help[OPTION..], width = OPTION - 2);
     }
     text + "\n" + &folded(ENDING, "")
+}
+
+/// How a command is called: an option and its value stay on one line.
+fn usage(command: &Command) -> String {
+    let mut lines = vec![String::new()];
+    for part in command.usage().replace(" [", "\n[").lines() {
+        match lines.last_mut() {
+            Some(line) if line.is_empty() || line.len() + 1 + part.len() <= LINE => {
+                line.push_str(if line.is_empty() { "" } else { " " });
+                line.push_str(part);
+            }
+            _ => lines.push(format!("    {part}")),
+        }
+    }
+    lines.join("\n") + "\n"
 }
 
 /// The first letter in capitals.

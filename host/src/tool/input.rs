@@ -79,7 +79,11 @@ impl Source {
         match path {
             Some(path) if path != Path::new("-") => {
                 let name = path.to_string_lossy().into_owned();
-                File::open(path).map_err(|error| unread(&name, &error)).map(|file| Source { name, file })
+                let file = File::open(path).map_err(|error| unread(&name, &error))?;
+                if file.metadata().is_ok_and(|metadata| metadata.is_dir()) {
+                    return Err(Failure::file(&name, "is a directory, not a file"));
+                }
+                Ok(Source { name, file })
             }
             _ => Source::standard(path.is_some()),
         }

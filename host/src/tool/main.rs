@@ -14,6 +14,7 @@ mod input;
 mod json;
 mod licence;
 mod manual;
+mod nearest;
 mod output;
 mod picture;
 mod progress;

@@ -41,7 +41,7 @@ A tree carries no checksum of its text: a tree with one leaf byte changed, and i
 .B build
 prints, and give it to
 .BR \"check \\-\\-sha256\" ;
-or hold the tree against its book with
+or compare the tree with its book by
 .BR verify .
 ";
 

@@ -60,6 +60,7 @@ impl Output {
         let name = path.to_string_lossy().into_owned();
         let unwritten = |error: io::Error| Failure::file(&name, format!("cannot be written: {error}"));
         let (target, old) = match fs::metadata(path) {
+            Ok(old) if old.is_dir() => return Err(Failure::file(&name, "is a directory, not a file")),
             Ok(old) if !old.is_file() => {
                 let file = OpenOptions::new().write(true).open(path).map_err(unwritten)?;
                 return Ok(Output { name, place: Place::Special(file) });

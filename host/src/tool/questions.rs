@@ -1,7 +1,8 @@
 //! The questions put to one tree.
 
-use crate::check::{open, refused};
+use crate::check::open;
 use crate::given::Given;
+use crate::guide::check_guide;
 use crate::input::{self, GUIDE, TREE};
 use crate::json::Object;
 use crate::say::{self, several};
@@ -81,7 +82,7 @@ pub fn ask(given: &Given) -> Result<(), Failure> {
     let guide = given.path(&table::GUIDE).map(|path| input::read(Some(path), &GUIDE)).transpose()?;
     let tree = open(&input, unchecked)?;
     if let Some(guide) = guide.as_ref().filter(|_| !unchecked) {
-        tree.check_guide(&guide.bytes).map_err(|refusal| refused(guide, refusal))?;
+        check_guide(tree, guide)?;
     }
     let guide = guide.as_ref().map(|guide| guide.bytes.as_slice());
     let mut page = Page { json: given.json(), bytes: Vec::new() };

@@ -58,7 +58,7 @@ const fn valued(long: &'static str, value: &'static str, help: &'static str) -> 
     Opt { long, short: None, value: Some(value), file: false, help }
 }
 
-pub static HELP: Opt = flag("--help", Some('h'), "say how the command is called");
+pub static HELP: Opt = flag("--help", Some('h'), "print help");
 pub static QUIET: Opt = flag("--quiet", Some('q'), "no report, warning or progress; answers and failures are still told");
 pub static JSON: Opt = flag("--json", None, "one JSON object a line; docs/JSON.md describes them");
 pub static OUTPUT: Opt = Opt { long: "--output", short: Some('o'), value: Some("FILE"), file: true, help: "the file to write; - is standard output" };
@@ -137,7 +137,7 @@ pub static COMMANDS: [Command; 30] = [
         name: "verify",
         words: &[one("BOOK"), one("TREE"), any("BOOK TREE")],
         options: &[&COLUMNS, &JSON],
-        summary: "hold trees against their books",
+        summary: "compare trees with their books",
         details: "Says whether TREE is a good tree of the text BOOK, and whether it is the one that build makes, byte for byte; where it is not of that text, which byte differs first.",
         run: check::verify,
     },
@@ -202,7 +202,7 @@ pub static COMMANDS: [Command; 30] = [
         name: "count",
         words: &[one("BYTE"), one("LENGTH"), maybe("TREE")],
         options: &[&JSON, &UNCHECKED],
-        summary: "print how often a byte stands in the first LENGTH bytes",
+        summary: "print how often a byte occurs in the first LENGTH bytes",
         details: "BYTE is one character, its number as 0x0a, or \\n, \\r, \\t, \\\\ or \\xHH; the tree must count it. Prints how often, and how many blocks were entered.",
         run: questions::ask,
     },
@@ -210,8 +210,8 @@ pub static COMMANDS: [Command; 30] = [
         name: "find",
         words: &[one("BYTE"), one("NUMBER"), maybe("TREE")],
         options: &[&GUIDE, &JSON, &UNCHECKED],
-        summary: "print the place where a byte stands for the NUMBER-th time",
-        details: "NUMBER goes from 1 to how often the byte stands in the book. BYTE is one character, its number as 0x0a, or \\n, \\r, \\t, \\\\ or \\xHH; the tree must count it. Prints the place, and how many blocks lead to it.",
+        summary: "print the place of the NUMBER-th occurrence of a byte",
+        details: "NUMBER goes from 1 to how often the byte occurs in the book. BYTE is one character, its number as 0x0a, or \\n, \\r, \\t, \\\\ or \\xHH; the tree must count it. Prints the place, and how many blocks lead to it.",
         run: questions::ask,
     },
     Command {
@@ -236,7 +236,7 @@ pub static COMMANDS: [Command; 30] = [
         name: "worn",
         words: &[one("LOWS"), one("HIGHS"), maybe("TREE")],
         options: &[&FROM, &AFTER, &JSON, &UNCHECKED],
-        summary: "print the rows that match a worn key, by the lowest and highest depths",
+        summary: "match, by the lowest and the highest depth of each cut",
         details: "LOWS and HIGHS have a digit for each of 1 to 10 cuts: the lowest and the highest depth that it may have. The rows are those of match.",
         run: questions::ask,
     },
@@ -332,7 +332,7 @@ pub static COMMANDS: [Command; 30] = [
         name: "help",
         words: &[any("COMMAND")],
         options: &[&JSON],
-        summary: "say how the tool, or a command, is called",
+        summary: "print help on the tool or on a command",
         details: "The same as COMMAND --help.",
         run: help::show,
     },

@@ -80,7 +80,10 @@ pub fn pattern(word: &OsStr) -> Result<Vec<u8>, String> {
     let mut rest = word.as_bytes();
     while let [first, others @ ..] = rest {
         let (byte, length) = match first {
-            b'\\' => escaped(others).ok_or("a backslash begins \\n, \\r, \\t, \\\\ or \\xHH, a byte in hexadecimal")?,
+            b'\\' => escaped(others).ok_or_else(|| {
+                let given = String::from_utf8_lossy(&rest[..rest.len().min(4)]).into_owned();
+                format!("a backslash begins \\n, \\r, \\t, \\\\ or \\xHH, a byte in hexadecimal, not '{given}'")
+            })?,
             _ => (*first, 0),
         };
         bytes.push(byte);
