@@ -162,7 +162,7 @@ pub static COMMANDS: [Command; 30] = [
         words: &TREE,
         options: &[&OUTPUT, &FORCE, &KEEP_TIME, &JSON],
         summary: "draw a tree's levels as an SVG file",
-        details: "Each level is a bar of its blocks in the text's order. Kept blocks are tall and dark; pointing blocks are low, in the colour of the place that they point to, which the strip at the top shows. Few pointing blocks have an arrow besides. Blocks narrower than a pixel are merged.",
+        details: "Each level is a bar of its blocks in the text's order. Kept blocks are tall and dark; pointing blocks are low, in the colour of the place that they point to, which the strip at the top shows. Few pointing blocks have an arrow besides. Where blocks are too narrow to be drawn, the height in each pixel is the share of its text that is kept, and that points.",
         run: picture::picture,
     },
     Command {
