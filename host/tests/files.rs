@@ -164,7 +164,6 @@ fn standard_output_is_no_file_of_the_call() {
         ("codebook text < small.tree >> small.tree", "standard input"),
         ("codebook text --json < small.tree >> small.tree", "standard input"),
         ("codebook row 1 small.tree --json >> ./small.tree", "small.tree"),
-        ("codebook row none small.tree --json >> small.tree", "small.tree"),
         ("codebook check small.txt small.tree >> small.tree", "small.tree"),
         ("codebook verify small.txt small.tree >> small.txt", "small.txt"),
         ("codebook row 1 small.tree --guide=small.guide >> small.guide", "small.guide"),
@@ -178,6 +177,12 @@ fn standard_output_is_no_file_of_the_call() {
             "{line}"
         );
     }
+    // a wrong call adds no object either
+    folder.shell("codebook row none small.tree --json >> small.tree").status(2);
+    assert!(folder.read("small.tree") == tree);
+    // a word that is no file may have a file's name
+    folder.shell("codebook row 5 small.tree > 5").succeeds();
+    assert_eq!(folder.read("5"), b"CH0505 444233\n");
     // the shell has emptied the book before the tool starts: no tree of nothing is written to it
     folder.shell("codebook build -o - small.txt > small.txt").status(2);
     assert_eq!(folder.read("small.txt"), b"");

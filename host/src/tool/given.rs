@@ -104,16 +104,16 @@ impl Given {
         let endless = due.last().is_some_and(|word| matches!(word.due, Due::AnyTimes | Due::AtLeastOnce));
         match self.words.get(due.len()) {
             Some(more) if !endless => Err(self.usage(format!("unexpected argument '{}'", more.to_string_lossy()))),
-            _ if self.standard_inputs() > 1 => Err(self.usage("- is standard input, which can be read once only")),
+            _ if self.inputs().filter(|&file| file == "-").count() > 1 => Err(self.usage("- is standard input, which can be read once only")),
             _ => Ok(()),
         }
     }
 
-    /// How many of the files are `-`.
-    fn standard_inputs(&self) -> usize {
-        let files =
-            self.words.iter().enumerate().filter(|(at, _)| self.command.words.get(*at).or(self.command.words.last()).is_some_and(Word::is_file));
-        files.map(|(_, word)| word.as_os_str()).chain(self.value(&table::GUIDE)).filter(|&word| word == "-").count()
+    /// The files that the call reads.
+    pub fn inputs(&self) -> impl Iterator<Item = &OsStr> {
+        let due = |at: usize| self.command.words.get(at).or(self.command.words.last());
+        let files = self.words.iter().enumerate().filter(move |(at, _)| due(*at).is_some_and(Word::is_file));
+        files.map(|(_, word)| word.as_os_str()).chain(self.value(&table::GUIDE))
     }
 
     pub fn has(&self, option: &Opt) -> bool {

@@ -3,11 +3,10 @@
 use crate::say::grouped;
 use crate::Failure;
 use codebook::{Refusal, MAX_TEXT, MAX_TREE};
-use std::ffi::{OsStr, OsString};
+use std::ffi::OsStr;
 use std::fs::{self, File, Metadata};
 use std::io::{self, IsTerminal, Read};
 use std::os::fd::AsFd;
-use std::os::unix::ffi::OsStrExt;
 use std::os::unix::fs::MetadataExt;
 use std::path::Path;
 
@@ -63,14 +62,10 @@ fn standard_output() -> Option<Identity> {
     Identity::of(&file.metadata().ok()?)
 }
 
-/// A word of the call that names the file that standard output goes to, `/dev/stdout` excepted: what is printed would spoil that file.
-pub fn output_used<'a>(words: &'a [OsString]) -> Option<Failure> {
+/// The name among these of the file that standard output goes to, `/dev/stdout` excepted: what is printed would spoil that file.
+pub fn printed_upon<'a>(mut names: impl Iterator<Item = &'a OsStr>) -> Option<&'a OsStr> {
     let output = standard_output()?;
-    let is_output = |path: &Path| path != Path::new("/dev/stdout") && fs::metadata(path).is_ok_and(|file| Identity::of(&file) == Some(output));
-    // --guide=FILE names a file too
-    let value = |word: &'a OsString| word.as_bytes().splitn(2, |&byte| byte == b'=').last().map_or(word.as_os_str(), OsStr::from_bytes);
-    let used = words.iter().flat_map(|word| [word.as_os_str(), value(word)]).find(|word| is_output(Path::new(word)))?;
-    Some(Failure::output_used(&used.to_string_lossy()))
+    names.find(|&name| name != "/dev/stdout" && fs::metadata(name).is_ok_and(|file| Identity::of(&file) == Some(output)))
 }
 
 impl Source {

@@ -37,17 +37,22 @@ use std::process::ExitCode;
 
 fn main() -> ExitCode {
     let words: Vec<OsString> = std::env::args_os().skip(1).collect();
-    if let Some(failure) = input::output_used(&words) {
-        return stop(&failure, false);
-    }
-    let json = given::asks_for_json(&words);
-    match Given::read(words).and_then(|given| run(&given)) {
+    // a wrong call adds no object to a file that it names
+    let json = given::asks_for_json(&words) && input::printed_upon(words.iter().map(OsString::as_os_str)).is_none();
+    let given = match Given::read(words) {
+        Ok(given) => given,
+        Err(failure) => return stop(&failure, json),
+    };
+    match run(&given) {
         Ok(()) => ExitCode::SUCCESS,
-        Err(failure) => stop(&failure, json),
+        Err(failure) => stop(&failure, given.json()),
     }
 }
 
 fn run(given: &Given) -> Result<(), Failure> {
+    if let Some(name) = input::printed_upon(given.inputs().chain(given.value(&table::OUTPUT))) {
+        return Err(Failure::output_used(&name.to_string_lossy()));
+    }
     match given.has(&table::HELP) {
         true => help::print(given, &help::text(given.command)),
         false => (given.command.run)(given),
