@@ -78,7 +78,8 @@ def run_build(words):
             book, leaf, arity, levels, counted = question.split(" ")
             listed = "none" if counted == "-" else ",".join(str(byte) for byte in bytes.fromhex(counted))
             tree = os.path.join(folder, "%d.tree" % number)
-            done = Done(words, book=book, leaf=leaf, arity=arity, levels=levels, counted=listed, tree=tree)
+            hexed = "none" if counted == "-" else ",".join("0x%02x" % byte for byte in bytes.fromhex(counted))
+            done = Done(words, book=book, leaf=leaf, arity=arity, levels=levels, counted=listed, counted_hex=hexed, tree=tree)
             if not answer.startswith("good/"):
                 right = (done.refused or str(done.status)) == answer
                 yield question, answer, answer if right else "built" if done.status == 0 else done.words(), done.errors

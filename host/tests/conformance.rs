@@ -31,7 +31,7 @@ fn files_are_current() {
 
 #[test]
 fn the_tool_passes() {
-    let build = "codebook build {book} -q -o {tree} --leaf {leaf} --arity {arity} --levels {levels} --count {counted}";
+    let build = "codebook build {book} -q -o {tree} --leaf {leaf} --arity {arity} --levels {levels} --count {counted_hex}";
     if let Some(said) = script("run.py", &["--build", build, "--check", "codebook check -q {tree}"], Path::new("")) {
         assert!(said.ends_with(" cases, 0 wrong\n") && said.len() > 18, "{said}");
     }

@@ -35,8 +35,8 @@ pub fn code(given: &Given) -> Result<(), Failure> {
     }
     match (worst, found) {
         (0, true) => Ok(()),
-        (0, false) => Err(Failure::refused("", format!("no row begins with '{}'", prefix.escape_ascii()))),
-        (worst, _) => Err(Failure::worst(worst)),
+        (0, false) => Err(Failure::nothing("", format!("no row begins with '{}'", prefix.escape_ascii()))),
+        (worst, _) => Err(Failure::told(worst)),
     }
 }
 

@@ -5,8 +5,8 @@ use crate::given::Given;
 use crate::input::{self, Input, TREE};
 use crate::json::Object;
 use crate::say::{self, grouped, several};
-use crate::{book, Failure};
-use codebook::{Refusal, MAX_TEXT};
+use crate::Failure;
+use codebook::{text_rows, Refusal, MAX_TEXT};
 use std::collections::{HashMap, VecDeque};
 use std::path::Path;
 
@@ -33,9 +33,6 @@ enum Change<'a> {
 }
 
 pub fn diff(given: &Given) -> Result<(), Failure> {
-    if given.words.iter().all(|word| word == "-") {
-        return Err(given.usage("ONE and OTHER are both standard input"));
-    }
     let (one, other) = (text(given.file(0)).map_err(Failure::trouble)?, text(given.file(1)).map_err(Failure::trouble)?);
     let (old, new) = (rows(&one.bytes), rows(&other.bytes));
     let changes = changes(&old, &new);
@@ -46,7 +43,7 @@ pub fn diff(given: &Given) -> Result<(), Failure> {
     }
     match changes.is_empty() {
         true => Ok(()),
-        false => Err(Failure::told()),
+        false => Err(Failure::told(1)),
     }
 }
 
@@ -65,7 +62,7 @@ fn text(path: Option<&Path>) -> Result<Input, Failure> {
 }
 
 fn rows(text: &[u8]) -> Vec<Row<'_>> {
-    book::rows(text).zip(1..).map(|(bytes, number)| Row { number, bytes }).collect()
+    text_rows(text).zip(1..).map(|(bytes, number)| Row { number, bytes }).collect()
 }
 
 /// The rows of each book that the other does not have. Equal rows are paired, first those with the same number from the start or from the end, so that
