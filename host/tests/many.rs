@@ -50,7 +50,7 @@ fn checks_and_verifies() {
     assert_eq!(lines, ["small.tree: valid tree of 2,800 bytes of text", "late.tree: valid tree of 2,000 bytes of text"]);
     folder.run("check small.tree late.tree --quiet").succeeds().prints("").says("");
     let done = folder.run("digest small.tree damaged.tree none.tree late.tree");
-    done.status(1).says(&format!("codebook: damaged.tree: {LINKS}\ncodebook: none.tree: {NONE}\n"));
+    done.status(2).says(&format!("codebook: damaged.tree: {LINKS}\ncodebook: none.tree: {NONE}\n"));
     done.prints(&folder.shell("sha256sum small.txt late.txt").printed().replace(".txt", ".tree"));
     let good = "small.tree: the block tree of small.txt, 2,800 bytes\nlate.tree: the block tree of late.txt, 2,000 bytes\n";
     folder.run("verify small.txt small.tree late.txt late.tree").succeeds().prints(good);

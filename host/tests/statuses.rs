@@ -13,6 +13,7 @@ fn searches() {
         ("places CH0502", "places CH9", "places ", "places \\q"),
         ("match 5216[1-5]", "match 99999", "match 4[5-3]", "match 4x"),
         ("worn 52161 52165", "worn 99999 99999", "worn 5 3", "worn 5 x"),
+        ("code CH0502", "code CH9", "code --prefix ", "code \\q"),
     ] {
         let said = folder.run(&format!("{found} small.tree"));
         said.succeeds().says("");
@@ -52,10 +53,12 @@ fn several_files() {
     for (files, status) in
         [("small.tree small.tree", 0), ("small.tree bad.tree", 1), ("bad.tree none.tree", 2), ("none.tree bad.tree", 2), ("none.tree small.tree", 2)]
     {
-        for command in ["check", "stats", "list", "shelf"] {
+        for command in ["check", "stats", "list", "shelf", "digest", "code CH0502"] {
             folder.run(&format!("{command} {files}")).status(status);
         }
     }
+    folder.run("slim -q small.tree bad.tree").status(1);
+    folder.run("slim -q -f small.tree bad.tree none.tree").status(2);
     folder.run("verify small.txt small.tree small.txt bad.tree").status(1);
     folder.run("verify small.txt bad.tree none.txt small.tree").status(2);
     folder.write("other.txt", b"A 1\n");
