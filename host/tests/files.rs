@@ -36,6 +36,8 @@ fn a_tree_has_the_permissions_of_its_book() {
         for (line, made) in [
             ("guide make 600.tree -q -o made.guide", "made.guide"),
             ("picture 600.tree -q -o made.svg", "made.svg"),
+            ("slim 600.tree -q", "600.small.tree"),
+            ("import secret.txt -q -o imported.txt", "imported.txt"),
             ("to-columns 14 secret.txt -o turned.txt", "turned.txt"),
             ("build -q -o piped.tree < secret.txt", "piped.tree"),
         ] {
@@ -74,7 +76,12 @@ fn times_are_kept_where_they_are_asked_for() {
     assert!(written("now.tree").0 > 1_000_000_000);
     folder.run("build small.txt -q --keep-time").succeeds();
     assert_eq!(written("small.tree"), (1_000_000_000, 250_000_000));
-    for (line, made) in [("guide make small.tree -o made.guide", "made.guide"), ("picture small.tree -o made.svg", "made.svg")] {
+    for (line, made) in [
+        ("guide make small.tree -o made.guide", "made.guide"),
+        ("picture small.tree -o made.svg", "made.svg"),
+        ("slim small.tree", "small.small.tree"),
+        ("import small.txt -o made.txt", "made.txt"),
+    ] {
         folder.run(&format!("{line} -q --keep-time")).succeeds();
         assert_eq!(written(made), (1_000_000_000, 250_000_000));
     }
@@ -170,6 +177,11 @@ fn standard_output_is_no_file_of_the_call() {
         ("codebook build small.txt -o - >> small.txt", "small.txt"),
         ("codebook build small.txt -f -o small.tree >> small.tree", "small.tree"),
         ("codebook build -o - < small.txt >> small.txt", "standard input"),
+        ("codebook slim small.tree -o - >> small.tree", "small.tree"),
+        ("codebook import small.txt >> small.txt", "small.txt"),
+        ("codebook digest small.tree >> small.tree", "small.tree"),
+        ("codebook diff small.txt small.tree >> small.tree", "small.tree"),
+        ("codebook code CH0501 small.tree >> small.tree", "small.tree"),
     ] {
         folder.shell(line).status(2).says(&format!("codebook: {name}: standard output goes to this file too; it is left as it is\n"));
         assert!(
@@ -193,10 +205,14 @@ fn standard_output_is_no_file_of_the_call() {
 fn no_tree_is_written_to_another_book() {
     let folder = Folder::new("both");
     folder.write("small.tree", b"A 1\n");
-    let says = "codebook: small.tree is read, and the tree of small.txt would be written to it\n";
+    let says = "codebook: small.tree is read, and what is made of small.txt would be written to it\n";
     let done = folder.run("build small.txt ./small.tree --force");
     assert!(done.status(2).errors().starts_with(&says.replacen("small.tree", "./small.tree", 1)), "{}", done.errors());
     assert_eq!(folder.read("small.tree"), b"A 1\n");
+    folder.run("build small.txt -q --force").succeeds();
+    folder.run("slim small.tree -q").succeeds();
+    let says = "codebook: small.small.tree is read, and what is made of small.tree would be written to it\n";
+    assert!(folder.run("slim small.tree small.small.tree --force").status(2).errors().starts_with(says));
 }
 
 /// Two books would go to standard output, or one input be read twice.
@@ -204,7 +220,19 @@ fn no_tree_is_written_to_another_book() {
 fn standard_input_twice() {
     let folder = Folder::with_tree("twice");
     folder.run("guide make small.tree -o small.guide").succeeds();
-    for words in ["build - -", "check - small.tree -", "compare - -", "verify - -", "shelf - -", "guide check - -", "row 1 - --guide -"] {
+    for words in [
+        "build - -",
+        "check - small.tree -",
+        "compare - -",
+        "verify - -",
+        "shelf - -",
+        "guide check - -",
+        "row 1 - --guide -",
+        "slim - -",
+        "digest - -",
+        "diff - -",
+        "code CH0501 - -",
+    ] {
         let done = folder.pipe(words, &folder.read("small.tree"));
         let says = "codebook: - is standard input, which can be read once only\nusage: codebook ";
         assert!(done.status(2).errors().starts_with(says), "{words}: {}", done.errors());
@@ -239,4 +267,9 @@ fn trees_of_books_with_endings() {
     ] {
         folder.run(&format!("row 1 {tree}")).succeeds().prints(row);
     }
+    // a tree without edges: .small.tree in place of .tree, or after the whole name
+    fs::copy(folder.0.join("Opel.tree"), folder.0.join("Opel.7")).expect("a file");
+    folder.run("slim Ford.2023.tree Opel.7 -q").succeeds();
+    folder.run("row 1 Ford.2023.small.tree").succeeds().prints("Ford.2023 1\n");
+    folder.run("row 1 Opel.7.small.tree").succeeds().prints("Opel 1\n");
 }

@@ -26,17 +26,28 @@ fn shelf(name: &str) -> Folder {
     let mut damaged = folder.read("small.tree");
     damaged[104] = 2;
     folder.write("damaged.tree", &damaged);
+    folder.write("maker.txt", b"CH0501 444220\nNEW 1\n");
+    folder.write("maker.csv", b"Code;Cuts\nCH0501;444224\nCH 502;444225\n");
+    folder.write("small.tree.json", b"{\"maker\":\"Ilko\",\"edition\":\"3\"}");
     folder
 }
 
 /// A call of each command that succeeds.
-const CALLS: [&str; 42] = [
+const CALLS: [&str; 50] = [
     "build small.txt -f -o new.tree",
     "build small.txt -f -q -o new.tree",
     "build small.txt -f -o new.tree --columns 14 --allow-larger",
+    "build small.txt -f -o new.tree --small",
+    "slim small.tree -f -o new.tree",
+    "slim small.tree -f -q -o new.tree",
+    "import maker.csv -f --lenient -o new.txt",
     "check small.tree",
     "check small.tree columns.tree",
     "verify small.txt small.tree",
+    "digest small.tree columns.tree",
+    "diff small.txt small.tree",
+    "code HON1012 small.tree",
+    "code --prefix HON small.tree columns.tree --unchecked",
     "list small.tree",
     "list small.tree small.tree",
     "stats small.tree",
@@ -103,6 +114,8 @@ fn every_command() {
         assert!(!printed.is_empty(), "{call}");
         printed.iter().for_each(|object| note(&mut kinds, object, call));
     }
+    let differing = objects(&folder.run("diff maker.txt small.tree --json").status(1).printed());
+    differing.iter().for_each(|object| note(&mut kinds, object, "diff"));
     for call in FAILURES {
         objects(&folder.run(&format!("{call} --json")).printed()).iter().for_each(|object| note(&mut kinds, object, call));
     }
@@ -116,11 +129,15 @@ fn every_command() {
 #[test]
 fn bytes_on_standard_output() {
     let folder = shelf("json-output");
+    folder.run("slim small.tree -q").succeeds();
+    folder.write("turned.csv", &folder.read("small.txt").iter().map(|&byte| if byte == b' ' { b';' } else { byte }).collect::<Vec<u8>>());
     for (call, bytes) in [
         ("build small.txt -o - --json -q", "small.tree"),
         ("guide make small.tree --json", "small.guide"),
         ("to-columns 14 small.txt --json", "turned.txt"),
         ("from-columns 14 turned.txt --json", "small.txt"),
+        ("slim small.tree -o - --json", "small.small.tree"),
+        ("import turned.csv --json", "small.txt"),
     ] {
         let done = folder.run(call);
         assert_eq!(done.succeeds().output.stdout, folder.read(bytes), "{call}");
@@ -132,9 +149,15 @@ fn bytes_on_standard_output() {
 }
 
 /// Refused trees and questions, files that are not there, and calls that are wrong.
-const FAILURES: [&str; 22] = [
+const FAILURES: [&str; 28] = [
     "build none.txt",
     "build small.txt -o small.tree",
+    "slim damaged.tree",
+    "slim small.tree -o small.tree -f",
+    "import none.csv",
+    "digest damaged.tree",
+    "diff damaged.tree small.txt",
+    "code HON1012 none.tree",
     "check damaged.tree",
     "check none.tree",
     "verify small.txt columns.tree",

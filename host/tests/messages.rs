@@ -52,13 +52,28 @@ fn an_equals_sign_after_a_short_option() {
 #[test]
 fn folders() {
     let folder = Folder::with_tree("folders");
-    for words in ["build .", "check .", "row 1 .", "text .", "verify . small.tree", "guide make .", "to-columns 14 ."] {
+    for words in [
+        "build .",
+        "check .",
+        "row 1 .",
+        "text .",
+        "verify . small.tree",
+        "guide make .",
+        "to-columns 14 .",
+        "slim .",
+        "digest .",
+        "code CH0501 .",
+        "import .",
+        "diff . small.tree",
+    ] {
         says(&folder, words, ".: is a directory, not a file");
     }
-    for words in ["guide make small.tree -o .", "picture small.tree -f -o ."] {
+    for words in ["guide make small.tree -o .", "picture small.tree -f -o .", "import small.txt -o ."] {
         says(&folder, words, ".: is a directory, not a file");
     }
-    says(&folder, "build small.txt small.tree -o none", "several books need a folder after -o, and 'none' is none");
+    for words in ["build small.txt small.tree -o none", "slim small.tree other.tree -o none"] {
+        says(&folder, words, "several files need a folder after -o, and 'none' is none");
+    }
 }
 
 /// What was given stands beside what is right.

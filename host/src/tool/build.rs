@@ -87,7 +87,7 @@ pub fn apart(given: &Given, naming: &Naming) -> Result<(), Failure> {
         let Some(target) = target(given, Some(Path::new(book)), naming)? else { continue };
         if let Some(read) = given.words.iter().find(|read| *read != book && same_file(Path::new(read), &target)) {
             let (read, book) = (read.to_string_lossy(), book.to_string_lossy());
-            return Err(given.usage(format!("{read} is read, and the tree of {book} would be written to it")));
+            return Err(given.usage(format!("{read} is read, and what is made of {book} would be written to it")));
         }
         let target = spelled_out(&target);
         if let Some((_, other)) = targets.iter().find(|(path, _)| *path == target) {
