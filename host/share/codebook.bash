@@ -4,18 +4,22 @@ _codebook() {
     local word=${COMP_WORDS[COMP_CWORD]} command=${COMP_WORDS[1]} choices=
     COMPREPLY=()
     if [ "$COMP_CWORD" -eq 1 ]; then
-        choices='build check verify list stats picture row byte run span count find places match worn text to-columns from-columns guide compare shelf licence sizes help version manual completion --help --version'
+        choices='build slim import check verify digest diff list stats picture row byte run span count find places code match worn text to-columns from-columns guide compare shelf licence sizes help version manual completion --help --version'
     else
         case $command in
         guide) command="$command ${COMP_WORDS[2]}"; [ "$COMP_CWORD" -eq 2 ] && choices='make check' ;;
         licence) command="$command ${COMP_WORDS[2]}"; [ "$COMP_CWORD" -eq 2 ] && choices='open left renew' ;;
         completion) choices='bash zsh' ;;
-        help) choices='build check verify list stats picture row byte run span count find places match worn text to-columns from-columns guide compare shelf licence sizes help version manual completion' ;;
+        help) choices='build slim import check verify digest diff list stats picture row byte run span count find places code match worn text to-columns from-columns guide compare shelf licence sizes help version manual completion' ;;
         esac
         case $word in -*) case $command in
-        'build') choices='-o --output -f --force --keep-time --leaf --arity --levels --count --columns --allow-larger --json -q --quiet -h --help' ;;
-        'check') choices='--sha256 --json -q --quiet -h --help' ;;
+        'build') choices='-o --output -f --force --keep-time --small --leaf --arity --levels --count --columns --allow-larger --json -q --quiet -h --help' ;;
+        'slim') choices='-o --output -f --force --keep-time --json -q --quiet -h --help' ;;
+        'import') choices='-o --output -f --force --keep-time --code --cuts --separator --lenient --json -q --quiet -h --help' ;;
+        'check') choices='--sha256 --text-sha256 --json -q --quiet -h --help' ;;
         'verify') choices='--columns --json -q --quiet -h --help' ;;
+        'digest') choices='--json --unchecked -q --quiet -h --help' ;;
+        'diff') choices='--json -q --quiet -h --help' ;;
         'list') choices='--json -q --quiet -h --help' ;;
         'stats') choices='--json -q --quiet -h --help' ;;
         'picture') choices='-o --output -f --force --keep-time --json -q --quiet -h --help' ;;
@@ -26,6 +30,7 @@ _codebook() {
         'count') choices='--json --unchecked -q --quiet -h --help' ;;
         'find') choices='--guide --json --unchecked -q --quiet -h --help' ;;
         'places') choices='--json --unchecked -q --quiet -h --help' ;;
+        'code') choices='--prefix --guide --json --unchecked -q --quiet -h --help' ;;
         'match') choices='--from --after --json --unchecked -q --quiet -h --help' ;;
         'worn') choices='--from --after --json --unchecked -q --quiet -h --help' ;;
         'text') choices='--json --unchecked -q --quiet -h --help' ;;
