@@ -182,10 +182,13 @@ fn arrow(from: usize, to: usize, y: usize) -> String {
     )
 }
 
+/// Draws a sample of what the legend names, at a place.
+type Sample<'a> = &'a dyn Fn(usize, usize) -> String;
+
 /// What the drawing has, with samples, in as many lines as that takes; and where they end.
 fn legend(y: usize, shown: Shown) -> (String, usize) {
     let arrow_at = |x: usize, y: usize| arrow(x + 58, x, y + 22).replace(&format!("V{}", y + 22), "");
-    let entries: [(bool, usize, &dyn Fn(usize, usize) -> String, &str); 5] = [
+    let entries: [(bool, usize, Sample, &str); 5] = [
         (shown.kept, 24, &|x, y| drawn(x, 24, y, None), "kept: cut into children, or leaf bytes"),
         (shown.pointing, 24, &|x, y| drawn(x, 24, y, Some(0.2)), "pointing: its bytes occur where the strip has its colour"),
         (shown.arrows, 60, &arrow_at, "to that place"),
