@@ -15,7 +15,9 @@
  *  - Nobody has to check a tree first: each call is safe on any bytes, reads nothing outside them and ends. On a tree that bt_check refuses, bt_find may
  *    answer any place below n with any number of blocks, bt_row the bytes that the tree's paths give from any place on, bt_row_length any length up to n,
  *    bt_next_match and bt_next_with_prefix any row after the mark or none, or each of them may answer BT_PATH (bt_row also BT_BUFFER, if the buffer is
- *    shorter than such bytes). All other answers are settled on any bytes. On a tree that bt_check accepts BT_PATH is never the answer.
+ *    shorter than such bytes). All other answers are settled on any bytes, but for the calls with a guide.
+ *  - With a guide that bt_check_guide refuses, bt_find_guided is free as bt_find is on a refused tree, bt_row_guided as bt_row and
+ *    bt_next_with_prefix_guided as bt_next_with_prefix, also on a tree that bt_check accepts. No other call returns BT_PATH on an accepted tree.
  *  - bt_check says that a tree stands for a text, not for which: a changed leaf byte, with the counts and edges that it is in, makes a valid tree of
  *    another text, and a wrong key. So the office prints the SHA-256 of the book, 32 bytes, and the machine compares them with what bt_digest writes of the
  *    tree (examples/c/check_digest.c). A digest is as good as the way it came: store it apart from the tree, where whoever can change the tree cannot write.

@@ -67,7 +67,7 @@ SHORT_LIST = [(256, 2, 1), (64, 4, 3), (48, 2, 5), (32, 4, 4), (24, 8, 3), (16, 
 
 MAX_TEXT = 8_388_608
 DIGEST = 32
-LIST_LENGTH = 512
+LIST_LENGTH = 352
 BEFORE, SAME, AFTER = 1, 2, 3
 
 

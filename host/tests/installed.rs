@@ -183,7 +183,7 @@ fn python_cases() {
     }
 }
 
-/// The module has the words of every refusal.
+/// The module has the words of every refusal, and the length of what list writes.
 #[test]
 fn python_reasons() {
     let module = fs::read_to_string(repository().join("python/blocktree.py")).expect("the module");
@@ -192,6 +192,7 @@ fn python_reasons() {
         let (_, words) = words.split_once("): ").expect("words");
         assert!(module.contains(&format!("    {}: \"{words}\",\n", refusal.number())), "{words}");
     }
+    assert!(module.contains(&format!("\nLIST_LENGTH = {}\n", codebook::LIST_LENGTH)), "LIST_LENGTH");
 }
 
 /// The module's version is the tool's, and so are the settings that it tries.

@@ -26,7 +26,11 @@ use Rattle.build_by_search.specs.declared.Built.the-variants as built
 use Rattle.build_by_search.specs.BuildAnswer.{numberOf, sizeOf}
 use Rattle.build_enough.specs.declared.Room.{Room}
 use Rattle.build_enough.specs.declared.Room.the-variants as room
-use Rattle.abi.specs.ExportAnswers.{saying, roomNumber, roomSize}
+use Rattle.build_enough.specs.Enough.{enoughSaid}
+use Rattle.list_lines.specs.declared.Listed.{Listed}
+use Rattle.list_lines.specs.declared.Listed.the-variants as listed
+use Rattle.list_lines.specs.ListSays.{listSaid}
+use Rattle.abi.specs.ExportAnswers.{saying}
 
 -- build and enough
 
@@ -37,12 +41,21 @@ module _ (r : Built) (number size : ℕ) (n-is : numberOf r ≡ number) (s-is : 
   pub build-refused : (q : ℕ) → r ≡ built.Refused q → (q ≡ number) × (0 ≡ size)
   build-refused q e = (sym (ap numberOf e) ∙ n-is, sym (ap sizeOf e) ∙ s-is)
 
-module _ (r s : Room) (is : r ≡ s) where
-  pub enough-told : (n : ℕ) → r ≡ room.Bytes n → (0 ≡ roomNumber s) × (n ≡ roomSize s)
-  enough-told n e = let z = sym e ∙ is in (ap roomNumber z, ap roomSize z)
+module _ (r : Room) (s : Said) (is : enoughSaid r ≡ s) where
+  pub enough-told : (n : ℕ) → r ≡ room.Bytes n → saying 0 n 0 ≡ s
+  enough-told n e = sym (ap enoughSaid e) ∙ is
 
-  pub enough-refused : (q : ℕ) → r ≡ room.Refused q → (q ≡ roomNumber s) × (0 ≡ roomSize s)
-  enough-refused q e = let z = sym e ∙ is in (ap roomNumber z, ap roomSize z)
+  pub enough-refused : (q : ℕ) → r ≡ room.Refused q → saying q 0 0 ≡ s
+  enough-refused q e = sym (ap enoughSaid e) ∙ is
+
+-- list
+
+module _ (r : Listed) (s : Said) (is : listSaid r ≡ s) where
+  pub list-told : (n : ℕ) → r ≡ listed.Bytes n → saying 0 n 0 ≡ s
+  list-told n e = sym (ap listSaid e) ∙ is
+
+  pub list-refused : (q : ℕ) → r ≡ listed.Refused q → saying q 0 0 ≡ s
+  list-refused q e = sym (ap listSaid e) ∙ is
 
 -- byte
 

@@ -38,7 +38,7 @@ ghost use Rattle.prefix_match.specs.PrefixRows.{startsWith};
 ghost use Rattle.query_row_filter.specs.AllowedOutcome.{AllowedOutcome};
 ghost use Rattle.ask_worn_keys.specs.MatchSays.{MatchSays};
 ghost use Rattle.query_prefix.specs.PrefixRefusals.{prefixRefusal};
-ghost use Rattle.abi.specs.ExportAnswers.{saying, roomNumber, roomSize, listedNumber, listedSize};
+ghost use Rattle.abi.specs.ExportAnswers.{saying};
 
 // Builds the tree of a text.
 #[no_mangle]
@@ -124,8 +124,7 @@ pub extern "C" fn bt_enough(
     counted: u32,
     size: &mut u64,
 ) -> u32
-    ensures { λ r. ⌜ r ≡ roomNumber (enoughSays n leaf arity levels counted) ⌝ }
-    ensures { λ _. ⌜ now (size .exit) ≡ roomSize (enoughSays n leaf arity levels counted) ⌝ }
+    ensures { λ r. ⌜ saying r (now (size .exit)) 0 ≡ enoughSays n leaf arity levels counted ⌝ }
 {
     let room = tree::enough(n, leaf, arity, levels, counted);
     match room {
@@ -369,8 +368,7 @@ pub extern "C" fn bt_next_with_prefix(
 // A line for each level of a tree.
 #[no_mangle]
 pub extern "C" fn bt_list(tree: &[u8], out: &mut [u8], len: &mut u32) -> u32
-    ensures { λ r. ⌜ r ≡ listedNumber (listSays (now (tree .entry)) (length (now (out .entry)))) ⌝ }
-    ensures { λ _. ⌜ now (len .exit) ≡ listedSize (listSays (now (tree .entry)) (length (now (out .entry)))) ⌝ }
+    ensures { λ r. ⌜ saying r (now (len .exit)) 0 ≡ listSays (now (tree .entry)) (length (now (out .entry))) ⌝ }
     ensures { λ _. ⌜ now (out .exit) ≡ listLeaves (now (tree .entry)) (now (out .entry)) ⌝ }
 {
     let listed = list_lines::list(tree, out);

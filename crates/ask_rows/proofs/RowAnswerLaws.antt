@@ -123,8 +123,10 @@ module _ (t : List ℕ) (p len room : ℕ) (x : Copied) (a : access.CopyAnswer t
       record { says = rw z at s; numbered = tt }
 
   -- its refusal, passed on
-  pub row-passed : (n : ℕ) → x ≡ of.Refused n → CopyAnswer t p len room (row.Refused n)
-  row-passed n e = record { says = rw e at (a .says); numbered = rw e at (a .numbered) }
+  pub row-passed : (n k : ℕ) → x ≡ of.Refused k → n ≡ copiedSaid x .number → CopyAnswer t p len room (row.Refused n)
+  row-passed n k e m =
+      let z : n ≡ k = m ∙ ap (λ (y : Copied). copiedSaid y .number) e in
+      record { says = rw z (rw e at (a .says)); numbered = rw z (rw e at (a .numbered)) }
 
 -- as the code returns it
 

@@ -11,6 +11,7 @@ ghost use Prim.Native.Nat.{_+_, _≤_};
 ghost use lib.ListN.{length};
 ghost use Rattle.format.specs.ReadSays.{copyLeaves};
 ghost use Rattle.layout.specs.HeaderSays.{HeaderOf};
+ghost use Rattle.ask_access.specs.ReadAnswers.{copiedSaid};
 ghost use Rattle.ask_rows.specs.RowAnswers.{RowAnswerBy};
 ghost use Rattle.ask_rows.specs.RowSpans.{CopyAnswer, settledBy};
 
@@ -36,8 +37,18 @@ fn copy(t: &[u8], h: Header, start: TextPlace, len: u32, buffer: &mut [u8]) -> R
     ensures { λ _. ⌜ now (buffer .exit) ≡ copyLeaves (now (t .entry)) (start .0) len (now (buffer .entry)) ⌝ }
 {
     let copied = read_by_header::copy(t, h, start, len, buffer);
+    let Copied::Bytes(n, _) = copied else {
+        return RowCopied::Refused(copied_number(copied));
+    };
+    RowCopied::Bytes(n)
+}
+
+// The number of the question that refuses a copy; 0 for bytes that were copied.
+fn copied_number(copied: Copied) -> u32
+    ensures { λ r. ⌜ r ≡ copiedSaid copied .number ⌝ }
+{
     match copied {
-        Copied::Bytes(n, _) => RowCopied::Bytes(n),
-        Copied::Refused(number) => RowCopied::Refused(number),
+        Copied::Bytes(_, _) => 0,
+        Copied::Refused(number) => number,
     }
 }

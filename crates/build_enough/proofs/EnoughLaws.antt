@@ -12,6 +12,8 @@ use Rattle.text.specs.ListLaws.{sumBelow-suc}
 use Rattle.format.specs.Settings.{pieces, lengthOk, sizesOk, countedOk, rising, recordLength, maxText, maxLevels, maxCounted, maxRecord}
 use Rattle.format.specs.HeaderPlaces.{headerLength}
 use Rattle.format.specs.Blocks.{builtLayout}
+use Rattle.format.specs.Verdict.{ask}
+use Rattle.format.specs.Said.{unless}
 use Rattle.format.specs.SizeLaws.{Sizes, within-bounds}
 use Rattle.layout.specs.declared.settings.Settings as code
 use Rattle.layout.specs.declared.settings.Checked.{Checked}
@@ -19,7 +21,7 @@ use Rattle.layout.specs.declared.settings.Checked.the-variants as checked-is
 use Rattle.layout.specs.CheckedSettings.{checked, sizes}
 use Rattle.layout.specs.SettingsLevel.{Sized}
 use Rattle.build_enough.specs.declared.Room.the-variants.{Bytes, Refused}
-use Rattle.build_enough.specs.Enough.{blocksAtMost, enoughFor, enoughSays}
+use Rattle.build_enough.specs.Enough.{blocksAtMost, enoughFor, enoughRefusal, enoughSays, EnoughAnswer}
 
 module _ (s : code.Settings) (z : Sized s 0) (low : 1 ≤ s .leaf) where
   pub sized-at : (l : ℕ) → l < s .levels → Sized s l
@@ -56,9 +58,9 @@ none-first f = refl
 
 -- the answers
 module _ (n m r H k : ℕ) where
-  pub long : maxText < n → Refused 1 ≡ enoughSays n m r H k
-  unfolding enoughSays lengthOk
-  long h = rw (lt-leb n maxText h)
+  pub long : maxText < n → EnoughAnswer n m r H k (Refused 1)
+  unfolding enoughSays enoughRefusal lengthOk
+  long h = record { says = rw (lt-leb n maxText h); numbered = omega arith }
 
   module _ (high : n ≤ maxText) (x : Checked) (is : x ≡ checked m r H []) where
     nothing-counted : countedOk [] ≡ true
@@ -71,19 +73,19 @@ module _ (n m r H k : ℕ) where
     by-sizes y e = is ∙ rw (e, nothing-counted)
 
     module _ (y : Bool) (e : sizesOk (sizes m r H) ≡ y) where
-      said : enoughSays n m r H k ≡ cond y (cond (leb k maxCounted) (Bytes (enoughFor n m r H k)) (Refused 3)) (Refused 2)
-      unfolding enoughSays lengthOk
+      said : enoughSays n m r H k ≡ unless (ask 2 y (ask 3 (leb k maxCounted) 0)) (record { number = 0; value = enoughFor n m r H k; entered = 0 })
+      unfolding enoughSays enoughRefusal lengthOk
       said = rw (le-leb n maxText high, e)
 
-    pub sizes-refused : (q : ℕ) → x ≡ checked-is.Refused q → Refused 2 ≡ enoughSays n m r H k
+    pub sizes-refused : (q : ℕ) → x ≡ checked-is.Refused q → EnoughAnswer n m r H k (Refused 2)
     sizes-refused q e = go (sizesOk (sizes m r H)) refl
       where
         fine : (s : code.Settings) → checked-is.Refused q ≡ checked-is.Fine s → ⊥
         fine s e = let z : _≡_ {A = ℕ} 0 1 = cc in omega arith
 
-        go : (y : Bool) → sizesOk (sizes m r H) ≡ y → Refused 2 ≡ enoughSays n m r H k
+        go : (y : Bool) → sizesOk (sizes m r H) ≡ y → EnoughAnswer n m r H k (Refused 2)
         go true f = absurd (fine _ (sym e ∙ by-sizes true f))
-        go false f = sym (said false f)
+        go false f = record { says = sym (said false f); numbered = omega arith }
 
     module _ (s : code.Settings) (e : x ≡ checked-is.Fine s) where
       fine-is : (sizesOk (sizes m r H) ≡ true) × (s ≡ record { leaf = m; arity = r; levels = H; counted = 0 })
@@ -111,12 +113,12 @@ module _ (n m r H k : ℕ) where
         facts .leaf-low,
       )
 
-      pub many-counted : maxCounted < k → Refused 3 ≡ enoughSays n m r H k
-      many-counted h = sym (said true (fine-is .0) ∙ rw (lt-leb k maxCounted h))
+      pub many-counted : maxCounted < k → EnoughAnswer n m r H k (Refused 3)
+      many-counted h = record { says = sym (said true (fine-is .0) ∙ rw (lt-leb k maxCounted h)); numbered = omega arith }
 
       pub enough-is : k ≤ maxCounted → (sum : ℕ) → sum ≡ blocksAtMost n (s .leaf) (s .arity) (s .levels)
-          → (z : ℕ) → z ≡ recordLength builtLayout (s .leaf) k → Bytes (headerLength + n + z * sum) ≡ enoughSays n m r H k
-      enough-is h sum e′ z ez = sym (said true (fine-is .0) ∙ rw (le-leb k maxCounted h, e′, ez, fine-is .1))
+          → (z : ℕ) → z ≡ recordLength builtLayout (s .leaf) k → EnoughAnswer n m r H k (Bytes (headerLength + n + z * sum))
+      enough-is h sum e′ z ez = record { says = sym (said true (fine-is .0) ∙ rw (le-leb k maxCounted h, e′, ez, fine-is .1)); numbered = tt }
 
 -- the records of all levels are few
 pub bytes-few : (z sum : ℕ) → z ≤ maxRecord → sum ≤ maxLevels * (2 * maxText) → z * sum ≤ maxRecord * (maxLevels * (2 * maxText))

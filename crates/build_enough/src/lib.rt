@@ -6,7 +6,7 @@ use layout::settings::Settings;
 ghost use mathlib.Core.Path.{_≡_};
 ghost use Prim.Native.Nat.{_*_, _≤_};
 ghost use Rattle.layout.specs.SettingsLevel.{Sized};
-ghost use Rattle.build_enough.specs.Enough.{blocksAtMost, enoughSays};
+ghost use Rattle.build_enough.specs.Enough.{blocksAtMost, EnoughAnswer};
 ghost use Rattle.format.specs.Settings.{maxText, maxLevels};
 
 const HEADER: u64 = header::HEADER_LENGTH as u64;
@@ -19,7 +19,7 @@ pub enum Room {
 
 // The size that is enough for every text of n bytes.
 pub fn enough(n: u32, leaf: u32, arity: u32, levels: u32, counted: u32) -> Room
-    ensures { λ r. ⌜ r ≡ enoughSays n leaf arity levels counted ⌝ }
+    ensures { λ r. ⌜ EnoughAnswer n leaf arity levels counted r ⌝ }
 {
     if Settings::MAX_TEXT < n {
         return Room::Refused(1);

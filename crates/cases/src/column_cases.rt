@@ -1,4 +1,4 @@
-// Columns before rows: `columns` and `ask_rows` take a text, a width and the length of the lent output; `column` takes a tree, a width, a row's number and the
+// Columns before rows: `columns` and `rows` take a text, a width and the length of the lent output; `column` takes a tree, a width, a row's number and the
 // length of the lent buffer.
 use crate::ask;
 use crate::wrong;

@@ -1,26 +1,39 @@
--- What list answers, and what it leaves in the lent buffer.
+-- What list answers, by its number and length, and what it leaves in the lent buffer.
 -- docs/FORMAT.md: "The list program".
 use mathlib.Core.List.{List, _++_}
 use mathlib.Core.Bool.{cond}
-use Prim.Native.Nat.{ℕ, zero, suc}
+use mathlib.Core.Path.{_≡_}
+use Prim.Native.Nat.{ℕ, _≤_}
 use lib.ListN.{length, drop}
-use lib.Dec.{leb}
+use lib.Dec.{leb, eqb}
+use Rattle.format.specs.Verdict.{ask}
+use Rattle.format.specs.Said.{Said, refused, unless}
 use Rattle.list_lines.specs.Lines.{inputNumber, printed}
 use Rattle.list_lines.specs.declared.Listed.{Listed}
 use Rattle.list_lines.specs.declared.Listed.the-variants.{Bytes, Refused}
 
--- the lines' length, if no question refuses and the buffer has room for them
-abbrev pub fitting : ℕ → (size room : ℕ) → Listed
-fitting zero size room = cond (leb size room) (Bytes size) (Refused 13)
-fitting (suc q) size room = Refused (suc q)
+-- questions 15 and 5 to 9, then 13 of the lines' own length
+unfoldable pub listRefusal : List ℕ → ℕ → ℕ
+listRefusal t room = cond (eqb (inputNumber t) 0) (ask 13 (leb (length (printed t)) room) 0) (inputNumber t)
 
-unfoldable pub listSays : List ℕ → ℕ → Listed
-listSays t room = fitting (inputNumber t) (length (printed t)) room
+-- the lines' length, unless a question refuses
+unfoldable pub listSays : List ℕ → ℕ → Said
+listSays t room = unless (listRefusal t room) (record { number = 0; value = length (printed t); entered = 0 })
+
+-- the answer by its number and length
+abbrev pub listSaid : Listed → Said
+listSaid (Bytes size) = record { number = 0; value = size; entered = 0 }
+listSaid (Refused number) = refused number
+
+-- a refusal's number is not 0
+abbrev pub ListNumbered : Listed → Type 0
+ListNumbered (Bytes size) = Unit {0}
+ListNumbered (Refused number) = 1 ≤ number
+
+pub record ListAnswer (t : List ℕ) (room : ℕ) (r : Listed) : Type 0 where
+  pub says : listSaid r ≡ listSays t room
+  pub numbered : ListNumbered r
 
 -- the buffer: the lines at its start where they are answered, else unchanged
-abbrev pub leaves : Listed → (lines out : List ℕ) → List ℕ
-leaves (Bytes size) lines out = lines ++ drop size out
-leaves (Refused q) lines out = out
-
 unfoldable pub listLeaves : List ℕ → List ℕ → List ℕ
-listLeaves t out = leaves (listSays t (length out)) (printed t) out
+listLeaves t out = cond (eqb (listRefusal t (length out)) 0) (printed t ++ drop (length (printed t)) out) out

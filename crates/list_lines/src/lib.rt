@@ -14,7 +14,7 @@ ghost use Rattle.format.specs.Layout as at;
 ghost use Rattle.layout.specs.HeaderSays.{HeaderOf};
 ghost use Rattle.list_lines.specs.Written.{Put};
 ghost use Rattle.list_lines.specs.Lines.{line, levelLine, linesBelow, refusedLine, inputNumber, printed, maxLine, maxLines, maxRefused};
-ghost use Rattle.list_lines.specs.ListSays.{listSays, listLeaves};
+ghost use Rattle.list_lines.specs.ListSays.{ListAnswer, listLeaves};
 ghost use Rattle.list_lines.specs.LevelTable.{Level};
 
 // The longest tree that is listed.
@@ -34,7 +34,7 @@ pub enum Listed {
 
 // Puts a line for each level of a tree at the start of a buffer. Questions 15, 5 to 9 and 13.
 pub fn list(tree: &[u8], out: &mut [u8]) -> Listed
-    ensures { λ r. ⌜ r ≡ listSays (now (tree .entry)) (length (now (out .entry))) ⌝ }
+    ensures { λ r. ⌜ ListAnswer (now (tree .entry)) (length (now (out .entry))) r ⌝ }
     ensures { λ _. ⌜ now (out .exit) ≡ listLeaves (now (tree .entry)) (now (out .entry)) ⌝ }
 {
     let number = input_number(tree);

@@ -12,7 +12,7 @@ use lib.ListN.{length, take, drop, replicate}
 use lib.Dec.{eqb, leb}
 use lib.Seq.{take-append-seam, drop-append-seam}
 use borrow.Author.Tests.{eq-eqb, ne-eqb, leb-true, le-leb}
-use Rattle.format.specs.Settings.{Settings, lengthOk, sizesOk, countedOk, maxCounted}
+use Rattle.format.specs.Settings.{Settings, lengthOk, sizesOk, countedOk}
 use Rattle.format.specs.Layout as at
 use Rattle.format.specs.Fits.{textOf, fits}
 use Rattle.format.specs.Verdict.{verdict, ask}
@@ -23,16 +23,15 @@ use Rattle.theory_built.specs.BlockSizes.{Taken}
 use Rattle.theory_built.specs.Readable.{built-readable}
 use Rattle.theory_built.specs.ReadBack.{read-settings}
 use Rattle.theory_accepted.specs.AcceptedTrees.{StandsFor, accepted-stands, one-text}
-use Rattle.layout.specs.CheckedSettings.{sizes}
 use Rattle.build_by_search.specs.BuildAnswer.{given, sizeOf}
 use Rattle.build_by_search.specs.declared.Built.{Built}
 use Rattle.build_by_search.specs.declared.Built.the-variants as built
-use Rattle.build_enough.specs.Enough.{enoughFor, enoughSays}
+use Rattle.build_enough.specs.Enough.{enoughFor}
 use Rattle.build_enough.specs.EnoughHolds.{never-full}
 use Rattle.build_enough.specs.declared.Room.the-variants as room
 use Rattle.tree.proofs.Demands as tree
 use Rattle.query.proofs.CheckCall.{Check}
-use Rattle.query.proofs.EnoughCall.{Enough, room-facts}
+use Rattle.query.proofs.EnoughCall.{Enough, enough-answer}
 use Rattle.query.proofs.OutsideCall.{Call, Lent, call}
 use Rattle.query.proofs.RefusalNumbers.{OneOf, asks-one, not-zero}
 use Rattle.build_by_search.proofs.build as build-code
@@ -117,10 +116,10 @@ module _ (κs : Lfts 3) (text : Lent) (leaf arity levels : ℕ) (counted out aft
     -- With room of the size that enough answers, and counted bytes that question 3 takes, build is not refused.
     pub build-has-room : (m : ℕ) → Enough (length (now text)) leaf arity levels (length (now counted)) (room.Bytes m) → m ≤ length (now out)
         → countedOk (now counted) ≡ true → ⊥
-    unfolding enoughSays sizesOk
+    unfolding sizesOk
     build-has-room m e space rising =
         let size = enoughFor (length (now text)) leaf arity levels (length (now counted)) in
-        let k = room-facts (lengthOk (length (now text))) (sizesOk (sizes leaf arity levels)) (leb (length (now counted)) maxCounted) size m e in
+        let k = enough-answer (length (now text)) leaf arity levels (length (now counted)) m e in
         let taken : Taken S (now text) = record { length-ok = k .0; sizes-ok = k .1; counted-ok = rising } in
         let enough : size ≤ length (now out) = omega (arith, k .2) in
         omega (arith, build-low, a .0, never-full S (now text) taken (now out) enough)

@@ -68,7 +68,7 @@ pub byteOf-one : (t : List ℕ) (o : Option Path) → OneOf (14 ∷ 0 ∷ []) (b
 byteOf-one t none = inl refl
 byteOf-one t (some q) = inr (inl refl)
 
-byte-one : (t : List ℕ) (p : ℕ) → OneOf (5 ∷ 6 ∷ 7 ∷ 10 ∷ 14 ∷ 0 ∷ []) (byteSays t p .number)
+pub byte-one : (t : List ℕ) (p : ℕ) → OneOf (5 ∷ 6 ∷ 7 ∷ 10 ∷ 14 ∷ 0 ∷ []) (byteSays t p .number)
 unfolding byteSays
 byte-one t p =
     let ten = ask 10 (ltb p (at.textLength t)) 0 in

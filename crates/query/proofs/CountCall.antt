@@ -26,11 +26,11 @@ use Rattle.format.specs.SaidLaws.{unless-passes}
 use Rattle.theory_counts.specs.Demands as tallies
 use Rattle.ask_rank.specs.declared.Counted.{Counted}
 use Rattle.ask_rank.specs.declared.Counted.the-variants as counted
-use Rattle.ask_rank.specs.Counts.{saidCount, Numbered as CountNumbered}
+use Rattle.ask_rank.specs.Counts.{saidCount, Numbered as CountNumbered, uncountedNumber}
 use Rattle.query.proofs.AcceptedTree.{Among, among-counted, not-counted, path-length, text-size}
 use Rattle.query.proofs.BlocksEntered.{LengthOfPath, length-of-path}
 use Rattle.query.proofs.OutsideCall.{Call, Lent, call}
-use Rattle.query.proofs.RefusalNumbers.{OneOf, asks-one, not-zero, readable-one, unless-one}
+use Rattle.query.proofs.RefusalNumbers.{OneOf, asks-one, not-zero, readable-one, then-one, unless-one}
 use Rattle.ask_rank.proofs.count as count-code
 use Rattle.ask_rank.proofs.count.Symbol as count-symbol
 use Rattle.ask_rank.proofs.count.Met as count-met
@@ -38,10 +38,15 @@ use Rattle.ask_rank.proofs.count.Reads as count-reads
 use Rattle.ask_rank.proofs.uncounted.uncounted as uncounted-code
 use Rattle.ask_rank.proofs.uncounted.uncounted.Symbol as uncounted-symbol
 use Rattle.ask_rank.proofs.uncounted.uncounted.Met as uncounted-met
+use Rattle.ask_rank.proofs.uncounted.uncounted.Reads as uncounted-reads
 
 -- what the contract of `count` allows
 abbrev pub Count : (κs : Lfts 1) → Lent → (byte i : ℕ) → Counted → Type 0
 Count κs t byte i r = count-reads.Post κs (t, (byte, (i, tt))) r (t, (byte, (i, tt)))
+
+-- what the contract of `uncounted` allows
+abbrev pub Uncounted : (κs : Lfts 1) → Lent → (i : ℕ) → ℕ → Type 0
+Uncounted κs t i r = uncounted-reads.Post κs (t, (i, tt)) r (t, (i, tt))
 
 abbrev pub count-call : Call
 count-call =
@@ -133,6 +138,16 @@ pub count-numbers : (κs : Lfts 1) (t : Lent) (byte i n : ℕ) → Count κs t b
 count-numbers κs t byte i n a =
     let e : n ≡ countSays (now t) byte i .number = ap (λ (s : Said). s .number) (a .says) in
     not-zero (5 ∷ 6 ∷ 7 ∷ 10 ∷ 11 ∷ 14 ∷ []) n (a .numbered) (rw e (count-one (now t) byte i))
+
+-- A number above 255 is refused on any bytes: `uncounted` returns 5, 6, 7, 10 or 11, never 0.
+pub uncounted-numbers : (κs : Lfts 1) (t : Lent) (i r : ℕ) → Uncounted κs t i r → OneOf (5 ∷ 6 ∷ 7 ∷ 10 ∷ 11 ∷ []) r
+unfolding uncountedNumber
+uncounted-numbers κs t i r a =
+    rw a (then-one (5 ∷ 6 ∷ 7 ∷ []) (10 ∷ 11 ∷ []) (readable (now t)) _ (readable-one (now t)) (last (leb i (at.textLength (now t)))))
+  where
+    last : (b : Bool) → OneOf (10 ∷ 11 ∷ []) (ask 10 b 11)
+    last true = inr (inl refl)
+    last false = inl refl
 
 -- Answered from the text T by the tree t with the settings S: "how often a counted byte stands in the first i bytes", with the length of the path of
 -- place i - 1; "i = 0 gives 0 with none entered".

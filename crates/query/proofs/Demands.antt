@@ -27,8 +27,8 @@ pub use Rattle.query.proofs.EveryCall.{every-call-ends}
 pub use Rattle.query.proofs.CheckCall.{check-numbers}
 pub use Rattle.query.proofs.EnoughCall.{enough-numbers}
 pub use Rattle.query.proofs.ByteCall.{byte-answer, byte-numbers}
-pub use Rattle.query.proofs.RunCall.{run-answer, run-empty}
-pub use Rattle.query.proofs.CountCall.{count-answer, count-numbers}
+pub use Rattle.query.proofs.RunCall.{run-answer, run-empty, run-part-numbers}
+pub use Rattle.query.proofs.CountCall.{count-answer, count-numbers, uncounted-numbers}
 pub use Rattle.query.proofs.FindCall.{find-answer, find-numbers}
 pub use Rattle.query.proofs.BuildCall.{build-numbers}
 pub use Rattle.query.proofs.SpanCall.{span-numbers}

@@ -1,18 +1,18 @@
 -- enough(n, leaf, arity, levels, counted): a size that holds the tree of every text of n bytes, of so many counted bytes.
 use mathlib.Core.List.{[], _∷_}
-use mathlib.Core.Bool.{Bool, true, false, cond}
+use mathlib.Core.Bool.{true}
 use mathlib.Core.Path.{_≡_, refl}
-use mathlib.Core.Logic.{inl, inr}
 use Prim.Native.Nat.{ℕ}
-use native.Mathlib.Omega.{arith}
 use lib.Dec.{leb}
 use Rattle.format.specs.Settings.{lengthOk, sizesOk, maxCounted}
+use Rattle.format.specs.Verdict.{ask}
+use Rattle.format.specs.LayoutLaws.{ask-test, ask-rest}
 use Rattle.layout.specs.CheckedSettings.{sizes}
-use Rattle.build_enough.specs.Enough.{enoughFor, enoughSays}
+use Rattle.build_enough.specs.Enough.{enoughFor, enoughRefusal, enoughSays}
 use Rattle.build_enough.specs.declared.Room.{Room}
 use Rattle.build_enough.specs.declared.Room.the-variants as room
 use Rattle.query.proofs.OutsideCall.{Call, call}
-use Rattle.query.proofs.RefusalNumbers.{OneOf}
+use Rattle.query.proofs.RefusalNumbers.{OneOf, asks-one, not-zero, says-refused, says-answer}
 use Rattle.build_enough.proofs.enough as enough-code
 use Rattle.build_enough.proofs.enough.Symbol as enough-symbol
 use Rattle.build_enough.proofs.enough.Met as enough-met
@@ -30,22 +30,17 @@ enough-call =
 
 -- A refusal is 1, 2 or 3.
 pub enough-numbers : (n leaf arity levels k m : ℕ) → Enough n leaf arity levels k (room.Refused m) → OneOf (1 ∷ 2 ∷ 3 ∷ []) m
-unfolding enoughSays
-enough-numbers n leaf arity levels k m a = go (lengthOk n) (sizesOk (sizes leaf arity levels)) (leb k maxCounted) (enoughFor n leaf arity levels k) a
-  where
-    go : (one two three : Bool) (size : ℕ)
-        → room.Refused m ≡ cond one (cond two (cond three (room.Bytes size) (room.Refused 3)) (room.Refused 2)) (room.Refused 1)
-        → OneOf (1 ∷ 2 ∷ 3 ∷ []) m
-    go true true true size e = absurd (let z : _≡_ {A = ℕ} 0 1 = cc in omega arith)
-    go true true false size e = inr (inr (inl cc))
-    go true false three size e = inr (inl cc)
-    go false two three size e = inl cc
+unfolding enoughSays enoughRefusal
+enough-numbers n leaf arity levels k m a =
+    let e = says-refused m (enoughRefusal n leaf arity levels k) (enoughFor n leaf arity levels k) 0 (a .numbered) (a .says) in
+    not-zero (1 ∷ 2 ∷ 3 ∷ []) m (a .numbered)
+    (rw e (asks-one ((1, lengthOk n) ∷ (2, sizesOk (sizes leaf arity levels)) ∷ (3, leb k maxCounted) ∷ [])))
 
--- what is known where it answers a size
-pub room-facts : (one two three : Bool) (size m : ℕ)
-    → room.Bytes m ≡ cond one (cond two (cond three (room.Bytes size) (room.Refused 3)) (room.Refused 2)) (room.Refused 1)
-    → (one ≡ true) × (two ≡ true) × (m ≡ size)
-room-facts true true true size m e = (refl, refl, cc)
-room-facts true true false size m e = absurd (let z : _≡_ {A = ℕ} 0 1 = cc in omega arith)
-room-facts true false three size m e = absurd (let z : _≡_ {A = ℕ} 0 1 = cc in omega arith)
-room-facts false two three size m e = absurd (let z : _≡_ {A = ℕ} 0 1 = cc in omega arith)
+-- An answer is the size that is enough, and questions 1 and 2 hold.
+pub enough-answer : (n leaf arity levels k m : ℕ) → Enough n leaf arity levels k (room.Bytes m)
+    → (lengthOk n ≡ true) × (sizesOk (sizes leaf arity levels) ≡ true) × (m ≡ enoughFor n leaf arity levels k)
+unfolding enoughSays enoughRefusal
+enough-answer n leaf arity levels k m a =
+    let w = says-answer m 0 (enoughRefusal n leaf arity levels k) (enoughFor n leaf arity levels k) 0 (a .says) in
+    let two = ask 2 (sizesOk (sizes leaf arity levels)) (ask 3 (leb k maxCounted) 0) in
+    (ask-test 0 (lengthOk n) two (w .0), ask-test 1 (sizesOk (sizes leaf arity levels)) _ (ask-rest 0 (lengthOk n) two (w .0)), w .1)

@@ -31,7 +31,8 @@ use Rattle.query.proofs.WithoutEdgesCall
 
 abbrev pub calls : List Call
 calls =
-    LeftmostCall.leftmost-call
+    LeftmostCall.fingerprint-new-call
+    ∷ LeftmostCall.leftmost-call
     ∷ LeftmostCall.occurs-earlier-call
     ∷ BuildCall.build-call
     ∷ BuildScannedCall.build-scanned-call

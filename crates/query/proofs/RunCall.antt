@@ -1,5 +1,5 @@
 -- run(tree, place): a part of the lent tree that stands in the text from a place on; run_part answers where it lies.
-use mathlib.Core.List.{List, []}
+use mathlib.Core.List.{List, [], _∷_}
 use mathlib.Core.Path.{_≡_, sym, ap, refl}
 use Prim.Native.Nat.{ℕ, _+_, _≤_, _<_}
 use native.Mathlib.Omega.{arith}
@@ -19,17 +19,25 @@ use Rattle.format.specs.ReadSays.{byteSays, runSays}
 use Rattle.theory_paths.specs.Demands as paths
 use Rattle.ask_access.proofs.Demands as access
 use Rattle.ask_access.specs.declared.Answer.the-variants as answer
+use Rattle.ask_access.specs.declared.read_by_header.Ran.{Ran}
+use Rattle.ask_access.specs.declared.read_by_header.Ran.the-variants as ran
 use Rattle.query.proofs.AcceptedTree.{below, text-size}
-use Rattle.query.proofs.ByteCall.{Byte, byte-not-zero, byte-reached, byte-ten}
+use Rattle.query.proofs.ByteCall.{Byte, byte-not-zero, byte-one, byte-reached, byte-ten}
 use Rattle.query.proofs.OutsideCall.{Call, Lent, call}
+use Rattle.query.proofs.RefusalNumbers.{OneOf, not-zero}
 use Rattle.ask_access.proofs.run as run-code
 use Rattle.ask_access.proofs.run.Symbol as run-symbol
 use Rattle.ask_access.proofs.run.Met as run-met
 use Rattle.ask_access.proofs.run_part as run-part-code
 use Rattle.ask_access.proofs.run_part.Symbol as run-part-symbol
 use Rattle.ask_access.proofs.run_part.Met as run-part-met
+use Rattle.ask_access.proofs.run_part.Reads as run-part-reads
 -- what the contract of `run` allows: `Run κs tree place part`
 pub use Rattle.ask_access.proofs.Demands.{Run}
+
+-- what the contract of `run_part` allows
+abbrev pub RunPart : (κs : Lfts 1) → Lent → TextPlace → Ran → Type 0
+RunPart κs t p r = run-part-reads.Post κs (t, (p, tt)) r (t, (p, tt))
 
 abbrev pub run-call : Call
 run-call =
@@ -59,6 +67,10 @@ module _ (κ κs : Lfts 1) (t : Lent) (p : TextPlace) (r : Lent) where
       let e : byteSays (now t) (p .0) .number ≡ n = sym (ap (λ (s : Said). s .number) b) in
       let z = ne-eqb (byteSays (now t) (p .0) .number) 0 (λ x. omega (arith, byte-not-zero κ t p n b)) in
       rw z at (a .0)
+
+-- A refusal of `run_part` is 5, 6, 7, 10 or 14, as byte's is.
+pub run-part-numbers : (κs : Lfts 1) (t : Lent) (p : TextPlace) (n : ℕ) → RunPart κs t p (ran.Refused n) → OneOf (5 ∷ 6 ∷ 7 ∷ 10 ∷ 14 ∷ []) n
+run-part-numbers κs t p n a = not-zero (5 ∷ 6 ∷ 7 ∷ 10 ∷ 14 ∷ []) n (a .numbered) (rw (a .number-is) (byte-one (now t) (p .0)))
 
 -- Answered from the text T by the tree t: a part of the lent tree, of one byte or more, that stands in the text from p on.
 pub record Answers (t : Lent) (S : Settings) (T : List ℕ) : Type 0 where

@@ -71,21 +71,3 @@ pub fn occurs_earlier(text: &[u8], at: TextPlace, len: u32, by: Fingerprint) -> 
         Occurrence::Outside => false,
     }
 }
-
-// The answers of two searches that differ in base and modulus alone.
-pub struct Answers {
-    pub one: Occurrence,
-    pub other: Occurrence,
-}
-
-// The same search by two fingerprints: both give one answer.
-pub fn agree(text: &[u8], at: TextPlace, len: u32, one: Fingerprint, other: Fingerprint) -> Answers
-    ensures { λ r. ⌜ (r .one ≡ r .other) × (r .one ≡ leftmostSays (now (text .entry)) (at .0) len) ⌝ }
-{
-    let first = leftmost(text, TextPlace(at.0), len, one);
-    let second = leftmost(text, TextPlace(at.0), len, other);
-    Answers {
-        one: first,
-        other: second,
-    }
-}

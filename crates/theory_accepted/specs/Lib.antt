@@ -1,1 +1,2 @@
 pub mod AcceptedTrees
+pub mod QuestionNumbers

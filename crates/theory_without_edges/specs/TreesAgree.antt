@@ -15,7 +15,7 @@ use Rattle.format.specs.Layout as at
 use Rattle.format.specs.Fits.{lastLevel, widthAt, textOf, fits, countsTrue}
 use Rattle.format.specs.Verdict.{readable, verdict}
 use Rattle.format.specs.VerdictLaws as verdicts
-use Rattle.theory_paths.specs.Links.{H, N, b, s, len, Kept, Follows, Pointing, Linked, linked-facts}
+use Rattle.theory_paths.specs.Links.{H, N, b, s, len, Kept, Follows, Pointing, Linked, linked-facts, points-not-kept}
 use Rattle.theory_paths.specs.FitsFacts.{Fitting, fits-facts, fits-make}
 use Rattle.theory_paths.specs.OneText as one
 use Rattle.theory_counts.specs.CountsLocal.{byteOf}
@@ -80,6 +80,10 @@ module _ (t u : List ℕ) (k : Readable t) (g : Agree t u) where
     pub kept-is : at.isKept u l i ≡ at.isKept t l i
     unfolding at.isKept
     kept-is = rw kind-is
+
+    pointing-is : at.isPointing u l i ≡ at.isPointing t l i
+    unfolding at.isPointing
+    pointing-is = rw kind-is
 
     len-is : len u l i ≡ len t l i
     unfolding at.blockLengthAt
@@ -161,23 +165,22 @@ module _ (t u : List ℕ) (k : Readable t) (g : Agree t u) where
     agree-fitting : (T : List ℕ) → Fitting T t → Fitting T u
     agree-fitting T f = record {
       size = f .size ∙ sym (g .length-is);
-      leaves = λ i o h y ho.
+      leaves = λ i o h ho.
           let here : H t - 1 < H t = omega (arith, k .bounds .levels-low) in
           let hi : i < N t (H t - 1) = rw (levels-are, count-is (H t - 1) here) at h in
-          let kept₁ : at.isKept t (H t - 1) i ≡ true = sym (kept-is (H t - 1) i here hi) ∙ rw levels-are at y in
           let ho₁ : o < len t (H t - 1) i = rw (levels-are, len-is (H t - 1) i here hi) at ho in
-          rw (levels-are, start-is (H t - 1) i here hi, link-is (H t - 1) i here hi, g .leaf-bytes (at.link t (H t - 1) i + o)) (f .leaves i o hi kept₁ ho₁);
+          rw (levels-are, start-is (H t - 1) i here hi, link-is (H t - 1) i here hi, g .leaf-bytes (at.link t (H t - 1) i + o)) (f .leaves i o hi ho₁);
       points = λ l i o h hi y ho.
           let hl : l < H t = rw levels-are at h in
           let hi₁ : i < N t l = rw (count-is l hl) at hi in
-          let un : at.isKept t l i ≡ false = sym (kept-is l i hl hi₁) ∙ y in
+          let points : at.isPointing t l i ≡ true = sym (pointing-is l i hl hi₁) ∙ y in
           let ho₁ : o < len t l i = rw (len-is l i hl hi₁) at ho in
           rw (
             start-is l i hl hi₁,
             link-is l i hl hi₁,
             gap-is l i hl hi₁,
-            start-is l (at.link t l i) hl (d .points l i hl hi₁ un .target-below),
-          ) (f .points l i o hl hi₁ un ho₁);
+            start-is l (at.link t l i) hl (d .points l i hl hi₁ (points-not-kept t l i points) .target-below),
+          ) (f .points l i o hl hi₁ points ho₁);
     }
 
     module _ (k₁ : Readable u) where

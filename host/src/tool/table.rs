@@ -329,7 +329,7 @@ pub static COMMANDS: [Command; 35] = [
         words: &TREE,
         options: &[&OUTPUT, &FORCE, &KEEP_TIME, &JSON],
         summary: "make the guide of a tree",
-        details: "A guide has the number of the level 0 block that holds the 1st, 65th, 129th occurrence and so on of each byte that the tree counts. find and row with --guide start there and not at the first block. Without -o the guide goes to standard output.",
+        details: "A guide has the number of the level 0 block that holds the 1st, 65th, 129th occurrence and so on of each byte that the tree counts. find, row and code with --guide start there and not at the first block. Without -o the guide goes to standard output.",
         run: guide::make,
     },
     Command {
@@ -337,7 +337,7 @@ pub static COMMANDS: [Command; 35] = [
         words: &[one("GUIDE"), maybe("TREE")],
         options: &[&JSON],
         summary: "check a tree and its guide",
-        details: "Says whether GUIDE is exactly the guide of TREE, and TREE is a good one. find and row do this first unless they are told --unchecked.",
+        details: "Says whether GUIDE is exactly the guide of TREE, and TREE is a good one. find, row and code do this first unless they are told --unchecked.",
         run: guide::check,
     },
     Command {

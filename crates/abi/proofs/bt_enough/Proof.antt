@@ -10,5 +10,5 @@ bt-enough-spec =
     (λ c κs. search needs)
     (λ c. search needs)
     (λ c. search needs)
-    (λ c. laws.enough-told _ _ (c .before .before .before .enough .ensures) _ (c .before .room .given .1))
-    (λ c. laws.enough-refused _ _ (c .before .before .before .enough .ensures) _ (c .before .room2 .given .1)))
+    (λ c. laws.enough-told _ _ (c .before .before .before .enough .ensures .says) _ (c .before .room .given .1))
+    (λ c. laws.enough-refused _ _ (c .before .before .before .enough .ensures .says) _ (c .before .room2 .given .1)))
