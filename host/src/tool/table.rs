@@ -188,7 +188,7 @@ pub static COMMANDS: [Command; 35] = [
         summary: "print the rows that differ between two books or trees",
         details: "Rows are compared by code, the bytes before the first space: a row is removed, added, or changed, if the same code has other cuts. Their order does not matter, and a code may have several rows. ONE and OTHER are trees, which are checked first, or books. \
                   The text of a tree by columns is turned back first, by text and from-columns.\n\
-                  Status: 0 the rows are the same, 1 they differ, 2 trouble.",
+                  The status is that of diff(1): 0 the rows are the same, 1 they differ, 2 trouble, a refused tree included.",
         run: diff::diff,
     },
     Command {
