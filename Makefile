@@ -8,10 +8,12 @@ TOOL = host/target/release/codebook
 ARCHIVE = $(or $(BLOCKTREE_ARCHIVE),target/staticlib/libabi.a)
 SHARED = target/libblocktree.so
 
+# the name by which programs load the shared library: the version's first number rises where a call is changed or removed
+SONAME = libblocktree.so.$(firstword $(subst ., ,$(VERSION)))
 root = $(DESTDIR)$(PREFIX)
 documents = README.md LICENSE CHANGELOG.md docs/FORMAT.md docs/JSON.md
 installed = bin/codebook share/man/man1/codebook.1 share/bash-completion/completions/codebook share/zsh/site-functions/_codebook \
-	include/blocktree.h lib/libblocktree.a lib/libblocktree.so.0 lib/libblocktree.so lib/pkgconfig/blocktree.pc share/blocktree/blocktree.py share/blocktree/blocktree.magic
+	include/blocktree.h lib/libblocktree.a lib/libblocktree.so.$(VERSION) lib/$(SONAME) lib/libblocktree.so lib/pkgconfig/blocktree.pc share/blocktree/blocktree.py share/blocktree/blocktree.magic
 
 all:
 	host/needs $(if $(BLOCKTREE_ARCHIVE),,rt) cargo gcc
@@ -23,9 +25,9 @@ check:
 
 # The library, position independent as it is, as a shared one.
 shared: $(SHARED)
-$(SHARED): $(ARCHIVE)
+$(SHARED): $(ARCHIVE) host/Cargo.toml
 	mkdir -p $(dir $@)
-	gcc -shared -Wl,-z,defs -Wl,-soname,libblocktree.so.0 -Wl,--whole-archive $(ARCHIVE) -Wl,--no-whole-archive -o $@
+	gcc -shared -Wl,-z,defs -Wl,-soname,$(SONAME) -Wl,--whole-archive $(ARCHIVE) -Wl,--no-whole-archive -o $@
 
 $(TOOL) $(ARCHIVE):
 	@echo "$@ is not there: run make first" >&2; false
@@ -37,13 +39,15 @@ install: $(TOOL) $(SHARED)
 	install -D -m 644 host/share/_codebook $(root)/share/zsh/site-functions/_codebook
 	install -D -m 644 include/blocktree.h $(root)/include/blocktree.h
 	install -D -m 644 $(ARCHIVE) $(root)/lib/libblocktree.a
-	install -D $(SHARED) $(root)/lib/libblocktree.so.0
-	ln -sf libblocktree.so.0 $(root)/lib/libblocktree.so
+	install -D $(SHARED) $(root)/lib/libblocktree.so.$(VERSION)
+	ln -sf libblocktree.so.$(VERSION) $(root)/lib/$(SONAME)
+	ln -sf $(SONAME) $(root)/lib/libblocktree.so
 	install -D -m 644 python/blocktree.py $(root)/share/blocktree/blocktree.py
 	install -D -m 644 host/share/blocktree.magic $(root)/share/blocktree/blocktree.magic
 	install -D -m 644 -t $(root)/share/doc/codebook $(documents)
 	mkdir -p $(root)/lib/pkgconfig
 	sed 's|@PREFIX@|$(PREFIX)|; s|@VERSION@|$(VERSION)|' blocktree.pc.in > $(root)/lib/pkgconfig/blocktree.pc
+	@[ -n "$(DESTDIR)" ] || host/loader $(PREFIX)/lib $(SONAME)
 
 uninstall:
 	rm -f $(addprefix $(root)/,$(installed)) $(addprefix $(root)/share/doc/codebook/,$(notdir $(documents)))

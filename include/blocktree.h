@@ -45,6 +45,9 @@ extern "C" {
 #define BT_LIST_LENGTH 352u /* a buffer of so many bytes holds all that bt_list writes */
 #define BT_FIGURES 23u     /* figures that bt_info writes */
 #define BT_DIGEST 32u      /* bytes of a SHA-256, which bt_digest and bt_digest_text write */
+/* Bytes of the largest tree, the most that bt_enough returns: 1,111,359,588. It is the tree of the longest text with leaf 1, arity 2, BT_MAX_LEVELS levels and
+ * BT_MAX_COUNTED counted bytes: a header of 100 bytes, 2 - 1/128 blocks for each byte of text, a record of 66 bytes for each block, and the text. */
+#define BT_MAX_TREE (100u + BT_MAX_TEXT / 128u * 255u * 66u + BT_MAX_TEXT)
 
 /* The version of this header: major * 10000 + minor * 100 + patch. bt_version answers that of the archive. */
 #define BT_VERSION 11500u
@@ -79,6 +82,40 @@ enum bt_number {
     BT_GUIDE = 24,      /* a guide of another length, or an entry that is not the tree's */
     BT_GUIDE_TABLE = 25 /* the table is too short for the guide */
 };
+
+/* What a number means, in words for a message; the same as those of the tool and of the Python module. The words are in this header, not in the archive. */
+static inline const char *bt_refusal_text(uint32_t number)
+{
+    switch (number) {
+    case BT_OK: return "not refused";
+    case BT_TEXT: return "a text must have at most 8,388,608 bytes";
+    case BT_SETTINGS: return "the leaf length must be 1 to 256, the arity 2 to 16, the levels 1 to 8, and leaf x arity^(levels-1) at most 8,388,608";
+    case BT_COUNTED: return "at most 4 bytes can be counted, and each must be above the one before";
+    case BT_SPACE: return "the tree does not fit the buffer";
+    case BT_SHORT: return "a tree has at least 100 bytes; this is no tree, or cut off";
+    case BT_LAYOUT: return "the layout is neither 1 nor 2; this is no block tree, or one of another version";
+    case BT_HEADER: return "the header is not right: its settings, unused places or offsets, or the file is longer or shorter than it says";
+    case BT_LINKS: return "the blocks are not right: a start, kind, link or gap, or the number of blocks or leaf bytes";
+    case BT_COUNTS: return "a count or an edge in the tree is not true";
+    case BT_PLACE: return "this lies past the text's end";
+    case BT_NOT_COUNTED: return "the tree does not count this byte";
+    case BT_NO_SUCH: return "the text has no occurrence or row of this number; numbers start at 1";
+    case BT_BUFFER: return "the answer does not fit the buffer";
+    case BT_PATH: return "the tree is damaged: the way to a byte breaks off, or a count comes out below zero";
+    case BT_INPUT: return "only trees of at most 65,536 bytes are listed";
+    case BT_PATTERN: return "a pattern must have 1 to 256 bytes";
+    case BT_TABLE: return "the table has fewer words than the pattern has places";
+    case BT_WORK: return "the table of words is too short: four words are needed for each leaf length of text, a begun one counting whole";
+    case BT_RANGES: return "a worn key must have 1 to 10 cuts, each with a low and a high depth of 0 to 9, the low one not above the high one";
+    case BT_WIDTH: return "the width must be above 0 and divide the text's length";
+    case BT_OUTPUT: return "the output is shorter than the text";
+    case BT_DATE: return "a day is eight digits, year, month and day, from 20000101 to 20991231, and a renewal does not pass 2099";
+    case BT_TERM: return "the last day lies before the first";
+    case BT_GUIDE: return "this is no guide of this tree: it has too few or too many words, or an entry is wrong";
+    case BT_GUIDE_TABLE: return "the table is too short for the guide";
+    default: return "a number that this header does not know";
+    }
+}
 
 /* Build the tree of a text, in layout 2. Trees of layout 1 are read and checked all the same.
  *   lent      text, counted: the counted bytes, rising

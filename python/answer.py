@@ -5,7 +5,7 @@
 
 import sys
 
-from blocktree import MAX_TEXT, Refused, Tree, _call
+from blocktree import MAX_TEXT, RefusedError, Tree, _call
 
 
 def from_hex(word):
@@ -32,7 +32,7 @@ def copied(read):
     """0 and the bytes; or the refusal's number and no bytes."""
     try:
         return 0, read().hex() or "-"
-    except Refused as refused:
+    except RefusedError as refused:
         return refused.number, "-"
 
 
@@ -61,7 +61,7 @@ def order(one, other):
 def levels(tree):
     try:
         lines = tree.list()
-    except Refused as refused:
+    except RefusedError as refused:
         lines = "refused %d\n" % refused.number
     return (lines.replace("\n", "/"),)
 
@@ -69,7 +69,7 @@ def levels(tree):
 def tables(read):
     try:
         return 0, listed(read())
-    except Refused as refused:
+    except RefusedError as refused:
         return refused.number, "-"
 
 

@@ -1,27 +1,38 @@
 """Block trees of code books: build them, check them, ask them.
 
     >>> import blocktree
-    >>> tree = blocktree.build(b"CH0501 1423\\nCH0502 1424\\n", leaf=64, arity=2, levels=4)
+    >>> tree = blocktree.build(b"CH0501 1423\\nCH0502 1424\\n")
     >>> book = blocktree.Tree(tree)
     >>> book.row(2)
     b'CH0502 1424'
+    >>> list(book.iter_rows()), book[0:6]
+    ([b'CH0501 1423', b'CH0502 1424'], b'CH0501')
     >>> book.row(3)
     Traceback (most recent call last):
-    blocktree.Refused: refused (12): the text has no occurrence or row of this number; numbers start at 1
+    blocktree.RefusedError: refused (12): the text has no occurrence or row of this number; numbers start at 1
 
 Over the proved library, by ctypes, from libblocktree.so: the one that BLOCKTREE_LIBRARY names, or beside this file, in ../../lib or ../target, or where
-the system finds it (`make shared`, `make install`). Python 3.8 or later, Linux on x86-64.
+the loader finds it, or in the lib folder of the prefix that `codebook` is installed in, of Python's prefix or of /usr/local. `make install` installs it.
+Python 3.8 or later, Linux on x86-64.
 
-Texts, trees, rows and patterns are bytes. Places start at 0; rows and occurrences are numbered from 1. What the library refuses raises Refused, whose
-`number` is the library's; docs/FORMAT.md says what each means. Which text a tree stands for, Tree.digest() says: compare it with the SHA-256 that the
-office printed of the book.
+Texts, trees, rows and patterns are bytes; what is given may be any bytes-like object. Places start at 0; rows and occurrences are numbered from 1. What the
+library refuses raises RefusedError, whose `number` is the library's; docs/FORMAT.md says what each means. Which text a tree stands for, Tree.digest() says:
+compare it with the SHA-256 that the office printed of the book.
 """
 
 import ctypes
-import ctypes.util
 import os
+import shutil
+import sys
+from typing import Any, Dict, Iterable, Iterator, List, Optional, Tuple, Union, overload
 
-__all__ = ["Refused", "Tree", "build", "enough", "scan_words", "to_columns", "from_columns", "digest_text", "open_on", "days_left", "renew"]
+__version__ = "1.15.0"
+
+__all__ = [
+    "RefusedError", "Tree", "build", "enough", "scan_words", "to_columns", "from_columns", "digest_text", "open_on", "days_left", "renew", "version",
+]
+
+Bytes = Union[bytes, bytearray, memoryview]
 
 REASONS = {
     1: "a text must have at most 8,388,608 bytes",
@@ -51,18 +62,28 @@ REASONS = {
     25: "the table is too short for the guide",
 }
 
+# The settings that build tries where none are given, as leaf, arity and levels: those of `codebook build`.
+SHORT_LIST = [(256, 2, 1), (64, 4, 3), (48, 2, 5), (32, 4, 4), (24, 8, 3), (16, 4, 4)]
+
 MAX_TEXT = 8_388_608
 DIGEST = 32
 LIST_LENGTH = 352
 BEFORE, SAME, AFTER = 1, 2, 3
 
 
-class Refused(Exception):
-    """The library refused; `number` says why."""
+class RefusedError(Exception):
+    """The library refused; `number` says why. It can be pickled, so it also comes back from another process."""
 
-    def __init__(self, number):
-        super().__init__("refused (%d): %s" % (number, REASONS.get(number, "a number that this module does not know")))
+    def __init__(self, number: int) -> None:
+        super().__init__(number)
         self.number = number
+
+    def __str__(self) -> str:
+        return "refused (%d): %s" % (self.number, REASONS.get(self.number, "a number that this module does not know"))
+
+
+# deprecated: the name of RefusedError up to 1.14
+Refused = RefusedError
 
 
 # What each call is lent, in order. bytes: read; buffer: a bytearray, written; words: an array of _words, written; n32: a number; out32, out64, outi32: a
@@ -106,15 +127,28 @@ _CALLS = {
 _FIGURES = {"out32": ctypes.c_uint32, "out64": ctypes.c_uint64, "outi32": ctypes.c_int32, "mark": ctypes.c_uint32}
 
 
-def _library():
+def _opened() -> ctypes.CDLL:
+    """The shared library: the one that is named, or beside this file, or where the loader finds it, or installed beside the tool or below a usual prefix."""
+    named = os.environ.get("BLOCKTREE_LIBRARY")
+    if named:
+        return ctypes.CDLL(named)
     here = os.path.dirname(os.path.abspath(__file__))
-    name = "libblocktree.so"
-    paths = [os.path.join(here, place, name) for place in (".", "../../lib", "../target")]
-    found = [path for path in paths if os.path.exists(path)]
-    path = os.environ.get("BLOCKTREE_LIBRARY") or (found[0] if found else ctypes.util.find_library("blocktree"))
-    if not path:
-        raise OSError("%s is not found; build it with `make shared`, or name it in BLOCKTREE_LIBRARY" % name)
-    library = ctypes.CDLL(path)
+    beside = [os.path.join(here, place, "libblocktree.so") for place in (".", "../../lib", "../target")]
+    tool = shutil.which("codebook")
+    prefixes = ([os.path.join(os.path.dirname(os.path.realpath(tool)), "..")] if tool else []) + [sys.prefix, "/usr/local"]
+    installed = [os.path.join(prefix, "lib/libblocktree.so") for prefix in prefixes]
+    soname = "libblocktree.so." + __version__.split(".")[0]
+    for path in [path for path in beside if os.path.exists(path)] + [soname] + [path for path in installed if os.path.exists(path)]:
+        try:
+            return ctypes.CDLL(path)
+        except OSError:
+            if path != soname:
+                raise
+    raise ImportError("libblocktree.so is not found: install it with `make install`, or name it in BLOCKTREE_LIBRARY")
+
+
+def _library() -> ctypes.CDLL:
+    library = _opened()
     for call in _CALLS:
         getattr(library, call).restype = ctypes.c_uint32
     library.bt_version.restype = ctypes.c_uint32
@@ -127,112 +161,130 @@ def _library():
 _LIBRARY = _library()
 
 
-def _number(value):
+def _number(value: int) -> ctypes.c_uint32:
     """A number that the library can be lent: one below 0 or past 32 bits is the caller's mistake."""
     if not 0 <= value < 1 << 32:
         raise OverflowError("%d is not a number from 0 to 4294967295" % value)
     return ctypes.c_uint32(value)
 
 
-def _words(number):
+def _bytes(value: Bytes) -> bytes:
+    """The bytes of a bytes-like object. Anything else raises TypeError: bytes(5) would be five zero bytes."""
+    return value if isinstance(value, bytes) else memoryview(value).tobytes()
+
+
+def _words(number: int) -> Any:
     """A table of so many words."""
     return (ctypes.c_uint32 * number)()
 
 
-def _call(name, *given):
+def _call(name: str, *given: Any) -> Tuple[int, ...]:
     """The answer's number and all figures, in order. Buffers and words are written in place; no pointer is null, also where its length is 0."""
-    words, figures, given = [], [], iter(given)
+    words: List[Any] = []
+    figures: List[Any] = []
+    rest = iter(given)
     for kind in _CALLS[name].split():
         if kind == "n32":
-            words.append(_number(next(given)))
+            words.append(_number(next(rest)))
         elif kind == "bytes":
-            lent = bytes(next(given))
+            lent = _bytes(next(rest))
             words += [ctypes.c_char_p(lent), ctypes.c_size_t(len(lent))]
         elif kind == "buffer":
-            lent = next(given)
+            lent = next(rest)
             room = (ctypes.c_uint8 * len(lent)).from_buffer(lent) if lent else (ctypes.c_uint8 * 1)()
             words += [room, ctypes.c_size_t(len(lent))]
         elif kind == "words":
-            lent = next(given)
+            lent = next(rest)
             words += [lent if len(lent) else _words(1), ctypes.c_size_t(len(lent))]
         else:
-            figures.append(_FIGURES[kind](next(given) if kind == "mark" else 0))
+            figures.append(_number(next(rest)) if kind == "mark" else _FIGURES[kind](0))
             words.append(ctypes.byref(figures[-1]))
     number = getattr(_LIBRARY, name)(*words)
     return (number, *(figure.value for figure in figures))
 
 
-def _ask(name, *given):
-    """The figures: none, one, or all of them in a tuple. Refused where the number is not 0."""
+def _ask(name: str, *given: Any) -> Any:
+    """The figures: none, one, or all of them in a tuple. RefusedError where the number is not 0."""
     number, *figures = _call(name, *given)
     if number:
-        raise Refused(number)
+        raise RefusedError(number)
     return figures[0] if len(figures) == 1 else tuple(figures)
 
 
-def version():
+def version() -> Tuple[int, int, int]:
     """The library's version: major, minor, patch."""
     number = _LIBRARY.bt_version()
     return number // 10000, number // 100 % 100, number % 100
 
 
-def enough(n, leaf, arity, levels, counted=b"\n"):
+def enough(n: int, leaf: int, arity: int, levels: int, counted: Bytes = b"\n") -> int:
     """A size that holds the tree of any text of n bytes."""
-    return _ask("bt_enough", n, leaf, arity, levels, len(counted))
+    return _ask("bt_enough", n, leaf, arity, levels, len(_bytes(counted)))
 
 
-def scan_words(n, leaf):
+def scan_words(n: int, leaf: int) -> int:
     """The words of the table that build works in."""
     return _LIBRARY.bt_scan_words(_number(n), _number(leaf))
 
 
-def build(text, leaf, arity, levels, counted=b"\n"):
-    """The tree of a text; `counted` are the bytes that it can count and find, rising."""
+def build(text: Bytes, leaf: Optional[int] = None, arity: Optional[int] = None, levels: Optional[int] = None, counted: Bytes = b"\n") -> bytes:
+    """The tree of a text; `counted` are the bytes that it can count and find, rising. Without settings it is the tree of `codebook build`: each of
+    SHORT_LIST is tried, and the smallest tree is returned, of equal ones the first. That takes six builds; give settings where time matters."""
+    if leaf is not None and arity is not None and levels is not None:
+        return _build(text, leaf, arity, levels, counted)
+    if (leaf, arity, levels) != (None, None, None):
+        raise TypeError("leaf, arity and levels go together: give all three, or none")
+    return min((_build(text, *settings, counted) for settings in SHORT_LIST), key=len)
+
+
+def _build(text: Bytes, leaf: int, arity: int, levels: int, counted: Bytes) -> bytes:
+    text = _bytes(text)
     room = bytearray(enough(min(len(text), 0xFFFFFFFF), leaf, arity, levels, counted))
     size, _ = _ask("bt_build_scanned", text, leaf, arity, levels, counted, _words(scan_words(len(text), leaf)), room)
     return bytes(room[:size])
 
 
-def _turned(name, text, width):
+def _turned(name: str, text: Bytes, width: int) -> bytes:
+    text = _bytes(text)
     out = bytearray(len(text))
     _ask(name, text, width, out)
     return bytes(out)
 
 
-def to_columns(text, width):
+def to_columns(text: Bytes, width: int) -> bytes:
     """A text of rows of `width` bytes, end byte included, by columns."""
     return _turned("bt_to_columns", text, width)
 
 
-def from_columns(text, width):
+def from_columns(text: Bytes, width: int) -> bytes:
     """And back."""
     return _turned("bt_from_columns", text, width)
 
 
-def _digest(name, lent):
+def _digest(name: str, lent: Bytes) -> bytes:
     out = bytearray(DIGEST)
     _ask(name, lent, out)
     return bytes(out)
 
 
-def digest_text(text):
+def digest_text(text: Bytes) -> bytes:
     """The SHA-256 of any bytes, as 32 bytes; .hex() is what sha256sum prints."""
     return _digest("bt_digest_text", text)
 
 
-def open_on(first, last, today):
+def open_on(first: Bytes, last: Bytes, today: Bytes) -> bool:
     """Is a book licensed from `first` to `last`, both included, open on `today`? Days are eight digits, as b"20240229"."""
     return _ask("bt_open_on", first, last, today) == 1
 
 
-def days_left(last, today):
+def days_left(last: Bytes, today: Bytes) -> int:
     """Days from `today` to `last`; below 0 after it."""
     return _ask("bt_days_left", last, today)
 
 
-def renew(day):
+def renew(day: Bytes) -> bytes:
     """The same day one year later; 29 February becomes 28 February."""
-    lent = bytearray(day)
+    lent = bytearray(_bytes(day))
     _ask("bt_renew", lent)
     return bytes(lent)
 
@@ -240,21 +292,37 @@ def renew(day):
 class Tree:
     """A tree's bytes. They are checked unless told otherwise: on a tree that the check refuses answers can be wrong, though nothing outside it is read."""
 
-    def __init__(self, tree, checked=True):
-        self.bytes = bytes(tree)
+    def __init__(self, tree: Bytes, checked: bool = True) -> None:
+        self.bytes = _bytes(tree)
         if checked:
             _ask("bt_check", self.bytes)
 
-    def __len__(self):
+    def __len__(self) -> int:
         """Bytes of the text, as the header has it."""
         return int.from_bytes(self.bytes[4:8], "little")
 
-    def info(self):
+    @overload
+    def __getitem__(self, index: int) -> int: ...
+
+    @overload
+    def __getitem__(self, index: slice) -> bytes: ...
+
+    def __getitem__(self, index: Union[int, slice]) -> Union[int, bytes]:
+        """tree[14] and tree[14:20] are those of the text's bytes; a row is row(number)."""
+        places = range(len(self))[index]
+        if isinstance(places, int):
+            return self.byte(places)
+        if not places:
+            return b""
+        low = min(places[0], places[-1])
+        return self.span(low, abs(places[-1] - places[0]) + 1)[places[0] - low :: places.step]
+
+    def info(self) -> Dict[str, Any]:
         """What the tree says of itself: layout, text length, settings, leaf bytes, the counted bytes with their totals, the blocks of each level."""
         figures = (ctypes.c_uint64 * 23)()
         number = _LIBRARY.bt_info(ctypes.c_char_p(self.bytes), ctypes.c_size_t(len(self.bytes)), figures)
         if number:
-            raise Refused(number)
+            raise RefusedError(number)
         layout, length, leaf, arity, levels, leaf_bytes, counted = figures[:7]
         totals = dict(zip(figures[7 : 7 + counted], figures[11 : 11 + counted]))
         return {
@@ -268,37 +336,37 @@ class Tree:
             "blocks": figures[15 : 15 + levels],
         }
 
-    def byte(self, place):
+    def byte(self, place: int) -> int:
         """The byte at a place."""
         return _ask("bt_byte", self.bytes, place)[0]
 
-    def run(self, place):
+    def run(self, place: int) -> bytes:
         """The bytes of the text from a place on that lie side by side in the tree."""
         offset, length = _ask("bt_run", self.bytes, place)
         return self.bytes[offset : offset + length]
 
-    def span(self, place, length):
+    def span(self, place: int, length: int) -> bytes:
         """`length` bytes from a place on."""
         # what lies past the text's end is refused whatever the buffer
         room = bytearray(length if place + length <= min(len(self), MAX_TEXT) else 0)
         _ask("bt_span", self.bytes, place, length, room)
         return bytes(room)
 
-    def text(self):
+    def text(self) -> bytes:
         """The whole text."""
         return self.span(0, len(self))
 
-    def count(self, byte, length):
+    def count(self, byte: int, length: int) -> int:
         """How often a counted byte stands in the first `length` bytes."""
         return _ask("bt_count", self.bytes, byte, length)[0]
 
-    def find(self, byte, number, guide=None):
+    def find(self, byte: int, number: int, guide: Optional[Bytes] = None) -> int:
         """Where a counted byte stands for the number-th time, from 1."""
         if guide is None:
             return _ask("bt_find", self.bytes, byte, number)[0]
         return _ask("bt_find_guided", self.bytes, guide, byte, number)[0]
 
-    def row(self, number, guide=None):
+    def row(self, number: int, guide: Optional[Bytes] = None) -> bytes:
         """Row `number`, from 1, without its end."""
         name, lent = ("bt_row", []) if guide is None else ("bt_row_guided", [guide])
         # a short buffer is enough mostly, and one as long as the text always
@@ -308,18 +376,23 @@ class Tree:
             room = bytearray(min(len(self), MAX_TEXT))
             refusal, length = _call(name, self.bytes, *lent, number, room)
         if refusal:
-            raise Refused(refusal)
+            raise RefusedError(refusal)
         return bytes(room[:length])
 
-    def row_length(self, number):
+    def iter_rows(self, first: int = 1, last: Optional[int] = None) -> Iterator[bytes]:
+        """The rows from `first` to `last`, both included, in row order; to the last one where `last` is not given."""
+        for number in range(first, (self.rows() if last is None else last) + 1):
+            yield self.row(number)
+
+    def row_length(self, number: int) -> int:
         """Bytes of row `number`, from 1, without its end."""
         return _ask("bt_row_length", self.bytes, number)
 
-    def rows(self):
+    def rows(self) -> int:
         """How many rows there are."""
         return _ask("bt_row_count", self.bytes)
 
-    def places(self, pattern):
+    def places(self, pattern: Bytes) -> List[int]:
         """All places of a pattern of 1 to 256 bytes, rising."""
         table = _words(min(4096, len(self)))
         number, places = _call("bt_places", self.bytes, pattern, table)
@@ -327,73 +400,70 @@ class Tree:
             table = _words(_ask("bt_places_words", self.bytes, len(pattern)))
             number, places = _call("bt_places", self.bytes, pattern, table)
         if number:
-            raise Refused(number)
+            raise RefusedError(number)
         return table[:places]
 
-    def next_match(self, ranges, mark=0):
+    def next_match(self, ranges: Iterable[Tuple[int, int]], mark: int = 0) -> Optional[int]:
         """The first row after `mark` that matches a worn key; None where there is none. A range is a low and a high depth for each cut: [(4, 4), (3, 5)]."""
         lent = bytes(depth for low_high in ranges for depth in low_high)
         return _ask("bt_next_match", self.bytes, lent, mark)[1] or None
 
-    def matches(self, ranges):
+    def matches(self, ranges: Iterable[Tuple[int, int]]) -> Iterator[int]:
         """All rows that match, in row order."""
         row = self.next_match(ranges)
         while row:
             yield row
             row = self.next_match(ranges, row)
 
-    def next_with_prefix(self, prefix, mark=0, guide=None):
+    def next_with_prefix(self, prefix: Bytes, mark: int = 0, guide: Optional[Bytes] = None) -> Optional[int]:
         """The first row after `mark` that starts with `prefix`, 1 to 256 bytes; None if there is none."""
-        # bytes(5) is five zeros, so a number is no prefix
-        if not isinstance(prefix, (bytes, bytearray, memoryview)):
-            raise TypeError("a prefix is bytes, not %s" % type(prefix).__name__)
         if guide is None:
             return _ask("bt_next_with_prefix", self.bytes, prefix, mark)[1] or None
         return _ask("bt_next_with_prefix_guided", self.bytes, guide, prefix, mark)[1] or None
 
-    def rows_with_prefix(self, prefix, guide=None):
+    def rows_with_prefix(self, prefix: Bytes, guide: Optional[Bytes] = None) -> Iterator[Tuple[int, bytes]]:
         """All rows that start with `prefix`, in row order, each with its number."""
 
-        def rows(number):
+        def rows(number: Optional[int]) -> Iterator[Tuple[int, bytes]]:
             while number:
                 yield number, self.row(number, guide)
                 number = self.next_with_prefix(prefix, number, guide)
 
         return rows(self.next_with_prefix(prefix, 0, guide))
 
-    def row_by_columns(self, width, a):
+    def row_by_columns(self, width: int, a: int) -> bytes:
         """Row a, from 0, all `width` bytes of it, from the tree of a text by columns."""
         room = bytearray(min(width, len(self), MAX_TEXT))
         _ask("bt_column_row", self.bytes, width, a, room)
         return bytes(room)
 
-    def digest(self):
+    def digest(self) -> bytes:
         """The SHA-256 of the tree's text, as 32 bytes."""
         return _digest("bt_digest", self.bytes)
 
-    def make_guide(self):
+    def make_guide(self) -> bytes:
         """The guide to the level 0 blocks."""
         room = bytearray(4 * min(_ask("bt_guide_words", self.bytes), MAX_TEXT // 16 + 4))
         words = _ask("bt_make_guide", self.bytes, room)
         return bytes(room[: 4 * words])
 
-    def check_guide(self, guide):
-        """Refused where it is not exactly the guide of this tree."""
+    def check_guide(self, guide: Bytes) -> None:
+        """RefusedError where it is not exactly the guide of this tree."""
         _ask("bt_check_guide", self.bytes, guide)
 
-    def without_edges(self):
+    def without_edges(self) -> bytes:
         """The bytes of the same tree in layout 1, without its edges: never larger, and with the same answers. A tree of layout 1 is copied."""
         room = bytearray(len(self.bytes))
         size = _ask("bt_without_edges", self.bytes, room)
         return bytes(room[:size])
 
-    def list(self):
+    def list(self) -> str:
         """The lines of the list program, one for each level: level, blocks, kept, pointing."""
         room = bytearray(LIST_LENGTH)
         length = _ask("bt_list", self.bytes, room)
         return room[:length].decode("ascii")
 
-    def compare(self, other):
+    def compare(self, other: "Tree") -> Tuple[int, int]:
         """BEFORE, SAME or AFTER, where this tree's text stands beside the other's, and how many bytes they share from their start on."""
         order, shared, _ = _ask("bt_order", self.bytes, other.bytes)
         return order, shared

@@ -5,9 +5,13 @@
 
 import doctest
 import hashlib
+import inspect
+import multiprocessing
 import os
+import pickle
 import re
 import sys
+import typing
 
 HERE = os.path.dirname(os.path.abspath(__file__))
 sys.path.insert(0, HERE)
@@ -73,7 +77,7 @@ def prefix(tree, lent, mark):
 def listed(tree):
     try:
         lines = blocktree.Tree(tree, checked=False).list()
-    except blocktree.Refused as refused:
+    except blocktree.RefusedError as refused:
         lines = "refused %d\n" % refused.number
     return (lines.replace("\n", "/"),)
 
@@ -203,6 +207,51 @@ def digests():
         assert blocktree.Tree(blocktree.build(text, 64, 2, 2, b"")).digest() == due
 
 
+def settings_left_out():
+    """build without settings makes the smallest tree of the short list; some of them alone are a mistake."""
+    text = open(os.path.join(HERE, "../books/small.txt"), "rb").read()
+    trees = [blocktree.build(text, *settings) for settings in blocktree.SHORT_LIST]
+    assert blocktree.build(text) == blocktree.build(text, 24, 8, 3) == min(trees, key=len)
+    assert blocktree.Tree(blocktree.build(text, counted=b"")).info()["totals"] == {}
+    for some in ({"leaf": 24}, {"arity": 8, "levels": 3}):
+        try:
+            blocktree.build(text, **some)
+        except TypeError:
+            continue
+        raise AssertionError("%r was enough" % some)
+
+
+def as_a_sequence():
+    """Lengths, indices and slices are those of the text's bytes; rows are iterated by number."""
+    text = b"A 1\r\nBC 23\n\nD 4"
+    book = blocktree.Tree(blocktree.build(text, 2, 2, 2))
+    assert len(book) == len(text) and list(book) == list(text)
+    for index in range(-len(text), len(text)):
+        assert book[index] == text[index]
+    bounds = [None, -99, -14, -3, 0, 1, 5, 14, 99]
+    for index in [slice(start, stop, step) for start in bounds for stop in bounds for step in (None, 1, 3, -1, -2)]:
+        assert book[index] == text[index], index
+    for index in (len(text), -len(text) - 1):
+        try:
+            book[index]
+        except IndexError:
+            continue
+        raise AssertionError("%d is an index" % index)
+    assert list(book.iter_rows()) == [b"A 1", b"BC 23", b"", b"D 4"]
+    assert list(book.iter_rows(2, 3)) == [b"BC 23", b""] and list(book.iter_rows(5)) == []
+    assert list(blocktree.Tree(blocktree.build(b"")).iter_rows()) == []
+
+
+def hints():
+    """Every public function and method has a type for each argument and for its answer, which a reader of hints can evaluate."""
+    functions = [getattr(blocktree, name) for name in blocktree.__all__ if inspect.isfunction(getattr(blocktree, name))]
+    functions += [method for name, method in inspect.getmembers(blocktree.Tree, inspect.isfunction)]
+    assert len(functions) > 25
+    for function in functions:
+        known = set(typing.get_type_hints(function)) - {"return"}
+        assert known == set(inspect.signature(function).parameters) - {"self"} and "return" in function.__annotations__, function
+
+
 def refusals():
     """Every refusal raises its number, and a number that is none is not lent."""
     book = blocktree.Tree(blocktree.build(b"A 1\n", 2, 2, 2))
@@ -229,30 +278,76 @@ def refusals():
     ]:
         try:
             ask()
-        except blocktree.Refused as refused:
+        except blocktree.RefusedError as refused:
             assert refused.number == number and str(refused).startswith("refused (%d): " % number)
         else:
             raise AssertionError("%d did not come" % number)
-    for prefix in ("A", 1, [65], None):
-        for ask in (book.next_with_prefix, book.rows_with_prefix):
+    for number in (-1, 1 << 32):
+        for ask in (book.row, lambda mark: book.next_match([(1, 1)], mark)):
             try:
-                ask(prefix)
+                ask(number)
+            except OverflowError:
+                continue
+            raise AssertionError("%d was lent" % number)
+
+
+def other_types():
+    """A number, a string or a list in place of bytes is a TypeError; any bytes-like object is good."""
+    book = blocktree.Tree(bytearray(blocktree.build(memoryview(b"A 1\n"), 2, 2, 2)))
+    assert book.places(bytearray(b"1")) == book.places(memoryview(b"x1x")[1:2]) == [2]
+    for wrong in (5, "5", [5], None):
+        for ask in (
+            lambda: blocktree.Tree(wrong),
+            lambda: blocktree.build(wrong, 2, 2, 2),
+            lambda: blocktree.build(b"", 2, 2, 2, wrong),
+            lambda: blocktree.enough(5, 2, 2, 2, wrong),
+            lambda: blocktree.to_columns(wrong, 1),
+            lambda: blocktree.from_columns(wrong, 1),
+            lambda: blocktree.open_on(wrong, b"20240101", b"20240101"),
+            lambda: blocktree.renew(wrong),
+            lambda: blocktree.digest_text(wrong),
+            lambda: book.places(wrong),
+            lambda: book.next_with_prefix(wrong),
+            lambda: book.rows_with_prefix(wrong),
+            lambda: book.check_guide(wrong),
+        ):
+            try:
+                ask()
             except TypeError:
                 continue
-            raise AssertionError("%r was lent" % (prefix,))
-    for number in (-1, 1 << 32):
+            raise AssertionError("%r was taken for bytes" % (wrong,))
+
+
+def ask_row(tree, number):
+    return blocktree.Tree(tree).row(number)
+
+
+def from_another_process():
+    """A refusal survives pickling, and comes back from a worker process."""
+    refused = pickle.loads(pickle.dumps(blocktree.RefusedError(12)))
+    assert type(refused) is blocktree.RefusedError is blocktree.Refused
+    assert (refused.number, str(refused)) == (12, str(blocktree.RefusedError(12)))
+    tree = blocktree.build(b"A 1\n", 2, 2, 2)
+    with multiprocessing.Pool(1) as pool:
+        assert pool.apply_async(ask_row, (tree, 1)).get(timeout=60) == b"A 1"
         try:
-            book.row(number)
-        except OverflowError:
-            continue
-        raise AssertionError("%d was lent" % number)
+            pool.apply_async(ask_row, (tree, 2)).get(timeout=60)
+        except blocktree.RefusedError as refused:
+            assert refused.number == 12
+        else:
+            raise AssertionError("row 2 was answered")
 
 
 if __name__ == "__main__":
     counts = [run_file(path) for path in FILES]
     own_functions()
     digests()
+    settings_left_out()
+    as_a_sequence()
+    hints()
     refusals()
+    other_types()
+    from_another_process()
     failed, tried = doctest.testmod(blocktree)
     assert (failed, tried > 3) == (0, True)
     print("%s cases, all as they should be" % " and ".join(map(str, counts)))

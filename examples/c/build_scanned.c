@@ -23,7 +23,7 @@ int main(void)
     const size_t text_len = strlen(book);
     const uint8_t counted[] = {10}; /* the byte that ends a row */
     const size_t work_len = (size_t)bt_scan_words((uint32_t)text_len, LEAF);
-    uint32_t *work = malloc(work_len * sizeof *work);
+    uint32_t *work = (uint32_t *)malloc(work_len * sizeof *work);
     uint32_t first_size, size, windows, number;
 
     if (work == NULL || bt_build(text, text_len, LEAF, ARITY, LEVELS, counted, sizeof counted, first, sizeof first, &first_size) != BT_OK) {
@@ -32,7 +32,7 @@ int main(void)
     number = bt_build_scanned(text, text_len, LEAF, ARITY, LEVELS, counted, sizeof counted, work, work_len, tree, sizeof tree, &size, &windows);
     free(work);
     if (number != BT_OK) {
-        printf("build_scanned: refused %u\n", (unsigned)number);
+        printf("build_scanned: refused %u: %s\n", (unsigned)number, bt_refusal_text(number));
         return 1;
     }
     printf("table of %u words, %u windows looked up\n", (unsigned)work_len, (unsigned)windows);

@@ -24,17 +24,17 @@ int main(void)
 
     number = bt_build(text, text_len, 8, 2, 3, counted, sizeof counted, tree, sizeof tree, &size);
     if (number != BT_OK) {
-        printf("build: refused %u\n", (unsigned)number);
+        printf("build: refused %u: %s\n", (unsigned)number, bt_refusal_text(number));
         return 1;
     }
     number = bt_check(tree, size);
     if (number != BT_OK) {
-        printf("check: refused %u\n", (unsigned)number);
+        printf("check: refused %u: %s\n", (unsigned)number, bt_refusal_text(number));
         return 1;
     }
     number = bt_row(tree, size, 7, row, sizeof row, &length);
     if (number != BT_OK) {
-        printf("row 7: refused %u\n", (unsigned)number);
+        printf("row 7: refused %u: %s\n", (unsigned)number, bt_refusal_text(number));
         return 1;
     }
     printf("text %u bytes, tree %u bytes\nrow 7: %.*s\n", (unsigned)text_len, (unsigned)size, (int)length, (const char *)row);

@@ -111,10 +111,10 @@ int main(void)
         {"bt_row_guided", row_guided}, {"bt_next_with_prefix_guided", next_with_prefix_guided}, {"bt_order", order}, {"bt_without_edges", without_edges}, {"bt_list", list},
         {"bt_open_on", open_on}, {"bt_days_left", days_left}, {"bt_renew", renew},
     };
-    tree = malloc(TREE);
-    guide = malloc(TEXT);
-    smaller = malloc(TREE);
-    table = malloc(sizeof *table * 2 * TEXT);
+    tree = (uint8_t *)malloc(TREE);
+    guide = (uint8_t *)malloc(TEXT);
+    smaller = (uint8_t *)malloc(TREE);
+    table = (uint32_t *)malloc(sizeof *table * 2 * TEXT);
     if (!tree || !guide || !smaller || !table) return 1;
     write_text();
     if (bt_build(text, 600, 2, 3, 8, counted, 4, small, sizeof small, &small_size) != BT_OK) return 1;

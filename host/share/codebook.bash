@@ -4,31 +4,25 @@ _codebook() {
     local word=${COMP_WORDS[COMP_CWORD]} command=${COMP_WORDS[1]} choices=
     COMPREPLY=()
     if [ "$COMP_CWORD" -eq 1 ]; then
-        choices='build check verify digest list stats picture row byte run span count find places match worn text to-columns from-columns guide compare shelf licence sizes help version manual completion --help --version'
-        choices='build slim check verify list stats picture row byte run span count find places match worn text to-columns from-columns guide compare shelf licence sizes help version manual completion --help --version'
-        choices='build check verify list stats picture row byte run span count find places code match worn text to-columns from-columns guide compare shelf licence sizes help version manual completion --help --version'
+        choices='build slim import check verify digest diff list stats picture row byte run span count find places code match worn text to-columns from-columns guide compare shelf licence sizes help version manual completion --help --version'
     else
         case $command in
         guide) command="$command ${COMP_WORDS[2]}"; [ "$COMP_CWORD" -eq 2 ] && choices='make check' ;;
         licence) command="$command ${COMP_WORDS[2]}"; [ "$COMP_CWORD" -eq 2 ] && choices='open left renew' ;;
         completion) choices='bash zsh' ;;
-        help) choices='build check verify digest list stats picture row byte run span count find places match worn text to-columns from-columns guide compare shelf licence sizes help version manual completion' ;;
-        help) choices='build check verify list stats picture row byte run span count find places code match worn text to-columns from-columns guide compare shelf licence sizes help version manual completion' ;;
+        help) choices='build slim import check verify digest diff list stats picture row byte run span count find places code match worn text to-columns from-columns guide compare shelf licence sizes help version manual completion' ;;
         esac
         case $word in -*) case $command in
-        'build') choices='-o --output -f --force --leaf --arity --levels --count --columns --json -q --quiet -h --help' ;;
+        'build') choices='-o --output -f --force --keep-time --small --leaf --arity --levels --count --columns --allow-larger --json -q --quiet -h --help' ;;
+        'slim') choices='-o --output -f --force --keep-time --json -q --quiet -h --help' ;;
+        'import') choices='-o --output -f --force --keep-time --code --cuts --separator --lenient --json -q --quiet -h --help' ;;
         'check') choices='--sha256 --text-sha256 --json -q --quiet -h --help' ;;
-        help) choices='build slim check verify list stats picture row byte run span count find places match worn text to-columns from-columns guide compare shelf licence sizes help version manual completion' ;;
-        esac
-        case $word in -*) case $command in
-        'build') choices='-o --output -f --force --small --leaf --arity --levels --count --columns --json -q --quiet -h --help' ;;
-        'slim') choices='-o --output -f --force --json -q --quiet -h --help' ;;
-        'check') choices='--sha256 --json -q --quiet -h --help' ;;
         'verify') choices='--columns --json -q --quiet -h --help' ;;
         'digest') choices='--json --unchecked -q --quiet -h --help' ;;
-        'list') choices='-q --quiet -h --help' ;;
+        'diff') choices='--json -q --quiet -h --help' ;;
+        'list') choices='--json -q --quiet -h --help' ;;
         'stats') choices='--json -q --quiet -h --help' ;;
-        'picture') choices='-o --output -f --force -q --quiet -h --help' ;;
+        'picture') choices='-o --output -f --force --keep-time --json -q --quiet -h --help' ;;
         'row') choices='--guide --columns --json --unchecked -q --quiet -h --help' ;;
         'byte') choices='--json --unchecked -q --quiet -h --help' ;;
         'run') choices='--json --unchecked -q --quiet -h --help' ;;
@@ -39,10 +33,10 @@ _codebook() {
         'code') choices='--prefix --guide --json --unchecked -q --quiet -h --help' ;;
         'match') choices='--from --after --json --unchecked -q --quiet -h --help' ;;
         'worn') choices='--from --after --json --unchecked -q --quiet -h --help' ;;
-        'text') choices='--unchecked -q --quiet -h --help' ;;
-        'to-columns') choices='-o --output -f --force -q --quiet -h --help' ;;
-        'from-columns') choices='-o --output -f --force -q --quiet -h --help' ;;
-        'guide make') choices='-o --output -f --force --json -q --quiet -h --help' ;;
+        'text') choices='--json --unchecked -q --quiet -h --help' ;;
+        'to-columns') choices='-o --output -f --force --keep-time --json -q --quiet -h --help' ;;
+        'from-columns') choices='-o --output -f --force --keep-time --json -q --quiet -h --help' ;;
+        'guide make') choices='-o --output -f --force --keep-time --json -q --quiet -h --help' ;;
         'guide check') choices='--json -q --quiet -h --help' ;;
         'compare') choices='--json --unchecked -q --quiet -h --help' ;;
         'shelf') choices='--json -q --quiet -h --help' ;;
@@ -50,10 +44,10 @@ _codebook() {
         'licence left') choices='--json -q --quiet -h --help' ;;
         'licence renew') choices='--json -q --quiet -h --help' ;;
         'sizes') choices='--leaf --arity --levels --count --json -q --quiet -h --help' ;;
-        'help') choices='-q --quiet -h --help' ;;
-        'version') choices='-q --quiet -h --help' ;;
-        'manual') choices='-q --quiet -h --help' ;;
-        'completion') choices='-q --quiet -h --help' ;;
+        'help') choices='--json -q --quiet -h --help' ;;
+        'version') choices='--json -q --quiet -h --help' ;;
+        'manual') choices='--json -q --quiet -h --help' ;;
+        'completion') choices='--json -q --quiet -h --help' ;;
         esac ;; esac
     fi
     if [ -n "$choices" ]; then COMPREPLY=($(compgen -W "$choices" -- "$word")); fi

@@ -40,9 +40,6 @@ impl Tree<'_> {
 
     /// Row `q`, from 1, as `row` has it. Safe with any bytes as a guide; one that is not the tree's can lead to a wrong row.
     pub fn row_guided(&self, guide: &[u8], q: u32) -> Result<Vec<u8>, Refusal> {
-        let mut buffer = vec![0; MAX_TEXT.min(self.text_length() as usize)];
-        let (number, length) = calls::row_guided(self.bytes, guide, q, &mut buffer);
-        buffer.truncate(length as usize);
-        answer(number, buffer)
+        self.read_row(Some(guide), q, &mut Vec::new()).map(<[u8]>::to_vec)
     }
 }

@@ -19,6 +19,7 @@ mod days;
 mod digest;
 mod facts;
 mod guides;
+mod matches;
 mod order;
 mod parts;
 mod prefix;
@@ -191,10 +192,7 @@ impl<'a> Tree<'a> {
 
     /// Row `q`, from 1, without its byte 10 and without one byte 13 directly before that. What stands after the last byte 10 is a row too, if the text's last byte is another one.
     pub fn row(&self, q: u32) -> Result<Vec<u8>, Refusal> {
-        let mut buffer = vec![0; MAX_TEXT.min(self.text_length() as usize)];
-        let (number, length) = calls::row(self.bytes, q, &mut buffer);
-        buffer.truncate(length as usize);
-        answer(number, buffer)
+        self.read_row(None, q, &mut Vec::new()).map(<[u8]>::to_vec)
     }
 
     /// How many rows there are: the total of byte 10, and one more if the text's last byte is another one.
@@ -220,19 +218,8 @@ impl<'a> Tree<'a> {
     /// The first row after `mark` that is a key, has as many cuts as there are ranges, and each in its range: a code of 1 to 12 bytes other than
     /// space, one space, and 1 to 10 digits. The mark is moved on to it; if there is none, to the number of rows, unless it stands there or beyond.
     pub fn next_match(&self, ranges: &[Range], mark: &mut u32) -> Result<Option<u32>, Refusal> {
-        let lent: Vec<u8> = ranges.iter().flat_map(|range| [range.low, range.high]).collect();
-        let (number, row) = calls::next_match(self.bytes, &lent, mark);
+        let (number, row) = calls::next_match(self.bytes, &matches::lent(ranges), mark);
         answer(number, (row != 0).then_some(row))
-    }
-
-    /// All rows after `mark` that match, in row order.
-    pub fn matches(&self, ranges: &[Range], mark: u32) -> Result<Vec<u32>, Refusal> {
-        let mut mark = mark;
-        let mut rows = Vec::new();
-        while let Some(row) = self.next_match(ranges, &mut mark)? {
-            rows.push(row);
-        }
-        Ok(rows)
     }
 
     /// The same tree in layout 1, without its edges; a tree of layout 1 is copied. It is never larger, and every question returns the same from it, but
@@ -247,5 +234,45 @@ impl<'a> Tree<'a> {
     /// The whole text.
     pub fn text(&self) -> Result<Vec<u8>, Refusal> {
         self.span(0, self.text_length()).map(|span| span.value)
+    }
+}
+
+/// The rows of a text: byte 10 ends a row, with one byte 13 directly before it; what follows the last byte 10 is a row too.
+pub fn text_rows(text: &[u8]) -> impl Iterator<Item = &[u8]> {
+    text.split_inclusive(|&byte| byte == 10).map(|row| match row {
+        [row @ .., 13, 10] | [row @ .., 10] => row,
+        row => row,
+    })
+}
+
+#[cfg(test)]
+mod tests {
+    use super::{build, build_scanned, text_rows, Refusal, Settings, Tree};
+
+    #[test]
+    fn rows_of_a_text() {
+        let split = |text: &'static [u8]| text_rows(text).collect::<Vec<_>>();
+        assert_eq!(split(b"A 1\r\nB 2\n\nC"), [b"A 1".as_slice(), b"B 2", b"", b"C"]);
+        assert_eq!(split(b"A\r\r\nB\r"), [b"A\r".as_slice(), b"B\r"]);
+        assert!(split(b"").is_empty());
+    }
+
+    /// A row is copied into a buffer of its own length, whatever the text's; rows around the lengths of the buffers tried.
+    #[test]
+    fn rows_take_the_memory_of_their_length() {
+        let lengths = [0, 1, 255, 256, 257, 4095, 4096, 4097, 70_000];
+        let text: Vec<u8> = lengths.iter().flat_map(|&length| [vec![b'A'; length], vec![10]].concat()).collect();
+        let bytes = build_scanned(&text, &Settings { leaf: 64, arity: 4, levels: 3, counted: vec![10] }).expect("a tree").tree;
+        let tree = Tree::checked(&bytes).expect("a tree");
+        let guide = tree.make_guide().expect("a guide");
+        for (at, &length) in lengths.iter().enumerate() {
+            for row in [tree.row(at as u32 + 1), tree.row_guided(&guide, at as u32 + 1)] {
+                let row = row.expect("a row");
+                assert!(row == vec![b'A'; length] && row.capacity() == length, "{length}: {}", row.capacity());
+            }
+        }
+        assert_eq!((tree.row(0), tree.row(10)), (Err(Refusal::NoSuch), Err(Refusal::NoSuch)));
+        let uncounted = build(&text, &Settings { leaf: 256, arity: 2, levels: 1, counted: vec![] }).expect("a tree");
+        assert_eq!(Tree::unchecked(&uncounted).row(1), Err(Refusal::NotCounted));
     }
 }

@@ -30,6 +30,11 @@ impl Tree<'_> {
         self.bytes.len()
     }
 
+    /// Bytes that the tree should have: where the leaf bytes start and how many there are, as the header has them.
+    pub fn stated_size(&self) -> u64 {
+        u64::from(self.word(92)) + u64::from(self.word(96))
+    }
+
     /// The layout, as the header has it: 1, or 2, which has edges.
     pub fn layout(&self) -> u32 {
         self.word(0)

@@ -49,8 +49,10 @@ impl<'a> Tree<'a> {
     }
 
     /// Row `q`, from 1, read into `buffer`, with the tree's guide if one is given. The buffer grows when the row does not fit, and can be used for the next row.
+    /// Most rows fit the first buffer, of 256 bytes; a longer one is at most 16 times too long.
     pub fn read_row<'b>(&self, guide: Option<&[u8]>, q: u32, buffer: &'b mut Vec<u8>) -> Result<&'b [u8], Refusal> {
         let most = MAX_TEXT.min(self.text_length() as usize);
+        buffer.resize(buffer.len().max(most.min(256)), 0);
         loop {
             let (number, length) = match guide {
                 None => calls::row(self.bytes, q, buffer),
@@ -59,7 +61,7 @@ impl<'a> Tree<'a> {
             if number != Refusal::Buffer.number() || buffer.len() >= most {
                 return answer(number, &buffer[..length as usize]);
             }
-            buffer.resize(most.min((2 * buffer.len()).max(64)), 0);
+            buffer.resize(most.min(16 * buffer.len()), 0);
         }
     }
 }

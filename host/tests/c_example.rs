@@ -16,25 +16,53 @@ fn output(command: &mut Command) -> Output {
     output
 }
 
-/// What an example prints, compiled without a warning.
+/// What an example prints, compiled without a warning: the same as C and as C++.
 fn printed(example: &str) -> String {
-    printed_by("-std=c99", example)
+    let printed: Vec<String> = standards().into_iter().map(|standard| printed_by(standard, example)).collect();
+    assert!(printed.iter().all(|text| *text == printed[0]), "{printed:?}");
+    printed[0].clone()
 }
 
 fn printed_by(standard: &str, example: &str) -> String {
-    let program = Path::new(env!("CARGO_TARGET_TMPDIR")).join(example);
+    run(standard, &repository().join(format!("examples/c/{example}.c")))
+}
+
+/// What a program in C prints, compiled by a standard of C or of C++.
+fn run(standard: &str, source: &Path) -> String {
+    let (compiler, language) = if standard.contains("++") { ("g++", "c++") } else { ("gcc", "c") };
+    let name = format!("{}-{}", source.file_stem().unwrap_or_default().to_string_lossy(), &standard[5..]);
+    let program = Path::new(env!("CARGO_TARGET_TMPDIR")).join(name);
     output(
-        Command::new("gcc")
-            .arg(standard)
+        Command::new(compiler)
+            .args([standard, "-x", language])
             .args(STRICT)
             .arg("-I")
             .arg(repository().join("include"))
-            .arg(repository().join(format!("examples/c/{example}.c")))
+            .arg(source)
+            .args(["-x", "none"])
             .arg(ARCHIVE)
             .arg("-o")
             .arg(&program),
     );
     String::from_utf8_lossy(&output(&mut Command::new(program)).stdout).into_owned()
+}
+
+/// The standards of C, and of C++ where its compiler is installed.
+fn standards() -> Vec<&'static str> {
+    match Command::new("g++").arg("--version").output() {
+        Ok(_) => vec!["-std=c99", "-std=c++11"],
+        Err(_) => {
+            println!("g++ is not installed: not tried");
+            vec!["-std=c99"]
+        }
+    }
+}
+
+/// What a program that a test writes prints.
+fn run_text(standard: &str, name: &str, text: &str) -> String {
+    let source = Path::new(env!("CARGO_TARGET_TMPDIR")).join(format!("{name}.c"));
+    std::fs::write(&source, format!("#include <stdio.h>\n#include \"blocktree.h\"\n{text}")).expect("a file");
+    run(standard, &source)
 }
 
 #[test]
@@ -52,14 +80,57 @@ fn checks_a_digest() {
     assert_eq!(printed("check_digest"), "the tree of 1060 bytes is of the printed text\nanother text is found out\n");
 }
 
+/// The header's words for each number are those of the tool.
+#[test]
+fn words_for_numbers() {
+    let program = "int main(void) { for (uint32_t n = 0; n <= 99; n++) printf(\"%s\\n\", bt_refusal_text(n)); return 0; }\n";
+    for standard in standards() {
+        let printed = run_text(standard, "words_for_numbers", program);
+        for (number, line) in (0..).zip(printed.lines()) {
+            match codebook::Refusal::from_number(number) {
+                Some(refusal) => assert_eq!(format!("refused ({number}): {line}"), refusal.to_string()),
+                None => assert_eq!(line, if number == 0 { "not refused" } else { "a number that this header does not know" }),
+            }
+        }
+        assert_eq!(printed.lines().count(), 100);
+    }
+}
+
+/// BT_MAX_TREE is the largest size that bt_enough returns over all settings, and is that of the longest text.
+#[test]
+fn the_largest_tree() {
+    let program = "\
+int main(void)
+{
+    uint64_t largest = 0, size, shorter;
+    for (uint32_t leaf = 1; leaf <= BT_MAX_LEAF; leaf++)
+        for (uint32_t arity = BT_MIN_ARITY; arity <= BT_MAX_ARITY; arity++)
+            for (uint32_t levels = 1; levels <= BT_MAX_LEVELS; levels++)
+                for (uint32_t counted = 0; counted <= BT_MAX_COUNTED; counted++) {
+                    if (bt_enough(BT_MAX_TEXT, leaf, arity, levels, counted, &size) != BT_OK) continue;
+                    if (bt_enough(BT_MAX_TEXT - 1, leaf, arity, levels, counted, &shorter) != BT_OK || shorter > size) return 1;
+                    if (size > largest) largest = size;
+                }
+    printf(\"%d\\n\", largest == BT_MAX_TREE);
+    printf(\"%lu\\n\", (unsigned long)BT_MAX_TREE);
+    return 0;
+}
+";
+    for standard in standards() {
+        assert_eq!(run_text(standard, "the_largest_tree", program), format!("1\n{}\n", codebook::MAX_TREE));
+    }
+}
+
 /// Each call's stack is as small as README.md says.
 #[test]
 fn stack_use() {
-    let lines = printed_by("-std=gnu99", "stack_use");
-    assert!(lines.lines().count() > 25);
-    for line in lines.lines() {
-        let bytes: usize = line.split_whitespace().nth(1).and_then(|word| word.parse().ok()).expect("a number");
-        assert!(bytes <= 4096, "{line}");
+    for standard in standards() {
+        let lines = printed_by(&standard.replace("=c", "=gnu"), "stack_use");
+        assert!(lines.lines().count() > 25);
+        for line in lines.lines() {
+            let bytes: usize = line.split_whitespace().nth(1).and_then(|word| word.parse().ok()).expect("a number");
+            assert!(bytes <= 4096, "{line}");
+        }
     }
 }
 

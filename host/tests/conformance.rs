@@ -31,7 +31,7 @@ fn files_are_current() {
 
 #[test]
 fn the_tool_passes() {
-    let build = "codebook build {book} -q -o {tree} --leaf {leaf} --arity {arity} --levels {levels} --count {counted}";
+    let build = "codebook build {book} -q -o {tree} --leaf {leaf} --arity {arity} --levels {levels} --count {counted_hex}";
     if let Some(said) = script("run.py", &["--build", build, "--check", "codebook check -q {tree}"], Path::new("")) {
         assert!(said.ends_with(" cases, 0 wrong\n") && said.len() > 18, "{said}");
     }
@@ -45,6 +45,45 @@ fn the_module_passes() {
     if let Some(said) = script("run.py", &["--ask", "python3 -B ../python/answer.py", "--refused"], &library) {
         assert!(said.ends_with(" cases, 0 wrong\n"), "{said}");
     }
+}
+
+/// run.py with these words: its status, and what it says on both outputs. None without Python.
+fn run(words: &[&str]) -> Option<(Option<i32>, String, String)> {
+    let done = Command::new("python3").arg("-B").arg(repository().join("conformance/run.py")).args(words).output().ok()?;
+    Some((done.status.code(), String::from_utf8_lossy(&done.stdout).into_owned(), String::from_utf8_lossy(&done.stderr).into_owned()))
+}
+
+/// A command that is not there is named, and is no wrong case.
+#[test]
+fn a_missing_command() {
+    for option in ["--build", "--check", "--ask"] {
+        if let Some((status, printed, said)) = run(&[option, "no-such-command {tree}"]) {
+            assert_eq!((status, printed.as_str()), (Some(2), ""), "{option}: {said}");
+            assert!(said.starts_with("run.py: the command 'no-such-command' cannot be run: No such file or directory; "), "{option}: {said}");
+        }
+    }
+    if let Some((status, _, said)) = run(&["--check", "true {book}"]) {
+        assert_eq!((status, said.as_str()), (Some(2), "run.py: 'true {book}' has a brace that begins none of the placeholders {tree}\n"));
+    }
+}
+
+/// Of a wrong case what the builder said is shown; what is not shown is counted; the number of a refusal is compared.
+#[test]
+fn wrong_cases_are_told() {
+    let refusals = |text: &str, number: u32| text.lines().filter(|line| line.ends_with(&format!(" => {number}, not refused 2"))).count();
+    let Some((status, printed, _)) = run(&["--build", "sh -c 'echo mybuild: refused 2 >&2; exit 1'", "--all"]) else { return };
+    assert_eq!((status, refusals(&printed, 2)), (Some(1), 0));
+    assert!(refusals(&printed, 3) > 0 && printed.contains("not refused 2\n    mybuild: refused 2\n"), "{printed}");
+    let wrong = printed.lines().filter(|line| line.contains(" => ")).count();
+    assert!(wrong > 20 && printed.ends_with(&format!(" cases, {wrong} wrong\n")));
+    let Some((_, printed, _)) = run(&["--build", "sh -c 'echo mybuild: refused 2 >&2; exit 1'"]) else { return };
+    assert_eq!(printed.lines().filter(|line| line.contains(" => ")).count(), 20);
+    assert!(printed.contains(&format!("\n{} more are not shown; --all shows them\n", wrong - 20)), "{printed}");
+    // a status is a number too; a check's number is compared where it is printed
+    let Some((_, printed, _)) = run(&["--build", "sh -c 'exit 2'", "--all"]) else { return };
+    assert!(!printed.contains(" => 2, not") && printed.contains(" => 3, not status 2\n"), "{printed}");
+    let Some((_, printed, _)) = run(&["--check", "sh -c 'echo refused 8; exit 1'", "--all"]) else { return };
+    assert!(!printed.contains(" => 8, not") && printed.contains(" => 9, not refused 8\n") && printed.contains(" => 0, not refused 8\n"), "{printed}");
 }
 
 /// A check that accepts everything, and a reader that answers nothing, do not pass.

@@ -652,6 +652,8 @@ fn free_answers_are_judged() {
     let free = |tree: &[u8], got, buffer: &[u8]| row_agrees(tree, (Answer::Free(4), &[]), (got, buffer));
     let tree = build::plain_tree(b"ABAC", Shape::new(2, 2, 2), b"A");
     assert!(free(&tree, (0, 2), b"BA\xEE") && free(&tree, (0, 0), b"\xEE") && free(&tree, (14, 0), b"\0\0\xEE") && free(&tree, (13, 0), b"\xEE"));
-    assert!(!free(&tree, (0, 2), b"BC\xEE") && !free(&tree, (0, 1), b"BA\xEE") && !free(&tree, (0, 5), b"ABAC\xEE") && !free(&tree, (0, 5), b"ABACA"));
+    assert!(
+        !free(&tree, (0, 2), b"BC\xEE") && !free(&tree, (0, 1), b"BA\xEE") && !free(&tree, (0, 5), b"ABAC\xEE") && !free(&tree, (0, 5), b"ABACA")
+    );
     assert!(!free(&tree, (14, 0), b"\0\x01") && !free(&tree, (13, 0), &[FILL; 4]));
 }

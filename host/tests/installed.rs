@@ -22,8 +22,8 @@ fn output(command: &mut Command) -> Output {
     output
 }
 
-/// make, with the tool and the archive that are tested.
-fn make(root: &Path, target: &str) {
+/// make, with the tool and the archive that are tested; what it says.
+fn make(root: &Path, target: &str) -> String {
     let set = |name: &str, value: &Path| format!("{name}={}", value.display());
     let values = [
         set("PREFIX", root),
@@ -31,7 +31,29 @@ fn make(root: &Path, target: &str) {
         set("ARCHIVE", Path::new(env!("BLOCKTREE_ARCHIVE"))),
         set("SHARED", &root.join("built.so")),
     ];
-    output(Command::new("make").arg("-s").arg("-C").arg(repository()).args(values).arg(target));
+    let done = output(Command::new("make").arg("-s").arg("-C").arg(repository()).args(values).arg(target));
+    String::from_utf8_lossy(&done.stdout).into_owned()
+}
+
+/// The shared library's name in programs: by the first number of the version.
+const SONAME: &str = concat!("libblocktree.so.", env!("CARGO_PKG_VERSION_MAJOR"));
+
+/// Whether the loader must be told of an installed library; with an `ldconfig` that says what is given.
+#[test]
+fn the_loader() {
+    let folder = folder("loader");
+    let said = |known: &str, searched: &str| {
+        let script =
+            format!("#!/bin/sh\ncase $1 in -p) echo '\tlibblocktree.so.1 (libc6,x86-64) => {known}' ;; *) echo '{searched}: (from x)' ;; esac\n");
+        fs::write(folder.join("ldconfig"), script).expect("a file");
+        fs::set_permissions(folder.join("ldconfig"), std::os::unix::fs::PermissionsExt::from_mode(0o755)).expect("permissions");
+        let path = format!("{}:{}", folder.display(), std::env::var("PATH").unwrap_or_default());
+        let done = output(Command::new(repository().join("host/loader")).args(["/srv/lib", "libblocktree.so.1"]).env("PATH", path));
+        String::from_utf8_lossy(&done.stdout).into_owned()
+    };
+    assert_eq!(said("/srv/lib/libblocktree.so.1", "/srv/lib"), "");
+    assert_eq!(said("/lib/libblocktree.so.1", "/srv/lib"), "run ldconfig as root, so that programs find /srv/lib/libblocktree.so.1\n");
+    assert!(said("/lib/libblocktree.so.1", "/usr/srv/lib").starts_with("the loader does not search /srv/lib: "));
 }
 
 /// All files below a folder, by name.
@@ -51,7 +73,8 @@ fn files(folder: &Path) -> Vec<String> {
 #[test]
 fn install_and_uninstall() {
     let root = folder("installed");
-    make(&root, "install");
+    let said = make(&root, "install");
+    assert!(said.starts_with(&format!("the loader does not search {}: link programs with -Wl,-rpath,", root.join("lib").display())), "{said}");
     let installed = [
         "CHANGELOG.md",
         "FORMAT.md",
@@ -68,10 +91,16 @@ fn install_and_uninstall() {
         "codebook",
         "codebook.1",
     ];
-    assert_eq!(files(&root), [installed.as_slice(), &["libblocktree.a", "libblocktree.so", "libblocktree.so.0"]].concat());
+    let libraries = ["libblocktree.a", "libblocktree.so", SONAME, concat!("libblocktree.so.", env!("CARGO_PKG_VERSION"))];
+    assert_eq!(files(&root), [installed.as_slice(), &libraries].concat());
+    if let Ok(told) = Command::new("readelf").arg("-d").arg(root.join("lib/libblocktree.so")).output() {
+        let told = String::from_utf8_lossy(&told.stdout).into_owned();
+        assert!(told.contains(&format!("Library soname: [{SONAME}]")), "{told}");
+    }
     assert!(output(Command::new(root.join("bin/codebook")).arg("--version")).stdout.starts_with(b"codebook "));
     c_program(&root);
     python_module(&root.join("share/blocktree"));
+    pip_install(&root);
     make(&root, "uninstall");
     assert_eq!(files(&root), ["built.so"]);
 }
@@ -102,6 +131,24 @@ fn python_module(path: &Path) {
         Err(_) => println!("python3 is not installed: not tried"),
         Ok(output) => assert_eq!(output.stdout, b"B 2\n", "{}", String::from_utf8_lossy(&output.stderr)),
     }
+}
+
+/// `pip install ./python` without a network gives the module and its hints; it finds the library that is installed beside the tool.
+fn pip_install(root: &Path) {
+    let target = folder("pip");
+    let mut pip = Command::new("python3");
+    pip.args(["-m", "pip"]).env("PIP_DISABLE_PIP_VERSION_CHECK", "1").env("PYTHONDONTWRITEBYTECODE", "1");
+    if !Command::new("python3").args(["-m", "pip", "--version"]).output().is_ok_and(|done| done.status.success()) {
+        println!("pip is not installed: not tried");
+        return;
+    }
+    output(pip.args(["install", "--quiet", "--no-index", "--target"]).arg(&target).arg(repository().join("python")));
+    assert!(target.join("blocktree/py.typed").exists());
+    let line = "import blocktree; print(blocktree.__version__, blocktree.Tree(blocktree.build(b'A 1\\nB 2\\n')).row(2).decode())";
+    let path = format!("{}:{}", root.join("bin").display(), std::env::var("PATH").unwrap_or_default());
+    let mut python = Command::new("python3");
+    python.args(["-B", "-c", line]).current_dir(&target).env("PYTHONPATH", &target).env("PATH", path).env_remove("BLOCKTREE_LIBRARY");
+    assert_eq!(String::from_utf8_lossy(&output(&mut python).stdout), format!("{} B 2\n", env!("CARGO_PKG_VERSION")));
 }
 
 /// What file(1) says of a tree, of a book, and of other trees.
@@ -148,6 +195,14 @@ fn python_reasons() {
     assert!(module.contains(&format!("\nLIST_LENGTH = {}\n", codebook::LIST_LENGTH)), "LIST_LENGTH");
 }
 
+/// The module's version is the tool's, and so are the settings that it tries.
+#[test]
+fn python_version_and_settings() {
+    let module = fs::read_to_string(repository().join("python/blocktree.py")).expect("the module");
+    assert!(module.contains(concat!("\n__version__ = \"", env!("CARGO_PKG_VERSION"), "\"\n")));
+    assert!(module.contains(&format!("\nSHORT_LIST = {:?}\n", codebook::SHORT_LIST)));
+}
+
 /// What is missing is told at once.
 #[test]
 fn needs() {
@@ -169,6 +224,28 @@ fn needs() {
     assert!(done.status.success() && done.stderr.starts_with(b"warning: rt is 'another'; "), "{done:?}");
 }
 
+/// The demo, without proving and building: its book is long and repeats itself, so that its tree is the smaller of the two.
+#[test]
+fn the_demo() {
+    let root = folder("demo");
+    for name in ["host/target/release", "tools", "books"] {
+        fs::create_dir_all(root.join(name)).expect("a folder");
+    }
+    for name in ["demo", "toolchain", "host/needs", "host/make-archive", "host/Cargo.toml", "books/make_repeating"] {
+        fs::copy(repository().join(name), root.join(name)).expect("a file");
+    }
+    std::os::unix::fs::symlink(env!("CARGO_BIN_EXE_codebook"), root.join("host/target/release/codebook")).expect("a link");
+    fs::write(root.join("tools/cargo"), "#!/bin/sh\n").expect("a file");
+    fs::set_permissions(root.join("tools/cargo"), std::os::unix::fs::PermissionsExt::from_mode(0o755)).expect("permissions");
+    let path = format!("{}:{}", root.join("tools").display(), std::env::var("PATH").unwrap_or_default());
+    let done = output(Command::new(root.join("demo")).env("PATH", path).env("BLOCKTREE_ARCHIVE", env!("BLOCKTREE_ARCHIVE")));
+    let said = String::from_utf8_lossy(&done.stdout).into_owned();
+    assert!(said.ends_with("\nthe tree's text is the book\n"), "{said}");
+    let size = |name: &str| fs::metadata(root.join("target").join(name)).expect("a file").len();
+    assert!(size("repeating.txt") >= 256 * 1024 && size("repeating.tree") < size("repeating.txt"), "{said}");
+    assert!(!String::from_utf8_lossy(&done.stderr).contains("warning: the tree is no smaller"), "{said}");
+}
+
 /// Proofs are made again where a crate changed, and only there; with an `rt` that writes down that it was called.
 #[test]
 fn the_archive_is_made_of_the_crates_as_they_stand() {
@@ -180,6 +257,7 @@ fn the_archive_is_made_of_the_crates_as_they_stand() {
     fs::write(root.join("crates.txt"), "text:\nabi: text # the calls\nother: abi\n").expect("a file");
     fs::write(root.join("crates/abi/source"), "1").expect("a file");
     let rt = "#!/bin/sh\n[ \"$1\" = version ] && exec echo one\necho proved >> calls\n[ -e fails ] && { echo no proof; exit 1; }\n\
+              echo 'fn text::f: proved'; echo 'rt: text proved (1 s)'; sleep 2; echo 'rt: abi proved (2 s)'; echo 'rt: ok, 2 crates proved'\n\
               mkdir -p target/staticlib && cp crates/abi/source target/staticlib/libabi.a\n";
     fs::write(root.join("tools/rt"), rt).expect("a file");
     fs::set_permissions(root.join("tools/rt"), std::os::unix::fs::PermissionsExt::from_mode(0o755)).expect("permissions");
@@ -188,7 +266,12 @@ fn the_archive_is_made_of_the_crates_as_they_stand() {
     let calls = || fs::read_to_string(root.join("calls")).unwrap_or_default().lines().count();
     let archive = || fs::read_to_string(root.join("target/libblocktree.a")).unwrap_or_default();
     let said = String::from_utf8_lossy(&run().stderr).into_owned();
-    assert!(said.starts_with("the library is proved: 2 crates, "), "{said}");
+    // a line for each crate, with the time so far, where there is no terminal too
+    let said: Vec<&str> = said.lines().map(|line| line.trim_start_matches([' ', '0', '1', '2', '3', '4', '5', '6', '7', '8', '9'])).collect();
+    assert_eq!(said.len(), 4, "{said:?}");
+    assert!(said[0].starts_with("proving the library, 2 crates: some ten minutes"), "{said:?}");
+    assert_eq!(said[1..3], ["s   1 of 2  text", "s   2 of 2  abi"]);
+    assert!(said[3].starts_with("the library is proved: 2 crates, "), "{said:?}");
     assert!(run().stderr.is_empty());
     assert_eq!((calls(), archive()), (1, "1".to_owned()));
     fs::write(root.join("crates/abi/source"), "2").expect("a file");

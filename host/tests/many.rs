@@ -1,4 +1,4 @@
-//! Several files in one call: one line for each, all are done, and one that fails makes the status 1.
+//! Several files in one call: one line for each, all are done, and the status is the highest: 1 where one is refused, 2 where one cannot be read or written.
 
 #[path = "support/folder.rs"]
 mod folder;
@@ -23,12 +23,12 @@ const NONE: &str = "cannot be read: No such file or directory (os error 2)";
 fn builds() {
     let folder = shelf("many-builds");
     let done = folder.run("build small.txt none.txt late.txt --force");
-    assert_eq!(done.status(1).printed().lines().map(|line| line.split(':').next().unwrap_or("")).collect::<Vec<_>>(), ["small.tree", "late.tree"]);
+    assert_eq!(done.status(2).printed().lines().map(|line| line.split(':').next().unwrap_or("")).collect::<Vec<_>>(), ["small.tree", "late.tree"]);
     assert!(done.errors().contains(&format!("codebook: none.txt: {NONE}\n")));
     // a tree that is there is told, and the others are built
     folder.write("more.txt", b"E 1\n");
     let done = folder.run("build small.txt more.txt -q");
-    done.status(1).says("codebook: small.tree: exists; --force overwrites it\n");
+    done.status(2).says("codebook: small.tree: exists; --force overwrites it\n");
     assert_eq!(folder.run("row 1 more.tree").printed(), "E 1\n");
     // into a folder
     std::fs::create_dir(folder.0.join("trees")).expect("a folder");
@@ -45,12 +45,12 @@ fn builds() {
 fn checks_and_verifies() {
     let folder = shelf("many-checks");
     let done = folder.run("check small.tree damaged.tree none.tree late.tree");
-    done.status(1).says(&format!("codebook: damaged.tree: {LINKS}\ncodebook: none.tree: {NONE}\n"));
+    done.status(2).says(&format!("codebook: damaged.tree: {LINKS}\ncodebook: none.tree: {NONE}\n"));
     let lines: Vec<String> = done.printed().lines().map(|line| line.split(';').next().unwrap_or("").to_owned()).collect();
     assert_eq!(lines, ["small.tree: valid tree of 2,800 bytes of text", "late.tree: valid tree of 2,000 bytes of text"]);
     folder.run("check small.tree late.tree --quiet").succeeds().prints("").says("");
     let done = folder.run("digest small.tree damaged.tree none.tree late.tree");
-    done.status(1).says(&format!("codebook: damaged.tree: {LINKS}\ncodebook: none.tree: {NONE}\n"));
+    done.status(2).says(&format!("codebook: damaged.tree: {LINKS}\ncodebook: none.tree: {NONE}\n"));
     done.prints(&folder.shell("sha256sum small.txt late.txt").printed().replace(".txt", ".tree"));
     let good = "small.tree: the block tree of small.txt, 2,800 bytes\nlate.tree: the block tree of late.txt, 2,000 bytes\n";
     folder.run("verify small.txt small.tree late.txt late.tree").succeeds().prints(good);
@@ -83,5 +83,5 @@ fn shelves() {
     let folder = shelf("many-shelves");
     folder.run("shelf late.tree small.tree").succeeds().prints("small.tree\nlate.tree\n");
     let done = folder.run("shelf late.tree damaged.tree none.tree small.tree");
-    done.status(1).prints("small.tree\nlate.tree\n").says(&format!("codebook: damaged.tree: {LINKS}\ncodebook: none.tree: {NONE}\n"));
+    done.status(2).prints("small.tree\nlate.tree\n").says(&format!("codebook: damaged.tree: {LINKS}\ncodebook: none.tree: {NONE}\n"));
 }

@@ -49,7 +49,13 @@ fn the_small_book() {
     folder.run("picture small.txt").status(1).prints("");
 }
 
-/// Blocks narrower than a pixel are merged: the drawing does not grow with the book.
+/// The value of an attribute.
+fn attribute(tag: &str, name: &str) -> usize {
+    let value = tag.split(&format!(" {name}=\"")).nth(1).and_then(|rest| rest.split('"').next());
+    value.and_then(|value| value.parse().ok()).unwrap_or_else(|| panic!("no {name}: {tag}"))
+}
+
+/// Blocks narrower than a pixel are drawn as the share of the pixel's text that is kept, and that points: by its area a level says how much is.
 #[test]
 fn a_long_book() {
     let folder = Folder::new("long-picture");
@@ -59,8 +65,41 @@ fn a_long_book() {
         folder.run(&format!("picture {name}.tree -q -o {name}.svg")).succeeds().prints("");
         let svg = String::from_utf8(folder.read(&format!("{name}.svg"))).expect("a text");
         well_formed(&svg);
-        assert!(svg.len() < 1_000_000 && blocks(&svg, 40) > 100, "{}", svg.len());
+        assert!(svg.len() < 1_000_000, "{}", svg.len());
+        // no block is drawn by itself, and the legend does not say so; few that point have arrows
+        assert!(!svg.contains("fill=\"#37404a\"") && !svg.contains("kept: cut") && !svg.contains("pointing: its"));
+        assert_eq!(svg.contains("to that place"), svg.contains("marker-end"));
+        assert!(svg.contains("the share of a pixel's text that is kept"));
+        assert_eq!(svg.contains("the share that points"), kind != Kind::NearlyRandom);
+        let shares: Vec<&str> = svg.lines().filter(|line| line.starts_with("<rect ") && line.contains("#9aa7b5")).collect();
+        let area: usize = shares.iter().map(|tag| attribute(tag, "width") * attribute(tag, "height")).sum();
+        let bytes = folder.read(&format!("{name}.tree"));
+        let tree = codebook::Tree::checked(&bytes).expect("a tree");
+        let kept = (0..4).flat_map(|level| tree.blocks(level).collect::<Vec<_>>()).filter(|block| block.points_to.is_none());
+        let kept = kept.map(|block| f64::from(block.length)).sum::<f64>() / f64::from(tree.text_length());
+        // less the sample in the legend
+        let drawn = (area - 24 * 18) as f64 / (1100.0 * 40.0);
+        assert!((drawn - kept).abs() < 0.02 * kept, "{name}: {drawn} and {kept}");
     }
+}
+
+/// The legend names what is drawn.
+#[test]
+fn legends() {
+    let folder = Folder::with_tree("legends");
+    let legend = |tree: &str| {
+        let svg = folder.run(&format!("picture {tree}")).succeeds().printed();
+        let named = ["kept: cut", "pointing: its", "to that place", "share of a pixel", "share that points"].map(|words| svg.contains(words));
+        named.map(usize::from)
+    };
+    assert_eq!(legend("small.tree"), [1, 1, 1, 0, 0]);
+    folder.run("build small.txt -q -o one.tree --leaf 256 --arity 2 --levels 1").succeeds();
+    assert_eq!(legend("one.tree"), [1, 0, 0, 0, 0]);
+    folder.run("build small.txt -q -o narrow.tree --leaf 1 --arity 2 --levels 1").succeeds();
+    assert_eq!(legend("narrow.tree"), [0, 0, 0, 1, 0]);
+    folder.write("empty.txt", b"");
+    folder.run("build empty.txt -q").succeeds();
+    assert_eq!(legend("empty.tree"), [0, 0, 0, 0, 0]);
 }
 
 /// A name is words, not tags.

@@ -2,6 +2,8 @@
 
 #[path = "support/folder.rs"]
 mod folder;
+#[path = "support/waiting.rs"]
+mod waiting;
 
 use folder::Folder;
 use std::ffi::OsStr;
@@ -9,9 +11,9 @@ use std::fs::{self, File, OpenOptions};
 use std::io::{Read, Write};
 use std::os::unix::ffi::OsStrExt;
 use std::os::unix::fs::{symlink, PermissionsExt};
-use std::os::unix::process::CommandExt;
 use std::process::{Child, Stdio};
 use std::time::{Duration, Instant};
+use waiting::{both_ways, waiting};
 
 const OLD: &[u8] = b"the old file";
 
@@ -20,12 +22,6 @@ fn with_old(name: &str) -> Folder {
     let folder = Folder::new(name);
     folder.write("small.tree", OLD);
     folder
-}
-
-/// As with and without nameless files.
-fn both_ways(test: impl Fn(&str, &str)) {
-    test("", "nameless");
-    test("CODEBOOK_NAMED=1 ", "named");
 }
 
 // 1: the old file stays as it was, and no rest is left
@@ -43,45 +39,6 @@ fn a_full_disk_leaves_the_old_file() {
     });
 }
 
-extern "C" {
-    /// signal(2); 0 is the default action.
-    #[link_name = "signal"]
-    fn default_action(number: i32, action: usize) -> usize;
-}
-
-/// The tool, waiting for its book, which comes from a pipe; its output has been made ready by then.
-fn waiting(folder: &Folder, named: bool) -> Child {
-    let mut tool = folder.tool();
-    if named {
-        tool.env("CODEBOOK_NAMED", "1");
-    }
-    let tool = tool.args(["build", "-", "-o", "small.tree", "--force"]).stdin(Stdio::piped()).stdout(Stdio::piped()).stderr(Stdio::piped());
-    // what runs under nohup or in the background ignores some signals, and so would the tool
-    // SAFETY: signal(2) may be called between fork and exec, and takes plain numbers
-    unsafe {
-        tool.pre_exec(|| {
-            for number in [1, 2, 3, 15] {
-                default_action(number, 0);
-            }
-            Ok(())
-        })
-    };
-    let child = tool.spawn().expect("the tool starts");
-    let start = Instant::now();
-    let ready = || match named {
-        true => folder.names().iter().any(|name| name.starts_with(".codebook-")),
-        // its nameless file is among those that it has open
-        false => fs::read_dir(format!("/proc/{}/fd", child.id())).is_ok_and(|mut open| {
-            open.any(|file| file.is_ok_and(|file| fs::read_link(file.path()).is_ok_and(|path| path.to_string_lossy().contains("deleted"))))
-        }),
-    };
-    while !ready() {
-        assert!(start.elapsed() < Duration::from_secs(20), "the output is made ready before the book is read");
-        std::thread::sleep(Duration::from_millis(5));
-    }
-    child
-}
-
 fn signal(child: &Child, signal: &str) {
     let id = child.id().to_string();
     assert!(std::process::Command::new("kill").args([&format!("-{signal}"), &id]).status().expect("kill").success());
@@ -92,7 +49,7 @@ fn an_interrupt_leaves_the_old_file() {
     for (named, signals) in [(false, ["INT", "TERM", "HUP", "KILL"].as_slice()), (true, &["INT", "TERM", "HUP", "QUIT"])] {
         for name in signals {
             let folder = with_old(&format!("interrupt-{name}-{named}"));
-            let mut child = waiting(&folder, named);
+            let mut child = waiting(&folder, named, "build - -o small.tree --force");
             signal(&child, name);
             assert_eq!(child.wait().expect("the tool ends").code(), None, "ended by the signal");
             assert_eq!((folder.read("small.tree").as_slice(), folder.names()), (OLD, vec!["small.tree".to_owned(), "small.txt".to_owned()]));
@@ -105,7 +62,7 @@ fn the_new_file_takes_the_place_of_the_old() {
     for named in [false, true] {
         let folder = with_old(&format!("replaced-{named}"));
         fs::set_permissions(folder.0.join("small.tree"), PermissionsExt::from_mode(0o640)).expect("permissions");
-        let mut child = waiting(&folder, named);
+        let mut child = waiting(&folder, named, "build - -o small.tree --force");
         assert_eq!(folder.read("small.tree"), OLD);
         child.stdin.take().expect("a pipe").write_all(&folder.read("small.txt")).expect("the book");
         assert!(child.wait().expect("the tool ends").success());
@@ -163,7 +120,6 @@ fn a_book_is_not_overwritten_by_its_tree() {
     }
     refused("codebook build link.txt -o small.txt -f", "small.txt", "link.txt");
     refused("codebook build -o small.txt -f < small.txt", "small.txt", "standard input");
-    refused("codebook build small.txt -o - >> small.txt", "standard output", "small.txt");
     refused("codebook to-columns 14 small.txt -f -o small.txt", "small.txt", "small.txt");
     refused("codebook from-columns 14 small.txt -f -o link.txt", "link.txt", "small.txt");
     folder.run("build small.txt").succeeds();
@@ -172,7 +128,6 @@ fn a_book_is_not_overwritten_by_its_tree() {
         let says = "codebook: small.tree: is the file that is read (small.tree); it is left as it is\n";
         folder.run(&format!("{command} small.tree -f -o small.tree")).status(2).says(says);
     }
-    folder.run("build small.tree --force").status(2);
     assert_eq!(folder.read("small.tree"), tree);
 }
 
@@ -314,7 +269,7 @@ fn a_tree_is_held_against_its_book() {
     folder.write("short.txt", &folder.read("small.txt")[..2000]);
     let says = "codebook: small.tree: not a tree of short.txt: byte 2,000, in row 143, differs first: the book ends there, the tree's text has 2,800 bytes\n";
     folder.run("verify short.txt small.tree").status(1).says(says);
-    folder.run("build small.txt -o columns.tree --columns 14").succeeds();
+    folder.run("build small.txt -o columns.tree --columns 14 --allow-larger").succeeds();
     folder.run("verify small.txt columns.tree").status(1);
     folder.run("verify small.txt columns.tree --columns auto").succeeds().prints("columns.tree: the block tree of small.txt, 2,800 bytes\n");
     folder.run("verify small.txt").status(2);

@@ -93,9 +93,9 @@ fn answers() {
     folder.run("byte 13 small.tree").succeeds().prints("10 '\\n' (3 blocks entered)\n");
     folder.run("span 14 6 small.tree").succeeds().prints("CH0502");
     folder.run("span 2800 0 small.tree").succeeds().prints("");
-    folder.run("count 10 2800 small.tree").succeeds().prints("200 (3 blocks entered)\n");
+    folder.run("count 0x0a 2800 small.tree").succeeds().prints("200 (3 blocks entered)\n");
     folder.run("count \\n 0 small.tree").succeeds().prints("0 (0 blocks entered)\n");
-    folder.run("find 10 1 small.tree").succeeds().prints("13 (3 blocks entered)\n");
+    folder.run("find \\x0a 1 small.tree").succeeds().prints("13 (3 blocks entered)\n");
     let text = folder.run("text small.tree");
     text.succeeds().says("");
     assert_eq!(text.output.stdout, folder.read("small.txt"));
@@ -121,14 +121,26 @@ level  block length    blocks      kept  pointing
     );
 }
 
+/// A byte by its number is 0x35 or \x35; a digit is the character.
+#[test]
+fn digits_are_characters() {
+    let folder = Folder::new("digits");
+    folder.write("five.txt", b"A 55\x05\n");
+    folder.run("build five.txt -q --leaf 4 --arity 2 --levels 1 --count 0x05,5").succeeds();
+    for (byte, times) in [("5", 2), ("0x35", 2), ("\\x35", 2), ("0x05", 1), ("\\x05", 1)] {
+        folder.run(&format!("count {byte} 6 five.tree")).succeeds().prints(&format!("{times} (1 block entered)\n"));
+    }
+    folder.run("find 5 2 five.tree").succeeds().prints("3 (1 block entered)\n");
+}
+
 #[test]
 fn places() {
     let folder = Folder::with_tree("places");
     folder.run("places CH0502 small.tree").succeeds().prints("14\n574\n1134\n1694\n2254\n").says("");
     folder.run("places 4\\nHON1003 small.tree").succeeds().prints("418\n978\n1538\n2098\n2658\n");
     folder.run("places \\x43H0502\\x20 small.tree --unchecked").succeeds().prints("14\n574\n1134\n1694\n2254\n");
-    folder.run("places CH9 small.tree").succeeds().prints("").says("");
-    folder.pipe("places -- -", &folder.read("small.tree")).succeeds().prints("");
+    folder.run("places CH9 small.tree").status(1).prints("").says("codebook: small.tree: 'CH9' does not occur\n");
+    folder.pipe("places -- -", &folder.read("small.tree")).status(1).prints("").says("codebook: standard input: '-' does not occur\n");
     // more places than the first table has words
     folder.write("a.txt", &[b'A'; 5000]);
     folder.run("build a.txt -o a.tree --leaf 64 --arity 2 --levels 6").succeeds();
@@ -141,7 +153,7 @@ fn places_that_are_refused() {
     let folder = Folder::with_tree("refused-places");
     let bounds = "small.tree: places: refused (16): a pattern must have 1 to 256 bytes; this one has 257";
     folder.run(&format!("places {} small.tree", "C".repeat(257))).status(1).prints("").says(&format!("codebook: {bounds}\n"));
-    folder.run(&format!("places {} small.tree", "C".repeat(256))).succeeds().prints("");
+    folder.run(&format!("places {} small.tree", "C".repeat(256))).status(1).prints("");
     let mut tree = folder.read("small.tree");
     tree[104] = 2;
     folder.write("kind.tree", &tree);
@@ -149,8 +161,8 @@ fn places_that_are_refused() {
     folder.run("places CH0502 kind.tree --unchecked").status(1).prints("").says(&format!("codebook: kind.tree: places: {path}\n"));
     let usage = "usage: codebook places TEXT [TREE] [--json] [--unchecked]";
     folder.run("places").status(2).says(&format!("codebook: TEXT is missing\n{usage}\n"));
-    for pattern in ["CH\\", "CH\\q", "\\x4", "\\x+4", "\\xg0"] {
-        let escapes = "a backslash begins \\n, \\r, \\t, \\\\ or \\xHH, a byte in hexadecimal";
+    for (pattern, given) in [("CH\\", "\\"), ("CH\\q", "\\q"), ("\\x4", "\\x4"), ("\\x+4", "\\x+4"), ("\\xg0AB", "\\xg0")] {
+        let escapes = format!("a backslash begins \\n, \\r, \\t, \\\\ or \\xHH, a byte in hexadecimal, not '{given}'");
         folder.run(&format!("places {pattern} small.tree")).status(2).prints("").says(&format!("codebook: {escapes}\n{usage}\n"));
     }
 }
@@ -165,10 +177,10 @@ fn matches() {
     folder.run("worn 52161 52165 small.tree --from 121").succeeds().prints(last);
     folder.run("worn 52161 52165 small.tree --after 121").succeeds().prints("row 159: HON1011 52161\n");
     folder.run("match 5216[1-5] small.tree --after 159").succeeds().prints("row 160: HON1012 52162\n");
-    folder.run("worn 52161 52165 small.tree --after 200").succeeds().prints("no row matches\n");
+    folder.run("worn 52161 52165 small.tree --after 200").status(1).prints("").says("codebook: small.tree: no row matches\n");
     folder.run("match ????? small.tree --from 200 --unchecked").succeeds().prints("row 200: HON1012 52162\n");
     for none in ["9", "???", "44422[6-9]", "????? --from 201", "????? --from 4294967295"] {
-        folder.run(&format!("match {none} small.tree")).succeeds().prints("no row matches\n");
+        folder.run(&format!("match {none} small.tree")).status(1).prints("").says("codebook: small.tree: no row matches\n");
     }
     // the last row has no end byte, and a byte 13 at its end is no cut
     folder.write("open.txt", b"A 12\r\nB 12\nC 12\r");
@@ -217,10 +229,10 @@ chosen: leaf 256, arity 2, levels 1, since its tree is the smallest of these 6
 columns.tree: 8,840 bytes, 315.7 % of the text; leaf 256, arity 2, levels 1; bytes counted: 10
 ";
     let compared = "by columns 8,840 bytes, by rows 5,884 (leaf 24, arity 8, levels 3): columns do not make it smaller\n";
-    let built = folder.run("build small.txt -o columns.tree --columns auto");
+    let built = folder.run("build small.txt -o columns.tree --columns auto --allow-larger");
     assert_eq!(before_digest(built.succeeds()), report);
     assert!(built.printed().ends_with(compared));
-    folder.run("build small.txt -o given.tree --columns 14").succeeds();
+    folder.run("build small.txt -o given.tree --columns 14 --allow-larger").succeeds();
     assert_eq!(folder.read("columns.tree"), folder.read("given.tree"));
     let text = String::from_utf8(folder.read("small.txt")).expect("a text");
     for (at, row) in text.lines().enumerate().step_by(17) {
@@ -234,9 +246,9 @@ columns.tree: 8,840 bytes, 315.7 % of the text; leaf 256, arity 2, levels 1; byt
     folder.pipe("to-columns 4", b"AB1\nAB2\nAC3\n").succeeds().prints("AAABBC123\n\n\n").says("");
     folder.pipe("to-columns 3", b"").succeeds().prints("");
     // a row's end is left out as row has it
-    folder.write("ends.txt", b"AB\r\nA\r\r\nABC\nABCD");
+    folder.write("ends.txt", b"AB\r\nA\r\r\nABC\n");
     folder.run("build ends.txt --columns 4 --leaf 4 --arity 2 --levels 1").succeeds();
-    folder.run("row .. --columns 4 ends.tree").succeeds().prints("AB\nA\r\nABC\nABCD\n");
+    folder.run("row .. --columns 4 ends.tree").succeeds().prints("AB\nA\r\nABC\n");
 }
 
 /// Rows that all differ in a number, in columns that repeat.
@@ -256,7 +268,7 @@ fn columns_that_make_it_smaller() {
 #[test]
 fn by_columns_that_is_refused() {
     let folder = Folder::new("refused-columns");
-    folder.run("build small.txt -o columns.tree --columns 14 --leaf 16 --arity 4 --levels 3").succeeds();
+    folder.run("build small.txt -o columns.tree --columns 14 --leaf 16 --arity 4 --levels 3 --allow-larger").succeeds();
     let width = "refused (20): the width must be above 0 and divide the text's length";
     for given in [0, 13, 2801] {
         let says = format!("codebook: small.txt: {width}; given: {given}, of 2,800 bytes\n");
@@ -274,10 +286,10 @@ fn by_columns_that_is_refused() {
             .says(&format!("codebook: columns.tree: row {row} --columns 14: {past}\n"));
     }
     folder.write("uneven.txt", b"AB\nABC\n");
-    let uneven = "codebook: uneven.txt: its rows do not all have one width; give it\n";
-    folder.run("to-columns auto uneven.txt").status(2).prints("").says(uneven);
-    folder.run("build uneven.txt -o no.tree --columns auto").status(2).prints("").says(uneven);
-    let usage = "usage: codebook to-columns WIDTH [BOOK] [-o FILE] [-f]";
+    let uneven = "codebook: uneven.txt: the rows do not all have one width: with its end row 1 has 3 bytes, row 2 has 4\n";
+    folder.run("to-columns auto uneven.txt").status(1).prints("").says(uneven);
+    folder.run("build uneven.txt -o no.tree --columns auto").status(1).prints("").says(uneven);
+    let usage = "usage: codebook to-columns WIDTH [BOOK] [-o FILE] [-f] [--keep-time] [--json]";
     folder.run("to-columns").status(2).says(&format!("codebook: WIDTH is missing\n{usage}\n"));
     folder
         .run("to-columns wide small.txt")
@@ -298,16 +310,16 @@ fn guides() {
     folder.run("row 120 small.tree --guide small.guide").succeeds().prints(row);
     folder.run("row 120 small.tree --guide=small.guide --unchecked").succeeds().prints(row);
     for number in [1, 64, 65, 200] {
-        let plain = folder.run(&format!("find 10 {number} small.tree")).printed();
-        let guided = folder.run(&format!("find 10 {number} small.tree --guide small.guide")).printed();
+        let plain = folder.run(&format!("find \\n {number} small.tree")).printed();
+        let guided = folder.run(&format!("find \\n {number} small.tree --guide small.guide")).printed();
         assert!(guided.starts_with(plain.trim_end_matches(")\n")) && guided.ends_with(" on level 0)\n"), "{plain}{guided}");
     }
     // a guide with a word too many, of another tree, and none
-    let wrong = "refused (24): this is no guide of this tree: it has too few or too many words, or an entry is wrong";
+    let wrong = "refused (24): this is no guide of this tree: it has too few or too many words, or an entry is wrong; it has 20 bytes, and the tree's guide 16";
     folder.write("wrong.guide", &[0; 20]);
     let says = format!("codebook: wrong.guide: {wrong}\n");
     folder.run("guide check wrong.guide small.tree").status(1).prints("").says(&says);
-    for question in ["row 120", "find 10 1"] {
+    for question in ["row 120", "find \\n 1"] {
         folder.run(&format!("{question} small.tree --guide wrong.guide")).status(1).prints("").says(&says);
     }
     folder.run("row 1 small.tree --guide none.guide").status(2);
@@ -378,13 +390,15 @@ fn refused_questions() {
     for row in ["0", "201", "0..3", "199..201", "201.."] {
         refused(&format!("row {row} small.tree"), &format!("row {row}: refused (12): rows go from 1 to 200"));
     }
-    refused("find 10 201 small.tree", "find 10 201: refused (12): numbers of byte 10 go from 1 to 200");
+    refused("find \\n 201 small.tree", "find 0x0a 201: refused (12): numbers of byte 10 go from 1 to 200");
     refused("byte 2800 small.tree", "byte 2800: refused (10): places go from 0 to 2,799");
     refused("run 2800 small.tree", "run 2800: refused (10): places go from 0 to 2,799");
     refused("span 2799 2 small.tree", &format!("span 2799 2: {past}"));
     refused("span 4294967295 4294967295 small.tree", &format!("span 4294967295 4294967295: {past}"));
-    refused("count 10 2801 small.tree", &format!("count 10 2801: {past}"));
-    refused("count A 5 small.tree", "count 65 5: refused (11): the tree does not count this byte; it counts: 10");
+    refused("count 0x0a 2801 small.tree", &format!("count 0x0a 2801: {past}"));
+    refused("count A 5 small.tree", "count A 5: refused (11): the tree does not count this byte; it counts: 0x0a");
+    // a digit is a character
+    refused("count 5 100 small.tree", "count 5 100: refused (11): the tree does not count this byte; it counts: 0x0a");
 }
 
 #[test]
@@ -408,13 +422,12 @@ fn damaged_trees() {
     damaged("count.tree", 120, 7);
     folder.run("check count.tree").status(1).says("codebook: count.tree: refused (9): a count or an edge in the tree is not true\n");
     damaged("layout.tree", 0, 3);
-    folder
-        .run("row 1 layout.tree")
-        .status(1)
-        .says("codebook: layout.tree: refused (6): the layout is neither 1 nor 2; this is no block tree, or one of another version\n");
+    folder.run("row 1 layout.tree").status(1).says(
+        "codebook: layout.tree: refused (6): the layout is neither 1 nor 2; this is no block tree, or one of another version; its layout is 3\n",
+    );
     folder.write("cut.tree", &tree[..tree.len() - 1]);
     folder.run("check cut.tree").status(1).says(
-        "codebook: cut.tree: refused (7): the header is not right: its settings, unused places or offsets, or the file is longer or shorter than it says\n",
+        "codebook: cut.tree: refused (7): the header is not right: its settings, unused places or offsets, or the file is longer or shorter than it says; it has 5,883 bytes, and by its header 5,884\n",
     );
 }
 
@@ -435,7 +448,7 @@ fn texts_that_are_refused() {
         .status(1)
         .says(&format!("codebook: small.txt: {settings}; given: leaf 256, arity 16, levels 5\n"));
     let counted = "refused (3): at most 4 bytes can be counted, and each must be above the one before";
-    folder.run("build small.txt -o no.tree --count 65,10").status(1).says(&format!("codebook: small.txt: {counted}; given: 65, 10\n"));
+    folder.run("build small.txt -o no.tree --count 0x41,0x0a").status(1).says(&format!("codebook: small.txt: {counted}; given: A, 0x0a\n"));
     folder.run("build small.txt -o no.tree --count 1,2,3,4,5").status(1).says(&format!("codebook: small.txt: {counted}; given: 1, 2, 3, 4, 5\n"));
     assert!(!folder.0.join("no.tree").exists());
 }
@@ -450,9 +463,9 @@ fn book_without_rows() {
     assert!(folder.run("check empty.tree").succeeds().printed().starts_with("empty.tree: valid tree of 0 bytes of text; "));
     folder.run("list empty.tree").succeeds().prints("0 0 0 0\n1 0 0 0\n");
     folder.run("text empty.tree").succeeds().prints("");
-    folder.run("count 10 0 empty.tree").succeeds().prints("0 (0 blocks entered)\n");
-    folder.run("match 4 empty.tree").succeeds().prints("no row matches\n");
-    folder.run("places A empty.tree").succeeds().prints("");
+    folder.run("count \\n 0 empty.tree").succeeds().prints("0 (0 blocks entered)\n");
+    folder.run("match 4 empty.tree").status(1).prints("").says("codebook: empty.tree: no row matches\n");
+    folder.run("places A empty.tree").status(1).prints("").says("codebook: empty.tree: 'A' does not occur\n");
     folder.run("stats empty.tree").succeeds().prints(
         "empty.tree: 100 bytes, an empty text\ntext        0 bytes\nlayout      2, with edges, for short spans in one walk\nsettings    leaf 2, arity 2, levels 2\n\
          counted     10 '\\n': 0 times\nrows        0\nthe tree's bytes\n  header             100  100.0 %\n  records              0    0.0 %\n\
@@ -510,7 +523,7 @@ fn calls_that_are_not_right() {
         folder.run(words).status(2).prints("").says(&format!("codebook: {says}\n"));
     };
     usage("", "no command given; see codebook --help");
-    usage("--json stats x", "'--json' stands before the command; options stand after it; see codebook --help");
+    usage("--quiet stats x", "'--quiet' stands before the command; options stand after it; see codebook --help");
     usage("print small.tree", "there is no command 'print'; see codebook --help");
     let row = "usage: codebook row ROWS [TREE] [--guide GUIDE] [--columns W] [--json] [--unchecked]";
     usage("row", &format!("ROWS is missing\n{row}"));
@@ -520,20 +533,22 @@ fn calls_that_are_not_right() {
     usage("row 20..5 x", &format!("20..5: row 20 stands after row 5\n{row}"));
     let byte = "usage: codebook byte PLACE [TREE] [--json] [--unchecked]";
     usage("byte -14 x", &format!("PLACE is a number from 0 to 4294967295; -14 is negative\n{byte}"));
-    usage("byte 1 a.tree b.tree", &format!("'b.tree' is one word too many\n{byte}"));
+    usage("byte 1 a.tree b.tree", &format!("unexpected argument 'b.tree'\n{byte}"));
     usage("check --all", "there is no option '--all'\nusage: codebook check [TREE]... [--sha256 HEX] [--text-sha256 HEX] [--json]");
-    usage("check --json=1", "--json has no value\nusage: codebook check [TREE]... [--sha256 HEX] [--text-sha256 HEX] [--json]");
-    usage("text -x", "there is no option '-x'\nusage: codebook text [TREE] [--unchecked]");
+    usage("check --json=1", "--json has no value; given: '1'\nusage: codebook check [TREE]... [--sha256 HEX] [--text-sha256 HEX] [--json]");
+    usage("text -x", "there is no option '-x'\nusage: codebook text [TREE] [--json] [--unchecked]");
     let count = "usage: codebook count BYTE LENGTH [TREE] [--json] [--unchecked]";
-    usage("count 256 4 x", &format!("a byte is a number from 0 to 255 or one character that is no digit, not '256'\n{count}"));
-    usage("count -1 4 x", &format!("a byte is a number from 0 to 255 or one character that is no digit; -1 is negative\n{count}"));
-    let build = "usage: codebook build [BOOK]... [-o FILE] [-f] [--small] [--leaf M] [--arity R] [--levels H] [--count BYTES] [--columns W] [--json]";
+    let byte = "a byte is one character, 0x00 to 0xff, \\n, \\r, \\t, \\\\ or \\xHH";
+    usage("count 256 4 x", &format!("{byte}, not '256'\n{count}"));
+    usage("count 10 4 x", &format!("{byte}, not '10'; byte 10 is 0x0a\n{count}"));
+    usage("count -1 4 x", &format!("{byte}, not '-1'\n{count}"));
+    let build = "usage: codebook build [BOOK]... [-o FILE] [-f] [--keep-time] [--small] [--leaf M] [--arity R] [--levels H] [--count BYTES] [--columns W] [--allow-larger] [--json]";
     usage("build small.txt -o", &format!("-o needs a value\n{build}"));
     usage("build --leaf 64", &format!("--leaf, --arity and --levels go together: give all three, or none to have a short list tried\n{build}"));
     usage("build -o .", &format!("-o is a file where standard input is read\n{build}"));
     usage("check none.tree", "none.tree: cannot be read: No such file or directory (os error 2)");
     usage("build none.txt -o x", "none.txt: cannot be read: No such file or directory (os error 2)");
-    usage("check .", ".: cannot be read: Is a directory (os error 21)");
+    usage("check .", ".: is a directory, not a file");
 }
 
 #[test]
@@ -579,7 +594,7 @@ fn orders_that_are_refused() {
     folder.run("compare small.tree damaged.tree --unchecked").status(1).says(&format!("codebook: small.tree and damaged.tree: {path}\n"));
     let usage = "usage: codebook compare ONE OTHER [--json] [--unchecked]";
     folder.run("compare small.tree").status(2).says(&format!("codebook: OTHER is missing\n{usage}\n"));
-    folder.run("compare a b c").status(2).says(&format!("codebook: 'c' is one word too many\n{usage}\n"));
+    folder.run("compare a b c").status(2).says(&format!("codebook: unexpected argument 'c'\n{usage}\n"));
     folder.run("shelf").status(2).says("codebook: TREE is missing\nusage: codebook shelf TREE... [--json]\n");
     folder.run("shelf --unchecked small.tree").status(2).says("codebook: there is no option '--unchecked'\nusage: codebook shelf TREE... [--json]\n");
     folder.run("shelf none.tree").status(2).says("codebook: none.tree: cannot be read: No such file or directory (os error 2)\n");
@@ -592,7 +607,7 @@ fn help() {
     overview.succeeds().says("");
     let text = overview.printed();
     let commands: Vec<&str> = text.lines().filter(|line| line.starts_with("  ")).map(|line| line[2..17].trim_end()).collect();
-    assert_eq!(commands.len(), 31);
+    assert_eq!(commands.len(), 35);
     for command in commands {
         let help = folder.run(&format!("{command} --help"));
         help.succeeds().says("");
@@ -622,8 +637,9 @@ fn licences() {
     prints("open 20240101 20241231 20240101", "open, 365 days left");
     prints("open 20240101 20241231 20241230", "open, 1 day left");
     prints("open 20240101 20241231 20241231", "open, 0 days left");
-    prints("open 20240101 20241231 20250101", "closed, 1 day past");
-    prints("open 20240101 20241231 20231231", "closed: it opens on 20240101");
+    for (today, line) in [("20250101", "closed, 1 day past\n"), ("20231231", "closed: it opens on 20240101\n")] {
+        folder.run(&format!("licence open 20240101 20241231 {today}")).status(1).prints(line).says("");
+    }
     prints("left 20240301 20240228", "2");
     prints("left 20191231 20300101", "-3654");
     prints("left 20240229 20240229", "0");
@@ -644,8 +660,8 @@ fn licences() {
         ("close 20240101", "licence is followed by open, left or renew, not 'close'; see codebook help licence".to_owned()),
         ("open 20240101", format!("LAST is missing\n{open}")),
         ("renew", format!("DAY is missing\n{renew}")),
-        ("renew 20240101 20240101", format!("'20240101' is one word too many\n{renew}")),
-        ("left 20240101 20240101 x", format!("'x' is one word too many\n{left}")),
+        ("renew 20240101 20240101", format!("unexpected argument '20240101'\n{renew}")),
+        ("left 20240101 20240101 x", format!("unexpected argument 'x'\n{left}")),
         ("left 20240101 --unchecked", format!("there is no option '--unchecked'\n{left}")),
     ] {
         folder.run(&format!("licence {words}")).status(2).prints("").says(&format!("codebook: {says}\n"));

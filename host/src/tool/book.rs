@@ -1,14 +1,7 @@
 //! What a reader would miss in a book.
 
 use crate::say::several;
-
-/// The rows of a text, as docs/FORMAT.md has them: byte 10 ends a row, with one byte 13 directly before it.
-pub fn rows(text: &[u8]) -> impl Iterator<Item = &[u8]> {
-    text.split_inclusive(|&byte| byte == 10).map(|row| match row {
-        [row @ .., 13, 10] | [row @ .., 10] => row,
-        row => row,
-    })
-}
+use codebook::text_rows;
 
 /// Is a row a code of 1 to 12 bytes other than space, one space, and 1 to 10 cuts, a digit each?
 fn is_key(row: &[u8]) -> bool {
@@ -37,7 +30,7 @@ pub fn warnings(text: &[u8], counted: &[u8]) -> Vec<String> {
 
 /// Rows of another form: how many, and the first one.
 fn other_rows(text: &[u8]) -> Option<String> {
-    let mut others = rows(text).enumerate().filter(|(_, row)| !is_key(row));
+    let mut others = text_rows(text).enumerate().filter(|(_, row)| !is_key(row));
     let (at, first) = others.next()?;
     let number = 1 + others.count() as u64;
     let shown = first[..first.len().min(40)].escape_ascii();
@@ -52,15 +45,7 @@ fn other_rows(text: &[u8]) -> Option<String> {
 
 #[cfg(test)]
 mod tests {
-    use super::{rows, warnings};
-
-    #[test]
-    fn rows_of_a_text() {
-        let split = |text: &'static [u8]| rows(text).collect::<Vec<_>>();
-        assert_eq!(split(b"A 1\r\nB 2\n\nC"), [b"A 1".as_slice(), b"B 2", b"", b"C"]);
-        assert_eq!(split(b"A\r\r\nB\r"), [b"A\r".as_slice(), b"B\r"]);
-        assert!(split(b"").is_empty());
-    }
+    use super::warnings;
 
     #[test]
     fn what_a_reader_would_miss() {

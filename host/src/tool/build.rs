@@ -1,16 +1,17 @@
 //! `build`: the trees of books.
 
 use crate::given::Given;
-use crate::input::{Input, Source, TEXT};
+use crate::input::{Identity, Input, Source, TEXT};
 use crate::json::Object;
 use crate::output::Output;
 use crate::say::{self, grouped};
 use crate::stats;
-use crate::table::{ARITY, COLUMNS, COUNT, FORCE, LEAF, LEVELS, OUTPUT, SMALL};
+use crate::table::{ALLOW_LARGER, ARITY, COLUMNS, COUNT, FORCE, LEAF, LEVELS, OUTPUT, SMALL};
 use crate::trials::{self, Chosen, Request, Trial};
-use crate::{book, by_columns, values, Failure};
+use crate::{book, by_columns, reasons, values, Failure};
 use codebook::{digest_text, Digest, Refusal, Settings, Tree};
 use std::ffi::OsString;
+use std::fs;
 use std::path::{Path, PathBuf};
 
 /// The SHA-256 of a tree, and that of its text.
@@ -34,27 +35,60 @@ pub fn build(given: &Given) -> Result<(), Failure> {
     let counted = counted(given)?;
     let settings = settings(given, &counted)?;
     let request = Request { settings, counted, small: given.has(&SMALL), quiet: given.quiet() };
-    apart(given, "tree")?;
+    apart(given, &TREES)?;
     given.each(|path| {
         let source = Source::open(path)?;
-        let output = Output::create(target(given, path, "tree")?.as_deref(), given.has(&FORCE), &source)?;
+        let output = Output::create(target(given, path, &TREES)?.as_deref(), given.has(&FORCE), &source)?.timed(given, &source)?;
         let text = source.read(&TEXT)?;
         let built = match given.value(&COLUMNS) {
             None => plain(&text, &request)?,
             Some(width) => by_columns::build(&text, &request, given.reading(values::width("--columns", width))?)?,
         };
-        write(given, &text, &built, output)
+        match &built.besides {
+            Some(compared) if compared.is_larger(built.chosen.tree.len()) && !given.has(&ALLOW_LARGER) => {
+                let words = format!("{}; it is not written; --allow-larger writes it", compared.words(built.chosen.tree.len()).trim_end());
+                Err(Failure::refused(&text.name, words))
+            }
+            _ => write(given, &text, &built, output),
+        }
     })
 }
 
+/// How a file that is written is named after the one that is read: its ending is put in place of one of `replaced`, else after the whole name, of which
+/// any other ending is a part.
+pub struct Naming {
+    pub replaced: &'static [&'static str],
+    pub ending: &'static str,
+}
+
+impl Naming {
+    fn name(&self, read: &Path) -> PathBuf {
+        let is_replaced = read.extension().is_some_and(|ending| self.replaced.iter().any(|replaced| ending.eq_ignore_ascii_case(replaced)));
+        if is_replaced {
+            return read.with_extension(self.ending);
+        }
+        let mut name = read.as_os_str().to_owned();
+        name.push(".");
+        name.push(self.ending);
+        name.into()
+    }
+}
+
+/// The names of books' trees.
+const TREES: Naming = Naming { replaced: &["txt", "csv"], ending: "tree" };
+
 /// Several books or trees go to several files.
-pub fn apart(given: &Given, ending: &str) -> Result<(), Failure> {
-    if given.words.len() > 1 && given.path(&OUTPUT).is_some_and(|path| !path.is_dir()) {
-        return Err(given.usage("-o is a folder where several files are written"));
+pub fn apart(given: &Given, naming: &Naming) -> Result<(), Failure> {
+    if let Some(path) = given.path(&OUTPUT).filter(|path| given.words.len() > 1 && !path.is_dir()) {
+        return Err(given.usage(format!("several files need a folder after -o, and '{}' is none", path.display())));
     }
     let mut targets: Vec<(PathBuf, &OsString)> = Vec::new();
     for book in &given.words {
-        let Some(target) = target(given, Some(Path::new(book)), ending)? else { continue };
+        let Some(target) = target(given, Some(Path::new(book)), naming)? else { continue };
+        if let Some(read) = given.words.iter().find(|read| *read != book && same_file(Path::new(read), &target)) {
+            let (read, book) = (read.to_string_lossy(), book.to_string_lossy());
+            return Err(given.usage(format!("{read} is read, and what is made of {book} would be written to it")));
+        }
         let target = spelled_out(&target);
         if let Some((_, other)) = targets.iter().find(|(path, _)| *path == target) {
             let (one, other) = (other.to_string_lossy(), book.to_string_lossy());
@@ -63,6 +97,12 @@ pub fn apart(given: &Given, ending: &str) -> Result<(), Failure> {
         targets.push((target, book));
     }
     Ok(())
+}
+
+/// Do both names lead to one ordinary file?
+fn same_file(one: &Path, other: &Path) -> bool {
+    let identity = |path: &Path| fs::metadata(path).ok().and_then(|file| Identity::of(&file));
+    identity(one).is_some_and(|one| Some(one) == identity(other))
 }
 
 /// One spelling for one place.
@@ -86,13 +126,13 @@ pub fn settings(given: &Given, counted: &[u8]) -> Result<Option<Settings>, Failu
 }
 
 /// The file to write: the one that is named, or one named after the file that is read, in the folder that is named or beside it. None is standard output.
-pub fn target(given: &Given, book: Option<&Path>, ending: &str) -> Result<Option<PathBuf>, Failure> {
+pub fn target(given: &Given, book: Option<&Path>, naming: &Naming) -> Result<Option<PathBuf>, Failure> {
     let book = book.filter(|&path| path != Path::new("-"));
     match (given.path(&OUTPUT), book) {
-        (Some(folder), Some(book)) if folder.is_dir() => Ok(Some(folder.join(book.with_extension(ending).file_name().unwrap_or_default()))),
+        (Some(folder), Some(book)) if folder.is_dir() => Ok(Some(folder.join(naming.name(book).file_name().unwrap_or_default()))),
         (Some(folder), None) if folder.is_dir() => Err(given.usage("-o is a file where standard input is read")),
         (Some(path), _) => Ok(Some(path.to_path_buf())),
-        (None, book) => Ok(book.map(|book| book.with_extension(ending))),
+        (None, book) => Ok(book.map(|book| naming.name(book))),
     }
 }
 
@@ -111,7 +151,7 @@ pub fn chosen(name: &str, text: &[u8], request: &Request) -> Result<Chosen, Fail
 fn cause(refusal: Refusal, request: &Request) -> String {
     match (refusal, &request.settings) {
         (Refusal::Settings, Some(settings)) => format!("; given: {}", shape(settings)),
-        (Refusal::Counted, _) => format!("; given: {}", listed(&request.counted)),
+        (Refusal::Counted, _) => format!("; given: {}", reasons::all_typed(&request.counted)),
         _ => String::new(),
     }
 }
@@ -126,7 +166,7 @@ fn write(given: &Given, text: &Input, built: &Built, output: Output) -> Result<(
     }
     let (name, standard) = (output.name.clone(), output.is_standard());
     output.write(&chosen.tree)?;
-    if given.quiet() {
+    if given.quiet() && !given.json() {
         return Ok(());
     }
     let text_digest = Tree::unchecked(&chosen.tree).digest().map_err(|refusal| Failure::library(&name, refusal, refusal.to_string()))?;
@@ -141,7 +181,7 @@ fn write(given: &Given, text: &Input, built: &Built, output: Output) -> Result<(
     } else {
         say::print(report.as_bytes())?;
     }
-    for warning in warnings {
+    for warning in warnings.iter().filter(|_| !given.quiet()) {
         say::tell(&format!("codebook: {}: warning: {warning}\n", text.name));
     }
     Ok(())
@@ -226,4 +266,21 @@ pub fn share(tree: usize, text: usize) -> String {
         return "an empty text".to_owned();
     }
     format!("{:.1} % of the text", 100.0 * tree as f64 / text as f64)
+}
+
+#[cfg(test)]
+mod tests {
+    use super::TREES;
+    use std::path::Path;
+
+    #[test]
+    fn names_of_trees() {
+        let name = |book: &str| TREES.name(Path::new(book)).to_string_lossy().into_owned();
+        assert_eq!((name("small.txt"), name("a/small.csv"), name("SMALL.TXT")), ("small.tree".into(), "a/small.tree".into(), "SMALL.tree".into()));
+        assert_eq!(
+            (name("Ford.2023"), name("a.b/Ford.2024"), name("Ford")),
+            ("Ford.2023.tree".into(), "a.b/Ford.2024.tree".into(), "Ford.tree".into())
+        );
+        assert_eq!((name(".txt"), name("small.tree"), name("small.")), (".txt.tree".into(), "small.tree.tree".into(), "small..tree".into()));
+    }
 }

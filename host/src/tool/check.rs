@@ -20,8 +20,11 @@ pub fn open(input: &Input, unchecked: bool) -> Result<Tree<'_>, Failure> {
 
 /// Why a tree is refused.
 pub fn refused(input: &Input, refusal: Refusal) -> Failure {
+    let (tree, length) = (Tree::unchecked(&input.bytes), grouped(input.bytes.len() as u64));
     let hint = match refusal {
-        Refusal::Short | Refusal::Input => format!("; it has {} bytes", grouped(input.bytes.len() as u64)),
+        Refusal::Short | Refusal::Input => format!("; it has {length} bytes"),
+        Refusal::Layout => format!("; its layout is {}", tree.layout()),
+        Refusal::Header => format!("; it has {length} bytes, and by its header {}", grouped(tree.stated_size())),
         _ => String::new(),
     };
     Failure::library(&input.name, refusal, format!("{refusal}{hint}"))
@@ -80,7 +83,7 @@ pub fn verify(given: &Given) -> Result<(), Failure> {
     match &given.words[..] {
         [book, tree] => verify_one(given, Path::new(book), Path::new(tree)),
         words if words.len() % 2 == 0 => given.all(pairs.map(|pair| verify_one(given, Path::new(&pair[0]), Path::new(&pair[1])))),
-        _ => Err(given.usage("each BOOK is followed by its TREE")),
+        words => Err(given.usage(format!("each BOOK is followed by its TREE; {} files are given", words.len()))),
     }
 }
 

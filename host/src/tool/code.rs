@@ -35,8 +35,18 @@ pub fn code(given: &Given) -> Result<(), Failure> {
     }
     match (worst, found) {
         (0, true) => Ok(()),
-        (0, false) => Err(Failure::refused("", format!("no row begins with '{}'", prefix.escape_ascii()))),
-        (worst, _) => Err(Failure::worst(worst)),
+        (0, false) if given.quiet() => Err(Failure::told(1)),
+        (0, false) => Err(Failure::nothing(&only(&trees), format!("no row begins with '{}'", prefix.escape_ascii()))),
+        (worst, _) => Err(Failure::told(worst)),
+    }
+}
+
+/// The name of a tree that is asked alone; empty for several.
+fn only(trees: &[Option<&Path>]) -> String {
+    match trees {
+        [Some(path)] if *path != Path::new("-") => path.to_string_lossy().into_owned(),
+        [_] => "standard input".to_owned(),
+        _ => String::new(),
     }
 }
 

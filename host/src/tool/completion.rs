@@ -49,7 +49,7 @@ pub fn zsh() -> String {
         let summary = Command::named(first).map_or("a group of commands", |command| command.summary);
         text += &format!("            '{first}:{}'\n", quoted(summary));
     }
-    text += "            '--help:say how the tool is called'\n            '--version:print the version'\n";
+    text += "            '--help:print help'\n            '--version:print the version'\n";
     text += "        )\n        _describe command commands\n        return\n    fi\n    local command=$words[2]\n    case $command in\n";
     for (first, seconds) in groups() {
         text += &format!(

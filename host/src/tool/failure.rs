@@ -7,7 +7,7 @@ use codebook::Refusal;
 /// What is said, and the status that the tool ends with.
 #[derive(Debug)]
 pub struct Failure {
-    /// 1 for a refusal, 2 for a call or a file that is not right.
+    /// 1 where nothing is found or the library refused, 2 for a call or a file that is not right.
     status: u8,
     /// The library's number.
     number: Option<u32>,
@@ -15,17 +15,30 @@ pub struct Failure {
     name: String,
     /// Empty where all has been said.
     words: String,
+    /// How the command is called, where the call is wrong.
+    usage: Option<String>,
+    /// Standard output takes an object that says it.
+    object: bool,
 }
 
 impl Failure {
     /// The call, or a file that it names, is not right.
     pub fn usage(words: impl Into<String>) -> Self {
-        Failure { status: 2, number: None, name: String::new(), words: words.into() }
+        Failure { status: 2, number: None, name: String::new(), words: words.into(), usage: None, object: true }
+    }
+
+    pub fn with_usage(self, usage: String) -> Self {
+        Failure { usage: Some(usage), ..self }
     }
 
     /// A file that cannot be read or written, or must not be.
     pub fn file(name: &str, words: impl Into<String>) -> Self {
         Failure { name: name.to_owned(), ..Failure::usage(words) }
+    }
+
+    /// Standard output is a file that the call reads or writes: not even an object may be added to it.
+    pub fn output_used(name: &str) -> Self {
+        Failure { object: false, ..Failure::file(name, "standard output goes to this file too; it is left as it is") }
     }
 
     /// The tool refuses what the library was not asked.
@@ -38,14 +51,19 @@ impl Failure {
         Failure { number: Some(refusal.number()), ..Failure::refused(name, words) }
     }
 
-    /// Some of many files failed, and each has been told.
-    pub fn told() -> Self {
-        Failure::refused("", "")
+    /// Nothing is found: no object says so.
+    pub fn nothing(name: &str, words: impl Into<String>) -> Self {
+        Failure { object: false, ..Failure::refused(name, words) }
     }
 
-    /// Some of many files failed, and each has been told; the worst of their statuses.
-    pub fn worst(status: u8) -> Self {
-        Failure { status, ..Failure::told() }
+    /// All has been said; only the status is left.
+    pub fn told(status: u8) -> Self {
+        Failure { status, ..Failure::usage("") }
+    }
+
+    /// The same as trouble, where status 1 has another meaning.
+    pub fn trouble(self) -> Self {
+        Failure { status: 2, ..self }
     }
 
     pub fn status(&self) -> u8 {
@@ -58,14 +76,19 @@ impl Failure {
             return;
         }
         let name = if self.name.is_empty() { String::new() } else { format!("{}: ", self.name) };
-        say::tell(&format!("codebook: {name}{}\n", self.words));
-        if json {
+        let usage = self.usage.as_ref().map_or(String::new(), |usage| format!("usage: {usage}\n"));
+        say::tell(&format!("codebook: {name}{}\n{usage}", self.words));
+        if json && self.object {
             let mut object = Object::new().text("failed", &self.name).number("status", self.status);
             if let Some(number) = self.number {
                 object = object.number("refused", number);
             }
+            object = object.text("words", &self.words);
+            if let Some(usage) = &self.usage {
+                object = object.text("usage", usage);
+            }
             // where nobody reads it there is no more to say: the call has failed already
-            let _ = say::print(object.text("words", &self.words).line().as_bytes());
+            let _ = say::print(object.line().as_bytes());
         }
     }
 }

@@ -1,6 +1,7 @@
 //! The words of a call, read by the table.
 
-use crate::table::{self, Command, Due, Opt};
+use crate::nearest::suggestion;
+use crate::table::{self, Command, Due, Opt, Word, COMMANDS};
 use crate::values;
 use crate::Failure;
 use std::ffi::{OsStr, OsString};
@@ -51,9 +52,12 @@ impl Given {
         let name = String::from_utf8_lossy(parts.next().unwrap_or_default()).into_owned();
         let joined = parts.next().map(|value| OsString::from_vec(value.to_vec()));
         let option = self.command.all_options().find(|option| option.long == name);
-        let option = option.ok_or_else(|| self.usage(format!("there is no option '{name}'")))?;
+        let option = option.ok_or_else(|| {
+            let meant = suggestion(&name, self.command.all_options().map(|option| option.long)).unwrap_or_default();
+            self.usage(format!("there is no option '{name}'{meant}"))
+        })?;
         match (option.value, joined) {
-            (None, Some(_)) => Err(self.usage(format!("{name} has no value"))),
+            (None, Some(value)) => Err(self.usage(format!("{name} has no value; given: '{}'", value.to_string_lossy()))),
             (None, None) => self.push(option, OsString::new()),
             (Some(_), Some(value)) => self.push(option, value),
             (Some(_), None) => self.push_next(option, &name, words.next()),
@@ -72,6 +76,10 @@ impl Given {
                 self.short(rest, words)
             }
             (Some(_), []) => self.push_next(option, &format!("-{letter}"), words.next()),
+            (Some(_), [b'=', rest @ ..]) => {
+                let value = String::from_utf8_lossy(rest);
+                Err(self.usage(format!("write -{letter} {value} or {}={value}, not -{letter}={value}", option.long)))
+            }
             (Some(_), rest) => self.push(option, OsString::from_vec(rest.to_vec())),
         }
     }
@@ -95,9 +103,17 @@ impl Given {
         }
         let endless = due.last().is_some_and(|word| matches!(word.due, Due::AnyTimes | Due::AtLeastOnce));
         match self.words.get(due.len()) {
-            Some(more) if !endless => Err(self.usage(format!("'{}' is one word too many", more.to_string_lossy()))),
+            Some(more) if !endless => Err(self.usage(format!("unexpected argument '{}'", more.to_string_lossy()))),
+            _ if self.inputs().filter(|&file| file == "-").count() > 1 => Err(self.usage("- is standard input, which can be read once only")),
             _ => Ok(()),
         }
+    }
+
+    /// The files that the call reads.
+    pub fn inputs(&self) -> impl Iterator<Item = &OsStr> {
+        let due = |at: usize| self.command.words.get(at).or(self.command.words.last());
+        let files = self.words.iter().enumerate().filter(move |(at, _)| due(*at).is_some_and(Word::is_file));
+        files.map(|(_, word)| word.as_os_str()).chain(self.value(&table::GUIDE))
     }
 
     pub fn has(&self, option: &Opt) -> bool {
@@ -134,7 +150,7 @@ impl Given {
 
     /// The call is not right.
     pub fn usage(&self, words: impl Into<String>) -> Failure {
-        Failure::usage(format!("{}\nusage: {}", words.into(), self.command.usage()))
+        Failure::usage(words).with_usage(self.command.usage())
     }
 
     pub fn json(&self) -> bool {
@@ -153,18 +169,23 @@ impl Given {
         self.all(self.words.iter().map(|word| work(Some(Path::new(word)))))
     }
 
-    /// Tell each failure; one is enough to fail.
+    /// Tell each failure; the status is the highest.
     pub fn all(&self, done: impl Iterator<Item = Result<(), Failure>>) -> Result<(), Failure> {
-        let mut failed = false;
+        let mut status = 0;
         for failure in done.filter_map(Result::err) {
             failure.tell(self.json());
-            failed = true;
+            status = status.max(failure.status());
         }
-        if failed {
-            return Err(Failure::told());
+        if status > 0 {
+            return Err(Failure::told(status));
         }
         Ok(())
     }
+}
+
+/// Does a call ask for objects, be it right or wrong?
+pub fn asks_for_json(words: &[OsString]) -> bool {
+    words.iter().take_while(|word| *word != "--").any(|word| word == table::JSON.long)
 }
 
 /// The command that the words begin with, and the words after it.
@@ -185,7 +206,7 @@ fn command(words: &[OsString]) -> Result<(&'static Command, &[OsString]), Failur
         return Err(Failure::usage(format!("'{name}' stands before the command; options stand after it; see codebook --help")));
     }
     if seconds.is_empty() {
-        return Err(Failure::usage(format!("there is no command '{name}'; see codebook --help")));
+        return Err(unknown(&name));
     }
     let due = match &seconds[..] {
         [others @ .., last] if !others.is_empty() => format!("{} or {last}", others.join(", ")),
@@ -206,4 +227,11 @@ fn command(words: &[OsString]) -> Result<(&'static Command, &[OsString]), Failur
                 .ok_or_else(|| Failure::usage(format!("{name} is followed by {due}, not '{second}'; see codebook help {name}")))
         }
     }
+}
+
+/// There is no such command.
+pub fn unknown(name: &str) -> Failure {
+    let first_words = COMMANDS.iter().filter_map(|command| command.name.split(' ').next());
+    let meant = suggestion(name, first_words).unwrap_or("; see codebook --help".to_owned());
+    Failure::usage(format!("there is no command '{name}'{meant}"))
 }

@@ -1,11 +1,12 @@
 //! What `help`, `--version`, `manual` and `completion` print, all from the table.
 
-use crate::given::Given;
+use crate::given::{self, Given};
+use crate::json::Object;
 use crate::table::{Command, COMMANDS};
 use crate::{completion, manual, say, Failure};
 
 /// Bytes of a line of help.
-const LINE: usize = 110;
+const LINE: usize = 80;
 
 /// Where an option's help begins.
 const OPTION: usize = 22;
@@ -15,19 +16,27 @@ pub const LAYOUTS: &str = "block trees: builds layout 2, and layout 1 with --sma
 
 /// The last words of every help.
 pub const ENDING: &str =
-    "No file, or -, is standard input. Status: 0 done, 1 refused, or one of several files failed, 2 a call or a file that is not right.";
+    "No file, or -, is standard input. Status: 0 done or found, 1 refused or nothing found, 2 a wrong call, or a file that cannot be read or written; of several files the highest.";
 
 /// The tool, or a command.
 pub fn show(given: &Given) -> Result<(), Failure> {
     let name = given.words.iter().map(|word| word.to_string_lossy()).collect::<Vec<_>>().join(" ");
     if name.is_empty() {
-        return say::print(overview().as_bytes());
+        return print(given, &overview());
     }
     let commands: Vec<&Command> = COMMANDS.iter().filter(|command| command.name == name || command.name.split(' ').next() == Some(&name)).collect();
     if commands.is_empty() {
-        return Err(Failure::usage(format!("there is no command '{name}'; see codebook --help")));
+        return Err(given::unknown(&name));
     }
-    say::print(commands.iter().map(|command| text(command)).collect::<Vec<_>>().join("\n").as_bytes())
+    print(given, &commands.iter().map(|command| text(command)).collect::<Vec<_>>().join("\n"))
+}
+
+/// Print a text as it is, or in an object.
+pub fn print(given: &Given, text: &str) -> Result<(), Failure> {
+    match given.json() {
+        true => say::print(Object::new().text("text", text).line().as_bytes()),
+        false => say::print(text.as_bytes()),
+    }
 }
 
 /// The text of `codebook --help`.
@@ -41,7 +50,7 @@ fn overview() -> String {
 
 /// The text of `codebook COMMAND --help`.
 pub fn text(command: &Command) -> String {
-    let mut text = folded(&command.usage(), "    ").replacen("    ", "", 1) + "\n";
+    let mut text = usage(command) + "\n";
     text += &folded(&format!("{}.", capital(command.summary)), "");
     for paragraph in command.details.lines() {
         text += &folded(paragraph, "");
@@ -52,6 +61,21 @@ pub fn text(command: &Command) -> String {
         text += &format!("  {:<width$}{}", option.forms(), &help[OPTION..], width = OPTION - 2);
     }
     text + "\n" + &folded(ENDING, "")
+}
+
+/// How a command is called: an option and its value stay on one line.
+fn usage(command: &Command) -> String {
+    let mut lines = vec![String::new()];
+    for part in command.usage().replace(" [", "\n[").lines() {
+        match lines.last_mut() {
+            Some(line) if line.is_empty() || line.len() + 1 + part.len() <= LINE => {
+                line.push_str(if line.is_empty() { "" } else { " " });
+                line.push_str(part);
+            }
+            _ => lines.push(format!("    {part}")),
+        }
+    }
+    lines.join("\n") + "\n"
 }
 
 /// The first letter in capitals.
@@ -75,12 +99,16 @@ fn folded(words: &str, indent: &str) -> String {
     text + indent + line.trim_end() + "\n"
 }
 
-pub fn version(_: &Given) -> Result<(), Failure> {
-    say::print(format!("codebook {}\n{LAYOUTS}\n", env!("CARGO_PKG_VERSION")).as_bytes())
+pub fn version(given: &Given) -> Result<(), Failure> {
+    let version = env!("CARGO_PKG_VERSION");
+    match given.json() {
+        true => say::print(Object::new().text("version", version).number("builds", 2).numbers("reads", &[1, 2]).line().as_bytes()),
+        false => say::print(format!("codebook {version}\n{LAYOUTS}\n").as_bytes()),
+    }
 }
 
-pub fn manual(_: &Given) -> Result<(), Failure> {
-    say::print(manual::page().as_bytes())
+pub fn manual(given: &Given) -> Result<(), Failure> {
+    print(given, &manual::page())
 }
 
 pub fn completion(given: &Given) -> Result<(), Failure> {
@@ -89,5 +117,5 @@ pub fn completion(given: &Given) -> Result<(), Failure> {
         "zsh" => completion::zsh(),
         other => return Err(given.usage(format!("SHELL is bash or zsh, not '{other}'"))),
     };
-    say::print(script.as_bytes())
+    print(given, &script)
 }

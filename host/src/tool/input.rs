@@ -3,7 +3,8 @@
 use crate::say::grouped;
 use crate::Failure;
 use codebook::{Refusal, MAX_TEXT, MAX_TREE};
-use std::fs::{File, Metadata};
+use std::ffi::OsStr;
+use std::fs::{self, File, Metadata};
 use std::io::{self, IsTerminal, Read};
 use std::os::fd::AsFd;
 use std::os::unix::fs::MetadataExt;
@@ -24,6 +25,8 @@ pub struct Limit {
 
 pub static TEXT: Limit = Limit { most: MAX_TEXT as u64, what: "a text", refusal: Some(Refusal::Text) };
 pub static TREE: Limit = Limit { most: MAX_TREE, what: "a tree", refusal: None };
+/// What `import` reads: besides code and cuts it has other columns, and two bytes for a character.
+pub static TABLE: Limit = Limit { most: 16 * MAX_TEXT as u64, what: "a table", refusal: None };
 /// An entry for each 64 bytes of text, and one begun for each counted byte.
 pub static GUIDE: Limit = Limit { most: 4 * (MAX_TEXT as u64 / 64 + 4), what: "a guide", refusal: None };
 
@@ -45,7 +48,7 @@ pub struct Source {
 }
 
 /// A file on its device: what two names of it have in common.
-#[derive(PartialEq, Eq)]
+#[derive(Clone, Copy, PartialEq, Eq)]
 pub struct Identity(u64, u64);
 
 impl Identity {
@@ -55,13 +58,29 @@ impl Identity {
     }
 }
 
+/// The file that standard output goes to, if it is an ordinary one.
+fn standard_output() -> Option<Identity> {
+    let file = io::stdout().as_fd().try_clone_to_owned().map(File::from).ok()?;
+    Identity::of(&file.metadata().ok()?)
+}
+
+/// The name among these of the file that standard output goes to, `/dev/stdout` excepted: what is printed would spoil that file.
+pub fn printed_upon<'a>(mut names: impl Iterator<Item = &'a OsStr>) -> Option<&'a OsStr> {
+    let output = standard_output()?;
+    names.find(|&name| name != "/dev/stdout" && fs::metadata(name).is_ok_and(|file| Identity::of(&file) == Some(output)))
+}
+
 impl Source {
     /// Open a file; standard input where it is `-` or none.
     pub fn open(path: Option<&Path>) -> Result<Self, Failure> {
         match path {
             Some(path) if path != Path::new("-") => {
                 let name = path.to_string_lossy().into_owned();
-                File::open(path).map_err(|error| unread(&name, &error)).map(|file| Source { name, file })
+                let file = File::open(path).map_err(|error| unread(&name, &error))?;
+                if file.metadata().is_ok_and(|metadata| metadata.is_dir()) {
+                    return Err(Failure::file(&name, "is a directory, not a file"));
+                }
+                Ok(Source { name, file })
             }
             _ => Source::standard(path.is_some()),
         }
@@ -73,14 +92,21 @@ impl Source {
             return Err(Failure::usage("no file is given, and nothing is piped in; - reads from the terminal"));
         }
         let name = "standard input".to_owned();
-        match stdin.as_fd().try_clone_to_owned() {
-            Ok(file) => Ok(Source { name, file: file.into() }),
-            Err(error) => Err(unread(&name, &error)),
+        let file = stdin.as_fd().try_clone_to_owned().map_err(|error| unread(&name, &error))?;
+        let source = Source { name, file: file.into() };
+        if source.identity().is_some_and(|identity| Some(identity) == standard_output()) {
+            return Err(Failure::output_used(&source.name));
         }
+        Ok(source)
+    }
+
+    /// None where it is not an ordinary file.
+    pub fn metadata(&self) -> Option<Metadata> {
+        self.file.metadata().ok().filter(Metadata::is_file)
     }
 
     pub fn identity(&self) -> Option<Identity> {
-        self.file.metadata().ok().and_then(|metadata| Identity::of(&metadata))
+        self.metadata().and_then(|metadata| Identity::of(&metadata))
     }
 
     /// Read all of it, unless it is longer than it may be.

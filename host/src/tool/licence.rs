@@ -9,7 +9,7 @@ use std::ffi::OsString;
 use std::os::unix::ffi::OsStrExt;
 use std::time::{SystemTime, UNIX_EPOCH};
 
-/// Open, with the days left; or closed, and why.
+/// Open, with the days left; or closed, and why, with status 1.
 pub fn open(given: &Given) -> Result<(), Failure> {
     let days = days(given, 2);
     let [first, last, today] = [0, 1, 2].map(|at| days[at].as_bytes());
@@ -20,7 +20,11 @@ pub fn open(given: &Given) -> Result<(), Failure> {
         (false, 0..) => format!("closed: it opens on {}", days[0].to_string_lossy()),
         (false, _) => format!("closed, {} past", several(left.unsigned_abs(), "day")),
     };
-    print(given, Object::new().flag("open", open).number("left", left), &words)
+    print(given, Object::new().flag("open", open).number("left", left), &words)?;
+    if open {
+        return Ok(());
+    }
+    Err(Failure::told(1))
 }
 
 pub fn left(given: &Given) -> Result<(), Failure> {

@@ -1,27 +1,32 @@
 //! codebook: builds, checks and reads block trees of code books.
 
+mod attributes;
 mod book;
 mod build;
 mod by_columns;
 mod check;
 mod code;
 mod completion;
+mod diff;
 mod digest;
 mod failure;
 mod given;
 mod guide;
 mod help;
+mod import;
 mod input;
 mod json;
 mod licence;
 mod manifest;
 mod manual;
+mod nearest;
 mod output;
 mod picture;
 mod progress;
 mod questions;
 mod reasons;
 mod say;
+mod separated;
 mod shelf;
 mod signals;
 mod slim;
@@ -33,17 +38,30 @@ mod values;
 
 use failure::Failure;
 use given::Given;
+use std::ffi::OsString;
 use std::process::ExitCode;
 
 fn main() -> ExitCode {
-    let given = match Given::read(std::env::args_os().skip(1).collect()) {
+    let words: Vec<OsString> = std::env::args_os().skip(1).collect();
+    // a wrong call adds no object to a file that it names
+    let json = given::asks_for_json(&words) && input::printed_upon(words.iter().map(OsString::as_os_str)).is_none();
+    let given = match Given::read(words) {
         Ok(given) => given,
-        Err(failure) => return stop(&failure, false),
+        Err(failure) => return stop(&failure, json),
     };
-    let done = if given.has(&table::HELP) { say::print(help::text(given.command).as_bytes()) } else { (given.command.run)(&given) };
-    match done {
+    match run(&given) {
         Ok(()) => ExitCode::SUCCESS,
         Err(failure) => stop(&failure, given.json()),
+    }
+}
+
+fn run(given: &Given) -> Result<(), Failure> {
+    if let Some(name) = input::printed_upon(given.inputs().chain(given.value(&table::OUTPUT))) {
+        return Err(Failure::output_used(&name.to_string_lossy()));
+    }
+    match given.has(&table::HELP) {
+        true => help::print(given, &help::text(given.command)),
+        false => (given.command.run)(given),
     }
 }
 

@@ -31,7 +31,7 @@ A tree's file ends in
 .BR .tree ,
 a guide's in
 .BR .guide .
-A file that is written is made under no name, or under a hidden one, in the same folder, and takes its name when it is whole and stored; so an interrupt or a full disk leaves an older file as it was.
+A file that is written is made under no name, or under a hidden one, in the same folder, and takes its name when it is whole and stored; so an interrupt or a full disk leaves an older file as it was. It has the permissions of the file that it is made of, never wider ones.
 .SH ENVIRONMENT
 .TP
 .B CODEBOOK_NAMED

@@ -1,14 +1,17 @@
 //! Where a command writes: made ready before the work begins, so that a place that cannot be written is told at once, and filled at its end.
 
+use crate::attributes::{Access, Times};
 use crate::given::Given;
 use crate::input::{Identity, Source};
+use crate::json::Object;
 use crate::spool::Spool;
-use crate::table::{FORCE, OUTPUT};
+use crate::table::{FORCE, KEEP_TIME, OUTPUT};
 use crate::{say, Failure};
 use std::fs::{self, File, Metadata, OpenOptions};
 use std::io::{self, ErrorKind, IsTerminal, Write};
-use std::os::fd::AsFd;
 use std::path::Path;
+
+const EXISTS: &str = "exists; --force overwrites it";
 
 pub struct Output {
     /// What to call it.
@@ -26,34 +29,38 @@ enum Place {
 impl Output {
     /// The file that the call names, or standard output.
     pub fn of(given: &Given, source: &Source) -> Result<Self, Failure> {
-        Output::create(given.path(&OUTPUT), given.has(&FORCE), source)
+        Output::create(given.path(&OUTPUT), given.has(&FORCE), source)?.timed(given, source)
+    }
+
+    /// With --keep-time a file gets the times of what is read.
+    pub fn timed(mut self, given: &Given, source: &Source) -> Result<Self, Failure> {
+        if let (Place::File(spool), true) = (&mut self.place, given.has(&KEEP_TIME)) {
+            let metadata = source.metadata().ok_or_else(|| given.usage(format!("--keep-time: {} is not a file, and has no times", source.name)))?;
+            spool.times = Some(Times::of(&metadata));
+        }
+        Ok(self)
     }
 
     /// A file, or standard output where it is `-` or none. It must not be the file that is read.
     pub fn create(path: Option<&Path>, force: bool, source: &Source) -> Result<Self, Failure> {
         match path {
             Some(path) if path != Path::new("-") && path != Path::new("/dev/stdout") => Output::file(path, force, source),
-            _ => Output::standard(path.is_some(), source),
+            _ => Output::standard(path.is_some()),
         }
     }
 
-    fn standard(told: bool, source: &Source) -> Result<Self, Failure> {
-        let stdout = io::stdout();
-        if !told && stdout.is_terminal() {
+    fn standard(told: bool) -> Result<Self, Failure> {
+        if !told && io::stdout().is_terminal() {
             return Err(Failure::usage("this would go to the terminal; give -o FILE, or -o - if that is meant"));
         }
-        let name = "standard output".to_owned();
-        let metadata = stdout.as_fd().try_clone_to_owned().and_then(|file| File::from(file).metadata());
-        if let Ok(metadata) = metadata {
-            apart(&name, &metadata, source)?;
-        }
-        Ok(Output { name, place: Place::Standard })
+        Ok(Output { name: "standard output".to_owned(), place: Place::Standard })
     }
 
     fn file(path: &Path, force: bool, source: &Source) -> Result<Self, Failure> {
         let name = path.to_string_lossy().into_owned();
         let unwritten = |error: io::Error| Failure::file(&name, format!("cannot be written: {error}"));
         let (target, old) = match fs::metadata(path) {
+            Ok(old) if old.is_dir() => return Err(Failure::file(&name, "is a directory, not a file")),
             Ok(old) if !old.is_file() => {
                 let file = OpenOptions::new().write(true).open(path).map_err(unwritten)?;
                 return Ok(Output { name, place: Place::Special(file) });
@@ -70,9 +77,10 @@ impl Output {
             Err(error) => return Err(unwritten(error)),
         };
         if old.is_some() && !force {
-            return Err(Failure::file(&name, "exists; --force overwrites it"));
+            return Err(Failure::file(&name, EXISTS));
         }
-        let spool = Spool::create(target, old.map(|old| old.permissions())).map_err(unwritten)?;
+        let access: Vec<Access> = source.metadata().iter().chain(&old).map(Access::of).collect();
+        let spool = Spool::create(target, force, &access).map_err(unwritten)?;
         Ok(Output { name, place: Place::File(spool) })
     }
 
@@ -87,8 +95,26 @@ impl Output {
             Place::Special(mut file) => file.write_all(bytes),
             Place::File(spool) => spool.finish(bytes),
         };
-        written.map_err(|error| Failure::file(&self.name, format!("cannot be written: {error}")))
+        written.map_err(|error| match error.kind() {
+            // it has come meanwhile
+            ErrorKind::AlreadyExists => Failure::file(&self.name, EXISTS),
+            _ => Failure::file(&self.name, format!("cannot be written: {error}")),
+        })
     }
+}
+
+/// Say what was written: on standard error where the bytes themselves are on standard output. Empty words are not said.
+pub fn report(given: &Given, standard: bool, object: &Object, words: &str) -> Result<(), Failure> {
+    let line = match (given.json(), given.quiet()) {
+        (true, _) => object.line(),
+        (false, true) => return Ok(()),
+        (false, false) => words.to_owned(),
+    };
+    if standard {
+        say::tell(&line);
+        return Ok(());
+    }
+    say::print(line.as_bytes())
 }
 
 /// What is read must not be written, under whatever name.

@@ -1,13 +1,15 @@
 //! The questions put to one tree.
 
-use crate::check::{open, refused};
+use crate::check::open;
 use crate::given::Given;
+use crate::guide::check_guide;
 use crate::input::{self, GUIDE, TREE};
 use crate::json::Object;
 use crate::say::{self, several};
 use crate::table::{self, AFTER, FROM, ROW_COLUMNS, UNCHECKED};
-use crate::{book, reasons, values, Failure};
-use codebook::{Range, Reached, Refusal, Tree};
+use crate::{by_columns, reasons, values, Failure};
+use codebook::{text_rows, Range, Reached, Refusal, Tree};
+use std::io::Write;
 
 /// A question.
 #[derive(Clone, Debug, PartialEq, Eq)]
@@ -29,20 +31,45 @@ pub enum Question {
     Text,
 }
 
-/// A part of an answer: for the eye, and for programs.
-struct Answer {
-    plain: Vec<u8>,
-    object: Object,
+/// What is printed: for the eye, or objects for programs.
+struct Page {
+    json: bool,
+    bytes: Vec<u8>,
 }
 
-impl Answer {
-    fn new(plain: impl Into<Vec<u8>>, object: Object) -> Self {
-        Answer { plain: plain.into(), object }
+impl Page {
+    /// Add a part of an answer.
+    fn add(&mut self, plain: impl AsRef<[u8]>, object: impl FnOnce() -> Object) {
+        match self.json {
+            true => self.bytes.extend_from_slice(object().line().as_bytes()),
+            false => self.bytes.extend_from_slice(plain.as_ref()),
+        }
     }
 
     /// A figure, first on its line, and the blocks entered for it.
-    fn figure(figure: &str, entered: u32, object: Object) -> Self {
-        Answer::new(format!("{figure} ({} entered)\n", several(entered, "block")), object.number("entered", entered))
+    fn figure(&mut self, figure: &str, entered: u32, object: Object) {
+        self.add(format!("{figure} ({} entered)\n", several(entered, "block")), || object.number("entered", entered));
+    }
+
+    fn row(&mut self, q: u32, row: &[u8]) {
+        self.add(row, || Object::new().number("row", q).bytes("text", row));
+        self.end_line();
+    }
+
+    /// A row that matches, with its number.
+    fn matching(&mut self, q: u32, row: &[u8]) {
+        if !self.json {
+            // memory takes all that is written
+            let _ = write!(self.bytes, "row {q}: ");
+        }
+        self.row(q, row);
+    }
+
+    /// An object ends its line itself.
+    fn end_line(&mut self) {
+        if !self.json {
+            self.bytes.push(b'\n');
+        }
     }
 }
 
@@ -55,19 +82,20 @@ pub fn ask(given: &Given) -> Result<(), Failure> {
     let guide = given.path(&table::GUIDE).map(|path| input::read(Some(path), &GUIDE)).transpose()?;
     let tree = open(&input, unchecked)?;
     if let Some(guide) = guide.as_ref().filter(|_| !unchecked) {
-        tree.check_guide(&guide.bytes).map_err(|refusal| refused(guide, refusal))?;
+        check_guide(tree, guide)?;
     }
     let guide = guide.as_ref().map(|guide| guide.bytes.as_slice());
-    let answers = question.answers(tree, guide).map_err(|refusal| reasons::failure(&input.name, refusal, &question, tree))?;
-    let printed: Vec<u8> = if given.json() {
-        answers.iter().flat_map(|answer| answer.object.line().into_bytes()).collect()
-    } else {
-        answers.into_iter().flat_map(|answer| answer.plain).collect()
-    };
-    if printed.is_empty() && matches!(question, Question::Match(..) | Question::Next(..)) && !given.json() {
-        return say::print(b"no row matches\n");
+    let mut page = Page { json: given.json(), bytes: Vec::new() };
+    let failure = |refusal: Refusal| reasons::failure(&input.name, refusal, &question, tree);
+    if let Some(words) = question.mismatch(tree).map_err(failure)? {
+        return Err(reasons::refused(&input.name, &question, &words));
     }
-    say::print(&printed)
+    question.answer(tree, guide, &mut page).map_err(failure)?;
+    match question.nothing() {
+        Some(_) if page.bytes.is_empty() && given.quiet() => Err(Failure::told(1)),
+        Some(words) if page.bytes.is_empty() => Err(Failure::nothing(&input.name, words)),
+        _ => say::print(&page.bytes),
+    }
 }
 
 impl Question {
@@ -104,56 +132,81 @@ impl Question {
         }
     }
 
-    fn answers(&self, tree: Tree, guide: Option<&[u8]>) -> Result<Vec<Answer>, Refusal> {
+    /// What is said where a search finds nothing; None for a question that is no search.
+    fn nothing(&self) -> Option<String> {
+        match self {
+            Question::Places(pattern) => Some(format!("'{}' does not occur", pattern.escape_ascii())),
+            Question::Match(..) | Question::Next(..) => Some("no row matches".to_owned()),
+            _ => None,
+        }
+    }
+
+    /// Why the tree is not one that the question is meant for.
+    fn mismatch(&self, tree: Tree) -> Result<Option<String>, Refusal> {
         match *self {
-            Question::Rows(first, Some(last)) if first == last => Ok(vec![row(first, &one_row(tree, guide, first)?)]),
+            Question::ColumnRows(_, _, width) => by_columns::mismatch(tree, width),
+            _ => Ok(None),
+        }
+    }
+
+    fn answer(&self, tree: Tree, guide: Option<&[u8]>, page: &mut Page) -> Result<(), Refusal> {
+        match *self {
+            Question::Rows(first, Some(last)) if first == last => page.row(first, &one_row(tree, guide, first)?),
             Question::Rows(first, last) => {
                 let last = last.map_or_else(|| to_the_end(first, tree.rows()?).ok_or(Refusal::NoSuch), Ok)?;
                 let text = stretch(tree, guide, first, last)?;
-                Ok(book::rows(&text).zip(first..).map(|(bytes, q)| row(q, bytes)).collect())
+                text_rows(&text).zip(first..).for_each(|(row, q)| page.row(q, row));
             }
             Question::ColumnRows(first, last, width) => {
                 let rows = tree.text_length().checked_div(width).ok_or(Refusal::Width)?;
                 let last = last.map_or_else(|| to_the_end(first, rows.into()).ok_or(Refusal::Place), Ok)?;
-                (first..=last).map(|q| Ok(row(q, &column_row(tree, width, q)?))).collect()
+                (first..=last).try_for_each(|q| column_row(tree, width, q).map(|row| page.row(q, &row)))?;
             }
-            Question::Places(ref pattern) => Ok(tree.places(pattern)?.into_iter().map(place).collect()),
-            Question::Match(ref ranges, mark) => {
-                let rows = tree.matches(ranges, mark)?;
-                // a guide pays where there are many rows to read
-                let guide = if rows.len() > 64 { tree.make_guide().ok() } else { None };
-                rows.into_iter().map(|q| matching(tree, guide.as_deref(), q)).collect()
+            Question::Places(ref pattern) => {
+                tree.places(pattern)?.into_iter().for_each(|place| page.add(format!("{place}\n"), || Object::new().number("place", place)));
             }
-            Question::Next(ref ranges, mut mark) => tree.next_match(ranges, &mut mark)?.into_iter().map(|q| matching(tree, None, q)).collect(),
-            _ => Ok(vec![self.answer(tree, guide)?]),
+            Question::Match(ref ranges, mark) => tree.each_match(ranges, mark, |q, row| page.matching(q, row))?,
+            Question::Next(ref ranges, mut mark) => {
+                if let Some(q) = tree.next_match(ranges, &mut mark)? {
+                    page.matching(q, &one_row(tree, None, q)?);
+                }
+            }
+            _ => self.figures(tree, guide, page)?,
         }
+        Ok(())
     }
 
     /// The answer of a question that has one.
-    fn answer(&self, tree: Tree, guide: Option<&[u8]>) -> Result<Answer, Refusal> {
-        Ok(match *self {
+    fn figures(&self, tree: Tree, guide: Option<&[u8]>, page: &mut Page) -> Result<(), Refusal> {
+        match *self {
             Question::Byte(place) => {
                 let Reached { value, entered } = tree.byte(place)?;
                 let object = Object::new().number("place", place).number("byte", value);
-                Answer::figure(&format!("{value} '{}'", [value].escape_ascii()), entered, object)
+                page.figure(&format!("{value} '{}'", [value].escape_ascii()), entered, object);
             }
             Question::Run(place) => {
                 let (offset, run) = tree.run_at(place)?;
-                let object = Object::new().number("place", place).number("offset", offset).number("length", run.len()).bytes("text", run);
-                Answer::new(format!("offset {offset}, {}: '{}'\n", several(run.len() as u64, "byte"), run.escape_ascii()), object)
+                let object = || Object::new().number("place", place).number("offset", offset).number("length", run.len()).bytes("text", run);
+                page.add(format!("offset {offset}, {}: '{}'\n", several(run.len() as u64, "byte"), run.escape_ascii()), object);
             }
             Question::Span(place, length) => {
                 let Reached { value, entered } = tree.span(place, length)?;
-                let object = Object::new().number("place", place).number("length", length).bytes("text", &value).number("entered", entered);
-                Answer::new(value, object)
+                let object = || Object::new().number("place", place).number("length", length).bytes("text", &value).number("entered", entered);
+                page.add(&value, object);
             }
             Question::Count(byte, length) => {
                 let Reached { value, entered } = tree.count(byte, length)?;
-                Answer::figure(&value.to_string(), entered, Object::new().number("byte", byte).number("length", length).number("count", value))
+                page.figure(&value.to_string(), entered, Object::new().number("byte", byte).number("length", length).number("count", value));
             }
-            Question::Find(byte, number) => found(tree, guide, byte, number)?,
-            _ => Answer::new(tree.text()?, Object::new()),
-        })
+            Question::Find(byte, number) => found(tree, guide, byte, number, page)?,
+            _ if page.json => {
+                let text = tree.text()?;
+                page.add("", || Object::new().number("length", text.len()).bytes("text", &text));
+            }
+            // no copy of a long text
+            _ => page.bytes = tree.text()?,
+        }
+        Ok(())
     }
 }
 
@@ -161,11 +214,6 @@ impl Question {
 fn to_the_end(first: u32, rows: u64) -> Option<u32> {
     let last = u32::try_from(rows).unwrap_or(u32::MAX);
     (first <= last.max(1)).then_some(last)
-}
-
-fn row(q: u32, row: &[u8]) -> Answer {
-    let object = Object::new().number("row", q).bytes("text", row);
-    Answer::new([row, b"\n"].concat(), object)
 }
 
 fn one_row(tree: Tree, guide: Option<&[u8]>, q: u32) -> Result<Vec<u8>, Refusal> {
@@ -204,24 +252,16 @@ fn column_row(tree: Tree, width: u32, q: u32) -> Result<Vec<u8>, Refusal> {
     Ok(row)
 }
 
-fn place(place: u32) -> Answer {
-    Answer::new(format!("{place}\n"), Object::new().number("place", place))
-}
-
-/// A row that matches, with its number.
-fn matching(tree: Tree, guide: Option<&[u8]>, q: u32) -> Result<Answer, Refusal> {
-    let Answer { plain, object } = row(q, &one_row(tree, guide, q)?);
-    Ok(Answer::new([format!("row {q}: ").into_bytes(), plain].concat(), object))
-}
-
-fn found(tree: Tree, guide: Option<&[u8]>, byte: u8, number: u32) -> Result<Answer, Refusal> {
+fn found(tree: Tree, guide: Option<&[u8]>, byte: u8, number: u32, page: &mut Page) -> Result<(), Refusal> {
     let object = |place: u32| Object::new().number("byte", byte).number("number", number).number("place", place);
     let Some(guide) = guide else {
         let Reached { value, entered } = tree.find(byte, number)?;
-        return Ok(Answer::figure(&value.to_string(), entered, object(value)));
+        page.figure(&value.to_string(), entered, object(value));
+        return Ok(());
     };
     let found = tree.find_guided(guide, byte, number)?;
     let (blocks, steps) = (several(found.entered, "block"), several(found.steps, "step"));
-    let object = object(found.place).number("entered", found.entered).number("steps", found.steps);
-    Ok(Answer::new(format!("{} ({blocks} entered, {steps} on level 0)\n", found.place), object))
+    let object = || object(found.place).number("entered", found.entered).number("steps", found.steps);
+    page.add(format!("{} ({blocks} entered, {steps} on level 0)\n", found.place), object);
+    Ok(())
 }

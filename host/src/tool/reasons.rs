@@ -1,6 +1,5 @@
 //! Why a question was refused, in the words of the question.
 
-use crate::build::listed;
 use crate::questions::Question;
 use crate::say::{grouped, several};
 use crate::Failure;
@@ -16,6 +15,12 @@ pub fn failure(name: &str, refusal: Refusal, question: &Question, tree: Tree) ->
     Failure::library(name, refusal, format!("{asked}{why}"))
 }
 
+/// What was asked, and why the tool does not put it to the tree.
+pub fn refused(name: &str, question: &Question, words: &str) -> Failure {
+    let asked = asked(question).map_or(String::new(), |words| format!("{words}: "));
+    Failure::refused(name, format!("{asked}{words}"))
+}
+
 /// The question in words.
 fn asked(question: &Question) -> Option<String> {
     let rows = |first: &u32, last: &Option<u32>| match last {
@@ -29,12 +34,28 @@ fn asked(question: &Question) -> Option<String> {
         Question::Byte(place) => Some(format!("byte {place}")),
         Question::Run(place) => Some(format!("run {place}")),
         Question::Span(place, length) => Some(format!("span {place} {length}")),
-        Question::Count(byte, length) => Some(format!("count {byte} {length}")),
-        Question::Find(byte, number) => Some(format!("find {byte} {number}")),
+        Question::Count(byte, length) => Some(format!("count {} {length}", typed(*byte))),
+        Question::Find(byte, number) => Some(format!("find {} {number}", typed(*byte))),
         Question::Places(_) => Some("places".to_owned()),
         Question::Match(..) | Question::Next(..) => Some("match".to_owned()),
         Question::Text => None,
     }
+}
+
+/// A byte as a call takes it.
+fn typed(byte: u8) -> String {
+    match byte {
+        b'!'..=b'~' => char::from(byte).to_string(),
+        _ => format!("0x{byte:02x}"),
+    }
+}
+
+/// Several, as a call takes them.
+pub fn all_typed(bytes: &[u8]) -> String {
+    if bytes.is_empty() {
+        return "none".to_owned();
+    }
+    bytes.iter().map(|&byte| typed(byte)).collect::<Vec<_>>().join(", ")
 }
 
 fn why(refusal: Refusal, question: &Question, tree: Tree) -> Option<String> {
@@ -51,7 +72,7 @@ fn why(refusal: Refusal, question: &Question, tree: Tree) -> Option<String> {
         (Refusal::NotCounted, Question::Rows(..) | Question::Match(..) | Question::Next(..)) => {
             Some("the tree does not count byte 10, which ends a row; build must count it".to_owned())
         }
-        (Refusal::NotCounted, _) => Some(format!("the tree does not count this byte; it counts: {}", listed(&tree.settings().counted))),
+        (Refusal::NotCounted, _) => Some(format!("the tree does not count this byte; it counts: {}", all_typed(&tree.settings().counted))),
         (Refusal::Ranges, Question::Match(ranges, _) | Question::Next(ranges, _)) => Some(wrong_range(ranges)),
         (Refusal::Pattern, Question::Places(pattern)) => {
             Some(format!("a pattern must have 1 to 256 bytes; this one has {}", grouped(pattern.len() as u64)))

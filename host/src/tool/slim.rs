@@ -1,27 +1,29 @@
 //! `slim`: trees without their edges.
 
-use crate::build::{apart, target};
+use crate::build::{apart, target, Naming};
 use crate::check::{open, refused};
 use crate::given::Given;
 use crate::input::{Input, Source, TREE};
 use crate::json::Object;
-use crate::output::Output;
+use crate::output::{report, Output};
 use crate::say::{self, grouped};
 use crate::table::FORCE;
-use crate::{sha256, Failure};
+use crate::Failure;
+use codebook::{digest_text, Digest};
 
-/// The ending of a name that is not given.
-const ENDING: &str = "small.tree";
+/// The names of the trees that are written.
+const SMALL: Naming = Naming { replaced: &["tree"], ending: "small.tree" };
 
 pub fn slim(given: &Given) -> Result<(), Failure> {
-    apart(given, ENDING)?;
+    apart(given, &SMALL)?;
     given.each(|path| {
         let source = Source::open(path)?;
-        let output = Output::create(target(given, path, ENDING)?.as_deref(), given.has(&FORCE), &source)?;
+        let output = Output::create(target(given, path, &SMALL)?.as_deref(), given.has(&FORCE), &source)?.timed(given, &source)?;
         let input = source.read(&TREE)?;
         let tree = open(&input, false)?;
         let small = tree.without_edges().map_err(|refusal| refused(&input, refusal))?;
-        write(given, &input, &small, output)?;
+        let text = tree.digest().map_err(|refusal| refused(&input, refusal))?;
+        write(given, &input, &small, &text, output)?;
         if tree.layout() == 1 && !given.quiet() {
             say::tell(&format!("codebook: {}: warning: it has no edges already, and was copied\n", input.name));
         }
@@ -30,23 +32,14 @@ pub fn slim(given: &Given) -> Result<(), Failure> {
 }
 
 /// Write the tree; then say what it has, where the tree does not go.
-fn write(given: &Given, input: &Input, small: &[u8], output: Output) -> Result<(), Failure> {
+fn write(given: &Given, input: &Input, small: &[u8], text: &Digest, output: Output) -> Result<(), Failure> {
     let (name, standard) = (output.name.clone(), output.is_standard());
     output.write(small)?;
-    let digest = sha256::hex(small);
-    let report = if given.json() {
-        let object = Object::new().text("tree", &input.name).number("size", input.bytes.len());
-        object.text("written", &name).number("written_size", small.len()).text("sha256", &digest).line()
-    } else {
-        let share = 100.0 * small.len() as f64 / input.bytes.len() as f64;
-        format!("{name}: {} bytes, {share:.1} % of {}; sha256 {digest}\n", grouped(small.len() as u64), input.name)
-    };
-    match (given.quiet(), standard) {
-        (true, _) => Ok(()),
-        (false, true) => {
-            say::tell(&report);
-            Ok(())
-        }
-        (false, false) => say::print(report.as_bytes()),
-    }
+    let digest = digest_text(small);
+    let object = Object::new().text("tree", &input.name).number("size", input.bytes.len());
+    let object = object.text("written", &name).number("written_size", small.len());
+    let object = object.text("sha256", &digest.to_string()).text("text_sha256", &text.to_string());
+    let share = 100.0 * small.len() as f64 / input.bytes.len() as f64;
+    let sizes = format!("{name}: {} bytes, {share:.1} % of {}", grouped(small.len() as u64), input.name);
+    report(given, standard, &object, &format!("{sizes}; SHA-256 of the tree {digest}, of its text {text}\n"))
 }

@@ -3,12 +3,13 @@
 //! It is made without a name where the file system can do that (`O_TMPFILE`, open(2)): whatever ends the tool then leaves nothing behind. Elsewhere, and for
 //! the moment in which an older file is replaced, it has a hidden name, which signals remove.
 
+use crate::attributes::{Access, Times};
 use crate::signals;
 use std::ffi::CString;
-use std::fs::{self, File, OpenOptions, Permissions};
+use std::fs::{self, File, OpenOptions};
 use std::io::{self, ErrorKind, Write};
 use std::os::fd::AsRawFd;
-use std::os::raw::{c_char, c_int};
+use std::os::raw::{c_char, c_int, c_long, c_uint};
 use std::os::unix::ffi::OsStrExt;
 use std::os::unix::fs::OpenOptionsExt;
 use std::path::{Path, PathBuf};
@@ -18,10 +19,16 @@ const O_TMPFILE: c_int = 0o20_200_000;
 const AT_FDCWD: c_int = -100;
 const AT_SYMLINK_FOLLOW: c_int = 0x400;
 const EISDIR: i32 = 21;
+const EINVAL: i32 = 22;
+const ENOSYS: i32 = 38;
 const EOPNOTSUPP: i32 = 95;
+/// The number of renameat2(2), which not every C library has.
+const RENAMEAT2: c_long = 316;
+const RENAME_NOREPLACE: c_uint = 1;
 
 extern "C" {
     fn linkat(old_folder: c_int, old: *const c_char, new_folder: c_int, new: *const c_char, flags: c_int) -> c_int;
+    fn syscall(number: c_long, ...) -> c_long;
 }
 
 pub struct Spool {
@@ -29,45 +36,50 @@ pub struct Spool {
     /// Its hidden name, if it has one.
     hidden: Option<PathBuf>,
     target: PathBuf,
-    /// The permissions of the file that is replaced.
-    old: Option<Permissions>,
+    /// Replace a file of that name, also one that comes meanwhile.
+    force: bool,
+    /// The times that the file gets; None for those of its writing.
+    pub times: Option<Times>,
 }
 
 impl Spool {
-    pub fn create(target: PathBuf, old: Option<Permissions>) -> io::Result<Self> {
-        let (file, hidden) = match nameless(folder(&target))? {
+    /// `access` has the permissions of what is read and of what is replaced.
+    pub fn create(target: PathBuf, force: bool, access: &[Access]) -> io::Result<Self> {
+        let mode = if access.is_empty() { 0o666 } else { 0o600 };
+        let (file, hidden) = match nameless(folder(&target), mode)? {
             Some(file) => (file, None),
-            None => under_hidden_name(folder(&target), |path| OpenOptions::new().write(true).create_new(true).open(path))
+            None => under_hidden_name(folder(&target), |path| OpenOptions::new().write(true).create_new(true).mode(mode).open(path))
                 .map(|(file, path)| (file, Some(path)))?,
         };
-        Ok(Spool { file, hidden, target, old })
+        let spool = Spool { file, hidden, target, force, times: None };
+        Access::give(access, &spool.file)?;
+        Ok(spool)
     }
 
     /// Write, store, and only then take the name.
     pub fn finish(mut self, bytes: &[u8]) -> io::Result<()> {
         self.file.write_all(bytes)?;
-        if let Some(old) = &self.old {
-            self.file.set_permissions(old.clone())?;
-        }
+        self.times.map_or(Ok(()), |times| times.set(&self.file))?;
         self.file.sync_all()?;
         self.take_name()?;
         // a folder that may be written need not be one that may be read
         File::open(folder(&self.target)).map_or(Ok(()), |folder| folder.sync_all())
     }
 
+    /// Without `force` a name that is in use is refused, by the system call that gives it: nothing comes between.
     fn take_name(&mut self) -> io::Result<()> {
-        if self.hidden.is_none() && self.old.is_none() {
-            // refused where a file of that name has come meanwhile
-            return link(&self.file, &self.target);
-        }
         if self.hidden.is_none() {
+            match link(&self.file, &self.target) {
+                Err(error) if self.force && error.kind() == ErrorKind::AlreadyExists => {}
+                done => return done,
+            }
             self.hidden = Some(under_hidden_name(folder(&self.target), |path| link(&self.file, path))?.1);
         }
-        if self.old.is_none() && self.target.exists() {
-            return Err(ErrorKind::AlreadyExists.into());
-        }
         if let Some(hidden) = &self.hidden {
-            fs::rename(hidden, &self.target)?;
+            match self.force {
+                true => fs::rename(hidden, &self.target)?,
+                false => rename_new(hidden, &self.target)?,
+            }
         }
         self.hidden = None;
         signals::forget();
@@ -89,12 +101,12 @@ fn folder(target: &Path) -> &Path {
 }
 
 /// A file without a name; None where there are none.
-fn nameless(folder: &Path) -> io::Result<Option<File>> {
+fn nameless(folder: &Path, mode: u32) -> io::Result<Option<File>> {
     // a name is given through /proc
     if std::env::var_os("CODEBOOK_NAMED").is_some() || !Path::new("/proc/self/fd").exists() {
         return Ok(None);
     }
-    match OpenOptions::new().write(true).custom_flags(O_TMPFILE).mode(0o666).open(folder) {
+    match OpenOptions::new().write(true).custom_flags(O_TMPFILE).mode(mode).open(folder) {
         Ok(file) => Ok(Some(file)),
         Err(error) if matches!(error.raw_os_error(), Some(EISDIR | EOPNOTSUPP)) => Ok(None),
         Err(error) => Err(error),
@@ -126,5 +138,54 @@ fn link(file: &File, path: &Path) -> io::Result<()> {
     match unsafe { linkat(AT_FDCWD, old.as_ptr(), AT_FDCWD, new.as_ptr(), AT_SYMLINK_FOLLOW) } {
         0 => Ok(()),
         _ => Err(io::Error::last_os_error()),
+    }
+}
+
+/// Give a file another name, which must not be in use. File systems that cannot rename so (NFS) can link.
+fn rename_new(old: &Path, new: &Path) -> io::Result<()> {
+    match rename_unless_used(old, new) {
+        Err(error) if matches!(error.raw_os_error(), Some(EINVAL | ENOSYS)) => link_and_remove(old, new),
+        done => done,
+    }
+}
+
+fn rename_unless_used(old: &Path, new: &Path) -> io::Result<()> {
+    let (old, new) = (CString::new(old.as_os_str().as_bytes())?, CString::new(new.as_os_str().as_bytes())?);
+    // Safety: both are strings that end in a zero byte and are only read.
+    match unsafe { syscall(RENAMEAT2, AT_FDCWD, old.as_ptr(), AT_FDCWD, new.as_ptr(), RENAME_NOREPLACE) } {
+        0 => Ok(()),
+        _ => Err(io::Error::last_os_error()),
+    }
+}
+
+fn link_and_remove(old: &Path, new: &Path) -> io::Result<()> {
+    fs::hard_link(old, new)?;
+    // the file has its name; a second one that cannot be removed is no failure
+    let _ = fs::remove_file(old);
+    Ok(())
+}
+
+#[cfg(test)]
+mod tests {
+    use super::{link_and_remove, rename_new, rename_unless_used};
+    use std::fs;
+    use std::io::ErrorKind;
+
+    /// Each way of giving a name refuses one that is in use, and leaves one name.
+    #[test]
+    fn names_that_are_in_use() {
+        let folder = std::env::temp_dir().join(format!("codebook-names-{}", std::process::id()));
+        fs::create_dir_all(&folder).expect("a folder");
+        let (old, used, new) = (folder.join("old"), folder.join("used"), folder.join("new"));
+        for give in [rename_new, rename_unless_used, link_and_remove] {
+            fs::write(&old, "old").expect("a file");
+            fs::write(&used, "used").expect("a file");
+            assert_eq!(give(&old, &used).map_err(|error| error.kind()), Err(ErrorKind::AlreadyExists));
+            assert_eq!((fs::read(&old).expect("a file"), fs::read(&used).expect("a file")), (b"old".to_vec(), b"used".to_vec()));
+            give(&old, &new).expect("a new name");
+            assert_eq!((fs::read(&new).expect("a file"), old.exists()), (b"old".to_vec(), false));
+            fs::remove_file(&new).expect("a file");
+        }
+        fs::remove_dir_all(&folder).expect("a folder");
     }
 }

@@ -104,9 +104,10 @@ fn object(name: &str, tree: Tree) -> Object {
         object.number("kept", level.blocks - level.pointing).number("pointing", level.pointing)
     });
     let object = Object::new().text("tree", name).number("size", tree.size()).number("length", tree.text_length()).number("layout", tree.layout());
-    let object = object.number("leaf", settings.leaf).number("arity", settings.arity).objects("counted", counted);
+    let object = object.number("leaf", settings.leaf).number("arity", settings.arity).number("levels", settings.levels);
+    let object = object.numbers("counted", &settings.counted).objects("totals", counted);
     let object = tree.rows().map_or(object.clone(), |rows| object.number("rows", rows));
-    saving(object.object("bytes", &bytes).objects("levels", levels), tree)
+    saving(object.object("bytes", &bytes).objects("by_level", levels), tree)
 }
 
 /// The lines of the list program; one line a tree where there are several.
@@ -114,10 +115,22 @@ pub fn list(given: &Given) -> Result<(), Failure> {
     given.each(|path| {
         let input = input::read(path, &TREE)?;
         let (lines, answer) = codebook::list(&input.bytes);
+        if given.json() {
+            return answer.map_err(|refusal| refused(&input, refusal)).and_then(|()| say::print(listing(&input.name, &lines).line().as_bytes()));
+        }
         let lines = if given.words.len() > 1 { format!("{}: {}\n", input.name, lines.trim_end().replace('\n', " / ")) } else { lines };
         say::print(lines.as_bytes())?;
         answer.map_err(|refusal| refused(&input, refusal))
     })
+}
+
+/// The lines of the list program as an object.
+fn listing(name: &str, lines: &str) -> Object {
+    let level = |line: &str| {
+        let figures = ["blocks", "kept", "pointing"].into_iter().zip(line.split(' ').skip(1));
+        figures.fold(Object::new(), |object, (figure, number)| object.number(figure, number))
+    };
+    Object::new().text("tree", name).objects("by_level", lines.lines().map(level))
 }
 
 /// The sizes of what a caller of the library lends.
@@ -130,7 +143,7 @@ pub fn sizes(given: &Given) -> Result<(), Failure> {
         .map_err(|refusal| Failure::library("", refusal, format!("{refusal}; given: {} bytes, {told}", grouped(length))))?;
     let words = scan_words(length, settings.leaf);
     if given.json() {
-        return say::print(Object::new().number("length", length).number("tree", tree).number("table_words", words).line().as_bytes());
+        return say::print(Object::new().number("length", length).number("size", tree).number("table_words", words).line().as_bytes());
     }
     say::print(
         format!("a text of {} bytes; {told}\ntree   at most {} bytes\ntable  {} words\n", grouped(length), grouped(tree), grouped(words)).as_bytes(),

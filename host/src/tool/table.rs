@@ -1,6 +1,8 @@
 //! The one table of commands and options: calls are read by it, and help, the manual page and the completions are printed from it.
 
-use crate::{build, by_columns, check, code, digest, given::Given, guide, help, licence, picture, questions, shelf, slim, stats, Failure};
+use crate::{
+    build, by_columns, check, code, diff, digest, given::Given, guide, help, import, licence, picture, questions, shelf, slim, stats, Failure,
+};
 
 /// What the commands on licences share.
 macro_rules! licence_days {
@@ -58,23 +60,24 @@ const fn valued(long: &'static str, value: &'static str, help: &'static str) -> 
     Opt { long, short: None, value: Some(value), file: false, help }
 }
 
-pub static HELP: Opt = flag("--help", Some('h'), "say how the command is called");
+pub static HELP: Opt = flag("--help", Some('h'), "print help");
 pub static QUIET: Opt = flag("--quiet", Some('q'), "no report, warning or progress; answers and failures are still told");
 pub static JSON: Opt = flag("--json", None, "one JSON object a line; docs/JSON.md describes them");
 pub static OUTPUT: Opt = Opt { long: "--output", short: Some('o'), value: Some("FILE"), file: true, help: "the file to write; - is standard output" };
 pub static FORCE: Opt = flag("--force", Some('f'), "overwrite a file that exists");
+pub static KEEP_TIME: Opt = flag("--keep-time", None, "give the file the times of the one that is read");
 pub static LEAF: Opt = valued("--leaf", "M", "bytes of a block of the last level, 1 to 256");
 pub static ARITY: Opt = valued("--arity", "R", "children of a block, 2 to 16");
 pub static LEVELS: Opt = valued("--levels", "H", concat!("levels, 1 to 8; M x R^(H-1) is at most ", codebook::longest!()));
 pub static COUNT: Opt = valued(
     "--count",
     "BYTES",
-    "the bytes to count and find, at most 4, rising, parted by commas, as 10,65 or \\n,A; or none. Otherwise 10, which ends a row",
+    "the bytes to count and find, at most 4, rising, separated by commas, as \\n,A or 0x0a,0x41; or none. Otherwise \\n, which ends a row",
 );
 pub static COLUMNS: Opt =
     valued("--columns", "W", "the rows of W bytes, end byte included, stand by columns; auto finds the width of rows that all have one");
-pub static ROW_COLUMNS: Opt =
-    valued("--columns", "W", "the tree is of a book by columns, of rows of W bytes, end byte included; that is yours to know");
+pub static ALLOW_LARGER: Opt = flag("--allow-larger", None, "write the tree by columns though the one by rows is smaller");
+pub static ROW_COLUMNS: Opt = valued("--columns", "W", "the tree is of a book by columns, of rows of W bytes, end byte included");
 pub static SMALL: Opt = flag("--small", None, "a tree without edges (layout 1): smaller; spans of nearly a leaf length take longer");
 pub static SHA256: Opt = valued("--sha256", "HEX", "the SHA-256 that the tree must have");
 pub static TEXT_SHA256: Opt = valued("--text-sha256", "HEX", "the SHA-256 that the tree's text must have");
@@ -89,6 +92,11 @@ pub static FROM: Opt = valued("--from", "ROW", "start at this row, from 1");
 pub static AFTER: Opt = valued("--after", "ROW", "the next match after this row, and no other; 0 is before the first row");
 pub static PREFIX: Opt = flag("--prefix", None, "CODE is the beginning of a row, not a whole code");
 pub static UNCHECKED: Opt = flag("--unchecked", None, "do not check the tree first; on a tree that the check refuses the answer can be wrong");
+pub static CODE: Opt = valued("--code", "COLUMN", "the column of the codes, by its number from 1 or by its name in the header line; otherwise code");
+pub static CUTS: Opt = valued("--cuts", "COLUMN", "the column of the cuts, likewise; otherwise cuts");
+pub static SEPARATOR: Opt =
+    valued("--separator", "BYTE", "what separates the columns, as ';' or '\\t'; otherwise the first tab, semicolon or comma is taken");
+pub static LENIENT: Opt = flag("--lenient", None, "status 0 even if lines are dropped");
 
 /// Options of every command.
 pub static COMMON: [&Opt; 2] = [&QUIET, &HELP];
@@ -108,33 +116,44 @@ const fn any(name: &'static str) -> Word {
 static TREE: [Word; 1] = [maybe("TREE")];
 static TREES: [Word; 1] = [any("TREE")];
 
-pub static COMMANDS: [Command; 33] = [
+pub static COMMANDS: [Command; 35] = [
     Command {
         name: "build",
         words: &[any("BOOK")],
-        options: &[&OUTPUT, &FORCE, &SMALL, &LEAF, &ARITY, &LEVELS, &COUNT, &COLUMNS, &JSON],
+        options: &[&OUTPUT, &FORCE, &KEEP_TIME, &SMALL, &LEAF, &ARITY, &LEVELS, &COUNT, &COLUMNS, &ALLOW_LARGER, &JSON],
         summary: "build the trees of books",
         details: concat!(
             "A BOOK is any text of up to ",
             codebook::longest!(),
-            " bytes. Its tree goes to a file with the book's name and the ending .tree, or to FILE; where FILE is a folder, into that one. The tree of standard input goes to standard output. \
-             An existing file is left alone unless --force is given, and is replaced whole or not at all.\n\
+            " bytes. Its tree goes to a file with the book's name and the ending .tree, in place of .txt or .csv or after any other ending, or to FILE; where FILE is a folder, into that one. The tree of standard input goes to standard output. \
+             An existing file is left alone unless --force is given, and is replaced whole or not at all. The tree gets the permissions of its book, never wider ones.\n\
              Where no settings are given, a short list is tried (256/2/1, 64/4/3, 48/2/5, 32/4/4, 24/8/3 and 16/4/4 as leaf/arity/levels), the smallest tree is kept, and what each gave is printed. \
              With --small the tree has no edges, and the list is that of such trees (256/2/1, 256/2/2, 192/2/2, 128/2/2, 96/2/2, 96/2/4 and 64/2/5). \
              The SHA-256 of the tree and that of its text are printed, to be printed with the book or kept apart from the tree: check compares them.\n\
              Warnings tell what a reader would miss: rows that are not code, space, cuts; a byte order mark; no row at all; a tree that is no smaller than its text, and what --small would give where that is smaller.\n\
-             With --columns the tree is that of the book by columns, and it is said whether that makes it smaller. Such a tree is read by row --columns; it does not say itself that its text is rearranged."
+             With --columns the tree is that of the book by columns, whose rows all have W bytes, byte 10 at the end and nowhere else. It is not written where the tree by rows is smaller, unless --allow-larger is given. Such a tree is read by row --columns; it does not say itself that its text is rearranged."
         ),
         run: build::build,
     },
     Command {
         name: "slim",
         words: &TREES,
-        options: &[&OUTPUT, &FORCE, &JSON],
+        options: &[&OUTPUT, &FORCE, &KEEP_TIME, &JSON],
         summary: "write trees without their edges",
-        details: "Checks each TREE and writes it in layout 1, without its edges: the same tree of the same text, never larger. It goes to a file with the tree's name and the ending .small.tree, or to FILE; where FILE is a folder, into that one. The TREE that is read is never overwritten. The tree of standard input goes to standard output. \
+        details: "Checks each TREE and writes it in layout 1, without its edges: the same tree of the same text, never larger. It goes to a file with the tree's name and the ending .small.tree, in place of .tree or after any other ending, or to FILE; where FILE is a folder, into that one. The TREE that is read is never overwritten. The tree that is written gets its permissions, never wider ones. The tree of standard input goes to standard output. \
                   Every question has the same answer; spans of nearly a leaf length take longer. A TREE that has no edges is copied.",
         run: slim::slim,
+    },
+    Command {
+        name: "import",
+        words: &[maybe("FILE")],
+        options: &[&OUTPUT, &FORCE, &KEEP_TIME, &CODE, &CUTS, &SEPARATOR, &LENIENT, &JSON],
+        summary: "make a book from a CSV or TAB file",
+        details: "Each line of FILE becomes a row of code, space, cuts. Columns are separated by tabs, semicolons or commas, and may be quoted; in a file without any of these, the spaces after the code separate the cuts. \
+                  Byte order marks, UTF-16, line ends of any kind, blank lines and header lines are understood. The columns are those that a header line names code and cuts, or that the options name; a file of two columns needs neither.\n\
+                  Cuts are written 442231, 4-4-2-2-3-1 or 4 4 2 2 3 1. Nothing is guessed: a line whose code is not 1 to 12 bytes other than space, or whose cuts are not 1 to 10 digits, is dropped and listed with its number and the reason, and the status is 1. \
+                  Without -o the book goes to standard output; a file gets the permissions of FILE, never wider ones.",
+        run: import::import,
     },
     Command {
         name: "check",
@@ -163,9 +182,19 @@ pub static COMMANDS: [Command; 33] = [
         run: digest::digest,
     },
     Command {
+        name: "diff",
+        words: &[one("ONE"), one("OTHER")],
+        options: &[&JSON],
+        summary: "print the rows that differ between two books or trees",
+        details: "Rows are compared by code, the bytes before the first space: a row is removed, added, or changed, if the same code has other cuts. Their order does not matter, and a code may have several rows. ONE and OTHER are trees, which are checked first, or books. \
+                  The text of a tree by columns is turned back first, by text and from-columns.\n\
+                  The status is that of diff(1): 0 the rows are the same, 1 they differ, 2 trouble, a refused tree included.",
+        run: diff::diff,
+    },
+    Command {
         name: "list",
         words: &TREES,
-        options: &[],
+        options: &[&JSON],
         summary: "list a tree's levels",
         details: "One line for each level: level, blocks, kept, pointing. A refused tree gives the line 'refused N'. With several trees, one line for each, the levels parted by /. For trees of at most 65,536 bytes; stats is for all.",
         run: stats::list,
@@ -181,9 +210,9 @@ pub static COMMANDS: [Command; 33] = [
     Command {
         name: "picture",
         words: &TREE,
-        options: &[&OUTPUT, &FORCE],
+        options: &[&OUTPUT, &FORCE, &KEEP_TIME, &JSON],
         summary: "draw a tree's levels as an SVG file",
-        details: "Each level is a bar of its blocks in the text's order. Kept blocks are tall and dark; pointing blocks are low, in the colour of the place that they point to, which the strip at the top shows. Few pointing blocks have an arrow besides. Blocks narrower than a pixel are merged.",
+        details: "Each level is a bar of its blocks in the text's order. Kept blocks are tall and dark; pointing blocks are low, in the colour of the place that they point to, which the strip at the top shows. Few pointing blocks have an arrow besides. Where blocks are too narrow to be drawn, the height in each pixel is the share of its text that is kept, and that points.",
         run: picture::picture,
     },
     Command {
@@ -192,7 +221,7 @@ pub static COMMANDS: [Command; 33] = [
         options: &[&GUIDE, &ROW_COLUMNS, &JSON, &UNCHECKED],
         summary: "print a row of the book, or several",
         details: "ROWS is a number from 1 to the number of rows, or a range such as 5..20, both included, 5.. or ..20. A row ends in byte 10, or in bytes 13 and 10; the tree must count byte 10 (it does unless build was told otherwise). \
-                  It is printed with a plain line end, without the 13. If the book's last byte is another one, what stands after the last byte 10 is a row too.",
+                  It is printed with a plain line end, without the 13. If the book's last byte is another one, what follows the last byte 10 is a row too. With --columns a width at which the rows do not all end in byte 10 is refused.",
         run: questions::ask,
     },
     Command {
@@ -223,16 +252,16 @@ pub static COMMANDS: [Command; 33] = [
         name: "count",
         words: &[one("BYTE"), one("LENGTH"), maybe("TREE")],
         options: &[&JSON, &UNCHECKED],
-        summary: "print how often a byte stands in the first LENGTH bytes",
-        details: "BYTE is a number from 0 to 255, one character that is no digit, or \\n, \\r, \\t, \\\\ or \\xHH; the tree must count it. Prints how often, and how many blocks were entered.",
+        summary: "print how often a byte occurs in the first LENGTH bytes",
+        details: "BYTE is one character, its number as 0x0a, or \\n, \\r, \\t, \\\\ or \\xHH; the tree must count it. Prints how often, and how many blocks were entered.",
         run: questions::ask,
     },
     Command {
         name: "find",
         words: &[one("BYTE"), one("NUMBER"), maybe("TREE")],
         options: &[&GUIDE, &JSON, &UNCHECKED],
-        summary: "print the place where a byte stands for the NUMBER-th time",
-        details: "NUMBER goes from 1 to how often the byte stands in the book. BYTE is a number from 0 to 255, one character that is no digit, or \\n, \\r, \\t, \\\\ or \\xHH; the tree must count it. Prints the place, and how many blocks lead to it.",
+        summary: "print the place of the NUMBER-th occurrence of a byte",
+        details: "NUMBER goes from 1 to how often the byte occurs in the book. BYTE is one character, its number as 0x0a, or \\n, \\r, \\t, \\\\ or \\xHH; the tree must count it. Prints the place, and how many blocks lead to it.",
         run: questions::ask,
     },
     Command {
@@ -240,7 +269,7 @@ pub static COMMANDS: [Command; 33] = [
         words: &[one("TEXT"), maybe("TREE")],
         options: &[&JSON, &UNCHECKED],
         summary: "print all places of a code fragment, one to a line",
-        details: "TEXT is 1 to 256 bytes, as they stand in the book; \\n is byte 10, \\r byte 13, \\t byte 9, \\xHH the byte of that hexadecimal number, \\\\ a backslash. Places start at 0 and may overlap. Nothing is printed where it stands nowhere. \
+        details: "TEXT is 1 to 256 bytes, as they stand in the book; \\n is byte 10, \\r byte 13, \\t byte 9, \\xHH the byte of that hexadecimal number, \\\\ a backslash. Places start at 0 and may overlap. Where there is none the status is 1. \
                   A TEXT that begins with - goes after --.",
         run: questions::ask,
     },
@@ -260,21 +289,21 @@ pub static COMMANDS: [Command; 33] = [
         options: &[&FROM, &AFTER, &JSON, &UNCHECKED],
         summary: "print the rows that match a worn key",
         details: "CUTS is, for each of 1 to 10 cuts, a depth from 0 to 9, a range of depths such as [3-5], or ? for any: 44[3-5]22? or 4,4,3-5,2,2,0-9. A row is a key if it is a code of 1 to 12 bytes other than space, one space, and 1 to 10 digits. \
-                  It matches with as many cuts as are asked for, each in its range. The tree must count byte 10. Prints each row that matches with its number, or 'no row matches'.",
+                  It matches with as many cuts as are asked for, each in its range. The tree must count byte 10. Prints each row that matches with its number. Where none does the status is 1.",
         run: questions::ask,
     },
     Command {
         name: "worn",
         words: &[one("LOWS"), one("HIGHS"), maybe("TREE")],
         options: &[&FROM, &AFTER, &JSON, &UNCHECKED],
-        summary: "print the rows that match a worn key, by the lowest and highest depths",
+        summary: "match, by the lowest and the highest depth of each cut",
         details: "LOWS and HIGHS have a digit for each of 1 to 10 cuts: the lowest and the highest depth that it may have. The rows are those of match.",
         run: questions::ask,
     },
     Command {
         name: "text",
         words: &TREE,
-        options: &[&UNCHECKED],
+        options: &[&JSON, &UNCHECKED],
         summary: "print the whole book",
         details: "The bytes as they are, and nothing else.",
         run: questions::ask,
@@ -282,23 +311,23 @@ pub static COMMANDS: [Command; 33] = [
     Command {
         name: "to-columns",
         words: &[one("WIDTH"), maybe("BOOK")],
-        options: &[&OUTPUT, &FORCE],
+        options: &[&OUTPUT, &FORCE, &KEEP_TIME, &JSON],
         summary: "rearrange a book's rows of one width by columns",
-        details: "WIDTH counts the byte that ends a row; auto finds it, where all rows have one. The byte in column b of row a goes to place b x rows + a, both counted from 0. Without -o the bytes go to standard output.",
+        details: "WIDTH counts the byte that ends a row; auto finds it. All rows must have this width. The byte in column b of row a goes to place b x rows + a, both counted from 0. Without -o the bytes go to standard output.",
         run: by_columns::to_columns,
     },
     Command {
         name: "from-columns",
         words: &[one("WIDTH"), maybe("FILE")],
-        options: &[&OUTPUT, &FORCE],
+        options: &[&OUTPUT, &FORCE, &KEEP_TIME, &JSON],
         summary: "rearrange a book by columns back to rows",
-        details: "The inverse of to-columns for the same width, which a book by columns does not show. Without -o the bytes go to standard output.",
+        details: "The inverse of to-columns for the same width; a width at which the rows do not all end in byte 10 is refused. Without -o the bytes go to standard output.",
         run: by_columns::from_columns,
     },
     Command {
         name: "guide make",
         words: &TREE,
-        options: &[&OUTPUT, &FORCE, &JSON],
+        options: &[&OUTPUT, &FORCE, &KEEP_TIME, &JSON],
         summary: "make the guide of a tree",
         details: "A guide has the number of the level 0 block that holds the 1st, 65th, 129th occurrence and so on of each byte that the tree counts. find, row and code with --guide start there and not at the first block. Without -o the guide goes to standard output.",
         run: guide::make,
@@ -332,7 +361,7 @@ pub static COMMANDS: [Command; 33] = [
         words: &[one("FIRST"), one("LAST"), maybe("TODAY")],
         options: &[&JSON],
         summary: "say whether a book is open, with the days left",
-        details: licence_days!("Open from the first day to the last, both included; or closed, and why."),
+        details: licence_days!("Open from the first day to the last, both included; or closed, and why, with status 1."),
         run: licence::open,
     },
     Command {
@@ -362,15 +391,15 @@ pub static COMMANDS: [Command; 33] = [
     Command {
         name: "help",
         words: &[any("COMMAND")],
-        options: &[],
-        summary: "say how the tool, or a command, is called",
+        options: &[&JSON],
+        summary: "print help on the tool or on a command",
         details: "The same as COMMAND --help.",
         run: help::show,
     },
     Command {
         name: "version",
         words: &[],
-        options: &[],
+        options: &[&JSON],
         summary: "print the tool's version and the layouts that it knows",
         details: "The same as codebook --version.",
         run: help::version,
@@ -378,7 +407,7 @@ pub static COMMANDS: [Command; 33] = [
     Command {
         name: "manual",
         words: &[],
-        options: &[],
+        options: &[&JSON],
         summary: "print the manual page, codebook.1",
         details: "In the form of man(7).",
         run: help::manual,
@@ -386,12 +415,19 @@ pub static COMMANDS: [Command; 33] = [
     Command {
         name: "completion",
         words: &[one("SHELL")],
-        options: &[],
+        options: &[&JSON],
         summary: "print the completion for a shell",
         details: "SHELL is bash or zsh.",
         run: help::completion,
     },
 ];
+
+impl Word {
+    /// It names a file that is read; `-` is standard input.
+    pub fn is_file(&self) -> bool {
+        matches!(self.name, "BOOK" | "TREE" | "BOOK TREE" | "FILE" | "GUIDE" | "ONE" | "OTHER")
+    }
+}
 
 impl Command {
     pub fn named(name: &str) -> Option<&'static Command> {

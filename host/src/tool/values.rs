@@ -57,23 +57,19 @@ pub fn rows(word: &OsStr) -> Result<(u32, Option<u32>), String> {
     }
 }
 
-/// A byte: its number, one character that is no digit, or an escape.
+/// A byte: one character, `0xHH`, or an escape. A digit is a character, so that no byte is written in decimal.
 pub fn byte(word: &OsStr) -> Result<u8, String> {
-    match word.as_bytes() {
-        [b'\\', letters @ ..] if !letters.is_empty() => match escaped(letters) {
-            Some((byte, length)) if length == letters.len() => Ok(byte),
-            _ => Err(format!("a byte is one of \\n, \\r, \\t, \\\\ and \\xHH, not '{}'", word.to_string_lossy())),
-        },
-        [one] if !one.is_ascii_digit() => Ok(*one),
-        _ => number("a byte", word).ok().and_then(|number| u8::try_from(number).ok()).ok_or_else(|| not_a_byte(word)),
-    }
-}
-
-fn not_a_byte(word: &OsStr) -> String {
-    let negative = number("a byte", word).is_err_and(|words| words.ends_with("is negative"));
-    let word = word.to_string_lossy();
-    let given = if negative { format!("; {word} is negative") } else { format!(", not '{word}'") };
-    format!("a byte is a number from 0 to 255 or one character that is no digit{given}")
+    let read = match word.as_bytes() {
+        [one] => Some(*one),
+        [b'0', b'x', high, low] => escaped(&[b'x', *high, *low]).map(|(byte, _)| byte),
+        [b'\\', letters @ ..] => escaped(letters).filter(|(_, length)| *length == letters.len()).map(|(byte, _)| byte),
+        _ => None,
+    };
+    read.ok_or_else(|| {
+        let text = word.to_string_lossy();
+        let decimal = text.parse::<u8>().map_or(String::new(), |byte| format!("; byte {byte} is 0x{byte:02x}"));
+        format!("a byte is one character, 0x00 to 0xff, \\n, \\r, \\t, \\\\ or \\xHH, not '{text}'{decimal}")
+    })
 }
 
 /// Bytes parted by commas, or `none`.
@@ -90,7 +86,10 @@ pub fn pattern(word: &OsStr) -> Result<Vec<u8>, String> {
     let mut rest = word.as_bytes();
     while let [first, others @ ..] = rest {
         let (byte, length) = match first {
-            b'\\' => escaped(others).ok_or("a backslash begins \\n, \\r, \\t, \\\\ or \\xHH, a byte in hexadecimal")?,
+            b'\\' => escaped(others).ok_or_else(|| {
+                let given = String::from_utf8_lossy(&rest[..rest.len().min(4)]).into_owned();
+                format!("a backslash begins \\n, \\r, \\t, \\\\ or \\xHH, a byte in hexadecimal, not '{given}'")
+            })?,
             _ => (*first, 0),
         };
         bytes.push(byte);
@@ -181,12 +180,16 @@ mod tests {
     fn bytes_and_patterns() {
         let one = |word: &str| byte(OsStr::new(word)).ok();
         assert_eq!(
-            (one("65"), one("A"), one("\\n"), one("\\r"), one("\\t"), one("\\x7f"), one("\\\\"), one("\\")),
+            (one("0x41"), one("A"), one("\\n"), one("\\r"), one("\\t"), one("\\x7f"), one("\\\\"), one("\\")),
             (Some(65), Some(65), Some(10), Some(13), Some(9), Some(127), Some(92), Some(92))
         );
-        for word in ["256", "-1", "AB", "", "\\x7", "\\nn", "\\q", "\\x+1"] {
+        // a digit is a character
+        assert_eq!((one("5"), one("0x05"), one("\\x05"), one("0"), one("0xFF")), (Some(b'5'), Some(5), Some(5), Some(b'0'), Some(255)));
+        for word in ["10", "256", "-1", "AB", "", "\\x7", "\\nn", "\\q", "\\x+1", "0x", "0x5", "0x005", "0xg0", "0X0a"] {
             assert_eq!(one(word), None, "{word}");
         }
+        let decimal = byte(OsStr::new("10")).expect_err("no byte");
+        assert!(decimal.ends_with(", not '10'; byte 10 is 0x0a"), "{decimal}");
         assert_eq!(pattern(OsStr::new("A\\t\\x20\\\\\\nB")), Ok(b"A\t \\\nB".to_vec()));
         assert!(pattern(OsStr::new("A\\")).is_err() && pattern(OsStr::new("\\xg0")).is_err());
     }

@@ -11,6 +11,14 @@ fn book() -> PathBuf {
     Path::new(env!("CARGO_MANIFEST_DIR")).join("../books/small.txt")
 }
 
+/// A number with its thousands parted, as the tool prints it.
+pub fn grouped(number: usize) -> String {
+    match number {
+        0..=999 => number.to_string(),
+        _ => format!("{},{:03}", grouped(number / 1000), number % 1000),
+    }
+}
+
 /// A folder of this test's own, with the book and its tree in it.
 pub struct Folder(pub PathBuf);
 

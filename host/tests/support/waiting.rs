@@ -1,0 +1,52 @@
+//! The tool stopped half way, with and without nameless files.
+
+use super::folder::Folder;
+use std::fs;
+use std::os::unix::process::CommandExt;
+use std::process::{Child, Stdio};
+use std::time::{Duration, Instant};
+
+/// As on file systems with nameless files, and on those without.
+pub fn both_ways(test: impl Fn(&str, &str)) {
+    test("", "nameless");
+    test("CODEBOOK_NAMED=1 ", "named");
+}
+
+extern "C" {
+    /// signal(2); 0 is the default action.
+    #[link_name = "signal"]
+    fn default_action(number: i32, action: usize) -> usize;
+}
+
+/// The tool, waiting for its book, which comes from a pipe; its output has been made ready by then.
+pub fn waiting(folder: &Folder, named: bool, words: &str) -> Child {
+    let mut tool = folder.tool();
+    if named {
+        tool.env("CODEBOOK_NAMED", "1");
+    }
+    let tool = tool.args(words.split_whitespace()).stdin(Stdio::piped()).stdout(Stdio::piped()).stderr(Stdio::piped());
+    // what runs under nohup or in the background ignores some signals, and so would the tool
+    // SAFETY: signal(2) may be called between fork and exec, and takes plain numbers
+    unsafe {
+        tool.pre_exec(|| {
+            for number in [1, 2, 3, 15] {
+                default_action(number, 0);
+            }
+            Ok(())
+        })
+    };
+    let child = tool.spawn().expect("the tool starts");
+    let start = Instant::now();
+    let ready = || match named {
+        true => folder.names().iter().any(|name| name.starts_with(".codebook-")),
+        // its nameless file is among those that it has open
+        false => fs::read_dir(format!("/proc/{}/fd", child.id())).is_ok_and(|mut open| {
+            open.any(|file| file.is_ok_and(|file| fs::read_link(file.path()).is_ok_and(|path| path.to_string_lossy().contains("deleted"))))
+        }),
+    };
+    while !ready() {
+        assert!(start.elapsed() < Duration::from_secs(20), "the output is made ready before the book is read");
+        std::thread::sleep(Duration::from_millis(5));
+    }
+    child
+}
