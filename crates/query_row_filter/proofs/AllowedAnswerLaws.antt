@@ -24,12 +24,12 @@ use Rattle.layout.specs.Header.{headerSays}
 use Rattle.layout.specs.HeaderSays.{header-refused}
 use Rattle.row_filter.specs.SelectedRows.{NextRowOutcome, firstSelected, nextSelected, outcomeAt, nextOutcome}
 use Rattle.row_filter.specs.SelectedRowLaws.{Next, no-more, next, next-of}
-use Rattle.row_filter.specs.RowAutomaton.{Automaton, Recognizes, scanBytes, finishScan}
+use Rattle.row_filter.specs.RowAutomaton.{Automaton, Recognizes, at-row, nothing, scanBytes, finishScan}
 use Rattle.row_filter.specs.RowAutomatonLaws.{result, scan-rows}
 use Rattle.query_row_filter.specs.declared.NextRowAnswer.{NextRowAnswer}
 use Rattle.query_row_filter.specs.declared.NextRowAnswer.the-variants.{Row, Nothing, Refused}
 use Rattle.query_row_filter.specs.declared.rows_after.RowsStart.the-variants as begins
-use Rattle.query_row_filter.specs.AllowedOutcome.{newlineRefusal, queryRefusal, FreeOutcome}
+use Rattle.query_row_filter.specs.AllowedOutcome.{newlineRefusal, queryRefusal, FoundFrom, FreeOutcome}
 use Rattle.query_row_filter.specs.AllowedAnswer.{outcomeOf, Numbered, AllowedAnswer}
 use Rattle.query_row_filter.specs.RowsAfter.{FromRow, answerOf, SearchFrom, StartFacts, BeginIs, limited}
 
@@ -73,7 +73,7 @@ module _ (t : List ℕ) (ok mark : ℕ) where
     unfolding newlineRefusal
     asked = rw counted
 
-    settles : (r : NextRowAnswer) → (ok ≡ 0 → outcomeOf mark r ≡ nextOutcome selected (rowsOf (textOf t)) mark) → FreeOutcome t mark (outcomeOf mark r)
+    settles : (r : NextRowAnswer) → (ok ≡ 0 → outcomeOf mark r ≡ nextOutcome selected (rowsOf (textOf t)) mark) → FreeOutcome t selected mark (outcomeOf mark r)
         → Numbered r → AllowedAnswer t ok (newlineRefusal t) selected mark r
     settles r a f n = record {
       says = record { asked = λ l. absurd (let x : ⊥ = omega (arith, asked) in x); accepted = λ z v. a v; free = λ z v. f };
@@ -134,20 +134,34 @@ module _ {S : Type 0} (m : Automaton S) (selected : List ℕ → Bool) (reads : 
       by (inl e) = e ∙ ap answerOf (scan-rows m selected reads (drop p (textOf t)) (mark + 1) (omega arith) ∙ ap (result selected (mark + 1)) (b .place-is v))
       by (inr e) = absurd (e .1 (sound v))
 
-  -- else
-  free-of : (x : NextRowAnswer) → FromRow (mark + 1) x → FreeOutcome t mark (outcomeOf mark (limited newlines x))
+  -- else: a row is found from p on
+  row-first : (q first n : ℕ) (c : Bool) → Row q ≡ answerOf (cond c (nothing n) (at-row first)) → q ≡ first
+  row-first q first n true e = absurd (let z : _≡_ {A = ℕ} 0 1 = cc in omega arith)
+  row-first q first n false e = cc
+
+  found-from : (q : ℕ) → Row q ≡ r → FoundFrom t selected mark q
+  found-from q e = record { start = p; start-in = b .place-in; row-is = by (s .settled) }
+    where
+      by : (r ≡ answerOf (finishScan m (scanBytes m (drop p (textOf t)) (m .start) (mark + 1)))) ⊎ ((r ≡ Refused 14) × (verdict t ≡ 0 → ⊥))
+          → q ≡ firstSelected selected (mark + 1) (rowsOf (drop p (textOf t)))
+      by (inl z) =
+          row-first q _ _ (eqb (firstSelected selected (mark + 1) (rowsOf (drop p (textOf t)))) 0)
+          (e ∙ z ∙ ap answerOf (scan-rows m selected reads (drop p (textOf t)) (mark + 1) (omega arith)))
+      by (inr z) = absurd (let y : Row q ≡ Refused 14 = e ∙ z .0 in let x : _≡_ {A = ℕ} 0 1 = cc in omega arith)
+
+  free-of : (x : NextRowAnswer) → x ≡ r → FromRow (mark + 1) x → FreeOutcome t selected mark (outcomeOf mark (limited newlines x))
   unfolding limited
-  free-of (Row q) h = by (ltb (newlines + 1) q) refl
+  free-of (Row q) is h = by (ltb (newlines + 1) q) refl
     where
-      by : (c : Bool) → ltb (newlines + 1) q ≡ c → FreeOutcome t mark (outcomeOf mark (cond c (Refused 14) (Row q)))
+      by : (c : Bool) → ltb (newlines + 1) q ≡ c → FreeOutcome t selected mark (outcomeOf mark (cond c (Refused 14) (Row q)))
       by true e = inl refl
-      by false e = inr (inr (refl, omega arith, omega (arith, ltb-false (newlines + 1) q e, b .total-is), refl))
-  free-of (Nothing k) h = by (ltb (newlines + 1) k) refl
+      by false e = inr (inr (refl, omega arith, omega (arith, ltb-false (newlines + 1) q e, b .total-is), refl, found-from q is))
+  free-of (Nothing k) is h = by (ltb (newlines + 1) k) refl
     where
-      by : (c : Bool) → ltb (newlines + 1) k ≡ c → FreeOutcome t mark (outcomeOf mark (cond c (Refused 14) (Nothing k)))
+      by : (c : Bool) → ltb (newlines + 1) k ≡ c → FreeOutcome t selected mark (outcomeOf mark (cond c (Refused 14) (Nothing k)))
       by true e = inl refl
       by false e = inr (inl (refl, refl, omega arith, inr (omega (arith, ltb-false (newlines + 1) k e, b .total-is))))
-  free-of (Refused n) h = inl (rw h)
+  free-of (Refused n) is h = inl (rw h)
 
   numbers : (x : NextRowAnswer) → FromRow (mark + 1) x → Numbered (limited newlines x)
   unfolding limited
@@ -192,4 +206,4 @@ module _ {S : Type 0} (m : Automaton S) (selected : List ℕ → Bool) (reads : 
   answer-found =
       settles t ok mark (b .counted) selected (limited newlines r)
       (λ v. ap (λ (x : NextRowAnswer). outcomeOf mark (limited newlines x)) (right v) ∙ shown-is v)
-      (free-of r (s .rows)) (numbers r (s .rows))
+      (free-of r refl (s .rows)) (numbers r (s .rows))

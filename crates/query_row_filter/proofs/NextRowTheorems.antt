@@ -239,7 +239,7 @@ module _ (t : List ℕ) (ok : ℕ) (sound : ok ≡ 0 → verdict t ≡ 0) (refus
         through : refusal ≡ 0
         through = let-through mark (Row n) a refl
 
-        free : FreeOutcome t mark (record { refusal = 0; row = n; mark = n }) → (mark < n) × (n ≤ maxRows t)
+        free : FreeOutcome t selected mark (record { refusal = 0; row = n; mark = n }) → (mark < n) × (n ≤ maxRows t)
         free (inl e) = absurd (let z : ⊥ = omega (arith, ap (λ (s : NextRowOutcome). s .refusal) e) in z)
         free (inr (inl h)) = absurd (let z : ⊥ = omega (arith, a .numbered, h .1) in z)
         free (inr (inr h)) = (h .1, h .2)
@@ -265,7 +265,7 @@ module _ (t : List ℕ) (ok : ℕ) (sound : ok ≡ 0 → verdict t ≡ 0) (refus
         said : NextRowOutcome
         said = nextOutcome selected (rowsOf (textOf t)) mark
 
-        free : FreeOutcome t mark (record { refusal = 0; row = 0; mark = m }) → (mark ≤ m) × ((m ≡ mark) ⊎ (m ≤ maxRows t))
+        free : FreeOutcome t selected mark (record { refusal = 0; row = 0; mark = m }) → (mark ≤ m) × ((m ≡ mark) ⊎ (m ≤ maxRows t))
         free (inl e) = absurd (let z : ⊥ = omega (arith, ap (λ (s : NextRowOutcome). s .refusal) e) in z)
         free (inr (inl h)) = (h .2, h .3)
         free (inr (inr h)) = absurd (let z : ⊥ = omega (arith, h .1) in z)
@@ -287,7 +287,7 @@ module _ (t : List ℕ) (ok : ℕ) (sound : ok ≡ 0 → verdict t ≡ 0) (refus
   unfolding nextOutcome
   refusal-is mark n a = go (lt-or-ge 0 refusal) (lt-or-ge 0 ok)
     where
-      free : FreeOutcome t mark (refusedAt n mark) → n ≡ 14
+      free : FreeOutcome t selected mark (refusedAt n mark) → n ≡ 14
       free (inl e) = ap (λ (s : NextRowOutcome). s .refusal) e
       free (inr (inl h)) = absurd (let z : ⊥ = omega (arith, a .numbered, h .0) in z)
       free (inr (inr h)) = absurd (let z : ⊥ = omega (arith, a .numbered, h .0) in z)
