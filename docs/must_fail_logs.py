@@ -31,10 +31,13 @@ FORMS = [
 
 
 def first_error(log):
-    """The first error of a log with the lines that go on with it; of a function without a proof file, what is not proved of it."""
-    found = re.search(r"^\S+:\d+:\d+: error: (.*?)(?=^\S+:\d+:\d+: |^note: |^(?:fn|struct|enum) |\Z)", log, re.M | re.S)
-    found = found or re.search(r"^note: \S+:\d+:\d+: (it is not proved .*)$", log, re.M)
-    return found[1] if found else ""
+    """What was refused first: the first error of a log with the lines that go on with it. A function without a proof file has no error of its own, only a
+    note of what is not proved of it, and what waits on it is not admitted: then the note is what was refused."""
+    error = re.search(r"^\S+:\d+:\d+: error: (.*?)(?=^\S+:\d+:\d+: |^note: |^(?:fn|struct|enum) |\Z)", log, re.M | re.S)
+    note = re.search(r"^note: \S+:\d+:\d+: (it is not proved .*)$", log, re.M)
+    if note and (not error or "was not admitted" in error[1]):
+        return note[1]
+    return error[1] if error else ""
 
 
 def shows_nothing(edit):
