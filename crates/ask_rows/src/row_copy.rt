@@ -38,7 +38,8 @@ fn copy(t: &[u8], h: Header, start: TextPlace, len: u32, buffer: &mut [u8]) -> R
 {
     let copied = read_by_header::copy(t, h, start, len, buffer);
     let Copied::Bytes(n, _) = copied else {
-        return RowCopied::Refused(copied_number(copied));
+        let number = copied_number(copied);
+        return RowCopied::Refused(number);
     };
     RowCopied::Bytes(n)
 }
