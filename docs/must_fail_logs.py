@@ -98,26 +98,32 @@ def known(name):
     return all(part in RELATIONS or part[:1].isupper() and part not in ("Post", "Learnt") for part in re.split(r" [→×⊎] ", name))
 
 
-def false_fact(error, contract):
-    """Whether a first error shows a fact that does not hold; `contract` gives the relation of a function's `ensures`."""
-    if re.search(LIMIT, error):
-        return False
-    if any(re.search(word, error, re.S) for word in REFUTED):
-        return True
-    terms = [pair for pair in re.findall(DIFFER, error, re.S) if not {relation(term) for term in pair} & RELATIONS]
-    if terms:
-        return all(one.replace(" .before", "").strip() != other.replace(" .before", "").strip() for one, other in terms)
+def relations(error, contract):
+    """The relation that was expected and the one that was found, if an error names two types; `contract` gives that of a function's `ensures`."""
     types = re.search(MISMATCH, error, re.S)
-    if not types:
-        return False
     names = []
-    for side, printed in zip(("expected", "found"), types.groups()):
+    for side, printed in zip(("expected", "found"), types.groups() if types else ()):
         name = relation(printed)
         if name in ("Post", "Learnt"):
             begins = re.search(rf"the {side} one begins `([^`]*)", error)
             name = relation(begins[1]) if begins else contract(printed.split()[0])
         names.append(name)
-    return names[0] == names[1] and known(names[0]) or names == ["<", "≤"]
+    return names
+
+
+def false_fact(error, contract):
+    """Whether a first error shows a fact that does not hold."""
+    if re.search(LIMIT, error):
+        return False
+    if any(re.search(word, error, re.S) for word in REFUTED):
+        return True
+    names = relations(error, contract)
+    if names and names[0] != names[1] and set(names) <= RELATIONS:
+        return names == ["<", "≤"]
+    terms = [pair for pair in re.findall(DIFFER, error, re.S) if not any(RELATIONS & set(relation(term).split()) for term in pair)]
+    if terms:
+        return all(one.replace(" .before", "").strip() != other.replace(" .before", "").strip() for one, other in terms)
+    return bool(names) and names[0] == names[1] and known(names[0])
 
 
 def ensures(copy, name):
@@ -125,9 +131,8 @@ def ensures(copy, name):
     crate, path = re.match(r"Rattle·(\w+)(?:·proofs)?\.proofs\.(.*)\.Reads\.\w+", name).groups()
     source = copy / "src" if f"Rattle·{crate}·" in name else ROOT / "crates" / crate / "src"
     *modules, function = path.split(".")
-    file = "/".join(part for part in modules if part[0].islower()) or "lib"
-    text = (source / f"{file}.rt").read_text()
-    head = re.search(rf"\bfn {function}\(.*?^\s*\{{$", text, re.M | re.S)
+    file = source / (("/".join(part for part in modules if part[0].islower()) or "lib") + ".rt")
+    head = re.search(rf"\bfn {function}\(.*?^\s*\{{$", file.read_text() if file.exists() else "", re.M | re.S)
     return " × ".join(relation(clause) for clause in re.findall(r"ensures \w*\s*\{[^⌜]*⌜(.*?)⌝", head[0] if head else "", re.S))
 
 
@@ -193,6 +198,10 @@ FORM_SAMPLES = [
     "  computed as far as it goes, the expected one begins `Path ℕ 0 (total (c .args .t .now)) × Path …`",
     "`span-at-spec`: expected type `Rattle.a.proofs.span_at.Reads.Post (c .κs) (..)`\n  but this has type `mathlib.Core.Path._≡_ (..) (..)`",
     "`copy-spec`: computed as far as they go, the two types differ only where one has `c .before .loop .i` (expected) and the other has `c .before .before .loop .i` (found)",
+    "`quotient-spec`: computed as far as they go, the two types differ only where one has `64 ≡ ?11 c` (expected) and the other has `64 ≤ c .args .b` (found)",
+    "`starts-spec`: computed as far as they go, the two types differ only where one has `x ≡ 0 → Prim.⊥` (expected) and the other has `suc y ≤ x` (found)",
+    "`rises-spec`: computed as far as they go, the two types differ only where one has `x` (expected) and the other has `suc x` (found)\n"
+    "  expected type `x ≤ getD s 1 0`\n  but this has type `Prim.Native.Nat._<_ (get 6 (..)) (..)`",
     "`copy-spec`: expected type `c .before .x …[90 bytes]…`, but this has type `c .before .y …[90 bytes]…`",
     "`copy-spec`: expected type `mathlib.Core.Path._≡_ (c .x) 0`, but this has type `mathlib.Core.Path._≡_ (get 7 …[90 bytes]…) 1 → Prim.⊥`",
 ]
