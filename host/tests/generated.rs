@@ -22,16 +22,27 @@ fn files_are_current() {
     folder.run("completion fish").status(2);
 }
 
+/// Runs a script of `docs/`, which must succeed.
+fn script_succeeds(script: &str, option: &str) {
+    let path = Path::new(env!("CARGO_MANIFEST_DIR")).join("../docs").join(script);
+    match Command::new("python3").arg(path).arg(option).output() {
+        Err(_) => println!("python3 is not installed: not tried"),
+        Ok(output) => assert!(output.status.success(), "{}", String::from_utf8_lossy(&output.stderr)),
+    }
+}
+
 /// The drawings and tables are those that their scripts make, what comments and documents cite is there, and the crates keep the habits.
 #[test]
 fn drawings_tables_citations_and_habits() {
-    for script in ["../docs/drawings/draw.py", "../docs/lines.py", "../docs/cited.py", "../docs/house.py"] {
-        let path = Path::new(env!("CARGO_MANIFEST_DIR")).join(script);
-        match Command::new("python3").arg(path).arg("--check").output() {
-            Err(_) => println!("python3 is not installed: not tried"),
-            Ok(output) => assert!(output.status.success(), "{}", String::from_utf8_lossy(&output.stderr)),
-        }
+    for script in ["drawings/draw.py", "lines.py", "cited.py", "house.py"] {
+        script_succeeds(script, "--check");
     }
+}
+
+/// The script that reads why must-fail edits were refused accepts samples of false facts, and no sample of a proof file that does not fit.
+#[test]
+fn first_errors_are_told_apart() {
+    script_succeeds("must_fail_logs.py", "--self-test");
 }
 
 /// Each command and option of the help is in the page and in both completions.

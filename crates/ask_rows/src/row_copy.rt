@@ -5,17 +5,14 @@ use crate::row_edges::Edges;
 use ask_access::Copied;
 use ask_access::read_by_header;
 use layout::header::Header;
-use layout::place::TextPlace;
 ghost use mathlib.Core.Path.{_≡_};
-ghost use Prim.Native.Nat.{_+_, _≤_};
-ghost use lib.ListN.{length};
-ghost use Rattle.format.specs.ReadSays.{copyLeaves};
 ghost use Rattle.layout.specs.HeaderSays.{HeaderOf};
 ghost use Rattle.ask_access.specs.ReadAnswers.{copiedSaid};
 ghost use Rattle.ask_rows.specs.RowAnswers.{RowAnswerBy};
-ghost use Rattle.ask_rows.specs.RowSpans.{CopyAnswer, settledBy};
+ghost use Rattle.ask_rows.specs.RowSpans.{settledBy};
 
-// Questions 11, 12, 13 and 14, those of the edges first; the edges are found by the guide if it is used.
+// Questions 11, 12, 13 and 14, those of the edges first; the edges are found by the guide if it is used. Where a path breaks in copying, its
+// number is passed on and the row's part of the buffer is left zero.
 pub fn row_at(t: &[u8], h: Header, guide: &[u8], used: bool, q: u32, buffer: &mut [u8]) -> RowCopied
     requires { ⌜ HeaderOf (now t) h ⌝ }
     ensures { λ r. ⌜ RowAnswerBy (now (t .entry)) (settledBy (now (t .entry)) (now (guide .entry)) used) q (now (buffer .entry)) r (now (buffer .exit)) ⌝ }
@@ -27,18 +24,10 @@ pub fn row_at(t: &[u8], h: Header, guide: &[u8], used: bool, q: u32, buffer: &mu
     if buffer.len() < len as usize {
         return RowCopied::Refused(13);
     }
-    copy(t, h, start, len, buffer)
-}
-
-// Copies a row's bytes by their paths; where one is refused, its number is passed on and the row's part of the buffer is left zero.
-fn copy(t: &[u8], h: Header, start: TextPlace, len: u32, buffer: &mut [u8]) -> RowCopied
-    requires { ⌜ (HeaderOf (now t) h) × (start .0 + len ≤ h .«text_length») × (len ≤ length (now buffer)) ⌝ }
-    ensures { λ r. ⌜ CopyAnswer (now (t .entry)) (start .0) len (length (now (buffer .entry))) r ⌝ }
-    ensures { λ _. ⌜ now (buffer .exit) ≡ copyLeaves (now (t .entry)) (start .0) len (now (buffer .entry)) ⌝ }
-{
     let copied = read_by_header::copy(t, h, start, len, buffer);
     let Copied::Bytes(n, _) = copied else {
-        return RowCopied::Refused(copied_number(copied));
+        let number = copied_number(copied);
+        return RowCopied::Refused(number);
     };
     RowCopied::Bytes(n)
 }

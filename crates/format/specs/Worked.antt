@@ -56,6 +56,20 @@ other-kinds = setWord (setWord (treeOf two book) 104 2) 136 2
 other-start : List ℕ
 other-start = setWord (treeOf two book) 100 18
 
+-- the book's tree with kind 2 in its pointing block, block 4 of level 0, and in block 0 of the last level
+pointing-two : List ℕ
+pointing-two = setWord (treeOf two book) 232 2
+
+leaf-two : List ℕ
+leaf-two = setWord (treeOf two book) 264 2
+
+-- the book with other bytes in the pointing block, and with another first byte
+other-end : List ℕ
+other-end = take 16 book ++ 87 ∷ 88 ∷ 89 ∷ 90 ∷ []
+
+other-first : List ℕ
+other-first = 90 ∷ drop 1 book
+
 -- the words of the records of level l
 words : Settings → List ℕ → ℕ → List ℕ
 words S T l = concat (tabulate (length (startsAt S T l)) (recordOf S T l (startsAt S T l)))
@@ -109,6 +123,9 @@ pub record Marked : Type 0 where
   kinds-unread : (spanned other-kinds 3 2 ≡ (said 0 2 2, 67 ∷ 68 ∷ 1 ∷ [])) × (byteSays other-kinds 3 ≡ said 14 0 0) × (byteSays other-kinds 4 ≡ said 14 0 0)
   kind-read : spanned other-kinds 0 2 ≡ (said 14 0 0, 0 ∷ 0 ∷ 1 ∷ [])
   start-unread : spanned other-start 3 2 ≡ (said 0 2 2, 67 ∷ 68 ∷ 1 ∷ [])
+  -- which texts fit: a block of kind 2 above the last level is not compared with its target's bytes, one of the last level is with its leaf bytes
+  kind-two : (blockFits other-end pointing-two 0 4 ≡ true) × (fits other-end pointing-two ≡ true) × (fits other-end (treeOf two book) ≡ false)
+  kind-two-last : (fits book leaf-two ≡ true) × (blockFits other-first leaf-two 1 0 ≡ false) × (fits other-first leaf-two ≡ false)
   -- longer than m; of no bytes; past the end; without room
   by-paths : spanned (treeOf two book) 0 3 ≡ (said 0 3 0, 81 ∷ 65 ∷ 66 ∷ [])
   no-bytes : spanned (treeOf two book) 20 0 ≡ (said 0 0 0, 1 ∷ 1 ∷ 1 ∷ [])
@@ -126,7 +143,7 @@ pub record Marked : Type 0 where
   blocks-too-large : (sizesOk (shape 256 8 7) ≡ false) × (sizesOk (shape 129 16 5) ≡ false) × (sizesOk (shape 256 16 5) ≡ false)
 
 pub marked : Marked
-unfolding shape spanned other-kinds other-start words older older-twelve abcd
+unfolding shape spanned other-kinds other-start pointing-two leaf-two other-end other-first words older older-twelve abcd
     said book two plain tabulate concat sumBelow countBelow allBelow sameList setWord wordAt wordsBytes wordBytes stretch leftmost firstFrom countIn
     placeOf placeIn blockLength pieces lengthOk sizesOk countedOk rising risingAfter treeOf header leafBytes levelPairs recordBytes recordLength edgesOf
     filledOut levelBytes recordIn recordOf target occurrence width isKept startsAt cut keptByPairs firstPairAt pairAt lengthOf startOf pathOf pathFrom
@@ -160,6 +177,8 @@ marked = record {
   kinds-unread = (refl, refl, refl);
   kind-read = refl;
   start-unread = refl;
+  kind-two = (refl, refl, refl);
+  kind-two-last = (refl, refl, refl);
   by-paths = refl;
   no-bytes = refl;
   past-end = refl;

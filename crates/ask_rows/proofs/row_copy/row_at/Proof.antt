@@ -25,11 +25,23 @@ row-at-spec =
     let edges = c .before .before .before .before .before .of-row .ensures .spans _ _ (c .before .before .before .found .given .1) in
     (header, omega (arith, edges .within, header .length-is), c .before .if1 .left))
     (λ c. search needs)
-    (λ c. let w = c .before .before .before .before .before .before in let edges = w .before .before .of-row .ensures .spans _ _ (w .found .given .1) in
-    let copied = c .before .before .copy .ensures in
+    (λ c. search needs)
+    (λ c κs. search needs)
+    (λ c. search needs)
+    (λ c. let k = c .before .before .before .before .before in let w = k .before .before .before .before in
+    let edges = w .before .before .of-row .ensures .spans _ _ (w .found .given .1) in
+    let passes = w .before .before .before .before .before .before .pre .passes in
+    let copied = laws.row-passed _ _ _ _ _ (k .copy .ensures .0) _ _ (c .before .enum-told2 .given .1) (c .copied-number .ensures) in
     record {
-      says = laws.row-spans _ _ (edge.settled-sound _ _ _)
-          _ _ _ _ _ _ (c .before .before .before .before .before .before .before .before .before .before .before .before .pre .passes)
-          edges (copied .0 .says) (copied .1);
-      numbered = copied .0 .numbered;
+      says = laws.row-spans _ _ (edge.settled-sound _ _ _) _ _ _ _ _ _ passes edges (copied .says) (k .copy .ensures .1);
+      numbered = copied .numbered;
+    })
+    (λ c. search needs)
+    (λ c. let k = c .before .before .before .before .before in let w = k .before .before .before .before in
+    let edges = w .before .before .of-row .ensures .spans _ _ (w .found .given .1) in
+    let passes = w .before .before .before .before .before .before .pre .passes in
+    let copied = laws.row-bytes _ _ _ _ _ (k .copy .ensures .0) _ _ (c .before .copied .given .1) in
+    record {
+      says = laws.row-spans _ _ (edge.settled-sound _ _ _) _ _ _ _ _ _ passes edges (copied .says) (k .copy .ensures .1);
+      numbered = copied .numbered;
     }))
