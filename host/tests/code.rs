@@ -5,7 +5,7 @@ mod folder;
 
 use folder::Folder;
 
-const USAGE: &str = "usage: codebook code CODE [TREE]... [--prefix] [--guide GUIDE] [--json] [--unchecked]";
+const USAGE: &str = "usage: codebook code CODE [TREE]... [--prefix] [--guide GUIDE] [--json] [--unchecked] [--any-day] [--today DAY]";
 
 /// What is printed for these rows of the book in `tree`.
 fn lines(folder: &Folder, tree: &str, rows: &[usize]) -> String {
@@ -107,7 +107,7 @@ fn objects() {
     folder.run("code CH0502 small.tree --json").succeeds().prints(&with).says("");
 }
 
-/// The manifest beside a tree is shown; one that is malformed is told, and the rows are printed all the same.
+/// The manifest beside a tree is shown; one that is malformed is refused.
 #[test]
 fn manifests() {
     let folder = Folder::with_tree("manifest");
@@ -119,8 +119,9 @@ fn manifests() {
         folder.write("small.tree.json", manifest.as_bytes());
         folder.run("code CH0502 small.tree").succeeds().prints(&shown(known)).says("");
     }
-    folder.write("small.tree.json", b"{\"size\":3}");
+    folder.write("small.tree.json", b"{\"length\":2800}");
     folder.run("code CH0502 small.tree").succeeds().prints(&plain).says("");
+    // the manifest may have the term of a licence: one that is malformed is refused, and any day will do without it
     let long = [b"{".as_slice(), &[b' '; 65_536]].concat();
     for (manifest, wrong) in [
         (b"".as_slice(), "a value is expected at byte 0, in line 1"),
@@ -130,12 +131,15 @@ fn manifests() {
         (&[b'['; 65_536], "it is nested more than 32 deep"),
     ] {
         folder.write("small.tree.json", manifest);
+        folder.run("code CH0502 small.tree").status(1).prints("").says(&format!("codebook: small.tree.json: malformed manifest: {wrong}\n"));
         let says = format!("codebook: small.tree.json: warning: the manifest is not used: {wrong}\n");
-        folder.run("code CH0502 small.tree").succeeds().prints(&plain).says(&says);
-        folder.run("code CH0502 small.tree -q").succeeds().prints(&plain).says("");
+        folder.run("code CH0502 small.tree --any-day").succeeds().prints(&plain).says(&says);
+        folder.run("code CH0502 small.tree --any-day -q").succeeds().prints(&plain).says("");
     }
     std::fs::remove_file(folder.0.join("small.tree.json")).expect("a file");
     std::fs::create_dir(folder.0.join("small.tree.json")).expect("a folder");
+    let says = "codebook: small.tree.json: cannot be read: Is a directory (os error 21)\n";
+    folder.run("code CH0502 small.tree").status(2).prints("").says(says);
     let says = "codebook: small.tree.json: warning: the manifest is not used: Is a directory (os error 21)\n";
-    folder.run("code CH0502 small.tree").succeeds().prints(&plain).says(says);
+    folder.run("code CH0502 small.tree --any-day").succeeds().prints(&plain).says(says);
 }

@@ -17,7 +17,7 @@ fn objects(lines: &str) -> Vec<Json> {
     objects
 }
 
-/// A folder with a book, its tree and guide, a tree by columns and one that is damaged.
+/// A folder with a book, its tree and guide, a tree by columns, one that is damaged and one that is closed.
 fn shelf(name: &str) -> Folder {
     let folder = Folder::with_tree(name);
     folder.run("guide make small.tree -q -o small.guide").succeeds();
@@ -26,18 +26,28 @@ fn shelf(name: &str) -> Folder {
     let mut damaged = folder.read("small.tree");
     damaged[104] = 2;
     folder.write("damaged.tree", &damaged);
+    folder.run("build small.txt -q -o closed.tree --first 2000-01-01 --last 2000-12-31").succeeds();
     folder.write("maker.txt", b"CH0501 444220\nNEW 1\n");
     folder.write("maker.csv", b"Code;Cuts\nCH0501;444224\nCH 502;444225\n");
     folder.write("small.tree.json", b"{\"maker\":\"Ilko\",\"edition\":\"3\"}");
+    folder.write("sums", folder.run("check --sums small.tree columns.tree").succeeds().printed().as_bytes());
+    std::fs::create_dir(folder.0.join("trees")).expect("a folder");
     folder
 }
 
 /// A call of each command that succeeds.
-const CALLS: [&str; 50] = [
+const CALLS: [&str; 57] = [
     "build small.txt -f -o new.tree",
     "build small.txt -f -q -o new.tree",
     "build small.txt -f -o new.tree --columns 14 --allow-larger",
     "build small.txt -f -o new.tree --small",
+    "build small.txt -f -o licensed.tree --maker Ilko --edition 3 --first 2000-01-01 --last 2099-12-31",
+    "build small.txt maker.txt -f -o trees -j 2",
+    "guide make licensed.tree -f -o licensed.guide",
+    "check licensed.tree",
+    "check -c sums",
+    "stats licensed.tree",
+    "slim licensed.tree -f -o new.tree",
     "slim small.tree -f -o new.tree",
     "slim small.tree -f -q -o new.tree",
     "import maker.csv -f --lenient -o new.txt",
@@ -133,10 +143,10 @@ fn bytes_on_standard_output() {
     folder.write("turned.csv", &folder.read("small.txt").iter().map(|&byte| if byte == b' ' { b';' } else { byte }).collect::<Vec<u8>>());
     for (call, bytes) in [
         ("build small.txt -o - --json -q", "small.tree"),
-        ("guide make small.tree --json", "small.guide"),
+        ("guide make small.tree --json -q", "small.guide"),
         ("to-columns 14 small.txt --json", "turned.txt"),
         ("from-columns 14 turned.txt --json", "small.txt"),
-        ("slim small.tree -o - --json", "small.small.tree"),
+        ("slim small.tree -o - --json -q", "small.small.tree"),
         ("import turned.csv --json", "small.txt"),
     ] {
         let done = folder.run(call);
@@ -149,7 +159,7 @@ fn bytes_on_standard_output() {
 }
 
 /// Refused trees and questions, files that are not there, and calls that are wrong.
-const FAILURES: [&str; 28] = [
+const FAILURES: [&str; 31] = [
     "build none.txt",
     "build small.txt -o small.tree",
     "slim damaged.tree",
@@ -160,6 +170,9 @@ const FAILURES: [&str; 28] = [
     "code HON1012 none.tree",
     "check damaged.tree",
     "check none.tree",
+    "check -c small.txt",
+    "row 1 closed.tree",
+    "build small.txt --first 2024-01-01",
     "verify small.txt columns.tree",
     "list damaged.tree",
     "row 0 small.tree",

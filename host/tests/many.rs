@@ -23,7 +23,8 @@ const NONE: &str = "cannot be read: No such file or directory (os error 2)";
 fn builds() {
     let folder = shelf("many-builds");
     let done = folder.run("build small.txt none.txt late.txt --force");
-    assert_eq!(done.status(2).printed().lines().map(|line| line.split(':').next().unwrap_or("")).collect::<Vec<_>>(), ["small.tree", "late.tree"]);
+    let printed = done.status(2).printed();
+    assert_eq!(printed.lines().take(2).map(|line| line.split(':').next().unwrap_or("")).collect::<Vec<_>>(), ["small.tree", "late.tree"]);
     assert!(done.errors().contains(&format!("codebook: none.txt: {NONE}\n")));
     // a tree that is there is told, and the others are built
     folder.write("more.txt", b"E 1\n");

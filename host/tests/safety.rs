@@ -290,7 +290,7 @@ fn a_tree_from_another_builder() {
     // every block kept, though one could point
     folder.write("kept.txt", b"QABCDABCDEFGABCDABCD");
     folder.write("kept.tree", include_bytes!("../../conformance/good/cases-KEEPALL-70.tree"));
-    folder.run("verify kept.txt kept.tree").succeeds().prints("kept.tree: a good tree, though not the one that build makes, of kept.txt, 20 bytes\n");
+    folder.run("verify kept.txt kept.tree").succeeds().prints("kept.tree: valid tree, though not the one that build makes, of kept.txt, 20 bytes\n");
 }
 
 #[test]
@@ -317,7 +317,7 @@ fn digests() {
     // one digest for the other
     folder.run(&format!("check --text-sha256 {tree} small.tree")).status(1);
     for option in ["--sha256", "--text-sha256"] {
-        let usage = "\nusage: codebook check [TREE]... [--sha256 HEX] [--text-sha256 HEX] [--json]\n";
+        let usage = "\nusage: codebook check [TREE]... [--sha256 HEX] [--text-sha256 HEX] [--sums] [-c LIST] [--json]\n";
         for word in [&wrong[1..], &format!("{}g", &wrong[1..]), &format!("{wrong}0")] {
             let says = format!("codebook: {option} is 64 hexadecimal digits, not '{word}'{usage}");
             folder.run(&format!("check {option} {word} small.tree")).status(2).prints("").says(&says);

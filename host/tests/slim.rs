@@ -95,7 +95,7 @@ fn builds_small_trees() {
     let built = Tree::checked(&tree).expect("a good tree");
     assert_eq!((built.layout(), built.text().as_deref()), (1, Ok(&folder.read("book.txt")[..])));
     assert!(report.contains(&format!("since its tree is the smallest of these {}\n", codebook::SMALL_LIST.len())), "{report}");
-    assert!(report.contains("; bytes counted: 10; without edges\n"), "{report}");
+    assert!(report.contains("; bytes counted: 0x0a; without edges\n"), "{report}");
     // each candidate's size is that of its tree, computed or built, and the chosen one is the smallest
     let lines = report.lines().skip(2).take(codebook::SMALL_LIST.len());
     let printed: Vec<usize> = lines.map(|line| line.split_whitespace().last().expect("a size").replace(',', "").parse().expect("a number")).collect();

@@ -28,7 +28,7 @@ leaf  arity  levels  tree's bytes
   16      4       4         6,256
 chosen: leaf 24, arity 8, levels 3, since its tree is the smallest of these 6
 ";
-    let ending = "5,884 bytes, 210.1 % of the text; leaf 24, arity 8, levels 3; bytes counted: 10\n\
+    let ending = "5,884 bytes, 210.1 % of the text; leaf 24, arity 8, levels 3; bytes counted: 0x0a\n\
                   SHA-256 of the tree 52b68fb8c050a721ad41325cbab54baa513f37c762b2e90bffd1283ca2b82927\n\
                   SHA-256 of its text e913aa0d736292973c8ab01c65bd84ff6524fb868d54c9621602942b5dfceb6e\n";
     let warning = |book: &str| {
@@ -53,7 +53,7 @@ fn builds_with_given_settings() {
     folder.run("row 1 small.tree").status(1).says(&format!("codebook: small.tree: row 1: {uncounted}\n"));
     folder.run("build small.txt -o two.tree --leaf 16 --arity 4 --levels 2 --count \\n,C").succeeds();
     let done = folder.run("build small.txt --output large.tree --leaf 1 --arity 2 --levels 1");
-    let sizes = "large.tree: 86,900 bytes, 3103.6 % of the text; leaf 1, arity 2, levels 1; bytes counted: 10\n";
+    let sizes = "large.tree: 86,900 bytes, 3103.6 % of the text; leaf 1, arity 2, levels 1; bytes counted: 0x0a\n";
     assert_eq!(before_digest(done.succeeds()), format!("small.txt: 2,800 bytes\n{sizes}"));
     folder.run("find C 41 two.tree").succeeds().prints("728 (3 blocks entered)\n");
     // named after the book, or into a folder
@@ -159,7 +159,7 @@ fn places_that_are_refused() {
     folder.write("kind.tree", &tree);
     let path = "refused (14): the tree is damaged: the way to a byte breaks off, or a count comes out below zero";
     folder.run("places CH0502 kind.tree --unchecked").status(1).prints("").says(&format!("codebook: kind.tree: places: {path}\n"));
-    let usage = "usage: codebook places TEXT [TREE] [--json] [--unchecked]";
+    let usage = "usage: codebook places TEXT [TREE] [--json] [--unchecked] [--any-day] [--today DAY]";
     folder.run("places").status(2).says(&format!("codebook: TEXT is missing\n{usage}\n"));
     for (pattern, given) in [("CH\\", "\\"), ("CH\\q", "\\q"), ("\\x4", "\\x4"), ("\\x+4", "\\x+4"), ("\\xg0AB", "\\xg0")] {
         let escapes = format!("a backslash begins \\n, \\r, \\t, \\\\ or \\xHH, a byte in hexadecimal, not '{given}'");
@@ -200,11 +200,11 @@ fn matches_that_are_refused() {
     let uncounted = "refused (11): the tree does not count byte 10, which ends a row; build must count it";
     folder.run("match 444224 none.tree").status(1).says(&format!("codebook: none.tree: match: {uncounted}\n"));
     folder.run("worn 53 33 small.tree").status(1).says(&format!("codebook: small.tree: match: refused (19): {above}\n"));
-    let usage = "usage: codebook worn LOWS HIGHS [TREE] [--from ROW] [--after ROW] [--json] [--unchecked]";
+    let usage = "usage: codebook worn LOWS HIGHS [TREE] [--from ROW] [--after ROW] [--json] [--unchecked] [--any-day] [--today DAY]";
     folder.run("worn 12 123 small.tree").status(2).says(&format!("codebook: LOWS and HIGHS have a digit for each cut; they have 2 and 3\n{usage}\n"));
     folder.run("worn 12 1x small.tree").status(2).says(&format!("codebook: HIGHS has a digit for each cut, not '1x'\n{usage}\n"));
     folder.run("worn 1 1 --from 1 --after 1").status(2).says(&format!("codebook: --from and --after do not go together\n{usage}\n"));
-    let usage = "usage: codebook match CUTS [TREE] [--from ROW] [--after ROW] [--json] [--unchecked]";
+    let usage = "usage: codebook match CUTS [TREE] [--from ROW] [--after ROW] [--json] [--unchecked] [--any-day] [--today DAY]";
     folder.run("match").status(2).says(&format!("codebook: CUTS is missing\n{usage}\n"));
     for (cuts, rest) in [("44x", "x"), ("4[35]", "[35]"), ("3-", "-"), ("4[1-2", "[1-2")] {
         let says = format!("codebook: a cut is a depth from 0 to 9, a range such as [3-5], or ?, not '{rest}'\n{usage}\n");
@@ -226,7 +226,7 @@ leaf  arity  levels  tree's bytes
   24      8       3        13,084
   16      4       4        16,348
 chosen: leaf 256, arity 2, levels 1, since its tree is the smallest of these 6
-columns.tree: 8,840 bytes, 315.7 % of the text; leaf 256, arity 2, levels 1; bytes counted: 10
+columns.tree: 8,840 bytes, 315.7 % of the text; leaf 256, arity 2, levels 1; bytes counted: 0x0a
 ";
     let compared = "by columns 8,840 bytes, by rows 5,884 (leaf 24, arity 8, levels 3): columns do not make it smaller\n";
     let built = folder.run("build small.txt -o columns.tree --columns auto --allow-larger");
@@ -304,7 +304,7 @@ fn by_columns_that_is_refused() {
 fn guides() {
     let folder = Folder::with_tree("guides");
     folder.run("guide make small.tree -o small.guide").succeeds().prints("small.tree: a guide of 4 entries to small.guide\n").says("");
-    folder.run("guide check small.guide small.tree").succeeds().prints("small.tree: a good tree, and small.guide is its guide\n");
+    folder.run("guide check small.guide small.tree").succeeds().prints("small.tree: valid tree, and small.guide is its guide\n");
     assert_eq!(folder.run("guide make small.tree").output.stdout, folder.read("small.guide"));
     let row = "HON1012 52162\n";
     folder.run("row 120 small.tree --guide small.guide").succeeds().prints(row);
@@ -458,7 +458,7 @@ fn book_without_rows() {
     let folder = Folder::new("empty");
     folder.write("empty.txt", b"");
     let built = folder.run("build empty.txt -o empty.tree --leaf 2 --arity 2 --levels 2");
-    let sizes = "empty.txt: 0 bytes\nempty.tree: 100 bytes, an empty text; leaf 2, arity 2, levels 2; bytes counted: 10\n";
+    let sizes = "empty.txt: 0 bytes\nempty.tree: 100 bytes, an empty text; leaf 2, arity 2, levels 2; bytes counted: 0x0a\n";
     assert_eq!(before_digest(built.succeeds()), sizes);
     assert!(folder.run("check empty.tree").succeeds().printed().starts_with("empty.tree: valid tree of 0 bytes of text; "));
     folder.run("list empty.tree").succeeds().prints("0 0 0 0\n1 0 0 0\n");
@@ -525,24 +525,30 @@ fn calls_that_are_not_right() {
     usage("", "no command given; see codebook --help");
     usage("--quiet stats x", "'--quiet' stands before the command; options stand after it; see codebook --help");
     usage("print small.tree", "there is no command 'print'; see codebook --help");
-    let row = "usage: codebook row ROWS [TREE] [--guide GUIDE] [--columns W] [--json] [--unchecked]";
+    let row = "usage: codebook row ROWS [TREE] [--guide GUIDE] [--columns W] [--json] [--unchecked] [--any-day] [--today DAY]";
     usage("row", &format!("ROWS is missing\n{row}"));
     usage("row one small.tree", &format!("ROWS is a row's number, or a range such as 5..20, not 'one'\n{row}"));
     usage("row 4294967296 x", &format!("ROWS is a row's number, or a range such as 5..20, not '4294967296'\n{row}"));
     usage("row -1 small.tree", &format!("rows go from 1; -1 is negative\n{row}"));
     usage("row 20..5 x", &format!("20..5: row 20 stands after row 5\n{row}"));
-    let byte = "usage: codebook byte PLACE [TREE] [--json] [--unchecked]";
+    let byte = "usage: codebook byte PLACE [TREE] [--json] [--unchecked] [--any-day] [--today DAY]";
     usage("byte -14 x", &format!("PLACE is a number from 0 to 4294967295; -14 is negative\n{byte}"));
     usage("byte 1 a.tree b.tree", &format!("unexpected argument 'b.tree'\n{byte}"));
-    usage("check --all", "there is no option '--all'\nusage: codebook check [TREE]... [--sha256 HEX] [--text-sha256 HEX] [--json]");
-    usage("check --json=1", "--json has no value; given: '1'\nusage: codebook check [TREE]... [--sha256 HEX] [--text-sha256 HEX] [--json]");
-    usage("text -x", "there is no option '-x'\nusage: codebook text [TREE] [--json] [--unchecked]");
-    let count = "usage: codebook count BYTE LENGTH [TREE] [--json] [--unchecked]";
+    usage(
+        "check --all",
+        "there is no option '--all'\nusage: codebook check [TREE]... [--sha256 HEX] [--text-sha256 HEX] [--sums] [-c LIST] [--json]",
+    );
+    usage(
+        "check --json=1",
+        "--json has no value; given: '1'\nusage: codebook check [TREE]... [--sha256 HEX] [--text-sha256 HEX] [--sums] [-c LIST] [--json]",
+    );
+    usage("text -x", "there is no option '-x'\nusage: codebook text [TREE] [--json] [--unchecked] [--any-day] [--today DAY]");
+    let count = "usage: codebook count BYTE LENGTH [TREE] [--json] [--unchecked] [--any-day] [--today DAY]";
     let byte = "a byte is one character, 0x00 to 0xff, \\n, \\r, \\t, \\\\ or \\xHH";
     usage("count 256 4 x", &format!("{byte}, not '256'\n{count}"));
     usage("count 10 4 x", &format!("{byte}, not '10'; byte 10 is 0x0a\n{count}"));
     usage("count -1 4 x", &format!("{byte}, not '-1'\n{count}"));
-    let build = "usage: codebook build [BOOK]... [-o FILE] [-f] [--keep-time] [--small] [--leaf M] [--arity R] [--levels H] [--count BYTES] [--columns W] [--allow-larger] [--json]";
+    let build = "usage: codebook build [BOOK]... [-o FILE] [-f] [--keep-time] [--small] [--leaf M] [--arity R] [--levels H] [--count BYTES] [--columns W] [--allow-larger] [--maker NAME] [--edition NAME] [--first DAY] [--last DAY] [-j N] [--json]";
     usage("build small.txt -o", &format!("-o needs a value\n{build}"));
     usage("build --leaf 64", &format!("--leaf, --arity and --levels go together: give all three, or none to have a short list tried\n{build}"));
     usage("build -o .", &format!("-o is a file where standard input is read\n{build}"));

@@ -1,24 +1,22 @@
 //! `build`: the trees of books.
 
+use crate::beside::{self, Beside};
+use crate::book::Warning;
+use crate::day::Term;
 use crate::given::Given;
 use crate::input::{Identity, Input, Source, TEXT};
-use crate::json::Object;
+use crate::manifest::{Digests, Figures, Manifest};
 use crate::output::Output;
-use crate::say::{self, grouped};
-use crate::stats;
-use crate::table::{ALLOW_LARGER, ARITY, COLUMNS, COUNT, FORCE, LEAF, LEVELS, OUTPUT, SMALL};
-use crate::trials::{self, Chosen, Request, Trial};
-use crate::{book, by_columns, reasons, values, Failure};
-use codebook::{digest_text, Digest, Refusal, Settings, Tree};
+use crate::report::Report;
+use crate::table::{Opt, ALLOW_LARGER, ARITY, COLUMNS, COUNT, EDITION, FIRST, FORCE, JOBS, LAST, LEAF, LEVELS, MAKER, OUTPUT, SMALL};
+use crate::trials::{self, Chosen, Request};
+use crate::values::{self, Width};
+use crate::{batch, book, by_columns, reasons, say, stats, Failure};
+use codebook::{Refusal, Settings, Tree};
 use std::ffi::OsString;
 use std::fs;
 use std::path::{Path, PathBuf};
-
-/// The SHA-256 of a tree, and that of its text.
-struct Digests {
-    tree: Digest,
-    text: Digest,
-}
+use std::thread;
 
 /// What was built, and what there is to say of it.
 pub struct Built {
@@ -31,27 +29,128 @@ pub struct Built {
     pub small: Option<usize>,
 }
 
+/// What a call asks of each of its books.
+pub struct Order {
+    pub request: Request,
+    pub width: Option<Width>,
+    /// What the call says of its books; none where no manifest is asked for.
+    pub described: Option<Manifest>,
+}
+
+/// A book's tree, built and written to a file that has no name yet.
+pub struct Made {
+    pub report: Report,
+    output: Output,
+    manifest: Option<Output>,
+}
+
 pub fn build(given: &Given) -> Result<(), Failure> {
-    let counted = counted(given)?;
+    let (counted, jobs) = (counted(given)?, jobs(given)?);
     let settings = settings(given, &counted)?;
-    let request = Request { settings, counted, small: given.has(&SMALL), quiet: given.quiet() };
-    apart(given, &TREES)?;
-    given.each(|path| {
-        let source = Source::open(path)?;
-        let output = Output::create(target(given, path, &TREES)?.as_deref(), given.has(&FORCE), &source)?.timed(given, &source)?;
-        let text = source.read(&TEXT)?;
-        let built = match given.value(&COLUMNS) {
-            None => plain(&text, &request)?,
-            Some(width) => by_columns::build(&text, &request, given.reading(values::width("--columns", width))?)?,
-        };
-        match &built.besides {
-            Some(compared) if compared.is_larger(built.chosen.tree.len()) && !given.has(&ALLOW_LARGER) => {
-                let words = format!("{}; it is not written; --allow-larger writes it", compared.words(built.chosen.tree.len()).trim_end());
-                Err(Failure::refused(&text.name, words))
-            }
-            _ => write(given, &text, &built, output),
+    let width = given.value(&COLUMNS).map(|width| given.reading(values::width("--columns", width))).transpose()?;
+    if width.is_none() && given.has(&ALLOW_LARGER) {
+        return Err(given.usage("--allow-larger is of use with --columns alone"));
+    }
+    let request = Request { settings, counted, small: given.has(&SMALL), quiet: given.quiet(), silent: false, jobs };
+    let order = Order { request, width, described: described(given)? };
+    apart(given, &TREES, order.described.is_some())?;
+    match given.words.len() {
+        0 | 1 => one(given, &order),
+        _ => batch::build(given, order, jobs),
+    }
+}
+
+/// How many threads build at a time: as many as there are processors, unless told otherwise.
+fn jobs(given: &Given) -> Result<usize, Failure> {
+    match given.number(&JOBS)? {
+        Some(0) => Err(given.usage("-j is how many threads build at a time, 1 or more, not 0")),
+        Some(jobs) => Ok(jobs as usize),
+        None => Ok(thread::available_parallelism().map_or(1, usize::from)),
+    }
+}
+
+/// What the call says of its books.
+fn described(given: &Given) -> Result<Option<Manifest>, Failure> {
+    if ![&MAKER, &EDITION, &FIRST, &LAST].into_iter().any(|option| given.has(option)) {
+        return Ok(None);
+    }
+    let text = |option: &Opt| match given.value(option).map(|value| (value, value.to_str())) {
+        Some((value, None)) => Err(given.usage(format!("{} is UTF-8, not '{}'", option.long, value.to_string_lossy()))),
+        value => Ok(value.and_then(|(_, text)| text).map(str::to_owned)),
+    };
+    let day = |option: &Opt| given.value(option).map(|word| given.day(option, word)).transpose();
+    let manifest = Manifest { maker: text(&MAKER)?, edition: text(&EDITION)?, first: day(&FIRST)?, last: day(&LAST)?, ..Manifest::default() };
+    match (manifest.first.is_some() == manifest.last.is_some(), manifest.term()) {
+        (false, _) => Err(given.usage("--first and --last go together: a term has both")),
+        (_, Some(term @ Term { first, last })) if term.is_open(first).is_err() => {
+            Err(given.usage(format!("--last {last} is before --first {first}")))
         }
-    })
+        _ if manifest.line().len() > beside::MOST_DESCRIBED => Err(given.usage("--maker and --edition are too long for a manifest")),
+        _ => Ok(Some(manifest)),
+    }
+}
+
+fn one(given: &Given, order: &Order) -> Result<(), Failure> {
+    let made = make(given, order, given.file(0))?;
+    let standard = made.output.is_standard();
+    let report = made.write()?;
+    if given.json() || !given.quiet() {
+        let text = if given.json() { report.object().line() } else { report.whole() };
+        say::to(standard, &text)?;
+    }
+    let warnings: Vec<(String, Warning)> = report.warnings.into_iter().map(|warning| (report.book.clone(), warning)).collect();
+    book::lines(&warnings).iter().filter(|_| !given.quiet()).for_each(|line| say::tell(line));
+    Ok(())
+}
+
+/// Build the tree of a book. Its file and its manifest's are made ready first, so that a place that cannot be written is told before the work.
+pub fn make(given: &Given, order: &Order, path: Option<&Path>) -> Result<Made, Failure> {
+    let source = Source::open(path)?;
+    let target = target(given, path, &TREES)?;
+    let mut output = Output::create(target.as_deref(), given.has(&FORCE), &source)?.timed(given, &source)?;
+    let beside = order.described.as_ref().map(|_| output.beside(&beside::path(target.as_deref().unwrap_or(Path::new("-"))), given, &source));
+    let beside = beside.transpose()?;
+    let text = source.read(&TEXT)?;
+    let built = match order.width {
+        None => plain(&text, &order.request)?,
+        Some(width) => by_columns::build(&text, &order.request, width)?,
+    };
+    not_larger(given, &text, &built)?;
+    let tree = Tree::unchecked(&built.chosen.tree);
+    let refused = |refusal: Refusal| Failure::library(&output.name, refusal, refusal.to_string());
+    if let (None, Some(target)) = (&beside, &target) {
+        Beside::not_left(target, tree, &built.chosen.tree)?;
+    }
+    let wanted = given.json() || !given.quiet() || beside.is_some();
+    let digests = wanted.then(|| Digests::of(tree, &built.chosen.tree)).transpose().map_err(refused)?;
+    let manifest = beside.zip(order.described.clone()).map(|(mut output, manifest)| {
+        let columns = built.besides.as_ref().map(|compared| compared.width.into());
+        output.fill(Manifest { figures: Figures::of(tree, digests.as_ref()), columns, ..manifest }.line().as_bytes())?;
+        Ok(output)
+    });
+    let manifest = manifest.transpose()?;
+    output.fill(&built.chosen.tree)?;
+    let report = Report::of(&text, built, digests, &output.name, manifest.as_ref().map(|output| output.name.clone()));
+    Ok(Made { report, output, manifest })
+}
+
+impl Made {
+    /// The tree and its manifest take their names.
+    pub fn write(self) -> Result<Report, Failure> {
+        self.output.finish(self.manifest)?;
+        Ok(self.report)
+    }
+}
+
+/// A failure where the tree by rows is smaller than that by columns, unless that is meant.
+fn not_larger(given: &Given, text: &Input, built: &Built) -> Result<(), Failure> {
+    match &built.besides {
+        Some(compared) if compared.is_larger(built.chosen.tree.len()) && !given.has(&ALLOW_LARGER) => {
+            let words = compared.words(built.chosen.tree.len());
+            Err(Failure::refused(&text.name, format!("{}; it is not written; --allow-larger writes it", words.trim_end())))
+        }
+        _ => Ok(()),
+    }
 }
 
 /// How a file that is written is named after the one that is read: its ending is put in place of one of `replaced`, else after the whole name, of which
@@ -75,26 +174,29 @@ impl Naming {
 }
 
 /// The names of books' trees.
-const TREES: Naming = Naming { replaced: &["txt", "csv"], ending: "tree" };
+pub const TREES: Naming = Naming { replaced: &["txt", "csv"], ending: "tree" };
 
-/// Several books or trees go to several files.
-pub fn apart(given: &Given, naming: &Naming) -> Result<(), Failure> {
+/// Several books or trees go to several files, and so do their manifests.
+pub fn apart(given: &Given, naming: &Naming, manifests: bool) -> Result<(), Failure> {
     if let Some(path) = given.path(&OUTPUT).filter(|path| given.words.len() > 1 && !path.is_dir()) {
         return Err(given.usage(format!("several files need a folder after -o, and '{}' is none", path.display())));
     }
     let mut targets: Vec<(PathBuf, &OsString)> = Vec::new();
     for book in &given.words {
         let Some(target) = target(given, Some(Path::new(book)), naming)? else { continue };
-        if let Some(read) = given.words.iter().find(|read| *read != book && same_file(Path::new(read), &target)) {
-            let (read, book) = (read.to_string_lossy(), book.to_string_lossy());
-            return Err(given.usage(format!("{read} is read, and what is made of {book} would be written to it")));
+        let manifest = manifests.then(|| beside::path(&target));
+        for target in [target].into_iter().chain(manifest) {
+            if let Some(read) = given.words.iter().find(|read| *read != book && same_file(Path::new(read), &target)) {
+                let (read, book) = (read.to_string_lossy(), book.to_string_lossy());
+                return Err(given.usage(format!("{read} is read, and what is made of {book} would be written to it")));
+            }
+            let target = spelled_out(&target);
+            if let Some((_, other)) = targets.iter().find(|(path, _)| *path == target) {
+                let (one, other) = (other.to_string_lossy(), book.to_string_lossy());
+                return Err(given.usage(format!("{one} and {other} would both be written to {}", target.display())));
+            }
+            targets.push((target, book));
         }
-        let target = spelled_out(&target);
-        if let Some((_, other)) = targets.iter().find(|(path, _)| *path == target) {
-            let (one, other) = (other.to_string_lossy(), book.to_string_lossy());
-            return Err(given.usage(format!("{one} and {other} would both be written to {}", target.display())));
-        }
-        targets.push((target, book));
     }
     Ok(())
 }
@@ -106,7 +208,7 @@ fn same_file(one: &Path, other: &Path) -> bool {
 }
 
 /// One spelling for one place.
-fn spelled_out(path: &Path) -> PathBuf {
+pub fn spelled_out(path: &Path) -> PathBuf {
     let folder = path.parent().filter(|folder| !folder.as_os_str().is_empty()).unwrap_or(Path::new("."));
     folder.canonicalize().map_or(path.to_path_buf(), |folder| folder.join(path.file_name().unwrap_or_default()))
 }
@@ -156,37 +258,6 @@ fn cause(refusal: Refusal, request: &Request) -> String {
     }
 }
 
-/// Write the tree; then say what there is to say, where the tree does not go.
-fn write(given: &Given, text: &Input, built: &Built, output: Output) -> Result<(), Failure> {
-    let chosen = &built.chosen;
-    let mut warnings = book::warnings(&text.bytes, &chosen.settings.counted);
-    if !text.bytes.is_empty() && chosen.tree.len() >= text.bytes.len() {
-        warnings.push("the tree is no smaller than the text: the book is short, or repeats itself too little".to_owned());
-        warnings.extend(built.small.map(|size| format!("--small would give {} bytes, {}", grouped(size as u64), share(size, text.bytes.len()))));
-    }
-    let (name, standard) = (output.name.clone(), output.is_standard());
-    output.write(&chosen.tree)?;
-    if given.quiet() && !given.json() {
-        return Ok(());
-    }
-    let text_digest = Tree::unchecked(&chosen.tree).digest().map_err(|refusal| Failure::library(&name, refusal, refusal.to_string()))?;
-    let digests = Digests { tree: digest_text(&chosen.tree), text: text_digest };
-    let report = match (given.json(), given.words.len() > 1) {
-        (true, _) => object(text, built, &name, &digests, &warnings).line(),
-        (false, true) => line(text.bytes.len(), chosen, &name, &digests),
-        (false, false) => report(text.bytes.len(), built, &name, &digests),
-    };
-    if standard {
-        say::tell(&report);
-    } else {
-        say::print(report.as_bytes())?;
-    }
-    for warning in warnings.iter().filter(|_| !given.quiet()) {
-        say::tell(&format!("codebook: {}: warning: {warning}\n", text.name));
-    }
-    Ok(())
-}
-
 /// The size that --small would give, if that is smaller than the text and the tree is not; not looked for where no warning is printed.
 pub fn smaller(text: &[u8], chosen: &Chosen, request: &Request) -> Option<usize> {
     if request.small || request.quiet || chosen.tree.len() < text.len() {
@@ -194,70 +265,25 @@ pub fn smaller(text: &[u8], chosen: &Chosen, request: &Request) -> Option<usize>
     }
     let size = match request.settings {
         Some(_) => stats::without_edges(Tree::unchecked(&chosen.tree)) as usize,
-        None => trials::best(text, &Request { settings: None, counted: request.counted.clone(), small: true, quiet: true }).ok()?.tree.len(),
+        None => {
+            let request = Request { settings: None, counted: request.counted.clone(), small: true, quiet: true, silent: true, jobs: request.jobs };
+            trials::best(text, &request).ok()?.tree.len()
+        }
     };
     (size < text.len()).then_some(size)
-}
-
-/// What was tried, what was chosen and why, and the tree beside the text.
-fn report(length: usize, built: &Built, name: &str, digests: &Digests) -> String {
-    let Built { chosen, title, besides, .. } = built;
-    let mut text = format!("{title}: {} bytes\n", grouped(length as u64));
-    if chosen.tried.len() > 1 {
-        text += "leaf  arity  levels  tree's bytes\n";
-        for Trial { settings, size } in &chosen.tried {
-            text += &format!("{:>4}  {:>5}  {:>6}  {:>12}\n", settings.leaf, settings.arity, settings.levels, grouped(*size as u64));
-        }
-        text += &format!("chosen: {}, since its tree is the smallest of these {}\n", shape(&chosen.settings), chosen.tried.len());
-    }
-    let compared = besides.as_ref().map_or(String::new(), |compared| compared.words(chosen.tree.len()));
-    let Digests { tree, text: its_text } = digests;
-    text + &format!("{}SHA-256 of the tree {tree}\nSHA-256 of its text {its_text}\n{compared}", sizes(length, chosen, name))
-}
-
-/// One of several.
-fn line(length: usize, chosen: &Chosen, name: &str, digests: &Digests) -> String {
-    let Digests { tree, text } = digests;
-    format!("{}; SHA-256 of the tree {tree}, of its text {text}\n", sizes(length, chosen, name).trim_end())
-}
-
-fn sizes(length: usize, chosen: &Chosen, name: &str) -> String {
-    let Chosen { settings, tree, .. } = chosen;
-    format!(
-        "{name}: {} bytes, {}; {}; bytes counted: {}{}\n",
-        grouped(tree.len() as u64),
-        share(tree.len(), length),
-        shape(settings),
-        listed(&settings.counted),
-        if Tree::unchecked(tree).layout() == 1 { "; without edges" } else { "" }
-    )
-}
-
-fn object(text: &Input, built: &Built, name: &str, digests: &Digests, warnings: &[String]) -> Object {
-    let Chosen { settings, tree, tried } = &built.chosen;
-    let tried = tried.iter().map(|trial| shaped(Object::new(), &trial.settings).number("size", trial.size));
-    let object = Object::new().text("book", &text.name).number("length", text.bytes.len()).text("tree", name).number("size", tree.len());
-    let object = shaped(object, settings).numbers("counted", &settings.counted).text("sha256", &digests.tree.to_string()).objects("tried", tried);
-    let object = built.besides.as_ref().map_or(object.clone(), |compared| compared.members(object));
-    let tree = Tree::unchecked(tree);
-    let object = stats::saving(object.texts("warnings", warnings).number("layout", tree.layout()), tree);
-    object.text("text_sha256", &digests.text.to_string())
-}
-
-fn shaped(object: Object, settings: &Settings) -> Object {
-    object.number("leaf", settings.leaf).number("arity", settings.arity).number("levels", settings.levels)
 }
 
 pub fn shape(settings: &Settings) -> String {
     format!("leaf {}, arity {}, levels {}", settings.leaf, settings.arity, settings.levels)
 }
 
-/// Bytes by their numbers.
+/// Bytes as --count takes them.
 pub fn listed(bytes: &[u8]) -> String {
-    if bytes.is_empty() {
-        return "none".to_owned();
+    let typed = |byte: &u8| if *byte == b',' { "0x2c".to_owned() } else { reasons::typed(*byte) };
+    match bytes {
+        [] => "none".to_owned(),
+        _ => bytes.iter().map(typed).collect::<Vec<_>>().join(","),
     }
-    bytes.iter().map(u8::to_string).collect::<Vec<_>>().join(", ")
 }
 
 /// A tree's size beside its text's; no bytes have no share.
@@ -270,8 +296,13 @@ pub fn share(tree: usize, text: usize) -> String {
 
 #[cfg(test)]
 mod tests {
-    use super::TREES;
+    use super::{listed, TREES};
     use std::path::Path;
+
+    #[test]
+    fn counted_bytes() {
+        assert_eq!((listed(&[]), listed(&[10]), listed(b"\n,A\xff")), ("none".into(), "0x0a".into(), "0x0a,0x2c,A,0xff".into()));
+    }
 
     #[test]
     fn names_of_trees() {

@@ -13,7 +13,7 @@ use codebook::{row_width, Refusal, Settings, Tree};
 
 /// The tree of the book as it stands, beside the one by columns.
 pub struct Compared {
-    width: u32,
+    pub width: u32,
     settings: Settings,
     size: usize,
 }

@@ -1,12 +1,17 @@
 //! `check` and `verify`: is it a valid tree, with the digests that its maker printed, of that book?
 
+use crate::beside::Beside;
 use crate::given::Given;
-use crate::input::{self, Input, TEXT, TREE};
+use crate::guide::check_guide;
+use crate::input::{self, Input, GUIDE, TEXT, TREE};
 use crate::json::Object;
+use crate::manifest::{self, Digests, Figures};
 use crate::say::{self, grouped, several};
-use crate::table::{Opt, COLUMNS, SHA256, TEXT_SHA256};
+use crate::sums::{self, Sum};
+use crate::table::{Opt, COLUMNS, LIST, SHA256, SUMS, TEXT_SHA256};
 use crate::{by_columns, trials, values, Failure};
 use codebook::{digest_text, Digest, Refusal, Tree};
+use std::os::unix::ffi::OsStrExt;
 use std::path::Path;
 
 /// A tree that the check accepts, unless it is not asked.
@@ -32,24 +37,74 @@ pub fn refused(input: &Input, refusal: Refusal) -> Failure {
 
 pub fn check(given: &Given) -> Result<(), Failure> {
     let (due, text_due) = (expected(given, &SHA256)?, expected(given, &TEXT_SHA256)?);
-    given.each(|path| {
-        let input = input::read(path, &TREE)?;
-        let tree = open(&input, false)?;
-        let (length, digest) = (tree.text_length(), digest_text(&input.bytes));
-        let text_digest = tree.digest().map_err(|refusal| refused(&input, refusal))?;
-        for (due, found, what) in [(due, digest, "its SHA-256"), (text_due, text_digest, "the SHA-256 of its text")] {
-            differs(&input, what, due, found)?;
+    match given.path(&LIST) {
+        Some(list) => check_listed(given, list),
+        None => given.each(|path| check_one(given, path, due, text_due)),
+    }
+}
+
+/// The trees of a list, each with its digest.
+fn check_listed(given: &Given, list: &Path) -> Result<(), Failure> {
+    if !given.words.is_empty() || [&SHA256, &TEXT_SHA256, &SUMS].into_iter().any(|option| given.has(option)) {
+        return Err(given.usage("-c LIST names the trees and their digests: neither TREE, --sha256, --text-sha256 nor --sums goes with it"));
+    }
+    let list = input::read(Some(list), &input::LIST)?;
+    let sums = sums::read(&list.bytes).map_err(|(line, words)| Failure::file(&format!("{}:{line}", list.name), words))?;
+    if sums.is_empty() {
+        return Err(Failure::file(&list.name, "names no tree"));
+    }
+    given.all(sums.iter().map(|Sum { digest, name }| check_one(given, Some(Path::new(name)), Some(*digest), None)))
+}
+
+fn check_one(given: &Given, path: Option<&Path>, due: Option<Digest>, text_due: Option<Digest>) -> Result<(), Failure> {
+    let input = input::read(path, &TREE)?;
+    let tree = open(&input, false)?;
+    let digests = Digests::of(tree, &input.bytes).map_err(|refusal| refused(&input, refusal))?;
+    for (due, found, what) in [(due, digests.tree, "its SHA-256"), (text_due, digests.text, "the SHA-256 of its text")] {
+        differs(&input, what, due, found)?;
+    }
+    let beside = compared(&input, path, tree, &digests)?.map(|beside| beside.name());
+    if given.has(&SUMS) && !given.json() {
+        return say::print(&sums::line(&digests.tree, path.map_or(b"-", |path| path.as_os_str().as_bytes())));
+    }
+    let length = tree.text_length();
+    let object = members(Object::new().text("tree", &input.name).flag("good", true).number("length", length), &digests);
+    let object = beside.as_ref().map_or(object.clone(), |name| object.text("manifest", name));
+    let described = beside.map_or(String::new(), |name| format!("; described by {name}"));
+    let Digests { tree: digest, text } = digests;
+    let words = format!("{}: valid tree of {} of text; SHA-256 of the tree {digest}, of its text {text}", input.name, several(length, "byte"));
+    report(given, &object, &format!("{words}{described}\n"))
+}
+
+/// The manifest beside a tree, if there is one and all of it is true of the tree and of its guide.
+pub fn compared(input: &Input, path: Option<&Path>, tree: Tree, digests: &Digests) -> Result<Option<Beside>, Failure> {
+    let Some(beside) = Beside::read(path).map_err(|unusable| unusable.failure())? else { return Ok(None) };
+    beside.describes(&input.name, &Figures::of(tree, Some(digests)))?;
+    if let Some(width) = beside.manifest.columns {
+        let mismatch = u32::try_from(width).map_err(|_| Refusal::Width).and_then(|width| by_columns::mismatch(tree, width));
+        if let Some(words) = mismatch.unwrap_or_else(|refusal| Some(format!("{refusal}; given: {width}"))) {
+            return Err(Failure::refused(&input.name, format!("by {} its rows are by columns: {words}", beside.name())));
         }
-        let object = Object::new().text("tree", &input.name).flag("good", true).number("length", length);
-        let object = digests(object, &digest, &text_digest);
-        let sizes = several(length, "byte");
-        report(given, &object, &format!("{}: valid tree of {sizes} of text; SHA-256 of the tree {digest}, of its text {text_digest}\n", input.name))
-    })
+    }
+    compare_guide(&beside, tree)?;
+    Ok(Some(beside))
+}
+
+/// The guide that a manifest names must be there, as the manifest says, and be the tree's.
+fn compare_guide(beside: &Beside, tree: Tree) -> Result<(), Failure> {
+    let manifest::Guide { name: Some(name), size, sha256 } = &beside.manifest.guide else { return Ok(()) };
+    let guide = input::read(Some(&beside.path.with_file_name(name)), &GUIDE)?;
+    let due = Figures { size: *size, sha256: *sha256, ..Figures::default() };
+    let found = Figures { size: Some(guide.bytes.len() as u64), sha256: Some(digest_text(&guide.bytes)), ..Figures::default() };
+    match due.difference(&found) {
+        Some(difference) => Err(Failure::refused(&guide.name, format!("by {} {difference}", beside.name()))),
+        None => check_guide(tree, &guide),
+    }
 }
 
 /// Both digests of a tree, as members of its object.
-fn digests(object: Object, tree: &Digest, text: &Digest) -> Object {
-    object.text("sha256", &tree.to_string()).text("text_sha256", &text.to_string())
+fn members(object: Object, digests: &Digests) -> Object {
+    object.text("sha256", &digests.tree.to_string()).text("text_sha256", &digests.text.to_string())
 }
 
 /// The digest that an option gives, of one tree.
@@ -102,11 +157,11 @@ fn verify_one(given: &Given, book: &Path, tree: &Path) -> Result<(), Failure> {
     let small = tree.layout() == 1;
     let built = trials::build(&due, &tree.settings(), small).is_ok_and(|built| built == input.bytes);
     let object = Object::new().text("tree", &input.name).text("book", &book.name).flag("good", true).flag("as_built", built);
-    let object = digests(object, &digest_text(&input.bytes), &digest_text(&due));
+    let object = members(object, &Digests { tree: digest_text(&input.bytes), text: digest_text(&due) });
     let which = match (built, small) {
         (true, false) => "the block tree",
         (true, true) => "the block tree, without edges,",
-        (false, _) => "a good tree, though not the one that build makes,",
+        (false, _) => "valid tree, though not the one that build makes,",
     };
     report(given, &object, &format!("{}: {which} of {}, {}\n", input.name, book.name, several(due.len() as u64, "byte")))
 }

@@ -1,10 +1,11 @@
 //! `code`: the rows of a key code, in one or several books.
 
+use crate::beside::Beside;
 use crate::check::{open, refused};
 use crate::given::Given;
 use crate::input::{self, Input, GUIDE, TREE};
 use crate::json::Object;
-use crate::manifest::Manifest;
+use crate::manifest::{Figures, Manifest};
 use crate::table::{self, PREFIX, UNCHECKED};
 use crate::{say, values, Failure};
 use codebook::{Refusal, Tree};
@@ -68,11 +69,16 @@ fn rows(given: &Given, prefix: &[u8], path: Option<&Path>) -> Result<bool, Failu
     let unchecked = given.has(&UNCHECKED);
     let input = input::read(path, &TREE)?;
     let guide = given.path(&table::GUIDE).map(|path| input::read(Some(path), &GUIDE)).transpose()?;
+    let beside = Beside::admit(given, path, &input.name)?;
     let tree = open(&input, unchecked)?;
+    if let Some(beside) = beside.as_ref().filter(|_| !unchecked) {
+        beside.describes(&input.name, &Figures::of(tree, None))?;
+        beside.other_width(None).map_or(Ok(()), |words| Err(Failure::refused(&input.name, format!("code: {words}"))))?;
+    }
     if let Some(guide) = guide.as_ref().filter(|_| !unchecked) {
         tree.check_guide(&guide.bytes).map_err(|refusal| refused(guide, refusal))?;
     }
-    let book = Book { name: &input.name, manifest: manifest(given, path) };
+    let book = Book { name: &input.name, manifest: beside.map(|beside| beside.manifest).unwrap_or_default() };
     let mut guide = guide.map(|guide| guide.bytes);
     let (mut mark, mut found) = (0, 0);
     let (mut printed, mut buffer) = (Vec::new(), Vec::new());
@@ -94,19 +100,6 @@ fn next(tree: Tree, guide: Option<&[u8]>, prefix: &[u8], mark: &mut u32) -> Resu
     }
 }
 
-/// The manifest beside a tree. What is wrong with it is told, and the rows are printed without it.
-fn manifest(given: &Given, path: Option<&Path>) -> Manifest {
-    let Some(path) = path.filter(|path| *path != Path::new("-")) else {
-        return Manifest::default();
-    };
-    Manifest::beside(path).unwrap_or_else(|words| {
-        if !given.quiet() {
-            say::tell(&format!("codebook: {words}\n"));
-        }
-        Manifest::default()
-    })
-}
-
 /// A book as its rows are printed.
 struct Book<'a> {
     name: &'a str,
@@ -115,18 +108,12 @@ struct Book<'a> {
 
 impl Book<'_> {
     fn print(&self, json: bool, q: u32, row: &[u8], printed: &mut Vec<u8>) {
-        let Manifest { maker, edition } = &self.manifest;
         if json {
-            let mut object = Object::new().text("tree", self.name).number("row", q).bytes("text", row);
-            for (name, value) in [("maker", maker), ("edition", edition)] {
-                if let Some(value) = value {
-                    object = object.text(name, value);
-                }
-            }
-            printed.extend(object.line().into_bytes());
+            let object = Object::new().text("tree", self.name).number("row", q).bytes("text", row);
+            printed.extend(self.manifest.book(object).line().into_bytes());
             return;
         }
-        let known: Vec<String> = [maker, edition].into_iter().flatten().map(|value| value.escape_debug().to_string()).collect();
+        let known = self.manifest.known();
         let known = if known.is_empty() { String::new() } else { format!(" ({})", known.join(", ")) };
         printed.extend(format!("{}{known}: row {q}: ", self.name).into_bytes());
         printed.extend([row, b"\n"].concat());

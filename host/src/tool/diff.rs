@@ -1,9 +1,11 @@
 //! `diff`: the rows that two books do not have in common, by code.
 
+use crate::beside::Beside;
 use crate::check::{open, refused};
 use crate::given::Given;
 use crate::input::{self, Input, TREE};
 use crate::json::Object;
+use crate::manifest::Figures;
 use crate::say::{self, grouped, several};
 use crate::Failure;
 use codebook::{text_rows, Refusal, MAX_TEXT};
@@ -33,7 +35,7 @@ enum Change<'a> {
 }
 
 pub fn diff(given: &Given) -> Result<(), Failure> {
-    let (one, other) = (text(given.file(0)).map_err(Failure::trouble)?, text(given.file(1)).map_err(Failure::trouble)?);
+    let (one, other) = (text(given, given.file(0)).map_err(Failure::trouble)?, text(given, given.file(1)).map_err(Failure::trouble)?);
     let (old, new) = (rows(&one.bytes), rows(&other.bytes));
     let changes = changes(&old, &new);
     let printed: Vec<u8> = changes.iter().flat_map(|change| if given.json() { change.object().line().into_bytes() } else { change.line() }).collect();
@@ -48,10 +50,13 @@ pub fn diff(given: &Given) -> Result<(), Failure> {
 }
 
 /// The text of a tree that the check accepts, or of a book. What begins as a tree, or is named as one, is not taken for a book.
-fn text(path: Option<&Path>) -> Result<Input, Failure> {
+fn text(given: &Given, path: Option<&Path>) -> Result<Input, Failure> {
     let input = input::read(path, &TREE)?;
     if matches!(input.bytes[..], [1 | 2, 0, 0, 0, ..]) || input.name.ends_with(".tree") {
-        let bytes = open(&input, false)?.text().map_err(|refusal| refused(&input, refusal))?;
+        let beside = Beside::admit(given, path, &input.name)?;
+        let tree = open(&input, false)?;
+        beside.map_or(Ok(()), |beside| beside.describes(&input.name, &Figures::of(tree, None)))?;
+        let bytes = tree.text().map_err(|refusal| refused(&input, refusal))?;
         return Ok(Input { name: input.name, bytes });
     }
     if input.bytes.len() > MAX_TEXT {

@@ -72,6 +72,11 @@ impl Failure {
 
     /// Say it on standard error, and as an object on standard output where objects are asked for.
     pub fn tell(&self, json: bool) {
+        self.tell_to(json, false);
+    }
+
+    /// The same; the object too goes to standard error where a tree goes to standard output.
+    pub fn tell_to(&self, json: bool, standard_error: bool) {
         if self.words.is_empty() {
             return;
         }
@@ -79,16 +84,20 @@ impl Failure {
         let usage = self.usage.as_ref().map_or(String::new(), |usage| format!("usage: {usage}\n"));
         say::tell(&format!("codebook: {name}{}\n{usage}", self.words));
         if json && self.object {
-            let mut object = Object::new().text("failed", &self.name).number("status", self.status);
-            if let Some(number) = self.number {
-                object = object.number("refused", number);
-            }
-            object = object.text("words", &self.words);
-            if let Some(usage) = &self.usage {
-                object = object.text("usage", usage);
-            }
             // where nobody reads it there is no more to say: the call has failed already
-            let _ = say::print(object.line().as_bytes());
+            let _ = say::to(standard_error, &self.as_object().line());
+        }
+    }
+
+    fn as_object(&self) -> Object {
+        let mut object = Object::new().text("failed", &self.name).number("status", self.status);
+        if let Some(number) = self.number {
+            object = object.number("refused", number);
+        }
+        object = object.text("words", &self.words);
+        match &self.usage {
+            Some(usage) => object.text("usage", usage),
+            None => object,
         }
     }
 }

@@ -1,12 +1,14 @@
 //! The words of a call, read by the table.
 
+use crate::beside;
+use crate::day::Day;
 use crate::nearest::suggestion;
 use crate::table::{self, Command, Due, Opt, Word, COMMANDS};
 use crate::values;
 use crate::Failure;
 use std::ffi::{OsStr, OsString};
 use std::os::unix::ffi::{OsStrExt, OsStringExt};
-use std::path::Path;
+use std::path::{Path, PathBuf};
 
 /// A call: its command, its words and its options.
 pub struct Given {
@@ -113,7 +115,14 @@ impl Given {
     pub fn inputs(&self) -> impl Iterator<Item = &OsStr> {
         let due = |at: usize| self.command.words.get(at).or(self.command.words.last());
         let files = self.words.iter().enumerate().filter(move |(at, _)| due(*at).is_some_and(Word::is_file));
-        files.map(|(_, word)| word.as_os_str()).chain(self.value(&table::GUIDE))
+        files.map(|(_, word)| word.as_os_str()).chain(self.value(&table::GUIDE)).chain(self.value(&table::LIST))
+    }
+
+    /// The manifests beside the trees among them, whether or not there are any.
+    pub fn manifests(&self) -> Vec<PathBuf> {
+        let due = |at: usize| self.command.words.get(at).or(self.command.words.last());
+        let trees = self.words.iter().enumerate().filter(|(at, _)| due(*at).is_some_and(Word::is_tree));
+        trees.map(|(_, word)| beside::path(Path::new(word))).collect()
     }
 
     pub fn has(&self, option: &Opt) -> bool {
@@ -131,6 +140,13 @@ impl Given {
 
     pub fn number(&self, option: &Opt) -> Result<Option<u32>, Failure> {
         self.value(option).map(|value| values::number(option.long, value).map_err(|words| self.usage(words))).transpose()
+    }
+
+    /// The day that an option's value is.
+    pub fn day(&self, option: &Opt, word: &OsStr) -> Result<Day, Failure> {
+        let text = word.to_string_lossy();
+        let wrong = || self.usage(format!("{} is a day such as 2024-02-29, from 2000-01-01 to 2099-12-31, not '{text}'", option.long));
+        Day::read(&text).ok_or_else(wrong)
     }
 
     /// The number that a word is.

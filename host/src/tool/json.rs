@@ -52,6 +52,11 @@ impl Object {
         self.list(name, values.iter().map(u8::to_string))
     }
 
+    /// A value as it is written.
+    pub fn raw(self, name: &str, value: &str) -> Self {
+        self.member(name, value)
+    }
+
     fn list(self, name: &str, values: impl Iterator<Item = String>) -> Self {
         self.member(name, &format!("[{}]", values.collect::<Vec<_>>().join(",")))
     }

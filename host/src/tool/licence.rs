@@ -3,11 +3,10 @@
 use crate::given::Given;
 use crate::json::Object;
 use crate::say::{self, several};
-use crate::Failure;
+use crate::{day, Failure};
 use codebook::{days_left, open_on, renew, Refusal};
 use std::ffi::OsString;
 use std::os::unix::ffi::OsStrExt;
-use std::time::{SystemTime, UNIX_EPOCH};
 
 /// Open, with the days left; or closed, and why, with status 1.
 pub fn open(given: &Given) -> Result<(), Failure> {
@@ -48,7 +47,7 @@ fn print(given: &Given, object: Object, words: &str) -> Result<(), Failure> {
 fn days(given: &Given, due: usize) -> Vec<OsString> {
     let mut days = given.words.clone();
     if days.len() == due {
-        days.push(today().into());
+        days.push(day::today().into());
     }
     days
 }
@@ -61,42 +60,4 @@ fn refused(refusal: Refusal, days: &[OsString]) -> Failure {
         _ => days.iter().map(|day| day.to_string_lossy()).collect::<Vec<_>>().join(" "),
     };
     Failure::library("licence", refusal, format!("{refusal}; given: {given}"))
-}
-
-/// Today's date, by the clock, in universal time.
-fn today() -> String {
-    let seconds = SystemTime::now().duration_since(UNIX_EPOCH).map_or(0, |since| since.as_secs());
-    date_of(seconds / 86_400)
-}
-
-/// The date so many days after 1 January 1970.
-fn date_of(days: u64) -> String {
-    let leap = |year: u64| year % 4 == 0 && (year % 100 != 0 || year % 400 == 0);
-    let (mut rest, mut year, mut month) = (days, 1970, 1);
-    loop {
-        let length = match month {
-            2 => 28 + u64::from(leap(year)),
-            4 | 6 | 9 | 11 => 30,
-            _ => 31,
-        };
-        if rest < length {
-            return format!("{year:04}{month:02}{:02}", rest + 1);
-        }
-        rest -= length;
-        (year, month) = if month == 12 { (year + 1, 1) } else { (year, month + 1) };
-    }
-}
-
-#[cfg(test)]
-mod tests {
-    use super::{date_of, days_left};
-
-    /// The clock's dates, day by day, are those of the library.
-    #[test]
-    fn dates_of_the_clock() {
-        assert_eq!([0, 58, 59, 789, 10_957, 19_782].map(date_of), ["19700101", "19700228", "19700301", "19720229", "20000101", "20240229"]);
-        for day in 0..36_525 {
-            assert_eq!(days_left(date_of(10_957 + day).as_bytes(), b"20000101"), Ok(day as i32));
-        }
-    }
 }

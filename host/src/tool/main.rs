@@ -1,12 +1,15 @@
 //! codebook: builds, checks and reads block trees of code books.
 
 mod attributes;
+mod batch;
+mod beside;
 mod book;
 mod build;
 mod by_columns;
 mod check;
 mod code;
 mod completion;
+mod day;
 mod diff;
 mod digest;
 mod failure;
@@ -16,15 +19,18 @@ mod help;
 mod import;
 mod input;
 mod json;
+mod json_reader;
 mod licence;
 mod manifest;
 mod manual;
 mod nearest;
+mod ordered;
 mod output;
 mod picture;
 mod progress;
 mod questions;
 mod reasons;
+mod report;
 mod say;
 mod separated;
 mod shelf;
@@ -32,6 +38,7 @@ mod signals;
 mod slim;
 mod spool;
 mod stats;
+mod sums;
 mod table;
 mod trials;
 mod values;
@@ -56,7 +63,9 @@ fn main() -> ExitCode {
 }
 
 fn run(given: &Given) -> Result<(), Failure> {
-    if let Some(name) = input::printed_upon(given.inputs().chain(given.value(&table::OUTPUT))) {
+    let manifests = given.manifests();
+    let files = given.inputs().chain(given.value(&table::OUTPUT)).chain(manifests.iter().map(|path| path.as_os_str()));
+    if let Some(name) = input::printed_upon(files) {
         return Err(Failure::output_used(&name.to_string_lossy()));
     }
     match given.has(&table::HELP) {

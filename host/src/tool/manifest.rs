@@ -1,292 +1,302 @@
-//! The manifest beside a tree: a JSON object (RFC 8259) with its maker and its edition.
+//! A manifest: a JSON object (RFC 8259) with a tree's maker, edition and licence, and with what the tree must be.
 
-use std::fs::File;
-use std::io::{ErrorKind, Read};
-use std::path::{Path, PathBuf};
+use crate::day::{Day, Term};
+use crate::json::Object;
+use crate::json_reader::{self, Member, Value};
+use crate::reasons::all_typed;
+use crate::say::grouped;
+use codebook::{digest_text, Digest, Refusal, Tree};
 
-/// A manifest has at most this many bytes.
-const MAX_MANIFEST: u64 = 65_536;
+/// The SHA-256 of a tree, and that of its text.
+#[derive(Clone, Copy, Debug, PartialEq, Eq)]
+pub struct Digests {
+    pub tree: Digest,
+    pub text: Digest,
+}
 
-/// Arrays and objects are nested at most this deep.
-const MAX_DEPTH: usize = 32;
+impl Digests {
+    pub fn of(tree: Tree, bytes: &[u8]) -> Result<Self, Refusal> {
+        Ok(Digests { tree: digest_text(bytes), text: tree.digest()? })
+    }
+}
 
-/// What a manifest says of a tree.
-#[derive(Debug, Default, PartialEq, Eq)]
+/// What a manifest says of a tree, as far as it says it.
+#[derive(Clone, Debug, Default, PartialEq, Eq)]
+pub struct Figures {
+    pub size: Option<u64>,
+    pub sha256: Option<Digest>,
+    pub length: Option<u64>,
+    pub text_sha256: Option<Digest>,
+    pub layout: Option<u64>,
+    pub leaf: Option<u64>,
+    pub arity: Option<u64>,
+    pub levels: Option<u64>,
+    pub counted: Option<Vec<u8>>,
+}
+
+impl Figures {
+    /// What a tree's length and its header say; digests, which take a pass over the tree and one over its text, only where they are given.
+    pub fn of(tree: Tree, digests: Option<&Digests>) -> Self {
+        let settings = tree.settings();
+        Figures {
+            size: Some(tree.size() as u64),
+            sha256: digests.map(|digests| digests.tree),
+            length: Some(tree.text_length().into()),
+            text_sha256: digests.map(|digests| digests.text),
+            layout: Some(tree.layout().into()),
+            leaf: Some(settings.leaf.into()),
+            arity: Some(settings.arity.into()),
+            levels: Some(settings.levels.into()),
+            counted: Some(settings.counted),
+        }
+    }
+
+    /// Each in words, in the order in which they are compared.
+    fn shown(&self) -> [(&'static str, Option<String>); 9] {
+        let digest = |digest: Option<Digest>| digest.map(|digest| digest.to_string());
+        [
+            ("its size", self.size.map(grouped)),
+            ("its text's length", self.length.map(grouped)),
+            ("its layout", self.layout.map(grouped)),
+            ("its leaf length", self.leaf.map(grouped)),
+            ("its arity", self.arity.map(grouped)),
+            ("its number of levels", self.levels.map(grouped)),
+            ("the list of its counted bytes", self.counted.as_deref().map(all_typed)),
+            ("the SHA-256 of its text", digest(self.text_sha256)),
+            ("its SHA-256", digest(self.sha256)),
+        ]
+    }
+
+    /// The first of them that a tree has otherwise, with both values.
+    pub fn difference(&self, found: &Figures) -> Option<String> {
+        self.shown().into_iter().zip(found.shown()).find_map(|((what, due), (_, found))| {
+            let (due, found) = (due?, found?);
+            (due != found).then(|| format!("{what} is {due}, and it is {found}"))
+        })
+    }
+
+    fn members(&self, object: Object) -> Object {
+        let object = number(number(object, "size", self.size), "length", self.length);
+        let object = number(number(object, "layout", self.layout), "leaf", self.leaf);
+        let object = number(number(object, "arity", self.arity), "levels", self.levels);
+        let object = self.counted.as_ref().map_or(object.clone(), |counted| object.numbers("counted", counted));
+        let object = text(object, "sha256", self.sha256);
+        text(object, "text_sha256", self.text_sha256)
+    }
+}
+
+/// The guide of a tree, a file beside it.
+#[derive(Clone, Debug, Default, PartialEq, Eq)]
+pub struct Guide {
+    pub name: Option<String>,
+    pub size: Option<u64>,
+    pub sha256: Option<Digest>,
+}
+
+/// What a manifest says.
+#[derive(Clone, Debug, Default, PartialEq, Eq)]
 pub struct Manifest {
     pub maker: Option<String>,
     pub edition: Option<String>,
+    pub first: Option<Day>,
+    pub last: Option<Day>,
+    pub figures: Figures,
+    /// The width of the rows of a book by columns.
+    pub columns: Option<u64>,
+    pub guide: Guide,
+    /// Members of other names, and their values as they are written.
+    pub others: Vec<(String, String)>,
 }
 
 impl Manifest {
-    /// The manifest of the tree at `path`: the file of that name with `.json` after it; an empty one where there is no such file. A manifest that cannot be
-    /// read, or is malformed, is an error in words.
-    pub fn beside(path: &Path) -> Result<Self, String> {
-        let mut name = path.as_os_str().to_owned();
-        name.push(".json");
-        let path = PathBuf::from(name);
-        let words = |words: &str| format!("{}: warning: the manifest is not used: {words}", path.display());
-        let file = match File::open(&path) {
-            Err(error) if error.kind() == ErrorKind::NotFound => return Ok(Manifest::default()),
-            opened => opened.map_err(|error| words(&error.to_string()))?,
-        };
-        let mut bytes = Vec::new();
-        file.take(MAX_MANIFEST + 1).read_to_end(&mut bytes).map_err(|error| words(&error.to_string()))?;
-        if bytes.len() as u64 > MAX_MANIFEST {
-            return Err(words("it has more than 65,536 bytes"));
-        }
-        Manifest::read(&bytes).map_err(|what| words(&what))
-    }
-
-    /// The members `maker` and `edition` of an object; members of other names are passed over.
-    fn read(bytes: &[u8]) -> Result<Self, String> {
+    /// The members that are known, each at most once and of its type; members of other names are kept as they are.
+    pub fn read(bytes: &[u8]) -> Result<Self, String> {
         let text = std::str::from_utf8(bytes).map_err(|_| "it is not UTF-8".to_owned())?;
-        let Value::Object(members) = Reader::whole(text)? else {
+        let Value::Object(members) = json_reader::read(text)? else {
             return Err("it is not an object".to_owned());
         };
         let mut manifest = Manifest::default();
-        for (name, value) in members {
-            let member = match name.as_str() {
-                "maker" => &mut manifest.maker,
-                "edition" => &mut manifest.edition,
-                _ => continue,
-            };
-            match (value, &member) {
-                (_, Some(_)) => return Err(format!("it has two members '{name}'")),
-                (Value::Text(text), None) => *member = Some(text),
-                _ => return Err(format!("its member '{name}' is not a string")),
-            }
-        }
-        Ok(manifest)
-    }
-}
-
-/// A value, as far as a manifest needs it.
-enum Value {
-    Text(String),
-    Object(Vec<(String, Value)>),
-    /// A number, an array, true, false or null.
-    Other,
-}
-
-/// Reads a text from left to right.
-struct Reader<'a> {
-    text: &'a str,
-    at: usize,
-    depth: usize,
-}
-
-impl<'a> Reader<'a> {
-    /// The one value of a text.
-    fn whole(text: &'a str) -> Result<Value, String> {
-        let mut reader = Reader { text, at: 0, depth: 0 };
-        let value = reader.value()?;
-        match reader.peek() {
-            None => Ok(value),
-            Some(_) => Err(reader.wrong("the end")),
+        members.into_iter().try_for_each(|member| manifest.enter(member))?;
+        match manifest.term().map(|term| (term, term.is_open(term.first))) {
+            Some((Term { first, last }, Err(_))) => Err(format!("its last day, {last}, is before its first, {first}")),
+            _ => Ok(manifest),
         }
     }
 
-    /// The next byte that is not white space.
-    fn peek(&mut self) -> Option<u8> {
-        while let Some(b' ' | b'\t' | b'\n' | b'\r') = self.byte() {
-            self.at += 1;
-        }
-        self.byte()
-    }
-
-    fn byte(&self) -> Option<u8> {
-        self.text.as_bytes().get(self.at).copied()
-    }
-
-    fn wrong(&self, due: &str) -> String {
-        let line = 1 + self.text.as_bytes()[..self.at].iter().filter(|&&byte| byte == b'\n').count();
-        format!("{due} is expected at byte {}, in line {line}", self.at)
-    }
-
-    /// Take this byte, white space before it aside.
-    fn expect(&mut self, due: u8) -> Result<(), String> {
-        if self.peek() != Some(due) {
-            return Err(self.wrong(&format!("'{}'", char::from(due))));
-        }
-        self.at += 1;
-        Ok(())
-    }
-
-    /// Take this byte if it is there.
-    fn takes(&mut self, byte: u8) -> bool {
-        let there = self.peek() == Some(byte);
-        self.at += usize::from(there);
-        there
-    }
-
-    fn value(&mut self) -> Result<Value, String> {
-        match self.peek() {
-            Some(b'"') => self.string().map(Value::Text),
-            Some(b'{') => self.nested(Reader::object),
-            Some(b'[') => self.nested(Reader::array),
-            Some(b'-' | b'0'..=b'9') => self.number(),
-            _ => ["true", "false", "null"].into_iter().find_map(|word| self.word(word)).ok_or_else(|| self.wrong("a value")),
-        }
-    }
-
-    fn word(&mut self, word: &str) -> Option<Value> {
-        let there = self.text[self.at..].starts_with(word);
-        self.at += if there { word.len() } else { 0 };
-        there.then_some(Value::Other)
-    }
-
-    fn nested(&mut self, inner: fn(&mut Self) -> Result<Value, String>) -> Result<Value, String> {
-        if self.depth == MAX_DEPTH {
-            return Err(format!("it is nested more than {MAX_DEPTH} deep"));
-        }
-        (self.depth, self.at) = (self.depth + 1, self.at + 1);
-        let value = inner(self)?;
-        self.depth -= 1;
-        Ok(value)
-    }
-
-    fn object(&mut self) -> Result<Value, String> {
-        let mut members = Vec::new();
-        if self.takes(b'}') {
-            return Ok(Value::Object(members));
-        }
-        loop {
-            if self.peek() != Some(b'"') {
-                return Err(self.wrong("a member's name"));
-            }
-            let name = self.string()?;
-            self.expect(b':')?;
-            members.push((name, self.value()?));
-            if !self.takes(b',') {
-                return self.expect(b'}').map(|()| Value::Object(members));
-            }
-        }
-    }
-
-    fn array(&mut self) -> Result<Value, String> {
-        if self.takes(b']') {
-            return Ok(Value::Other);
-        }
-        loop {
-            self.value()?;
-            if !self.takes(b',') {
-                return self.expect(b']').map(|()| Value::Other);
-            }
-        }
-    }
-
-    fn digits(&mut self) -> Result<usize, String> {
-        let from = self.at;
-        while self.byte().is_some_and(|byte| byte.is_ascii_digit()) {
-            self.at += 1;
-        }
-        if from == self.at {
-            return Err(self.wrong("a digit"));
-        }
-        Ok(self.at - from)
-    }
-
-    fn number(&mut self) -> Result<Value, String> {
-        self.at += usize::from(self.byte() == Some(b'-'));
-        let zero = self.byte() == Some(b'0');
-        if self.digits()? > 1 && zero {
-            return Err(self.wrong("a number without a zero before it"));
-        }
-        if self.byte() == Some(b'.') {
-            self.at += 1;
-            self.digits()?;
-        }
-        if let Some(b'e' | b'E') = self.byte() {
-            self.at += 1;
-            self.at += usize::from(matches!(self.byte(), Some(b'+' | b'-')));
-            self.digits()?;
-        }
-        Ok(Value::Other)
-    }
-
-    /// A string, from its opening quote on.
-    fn string(&mut self) -> Result<String, String> {
-        self.at += 1;
-        let mut string = String::new();
-        loop {
-            let rest = &self.text[self.at..];
-            let plain = rest.find(|character| matches!(character, '"' | '\\' | '\0'..='\x1f')).unwrap_or(rest.len());
-            string.push_str(&rest[..plain]);
-            self.at += plain;
-            match self.byte() {
-                Some(b'"') => {
-                    self.at += 1;
-                    return Ok(string);
-                }
-                Some(b'\\') => string.push(self.escape()?),
-                _ => return Err(self.wrong("the end of a string")),
-            }
-        }
-    }
-
-    /// An escape, from its backslash on.
-    fn escape(&mut self) -> Result<char, String> {
-        let letter = self.text.as_bytes().get(self.at + 1).copied();
-        self.at += 2;
-        match letter {
-            Some(b'"') => Ok('"'),
-            Some(b'\\') => Ok('\\'),
-            Some(b'/') => Ok('/'),
-            Some(b'b') => Ok('\x08'),
-            Some(b'f') => Ok('\x0c'),
-            Some(b'n') => Ok('\n'),
-            Some(b'r') => Ok('\r'),
-            Some(b't') => Ok('\t'),
-            Some(b'u') => self.unicode(),
+    fn enter(&mut self, Member { name, value, raw }: Member) -> Result<(), String> {
+        let Manifest { figures, guide, .. } = self;
+        match name.as_str() {
+            "maker" => set(&mut self.maker, &name, string(value)),
+            "edition" => set(&mut self.edition, &name, string(value)),
+            "first" => set(&mut self.first, &name, day(value)),
+            "last" => set(&mut self.last, &name, day(value)),
+            "size" => set(&mut figures.size, &name, whole(value)),
+            "length" => set(&mut figures.length, &name, whole(value)),
+            "layout" => set(&mut figures.layout, &name, whole(value)),
+            "leaf" => set(&mut figures.leaf, &name, whole(value)),
+            "arity" => set(&mut figures.arity, &name, whole(value)),
+            "levels" => set(&mut figures.levels, &name, whole(value)),
+            "counted" => set(&mut figures.counted, &name, bytes(value)),
+            "sha256" => set(&mut figures.sha256, &name, digest(value)),
+            "text_sha256" => set(&mut figures.text_sha256, &name, digest(value)),
+            "columns" => set(&mut self.columns, &name, whole(value)),
+            "guide" => set(&mut guide.name, &name, file_name(value)),
+            "guide_size" => set(&mut guide.size, &name, whole(value)),
+            "guide_sha256" => set(&mut guide.sha256, &name, digest(value)),
             _ => {
-                self.at -= 2;
-                Err(self.wrong("an escape"))
+                self.others.push((name, raw));
+                Ok(())
             }
         }
     }
 
-    /// A character by its four hexadecimal digits, or by two escapes, a high and a low surrogate.
-    fn unicode(&mut self) -> Result<char, String> {
-        let high = self.hexadecimal()?;
-        if !(0xd800..0xdc00).contains(&high) {
-            return char::from_u32(high).ok_or_else(|| self.wrong("a high surrogate before a low one"));
-        }
-        if !self.text[self.at..].starts_with("\\u") {
-            return Err(self.wrong("a low surrogate after a high one"));
-        }
-        self.at += 2;
-        let low = self.hexadecimal()?;
-        let low = low.checked_sub(0xdc00).filter(|low| *low < 0x400).ok_or_else(|| self.wrong("a low surrogate after a high one"))?;
-        char::from_u32(0x10000 + 0x400 * (high - 0xd800) + low).ok_or_else(|| self.wrong("a character"))
+    /// The term of the licence; none where a day is missing.
+    pub fn term(&self) -> Option<Term> {
+        Some(Term { first: self.first?, last: self.last? })
     }
 
-    fn hexadecimal(&mut self) -> Result<u32, String> {
-        let digits = self.text.as_bytes().get(self.at..self.at + 4).filter(|digits| digits.iter().all(u8::is_ascii_hexdigit));
-        let digits = digits.and_then(|digits| std::str::from_utf8(digits).ok()).ok_or_else(|| self.wrong("four hexadecimal digits"))?;
-        self.at += 4;
-        u32::from_str_radix(digits, 16).map_err(|_| self.wrong("four hexadecimal digits"))
+    /// Maker, edition and licence, as members of an object.
+    pub fn book(&self, object: Object) -> Object {
+        let object = text(text(object, "maker", self.maker.as_ref()), "edition", self.edition.as_ref());
+        text(text(object, "first", self.first), "last", self.last)
     }
+
+    /// The manifest as it is written: one object on one line.
+    pub fn line(&self) -> String {
+        let object = number(self.figures.members(self.book(Object::new())), "columns", self.columns);
+        let object = number(text(object, "guide", self.guide.name.as_ref()), "guide_size", self.guide.size);
+        let object = text(object, "guide_sha256", self.guide.sha256);
+        self.others.iter().fold(object, |object, (name, raw)| object.raw(name, raw)).line()
+    }
+
+    /// Maker and edition, with what a terminal would take for itself escaped.
+    pub fn known(&self) -> Vec<String> {
+        [&self.maker, &self.edition].into_iter().flatten().map(|value| value.escape_debug().to_string()).collect()
+    }
+}
+
+/// A member that is there.
+fn number(object: Object, name: &str, value: Option<u64>) -> Object {
+    match value {
+        Some(value) => object.number(name, value),
+        None => object,
+    }
+}
+
+fn text(object: Object, name: &str, value: Option<impl ToString>) -> Object {
+    match value {
+        Some(value) => object.text(name, &value.to_string()),
+        None => object,
+    }
+}
+
+/// Enter a member once; `value` is what was read, or what it should be.
+fn set<T>(member: &mut Option<T>, name: &str, value: Result<T, &str>) -> Result<(), String> {
+    if member.is_some() {
+        return Err(format!("it has two members '{name}'"));
+    }
+    *member = Some(value.map_err(|due| format!("its member '{name}' is not {due}"))?);
+    Ok(())
+}
+
+fn string(value: Value) -> Result<String, &'static str> {
+    match value {
+        Value::Text(text) => Ok(text),
+        _ => Err("a string"),
+    }
+}
+
+fn whole(value: Value) -> Result<u64, &'static str> {
+    match value {
+        Value::Number(number) => Ok(number),
+        _ => Err("a whole number"),
+    }
+}
+
+fn digest(value: Value) -> Result<Digest, &'static str> {
+    string(value).ok().and_then(|text| Digest::from_hex(&text)).ok_or("a string of 64 hexadecimal digits")
+}
+
+fn day(value: Value) -> Result<Day, &'static str> {
+    string(value).ok().and_then(|text| Day::dashed(&text)).ok_or("a day such as \"2024-02-29\", of the years 2000 to 2099")
+}
+
+fn bytes(value: Value) -> Result<Vec<u8>, &'static str> {
+    let Value::List(values) = value else { return Err("a list of bytes") };
+    let byte = |value: Value| whole(value).ok().and_then(|number| u8::try_from(number).ok());
+    values.into_iter().map(byte).collect::<Option<_>>().ok_or("a list of bytes, 0 to 255")
+}
+
+/// A name without a folder: a manifest from anyone has no other file read.
+fn file_name(value: Value) -> Result<String, &'static str> {
+    let is_plain = |name: &String| !name.is_empty() && name != "." && name != ".." && !name.contains(['/', '\0']);
+    string(value).ok().filter(is_plain).ok_or("the name of a file beside the tree")
 }
 
 #[cfg(test)]
 mod tests {
-    use super::{Manifest, MAX_DEPTH};
+    use super::{Day, Digest, Figures, Guide, Manifest};
+    use crate::json_reader::MAX_DEPTH;
 
-    fn manifest(maker: Option<&str>, edition: Option<&str>) -> Manifest {
-        Manifest { maker: maker.map(str::to_owned), edition: edition.map(str::to_owned) }
+    fn manifest(maker: Option<&str>, edition: Option<&str>, others: &[(&str, &str)]) -> Manifest {
+        let others = others.iter().map(|(name, raw)| (name.to_string(), raw.to_string())).collect();
+        Manifest { maker: maker.map(str::to_owned), edition: edition.map(str::to_owned), others, ..Manifest::default() }
+    }
+
+    /// A manifest with all members.
+    fn whole() -> Manifest {
+        let [sha256, text_sha256, guide] = [1, 2, 3].map(|byte| Some(Digest([byte; 32])));
+        Manifest {
+            first: Day::dashed("2024-02-29"),
+            last: Day::dashed("2024-12-31"),
+            figures: Figures {
+                size: Some(5884),
+                sha256,
+                length: Some(u64::MAX),
+                text_sha256,
+                layout: Some(2),
+                leaf: Some(24),
+                arity: Some(8),
+                levels: Some(3),
+                counted: Some(vec![0, 10, 255]),
+            },
+            columns: Some(14),
+            guide: Guide { name: Some("a b\\\u{1}.guide".to_owned()), size: Some(0), sha256: guide },
+            ..manifest(Some("\u{dc}ber \"1\" \\ \n\u{7f}\u{1f511}"), Some(""), &[("x", "[1, {\"y\": null}]"), ("x", "-2.5e3")])
+        }
     }
 
     #[test]
     fn members_are_read() {
         let read = |text: &str| Manifest::read(text.as_bytes());
-        assert_eq!(read("{}"), Ok(manifest(None, None)));
-        assert_eq!(read(r#" { "edition" : "3", "maker":"Ilko" } "#), Ok(manifest(Some("Ilko"), Some("3"))));
+        assert_eq!(read("{}"), Ok(Manifest::default()));
+        assert_eq!(read(r#" { "edition" : "3", "maker":"Ilko" } "#), Ok(manifest(Some("Ilko"), Some("3"), &[])));
         assert_eq!(
-            read(r#"{"maker":"\u00dc\ud83d\udd11\/\n\"","x":[1,-0.5e+3,{"maker":2},[],true,false,null]}"#),
-            Ok(manifest(Some("Ü🔑/\n\""), None))
+            read(r#"{"maker":"\u00dc\ud83d\udd11\/\n\"","x": [1,-0.5e+3,{"maker":2},[],true,false,null] }"#),
+            Ok(manifest(Some("Ü🔑/\n\""), None, &[("x", r#"[1,-0.5e+3,{"maker":2},[],true,false,null]"#)]))
         );
-        let deep = format!("{{\"x\":{}{}}}", "[".repeat(MAX_DEPTH - 1), "]".repeat(MAX_DEPTH - 1));
-        assert_eq!(read(&deep), Ok(manifest(None, None)));
+        let deep = format!("{}{}", "[".repeat(MAX_DEPTH - 1), "]".repeat(MAX_DEPTH - 1));
+        assert_eq!(read(&format!("{{\"x\":{deep}}}")), Ok(manifest(None, None, &[("x", &deep)])));
+        // one day is no term
+        assert_eq!(read(r#"{"first":"2024-01-01"}"#).map(|manifest| (manifest.first.is_some(), manifest.term())), Ok((true, None)));
+    }
+
+    /// What is written is read again as it was, whichever members there are.
+    #[test]
+    fn round_trips() {
+        let all = whole();
+        for manifest in [all.clone(), Manifest::default(), Manifest { figures: Figures::default(), guide: Guide::default(), ..all.clone() }] {
+            assert_eq!(Manifest::read(manifest.line().as_bytes()), Ok(manifest));
+        }
+        let members = all.line();
+        assert!(members.starts_with("{\"maker\":") && members.ends_with(",\"x\":[1, {\"y\": null}],\"x\":-2.5e3}\n"), "{members}");
+        // each member alone
+        for name in ["maker", "first", "size", "counted", "columns", "guide", "guide_sha256"] {
+            let at = members.find(&format!("\"{name}\":")).expect("a member");
+            let length = (at..members.len()).find(|&end| Manifest::read(format!("{{{}}}", &members[at..end]).as_bytes()).is_ok());
+            let one = Manifest::read(format!("{{{}}}", &members[at..length.expect("a value")]).as_bytes()).expect("a manifest");
+            assert_eq!(Manifest::read(one.line().as_bytes()), Ok(one), "{name}");
+        }
     }
 
     #[test]
@@ -301,9 +311,32 @@ mod tests {
         wrong("{\"a\":1} x", "the end is expected at byte 8, in line 1");
         wrong("{\"a\":\"x", "the end of a string is expected at byte 7, in line 1");
         wrong("{\"a\":\"\\ud800\"}", "a low surrogate after a high one is expected at byte 12, in line 1");
-        let deep = "[".repeat(MAX_DEPTH + 1);
-        wrong(&deep, "it is nested more than 32 deep");
+        wrong(&"[".repeat(MAX_DEPTH + 1), "it is nested more than 32 deep");
         assert_eq!(Manifest::read(b"{\"maker\":\"\xff\"}"), Err("it is not UTF-8".to_owned()));
+    }
+
+    /// Members of another type or form, and days in the wrong order.
+    #[test]
+    fn members_that_are_not_right() {
+        let wrong = |text: &str, words: &str| assert_eq!(Manifest::read(text.as_bytes()), Err(words.to_owned()), "{text}");
+        for value in ["\"3\"", "-1", "1.0", "1e3", "18446744073709551616", "null", "[1]"] {
+            wrong(&format!("{{\"size\":{value}}}"), "its member 'size' is not a whole number");
+        }
+        for value in ["\"2024-02-30\"", "\"20240229\"", "20240229", "\"1999-12-31\"", "\"\""] {
+            let words = "is not a day such as \"2024-02-29\", of the years 2000 to 2099";
+            wrong(&format!("{{\"last\":{value}}}"), &format!("its member 'last' {words}"));
+        }
+        wrong(r#"{"first":"2024-03-01","last":"2024-02-29"}"#, "its last day, 2024-02-29, is before its first, 2024-03-01");
+        wrong("{\"sha256\":\"00\"}", "its member 'sha256' is not a string of 64 hexadecimal digits");
+        wrong("{\"counted\":10}", "its member 'counted' is not a list of bytes");
+        wrong("{\"counted\":[256]}", "its member 'counted' is not a list of bytes, 0 to 255");
+        for name in ["", ".", "..", "/etc/passwd", "../x.guide", "a\\u0000"] {
+            wrong(&format!("{{\"guide\":\"{name}\"}}"), "its member 'guide' is not the name of a file beside the tree");
+        }
+    }
+
+    #[test]
+    fn malformed_texts() {
         let malformed = r#"{
 {"a"
 {"a":
@@ -329,21 +362,39 @@ mod tests {
         }
     }
 
-    /// No input makes it panic: every part of a good manifest, and each with one byte changed.
+    /// No input makes it panic: every part of a good manifest, and each with one byte changed. What is read of such a one is written and read again.
     #[test]
     fn any_bytes_are_read() {
-        let good = r#"{"maker":"\u00dcber \ud83d\udd11","edition":"3","x":[1,-2.5e3,{"y":null}]}"#.as_bytes();
-        assert!(Manifest::read(good).is_ok());
-        for end in 0..good.len() {
-            assert!(Manifest::read(&good[..end]).is_err());
-        }
-        for at in 0..good.len() {
-            for byte in 0..=255 {
-                let mut bytes = good.to_vec();
-                bytes[at] = byte;
-                let read = Manifest::read(&bytes);
-                assert!(!read.is_err_and(|words| words.is_empty()));
+        let line = whole().line();
+        let escaped = r#"{"maker":"\u00dcber \ud83d\udd11","edition":"3","x":[1,-2.5e3,{"y":null}]}"#;
+        for good in [line.trim_end(), escaped].map(str::as_bytes) {
+            assert!(Manifest::read(good).is_ok());
+            for end in 0..good.len() {
+                assert!(Manifest::read(&good[..end]).is_err());
+            }
+            for at in 0..good.len() {
+                for byte in 0..=255 {
+                    let mut bytes = good.to_vec();
+                    bytes[at] = byte;
+                    match Manifest::read(&bytes) {
+                        Ok(manifest) => assert_eq!(Manifest::read(manifest.line().as_bytes()), Ok(manifest)),
+                        Err(words) => assert!(!words.is_empty()),
+                    }
+                }
             }
         }
+    }
+
+    #[test]
+    fn differences() {
+        let due = whole().figures;
+        assert_eq!((due.difference(&due), due.difference(&Figures::default()), Figures::default().difference(&due)), (None, None, None));
+        let found = Figures { size: Some(5885), levels: Some(4), ..due.clone() };
+        assert_eq!(due.difference(&found).as_deref(), Some("its size is 5,884, and it is 5,885"));
+        let found = Figures { counted: Some(vec![10]), ..due.clone() };
+        assert_eq!(due.difference(&found).as_deref(), Some("the list of its counted bytes is 0x00, 0x0a, 0xff, and it is 0x0a"));
+        let found = Figures { sha256: due.text_sha256, ..due.clone() };
+        let words = format!("its SHA-256 is {}, and it is {}", "01".repeat(32), "02".repeat(32));
+        assert_eq!(due.difference(&found), Some(words));
     }
 }

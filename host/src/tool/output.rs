@@ -17,6 +17,8 @@ pub struct Output {
     /// What to call it.
     pub name: String,
     place: Place,
+    /// What is still to be written, where it is no file.
+    waiting: Vec<u8>,
 }
 
 enum Place {
@@ -53,17 +55,29 @@ impl Output {
         if !told && io::stdout().is_terminal() {
             return Err(Failure::usage("this would go to the terminal; give -o FILE, or -o - if that is meant"));
         }
-        Ok(Output { name: "standard output".to_owned(), place: Place::Standard })
+        Ok(Output { name: "standard output".to_owned(), place: Place::Standard, waiting: Vec::new() })
     }
 
     fn file(path: &Path, force: bool, source: &Source) -> Result<Self, Failure> {
+        Output::file_within(path, force, source, Vec::new())
+    }
+
+    /// The manifest beside this file, `path`: its permissions are no wider than those of this file, of what this file replaces, and of what it replaces itself.
+    pub fn beside(&self, path: &Path, given: &Given, source: &Source) -> Result<Self, Failure> {
+        let Place::File(spool) = &self.place else {
+            return Err(given.usage(format!("a manifest is written beside a file, and {} is none", self.name)));
+        };
+        Output::file_within(path, given.has(&FORCE), source, spool.access.clone())?.timed(given, source)
+    }
+
+    fn file_within(path: &Path, force: bool, source: &Source, mut access: Vec<Access>) -> Result<Self, Failure> {
         let name = path.to_string_lossy().into_owned();
         let unwritten = |error: io::Error| Failure::file(&name, format!("cannot be written: {error}"));
         let (target, old) = match fs::metadata(path) {
             Ok(old) if old.is_dir() => return Err(Failure::file(&name, "is a directory, not a file")),
             Ok(old) if !old.is_file() => {
                 let file = OpenOptions::new().write(true).open(path).map_err(unwritten)?;
-                return Ok(Output { name, place: Place::Special(file) });
+                return Ok(Output { name, place: Place::Special(file), waiting: Vec::new() });
             }
             Ok(old) => {
                 apart(&name, &old, source)?;
@@ -79,27 +93,61 @@ impl Output {
         if old.is_some() && !force {
             return Err(Failure::file(&name, EXISTS));
         }
-        let access: Vec<Access> = source.metadata().iter().chain(&old).map(Access::of).collect();
-        let spool = Spool::create(target, force, &access).map_err(unwritten)?;
-        Ok(Output { name, place: Place::File(spool) })
+        access.extend(source.metadata().iter().chain(&old).map(Access::of));
+        let spool = Spool::create(target, force, access).map_err(unwritten)?;
+        Ok(Output { name, place: Place::File(spool), waiting: Vec::new() })
     }
 
     pub fn is_standard(&self) -> bool {
         matches!(self.place, Place::Standard)
     }
 
+    /// An ordinary file, not a device, a pipe or standard output.
+    pub fn is_file(&self) -> bool {
+        matches!(self.place, Place::File(_))
+    }
+
     /// Write all of it, or leave a file as it was.
-    pub fn write(self, bytes: &[u8]) -> Result<(), Failure> {
-        let written = match self.place {
-            Place::Standard => return say::print_whole(bytes),
-            Place::Special(mut file) => file.write_all(bytes),
-            Place::File(spool) => spool.finish(bytes),
+    pub fn write(mut self, bytes: &[u8]) -> Result<(), Failure> {
+        if self.is_standard() {
+            return say::print_whole(bytes);
+        }
+        self.fill(bytes)?;
+        self.finish(None)
+    }
+
+    /// Write the bytes of a file, which has no name yet. What goes elsewhere waits for its turn.
+    pub fn fill(&mut self, bytes: &[u8]) -> Result<(), Failure> {
+        match &mut self.place {
+            Place::File(spool) => spool.fill(bytes).map_err(|error| unwritten(&self.name, &error)),
+            Place::Standard | Place::Special(_) => {
+                self.waiting = bytes.to_vec();
+                Ok(())
+            }
+        }
+    }
+
+    /// Store what was filled and give it its name; with a manifest, its own first: whatever comes between, no tree is left without the term of its licence.
+    pub fn finish(self, manifest: Option<Output>) -> Result<(), Failure> {
+        let Output { name, place, waiting } = self;
+        let written = match (place, manifest) {
+            (Place::File(tree), Some(Output { name: beside, place: Place::File(manifest), .. })) => {
+                return manifest.finish_both(tree).map_err(|(of_tree, error)| unwritten(if of_tree { &name } else { &beside }, &error));
+            }
+            (_, Some(manifest)) => return Err(Failure::file(&manifest.name, "is not a file, and no manifest is written to it")),
+            (Place::Standard, None) => return say::print_whole(&waiting),
+            (Place::Special(mut file), None) => file.write_all(&waiting),
+            (Place::File(spool), None) => spool.finish(),
         };
-        written.map_err(|error| match error.kind() {
-            // it has come meanwhile
-            ErrorKind::AlreadyExists => Failure::file(&self.name, EXISTS),
-            _ => Failure::file(&self.name, format!("cannot be written: {error}")),
-        })
+        written.map_err(|error| unwritten(&name, &error))
+    }
+}
+
+fn unwritten(name: &str, error: &io::Error) -> Failure {
+    match error.kind() {
+        // it has come meanwhile
+        ErrorKind::AlreadyExists => Failure::file(name, EXISTS),
+        _ => Failure::file(name, format!("cannot be written: {error}")),
     }
 }
 

@@ -4,60 +4,94 @@ use crate::say;
 use std::io::{self, IsTerminal};
 use std::sync::atomic::{AtomicU64, AtomicUsize, Ordering};
 use std::sync::mpsc::{self, RecvTimeoutError};
+use std::sync::{Mutex, PoisonError};
 use std::thread;
 use std::time::{Duration, Instant};
 
 /// How far the work is.
-#[derive(Default)]
-struct State {
+pub struct Progress<'a> {
+    /// What the parts are called, and their shares of the work.
+    what: &'static str,
+    costs: &'a [u64],
+    start: Instant,
     done: AtomicUsize,
     /// What the parts that are done cost, and how many milliseconds had gone by then.
     spent: AtomicU64,
     time: AtomicU64,
+    /// Is the line on the terminal?
+    shown: Mutex<bool>,
+}
+
+impl Progress<'_> {
+    /// A part is done.
+    pub fn done(&self, part: usize) {
+        self.done.fetch_add(1, Ordering::Relaxed);
+        self.spent.fetch_add(self.costs[part], Ordering::Relaxed);
+        self.time.store(self.start.elapsed().as_millis() as u64, Ordering::Relaxed);
+    }
+
+    /// Print something while the line is away.
+    pub fn above<T>(&self, print: impl FnOnce() -> T) -> T {
+        let mut shown = self.shown.lock().unwrap_or_else(PoisonError::into_inner);
+        clear(&mut shown);
+        print()
+    }
+
+    fn line(&self) -> String {
+        let (spent, time) = (self.spent.load(Ordering::Relaxed), Duration::from_millis(self.time.load(Ordering::Relaxed)));
+        let (total, elapsed) = (self.costs.iter().sum(), self.start.elapsed());
+        line(self.what, self.done.load(Ordering::Relaxed), self.costs.len(), elapsed, estimate(spent, time, total, elapsed))
+    }
+
+    /// Four times a second, and away with it at the end.
+    fn tick(&self, wait: &mpsc::Receiver<()>) {
+        while wait.recv_timeout(Duration::from_millis(250)) == Err(RecvTimeoutError::Timeout) {
+            if self.start.elapsed() >= Duration::from_millis(500) {
+                let mut shown = self.shown.lock().unwrap_or_else(PoisonError::into_inner);
+                say::tell(&format!("\r{}\x1b[K", self.line()));
+                *shown = true;
+            }
+        }
+        clear(&mut self.shown.lock().unwrap_or_else(PoisonError::into_inner));
+    }
+}
+
+fn clear(shown: &mut bool) {
+    if *shown {
+        say::tell("\r\x1b[K");
+    }
+    *shown = false;
 }
 
 /// Do `work`, which says when a part is done, and show meanwhile on standard error how far it is. `costs` are the parts' shares of it.
-pub fn show(costs: &[u64], quiet: bool, work: impl FnOnce(&(dyn Fn(usize) + Sync))) {
-    let (state, start) = (State::default(), Instant::now());
-    let count = |part: usize| {
-        state.done.fetch_add(1, Ordering::Relaxed);
-        state.spent.fetch_add(costs[part], Ordering::Relaxed);
-        state.time.store(start.elapsed().as_millis() as u64, Ordering::Relaxed);
+pub fn show(what: &'static str, costs: &[u64], quiet: bool, work: impl FnOnce(&Progress)) {
+    let progress = Progress {
+        what,
+        costs,
+        start: Instant::now(),
+        done: AtomicUsize::new(0),
+        spent: AtomicU64::new(0),
+        time: AtomicU64::new(0),
+        shown: Mutex::new(false),
     };
     if quiet || !io::stderr().is_terminal() {
-        return work(&count);
+        return work(&progress);
     }
-    let total: u64 = costs.iter().sum();
-    let line = || {
-        let (spent, time) = (state.spent.load(Ordering::Relaxed), Duration::from_millis(state.time.load(Ordering::Relaxed)));
-        line(state.done.load(Ordering::Relaxed), costs.len(), start.elapsed(), estimate(spent, time, total, start.elapsed()))
-    };
     let (finished, wait) = mpsc::channel::<()>();
     thread::scope(|scope| {
-        let _ = thread::Builder::new().spawn_scoped(scope, || tick(start, line, wait));
-        work(&count);
+        let _ = thread::Builder::new().spawn_scoped(scope, || {
+            let wait = wait;
+            progress.tick(&wait);
+        });
+        work(&progress);
         drop(finished);
     });
 }
 
-/// Four times a second, and away with it at the end.
-fn tick(start: Instant, line: impl Fn() -> String, wait: mpsc::Receiver<()>) {
-    let mut shown = false;
-    while wait.recv_timeout(Duration::from_millis(250)) == Err(RecvTimeoutError::Timeout) {
-        if start.elapsed() >= Duration::from_millis(500) {
-            say::tell(&format!("\r{}\x1b[K", line()));
-            shown = true;
-        }
-    }
-    if shown {
-        say::tell("\r\x1b[K");
-    }
-}
-
 /// How many are done, the time, and the time that the rest will take.
-fn line(done: usize, parts: usize, time: Duration, left: Duration) -> String {
+fn line(what: &str, done: usize, parts: usize, time: Duration, left: Duration) -> String {
     let left = if left.is_zero() { "soon done".to_owned() } else { format!("about {:.1} s left", left.as_secs_f64()) };
-    format!("building: {done} of {parts} trees done, {:.1} s, {left}", time.as_secs_f64())
+    format!("building: {done} of {parts} {what} done, {:.1} s, {left}", time.as_secs_f64())
 }
 
 /// The time left after `elapsed`: what is done took `time`, and the rest goes at that rate; before a part is done, at that of a common machine.
@@ -79,7 +113,7 @@ mod tests {
         assert_eq!(estimate(100, second, 400, 3 * second), second);
         assert_eq!(estimate(100, second, 400, 5 * second), Duration::ZERO);
         assert_eq!(estimate(0, Duration::ZERO, 300_000_000, second), 2 * second);
-        assert_eq!(line(2, 6, second, 3 * second), "building: 2 of 6 trees done, 1.0 s, about 3.0 s left");
-        assert_eq!(line(5, 6, second, Duration::ZERO), "building: 5 of 6 trees done, 1.0 s, soon done");
+        assert_eq!(line("trees", 2, 6, second, 3 * second), "building: 2 of 6 trees done, 1.0 s, about 3.0 s left");
+        assert_eq!(line("books", 5, 6, second, Duration::ZERO), "building: 5 of 6 books done, 1.0 s, soon done");
     }
 }

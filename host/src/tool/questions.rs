@@ -1,15 +1,16 @@
 //! The questions put to one tree.
 
+use crate::beside::Beside;
 use crate::check::open;
 use crate::given::Given;
 use crate::guide::check_guide;
 use crate::input::{self, GUIDE, TREE};
 use crate::json::Object;
+use crate::manifest::Figures;
 use crate::say::{self, several};
 use crate::table::{self, AFTER, FROM, ROW_COLUMNS, UNCHECKED};
 use crate::{by_columns, reasons, values, Failure};
 use codebook::{text_rows, Range, Reached, Refusal, Tree};
-use std::io::Write;
 
 /// A question.
 #[derive(Clone, Debug, PartialEq, Eq)]
@@ -59,10 +60,22 @@ impl Page {
     /// A row that matches, with its number.
     fn matching(&mut self, q: u32, row: &[u8]) {
         if !self.json {
-            // memory takes all that is written
-            let _ = write!(self.bytes, "row {q}: ");
+            self.bytes.extend_from_slice(b"row ");
+            self.decimal(q);
+            self.bytes.extend_from_slice(b": ");
         }
         self.row(q, row);
+    }
+
+    /// A number in decimal. The standard library's formatting would take a tenth of what a short row takes in all.
+    fn decimal(&mut self, mut number: u32) {
+        let (mut digits, mut from) = ([b'0'; 10], 10);
+        while from == 10 || number > 0 {
+            from -= 1;
+            digits[from] = b'0' + (number % 10) as u8;
+            number /= 10;
+        }
+        self.bytes.extend_from_slice(&digits[from..]);
     }
 
     /// An object ends its line itself.
@@ -80,7 +93,11 @@ pub fn ask(given: &Given) -> Result<(), Failure> {
     let file = given.command.words.iter().position(|word| word.name == "TREE").and_then(|at| given.file(at));
     let input = input::read(file, &TREE)?;
     let guide = given.path(&table::GUIDE).map(|path| input::read(Some(path), &GUIDE)).transpose()?;
+    let beside = Beside::admit(given, file, &input.name)?;
     let tree = open(&input, unchecked)?;
+    if let Some(beside) = beside.as_ref().filter(|_| !unchecked) {
+        question.fits(beside, &input.name, tree)?;
+    }
     if let Some(guide) = guide.as_ref().filter(|_| !unchecked) {
         check_guide(tree, guide)?;
     }
@@ -139,6 +156,17 @@ impl Question {
             Question::Match(..) | Question::Next(..) => Some("no row matches".to_owned()),
             _ => None,
         }
+    }
+
+    /// A failure where the tree is not as its manifest says, or its rows are not read so.
+    fn fits(&self, beside: &Beside, name: &str, tree: Tree) -> Result<(), Failure> {
+        beside.describes(name, &Figures::of(tree, None))?;
+        let other = match self {
+            Question::ColumnRows(_, _, width) => beside.other_width(Some(*width)),
+            Question::Rows(..) | Question::Match(..) | Question::Next(..) => beside.other_width(None),
+            _ => None,
+        };
+        other.map_or(Ok(()), |words| Err(reasons::refused(name, self, &words)))
     }
 
     /// Why the tree is not one that the question is meant for.

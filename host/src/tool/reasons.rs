@@ -43,7 +43,7 @@ fn asked(question: &Question) -> Option<String> {
 }
 
 /// A byte as a call takes it.
-fn typed(byte: u8) -> String {
+pub fn typed(byte: u8) -> String {
     match byte {
         b'!'..=b'~' => char::from(byte).to_string(),
         _ => format!("0x{byte:02x}"),

@@ -31,6 +31,15 @@ pub fn tell(words: &str) {
     let _ = io::stderr().write_all(words.as_bytes());
 }
 
+/// A report: on standard error where a tree goes to standard output, else there.
+pub fn to(standard_error: bool, text: &str) -> Result<(), Failure> {
+    if standard_error {
+        tell(text);
+        return Ok(());
+    }
+    print(text.as_bytes())
+}
+
 /// A number with its thousands parted.
 pub fn grouped(number: impl Into<u64>) -> String {
     let digits = number.into().to_string();

@@ -4,7 +4,7 @@
 //! the moment in which an older file is replaced, it has a hidden name, which signals remove.
 
 use crate::attributes::{Access, Times};
-use crate::signals;
+use crate::signals::{held, Hidden};
 use std::ffi::CString;
 use std::fs::{self, File, OpenOptions};
 use std::io::{self, ErrorKind, Write};
@@ -13,6 +13,7 @@ use std::os::raw::{c_char, c_int, c_long, c_uint};
 use std::os::unix::ffi::OsStrExt;
 use std::os::unix::fs::OpenOptionsExt;
 use std::path::{Path, PathBuf};
+use std::sync::atomic::{AtomicUsize, Ordering};
 
 // Linux on x86-64
 const O_TMPFILE: c_int = 0o20_200_000;
@@ -25,43 +26,84 @@ const EOPNOTSUPP: i32 = 95;
 /// The number of renameat2(2), which not every C library has.
 const RENAMEAT2: c_long = 316;
 const RENAME_NOREPLACE: c_uint = 1;
+const SYNC_FILE_RANGE_WRITE: c_uint = 2;
 
 extern "C" {
     fn linkat(old_folder: c_int, old: *const c_char, new_folder: c_int, new: *const c_char, flags: c_int) -> c_int;
     fn syscall(number: c_long, ...) -> c_long;
+    fn sync_file_range(file: c_int, offset: i64, length: i64, flags: c_uint) -> c_int;
+}
+
+/// A hidden name, and what has signals remove it.
+struct HiddenName {
+    path: PathBuf,
+    entry: &'static Hidden,
 }
 
 pub struct Spool {
     file: File,
     /// Its hidden name, if it has one.
-    hidden: Option<PathBuf>,
+    hidden: Option<HiddenName>,
     target: PathBuf,
     /// Replace a file of that name, also one that comes meanwhile.
     force: bool,
     /// The times that the file gets; None for those of its writing.
     pub times: Option<Times>,
+    /// The permissions of what is read and of what is replaced.
+    pub access: Vec<Access>,
 }
 
 impl Spool {
-    /// `access` has the permissions of what is read and of what is replaced.
-    pub fn create(target: PathBuf, force: bool, access: &[Access]) -> io::Result<Self> {
+    pub fn create(target: PathBuf, force: bool, access: Vec<Access>) -> io::Result<Self> {
         let mode = if access.is_empty() { 0o666 } else { 0o600 };
         let (file, hidden) = match nameless(folder(&target), mode)? {
             Some(file) => (file, None),
-            None => under_hidden_name(folder(&target), |path| OpenOptions::new().write(true).create_new(true).mode(mode).open(path))
-                .map(|(file, path)| (file, Some(path)))?,
+            None => held(|| under_hidden_name(folder(&target), |path| OpenOptions::new().write(true).create_new(true).mode(mode).open(path)))
+                .map(|(file, hidden)| (file, Some(hidden)))?,
         };
-        let spool = Spool { file, hidden, target, force, times: None };
-        Access::give(access, &spool.file)?;
+        let spool = Spool { file, hidden, target, force, times: None, access };
+        Access::give(&spool.access, &spool.file)?;
         Ok(spool)
     }
 
-    /// Write, store, and only then take the name.
-    pub fn finish(mut self, bytes: &[u8]) -> io::Result<()> {
+    /// Write what the file has, and have the system begin to store it.
+    pub fn fill(&mut self, bytes: &[u8]) -> io::Result<()> {
         self.file.write_all(bytes)?;
+        // Safety: the file is open. What cannot be begun now is done by `store`.
+        unsafe { sync_file_range(self.file.as_raw_fd(), 0, 0, SYNC_FILE_RANGE_WRITE) };
+        Ok(())
+    }
+
+    /// Wait until all is stored, and only then take the name.
+    pub fn finish(mut self) -> io::Result<()> {
+        self.store()?;
+        held(|| self.take_name())?;
+        self.sync_folder()
+    }
+
+    /// The same of two files that belong together: the first takes its name before the second, and loses it again where the second cannot take its own and
+    /// no older file was replaced. A failure says whether it was the second file's.
+    pub fn finish_both(mut self, mut second: Spool) -> Result<(), (bool, io::Error)> {
+        self.store().map_err(|error| (false, error))?;
+        second.store().map_err(|error| (true, error))?;
+        held(|| {
+            let replaces = fs::symlink_metadata(&self.target).is_ok();
+            self.take_name().map_err(|error| (false, error))?;
+            let named = self.sync_folder().map_err(|error| (false, error)).and_then(|()| second.take_name().map_err(|error| (true, error)));
+            if named.is_err() && !replaces {
+                let _ = fs::remove_file(&self.target);
+            }
+            named
+        })?;
+        second.sync_folder().map_err(|error| (true, error))
+    }
+
+    fn store(&mut self) -> io::Result<()> {
         self.times.map_or(Ok(()), |times| times.set(&self.file))?;
-        self.file.sync_all()?;
-        self.take_name()?;
+        self.file.sync_all()
+    }
+
+    fn sync_folder(&self) -> io::Result<()> {
         // a folder that may be written need not be one that may be read
         File::open(folder(&self.target)).map_or(Ok(()), |folder| folder.sync_all())
     }
@@ -77,12 +119,12 @@ impl Spool {
         }
         if let Some(hidden) = &self.hidden {
             match self.force {
-                true => fs::rename(hidden, &self.target)?,
-                false => rename_new(hidden, &self.target)?,
+                true => fs::rename(&hidden.path, &self.target)?,
+                false => rename_new(&hidden.path, &self.target)?,
             }
+            hidden.entry.forget();
         }
         self.hidden = None;
-        signals::forget();
         Ok(())
     }
 }
@@ -90,8 +132,8 @@ impl Spool {
 impl Drop for Spool {
     fn drop(&mut self) {
         if let Some(hidden) = &self.hidden {
-            let _ = fs::remove_file(hidden);
-            signals::forget();
+            let _ = fs::remove_file(&hidden.path);
+            hidden.entry.forget();
         }
     }
 }
@@ -113,19 +155,17 @@ fn nameless(folder: &Path, mode: u32) -> io::Result<Option<File>> {
     }
 }
 
-/// Make a file under a hidden name that is not in use, and have signals remove it.
-fn under_hidden_name<T>(folder: &Path, make: impl Fn(&Path) -> io::Result<T>) -> io::Result<(T, PathBuf)> {
-    let mut number = 0;
+/// Make a file under a hidden name that is not in use, and have signals remove it; signals are held meanwhile.
+fn under_hidden_name<T>(folder: &Path, make: impl Fn(&Path) -> io::Result<T>) -> io::Result<(T, HiddenName)> {
+    /// The next name of this process.
+    static NEXT: AtomicUsize = AtomicUsize::new(0);
+    let mut tries = 0;
     loop {
-        let path = folder.join(format!(".codebook-{}-{number}.part", std::process::id()));
-        signals::remember(&path);
+        let path = folder.join(format!(".codebook-{}-{}.part", std::process::id(), NEXT.fetch_add(1, Ordering::Relaxed)));
         match make(&path) {
-            Ok(made) => return Ok((made, path)),
-            Err(error) if error.kind() == ErrorKind::AlreadyExists && number < 100 => number += 1,
-            Err(error) => {
-                signals::forget();
-                return Err(error);
-            }
+            Ok(made) => return Ok((made, HiddenName { entry: Hidden::remember(&path), path })),
+            Err(error) if error.kind() == ErrorKind::AlreadyExists && tries < 100 => tries += 1,
+            Err(error) => return Err(error),
         }
     }
 }

@@ -1,25 +1,63 @@
 //! `stats`, `list` and `sizes`.
 
+use crate::beside::Beside;
 use crate::build::{self, listed, shape, share};
 use crate::check::{open, refused};
 use crate::given::Given;
 use crate::input::{self, TREE};
 use crate::json::Object;
+use crate::manifest::{Figures, Manifest};
 use crate::say::{self, grouped};
 use crate::Failure;
 use codebook::{enough, scan_words, Tree};
+use std::path::Path;
 
 pub fn stats(given: &Given) -> Result<(), Failure> {
     given.each(|path| {
         let input = input::read(path, &TREE)?;
         let tree = open(&input, false)?;
+        let beside = beside(given, path, &input.name, tree);
         let text = match (given.json(), given.words.len() > 1) {
-            (true, _) => object(&input.name, tree).line(),
-            (false, true) => line(&input.name, tree),
-            (false, false) => table(&input.name, tree),
+            (true, _) => described(object(&input.name, tree), beside.as_ref()).line(),
+            (false, true) => line(&input.name, tree, beside.as_ref()),
+            (false, false) => table(&input.name, tree, beside.as_ref()),
         };
         say::print(text.as_bytes())
     })
+}
+
+/// The manifest beside a tree. What is wrong with it is told, and the tree is described all the same.
+fn beside(given: &Given, path: Option<&Path>, name: &str, tree: Tree) -> Option<Beside> {
+    let beside = Beside::read(path).map_err(|unusable| unusable.warn(given)).ok()??;
+    let difference = beside.manifest.figures.difference(&Figures::of(tree, None));
+    if let Some(difference) = difference.filter(|_| !given.quiet()) {
+        say::tell(&format!("codebook: {name}: warning: by {} {difference}\n", beside.name()));
+    }
+    Some(beside)
+}
+
+/// What the manifest adds to a tree's object.
+fn described(object: Object, beside: Option<&Beside>) -> Object {
+    let Some(beside) = beside else { return object };
+    let Manifest { columns, guide, .. } = &beside.manifest;
+    let object = beside.manifest.book(object.text("manifest", &beside.name()));
+    let object = columns.map_or(object.clone(), |columns| object.number("columns", columns));
+    guide.name.as_ref().map_or(object.clone(), |guide| object.text("guide", guide))
+}
+
+/// The manifest, a line for each thing that it says.
+fn from_manifest(beside: &Beside) -> String {
+    let Manifest { maker, edition, columns, guide, .. } = &beside.manifest;
+    let escaped = |value: &Option<String>| value.as_ref().map(|value| value.escape_debug().to_string());
+    let lines = [
+        ("maker", escaped(maker)),
+        ("edition", escaped(edition)),
+        ("licence", beside.manifest.term().map(|term| term.to_string())),
+        ("columns", columns.map(|columns| format!("rows of {} by columns", say::several(columns, "byte")))),
+        ("guide", escaped(&guide.name)),
+    ];
+    let shown = |(what, value): (&str, Option<String>)| value.map(|value| format!("{what:<12}{value}\n"));
+    format!("manifest    {}\n", beside.name()) + &lines.into_iter().filter_map(shown).collect::<String>()
 }
 
 /// Where a tree's bytes go.
@@ -51,11 +89,14 @@ fn totals(tree: Tree) -> Vec<(u8, u64)> {
 }
 
 /// One of several.
-fn line(name: &str, tree: Tree) -> String {
+fn line(name: &str, tree: Tree, beside: Option<&Beside>) -> String {
     let rows = tree.rows().map_or(String::new(), |rows| format!(", {}", say::several(rows, "row")));
     let (size, length) = (tree.size(), tree.text_length());
+    let manifest = beside.map(|beside| &beside.manifest);
+    let term = manifest.and_then(Manifest::term).map(|term| term.to_string());
+    let known: String = manifest.map(Manifest::known).unwrap_or_default().into_iter().chain(term).map(|value| format!("; {value}")).collect();
     format!(
-        "{name}: {} bytes, {}; {} bytes of text{rows}; {}\n",
+        "{name}: {} bytes, {}; {} bytes of text{rows}; {}{known}\n",
         grouped(size as u64),
         share(size, length as usize),
         grouped(length),
@@ -63,7 +104,7 @@ fn line(name: &str, tree: Tree) -> String {
     )
 }
 
-fn table(name: &str, tree: Tree) -> String {
+fn table(name: &str, tree: Tree, beside: Option<&Beside>) -> String {
     let (settings, length) = (tree.settings(), tree.text_length());
     let mut text = format!("{name}: {} bytes, {}\n", grouped(tree.size() as u64), share(tree.size(), length as usize));
     let edges = if tree.layout() == 2 { "with edges, for short spans in one walk" } else { "without edges" };
@@ -74,6 +115,7 @@ fn table(name: &str, tree: Tree) -> String {
     if let Ok(rows) = tree.rows() {
         text += &format!("rows        {}\n", grouped(rows));
     }
+    text += &beside.map_or(String::new(), from_manifest);
     text += "the tree's bytes\n";
     for (part, bytes) in parts(tree) {
         text += &format!("  {part:<10}{:>12}  {:>5.1} %\n", grouped(bytes), 100.0 * bytes as f64 / tree.size() as f64);

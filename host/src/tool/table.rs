@@ -79,6 +79,27 @@ pub static COLUMNS: Opt =
 pub static ALLOW_LARGER: Opt = flag("--allow-larger", None, "write the tree by columns though the one by rows is smaller");
 pub static ROW_COLUMNS: Opt = valued("--columns", "W", "the tree is of a book by columns, of rows of W bytes, end byte included");
 pub static SMALL: Opt = flag("--small", None, "a tree without edges (layout 1): smaller; spans of nearly a leaf length take longer");
+pub static JOBS: Opt = Opt {
+    long: "--jobs",
+    short: Some('j'),
+    value: Some("N"),
+    file: false,
+    help: "build with N threads at a time; otherwise as many as there are processors",
+};
+pub static MAKER: Opt = valued("--maker", "NAME", "write a manifest: who made the book");
+pub static EDITION: Opt = valued("--edition", "NAME", "write a manifest: the book's edition");
+pub static FIRST: Opt = valued("--first", "DAY", "write a manifest: the first day of the licence, as 2024-02-29; with --last");
+pub static LAST: Opt = valued("--last", "DAY", "write a manifest: the last day of the licence, on which the book is still open");
+pub static ANY_DAY: Opt = flag("--any-day", None, "answer although the book's licence is not open today, or its manifest is malformed");
+pub static TODAY: Opt = valued("--today", "DAY", "the day that is taken for today, as 2024-02-29; otherwise the clock's in universal time");
+pub static SUMS: Opt = flag("--sums", None, "print for each tree a line in the form of sha256sum, which sha256sum -c reads");
+pub static LIST: Opt = Opt {
+    long: "--list",
+    short: Some('c'),
+    value: Some("LIST"),
+    file: true,
+    help: "check the trees that LIST names, lines in the form of sha256sum; each must have its SHA-256",
+};
 pub static SHA256: Opt = valued("--sha256", "HEX", "the SHA-256 that the tree must have");
 pub static TEXT_SHA256: Opt = valued("--text-sha256", "HEX", "the SHA-256 that the tree's text must have");
 pub static GUIDE: Opt = Opt {
@@ -120,7 +141,7 @@ pub static COMMANDS: [Command; 35] = [
     Command {
         name: "build",
         words: &[any("BOOK")],
-        options: &[&OUTPUT, &FORCE, &KEEP_TIME, &SMALL, &LEAF, &ARITY, &LEVELS, &COUNT, &COLUMNS, &ALLOW_LARGER, &JSON],
+        options: &[&OUTPUT, &FORCE, &KEEP_TIME, &SMALL, &LEAF, &ARITY, &LEVELS, &COUNT, &COLUMNS, &ALLOW_LARGER, &MAKER, &EDITION, &FIRST, &LAST, &JOBS, &JSON],
         summary: "build the trees of books",
         details: concat!(
             "A BOOK is any text of up to ",
@@ -131,7 +152,10 @@ pub static COMMANDS: [Command; 35] = [
              With --small the tree has no edges, and the list is that of such trees (256/2/1, 256/2/2, 192/2/2, 128/2/2, 96/2/2, 96/2/4 and 64/2/5). \
              The SHA-256 of the tree and that of its text are printed, to be printed with the book or kept apart from the tree: check compares them.\n\
              Warnings tell what a reader would miss: rows that are not code, space, cuts; a byte order mark; no row at all; a tree that is no smaller than its text, and what --small would give where that is smaller.\n\
-             With --columns the tree is that of the book by columns, whose rows all have W bytes, byte 10 at the end and nowhere else. It is not written where the tree by rows is smaller, unless --allow-larger is given. Such a tree is read by row --columns; it does not say itself that its text is rearranged."
+             With --columns the tree is that of the book by columns, whose rows all have W bytes, byte 10 at the end and nowhere else. It is not written where the tree by rows is smaller, unless --allow-larger is given. Such a tree is read by row --columns; it does not say itself that its text is rearranged, but its manifest does.\n\
+             Several books are built N at a time (-j N), and written and reported in the order in which they are given; a table and the sums of all follow, and each kind of warning once. A book that fails does not stop the others.\n\
+             With --maker, --edition, or --first and --last, a manifest is written beside each tree, TREE.json: what these options say, the tree's settings, and the lengths and SHA-256 of the tree and of its text. check compares it; questions refuse a book whose licence is not open today. \
+             The manifest takes its name just before the tree, so that no tree is left without it. A manifest that is there and does not describe the tree is never left beside it: the tree is not written."
         ),
         run: build::build,
     },
@@ -141,7 +165,8 @@ pub static COMMANDS: [Command; 35] = [
         options: &[&OUTPUT, &FORCE, &KEEP_TIME, &JSON],
         summary: "write trees without their edges",
         details: "Checks each TREE and writes it in layout 1, without its edges: the same tree of the same text, never larger. It goes to a file with the tree's name and the ending .small.tree, in place of .tree or after any other ending, or to FILE; where FILE is a folder, into that one. The TREE that is read is never overwritten. The tree that is written gets its permissions, never wider ones. The tree of standard input goes to standard output. \
-                  Every question has the same answer; spans of nearly a leaf length take longer. A TREE that has no edges is copied.",
+                  Every question has the same answer; spans of nearly a leaf length take longer. A TREE that has no edges is copied. \
+                  Where a manifest TREE.json describes the tree, the new tree gets one with the same maker, edition, licence and columns, and its own figures; a guide or other members are not carried over.",
         run: slim::slim,
     },
     Command {
@@ -158,11 +183,13 @@ pub static COMMANDS: [Command; 35] = [
     Command {
         name: "check",
         words: &TREES,
-        options: &[&SHA256, &TEXT_SHA256, &JSON],
+        options: &[&SHA256, &TEXT_SHA256, &SUMS, &LIST, &JSON],
         summary: "check trees, from anyone",
         details: "Says whether a tree is valid: right in all its parts, with true counts and edges. Prints the SHA-256 of the tree and of its text. \
                   A tree with one leaf byte changed, and its edges with it, is a valid tree of another book, and gives a wrong key. So compare the text with the digest that the maker of the book printed (--text-sha256), or the tree's file with that of the tree (--sha256). \
-                  A digest is as good as the way it came: one that came with the tree shows nothing.",
+                  A digest is as good as the way it came: one that came with the tree shows nothing.\n\
+                  Where a manifest TREE.json is beside the tree, all that it says of the tree, and of a guide that it names, must be true. \
+                  With --sums a line is printed for each tree, as sha256sum prints it of the tree's file; -c LIST checks the trees of such a list, from codebook or from sha256sum. Names are those of the current folder, as with sha256sum -c; a line of another form is refused.",
         run: check::check,
     },
     Command {
@@ -170,7 +197,7 @@ pub static COMMANDS: [Command; 35] = [
         words: &[one("BOOK"), one("TREE"), any("BOOK TREE")],
         options: &[&COLUMNS, &JSON],
         summary: "compare trees with their books",
-        details: "Says whether TREE is a good tree of the text BOOK, and whether it is the one that build makes, byte for byte; where it is not of that text, which byte differs first.",
+        details: "Says whether TREE is a valid tree of the text BOOK, and whether it is the one that build makes, byte for byte; where it is not of that text, which byte differs first.",
         run: check::verify,
     },
     Command {
@@ -184,7 +211,7 @@ pub static COMMANDS: [Command; 35] = [
     Command {
         name: "diff",
         words: &[one("ONE"), one("OTHER")],
-        options: &[&JSON],
+        options: &[&JSON, &ANY_DAY, &TODAY],
         summary: "print the rows that differ between two books or trees",
         details: "Rows are compared by code, the bytes before the first space: a row is removed, added, or changed, if the same code has other cuts. Their order does not matter, and a code may have several rows. ONE and OTHER are trees, which are checked first, or books. \
                   The text of a tree by columns is turned back first, by text and from-columns.\n\
@@ -204,7 +231,7 @@ pub static COMMANDS: [Command; 35] = [
         words: &TREES,
         options: &[&JSON],
         summary: "describe trees",
-        details: "Sizes, settings, rows, what is counted, where the tree's bytes go, and the blocks of each level. With several trees, one line for each.",
+        details: "Sizes, settings, rows, what is counted, what its manifest TREE.json says, where the tree's bytes go, and the blocks of each level. With several trees, one line for each.",
         run: stats::stats,
     },
     Command {
@@ -218,16 +245,16 @@ pub static COMMANDS: [Command; 35] = [
     Command {
         name: "row",
         words: &[one("ROWS"), maybe("TREE")],
-        options: &[&GUIDE, &ROW_COLUMNS, &JSON, &UNCHECKED],
+        options: &[&GUIDE, &ROW_COLUMNS, &JSON, &UNCHECKED, &ANY_DAY, &TODAY],
         summary: "print a row of the book, or several",
         details: "ROWS is a number from 1 to the number of rows, or a range such as 5..20, both included, 5.. or ..20. A row ends in byte 10, or in bytes 13 and 10; the tree must count byte 10 (it does unless build was told otherwise). \
-                  It is printed with a plain line end, without the 13. If the book's last byte is another one, what follows the last byte 10 is a row too. With --columns a width at which the rows do not all end in byte 10 is refused.",
+                  It is printed with a plain line end, without the 13. If the book's last byte is another one, what follows the last byte 10 is a row too. With --columns a width at which the rows do not all end in byte 10 is refused, and one that is not the manifest's.",
         run: questions::ask,
     },
     Command {
         name: "byte",
         words: &[one("PLACE"), maybe("TREE")],
-        options: &[&JSON, &UNCHECKED],
+        options: &[&JSON, &UNCHECKED, &ANY_DAY, &TODAY],
         summary: "print the byte at a place",
         details: "Places go from 0 to the text's length less one. Prints the byte's number, the byte, and how many blocks were entered to reach it.",
         run: questions::ask,
@@ -235,7 +262,7 @@ pub static COMMANDS: [Command; 35] = [
     Command {
         name: "run",
         words: &[one("PLACE"), maybe("TREE")],
-        options: &[&JSON, &UNCHECKED],
+        options: &[&JSON, &UNCHECKED, &ANY_DAY, &TODAY],
         summary: "print where a place's bytes lie in the tree",
         details: "Prints the offset in the tree and the length of the longest part of its leaf bytes that is the text from this place on without a break, and these bytes.",
         run: questions::ask,
@@ -243,7 +270,7 @@ pub static COMMANDS: [Command; 35] = [
     Command {
         name: "span",
         words: &[one("PLACE"), one("LENGTH"), maybe("TREE")],
-        options: &[&JSON, &UNCHECKED],
+        options: &[&JSON, &UNCHECKED, &ANY_DAY, &TODAY],
         summary: "print LENGTH bytes from a place",
         details: "Places start at 0. The bytes as they are, and nothing else.",
         run: questions::ask,
@@ -251,7 +278,7 @@ pub static COMMANDS: [Command; 35] = [
     Command {
         name: "count",
         words: &[one("BYTE"), one("LENGTH"), maybe("TREE")],
-        options: &[&JSON, &UNCHECKED],
+        options: &[&JSON, &UNCHECKED, &ANY_DAY, &TODAY],
         summary: "print how often a byte occurs in the first LENGTH bytes",
         details: "BYTE is one character, its number as 0x0a, or \\n, \\r, \\t, \\\\ or \\xHH; the tree must count it. Prints how often, and how many blocks were entered.",
         run: questions::ask,
@@ -259,7 +286,7 @@ pub static COMMANDS: [Command; 35] = [
     Command {
         name: "find",
         words: &[one("BYTE"), one("NUMBER"), maybe("TREE")],
-        options: &[&GUIDE, &JSON, &UNCHECKED],
+        options: &[&GUIDE, &JSON, &UNCHECKED, &ANY_DAY, &TODAY],
         summary: "print the place of the NUMBER-th occurrence of a byte",
         details: "NUMBER goes from 1 to how often the byte occurs in the book. BYTE is one character, its number as 0x0a, or \\n, \\r, \\t, \\\\ or \\xHH; the tree must count it. Prints the place, and how many blocks lead to it.",
         run: questions::ask,
@@ -267,7 +294,7 @@ pub static COMMANDS: [Command; 35] = [
     Command {
         name: "places",
         words: &[one("TEXT"), maybe("TREE")],
-        options: &[&JSON, &UNCHECKED],
+        options: &[&JSON, &UNCHECKED, &ANY_DAY, &TODAY],
         summary: "print all places of a code fragment, one to a line",
         details: "TEXT is 1 to 256 bytes, as they stand in the book; \\n is byte 10, \\r byte 13, \\t byte 9, \\xHH the byte of that hexadecimal number, \\\\ a backslash. Places start at 0 and may overlap. Where there is none the status is 1. \
                   A TEXT that begins with - goes after --.",
@@ -276,17 +303,17 @@ pub static COMMANDS: [Command; 35] = [
     Command {
         name: "code",
         words: &[one("CODE"), any("TREE")],
-        options: &[&PREFIX, &GUIDE, &JSON, &UNCHECKED],
+        options: &[&PREFIX, &GUIDE, &JSON, &UNCHECKED, &ANY_DAY, &TODAY],
         summary: "print the rows of a code, in one or several books",
         details: "The rows that begin with CODE and one space; with --prefix those that begin with CODE. CODE has 1 to 255 bytes, with --prefix 1 to 256; \\n, \\r, \\t, \\\\ and \\xHH are one byte each, as in places. The tree must count byte 10. \
-                  Each row is printed after the tree's name and the row's number. Where a file TREE.json lies beside the tree, its members maker and edition are printed too.\n\
+                  Each row is printed after the tree's name and the row's number, and after maker and edition where its manifest TREE.json has them.\n\
                   The status is 0 where a row was printed and no tree failed, 1 where no row begins so or a tree is refused, 2 where the call or a file is not right.",
         run: code::code,
     },
     Command {
         name: "match",
         words: &[one("CUTS"), maybe("TREE")],
-        options: &[&FROM, &AFTER, &JSON, &UNCHECKED],
+        options: &[&FROM, &AFTER, &JSON, &UNCHECKED, &ANY_DAY, &TODAY],
         summary: "print the rows that match a worn key",
         details: "CUTS is, for each of 1 to 10 cuts, a depth from 0 to 9, a range of depths such as [3-5], or ? for any: 44[3-5]22? or 4,4,3-5,2,2,0-9. A row is a key if it is a code of 1 to 12 bytes other than space, one space, and 1 to 10 digits. \
                   It matches with as many cuts as are asked for, each in its range. The tree must count byte 10. Prints each row that matches with its number. Where none does the status is 1.",
@@ -295,7 +322,7 @@ pub static COMMANDS: [Command; 35] = [
     Command {
         name: "worn",
         words: &[one("LOWS"), one("HIGHS"), maybe("TREE")],
-        options: &[&FROM, &AFTER, &JSON, &UNCHECKED],
+        options: &[&FROM, &AFTER, &JSON, &UNCHECKED, &ANY_DAY, &TODAY],
         summary: "match, by the lowest and the highest depth of each cut",
         details: "LOWS and HIGHS have a digit for each of 1 to 10 cuts: the lowest and the highest depth that it may have. The rows are those of match.",
         run: questions::ask,
@@ -303,7 +330,7 @@ pub static COMMANDS: [Command; 35] = [
     Command {
         name: "text",
         words: &TREE,
-        options: &[&JSON, &UNCHECKED],
+        options: &[&JSON, &UNCHECKED, &ANY_DAY, &TODAY],
         summary: "print the whole book",
         details: "The bytes as they are, and nothing else.",
         run: questions::ask,
@@ -329,7 +356,7 @@ pub static COMMANDS: [Command; 35] = [
         words: &TREE,
         options: &[&OUTPUT, &FORCE, &KEEP_TIME, &JSON],
         summary: "make the guide of a tree",
-        details: "A guide has the number of the level 0 block that holds the 1st, 65th, 129th occurrence and so on of each byte that the tree counts. find, row and code with --guide start there and not at the first block. Without -o the guide goes to standard output.",
+        details: "A guide has the number of the level 0 block that holds the 1st, 65th, 129th occurrence and so on of each byte that the tree counts. find, row and code with --guide start there and not at the first block. Without -o the guide goes to standard output. A guide in the folder of TREE is entered into TREE's manifest, if there is one.",
         run: guide::make,
     },
     Command {
@@ -337,7 +364,7 @@ pub static COMMANDS: [Command; 35] = [
         words: &[one("GUIDE"), maybe("TREE")],
         options: &[&JSON],
         summary: "check a tree and its guide",
-        details: "Says whether GUIDE is exactly the guide of TREE, and TREE is a good one. find, row and code do this first unless they are told --unchecked.",
+        details: "Says whether GUIDE is exactly the guide of TREE, and TREE is a valid one. find, row and code do this first unless they are told --unchecked.",
         run: guide::check,
     },
     Command {
@@ -423,6 +450,11 @@ pub static COMMANDS: [Command; 35] = [
 ];
 
 impl Word {
+    /// It names a tree, or may do so.
+    pub fn is_tree(&self) -> bool {
+        matches!(self.name, "TREE" | "BOOK TREE" | "ONE" | "OTHER")
+    }
+
     /// It names a file that is read; `-` is standard input.
     pub fn is_file(&self) -> bool {
         matches!(self.name, "BOOK" | "TREE" | "BOOK TREE" | "FILE" | "GUIDE" | "ONE" | "OTHER")

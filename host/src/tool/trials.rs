@@ -27,7 +27,12 @@ pub struct Request {
     pub counted: Vec<u8>,
     /// Layout 1: a tree without edges.
     pub small: bool,
+    /// No warning is printed.
     pub quiet: bool,
+    /// No progress is shown.
+    pub silent: bool,
+    /// How many are tried at a time.
+    pub jobs: usize,
 }
 
 /// The tree with the settings, or the smallest tree of the layout's list; of equal ones the first.
@@ -63,19 +68,19 @@ fn choose(text: &[u8], list: &[Settings], request: &Request) -> Result<Chosen, R
     Ok(Chosen { settings, tree, tried })
 }
 
-/// Try each settings, as many at a time as there are processors. Of trees that are built only the smallest is kept.
+/// Try each settings, as many at a time as the request says. Of trees that are built only the smallest is kept.
 fn all(text: &[u8], list: &[Settings], request: &Request) -> Vec<Tried> {
     let next = AtomicUsize::new(0);
     let results: Mutex<Vec<Option<Tried>>> = Mutex::new(list.iter().map(|_| None).collect());
-    let workers = thread::available_parallelism().map_or(1, usize::from).min(list.len());
+    let workers = request.jobs.min(list.len());
     let costs: Vec<u64> = list.iter().map(|settings| cost(text, settings)).collect();
-    progress::show(&costs, request.quiet, |done| {
+    progress::show("trees", &costs, request.quiet || request.silent, |progress| {
         let work = || loop {
             let at = next.fetch_add(1, Ordering::Relaxed);
             let Some(settings) = list.get(at) else { return };
             let tried = attempt(text, settings, request.small, list.len() > 1);
             enter(&mut results.lock().expect("no build panics"), at, tried);
-            done(at);
+            progress.done(at);
         };
         thread::scope(|scope| {
             for _ in 1..workers {

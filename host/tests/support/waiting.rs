@@ -1,4 +1,5 @@
 //! The tool stopped half way, with and without nameless files.
+#![allow(dead_code)] // each test uses a part
 
 use super::folder::Folder;
 use std::fs;
@@ -20,6 +21,13 @@ extern "C" {
 
 /// The tool, waiting for its book, which comes from a pipe; its output has been made ready by then.
 pub fn waiting(folder: &Folder, named: bool, words: &str) -> Child {
+    let child = started(folder, named, words);
+    wait_until_ready(folder, &child, named, 1);
+    child
+}
+
+/// The tool at work, with pipes.
+pub fn started(folder: &Folder, named: bool, words: &str) -> Child {
     let mut tool = folder.tool();
     if named {
         tool.env("CODEBOOK_NAMED", "1");
@@ -35,18 +43,22 @@ pub fn waiting(folder: &Folder, named: bool, words: &str) -> Child {
             Ok(())
         })
     };
-    let child = tool.spawn().expect("the tool starts");
+    tool.spawn().expect("the tool starts")
+}
+
+/// Wait until the tool has made so many files ready.
+pub fn wait_until_ready(folder: &Folder, child: &Child, named: bool, files: usize) {
     let start = Instant::now();
     let ready = || match named {
-        true => folder.names().iter().any(|name| name.starts_with(".codebook-")),
-        // its nameless file is among those that it has open
-        false => fs::read_dir(format!("/proc/{}/fd", child.id())).is_ok_and(|mut open| {
-            open.any(|file| file.is_ok_and(|file| fs::read_link(file.path()).is_ok_and(|path| path.to_string_lossy().contains("deleted"))))
+        true => folder.names().iter().filter(|name| name.starts_with(".codebook-")).count(),
+        // its nameless files are among those that it has open
+        false => fs::read_dir(format!("/proc/{}/fd", child.id())).map_or(0, |open| {
+            let nameless = |path: std::path::PathBuf| fs::read_link(path).is_ok_and(|path| path.to_string_lossy().contains("deleted"));
+            open.filter(|file| file.as_ref().is_ok_and(|file| nameless(file.path()))).count()
         }),
     };
-    while !ready() {
-        assert!(start.elapsed() < Duration::from_secs(20), "the output is made ready before the book is read");
+    while ready() < files {
+        assert!(start.elapsed() < Duration::from_secs(60), "the output is made ready before the book is read");
         std::thread::sleep(Duration::from_millis(5));
     }
-    child
 }
