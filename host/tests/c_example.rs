@@ -149,7 +149,7 @@ fn lengths_have_64_bits() {
     let read = |name: &str| std::fs::read_to_string(repository().join(name)).expect("a file");
     let header = read("include/blocktree.h");
     assert!(!header.contains("size_t"), "a length of the processor's own width is left in the header");
-    let lengths: Vec<&str> = header.split([',', '(', ')']).map(str::trim).filter(|word| word.ends_with("_len")).collect();
+    let lengths: Vec<&str> = header.split([',', '(', ')']).map(str::trim).filter(|word| word.contains(' ') && word.ends_with("_len")).collect();
     assert!(lengths.len() > 40 && lengths.iter().all(|word| word.starts_with("uint64_t ")), "{lengths:?}");
     let calls = read("host/src/calls.rs");
     let declared = calls.split("mod declared {").nth(1).and_then(|rest| rest.split("\n}\n").next()).expect("the declarations");
