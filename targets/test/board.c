@@ -55,5 +55,24 @@ static void fault(void)
 
 __attribute__((section(".vectors"), used)) static void (*const vectors[16])(void) = {(void (*)(void))&__stack, reset, fault, fault, fault, fault, fault};
 
+#ifdef TRAP_UNALIGNED /* newlib's own copy words at any address */
+void *memcpy(void *to, const void *from, unsigned n)
+{
+    volatile char *out = to;
+    for (const volatile char *in = from; n; n--) *out++ = *in++;
+    return to;
+}
+void *memset(void *to, int byte, unsigned n)
+{
+    for (volatile char *out = to; n; n--) *out++ = (char)byte;
+    return to;
+}
+void __aeabi_memcpy(void *to, const void *from, unsigned n) { memcpy(to, from, n); }
+void __aeabi_memcpy4(void *to, const void *from, unsigned n) { memcpy(to, from, n); }
+void __aeabi_memclr(void *to, unsigned n) { memset(to, 0, n); }
+void __aeabi_memclr4(void *to, unsigned n) { memset(to, 0, n); }
+void __aeabi_memclr8(void *to, unsigned n) { memset(to, 0, n); }
+#endif
+
 void _init(void) {}
 void _fini(void) {}

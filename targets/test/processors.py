@@ -38,11 +38,11 @@ def missing(target):
     return {command: packages for command, packages in NEEDS[target].items() if not shutil.which(command)}
 
 
-def compiled(target, program, archive, folder=None):
+def compiled(target, program, archive, folder=None, flags=()):
     """A test program for a target, linked with an archive of the library; its path."""
     source, out = [TESTS / (program + ".c"), TESTS / "os_libc.c"], (folder or WORK / target) / program
     out.parent.mkdir(parents=True, exist_ok=True)
-    words = [*WARNINGS, "-I", ROOT / "include"]
+    words = [*WARNINGS, *flags, "-I", ROOT / "include"]
     if target == "wasm32":
         return compiled_to_wasm(program, out)
     if target == "cortex-m4":
