@@ -71,6 +71,7 @@ static void make_text(void)
     const uint32_t kind = below(8), size = below(16);
     uint32_t at = 0;
     text_len = size == 0 ? 0 : size == 1 ? below(12) : size < 12 ? below(700) : below(TEXT);
+    if (measuring) text_len = TEXT - below(1024); /* so that blocks of every level point */
     while (at < text_len) {
         if (kind == 0) {
             text[at++] = (uint8_t)rnd();
@@ -455,7 +456,7 @@ static void draw_settings(void)
     if (below(16) == 0) leaf = below(2) ? below(258) : rnd();
     if (below(16) == 0) arity = below(2) ? below(18) : rnd();
     if (below(16) == 0) levels = below(2) ? below(10) : rnd();
-    if (measuring) leaf = 1 + below(4), arity = 2 + below(2), levels = 8, many_counted = 4;
+    if (measuring) leaf = 1 + below(4), arity = 2, levels = 8, many_counted = 4;
     counted[0] = (uint8_t)(below(8) ? 10 : below(40));
     for (uint32_t i = 1; i < many_counted; i++) counted[i] = (uint8_t)(counted[i - 1] + 1 + below(40));
     if (below(16) == 0) {
