@@ -1,4 +1,5 @@
 # Installs the codebook tool and the library: `make`, then `make install PREFIX=/usr/local`; `make uninstall` takes away what was installed.
+# `make TARGET=aarch64` makes the library for another processor (targets/make), `make dist` packs a release for all of them (targets/dist).
 
 PREFIX = /usr/local
 DESTDIR =
@@ -15,10 +16,17 @@ documents = README.md LICENSE CHANGELOG.md docs/FORMAT.md docs/JSON.md
 installed = bin/codebook share/man/man1/codebook.1 share/bash-completion/completions/codebook share/zsh/site-functions/_codebook \
 	include/blocktree.h lib/libblocktree.a lib/libblocktree.so.$(VERSION) lib/$(SONAME) lib/libblocktree.so lib/pkgconfig/blocktree.pc share/blocktree/blocktree.py share/blocktree/blocktree.magic
 
+# for another processor the library alone, target/other/TARGET
+TARGET =
+ifeq ($(TARGET),)
 all:
 	host/needs $(if $(BLOCKTREE_ARCHIVE),,rt) cargo gcc
 	host/make-archive
 	cargo build --quiet --release --manifest-path host/Cargo.toml
+else
+all:
+	targets/make $(TARGET)
+endif
 
 check:
 	./test-host
@@ -49,8 +57,11 @@ install: $(TOOL) $(SHARED)
 	sed 's|@PREFIX@|$(PREFIX)|; s|@VERSION@|$(VERSION)|' blocktree.pc.in > $(root)/lib/pkgconfig/blocktree.pc
 	@[ -n "$(DESTDIR)" ] || host/loader $(PREFIX)/lib $(SONAME)
 
+dist: all shared
+	targets/dist
+
 uninstall:
 	rm -f $(addprefix $(root)/,$(installed)) $(addprefix $(root)/share/doc/codebook/,$(notdir $(documents)))
 	-rmdir $(root)/share/blocktree $(root)/share/doc/codebook
 
-.PHONY: all check shared install uninstall
+.PHONY: all check shared install dist uninstall

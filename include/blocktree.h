@@ -1,14 +1,16 @@
 /* blocktree.h - block trees of code books: build them, check them, ask them.
  *
- * C99 and C++, x86-64 Linux. Link with libblocktree.a: -lblocktree after `make install` (pkg-config knows it as blocktree), target/libblocktree.a in the
- * repository after `make` or ./demo. It needs memcpy and memset and no other symbol, is position independent, and no call uses more than 4 KB of stack.
- * The format and every question are in docs/FORMAT.md.
+ * C99 and C++. Link with libblocktree.a: -lblocktree after `make install` (pkg-config knows it as blocktree), target/libblocktree.a in the repository after
+ * `make` or ./demo. That archive is for x86-64 Linux: it needs memcpy and memset and no other symbol, is position independent, and no call uses more than
+ * 4 KB of stack. docs/TARGETS.md has the archives for other processors, what they need, and their stack. The format and every question are in
+ * docs/FORMAT.md.
  *
  * What all calls have in common
  *
  *  - The answer is a number: BT_OK (0), or the number of the first question that failed (enum bt_number). A refused call sets every figure to 0.
  *  - Bytes are lent as a pointer and a length for the time of the call (a table of words with its length in words). Nothing is kept, nothing is allocated, there is no state: calls may run at the
  *    same time in several threads as long as what they write does not overlap.
+ *  - Every length has 64 bits on every processor: the contracts are about such lengths.
  *  - A `const` pointer is only read. A written buffer must not overlap anything else lent to the same call.
  *  - Every pointer is non-null, also where its length is 0 (pass the address of any byte), and points to as many bytes, or words of a table, as its
  *    length says; pointers to figures and to words are aligned.
@@ -26,7 +28,6 @@
 #ifndef BLOCKTREE_H
 #define BLOCKTREE_H
 
-#include <stddef.h>
 #include <stdint.h>
 
 #ifdef __cplusplus
@@ -122,8 +123,8 @@ static inline const char *bt_refusal_text(uint32_t number)
  *   written   out: the tree in its first *size bytes, the rest as it was; all zero on BT_SPACE; as it was on 1, 2 and 3
  *             *size: the tree's size
  *   answers   0, 1, 2, 3, 4 */
-uint32_t bt_build(const uint8_t *text, size_t text_len, uint32_t leaf, uint32_t arity, uint32_t levels, const uint8_t *counted, size_t counted_len,
-                  uint8_t *out, size_t out_len, uint32_t *size);
+uint32_t bt_build(const uint8_t *text, uint64_t text_len, uint32_t leaf, uint32_t arity, uint32_t levels, const uint8_t *counted, uint64_t counted_len,
+                  uint8_t *out, uint64_t out_len, uint32_t *size);
 
 /* Build the same tree by one scan of the text for each level above the last, in a small part of bt_build's time on long texts. It works in a lent
  * table of words.
@@ -133,8 +134,8 @@ uint32_t bt_build(const uint8_t *text, size_t text_len, uint32_t leaf, uint32_t 
  *             *size: the tree's size; *windows: how many windows of the text were looked up, for each level above the last and each length that its
  *             blocks and pairs of blocks have one at every place from which the text holds that many bytes
  *   answers   0, 1, 2, 3, 18, 4, asked in this order */
-uint32_t bt_build_scanned(const uint8_t *text, size_t text_len, uint32_t leaf, uint32_t arity, uint32_t levels, const uint8_t *counted, size_t counted_len,
-                          uint32_t *work, size_t work_len, uint8_t *out, size_t out_len, uint32_t *size, uint32_t *windows);
+uint32_t bt_build_scanned(const uint8_t *text, uint64_t text_len, uint32_t leaf, uint32_t arity, uint32_t levels, const uint8_t *counted, uint64_t counted_len,
+                          uint32_t *work, uint64_t work_len, uint8_t *out, uint64_t out_len, uint32_t *size, uint32_t *windows);
 
 /* How many words the table of bt_build_scanned must have for a text of n bytes: four for each leaf length, a begun one counting whole (0 where leaf is 0). */
 uint64_t bt_scan_words(uint32_t n, uint32_t leaf);
@@ -146,7 +147,7 @@ uint64_t bt_scan_words(uint32_t n, uint32_t leaf);
  *             *size: its size; a buffer of tree_len bytes is always large enough. A tree of layout 1 is copied
  *   answers   0, 5, 6, 7, 13, asked in this order
  * tree and out must not overlap. */
-uint32_t bt_without_edges(const uint8_t *tree, size_t tree_len, uint8_t *out, size_t out_len, uint64_t *size);
+uint32_t bt_without_edges(const uint8_t *tree, uint64_t tree_len, uint8_t *out, uint64_t out_len, uint64_t *size);
 
 /* How large a buffer is enough for the tree of any text of n bytes, with `counted` counted bytes: for one that bt_build makes, and for any of either
  * layout that bt_check accepts.
@@ -157,7 +158,7 @@ uint32_t bt_enough(uint32_t n, uint32_t leaf, uint32_t arity, uint32_t levels, u
 /* Check a tree: is it one, is it right in all its parts, are its counts and edges true? It does not ask whether bt_build would have made it.
  *   lent      tree
  *   answers   0, 5 to 9 */
-uint32_t bt_check(const uint8_t *tree, size_t tree_len);
+uint32_t bt_check(const uint8_t *tree, uint64_t tree_len);
 
 /* Which of bt_info's figures is which. */
 enum bt_figure {
@@ -178,38 +179,38 @@ enum bt_figure {
  *   lent      tree
  *   written   figures: BT_FIGURES of them, by enum bt_figure; all 0 on a refusal
  *   answers   0, 5, 6, 7 */
-uint32_t bt_info(const uint8_t *tree, size_t tree_len, uint64_t *figures);
+uint32_t bt_info(const uint8_t *tree, uint64_t tree_len, uint64_t *figures);
 
 /* The byte at a place of the text.
  *   lent      tree
  *   written   *value: the byte; *entered: the blocks entered on the way
  *   answers   0, 5, 6, 7, 10, 14 */
-uint32_t bt_byte(const uint8_t *tree, size_t tree_len, uint32_t place, uint32_t *value, uint32_t *entered);
+uint32_t bt_byte(const uint8_t *tree, uint64_t tree_len, uint32_t place, uint32_t *value, uint32_t *entered);
 
 /* The bytes of the text from a place on that lie side by side in the tree: a part of the tree's own bytes, to be read without a copy.
  *   lent      tree
  *   written   *offset: where in the tree's bytes the part starts; *length: its length, at least 1
  *   answers   0, 5, 6, 7, 10, 14 */
-uint32_t bt_run(const uint8_t *tree, size_t tree_len, uint32_t place, uint64_t *offset, uint32_t *length);
+uint32_t bt_run(const uint8_t *tree, uint64_t tree_len, uint32_t place, uint64_t *offset, uint32_t *length);
 
 /* Copy `length` bytes of the text from a place on. In a layout 2 tree a span of 1 to leaf bytes is read from edges or leaf bytes, by one short walk.
  *   lent      tree
  *   written   buffer: its first `length` bytes, the rest as it was; on BT_PATH zeros in the first `length` bytes; as it was on any other refusal
  *             *entered: the blocks entered by that walk, at most twice the levels; 0 for any other span
  *   answers   0, 5, 6, 7, 10, 13, 14 */
-uint32_t bt_span(const uint8_t *tree, size_t tree_len, uint32_t place, uint32_t length, uint8_t *buffer, size_t buffer_len, uint32_t *entered);
+uint32_t bt_span(const uint8_t *tree, uint64_t tree_len, uint32_t place, uint32_t length, uint8_t *buffer, uint64_t buffer_len, uint32_t *entered);
 
 /* How often a byte stands in the first i bytes of the text.
  *   lent      tree
  *   written   *count: how often; *entered: the blocks entered on the way (none for i = 0)
  *   answers   0, 5, 6, 7, 10, 11 (also for a byte above 255), 14 */
-uint32_t bt_count(const uint8_t *tree, size_t tree_len, uint32_t byte, uint32_t i, uint64_t *count, uint32_t *entered);
+uint32_t bt_count(const uint8_t *tree, uint64_t tree_len, uint32_t byte, uint32_t i, uint64_t *count, uint32_t *entered);
 
 /* The place of the j-th such byte, j from 1.
  *   lent      tree
  *   written   *place: where it stands; *entered: the blocks on the path of that place
  *   answers   0, 5, 6, 7, 11 (also for a byte above 255), 12, 14 */
-uint32_t bt_find(const uint8_t *tree, size_t tree_len, uint32_t byte, uint32_t j, uint32_t *place, uint32_t *entered);
+uint32_t bt_find(const uint8_t *tree, uint64_t tree_len, uint32_t byte, uint32_t j, uint32_t *place, uint32_t *entered);
 
 /* Copy row q, q from 1: what stands between the byte 10 before it (or the text's start) and its own, which is not copied, nor is
  * one byte 13 directly before it. If the text's last byte is not 10, what stands after the last byte 10 (or all the text) is one more row, with a byte
@@ -219,19 +220,19 @@ uint32_t bt_find(const uint8_t *tree, size_t tree_len, uint32_t byte, uint32_t j
  *             other refusal
  *             *length: the row's length
  *   answers   0, 5, 6, 7, 11, 12, 13, 14 */
-uint32_t bt_row(const uint8_t *tree, size_t tree_len, uint32_t q, uint8_t *buffer, size_t buffer_len, uint32_t *length);
+uint32_t bt_row(const uint8_t *tree, uint64_t tree_len, uint32_t q, uint8_t *buffer, uint64_t buffer_len, uint32_t *length);
 
 /* How long row q is, without a buffer: on a tree that bt_check accepts a buffer of *length bytes is enough for bt_row.
  *   lent      tree
  *   written   *length: the row's length
  *   answers   0, 5, 6, 7, 11, 12, 14 */
-uint32_t bt_row_length(const uint8_t *tree, size_t tree_len, uint32_t q, uint32_t *length);
+uint32_t bt_row_length(const uint8_t *tree, uint64_t tree_len, uint32_t q, uint32_t *length);
 
 /* How many rows the text has: the total of byte 10, and one more if the text's last byte is another one.
  *   lent      tree
  *   written   *rows: how many
  *   answers   0, 5, 6, 7, 11 (byte 10 is not counted), 14 (the last byte's path breaks) */
-uint32_t bt_row_count(const uint8_t *tree, size_t tree_len, uint64_t *rows);
+uint32_t bt_row_count(const uint8_t *tree, uint64_t tree_len, uint64_t *rows);
 
 /* All places of a pattern of 1 to BT_MAX_PATTERN bytes of any value: each place of the text from which its bytes stand there, overlaps included.
  *   lent      tree, pattern
@@ -241,14 +242,14 @@ uint32_t bt_row_count(const uint8_t *tree, size_t tree_len, uint64_t *rows);
  * As many words as bt_places_words says are always enough. With 0 words the call says whether the pattern stands in the text:
  * BT_TABLE where it does, BT_OK where it does not. The text is read once, and once more where there are more than 256 places; for each byte read the
  * search takes two steps on average at most, whatever the pattern. */
-uint32_t bt_places(const uint8_t *tree, size_t tree_len, const uint8_t *pattern, size_t pattern_len, uint32_t *table, size_t words, uint32_t *number);
+uint32_t bt_places(const uint8_t *tree, uint64_t tree_len, const uint8_t *pattern, uint64_t pattern_len, uint32_t *table, uint64_t words, uint32_t *number);
 
 /* How many words hold all places of any pattern of `length` bytes: n - length + 1, or 0 where it is longer than the text. With a table of so many words
  * bt_places never answers BT_TABLE.
  *   lent      tree
  *   written   *words: that many
  *   answers   0, 5, 6, 7, 16 */
-uint32_t bt_places_words(const uint8_t *tree, size_t tree_len, uint32_t length, uint32_t *words);
+uint32_t bt_places_words(const uint8_t *tree, uint64_t tree_len, uint32_t length, uint32_t *words);
 
 /* A worn key: move a mark on to the next row that matches. A row is a key if it is a code of 1 to 12 bytes other than space, one space, and 1 to 10
  * cuts, a digit each; rows are those of bt_row. It matches if it has as many cuts as there are ranges, each of a depth in its range.
@@ -259,7 +260,7 @@ uint32_t bt_places_words(const uint8_t *tree, size_t tree_len, uint32_t length, 
  *   answers   0, 5, 6, 7, 19, 11 (byte 10 is not counted), 14
  * Called again and again from mark 0, with the same ranges, until *row is 0, it shows each match once, in row order. The text after the mark is read once,
  * up to the match. */
-uint32_t bt_next_match(const uint8_t *tree, size_t tree_len, const uint8_t *ranges, size_t ranges_len, uint32_t *mark, uint32_t *row);
+uint32_t bt_next_match(const uint8_t *tree, uint64_t tree_len, const uint8_t *ranges, uint64_t ranges_len, uint32_t *mark, uint32_t *row);
 
 /* Rows by their first bytes: moves a mark to the next row that starts with a prefix, say a code and the space after it. Rows are those of bt_row: a byte
  * 13 directly before the byte 10 that ends a row is not part of it. No row starts with a prefix that contains a byte 10.
@@ -270,7 +271,7 @@ uint32_t bt_next_match(const uint8_t *tree, size_t tree_len, const uint8_t *rang
  *   answers   0, 5, 6, 7, 16, 11 (byte 10 is not counted), 14
  * Repeated calls from mark 0 with the same prefix, until *row is 0, return each row that starts with the prefix once, in row order. A call finds the end of
  * the mark's row (bt_find) and reads the text from there to the end of the returned row. */
-uint32_t bt_next_with_prefix(const uint8_t *tree, size_t tree_len, const uint8_t *prefix, size_t prefix_len, uint32_t *mark, uint32_t *row);
+uint32_t bt_next_with_prefix(const uint8_t *tree, uint64_t tree_len, const uint8_t *prefix, uint64_t prefix_len, uint32_t *mark, uint32_t *row);
 
 /* Columns before rows: a text of rows of one width, end byte included, rearranged; the byte in column b of row a goes to place b * rows + a, both counted
  * from 0. In books with rows of one width columns repeat more than rows, and the tree of the rearranged text can be smaller.
@@ -278,10 +279,10 @@ uint32_t bt_next_with_prefix(const uint8_t *tree, size_t tree_len, const uint8_t
  *   written   out: the rearranged text in its first text_len bytes, the rest as it was; a refusal leaves it as it was
  *   answers   0, 20 (also width 0 of an empty text), 21
  * text and out must not overlap. */
-uint32_t bt_to_columns(const uint8_t *text, size_t text_len, uint32_t width, uint8_t *out, size_t out_len);
+uint32_t bt_to_columns(const uint8_t *text, uint64_t text_len, uint32_t width, uint8_t *out, uint64_t out_len);
 
 /* And back: for the same width the inverse of bt_to_columns. The same is lent, written and answered. */
-uint32_t bt_from_columns(const uint8_t *text, size_t text_len, uint32_t width, uint8_t *out, size_t out_len);
+uint32_t bt_from_columns(const uint8_t *text, uint64_t text_len, uint32_t width, uint8_t *out, uint64_t out_len);
 
 /* Row a, counted from 0, read by columns from the tree of a text that bt_to_columns rearranged for this width: all width bytes, the end byte included. A
  * tree does not say whether its text is rearranged.
@@ -289,20 +290,20 @@ uint32_t bt_from_columns(const uint8_t *text, size_t text_len, uint32_t width, u
  *   written   buffer: the row in its first width bytes, the rest as it was. BT_PATH leaves zeros in the first width bytes; any other refusal leaves it as
  *             it was
  *   answers   0, 5, 6, 7, 20 (by the tree's text length), 10 (a is not below the number of rows), 13, 14 (the path of one of the row's bytes breaks) */
-uint32_t bt_column_row(const uint8_t *tree, size_t tree_len, uint32_t width, uint32_t a, uint8_t *buffer, size_t buffer_len);
+uint32_t bt_column_row(const uint8_t *tree, uint64_t tree_len, uint32_t width, uint32_t a, uint8_t *buffer, uint64_t buffer_len);
 
 /* The SHA-256 (FIPS 180-4) of a tree's text, read part by part: of the bytes that the tree's paths give, which on a tree that bt_check accepts are the one
  * text that fits it. Check first: on other trees the paths can give bytes that no text has.
  *   lent      tree
  *   written   out: the digest in its first 32 bytes, the rest as it was. BT_PATH leaves zeros in the first 32 bytes; any other refusal leaves it as it was
  *   answers   0, 5, 6, 7, 13 (out has fewer than 32 bytes), 14 (the path of some place of the text breaks) */
-uint32_t bt_digest(const uint8_t *tree, size_t tree_len, uint8_t *out, size_t out_len);
+uint32_t bt_digest(const uint8_t *tree, uint64_t tree_len, uint8_t *out, uint64_t out_len);
 
 /* The SHA-256 of a text, or of any other bytes. The tree that bt_build writes of a text has this digest too.
  *   lent      text
  *   written   out: the digest in its first 32 bytes, the rest as it was; as it was on a refusal
  *   answers   0, 13 */
-uint32_t bt_digest_text(const uint8_t *text, size_t text_len, uint8_t *out, size_t out_len);
+uint32_t bt_digest_text(const uint8_t *text, uint64_t text_len, uint8_t *out, uint64_t out_len);
 
 /* A guide to the level 0 blocks, kept beside a tree: for each counted byte in order, the number of the level 0 block that holds its 1st, 65th, 129th
  * occurrence and so on, a word each, four bytes, lowest first. bt_find and bt_row step through level 0 from its first block; with a guide they start at
@@ -310,18 +311,18 @@ uint32_t bt_digest_text(const uint8_t *text, size_t text_len, uint8_t *out, size
  *   lent      tree
  *   written   *words: for each counted byte its total / 64, rounded up, summed; the guide has four bytes for each
  *   answers   0, 5, 6, 7 */
-uint32_t bt_guide_words(const uint8_t *tree, size_t tree_len, uint64_t *words);
+uint32_t bt_guide_words(const uint8_t *tree, uint64_t tree_len, uint64_t *words);
 
 /* Make the guide of a tree that bt_check accepts.
  *   lent      tree, table
  *   written   table: the guide in its first 4 * *words bytes, the rest as it was; as it was on any refusal. *words: its words
  *   answers   0, 5 to 9, 25 */
-uint32_t bt_make_guide(const uint8_t *tree, size_t tree_len, uint8_t *table, size_t table_len, uint64_t *words);
+uint32_t bt_make_guide(const uint8_t *tree, uint64_t tree_len, uint8_t *table, uint64_t table_len, uint64_t *words);
 
 /* Check a tree and its guide: 0 exactly for a tree that bt_check accepts and the bytes that bt_make_guide writes for it.
  *   lent      tree, guide
  *   answers   0, 5 to 9, 24 */
-uint32_t bt_check_guide(const uint8_t *tree, size_t tree_len, const uint8_t *guide, size_t guide_len);
+uint32_t bt_check_guide(const uint8_t *tree, uint64_t tree_len, const uint8_t *guide, uint64_t guide_len);
 
 /* Find with a guide. For a tree and a guide that bt_check_guide accepts, the place and the blocks are bt_find's. Any bytes may be lent as a guide: with
  * another one, or on a tree that bt_check refuses, the answer may be any place below n with any figures, or BT_PATH.
@@ -329,7 +330,7 @@ uint32_t bt_check_guide(const uint8_t *tree, size_t tree_len, const uint8_t *gui
  *   written   *place, *entered as bt_find; *steps: the steps on level 0, counted on the way: with an accepted guide the number of the level 0 block that
  *             holds the place less the entry of the last listed occurrence not after the j-th
  *   answers   0, 5, 6, 7, 11, 12, 14 */
-uint32_t bt_find_guided(const uint8_t *tree, size_t tree_len, const uint8_t *guide, size_t guide_len, uint32_t byte, uint32_t j, uint32_t *place,
+uint32_t bt_find_guided(const uint8_t *tree, uint64_t tree_len, const uint8_t *guide, uint64_t guide_len, uint32_t byte, uint32_t j, uint32_t *place,
                         uint32_t *entered, uint32_t *steps);
 
 /* Row with a guide, by such finds. For a tree and a guide that bt_check_guide accepts it is bt_row's; else free as bt_row is on a tree that bt_check
@@ -337,7 +338,7 @@ uint32_t bt_find_guided(const uint8_t *tree, size_t tree_len, const uint8_t *gui
  *   lent      tree, guide, buffer
  *   written   buffer, *length as bt_row
  *   answers   0, 5, 6, 7, 11, 12, 13, 14 */
-uint32_t bt_row_guided(const uint8_t *tree, size_t tree_len, const uint8_t *guide, size_t guide_len, uint32_t q, uint8_t *buffer, size_t buffer_len,
+uint32_t bt_row_guided(const uint8_t *tree, uint64_t tree_len, const uint8_t *guide, uint64_t guide_len, uint32_t q, uint8_t *buffer, uint64_t buffer_len,
                        uint32_t *length);
 
 /* bt_next_with_prefix with a guide: the end of the mark's row is found from an entry of the guide on. Repeated calls on a tree with many blocks of level 0
@@ -345,8 +346,8 @@ uint32_t bt_row_guided(const uint8_t *tree, size_t tree_len, const uint8_t *guid
  *   lent      tree; guide; prefix, 1 to BT_MAX_PATTERN bytes
  *   written   *mark, *row: as bt_next_with_prefix
  *   answers   0, 5, 6, 7, 16, 11, 14. Where bt_check_guide accepts the guide, the answer of bt_next_with_prefix; else any row after the mark, none, or BT_PATH */
-uint32_t bt_next_with_prefix_guided(const uint8_t *tree, size_t tree_len, const uint8_t *guide, size_t guide_len, const uint8_t *prefix, size_t prefix_len,
-                                    uint32_t *mark, uint32_t *row);
+uint32_t bt_next_with_prefix_guided(const uint8_t *tree, uint64_t tree_len, const uint8_t *guide, uint64_t guide_len, const uint8_t *prefix,
+                                    uint64_t prefix_len, uint32_t *mark, uint32_t *row);
 
 /* Where the first of two trees stands, by bt_order. */
 enum bt_standing { BT_BEFORE = 1, BT_SAME = 2, BT_AFTER = 3 };
@@ -359,13 +360,13 @@ enum bt_standing { BT_BEFORE = 1, BT_SAME = 2, BT_AFTER = 3 };
  *   answers   0, 5, 6, 7 of one, 5, 6, 7 of other, 14
  * On trees that bt_check accepts it is a total order on the texts, so that a shelf can be sorted by it. Both are read from their start, up to the first
  * difference or the shorter end and no further: BT_PATH is met there or not at all. */
-uint32_t bt_order(const uint8_t *one, size_t one_len, const uint8_t *other, size_t other_len, uint32_t *order, uint32_t *shared, uint32_t *first);
+uint32_t bt_order(const uint8_t *one, uint64_t one_len, const uint8_t *other, uint64_t other_len, uint32_t *order, uint32_t *shared, uint32_t *first);
 
 /* The lines of the list program: one for each level, "level blocks kept pointing".
  *   lent      tree
  *   written   out: the lines in its first *length bytes, at most BT_LIST_LENGTH; *length: their length. A refusal leaves out unchanged
  *   answers   0, 15, 5 to 9, 13 if the lines do not fit out */
-uint32_t bt_list(const uint8_t *tree, size_t tree_len, uint8_t *out, size_t out_len, uint32_t *length);
+uint32_t bt_list(const uint8_t *tree, uint64_t tree_len, uint8_t *out, uint64_t out_len, uint32_t *length);
 
 /* The term of a licence. No tree is involved. A day is lent as eight bytes '0' to '9', year, month and day (ISO 8601, basic form), of the Gregorian
  * calendar and of the years 2000 to 2099: "20240229". Anything else, of any length, is refused with BT_DATE. */
@@ -374,19 +375,19 @@ uint32_t bt_list(const uint8_t *tree, size_t tree_len, uint8_t *out, size_t out_
  *   lent      first, last, today
  *   written   *is_open: 1 for open, 0 for closed
  *   answers   0, 22 (one of the three is no date), 23 (all three are, and the last is before the first) */
-uint32_t bt_open_on(const uint8_t *first, size_t first_len, const uint8_t *last, size_t last_len, const uint8_t *today, size_t today_len,
+uint32_t bt_open_on(const uint8_t *first, uint64_t first_len, const uint8_t *last, uint64_t last_len, const uint8_t *today, uint64_t today_len,
                     uint32_t *is_open);
 
 /* The days left, last minus today.
  *   lent      last, today
  *   written   *days: 0 on the last day, below zero after it; -36,524 to 36,524
  *   answers   0, 22 */
-uint32_t bt_days_left(const uint8_t *last, size_t last_len, const uint8_t *today, size_t today_len, int32_t *days);
+uint32_t bt_days_left(const uint8_t *last, uint64_t last_len, const uint8_t *today, uint64_t today_len, int32_t *days);
 
 /* Renew: move a day by one year, 29 February to 28 February.
  *   written   day is in and out: as it was on a refusal
  *   answers   0, 22 (it is no date, or its year is 2099) */
-uint32_t bt_renew(uint8_t *day, size_t day_len);
+uint32_t bt_renew(uint8_t *day, uint64_t day_len);
 
 #ifdef __cplusplus
 }

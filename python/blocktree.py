@@ -188,14 +188,14 @@ def _call(name: str, *given: Any) -> Tuple[int, ...]:
             words.append(_number(next(rest)))
         elif kind == "bytes":
             lent = _bytes(next(rest))
-            words += [ctypes.c_char_p(lent), ctypes.c_size_t(len(lent))]
+            words += [ctypes.c_char_p(lent), ctypes.c_uint64(len(lent))]
         elif kind == "buffer":
             lent = next(rest)
             room = (ctypes.c_uint8 * len(lent)).from_buffer(lent) if lent else (ctypes.c_uint8 * 1)()
-            words += [room, ctypes.c_size_t(len(lent))]
+            words += [room, ctypes.c_uint64(len(lent))]
         elif kind == "words":
             lent = next(rest)
-            words += [lent if len(lent) else _words(1), ctypes.c_size_t(len(lent))]
+            words += [lent if len(lent) else _words(1), ctypes.c_uint64(len(lent))]
         else:
             figures.append(_number(next(rest)) if kind == "mark" else _FIGURES[kind](0))
             words.append(ctypes.byref(figures[-1]))
@@ -320,7 +320,7 @@ class Tree:
     def info(self) -> Dict[str, Any]:
         """What the tree says of itself: layout, text length, settings, leaf bytes, the counted bytes with their totals, the blocks of each level."""
         figures = (ctypes.c_uint64 * 23)()
-        number = _LIBRARY.bt_info(ctypes.c_char_p(self.bytes), ctypes.c_size_t(len(self.bytes)), figures)
+        number = _LIBRARY.bt_info(ctypes.c_char_p(self.bytes), ctypes.c_uint64(len(self.bytes)), figures)
         if number:
             raise RefusedError(number)
         layout, length, leaf, arity, levels, leaf_bytes, counted = figures[:7]

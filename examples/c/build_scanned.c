@@ -20,10 +20,10 @@ static uint8_t first[4096], tree[4096];
 int main(void)
 {
     const uint8_t *text = (const uint8_t *)book;
-    const size_t text_len = strlen(book);
+    const uint64_t text_len = strlen(book);
     const uint8_t counted[] = {10}; /* the byte that ends a row */
-    const size_t work_len = (size_t)bt_scan_words((uint32_t)text_len, LEAF);
-    uint32_t *work = (uint32_t *)malloc(work_len * sizeof *work);
+    const uint64_t work_len = bt_scan_words((uint32_t)text_len, LEAF);
+    uint32_t *work = (uint32_t *)malloc((size_t)work_len * sizeof *work);
     uint32_t first_size, size, windows, number;
 
     if (work == NULL || bt_build(text, text_len, LEAF, ARITY, LEVELS, counted, sizeof counted, first, sizeof first, &first_size) != BT_OK) {

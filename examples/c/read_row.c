@@ -17,7 +17,7 @@ static uint8_t tree[4096];
 int main(void)
 {
     const uint8_t *text = (const uint8_t *)book;
-    const size_t text_len = strlen(book);
+    const uint64_t text_len = strlen(book);
     const uint8_t counted[] = {10}; /* the byte that ends a row */
     uint8_t row[32];
     uint32_t size, length, number;

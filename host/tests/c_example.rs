@@ -143,6 +143,20 @@ fn symbols_needed() {
     assert!(!needed.is_empty() && needed.iter().all(|name| ["memcpy", "memset"].contains(name)), "{listed}");
 }
 
+/// Every length has 64 bits, whatever the processor: in the header, in the declarations for Rust and in the Python module.
+#[test]
+fn lengths_have_64_bits() {
+    let read = |name: &str| std::fs::read_to_string(repository().join(name)).expect("a file");
+    let header = read("include/blocktree.h");
+    assert!(!header.contains("size_t"), "a length of the processor's own width is left in the header");
+    let lengths: Vec<&str> = header.split([',', '(', ')']).map(str::trim).filter(|word| word.contains(' ') && word.ends_with("_len")).collect();
+    assert!(lengths.len() > 40 && lengths.iter().all(|word| word.starts_with("uint64_t ")), "{lengths:?}");
+    let calls = read("host/src/calls.rs");
+    let declared = calls.split("mod declared {").nth(1).and_then(|rest| rest.split("\n}\n").next()).expect("the declarations");
+    assert!(declared.contains("text_len: u64") && !declared.contains("usize"), "{declared}");
+    assert!(!read("python/blocktree.py").contains("c_size_t"));
+}
+
 /// The header alone, as C99 and as C++.
 #[test]
 fn header_compiles() {
