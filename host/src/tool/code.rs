@@ -94,8 +94,8 @@ fn next(tree: Tree, guide: Option<&[u8]>, prefix: &[u8], mark: &mut u32) -> Resu
     }
 }
 
-/// The manifest beside a tree. What is wrong with it is told, and the rows are printed without it.
-fn manifest(given: &Given, path: Option<&Path>) -> Manifest {
+/// The manifest beside a tree. What is wrong with it is told, and it is then done without.
+pub fn manifest(given: &Given, path: Option<&Path>) -> Manifest {
     let Some(path) = path.filter(|path| *path != Path::new("-")) else {
         return Manifest::default();
     };
@@ -115,7 +115,7 @@ struct Book<'a> {
 
 impl Book<'_> {
     fn print(&self, json: bool, q: u32, row: &[u8], printed: &mut Vec<u8>) {
-        let Manifest { maker, edition } = &self.manifest;
+        let Manifest { maker, edition, .. } = &self.manifest;
         if json {
             let mut object = Object::new().text("tree", self.name).number("row", q).bytes("text", row);
             for (name, value) in [("maker", maker), ("edition", edition)] {

@@ -113,7 +113,7 @@ impl Given {
     pub fn inputs(&self) -> impl Iterator<Item = &OsStr> {
         let due = |at: usize| self.command.words.get(at).or(self.command.words.last());
         let files = self.words.iter().enumerate().filter(move |(at, _)| due(*at).is_some_and(Word::is_file));
-        files.map(|(_, word)| word.as_os_str()).chain(self.value(&table::GUIDE))
+        files.map(|(_, word)| word.as_os_str()).chain(self.value(&table::GUIDE)).chain(self.value(&table::MODULE))
     }
 
     pub fn has(&self, option: &Opt) -> bool {

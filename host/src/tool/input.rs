@@ -30,6 +30,9 @@ pub static TABLE: Limit = Limit { most: 16 * MAX_TEXT as u64, what: "a table", r
 /// An entry for each 64 bytes of text, and one begun for each counted byte.
 pub static GUIDE: Limit = Limit { most: 4 * (MAX_TEXT as u64 / 64 + 4), what: "a guide", refusal: None };
 
+/// The library's WebAssembly module has some 50 KB.
+pub static MODULE: Limit = Limit { most: 1 << 24, what: "a module", refusal: None };
+
 impl Limit {
     /// Why a file is not read.
     fn refuse(&self, name: &str, length: Option<u64>) -> Failure {

@@ -21,6 +21,7 @@ mod manifest;
 mod manual;
 mod nearest;
 mod output;
+mod page;
 mod picture;
 mod progress;
 mod questions;

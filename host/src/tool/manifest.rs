@@ -1,4 +1,4 @@
-//! The manifest beside a tree: a JSON object (RFC 8259) with its maker and its edition.
+//! The manifest beside a tree: a JSON object (RFC 8259) with its maker, its edition and the term of its licence.
 
 use std::fs::File;
 use std::io::{ErrorKind, Read};
@@ -15,6 +15,9 @@ const MAX_DEPTH: usize = 32;
 pub struct Manifest {
     pub maker: Option<String>,
     pub edition: Option<String>,
+    /// The first and the last day of the licence, as 2024-02-29.
+    pub first: Option<String>,
+    pub last: Option<String>,
 }
 
 impl Manifest {
@@ -37,7 +40,7 @@ impl Manifest {
         Manifest::read(&bytes).map_err(|what| words(&what))
     }
 
-    /// The members `maker` and `edition` of an object; members of other names are passed over.
+    /// The members `maker`, `edition`, `first` and `last` of an object; members of other names are passed over.
     fn read(bytes: &[u8]) -> Result<Self, String> {
         let text = std::str::from_utf8(bytes).map_err(|_| "it is not UTF-8".to_owned())?;
         let Value::Object(members) = Reader::whole(text)? else {
@@ -48,6 +51,8 @@ impl Manifest {
             let member = match name.as_str() {
                 "maker" => &mut manifest.maker,
                 "edition" => &mut manifest.edition,
+                "first" => &mut manifest.first,
+                "last" => &mut manifest.last,
                 _ => continue,
             };
             match (value, &member) {
@@ -273,7 +278,7 @@ mod tests {
     use super::{Manifest, MAX_DEPTH};
 
     fn manifest(maker: Option<&str>, edition: Option<&str>) -> Manifest {
-        Manifest { maker: maker.map(str::to_owned), edition: edition.map(str::to_owned) }
+        Manifest { maker: maker.map(str::to_owned), edition: edition.map(str::to_owned), ..Manifest::default() }
     }
 
     #[test]
@@ -285,6 +290,8 @@ mod tests {
             read(r#"{"maker":"\u00dc\ud83d\udd11\/\n\"","x":[1,-0.5e+3,{"maker":2},[],true,false,null]}"#),
             Ok(manifest(Some("Ü🔑/\n\""), None))
         );
+        let term = read(r#"{"first":"2024-01-01","last":"2024-12-31"}"#).expect("a manifest");
+        assert_eq!((term.first.as_deref(), term.last.as_deref()), (Some("2024-01-01"), Some("2024-12-31")));
         let deep = format!("{{\"x\":{}{}}}", "[".repeat(MAX_DEPTH - 1), "]".repeat(MAX_DEPTH - 1));
         assert_eq!(read(&deep), Ok(manifest(None, None)));
     }

@@ -32,6 +32,11 @@ impl Output {
         Output::create(given.path(&OUTPUT), given.has(&FORCE), source)?.timed(given, source)
     }
 
+    /// The same for a file that is made of several.
+    pub fn of_all(given: &Given, sources: &[Source]) -> Result<Self, Failure> {
+        Output::made_of(given.path(&OUTPUT), given.has(&FORCE), sources)
+    }
+
     /// With --keep-time a file gets the times of what is read.
     pub fn timed(mut self, given: &Given, source: &Source) -> Result<Self, Failure> {
         if let (Place::File(spool), true) = (&mut self.place, given.has(&KEEP_TIME)) {
@@ -43,8 +48,12 @@ impl Output {
 
     /// A file, or standard output where it is `-` or none. It must not be the file that is read.
     pub fn create(path: Option<&Path>, force: bool, source: &Source) -> Result<Self, Failure> {
+        Output::made_of(path, force, std::slice::from_ref(source))
+    }
+
+    fn made_of(path: Option<&Path>, force: bool, sources: &[Source]) -> Result<Self, Failure> {
         match path {
-            Some(path) if path != Path::new("-") && path != Path::new("/dev/stdout") => Output::file(path, force, source),
+            Some(path) if path != Path::new("-") && path != Path::new("/dev/stdout") => Output::file(path, force, sources),
             _ => Output::standard(path.is_some()),
         }
     }
@@ -56,7 +65,7 @@ impl Output {
         Ok(Output { name: "standard output".to_owned(), place: Place::Standard })
     }
 
-    fn file(path: &Path, force: bool, source: &Source) -> Result<Self, Failure> {
+    fn file(path: &Path, force: bool, sources: &[Source]) -> Result<Self, Failure> {
         let name = path.to_string_lossy().into_owned();
         let unwritten = |error: io::Error| Failure::file(&name, format!("cannot be written: {error}"));
         let (target, old) = match fs::metadata(path) {
@@ -66,7 +75,7 @@ impl Output {
                 return Ok(Output { name, place: Place::Special(file) });
             }
             Ok(old) => {
-                apart(&name, &old, source)?;
+                sources.iter().try_for_each(|source| apart(&name, &old, source))?;
                 // a link stays, and what it leads to is replaced
                 (path.canonicalize().map_err(unwritten)?, Some(old))
             }
@@ -79,7 +88,7 @@ impl Output {
         if old.is_some() && !force {
             return Err(Failure::file(&name, EXISTS));
         }
-        let access: Vec<Access> = source.metadata().iter().chain(&old).map(Access::of).collect();
+        let access: Vec<Access> = sources.iter().filter_map(Source::metadata).chain(old).map(|file| Access::of(&file)).collect();
         let spool = Spool::create(target, force, &access).map_err(unwritten)?;
         Ok(Output { name, place: Place::File(spool) })
     }
