@@ -62,24 +62,27 @@ class Drawing {
         const height = this.y(this.counts.length - 1) + LANE.bar + 30;
         this.svg.setAttribute("viewBox", `0 0 ${this.width} ${height}`);
         this.svg.replaceChildren(
-            shape("text", { x: 0, y: 13, class: "lane-name" }, `the text, ${several(this.length, "byte")}`),
             shape("rect", { x: 0, y: STRIP.top, width: this.width, height: STRIP.height, rx: 4, class: "strip" }),
         );
         this.counts.forEach((_, level) => this.svg.append(...this.lane(level)));
         this.over = shape("g", {});
-        this.svg.append(this.over);
+        const names = this.counts.map((_, level) => shape("text", { x: 0, y: this.y(level) - 8 }, this.name(level)));
+        this.svg.append(this.over, shape("text", { x: 0, y: 13 }, `the text, ${several(this.length, "byte")}`), ...names);
         this.light(this.path, this.place, this.marks);
     }
 
-    lane(level) {
+    name(level) {
         const { blocks, pointing } = this.counts[level];
-        const size = `level ${level}: ${several(blocks, "block")} of ${grouped(this.blocks.fullLength(level))}, `;
-        const name = shape("text", { x: 0, y: this.y(level) - 8, class: "lane-name" }, `${size}${grouped(pointing)} pointing`);
+        return `level ${level}: ${several(blocks, "block")} of ${grouped(this.blocks.fullLength(level))}, ${grouped(pointing)} pointing`;
+    }
+
+    lane(level) {
+        const { blocks } = this.counts[level];
         const ground = shape("rect", { x: 0, y: this.y(level), width: this.width, height: LANE.bar, class: "ground" });
-        if (blocks === 0) return [name, ground];
+        if (blocks === 0) return [ground];
         const wide = this.x(this.blocks.fullLength(level)) >= NARROW;
         const [kept, points] = wide ? this.bars(level, blocks) : this.shares(level, blocks);
-        return [name, ground, shape("path", { d: kept, class: "kept" }), shape("path", { d: points, class: "points" })];
+        return [ground, shape("path", { d: kept, class: "kept" }), shape("path", { d: points, class: "points" })];
     }
 
     /** A bar for each block: kept ones tall, pointing ones low. */

@@ -49,6 +49,9 @@ function line({ number, text, press }) {
     button.addEventListener("click", press);
     const item = element("li", "");
     item.append(button);
+    button.addEventListener("click", () => {
+        for (const other of item.parentElement?.children ?? []) other.classList.toggle("asked", other === item);
+    });
     return item;
 }
 
