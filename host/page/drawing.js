@@ -156,14 +156,14 @@ class Drawing {
 
     /** The place in the strip, and a dot where each block is entered. */
     litEnds() {
-        const dots = this.path.map((step) => shape("circle", { cx: this.reached(step), cy: this.y(step.level) + LANE.bar * 0.75, r: 3.2, class: "lit-dot" }));
+        const dot = (step) => ({ cx: this.reached(step), cy: this.y(step.level) + LANE.bar * 0.75, r: 3.2, class: "lit-dot" });
         const x = this.reached(this.path[0]);
         // beside the name of the strip, which takes the first columns
         const name = { x: Math.max(x, 270), y: 13, "text-anchor": "end", class: "lit-name" };
         return [
             shape("path", { d: `M${x} ${STRIP.top - 3}v${STRIP.height + 6}`, class: "lit-mark" }),
             shape("text", name, `place ${grouped(this.place)}`),
-            ...dots,
+            ...this.path.map((step) => shape("circle", dot(step))),
         ];
     }
 }

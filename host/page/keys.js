@@ -2,6 +2,9 @@
 
 const CUT = { width: 20, slope: 5, left: 64, top: 10, depth: 2.6, bottom: 46 };
 
+/** The bow, with its hole. */
+const BOW = "M28 4a24 24 0 1 0 0 48a24 24 0 0 0 24-14h12v-20h-12a24 24 0 0 0-24-14zM18 20a8 8 0 1 1 0 16a8 8 0 0 1 0-16z";
+
 /** The top edge of a blade with these depths. */
 function edge(depths) {
     const tops = depths.map((depth) => CUT.top + depth * CUT.depth);
@@ -22,7 +25,7 @@ function drawKey(svg, ranges) {
     const tip = `L${end} ${CUT.top}L${end + 14} ${CUT.top + 18}L${end} ${CUT.bottom}`;
     const blade = (depths) => `M${CUT.left} ${CUT.top}${edge(depths)}${tip}H${CUT.left}z`;
     svg.append(
-        shape("path", { d: "M28 4a24 24 0 1 0 0 48a24 24 0 0 0 24-14h12v-20h-12a24 24 0 0 0-24-14zM18 20a8 8 0 1 1 0 16a8 8 0 0 1 0-16z", class: "bow" }),
+        shape("path", { d: BOW, class: "bow" }),
         shape("path", { d: blade(lows), class: "band" }),
         shape("path", { d: blade(highs), class: "blade" }),
     );

@@ -148,14 +148,20 @@ class Page {
             ["Counted", counted.join("; ") || "no byte"],
         ];
         byId("figures").replaceChildren(...figures.map((figure) => this.figure(...figure)));
-        const parts = tree.digest.match(/.{8}/g).map((part) => element("span", part));
-        byId("digest").replaceChildren(...parts);
+        byId("digest").replaceChildren(...tree.digest.match(/.{32}/g).map((half) => this.parted(half)));
         byId("tree-digest").textContent = this.library.digestText(book.bytes);
         byId("save").hidden = !book.built;
         for (const id of ["facts", "answers"]) byId(id).hidden = false;
         this.licence();
         this.drawing.open(tree);
         this.questions.open(tree);
+    }
+
+    /** Half of a digest in four parts, which stay on one line. */
+    parted(half) {
+        const line = element("span", "");
+        line.append(...half.match(/.{8}/g).map((part) => element("span", part)));
+        return line;
     }
 
     figure(name, value, more = "") {
@@ -203,8 +209,9 @@ class Page {
         for (const section of document.querySelectorAll("[data-card]")) section.classList.toggle("current", section.dataset.card === card);
         byId("path-words").textContent = words;
         const agrees = path.length === entered;
+        const figures = `${several(entered, "block")} entered by ${call}, ${path.length} on the path drawn`;
         byId("path-sum").className = agrees ? "yes" : "no";
-        byId("path-sum").textContent = `${several(entered, "block")} entered by ${call}, ${path.length} on the path drawn${agrees ? "" : ": they differ"}`;
+        byId("path-sum").textContent = agrees ? figures : `${figures}: they differ`;
         byId("steps").replaceChildren(...path.map((step) => this.step(step)));
         byId("drawing").setAttribute("aria-label", `The tree's levels. ${words}: ${several(path.length, "block")} on the path.`);
     }
@@ -229,8 +236,9 @@ class Page {
 async function start() {
     try {
         const library = new Library(decoded(byId("module").textContent.trim()));
-        byId("version").textContent = library.version();
-        if (library.version() !== GIVEN.version) throw new Error(`the module in this page is of version ${library.version()}, the page of ${GIVEN.version}`);
+        const version = library.version();
+        byId("version").textContent = version;
+        if (version !== GIVEN.version) throw new Error(`the module in this page is of version ${version}, the page of ${GIVEN.version}`);
         const page = new Page(library);
         await page.open(page.books[0]);
     } catch (error) {

@@ -77,7 +77,8 @@ class Questions {
         this.on("code", [], () => this.askCode());
         this.on("places", [], () => this.askPlaces());
         this.on("worn", [], () => this.askWorn());
-        for (const [id, by] of [["row-earlier", -WINDOW], ["row-later", WINDOW]]) byId(id).addEventListener("click", () => this.window(this.first + by));
+        byId("row-earlier").addEventListener("click", () => this.window(this.first - WINDOW));
+        byId("row-later").addEventListener("click", () => this.window(this.first + WINDOW));
     }
 
     /** Enter asks; fields whose answer is a figure ask as they are typed in. */
@@ -268,8 +269,9 @@ class Questions {
             const press = () => this.lightPlace(`Place ${grouped(place)}`, place, "places", places);
             return { number: place, text: this.around(place, pattern.length), press };
         };
-        const said = (shown, more) => (more ? `The first ${grouped(shown)} of ${several(places.length, "place")}.` : `${several(places.length, "place")}, all of them.`);
-        this.places.show(next, (shown, more) => (places.length === 0 ? "It does not occur." : said(shown, more)));
+        const all = several(places.length, "place");
+        const said = (shown, more) => (more ? `The first ${grouped(shown)} of ${all}.` : `${all}, all of them.`);
+        this.places.show(next, places.length === 0 ? () => "It does not occur." : said);
         this.lightFirst(this.places);
     }
 

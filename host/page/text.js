@@ -60,7 +60,8 @@ function shownRow(tree, q) {
 /** The number in a field, from 0 to the largest word. */
 function numberIn(field) {
     const text = field.value.trim();
-    if (!/^\d{1,10}$/.test(text) || Number(text) > 4294967295) throw new Wrong(text === "" ? "Type a number." : `'${text}' is not a number from 0 to 4,294,967,295.`);
+    if (text === "") throw new Wrong("Type a number.");
+    if (!/^\d{1,10}$/.test(text) || Number(text) > 4294967295) throw new Wrong(`'${text}' is not a number from 0 to 4,294,967,295.`);
     return Number(text);
 }
 

@@ -155,7 +155,8 @@ fn the_module_of_the_tool() {
     match done.output.status.code() {
         Some(0) => assert!(decoded(between(&String::from_utf8_lossy(&folder.read("small.html")), "id=\"module\">", "</script>")).starts_with(MODULE)),
         _ => {
-            let words = "codebook: this tool was built without the library's WebAssembly module; targets/make wasm32 makes it, then build the tool again or name it by --module\n";
+            let words = "codebook: this tool was built without the library's WebAssembly module; targets/make wasm32 makes it, \
+                         then build the tool again or name it by --module\n";
             assert!(done.status(2).errors().starts_with(words), "{}", done.errors());
             assert!(!folder.names().contains(&"small.html".to_owned()));
         }

@@ -53,7 +53,10 @@ pub fn page(given: &Given) -> Result<(), Failure> {
 fn module(given: &Given) -> Result<Vec<u8>, Failure> {
     let Some(path) = given.path(&MODULE) else {
         return match BUILT_IN {
-            [] => Err(given.usage("this tool was built without the library's WebAssembly module; targets/make wasm32 makes it, then build the tool again or name it by --module")),
+            [] => Err(given.usage(
+                "this tool was built without the library's WebAssembly module; targets/make wasm32 makes it, \
+                 then build the tool again or name it by --module",
+            )),
             module => Ok(module.to_vec()),
         };
     };
@@ -116,7 +119,9 @@ fn filled(parts: &[(&str, &str)]) -> String {
 
 /// What the script reads: the books, the words of refusals, the settings that build tries. No `<` is left in it, so that no text ends its element.
 fn data(books: Vec<Object>) -> String {
-    let words = |number: u32| Refusal::from_number(number).map(|refusal| refusal.to_string().split_once(": ").map_or(String::new(), |(_, words)| words.to_owned()));
+    let words = |number: u32| {
+        Refusal::from_number(number).map(|refusal| refusal.to_string().split_once(": ").map_or(String::new(), |(_, words)| words.to_owned()))
+    };
     let refusals: Vec<String> = std::iter::once(String::new()).chain((1..).map_while(words)).collect();
     let settings = SHORT_LIST.iter().map(|(leaf, arity, levels)| Object::new().number("leaf", leaf).number("arity", arity).number("levels", levels));
     let object = Object::new().text("version", env!("CARGO_PKG_VERSION")).texts("refusals", &refusals);
