@@ -9,6 +9,7 @@ const painted = () => new Promise((done) => setTimeout(done, 30));
 class Page {
     constructor(library) {
         this.library = library;
+        this.turn = Promise.resolve();
         this.books = GIVEN.books.map(({ tree, ...book }) => ({ ...book, bytes: decoded(tree) }));
         delete GIVEN.books;
         this.drawing = new Drawing(byId("drawing"), (place) => {
@@ -45,25 +46,33 @@ class Page {
         const [manifests, books] = [true, false].map((json) => read.filter(({ name }) => name.endsWith(".tree.json") === json));
         for (const book of books) this.books = [...this.books.filter(({ name }) => name !== book.name), book];
         for (const { name, bytes } of manifests) this.manifest(this.books.find((book) => `${book.name}.json` === name), bytes);
-        const opened = books.at(-1) ?? this.book;
-        if (opened) await this.open(opened);
+        if (read.length > 0) await this.open(books.at(-1) ?? this.book);
     }
 
-    /** Of a manifest that is no object, or has other members than strings, nothing is taken. */
+    /** Of a manifest that is no object, or in which one of these members is no string, nothing is taken. */
     manifest(book, bytes) {
         if (!book) return;
+        const names = ["maker", "edition", "first", "last"];
         try {
             const members = JSON.parse(new TextDecoder("utf-8", { fatal: true }).decode(bytes));
-            for (const name of ["maker", "edition", "first", "last"]) {
-                if (typeof members[name] === "string") book[name] = members[name];
-            }
-        } catch {
-            book.edition = "its manifest is not JSON";
+            const wrong = names.find((name) => !["string", "undefined"].includes(typeof members[name]));
+            if (wrong) throw new Wrong(`its member '${wrong}' is not a string`);
+            for (const name of names) book[name] = members[name];
+            book.unused = undefined;
+        } catch (error) {
+            book.unused = `its manifest is not used: ${error instanceof Wrong ? error.message : "it is not a JSON object"}`;
         }
     }
 
+    /** One book after the other: building and opening take all of the library's memory. */
+    open(book) {
+        const next = () => this.openNow(book);
+        this.turn = this.turn.then(next, next);
+        return this.turn;
+    }
+
     /** Open a tree, or build that of a book; what is refused shows its number and nothing else. */
-    async open(book) {
+    async openNow(book) {
         this.book = book;
         this.shelf();
         this.close();
@@ -135,7 +144,7 @@ class Page {
 
     facts() {
         const { tree, book } = this;
-        byId("maker").textContent = [book.maker, book.edition && `edition ${book.edition}`].filter(Boolean).join(", ");
+        byId("maker").textContent = [book.maker, book.edition && `edition ${book.edition}`, book.unused].filter(Boolean).join(", ");
         const rows = tree.rows();
         const counted = tree.counted.map(({ byte, total }) => `${shownByte(byte)}: ${several(total, "time")}`);
         const share = tree.textLength === 0 ? "" : `${((100 * tree.length) / tree.textLength).toFixed(1)} % of the text`;

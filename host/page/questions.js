@@ -205,7 +205,9 @@ class Questions {
         const length = numberIn(byId("count-length"));
         const { value, entered } = this.tree.count(byte, length);
         const words = `Count of ${shownByte(byte)} in the first ${several(length, "byte")}`;
-        this.lit({ card: "count", words, place: length === 0 ? null : length - 1, call: "bt_count", entered });
+        const place = length === 0 ? null : length - 1;
+        this.showPlace(place);
+        this.lit({ card: "count", words, place, call: "bt_count", entered });
         return `${grouped(value)} (${several(entered, "block")} entered)`;
     }
 
@@ -214,6 +216,7 @@ class Questions {
         const number = numberIn(byId("find-number"));
         this.most = this.tree.counted.find((counted) => counted.byte === byte).total;
         const { place, entered } = this.tree.find(byte, number);
+        this.showPlace(place);
         this.lit({ card: "find", words: `Occurrence ${grouped(number)} of ${shownByte(byte)}`, place, call: "bt_find", entered });
         return `${grouped(place)} (${several(entered, "block")} entered)`;
     }
@@ -224,17 +227,22 @@ class Questions {
     }
 
     askPlace(place) {
-        const { value, entered } = this.tree.byte(place);
         this.lightPlace(`Place ${grouped(place)}`, place, "place");
-        return `${shownByte(value)} (${several(entered, "block")} entered)`;
+        return byId("place-answer").textContent;
+    }
+
+    /** The place whose path is lit, with its byte; null for none. */
+    showPlace(place) {
+        const { value, entered } = place === null ? {} : this.tree.byte(place);
+        byId("place").value = place ?? "";
+        byId("place-answer").classList.remove("no");
+        byId("place-answer").textContent = place === null ? "" : `${shownByte(value)} (${several(entered, "block")} entered)`;
+        return entered;
     }
 
     /** Light the path of a place by the call that reads its byte. */
     lightPlace(words, place, card, marks = []) {
-        const { value, entered } = this.tree.byte(place);
-        byId("place").value = place;
-        byId("place-answer").textContent = `${shownByte(value)} (${several(entered, "block")} entered)`;
-        this.lit({ card, words, place, call: "bt_byte", entered, marks });
+        this.lit({ card, words, place, call: "bt_byte", entered: this.showPlace(place), marks });
     }
 
     /** Rows that a call finds one after the other, as lines of a list. */
