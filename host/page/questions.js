@@ -107,6 +107,7 @@ class Questions {
 
     /** The words of a refusal, with the numbers that would have been answered. */
     why(error) {
+        if (error.number === 12 && this.most === 0) return "refused (12): the text has no such byte";
         if (error.number === 12) return `refused (12): numbers go from 1 to ${grouped(this.most)}`;
         if (error.number === 10) return `refused (10): the text has ${several(this.tree.textLength, "byte")}`;
         return error.message;
@@ -115,9 +116,10 @@ class Questions {
     /** A refused search leaves no lines of the one before. */
     forget(id) {
         this[{ code: "code", places: "places", worn: "worn" }[id]]?.clear();
-        if (id === "row") this.windowed([]);
-        byId("row-all").hidden ||= id === "row";
-        if (id === "worn") drawKey(byId("worn-key"), []);
+        if (id === "row" || id === "worn") drawKey(byId(`${id}-key`), []);
+        if (id !== "row") return;
+        this.windowed([]);
+        byId("row-all").hidden = true;
     }
 
     /** No tree: no answers at all. */

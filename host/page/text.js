@@ -15,7 +15,7 @@ const several = (number, one) => `${grouped(number)} ${number === 1 ? one : one.
 const twoDigits = (byte) => byte.toString(16).padStart(2, "0");
 const hexadecimal = (bytes) => Array.from(bytes, twoDigits).join("");
 
-/** The bytes that base64 stands for. */
+/** The bytes of a text in base64. */
 function decoded(base64) {
     const text = atob(base64);
     const bytes = new Uint8Array(text.length);
