@@ -167,8 +167,12 @@ class Tree {
     /** At most `most` bytes of row `q`, and its length. */
     row(q, most) {
         const [length] = this.ask("bt_row_length", [q], ["word"]);
-        const part = Math.min(length, most);
-        return { bytes: part > 0 ? this.span(this.rowStart(q), part) : new Uint8Array(0), length };
+        if (length > most) return { bytes: this.span(this.rowStart(q), most), length };
+        return this.library.lending(() => {
+            const buffer = this.library.space(length);
+            this.ask("bt_row", [q, buffer, BigInt(length)], ["word"]);
+            return { bytes: this.library.bytes(buffer, length), length };
+        });
     }
 
     span(place, length) {
