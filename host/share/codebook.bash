@@ -4,13 +4,13 @@ _codebook() {
     local word=${COMP_WORDS[COMP_CWORD]} command=${COMP_WORDS[1]} choices=
     COMPREPLY=()
     if [ "$COMP_CWORD" -eq 1 ]; then
-        choices='build slim import check verify digest diff list stats picture row byte run span count find places code match worn text to-columns from-columns guide compare shelf licence sizes help version manual completion --help --version'
+        choices='build slim import check verify digest diff list stats picture page row byte run span count find places code match worn text to-columns from-columns guide compare shelf licence sizes help version manual completion --help --version'
     else
         case $command in
         guide) command="$command ${COMP_WORDS[2]}"; [ "$COMP_CWORD" -eq 2 ] && choices='make check' ;;
         licence) command="$command ${COMP_WORDS[2]}"; [ "$COMP_CWORD" -eq 2 ] && choices='open left renew' ;;
         completion) choices='bash zsh' ;;
-        help) choices='build slim import check verify digest diff list stats picture row byte run span count find places code match worn text to-columns from-columns guide compare shelf licence sizes help version manual completion' ;;
+        help) choices='build slim import check verify digest diff list stats picture page row byte run span count find places code match worn text to-columns from-columns guide compare shelf licence sizes help version manual completion' ;;
         esac
         case $word in -*) case $command in
         'build') choices='-o --output -f --force --keep-time --small --leaf --arity --levels --count --columns --allow-larger --maker --edition --first --last -j --jobs --json -q --quiet -h --help' ;;
@@ -23,6 +23,7 @@ _codebook() {
         'list') choices='--json -q --quiet -h --help' ;;
         'stats') choices='--json -q --quiet -h --help' ;;
         'picture') choices='-o --output -f --force --keep-time --json -q --quiet -h --help' ;;
+        'page') choices='-o --output -f --force --module --json -q --quiet -h --help' ;;
         'row') choices='--guide --columns --json --unchecked --any-day --today -q --quiet -h --help' ;;
         'byte') choices='--json --unchecked --any-day --today -q --quiet -h --help' ;;
         'run') choices='--json --unchecked --any-day --today -q --quiet -h --help' ;;

@@ -28,6 +28,7 @@ fn shelf(name: &str) -> Folder {
     folder.write("damaged.tree", &damaged);
     folder.run("build small.txt -q -o closed.tree --first 2000-01-01 --last 2000-12-31").succeeds();
     folder.write("maker.txt", b"CH0501 444220\nNEW 1\n");
+    folder.write("empty.wasm", b"\0asm\x01\0\0\0");
     folder.write("maker.csv", b"Code;Cuts\nCH0501;444224\nCH 502;444225\n");
     folder.write("small.tree.json", b"{\"maker\":\"Ilko\",\"edition\":\"3\"}");
     folder.write("sums", folder.run("check --sums small.tree columns.tree").succeeds().printed().as_bytes());
@@ -36,7 +37,7 @@ fn shelf(name: &str) -> Folder {
 }
 
 /// A call of each command that succeeds.
-const CALLS: [&str; 57] = [
+const CALLS: [&str; 58] = [
     "build small.txt -f -o new.tree",
     "build small.txt -f -q -o new.tree",
     "build small.txt -f -o new.tree --columns 14 --allow-larger",
@@ -63,6 +64,7 @@ const CALLS: [&str; 57] = [
     "stats small.tree",
     "stats small.tree columns.tree",
     "picture small.tree -f -o new.svg",
+    "page small.tree columns.tree -f -o new.html --module empty.wasm",
     "row 5 small.tree",
     "row 5..7 small.tree",
     "row 5..7 small.tree --guide small.guide",

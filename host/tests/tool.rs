@@ -613,7 +613,7 @@ fn help() {
     overview.succeeds().says("");
     let text = overview.printed();
     let commands: Vec<&str> = text.lines().filter(|line| line.starts_with("  ")).map(|line| line[2..17].trim_end()).collect();
-    assert_eq!(commands.len(), 35);
+    assert_eq!(commands.len(), 36);
     for command in commands {
         let help = folder.run(&format!("{command} --help"));
         help.succeeds().says("");

@@ -115,7 +115,7 @@ impl Given {
     pub fn inputs(&self) -> impl Iterator<Item = &OsStr> {
         let due = |at: usize| self.command.words.get(at).or(self.command.words.last());
         let files = self.words.iter().enumerate().filter(move |(at, _)| due(*at).is_some_and(Word::is_file));
-        files.map(|(_, word)| word.as_os_str()).chain(self.value(&table::GUIDE)).chain(self.value(&table::LIST))
+        files.map(|(_, word)| word.as_os_str()).chain(self.value(&table::GUIDE)).chain(self.value(&table::LIST)).chain(self.value(&table::MODULE))
     }
 
     /// The manifests beside the trees among them, whether or not there are any.

@@ -33,6 +33,9 @@ pub static GUIDE: Limit = Limit { most: 4 * (MAX_TEXT as u64 / 64 + 4), what: "a
 /// A list of digests: some 100,000 names.
 pub static LIST: Limit = Limit { most: 1 << 24, what: "a list of digests", refusal: None };
 
+/// The library's WebAssembly module has some 50 KB.
+pub static MODULE: Limit = Limit { most: 1 << 24, what: "a module", refusal: None };
+
 impl Limit {
     /// Why a file is not read.
     fn refuse(&self, name: &str, length: Option<u64>) -> Failure {

@@ -26,6 +26,7 @@ mod manual;
 mod nearest;
 mod ordered;
 mod output;
+mod page;
 mod picture;
 mod progress;
 mod questions;

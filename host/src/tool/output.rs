@@ -34,6 +34,11 @@ impl Output {
         Output::create(given.path(&OUTPUT), given.has(&FORCE), source)?.timed(given, source)
     }
 
+    /// The same for a file that is made of several.
+    pub fn of_all(given: &Given, sources: &[Source]) -> Result<Self, Failure> {
+        Output::made_of(given.path(&OUTPUT), given.has(&FORCE), sources)
+    }
+
     /// With --keep-time a file gets the times of what is read.
     pub fn timed(mut self, given: &Given, source: &Source) -> Result<Self, Failure> {
         if let (Place::File(spool), true) = (&mut self.place, given.has(&KEEP_TIME)) {
@@ -45,8 +50,12 @@ impl Output {
 
     /// A file, or standard output where it is `-` or none. It must not be the file that is read.
     pub fn create(path: Option<&Path>, force: bool, source: &Source) -> Result<Self, Failure> {
+        Output::made_of(path, force, std::slice::from_ref(source))
+    }
+
+    fn made_of(path: Option<&Path>, force: bool, sources: &[Source]) -> Result<Self, Failure> {
         match path {
-            Some(path) if path != Path::new("-") && path != Path::new("/dev/stdout") => Output::file(path, force, source),
+            Some(path) if path != Path::new("-") && path != Path::new("/dev/stdout") => Output::file(path, force, sources),
             _ => Output::standard(path.is_some()),
         }
     }
@@ -58,8 +67,8 @@ impl Output {
         Ok(Output { name: "standard output".to_owned(), place: Place::Standard, waiting: Vec::new() })
     }
 
-    fn file(path: &Path, force: bool, source: &Source) -> Result<Self, Failure> {
-        Output::file_within(path, force, source, Vec::new())
+    fn file(path: &Path, force: bool, sources: &[Source]) -> Result<Self, Failure> {
+        Output::file_within(path, force, sources, Vec::new())
     }
 
     /// The manifest beside this file, `path`: its permissions are no wider than those of this file, of what this file replaces, and of what it replaces itself.
@@ -67,10 +76,10 @@ impl Output {
         let Place::File(spool) = &self.place else {
             return Err(given.usage(format!("a manifest is written beside a file, and {} is none", self.name)));
         };
-        Output::file_within(path, given.has(&FORCE), source, spool.access.clone())?.timed(given, source)
+        Output::file_within(path, given.has(&FORCE), std::slice::from_ref(source), spool.access.clone())?.timed(given, source)
     }
 
-    fn file_within(path: &Path, force: bool, source: &Source, mut access: Vec<Access>) -> Result<Self, Failure> {
+    fn file_within(path: &Path, force: bool, sources: &[Source], mut access: Vec<Access>) -> Result<Self, Failure> {
         let name = path.to_string_lossy().into_owned();
         let unwritten = |error: io::Error| Failure::file(&name, format!("cannot be written: {error}"));
         let (target, old) = match fs::metadata(path) {
@@ -80,7 +89,7 @@ impl Output {
                 return Ok(Output { name, place: Place::Special(file), waiting: Vec::new() });
             }
             Ok(old) => {
-                apart(&name, &old, source)?;
+                sources.iter().try_for_each(|source| apart(&name, &old, source))?;
                 // a link stays, and what it leads to is replaced
                 (path.canonicalize().map_err(unwritten)?, Some(old))
             }
@@ -93,7 +102,7 @@ impl Output {
         if old.is_some() && !force {
             return Err(Failure::file(&name, EXISTS));
         }
-        access.extend(source.metadata().iter().chain(&old).map(Access::of));
+        access.extend(sources.iter().filter_map(Source::metadata).chain(old).map(|file| Access::of(&file)));
         let spool = Spool::create(target, force, access).map_err(unwritten)?;
         Ok(Output { name, place: Place::File(spool), waiting: Vec::new() })
     }

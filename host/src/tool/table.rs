@@ -1,7 +1,7 @@
 //! The one table of commands and options: calls are read by it, and help, the manual page and the completions are printed from it.
 
 use crate::{
-    build, by_columns, check, code, diff, digest, given::Given, guide, help, import, licence, picture, questions, shelf, slim, stats, Failure,
+    build, by_columns, check, code, diff, digest, given::Given, guide, help, import, licence, page, picture, questions, shelf, slim, stats, Failure,
 };
 
 /// What the commands on licences share.
@@ -109,6 +109,13 @@ pub static GUIDE: Opt = Opt {
     file: true,
     help: "the tree's guide, made by guide make: start there, not at the first block",
 };
+pub static MODULE: Opt = Opt {
+    long: "--module",
+    short: None,
+    value: Some("FILE"),
+    file: true,
+    help: "the library's WebAssembly module, made by targets/make wasm32; otherwise the one that the tool was built with",
+};
 pub static FROM: Opt = valued("--from", "ROW", "start at this row, from 1");
 pub static AFTER: Opt = valued("--after", "ROW", "the next match after this row, and no other; 0 is before the first row");
 pub static PREFIX: Opt = flag("--prefix", None, "CODE is the beginning of a row, not a whole code");
@@ -137,7 +144,7 @@ const fn any(name: &'static str) -> Word {
 static TREE: [Word; 1] = [maybe("TREE")];
 static TREES: [Word; 1] = [any("TREE")];
 
-pub static COMMANDS: [Command; 35] = [
+pub static COMMANDS: [Command; 36] = [
     Command {
         name: "build",
         words: &[any("BOOK")],
@@ -241,6 +248,17 @@ pub static COMMANDS: [Command; 35] = [
         summary: "draw a tree's levels as an SVG file",
         details: "Each level is a bar of its blocks in the text's order. Kept blocks are tall and dark; pointing blocks are low, in the colour of the place that they point to, which the strip at the top shows. Few pointing blocks have an arrow besides. Where blocks are too narrow to be drawn, the height in each pixel is the share of its text that is kept, and that points.",
         run: picture::picture,
+    },
+    Command {
+        name: "page",
+        words: &[Word { name: "TREE", due: Due::AtLeastOnce }],
+        options: &[&OUTPUT, &FORCE, &MODULE, &JSON],
+        summary: "write trees as one HTML file that answers by itself",
+        details: "The file holds the trees and the library, compiled to WebAssembly from the proved code. A browser opens it without a network: it checks the trees, shows their facts and digests, answers rows, codes, counts, places and worn keys, and draws the path of each answer. \
+                  Other trees can be dropped on it, and books, whose trees it builds. Each TREE is checked first, and a refused one is not written. \
+                  Where a file TREE.json lies beside a tree, its members maker, edition, first and last are shown too; from first to last, days such as 2024-02-29, the book is open. \
+                  The file gets the permissions that all trees have, never wider ones. A tree by columns is shown as it is.",
+        run: page::page,
     },
     Command {
         name: "row",

@@ -1,4 +1,5 @@
 //! A reader of JSON (RFC 8259), for what the tool prints.
+#![allow(dead_code)] // each test uses a part
 
 use std::iter::Peekable;
 use std::str::Chars;
