@@ -119,6 +119,17 @@ def shortened(kind, words, answer):
     return words, " ".join(answer)
 
 
+def guides_of(asked):
+    """The words of each tree's guide, by the tree's place, where a case has them."""
+    return {places[0]: shortened(kind, words, answer)[1].split(" ")[1] for kind, _, places, words, answer in asked if kind == "guide" and answer[0] == "0"}
+
+
+def with_guide(guides, place, words, answer):
+    """A prefix question's words with a guide: the tree's own, or none where a number refuses before the guide is read. None where no guide is known."""
+    guide = guides.get(place) if answer.startswith("0 ") else "-"
+    return guide and [guide] + words
+
+
 def enter_trees(files, source, lent, checks):
     """The trees that a check settles; the path of each by its place."""
     paths = {}
@@ -136,6 +147,7 @@ def made():
     for source, path in SOURCES:
         lent, checks, asked = read(path)
         paths = enter_trees(files, source, lent, checks)
+        guides = guides_of(asked)
         for kind, names, places, words, answer in asked:
             if kind == "build":
                 build(files, source, names[0], lent[places[0]], words, answer)
@@ -145,8 +157,11 @@ def made():
                 trees = [paths[place] for place in places]
                 if kind == "without_edges" and trees[0].startswith("good/"):
                     files.enter("good", "%s-%s-without-edges.tree" % (source, names[0]), from_hex(short[1].split(" ")[1]))
-                good = all(tree.startswith("good/") for tree in trees)
-                files.line("answers.txt" if good else "answers-refused.txt", [kind] + trees + short[0], short[1])
+                name = "answers.txt" if all(tree.startswith("good/") for tree in trees) else "answers-refused.txt"
+                files.line(name, [kind] + trees + short[0], short[1])
+                guided = with_guide(guides, places[0], *short) if kind == "prefix" else None
+                if guided:
+                    files.line(name, ["prefix_guided"] + trees + guided, short[1])
     for path in sorted(files.bytes):
         if path.startswith("good/"):
             files.line("check.txt", ["check", path], "0")

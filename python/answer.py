@@ -53,6 +53,11 @@ def prefix(tree, lent, mark):
     return number, row, after
 
 
+def prefix_guided(tree, guide, lent, mark):
+    number, after, row = _call("bt_next_with_prefix_guided", tree.bytes, guide, lent, mark)
+    return number, row, after
+
+
 def order(one, other):
     number, where, shared, first = _call("bt_order", one.bytes, other.bytes)
     return number, ["-", "before", "same", "after"][where], shared, first
@@ -91,6 +96,7 @@ ASKED = {
     "places": lambda tree, pattern: tables(lambda: tree.places(from_hex(pattern))),
     "match": lambda tree, ranges, mark: match(tree, depths(ranges), int(mark)),
     "prefix": lambda tree, word, mark: prefix(tree, from_hex(word), int(mark)),
+    "prefix_guided": lambda tree, words, word, mark: prefix_guided(tree, entries(words), from_hex(word), int(mark)),
     "digest": lambda tree: copied(tree.digest),
     "guide": lambda tree: tables(lambda: guide(tree)),
     "guidecheck": lambda tree, words: _call("bt_check_guide", tree.bytes, entries(words)),

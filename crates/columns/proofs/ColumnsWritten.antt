@@ -5,7 +5,7 @@ use mathlib.Core.Path.{_≡_, refl, sym, ap, _∙_}
 use Prim.Native.Nat.{ℕ, suc, _+_, _*_, _/_, _≤_, _<_}
 use native.Mathlib.Omega.{arith}
 use native.Mathlib.Numerals.{add-one}
-use native.Mathlib.Nat.{mul-comm, mul-le-mul-right, suc-mul, zero-mul}
+use native.Mathlib.Nat.{mul-comm, mul-le-mul-right, mul-zero, suc-mul, zero-mul}
 use lib.ListN.{length, take, drop, getD, set, length-drop}
 use lib.Seq.{paste, paste-suc, getD-drop, take-add, take-all, drop-append-add, length-take-le, drop-drop, take-at}
 use lib.Dec.{leb}
@@ -57,6 +57,12 @@ module _ (r c : ℕ) (T : List ℕ) (size : length T ≡ r * c) where
   filled-all d₀ d b low high f =
       let e : b * r ≡ length T = (let z : b ≡ c = omega arith in ap (λ (x : ℕ). x * r) z) ∙ mul-comm c r ∙ sym size in
       f ∙ rw (e, take-all (length T) U (omega (arith, transposed-length r c T size)))
+
+  -- no rows: the output stays
+  pub filled-by-none : (d₀ : List ℕ) → r ≡ 0 → d₀ ≡ U ++ drop (length T) d₀
+  filled-by-none d₀ none =
+      let z : c * r ≡ 0 = ap (λ (x : ℕ). c * x) none ∙ mul-zero c in
+      filled-all d₀ d₀ c (omega arith) (omega arith) (rw z)
 
 -- questions 20 and 21
 module _ (w n room : ℕ) where

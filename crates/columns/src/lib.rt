@@ -57,11 +57,14 @@ pub fn divides(width: u32, n: usize) -> bool
     n % width as usize == 0
 }
 
-// Writes the columns of a text of rows of a width, one after the other.
+// Writes the columns of a text of rows of a width, one after the other. Without rows nothing moves, however many columns the width names.
 fn transpose(text: &[u8], rows: usize, width: usize, out: &mut [u8])
     requires { ⌜ (length (now text) ≡ rows * width) × (length (now text) ≤ length (now out)) ⌝ }
     ensures { λ _. ⌜ now (out .exit) ≡ transposed rows width (now (text .entry)) ++ drop (length (now (text .entry))) (now (out .entry)) ⌝ }
 {
+    if rows == 0 {
+        return;
+    }
     let mut b = 0;
     while b < width {
         put_column(text, rows, width, b, out);
