@@ -36,21 +36,21 @@ module _ (t : List ℕ) (p : ℕ) (h : Header) (k : HeaderOf t h) (low : p < h .
   leaf-run-broken b = sym (bytes.byte-broken t p h k low _ w w-is b)
 
   module _ (r : Reached) (e : w ≡ At r) where
-    end : Ends t (record { entered = 0; left = h .«text_length» - p }) (pathOf t p) r
-    end = ends t (record { entered = 0; left = h .«text_length» - p }) (pathOf t p) r (sym e ∙ w-is)
+    walk-end : Ends t (record { entered = 0; left = h .«text_length» - p }) (pathOf t p) r
+    walk-end = ends t (record { entered = 0; left = h .«text_length» - p }) (pathOf t p) r (sym e ∙ w-is)
 
     pub leaf-run-reached : (from size : ℕ) → from ≡ h .«leaf_offset» + r .leaf → size ≡ min (r .trail .left) (h .«leaf_count» - r .leaf)
         → LeafRunAt t p (record { from = from; length = size; entered = r .trail .entered })
     leaf-run-reached from size from-is size-is =
         let a = bytes.run-reached t p h k low _ w w-is r e refl from size from-is size-is in
         let b = part-reads t h k p low (ran.At (record { from = from; length = size })) a (record { from = from; length = size }) refl in
-        let start : from ≡ at.leafOffset t + end .path .leaf = omega (arith, k .offset-is, end .leaf-is) in record {
+        let start : from ≡ at.leafOffset t + walk-end .path .leaf = omega (arith, k .offset-is, walk-end .leaf-is) in record {
           from-is = a .from-is;
           length-is = a .length-is;
           some-byte = b .1;
           in-tree = b .0 .in-tree;
-          says = λ x l. run-answers t (k .passes) p (omega (arith, k .length-is)) (end .path) (end .is)
-              from (r .trail .entered) start (omega (arith, end .entered-is)) x (omega (arith, a .length-is));
+          says = λ x l. run-answers t (k .passes) p (omega (arith, k .length-is)) (walk-end .path) (walk-end .is)
+              from (r .trail .entered) start (omega (arith, walk-end .entered-is)) x (omega (arith, a .length-is));
         }
 
 -- the answer of `leaf_run`
@@ -58,14 +58,14 @@ module _ (t : List ℕ) (p : ℕ) (x : LeafRunAnswer) (x-is : LeafRunOf t p x) w
   pub run-found : (r : LeafRun) → x ≡ found.At r → LeafRunAt t p r
   run-found r e = rw e at x-is
 
-  pub run-broken : x ≡ found.Broken → byteSays t p ≡ refused 14
-  run-broken e = rw e at x-is
+  pub run-refused : x ≡ found.Broken → byteSays t p ≡ refused 14
+  run-refused e = rw e at x-is
 
-  pub part-broken : x ≡ found.Broken → RunAnswer t p (ran.Refused 14)
-  part-broken e = bytes.run-none t p 13 14 refl (sym (run-broken e))
+  pub broken-part : x ≡ found.Broken → RunAnswer t p (ran.Refused 14)
+  broken-part e = bytes.run-none t p 13 14 refl (sym (run-refused e))
 
-  pub part-found : (r : LeafRun) → x ≡ found.At r → RunAnswer t p (ran.At (record { from = r .from; length = r .length }))
-  part-found r e =
+  pub found-part : (r : LeafRun) → x ≡ found.At r → RunAnswer t p (ran.At (record { from = r .from; length = r .length }))
+  found-part r e =
       let k = run-found r e in
       let z : p + 0 ≡ p = omega arith in record {
         number-is = sym (ap (λ (s : Said). s .number) (rw z at (k .says 0 (k .some-byte))));
@@ -76,14 +76,15 @@ module _ (t : List ℕ) (p : ℕ) (x : LeafRunAnswer) (x-is : LeafRunOf t p x) w
       }
 
 -- the first byte of a run is that of its place
-pub first-byte : (t : List ℕ) (p : ℕ) (r : LeafRun) → LeafRunAt t p r → (a : Answer) → a ≡ Byte (getD t (r .from + 0) 0) (r .entered) → said a ≡ byteSays t p
-first-byte t p r k a e =
+pub run-first-byte : (t : List ℕ) (p : ℕ) (r : LeafRun) → LeafRunAt t p r
+    → (a : Answer) → a ≡ Byte (getD t (r .from + 0) 0) (r .entered) → said a ≡ byteSays t p
+run-first-byte t p r k a e =
     let z : p + 0 ≡ p = omega arith in
     ap said e ∙ sym (rw z at (k .says 0 (k .some-byte)))
 
 -- no byte of a run is refused
-pub not-refused : (a : Answer) (v n q : ℕ) → a ≡ Byte v n → a ≡ Refused q → ⊥
-not-refused a v n q e f = let z : _≡_ {A = ℕ} 0 1 = cc in omega arith
+pub run-not-refused : (a : Answer) (v n q : ℕ) → a ≡ Byte v n → a ≡ Refused q → ⊥
+run-not-refused a v n q e f = let z : _≡_ {A = ℕ} 0 1 = cc in omega arith
 
 -- a byte's answer is taken apart, and its byte written
 value-is : (a : Answer) (v n u m : ℕ) → a ≡ Byte v n → a ≡ Byte u m → u ≡ v
@@ -96,8 +97,8 @@ byte-written d e t to from j is a n u m given taken =
 
 -- the bytes of a run are those of its places
 module _ (t : List ℕ) (p : ℕ) (r : LeafRun) (k : LeafRunAt t p r) where
-  pub run-holds : (x : ℕ) → x < r .length → byteSays t (p + x) .number ≡ 0
-  run-holds x l = ap (λ (s : Said). s .number) (k .says x l)
+  pub leaf-run-holds : (x : ℕ) → x < r .length → byteSays t (p + x) .number ≡ 0
+  leaf-run-holds x l = ap (λ (s : Said). s .number) (k .says x l)
 
   pub run-written : (d : List ℕ) (to n : ℕ) → n ≤ r .length → bytesWritten d to t (r .from) n ≡ placesWritten d to t p n
   run-written d to zero fits = refl
@@ -111,6 +112,6 @@ module _ (t : List ℕ) (p : ℕ) (r : LeafRun) (k : LeafRunAt t p r) where
   run-copied most to d e n some n-is j all is = (
     omega (arith, k .some-byte),
     omega arith,
-    λ x l. run-holds x (omega arith),
+    λ x l. leaf-run-holds x (omega arith),
     is ∙ ap (bytesWritten d to t (r .from)) all ∙ run-written d to n (omega arith),
   )

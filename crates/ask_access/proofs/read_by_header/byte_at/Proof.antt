@@ -14,8 +14,8 @@ byte-at-spec =
     (λ c κs. search needs)
     (λ c. search needs)
     (λ c. search needs)
-    (λ c. sym (laws.run-broken _ _ _ (c .before .before .leaf-run .ensures) (c .enum-told .given .1)))
+    (λ c. sym (laws.run-refused _ _ _ (c .before .before .leaf-run .ensures) (c .enum-told .given .1)))
     (λ c κs. let r = laws.run-found _ _ _ (c .before .before .before .leaf-run .ensures) _ (c .before .found .given .1) in
     omega (arith, r .some-byte, r .in-tree))
     (λ c. let w = c .before in
-    laws.first-byte _ _ _ (laws.run-found _ _ _ (w .before .before .before .leaf-run .ensures) _ (w .before .found .given .1)) _ (c .byte-on .ensures)))
+    laws.run-first-byte _ _ _ (laws.run-found _ _ _ (w .before .before .before .leaf-run .ensures) _ (w .before .found .given .1)) _ (c .byte-on .ensures)))

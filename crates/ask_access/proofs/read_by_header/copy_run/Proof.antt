@@ -25,7 +25,7 @@ copy-run-spec =
     (λ c κs. search needs)
     (λ c. search needs)
     (λ c. search needs)
-    (λ c. (refl, ap (λ (s : Said). s .number) (laws.run-broken _ _ _ (c .before .before .leaf-run .ensures) (c .enum-told .given .1)), refl))
+    (λ c. (refl, ap (λ (s : Said). s .number) (laws.run-refused _ _ _ (c .before .before .leaf-run .ensures) (c .enum-told .given .1)), refl))
     (λ c κs. search needs)
     (λ c. search needs)
     (λ c. (omega arith, refl, refl))
@@ -36,7 +36,7 @@ copy-run-spec =
     (λ c. search needs)
     (λ c κs. search needs)
     (λ c. c .before .before .before .before .before .loop .inv .1)
-    (λ c. absurd (laws.not-refused _ _ _ _ (c .before .before .before .byte-on .ensures) (c .before .enum-told2 .given .1)))
+    (λ c. absurd (laws.run-not-refused _ _ _ _ (c .before .before .before .byte-on .ensures) (c .before .enum-told2 .given .1)))
     (λ c. let s = c .before .before .before .before .before .before in let start = s .before .before .before .before .before .before .before in
     omega (arith, start .pre .3, s .shorter .ensures, start .good .1 .1 .1 .1 .0 .1))
     (λ c. let l = c .before .before .before .before .before in let s = l .before in

@@ -12,6 +12,6 @@ part-at-spec =
     (λ c κs. search needs)
     (λ c. search needs)
     (λ c. search needs)
-    (λ c. laws.part-broken _ _ _ (c .before .before .leaf-run .ensures) (c .enum-told .given .1))
+    (λ c. laws.broken-part _ _ _ (c .before .before .leaf-run .ensures) (c .enum-told .given .1))
     (λ c. search needs)
-    (λ c. let w = c .before in laws.part-found _ _ _ (w .before .before .before .leaf-run .ensures) _ (w .before .found .given .1)))
+    (λ c. let w = c .before in laws.found-part _ _ _ (w .before .before .before .leaf-run .ensures) _ (w .before .found .given .1)))

@@ -27,7 +27,8 @@ equal-at-spec =
     (λ c κs. let start = c .before .before .before .before in omega (arith, start .pre .1))
     (λ c. let l = c .before .before .before .before in let start = l .before .before in
     laws.eight-differ (start .args .t .now) (start .args .p + l .loop .i) (start .args .q + l .loop .i) (start .args .n - l .loop .i) (omega arith)
-    (omega (arith, start .pre .0)) (omega (arith, start .pre .1)) (laws.differ (c .before .before .eight .ensures) (c .before .eight2 .ensures) (c .if1 .taken))
+    (omega (arith, start .pre .0)) (omega (arith, start .pre .1))
+    (laws.numbers-differ (c .before .before .eight .ensures) (c .before .eight2 .ensures) (c .if1 .taken))
     ∙ l .loop .inv .1)
     (λ c. omega arith)
     (λ c. omega arith)
@@ -35,7 +36,7 @@ equal-at-spec =
       omega arith,
       laws.eight-more (start .args .t .now) (start .args .p) (start .args .q) (start .args .n) (l .loop .i) (omega arith) (start .pre .0) (start .pre .1)
           (λ k. l .before .shared-slice-known .given k .fits)
-          (laws.agree (c .before .before .eight .ensures) (c .before .eight2 .ensures) (c .if1 .left)) ∙ l .loop .inv .1,
+          (laws.numbers-same (c .before .before .eight .ensures) (c .before .eight2 .ensures) (c .if1 .left)) ∙ l .loop .inv .1,
     ))
     (λ c. let start = c .before .before .before in omega (arith, start .pre .0, start .good .0 .0))
     (λ c. let start = c .before .before .before in omega (arith, start .pre .1, start .good .0 .0))
