@@ -54,7 +54,7 @@ module _ (t : List ℕ) (q : Path) where
   same-left most rest leaf count carried left m l c d e = rw (left-min t (q .visits) rest (at.leafCount t - q .leaf), e, d, m, l, c)
 
 -- a number other than 0 has no run
-run-none : (t : List ℕ) (p k q : ℕ) → q ≡ suc k → refused q ≡ byteSays t p → RunAnswer t p (ran.Refused q)
+pub run-none : (t : List ℕ) (p k q : ℕ) → q ≡ suc k → refused q ≡ byteSays t p → RunAnswer t p (ran.Refused q)
 unfolding runSays
 run-none t p k q q-is e =
     let n = ap (λ (y : Said). y .number) e in
@@ -81,9 +81,6 @@ module _ (t : List ℕ) (p : ℕ) where
       byte-broken b =
           let z = broken t trail (pathOf t p) (sym b ∙ w-is) in
           rw (k .passes, lt-ltb p (at.textLength t) (omega (arith, k .length-is)), z)
-
-      pub run-broken : w ≡ Broken → RunAnswer t p (ran.Refused 14)
-      run-broken b = run-none t p 13 14 refl (byte-broken b)
 
       module _ (r : Reached) (e : w ≡ At r) where
         end : Ends t trail (pathOf t p) r

@@ -1,9 +1,8 @@
--- The loop that copies bytes to a buffer, span's and row's: each byte's answer is taken apart, and where one is refused the part asked for
--- is cleared.
+-- The loop that copies runs to a buffer, span's and row's; where a byte is refused, the part asked for is cleared.
 use mathlib.Core.List.{List, _++_}
 use mathlib.Core.Bool.{true, false, _&&_}
 use mathlib.Core.Path.{_≡_, refl, sym, ap, _∙_}
-use Prim.Native.Nat.{ℕ, suc, _+_, _-_, _≤_, _<_}
+use Prim.Native.Nat.{ℕ, zero, suc, _+_, _-_, _≤_, _<_}
 use native.Mathlib.Omega.{arith}
 use native.Mathlib.Nat.{add-assoc}
 use lib.Dec.{eqb}
@@ -12,13 +11,16 @@ use lib.Seq.{drop-set-lt}
 use Rattle.text.specs.Lists.{tabulate}
 use Rattle.text.specs.ListLaws.{tab-none, tab-more}
 use Rattle.format.specs.Layout as at
-use Rattle.format.specs.Said.{Said, refused}
+use Rattle.format.specs.Said.{Said}
 use Rattle.format.specs.ReadSays.{byteSays, pathsHold}
 use Rattle.layout.specs.declared.header.Header.{Header}
 use Rattle.layout.specs.HeaderSays.{HeaderOf}
 use Rattle.ask_access.specs.declared.Answer.{Answer}
 use Rattle.ask_access.specs.declared.Answer.the-variants.{Byte, Refused}
-use Rattle.ask_access.specs.ReadAnswers.{said}
+use Rattle.ask_access.specs.declared.Copied.{Copied}
+use Rattle.ask_access.specs.declared.Copied.the-variants as copied
+use Rattle.ask_access.specs.ReadAnswers.{said, copiedSaid, Numbered}
+use Rattle.ask_access.specs.ReadByRuns.{placesWritten, RunCopied}
 use Rattle.theory_paths.specs.PlaceBytes.{only-14}
 use Rattle.ask_access.proofs.SpanLaws.{ByPaths, values, span-copied, span-broken}
 
@@ -69,28 +71,48 @@ pub record Copying (t : List ℕ) (p len : ℕ) (d e : List ℕ) (i : ℕ) : Typ
 pub copy-start : (t : List ℕ) (p len : ℕ) (d : List ℕ) → Copying t p len d d 0
 copy-start t p len d = record { same-length = refl; bytes = tab-none (values t p) d; past = refl; hold = rest-start t p len }
 
+module _ (t : List ℕ) (p len : ℕ) (d : List ℕ) (room : len ≤ length d) where
+  -- the byte at i is answered, and stored
+  copy-more : (i : ℕ) (e : List ℕ) → Copying t p len d e i → i < len → (v : ℕ) → byteSays t (p + i) .number ≡ 0 → v ≡ byteSays t (p + i) .value
+      → Copying t p len d (set e i v) (i + 1)
+  copy-more i e c more v good v-is = record {
+    same-length = simp length-set (c .same-length);
+    bytes = tab-more i v (values t p) d e (omega arith) v-is (c .bytes);
+    past = drop-set-lt len e i v more ∙ c .past;
+    hold = rest-good t p len i more good ∙ c .hold;
+  }
+
+  -- n bytes more
+  pub copy-run : (i : ℕ) (e : List ℕ) → Copying t p len d e i → (n : ℕ) → i + n ≤ len → ((x : ℕ) → x < n → byteSays t (p + i + x) .number ≡ 0)
+      → Copying t p len d (placesWritten e i t (p + i) n) (i + n)
+  copy-run i e c zero fits good = let z : i + 0 ≡ i = omega arith in rw z c
+  copy-run i e c (suc n) fits good =
+      let w = copy-run i e c n (omega arith) (λ x l. good x (omega arith)) in
+      let z : i + suc n ≡ i + n + 1 = omega arith in
+      let s : p + (i + n) ≡ p + i + n = omega arith in
+      rw z (copy-more (i + n) (placesWritten e i t (p + i) n) w (omega arith) (byteSays t (p + i + n) .value) (rw s (good n (omega arith))) (rw s))
+
+-- what `copy_run` returns
 module _ (t : List ℕ) (h : Header) (p len : ℕ)
     (k : HeaderOf t h) (low : p + len ≤ h .«text_length») (d : List ℕ) (room : len ≤ length d) (i : ℕ) (e : List ℕ) (c : Copying t p len d e i) where
-  -- the byte at i is answered, and stored
-  pub copy-more : i < len → (a : Answer) → said a ≡ byteSays t (p + i) → (v n : ℕ) → a ≡ Byte v n → Copying t p len d (set e i v) (i + 1)
-  copy-more more a a-is v n is =
-      let z = byte-good t h k (p + i) (omega arith) a a-is v n is in record {
-        same-length = simp length-set (c .same-length);
-        bytes = tab-more i v (values t p) d e (omega arith) (z .1) (c .bytes);
-        past = drop-set-lt len e i v more ∙ c .past;
-        hold = rest-good t p len i more (z .0) ∙ c .hold;
-      }
+  module _ (f : List ℕ) (r : Copied) (r-is : RunCopied t (p + i) (len - i) i e f r) where
+    -- bytes
+    pub copy-on : (n m : ℕ) → r ≡ copied.Bytes n m → (1 ≤ n) × (i + n ≤ len) × Copying t p len d f (i + n)
+    copy-on n m is =
+        let z : RunCopied t (p + i) (len - i) i e f (copied.Bytes n m) = rw is at r-is in
+        (z .0, omega (arith, z .0, z .1), rw (z .3) (copy-run t p len d room i e c n (omega (arith, z .0, z .1)) (z .2)))
 
-  -- it is refused, and the part asked for is cleared
-  pub copy-broken : i < len → (a : Answer) → said a ≡ byteSays t (p + i) → (q : ℕ) → a ≡ Refused q → (n : ℕ) → n ≡ said a .number → (z : List ℕ)
-      → z ≡ replicate len 0 ++ drop len e → (1 ≤ n) × ByPaths t p len d (refused n) z
-  copy-broken more a a-is q is n n-is z z-is =
-      let b = byte-refused t h k (p + i) (omega arith) a a-is q is in
-      let n-14 : n ≡ 14 = n-is ∙ ap (λ (s : Said). s .number) a-is ∙ b in (
-        omega arith,
-        span-broken t p len d (pathsHold t p len) (tabulate len (values t p))
-            0 (k .passes) (omega (arith, k .length-is)) room z n n-14 (rest-broken t p len i more b ∙ c .hold) (rw (c .past) at z-is),
-      )
+    -- a refusal, and the part asked for is cleared
+    pub copy-broken : i < len → (q : ℕ) → r ≡ copied.Refused q → (z : List ℕ) → z ≡ replicate len 0 ++ drop len f
+        → Numbered r × ByPaths t p len d (copiedSaid r) z
+    copy-broken more q is z z-is =
+        let y : RunCopied t (p + i) (len - i) i e f (copied.Refused q) = rw is at r-is in
+        let past : drop len f ≡ drop len d = ap (drop len) (y .2) ∙ c .past in
+        rw is (
+          omega (arith, y .0),
+          span-broken t p len d (pathsHold t p len) (tabulate len (values t p))
+              0 (k .passes) (omega (arith, k .length-is)) room z q (y .0) (rest-broken t p len i more (y .1) ∙ c .hold) (rw past at z-is),
+        )
 
   -- all are copied
   pub copy-end : i ≡ len → ByPaths t p len d (record { number = 0; value = len; entered = 0 }) e

@@ -3,4 +3,5 @@ pub mod SpanLaws
 pub mod CopyLaws
 pub mod ShortLaws
 pub mod RunLaws
+pub mod LeafRunLaws
 pub mod Demands

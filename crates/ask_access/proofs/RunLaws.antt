@@ -6,7 +6,7 @@ use mathlib.Core.Path.{_≡_, sym, ap, _∙_}
 use Prim.Native.Nat.{ℕ, _+_, _-_, _≤_, _<_, min}
 use native.Mathlib.Omega.{arith}
 use native.Mathlib.Nat.{add-assoc}
-use lib.ListN.{length}
+use lib.ListN.{length, getD}
 use Rattle.text.specs.Text.{stretch}
 use Rattle.text.specs.TextLaws.{stretch-ext, stretch-at}
 use Rattle.format.specs.Layout as at
@@ -17,7 +17,7 @@ use Rattle.format.specs.LayoutLaws.{Readable, readable-facts}
 use Rattle.format.specs.Said.{Said}
 use Rattle.format.specs.ReadSays.{byteSays, leftOver, runSays}
 use Rattle.theory_paths.specs.OneText.{text-length}
-use Rattle.theory_paths.specs.Shift.{left-most, left-within, path-further}
+use Rattle.theory_paths.specs.Shift.{length-further, left-most, left-within, path-further}
 use Rattle.theory_paths.specs.Reads as reads
 use Rattle.theory_paths.specs.PlaceBytes.{path-there, byte-broken}
 use Rattle.layout.specs.declared.header.Header.{Header}
@@ -61,13 +61,25 @@ module _ (t : List ℕ) (r : readable t ≡ 0) (p : ℕ) (low : p < at.textLengt
     unfolding runSays
     run-size = rw (reads.byte-of-path t k r p low q e, e)
 
-    run-holds : (d : ℕ) → d < runSays t p .1 → byteSays t (p + d) .number ≡ 0
-    run-holds d h =
+    -- byte's answers on a run: the leaf bytes from the path's end on, each with as many blocks entered
+    run-says : (d : ℕ) → d < runSays t p .1
+        → byteSays t (p + d) ≡ record { number = 0; value = at.leafByte t (q .leaf + d); entered = length (q .visits) }
+    run-says d h =
         let most = min (at.textLength t - p) (at.leafCount t - q .leaf) in
         let short : d < leftOver t (q .visits) most = rw run-size at h in
         let less : d < most = omega (arith, left-most t (q .visits) most) in
         let on = path-further t p d q e (left-within t (q .visits) most d short) (omega arith) in
-        ap (λ (s : Said). s .number) (reads.byte-of-path t k r (p + d) (omega arith) _ on)
+        reads.byte-of-path t k r (p + d) (omega arith) _ on
+        ∙ ap (λ (n : ℕ). record { number = 0; value = at.leafByte t (q .leaf + d); entered = n }) (length-further d (q .visits))
+
+    run-holds : (d : ℕ) → d < runSays t p .1 → byteSays t (p + d) .number ≡ 0
+    run-holds d h = ap (λ (s : Said). s .number) (run-says d h)
+
+    -- the same, where the run's bytes and the blocks entered are known by other figures
+    pub run-answers : (from entered : ℕ) → from ≡ at.leafOffset t + q .leaf → entered ≡ length (q .visits) → (d : ℕ) → d < runSays t p .1
+        → byteSays t (p + d) ≡ record { number = 0; value = getD t (from + d) 0; entered = entered }
+    unfolding at.leafByte
+    run-answers from entered from-is entered-is d h = run-says d h ∙ rw (from-is, entered-is, add-assoc (at.leafOffset t) (q .leaf) d)
 
   -- a run reads on
   pub run-reads : byteSays t p .number ≡ 0 → ReadsOn t p (runSays t p .0) (runSays t p .1)

@@ -1,11 +1,17 @@
 -- Reading by runs: a part of the tree's own bytes that are bytes of its text.
 use mathlib.Core.List.{List}
 use mathlib.Core.Path.{_≡_}
-use Prim.Native.Nat.{ℕ, _+_, _≤_, _<_}
-use lib.ListN.{length, getD}
+use Prim.Native.Nat.{ℕ, zero, suc, _+_, _≤_, _<_}
+use lib.ListN.{length, getD, set}
 use Rattle.format.specs.Layout as at
 use Rattle.format.specs.Fits.{textOf}
-use Rattle.format.specs.ReadSays.{byteSays}
+use Rattle.format.specs.Said.{refused}
+use Rattle.format.specs.ReadSays.{byteSays, runSays}
+use Rattle.ask_access.specs.declared.Copied.{Copied}
+use Rattle.ask_access.specs.declared.Copied.the-variants as copied
+use Rattle.ask_access.specs.declared.read_by_header.LeafRun.{LeafRun}
+use Rattle.ask_access.specs.declared.read_by_header.LeafRunAnswer.{LeafRunAnswer}
+use Rattle.ask_access.specs.declared.read_by_header.LeafRunAnswer.the-variants as found
 
 -- `size` bytes of the tree, from `from`, are those of its text from place p, and no path of these places breaks
 pub record ReadsOn (t : List ℕ) (p from size : ℕ) : Type 0 where
@@ -13,3 +19,27 @@ pub record ReadsOn (t : List ℕ) (p from size : ℕ) : Type 0 where
   pub in-tree : from + size ≤ length t
   pub holds : (x : ℕ) → x < size → byteSays t (p + x) .number ≡ 0
   pub bytes : (x : ℕ) → x < size → getD t (from + x) 0 ≡ getD (textOf t) (p + x) 0
+
+-- r is the run of place p: its bytes are byte's answers at the places from p on, each with the same number of blocks entered
+pub record LeafRunAt (t : List ℕ) (p : ℕ) (r : LeafRun) : Type 0 where
+  pub from-is : r .from ≡ runSays t p .0
+  pub length-is : r .length ≡ runSays t p .1
+  pub some-byte : 1 ≤ r .length
+  pub in-tree : r .from + r .length ≤ length t
+  pub says : (x : ℕ) → x < r .length → byteSays t (p + x) ≡ record { number = 0; value = getD t (r .from + x) 0; entered = r .entered }
+
+-- the answer of `leaf_run`
+abbrev pub LeafRunOf : List ℕ → ℕ → LeafRunAnswer → Type 0
+LeafRunOf t p (found.At r) = LeafRunAt t p r
+LeafRunOf t p found.Broken = byteSays t p ≡ refused 14
+
+-- buffer d with the bytes of n places from p written from `to` on
+abbrev pub placesWritten : List ℕ → ℕ → List ℕ → ℕ → ℕ → List ℕ
+placesWritten d to t p zero = d
+placesWritten d to t p (suc n) = set (placesWritten d to t p n) (to + n) (byteSays t (p + n) .value)
+
+-- the answer of `copy_run`, which leaves buffer e of buffer d: some bytes and no refusal among them; or 14 of the first, and nothing written
+abbrev pub RunCopied : List ℕ → ℕ → ℕ → ℕ → List ℕ → List ℕ → Copied → Type 0
+RunCopied t p most to d e (copied.Bytes n entered) =
+    (1 ≤ n) × (n ≤ most) × ((x : ℕ) → x < n → byteSays t (p + x) .number ≡ 0) × (e ≡ placesWritten d to t p n)
+RunCopied t p most to d e (copied.Refused q) = (q ≡ 14) × (byteSays t p .number ≡ 14) × (e ≡ d)

@@ -4,20 +4,18 @@ use crate::Copied;
 use layout::header::Header;
 use layout::place::TextPlace;
 use layout::settings::Settings;
-use walk_path::Reached;
 use walk_path::Walked;
-use walk_path::held;
 use walk_short::gather;
 use walk_short::gather::Gathered;
 ghost use mathlib.Core.Bool.{true, _&&_};
 ghost use mathlib.Core.Path.{_≡_};
 ghost use Prim.Native.Nat.{_+_, _≤_, _<_};
-ghost use lib.ListN.{length};
+ghost use lib.ListN.{length, getD};
 ghost use lib.Dec.{eqb, leb};
 ghost use Rattle.format.specs.ReadSays.{byteSays, isShort, spanLeaves, copyLeaves};
 ghost use Rattle.layout.specs.HeaderSays.{HeaderOf};
-ghost use Rattle.walk_path.specs.Held.{Held};
 ghost use Rattle.ask_access.specs.ReadAnswers.{said, RunAnswer, SpanAnswer, CopyAnswer};
+ghost use Rattle.ask_access.specs.ReadByRuns.{LeafRunOf, RunCopied};
 
 // A part of the tree's bytes.
 pub struct Part {
@@ -31,10 +29,16 @@ pub enum Ran {
     Refused(u32),
 }
 
-// A byte's answer, and what is held of the place after it.
-pub struct Read {
-    pub answer: Answer,
-    pub held: Reached,
+// The run of a place: where it is in the tree's bytes, how many bytes it has, and how many blocks the path of each of them enters.
+pub struct LeafRun {
+    pub from: usize,
+    pub length: u32,
+    pub entered: u32,
+}
+
+pub enum LeafRunAnswer {
+    At(LeafRun),
+    Broken,
 }
 
 // Byte: questions 10 and 14.
@@ -45,30 +49,38 @@ pub fn byte_at(t: &[u8], h: Header, at: TextPlace) -> Answer
     if h.text_length <= at.0 {
         return Answer::Refused(10);
     }
-    let read = next_byte(t, h, at, held::nothing());
-    read.answer
-}
-
-// The byte of a place in the text, by what is held of the place: question 14.
-fn next_byte(t: &[u8], h: Header, at: TextPlace, held: Reached) -> Read
-    requires { ⌜ (HeaderOf (now t) h) × (at .0 < h .«text_length») × (Held (now t) h (at .0) held) ⌝ }
-    ensures { λ r. ⌜ (said (r .answer) ≡ byteSays (now (t .entry)) (at .0)) × (Held (now (t .entry)) h (at .0 + 1) (r .held)) ⌝ }
-{
-    let walked = held::reach(t, h, at, held);
-    let Walked::At(reached) = walked else {
-        return Read {
-            answer: Answer::Refused(14),
-            held: held::nothing(),
-        };
+    let found = leaf_run(t, h, at);
+    let LeafRunAnswer::At(run) = found else {
+        return Answer::Refused(14);
     };
-    let leaf = h.leaf_offset as usize + reached.leaf as usize;
-    Read {
-        answer: Answer::Byte(t[leaf], reached.trail.entered),
-        held: held::ahead(reached),
-    }
+    byte_on(t, run, 0)
 }
 
-// Run: questions 10 and 14; no further than the leaf bytes go.
+// The run of a place of the text, no further than the leaf bytes go: question 14.
+fn leaf_run(t: &[u8], h: Header, at: TextPlace) -> LeafRunAnswer
+    requires { ⌜ (HeaderOf (now t) h) × (at .0 < h .«text_length») ⌝ }
+    ensures { λ r. ⌜ LeafRunOf (now (t .entry)) (at .0) r ⌝ }
+{
+    let walked = walk_path::walk(t, h, at);
+    let Walked::At(reached) = walked else {
+        return LeafRunAnswer::Broken;
+    };
+    LeafRunAnswer::At(LeafRun {
+        from: h.leaf_offset as usize + reached.leaf as usize,
+        length: stretches::shorter(reached.trail.left, h.leaf_count - reached.leaf),
+        entered: reached.trail.entered,
+    })
+}
+
+// Byte's answer at the k-th place of a run, counted from 0.
+fn byte_on(t: &[u8], run: LeafRun, k: usize) -> Answer
+    requires { ⌜ run .from + k < length (now t) ⌝ }
+    ensures { λ r. ⌜ r ≡ Answer.Byte (getD (now (t .entry)) (run .from + k) 0) (run .entered) ⌝ }
+{
+    Answer::Byte(t[run.from + k], run.entered)
+}
+
+// Run: questions 10 and 14.
 pub fn part_at(t: &[u8], h: Header, at: TextPlace) -> Ran
     requires { ⌜ HeaderOf (now t) h ⌝ }
     ensures { λ r. ⌜ RunAnswer (now (t .entry)) (at .0) r ⌝ }
@@ -76,14 +88,13 @@ pub fn part_at(t: &[u8], h: Header, at: TextPlace) -> Ran
     if h.text_length <= at.0 {
         return Ran::Refused(10);
     }
-    let walked = walk_path::walk(t, h, at);
-    let Walked::At(reached) = walked else {
+    let found = leaf_run(t, h, at);
+    let LeafRunAnswer::At(run) = found else {
         return Ran::Refused(14);
     };
-    let left = stretches::shorter(reached.trail.left, h.leaf_count - reached.leaf);
     Ran::At(Part {
-        from: h.leaf_offset as usize + reached.leaf as usize,
-        length: left as usize,
+        from: run.from,
+        length: run.length as usize,
     })
 }
 
@@ -136,24 +147,44 @@ fn short_span(t: &[u8], h: Header, at: TextPlace, len: u32, buffer: &mut [u8]) -
     Copied::Bytes(len, q.entered)
 }
 
-// Copies byte by byte, reading on from each to the next; where one is refused, the part asked for is left zero.
+// Copies the run of a place of the text, at most so many bytes of it, to a place in the buffer. Its bytes' answers are those of one walk, so
+// that the loop over them is a copy.
+fn copy_run(t: &[u8], h: Header, at: TextPlace, most: u32, buffer: &mut [u8], to: usize) -> Copied
+    requires { ⌜ (HeaderOf (now t) h) × (at .0 < h .«text_length») × (1 ≤ most) × (to + most ≤ length (now buffer)) ⌝ }
+    ensures { λ r. ⌜ RunCopied (now (t .entry)) (at .0) most to (now (buffer .entry)) (now (buffer .exit)) r ⌝ }
+{
+    let found = leaf_run(t, h, at);
+    let LeafRunAnswer::At(run) = found else {
+        return Copied::Refused(14);
+    };
+    let n = stretches::shorter(run.length, most);
+    let size = n as usize;
+    let mut k: usize = 0;
+    while k < size {
+        let answer = byte_on(t, run, k);
+        let Answer::Byte(value, _) = answer else {
+            return Copied::Refused(number(answer));
+        };
+        buffer[to + k] = value;
+        k += 1;
+    }
+    Copied::Bytes(n, 0)
+}
+
+// Copies run by run; where a byte is refused, the part asked for is left zero.
 pub fn copy(t: &[u8], h: Header, at: TextPlace, len: u32, buffer: &mut [u8]) -> Copied
     requires { ⌜ (HeaderOf (now t) h) × (at .0 + len ≤ h .«text_length») × (len ≤ length (now buffer)) ⌝ }
     ensures { λ r. ⌜ CopyAnswer (now (t .entry)) (at .0) len (length (now (buffer .entry))) r ⌝ }
     ensures { λ _. ⌜ now (buffer .exit) ≡ copyLeaves (now (t .entry)) (at .0) len (now (buffer .entry)) ⌝ }
 {
-    let mut held = held::nothing();
     let mut i: u32 = 0;
     while i < len {
-        let read = next_byte(t, h, TextPlace(at.0 + i), held);
-        let answer = read.answer;
-        let Answer::Byte(value, _) = answer else {
+        let copied = copy_run(t, h, TextPlace(at.0 + i), len - i, buffer, i as usize);
+        let Copied::Bytes(n, _) = copied else {
             stretches::clear(buffer, len as usize);
-            return Copied::Refused(number(answer));
+            return copied;
         };
-        buffer[i as usize] = value;
-        held = read.held;
-        i += 1;
+        i += n;
     }
     Copied::Bytes(len, 0)
 }

@@ -1,2 +1,3 @@
 // Question 9 of the edges.
+pub mod equal;
 pub mod truth;

@@ -1,4 +1,5 @@
 // Question 9 of the edges: is each edge of each block what the short span's walk gives from that block?
+use crate::equal;
 use layout::header::Header;
 use layout::place::Ahead;
 use layout::place::BlockNumber;
@@ -27,11 +28,11 @@ fn edge_right(t: &[u8], m: u32, at: usize, own: u32, found: Gathered) -> bool
     let Gathered::At(q) = found else {
         return false;
     };
-    if !stretches::same_at(t, at, q.from, q.size as usize) {
+    if !equal::equal_at(t, at, q.from, q.size as usize) {
         return false;
     }
     let rest = own - q.size;
-    if !stretches::same_at(t, at + q.size as usize, q.next, rest as usize) {
+    if !equal::equal_at(t, at + q.size as usize, q.next, rest as usize) {
         return false;
     }
     stretches::zeros(t, at + own as usize, m - own)

@@ -4,14 +4,11 @@ use mathlib.Core.Option.{Option, none, some}
 use mathlib.Core.Path.{_≡_, refl, ap}
 use Prim.Native.Nat.{ℕ, _+_, _-_, _/_, _%_, _<_}
 use native.Mathlib.Omega.{arith}
-use native.Mathlib.Nat.{mod-lt}
 use lib.ListN.{length}
 use Rattle.format.specs.Layout as at
 use Rattle.format.specs.Path.{Path, pathOf}
-use Rattle.format.specs.LayoutLaws.{Readable, full-pos}
 use Rattle.format.specs.ReadSays.{leftOver}
 use Rattle.theory_paths.specs.Visits.{Goes, goes, goes-leaf}
-use Rattle.theory_paths.specs.Shift.{goes-within, within-left}
 use Rattle.walk_path.specs.declared.Trail.{Trail}
 use Rattle.walk_path.specs.declared.Reached.{Reached}
 use Rattle.walk_path.specs.declared.Walked.the-variants.{At, Broken}
@@ -54,10 +51,6 @@ module _ (t : List ℕ) (p : ℕ) (q : Path) (e : pathOf t p ≡ some q) where
   -- any path's leaf byte is in the tree
   path-leaf : q .leaf < at.leafCount t
   path-leaf = goes-leaf t path-goes
-
-  -- a byte at least is left in every block
-  pub path-left : Readable t → (most : ℕ) → 0 < most → 0 < leftOver t (q .visits) most
-  path-left k most low = within-left t (q .visits) most 0 (goes-within t (full-pos t k) path-goes (mod-lt p (full-pos t k 0))) low
 
 -- so is the one reached
 pub end-leaf : (t : List ℕ) (trail : Trail) (p : ℕ) (r : Reached) → Ends t trail (pathOf t p) r → r .leaf < at.leafCount t

@@ -1,3 +1,2 @@
 pub mod WalkLaws
 pub mod EndLaws
-pub mod HeldLaws

@@ -1,7 +1,5 @@
 // The walk down the path of a place. The step for a kept block and the step for a pointing block call each other: twice the
 // levels left, plus one if a pointer may still be followed, falls. A step carries no header, and its answer is one word.
-pub mod held;
-
 use layout::header::Header;
 use layout::place::BlockNumber;
 use layout::place::BlockPlace;

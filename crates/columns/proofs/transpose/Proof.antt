@@ -23,7 +23,8 @@ transpose-spec =
     μ-loop
     (λ c. let s = c .before .before .before in
     filled-by-none (s .args .rows) (s .args .width) (s .args .text .now) (s .pre .0) (s .args .out .now) (c .if1 .taken))
-    (λ c. let s = c .before .before .before in (omega arith, refl, filled-none (s .args .rows) (s .args .width) (s .args .text .now) (s .pre .0) (s .args .out .now)))
+    (λ c. let s = c .before .before .before in
+    (omega arith, refl, filled-none (s .args .rows) (s .args .width) (s .args .text .now) (s .pre .0) (s .args .out .now)))
     (λ c κs. let s = c .before .before .before .before .before .before in (s .pre .0, omega (arith, s .pre .1, c .before .before .loop .inv .1), omega arith))
     (λ c. omega arith)
     (λ c. omega arith)

@@ -16,7 +16,7 @@ edge-right-spec =
     (λ c. search needs)
     (λ c κs. let p = c .before .before .before .before .before .pre in
     let q = parts-in _ _ _ _ (c .before .before .found .given .1) (p .3) in (omega (arith, p .0, p .1, q .0), q .1))
-    (λ c. laws.first-fails _ _ _ _ _ _ (c .before .before .before .before .found .given .1) (failed (c .before .same-at .ensures) (c .if1 .taken)))
+    (λ c. laws.first-fails _ _ _ _ _ _ (c .before .before .before .before .found .given .1) (failed (c .before .equal-at .ensures) (c .if1 .taken)))
     (λ c. let w = c .before .before .before .before .before in
     let p = w .before .before .before .pre in omega (arith, parts-in _ _ _ _ (w .found .given .1) (p .3) .0))
     (λ c. search needs)
@@ -25,9 +25,9 @@ edge-right-spec =
     (λ c κs. let w = c .before .before .before .before .before .before in let p = w .before .before .before .pre in
     let q = parts-in _ _ _ _ (w .found .given .1) (p .3) in (omega (arith, p .0, p .1, q .0), q .2))
     (λ c. let w = c .before .before .before .before in laws.second-fails _ _ _ _ _ _ (w .before .before .before .before .found .given .1)
-    (held (w .before .same-at .ensures) (w .if1 .left)) (failed (c .before .same-at2 .ensures) (c .if2 .taken)))
+    (held (w .before .equal-at .ensures) (w .if1 .left)) (failed (c .before .equal-at2 .ensures) (c .if2 .taken)))
     (λ c. search needs)
     (λ c. search needs)
     (λ c κs. search needs)
     (λ c. let w = c .before .before .before .before .before in laws.third-decides _ _ _ _ _ _ (w .before .before .before .before .found .given .1)
-    (held (w .before .same-at .ensures) (w .if1 .left)) (held (c .before .before .same-at2 .ensures) (c .before .if2 .left)) _ (c .zeros .ensures)))
+    (held (w .before .equal-at .ensures) (w .if1 .left)) (held (c .before .before .equal-at2 .ensures) (c .before .if2 .left)) _ (c .zeros .ensures)))
