@@ -1,16 +1,18 @@
--- A row's edges: from two finds, or from the last byte and a find.
+-- A row's edges: from a find and the newline read on to, or from the last byte and a find.
 use mathlib.Core.List.{List}
-use mathlib.Core.Bool.{Bool, true, false}
+use mathlib.Core.Bool.{Bool, true, false, cond, _&&_}
 use mathlib.Core.Path.{_≡_, refl, sym, ap, _∙_}
-use Prim.Native.Nat.{ℕ, _+_, _-_, _≤_, _<_}
+use mathlib.Core.Logic.{_⊎_, inl, inr}
+use Prim.Native.Nat.{ℕ, suc, _+_, _-_, _≤_, _<_}
 use native.Mathlib.Omega.{arith}
-use borrow.Author.Tests.{eqb-true, eq-eqb, ne-eqb, lt-ltb, le-ltb}
+use borrow.Author.Tests.{eqb-true, eq-eqb, ne-eqb, lt-ltb, le-ltb, lt-leb}
 use lib.ListN.{length, getD}
-use lib.Dec.{eqb}
-use Rattle.text.specs.ListLaws.{bool-clash}
+use lib.Dec.{eqb, ltb, leb}
+use Rattle.text.specs.ListLaws.{bool-clash, and-false, lt-or-ge}
 use Rattle.text.specs.Text.{stretch, countIn, placeOf}
+use Rattle.text.specs.CountLaws.{count-none, count-next-same, Nth, nth-earlier, nth-later, nth-past, place-nth, nth-place}
 use Rattle.text.specs.Rows.{rowOf}
-use Rattle.text.specs.RowLaws.{trimmed, trimmed-none, trimmed-mark, trimmed-plain, next-past, rowFrom, between, row-between, row-last}
+use Rattle.text.specs.RowLaws.{trimmed, trimmed-none, trimmed-mark, trimmed-plain, rowFrom, between, row-between, row-last}
 use Rattle.text.specs.declared.TextPlace.{TextPlace}
 use Rattle.format.specs.VerdictLaws.{accepted-links}
 use Rattle.format.specs.Layout as at
@@ -42,7 +44,12 @@ use Rattle.ask_guide.proofs.GuideList.{guide-verdict}
 use Rattle.ask_guided.specs.declared.Guided.{Guided}
 use Rattle.ask_guided.specs.Guided.{GuidedAnswer, foundOf}
 use Rattle.ask_guided.proofs.GuidedFindLaws.{found-by}
-use Rattle.ask_rows.specs.RowSpans.{settledBy, edgesNumber, Refuses, Spans, EdgesOf}
+use Rattle.ask_rows.specs.declared.next_newline.Newline.{Newline}
+use Rattle.ask_rows.specs.declared.next_newline.Newline.the-variants as newline
+use Rattle.ask_rows.specs.declared.row_edges.RowStart.{RowStart}
+use Rattle.ask_rows.specs.declared.row_edges.RowStart.the-variants as start
+use Rattle.ask_rows.specs.RowSpans.{settledBy, Refuses, Spans, EdgesOf}
+use Rattle.ask_rows.specs.RowEnds.{EndsRow, NewlineIs, startNumber, StartIs}
 
 -- the number that settles a row is 0 for accepted trees alone
 pub settled-sound : (t guide : List ℕ) (used : Bool) → settledBy t guide used ≡ 0 → verdict t ≡ 0
@@ -93,91 +100,225 @@ module _ (t : List ℕ) (ok number : ℕ) (row : List ℕ) (most : ℕ) where
     free = λ z. is;
   })
 
--- Ended by the q-th byte 10.
-module _ (t : List ℕ) (ok : ℕ) (sound : ok ≡ 0 → verdict t ≡ 0) (q : ℕ) where
+-- Where row q starts, if a newline ends it.
+module _ (t : List ℕ) (ok : ℕ) (q : ℕ) where
   abbrev number : ℕ
   number = selectNumber t 10 q
 
   abbrev row : List ℕ
-  row = between (textOf t) q
+  row = trimmed (between (textOf t) q)
 
-  -- at least the byte 10 that ends it is none of its bytes
+  no-start : (n : ℕ) → Refuses t ok number row n → StartIs t ok q (start.Refused n)
+  no-start n r = record {
+    refused = λ m e. (let z : n ≡ m = cc in rw (← z) r);
+    asked = λ p e. absurd (let z : _≡_ {A = ℕ} 0 1 = cc in omega arith);
+    within = λ p e. absurd (let z : _≡_ {A = ℕ} 0 1 = cc in omega arith);
+    accepted = λ p e. absurd (let z : _≡_ {A = ℕ} 0 1 = cc in omega arith);
+  }
+
+  starts-at : (s : ℕ) → number ≡ 0 → s ≤ at.textLength t → (ok ≡ 0 → s ≡ rowFrom (textOf t) q) → StartIs t ok q (start.At (record { 0 = s }))
+  starts-at s asked within settled = record {
+    refused = λ m e. absurd (let z : _≡_ {A = ℕ} 0 1 = cc in omega arith);
+    asked = λ p e. asked;
+    within = λ p e. rw (same p e) within;
+    accepted = λ p e v. rw (same p e) (settled v);
+  }
+    where
+      same : (p : TextPlace) → start.At (record { 0 = s }) ≡ start.At p → p .0 ≡ s
+      same p e = let z : record { 0 = s } ≡ p = cc in sym (ap (λ (w : TextPlace). w .0) z)
+
+  -- a question before the walk refuses
+  start-asked : (n : ℕ) → number ≡ suc n → StartIs t ok q (start.Refused (suc n))
+  start-asked n is = no-start (suc n) (record {
+    low = omega arith;
+    asked = λ l. sym is;
+    accepted = λ z. absurd (let y : ⊥ = omega arith in y);
+    free = λ z. absurd (let y : ⊥ = omega arith in y);
+  })
+
+  module _ (h : Header) (k : HeaderOf t h) (c : ℕ) (is : c ≡ numberOfByte t 10) where
+    pub start-uncounted : h .settings .counted ≤ c → StartIs t ok q (start.Refused 11)
+    unfolding selectNumber
+    start-uncounted past = start-asked 10 (rw (k .passes, not-counted t h k 10 c is past))
+
+    module _ (low : c < h .settings .counted) where
+      pub start-zero : q ≡ 0 → StartIs t ok q (start.Refused 12)
+      unfolding selectNumber
+      start-zero z = start-asked 11 (rw (k .passes, is-counted t h k 10 c is low, lt-leb 1 q (omega arith)))
+
+      module _ (all : ℕ) (all-is : all ≡ total t c) where
+        pub start-past : all < q → StartIs t ok q (start.Refused 12)
+        unfolding selectNumber
+        start-past past =
+            let e : total t (numberOfByte t 10) ≡ all = rw (all-is, is) in
+            start-asked 11 (rw (k .passes, is-counted t h k 10 c is low, e, lt-leb q all past, and-false (leb 1 q)))
+
+        module _ (some : q ≡ 0 → ⊥) (high : q ≤ all) where
+          selected : Selected t 10 q
+          selected = record {
+            pass = k .passes;
+            counted = is-counted t h k 10 c is low;
+            low = omega (arith, some);
+            high = rw (← is) (omega (arith, all-is, high));
+          }
+
+          let-through : number ≡ 0
+          let-through = select-lets t 10 q selected
+
+          pub start-first : q ≡ 1 → StartIs t ok q (start.At (record { 0 = 0 }))
+          unfolding rowFrom
+          start-first one = starts-at 0 let-through (omega arith) (λ v. rw one)
+
+          module _ (more : q ≡ 1 → ⊥) (sound : ok ≡ 0 → verdict t ≡ 0) (found : Found) (says : FindBy t ok 10 (q - 1) (saidFind found)) where
+            before-asked : Selected t 10 (q - 1)
+            before-asked = record {
+              pass = k .passes;
+              counted = selected .counted;
+              low = omega (arith, some, more);
+              high = omega (arith, selected .high);
+            }
+
+            pub start-refused : (j n : ℕ) → found ≡ found-is.Refused j → n ≡ saidFind found .number → Numbered found → StartIs t ok q (start.Refused n)
+            start-refused j n e n-is numbered =
+                let m : n ≡ j = n-is ∙ rw e in
+                let low : 1 ≤ j = rw e at numbered in
+                let z = select-lets t 10 (q - 1) before-asked in
+                no-start n (record {
+                  low = omega arith;
+                  asked = λ l. absurd (let y : ⊥ = omega (arith, let-through) in y);
+                  accepted = λ y v. refused-not t ok 10 (q - 1) sound found says j e z v;
+                  free = λ y. rw m (refused-free t ok 10 (q - 1) sound found says j e z low);
+                })
+
+            module _ (before : TextPlace) (figure : ℕ) (found-at : found ≡ found-is.At before figure) where
+              pub before-below : before .0 < h .«text_length»
+              before-below = omega (arith, place-in-text t ok 10 (q - 1) sound found says before figure found-at, k .length-is)
+
+              pub start-later : StartIs t ok q (start.At (record { 0 = before .0 + 1 }))
+              unfolding rowFrom
+              start-later = starts-at (before .0 + 1) let-through (omega (arith, before-below, k .length-is))
+                  (λ v. rw (ne-eqb q 1 more, place-is t ok 10 (q - 1) sound found says before figure found-at v))
+
+-- The newlines of a text up to where row q starts.
+newlines-before : (T : List ℕ) (q : ℕ) → 1 ≤ q → q ≤ countIn 10 T → countIn 10 (stretch T 0 (rowFrom T q)) + 1 ≡ q
+unfolding rowFrom
+newlines-before T q low high = go (lt-or-ge 1 q)
+  where
+    go : (1 < q) ⊎ (q ≤ 1) → countIn 10 (stretch T 0 (rowFrom T q)) + 1 ≡ q
+    go (inr first) = let e : q ≡ 1 = omega arith in rw e (omega (arith, count-none 10 T 0))
+    go (inl later) =
+        let h = place-nth 10 (q - 1) T (omega arith) (omega arith) in
+        rw (ne-eqb q 1 (λ e. omega arith)) (omega (arith, h .rank, count-next-same 10 T 0 (placeOf 10 (q - 1) T) (h .within) (h .byte-is)))
+
+module _ (T : List ℕ) (q : ℕ) (low : 1 ≤ q) (high : q ≤ countIn 10 T) where
+  -- the first newline from there on is the q-th of the text, ..
+  row-end : (e : ℕ) → rowFrom T q ≤ e → Nth 10 1 T (rowFrom T q) (e - rowFrom T q) → placeOf 10 q T ≡ e
+  row-end e past first =
+      let p = rowFrom T q in
+      let z : 0 + p ≡ p = omega arith in
+      let o : p + (e - p) ≡ e = omega arith in
+      nth-place 10 q T e (rw (newlines-before T q low high, o) at (nth-earlier 10 1 T 0 p (e - p) (rw z first)))
+
+  -- .. which is there
+  some-end : Nth 10 1 T (rowFrom T q) (placeOf 10 q T - rowFrom T q)
+  some-end =
+      let p = rowFrom T q in
+      let e = placeOf 10 q T in
+      let h = place-nth 10 q T low high in
+      let past : p ≤ e = nth-past 10 q T 0 p e h (omega (arith, newlines-before T q low high)) in
+      let z : 0 + p ≡ p = omega arith in
+      let o : p + (e - p) ≡ e = omega arith in
+      rw z at (nth-later 10 1 T 0 p (e - p) (rw (newlines-before T q low high, o) h))
+
+-- A row's length without a carriage return before its end.
+module _ (len before : ℕ) where
+  pub cr-empty : len ≡ 0 → 0 ≡ cond (ltb 0 len && eqb 13 before) (len - 1) len
+  cr-empty z = rw z
+
+  module _ (some : len ≡ 0 → ⊥) where
+    pub cr-cut : before ≡ 13 → len - 1 ≡ cond (ltb 0 len && eqb 13 before) (len - 1) len
+    cr-cut e = rw (lt-ltb 0 len (omega (arith, some)), e)
+
+    pub cr-kept : (before ≡ 13 → ⊥) → len ≡ cond (ltb 0 len && eqb 13 before) (len - 1) len
+    cr-kept n = rw (lt-ltb 0 len (omega (arith, some)), ne-eqb 13 before (λ e. n (sym e)))
+
+-- Its edges.
+module _ (t : List ℕ) (ok : ℕ) (sound : ok ≡ 0 → verdict t ≡ 0) (q : ℕ) (x : RowStart) (starts : StartIs t ok q x) where
+  -- the newline that ends it is none of its bytes
   abbrev end-most : ℕ
   end-most = at.textLength t - 1
 
-  module _ (last : Found) (says : FindBy t ok 10 q (saidFind last)) where
-    -- the q-th is refused
-    pub edges-no-end : (k n : ℕ) → last ≡ found-is.Refused k → n ≡ saidFind last .number → Numbered last → EdgesOf t ok number row end-most (edges.Refused n)
-    edges-no-end k n e n-is numbered =
-        let m : n ≡ k = n-is ∙ rw e in
-        let low : 1 ≤ k = rw e at numbered in
-        not-spans t ok number row end-most n (record {
-          low = omega arith;
-          asked = λ l. n-is ∙ ap (λ (s : Said). s .number) (says .asked l);
-          accepted = λ z v. refused-not t ok 10 q sound last says k e z v;
-          free = λ z. rw m (refused-free t ok 10 q sound last says k e z low);
+  pub edges-no-start : (j n : ℕ) → x ≡ start.Refused j → n ≡ startNumber x → EdgesOf t ok (number t ok q) (row t ok q) end-most (edges.Refused n)
+  edges-no-start j n e n-is =
+      let z : n ≡ j = n-is ∙ rw e in
+      not-spans t ok (number t ok q) (row t ok q) end-most n (rw z (starts .refused j e))
+
+  module _ (p : TextPlace) (is : x ≡ start.At p) where
+    pub start-within : p .0 ≤ at.textLength t
+    start-within = starts .within p is
+
+    asked : selectNumber t 10 q ≡ 0
+    asked = starts .asked p is
+
+    chosen : Selected t 10 q
+    chosen = select-passes t 10 q asked
+
+    in-book : ok ≡ 0 → q ≤ countIn 10 (textOf t)
+    in-book v = rw (tallies.total-of-text t (sound v) 10 (chosen .counted)) at (chosen .high)
+
+    module _ (y : Newline) (ends : NewlineIs t (p .0) y) where
+      pub edges-no-end : y ≡ newline.Missing → EdgesOf t ok (number t ok q) (row t ok q) end-most (edges.Refused 14)
+      edges-no-end none = in-walk t ok (number t ok q) (row t ok q) end-most asked 14
+          (λ v. ends .missing none (sound v) (placeOf 10 q (textOf t) - rowFrom (textOf t) q) (rw (starts .accepted p is v) (some-end (textOf t) q (chosen .low) (in-book v)))) refl
+
+      module _ (e : TextPlace) (before : ℕ) (at-e : y ≡ newline.At e before) where
+        end : EndsRow t (p .0) (e .0) before
+        end = ends .found e before at-e
+
+        pub end-past : p .0 ≤ e .0
+        end-past = end .past
+
+        -- the bytes up to it
+        abbrev len : ℕ
+        len = e .0 - p .0
+
+        in-text : p .0 + len < length (textOf t)
+        in-text = omega (arith, end .first .within)
+
+        whole : ok ≡ 0 → stretch (textOf t) (p .0) len ≡ between (textOf t) q
+        unfolding between
+        whole v =
+            let s = starts .accepted p is v in
+            let f = row-end (textOf t) q (chosen .low) (in-book v) (e .0) (rw s at end-past) (rw s at (end .first)) in
+            rw (s, f)
+
+        pub edges-trimmed : (n : ℕ) → n ≡ cond (ltb 0 len && eqb 13 before) (len - 1) len
+            → EdgesOf t ok (number t ok q) (row t ok q) end-most (edges.At p n)
+        edges-trimmed n n-is = spans-at t ok (number t ok q) (row t ok q) end-most (p .0) n (record {
+          asked = asked;
+          within = omega (arith, at-most, in-text, text-length t);
+          short = omega (arith, at-most, in-text, text-length t);
+          accepted = λ v. rw n-is (cut (lt-or-ge 0 len)) ∙ ap trimmed (whole v);
         })
+          where
+            at-most : n ≤ len
+            at-most = rw n-is (less (ltb 0 len && eqb 13 before))
+              where
+                less : (b : Bool) → cond b (len - 1) len ≤ len
+                less true = omega arith
+                less false = omega arith
 
-    module _ (end : TextPlace) (figure : ℕ) (last-is : last ≡ found-is.At end figure) where
-      asked : selectNumber t 10 q ≡ 0
-      asked = place-asked t ok 10 q sound last says end figure last-is
+            cut : (0 < len) ⊎ (len ≤ 0) → stretch (textOf t) (p .0) (cond (ltb 0 len && eqb 13 before) (len - 1) len) ≡ trimmed (stretch (textOf t) (p .0) len)
+            cut (inr none) = let z : len ≡ 0 = omega arith in rw z (sym (trimmed-none (textOf t) (p .0)))
+            cut (inl some) = rw (lt-ltb 0 len some) (go (eqb 13 before) refl)
+              where
+                byte : getD (textOf t) (p .0 + (len - 1)) 0 ≡ before
+                byte = let z : p .0 + (len - 1) ≡ e .0 - 1 = omega (arith, end-past) in rw z (sym (end .before-is (omega arith)))
 
-      pub row-low : 1 ≤ q
-      row-low = select-passes t 10 q asked .low
-
-      -- the first row
-      pub edges-first : q ≡ 1 → EdgesOf t ok number row end-most (edges.At (record { 0 = 0 }) (end .0))
-      unfolding between rowFrom
-      edges-first one = spans-at t ok number row end-most 0 (end .0) (record {
-        asked = asked;
-        within = omega (arith, place-in-text t ok 10 q sound last says end figure last-is);
-        short = omega (arith, place-in-text t ok 10 q sound last says end figure last-is);
-        accepted = λ v. (let e : placeOf 10 q (textOf t) - 0 ≡ end .0 =
-            omega (arith, place-is t ok 10 q sound last says end figure last-is v) in rw (one, rw one at e));
-      })
-
-      module _ (more : q ≡ 1 → ⊥) where
-        before-asked : Selected t 10 (q - 1)
-        before-asked =
-            let a = select-passes t 10 q asked in
-            record { pass = a .pass; counted = a .counted; low = omega (arith, a .low, more); high = omega (arith, a .high) }
-
-        module _ (first : Found) (said : FindBy t ok 10 (q - 1) (saidFind first)) where
-          -- the one before is refused
-          pub edges-no-start : (k n : ℕ)
-              → first ≡ found-is.Refused k → n ≡ saidFind first .number → Numbered first → EdgesOf t ok number row end-most (edges.Refused n)
-          edges-no-start k n e n-is numbered =
-              let m : n ≡ k = n-is ∙ rw e in
-              let low : 1 ≤ k = rw e at numbered in
-              let a = select-lets t 10 (q - 1) before-asked in
-              in-walk t ok number row end-most
-              asked n (λ v. refused-not t ok 10 (q - 1) sound first said k e a v) (rw m (refused-free t ok 10 (q - 1) sound first said k e a low))
-
-          module _ (before : TextPlace) (other : ℕ) (first-is : first ≡ found-is.At before other) where
-            order : ok ≡ 0 → before .0 < end .0
-            order v =
-                let n : q - 1 + 1 ≡ q = omega (arith, row-low) in
-                let one = tallies.stands t (sound v) 10 (q - 1) before-asked in
-                let two = tallies.stands t (sound v) 10 q (select-passes t 10 q asked) in
-                let past = next-past (textOf t) (q - 1) (placeOf 10 (q - 1) (textOf t)) (placeOf 10 q (textOf t)) one (rw n two) in
-                omega (arith, past, place-is t ok 10 q sound last says end figure last-is v, place-is t ok 10 (q - 1) sound first said before other first-is v)
-
-            -- a row length below zero
-            pub edges-crossed : end .0 ≤ before .0 → EdgesOf t ok number row end-most (edges.Refused 14)
-            edges-crossed crossed = in-walk t ok number row end-most asked 14 (λ v. omega (arith, order v)) refl
-
-            pub edges-between : before .0 < end .0 → EdgesOf t ok number row end-most (edges.At (record { 0 = before .0 + 1 }) (end .0 - (before .0 + 1)))
-            unfolding between rowFrom
-            edges-between fits = spans-at t ok number row end-most (before .0 + 1) (end .0 - (before .0 + 1)) (record {
-              asked = asked;
-              within = omega (arith, place-in-text t ok 10 q sound last says end figure last-is);
-              short = omega (arith, place-in-text t ok 10 q sound last says end figure last-is);
-              accepted = λ v. rw (
-                ne-eqb q 1 more,
-                place-is t ok 10 q sound last says end figure last-is v,
-                place-is t ok 10 (q - 1) sound first said before other first-is v,
-              );
-            })
+                go : (b : Bool) → eqb 13 before ≡ b → stretch (textOf t) (p .0) (cond b (len - 1) len) ≡ trimmed (stretch (textOf t) (p .0) len)
+                go true f = sym (trimmed-mark (textOf t) (p .0) len some (omega (arith, in-text)) (byte ∙ sym (eqb-true 13 before f)))
+                go false f = sym (trimmed-plain (textOf t) (p .0) len some (omega (arith, in-text))
+                    (λ z. bool-clash (eqb 13 before) (eq-eqb 13 before (sym (sym byte ∙ z))) f))
 
 -- Whether q asks for the row after the last byte 10.
 module _ (t : List ℕ) (h : Header) (k : HeaderOf t h) (q number : ℕ) (is : number ≡ numberOfByte t 10) where
@@ -307,103 +448,23 @@ module _ (t : List ℕ) (h : Header) (k : HeaderOf t h) (q : ℕ) (asks : asksLa
                   (ne-eqb q 1 more, place-is t ok 10 (q - 1) sound found said-found before other-figure found-at v, text-length t, k .length-is));
             })
 
--- Without the byte 13 before the end: what stands in the len bytes from p.
-module _ (t : List ℕ) (h : Header) (k : HeaderOf t h) (p len : ℕ) (within : p + len ≤ h .«text_length») where
-  abbrev trimmed-row : List ℕ
-  trimmed-row = trimmed (stretch (textOf t) p len)
-
-  pub trim-none : len ≡ 0 → EdgesOf t (verdict t) 0 trimmed-row len (edges.At (record { 0 = p }) 0)
-  trim-none z = spans-at t (verdict t) 0 trimmed-row len p 0 (record {
-    asked = refl;
-    within = omega (arith, k .length-is);
-    short = omega arith;
-    accepted = λ v. rw z (sym (trimmed-none (textOf t) p));
-  })
-
-  module _ (some-byte : len ≡ 0 → ⊥) where
-    low : p + (len - 1) < at.textLength t
-    low = omega (arith, k .length-is, some-byte)
-
-    in-text : p + len ≤ length (textOf t)
-    in-text = omega (arith, text-length t, k .length-is)
-
-    module _ (x : Answer) (x-is : said x ≡ byteSays t (p + (len - 1))) where
-      -- the byte is the text's
-      byte-is : (value figure : ℕ) → x ≡ answer.Byte value figure → getD (textOf t) (p + (len - 1)) 0 ≡ value
-      byte-is value figure is =
-          let z : byteSays t (p + (len - 1)) ≡ record { number = 0; value = value; entered = figure } = sym x-is ∙ rw is in
-          sym (byte-text t (k .passes) (p + (len - 1)) low (ap (λ (s : Said). s .number) z)) ∙ ap (λ (s : Said). s .value) z
-
-      -- the byte before the end is refused
-      pub trim-broken : (m n : ℕ) → x ≡ answer.Refused m → n ≡ said x .number → EdgesOf t (verdict t) 0 trimmed-row len (edges.Refused n)
-      trim-broken m n e n-is =
-          let z = only-14 t (k .passes) (p + (len - 1)) low m (rw e at x-is) in
-          in-walk t (verdict t) 0 trimmed-row
-          len refl n (λ v. never-14 t (k .passes) (p + (len - 1)) low (accepted-links t v) z) (n-is ∙ ap (λ (s : Said). s .number) x-is ∙ z)
-
-      module _ (value figure : ℕ) (is : x ≡ answer.Byte value figure) where
-        -- it is 13
-        pub trim-mark : value ≡ 13 → EdgesOf t (verdict t) 0 trimmed-row len (edges.At (record { 0 = p }) (len - 1))
-        trim-mark mark = spans-at t (verdict t) 0 trimmed-row len p (len - 1) (record {
-          asked = refl;
-          within = omega (arith, low);
-          short = omega arith;
-          accepted = λ v. sym (trimmed-mark (textOf t) p len (omega (arith, some-byte)) in-text (byte-is value figure is ∙ mark));
-        })
-
-        pub trim-plain : (value ≡ 13 → ⊥) → EdgesOf t (verdict t) 0 trimmed-row len (edges.At (record { 0 = p }) len)
-        trim-plain other = spans-at t (verdict t) 0 trimmed-row len p len (record {
-          asked = refl;
-          within = omega (arith, k .length-is);
-          short = omega arith;
-          accepted = λ v. sym (trimmed-plain (textOf t) p len (omega (arith, some-byte)) in-text (λ e. other (sym (byte-is value figure is) ∙ e)));
-        })
-
 -- The edges of row q, by which of the two it is.
 module _ (t : List ℕ) (ok : ℕ) (sound : ok ≡ 0 → verdict t ≡ 0) (q : ℕ) where
   pub edges-last : (r : Edges) → true ≡ asksLast t q → EdgesOf t ok (lastNumber (byteSays t (at.textLength t - 1))) (rowOf (textOf t) q) (rowMost t q) r
       → EdgesOf t ok (rowNumber t q) (rowOf (textOf t) q) (rowMost t q) r
   edges-last r asks e = rw (row-number-last t q (sym asks)) e
 
-  module _ (asks : false ≡ asksLast t q) (x : Edges) (ended : EdgesOf t ok (selectNumber t 10 q) (between (textOf t) q) (at.textLength t - 1) x) where
-    -- nothing stands there, with this number
-    pub edges-refused : (k n : ℕ) → x ≡ edges.Refused k → n ≡ edgesNumber x → EdgesOf t ok (rowNumber t q) (rowOf (textOf t) q) (rowMost t q) (edges.Refused n)
-    edges-refused k n e n-is =
-        let y = ended .refused k e in
-        let z : n ≡ k = n-is ∙ rw e in
-        rw (row-number-plain t q (sym asks), z) (not-spans t ok (selectNumber t 10 q) (rowOf (textOf t) q) (rowMost t q) k (record {
-          low = y .low;
-          asked = y .asked;
-          accepted = y .accepted;
-          free = y .free;
-        }))
-
-    module _ (start : TextPlace) (len : ℕ) (is : x ≡ edges.At start len) where
-      spanned : Spans t ok (selectNumber t 10 q) (between (textOf t) q) (at.textLength t - 1) (start .0) len
-      spanned = ended .spans start len is
-
-      pub edges-within : start .0 + len ≤ at.textLength t
-      edges-within = spanned .within
-
-      -- it is shorter than the text
-      most-is : rowMost t q ≡ at.textLength t - 1
-      unfolding rowMost
-      most-is = rw (← asks)
-
-      -- that is the row, without its mark
-      same : ok ≡ 0 → trimmed (stretch (textOf t) (start .0) len) ≡ rowOf (textOf t) q
-      same v =
-          let s = select-passes t 10 q (spanned .asked) in
-          ap trimmed (spanned .accepted v) ∙ sym (row-between (textOf t) q (s .low) (rw (tallies.total-of-text t (sound v) 10 (s .counted)) at (s .high)))
-
-      pub edges-trimmed : (r : Edges) → EdgesOf t (verdict t) 0 (trimmed (stretch (textOf t) (start .0) len)) len r
-          → EdgesOf t ok (rowNumber t q) (rowOf (textOf t) q) (rowMost t q) r
-      edges-trimmed r e = rw (row-number-plain t q (sym asks), spanned .asked) (record {
-        refused = λ n f. (let y = e .refused n f in record { low = y .low; asked = y .asked; accepted = λ z v. y .accepted z (sound v); free = y .free });
-        spans = λ s m f. (let y = e .spans s m f in record {
-          asked = y .asked;
-          within = y .within;
-          short = omega (arith, y .short, spanned .short, most-is);
-          accepted = λ v. y .accepted (sound v) ∙ same v;
-        });
-      })
+  -- ended by a newline
+  pub edges-ended : (r : Edges) → false ≡ asksLast t q → EdgesOf t ok (selectNumber t 10 q) (trimmed (between (textOf t) q)) (at.textLength t - 1) r
+      → EdgesOf t ok (rowNumber t q) (rowOf (textOf t) q) (rowMost t q) r
+  unfolding rowMost
+  edges-ended r asks e = rw (row-number-plain t q (sym asks)) (record {
+    refused = λ n f. (let y = e .refused n f in record { low = y .low; asked = y .asked; accepted = y .accepted; free = y .free });
+    spans = λ s m f. (let y = e .spans s m f in record {
+      asked = y .asked;
+      within = y .within;
+      short = rw (← asks) (y .short);
+      accepted = λ v. (let c = select-passes t 10 q (y .asked) in
+          y .accepted v ∙ sym (row-between (textOf t) q (c .low) (rw (tallies.total-of-text t (sound v) 10 (c .counted)) at (c .high))));
+    });
+  })

@@ -1,4 +1,5 @@
 // Row: one row of the text, without a guide and with one; its length, and how many there are. Each asks 5 to 7 first, of any bytes lent as a tree.
+mod next_newline;
 mod row_copy;
 pub mod row_edges;
 mod row_lengths;

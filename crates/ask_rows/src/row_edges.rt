@@ -1,4 +1,6 @@
 // The edges of a row, of a tree that passes questions 5 to 7, by its header.
+use crate::next_newline;
+use crate::next_newline::Newline;
 use ask_access::Answer;
 use ask_access::read_by_header;
 use ask_guided::guided_find;
@@ -6,25 +8,31 @@ use ask_select::Found;
 use ask_select::find_by_header;
 use layout::header::Header;
 use layout::place::TextPlace;
-ghost use mathlib.Core.Bool.{true};
+ghost use mathlib.Core.Bool.{true, cond, _&&_};
 ghost use mathlib.Core.Path.{_≡_};
-ghost use Prim.Native.Nat.{_+_, _-_, _≤_};
-ghost use Rattle.text.specs.Text.{stretch};
+ghost use Prim.Native.Nat.{_-_};
+ghost use lib.Dec.{ltb, eqb};
 ghost use Rattle.text.specs.Rows.{rowOf};
 ghost use Rattle.text.specs.RowLaws.{between, trimmed};
 ghost use Rattle.format.specs.Layout as at;
 ghost use Rattle.format.specs.Fits.{textOf};
-ghost use Rattle.format.specs.Verdict.{verdict};
 ghost use Rattle.format.specs.ReadSays.{byteSays};
 ghost use Rattle.format.specs.FindSays.{selectNumber};
 ghost use Rattle.format.specs.RowSays.{lastNumber, asksLast, rowNumber, rowMost};
 ghost use Rattle.layout.specs.HeaderSays.{HeaderOf};
 ghost use Rattle.ask_select.specs.Found.{saidFind, FoundBy};
 ghost use Rattle.ask_rows.specs.RowSpans.{settledBy, edgesNumber, EdgesOf};
+ghost use Rattle.ask_rows.specs.RowEnds.{startNumber, StartIs};
 
 // Where a row starts and how many bytes it has, or the number of the question that refuses.
 pub enum Edges {
     At(TextPlace, u32),
+    Refused(u32),
+}
+
+// Where a row starts that a newline ends, or the number of the question that refuses.
+pub enum RowStart {
+    At(TextPlace),
     Refused(u32),
 }
 
@@ -37,11 +45,7 @@ pub fn of_row(t: &[u8], h: Header, guide: &[u8], used: bool, q: u32) -> Edges
     if asks_last(t, h, q) {
         return last(t, h, guide, used, q);
     }
-    let between = ended(t, h, guide, used, q);
-    let Edges::At(start, len) = between else {
-        return Edges::Refused(number(between));
-    };
-    without_mark(t, h, start, len)
+    terminated_row(t, h, guide, used, q)
 }
 
 // Whether q is the total of byte 10 plus one, in a text that has a byte.
@@ -86,45 +90,69 @@ fn last(t: &[u8], h: Header, guide: &[u8], used: bool, q: u32) -> Edges
     Edges::At(TextPlace(before.0 + 1), h.text_length - (before.0 + 1))
 }
 
-// What stands before the q-th byte 10: past the (q - 1)-th, or the text's start, up to the q-th.
-fn ended(t: &[u8], h: Header, guide: &[u8], used: bool, q: u32) -> Edges
+// The edges of a row that a newline ends: one find comes to its start, and the newline is read on to.
+fn terminated_row(t: &[u8], h: Header, guide: &[u8], used: bool, q: u32) -> Edges
     requires { ⌜ HeaderOf (now t) h ⌝ }
     ensures { λ r. ⌜ EdgesOf (now (t .entry)) (settledBy (now (t .entry)) (now (guide .entry)) used)
-        (selectNumber (now (t .entry)) 10 q) (between (textOf (now (t .entry))) q) (at.textLength (now (t .entry)) - 1) r ⌝ }
+        (selectNumber (now (t .entry)) 10 q) (trimmed (between (textOf (now (t .entry))) q)) (at.textLength (now (t .entry)) - 1) r ⌝ }
 {
-    let last = ten(t, h, guide, used, q);
-    let Found::At(end, _) = last else {
-        return Edges::Refused(found_number(last));
+    let found = row_start(t, h, guide, used, q);
+    let RowStart::At(start) = found else {
+        return Edges::Refused(start_number(found));
     };
-    if q == 1 {
-        return Edges::At(TextPlace(0), end.0);
-    }
-    let first = ten(t, h, guide, used, q - 1);
-    let Found::At(before, _) = first else {
-        return Edges::Refused(found_number(first));
-    };
-    if end.0 <= before.0 {
+    let end = next_newline::next_newline(t, h, start);
+    let Newline::At(place, before) = end else {
         return Edges::Refused(14);
-    }
-    Edges::At(TextPlace(before.0 + 1), end.0 - (before.0 + 1))
+    };
+    Edges::At(start, without_cr(place.0 - start.0, before))
 }
 
-// The edges of a row without the byte 13 that stands directly before its end, if there is one. Question 14.
-fn without_mark(t: &[u8], h: Header, start: TextPlace, len: u32) -> Edges
-    requires { ⌜ (HeaderOf (now t) h) × (start .0 + len ≤ h .«text_length») ⌝ }
-    ensures { λ r. ⌜ EdgesOf (now (t .entry)) (verdict (now (t .entry))) 0 (trimmed (stretch (textOf (now (t .entry))) (start .0) len)) len r ⌝ }
+// Where row q starts, if a newline ends it. Questions 11, 12 and 14.
+fn row_start(t: &[u8], h: Header, guide: &[u8], used: bool, q: u32) -> RowStart
+    requires { ⌜ HeaderOf (now t) h ⌝ }
+    ensures { λ r. ⌜ StartIs (now (t .entry)) (settledBy (now (t .entry)) (now (guide .entry)) used) q r ⌝ }
+{
+    let number = ask_totals::number_of(t, h.settings.counted, 10);
+    if h.settings.counted <= number {
+        return RowStart::Refused(11);
+    }
+    if q == 0 {
+        return RowStart::Refused(12);
+    }
+    if ask_totals::total(t, h, number) < q as u64 {
+        return RowStart::Refused(12);
+    }
+    if q == 1 {
+        return RowStart::At(TextPlace(0));
+    }
+    let found = ten(t, h, guide, used, q - 1);
+    let Found::At(before, _) = found else {
+        return RowStart::Refused(found_number(found));
+    };
+    RowStart::At(TextPlace(before.0 + 1))
+}
+
+// A row's length without a carriage return directly before the newline that ends it.
+fn without_cr(len: u32, before: u8) -> u32
+    ensures { λ r. ⌜ r ≡ cond (ltb 0 len && eqb 13 before) (len - 1) len ⌝ }
 {
     if len == 0 {
-        return Edges::At(start, 0);
+        return 0;
     }
-    let answer = read_by_header::byte_at(t, h, TextPlace(start.0 + (len - 1)));
-    let Answer::Byte(value, _) = answer else {
-        return Edges::Refused(read_by_header::number(answer));
-    };
-    if value == 13 {
-        return Edges::At(start, len - 1);
+    if before == 13 {
+        return len - 1;
     }
-    Edges::At(start, len)
+    len
+}
+
+// The number of the question that refuses a row's start; 0 for a place.
+fn start_number(found: RowStart) -> u32
+    ensures { λ r. ⌜ r ≡ startNumber found ⌝ }
+{
+    match found {
+        RowStart::At(_) => 0,
+        RowStart::Refused(number) => number,
+    }
 }
 
 // The place of the j-th byte 10, by the guide if it is used.
