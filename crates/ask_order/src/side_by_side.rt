@@ -5,8 +5,9 @@ use ask_access::read_by_header::Part;
 use ask_access::read_by_header::Ran;
 use layout::header::Header;
 use layout::place::TextPlace;
+ghost use mathlib.Core.Bool.{true};
 ghost use mathlib.Core.Path.{_≡_};
-ghost use Prim.Native.Nat.{_+_, _-_, _≤_, _<_, min};
+ghost use Prim.Native.Nat.{ℕ, _+_, _-_, _≤_, _<_, min};
 ghost use lib.ListN.{length, getD};
 ghost use Rattle.layout.specs.HeaderSays.{HeaderOf};
 ghost use Rattle.ask_access.specs.ReadByRuns.{ReadsOn};
@@ -120,8 +121,36 @@ fn shorter(a: usize, b: usize) -> usize
     a
 }
 
-// How many bytes of two parts of n bytes agree, from their starts.
+// How many bytes of two parts of n bytes agree, from their starts. Mostly all do, and a loop without a way out is compiled to vector instructions; only
+// where one differs are they gone through one by one.
 fn agree(one: &[u8], from: usize, other: &[u8], at: usize, n: usize) -> usize
+    requires { ⌜ (from + n ≤ length (now one)) × (at + n ≤ length (now other)) ⌝ }
+    ensures { λ r. ⌜ Agrees (now (one .entry)) from (now (other .entry)) at n r ⌝ }
+{
+    if all_agree(one, from, other, at, n) {
+        return n;
+    }
+    first_difference(one, from, other, at, n)
+}
+
+// Whether all bytes of two parts of n bytes agree.
+fn all_agree(one: &[u8], from: usize, other: &[u8], at: usize, n: usize) -> bool
+    requires { ⌜ (from + n ≤ length (now one)) × (at + n ≤ length (now other)) ⌝ }
+    ensures { λ r. ⌜ (r ≡ true → (x : ℕ) → x < n → getD (now (one .entry)) (from + x) 0 ≡ getD (now (other .entry)) (at + x) 0) ⌝ }
+{
+    let mut same = true;
+    let mut i: usize = 0;
+    while i < n {
+        if one[from + i] != other[at + i] {
+            same = false;
+        }
+        i += 1;
+    }
+    same
+}
+
+// The first of n bytes in which two parts differ; n where they do not.
+fn first_difference(one: &[u8], from: usize, other: &[u8], at: usize, n: usize) -> usize
     requires { ⌜ (from + n ≤ length (now one)) × (at + n ≤ length (now other)) ⌝ }
     ensures { λ r. ⌜ Agrees (now (one .entry)) from (now (other .entry)) at n r ⌝ }
 {
