@@ -122,12 +122,15 @@ static inline const char *bt_refusal_text(uint32_t number)
  *   lent      text, counted: the counted bytes, rising
  *   written   out: the tree in its first *size bytes, the rest as it was; all zero on BT_SPACE; as it was on 1, 2 and 3
  *             *size: the tree's size
- *   answers   0, 1, 2, 3, 4 */
+ *   answers   0, 1, 2, 3, 4
+ * Its time grows with the text's length times the number of blocks and pairs of blocks above the last level; with a text that is made to have equal
+ * fingerprints it can grow, on each level, with the square of the length. */
 uint32_t bt_build(const uint8_t *text, uint64_t text_len, uint32_t leaf, uint32_t arity, uint32_t levels, const uint8_t *counted, uint64_t counted_len,
                   uint8_t *out, uint64_t out_len, uint32_t *size);
 
 /* Build the same tree by one scan of the text for each level above the last, in a small part of bt_build's time on long texts. It works in a lent
- * table of words.
+ * table of words. Fill the table's first word at random before each call: it is the seed of the fingerprints, and changes only the time. The time is then
+ * expected to grow with the text's length, whatever the text; with a text that is made for a known seed it can grow, on each level, with the square.
  *   lent      text, counted: the counted bytes, rising; work: a table of bt_scan_words(text_len, leaf) words or more, whatever they hold
  *   written   out: the tree in its first *size bytes, the rest as it was; all zero on BT_SPACE; as it was on any other refusal
  *             work: anything, where the answer is 0 or BT_SPACE; as it was on any other refusal

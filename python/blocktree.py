@@ -240,7 +240,10 @@ def build(text: Bytes, leaf: Optional[int] = None, arity: Optional[int] = None, 
 def _build(text: Bytes, leaf: int, arity: int, levels: int, counted: Bytes) -> bytes:
     text = _bytes(text)
     room = bytearray(enough(min(len(text), 0xFFFFFFFF), leaf, arity, levels, counted))
-    size, _ = _ask("bt_build_scanned", text, leaf, arity, levels, counted, _words(scan_words(len(text), leaf)), room)
+    table = _words(scan_words(len(text), leaf))
+    if len(table) > 0:
+        table[0] = int.from_bytes(os.urandom(4), "little")  # the seed: nobody can write a text that makes the builder slow
+    size, _ = _ask("bt_build_scanned", text, leaf, arity, levels, counted, table, room)
     return bytes(room[:size])
 
 

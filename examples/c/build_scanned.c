@@ -24,13 +24,21 @@ int main(void)
     const uint8_t counted[] = {10}; /* the byte that ends a row */
     const uint64_t work_len = bt_scan_words((uint32_t)text_len, LEAF);
     uint32_t *work = (uint32_t *)malloc((size_t)work_len * sizeof *work);
+    FILE *random = fopen("/dev/urandom", "rb");
     uint32_t first_size, size, windows, number;
 
     if (work == NULL || bt_build(text, text_len, LEAF, ARITY, LEVELS, counted, sizeof counted, first, sizeof first, &first_size) != BT_OK) {
         return 1;
     }
+    work[0] = 0; /* the seed of the fingerprints; at random, no text can be written that makes the builder slow */
+    if (random != NULL && fread(work, sizeof *work, 1, random) != 1) {
+        work[0] = 0;
+    }
     number = bt_build_scanned(text, text_len, LEAF, ARITY, LEVELS, counted, sizeof counted, work, work_len, tree, sizeof tree, &size, &windows);
     free(work);
+    if (random != NULL) {
+        fclose(random);
+    }
     if (number != BT_OK) {
         printf("build_scanned: refused %u: %s\n", (unsigned)number, bt_refusal_text(number));
         return 1;

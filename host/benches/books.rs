@@ -10,6 +10,7 @@
 //!     cargo bench -- orders     the order of two trees only
 //!     cargo bench -- layouts    trees with edges and without: sizes, short spans, the rewriting
 //!     cargo bench -- prefixes   rows by their first bytes, on books of 1 MiB and 8 MiB
+//!     cargo bench -- hostile    texts that are made to be slow beside honest books, of 1 MiB and 8 MiB, by the second builder
 //!
 //! Prints the tables of docs/BENCHMARKS.md. Nothing is asserted about time; that both give the same answers is.
 
@@ -25,7 +26,7 @@ use std::io::Write;
 use std::process::{Command, Stdio};
 use std::time::{Duration, Instant};
 use support::books::{book, even_book, Kind, EVEN_WIDTH};
-use support::Rng;
+use support::{hostile, Rng};
 
 const KINDS: [(Kind, &str); 3] = [(Kind::Repetitive, "highly repetitive"), (Kind::Mixed, "mixed"), (Kind::NearlyRandom, "nearly random")];
 const COUNTED: &[u8] = b"\n";
@@ -58,6 +59,9 @@ fn main() {
     }
     if told("prefixes") {
         return time_prefixes();
+    }
+    if told("hostile") {
+        return time_hostile();
     }
     for &size in &[65_536, 1_048_576][..if quick { 1 } else { 2 }] {
         time_builders(size);
@@ -521,6 +525,55 @@ fn time_prefixes() {
             for (words, wanted) in [("a code and its space", &middle[..=space(middle)]), ("two letters", &middle[..2])] {
                 let line = time_prefix(&tree, &guides::guide(&tree).expect("an accepted tree"), wanted);
                 println!("| {name} | {size} | {}/{}/{} | {words} | {line} |", shape.m, shape.r, shape.h);
+            }
+        }
+    }
+}
+
+/// The time that this thread was on a processor: a busy machine disturbs it less than the clock's.
+fn processor_time() -> Duration {
+    let times = std::fs::read_to_string("/proc/thread-self/schedstat").expect("times of this thread");
+    Duration::from_nanos(times.split(' ').next().and_then(|word| word.parse().ok()).expect("nanoseconds"))
+}
+
+/// The second builder's time on a text: the median of three, each with another seed.
+fn scan_time(rng: &mut Rng, text: &[u8], shape: Shape) -> Duration {
+    let (number, room) = calls::enough(text.len() as u32, shape.m, shape.r, shape.h, 1);
+    assert_eq!(number, 0);
+    let mut tree = vec![0; room as usize];
+    let mut work = vec![0; calls::scan_words(text.len() as u32, shape.m) as usize];
+    let mut times = [Duration::ZERO; 3];
+    for time in &mut times {
+        work[0] = rng.next() as u32;
+        let before = processor_time();
+        assert_eq!(calls::build_scanned(black_box(text), shape.m, shape.r, shape.h, COUNTED, &mut work, &mut tree).0, 0);
+        *time = processor_time() - before;
+    }
+    times.sort();
+    times[1]
+}
+
+/// Texts that are made to be slow, beside books of the same size and settings.
+fn time_hostile() {
+    println!("\n## Hostile texts beside books, by build_scanned, processor time\n");
+    println!("| Text | Size | Leaf/arity/levels | Time | To the mixed book | To the nearly random book |\n|---|---:|---|---:|---:|---:|");
+    let mut rng = Rng::new(40);
+    for size in [1_048_576, 8_388_608] {
+        let books = [Kind::Mixed, Kind::NearlyRandom].map(|kind| book(kind, size, 1));
+        let hostile = [
+            (Shape { m: 16, r: 4, h: 4 }, hostile::texts(size)),
+            (Shape { m: 1, r: 2, h: 2 }, vec![("random bytes", hostile::random_bytes(size))]),
+        ];
+        for (shape, texts) in hostile {
+            let honest = [&books[0], &books[1]].map(|text| scan_time(&mut rng, text, shape));
+            let line = |name: &str, time: Duration| {
+                let [mixed, random] = honest.map(|book| time.as_secs_f64() / book.as_secs_f64());
+                println!("| {name} | {size} | {}/{}/{} | {} | {mixed:.2} | {random:.2} |", shape.m, shape.r, shape.h, shown(time));
+            };
+            line("mixed book", honest[0]);
+            line("nearly random book", honest[1]);
+            for (name, text) in &texts {
+                line(name, scan_time(&mut rng, text, shape));
             }
         }
     }

@@ -36,6 +36,8 @@ pub use parts::{Block, Level};
 pub use prefix::RowsWithPrefix;
 use refusal::answer;
 pub use refusal::Refusal;
+use std::collections::hash_map::RandomState;
+use std::hash::{BuildHasher, Hasher};
 
 /// Settings worth trying on a book, as leaf length, arity and levels: from few and large blocks to many and small ones.
 pub const SHORT_LIST: [(u32, u32, u32); 6] = [(256, 2, 1), (64, 4, 3), (48, 2, 5), (32, 4, 4), (24, 8, 3), (16, 4, 4)];
@@ -101,15 +103,24 @@ pub struct Scanned {
 }
 
 /// The tree of `text`, the same as `build` gives, by one scan of the text for each level: on long texts in a small part of the time. It takes
-/// four words of memory besides for each leaf length of text.
+/// four words of memory besides for each leaf length of text. The seed of its fingerprints is drawn anew for each call, so that nobody can write a text
+/// that makes it slow.
 pub fn build_scanned(text: &[u8], settings: &Settings) -> Result<Scanned, Refusal> {
     let enough = enough(text.len(), settings)?;
     let mut tree = vec![0; usize::try_from(enough).expect("a tree fits the memory")];
     let words = calls::scan_words(text.len() as u32, settings.leaf);
     let mut work = vec![0; usize::try_from(words).expect("the table fits the memory")];
+    if let Some(seed) = work.first_mut() {
+        *seed = unpredictable_word();
+    }
     let (number, size, windows) = calls::build_scanned(text, settings.leaf, settings.arity, settings.levels, &settings.counted, &mut work, &mut tree);
     tree.truncate(size as usize);
     answer(number, Scanned { tree, windows })
+}
+
+/// A word that nobody can predict: the keys of std's hash maps are drawn by the system.
+fn unpredictable_word() -> u32 {
+    RandomState::new().build_hasher().finish() as u32
 }
 
 /// The words of the table that a scan of a text of `n` bytes works in; 0 where the leaf length is 0.

@@ -15,7 +15,7 @@ use model::read::Answer;
 use model::{build, check, fast, keys, prefix, read, Shape};
 use std::collections::{BTreeMap, BTreeSet};
 use support::books::{book, Kind};
-use support::{rounds, setting, to_hex, Rng};
+use support::{hostile, rounds, setting, to_hex, Rng};
 
 /// A table of so many words, every one filled.
 fn lent_words(words: usize) -> Box<[u32]> {
@@ -475,6 +475,31 @@ fn compare_scan(rng: &mut Rng, text: &[u8], shape: Shape, counted: &[u8], expect
         "{shape:?}"
     );
     assert!(*tree == *expected, "{shape:?}");
+}
+
+/// Words that a table's first one may be: the seed. The last two give the bases 0 and 1, under which most windows have equal fingerprints.
+const SEEDS: [u32; 6] = [0, u32::MAX, 1, 0x9E37_79B9, 1_540_483_477, 1_540_483_476];
+
+/// Whatever the table holds at entry, the tree and the windows are the same, on hostile texts too.
+#[test]
+fn seeds() {
+    let mut rng = Rng::new(setting("SEED", 1));
+    let mut texts = hostile::texts(4_096);
+    texts.push(("random bytes", hostile::random_bytes(4_096)));
+    for (name, text) in texts {
+        for shape in [Shape::new(16, 4, 3), Shape::new(1, 2, 2), Shape::new(3, 5, 3)] {
+            let expected = fast::tree(&text, shape, b"\n");
+            let windows = build::windows(text.len(), shape, &expected);
+            let words = 4 * text.len().div_ceil(shape.m as usize);
+            let tables = SEEDS.iter().map(|&seed| vec![seed; words].into_boxed_slice());
+            for mut work in tables.chain((0..4).map(|_| table(&mut rng, words)).collect::<Vec<_>>()) {
+                let (seed, mut tree) = (work[0], lent(expected.len()));
+                let answer = calls::build_scanned(&text, shape.m, shape.r, shape.h, b"\n", &mut work, &mut tree);
+                assert_eq!(answer, (0, expected.len() as u32, windows), "{name} {shape:?} {seed}");
+                assert!(*tree == *expected, "{name} {shape:?} {seed}");
+            }
+        }
+    }
 }
 
 /// Long books with small blocks, which the first builder would take minutes for: by one scan a level alone.

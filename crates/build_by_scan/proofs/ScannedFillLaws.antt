@@ -27,7 +27,7 @@ use Rattle.scan_passes.proofs.ItemLengths.{block-length, pair-length}
 use Rattle.build_by_scan.specs.ItemTable.{itemsSay, pairBytes, Told}
 use Rattle.build_by_scan.proofs.TableRoom.{pieces-few, order, few-items}
 
-module _ (T out cs : List ℕ) (level : Level)
+module _ (seed : ℕ) (T out cs : List ℕ) (level : Level)
     (r : Ready (settingsOf (level .settings) cs) T out level) (k : level .number + 1 < level .settings .levels) (some-blocks : 1 ≤ level .count) where
   abbrev S : Settings
   S = settingsOf (level .settings) cs
@@ -36,7 +36,7 @@ module _ (T out cs : List ℕ) (level : Level)
   l = level .number
 
   abbrev it : Items
-  it = itemsSay (length T) (recordBytes S) level
+  it = itemsSay (length T) (recordBytes S) level seed
 
   h : LevelIs S T level
   h = r .level-is

@@ -67,7 +67,8 @@ module _ (S : Settings) (T out : List ℕ) (level : Level) (i : ℕ) (w : On S T
         (says-again T s (min (level .size + level .size) (length T - s))
         (λ q. t .again i block-here paired (λ z. n (z ∙ sym s-right)) (sym bytes-are ∙ q ∙ s-right)))
 
-pub same-items : (n step : ℕ) (level : Level) (p s h : ℕ) → p ≡ pieces n (level .settings .leaf) → s ≡ step
+pub same-items : (n step : ℕ) (level : Level) (seed p s h : ℕ) → p ≡ pieces n (level .settings .leaf) → s ≡ step
     → h ≡ min (4 * p - 3 * (level .count + level .count - 1)) (16 * (level .count + level .count - 1))
-    → record { records = level .table; step = s; size = level .size; items = level .count + level .count - 1; heads = h } ≡ itemsSay n step level
-same-items n step level p s h ep es eh = rw (eh, ep, es)
+    → record { records = level .table; step = s; size = level .size; items = level .count + level .count - 1; heads = h; seed = seed }
+    ≡ itemsSay n step level seed
+same-items n step level seed p s h ep es eh = rw (eh, ep, es)

@@ -101,7 +101,7 @@ unfolding sumBelow
 sum-add zero f g = refl
 sum-add (suc k) f g = omega (arith, sum-add k f g)
 
-module _ (T out cs : List ℕ) (level : Level)
+module _ (seed : ℕ) (T out cs : List ℕ) (level : Level)
     (r : Ready (settingsOf (level .settings) cs) T out level) (k : level .number + 1 < level .settings .levels) (some : 1 ≤ level .count) where
   abbrev S : Settings
   S = settingsOf (level .settings) cs
@@ -110,10 +110,10 @@ module _ (T out cs : List ℕ) (level : Level)
   l = level .number
 
   abbrev it : Items
-  it = itemsSay (length T) (recordBytes S) level
+  it = itemsSay (length T) (recordBytes S) level seed
 
   o : Ordered T out it
-  o = lev.ordered T out cs level r k some
+  o = lev.ordered seed T out cs level r k some
 
   count-is : level .count ≡ count S T l
   count-is = r .level-is .count-is
@@ -130,29 +130,29 @@ module _ (T out cs : List ℕ) (level : Level)
       i = x / 2
 
       il : x / 2 < count S T l
-      il = omega (arith, lev.half-in T out cs level r k some x xl, count-is)
+      il = omega (arith, lev.half-in seed T out cs level r k some x xl, count-is)
 
       even : x % 2 ≡ 0 → test n (x / 2) ≡ true
       even z =
           let q : x ≡ 2 * (x / 2) = omega arith in
           or-left (pairAt T (blockLength S l) (startsAt S T l) (x / 2) && eqb (pairBytes S T l (x / 2)) n)
-          (eq-eqb (bytesIn S T l (x / 2)) n (sym (lev.block-bytes T out cs level r k some (x / 2) il) ∙ sym (ap (lengthAt T out it) q) ∙ e))
+          (eq-eqb (bytesIn S T l (x / 2)) n (sym (lev.block-bytes seed T out cs level r k some (x / 2) il) ∙ sym (ap (lengthAt T out it) q) ∙ e))
 
       pair : x % 2 ≡ 1 → startAt T out it (x + 1) ≡ startAt T out it x + it .size → pairAt T (blockLength S l) (startsAt S T l) (x / 2) ≡ true
       pair z f =
-          let xn : x + 1 < it .items = next-in T out it o (lev.placed T out cs level r k some) x z xl f in
+          let xn : x + 1 < it .items = next-in T out it o (lev.placed seed T out cs level r k some) x z xl f in
           let a : startAt T out it (x + 1) ≡ start S T l (suc (x / 2)) =
-          lev.start-is T out cs level r k some (x + 1) xn ∙ ap (start S T l) (let q : (x + 1) / 2 ≡ suc (x / 2) = omega arith in q) in
-          and-both (lt-ltb (suc (x / 2)) (count S T l) (omega (arith, lev.half-in T out cs level r k some (x + 1) xn, count-is)))
+          lev.start-is seed T out cs level r k some (x + 1) xn ∙ ap (start S T l) (let q : (x + 1) / 2 ≡ suc (x / 2) = omega arith in q) in
+          and-both (lt-ltb (suc (x / 2)) (count S T l) (omega (arith, lev.half-in seed T out cs level r k some (x + 1) xn, count-is)))
           (eq-eqb (start S T l (suc (x / 2)))
-          (start S T l (x / 2) + blockLength S l) (omega (arith, a, f, lev.start-is T out cs level r k some x xl, r .level-is .size-is)))
+          (start S T l (x / 2) + blockLength S l) (omega (arith, a, f, lev.start-is seed T out cs level r k some x xl, r .level-is .size-is)))
 
       odd : x % 2 ≡ 1 → Present T out it x → test n (x / 2) ≡ true
       odd z (inl a) = absurd (let w : ⊥ = omega arith in w)
       odd z (inr f) =
           let q : x ≡ 2 * (x / 2) + 1 = omega arith in
           or-right (eqb (bytesIn S T l (x / 2)) n) (and-both (pair z f)
-          (eq-eqb (pairBytes S T l (x / 2)) n (sym (lev.pair-bytes T out cs level r k some (x / 2) il (pair z f)) ∙ sym (ap (lengthAt T out it) q) ∙ e)))
+          (eq-eqb (pairBytes S T l (x / 2)) n (sym (lev.pair-bytes seed T out cs level r k some (x / 2) il (pair z f)) ∙ sym (ap (lengthAt T out it) q) ∙ e)))
 
       go : (x % 2 < 1) ⊎ (1 ≤ x % 2) → test n (x / 2) ≡ true
       go (inl a) = even (omega arith)
@@ -160,7 +160,8 @@ module _ (T out cs : List ℕ) (level : Level)
 
   pub has-length : (n : ℕ) → Has T out it (it .items) n → hasLength S T l n ≡ true
   unfolding hasLength
-  has-length n (x, xl, p, e) = any-at (count S T l) (test n) (x / 2) (omega (arith, lev.half-in T out cs level r k some x xl, count-is)) (has-test n x xl p e)
+  has-length n (x, xl, p, e) =
+      any-at (count S T l) (test n) (x / 2) (omega (arith, lev.half-in seed T out cs level r k some x xl, count-is)) (has-test n x xl p e)
 
   pub length-has : (n : ℕ) → hasLength S T l n ≡ true → Has T out it (it .items) n
   unfolding hasLength
@@ -168,13 +169,13 @@ module _ (T out cs : List ℕ) (level : Level)
     where
       by : (i : ℕ) → i < count S T l → (eqb (bytesIn S T l i) n ≡ true)
           ⊎ ((pairAt T (blockLength S l) (startsAt S T l) i && eqb (pairBytes S T l i) n) ≡ true) → Has T out it (it .items) n
-      by i il (inl a) = (2 * i, omega (arith, count-is), inl (omega arith), lev.block-bytes T out cs level r k some i il ∙ eqb-true _ _ a)
+      by i il (inl a) = (2 * i, omega (arith, count-is), inl (omega arith), lev.block-bytes seed T out cs level r k some i il ∙ eqb-true _ _ a)
       by i il (inr a) =
           let p = and-left (pairAt T (blockLength S l) (startsAt S T l) i) (eqb (pairBytes S T l i) n) a in (
             2 * i + 1,
-            lev.pair-item T out cs level r k some i il p,
-            lev.pair-there T out cs level r k some i il p,
-            lev.pair-bytes T out cs level r k some i il p
+            lev.pair-item seed T out cs level r k some i il p,
+            lev.pair-there seed T out cs level r k some i il p,
+            lev.pair-bytes seed T out cs level r k some i il p
                 ∙ eqb-true _ _ (and-right (pairAt T (blockLength S l) (startsAt S T l) i) (eqb (pairBytes S T l i) n) a),
           )
 
@@ -296,8 +297,8 @@ module _ (T out cs : List ℕ) (level : Level)
       where
         here : Has T out it (it .items) x → all x ≡ suc n - x
         here (y, yl, p, e) = with-length x
-            (omega (arith, e, length-low T out it o (lev.placed T out cs level r k some) y yl))
-            (omega (arith, e, length-most T out it o (lev.placed T out cs level r k some) y))
+            (omega (arith, e, length-low T out it o (lev.placed seed T out cs level r k some) y yl))
+            (omega (arith, e, length-most T out it o (lev.placed seed T out cs level r k some) y))
             (subst (Among b g) e (s .covers y yl p))
 
         go : (hasLength S T l x ≡ true) ⊎ (hasLength S T l x ≡ false) → cond (hasLength S T l x) (suc n - x) 0 ≡ all x
@@ -305,7 +306,7 @@ module _ (T out cs : List ℕ) (level : Level)
         go (inr f) = ap (λ (c : Bool). cond c (suc n - x) 0) f ∙ sym (no-length x (λ q. bool-clash (hasLength S T l x) (has-length x q) f))
 
     in-text : (v : ℕ) → Has T out it (it .items) v → v ≤ n
-    in-text v (x, xl, p, e) = omega (arith, e, length-high T out it o (lev.placed T out cs level r k some) x xl)
+    in-text v (x, xl, p, e) = omega (arith, e, length-high T out it o (lev.placed seed T out cs level r k some) x xl)
 
     block-in : (g .block ≡ 0) ⊎ ((g .block ≡ b) × Has T out it (it .items) (g .block)) → g .block ≤ n
     block-in (inl e) = omega arith
@@ -354,7 +355,7 @@ module _ (T out cs : List ℕ) (level : Level)
       omega (
         arith,
         c .sum,
-        lev.placed T out cs level r k some .few,
+        lev.placed seed T out cs level r k some .few,
         places-most (g .block) (block-in g s (s .block-is)),
         places-most (g .pair) (pair-in g s (s .pair-is)),
         places-most (g .last) (last-in g s (s .last-is)),

@@ -15,13 +15,14 @@ use Rattle.scan_entries.specs.Entries.{placeIn}
 use Rattle.scan_passes.specs.Passes.{placeOut}
 
 -- the items of a level of a text of n bytes, with records of so many bytes, and the heads that the table has room for
-abbrev pub itemsSay : ℕ → ℕ → Level → Items
-itemsSay n step level = record {
+abbrev pub itemsSay : ℕ → ℕ → Level → ℕ → Items
+itemsSay n step level seed = record {
   records = level .table;
   step = step;
   size = level .size;
   items = level .count + level .count - 1;
   heads = min (4 * pieces n (level .settings .leaf) - 3 * (level .count + level .count - 1)) (16 * (level .count + level .count - 1));
+  seed = seed;
 }
 
 module _ (S : Settings) (T : List ℕ) (l : ℕ) where

@@ -32,6 +32,7 @@ pub enum Scanned {
 
 // Writes the block tree of a text into a buffer: questions 1 to 3, then 18 (the table has fewer than four words for each leaf length
 // of text), then 4. Refused by 1, 2, 3 or 18, table and buffer are unchanged; by 4 the buffer is all zero. What the table holds afterwards is free.
+// What it holds at entry changes only the time: its first word is the seed of the fingerprints.
 pub fn build_scanned(
     text: &[u8],
     leaf: u32,

@@ -104,7 +104,14 @@ fn fill_scanned(out: &mut [u8], words: &[u32], text: &[u8], counted: &[u8], leve
 }
 
 // Scans for a level above the last, and answers how many windows were looked up; the level of a text without bytes has no block, and none.
-fn scan_level(words: &mut [u32], text: &[u8], counted: &[u8], out: &[u8], level: Level) -> u32
+fn scan_level(
+    words: &mut [u32],
+    text: &[u8],
+    counted: &[u8],
+    out: &[u8],
+    level: Level,
+    seed: u32,
+) -> u32
     requires { ⌜ Ready (settingsOf (level .settings) (now counted)) (now text) (now out) level × (level .number + 1 < level .settings .levels)
         × (4 * pieces (length (now text)) (level .settings .leaf) ≤ length (now words)) ⌝ }
     ensures { λ _. ⌜ Told (settingsOf (level .settings) (now (counted .entry))) (now (text .entry)) (level .number) (now (words .exit)) ⌝ }
@@ -113,7 +120,7 @@ fn scan_level(words: &mut [u32], text: &[u8], counted: &[u8], out: &[u8], level:
     if level.count == 0 {
         return 0;
     }
-    let it = table::items_of(text, counted, level);
+    let it = table::items_of(text, counted, level, seed);
     scan_passes::scan(words, text, out, it)
 }
 
@@ -124,6 +131,7 @@ pub fn put_level(
     text: &[u8],
     counted: &[u8],
     level: Level,
+    seed: u32,
 ) -> Put
     requires { ⌜ Ready (settingsOf (level .settings) (now counted)) (now text) (now out) level × (level .number + 1 < level .settings .levels)
         × (4 * pieces (length (now text)) (level .settings .leaf) ≤ length (now words)) ⌝ }
@@ -132,7 +140,7 @@ pub fn put_level(
     ensures { λ r. ⌜ (r .windows ≡ windowsAt (settingsOf (level .settings) (now (counted .entry))) (now (text .entry)) (level .number))
         × (r .windows ≤ 4 * maxText) ⌝ }
 {
-    let windows = scan_level(words, text, counted, out, level);
+    let windows = scan_level(words, text, counted, out, level, seed);
     Put {
         below: fill_scanned(out, words, text, counted, level),
         windows,

@@ -1,5 +1,6 @@
 // The tree, level by level.
 use crate::scanned_fill;
+use crate::table;
 use build_levels::level_step;
 use build_levels::level_step::Step;
 use build_records::level_written::Level;
@@ -22,7 +23,14 @@ pub struct Wrote {
 }
 
 // Writes the levels from the first on.
-fn put_levels(out: &mut [u8], words: &mut [u32], text: &[u8], counted: &[u8], first: Level) -> Wrote
+fn put_levels(
+    out: &mut [u8],
+    words: &mut [u32],
+    text: &[u8],
+    counted: &[u8],
+    first: Level,
+    seed: u32,
+) -> Wrote
     requires { ⌜ Ready (settingsOf (first .settings) (now counted)) (now text) (now out) first × (first .number ≡ 0)
         × (4 * pieces (length (now text)) (first .settings .leaf) ≤ length (now words)) ⌝ }
     ensures { λ _. ⌜ Grown (treeOf (settingsOf (first .settings) (now (counted .entry))) (now (text .entry))) (now (out .entry)) (now (out .exit)) ⌝ }
@@ -32,7 +40,7 @@ fn put_levels(out: &mut [u8], words: &mut [u32], text: &[u8], counted: &[u8], fi
     let mut level = first;
     let mut windows: u32 = 0;
     while level.number + 1 < first.settings.levels {
-        let put = scanned_fill::put_level(out, words, text, counted, level);
+        let put = scanned_fill::put_level(out, words, text, counted, level, seed);
         windows = windows + put.windows;
         let step = level_step::go_down(out, text, counted, level, put.below);
         let Step::To(next) = step else {
@@ -63,6 +71,7 @@ pub fn write_tree(
     ensures { λ r. ⌜ Finished (treeOf (settingsOf s (now (counted .entry))) (now (text .entry))) (now (out .exit)) (r .size) ⌝ }
     ensures { λ r. ⌜ ((r .size ≡ 0 → ⊥) → r .windows ≡ windowsOf (settingsOf s (now (counted .entry))) (now (text .entry))) ⌝ }
 {
+    let seed = table::seed_of(words);
     let step = level_step::begin(out, text, counted, s);
     let Step::To(first) = step else {
         return Wrote {
@@ -70,5 +79,5 @@ pub fn write_tree(
             windows: 0,
         };
     };
-    put_levels(out, words, text, counted, first)
+    put_levels(out, words, text, counted, first, seed)
 }

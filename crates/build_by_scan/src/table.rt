@@ -12,11 +12,11 @@ ghost use Rattle.build_records.specs.State.{settingsOf};
 ghost use Rattle.build_by_scan.specs.ItemTable.{itemsSay};
 
 // The items of a level. More than 16 heads to an item would only spread them over more memory.
-pub fn items_of(text: &[u8], counted: &[u8], level: Level) -> Items
+pub fn items_of(text: &[u8], counted: &[u8], level: Level, seed: u32) -> Items
     requires { ⌜ (length (now counted) ≤ maxCounted)
         × (1 ≤ level .count) × (1 ≤ level .settings .leaf) × (level .settings .leaf ≤ maxLeaf) × (length (now text) ≤ maxText)
         × (level .count + level .count ≤ pieces (length (now text)) (level .settings .leaf) + 1) ⌝ }
-    ensures { λ r. ⌜ r ≡ itemsSay (length (now (text .entry))) (recordBytes (settingsOf (level .settings) (now (counted .entry)))) level ⌝ }
+    ensures { λ r. ⌜ r ≡ itemsSay (length (now (text .entry))) (recordBytes (settingsOf (level .settings) (now (counted .entry)))) level seed ⌝ }
 {
     let items = level.count + level.count - 1;
     let words = 4 * settings::pieces(text.len() as u32, level.settings.leaf);
@@ -26,5 +26,15 @@ pub fn items_of(text: &[u8], counted: &[u8], level: Level) -> Items
         size: level.size,
         items,
         heads: stretches::shorter(words - 3 * items, 16 * items),
+        seed,
     }
+}
+
+// The seed of the fingerprints: what the table's first word holds at entry, so that a caller who fills it at random makes the
+// fingerprints unpredictable. A table of zeros gives a seed with no small base.
+pub fn seed_of(words: &[u32]) -> u32 {
+    if words.len() == 0 {
+        return 1540483477;
+    }
+    words[0] ^ 1540483477
 }

@@ -23,12 +23,12 @@ module _ (T out : List ℕ) (it : Items) where
 
   pub chain-lt : 1 ≤ it .heads → (x : ℕ) → chainAt T out it x < it .heads
   unfolding chainAt bucketOf
-  chain-lt low x = bucket-lt (print (bytesAt T out it x)) (it .heads) (print-below (bytesAt T out it x)) low
+  chain-lt low x = bucket-lt (print (it .seed) (bytesAt T out it x)) (it .heads) (print-below (it .seed) (bytesAt T out it x)) low
 
   -- the same bytes are in the same chain
-  pub same-chain : (x p n : ℕ) → bytesAt T out it x ≡ stretch T p n → chainAt T out it x ≡ bucketOf (it .heads) (print (stretch T p n))
+  pub same-chain : (x p n : ℕ) → bytesAt T out it x ≡ stretch T p n → chainAt T out it x ≡ bucketOf (it .heads) (print (it .seed) (stretch T p n))
   unfolding chainAt
-  same-chain x p n e = ap (λ (s : List ℕ). bucketOf (it .heads) (print s)) e
+  same-chain x p n e = ap (λ (s : List ℕ). bucketOf (it .heads) (print (it .seed) s)) e
 
   pub searched-none : (W : List ℕ) → Searched T out it W W
   searched-none W = record {
@@ -105,7 +105,7 @@ module _ (T out : List ℕ) (it : Items) where
     touched-none f = record { searched = searched-none W; here = f }
 
     pub other-print : (printIn W x ≡ h → ⊥) → Touched T out it W W x p n
-    other-print un = touched-none (λ en. passed-by W x p n en (λ e. un (a .chained .prints x xl is ∙ ap print e ∙ sym (a .print-is))))
+    other-print un = touched-none (λ en. passed-by W x p n en (λ e. un (a .chained .prints x xl is ∙ ap (print (it .seed)) e ∙ sym (a .print-is))))
 
     pub found-before : placeIn W x ≤ p → Touched T out it W W x p n
     found-before l = touched-none (λ en. passed-after W x p n l)

@@ -2,8 +2,9 @@
 use mathlib.Core.List.{List}
 use mathlib.Core.Path.{_≡_, sym, ap, _∙_, subst}
 use mathlib.Core.Logic.{_⊎_, inl, inr}
-use Prim.Native.Nat.{ℕ, suc, _+_, _-_, _*_, _%_, _≤_, _<_}
+use Prim.Native.Nat.{ℕ, suc, _+_, _-_, _*_, _/_, _%_, _≤_, _<_}
 use native.Mathlib.Omega.{arith}
+use native.Mathlib.Nat.{mod-lt}
 use native.Mathlib.Decide.{ℕ-discrete}
 use lib.ListN.{length, getD, set, length-set}
 use lib.Seq.{getD-set-same, getD-set-other}
@@ -28,7 +29,7 @@ module _ (T out : List ℕ) (it : Items) where
     next = λ x l i. absurd (let z : ⊥ = omega arith in z);
     prints = λ x l i. absurd (let z : ⊥ = omega arith in z);
     heads = λ g l.
-        let e : getD Z (3 * it .items + g) 0 % 16777216 ≡ 0 = ap (λ (w : ℕ). w % 16777216) (c .empty g l) in
+        let e : getD Z (3 * it .items + g) 0 / 256 ≡ 0 = ap (λ (w : ℕ). w / 256) (c .empty g l) in
         record {
           low = omega arith;
           listed = λ y q. absurd (let z : ⊥ = omega arith in z);
@@ -132,7 +133,7 @@ module _ (T out : List ℕ) (it : Items) where
     }
 
   -- item x in front of its chain
-  module _ (W Z : List ℕ) (x h s g : ℕ) (t : Turn T out it W x) (p : Put (it .items) W Z x h s g) (h-is : h ≡ print (bytesAt T out it x))
+  module _ (W Z : List ℕ) (x h s g : ℕ) (t : Turn T out it W x) (p : Put (it .items) W Z x h s g) (h-is : h ≡ print (it .seed) (bytesAt T out it x))
       (s-is : s ≡ startAt T out it x) (g-is : g ≡ chainAt T out it x) where
     old : Chained T out it W x
     old = t .chained
@@ -156,14 +157,14 @@ module _ (T out : List ℕ) (it : Items) where
             (subst (λ (f : ℕ). Link T out it Z f x (linkOf (headIn (it .items) W g)))
             g-is (link-same W Z x (p .places) g x (linkOf (headIn (it .items) W g)) (omega arith) (old .heads g g-in))))
 
-    new-prints : (y : ℕ) → y < x + 1 → Is Z y → printIn Z y ≡ print (bytesAt T out it y)
+    new-prints : (y : ℕ) → y < x + 1 → Is Z y → printIn Z y ≡ print (it .seed) (bytesAt T out it y)
     new-prints y l i = go (lt-or-ge y x)
       where
-        go : (y < x) ⊎ (x ≤ y) → printIn Z y ≡ print (bytesAt T out it y)
+        go : (y < x) ⊎ (x ≤ y) → printIn Z y ≡ print (it .seed) (bytesAt T out it y)
         go (inl m) = p .prints y m ∙ old .prints y m (was-listed W Z x (p .places) y m i)
         go (inr m) =
             let q : x ≡ y = omega arith in
-            subst (λ (k : ℕ). printIn Z k ≡ print (bytesAt T out it k)) q (p .print ∙ h-is)
+            subst (λ (k : ℕ). printIn Z k ≡ print (it .seed) (bytesAt T out it k)) q (p .print ∙ h-is)
 
     new-heads : (f : ℕ) → f < it .heads → Link T out it Z f (x + 1) (linkOf (headIn (it .items) Z f))
     new-heads f l = go (ℕ-discrete f g)
@@ -182,24 +183,26 @@ module _ (T out : List ℕ) (it : Items) where
         go (no d) = subst (λ (w : ℕ). Link T out it Z f (x + 1) (linkOf w)) (sym (p .heads f d))
             (link-more W Z x (p .places) f (linkOf (headIn (it .items) W f)) (λ i c. d (sym c ∙ sym g-is)) (old .heads f l))
 
-    new-marks : (y : ℕ) → y < x + 1 → Is Z y → markOf (headIn (it .items) Z (chainAt T out it y)) (print (bytesAt T out it y) % 8) ≡ 1
+    new-marks : (y : ℕ) → y < x + 1 → Is Z y → markOf (headIn (it .items) Z (chainAt T out it y)) (print (it .seed) (bytesAt T out it y) % 8) ≡ 1
     new-marks y l i = go (lt-or-ge y x)
       where
-        old-mark : (m : y < x) → Dec (chainAt T out it y ≡ g) → markOf (headIn (it .items) Z (chainAt T out it y)) (print (bytesAt T out it y) % 8) ≡ 1
-        old-mark m (yes e) = subst (λ (f : ℕ). markOf (headIn (it .items) Z f) (print (bytesAt T out it y) % 8) ≡ 1) (sym e)
-            (p .head .others (print (bytesAt T out it y) % 8)
-            (subst (λ (f : ℕ). markOf (headIn (it .items) W f) (print (bytesAt T out it y) % 8) ≡ 1) e (old .marks y m (was-listed W Z x (p .places) y m i))))
+        old-mark : (m : y < x) → Dec (chainAt T out it y ≡ g)
+            → markOf (headIn (it .items) Z (chainAt T out it y)) (print (it .seed) (bytesAt T out it y) % 8) ≡ 1
+        old-mark m (yes e) = subst (λ (f : ℕ). markOf (headIn (it .items) Z f) (print (it .seed) (bytesAt T out it y) % 8) ≡ 1) (sym e)
+            (p .head .others (print (it .seed) (bytesAt T out it y) % 8) (mod-lt (print (it .seed) (bytesAt T out it y)) (omega arith))
+            (subst (λ (f : ℕ). markOf (headIn (it .items) W f) (print (it .seed) (bytesAt T out it y) % 8) ≡ 1) e
+            (old .marks y m (was-listed W Z x (p .places) y m i))))
         old-mark m (no d) = rw (p .heads (chainAt T out it y) d) (old .marks y m (was-listed W Z x (p .places) y m i))
 
-        own-mark : markOf (headIn (it .items) Z (chainAt T out it x)) (print (bytesAt T out it x) % 8) ≡ 1
-        own-mark = subst (λ (f : ℕ). markOf (headIn (it .items) Z f) (print (bytesAt T out it x) % 8) ≡ 1) g-is
+        own-mark : markOf (headIn (it .items) Z (chainAt T out it x)) (print (it .seed) (bytesAt T out it x) % 8) ≡ 1
+        own-mark = subst (λ (f : ℕ). markOf (headIn (it .items) Z f) (print (it .seed) (bytesAt T out it x) % 8) ≡ 1) g-is
             (subst (λ (k : ℕ). markOf (headIn (it .items) Z g) (k % 8) ≡ 1) h-is (p .head .mark))
 
-        go : (y < x) ⊎ (x ≤ y) → markOf (headIn (it .items) Z (chainAt T out it y)) (print (bytesAt T out it y) % 8) ≡ 1
+        go : (y < x) ⊎ (x ≤ y) → markOf (headIn (it .items) Z (chainAt T out it y)) (print (it .seed) (bytesAt T out it y) % 8) ≡ 1
         go (inl m) = old-mark m (ℕ-discrete (chainAt T out it y) g)
         go (inr m) =
             let q : x ≡ y = omega arith in
-            subst (λ (k : ℕ). markOf (headIn (it .items) Z (chainAt T out it k)) (print (bytesAt T out it k) % 8) ≡ 1) q own-mark
+            subst (λ (k : ℕ). markOf (headIn (it .items) Z (chainAt T out it k)) (print (it .seed) (bytesAt T out it k) % 8) ≡ 1) q own-mark
 
     pub is-entered : Entered T out it W Z x
     is-entered = record {
@@ -251,7 +254,7 @@ module _ (T out : List ℕ) (it : Items) where
     }
 
     -- the chain of a fingerprint
-    pub chain-of : (h r : ℕ) → h ≡ print (bytesAt T out it x) → r ≡ bucketOf (it .heads) h → r ≡ chainAt T out it x
+    pub chain-of : (h r : ℕ) → h ≡ print (it .seed) (bytesAt T out it x) → r ≡ bucketOf (it .heads) h → r ≡ chainAt T out it x
     unfolding chainAt
     chain-of h r eh er = er ∙ ap (bucketOf (it .heads)) eh
 

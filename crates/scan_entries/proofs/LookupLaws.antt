@@ -112,10 +112,10 @@ module _ (T out : List ℕ) (it : Items) (W : List ℕ) (h p n : ℕ) where
       where
         marked-by : (x : ℕ) → x < it .items → Listed T out it W x → bytesAt T out it x ≡ stretch T p n → markOf (headIn (it .items) W g) (h % 8) ≡ 1
         marked-by x l i es =
-            let q : print (bytesAt T out it x) ≡ h = ap print es ∙ sym (a .print-is) in
+            let q : print (it .seed) (bytesAt T out it x) ≡ h = ap (print (it .seed)) es ∙ sym (a .print-is) in
             let c : chainAt T out it x ≡ g = same-chain T out it x p n es ∙ ap (bucketOf (it .heads)) (sym (a .print-is)) in
             subst (λ (k : ℕ). markOf (headIn (it .items) W g) (k % 8) ≡ 1) q
-            (subst (λ (k : ℕ). markOf (headIn (it .items) W k) (print (bytesAt T out it x) % 8) ≡ 1) c (a .chained .marks x l i))
+            (subst (λ (k : ℕ). markOf (headIn (it .items) W k) (print (it .seed) (bytesAt T out it x) % 8) ≡ 1) c (a .chained .marks x l i))
 
     pub looked-visited : (Z : List ℕ) → Visited T out it W Z g p n → Looked T out it W Z p n
     looked-visited Z v = record {

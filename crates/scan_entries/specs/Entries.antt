@@ -37,7 +37,7 @@ module _ (T out : List ℕ) (it : Items) where
   bytesAt x = stretch T (startAt x) (lengthAt x)
 
   unfoldable pub chainAt : ℕ → ℕ
-  chainAt x = bucketOf (it .heads) (print (bytesAt x))
+  chainAt x = bucketOf (it .heads) (print (it .seed) (bytesAt x))
 
   -- the records are there, and each block starts in the text
   pub record Placed : Type 0 where
@@ -76,9 +76,9 @@ module _ (T out : List ℕ) (it : Items) where
     pub record Chained (k : ℕ) : Type 0 where
       pub within : k ≤ it .items
       pub next : (x : ℕ) → x < k → Listed x → Link (chainAt x) x (nextIn W x)
-      pub prints : (x : ℕ) → x < k → Listed x → printIn W x ≡ print (bytesAt x)
+      pub prints : (x : ℕ) → x < k → Listed x → printIn W x ≡ print (it .seed) (bytesAt x)
       pub heads : (g : ℕ) → g < it .heads → Link g k (linkOf (headIn (it .items) W g))
-      pub marks : (x : ℕ) → x < k → Listed x → markOf (headIn (it .items) W (chainAt x)) (print (bytesAt x) % 8) ≡ 1
+      pub marks : (x : ℕ) → x < k → Listed x → markOf (headIn (it .items) W (chainAt x)) (print (it .seed) (bytesAt x) % 8) ≡ 1
 
     -- of the places below q, none before the one found has the bytes of item x
     pub record Found (x q : ℕ) : Type 0 where

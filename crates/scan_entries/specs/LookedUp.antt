@@ -14,7 +14,7 @@ module _ (T out : List ℕ) (it : Items) where
     pub laid : Laid T out it (length W)
     pub chained : Chained T out it W (it .items)
     pub fits : p + n ≤ length T
-    pub print-is : h ≡ print (stretch T p n)
+    pub print-is : h ≡ print (it .seed) (stretch T p n)
 
   -- the window of n bytes at p was compared with item x
   pub record Touched (W Z : List ℕ) (x p n : ℕ) : Type 0 where

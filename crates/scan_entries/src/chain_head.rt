@@ -6,17 +6,17 @@ ghost use Rattle.scan_entries.specs.ChainHeads.{maxItems, markOf, bucket
 
 // The number of the chain for a fingerprint.
 pub fn bucket(h: u32, heads: u32) -> u32
-    requires { ⌜ 1 ≤ heads ⌝ }
+    requires { ⌜ (1 ≤ heads) × (h < 2147483647) ⌝ }
     ensures { λ r. ⌜ (r ≡ bucketOf heads h) × (r < heads) ⌝ }
 {
-    (h as u64 * heads as u64 / 4294967296) as u32
+    (h as u64 * heads as u64 / 2147483648) as u32
 }
 
 // Whether the chain of a head may have an item with this fingerprint.
 pub fn marked(w: u32, h: u32) -> bool
     ensures { λ r. ⌜ r ≡ eqb (markOf w (h % 8)) 1 ⌝ }
 {
-    (w / 16777216 >> (h % 8)) % 2 == 1
+    (w >> (h % 8)) % 2 == 1
 }
 
 // A head with item x put in front of its chain.
@@ -24,5 +24,5 @@ pub fn pushed(w: u32, h: u32, x: u32) -> u32
     requires { ⌜ x < maxItems ⌝ }
     ensures { λ r. ⌜ Pushed w h x r ⌝ }
 {
-    (w / 16777216 | 1 << (h % 8)) * 16777216 + (x + 1)
+    (x + 1) * 256 + (w % 256 | 1 << (h % 8))
 }

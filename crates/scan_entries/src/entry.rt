@@ -26,11 +26,11 @@ pub fn clear(words: &mut [u32], from: usize, n: usize)
 
 // One more than an item below x that has these bytes, by the chain of their fingerprint; 0 where none is found.
 fn twin(words: &[u32], text: &[u8], out: &[u8], it: Items, x: u32, own: Probe) -> u32
-    requires { ⌜ Turn (now text) (now out) it (now words) x × (own .start .0 + own .length ≤ length (now text)) ⌝ }
+    requires { ⌜ Turn (now text) (now out) it (now words) x × (own .start .0 + own .length ≤ length (now text)) × (own .print < 2147483647) ⌝ }
     ensures { λ r. ⌜ Twin (now (text .entry)) (now (out .entry)) it (now (words .entry)) x (own .start .0) (own .length) r ⌝ }
 {
     let mut e = words[3 * it.items as usize + chain_head::bucket(own.print, it.heads) as usize]
-        % 16777216;
+        / 256;
     while e != 0 {
         let at = 3 * (e - 1) as usize;
         if words[at + 1] == own.print {
@@ -51,7 +51,7 @@ fn put(words: &mut [u32], it: Items, x: u32, h: u32, start: TextPlace, g: u32)
     let head = 3 * it.items as usize + g as usize;
     let at = 3 * x as usize;
     let w = words[head];
-    words[at] = w % 16777216;
+    words[at] = w / 256;
     words[at + 1] = h;
     words[at + 2] = start.0;
     words[head] = chain_head::pushed(w, h, x);
@@ -59,7 +59,7 @@ fn put(words: &mut [u32], it: Items, x: u32, h: u32, start: TextPlace, g: u32)
 
 // Enters item x, whose fingerprint is h: in its chain, or as a twin of an item that is there.
 pub fn enter(words: &mut [u32], text: &[u8], out: &[u8], it: Items, x: u32, h: u32)
-    requires { ⌜ Turn (now text) (now out) it (now words) x × (h ≡ print (bytesAt (now text) (now out) it x)) ⌝ }
+    requires { ⌜ Turn (now text) (now out) it (now words) x × (h ≡ print (it .seed) (bytesAt (now text) (now out) it x)) ⌝ }
     ensures { λ _. ⌜ Entered (now (text .entry)) (now (out .entry)) it (now (words .entry)) (now (words .exit)) x ⌝ }
 {
     let own = item::run_of(text, out, it, x);

@@ -17,6 +17,8 @@ pub struct Items {
     // how many items there are: the table has three words for each, then the heads of the chains
     pub items: u32,
     pub heads: u32,
+    // gives the base of the fingerprints
+    pub seed: u32,
 }
 
 // The bytes of an item: where they start, and how many they are.

@@ -48,6 +48,6 @@ pub fn look(words: &mut [u32], text: &[u8], out: &[u8], it: Items, w: Probe)
 {
     let first = words[3 * it.items as usize + chain_head::bucket(w.print, it.heads) as usize];
     if chain_head::marked(first, w.print) {
-        visit(words, text, out, it, w, first % 16777216);
+        visit(words, text, out, it, w, first / 256);
     }
 }

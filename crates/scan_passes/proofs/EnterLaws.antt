@@ -7,7 +7,7 @@ use native.Mathlib.Omega.{arith}
 use lib.ListN.{length}
 use Rattle.text.specs.ListLaws.{lt-or-ge}
 use Rattle.text.specs.Text.{stretch}
-use Rattle.scan_windows.specs.Prints.{print}
+use Rattle.scan_windows.specs.Prints.{baseOf, print}
 use Rattle.scan_windows.proofs.PrintLaws.{print-join}
 use Rattle.scan_entries.specs.declared.Items.{Items}
 use Rattle.scan_entries.specs.Entries.{Laid, Placed, Listed, startAt, lengthAt, bytesAt, placeIn}
@@ -125,20 +125,21 @@ module _ (T out : List ℕ) (it : Items) where
       pub pair-low : it .size ≤ lengthAt T out it x
       pair-low = omega (arith, parts)
 
-      pub pair-print : (g next top n r : ℕ) → g ≡ print (bytesAt T out it (2 * i)) → next ≡ print (bytesAt T out it (2 * i + 2)) → n ≡ lengthAt T out it x
-          → top ≡ 1540483477 ^ (n - it .size) % 4294967296 → r ≡ (g * top + next) % 4294967296 → r ≡ print (bytesAt T out it x)
+      pub pair-print : (g next top n r : ℕ) → g ≡ print (it .seed) (bytesAt T out it (2 * i)) → next ≡ print (it .seed) (bytesAt T out it (2 * i + 2))
+          → n ≡ lengthAt T out it x
+          → top ≡ baseOf (it .seed) ^ (n - it .size) % 2147483647 → r ≡ (g * top + next) % 2147483647 → r ≡ print (it .seed) (bytesAt T out it x)
       unfolding bytesAt
       pair-print g next top n r eg en el et er =
           let second : n - it .size ≡ lengthAt T out it (x + 1) = omega (arith, parts) in
           let q : 2 * i + 2 ≡ x + 1 = omega arith in
-          er ∙ print-join T (startAt T out it x) (it .size) (lengthAt T out it (x + 1)) g top next
+          er ∙ print-join (it .seed) T (startAt T out it x) (it .size) (lengthAt T out it (x + 1)) g top next
           (omega (arith, p, length-high T out it o h (x + 1) (omega arith)))
-          (eg ∙ ap (λ (k : ℕ). print (stretch T k (lengthAt T out it (2 * i)))) start-first
-          ∙ ap (λ (k : ℕ). print (stretch T (startAt T out it x) k)) block-full)
-          (et ∙ ap (λ (k : ℕ). 1540483477 ^ k % 4294967296) second)
-          (en ∙ ap (λ (k : ℕ). print (stretch T (startAt T out it k) (lengthAt T out it k))) q
-          ∙ ap (λ (k : ℕ). print (stretch T k (lengthAt T out it (x + 1)))) p)
-          ∙ ap (λ (k : ℕ). print (stretch T (startAt T out it x) k)) (sym parts)
+          (eg ∙ ap (λ (k : ℕ). print (it .seed) (stretch T k (lengthAt T out it (2 * i)))) start-first
+          ∙ ap (λ (k : ℕ). print (it .seed) (stretch T (startAt T out it x) k)) block-full)
+          (et ∙ ap (λ (k : ℕ). baseOf (it .seed) ^ k % 2147483647) second)
+          (en ∙ ap (λ (k : ℕ). print (it .seed) (stretch T (startAt T out it k) (lengthAt T out it k))) q
+          ∙ ap (λ (k : ℕ). print (it .seed) (stretch T k (lengthAt T out it (x + 1)))) p)
+          ∙ ap (λ (k : ℕ). print (it .seed) (stretch T (startAt T out it x) k)) (sym parts)
 
     -- the lengths of both
     pub noted-both : (l : Lengths) (n : ℕ)
@@ -174,11 +175,11 @@ module _ (T out : List ℕ) (it : Items) where
     pub same-length : length W ≡ length W₀
     pub entrants : Entrants T out it W (2 * i)
     pub noted : Noted T out it (2 * i) l
-    pub print-is : h ≡ print (bytesAt T out it (2 * i))
+    pub print-is : h ≡ print (it .seed) (bytesAt T out it (2 * i))
     pub within : 2 * i < it .items
 
   module _ (o : Ordered T out it) (placed : Placed T out it) where
-    pub going-first : (V₀ W : List ℕ) (h : ℕ) → Laid T out it (length V₀) → Cleared V₀ W (3 * it .items) (it .heads) → h ≡ print (bytesAt T out it 0)
+    pub going-first : (V₀ W : List ℕ) (h : ℕ) → Laid T out it (length V₀) → Cleared V₀ W (3 * it .items) (it .heads) → h ≡ print (it .seed) (bytesAt T out it 0)
         → Going W W (record { block = 0; pair = 0; last = 0; ending = 0 }) h 0
     going-first V₀ W h laid c e = record {
       same-length = refl;
@@ -194,11 +195,12 @@ module _ (T out : List ℕ) (it : Items) where
         pub next-block : 2 * i + 2 < it .items
         next-block = omega (arith, o .items-are)
 
-        pub next-print : (next : ℕ) → next ≡ print (bytesAt T out it (2 * (i + 1))) → next ≡ print (bytesAt T out it (2 * i + 2))
-        next-print next e = e ∙ ap (λ (k : ℕ). print (bytesAt T out it k)) (let q : 2 * (i + 1) ≡ 2 * i + 2 = omega arith in q)
+        pub next-print : (next : ℕ) → next ≡ print (it .seed) (bytesAt T out it (2 * (i + 1))) → next ≡ print (it .seed) (bytesAt T out it (2 * i + 2))
+        next-print next e = e ∙ ap (λ (k : ℕ). print (it .seed) (bytesAt T out it k)) (let q : 2 * (i + 1) ≡ 2 * i + 2 = omega arith in q)
 
         pub going-next : (Z : List ℕ) (n next : ℕ) (l₁ l₂ : Lengths) → length Z ≡ length W → Entrants T out it Z (2 * i + 2) → PairSays T out it (2 * i + 1) n
-            → next ≡ print (bytesAt T out it (2 * (i + 1))) → l₁ ≡ notedBy l (it .size) (it .size) → l₂ ≡ notedBy l₁ (it .size) n → Going W₀ Z l₂ next (i + 1)
+            → next ≡ print (it .seed) (bytesAt T out it (2 * (i + 1))) → l₁ ≡ notedBy l (it .size) (it .size) → l₂ ≡ notedBy l₁ (it .size) n
+            → Going W₀ Z l₂ next (i + 1)
         going-next Z n next l₁ l₂ same e w en e₁ e₂ = record {
           same-length = same ∙ g .same-length;
           entrants = subst (Entrants T out it Z) (let q : 2 * i + 2 ≡ 2 * (i + 1) = omega arith in q) e;

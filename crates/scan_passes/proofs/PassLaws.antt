@@ -21,22 +21,27 @@ use Rattle.scan_passes.specs.Passes.{Ordered, Entrants, Covers, Asked, S
 use Rattle.scan_passes.proofs.ItemLengths.{length-low}
 
 -- a window that stands nowhere any more
-pub stands-still : (T : List ℕ) (n p : ℕ) (w : Window) → Standing T n p w → w .places ≤ p → Standing T n (p + 1) w
-stands-still T n p w s l = record {
+pub stands-still : (seed : ℕ) (T : List ℕ) (n p : ℕ) (w : Window) → Standing seed T n p w → w .places ≤ p + 1 → Standing seed T n (p + 1) w
+stands-still seed T n p w s l = record {
   len-is = s .len-is;
   fits = s .fits;
   few = s .few;
   places-is = s .places-is;
-  top-is = s .top-is;
+  leaving-is = s .leaving-is;
   print-is = λ m. absurd (let z : ⊥ = omega arith in z);
   looked-is = omega (arith, s .looked-is);
 }
 
-pub of-len : (T : List ℕ) (n p : ℕ) (w : Window) → Standing T n p w → Standing T (w .len) p w
-of-len T n p w s = subst (λ (k : ℕ). Standing T k p w) (sym (s .len-is)) s
+pub of-len : (seed : ℕ) (T : List ℕ) (n p : ℕ) (w : Window) → Standing seed T n p w → Standing seed T (w .len) p w
+of-len seed T n p w s = subst (λ (k : ℕ). Standing seed T k p w) (sym (s .len-is)) s
 
-pub of-same : (T : List ℕ) (n p : ℕ) (w r : Window) → Standing T n p w → Standing T (w .len) (p + 1) r → Standing T n (p + 1) r
-of-same T n p w r s t = subst (λ (k : ℕ). Standing T k (p + 1) r) (s .len-is) t
+pub of-same : (seed : ℕ) (T : List ℕ) (n p : ℕ) (w r : Window) → Standing seed T n p w → Standing seed T (w .len) (p + 1) r → Standing seed T n (p + 1) r
+of-same seed T n p w r s t = subst (λ (k : ℕ). Standing seed T k (p + 1) r) (s .len-is) t
+
+-- a window that was moved on stands at as many places
+pub still-stands : (seed : ℕ) (T : List ℕ) (n p : ℕ) (w r : Window)
+    → Standing seed T n p w → Standing seed T n (p + 1) r → p + 1 < w .places → p + 1 < r .places
+still-stands seed T n p w r s t l = omega (arith, s .places-is, t .places-is)
 
 places-most : (size n : ℕ) → n ≤ size → placesOf size n ≤ size
 places-most size n l = go (lt-or-ge 0 n)
@@ -45,21 +50,20 @@ places-most size n l = go (lt-or-ge 0 n)
     go (inl a) = omega (arith, places-some size n (λ e. omega arith))
     go (inr a) = omega (arith, places-none size n (omega arith))
 
+pub looked-few : (seed : ℕ) (T : List ℕ) (n p : ℕ) (w : Window) → Standing seed T n p w → w .looked ≤ length T
+looked-few seed T n p w s = omega (arith, s .looked-is, s .places-is, places-most (length T) n (s .fits))
+
 -- it was looked up everywhere
-pub looked-all : (T : List ℕ) (n p : ℕ) (w : Window) → Standing T n p w → length T ≤ p → w .looked ≡ placesOf (length T) n
-looked-all T n p w s l = omega (arith, s .looked-is, s .places-is, places-most (length T) n (s .fits))
+looked-of : (seed : ℕ) (T : List ℕ) (n m p : ℕ) (w : Window) → n ≡ m → Standing seed T n p w → length T ≤ p → w .looked ≡ placesOf (length T) m
+looked-of seed T n m p w e s l =
+    let a : w .looked ≡ placesOf (length T) n = omega (arith, s .looked-is, s .places-is, places-most (length T) n (s .fits)) in
+    a ∙ ap (placesOf (length T)) e
 
-pub looked-few : (T : List ℕ) (n p : ℕ) (w : Window) → Standing T n p w → w .looked ≤ length T
-looked-few T n p w s = omega (arith, s .looked-is, s .places-is, places-most (length T) n (s .fits))
-
-looked-of : (T : List ℕ) (n m p : ℕ) (w : Window) → n ≡ m → Standing T n p w → length T ≤ p → w .looked ≡ placesOf (length T) m
-looked-of T n m p w e s l = looked-all T n p w s l ∙ ap (placesOf (length T)) e
-
-pub looked-sum : (T : List ℕ) (na nb nc nd ma mb mc md p : ℕ) (a b c d : Window) → na ≡ ma → nb ≡ mb → nc ≡ mc → nd ≡ md
-    → Standing T na p a → Standing T nb p b → Standing T nc p c → Standing T nd p d → length T ≤ p
+pub looked-sum : (seed : ℕ) (T : List ℕ) (na nb nc nd ma mb mc md p : ℕ) (a b c d : Window) → na ≡ ma → nb ≡ mb → nc ≡ mc → nd ≡ md
+    → Standing seed T na p a → Standing seed T nb p b → Standing seed T nc p c → Standing seed T nd p d → length T ≤ p
     → a .looked + b .looked + c .looked + d .looked ≡ placesOf (length T) ma + placesOf (length T) mb + placesOf (length T) mc + placesOf (length T) md
-looked-sum T na nb nc nd ma mb mc md p a b c d ea eb ec ed sa sb sc sd l =
-    rw (looked-of T na ma p a ea sa l, looked-of T nb mb p b eb sb l, looked-of T nc mc p c ec sc l, looked-of T nd md p d ed sd l)
+looked-sum seed T na nb nc nd ma mb mc md p a b c d ea eb ec ed sa sb sc sd l =
+    rw (looked-of seed T na ma p a ea sa l, looked-of seed T nb mb p b eb sb l, looked-of seed T nc mc p c ec sc l, looked-of seed T nd md p d ed sd l)
 
 -- the same bytes first stand at the same place
 pub leftmost-same-bytes : (T : List ℕ) (s t n : ℕ) → stretch T s n ≡ stretch T t n → leftmost T s n ≡ leftmost T t n
@@ -77,7 +81,7 @@ module _ (T out : List ℕ) (it : Items) where
     low = a .low;
   }
 
-  module _ (W : List ℕ) (n p : ℕ) (w : Window) (a : Asked T out it W) (s : Standing T n p w) where
+  module _ (W : List ℕ) (n p : ℕ) (w : Window) (a : Asked T out it W) (s : Standing (it .seed) T n p w) where
     -- the window does not stand at p: an item of its length was found before
     pub stepped-past : w .places ≤ p → Stepped T out it W W n p
     stepped-past l = record {
@@ -96,27 +100,90 @@ module _ (T out : List ℕ) (it : Items) where
     window-asks l = record {
       laid = a .laid;
       chained = a .chained;
-      fits = within T n p w s l;
+      fits = within (it .seed) T n p w s l;
       print-is = s .print-is l;
     }
 
-    pub stepped-look : (Z : List ℕ) → Looked T out it W Z p n → Stepped T out it W Z n p
-    stepped-look Z k = record { searched = k .searched; here = k .here }
+  pub stepped-look : (W Z : List ℕ) (n p : ℕ) → Looked T out it W Z p n → Stepped T out it W Z n p
+  stepped-look W Z n p k = record { searched = k .searched; here = k .here }
 
-  -- before place p
+  -- items that are in no chain stay in none
+  listed-back : (W Z : List ℕ) → Searched T out it W Z → (x : ℕ) → x < it .items → Listed T out it Z x → Listed T out it W x
+  listed-back W Z s x xl i = go (lt-or-ge (placeIn W x) (length T))
+    where
+      go : (placeIn W x < length T) ⊎ (length T ≤ placeIn W x) → placeIn W x < length T
+      go (inl a) = a
+      go (inr u) = absurd (let z : ⊥ = omega (arith, s .others x xl u) in z)
+
+  covers-after : (W Z : List ℕ) (l : Lengths) → Searched T out it W Z → Covers T out it W l → Covers T out it Z l
+  covers-after W Z l s v = record {
+    one = λ x xl i. v .one x xl (listed-back W Z s x xl i);
+    block-in = v .block-in;
+    pair-in = v .pair-in;
+    last-in = v .last-in;
+    ending-in = v .ending-in;
+  }
+
+  -- four windows, one of each length, were looked up at q
+  module _ (l : Lengths) (q na nb nc nd : ℕ) (Z Z₁ Z₂ Z₃ Z₄ : List ℕ) (s₁ : Stepped T out it Z Z₁ na q) (s₂ : Stepped T out it Z₁ Z₂ nb q)
+      (s₃ : Stepped T out it Z₂ Z₃ nc q) (s₄ : Stepped T out it Z₃ Z₄ nd q) where
+    t₂ : Searched T out it Z Z₂
+    t₂ = searched-then T out it Z Z₁ Z₂ (s₁ .searched) (s₂ .searched)
+
+    t₃ : Searched T out it Z Z₃
+    t₃ = searched-then T out it Z Z₂ Z₃ t₂ (s₃ .searched)
+
+    pub searched-four : Searched T out it Z Z₄
+    searched-four = searched-then T out it Z Z₃ Z₄ t₃ (s₄ .searched)
+
+    module _ (ea : na ≡ l .block) (eb : nb ≡ l .pair) (ec : nc ≡ l .last) (ed : nd ≡ l .ending) (v : Covers T out it Z l)
+        (x : ℕ) (xl : x < it .items) (j : Listed T out it Z x) (f : Found T out it Z x q) where
+      by-a : lengthAt T out it x ≡ l .block → Found T out it Z₄ x (q + 1)
+      by-a en =
+          let g = s₁ .here x xl j (en ∙ sym ea) f in
+          let j₁ = s₁ .searched .listed x xl j in
+          searched-then T out it Z₁ Z₂ Z₄ (s₂ .searched) (searched-then T out it Z₂ Z₃ Z₄ (s₃ .searched) (s₄ .searched)) .found x (q + 1) xl j₁ g
+
+      by-b : lengthAt T out it x ≡ l .pair → Found T out it Z₄ x (q + 1)
+      by-b en =
+          let j₁ = s₁ .searched .listed x xl j in
+          let g = s₂ .here x xl j₁ (en ∙ sym eb) (s₁ .searched .found x q xl j f) in
+          searched-then T out it Z₂ Z₃ Z₄ (s₃ .searched) (s₄ .searched) .found x (q + 1) xl (t₂ .listed x xl j) g
+
+      by-c : lengthAt T out it x ≡ l .last → Found T out it Z₄ x (q + 1)
+      by-c en =
+          let g = s₃ .here x xl (t₂ .listed x xl j) (en ∙ sym ec) (t₂ .found x q xl j f) in
+          s₄ .searched .found x (q + 1) xl (t₃ .listed x xl j) g
+
+      by-d : lengthAt T out it x ≡ l .ending → Found T out it Z₄ x (q + 1)
+      by-d en = s₄ .here x xl (t₃ .listed x xl j) (en ∙ sym ed) (t₃ .found x q xl j f)
+
+      by-length : (lengthAt T out it x ≡ l .block)
+          ⊎ ((lengthAt T out it x ≡ l .pair) ⊎ ((lengthAt T out it x ≡ l .last) ⊎ (lengthAt T out it x ≡ l .ending))) → Found T out it Z₄ x (q + 1)
+      by-length (inl en) = by-a en
+      by-length (inr (inl en)) = by-b en
+      by-length (inr (inr (inl en))) = by-c en
+      by-length (inr (inr (inr en))) = by-d en
+
+      found-four : Found T out it Z₄ x (q + 1)
+      found-four = by-length (v .one x xl j)
+
+  -- the windows stand at p, and were looked up there and at every place before
   pub record Passing (na nb nc nd : ℕ) (W Z : List ℕ) (p : ℕ) (a b c d : Window) : Type 0 where
     pub within : p ≤ length T
     pub asked : Asked T out it Z
     pub searched : Searched T out it W Z
-    pub found : (x : ℕ) → x < it .items → Listed T out it W x → Found T out it Z x p
-    pub a-is : Standing T na p a
-    pub b-is : Standing T nb p b
-    pub c-is : Standing T nc p c
-    pub d-is : Standing T nd p d
+    pub found : (x : ℕ) → x < it .items → Listed T out it W x → Found T out it Z x (p + 1)
+    pub a-is : Standing (it .seed) T na p a
+    pub b-is : Standing (it .seed) T nb p b
+    pub c-is : Standing (it .seed) T nc p c
+    pub d-is : Standing (it .seed) T nd p d
 
-  module _ (l : Lengths) (W : List ℕ) (e : Entrants T out it W (it .items)) (o : Ordered T out it) (v : Covers T out it W l)
-      (na nb nc nd : ℕ) (ea : na ≡ l .block) (eb : nb ≡ l .pair) (ec : nc ≡ l .last) (ed : nd ≡ l .ending) where
-    first-found : (x : ℕ) → x < it .items → Listed T out it W x → Found T out it W x 0
+  module _ (l : Lengths) (U : List ℕ) (e : Entrants T out it U (it .items)) (o : Ordered T out it) (v : Covers T out it U l) where
+    pub first-asked : Asked T out it U
+    first-asked = record { laid = e .laid; chained = e .chained; low = length-low T out it o (e .laid .placed) }
+
+    first-found : (x : ℕ) → x < it .items → Listed T out it U x → Found T out it U x 0
     unfolding bytesAt
     first-found x xl i = record {
       near = omega (arith, e .own x xl i);
@@ -124,93 +191,66 @@ module _ (T out : List ℕ) (it : Items) where
       none = λ r m. absurd (let z : ⊥ = omega arith in z);
     }
 
-    pub passing-first : (a b c d : Window) → Standing T na 0 a → Standing T nb 0 b → Standing T nc 0 c → Standing T nd 0 d → Passing na nb nc nd W W 0 a b c d
-    passing-first a b c d sa sb sc sd = record {
-      within = omega arith;
-      asked = record { laid = e .laid; chained = e .chained; low = length-low T out it o (e .laid .placed) };
-      searched = searched-none T out it W;
-      found = first-found;
-      a-is = sa;
-      b-is = sb;
-      c-is = sc;
-      d-is = sd;
-    }
+    module _ (W₁ W₂ W₃ W : List ℕ) (f₁ : Stepped T out it U W₁ (l .block) 0) (f₂ : Stepped T out it W₁ W₂ (l .pair) 0)
+        (f₃ : Stepped T out it W₂ W₃ (l .last) 0) (f₄ : Stepped T out it W₃ W (l .ending) 0) where
+      pub begun : Searched T out it U W
+      begun = searched-four l 0 (l .block) (l .pair) (l .last) (l .ending) U W₁ W₂ W₃ W f₁ f₂ f₃ f₄
 
-    module _ (Z : List ℕ) (p : ℕ) (a b c d : Window) (q : Passing na nb nc nd W Z p a b c d) (more : p < length T) where
-      -- after the four look-ups
-      module _ (Z₁ Z₂ Z₃ Z₄ : List ℕ) (a′ b′ c′ d′ : Window) (s₁ : Stepped T out it Z Z₁ (a .len) p) (s₂ : Stepped T out it Z₁ Z₂ (b .len) p)
-          (s₃ : Stepped T out it Z₂ Z₃ (c .len) p) (s₄ : Stepped T out it Z₃ Z₄ (d .len) p)
-          (sa : Standing T (a .len) (p + 1) a′)
-          (sb : Standing T (b .len) (p + 1) b′) (sc : Standing T (c .len) (p + 1) c′) (sd : Standing T (d .len) (p + 1) d′) where
-        t₂ : Searched T out it Z Z₂
-        t₂ = searched-then T out it Z Z₁ Z₂ (s₁ .searched) (s₂ .searched)
+      pub passing-first : (a b c d : Window) → Standing (it .seed) T (l .block) 0 a → Standing (it .seed) T (l .pair) 0 b
+          → Standing (it .seed) T (l .last) 0 c → Standing (it .seed) T (l .ending) 0 d → Passing (a .len) (b .len) (c .len) (d .len) W W 0 a b c d
+      passing-first a b c d sa sb sc sd = record {
+        within = omega arith;
+        asked = asked-after U W begun first-asked;
+        searched = searched-none T out it W;
+        found = λ x xl i.
+            let j = listed-back U W begun x xl i in
+            found-four l 0 (l .block) (l .pair) (l .last) (l .ending) U W₁ W₂ W₃ W f₁ f₂ f₃ f₄ refl refl refl refl v x xl j (first-found x xl j);
+        a-is = of-len (it .seed) T (l .block) 0 a sa;
+        b-is = of-len (it .seed) T (l .pair) 0 b sb;
+        c-is = of-len (it .seed) T (l .last) 0 c sc;
+        d-is = of-len (it .seed) T (l .ending) 0 d sd;
+      }
 
-        t₃ : Searched T out it Z Z₃
-        t₃ = searched-then T out it Z Z₂ Z₃ t₂ (s₃ .searched)
+      module _ (na nb nc nd : ℕ) (ea : na ≡ l .block) (eb : nb ≡ l .pair) (ec : nc ≡ l .last) (ed : nd ≡ l .ending) where
+        module _ (Z : List ℕ) (p : ℕ) (a b c d : Window) (q : Passing na nb nc nd W Z p a b c d) (more : p < length T) (Z₁ Z₂ Z₃ Z₄ : List ℕ)
+            (a′ b′ c′ d′ : Window) (s₁ : Stepped T out it Z Z₁ (a .len) (p + 1)) (s₂ : Stepped T out it Z₁ Z₂ (b .len) (p + 1))
+            (s₃ : Stepped T out it Z₂ Z₃ (c .len) (p + 1)) (s₄ : Stepped T out it Z₃ Z₄ (d .len) (p + 1))
+            (sa : Standing (it .seed) T (a .len) (p + 1) a′) (sb : Standing (it .seed) T (b .len) (p + 1) b′)
+            (sc : Standing (it .seed) T (c .len) (p + 1) c′) (sd : Standing (it .seed) T (d .len) (p + 1) d′) where
+          onward : Searched T out it Z Z₄
+          onward = searched-four l (p + 1) (a .len) (b .len) (c .len) (d .len) Z Z₁ Z₂ Z₃ Z₄ s₁ s₂ s₃ s₄
 
-        t₄ : Searched T out it Z Z₄
-        t₄ = searched-then T out it Z Z₃ Z₄ t₃ (s₄ .searched)
+          covered : Covers T out it Z l
+          covered = covers-after U Z l (searched-then T out it U W Z begun (q .searched)) v
 
-        module _ (x : ℕ) (xl : x < it .items) (i : Listed T out it W x) where
-          j : Listed T out it Z x
-          j = q .searched .listed x xl i
+          pub passing-next : Passing na nb nc nd W Z₄ (p + 1) a′ b′ c′ d′
+          passing-next = record {
+            within = omega arith;
+            asked = asked-after Z Z₄ onward (q .asked);
+            searched = searched-then T out it W Z Z₄ (q .searched) onward;
+            found = λ x xl i. found-four l (p + 1) (a .len) (b .len) (c .len) (d .len) Z Z₁ Z₂ Z₃ Z₄ s₁ s₂ s₃ s₄
+                (q .a-is .len-is ∙ ea) (q .b-is .len-is ∙ eb) (q .c-is .len-is ∙ ec) (q .d-is .len-is ∙ ed)
+                covered x xl (q .searched .listed x xl i) (q .found x xl i);
+            a-is = of-same (it .seed) T na p a a′ (q .a-is) sa;
+            b-is = of-same (it .seed) T nb p b b′ (q .b-is) sb;
+            c-is = of-same (it .seed) T nc p c c′ (q .c-is) sc;
+            d-is = of-same (it .seed) T nd p d d′ (q .d-is) sd;
+          }
 
-          f : Found T out it Z x p
-          f = q .found x xl i
-
-          by-a : lengthAt T out it x ≡ l .block → Found T out it Z₄ x (p + 1)
-          by-a en =
-              let g = s₁ .here x xl j (en ∙ sym ea ∙ sym (q .a-is .len-is)) f in
-              let j₁ = s₁ .searched .listed x xl j in
-              searched-then T out it Z₁ Z₂ Z₄ (s₂ .searched) (searched-then T out it Z₂ Z₃ Z₄ (s₃ .searched) (s₄ .searched)) .found x (p + 1) xl j₁ g
-
-          by-b : lengthAt T out it x ≡ l .pair → Found T out it Z₄ x (p + 1)
-          by-b en =
-              let j₁ = s₁ .searched .listed x xl j in
-              let g = s₂ .here x xl j₁ (en ∙ sym eb ∙ sym (q .b-is .len-is)) (s₁ .searched .found x p xl j f) in
-              searched-then T out it Z₂ Z₃ Z₄ (s₃ .searched) (s₄ .searched) .found x (p + 1) xl (t₂ .listed x xl j) g
-
-          by-c : lengthAt T out it x ≡ l .last → Found T out it Z₄ x (p + 1)
-          by-c en =
-              let g = s₃ .here x xl (t₂ .listed x xl j) (en ∙ sym ec ∙ sym (q .c-is .len-is)) (t₂ .found x p xl j f) in
-              s₄ .searched .found x (p + 1) xl (t₃ .listed x xl j) g
-
-          by-d : lengthAt T out it x ≡ l .ending → Found T out it Z₄ x (p + 1)
-          by-d en = s₄ .here x xl (t₃ .listed x xl j) (en ∙ sym ed ∙ sym (q .d-is .len-is)) (t₃ .found x p xl j f)
-
-          by-length : (lengthAt T out it x ≡ l .block)
-              ⊎ ((lengthAt T out it x ≡ l .pair) ⊎ ((lengthAt T out it x ≡ l .last) ⊎ (lengthAt T out it x ≡ l .ending))) → Found T out it Z₄ x (p + 1)
-          by-length (inl en) = by-a en
-          by-length (inr (inl en)) = by-b en
-          by-length (inr (inr (inl en))) = by-c en
-          by-length (inr (inr (inr en))) = by-d en
-
-        pub passing-next : Passing na nb nc nd W Z₄ (p + 1) a′ b′ c′ d′
-        passing-next = record {
-          within = omega arith;
-          asked = asked-after Z Z₄ t₄ (q .asked);
-          searched = searched-then T out it W Z Z₄ (q .searched) t₄;
-          found = λ x xl i. by-length x xl i (v .one x xl i);
-          a-is = of-same T na p a a′ (q .a-is) sa;
-          b-is = of-same T nb p b b′ (q .b-is) sb;
-          c-is = of-same T nc p c c′ (q .c-is) sc;
-          d-is = of-same T nd p d d′ (q .d-is) sd;
+        -- the pass is over
+        pub passing-over : (Z : List ℕ) (p : ℕ) (a b c d : Window) → Passing na nb nc nd W Z p a b c d → length T ≤ p → Passed T out it U Z
+        unfolding bytesAt
+        passing-over Z p a b c d q over = record {
+          searched = searched-then T out it U W Z begun (q .searched);
+          found = λ x xl i.
+              let f = q .found x xl (begun .listed x xl i) in
+              let s = startAt T out it x in
+              let n = lengthAt T out it x in
+              go (placeIn Z x) s n (f .same) (λ r m e. f .none r (omega (arith, f .near, e .0, q .asked .laid .placed .within x xl)) (e .0) (e .1))
+              (lt-or-ge (leftmost T s n) (placeIn Z x));
         }
-
-    -- the pass is over
-    pub passing-over : (Z : List ℕ) (p : ℕ) (a b c d : Window) → Passing na nb nc nd W Z p a b c d → length T ≤ p → Passed T out it W Z
-    unfolding bytesAt
-    passing-over Z p a b c d q over = record {
-      searched = q .searched;
-      found = λ x xl i.
-          let f = q .found x xl i in
-          let s = startAt T out it x in
-          let n = lengthAt T out it x in
-          go (placeIn Z x) s n (f .same) (λ r m e. f .none r (omega (arith, f .near, e .0, q .asked .laid .placed .within x xl)) (e .0) (e .1))
-          (lt-or-ge (leftmost T s n) (placeIn Z x));
-    }
-      where
-        go : (place s n : ℕ) → stretch T place n ≡ stretch T s n → ((r : ℕ) → (r ≡ r) → (r < place) × (stretch T r n ≡ stretch T s n) → ⊥)
-            → (leftmost T s n < place) ⊎ (place ≤ leftmost T s n) → place ≡ leftmost T s n
-        go place s n same none (inl a) = absurd (none (leftmost T s n) refl (a, leftmost-same T s n))
-        go place s n same none (inr a) = omega (arith, leftmost-first T s n place same)
+          where
+            go : (place s n : ℕ) → stretch T place n ≡ stretch T s n → ((r : ℕ) → (r ≡ r) → (r < place) × (stretch T r n ≡ stretch T s n) → ⊥)
+                → (leftmost T s n < place) ⊎ (place ≤ leftmost T s n) → place ≡ leftmost T s n
+            go place s n same none (inl a) = absurd (none (leftmost T s n) refl (a, leftmost-same T s n))
+            go place s n same none (inr a) = omega (arith, leftmost-first T s n place same)

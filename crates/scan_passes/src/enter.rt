@@ -8,7 +8,7 @@ ghost use mathlib.Core.Path.{_≡_};
 ghost use Prim.Native.Nat.{_+_, _-_, _*_, _%_, _^_, _≤_, _<_};
 ghost use lib.ListN.{length};
 ghost use Rattle.format.specs.Settings.{maxText};
-ghost use Rattle.scan_windows.specs.Prints.{print};
+ghost use Rattle.scan_windows.specs.Prints.{baseOf, print};
 ghost use Rattle.scan_entries.specs.Entries.{Laid, Placed, bytesAt};
 ghost use Rattle.scan_entries.specs.ItemsEntered.{Turn};
 ghost use Rattle.scan_passes.specs.Passes.{Ordered, Entrants, Noted, notedBy, Took, PairSays};
@@ -63,21 +63,21 @@ fn noted(l: Lengths, size: u32, n: u32) -> Lengths
 // The fingerprint of block i.
 fn block_print(text: &[u8], out: &[u8], it: Items, i: BlockNumber) -> u32
     requires { ⌜ Placed (now text) (now out) it × (2 * i .0 < it .items) ⌝ }
-    ensures { λ r. ⌜ r ≡ print (bytesAt (now (text .entry)) (now (out .entry)) it (2 * i .0)) ⌝ }
+    ensures { λ r. ⌜ r ≡ print (it .seed) (bytesAt (now (text .entry)) (now (out .entry)) it (2 * i .0)) ⌝ }
 {
     let own = item::run_of(text, out, it, 2 * i.0);
-    scan_windows::fingerprint_at(text, own.start, own.length)
+    scan_windows::fingerprint_at(it.seed, text, own.start, own.length)
 }
 
 // The power of the base that the second block of a pair of n bytes gives; `top` is that of a full block.
-fn pair_power(n: u32, size: u32, top: u32) -> u32
-    requires { ⌜ (size ≤ n) × (size ≤ maxText) × (top ≡ 1540483477 ^ size % 4294967296) ⌝ }
-    ensures { λ r. ⌜ r ≡ 1540483477 ^ (n - size) % 4294967296 ⌝ }
+fn pair_power(seed: u32, n: u32, size: u32, top: u32) -> u32
+    requires { ⌜ (size ≤ n) × (size ≤ maxText) × (top ≡ baseOf seed ^ size % 2147483647) ⌝ }
+    ensures { λ r. ⌜ r ≡ baseOf seed ^ (n - size) % 2147483647 ⌝ }
 {
     if n == size + size {
         return top;
     }
-    scan_windows::power(n - size)
+    scan_windows::power(seed, n - size)
 }
 
 // Enters the pair of blocks i and i + 1, where they are one; its length, 0 where they are none.
@@ -90,8 +90,9 @@ fn enter_pair(
     both: Prints,
 ) -> u32
     requires { ⌜ Turn (now text) (now out) it (now words) (2 * i .0 + 1) × Ordered (now text) (now out) it × (2 * i .0 + 2 < it .items) ⌝ }
-    requires { ⌜ (both .own ≡ print (bytesAt (now text) (now out) it (2 * i .0))) × (both .next ≡ print (bytesAt (now text) (now out) it (2 * i .0 + 2)))
-        × (both .top ≡ 1540483477 ^ it .size % 4294967296) ⌝ }
+    requires { ⌜ (both .own ≡ print (it .seed) (bytesAt (now text) (now out) it (2 * i .0)))
+        × (both .next ≡ print (it .seed) (bytesAt (now text) (now out) it (2 * i .0 + 2)))
+        × (both .top ≡ baseOf (it .seed) ^ it .size % 2147483647) ⌝ }
     ensures { λ _. ⌜ Took (now (text .entry)) (now (out .entry)) it (now (words .entry)) (now (words .exit)) (2 * i .0 + 1) ⌝ }
     ensures { λ r. ⌜ PairSays (now (text .entry)) (now (out .entry)) it (2 * i .0 + 1) r ⌝ }
 {
@@ -102,7 +103,7 @@ fn enter_pair(
         entry::skip(words, text, out, it, x);
         return 0;
     }
-    let power = pair_power(own.length, it.size, both.top);
+    let power = pair_power(it.seed, own.length, it.size, both.top);
     entry::enter(
         words,
         text,
@@ -124,8 +125,9 @@ fn enter_both(
     both: Prints,
 ) -> u32
     requires { ⌜ Entrants (now text) (now out) it (now words) (2 * i .0) × Ordered (now text) (now out) it × (2 * i .0 + 2 < it .items) ⌝ }
-    requires { ⌜ (both .own ≡ print (bytesAt (now text) (now out) it (2 * i .0))) × (both .next ≡ print (bytesAt (now text) (now out) it (2 * i .0 + 2)))
-        × (both .top ≡ 1540483477 ^ it .size % 4294967296) ⌝ }
+    requires { ⌜ (both .own ≡ print (it .seed) (bytesAt (now text) (now out) it (2 * i .0)))
+        × (both .next ≡ print (it .seed) (bytesAt (now text) (now out) it (2 * i .0 + 2)))
+        × (both .top ≡ baseOf (it .seed) ^ it .size % 2147483647) ⌝ }
     ensures { λ _. ⌜ Entrants (now (text .entry)) (now (out .entry)) it (now (words .exit)) (2 * i .0 + 2) ⌝ }
     ensures { λ r. ⌜ PairSays (now (text .entry)) (now (out .entry)) it (2 * i .0 + 1) r ⌝ }
 {
@@ -140,7 +142,7 @@ pub fn enter_level(words: &mut [u32], text: &[u8], out: &[u8], it: Items) -> Len
         × Noted (now (text .entry)) (now (out .entry)) it (it .items) r ⌝ }
 {
     entry::clear(words, 3 * it.items as usize, it.heads as usize);
-    let top = scan_windows::power(it.size);
+    let top = scan_windows::power(it.seed, it.size);
     let mut l = Lengths {
         block: 0,
         pair: 0,

@@ -3,30 +3,53 @@ use crate::Lengths;
 use scan_entries::Items;
 use scan_entries::Probe;
 use scan_entries::lookup;
+use scan_windows::ByteAt;
 use scan_windows::Window;
 use text::TextPlace;
 ghost use mathlib.Core.Path.{_≡_};
-ghost use Prim.Native.Nat.{_+_, _<_};
-ghost use lib.ListN.{length};
+ghost use Prim.Native.Nat.{_+_, _≤_, _<_};
+ghost use lib.ListN.{length, getD};
 ghost use Rattle.scan_windows.specs.Windows.{Standing, placesOf};
 ghost use Rattle.scan_passes.specs.Passes.{Asked, Stepped, Covers, Passed, Entrants, Ordered};
 
-// Looks a window up at p, where it stands there, and moves it on.
-fn step(words: &mut [u32], text: &[u8], out: &[u8], it: Items, w: Window, p: TextPlace) -> Window
-    requires { ⌜ Asked (now text) (now out) it (now words) × Standing (now text) (w .len) (p .0) w × (p .0 < length (now text)) ⌝ }
-    ensures { λ r. ⌜ Standing (now (text .entry)) (w .len) (p .0 + 1) r ⌝ }
-    ensures { λ _. ⌜ Stepped (now (text .entry)) (now (out .entry)) it (now (words .entry)) (now (words .exit)) (w .len) (p .0) ⌝ }
+// The window of n bytes at the text's start, looked up there where it stands.
+fn first(words: &mut [u32], text: &[u8], out: &[u8], it: Items, n: u32) -> Window
+    requires { ⌜ Asked (now text) (now out) it (now words) × (n ≤ length (now text)) ⌝ }
+    ensures { λ r. ⌜ Standing (it .seed) (now (text .entry)) n 0 r ⌝ }
+    ensures { λ _. ⌜ Stepped (now (text .entry)) (now (out .entry)) it (now (words .entry)) (now (words .exit)) n 0 ⌝ }
 {
-    if w.places <= p.0 {
+    let w = scan_windows::opened(it.seed, text, n);
+    if w.places == 0 {
         return w;
     }
-    let here = Probe {
+    let start = Probe {
         print: w.print,
-        start: p,
+        start: TextPlace(0),
+        length: n,
+    };
+    lookup::look(words, text, out, it, start);
+    w
+}
+
+// Moves a window on, as far as it can be, and looks it up there. It moves first: the next place is then compared with the places once.
+fn step(words: &mut [u32], text: &[u8], out: &[u8], it: Items, w: Window, here: ByteAt) -> Window
+    requires { ⌜ Asked (now text) (now out) it (now words) × Standing (it .seed) (now text) (w .len) (here .place .0) w
+        × (here .place .0 < length (now text)) × (here .byte ≡ getD (now text) (here .place .0) 0) ⌝ }
+    ensures { λ r. ⌜ Standing (it .seed) (now (text .entry)) (w .len) (here .place .0 + 1) r ⌝ }
+    ensures { λ _. ⌜ Stepped (now (text .entry)) (now (out .entry)) it (now (words .entry)) (now (words .exit)) (w .len) (here .place .0 + 1) ⌝ }
+{
+    let p = here.place.0 + 1;
+    if w.places <= p {
+        return w;
+    }
+    let next = scan_windows::moved(it.seed, text, w, here);
+    let probe = Probe {
+        print: next.print,
+        start: TextPlace(p),
         length: w.len,
     };
-    lookup::look(words, text, out, it, here);
-    scan_windows::looked(text, w, p)
+    lookup::look(words, text, out, it, probe);
+    next
 }
 
 // Passes once over the text, with a window of each length, and answers how many were looked up.
@@ -36,16 +59,21 @@ pub fn pass(words: &mut [u32], text: &[u8], out: &[u8], it: Items, l: Lengths) -
     ensures { λ r. ⌜ r ≡ placesOf (length (now (text .entry))) (l .block) + placesOf (length (now (text .entry))) (l .pair)
         + placesOf (length (now (text .entry))) (l .last) + placesOf (length (now (text .entry))) (l .ending) ⌝ }
 {
-    let mut a = scan_windows::opened(text, l.block);
-    let mut b = scan_windows::opened(text, l.pair);
-    let mut c = scan_windows::opened(text, l.last);
-    let mut d = scan_windows::opened(text, l.ending);
+    let mut a = first(words, text, out, it, l.block);
+    let mut b = first(words, text, out, it, l.pair);
+    let mut c = first(words, text, out, it, l.last);
+    let mut d = first(words, text, out, it, l.ending);
     let mut p: u32 = 0;
     while p < text.len() as u32 {
-        a = step(words, text, out, it, a, TextPlace(p));
-        b = step(words, text, out, it, b, TextPlace(p));
-        c = step(words, text, out, it, c, TextPlace(p));
-        d = step(words, text, out, it, d, TextPlace(p));
+        let place = TextPlace(p);
+        let here = ByteAt {
+            place,
+            byte: text[p as usize],
+        };
+        a = step(words, text, out, it, a, here);
+        b = step(words, text, out, it, b, here);
+        c = step(words, text, out, it, c, here);
+        d = step(words, text, out, it, d, here);
         p += 1;
     }
     a.looked + b.looked + c.looked + d.looked

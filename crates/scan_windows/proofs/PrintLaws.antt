@@ -1,35 +1,43 @@
--- Fingerprints of stretches: one byte more, a window moved on, two stretches joined.
+-- Fingerprints of stretches: bytes more, a window moved on, two stretches joined.
 use mathlib.Core.List.{List, [], _∷_, _++_}
-use mathlib.Core.Path.{_≡_, refl, sym, ap, _∙_}
-use Prim.Native.Nat.{ℕ, suc, _+_, _-_, _*_, _%_, _^_, _≤_, _<_}
+use mathlib.Core.Path.{_≡_, refl, sym, ap, ap₂, _∙_}
+use Prim.Native.Nat.{ℕ, suc, _+_, _-_, _*_, _/_, _%_, _^_, _≤_, _<_}
 use native.Mathlib.Omega.{arith}
-use native.Mathlib.Nat.{mod-add-mod, add-mod-mod, mul-comm, mul-assoc, add-mul, mul-le-mul, pow-zero, pow-suc, zero-mul}
+use native.Mathlib.Numerals.{add-one}
+use native.Mathlib.Nat.{mod-lt, mod-eq-of-lt, mod-add-div, mod-add-mod, add-mod-mod, add-mul-mod-self-left}
+use native.Mathlib.Nat.{mul-comm, mul-assoc, add-mul, mul-le-mul, pow-zero, pow-suc, zero-mul, add-zero}
 use lib.ListN.{length, take, getD}
+use lib.Seq.{take-suc, drop-cons}
 use Rattle.text.specs.Text.{stretch}
 use Rattle.text.specs.TextLaws.{stretch-add, length-stretch}
-use Rattle.search.specs.Fingers.{digits, finger}
-use Rattle.search.proofs.FingerLaws.{finger-nil, finger-push, finger-roll, finger-below}
-use Rattle.search.proofs.Modulo.{mul-mod, power-more}
-use Rattle.scan_windows.specs.Prints.{print}
-
-abbrev pub base : ℕ
-base = 1540483477
+use Rattle.search.specs.Fingers.{digits}
+use Rattle.search.proofs.Modulo.{mul-mod, cancel, added, power-more}
+use Rattle.scan_windows.specs.Prints.{baseOf, print}
 
 abbrev pub modulus : ℕ
-modulus = 4294967296
+modulus = 2147483647
 
-pub print-nil : 0 ≡ print []
-unfolding print
-print-nil = finger-nil base modulus (omega arith)
+pub base-below : (seed : ℕ) → baseOf seed < 1073741824
+base-below seed = mod-lt seed (omega arith)
 
-pub print-push : (s : List ℕ) (i h : ℕ) → i < length s → h ≡ print (take i s) → (h * base + getD s i 0) % modulus ≡ print (take (i + 1) s)
-unfolding print
-print-push s i h l e = finger-push base modulus s i h l e
+pub remainder-below : (x r : ℕ) → r ≡ x % modulus → r < modulus
+remainder-below x r e = omega (arith, e, mod-lt x {m = modulus} (omega arith))
 
-pub print-roll : (T : List ℕ) (p n h t x out : ℕ) → p + n < length T → t < modulus → out < 256 → h ≡ print (stretch T p n) → t ≡ base ^ n % modulus
-    → out ≡ getD T p 0 → x ≡ getD T (p + n) 0 → (h * base + x + (255 * modulus - t * out)) % modulus ≡ print (stretch T (p + 1) n)
-unfolding print
-print-roll T p n h t x out l lt lo eh et eo ex = finger-roll base modulus T p n h t x out l lt lo eh et eo ex
+-- remainders of sums and products
+same-product : (a c b q : ℕ) → a % q ≡ c % q → a * b % q ≡ c * b % q
+same-product a c b q e = sym (mul-mod a b q) ∙ ap (λ (y : ℕ). y * b % q) e ∙ mul-mod c b q
+
+same-sum : (a c x q : ℕ) → a % q ≡ c % q → (a + x) % q ≡ (c + x) % q
+same-sum a c x q e = sym (mod-add-mod a q x) ∙ ap (λ (y : ℕ). (y + x) % q) e ∙ mod-add-mod c q x
+
+sum-more : (a c t w o q : ℕ) → a % q ≡ c % q → t ≡ w % q → (a + t * o) % q ≡ (c + w * o) % q
+sum-more a c t w o q e f = added a t w o q f ∙ same-sum a c (w * o) q e
+
+-- 2^31 has the remainder 1
+pub fold-same : (x : ℕ) → (x % 2147483648 + x / 2147483648) % 2147483647 ≡ x % 2147483647
+fold-same x =
+    let e : x % 2147483648 + x / 2147483648 + 2147483647 * (x / 2147483648) ≡ x = omega (arith, mod-add-div x 2147483648) in
+    sym (add-mul-mod-self-left (x % 2147483648 + x / 2147483648) 2147483647 (x / 2147483648)) ∙ ap (λ (y : ℕ). y % 2147483647) e
 
 -- digits of two lists, one after the other
 digits-append : (b a : ℕ) (s t : List ℕ) → digits b a (s ++ t) ≡ digits b (digits b a s) t
@@ -46,39 +54,210 @@ digits-lift b k (x ∷ s) =
     digits-lift b (k * b + x) s
     ∙ omega (arith, e, add-mul (k * b) x (b ^ length s), ap (λ (y : ℕ). digits b y s) z, digits-lift b x s)
 
--- the fingerprint of two stretches, one after the other
-pub print-join : (T : List ℕ) (p a n h t g : ℕ) → p + a + n ≤ length T → h ≡ print (stretch T p a) → t ≡ base ^ n % modulus → g ≡ print (stretch T (p + a) n)
-    → (h * t + g) % modulus ≡ print (stretch T p (a + n))
-unfolding print finger
-print-join T p a n h t g fits eh et eg =
-    let u = stretch T p a in
-    let v = stretch T (p + a) n in
-    let len : length v ≡ n = length-stretch T (p + a) n fits in
-    let whole : digits base 0 (stretch T p (a + n)) ≡ digits base 0 u * base ^ n + digits base 0 v =
-    ap (digits base 0) (stretch-add T p a n) ∙ digits-append base 0 u v ∙ digits-lift base (digits base 0 u) v
-    ∙ ap (λ (k : ℕ). digits base 0 u * base ^ k + digits base 0 v) len in
-    let first : h * t % modulus ≡ digits base 0 u * base ^ n % modulus =
-    ap (λ (y : ℕ). y * t % modulus) eh ∙ mul-mod (digits base 0 u) t modulus
-    ∙ ap (λ (y : ℕ). y % modulus) (mul-comm (digits base 0 u) t)
-    ∙ ap (λ (y : ℕ). y * digits base 0 u % modulus) et ∙ mul-mod (base ^ n) (digits base 0 u) modulus
-    ∙ ap (λ (y : ℕ). y % modulus) (mul-comm (base ^ n) (digits base 0 u)) in
-    sym (mod-add-mod (h * t) modulus g)
-    ∙ ap (λ (y : ℕ). (y + g) % modulus) first
-    ∙ mod-add-mod (digits base 0 u * base ^ n) modulus g
-    ∙ ap (λ (y : ℕ). (digits base 0 u * base ^ n + y) % modulus) eg
-    ∙ add-mod-mod (digits base 0 u * base ^ n) (digits base 0 v) modulus
-    ∙ ap (λ (y : ℕ). y % modulus) (sym whole)
+digits-last : (b a : ℕ) (s : List ℕ) (y : ℕ) → digits b a (s ++ (y ∷ [])) ≡ digits b a s * b + y
+unfolding digits
+digits-last b a s y = digits-append b a s (y ∷ [])
 
-pub power-next : (w i : ℕ) → w ≡ base ^ i % modulus → w * base % modulus ≡ base ^ (i + 1) % modulus
-power-next w i e = power-more w base i modulus e
+one-byte : (T : List ℕ) (p : ℕ) → p < length T → stretch T p 1 ≡ getD T p 0 ∷ []
+unfolding stretch
+one-byte T p l = ap (take 1) (drop-cons T p 0 l)
 
--- products of words
+module _ (seed : ℕ) where
+  abbrev b : ℕ
+  b = baseOf seed
+
+  pub print-nil : 0 % modulus ≡ print seed []
+  unfolding print digits
+  print-nil = ap (λ (y : ℕ). y % modulus) (sym (zero-mul b))
+
+  pub print-none : (s : List ℕ) → 0 % modulus ≡ print seed (take 0 s)
+  print-none s = print-nil
+
+  pub print-below : (s : List ℕ) → print seed s < modulus
+  unfolding print
+  print-below s = mod-lt (digits b 0 s * b) (omega arith)
+
+  pub is-print-below : (s : List ℕ) (h : ℕ) → h ≡ print seed s → h < modulus
+  is-print-below s h e = omega (arith, e, print-below s)
+
+  -- one byte more
+  pub print-push : (s : List ℕ) (i j h x : ℕ) → i < length s → j ≡ i + 1 → x ≡ getD s i 0 → h % modulus ≡ print seed (take i s)
+      → (h + x) * b % modulus ≡ print seed (take j s)
+  unfolding print
+  print-push s i j h x l ej ex e =
+      same-product (h + x) (digits b 0 (take i s) * b + x) b modulus (same-sum h (digits b 0 (take i s) * b) x modulus e)
+      ∙ ap (λ (y : ℕ). (digits b 0 (take i s) * b + y) * b % modulus) ex
+      ∙ ap (λ (y : ℕ). y * b % modulus) (sym (digits-last b 0 (take i s) (getD s i 0)))
+      ∙ ap (λ (l : List ℕ). digits b 0 l * b % modulus) (sym (ap (λ (k : ℕ). take k s) (ej ∙ add-one i) ∙ take-suc s i 0 l))
+
+  -- four bytes more
+  module _ (h a₁ a₂ a₃ a₄ : ℕ) where
+    abbrev h₁ : ℕ
+    h₁ = (h + a₁) * b
+
+    abbrev h₂ : ℕ
+    h₂ = (h₁ + a₂) * b
+
+    abbrev h₃ : ℕ
+    h₃ = (h₂ + a₃) * b
+
+    abbrev h₄ : ℕ
+    h₄ = (h₃ + a₄) * b
+
+    two-factors : (y : ℕ) → b * b * y ≡ y * b * b
+    two-factors y = mul-comm (b * b) y ∙ sym (mul-assoc y b b)
+
+    three-factors : (y : ℕ) → b * b * b * y ≡ y * b * b * b
+    three-factors y = mul-comm (b * b * b) y ∙ sym (mul-assoc y (b * b) b) ∙ ap (λ (z : ℕ). z * b) (sym (mul-assoc y b b))
+
+    four-factors : (y : ℕ) → b * b * b * b * y ≡ y * b * b * b * b
+    four-factors y =
+        mul-comm (b * b * b * b) y ∙ sym (mul-assoc y (b * b * b) b)
+        ∙ ap (λ (z : ℕ). z * b) (sym (mul-assoc y (b * b) b) ∙ ap (λ (z : ℕ). z * b) (sym (mul-assoc y b b)))
+
+    spread : b * b * b * b * (h + a₁) + b * b * b * a₂ + b * b * a₃ + b * a₄ ≡ h₄
+    spread =
+        let u : ℕ = h + a₁ in
+        let e₂ : h₂ ≡ u * b * b + a₂ * b = add-mul (u * b) a₂ b in
+        let e₃ : h₃ ≡ u * b * b * b + a₂ * b * b + a₃ * b =
+        add-mul h₂ a₃ b ∙ ap (λ (z : ℕ). z + a₃ * b) (ap (λ (z : ℕ). z * b) e₂ ∙ add-mul (u * b * b) (a₂ * b) b) in
+        let e₄ : h₄ ≡ u * b * b * b * b + a₂ * b * b * b + a₃ * b * b + a₄ * b =
+        add-mul h₃ a₄ b ∙ ap (λ (z : ℕ). z + a₄ * b) (ap (λ (z : ℕ). z * b) e₃ ∙ add-mul (u * b * b * b + a₂ * b * b) (a₃ * b) b
+        ∙ ap (λ (z : ℕ). z + a₃ * b * b) (add-mul (u * b * b * b) (a₂ * b * b) b)) in
+        ap₂ _+_ (ap₂ _+_ (ap₂ _+_ (four-factors u) (three-factors a₂)) (two-factors a₃)) (mul-comm b a₄) ∙ sym e₄
+
+    -- with powers of the base modulo the modulus
+    pub four-steps : (t₁ t₂ t₃ t₄ : ℕ) → t₁ ≡ b → t₂ ≡ b * b % modulus → t₃ ≡ b * b * b % modulus → t₄ ≡ b * b * b * b % modulus
+        → (t₄ * (h + a₁) + t₃ * a₂ + t₂ * a₃ + t₁ * a₄) % modulus ≡ h₄ % modulus
+    four-steps t₁ t₂ t₃ t₄ e₁ e₂ e₃ e₄ =
+        let u : ℕ = h + a₁ in
+        let s₁ : t₄ * u % modulus ≡ b * b * b * b * u % modulus = ap (λ (z : ℕ). z * u % modulus) e₄ ∙ mul-mod (b * b * b * b) u modulus in
+        let s₂ = sum-more (t₄ * u) (b * b * b * b * u) t₃ (b * b * b) a₂ modulus s₁ e₃ in
+        let s₃ = sum-more (t₄ * u + t₃ * a₂) (b * b * b * b * u + b * b * b * a₂) t₂ (b * b) a₃ modulus s₂ e₂ in
+        let o : t₁ ≡ b % modulus = e₁ ∙ sym (mod-eq-of-lt {n = b} {m = modulus} (omega (arith, base-below seed))) in
+        sum-more (t₄ * u + t₃ * a₂ + t₂ * a₃) (b * b * b * b * u + b * b * b * a₂ + b * b * a₃) t₁ b a₄ modulus s₃ o
+        ∙ ap (λ (z : ℕ). z % modulus) spread
+
+  pub print-four : (s : List ℕ) (i h a₁ a₂ a₃ a₄ r : ℕ) → i + 4 ≤ length s
+      → a₁ ≡ getD s i 0 → a₂ ≡ getD s (i + 1) 0 → a₃ ≡ getD s (i + 2) 0 → a₄ ≡ getD s (i + 3) 0
+      → h % modulus ≡ print seed (take i s) → r % modulus ≡ h₄ h a₁ a₂ a₃ a₄ % modulus → r % modulus ≡ print seed (take (i + 4) s)
+  print-four s i h a₁ a₂ a₃ a₄ r l x₁ x₂ x₃ x₄ e er =
+      let p₁ = print-push s i (i + 1) h a₁ (omega arith) refl x₁ e in
+      let p₂ = print-push s (i + 1) (i + 2) (h₁ h a₁ a₂ a₃ a₄) a₂ (omega arith) (omega arith) x₂ p₁ in
+      let p₃ = print-push s (i + 2) (i + 3) (h₂ h a₁ a₂ a₃ a₄) a₃ (omega arith) (omega arith) x₃ p₂ in
+      er ∙ print-push s (i + 3) (i + 4) (h₃ h a₁ a₂ a₃ a₄) a₄ (omega arith) (omega arith) x₄ p₃
+
+  -- a window moved on
+  module _ (T : List ℕ) (p n : ℕ) (l : p + n < length T) where
+    abbrev here : ℕ
+    here = digits b 0 (stretch T p n)
+
+    abbrev next : ℕ
+    next = digits b 0 (stretch T (p + 1) n)
+
+    entered : digits b 0 (stretch T p (n + 1)) ≡ here * b + getD T (p + n) 0
+    entered =
+        ap (digits b 0) (stretch-add T p n 1 ∙ ap (λ (s : List ℕ). stretch T p n ++ s) (one-byte T (p + n) l))
+        ∙ digits-last b 0 (stretch T p n) (getD T (p + n) 0)
+
+    left-out : digits b 0 (stretch T p (1 + n)) ≡ getD T p 0 * b ^ n + next
+    unfolding digits
+    left-out =
+        let z : 0 * b + getD T p 0 ≡ getD T p 0 = omega (arith, zero-mul b) in
+        ap (digits b 0) (stretch-add T p 1 n ∙ ap (λ (s : List ℕ). s ++ stretch T (p + 1) n) (one-byte T p (omega arith)))
+        ∙ digits-lift b (0 * b + getD T p 0) (stretch T (p + 1) n)
+        ∙ ap₂ (λ (x k : ℕ). x * b ^ k + next) z (length-stretch T (p + 1) n (omega arith))
+
+    one-step : (here * b + getD T (p + n) 0) * b ≡ next * b + b ^ (n + 1) * getD T p 0
+    one-step =
+        let e : n + 1 ≡ 1 + n = omega arith in
+        let o : ℕ = getD T p 0 in
+        let w : b ^ (n + 1) * o ≡ o * b ^ n * b =
+        ap (λ (k : ℕ). b ^ k * o) (add-one n) ∙ ap (λ (k : ℕ). k * o) (pow-suc b n) ∙ mul-comm (b ^ n * b) o ∙ sym (mul-assoc o (b ^ n) b) in
+        let d : (o * b ^ n + next) * b ≡ o * b ^ n * b + next * b = add-mul (o * b ^ n) next b in
+        ap (λ (z : ℕ). z * b) (sym entered ∙ ap (λ (k : ℕ). digits b 0 (stretch T p k)) e ∙ left-out) ∙ omega (arith, w, d)
+
+    pub print-roll : (h t x out : ℕ) → h ≡ print seed (stretch T p n) → t ≡ b ^ (n + 1) % modulus → out ≡ getD T p 0 → x ≡ getD T (p + n) 0
+        → ((h + x) * b + out * (modulus - t)) % modulus ≡ print seed (stretch T (p + 1) n)
+    unfolding print
+    print-roll h t x out eh et eo ex =
+        let lt : t < modulus = omega (arith, et, mod-lt (b ^ (n + 1)) {m = modulus} (omega arith)) in
+        let q : modulus - t + t ≡ modulus = omega arith in
+        let d : modulus * out ≡ out * (modulus - t) + t * out =
+        ap (λ (z : ℕ). z * out) (sym q) ∙ add-mul (modulus - t) t out ∙ ap (λ (z : ℕ). z + t * out) (mul-comm (modulus - t) out) in
+        let s : (h + x) * b + out * (modulus - t) + t * out ≡ (h + x) * b + modulus * out = omega (arith, d) in
+        let r : h % modulus ≡ here * b % modulus =
+        ap (λ (z : ℕ). z % modulus) eh ∙ mod-eq-of-lt {n = here * b % modulus} {m = modulus} (mod-lt (here * b) (omega arith)) in
+        cancel ((h + x) * b + out * (modulus - t)) (next * b) (t * out) modulus (omega arith)
+        (ap (λ (z : ℕ). z % modulus) s ∙ add-mul-mod-self-left ((h + x) * b) modulus out
+        ∙ same-product (h + x) (here * b + x) b modulus (same-sum h (here * b) x modulus r)
+        ∙ ap (λ (z : ℕ). (here * b + z) * b % modulus) ex
+        ∙ ap (λ (z : ℕ). z % modulus) (one-step ∙ ap (λ (z : ℕ). next * b + b ^ (n + 1) * z) (sym eo))
+        ∙ sym (added (next * b) t (b ^ (n + 1)) out modulus et))
+
+  -- the fingerprint of two stretches, one after the other
+  pub print-join : (T : List ℕ) (p a n h t g : ℕ) → p + a + n ≤ length T → h ≡ print seed (stretch T p a) → t ≡ b ^ n % modulus
+      → g ≡ print seed (stretch T (p + a) n) → (h * t + g) % modulus ≡ print seed (stretch T p (a + n))
+  unfolding print
+  print-join T p a n h t g fits eh et eg =
+      let u : ℕ = digits b 0 (stretch T p a) in
+      let v : ℕ = digits b 0 (stretch T (p + a) n) in
+      let digits-are : digits b 0 (stretch T p (a + n)) ≡ u * b ^ n + v =
+      ap (digits b 0) (stretch-add T p a n) ∙ digits-append b 0 (stretch T p a) (stretch T (p + a) n) ∙ digits-lift b u (stretch T (p + a) n)
+      ∙ ap (λ (k : ℕ). u * b ^ k + v) (length-stretch T (p + a) n fits) in
+      let swap : u * b ^ n * b ≡ u * b * b ^ n = mul-assoc u (b ^ n) b ∙ ap (λ (z : ℕ). u * z) (mul-comm (b ^ n) b) ∙ sym (mul-assoc u b (b ^ n)) in
+      let both : digits b 0 (stretch T p (a + n)) * b ≡ u * b * b ^ n + v * b =
+      ap (λ (z : ℕ). z * b) digits-are ∙ add-mul (u * b ^ n) v b ∙ ap (λ (z : ℕ). z + v * b) swap in
+      let first : h * t % modulus ≡ u * b * b ^ n % modulus =
+      ap (λ (y : ℕ). y * t % modulus) eh ∙ mul-mod (u * b) t modulus
+      ∙ ap (λ (y : ℕ). y % modulus) (mul-comm (u * b) t)
+      ∙ ap (λ (y : ℕ). y * (u * b) % modulus) et ∙ mul-mod (b ^ n) (u * b) modulus
+      ∙ ap (λ (y : ℕ). y % modulus) (mul-comm (b ^ n) (u * b)) in
+      same-sum (h * t) (u * b * b ^ n) g modulus first
+      ∙ ap (λ (y : ℕ). (u * b * b ^ n + y) % modulus) eg
+      ∙ add-mod-mod (u * b * b ^ n) (v * b) modulus
+      ∙ ap (λ (y : ℕ). y % modulus) (sym both)
+
+  pub power-next : (w i : ℕ) → w ≡ b ^ i % modulus → w * b % modulus ≡ b ^ (i + 1) % modulus
+  power-next w i e = power-more w b i modulus e
+
+  pub first-power : (o : ℕ) → o ≡ b → o ≡ b % modulus
+  first-power o e = e ∙ sym (mod-eq-of-lt {n = b} {m = modulus} (omega (arith, base-below seed)))
+
+  pub next-power : (w o x r : ℕ) → w ≡ x % modulus → o ≡ b → r ≡ (w * o + 0) % modulus → r ≡ x * b % modulus
+  next-power w o x r ew eo er =
+      er ∙ ap (λ (y : ℕ). y % modulus) (add-zero (w * o)) ∙ ap₂ (λ (y k : ℕ). y * k % modulus) ew eo ∙ mul-mod x b modulus
+
+-- sums and products fit
 pub product-fits : (x y : ℕ) → x < 4294967296 → y < 4294967296 → x * y ≤ 18446744065119617025
 product-fits x y l m = mul-le-mul {n₂ = 4294967295} {m₂ = 4294967295} (omega arith) (omega arith)
 
-pub leaving-fits : (t out : ℕ) → t < 4294967296 → out < 256 → t * out ≤ 1095216660225
-leaving-fits t out l m = mul-le-mul {n₂ = 4294967295} {m₂ = 255} (omega arith) (omega arith)
+pub push-fits : (h x b : ℕ) → h < 8589934592 → x < 256 → b < 1073741824 → (h + x) * b ≤ 9223372300995264258
+push-fits h x b l m n = mul-le-mul {n₂ = 8589934846} {m₂ = 1073741823} (omega arith) (omega arith)
 
-pub print-below : (s : List ℕ) → print s < modulus
-unfolding print
-print-below s = finger-below base modulus s (omega arith)
+pub roll-fits : (h x b : ℕ) → h < 2147483647 → x < 256 → b < 1073741824 → (h + x) * b ≤ 2305843278722891523
+roll-fits h x b l m n = mul-le-mul {n₂ = 2147483901} {m₂ = 1073741823} (omega arith) (omega arith)
+
+pub first-fits : (t h x : ℕ) → t < 2147483647 → h < 4294967296 → x < 256 → t * (h + x) ≤ 9223372575873170946
+first-fits t h x l m n = mul-le-mul {n₂ = 2147483646} {m₂ = 4294967551} (omega arith) (omega arith)
+
+pub power-fits : (w b : ℕ) → w < 2147483647 → b < 1073741824 → w * b ≤ 2305843004918726658
+power-fits w b l m = mul-le-mul {n₂ = 2147483646} {m₂ = 1073741823} (omega arith) (omega arith)
+
+pub leaving-fits : (x t : ℕ) → x < 256 → t ≤ 2147483647 → x * t ≤ 547608329985
+leaving-fits x t l m = mul-le-mul {n₂ = 255} {m₂ = 2147483647} (omega arith) (omega arith)
+
+pub byte-fits : (t x : ℕ) → t < 2147483647 → x < 256 → t * x ≤ 547608329730
+byte-fits t x l m = mul-le-mul {n₂ = 2147483646} {m₂ = 255} (omega arith) (omega arith)
+
+pub fold-fits : (x r : ℕ) → r ≡ x % 2147483648 + x / 2147483648 → x ≤ 9223372300995264258 → r < 8589934592
+fold-fits x r e l = omega (arith, mod-lt x {m = 2147483648} (omega arith))
+
+pub fold-most : (x y : ℕ) → y ≡ x % 2147483648 + x / 2147483648 → x < 18446744073709551616 → y < 10737418240
+fold-most x y e l = omega (arith, mod-lt x {m = 2147483648} (omega arith))
+
+pub fold-again : (y r : ℕ) → r ≡ y % 2147483648 + y / 2147483648 → y < 10737418240 → r < 4294967296
+fold-again y r e l = omega (arith, mod-lt y {m = 2147483648} (omega arith))
+
+pub fold-is : (x r : ℕ) → r ≡ x % 2147483648 + x / 2147483648 → r % modulus ≡ x % modulus
+fold-is x r e = ap (λ (y : ℕ). y % modulus) e ∙ fold-same x

@@ -7,19 +7,18 @@ use lib.ListN.{length}
 use lib.Dec.{eqb}
 use Rattle.text.specs.Text.{stretch}
 use Rattle.scan_windows.specs.declared.Window.{Window}
-use Rattle.scan_windows.specs.Prints.{print}
+use Rattle.scan_windows.specs.Prints.{baseOf, print}
 
 -- at how many places a window of n bytes stands in a text of so many; no window has 0 bytes
 abbrev pub placesOf : ℕ → ℕ → ℕ
 placesOf size n = cond (eqb n 0) 0 (size - n + 1)
 
--- the window of n bytes before place p: it was looked up at every place below p where it stands, and where it stands at p it has the fingerprint of its
--- bytes there
-pub record Standing (T : List ℕ) (n p : ℕ) (w : Window) : Type 0 where
+-- the window of n bytes at place p: where it stands there it has the fingerprint of its bytes; it is looked up there and at every place before
+pub record Standing (seed : ℕ) (T : List ℕ) (n p : ℕ) (w : Window) : Type 0 where
   pub len-is : w .len ≡ n
   pub fits : n ≤ length T
-  pub few : length T < 4294967296
+  pub few : length T < 4294967295
   pub places-is : w .places ≡ placesOf (length T) n
-  pub top-is : 0 < w .places → w .top ≡ 1540483477 ^ n % 4294967296
-  pub print-is : p < w .places → w .print ≡ print (stretch T p n)
-  pub looked-is : w .looked ≡ min p (w .places)
+  pub leaving-is : 0 < w .places → w .leaving ≡ 2147483647 - baseOf seed ^ (n + 1) % 2147483647
+  pub print-is : p < w .places → w .print ≡ print seed (stretch T p n)
+  pub looked-is : w .looked ≡ min (p + 1) (w .places)

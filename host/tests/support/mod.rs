@@ -2,6 +2,7 @@
 #![allow(dead_code)] // each test uses a part
 
 pub mod books;
+pub mod hostile;
 
 /// splitmix64: the same numbers on every machine.
 pub struct Rng(u64);

@@ -19,6 +19,5 @@ fingerprint-at-spec =
     (λ c. search needs)
     (λ c. search needs)
     (λ c κs. search needs)
-    (λ c.
-    let a = c .before .before .before .before .args in
-    c .fingerprint .ensures ∙ ap (λ (k : ℕ). print (take k (drop (a .p .0) (a .text .now)))) (add-sub-cancel-left (a .p .0) (a .n))))
+    (λ c. let a = c .before .before .before .before .args in
+    c .fingerprint .ensures ∙ ap (λ (k : ℕ). print (a .seed) (take k (drop (a .p .0) (a .text .now)))) (add-sub-cancel-left (a .p .0) (a .n))))

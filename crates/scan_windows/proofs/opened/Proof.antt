@@ -1,4 +1,6 @@
 use borrow.Author.Needs.{needs}
+use native.Mathlib.Omega.{arith}
+use Rattle.scan_windows.proofs.PrintLaws.{remainder-below}
 use Rattle.scan_windows.proofs.WindowLaws as laws
 use Rattle.scan_windows.proofs.opened.Statement.{statement}
 use Rattle.scan_windows.proofs.opened.Tie as tie
@@ -7,11 +9,13 @@ pub opened-spec : {M : Type 1} → statement M
 opened-spec =
     tie.close
     (tie.spec
-    (λ c. let z = c .before .before in laws.stands-nowhere _ _ (z .pre .0) (z .pre .1) (c .if1 .taken))
+    (λ c. let z = c .before .before in laws.stands-nowhere _ _ _ (z .pre .0) (z .pre .1) (c .if1 .taken))
+    (λ c. search needs)
     (λ c κs. search needs)
+    (λ c. omega (arith, remainder-below _ _ (c .power .ensures)))
     (λ c κs. search needs)
     (λ c. search needs)
     (λ c. search needs)
     (λ c. search needs)
     (λ c. let z = c .before .before .before .before in
-    laws.stands-first _ _ _ _ (z .pre .0) (z .pre .1) (c .before .before .if1 .left) (c .before .power .ensures) (c .fingerprint-at .ensures)))
+    laws.stands-first _ _ _ _ _ (z .pre .0) (z .pre .1) (c .before .before .if1 .left) (c .before .power .ensures) (c .fingerprint-at .ensures)))

@@ -10,10 +10,11 @@ use Rattle.build_by_scan.proofs.scanned_levels.put_levels.Statement.{st
 use Rattle.build_by_scan.proofs.scanned_levels.put_levels.Tie as tie
 
 abbrev Inv-loop : tie.InvT-loop
-Inv-loop out₀ words₀ text counted first level₀ windows₀ out words level windows = along.Along (first .settings) counted text out₀ words₀ out words level windows
+Inv-loop out₀ words₀ text counted first seed level₀ windows₀ out words level windows =
+    along.Along (first .settings) counted text out₀ words₀ out words level windows
 
 abbrev μ-loop : tie.MeasureT-loop
-μ-loop out₀ words₀ text counted first level₀ windows₀ out words level windows = first .settings .levels - level .number
+μ-loop out₀ words₀ text counted first seed level₀ windows₀ out words level windows = first .settings .levels - level .number
 
 pub put-levels-spec : {M : Type 1} → statement M
 put-levels-spec =

@@ -9,10 +9,12 @@ pub write-tree-spec : {M : Type 1} → statement M
 write-tree-spec =
     tie.close
     (tie.spec
-    (λ c κs. c .before .before .before .before .before .pre .0)
+    (λ c κs. search needs)
+    (λ c κs. c .before .before .before .before .before .before .before .pre .0)
     (λ c. search needs)
     (λ c. search needs)
     (λ c. c .before .before .before .before .begin .ensures .0 .same-length)
+    (λ c. search needs)
     (λ c. let w = c .before .before .before .before in (
       w .begin .ensures .0,
       (laws.step-full _ _ _ _ _ (w .begin .ensures .0) _ _ (w .begin .ensures .1) (c .enum-told .given .1), λ n. absurd (n refl)),
@@ -23,7 +25,7 @@ write-tree-spec =
       laws.step-number _ _ _ _ _ (c .before .before .before .before .before .before .before .begin .ensures .0)
           _ _ (c .before .before .before .before .before .before .before .begin .ensures .1) _ (c .before .before .before .step .given .1),
       along.room-of
-          _ _ _ _ _ _ r _ (c .before .before .before .before .before .before .before .before .before .before .before .before .before .pre .1),
+          _ _ _ _ _ _ r _ (w .before .before .before .before .before .before .before .before .pre .1),
     ))
     (λ c. let w = c .before .before .before .before .before .before .before .before in let v = w .before .before .before .before in
     laws.grown-here _ _ _ _ _ _ (laws.step-reached _ _ _ _ _ (v .begin .ensures .0) _ _ (v .begin .ensures .1) _ (w .step .given .1))

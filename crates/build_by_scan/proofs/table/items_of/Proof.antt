@@ -29,4 +29,4 @@ items-of-spec =
     (λ c κs. search needs)
     (λ c. let z = c .before .before .before .before .before .before in
     same-items (length (z .args .text .now)) (recordBytes (settingsOf (z .args .level .settings) (z .args .counted .now)))
-    (z .args .level) _ _ _ (c .before .before .pieces .ensures) (c .before .record-size .ensures .0) (c .shorter .ensures)))
+    (z .args .level) (z .args .seed) _ _ _ (c .before .before .pieces .ensures) (c .before .record-size .ensures .0) (c .shorter .ensures)))

@@ -12,5 +12,5 @@ bucket-spec =
     tie.close
     (tie.spec
     (λ c. omega (arith, product-fits _ _ (c .fits .h .fits) (c .fits .heads .fits)))
-    (λ c. omega (arith, bucket-lt _ _ (c .fits .h .fits) (c .pre), c .fits .heads .fits))
-    (λ c. (refl, bucket-lt _ _ (c .fits .h .fits) (c .pre))))
+    (λ c. omega (arith, bucket-lt _ _ (c .pre .1) (c .pre .0), c .fits .heads .fits))
+    (λ c. (refl, bucket-lt _ _ (c .pre .1) (c .pre .0))))

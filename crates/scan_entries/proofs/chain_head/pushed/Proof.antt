@@ -1,6 +1,6 @@
 use borrow.Author.Needs.{needs}
 use native.Mathlib.Omega.{arith}
-use Rattle.scan_entries.proofs.ChainHeadLaws.{marks-fit, is-pushed}
+use Rattle.scan_entries.proofs.ChainHeadLaws.{marks-lt, is-pushed}
 use Rattle.scan_entries.proofs.chain_head.pushed.Statement.{statement}
 use Rattle.scan_entries.proofs.chain_head.pushed.Tie as tie
 
@@ -9,7 +9,7 @@ pushed-spec =
     tie.close
     (tie.spec
     (λ c. search needs)
-    (λ c. omega (arith, marks-fit (c .args .w) (c .args .h) _ (c .fits .w .fits) (c .pre)))
+    (λ c. omega (arith, marks-lt (c .args .w) (c .args .h) _ (c .pre)))
     (λ c. search needs)
-    (λ c. omega (arith, marks-fit (c .args .w) (c .args .h) _ (c .fits .w .fits) (c .pre)))
-    (λ c. is-pushed _ _ _ (c .fits .w .fits) (c .pre)))
+    (λ c. omega (arith, marks-lt (c .args .w) (c .args .h) _ (c .pre)))
+    (λ c. is-pushed _ _ _ (c .pre)))

@@ -3,6 +3,7 @@ use native.Mathlib.Omega.{arith}
 use mathlib.Core.Path.{refl}
 use Rattle.scan_entries.specs.ChainHeads.{linkOf}
 use Rattle.scan_entries.specs.Entries.{headIn}
+use Rattle.scan_windows.proofs.PrintLaws.{is-print-below}
 use Rattle.scan_entries.proofs.EntryLaws as laws
 use Rattle.scan_entries.proofs.entry.enter.Statement.{statement}
 use Rattle.scan_entries.proofs.entry.enter.Tie as tie
@@ -13,7 +14,8 @@ enter-spec =
     tie.close
     (tie.spec
     (λ c κs. (c .before .before .before .pre .0 .laid .placed, c .before .before .before .pre .0 .item-in))
-    (λ c κs. let z = c .before .before .before .before .before .before in (z .pre .0, c .before .before .run-of .ensures .fits))
+    (λ c κs. let z = c .before .before .before .before .before .before in
+    (z .pre .0, c .before .before .run-of .ensures .fits, is-print-below _ _ _ (z .pre .1)))
     (λ c. omega (arith, c .before .before .before .before .before .before .before .before .pre .0 .laid .placed .few))
     (λ c. search needs)
     (λ c. let w = c .before .before .before .before .before .before .before .before in
@@ -26,7 +28,8 @@ enter-spec =
     (λ c. let w = c .before .before .before .before in
     let z = w .before .before .before .before in laws.is-twin _ _ _ _ _ _ (z .pre .0) (omega arith) _ (c .if1 .taken)
     (laws.twin-at _ _ _ _ _ (z .pre .0) _ _ _ (w .run-of .ensures .start-is) (w .run-of .ensures .length-is) (c .before .twin .ensures)) refl)
-    (λ c κs. c .before .before .before .before .before .before .before .before .before .pre .0 .laid .heads-low)
+    (λ c κs. let z = c .before .before .before .before .before .before .before .before .before in
+    (z .pre .0 .laid .heads-low, is-print-below _ _ _ (z .pre .1)))
     (λ c κs. let z = c .before .before .before .before .before .before .before .before .before .before in
     (z .pre .0 .laid .room, z .pre .0 .laid .placed .items-few, z .pre .0 .item-in, c .bucket .ensures .1))
     (λ c. c .before .before .put .ensures .same-length)

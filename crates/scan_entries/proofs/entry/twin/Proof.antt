@@ -21,7 +21,7 @@ twin-spec =
     (tie.spec Inv-loop μ-loop
     (λ c. search needs)
     (λ c. search needs)
-    (λ c κs. c .before .before .before .before .pre .0 .laid .heads-low)
+    (λ c κs. let z = c .before .before .before .before in (z .pre .0 .laid .heads-low, z .pre .2))
     (λ c. search needs)
     (λ c. omega (arith, c .before .before .before .before .before .pre .0 .laid .room, c .bucket .ensures .1))
     (λ c. omega (arith, c .before .before .before .before .before .pre .0 .laid .room, c .bucket .ensures .1))

@@ -2,6 +2,7 @@ use borrow.Author.Needs.{needs}
 use native.Mathlib.Omega.{arith}
 use Rattle.scan_entries.specs.ChainHeads.{linkOf}
 use Rattle.scan_entries.specs.Entries.{headIn}
+use Rattle.scan_windows.proofs.PrintLaws.{is-print-below}
 use Rattle.scan_entries.proofs.LookupLaws as laws
 use Rattle.scan_entries.proofs.lookup.look.Statement.{statement}
 use Rattle.scan_entries.proofs.lookup.look.Tie as tie
@@ -13,7 +14,7 @@ look-spec =
     (tie.spec
     (λ c. search needs)
     (λ c. search needs)
-    (λ c κs. c .before .before .before .before .pre .laid .heads-low)
+    (λ c κs. let z = c .before .before .before .before in (z .pre .laid .heads-low, is-print-below _ _ _ (z .pre .print-is)))
     (λ c. search needs)
     (λ c. omega (arith, c .before .before .before .before .before .pre .laid .room, c .bucket .ensures .1))
     (λ c. omega (arith, c .before .before .before .before .before .pre .laid .room, c .bucket .ensures .1))

@@ -15,5 +15,6 @@ block-print-spec =
     (λ c. omega (arith, c .before .before .before .pre .0 .items-few, c .before .before .before .pre .1))
     (λ c κs. (c .before .before .before .pre .0, c .before .before .before .pre .1))
     (λ c κs. c .run-of .ensures .fits)
-    (λ c. c .fingerprint-at .ensures ∙ ap₂ (λ (s n : ℕ). print (stretch (c .before .before .before .before .before .args .text .now) s n))
+    (λ c. let z = c .before .before .before .before .before in
+    c .fingerprint-at .ensures ∙ ap₂ (λ (s n : ℕ). print (z .args .it .seed) (stretch (z .args .text .now) s n))
     (c .before .run-of .ensures .start-is) (c .before .run-of .ensures .length-is)))

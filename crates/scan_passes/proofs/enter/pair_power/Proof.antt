@@ -2,6 +2,7 @@ use borrow.Author.Needs.{needs}
 use native.Mathlib.Omega.{arith}
 use mathlib.Core.Path.{_≡_, ap, _∙_}
 use Prim.Native.Nat.{ℕ, _-_, _%_, _^_}
+use Rattle.scan_windows.specs.Prints.{baseOf}
 use Rattle.scan_passes.proofs.enter.pair_power.Statement.{statement}
 use Rattle.scan_passes.proofs.enter.pair_power.Tie as tie
 
@@ -11,7 +12,7 @@ pair-power-spec =
     (tie.spec
     (λ c. omega (arith, c .pre .1))
     (λ c. let z = c .before in z .pre .2
-    ∙ ap (λ (k : ℕ). 1540483477 ^ k % 4294967296) (let e : z .args .size ≡ z .args .n - z .args .size = omega (arith, c .if1 .taken) in e))
+    ∙ ap (λ (k : ℕ). baseOf (z .args .seed) ^ k % 2147483647) (let e : z .args .size ≡ z .args .n - z .args .size = omega (arith, c .if1 .taken) in e))
     (λ c. search needs)
     (λ c κs. search needs)
     (λ c. search needs))

@@ -1,3 +1,4 @@
+use borrow.Author.Needs.{needs}
 use Rattle.scan_passes.proofs.PassLaws as laws
 use Rattle.scan_passes.proofs.pass.step.Statement.{statement}
 use Rattle.scan_passes.proofs.pass.step.Tie as tie
@@ -6,10 +7,11 @@ pub step-spec : {M : Type 1} → statement M
 step-spec =
     tie.close
     (tie.spec
-    (λ c. let z = c .before .before .before .before .before .before in
-    (laws.stands-still _ _ _ _ (z .pre .1) (c .if1 .taken), laws.stepped-past _ _ _ _ _ _ _ (z .pre .0) (z .pre .1) (c .if1 .taken)))
-    (λ c κs. let z = c .before .before .before .before .before .before .before in laws.window-asks _ _ _ _ _ _ _ (z .pre .0) (z .pre .1) (c .before .if1 .left))
-    (λ c κs. (c .before .before .before .before .before .before .before .before .before .before .pre .1, c .before .before .before .before .if1 .left))
-    (λ c. c .before .before .before .look .ensures .searched .same-length)
-    (λ c. let z = c .before .before .before .before .before .before .before .before .before .before .before in
-    (c .looked .ensures, laws.stepped-look _ _ _ _ _ _ _ (z .pre .0) (z .pre .1) _ (c .before .before .before .look .ensures))))
+    (λ c. search needs)
+    (λ c. let z = c .before .before .before .before .before .before in let s = laws.stands-still _ _ _ _ _ (z .pre .1) (c .if1 .taken) in
+    (s, laws.stepped-past _ _ _ _ _ _ _ (z .pre .0) s (c .if1 .taken)))
+    (λ c κs. let z = c .before .before .before .before .before .before in (z .pre .1, c .if1 .left, z .pre .3))
+    (λ c κs. let z = c .before .before .before .before .before .before .before .before in let s = c .before .moved .ensures in
+    laws.window-asks _ _ _ _ _ _ _ (z .pre .0) s (laws.still-stands _ _ _ _ _ _ (z .pre .1) s (c .before .before .if1 .left)))
+    (λ c. c .before .before .look .ensures .searched .same-length)
+    (λ c. (c .before .before .before .before .moved .ensures, laws.stepped-look _ _ _ _ _ _ _ (c .before .before .look .ensures))))
