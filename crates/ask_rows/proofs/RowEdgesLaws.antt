@@ -268,8 +268,11 @@ module _ (t : List ℕ) (ok : ℕ) (sound : ok ≡ 0 → verdict t ≡ 0) (q : �
 
     module _ (y : Newline) (ends : NewlineIs t (p .0) y) where
       pub edges-no-end : y ≡ newline.Missing → EdgesOf t ok (number t ok q) (row t ok q) end-most (edges.Refused 14)
-      edges-no-end none = in-walk t ok (number t ok q) (row t ok q) end-most asked 14
-          (λ v. ends .missing none (sound v) (placeOf 10 q (textOf t) - rowFrom (textOf t) q) (rw (starts .accepted p is v) (some-end (textOf t) q (chosen .low) (in-book v)))) refl
+      edges-no-end none =
+          let o = placeOf 10 q (textOf t) - rowFrom (textOf t) q in
+          let there : ok ≡ 0 → Nth 10 1 (textOf t) (p .0) o =
+          λ v. rw (starts .accepted p is v) (some-end (textOf t) q (chosen .low) (in-book v)) in
+          in-walk t ok (number t ok q) (row t ok q) end-most asked 14 (λ v. ends .missing none (sound v) o (there v)) refl
 
       module _ (e : TextPlace) (before : ℕ) (at-e : y ≡ newline.At e before) where
         end : EndsRow t (p .0) (e .0) before

@@ -39,4 +39,5 @@ all-agree-spec =
     (λ c. omega arith)
     (λ c. omega arith)
     loop-again
-    (λ c. let n : c .before .loop .i ≡ c .before .before .args .n = omega (arith, c .before .loop .inv .0) in λ e x h. c .before .loop .inv .1 e x (omega arith)))
+    (λ c. let n : c .before .loop .i ≡ c .before .before .args .n = omega (arith, c .before .loop .inv .0) in
+    λ e x h. c .before .loop .inv .1 e x (omega arith)))
