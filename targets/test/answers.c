@@ -163,6 +163,15 @@ static void ask_guided(char **word)
     say_figures(bt_find_guided(tree, tree_len, lent, n, number_of(word[1]), number_of(word[2]), &first, &second, &third), first, second);
     say_figure(third);
 }
+static void ask_prefix_guided(char **word)
+{
+    const uint32_t guide_len = from_list(word[0], 4);
+    for (uint32_t i = 0; i < guide_len; i++) buffer[i] = lent[i];
+    const uint32_t n = from_hex(word[1]);
+    first = number_of(word[2]);
+    const uint32_t number = bt_next_with_prefix_guided(tree, tree_len, buffer, guide_len, lent, n, &first, &second);
+    say_figures(number, second, first);
+}
 static void ask_order(char **word)
 {
     static const char *const standings[] = {" -", " before", " same", " after"};
@@ -197,7 +206,8 @@ static const struct {
 } questions[] = {
     {"check", 0, ask_check}, {"byte", 1, ask_byte}, {"run", 1, ask_run}, {"count", 2, ask_count}, {"find", 2, ask_find}, {"span", 2, ask_span},
     {"row", 1, ask_row}, {"column", 2, ask_column}, {"places", 1, ask_places}, {"match", 2, ask_match}, {"prefix", 2, ask_prefix},
-    {"digest", 0, ask_digest}, {"guide", 0, ask_guide}, {"guidecheck", 1, ask_guidecheck}, {"guided", 3, ask_guided}, {"order", 1, ask_order},
+    {"digest", 0, ask_digest}, {"guide", 0, ask_guide}, {"guidecheck", 1, ask_guidecheck}, {"guided", 3, ask_guided},
+    {"prefix_guided", 3, ask_prefix_guided}, {"order", 1, ask_order},
     {"without_edges", 0, ask_without_edges}, {"list", 0, ask_list},
 };
 

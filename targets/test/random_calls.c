@@ -105,11 +105,7 @@ static uint32_t any_byte(void)
     if (below(6) == 0) return rnd() & 255;
     return below(4) ? 10 : '0' + below(20);
 }
-static uint32_t any_width(void)
-{
-    const uint32_t width = below(3) ? 1 + below(9) : extreme();
-    return text_len ? width : width % 5000; /* an empty text takes as many steps as its width */
-}
+static uint32_t any_width(void) { return below(3) ? 1 + below(9) : extreme(); }
 static uint32_t any_room(void) { return below(3) ? TEXT : below(64); }
 
 /* Damage. */
