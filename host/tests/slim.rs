@@ -148,3 +148,27 @@ fn what_edges_cost() {
     folder.write("same.txt", &b"CH0501 444224\n".repeat(2000));
     folder.run("build same.txt").succeeds().says("");
 }
+
+/// --best searches on from the best settings of the list: the tree is never larger, it is of the same text, and each step is smaller than the one before.
+#[test]
+fn best_searches_on() {
+    let folder = Folder::with_tree("best");
+    for small in ["", " --small"] {
+        let short = folder.run(&format!("build small.txt -f{small}")).succeeds().printed();
+        let listed = folder.read("small.tree").len();
+        let report = folder.run(&format!("build small.txt -f --best{small}")).succeeds().printed();
+        let tree = folder.read("small.tree");
+        assert!(tree.len() < listed, "{} {listed}", tree.len());
+        assert_eq!(Tree::checked(&tree).expect("a valid tree").text().as_deref(), Ok(&folder.read("small.txt")[..]));
+        let sizes = |report: &str| -> Vec<usize> {
+            let lines = report.lines().skip(2).take_while(|line| !line.starts_with("chosen"));
+            lines.map(|line| line.split_whitespace().last().expect("a size").replace(',', "").parse().expect("a number")).collect()
+        };
+        let (list, all) = (sizes(&short), sizes(&report));
+        assert_eq!(list[..], all[..list.len()]);
+        let steps: Vec<usize> = std::iter::once(listed).chain(all[list.len()..].iter().copied()).collect();
+        assert!(steps.len() > 1 && steps.windows(2).all(|pair| pair[1] < pair[0]) && steps.last() == Some(&tree.len()), "{steps:?}");
+    }
+    let refused = folder.run("build small.txt -f --best --leaf 64 --arity 2 --levels 4");
+    refused.status(2).says("codebook: --best searches for settings: give it, or --leaf, --arity and --levels; codebook build --help prints help\n");
+}

@@ -8,7 +8,7 @@ use crate::input::{Identity, Input, Source, TEXT};
 use crate::manifest::{Digests, Figures, Manifest};
 use crate::output::Output;
 use crate::report::Report;
-use crate::table::{Opt, ALLOW_LARGER, ARITY, COLUMNS, COUNT, EDITION, FIRST, FORCE, JOBS, LAST, LEAF, LEVELS, MAKER, OUTPUT, SMALL};
+use crate::table::{Opt, ALLOW_LARGER, ARITY, BEST, COLUMNS, COUNT, EDITION, FIRST, FORCE, JOBS, LAST, LEAF, LEVELS, MAKER, OUTPUT, SMALL};
 use crate::trials::{self, Chosen, Request};
 use crate::values::{self, Width};
 use crate::{batch, book, by_columns, reasons, say, stats, Failure};
@@ -51,7 +51,10 @@ pub fn build(given: &Given) -> Result<(), Failure> {
     if width.is_none() && given.has(&ALLOW_LARGER) {
         return Err(given.usage("--allow-larger is of use with --columns alone"));
     }
-    let request = Request { settings, counted, small: given.has(&SMALL), quiet: given.quiet(), silent: false, jobs };
+    if settings.is_some() && given.has(&BEST) {
+        return Err(given.usage("--best searches for settings: give it, or --leaf, --arity and --levels"));
+    }
+    let request = Request { settings, counted, small: given.has(&SMALL), search: given.has(&BEST), quiet: given.quiet(), silent: false, jobs };
     let order = Order { request, width, described: described(given)? };
     apart(given, &TREES, order.described.is_some())?;
     match given.words.len() {
@@ -266,7 +269,7 @@ pub fn smaller(text: &[u8], chosen: &Chosen, request: &Request) -> Option<usize>
     let size = match request.settings {
         Some(_) => stats::without_edges(Tree::unchecked(&chosen.tree)) as usize,
         None => {
-            let request = Request { settings: None, counted: request.counted.clone(), small: true, quiet: true, silent: true, jobs: request.jobs };
+            let request = Request { settings: None, counted: request.counted.clone(), small: true, search: false, quiet: true, silent: true, jobs: request.jobs };
             trials::best(text, &request).ok()?.tree.len()
         }
     };

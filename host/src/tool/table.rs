@@ -79,6 +79,7 @@ pub static COLUMNS: Opt =
 pub static ALLOW_LARGER: Opt = flag("--allow-larger", None, "write the tree by columns though the one by rows is smaller");
 pub static ROW_COLUMNS: Opt = valued("--columns", "W", "the tree is of a book by columns, of rows of W bytes, end byte included");
 pub static SMALL: Opt = flag("--small", None, "a tree without edges (layout 1): smaller; spans of nearly a leaf length take longer");
+pub static BEST: Opt = flag("--best", None, "search on from the best settings of the list: a smaller tree for some ten times the time");
 pub static JOBS: Opt = Opt {
     long: "--jobs",
     short: Some('j'),
@@ -148,7 +149,7 @@ pub static COMMANDS: [Command; 36] = [
     Command {
         name: "build",
         words: &[any("BOOK")],
-        options: &[&OUTPUT, &FORCE, &KEEP_TIME, &SMALL, &LEAF, &ARITY, &LEVELS, &COUNT, &COLUMNS, &ALLOW_LARGER, &MAKER, &EDITION, &FIRST, &LAST, &JOBS, &JSON],
+        options: &[&OUTPUT, &FORCE, &KEEP_TIME, &SMALL, &BEST, &LEAF, &ARITY, &LEVELS, &COUNT, &COLUMNS, &ALLOW_LARGER, &MAKER, &EDITION, &FIRST, &LAST, &JOBS, &JSON],
         summary: "build the trees of books",
         details: concat!(
             "A BOOK is any text of up to ",

@@ -1,4 +1,4 @@
-//! Which settings suit a book: a short list is tried, each once, and the smallest tree is kept.
+//! Which settings suit a book: a short list is tried, each once, and the smallest tree is kept; on request the search goes on from there.
 
 use crate::progress;
 use codebook::{build_scanned, one_level_size, Refusal, Settings, Tree, SHORT_LIST, SMALL_LIST};
@@ -16,7 +16,7 @@ pub struct Trial {
 pub struct Chosen {
     pub settings: Settings,
     pub tree: Vec<u8>,
-    /// In the order of the list.
+    /// In the order of the list, then each step of a search.
     pub tried: Vec<Trial>,
 }
 
@@ -27,6 +27,8 @@ pub struct Request {
     pub counted: Vec<u8>,
     /// Layout 1: a tree without edges.
     pub small: bool,
+    /// Search on from the best of the list.
+    pub search: bool,
     /// No warning is printed.
     pub quiet: bool,
     /// No progress is shown.
@@ -42,9 +44,47 @@ pub fn best(text: &[u8], request: &Request) -> Result<Chosen, Refusal> {
         Some(settings) => choose(text, std::slice::from_ref(settings), request),
         None => {
             let settings = |&(leaf, arity, levels): &(u32, u32, u32)| Settings { leaf, arity, levels, counted: request.counted.clone() };
-            choose(text, &list.iter().map(settings).collect::<Vec<_>>(), request)
+            let chosen = choose(text, &list.iter().map(settings).collect::<Vec<_>>(), request)?;
+            if request.search { descend(text, chosen, request) } else { Ok(chosen) }
         }
     }
+}
+
+/// From the best settings to the best of their neighbours, as long as that makes the tree smaller.
+fn descend(text: &[u8], mut chosen: Chosen, request: &Request) -> Result<Chosen, Refusal> {
+    let mut seen: Vec<Settings> = chosen.tried.iter().map(|trial| trial.settings.clone()).collect();
+    loop {
+        let list: Vec<Settings> = neighbours(&chosen.settings).filter(|settings| !seen.contains(settings)).collect();
+        if list.is_empty() {
+            return Ok(chosen);
+        }
+        let next = choose(text, &list, request)?;
+        if next.tree.len() >= chosen.tree.len() {
+            return Ok(chosen);
+        }
+        seen.extend(list);
+        let mut tried = chosen.tried;
+        tried.push(Trial { settings: next.settings.clone(), size: next.tree.len() });
+        chosen = Chosen { settings: next.settings, tree: next.tree, tried };
+    }
+}
+
+/// Settings that differ a little in one figure, within the bounds of question 2.
+fn neighbours(settings: &Settings) -> impl Iterator<Item = Settings> {
+    let Settings { leaf, arity, levels, counted } = settings.clone();
+    let near = |figure: u32, by: u32| [figure.saturating_sub(by), figure + by];
+    let leaves = [1, 2, leaf.div_ceil(8), leaf.div_ceil(4)].into_iter().flat_map(move |by| near(leaf, by)).map(move |leaf| (leaf, arity, levels));
+    let arities = near(arity, 1).into_iter().map(move |arity| (leaf, arity, levels));
+    let heights = near(levels, 1).into_iter().map(move |levels| (leaf, arity, levels));
+    let mut all: Vec<_> = leaves.chain(arities).chain(heights).filter(|&(leaf, arity, levels)| allowed(leaf, arity, levels)).collect();
+    all.sort_unstable();
+    all.dedup();
+    all.into_iter().map(move |(leaf, arity, levels)| Settings { leaf, arity, levels, counted: counted.clone() })
+}
+
+fn allowed(leaf: u32, arity: u32, levels: u32) -> bool {
+    let top = (1..levels).try_fold(u64::from(leaf), |block, _| block.checked_mul(u64::from(arity)));
+    (1..=256).contains(&leaf) && (2..=16).contains(&arity) && (1..=8).contains(&levels) && top.is_some_and(|top| top <= codebook::MAX_TEXT as u64)
 }
 
 /// What a candidate gave: its size, and its tree where it was built.
