@@ -560,10 +560,8 @@ fn time_hostile() {
     let mut rng = Rng::new(40);
     for size in [1_048_576, 8_388_608] {
         let books = [Kind::Mixed, Kind::NearlyRandom].map(|kind| book(kind, size, 1));
-        let hostile = [
-            (Shape { m: 16, r: 4, h: 4 }, hostile::texts(size)),
-            (Shape { m: 1, r: 2, h: 2 }, vec![("random bytes", hostile::random_bytes(size))]),
-        ];
+        let hostile =
+            [(Shape { m: 16, r: 4, h: 4 }, hostile::texts(size)), (Shape { m: 1, r: 2, h: 2 }, vec![("random bytes", hostile::random_bytes(size))])];
         for (shape, texts) in hostile {
             let honest = [&books[0], &books[1]].map(|text| scan_time(&mut rng, text, shape));
             let line = |name: &str, time: Duration| {

@@ -153,12 +153,13 @@ fn what_edges_cost() {
 #[test]
 fn best_searches_on() {
     let folder = Folder::with_tree("best");
-    for small in ["", " --small"] {
+    // without edges no neighbour of the list's best is smaller
+    for (small, further) in [("", true), (" --small", false)] {
         let short = folder.run(&format!("build small.txt -f{small}")).succeeds().printed();
         let listed = folder.read("small.tree").len();
         let report = folder.run(&format!("build small.txt -f --best{small}")).succeeds().printed();
         let tree = folder.read("small.tree");
-        assert!(tree.len() < listed, "{} {listed}", tree.len());
+        assert_eq!(tree.len() < listed, further, "{} {listed}", tree.len());
         assert_eq!(Tree::checked(&tree).expect("a valid tree").text().as_deref(), Ok(&folder.read("small.txt")[..]));
         let sizes = |report: &str| -> Vec<usize> {
             let lines = report.lines().skip(2).take_while(|line| !line.starts_with("chosen"));
@@ -167,8 +168,9 @@ fn best_searches_on() {
         let (list, all) = (sizes(&short), sizes(&report));
         assert_eq!(list[..], all[..list.len()]);
         let steps: Vec<usize> = std::iter::once(listed).chain(all[list.len()..].iter().copied()).collect();
-        assert!(steps.len() > 1 && steps.windows(2).all(|pair| pair[1] < pair[0]) && steps.last() == Some(&tree.len()), "{steps:?}");
+        assert!((steps.len() > 1) == further && steps.windows(2).all(|pair| pair[1] < pair[0]) && steps.last() == Some(&tree.len()), "{steps:?}");
     }
     let refused = folder.run("build small.txt -f --best --leaf 64 --arity 2 --levels 4");
-    refused.status(2).says("codebook: --best searches for settings: give it, or --leaf, --arity and --levels; codebook build --help prints help\n");
+    let words = "codebook: --best searches for settings: give it, or --leaf, --arity and --levels\nusage: codebook build ";
+    assert!(refused.status(2).errors().starts_with(words), "{}", refused.errors());
 }

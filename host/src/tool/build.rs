@@ -269,7 +269,15 @@ pub fn smaller(text: &[u8], chosen: &Chosen, request: &Request) -> Option<usize>
     let size = match request.settings {
         Some(_) => stats::without_edges(Tree::unchecked(&chosen.tree)) as usize,
         None => {
-            let request = Request { settings: None, counted: request.counted.clone(), small: true, search: false, quiet: true, silent: true, jobs: request.jobs };
+            let request = Request {
+                settings: None,
+                counted: request.counted.clone(),
+                small: true,
+                search: false,
+                quiet: true,
+                silent: true,
+                jobs: request.jobs,
+            };
             trials::best(text, &request).ok()?.tree.len()
         }
     };

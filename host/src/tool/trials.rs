@@ -45,7 +45,11 @@ pub fn best(text: &[u8], request: &Request) -> Result<Chosen, Refusal> {
         None => {
             let settings = |&(leaf, arity, levels): &(u32, u32, u32)| Settings { leaf, arity, levels, counted: request.counted.clone() };
             let chosen = choose(text, &list.iter().map(settings).collect::<Vec<_>>(), request)?;
-            if request.search { descend(text, chosen, request) } else { Ok(chosen) }
+            if request.search {
+                descend(text, chosen, request)
+            } else {
+                Ok(chosen)
+            }
         }
     }
 }
