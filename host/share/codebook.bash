@@ -13,7 +13,7 @@ _codebook() {
         help) choices='build slim import check verify digest diff list stats picture page row byte run span count find places code match worn text to-columns from-columns guide compare shelf licence sizes help version manual completion' ;;
         esac
         case $word in -*) case $command in
-        'build') choices='-o --output -f --force --keep-time --small --leaf --arity --levels --count --columns --allow-larger --maker --edition --first --last -j --jobs --json -q --quiet -h --help' ;;
+        'build') choices='-o --output -f --force --keep-time --small --best --leaf --arity --levels --count --columns --allow-larger --maker --edition --first --last -j --jobs --json -q --quiet -h --help' ;;
         'slim') choices='-o --output -f --force --keep-time --json -q --quiet -h --help' ;;
         'import') choices='-o --output -f --force --keep-time --code --cuts --separator --lenient --json -q --quiet -h --help' ;;
         'check') choices='--sha256 --text-sha256 --sums -c --list --json -q --quiet -h --help' ;;

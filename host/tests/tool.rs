@@ -548,7 +548,7 @@ fn calls_that_are_not_right() {
     usage("count 256 4 x", &format!("{byte}, not '256'\n{count}"));
     usage("count 10 4 x", &format!("{byte}, not '10'; byte 10 is 0x0a\n{count}"));
     usage("count -1 4 x", &format!("{byte}, not '-1'\n{count}"));
-    let build = "usage: codebook build [BOOK]... [-o FILE] [-f] [--keep-time] [--small] [--leaf M] [--arity R] [--levels H] [--count BYTES] [--columns W] [--allow-larger] [--maker NAME] [--edition NAME] [--first DAY] [--last DAY] [-j N] [--json]";
+    let build = "usage: codebook build [BOOK]... [-o FILE] [-f] [--keep-time] [--small] [--best] [--leaf M] [--arity R] [--levels H] [--count BYTES] [--columns W] [--allow-larger] [--maker NAME] [--edition NAME] [--first DAY] [--last DAY] [-j N] [--json]";
     usage("build small.txt -o", &format!("-o needs a value\n{build}"));
     usage("build --leaf 64", &format!("--leaf, --arity and --levels go together: give all three, or none to have a short list tried\n{build}"));
     usage("build -o .", &format!("-o is a file where standard input is read\n{build}"));
