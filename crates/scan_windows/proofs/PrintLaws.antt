@@ -63,79 +63,79 @@ unfolding stretch
 one-byte T p l = ap (take 1) (drop-cons T p 0 l)
 
 module _ (seed : ℕ) where
-  abbrev b : ℕ
-  b = baseOf seed
+  abbrev β : ℕ
+  β = baseOf seed
 
   pub print-nil : 0 % modulus ≡ print seed []
   unfolding print digits
-  print-nil = ap (λ (y : ℕ). y % modulus) (sym (zero-mul b))
+  print-nil = ap (λ (y : ℕ). y % modulus) (sym (zero-mul β))
 
   pub print-none : (s : List ℕ) → 0 % modulus ≡ print seed (take 0 s)
   print-none s = print-nil
 
   pub print-below : (s : List ℕ) → print seed s < modulus
   unfolding print
-  print-below s = mod-lt (digits b 0 s * b) (omega arith)
+  print-below s = mod-lt (digits β 0 s * β) (omega arith)
 
   pub is-print-below : (s : List ℕ) (h : ℕ) → h ≡ print seed s → h < modulus
   is-print-below s h e = omega (arith, e, print-below s)
 
   -- one byte more
   pub print-push : (s : List ℕ) (i j h x : ℕ) → i < length s → j ≡ i + 1 → x ≡ getD s i 0 → h % modulus ≡ print seed (take i s)
-      → (h + x) * b % modulus ≡ print seed (take j s)
+      → (h + x) * β % modulus ≡ print seed (take j s)
   unfolding print
   print-push s i j h x l ej ex e =
-      same-product (h + x) (digits b 0 (take i s) * b + x) b modulus (same-sum h (digits b 0 (take i s) * b) x modulus e)
-      ∙ ap (λ (y : ℕ). (digits b 0 (take i s) * b + y) * b % modulus) ex
-      ∙ ap (λ (y : ℕ). y * b % modulus) (sym (digits-last b 0 (take i s) (getD s i 0)))
-      ∙ ap (λ (l : List ℕ). digits b 0 l * b % modulus) (sym (ap (λ (k : ℕ). take k s) (ej ∙ add-one i) ∙ take-suc s i 0 l))
+      same-product (h + x) (digits β 0 (take i s) * β + x) β modulus (same-sum h (digits β 0 (take i s) * β) x modulus e)
+      ∙ ap (λ (y : ℕ). (digits β 0 (take i s) * β + y) * β % modulus) ex
+      ∙ ap (λ (y : ℕ). y * β % modulus) (sym (digits-last β 0 (take i s) (getD s i 0)))
+      ∙ ap (λ (l : List ℕ). digits β 0 l * β % modulus) (sym (ap (λ (k : ℕ). take k s) (ej ∙ add-one i) ∙ take-suc s i 0 l))
 
   -- four bytes more
   module _ (h a₁ a₂ a₃ a₄ : ℕ) where
     abbrev h₁ : ℕ
-    h₁ = (h + a₁) * b
+    h₁ = (h + a₁) * β
 
     abbrev h₂ : ℕ
-    h₂ = (h₁ + a₂) * b
+    h₂ = (h₁ + a₂) * β
 
     abbrev h₃ : ℕ
-    h₃ = (h₂ + a₃) * b
+    h₃ = (h₂ + a₃) * β
 
     abbrev h₄ : ℕ
-    h₄ = (h₃ + a₄) * b
+    h₄ = (h₃ + a₄) * β
 
-    two-factors : (y : ℕ) → b * b * y ≡ y * b * b
-    two-factors y = mul-comm (b * b) y ∙ sym (mul-assoc y b b)
+    two-factors : (y : ℕ) → β * β * y ≡ y * β * β
+    two-factors y = mul-comm (β * β) y ∙ sym (mul-assoc y β β)
 
-    three-factors : (y : ℕ) → b * b * b * y ≡ y * b * b * b
-    three-factors y = mul-comm (b * b * b) y ∙ sym (mul-assoc y (b * b) b) ∙ ap (λ (z : ℕ). z * b) (sym (mul-assoc y b b))
+    three-factors : (y : ℕ) → β * β * β * y ≡ y * β * β * β
+    three-factors y = mul-comm (β * β * β) y ∙ sym (mul-assoc y (β * β) β) ∙ ap (λ (z : ℕ). z * β) (sym (mul-assoc y β β))
 
-    four-factors : (y : ℕ) → b * b * b * b * y ≡ y * b * b * b * b
+    four-factors : (y : ℕ) → β * β * β * β * y ≡ y * β * β * β * β
     four-factors y =
-        mul-comm (b * b * b * b) y ∙ sym (mul-assoc y (b * b * b) b)
-        ∙ ap (λ (z : ℕ). z * b) (sym (mul-assoc y (b * b) b) ∙ ap (λ (z : ℕ). z * b) (sym (mul-assoc y b b)))
+        mul-comm (β * β * β * β) y ∙ sym (mul-assoc y (β * β * β) β)
+        ∙ ap (λ (z : ℕ). z * β) (sym (mul-assoc y (β * β) β) ∙ ap (λ (z : ℕ). z * β) (sym (mul-assoc y β β)))
 
-    spread : b * b * b * b * (h + a₁) + b * b * b * a₂ + b * b * a₃ + b * a₄ ≡ h₄
+    spread : β * β * β * β * (h + a₁) + β * β * β * a₂ + β * β * a₃ + β * a₄ ≡ h₄
     spread =
         let u : ℕ = h + a₁ in
-        let e₂ : h₂ ≡ u * b * b + a₂ * b = add-mul (u * b) a₂ b in
-        let e₃ : h₃ ≡ u * b * b * b + a₂ * b * b + a₃ * b =
-        add-mul h₂ a₃ b ∙ ap (λ (z : ℕ). z + a₃ * b) (ap (λ (z : ℕ). z * b) e₂ ∙ add-mul (u * b * b) (a₂ * b) b) in
-        let e₄ : h₄ ≡ u * b * b * b * b + a₂ * b * b * b + a₃ * b * b + a₄ * b =
-        add-mul h₃ a₄ b ∙ ap (λ (z : ℕ). z + a₄ * b) (ap (λ (z : ℕ). z * b) e₃ ∙ add-mul (u * b * b * b + a₂ * b * b) (a₃ * b) b
-        ∙ ap (λ (z : ℕ). z + a₃ * b * b) (add-mul (u * b * b * b) (a₂ * b * b) b)) in
-        ap₂ _+_ (ap₂ _+_ (ap₂ _+_ (four-factors u) (three-factors a₂)) (two-factors a₃)) (mul-comm b a₄) ∙ sym e₄
+        let e₂ : h₂ ≡ u * β * β + a₂ * β = add-mul (u * β) a₂ β in
+        let e₃ : h₃ ≡ u * β * β * β + a₂ * β * β + a₃ * β =
+        add-mul h₂ a₃ β ∙ ap (λ (z : ℕ). z + a₃ * β) (ap (λ (z : ℕ). z * β) e₂ ∙ add-mul (u * β * β) (a₂ * β) β) in
+        let e₄ : h₄ ≡ u * β * β * β * β + a₂ * β * β * β + a₃ * β * β + a₄ * β =
+        add-mul h₃ a₄ β ∙ ap (λ (z : ℕ). z + a₄ * β) (ap (λ (z : ℕ). z * β) e₃ ∙ add-mul (u * β * β * β + a₂ * β * β) (a₃ * β) β
+        ∙ ap (λ (z : ℕ). z + a₃ * β * β) (add-mul (u * β * β * β) (a₂ * β * β) β)) in
+        ap₂ _+_ (ap₂ _+_ (ap₂ _+_ (four-factors u) (three-factors a₂)) (two-factors a₃)) (mul-comm β a₄) ∙ sym e₄
 
     -- with powers of the base modulo the modulus
-    pub four-steps : (t₁ t₂ t₃ t₄ : ℕ) → t₁ ≡ b → t₂ ≡ b * b % modulus → t₃ ≡ b * b * b % modulus → t₄ ≡ b * b * b * b % modulus
+    pub four-steps : (t₁ t₂ t₃ t₄ : ℕ) → t₁ ≡ β → t₂ ≡ β * β % modulus → t₃ ≡ β * β * β % modulus → t₄ ≡ β * β * β * β % modulus
         → (t₄ * (h + a₁) + t₃ * a₂ + t₂ * a₃ + t₁ * a₄) % modulus ≡ h₄ % modulus
     four-steps t₁ t₂ t₃ t₄ e₁ e₂ e₃ e₄ =
         let u : ℕ = h + a₁ in
-        let s₁ : t₄ * u % modulus ≡ b * b * b * b * u % modulus = ap (λ (z : ℕ). z * u % modulus) e₄ ∙ mul-mod (b * b * b * b) u modulus in
-        let s₂ = sum-more (t₄ * u) (b * b * b * b * u) t₃ (b * b * b) a₂ modulus s₁ e₃ in
-        let s₃ = sum-more (t₄ * u + t₃ * a₂) (b * b * b * b * u + b * b * b * a₂) t₂ (b * b) a₃ modulus s₂ e₂ in
-        let o : t₁ ≡ b % modulus = e₁ ∙ sym (mod-eq-of-lt {n = b} {m = modulus} (omega (arith, base-below seed))) in
-        sum-more (t₄ * u + t₃ * a₂ + t₂ * a₃) (b * b * b * b * u + b * b * b * a₂ + b * b * a₃) t₁ b a₄ modulus s₃ o
+        let s₁ : t₄ * u % modulus ≡ β * β * β * β * u % modulus = ap (λ (z : ℕ). z * u % modulus) e₄ ∙ mul-mod (β * β * β * β) u modulus in
+        let s₂ = sum-more (t₄ * u) (β * β * β * β * u) t₃ (β * β * β) a₂ modulus s₁ e₃ in
+        let s₃ = sum-more (t₄ * u + t₃ * a₂) (β * β * β * β * u + β * β * β * a₂) t₂ (β * β) a₃ modulus s₂ e₂ in
+        let o : t₁ ≡ β % modulus = e₁ ∙ sym (mod-eq-of-lt {n = β} {m = modulus} (omega (arith, base-below seed))) in
+        sum-more (t₄ * u + t₃ * a₂ + t₂ * a₃) (β * β * β * β * u + β * β * β * a₂ + β * β * a₃) t₁ β a₄ modulus s₃ o
         ∙ ap (λ (z : ℕ). z % modulus) spread
 
   pub print-four : (s : List ℕ) (i h a₁ a₂ a₃ a₄ r : ℕ) → i + 4 ≤ length s
@@ -150,83 +150,83 @@ module _ (seed : ℕ) where
   -- a window moved on
   module _ (T : List ℕ) (p n : ℕ) (l : p + n < length T) where
     abbrev here : ℕ
-    here = digits b 0 (stretch T p n)
+    here = digits β 0 (stretch T p n)
 
     abbrev next : ℕ
-    next = digits b 0 (stretch T (p + 1) n)
+    next = digits β 0 (stretch T (p + 1) n)
 
-    entered : digits b 0 (stretch T p (n + 1)) ≡ here * b + getD T (p + n) 0
+    entered : digits β 0 (stretch T p (n + 1)) ≡ here * β + getD T (p + n) 0
     entered =
-        ap (digits b 0) (stretch-add T p n 1 ∙ ap (λ (s : List ℕ). stretch T p n ++ s) (one-byte T (p + n) l))
-        ∙ digits-last b 0 (stretch T p n) (getD T (p + n) 0)
+        ap (digits β 0) (stretch-add T p n 1 ∙ ap (λ (s : List ℕ). stretch T p n ++ s) (one-byte T (p + n) l))
+        ∙ digits-last β 0 (stretch T p n) (getD T (p + n) 0)
 
-    left-out : digits b 0 (stretch T p (1 + n)) ≡ getD T p 0 * b ^ n + next
+    left-out : digits β 0 (stretch T p (1 + n)) ≡ getD T p 0 * β ^ n + next
     unfolding digits
     left-out =
-        let z : 0 * b + getD T p 0 ≡ getD T p 0 = omega (arith, zero-mul b) in
-        ap (digits b 0) (stretch-add T p 1 n ∙ ap (λ (s : List ℕ). s ++ stretch T (p + 1) n) (one-byte T p (omega arith)))
-        ∙ digits-lift b (0 * b + getD T p 0) (stretch T (p + 1) n)
-        ∙ ap₂ (λ (x k : ℕ). x * b ^ k + next) z (length-stretch T (p + 1) n (omega arith))
+        let z : 0 * β + getD T p 0 ≡ getD T p 0 = omega (arith, zero-mul β) in
+        ap (digits β 0) (stretch-add T p 1 n ∙ ap (λ (s : List ℕ). s ++ stretch T (p + 1) n) (one-byte T p (omega arith)))
+        ∙ digits-lift β (0 * β + getD T p 0) (stretch T (p + 1) n)
+        ∙ ap₂ (λ (x k : ℕ). x * β ^ k + next) z (length-stretch T (p + 1) n (omega arith))
 
-    one-step : (here * b + getD T (p + n) 0) * b ≡ next * b + b ^ (n + 1) * getD T p 0
+    one-step : (here * β + getD T (p + n) 0) * β ≡ next * β + β ^ (n + 1) * getD T p 0
     one-step =
         let e : n + 1 ≡ 1 + n = omega arith in
         let o : ℕ = getD T p 0 in
-        let w : b ^ (n + 1) * o ≡ o * b ^ n * b =
-        ap (λ (k : ℕ). b ^ k * o) (add-one n) ∙ ap (λ (k : ℕ). k * o) (pow-suc b n) ∙ mul-comm (b ^ n * b) o ∙ sym (mul-assoc o (b ^ n) b) in
-        let d : (o * b ^ n + next) * b ≡ o * b ^ n * b + next * b = add-mul (o * b ^ n) next b in
-        ap (λ (z : ℕ). z * b) (sym entered ∙ ap (λ (k : ℕ). digits b 0 (stretch T p k)) e ∙ left-out) ∙ omega (arith, w, d)
+        let w : β ^ (n + 1) * o ≡ o * β ^ n * β =
+        ap (λ (k : ℕ). β ^ k * o) (add-one n) ∙ ap (λ (k : ℕ). k * o) (pow-suc β n) ∙ mul-comm (β ^ n * β) o ∙ sym (mul-assoc o (β ^ n) β) in
+        let d : (o * β ^ n + next) * β ≡ o * β ^ n * β + next * β = add-mul (o * β ^ n) next β in
+        ap (λ (z : ℕ). z * β) (sym entered ∙ ap (λ (k : ℕ). digits β 0 (stretch T p k)) e ∙ left-out) ∙ omega (arith, w, d)
 
-    pub print-roll : (h t x out : ℕ) → h ≡ print seed (stretch T p n) → t ≡ b ^ (n + 1) % modulus → out ≡ getD T p 0 → x ≡ getD T (p + n) 0
-        → ((h + x) * b + out * (modulus - t)) % modulus ≡ print seed (stretch T (p + 1) n)
+    pub print-roll : (h t x out : ℕ) → h ≡ print seed (stretch T p n) → t ≡ β ^ (n + 1) % modulus → out ≡ getD T p 0 → x ≡ getD T (p + n) 0
+        → ((h + x) * β + out * (modulus - t)) % modulus ≡ print seed (stretch T (p + 1) n)
     unfolding print
     print-roll h t x out eh et eo ex =
-        let lt : t < modulus = omega (arith, et, mod-lt (b ^ (n + 1)) {m = modulus} (omega arith)) in
+        let lt : t < modulus = omega (arith, et, mod-lt (β ^ (n + 1)) {m = modulus} (omega arith)) in
         let q : modulus - t + t ≡ modulus = omega arith in
         let d : modulus * out ≡ out * (modulus - t) + t * out =
         ap (λ (z : ℕ). z * out) (sym q) ∙ add-mul (modulus - t) t out ∙ ap (λ (z : ℕ). z + t * out) (mul-comm (modulus - t) out) in
-        let s : (h + x) * b + out * (modulus - t) + t * out ≡ (h + x) * b + modulus * out = omega (arith, d) in
-        let r : h % modulus ≡ here * b % modulus =
-        ap (λ (z : ℕ). z % modulus) eh ∙ mod-eq-of-lt {n = here * b % modulus} {m = modulus} (mod-lt (here * b) (omega arith)) in
-        cancel ((h + x) * b + out * (modulus - t)) (next * b) (t * out) modulus (omega arith)
-        (ap (λ (z : ℕ). z % modulus) s ∙ add-mul-mod-self-left ((h + x) * b) modulus out
-        ∙ same-product (h + x) (here * b + x) b modulus (same-sum h (here * b) x modulus r)
-        ∙ ap (λ (z : ℕ). (here * b + z) * b % modulus) ex
-        ∙ ap (λ (z : ℕ). z % modulus) (one-step ∙ ap (λ (z : ℕ). next * b + b ^ (n + 1) * z) (sym eo))
-        ∙ sym (added (next * b) t (b ^ (n + 1)) out modulus et))
+        let s : (h + x) * β + out * (modulus - t) + t * out ≡ (h + x) * β + modulus * out = omega (arith, d) in
+        let r : h % modulus ≡ here * β % modulus =
+        ap (λ (z : ℕ). z % modulus) eh ∙ mod-eq-of-lt {n = here * β % modulus} {m = modulus} (mod-lt (here * β) (omega arith)) in
+        cancel ((h + x) * β + out * (modulus - t)) (next * β) (t * out) modulus (omega arith)
+        (ap (λ (z : ℕ). z % modulus) s ∙ add-mul-mod-self-left ((h + x) * β) modulus out
+        ∙ same-product (h + x) (here * β + x) β modulus (same-sum h (here * β) x modulus r)
+        ∙ ap (λ (z : ℕ). (here * β + z) * β % modulus) ex
+        ∙ ap (λ (z : ℕ). z % modulus) (one-step ∙ ap (λ (z : ℕ). next * β + β ^ (n + 1) * z) (sym eo))
+        ∙ sym (added (next * β) t (β ^ (n + 1)) out modulus et))
 
   -- the fingerprint of two stretches, one after the other
-  pub print-join : (T : List ℕ) (p a n h t g : ℕ) → p + a + n ≤ length T → h ≡ print seed (stretch T p a) → t ≡ b ^ n % modulus
+  pub print-join : (T : List ℕ) (p a n h t g : ℕ) → p + a + n ≤ length T → h ≡ print seed (stretch T p a) → t ≡ β ^ n % modulus
       → g ≡ print seed (stretch T (p + a) n) → (h * t + g) % modulus ≡ print seed (stretch T p (a + n))
   unfolding print
   print-join T p a n h t g fits eh et eg =
-      let u : ℕ = digits b 0 (stretch T p a) in
-      let v : ℕ = digits b 0 (stretch T (p + a) n) in
-      let digits-are : digits b 0 (stretch T p (a + n)) ≡ u * b ^ n + v =
-      ap (digits b 0) (stretch-add T p a n) ∙ digits-append b 0 (stretch T p a) (stretch T (p + a) n) ∙ digits-lift b u (stretch T (p + a) n)
-      ∙ ap (λ (k : ℕ). u * b ^ k + v) (length-stretch T (p + a) n fits) in
-      let swap : u * b ^ n * b ≡ u * b * b ^ n = mul-assoc u (b ^ n) b ∙ ap (λ (z : ℕ). u * z) (mul-comm (b ^ n) b) ∙ sym (mul-assoc u b (b ^ n)) in
-      let both : digits b 0 (stretch T p (a + n)) * b ≡ u * b * b ^ n + v * b =
-      ap (λ (z : ℕ). z * b) digits-are ∙ add-mul (u * b ^ n) v b ∙ ap (λ (z : ℕ). z + v * b) swap in
-      let first : h * t % modulus ≡ u * b * b ^ n % modulus =
-      ap (λ (y : ℕ). y * t % modulus) eh ∙ mul-mod (u * b) t modulus
-      ∙ ap (λ (y : ℕ). y % modulus) (mul-comm (u * b) t)
-      ∙ ap (λ (y : ℕ). y * (u * b) % modulus) et ∙ mul-mod (b ^ n) (u * b) modulus
-      ∙ ap (λ (y : ℕ). y % modulus) (mul-comm (b ^ n) (u * b)) in
-      same-sum (h * t) (u * b * b ^ n) g modulus first
-      ∙ ap (λ (y : ℕ). (u * b * b ^ n + y) % modulus) eg
-      ∙ add-mod-mod (u * b * b ^ n) (v * b) modulus
+      let u : ℕ = digits β 0 (stretch T p a) in
+      let v : ℕ = digits β 0 (stretch T (p + a) n) in
+      let digits-are : digits β 0 (stretch T p (a + n)) ≡ u * β ^ n + v =
+      ap (digits β 0) (stretch-add T p a n) ∙ digits-append β 0 (stretch T p a) (stretch T (p + a) n) ∙ digits-lift β u (stretch T (p + a) n)
+      ∙ ap (λ (k : ℕ). u * β ^ k + v) (length-stretch T (p + a) n fits) in
+      let swap : u * β ^ n * β ≡ u * β * β ^ n = mul-assoc u (β ^ n) β ∙ ap (λ (z : ℕ). u * z) (mul-comm (β ^ n) β) ∙ sym (mul-assoc u β (β ^ n)) in
+      let both : digits β 0 (stretch T p (a + n)) * β ≡ u * β * β ^ n + v * β =
+      ap (λ (z : ℕ). z * β) digits-are ∙ add-mul (u * β ^ n) v β ∙ ap (λ (z : ℕ). z + v * β) swap in
+      let first : h * t % modulus ≡ u * β * β ^ n % modulus =
+      ap (λ (y : ℕ). y * t % modulus) eh ∙ mul-mod (u * β) t modulus
+      ∙ ap (λ (y : ℕ). y % modulus) (mul-comm (u * β) t)
+      ∙ ap (λ (y : ℕ). y * (u * β) % modulus) et ∙ mul-mod (β ^ n) (u * β) modulus
+      ∙ ap (λ (y : ℕ). y % modulus) (mul-comm (β ^ n) (u * β)) in
+      same-sum (h * t) (u * β * β ^ n) g modulus first
+      ∙ ap (λ (y : ℕ). (u * β * β ^ n + y) % modulus) eg
+      ∙ add-mod-mod (u * β * β ^ n) (v * β) modulus
       ∙ ap (λ (y : ℕ). y % modulus) (sym both)
 
-  pub power-next : (w i : ℕ) → w ≡ b ^ i % modulus → w * b % modulus ≡ b ^ (i + 1) % modulus
-  power-next w i e = power-more w b i modulus e
+  pub power-next : (w i : ℕ) → w ≡ β ^ i % modulus → w * β % modulus ≡ β ^ (i + 1) % modulus
+  power-next w i e = power-more w β i modulus e
 
-  pub first-power : (o : ℕ) → o ≡ b → o ≡ b % modulus
-  first-power o e = e ∙ sym (mod-eq-of-lt {n = b} {m = modulus} (omega (arith, base-below seed)))
+  pub first-power : (o : ℕ) → o ≡ β → o ≡ β % modulus
+  first-power o e = e ∙ sym (mod-eq-of-lt {n = β} {m = modulus} (omega (arith, base-below seed)))
 
-  pub next-power : (w o x r : ℕ) → w ≡ x % modulus → o ≡ b → r ≡ (w * o + 0) % modulus → r ≡ x * b % modulus
+  pub next-power : (w o x r : ℕ) → w ≡ x % modulus → o ≡ β → r ≡ (w * o + 0) % modulus → r ≡ x * β % modulus
   next-power w o x r ew eo er =
-      er ∙ ap (λ (y : ℕ). y % modulus) (add-zero (w * o)) ∙ ap₂ (λ (y k : ℕ). y * k % modulus) ew eo ∙ mul-mod x b modulus
+      er ∙ ap (λ (y : ℕ). y % modulus) (add-zero (w * o)) ∙ ap₂ (λ (y k : ℕ). y * k % modulus) ew eo ∙ mul-mod x β modulus
 
 -- sums and products fit
 pub product-fits : (x y : ℕ) → x < 4294967296 → y < 4294967296 → x * y ≤ 18446744065119617025
