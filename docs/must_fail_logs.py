@@ -35,8 +35,8 @@ REFUTED = [
 # the prover gave up before it had computed a side
 LIMIT = r"\d+ steps|step limit|ResourceLimit"
 DIFFER = (
-    r"(?:the two types differ only|computed as far as they go, the two types first differ) where one has `([^`]*)`\s*\(expected\)"
-    r".*?and the other has `([^`]*)`\s*\(found\)"
+    r"(?:the two (?:types|sides) differ only|computed as far as they go, the two types first differ) where one has `([^`]*)`\s*\((?:expected|left)\)"
+    r".*?and the other has `([^`]*)`\s*\((?:found|right)\)"
 )
 MISMATCH = r"expected type `([^`]*)`\s*,?\s*but this has type `([^`]*)`"
 # relations that the prover prints under other names
@@ -167,6 +167,7 @@ FACT_SAMPLES = [
     "`refused-width`: `rw` has no last argument, so what it leaves must be a path whose two ends are equal, and `Path ℕ 20 (cond b 0 21)` is none",
     "it is not proved that the sum fits",
     "`byte-at-spec`: computed as far as they go, the two types differ only where one has `11` (expected) and the other has `10` (found)",
+    "`copy-spec`: computed as far as they go, the two sides differ only where one has `0` (left) and the other has `c .before .loop .i` (right)",
     "`from-spec`: computed as far as they go, the two types first differ where one has `n / width`\n  (expected) and the other has `width` (found)",
     "`found-from`: as printed, the two types differ only where one has `textOf t` (expected), right after `q ≡ first (rowsOf (`\n"
     "  and the other has `drop p (textOf t)` (found)",
