@@ -198,7 +198,7 @@ fn spare_levels_zero(t: &[u8], levels: usize) -> bool
     true
 }
 
-// Level 0's records begin after the header, each level follows the last, then the leaf bytes.
+// The tables are adjacent: header, records of level 0 and of each further level, leaf bytes.
 fn tables_meet(t: &[u8], levels: usize, size: u32) -> bool
     requires { ⌜ (headerLength ≤ length (now t)) × (levels ≤ maxLevels) × (size ≡ recordSize (now t)) × (size ≤ maxRecord) ⌝ }
     ensures { λ r. ⌜ r ≡ tablesMeet (now (t .entry)) levels ⌝ }
