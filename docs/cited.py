@@ -63,7 +63,7 @@ def from_format(source, headings):
     """The page's own table of its headings, and those that it cites in italics at the start of a parenthesis."""
     table = source.split("| Subject | Headings |", 1)[1].split("\n\n", 1)[0]
     named = [heading for row in re.findall(r"^\| [^|]+ \| (.*) \|$", table, re.M) for heading in re.split(r", (?=[A-Z])", row)]
-    for heading in named + re.findall(r"\(\*([^*]+)\*", source):
+    for heading in named + re.findall(r"\(\*([^*]+)\*", re.sub(r"\s+", " ", source)):
         if heading not in headings:
             yield f"docs/FORMAT.md has no heading {heading!r}"
 
