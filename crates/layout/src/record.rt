@@ -14,7 +14,7 @@ ghost use Rattle.format.specs.HeaderPlaces.{headerLength};
 ghost use Rattle.format.specs.Layout as at;
 ghost use Rattle.layout.specs.Record.{FieldIn, EdgesIn};
 
-// The words of a record, the number of each named once: of every record, ..
+// Word numbers in a record. Words of every record.
 pub const START: u32 = 0;
 
 pub const KIND: u32 = 1;
@@ -25,7 +25,7 @@ pub const GAP: u32 = 3;
 
 pub const PLAIN_WORDS: u32 = 4;
 
-// .. and for each counted byte.
+// Words for each counted byte.
 pub const BEFORE: u32 = PLAIN_WORDS;
 
 pub const INSIDE: u32 = PLAIN_WORDS + 1;
