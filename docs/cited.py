@@ -3,11 +3,11 @@
 
     docs/cited.py
 
-Comments in crates cite docs/FORMAT.md by heading and quote its sentences: each heading, and each quoted part between '..', must stand on that page (case, ends of
-sentences and marks do not count). Documents name files, must-fail edits and items of crates: each must be there. Needs python3 and nothing else."""
+Comments in crates and documents cite docs/FORMAT.md by heading, and comments cite a name by its crate (`NAME` of crate `CRATE`). Comments and documents name files;
+documents name must-fail edits and items of crates. Each must be there. Sentences are not compared: a comment says things in its own words.
+Needs python3 and nothing else."""
 
 import re
-import sys
 from pathlib import Path
 
 ROOT = Path(__file__).resolve().parents[1]
@@ -15,46 +15,42 @@ CRATES = ROOT / "crates"
 PAGES = ["README.md", "CONTRIBUTING.md", "docs/FORMAT.md", "docs/PROOFS.md", "docs/DECISIONS.md", "docs/BENCHMARKS.md"]
 
 
-def plain(words):
-    return re.sub(r"\s+", " ", re.sub(r"[*`]", "", words)).strip().strip(".,;: ").lower()
-
-
 def comments(text):
-    """The comment lines of a file as one text, and for each of them where it begins there, with its line number."""
-    joined, starts = "", []
-    for number, line in enumerate(text.splitlines(), 1):
-        comment = re.match(r"\s*(?:--|//)\s?(.*)", line)
-        if comment:
-            starts.append((len(joined), number))
-            joined += comment[1] + " "
-    return joined, starts
+    """The comment lines of a file as one text."""
+    return " ".join(re.findall(r"^\s*(?:--|//)\s?(.*)", text, re.M))
 
 
-def from_comments():
-    source = (ROOT / "docs/FORMAT.md").read_text()
-    page, headings = plain(source), set(re.findall(r"^#+ (.*?)\s*$", source, re.M))
+def headings_missing(text, headings):
+    """The headings of docs/FORMAT.md that a text cites and that the page does not have."""
+    for cited in re.findall(r'FORMAT\.md\)?[,:] ("[^"]*"(?:, "[^"]*")*)', text):
+        yield from (heading for heading in re.findall(r'"([^"]*)"', cited) if heading not in headings)
+
+
+def files_missing(text):
+    """The files of crates/ and docs/ that a text names and that are not there."""
+    for path in re.findall(r"\b(?:crates|docs)/[\w/.*+-]+", text):
+        path = path.rstrip("./")
+        if "NAME" not in path and not (ROOT / path).exists() and not list(ROOT.glob(path)):
+            yield path
+
+
+def from_comments(headings):
+    definitions = {path.name: "".join(f.read_text() for f in path.glob("*/*.antt")) for path in CRATES.iterdir() if path.is_dir()}
     for path in sorted([*CRATES.glob("**/*.antt"), *CRATES.glob("**/*.rt")]):
-        text = path.read_text()
-        for cited in re.findall(r'docs/FORMAT\.md[,:] ("[^"]*"(?:, "[^"]*")*)', text):
-            for heading in re.findall(r'"([^"]*)"', cited):
-                if heading not in headings:
-                    yield f"{path.relative_to(ROOT)}: docs/FORMAT.md has no heading {heading!r}"
-        joined, starts = comments(text)
-        for quoted in re.finditer(r'"([^"]*)"', joined):
-            for part in map(plain, quoted[1].split("..")):
-                if len(part.split()) > 1 and part not in page:
-                    line = max(number for start, number in starts if start <= quoted.start())
-                    yield f"{path.relative_to(ROOT)}:{line}: not in docs/FORMAT.md: {part}"
+        name, text = path.relative_to(ROOT), comments(path.read_text())
+        yield from (f"{name}: docs/FORMAT.md has no heading {heading!r}" for heading in headings_missing(text, headings))
+        yield from (f"{name}: there is no {file}" for file in files_missing(text))
+        for item, crate in re.findall(r"`([^`\s]+)` of crate `(\w+)`", text):
+            if not re.search(rf"(?<![\w-]){re.escape(item)}(?![\w-])", definitions.get(crate, "")):
+                yield f"{name}: crate {crate} has no {item}"
 
 
-def from_documents():
+def from_documents(headings):
     code = {path.name: "".join(f.read_text() for f in path.glob("src/*.rt")) for path in CRATES.iterdir() if path.is_dir()}
     for name in PAGES:
         text = (ROOT / name).read_text()
-        for path in re.findall(r"crates/[\w/.*+-]+", text):
-            path = path.rstrip("./")
-            if "NAME" not in path and not (ROOT / path).exists() and not list(ROOT.glob(path)):
-                yield f"{name}: there is no {path}"
+        yield from (f"{name}: docs/FORMAT.md has no heading {heading!r}" for heading in headings_missing(text, headings))
+        yield from (f"{name}: there is no {file}" for file in files_missing(text))
         for crate, label in re.findall(r"`(\w+)/([a-z0-9-]+)`", text):
             if crate in code and not (CRATES / crate / "must-fail" / f"{label}.edit").exists() and not (CRATES / crate / label).exists():
                 yield f"{name}: there is no edit {crate}/{label}"
@@ -63,8 +59,19 @@ def from_documents():
                 yield f"{name}: {crate} has no {item}"
 
 
+def from_format(source, headings):
+    """The page's own table of its headings, and those that it cites in italics at the start of a parenthesis."""
+    table = source.split("| Subject | Headings |", 1)[1].split("\n\n", 1)[0]
+    named = [heading for row in re.findall(r"^\| [^|]+ \| (.*) \|$", table, re.M) for heading in re.split(r", (?=[A-Z])", row)]
+    for heading in named + re.findall(r"\(\*([^*]+)\*", re.sub(r"\s+", " ", source)):
+        if heading not in headings:
+            yield f"docs/FORMAT.md has no heading {heading!r}"
+
+
 def main():
-    missing = [*from_comments(), *from_documents()]
+    source = (ROOT / "docs/FORMAT.md").read_text()
+    headings = set(re.findall(r"^#+ (.*?)\s*$", source, re.M))
+    missing = [*from_comments(headings), *from_documents(headings), *from_format(source, headings)]
     if missing:
         raise SystemExit("\n".join(missing))
 

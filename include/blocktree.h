@@ -74,7 +74,7 @@ enum bt_number {
     BT_INPUT = 15,      /* list only: the tree has more than 65,536 bytes */
     BT_PATTERN = 16,    /* the pattern does not have 1 to 256 bytes */
     BT_TABLE = 17,      /* the table has fewer words than the pattern has places */
-    BT_WORK = 18,       /* bt_build_scanned only: the table has fewer than four words for each leaf length of text, a begun one counting whole */
+    BT_WORK = 18,       /* bt_build_scanned only: the table has fewer than bt_scan_words words */
     BT_RANGES = 19,     /* a worn key does not have 1 to 10 cuts, a depth is above 9, or a low depth above its high one */
     BT_WIDTH = 20,      /* the width of rows is 0, or does not divide the text's length */
     BT_OUTPUT = 21,     /* bt_to_columns and bt_from_columns only: the output is shorter than the text */
@@ -134,13 +134,13 @@ uint32_t bt_build(const uint8_t *text, uint64_t text_len, uint32_t leaf, uint32_
  *   lent      text, counted: the counted bytes, rising; work: a table of bt_scan_words(text_len, leaf) words or more, whatever they hold
  *   written   out: the tree in its first *size bytes, the rest as it was; all zero on BT_SPACE; as it was on any other refusal
  *             work: anything, where the answer is 0 or BT_SPACE; as it was on any other refusal
- *             *size: the tree's size; *windows: how many windows of the text were looked up, for each level above the last and each length that its
- *             blocks and pairs of blocks have one at every place from which the text holds that many bytes
+ *             *size: the tree's size; *windows: how many windows of the text were looked up: on each level above the last, text_len + 1 - L for each
+ *             different length L of a block or a pair of blocks
  *   answers   0, 1, 2, 3, 18, 4, asked in this order */
 uint32_t bt_build_scanned(const uint8_t *text, uint64_t text_len, uint32_t leaf, uint32_t arity, uint32_t levels, const uint8_t *counted, uint64_t counted_len,
                           uint32_t *work, uint64_t work_len, uint8_t *out, uint64_t out_len, uint32_t *size, uint32_t *windows);
 
-/* How many words the table of bt_build_scanned must have for a text of n bytes: four for each leaf length, a begun one counting whole (0 where leaf is 0). */
+/* How many words the table of bt_build_scanned must have for a text of n bytes: 4 * (n / leaf, rounded up), and 0 if leaf is 0. */
 uint64_t bt_scan_words(uint32_t n, uint32_t leaf);
 
 /* Write a tree in layout 1, without its edges. It is never larger; bt_check accepts it if it accepts the tree, and every question then has the same answer,
@@ -196,28 +196,27 @@ uint32_t bt_byte(const uint8_t *tree, uint64_t tree_len, uint32_t place, uint32_
  *   answers   0, 5, 6, 7, 10, 14 */
 uint32_t bt_run(const uint8_t *tree, uint64_t tree_len, uint32_t place, uint64_t *offset, uint32_t *length);
 
-/* Copy `length` bytes of the text from a place on. In a layout 2 tree a span of 1 to leaf bytes is read from edges or leaf bytes, by one short walk.
+/* Copy `length` bytes of the text from a place on. If the tree has layout 2 and `length` is 1 to leaf, one short walk reads them from edges or leaf bytes.
  *   lent      tree
  *   written   buffer: its first `length` bytes, the rest as it was; on BT_PATH zeros in the first `length` bytes; as it was on any other refusal
  *             *entered: the blocks entered by that walk, at most twice the levels; 0 for any other span
  *   answers   0, 5, 6, 7, 10, 13, 14 */
 uint32_t bt_span(const uint8_t *tree, uint64_t tree_len, uint32_t place, uint32_t length, uint8_t *buffer, uint64_t buffer_len, uint32_t *entered);
 
-/* How often a byte stands in the first i bytes of the text.
+/* Rank: how often a byte occurs in the first i bytes of the text.
  *   lent      tree
  *   written   *count: how often; *entered: the blocks entered on the way (none for i = 0)
  *   answers   0, 5, 6, 7, 10, 11 (also for a byte above 255), 14 */
 uint32_t bt_count(const uint8_t *tree, uint64_t tree_len, uint32_t byte, uint32_t i, uint64_t *count, uint32_t *entered);
 
-/* The place of the j-th such byte, j from 1.
+/* Select: the place of the j-th such byte, j from 1.
  *   lent      tree
- *   written   *place: where it stands; *entered: the blocks on the path of that place
+ *   written   *place: where it occurs; *entered: the blocks on the path of that place
  *   answers   0, 5, 6, 7, 11 (also for a byte above 255), 12, 14 */
 uint32_t bt_find(const uint8_t *tree, uint64_t tree_len, uint32_t byte, uint32_t j, uint32_t *place, uint32_t *entered);
 
-/* Copy row q, q from 1: what stands between the byte 10 before it (or the text's start) and its own, which is not copied, nor is
- * one byte 13 directly before it. If the text's last byte is not 10, what stands after the last byte 10 (or all the text) is one more row, with a byte
- * 13 at its end if it has one. Byte 10 must be counted. BT_NO_SUCH: the text has no row q.
+/* Copy row q, q from 1. A row ends with a byte 10, or with a byte 13 and a byte 10; the end is not copied. Bytes after the last byte 10, or a text without
+ * any, are a row of their own, which keeps a byte 13 at its end. Byte 10 must be counted. BT_NO_SUCH: the text has no row q.
  *   lent      tree
  *   written   buffer: the row in its first *length bytes, the rest as it was; on BT_PATH as it was, or zeros in a first part; as it was on any
  *             other refusal
@@ -254,8 +253,8 @@ uint32_t bt_places(const uint8_t *tree, uint64_t tree_len, const uint8_t *patter
  *   answers   0, 5, 6, 7, 16 */
 uint32_t bt_places_words(const uint8_t *tree, uint64_t tree_len, uint32_t length, uint32_t *words);
 
-/* A worn key: move a mark on to the next row that matches. A row is a key if it is a code of 1 to 12 bytes other than space, one space, and 1 to 10
- * cuts, a digit each; rows are those of bt_row. It matches if it has as many cuts as there are ranges, each of a depth in its range.
+/* A worn key: move a mark on to the next row that matches. Rows are those of bt_row. A row is a key if it has a code, one space, and 1 to 10 digits, the
+ * cuts; the code has 1 to 12 bytes and no space. A key matches if it has one cut for each range, with a depth in that range.
  *   lent      tree, ranges: for each cut its low and its high depth, 0 to 9, a byte each; 2 to 2 * BT_MAX_CUTS bytes
  *   written   *mark is in and out: the number of the row shown last, 0 before the first. It goes to the row that is shown; if no row after it matches,
  *             to the number of rows, or it stays if it stands there or beyond. A refusal leaves it as it was
@@ -276,8 +275,8 @@ uint32_t bt_next_match(const uint8_t *tree, uint64_t tree_len, const uint8_t *ra
  * the mark's row (bt_find) and reads the text from there to the end of the returned row. */
 uint32_t bt_next_with_prefix(const uint8_t *tree, uint64_t tree_len, const uint8_t *prefix, uint64_t prefix_len, uint32_t *mark, uint32_t *row);
 
-/* Columns before rows: a text of rows of one width, end byte included, rearranged; the byte in column b of row a goes to place b * rows + a, both counted
- * from 0. In books with rows of one width columns repeat more than rows, and the tree of the rearranged text can be smaller.
+/* Columns before rows, a matrix transposition: the rows of the text all have `width` bytes, end byte included. With rows and columns counted from 0, the
+ * byte of row a and column b moves to place b * rows + a. Columns of such a book often repeat more, so that the tree of the result can be smaller.
  *   lent      text, of any length
  *   written   out: the rearranged text in its first text_len bytes, the rest as it was; a refusal leaves it as it was
  *   answers   0, 20 (also width 0 of an empty text), 21
@@ -308,9 +307,9 @@ uint32_t bt_digest(const uint8_t *tree, uint64_t tree_len, uint8_t *out, uint64_
  *   answers   0, 13 */
 uint32_t bt_digest_text(const uint8_t *text, uint64_t text_len, uint8_t *out, uint64_t out_len);
 
-/* A guide to the level 0 blocks, kept beside a tree: for each counted byte in order, the number of the level 0 block that holds its 1st, 65th, 129th
- * occurrence and so on, a word each, four bytes, lowest first. bt_find and bt_row step through level 0 from its first block; with a guide they start at
- * an entry. How many words the guide of a tree has:
+/* A guide (sampled select directory) is kept in addition to a tree. It has words, four bytes each, lowest first: for each counted byte in turn, the number
+ * of the block of level 0 with occurrence 1, 65, 129, .. of the byte. bt_find and bt_row step through level 0 from its first block; with a guide they
+ * start at an entry. How many words the guide of a tree has:
  *   lent      tree
  *   written   *words: for each counted byte its total / 64, rounded up, summed; the guide has four bytes for each
  *   answers   0, 5, 6, 7 */
@@ -331,7 +330,7 @@ uint32_t bt_check_guide(const uint8_t *tree, uint64_t tree_len, const uint8_t *g
  * another one, or on a tree that bt_check refuses, the answer may be any place below n with any figures, or BT_PATH.
  *   lent      tree, guide
  *   written   *place, *entered as bt_find; *steps: the steps on level 0, counted on the way: with an accepted guide the number of the level 0 block that
- *             holds the place less the entry of the last listed occurrence not after the j-th
+ *             holds the place less entry (j - 1) / 64 of the byte
  *   answers   0, 5, 6, 7, 11, 12, 14 */
 uint32_t bt_find_guided(const uint8_t *tree, uint64_t tree_len, const uint8_t *guide, uint64_t guide_len, uint32_t byte, uint32_t j, uint32_t *place,
                         uint32_t *entered, uint32_t *steps);
@@ -355,14 +354,14 @@ uint32_t bt_next_with_prefix_guided(const uint8_t *tree, uint64_t tree_len, cons
 /* Where the first of two trees stands, by bt_order. */
 enum bt_standing { BT_BEFORE = 1, BT_SAME = 2, BT_AFTER = 3 };
 
-/* The order of two trees' texts: by the first byte that differs, unsigned; where one text is the beginning of the other, the shorter stands first. The
- * trees may have any settings and layouts, and may be the same memory.
+/* The lexicographic order of two trees' texts, byte by byte as unsigned numbers; a text that is a prefix of the other comes first. The trees may have any
+ * settings and layouts, and may be the same memory.
  *   lent      one, other
  *   written   *order: where one stands, BT_BEFORE, BT_SAME or BT_AFTER; *shared: the length of the shared beginning
  *             *first: the tree that stands first, 1 for one (also if they are the same) or 2 for other
  *   answers   0, 5, 6, 7 of one, 5, 6, 7 of other, 14
- * On trees that bt_check accepts it is a total order on the texts, so that a shelf can be sorted by it. Both are read from their start, up to the first
- * difference or the shorter end and no further: BT_PATH is met there or not at all. */
+ * On trees that bt_check accepts it is a total order on the texts, so that a shelf can be sorted by it. Both are read from their start until they differ
+ * or one ends, and no further: a path that breaks after that gives no BT_PATH. */
 uint32_t bt_order(const uint8_t *one, uint64_t one_len, const uint8_t *other, uint64_t other_len, uint32_t *order, uint32_t *shared, uint32_t *first);
 
 /* The lines of the list program: one for each level, "level blocks kept pointing".

@@ -360,11 +360,11 @@ class Tree:
         return self.span(0, len(self))
 
     def count(self, byte: int, length: int) -> int:
-        """How often a counted byte stands in the first `length` bytes."""
+        """Rank: how often a counted byte occurs in the first `length` bytes."""
         return _ask("bt_count", self.bytes, byte, length)[0]
 
     def find(self, byte: int, number: int, guide: Optional[Bytes] = None) -> int:
-        """Where a counted byte stands for the number-th time, from 1."""
+        """Select: the place of a counted byte's occurrence with this number, from 1."""
         if guide is None:
             return _ask("bt_find", self.bytes, byte, number)[0]
         return _ask("bt_find_guided", self.bytes, guide, byte, number)[0]

@@ -15,8 +15,8 @@ pub struct Guided {
 }
 
 impl Tree<'_> {
-    /// The guide of a tree that the check accepts: for each counted byte in order the number of the level 0 block that holds its 1st, 65th, 129th
-    /// occurrence and so on, a word each, lowest byte first.
+    /// The guide of a tree that the check accepts, in words of four bytes, lowest first: for each counted byte in turn the number of the block of level 0
+    /// with its occurrence 1, 65, 129, ..
     pub fn make_guide(&self) -> Result<Vec<u8>, Refusal> {
         let (number, words) = calls::guide_words(self.bytes);
         // no accepted tree has more, and one that the check refuses needs no table

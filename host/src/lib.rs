@@ -226,8 +226,8 @@ impl<'a> Tree<'a> {
         answer(number, table)
     }
 
-    /// The first row after `mark` that is a key, has as many cuts as there are ranges, and each in its range: a code of 1 to 12 bytes other than
-    /// space, one space, and 1 to 10 digits. The mark is moved on to it; if there is none, to the number of rows, unless it stands there or beyond.
+    /// The first row after `mark` that is a key with one cut for each range, and each cut in its range. A key is a code of 1 to 12 bytes without a space,
+    /// then one space, then 1 to 10 digits. The mark moves to that row; if there is none, to the number of rows, unless it is there or beyond.
     pub fn next_match(&self, ranges: &[Range], mark: &mut u32) -> Result<Option<u32>, Refusal> {
         let (number, row) = calls::next_match(self.bytes, &matches::lent(ranges), mark);
         answer(number, (row != 0).then_some(row))

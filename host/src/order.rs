@@ -14,8 +14,8 @@ pub struct Compared {
 }
 
 impl Tree<'_> {
-    /// The texts are ordered by the first byte that differs; where one is the beginning of the other, the shorter stands first. Settings and layouts play
-    /// no part. Of trees that the check accepts this is a total order, and it is never refused.
+    /// The texts in lexicographic order of their bytes; a prefix of a text comes before it. Settings and layouts play no part. On trees that the check
+    /// accepts this is a total order, and it is never refused.
     ///
     /// ```
     /// use codebook::{build, Settings, Tree};

@@ -23,7 +23,7 @@ pub extern "C" fn bt_from_columns(text: &[u8], width: u32, out: &mut [u8]) -> u3
     columns::from_columns(text, width, out)
 }
 
-// Copies row a, counted from 0, read by columns from the tree of a rearranged text.
+// Copies row a of the original text, counted from 0, from the tree of the text that `bt_to_columns` made.
 #[no_mangle]
 pub extern "C" fn bt_column_row(tree: &[u8], width: u32, a: u32, buffer: &mut [u8]) -> u32
     ensures { λ r. ⌜ r ≡ columnNumber (now (tree .entry)) width a (length (now (buffer .entry))) ⌝ }

@@ -65,12 +65,12 @@ total-right t v c h low =
     rw (lt-ltb c (at.countedCount t) h, ← counted-at t c h low) e
 
 module _ (κs : Lfts 2) (t figures after : RefT (List ℕ)) (r : ℕ) (a : Info κs t figures after r) where
-  -- a tree that passes questions 5 to 7, ..
+  -- questions 5 to 7 pass: the figures are the definition's
   pub info-told : readable (now t) ≡ 0 → (r ≡ 0) × (now after ≡ figuresOf (now t))
   unfolding infoLeaves
   info-told pass = (a .0 ∙ pass, a .1 ∙ rw pass)
 
-  -- .. and any other: its number, and every figure 0
+  -- refused by one of them: its number, and every figure is 0
   pub info-refused : (q : ℕ) → readable (now t) ≡ suc q → (r ≡ suc q) × (now after ≡ replicate figureCount 0)
   unfolding infoLeaves
   info-refused q e = (a .0 ∙ e, a .1 ∙ rw (e, ne-eqb (suc q) 0 (λ z. omega arith)))

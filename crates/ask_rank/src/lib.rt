@@ -7,13 +7,13 @@ use layout::header;
 use layout::header::HeaderRead;
 ghost use Rattle.ask_rank.specs.Counts.{CountAnswer};
 
-// How often a byte stands, with the number of blocks entered, or the number of the question that refuses.
+// How often a byte occurs, with the number of blocks entered; or the refusal.
 pub enum Counted {
     Times(u64, u32),
     Refused(u32),
 }
 
-// How often a counted byte stands in the first i bytes of the text.
+// Rank: how often a counted byte occurs in the first i bytes of the text.
 pub fn count(t: &[u8], byte: u8, i: u32) -> Counted
     ensures { λ r. ⌜ CountAnswer (now (t .entry)) byte i r ⌝ }
 {

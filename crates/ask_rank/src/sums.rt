@@ -1,6 +1,5 @@
-// The sums down the path of a place: what is added and what is taken off, apart. The step for a kept block and the step for a
-// pointing block call each other: twice the levels left, plus one if a pointer may still be followed, falls. A step carries no header,
-// and its answer is one word.
+// The sums along the path of a place, with the added and the subtracted parts apart. The steps of kept and pointing blocks are mutually
+// recursive. Their measure is 2 × (levels left), plus 1 while a pointer can be followed. A step carries no header and returns one word.
 use ask_totals::Wanted;
 use layout::header::Header;
 use layout::place::BlockNumber;

@@ -1,4 +1,4 @@
-// The marking rule: pairs of blocks that follow each other in the list and in the text.
+// The marking rule: pairs of blocks that are adjacent both in the level's list and in the text.
 use crate::occurrences;
 use build_records::level_written;
 use build_records::level_written::Level;

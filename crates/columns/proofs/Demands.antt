@@ -31,9 +31,9 @@ FromColumns κs text w out after r = from-reads.Post κs (text, (w, (out, tt))) 
 
 -- What either answers and leaves, where U is the text rearranged.
 pub record Rearranges (w : ℕ) (T out U after : List ℕ) (r : ℕ) : Type 0 where
-  -- "It refuses a width of 0 or one that does not divide the length with 20, ..
+  -- Refused with 20: width 0, or a width that is no divisor of the length.
   pub width-refused : widthOk w (length T) ≡ false → (r ≡ 20) × (after ≡ out)
-  -- .. then an output shorter than the input with 21, output untouched."
+  -- Refused with 21 after it: an output that is too short. Both refusals leave the output unchanged.
   pub output-refused : widthOk w (length T) ≡ true → length out < length T → (r ≡ 21) × (after ≡ out)
   -- Else the rearranged text is written, and bytes past it are unchanged.
   pub written : widthOk w (length T) ≡ true → length T ≤ length out → (r ≡ 0) × (after ≡ U ++ drop (length T) out)
@@ -77,7 +77,7 @@ to-columns-input κs text w out after a W is =
     let k = to-columns κs text w out after 0 a in
     turned w (now text) (now out) (columns w (now text)) (now after) W k (columns-length w (now text) (k .passed refl .0)) is
 
--- "Its inverse restores the text": what one call wrote, the other turns back to the text, either way round.
+-- The two calls are inverse to each other: what one wrote, the other turns back to the text, in both orders.
 pub there-and-back : (κs κ : Lfts 2) (text rearranged : Lent) (w : ℕ) (out after back left : Lent) (r : ℕ) → ToColumns κs text w out after 0
     → now rearranged ≡ take (length (now text)) (now after) → FromColumns κ rearranged w back left r → length (now text) ≤ length (now back)
     → (r ≡ 0) × (now left ≡ now text ++ drop (length (now text)) (now back))
@@ -102,7 +102,7 @@ back-and-there κs κ text rearranged w out after back left r a is b room =
     again w (now text) (now out) (uncolumns w (now text)) (now after) (now rearranged) k same is (now back) (now left) r
     (rw back-is at (to-columns κ rearranged w back left r b)) room
 
--- "an empty text stays empty": any width above 0 is taken, and nothing is written.
+-- The empty text is rearranged to itself: any width above 0 is accepted, and nothing is written.
 pub empty-stays : (w : ℕ) (T out U after : List ℕ) (r : ℕ) → Rearranges w T out U after r → T ≡ [] → U ≡ [] → 0 < w → (r ≡ 0) × (after ≡ out)
 empty-stays w T out U after r a none nothing low =
     let ok : widthOk w (length T) ≡ true = rw none (width-some w 0 (λ z. omega arith) ∙ eq-eqb _ 0 (zero-mod w)) in

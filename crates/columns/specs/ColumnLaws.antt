@@ -43,7 +43,7 @@ module _ (r c : ℕ) (T : List ℕ) (size : length T ≡ r * c) where
   unfolding transposed
   transposed-length = length-tabulate (length T) (λ p. getD T (p % r * c + p / r) 0)
 
-  -- "the byte in column b of row a goes to b × rows + a, both counted from 0"
+  -- matrix transposition: place a * c + b of the text, row a and column b, moves to place b * r + a
   pub transposed-at : (a b : ℕ) → a < r → b < c → getD (transposed r c T) (b * r + a) 0 ≡ getD T (a * c + b) 0
   unfolding transposed
   transposed-at a b ha hb =
@@ -115,12 +115,12 @@ module _ (w : ℕ) (T : List ℕ) (ok : widthOk w (length T) ≡ true) where
       let q = row-below p w r (omega (arith, rows-are, mul-comm r w)) in
       transposed-at w r T (rows-are ∙ mul-comm r w) (p / r) (p % r) (q .0) (q .1) ∙ ap (λ (k : ℕ). getD T k 0) (div-add-mod' p r)
 
-  -- "Its inverse restores the text"
+  -- `uncolumns` is a left inverse of `columns`
   pub restored : uncolumns w (columns w T) ≡ T
   unfolding uncolumns columns
   restored = ap (λ (n : ℕ). transposed w (n / w) (columns w T)) columns-length ∙ transposed-back (length T / w) w T rows-are
 
-  -- and the other way round
+  -- and a right inverse
   pub rearranged : columns w (uncolumns w T) ≡ T
   unfolding uncolumns columns
   rearranged =
@@ -142,7 +142,7 @@ row-read w T ok a ha =
     let same = uncolumns-length w T ok in
     rw (same, rearranged w T ok) at (row-by-columns w (uncolumns w T) (rw same ok) a (rw same ha))
 
--- "an empty text stays empty"
+-- the empty text is rearranged to itself
 pub empty-columns : (w : ℕ) → columns w [] ≡ []
 unfolding columns transposed tabulate
 empty-columns w = refl
@@ -151,7 +151,7 @@ pub empty-uncolumns : (w : ℕ) → uncolumns w [] ≡ []
 unfolding uncolumns transposed tabulate
 empty-uncolumns w = refl
 
--- "each is a permutation of the places": each stays below n, and undoes the other
+-- both directions are permutations: each maps places below n to places below n and undoes the other
 module _ (w n : ℕ) (ok : widthOk w n ≡ true) (p : ℕ) (h : p < n) where
   size : n ≡ n / w * w
   size = width-rows w n ok

@@ -18,11 +18,11 @@ module _ (T : List ℕ) (b : ℕ) (starts : List ℕ) where
   unfoldable pub startOf : ℕ → ℕ
   startOf i = getD starts i 0
 
-  -- a block that would pass the text's end is cut short there
+  -- b bytes, or fewer if the text ends before
   unfoldable pub lengthOf : ℕ → ℕ
   lengthOf i = min b (length T - startOf i)
 
-  -- blocks i and i + 1 follow each other in the list and in the text
+  -- blocks i and i + 1 are adjacent both in the list and in the text
   unfoldable pub pairAt : ℕ → Bool
   pairAt i = ltb (suc i) (length starts) && eqb (startOf (suc i)) (startOf i + b)
 

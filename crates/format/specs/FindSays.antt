@@ -34,7 +34,7 @@ module _ (t : List ℕ) where
   pathLength none = 0
   pathLength (some p) = length (p .visits)
 
-  -- what find says on an accepted tree: the place of the j-th such byte, with the length of that place's path
+  -- what find returns on an accepted tree: where the j-th occurrence is, and the length of that place's path
   unfoldable pub found : ℕ → ℕ → Said
   found byte j =
       let p = placeOf byte j (textOf t) in

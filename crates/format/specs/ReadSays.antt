@@ -66,7 +66,7 @@ module _ (t : List ℕ) where
   copyLeaves p len buffer = leavesSpan (copyNumber p len (length buffer)) len (tabulate len (λ k. byteSays (p + k) .value)) buffer
 
   -- Span: what it says, and the buffer afterwards
-  -- in layout 2 a span of 1 to m bytes is short; any other is read by its bytes' paths and reports 0
+  -- short: 1 to m bytes of a layout 2 tree; other spans are read byte by byte along their paths and return 0 as blocks entered
   unfoldable pub isShort : ℕ → Bool
   unfolding at.hasEdges at.settings
   isShort len = at.hasEdges t && leb 1 len && leb len (at.settings t .leaf)

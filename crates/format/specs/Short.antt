@@ -1,4 +1,4 @@
--- The short span of a layout 2 tree: it goes down only while it lies in one block, and where it crosses a border two edges give it.
+-- The walk of a short span of a layout 2 tree: it descends while one block contains the span, and takes the bytes at a border from two edges.
 -- docs/FORMAT.md: "The walk of a short span".
 use mathlib.Core.List.{List, [], _∷_, _++_}
 use mathlib.Core.Option.{Option, none, some}

@@ -1,5 +1,5 @@
--- "The number at a given place is read from any lent bytes that hold its four, even where its record is cut off, and no other byte changes it"
--- (docs/FORMAT.md, "Record"): theorems over what the two calls that read numbers promise.
+-- Request 104 (docs/FORMAT.md, "Record"): four bytes are enough to read a field, and other bytes have no influence. Theorems over what the two calls that
+-- read numbers promise.
 use mathlib.Core.List.{List}
 use mathlib.Core.Path.{_≡_, sym, _∙_}
 use Prim.Native.Nat.{ℕ, _+_, _*_, _≤_, _<_}
@@ -40,11 +40,11 @@ module _ (κs κu : Lfts 1) (t u : Lent) (header : (k : ℕ) → k < headerLengt
   abbrev place : ℕ
   place = at.levelOffset (now t) level + block .0 * at.recordSize (now t) + 4 * f
 
-  -- it can be read where the bytes end with its four, in the middle of the record; ..
+  -- it can be read from bytes that end with its four, in the middle of the record
   pub field-cut-off : headerLength ≤ length (now u) → place + 4 ≤ length (now u) → field-reads.Asked κu (u, (size, (level, (block, (f, tt)))))
   field-cut-off long held = field-held (now t) (now u) header size level (block .0) f h long held
 
-  -- .. and is then the same number.
+  -- the number is then the same
   pub field-in-place : (r s : ℕ) → Field κs t size level block f r → Field κu u size level block f s
       → ((k : ℕ) → place ≤ k → k < place + 4 → getD (now t) k 0 ≡ getD (now u) k 0) → r ≡ s
   field-in-place r s a b same = a ∙ field-agree (now t) (now u) header size level (block .0) f h same ∙ sym b

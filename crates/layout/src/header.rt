@@ -14,7 +14,7 @@ ghost use Rattle.format.specs.Layout.{recordSize};
 ghost use Rattle.format.specs.LayoutLaws.{Readable};
 ghost use Rattle.layout.specs.Header.{headerSays, restRight, spareCounted, spareLevels, tablesMeet, HasSettings, settingsOf, settingsSay, fieldsOf};
 
-// Where the header's words stand, each place named once: six words, the places for counted bytes, ..
+// Offsets in the header. Six words and the bytes for counted bytes.
 pub const LAYOUT_AT: usize = 0;
 
 pub const TEXT_LENGTH_AT: usize = 4;
@@ -29,14 +29,14 @@ pub const COUNTED_COUNT_AT: usize = 20;
 
 pub const COUNTED_AT: usize = 24;
 
-// .. for each level that a tree may have its count and its offset, ..
+// The block count and the offset of each possible level.
 pub const COUNTS_AT: usize = COUNTED_AT + Settings::MAX_COUNTED;
 
 pub const OFFSETS_AT: usize = COUNTS_AT + 4;
 
 pub const PAIR: usize = 8;
 
-// .. and two words for the leaf bytes; then the first record.
+// The two words for the leaf bytes, and the first record after them.
 const LEVELS: usize = Settings::MAX_LEVELS as usize;
 
 pub const LEAF_OFFSET_AT: usize = COUNTS_AT + PAIR * LEVELS;
@@ -198,7 +198,7 @@ fn spare_levels_zero(t: &[u8], levels: usize) -> bool
     true
 }
 
-// Level 0's records begin after the header, each level follows the last, then the leaf bytes.
+// The tables are adjacent: header, records of level 0 and of each further level, leaf bytes.
 fn tables_meet(t: &[u8], levels: usize, size: u32) -> bool
     requires { ⌜ (headerLength ≤ length (now t)) × (levels ≤ maxLevels) × (size ≡ recordSize (now t)) × (size ≤ maxRecord) ⌝ }
     ensures { λ r. ⌜ r ≡ tablesMeet (now (t .entry)) levels ⌝ }

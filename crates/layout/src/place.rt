@@ -10,13 +10,13 @@ pub struct BlockNumber(pub u32);
 // A record's link. Of a kept block: the number of its first child or, on the last level, of its first leaf byte. Of a pointing block: its target's number.
 pub struct Link(pub u32);
 
-// Where a walk stands, in two words of 8 bytes, which are handed on in registers: on a level whose full blocks have b bytes, ..
+// The position of a walk is two structs of 8 bytes, so that both are passed in registers. First: a level, with the length b of its full blocks.
 pub struct On {
     pub level: u32,
     pub b: u32,
 }
 
-// .. at a place in a block of it.
+// Second: a block of that level and a place in the block.
 pub struct Spot {
     pub block: BlockNumber,
     pub place: BlockPlace,

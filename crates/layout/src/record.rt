@@ -14,7 +14,7 @@ ghost use Rattle.format.specs.HeaderPlaces.{headerLength};
 ghost use Rattle.format.specs.Layout as at;
 ghost use Rattle.layout.specs.Record.{FieldIn, EdgesIn};
 
-// The words of a record, the number of each named once: of every record, ..
+// Word numbers in a record. Words of every record.
 pub const START: u32 = 0;
 
 pub const KIND: u32 = 1;
@@ -25,7 +25,7 @@ pub const GAP: u32 = 3;
 
 pub const PLAIN_WORDS: u32 = 4;
 
-// .. and for each counted byte.
+// Words for each counted byte.
 pub const BEFORE: u32 = PLAIN_WORDS;
 
 pub const INSIDE: u32 = PLAIN_WORDS + 1;
@@ -76,7 +76,7 @@ pub fn kind(t: &[u8], size: u32, level: u32, block: BlockNumber) -> u32
     field(t, size, level, block, KIND)
 }
 
-// A kept block's first child, or on the last level its first leaf byte; the block that a pointing block points to.
+// Of a kept block: the number of its first child (last level: of its first leaf byte). Of a pointing block: the number of the block pointed to.
 pub fn link(t: &[u8], size: u32, level: u32, block: BlockNumber) -> Link
     requires { ⌜ FieldIn (now t) size level (block .0) linkField ⌝ }
     ensures { λ r. ⌜ r .0 ≡ at.link (now (t .entry)) level (block .0) ⌝ }
@@ -108,7 +108,7 @@ pub fn inside(t: &[u8], size: u32, level: u32, block: BlockNumber, c: u32) -> u3
     field(t, size, level, block, INSIDE + COUNTED_WORDS * c)
 }
 
-// How often it stands in the first gap bytes of the block pointed to.
+// How often the byte occurs in the block pointed to, before place gap.
 pub fn skip(t: &[u8], size: u32, level: u32, block: BlockNumber, c: u32) -> u32
     requires { ⌜ FieldIn (now t) size level (block .0) (skipField c) ⌝ }
     ensures { λ r. ⌜ r ≡ at.skip (now (t .entry)) level (block .0) c ⌝ }

@@ -57,21 +57,21 @@ list-one t room =
     input false = inl refl
 
 module _ (κs : Lfts 2) (t out after : RefT (List ℕ)) where
-  -- A refusal is 15, 5 to 9 or 13, ..
+  -- A refusal is 15, 5 to 9 or 13.
   pub list-numbers : (n : ℕ) → Lists κs t out after (Refused n) → OneOf (15 ∷ 5 ∷ 6 ∷ 7 ∷ 8 ∷ 9 ∷ 13 ∷ []) n
   unfolding listSays
   list-numbers n a =
       let e = says-refused n (listRefusal (now t) (length (now out))) _ 0 (a .0 .numbered) (a .0 .says) in
       not-zero (15 ∷ 5 ∷ 6 ∷ 7 ∷ 8 ∷ 9 ∷ 13 ∷ []) n (a .0 .numbered) (rw e (list-one (now t) (length (now out))))
 
-  -- .. and leaves the buffer as it was; ..
+  -- A refusal leaves the buffer unchanged.
   pub list-unchanged : (n : ℕ) → Lists κs t out after (Refused n) → now after ≡ now out
   unfolding listSays listLeaves
   list-unchanged n a =
       let e = says-refused n (listRefusal (now t) (length (now out))) _ 0 (a .0 .numbered) (a .0 .says) in
       a .1 ∙ rw (← e, ne-eqb n 0 (λ z. omega (arith, a .0 .numbered)))
 
-  -- .. an answer is the length of what the list program prints, which the buffer then begins with; the bytes past it are unchanged.
+  -- The result is the length of what the list program prints. The buffer begins with these bytes, and those after them are unchanged.
   pub list-answer : (size : ℕ) → Lists κs t out after (Bytes size)
       → (size ≡ length (printed (now t))) × (now after ≡ printed (now t) ++ drop (length (printed (now t))) (now out))
   unfolding listSays listLeaves

@@ -28,8 +28,7 @@ Answer κs text at len by r = leftmost-reads.Post κs (text, (at, (len, (by, tt)
 abbrev pub Earlier : (κs : Lfts 1) → RefT (List ℕ) → TextPlace → ℕ → Fingerprint → Bool → Type 0
 Earlier κs text at len by r = earlier-reads.Post κs (text, (at, (len, (by, tt)))) r (text, (at, (len, (by, tt))))
 
--- "A fingerprint only proposes and a comparison of bytes decides; the tree is the same for every choice of base and modulus."
--- The answer on a text, place and length is the same for every choice of base and modulus.
+-- Fingerprints only select candidates: what a call returns for a text, place and length does not depend on base and modulus.
 pub same-answer :
     (κs : Lfts 1) (text : RefT (List ℕ)) (at : TextPlace) (len : ℕ) (one other : Fingerprint) (r s : Occurrence)
     → Answer κs text at len one r → Answer κs text at len other s → r ≡ s

@@ -100,7 +100,7 @@ told-open opened.Closed false k e g = refl
 told-open (opened.Refused number) b k e g = absurd (let x : ⊥ = omega arith in x)
 
 module _ (κs : Lfts 3) (first last today : Lent) (r : Opened) (a : OpenOn κs first last today r) where
-  -- "It refuses what is no such date .. with 22, ..
+  -- Refused with 22: one of the three days is no date.
   pub open-no-date : (isDay (now first) && isDay (now last) && isDay (now today)) ≡ false → r ≡ opened.Refused 22
   unfolding openNumber
   open-no-date h = refused-open r 21 (a .number-is ∙ rw h)
@@ -110,15 +110,15 @@ module _ (κs : Lfts 3) (first last today : Lent) (r : Opened) (a : OpenOn κs f
     unfolding openNumber
     number-is = rw (f, l, t, order-is (now first) (now last) f l .0)
 
-    -- .. and then, where both days are given, a last day before the first with 23."
+    -- Refused with 23 after it: the last day is earlier than the first.
     pub open-turned : earlier (dateIn (now last)) (dateIn (now first)) ≡ true → r ≡ opened.Refused 23
     open-turned h = refused-open r 22 (a .number-is ∙ number-is ∙ rw h)
 
-    -- today stands neither before the first day nor after the last
+    -- today is neither before the first day nor after the last
     abbrev fromTo : Bool
     fromTo = not (earlier (dateIn (now today)) (dateIn (now first))) && not (earlier (dateIn (now last)) (dateIn (now today)))
 
-    -- "A book is open on a day from the first to the last, both included."
+    -- Open on the first day, on the last and on those between, closed on others.
     pub open-from-to : earlier (dateIn (now last)) (dateIn (now first)) ≡ false → r ≡ cond fromTo opened.Open opened.Closed
     unfolding openOn
     open-from-to h =
@@ -150,7 +150,7 @@ module _ (κs : Lfts 2) (last today : Lent) (r : Left) (a : DaysLeft κs last to
   left-no-date h = refused-left r 21 (a .number-is ∙ rw h)
 
   module _ (l : isDay (now last) ≡ true) (t : isDay (now today) ≡ true) where
-    -- "The days left are last minus today, ..
+    -- The days left are the number of the last day minus the number of today.
     pub days-minus : r ≡ left.Days (pos (numberIn (now last)) -ℤ pos (numberIn (now today)))
     unfolding daysLeft leftNumber
     days-minus = told-left r _ (a .numbered) (a .number-is ∙ rw (l, t)) (a .days-is ∙ rw (l, t))
@@ -158,18 +158,18 @@ module _ (κs : Lfts 2) (last today : Lent) (r : Left) (a : DaysLeft κs last to
     pub days-before : numberIn (now today) ≤ numberIn (now last) → r ≡ left.Days (pos (numberIn (now last) - numberIn (now today)))
     days-before h = days-minus ∙ ap left.Days (minus-le (numberIn (now last)) (numberIn (now today)) h)
 
-    -- .. so 0 on the last day ..
+    -- On the last day they are 0.
     pub days-last : dateIn (now today) ≡ dateIn (now last) → r ≡ left.Days (pos 0)
     days-last e =
         let z : numberIn (now today) ≡ numberIn (now last) = ap dayNumber e in
         days-before (omega (arith, z)) ∙ ap (λ (k : ℕ). left.Days (pos k)) (omega (arith, z))
 
-    -- .. and negative after it": below zero by as many days as have gone; `negsuc k` is -(k + 1)
+    -- After the last day they are negative, by the days since then; `negsuc k` is -(k + 1).
     pub days-after : numberIn (now last) < numberIn (now today) → r ≡ left.Days (negsuc (numberIn (now today) - numberIn (now last) - 1))
     days-after h = days-minus ∙ ap left.Days (minus-lt (numberIn (now last)) (numberIn (now today)) h)
 
 module _ (κs : Lfts 1) (day after : Lent) where
-  -- "A renewal moves a day by one year; 29 February goes to 28 February": what it leaves is that day, written, and 365 or 366 days on
+  -- Renew leaves the renewed day (a year later, 28 for 29 February) in the buffer, and it is 365 or 366 days later.
   pub renew-moves : Renew κs day after 0
       → (isDay (now after) ≡ true) × (dateIn (now after) ≡ renewed (dateIn (now day)))
       × ((numberIn (now after) ≡ numberIn (now day) + 365) ⊎ (numberIn (now after) ≡ numberIn (now day) + 366))
@@ -188,12 +188,12 @@ module _ (κs : Lfts 1) (day after : Lent) where
           (rw k (day-back (renewed (dateIn (now day))) f), rw k back, rw (k, back) (renewed-later (dateIn (now day)) facts low))
       by false e n k = absurd (let x : ⊥ = omega arith in x)
 
-  -- it moves every day before 2099
+  -- It is not refused for a day before 2099.
   pub renew-answers : (r : ℕ) → Renew κs day after r → isDay (now day) ≡ true → dateIn (now day) .year < 2099 → r ≡ 0
   unfolding renewNumber
   renew-answers r a d low = a .0 ∙ rw (d, lt-ltb (dateIn (now day) .year) 2099 low)
 
-  -- "It refuses what is no such date, also a renewal past 2099, with 22": and leaves the day as it was
+  -- Refused with 22: bytes that are no date, and days of 2099. The buffer is unchanged.
   pub renew-refuses : (r : ℕ) → Renew κs day after r → (isDay (now day) ≡ false) ⊎ (2099 ≤ dateIn (now day) .year) → (r ≡ 22) × (now after ≡ now day)
   unfolding renewNumber renewLeaves
   renew-refuses r a h = let e = none h in (a .0 ∙ rw e, a .1 ∙ rw e)

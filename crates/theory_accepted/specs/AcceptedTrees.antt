@@ -22,7 +22,7 @@ pub record StandsFor (t T : List ℕ) : Type 0 where
   pub edged : edgesTrue T t ≡ true
 
 module _ (t : List ℕ) where
-  -- An accepted tree stands for the text that its paths give, ..
+  -- An accepted tree stands for the text that its paths give.
   pub accepted-stands : verdict t ≡ 0 → StandsFor t (textOf t)
   accepted-stands v = record {
     readable-is = verdicts.accepted-readable t v;
@@ -32,7 +32,7 @@ module _ (t : List ℕ) where
     edged = verdicts.accepted-edges t v;
   }
 
-  -- .. and for no other: exactly one text fits a tree that passes questions 5 to 8.
+  -- It stands for no other: exactly one text fits a tree that passes questions 5 to 8.
   pub one-text : readable t ≡ 0 → linksOk t ≡ true → (T : List ℕ) → fits T t ≡ true → T ≡ textOf t
   one-text = paths.only-text t
 

@@ -69,10 +69,9 @@ module _ (f : Function) where
   abbrev pub call : Contract Closed.𝓤
   call = tripleOf Closed.𝓤 Closed.H (ghost₀ .A) (f .signature) (f .clauses Closed.𝓤 Closed.H (ghost₀ .A) (Closed.model .mem) (running .run))
 
-  -- "Every call ends, .. reads and writes only what was lent" (docs/FORMAT.md, "What is promised"): from any memory that holds what the call is lent
-  -- (`call .pre x`: what the parameters' types own, and what the contract asks) and, beside it, anything else F, the run ends after some number n of
-  -- steps, with a value v, in a memory that holds what the contract says of v, and F as it was. x has the lifetimes, the arguments and their machine
-  -- values.
+  -- Total correctness with a frame, for demand 1 (docs/FORMAT.md, "What is promised"). Let a memory hold what the call is lent (`call .pre x`: what the
+  -- parameters' types own and what the contract requires) and separately anything else, F. Then the run ends after some number n of steps, with a value v,
+  -- in a memory that holds what the contract says of v and the same F. x has the lifetimes, the arguments and their machine values.
   abbrev pub Ends : Type 2
   Ends = (x : call .Ghost) (σ : Memory) (F : Assertion) → Holds σ (call .pre x ∗ F)
       → ∥ ((n : ℕ) × (v : Val) × (σ′ : Memory) × (f .routine .step n (call .args x) σ ≡ done (v, σ′)) × Holds σ′ (call .post x v ∗ F)) ∥₁

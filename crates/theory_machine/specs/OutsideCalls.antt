@@ -1,4 +1,4 @@
--- What every outside call shows of itself, whatever it answers: it ends, reads and writes only what was lent, and asks nothing of its caller.
+-- What is shown of every outside call, whatever it returns: it terminates, it touches only the memory it was lent, and it has no precondition.
 -- docs/FORMAT.md: "What is promised".
 use mathlib.Core.List.{List, [], _∷_}
 use mathlib.Core.Path.{_≡_}
@@ -17,14 +17,14 @@ use denote.Triple.Entry.{Args}
 use denote.Triple.Spec.{Meets}
 use Rattle.theory_machine.specs.Ends.{Function, Ends, ends}
 
--- "trusts no caller to have checked a tree": what the contract asks of a caller (`requires`) is nothing, for any lifetimes and arguments
+-- No precondition: the contract requires nothing of a caller, for any lifetimes and arguments.
 abbrev pub AsksNothing : Function → Type 2
 AsksNothing f =
     (𝓤 : URA Closed.Res) (H : Heap 𝓤) (A : Atoms 𝓤) (mem : Memory → SProp 𝓤) (run : Routine → Fun 𝓤)
     (κs : Lfts (f .signature .lifetimes)) (a : Args (f .signature) κs)
     → (g : f .clauses 𝓤 H A mem run κs a .ghost) × (f .clauses 𝓤 H A mem run κs a .requires g ≡ emp 𝓤)
 
--- A call: its function, "every call ends, on every text, setting, tree and question; reads and writes only what was lent", and it asks nothing.
+-- A call: its function, with the proofs that it is totally correct (`Ends`) and has no precondition.
 pub record Call : Type 2 where
   pub function : Function
   pub ends : Ends function
@@ -42,9 +42,8 @@ abbrev pub Each : (Function → Type 2) → List Call → Type 2
 Each P [] = Unit {2}
 Each P (c ∷ cs) = P (c .function) × Each P cs
 
--- "Every call ends, on every text, setting, tree and question; reads and writes only what was lent" (`Ends`): from any memory that holds what is lent,
--- and anything else beside it, the machine's run of the call ends after so many steps, in a memory that holds what the contract says of the value
--- returned, and all else as it was.
+-- Total correctness of each call (`Ends`): from any memory that holds what is lent and, separately, anything else, the machine's run of the call ends, in
+-- a memory that holds what the contract says of the returned value, with everything else unchanged.
 pub each-ends : (cs : List Call) → Each Ends cs
 each-ends [] = tt
 each-ends (c ∷ cs) = (c .ends, each-ends cs)

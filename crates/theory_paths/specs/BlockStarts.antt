@@ -16,7 +16,7 @@ use Rattle.format.specs.Fits.{widthAt}
 use Rattle.theory_paths.specs.Links.{H, N, b, s, len, width-kept, width-last, width-pointing, Follows, Pointing, Linked}
 
 module _ (t : List ℕ) where
-  -- A block's length: b, or n less its start where that is shorter.
+  -- A block's length is the smaller of b and n - start.
 
   pub len-small : (l i : ℕ) → len t l i ≤ b t l
   unfolding at.blockLengthAt

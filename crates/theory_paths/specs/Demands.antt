@@ -1,4 +1,4 @@
--- What holds of paths, and of the text of a tree: each statement under its own sentence.
+-- Theorems about paths and about the text of a tree.
 -- docs/FORMAT.md: "Which text a tree stands for", "The path of a place".
 use mathlib.Core.List.{List, _++_}
 use mathlib.Core.Option.{some}
@@ -29,7 +29,7 @@ module _ (t : List ℕ) (r : readable t ≡ 0) (p : ℕ) (q : Path) (e : pathOf 
   unfolding pathOf
   path-goes = goes t (at.settings t .levels - 1) 0 (p / at.fullLength t 0) (p % at.fullLength t 0) q e
 
-  -- A path enters one block on each level, and a second on each level where the first one entered points.
+  -- A path enters one block a level, plus one for each pointing block.
   pub blocks-entered : length (q .visits) ≡ at.settings t .levels + pointers t (q .visits)
   blocks-entered = omega (arith, goes-length t path-goes, readable-facts t r .bounds .levels-low)
 

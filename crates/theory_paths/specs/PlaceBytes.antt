@@ -70,7 +70,7 @@ module _ (t : List ℕ) (r : readable t ≡ 0) (p : ℕ) (low : p < at.textLengt
       let w = path-there z in
       ap (λ (s : Said). s .value) (byte-of-path t (readable-facts t r) r p low (w .0) (w .1)) ∙ sym (text-of-path t (readable-facts t r) r p low (w .0) (w .1))
 
-  -- where it is not answered, its number is 14; ..
+  -- if byte is refused here, the number is 14
   pub byte-broken : (byteSays t p .number ≡ 0 → ⊥) → byteSays t p .number ≡ 14
   byte-broken n = go (pathOf t p) refl
     where
@@ -81,7 +81,7 @@ module _ (t : List ℕ) (r : readable t ≡ 0) (p : ℕ) (low : p < at.textLengt
       go none e = said none e
       go (some q) e = absurd (n (said (some q) e))
 
-  -- .. a refusal has entered no block, so that it is none of an answer's
+  -- a result has entered a block, so what has entered none is a refusal
   pub only-14 : (q : ℕ) → refused q ≡ byteSays t p → byteSays t p .number ≡ 14
   only-14 q e =
       byte-broken (λ z.

@@ -35,12 +35,11 @@ abbrev pub Checked : (κs : Lfts 1) → RefT (List ℕ) → ℕ → Type 0
 Checked κs t r = check-reads.Post κs (t, tt) r (t, tt)
 
 module _ (κs : Lfts 1) (t : RefT (List ℕ)) (r : ℕ) (c : Checked κs t r) where
-  -- "The check accepts any bytes, whoever made them, exactly when questions 5 to 8 hold, a text fits and the counts are true of it", and of a
-  -- layout 2 tree, besides, its edges.
+  -- Demand 3, first part: the check returns 0 if and only if questions 5 to 8 pass and a text fits of which the counts, and in layout 2 the edges, are true.
   pub check-accepts : (r ≡ 0) ↔ ((T : List ℕ) × StandsFor (now t) T)
   check-accepts = (λ e. accepts (now t) .0 (sym c ∙ e), λ s. c ∙ accepts (now t) .1 s)
 
-  -- "Exactly one text then fits": there is one, and any two are the same.
+  -- Demand 3: this text is the only one that fits.
   pub check-one-text : r ≡ 0 → (T : List ℕ) × StandsFor (now t) T × ((U : List ℕ) → fits U (now t) ≡ true → U ≡ T)
   check-one-text e =
       let s = accepts (now t) .0 (sym c ∙ e) in
@@ -89,29 +88,29 @@ module _ (κs : Lfts 3) (text : RefT (List ℕ)) (leaf arity levels : ℕ) (coun
   passed : buildNumber S T before ≡ 0
   passed = sym (a .0) ∙ good
 
-  -- "The builder's output is, byte for byte, the block tree of its text."
+  -- Demand 2, first part: the bytes written are those of the block tree of the text.
   pub build-writes : tree ≡ treeOf S T
   build-writes = rw (a .1 .0, a .1 .1) (leaves-tree S T before passed)
 
-  -- "What the builder writes is accepted, ..
+  -- Demand 3, last part: the check accepts what build writes.
   pub build-accepted : verdict tree ≡ 0
   build-accepted = rw build-writes (built-verdict S T (taken S T before passed))
 
-  -- .. and its one text is the input."
+  -- Its text is the builder's input.
   pub build-text : textOf tree ≡ T
   build-text = rw build-writes (built-text S T (taken S T before passed))
 
   stands : StandsFor tree (textOf tree)
   stands = accepted-stands tree build-accepted
 
-  -- "Read back, every byte .. is the text's": byte is refused nowhere, and its figure is the path's length.
+  -- Demand 2, byte: at each place it returns the text's byte and the length of the path, and is not refused.
   pub build-byte : (p : ℕ) → p < at.textLength tree
       → (q : Path) × (pathOf tree p ≡ some q) × (byteSays tree p ≡ record { number = 0; value = getD T p 0; entered = length (q .visits) })
   build-byte p h =
       let w = paths.byte-of-text tree (stands .readable-is) (stands .linked) p h in
       (w .0, w .1, rw build-text at (w .2))
 
-  -- ".. span .. is the text's."
+  -- Demand 2, span: it copies the bytes of the text.
   pub build-span : (p len : ℕ) (lent : List ℕ) → p + len ≤ at.textLength tree → len ≤ length lent
       → (spanNumber tree p len (length lent) ≡ 0) × (spanLeaves tree p len lent ≡ stretch T p len ++ drop len lent)
   build-span p len lent h room = (
@@ -119,8 +118,7 @@ module _ (κs : Lfts 3) (text : RefT (List ℕ)) (leaf arity levels : ℕ) (coun
     margins.span-of-text tree build-accepted p len lent h room ∙ ap (λ (U : List ℕ). stretch U p len ++ drop len lent) build-text,
   )
 
--- "The tree is the same for every choice of base and modulus": whatever a builder that meets the contract searches with, a call on the
--- same arguments answers and leaves the same.
+-- The contract determines the result and the buffer, so they cannot depend on the base or the modulus that a builder uses.
 pub build-settled : (κs : Lfts 3) (text : RefT (List ℕ)) (leaf arity levels : ℕ) (counted out one other : RefT (List ℕ)) (r s : Built)
     → Answer κs text leaf arity levels counted out one r → Answer κs text leaf arity levels counted out other s
     → (numberOf r ≡ numberOf s) × (sizeOf r ≡ sizeOf s) × (now one ≡ now other)

@@ -5,7 +5,7 @@ use crate::say::{grouped, several};
 use codebook::text_rows;
 use std::mem::discriminant;
 
-/// Is a row a code of 1 to 12 bytes other than space, one space, and 1 to 10 cuts, a digit each?
+/// Is a row a key: a code of 1 to 12 bytes without a space, one space, and 1 to 10 digits, the cuts?
 fn is_key(row: &[u8]) -> bool {
     let Some(space) = row.iter().position(|&byte| byte == b' ') else {
         return false;

@@ -334,7 +334,7 @@ pub static COMMANDS: [Command; 36] = [
         words: &[one("CUTS"), maybe("TREE")],
         options: &[&FROM, &AFTER, &JSON, &UNCHECKED, &ANY_DAY, &TODAY],
         summary: "print the rows that match a worn key",
-        details: "CUTS is, for each of 1 to 10 cuts, a depth from 0 to 9, a range of depths such as [3-5], or ? for any: 44[3-5]22? or 4,4,3-5,2,2,0-9. A row is a key if it is a code of 1 to 12 bytes other than space, one space, and 1 to 10 digits. \
+        details: "CUTS is, for each of 1 to 10 cuts, a depth from 0 to 9, a range of depths such as [3-5], or ? for any: 44[3-5]22? or 4,4,3-5,2,2,0-9. A key is a row of a code, one space and 1 to 10 digits; the code has 1 to 12 bytes and no space. \
                   It matches with as many cuts as are asked for, each in its range. The tree must count byte 10. Prints each row that matches with its number. Where none does the status is 1.",
         run: questions::ask,
     },
@@ -359,7 +359,7 @@ pub static COMMANDS: [Command; 36] = [
         words: &[one("WIDTH"), maybe("BOOK")],
         options: &[&OUTPUT, &FORCE, &KEEP_TIME, &JSON],
         summary: "rearrange a book's rows of one width by columns",
-        details: "WIDTH counts the byte that ends a row; auto finds it. All rows must have this width. The byte in column b of row a goes to place b x rows + a, both counted from 0. Without -o the bytes go to standard output.",
+        details: "WIDTH counts the byte that ends a row; auto finds it. All rows must have this width. With rows and columns counted from 0, the byte of row a and column b moves to place b x rows + a. Without -o the bytes go to standard output.",
         run: by_columns::to_columns,
     },
     Command {
@@ -391,7 +391,7 @@ pub static COMMANDS: [Command; 36] = [
         words: &[one("ONE"), one("OTHER")],
         options: &[&JSON, &UNCHECKED],
         summary: "say which of two trees' books stands first",
-        details: "Books are ordered by the first byte that differs; where one is the beginning of the other, the shorter stands first. The trees may have any settings and layouts. Prints where ONE stands, and how many bytes both books share from their start on.",
+        details: "Books are in lexicographic order of their bytes; a book that is the beginning of another comes before it. The trees may have any settings and layouts. Prints where ONE stands, and how many bytes both books share from their start on.",
         run: shelf::compare,
     },
     Command {

@@ -220,8 +220,8 @@ pub fn scan_with(
     }
 }
 
-/// How many windows a scan of each level above the last looks up, with the level's blocks read off the tree: for each different length of a block or
-/// a pair, kept or not, one at every place from which the text holds that many bytes.
+/// How many windows a scan of each level above the last looks up, with the level's blocks read off the tree: n + 1 - L for each different length L of a
+/// block or a pair, kept or not.
 pub fn windows(n: usize, shape: Shape, tree: &[u8]) -> u32 {
     let levels = 0..shape.h as usize;
     let blocks: Vec<usize> = levels.clone().map(|level| word(tree, 28 + 8 * level) as usize).collect();

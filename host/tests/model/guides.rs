@@ -52,7 +52,7 @@ pub fn check_guide(bytes: &[u8], lent: &[u8]) -> u32 {
     }
 }
 
-/// The number, the place, the length of its path, and the steps from the entry of the last listed occurrence not after the j-th.
+/// The number, the place, the length of its path, and the steps from entry (j - 1) / 64 of the byte.
 pub fn find(bytes: &[u8], lent: &[u8], byte: u32, j: u32) -> Answer<(u32, u32, u32, u32)> {
     let (tree, c) = match find_questions(bytes, byte, j) {
         Ok(tree) => tree,

@@ -15,7 +15,7 @@ pub fn order(one: &[u8], other: &[u8]) -> (u32, u32, u32, u32) {
     }
 }
 
-/// Questions 5 to 7 of the first tree, then of the second; then each place is read in the first and then in the second, up to the first difference.
+/// Questions 5 to 7 of the first tree, then of the second; then place by place a byte of each, the first tree's before the other's, up to a difference.
 fn compare(one: &[u8], other: &[u8]) -> Result<(u32, u32), u32> {
     let lengths = (Tree::open(one)?.n as u32, Tree::open(other)?.n as u32);
     for place in 0..lengths.0.min(lengths.1) {

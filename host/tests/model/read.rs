@@ -129,7 +129,7 @@ impl<'a> Tree<'a> {
         &self.bytes[self.record(level, block) + record_length(1, 0, self.k) + self.m..][..self.m]
     }
 
-    /// A block's length: b, or n less its start where that is shorter.
+    /// A block's length: b, or what the text has from its start on, if that is less.
     pub fn length(&self, level: usize, block: u64) -> u64 {
         self.b[level].min(self.n - self.field(level, block, START))
     }
