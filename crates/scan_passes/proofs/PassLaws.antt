@@ -17,7 +17,8 @@ use Rattle.scan_entries.specs.LookedUp.{Asks}
 use Rattle.scan_entries.proofs.ItemLaws.{fits}
 use Rattle.scan_entries.proofs.Chains.{searched-none, searched-then, chained-after, passed-after}
 use Rattle.scan_passes.specs.declared.Lengths.{Lengths}
-use Rattle.scan_passes.specs.Passes.{Ordered, Entrants, Covers, Asked, Stepped, Passed}
+use Rattle.scan_passes.specs.declared.pass.CutWindows.{CutWindows}
+use Rattle.scan_passes.specs.Passes.{Ordered, Entrants, Covers, Asked, Stepped, SteppedTwice, CutStanding, Passed}
 use Rattle.scan_passes.proofs.ItemLengths.{length-low}
 
 -- a window that stands nowhere any more
@@ -42,6 +43,51 @@ of-same seed T n p w r s t = subst (λ (k : ℕ). Standing seed T k (p + 1) r) (
 pub still-stands : (seed : ℕ) (T : List ℕ) (n p : ℕ) (w r : Window)
     → Standing seed T n p w → Standing seed T n (p + 1) r → p + 1 < w .places → p + 1 < r .places
 still-stands seed T n p w r s t l = omega (arith, s .places-is, t .places-is)
+
+-- both windows of a cut length, opened or moved together
+module _ (seed : ℕ) (T : List ℕ) (n k p : ℕ) (cut : CutWindows) where
+  pub cut-opened : (last ending : Window) → cut .last ≡ last → cut .ending ≡ ending → last .places ≤ cut .places → ending .places ≤ cut .places
+      → Standing seed T n p last → Standing seed T k p ending → CutStanding seed T n k p cut
+  cut-opened last ending el ee ml me sl se = record {
+    last-is = subst (λ (w : Window). Standing seed T n p w) (sym el) sl;
+    ending-is = subst (λ (w : Window). Standing seed T k p w) (sym ee) se;
+    last-few = subst (λ (w : Window). w .places ≤ cut .places) (sym el) ml;
+    ending-few = subst (λ (w : Window). w .places ≤ cut .places) (sym ee) me;
+  }
+
+  module _ (s : CutStanding seed T n k p cut) where
+    pub cut-of-len : CutStanding seed T (cut .last .len) (cut .ending .len) p cut
+    cut-of-len = record {
+      last-is = of-len seed T n p (cut .last) (s .last-is);
+      ending-is = of-len seed T k p (cut .ending) (s .ending-is);
+      last-few = s .last-few;
+      ending-few = s .ending-few;
+    }
+
+    pub cut-of-same : (r : CutWindows) → CutStanding seed T (cut .last .len) (cut .ending .len) (p + 1) r → CutStanding seed T n k (p + 1) r
+    cut-of-same r t = record {
+      last-is = of-same seed T n p (cut .last) (r .last) (s .last-is) (t .last-is);
+      ending-is = of-same seed T k p (cut .ending) (r .ending) (s .ending-is) (t .ending-is);
+      last-few = t .last-few;
+      ending-few = t .ending-few;
+    }
+
+    pub cut-still : cut .places ≤ p + 1 → CutStanding seed T n k (p + 1) cut
+    cut-still l = record {
+      last-is = stands-still seed T n p (cut .last) (s .last-is) (omega (arith, s .last-few));
+      ending-is = stands-still seed T k p (cut .ending) (s .ending-is) (omega (arith, s .ending-few));
+      last-few = s .last-few;
+      ending-few = s .ending-few;
+    }
+
+    pub cut-moved : (last ending : Window) → Standing seed T n (p + 1) last → Standing seed T k (p + 1) ending
+        → CutStanding seed T n k (p + 1) (record { last = last; ending = ending; places = cut .places })
+    cut-moved last ending sl se = record {
+      last-is = sl;
+      ending-is = se;
+      last-few = omega (arith, s .last-few, s .last-is .places-is, sl .places-is);
+      ending-few = omega (arith, s .ending-few, s .ending-is .places-is, se .places-is);
+    }
 
 places-most : (size n : ℕ) → n ≤ size → placesOf size n ≤ size
 places-most size n l = go (lt-or-ge 0 n)
@@ -103,6 +149,15 @@ module _ (T out : List ℕ) (it : Items) where
       fits = within (it .seed) T n p w s l;
       print-is = s .print-is l;
     }
+
+  pub stepped-twice : (W Y Z : List ℕ) (n k p : ℕ) → Stepped T out it W Y n p → Stepped T out it Y Z k p → SteppedTwice T out it W Z n k p
+  stepped-twice W Y Z n k p one other = record { between = Y; one = one; other = other }
+
+  -- neither window of a cut length stands at p
+  pub twice-past : (W : List ℕ) (n k p : ℕ) (cut : CutWindows) → Asked T out it W → CutStanding (it .seed) T n k p cut → cut .places ≤ p
+      → SteppedTwice T out it W W n k p
+  twice-past W n k p cut a s l = stepped-twice W W W n k p (stepped-past W n p (cut .last) a (s .last-is) (omega (arith, s .last-few)))
+      (stepped-past W k p (cut .ending) a (s .ending-is) (omega (arith, s .ending-few)))
 
   pub stepped-look : (W Z : List ℕ) (n p : ℕ) → Looked T out it W Z p n → Stepped T out it W Z n p
   stepped-look W Z n p k = record { searched = k .searched; here = k .here }

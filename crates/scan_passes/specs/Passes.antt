@@ -7,10 +7,11 @@ use Prim.Native.Nat.{ℕ, _+_, _-_, _*_, _/_, _%_, _≤_, _<_}
 use lib.ListN.{length}
 use lib.Dec.{eqb, ltb}
 use Rattle.text.specs.Text.{leftmost}
-use Rattle.scan_windows.specs.Windows.{placesOf}
+use Rattle.scan_windows.specs.Windows.{placesOf, Standing}
 use Rattle.scan_entries.specs.declared.Items.{Items}
 use Rattle.scan_entries.specs.Entries.{Laid, Chained, Listed, Found, Searched, startAt, lengthAt, bytesAt, placeIn}
 use Rattle.scan_passes.specs.declared.Lengths.{Lengths}
+use Rattle.scan_passes.specs.declared.pass.CutWindows.{CutWindows}
 
 -- the lengths with one more, in its place by how it compares with the length of a full block; 0 is none
 abbrev pub notedBy : Lengths → ℕ → ℕ → Lengths
@@ -27,6 +28,13 @@ pub record Among (size : ℕ) (l : Lengths) (n : ℕ) : Type 0 where
   pub full : n ≡ size → l .block ≡ n
   pub both : n ≡ size + size → l .pair ≡ n
   pub cut : size < n → n < size + size → l .ending ≡ n
+
+-- both windows of a cut length at place p, and an upper bound of their places
+pub record CutStanding (seed : ℕ) (T : List ℕ) (n k p : ℕ) (cut : CutWindows) : Type 0 where
+  pub last-is : Standing seed T n p (cut .last)
+  pub ending-is : Standing seed T k p (cut .ending)
+  pub last-few : cut .last .places ≤ cut .places
+  pub ending-few : cut .ending .places ≤ cut .places
 
 -- where item x first stands, by the table of a text of n bytes: its own place, or its twin's
 unfoldable pub placeOut : ℕ → List ℕ → ℕ → ℕ
@@ -99,6 +107,12 @@ module _ (T out : List ℕ) (it : Items) where
   pub record Stepped (W Z : List ℕ) (n p : ℕ) : Type 0 where
     pub searched : Searched T out it W Z
     pub here : (x : ℕ) → x < it .items → Listed T out it W x → lengthAt T out it x ≡ n → Found T out it W x p → Found T out it Z x (p + 1)
+
+  -- two windows, of n and of k bytes, were looked up at p, one after the other
+  pub record SteppedTwice (W Z : List ℕ) (n k p : ℕ) : Type 0 where
+    pub between : List ℕ
+    pub one : Stepped W between n p
+    pub other : Stepped between Z k p
 
   -- the pass is over: every item in a chain has the place where it first stands
   pub record Passed (W Z : List ℕ) : Type 0 where

@@ -10,7 +10,14 @@ ghost use mathlib.Core.Path.{_≡_};
 ghost use Prim.Native.Nat.{_+_, _≤_, _<_};
 ghost use lib.ListN.{length, getD};
 ghost use Rattle.scan_windows.specs.Windows.{Standing, placesOf};
-ghost use Rattle.scan_passes.specs.Passes.{Asked, Stepped, Covers, Passed, Entrants, Ordered};
+ghost use Rattle.scan_passes.specs.Passes.{Asked, Stepped, SteppedTwice, CutStanding, Covers, Passed, Entrants, Ordered};
+
+// The windows of the lengths that the text's end cuts: of a short block, and of a pair with a short block.
+pub struct CutWindows {
+    pub last: Window,
+    pub ending: Window,
+    pub places: u32,
+}
 
 // The window of n bytes at the text's start, looked up there where it stands.
 fn first(words: &mut [u32], text: &[u8], out: &[u8], it: Items, n: u32) -> Window
@@ -52,7 +59,53 @@ fn step(words: &mut [u32], text: &[u8], out: &[u8], it: Items, w: Window, here: 
     next
 }
 
-// Passes once over the text, with a window of each length, and answers how many were looked up.
+// Both windows of a cut length, and at how many places they stand at most: for most places of most texts nowhere, which one comparison says.
+fn cut_windows(last: Window, ending: Window) -> CutWindows
+    ensures { λ r. ⌜ (r .last ≡ last) × (r .ending ≡ ending) × (last .places ≤ r .places) × (ending .places ≤ r .places) ⌝ }
+{
+    if last.places < ending.places {
+        return CutWindows {
+            last,
+            ending,
+            places: ending.places,
+        };
+    }
+    CutWindows {
+        last,
+        ending,
+        places: last.places,
+    }
+}
+
+// Moves both windows of a cut length on, and looks them up.
+fn step_cut(
+    words: &mut [u32],
+    text: &[u8],
+    out: &[u8],
+    it: Items,
+    cut: CutWindows,
+    here: ByteAt,
+) -> CutWindows
+    requires { ⌜ Asked (now text) (now out) it (now words)
+        × CutStanding (it .seed) (now text) (cut .last .len) (cut .ending .len) (here .place .0) cut
+        × (here .place .0 < length (now text)) × (here .byte ≡ getD (now text) (here .place .0) 0) ⌝ }
+    ensures { λ r. ⌜ CutStanding (it .seed) (now (text .entry)) (cut .last .len) (cut .ending .len) (here .place .0 + 1) r ⌝ }
+    ensures { λ _. ⌜ SteppedTwice (now (text .entry)) (now (out .entry)) it (now (words .entry)) (now (words .exit))
+        (cut .last .len) (cut .ending .len) (here .place .0 + 1) ⌝ }
+{
+    if cut.places <= here.place.0 + 1 {
+        return cut;
+    }
+    let last = step(words, text, out, it, cut.last, here);
+    let ending = step(words, text, out, it, cut.ending, here);
+    CutWindows {
+        last,
+        ending,
+        places: cut.places,
+    }
+}
+
+// Passes once over the text, with a window of each length, and returns how many were looked up.
 pub fn pass(words: &mut [u32], text: &[u8], out: &[u8], it: Items, l: Lengths) -> u32
     requires { ⌜ Entrants (now text) (now out) it (now words) (it .items) × Covers (now text) (now out) it (now words) l × Ordered (now text) (now out) it ⌝ }
     ensures { λ _. ⌜ Passed (now (text .entry)) (now (out .entry)) it (now (words .entry)) (now (words .exit)) ⌝ }
@@ -61,8 +114,9 @@ pub fn pass(words: &mut [u32], text: &[u8], out: &[u8], it: Items, l: Lengths) -
 {
     let mut a = first(words, text, out, it, l.block);
     let mut b = first(words, text, out, it, l.pair);
-    let mut c = first(words, text, out, it, l.last);
-    let mut d = first(words, text, out, it, l.ending);
+    let last = first(words, text, out, it, l.last);
+    let ending = first(words, text, out, it, l.ending);
+    let mut cut = cut_windows(last, ending);
     let mut p: u32 = 0;
     while p < text.len() as u32 {
         let place = TextPlace(p);
@@ -72,9 +126,8 @@ pub fn pass(words: &mut [u32], text: &[u8], out: &[u8], it: Items, l: Lengths) -
         };
         a = step(words, text, out, it, a, here);
         b = step(words, text, out, it, b, here);
-        c = step(words, text, out, it, c, here);
-        d = step(words, text, out, it, d, here);
+        cut = step_cut(words, text, out, it, cut, here);
         p += 1;
     }
-    a.looked + b.looked + c.looked + d.looked
+    a.looked + b.looked + cut.last.looked + cut.ending.looked
 }
