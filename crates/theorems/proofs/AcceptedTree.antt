@@ -20,11 +20,8 @@ use Rattle.format.specs.LayoutLaws.{readable-facts}
 use Rattle.theory_paths.specs.Demands as paths
 use Rattle.theory_counts.specs.CountsLocal.{byteOf}
 use Rattle.theory_counts.specs.Ranks as ranks
-use Rattle.theorems.proofs.BlocksEntered.{LengthOfPath, length-of-path}
-
--- the byte stands among these
-abbrev pub Among : ℕ → List ℕ → Type 0
-Among byte cs = (i : ℕ) × (i < length cs) × (getD cs i 0 ≡ byte)
+use Rattle.theorems.specs.Promises.{Among, LengthOfPath}
+use Rattle.theorems.proofs.BlocksEntered.{length-of-path}
 
 -- a byte that stands among others has a number among them
 among-index : (c : ℕ) (xs : List ℕ) (i : ℕ) → i < length xs → getD xs i 0 ≡ c → indexOf c xs < length xs

@@ -4,27 +4,17 @@ use mathlib.Core.Option.{some}
 use mathlib.Core.Bool.{true, false}
 use mathlib.Core.Path.{_≡_, refl}
 use mathlib.Core.Logic.{_⊎_, inl, inr}
-use Prim.Native.Nat.{ℕ, _+_, _-_, _≤_, _*_}
+use Prim.Native.Nat.{ℕ, _-_}
 use lib.ListN.{length}
 use Rattle.text.specs.ListLaws.{bool-cases}
 use Rattle.format.specs.Layout as at
 use Rattle.format.specs.Path.{Path, pathOf}
 use Rattle.format.specs.Verdict.{readable}
 use Rattle.format.specs.ReadSays.{spanBlocks, isShort, spanReached}
-use Rattle.format.specs.Short.{Short, shortOf}
 use Rattle.format.specs.ReadSaysLaws.{ShortSpan, short-span, short-lets}
 use Rattle.theory_paths.specs.Demands as paths
-use Rattle.theory_paths.specs.Visits.{pointers}
 use Rattle.theory_edges.specs.Demands as margins
-
--- e is the length of the path of place p, read off the tree's bytes: one block on each of the H levels, and a second on each level where
--- the first one entered points; at most 2H - 1
-pub record LengthOfPath (t : List ℕ) (H p e : ℕ) : Type 0 where
-  pub path : Path
-  pub path-is : pathOf t p ≡ some path
-  pub length-is : e ≡ length (path .visits)
-  pub each-level : e ≡ H + pointers t (path .visits)
-  pub short : e ≤ 2 * H - 1
+use Rattle.theorems.specs.Promises.{LengthOfPath, BlocksOfSpan}
 
 -- in a tree that passes questions 5 to 7 every path that holds has such a length
 pub length-of-path : (t : List ℕ) → readable t ≡ 0 → (p : ℕ) (q : Path) → pathOf t p ≡ some q → LengthOfPath t (at.settings t .levels) p (length (q .visits))
@@ -35,13 +25,6 @@ length-of-path t r p q e = record {
   each-level = paths.blocks-entered t r p q e;
   short = paths.path-short t r p q e;
 }
-
--- e is how many blocks the span of len bytes from p enters, read off the tree's bytes: in layout 2, of 1 to m bytes, those of its walk; none
--- of any other; at most 2H
-pub record BlocksOfSpan (t : List ℕ) (H p len e : ℕ) : Type 0 where
-  pub walked : ShortSpan t len → (q : Short) × (shortOf t p len ≡ some q) × (e ≡ length (q .visits)) × (1 ≤ e)
-  pub other : (ShortSpan t len → ⊥) → e ≡ 0
-  pub most : e ≤ 2 * H
 
 -- in a tree that passes questions 5 to 7 every span that is reached has so many
 pub blocks-of-span : (t : List ℕ) → readable t ≡ 0 → (p len : ℕ) → spanReached t p len ≡ true

@@ -30,21 +30,19 @@ use Rattle.build_enough.specs.Enough.{enoughFor}
 use Rattle.build_enough.specs.EnoughHolds.{never-full}
 use Rattle.build_enough.specs.declared.Room.the-variants as room
 use Rattle.tree.proofs.Demands as tree
+use Rattle.theorems.specs.Promises.{Answers, CompleteBuilder, Refuses}
+use Rattle.theorems.specs.PublicFunctions.{build-function}
 use Rattle.theorems.proofs.CheckCall.{Check}
 use Rattle.theorems.proofs.EnoughCall.{Enough, enough-answer}
 use Rattle.theorems.proofs.OutsideCall.{Call, Lent, call}
 use Rattle.theorems.proofs.RefusalNumbers.{OneOf, asks-one, not-zero}
-use Rattle.build_by_search.proofs.build as build-code
-use Rattle.build_by_search.proofs.build.Symbol as build-symbol
 use Rattle.build_by_search.proofs.build.Met as build-met
-use Rattle.theorems.proofs.TreeAnswers.{Answers, Refuses, accepted-answers, accepted-refuses}
+use Rattle.theorems.proofs.TreeAnswers.{accepted-answers, accepted-refuses}
 -- what the contract allows, where the buffer is left as `after`: `Build κs text leaf arity levels counted out after r`
-pub use Rattle.tree.proofs.Demands.{Answer as Build}
+pub use Rattle.theorems.specs.CallContracts.{Build}
 
 abbrev pub build-call : Call
-build-call =
-    call (record { routine = build-symbol.routine; signature = build-code.signature; clauses = build-code.spec }) build-met.met
-    (λ 𝓤 H A mem run κs a. (tt, refl))
+build-call = call build-function build-met.met (λ 𝓤 H A mem run κs a. (tt, refl))
 
 -- Any lent bytes.
 
@@ -173,11 +171,7 @@ size-is (built.Size m) n low e = ap built.Size e
 size-is (built.Refused q) n low e = absurd (let z : ⊥ = omega arith in z)
 
 -- "For every text, setting and buffer that questions 1 to 4 let through, the builder writes the tree": no buffer that holds it is refused.
-pub build-lets-through :
-    (κs : Lfts 3) (text : Lent) (leaf arity levels : ℕ) (counted out after : Lent) (r : Built) → Build κs text leaf arity levels counted out after r
-    → lengthOk (length (now text)) ≡ true → sizesOk (given leaf arity levels (now counted)) ≡ true → countedOk (now counted) ≡ true
-    → length (treeOf (given leaf arity levels (now counted)) (now text)) ≤ length (now out)
-    → r ≡ built.Size (length (treeOf (given leaf arity levels (now counted)) (now text)))
+pub build-lets-through : CompleteBuilder
 unfolding buildNumber buildSize
 build-lets-through κs text leaf arity levels counted out after r a one two three four =
     let S = given leaf arity levels (now counted) in

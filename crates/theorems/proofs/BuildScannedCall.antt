@@ -27,39 +27,27 @@ use Rattle.build_by_scan.specs.declared.Scanned.the-variants as scanned
 use Rattle.build_by_scan.specs.ScannedSays.{windowsOf, tableWords, scanNumber, scanWindows, scanLeaves}
 use Rattle.build_by_scan.specs.ScannedAnswer.{numberOf, sizeOf}
 use Rattle.build_by_scan.proofs.ScannedOutcomes.{number-same, size-same, leaves-same}
+pub use Rattle.theorems.specs.CallContracts.{BuildScanned}
+use Rattle.theorems.specs.Promises.{Answers, Refuses}
+use Rattle.theorems.specs.PublicFunctions.{build-scanned-function, scan-words-function}
 use Rattle.theorems.proofs.BuildCall.{Build, build-numbers, build-zeros, build-answer, build-writes}
 use Rattle.theorems.proofs.BuildCall.{build-answers, build-refuses, build-accepted, build-one-text}
 use Rattle.theorems.proofs.CheckCall.{Check}
 use Rattle.theorems.proofs.OutsideCall.{Call, Lent, call}
 use Rattle.theorems.proofs.RefusalNumbers.{OneOf, asks-one}
-use Rattle.build_by_scan.proofs.build_scanned as build-scanned-code
-use Rattle.build_by_scan.proofs.build_scanned.Symbol as build-scanned-symbol
 use Rattle.build_by_scan.proofs.build_scanned.Met as build-scanned-met
-use Rattle.build_by_scan.proofs.scan_words as scan-words-code
-use Rattle.build_by_scan.proofs.scan_words.Symbol as scan-words-symbol
 use Rattle.build_by_scan.proofs.scan_words.Met as scan-words-met
-use Rattle.build_by_scan.proofs.build_scanned.Reads as scanned-reads
 use Rattle.build_by_scan.proofs.scan_words.Reads as scan-words-reads
-use Rattle.theorems.proofs.TreeAnswers.{Answers, Refuses}
-
--- what the contract of `build_scanned` allows, where the table is left as `table` and the buffer as `after`
-abbrev pub BuildScanned : (κs : Lfts 4) (text : Lent) (leaf arity levels : ℕ) (counted words table out after : Lent) → Scanned → Type 0
-BuildScanned κs text leaf arity levels counted words table out after r =
-    scanned-reads.Post κs (text, (leaf, (arity, (levels, (counted, (words, (out, tt))))))) r (text, (leaf, (arity, (levels, (counted, (table, (after, tt)))))))
 
 -- what the contract of `scan_words` allows
 abbrev pub ScanWords : (n leaf : ℕ) → ℕ → Type 0
 ScanWords n leaf r = scan-words-reads.Post tt (n, (leaf, tt)) r (n, (leaf, tt))
 
 abbrev pub build-scanned-call : Call
-build-scanned-call =
-    call (record { routine = build-scanned-symbol.routine; signature = build-scanned-code.signature; clauses = build-scanned-code.spec }) build-scanned-met.met
-    (λ 𝓤 H A mem run κs a. (tt, refl))
+build-scanned-call = call build-scanned-function build-scanned-met.met (λ 𝓤 H A mem run κs a. (tt, refl))
 
 abbrev pub scan-words-call : Call
-scan-words-call =
-    call (record { routine = scan-words-symbol.routine; signature = scan-words-code.signature; clauses = scan-words-code.spec }) scan-words-met.met
-    (λ 𝓤 H A mem run κs a. (tt, refl))
+scan-words-call = call scan-words-function scan-words-met.met (λ 𝓤 H A mem run κs a. (tt, refl))
 
 -- A call of build_scanned, which leaves the table `words` as `table` and the buffer `out` as `after`.
 module _ (κs : Lfts 4) (text : Lent) (leaf arity levels : ℕ) (counted words table out after : Lent) where

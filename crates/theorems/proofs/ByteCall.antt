@@ -11,7 +11,6 @@ use lib.ListN.{length, getD}
 use lib.Dec.{ltb}
 use borrow.Author.Tests.{ltb-true, le-ltb}
 use Rattle.text.specs.declared.TextPlace.{TextPlace}
-use Rattle.format.specs.Settings.{Settings}
 use Rattle.format.specs.Layout as at
 use Rattle.format.specs.Path.{Path, pathOf}
 use Rattle.format.specs.Fits.{textOf}
@@ -29,20 +28,18 @@ use Rattle.ask_access.proofs.Demands as access
 use Rattle.ask_access.specs.declared.Answer.{Answer}
 use Rattle.ask_access.specs.declared.Answer.the-variants as answer
 use Rattle.ask_access.specs.ReadAnswers.{said}
+use Rattle.theorems.specs.Promises.{ByteAnswers, ByteRefuses, LengthOfPath}
+use Rattle.theorems.specs.PublicFunctions.{byte-function}
 use Rattle.theorems.proofs.AcceptedTree.{below, path-length, text-size}
-use Rattle.theorems.proofs.BlocksEntered.{LengthOfPath, length-of-path}
+use Rattle.theorems.proofs.BlocksEntered.{length-of-path}
 use Rattle.theorems.proofs.OutsideCall.{Call, Lent, call}
 use Rattle.theorems.proofs.RefusalNumbers.{OneOf, asks-one, not-zero, readable-one, unless-one}
-use Rattle.ask_access.proofs.byte as byte-code
-use Rattle.ask_access.proofs.byte.Symbol as byte-symbol
 use Rattle.ask_access.proofs.byte.Met as byte-met
 -- r is an answer that the contract of `byte` allows to a call with these arguments: `Byte κs tree place r`
-pub use Rattle.ask_access.proofs.Demands.{Asked as Byte}
+pub use Rattle.theorems.specs.CallContracts.{Byte}
 
 abbrev pub byte-call : Call
-byte-call =
-    call (record { routine = byte-symbol.routine; signature = byte-code.signature; clauses = byte-code.spec }) byte-met.met
-    (λ 𝓤 H A mem run κs a. (tt, refl))
+byte-call = call byte-function byte-met.met (λ 𝓤 H A mem run κs a. (tt, refl))
 
 -- Any lent bytes.
 
@@ -99,15 +96,6 @@ module _ (κs : Lfts 1) (t : Lent) (p : TextPlace) where
       let e : n ≡ byteSays (now t) (p .0) .number = ap (λ (s : Said). s .number) a in
       not-zero (5 ∷ 6 ∷ 7 ∷ 10 ∷ 14 ∷ []) n (byte-not-zero n a) (rw e (byte-one (now t) (p .0)))
 
--- Answered from the text T by the tree t with the settings S: "the byte at p, with the blocks entered".
-pub record Answers (t : Lent) (S : Settings) (T : List ℕ) : Type 0 where
-  pub byte-of : (κs : Lfts 1) (p : TextPlace) (r : Answer) → Byte κs t p r → p .0 < length T
-      → (e : ℕ) × LengthOfPath (now t) (S .levels) (p .0) e × (r ≡ answer.Byte (getD T (p .0) 0) e)
-
--- Refused: "Is p below n; or start + length, or i, at most n? No: 10."
-pub record Refuses (t : Lent) (S : Settings) (T : List ℕ) : Type 0 where
-  pub byte-past : (κs : Lfts 1) (p : TextPlace) (r : Answer) → Byte κs t p r → length T ≤ p .0 → r ≡ answer.Refused 10
-
 -- past the text
 pub byte-ten : (t : List ℕ) → verdict t ≡ 0 → (p : ℕ) → length (textOf t) ≤ p → byteSays t p ≡ refused 10
 unfolding byteSays
@@ -120,7 +108,7 @@ byte-no (answer.Refused m) n s = ap (λ (x : Said). answer.Refused (x .number)) 
 
 -- Any tree that the check accepts, and the one text that fits it.
 module _ (t : Lent) (v : verdict (now t) ≡ 0) where
-  pub accepted-answers : Answers t (at.settings (now t)) (textOf (now t))
+  pub accepted-answers : ByteAnswers t (at.settings (now t)) (textOf (now t))
   accepted-answers = record {
     byte-of = λ κs p r a h.
         let w = access.byte-answers t (accepted-readable (now t) v) (accepted-links (now t) v) κs p r (below (now t) v h) a in
@@ -128,5 +116,5 @@ module _ (t : Lent) (v : verdict (now t) ≡ 0) where
         (pathLength (now t) (pathOf (now t) (p .0)), path-length (now t) v (p .0) h, w .answer-is ∙ is);
   }
 
-  pub accepted-refuses : Refuses t (at.settings (now t)) (textOf (now t))
+  pub accepted-refuses : ByteRefuses t (at.settings (now t)) (textOf (now t))
   accepted-refuses = record { byte-past = λ κs p r a h. byte-no r 9 (a ∙ byte-ten (now t) v (p .0) h) }

@@ -6,7 +6,6 @@
 use mathlib.Core.List.{List, [], _∷_}
 use mathlib.Core.Bool.{true}
 use mathlib.Core.Path.{_≡_, sym, refl}
-use mathlib.Core.Logic.{_↔_}
 use Prim.Native.Nat.{ℕ}
 use contract.Lifetimes.{Lfts}
 use denote.Ref.{now}
@@ -15,31 +14,29 @@ use Rattle.format.specs.Fits.{textOf, fits, edgesTrue}
 use Rattle.format.specs.VerdictLaws.{accepted-readable, accepted-links, no-edges}
 use Rattle.theory_accepted.specs.AcceptedTrees.{StandsFor, one-text}
 use Rattle.tree.proofs.Demands as tree
+use Rattle.theorems.specs.Promises.{Answers, ExactCheck, Refuses}
+use Rattle.theorems.specs.PublicFunctions.{check-function}
 use Rattle.theorems.proofs.OutsideCall.{Call, Lent, call}
 use Rattle.theorems.proofs.RefusalNumbers.{OneOf, verdict-one}
-use Rattle.tree.proofs.check as check-code
-use Rattle.tree.proofs.check.Symbol as check-symbol
 use Rattle.tree.proofs.check.Met as check-met
-use Rattle.theorems.proofs.TreeAnswers.{Answers, Refuses, accepted-answers, accepted-refuses}
+use Rattle.theorems.proofs.TreeAnswers.{accepted-answers, accepted-refuses}
 -- what the contract allows: `Check κs tree r`
-pub use Rattle.tree.proofs.Demands.{Checked as Check}
+pub use Rattle.theorems.specs.CallContracts.{Check}
 
 abbrev pub check-call : Call
-check-call =
-    call (record { routine = check-symbol.routine; signature = check-code.signature; clauses = check-code.spec }) check-met.met
-    (λ 𝓤 H A mem run κs a. (tt, refl))
+check-call = call check-function check-met.met (λ 𝓤 H A mem run κs a. (tt, refl))
 
 -- It answers 0, or 5 to 9.
 pub check-numbers : (κs : Lfts 1) (t : Lent) (r : ℕ) → Check κs t r → OneOf (5 ∷ 6 ∷ 7 ∷ 8 ∷ 9 ∷ 0 ∷ []) r
 check-numbers κs t r a = rw a (verdict-one (now t))
 
+-- "The check accepts any bytes, whoever made them, exactly when questions 5 to 8 hold, a text fits and the counts are true of it", "a layout 2
+-- tree exactly when, besides, its edges are true of the text that fits."
+pub check-accepts : ExactCheck
+check-accepts = tree.check-accepts
+
 -- A call of check, on any bytes, whoever made them.
 module _ (κs : Lfts 1) (t : Lent) where
-  -- "The check accepts any bytes, whoever made them, exactly when questions 5 to 8 hold, a text fits and the counts are true of it", "a layout 2
-  -- tree exactly when, besides, its edges are true of the text that fits."
-  pub check-accepts : (r : ℕ) → Check κs t r → (r ≡ 0) ↔ ((T : List ℕ) × StandsFor (now t) T)
-  check-accepts r c = tree.check-accepts κs t r c
-
   -- "trees of layout 1 are read and checked all the same": they have no edges, and nothing is asked of them.
   pub older-edges : at.layout (now t) ≡ 1 → (T : List ℕ) → edgesTrue T (now t) ≡ true
   older-edges one T = no-edges T (now t) one

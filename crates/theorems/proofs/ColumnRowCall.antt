@@ -1,8 +1,8 @@
 -- row_by_columns(tree, width, a, buffer): row a, from 0, of the text whose rearrangement the tree is of: all its bytes, copied.
 use mathlib.Core.List.{List, [], _∷_, _++_}
-use mathlib.Core.Bool.{true, false, cond}
+use mathlib.Core.Bool.{cond}
 use mathlib.Core.Path.{_≡_, sym, _∙_, refl}
-use Prim.Native.Nat.{ℕ, _≤_, _<_, _*_, _/_}
+use Prim.Native.Nat.{ℕ, _≤_, _/_}
 use native.Mathlib.Omega.{arith}
 use contract.Lifetimes.{Lfts}
 use denote.Ref.{now}
@@ -10,10 +10,8 @@ use lib.ListN.{length, drop, replicate}
 use lib.Dec.{eqb, leb, ltb}
 use lib.Seq.{drop-at}
 use borrow.Author.Tests.{eq-eqb, ne-eqb, leb-true}
-use Rattle.text.specs.Text.{stretch}
 use Rattle.text.specs.ListLaws.{length-tabulate}
 use Rattle.text.specs.Lists.{tabulate}
-use Rattle.format.specs.Settings.{Settings}
 use Rattle.format.specs.Layout as at
 use Rattle.format.specs.Fits.{textOf}
 use Rattle.format.specs.Verdict.{readable, verdict, ask}
@@ -22,24 +20,21 @@ use Rattle.format.specs.Said.{refused}
 use Rattle.format.specs.ReadSays.{byteSays}
 use Rattle.format.specs.LayoutLaws.{ask-test, ask-rest}
 use Rattle.format.specs.SaidLaws.{unless-passes, then-is}
-use Rattle.ask_access.specs.declared.Copied.{Copied}
 use Rattle.ask_access.specs.declared.Copied.the-variants as copied
-use Rattle.columns.specs.Columns.{widthOk, uncolumns}
+use Rattle.columns.specs.Columns.{widthOk}
 use Rattle.ask_columns.proofs.Demands as columns
 use Rattle.ask_columns.specs.ColumnRows.{cell, cellsHold, columnNumber, columnSays, columnLeaves}
+use Rattle.theorems.specs.Promises.{ColumnAnswers, ColumnRefuses}
+use Rattle.theorems.specs.PublicFunctions.{row-by-columns-function}
 use Rattle.theorems.proofs.AcceptedTree.{text-size}
 use Rattle.theorems.proofs.OutsideCall.{Call, Lent, call}
 use Rattle.theorems.proofs.RefusalNumbers.{OneOf, asks-one, not-zero, readable-one, says-answer, says-refused, then-one}
-use Rattle.ask_columns.proofs.row_by_columns as row-by-columns-code
-use Rattle.ask_columns.proofs.row_by_columns.Symbol as row-by-columns-symbol
 use Rattle.ask_columns.proofs.row_by_columns.Met as row-by-columns-met
 -- what the contract allows, where the buffer is left as `after`: `ByColumns κs tree width a buffer after r`
-pub use Rattle.ask_columns.proofs.Demands.{ByColumns}
+pub use Rattle.theorems.specs.CallContracts.{ByColumns}
 
 abbrev pub row-by-columns-call : Call
-row-by-columns-call =
-    call (record { routine = row-by-columns-symbol.routine; signature = row-by-columns-code.signature; clauses = row-by-columns-code.spec })
-    row-by-columns-met.met (λ 𝓤 H A mem run κs a. (tt, refl))
+row-by-columns-call = call row-by-columns-function row-by-columns-met.met (λ 𝓤 H A mem run κs a. (tt, refl))
 
 -- Any lent bytes.
 
@@ -101,21 +96,6 @@ module _ (κs : Lfts 2) (t : Lent) (w a : ℕ) (buffer after : Lent) where
     pub column-unchanged : (n ≡ 14 → ⊥) → now after ≡ now buffer
     column-unchanged e = column-left ∙ rw (ne-eqb n 14 e)
 
--- Answered from the text T by the tree t: row a, read by columns, of the text that T is the rearrangement of, end byte included.
-pub record Answers (t : Lent) (S : Settings) (T : List ℕ) : Type 0 where
-  pub column-of : (κs : Lfts 2) (w a : ℕ) (buffer after : Lent) (r : Copied) → ByColumns κs t w a buffer after r
-      → widthOk w (length T) ≡ true → a < length T / w → w ≤ length (now buffer)
-      → (r ≡ copied.Bytes w 0) × (now after ≡ stretch (uncolumns w T) (a * w) w ++ drop w (now buffer))
-
--- Refused, the buffer unchanged: "It refuses a width of 0 or one that does not divide the length with 20", then "10 (a below rows), 13".
-pub record Refuses (t : Lent) (S : Settings) (T : List ℕ) : Type 0 where
-  pub column-width : (κs : Lfts 2) (w a : ℕ) (buffer after : Lent) (r : Copied) → ByColumns κs t w a buffer after r
-      → widthOk w (length T) ≡ false → (r ≡ copied.Refused 20) × (now after ≡ now buffer)
-  pub column-past : (κs : Lfts 2) (w a : ℕ) (buffer after : Lent) (r : Copied) → ByColumns κs t w a buffer after r
-      → widthOk w (length T) ≡ true → length T / w ≤ a → (r ≡ copied.Refused 10) × (now after ≡ now buffer)
-  pub column-short : (κs : Lfts 2) (w a : ℕ) (buffer after : Lent) (r : Copied) → ByColumns κs t w a buffer after r
-      → widthOk w (length T) ≡ true → a < length T / w → length (now buffer) < w → (r ≡ copied.Refused 13) × (now after ≡ now buffer)
-
 -- Any tree that the check accepts, and the one text that fits it.
 module _ (t : Lent) (v : verdict (now t) ≡ 0) where
   pass : readable (now t) ≡ 0
@@ -124,10 +104,10 @@ module _ (t : Lent) (v : verdict (now t) ≡ 0) where
   size : length (textOf (now t)) ≡ at.textLength (now t)
   size = text-size (now t) v
 
-  pub accepted-answers : Answers t (at.settings (now t)) (textOf (now t))
+  pub accepted-answers : ColumnAnswers t (at.settings (now t)) (textOf (now t))
   accepted-answers = record { column-of = λ κs w a buffer after r c ok low room. columns.column-copies κs t v w a buffer after r c ok low room }
 
-  pub accepted-refuses : Refuses t (at.settings (now t)) (textOf (now t))
+  pub accepted-refuses : ColumnRefuses t (at.settings (now t)) (textOf (now t))
   accepted-refuses = record {
     column-width = λ κs w a buffer after r c other. columns.column-width κs t w a buffer after r c pass (rw size at other);
     column-past = λ κs w a buffer after r c ok past. columns.column-past κs t w a buffer after r c pass (rw size at ok) (rw size at past);

@@ -9,26 +9,19 @@ use denote.Ref.{now}
 use lib.ListN.{length}
 use lib.Dec.{leb}
 use Rattle.columns.specs.Columns.{widthOk, refusalOf, columnsNumber}
+use Rattle.theorems.specs.PublicFunctions.{from-columns-function, to-columns-function}
 use Rattle.theorems.proofs.OutsideCall.{Call, Lent, call}
 use Rattle.theorems.proofs.RefusalNumbers.{OneOf}
-use Rattle.columns.proofs.to_columns as to-columns-code
-use Rattle.columns.proofs.to_columns.Symbol as to-columns-symbol
 use Rattle.columns.proofs.to_columns.Met as to-columns-met
-use Rattle.columns.proofs.from_columns as from-columns-code
-use Rattle.columns.proofs.from_columns.Symbol as from-columns-symbol
 use Rattle.columns.proofs.from_columns.Met as from-columns-met
 -- what the contracts allow, where the output is left as `after`: `ToColumns κs text width out after r`, and `FromColumns` alike
 pub use Rattle.columns.proofs.Demands.{ToColumns, FromColumns}
 
 abbrev pub to-columns-call : Call
-to-columns-call =
-    call (record { routine = to-columns-symbol.routine; signature = to-columns-code.signature; clauses = to-columns-code.spec }) to-columns-met.met
-    (λ 𝓤 H A mem run κs a. (tt, refl))
+to-columns-call = call to-columns-function to-columns-met.met (λ 𝓤 H A mem run κs a. (tt, refl))
 
 abbrev pub from-columns-call : Call
-from-columns-call =
-    call (record { routine = from-columns-symbol.routine; signature = from-columns-code.signature; clauses = from-columns-code.spec }) from-columns-met.met
-    (λ 𝓤 H A mem run κs a. (tt, refl))
+from-columns-call = call from-columns-function from-columns-met.met (λ 𝓤 H A mem run κs a. (tt, refl))
 
 -- Any lent bytes: each answers 0, 20 or 21.
 refusal-one : (w n room : ℕ) → OneOf (20 ∷ 21 ∷ 0 ∷ []) (refusalOf w n room)

@@ -18,7 +18,7 @@ use Rattle.ask_rank.specs.declared.Counted.{Counted}
 use Rattle.ask_rank.specs.declared.Counted.the-variants as counted
 use Rattle.ask_select.specs.declared.Found.{Found}
 use Rattle.ask_select.specs.declared.Found.the-variants as found
-use Rattle.theorems.proofs.AcceptedTree.{Among}
+use Rattle.theorems.specs.Promises.{Among}
 use Rattle.theorems.proofs.CheckCall.{Check, check-answers, check-refuses}
 use Rattle.theorems.proofs.CountCall.{Count}
 use Rattle.theorems.proofs.FindCall.{Find}

@@ -27,36 +27,26 @@ use Rattle.theory_counts.specs.Demands as tallies
 use Rattle.ask_rank.specs.declared.Counted.{Counted}
 use Rattle.ask_rank.specs.declared.Counted.the-variants as counted
 use Rattle.ask_rank.specs.Counts.{saidCount, Numbered as CountNumbered, uncountedNumber}
-use Rattle.theorems.proofs.AcceptedTree.{Among, among-counted, not-counted, path-length, text-size}
-use Rattle.theorems.proofs.BlocksEntered.{LengthOfPath, length-of-path}
+use Rattle.theorems.specs.Promises.{Among, CountAnswers, CountRefuses, LengthOfPath}
+pub use Rattle.theorems.specs.CallContracts.{Count}
+use Rattle.theorems.specs.PublicFunctions.{count-function, uncounted-function}
+use Rattle.theorems.proofs.AcceptedTree.{among-counted, not-counted, path-length, text-size}
+use Rattle.theorems.proofs.BlocksEntered.{length-of-path}
 use Rattle.theorems.proofs.OutsideCall.{Call, Lent, call}
 use Rattle.theorems.proofs.RefusalNumbers.{OneOf, asks-one, not-zero, readable-one, then-one, unless-one}
-use Rattle.ask_rank.proofs.count as count-code
-use Rattle.ask_rank.proofs.count.Symbol as count-symbol
 use Rattle.ask_rank.proofs.count.Met as count-met
-use Rattle.ask_rank.proofs.count.Reads as count-reads
-use Rattle.ask_rank.proofs.uncounted.uncounted as uncounted-code
-use Rattle.ask_rank.proofs.uncounted.uncounted.Symbol as uncounted-symbol
 use Rattle.ask_rank.proofs.uncounted.uncounted.Met as uncounted-met
 use Rattle.ask_rank.proofs.uncounted.uncounted.Reads as uncounted-reads
-
--- what the contract of `count` allows
-abbrev pub Count : (κs : Lfts 1) → Lent → (byte i : ℕ) → Counted → Type 0
-Count κs t byte i r = count-reads.Post κs (t, (byte, (i, tt))) r (t, (byte, (i, tt)))
 
 -- what the contract of `uncounted` allows
 abbrev pub Uncounted : (κs : Lfts 1) → Lent → (i : ℕ) → ℕ → Type 0
 Uncounted κs t i r = uncounted-reads.Post κs (t, (i, tt)) r (t, (i, tt))
 
 abbrev pub count-call : Call
-count-call =
-    call (record { routine = count-symbol.routine; signature = count-code.signature; clauses = count-code.spec }) count-met.met
-    (λ 𝓤 H A mem run κs a. (tt, refl))
+count-call = call count-function count-met.met (λ 𝓤 H A mem run κs a. (tt, refl))
 
 abbrev pub uncounted-call : Call
-uncounted-call =
-    call (record { routine = uncounted-symbol.routine; signature = uncounted-code.signature; clauses = uncounted-code.spec }) uncounted-met.met
-    (λ 𝓤 H A mem run κs a. (tt, refl))
+uncounted-call = call uncounted-function uncounted-met.met (λ 𝓤 H A mem run κs a. (tt, refl))
 
 -- Any lent bytes.
 
@@ -149,21 +139,6 @@ uncounted-numbers κs t i r a =
     last true = inr (inl refl)
     last false = inl refl
 
--- Answered from the text T by the tree t with the settings S: "how often a counted byte stands in the first i bytes", with the length of the path of
--- place i - 1; "i = 0 gives 0 with none entered".
-pub record Answers (t : Lent) (S : Settings) (T : List ℕ) : Type 0 where
-  pub count-of : (κs : Lfts 1) (byte i : ℕ) (r : Counted) → Count κs t byte i r → Among byte (S .counted) → 1 ≤ i → i ≤ length T
-      → (e : ℕ) × LengthOfPath (now t) (S .levels) (i - 1) e × (r ≡ counted.Times (countIn byte (take i T)) e)
-  pub count-none : (κs : Lfts 1) (byte : ℕ) (r : Counted) → Count κs t byte 0 r → Among byte (S .counted) → r ≡ counted.Times 0 0
-
--- Refused: ..
-pub record Refuses (t : Lent) (S : Settings) (T : List ℕ) : Type 0 where
-  -- .. "Is p below n; or start + length, or i, at most n? No: 10."
-  pub count-past : (κs : Lfts 1) (byte i : ℕ) (r : Counted) → Count κs t byte i r → length T < i → r ≡ counted.Refused 10
-  -- .. "Is the byte counted (for a row, byte 10)? No: 11."
-  pub count-other : (κs : Lfts 1) (byte i : ℕ) (r : Counted) → Count κs t byte i r → i ≤ length T → (Among byte (S .counted) → ⊥)
-      → r ≡ counted.Refused 11
-
 -- which answer says this
 count-is : (r : Counted) (v e : ℕ) → CountNumbered r → saidCount r ≡ record { number = 0; value = v; entered = e } → r ≡ counted.Times v e
 count-is (counted.Times w m) v e k s =
@@ -196,7 +171,7 @@ module _ (t : Lent) (v : verdict (now t) ≡ 0) where
   count-says κs byte i r a k h =
       count-is r _ _ (a .numbered) (a .says ∙ tallies.count-of-text (now t) v byte i (among-counted (now t) byte k) (omega (arith, size)))
 
-  pub accepted-answers : Answers t S T
+  pub accepted-answers : CountAnswers t S T
   unfolding countIn
   accepted-answers = record {
     count-of = λ κs byte i r a k low h. (
@@ -215,7 +190,7 @@ module _ (t : Lent) (v : verdict (now t) ≡ 0) where
   unfolding countSays
   count-eleven byte i h other = rw (pass, le-leb i (at.textLength (now t)) (omega (arith, size)), not-counted (now t) v byte other)
 
-  pub accepted-refuses : Refuses t S T
+  pub accepted-refuses : CountRefuses t S T
   accepted-refuses = record {
     count-past = λ κs byte i r a h. count-no r 9 (a .says ∙ count-ten byte i h);
     count-other = λ κs byte i r a h other. count-no r 10 (a .says ∙ count-eleven byte i h other);

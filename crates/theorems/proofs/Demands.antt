@@ -1,26 +1,8 @@
 -- The demands, as theorems over what the calls promise: of any lent bytes, of every tree that the check accepts, whoever made it, and of what
--- build writes. Each theorem is named here under the sentence that it shows, and stands in the file of its call. What it means that questions are answered
--- from a text is said in `TreeAnswers`, which calls there are in `EveryCall`. The sentences are quoted from docs/FORMAT.md, which calls itself this page.
-use mathlib.Core.List.{List}
-use mathlib.Core.Bool.{true}
-use mathlib.Core.Path.{_≡_, _∙_}
-use Prim.Native.Nat.{ℕ}
-use contract.Lifetimes.{Lfts}
-use denote.Ref.{now}
-use lib.ListN.{take}
-use Rattle.format.specs.Layout as at
-use Rattle.format.specs.Fits.{fits}
-use Rattle.format.specs.Blocks.{treeOf}
-use Rattle.theory_accepted.specs.AcceptedTrees.{StandsFor}
-use Rattle.build_by_search.specs.BuildAnswer.{given}
-use Rattle.build_by_search.specs.declared.Built.the-variants as built
-use Rattle.build_by_scan.specs.declared.Scanned.the-variants as scanned
-use Rattle.build_by_scan.specs.ScannedSays.{windowsOf}
-use Rattle.theorems.proofs.BuildCall.{Build}
-use Rattle.theorems.proofs.BuildScannedCall.{BuildScanned}
-use Rattle.theorems.proofs.CheckCall.{Check}
-use Rattle.theorems.proofs.OutsideCall.{Lent}
-use Rattle.theorems.proofs.TreeAnswers.{Answers, Refuses}
+-- build writes. Each theorem is named here under the sentence that it shows, and is in the file of its call. The statements about trees are on one page,
+-- specs/Promises.antt. The sentences are quoted from docs/FORMAT.md, which calls itself this page.
+use mathlib.Core.Path.{_∙_}
+use Rattle.theorems.specs.Promises.{AnyTree, BuiltTree, ScannedTree}
 -- Demand 1. "Every call ends, on every text, setting, tree and question; reads and writes only what was lent; ..
 pub use Rattle.theorems.proofs.EveryCall.{every-call-ends}
 -- .. gives its answer or a numbered refusal of this page; ..
@@ -208,49 +190,41 @@ pub use Rattle.theorems.proofs.WithoutEdgesCall.{without-edges-answers,
 pub use Rattle.build_without_edges.proofs.Demands.{written-built}
 pub use Rattle.theory_without_edges.specs.TreeInLayout.{same-built}
 
--- The roads to a tree, each in one theorem.
+-- The roads to a tree, each in one theorem; `Promises` has their statements.
 
 -- A tree that check accepted, whoever made it: exactly one text fits it, and every question is answered from that text.
-pub any-tree : (κs : Lfts 1) (t : Lent) → Check κs t 0
-    → (T : List ℕ) × StandsFor (now t) T × ((U : List ℕ) → fits U (now t) ≡ true → U ≡ T)
-    × Answers t (at.settings (now t)) T × Refuses t (at.settings (now t)) T
+pub any-tree : AnyTree
 any-tree κs t c =
     let one = check-one-text κs t c in
-    (one .0, one .1, one .2, check-answers κs t c (one .0) (one .1 .fitting), check-refuses κs t c (one .0) (one .1 .fitting))
+    let fit = one .1 .fitting in
+    (one .0, record { stands = one .1; only = one .2; answers = check-answers κs t c (one .0) fit; refuses = check-refuses κs t c (one .0) fit })
 
 -- A tree that build wrote: it is the block tree of the text, check accepts it, the text and no other fits it, and every question is answered
 -- from the text.
-pub built-tree :
-    (κs : Lfts 3) (text : Lent) (leaf arity levels : ℕ) (counted out after : Lent) (size : ℕ)
-    → Build κs text leaf arity levels counted out after (built.Size size) → (t : Lent) → now t ≡ take size (now after)
-    → (now t ≡ treeOf (given leaf arity levels (now counted)) (now text)) × ((κ : Lfts 1) (r : ℕ) → Check κ t r → r ≡ 0)
-    × StandsFor (now t) (now text) × ((U : List ℕ) → fits U (now t) ≡ true → U ≡ now text)
-    × Answers t (given leaf arity levels (now counted)) (now text) × Refuses t (given leaf arity levels (now counted)) (now text)
+pub built-tree : BuiltTree
 built-tree κs text leaf arity levels counted out after size a t is =
     let one = build-one-text κs text leaf arity levels counted out after size a t is in (
       is ∙ build-writes κs text leaf arity levels counted out after size a,
       build-accepted κs text leaf arity levels counted out after size a t is,
-      one .0,
-      one .1,
-      build-answers κs text leaf arity levels counted out after size a t is,
-      build-refuses κs text leaf arity levels counted out after size a t is,
+      record {
+        stands = one .0;
+        only = one .1;
+        answers = build-answers κs text leaf arity levels counted out after size a t is;
+        refuses = build-refuses κs text leaf arity levels counted out after size a t is;
+      },
     )
 
 -- A tree that build_scanned wrote: the same, and the windows that it reports are those of the text.
-pub scanned-tree :
-    (κs : Lfts 4) (text : Lent) (leaf arity levels : ℕ) (counted words table out after : Lent) (size windows : ℕ)
-    → BuildScanned κs text leaf arity levels counted words table out after (scanned.Size size windows) → (t : Lent) → now t ≡ take size (now after)
-    → (windows ≡ windowsOf (given leaf arity levels (now counted)) (now text))
-    × (now t ≡ treeOf (given leaf arity levels (now counted)) (now text)) × ((κ : Lfts 1) (r : ℕ) → Check κ t r → r ≡ 0)
-    × StandsFor (now t) (now text) × ((U : List ℕ) → fits U (now t) ≡ true → U ≡ now text)
-    × Answers t (given leaf arity levels (now counted)) (now text) × Refuses t (given leaf arity levels (now counted)) (now text)
+pub scanned-tree : ScannedTree
 scanned-tree κs text leaf arity levels counted words table out after size windows a t is =
     let one = scanned-one-text κs text leaf arity levels counted words table out after size windows a t is in (
       scanned-windows κs text leaf arity levels counted words table out after size windows a,
       is ∙ scanned-writes κs text leaf arity levels counted words table out after size windows a,
       scanned-accepted κs text leaf arity levels counted words table out after size windows a t is,
-      one .0,
-      one .1,
-      scanned-answers κs text leaf arity levels counted words table out after size windows a t is,
-      scanned-refuses κs text leaf arity levels counted words table out after size windows a t is,
+      record {
+        stands = one .0;
+        only = one .1;
+        answers = scanned-answers κs text leaf arity levels counted words table out after size windows a t is;
+        refuses = scanned-refuses κs text leaf arity levels counted words table out after size windows a t is;
+      },
     )

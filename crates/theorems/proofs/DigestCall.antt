@@ -3,45 +3,37 @@ use mathlib.Core.List.{List, [], _∷_, _++_}
 use mathlib.Core.Bool.{Bool, true, false, cond}
 use mathlib.Core.Path.{_≡_, refl, sym, _∙_}
 use mathlib.Core.Logic.{inl, inr}
-use Prim.Native.Nat.{ℕ, _≤_, _<_}
+use Prim.Native.Nat.{ℕ, _≤_}
 use native.Mathlib.Omega.{arith}
 use contract.Lifetimes.{Lfts}
 use denote.Ref.{now}
 use lib.ListN.{length, drop, replicate}
 use lib.Dec.{leb}
 use borrow.Author.Tests.{ne-eqb}
-use Rattle.format.specs.Settings.{Settings}
 use Rattle.format.specs.Layout as at
 use Rattle.format.specs.Fits.{textOf}
 use Rattle.format.specs.Verdict.{readable, verdict}
 use Rattle.format.specs.VerdictLaws.{accepted-readable}
 use Rattle.format.specs.ReadSays.{pathsHold, leavesSpan}
 use Rattle.theory_accepted.specs.AcceptedTrees.{accepted-stands}
-use Rattle.sha256.specs.Sha256.{sha256}
 use Rattle.sha256.specs.DigestText.{digestTextRefusal}
 use Rattle.query_digest.specs.Digest.{digestRefusal, digestBuffer}
 use Rattle.query_digest.proofs.Demands as digests
+use Rattle.theorems.specs.Promises.{DigestAnswers, DigestRefuses}
+use Rattle.theorems.specs.PublicFunctions.{digest-function, digest-text-function}
 use Rattle.theorems.proofs.OutsideCall.{Call, Lent, call}
 use Rattle.theorems.proofs.RefusalNumbers.{OneOf, asks-one, readable-one, then-one}
-use Rattle.query_digest.proofs.digest as digest-code
-use Rattle.query_digest.proofs.digest.Symbol as digest-symbol
 use Rattle.query_digest.proofs.digest.Met as digest-met
-use Rattle.sha256.proofs.digest_text as digest-text-code
-use Rattle.sha256.proofs.digest_text.Symbol as digest-text-symbol
 use Rattle.sha256.proofs.digest_text.Met as digest-text-met
 -- What the contracts allow, with the buffer left as `after`: `Digest κs tree out after r`, `DigestText κs text out after r`.
-pub use Rattle.query_digest.proofs.Demands.{Digest}
+pub use Rattle.theorems.specs.CallContracts.{Digest}
 pub use Rattle.sha256.proofs.Demands.{DigestText}
 
 abbrev pub digest-call : Call
-digest-call =
-    call (record { routine = digest-symbol.routine; signature = digest-code.signature; clauses = digest-code.spec }) digest-met.met
-    (λ 𝓤 H A mem run κs a. (tt, refl))
+digest-call = call digest-function digest-met.met (λ 𝓤 H A mem run κs a. (tt, refl))
 
 abbrev pub digest-text-call : Call
-digest-text-call =
-    call (record { routine = digest-text-symbol.routine; signature = digest-text-code.signature; clauses = digest-text-code.spec }) digest-text-met.met
-    (λ 𝓤 H A mem run κs a. (tt, refl))
+digest-text-call = call digest-text-function digest-text-met.met (λ 𝓤 H A mem run κs a. (tt, refl))
 
 -- Any bytes.
 
@@ -79,21 +71,12 @@ module _ (κs : Lfts 2) (t out after : Lent) (r : ℕ) where
   pub digest-text-numbers : DigestText κs t out after r → OneOf (13 ∷ 0 ∷ []) r
   digest-text-numbers a = rw (a .0) (text-one (length (now out)))
 
--- The tree t gives the SHA-256 of the text T, in the first 32 bytes.
-pub record Answers (t : Lent) (S : Settings) (T : List ℕ) : Type 0 where
-  pub digest-of : (κs : Lfts 2) (out after : Lent) (r : ℕ) → Digest κs t out after r → 32 ≤ length (now out)
-      → (r ≡ 0) × (now after ≡ sha256 T ++ drop 32 (now out))
-
--- 13 leaves the buffer unchanged.
-pub record Refuses (t : Lent) (S : Settings) (T : List ℕ) : Type 0 where
-  pub digest-short : (κs : Lfts 2) (out after : Lent) (r : ℕ) → Digest κs t out after r → length (now out) < 32 → (r ≡ 13) × (now after ≡ now out)
-
 -- Every tree that the check accepts, with the one text that fits it.
 module _ (t : Lent) (v : verdict (now t) ≡ 0) where
-  pub accepted-answers : Answers t (at.settings (now t)) (textOf (now t))
+  pub accepted-answers : DigestAnswers t (at.settings (now t)) (textOf (now t))
   accepted-answers = record {
     digest-of = λ κs out after r a room. digests.digest-accepted κs t out after r a v room (textOf (now t)) (accepted-stands (now t) v .fitting);
   }
 
-  pub accepted-refuses : Refuses t (at.settings (now t)) (textOf (now t))
+  pub accepted-refuses : DigestRefuses t (at.settings (now t)) (textOf (now t))
   accepted-refuses = record { digest-short = λ κs out after r a short. digests.digest-short κs t out after r a (accepted-readable (now t) v) short }

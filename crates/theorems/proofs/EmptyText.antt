@@ -35,7 +35,7 @@ use Rattle.ask_select.specs.declared.Found.{Found}
 use Rattle.ask_select.specs.declared.Found.the-variants as found
 use Rattle.ask_rows.specs.declared.RowCopied.{RowCopied}
 use Rattle.ask_rows.specs.declared.RowCopied.the-variants as rows
-use Rattle.theorems.proofs.AcceptedTree.{Among}
+use Rattle.theorems.specs.Promises.{Among, Answers, Refuses}
 use Rattle.theorems.proofs.ByteCall.{Byte}
 use Rattle.theorems.proofs.CheckCall.{Check, check-answers, check-one-text, check-refuses}
 use Rattle.theorems.proofs.CountCall.{Count}
@@ -44,7 +44,6 @@ use Rattle.theorems.proofs.OutsideCall.{Lent}
 use Rattle.theorems.proofs.RowCall.{Row}
 use Rattle.theorems.proofs.RunCall.{Run}
 use Rattle.theorems.proofs.SpanCall.{Span}
-use Rattle.theorems.proofs.TreeAnswers.{Answers, Refuses}
 
 -- The answers of a tree of the empty text, whichever road led to it.
 module _ (t : Lent) (S : Settings) (answers : Answers t S []) (refuses : Refuses t S []) where

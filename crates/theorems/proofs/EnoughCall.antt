@@ -11,10 +11,9 @@ use Rattle.layout.specs.CheckedSettings.{sizes}
 use Rattle.build_enough.specs.Enough.{enoughFor, enoughRefusal, enoughSays}
 use Rattle.build_enough.specs.declared.Room.{Room}
 use Rattle.build_enough.specs.declared.Room.the-variants as room
+use Rattle.theorems.specs.PublicFunctions.{enough-function}
 use Rattle.theorems.proofs.OutsideCall.{Call, call}
 use Rattle.theorems.proofs.RefusalNumbers.{OneOf, asks-one, not-zero, says-refused, says-answer}
-use Rattle.build_enough.proofs.enough as enough-code
-use Rattle.build_enough.proofs.enough.Symbol as enough-symbol
 use Rattle.build_enough.proofs.enough.Met as enough-met
 use Rattle.build_enough.proofs.enough.Reads as enough-reads
 
@@ -24,9 +23,7 @@ Enough n leaf arity levels counted r =
     enough-reads.Post tt (n, (leaf, (arity, (levels, (counted, tt))))) r (n, (leaf, (arity, (levels, (counted, tt)))))
 
 abbrev pub enough-call : Call
-enough-call =
-    call (record { routine = enough-symbol.routine; signature = enough-code.signature; clauses = enough-code.spec }) enough-met.met
-    (λ 𝓤 H A mem run κs a. (tt, refl))
+enough-call = call enough-function enough-met.met (λ 𝓤 H A mem run κs a. (tt, refl))
 
 -- A refusal is 1, 2 or 3.
 pub enough-numbers : (n leaf arity levels k m : ℕ) → Enough n leaf arity levels k (room.Refused m) → OneOf (1 ∷ 2 ∷ 3 ∷ []) m

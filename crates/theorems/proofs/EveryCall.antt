@@ -1,7 +1,8 @@
--- The calls of the library, a line for each, and what demand 1 says of every one of them. The exported calls, list and the calls
--- on a licence's days stand in the `Demands` of their crates.
+-- The calls of the library, in the order of `PublicFunctions`, and what demand 1 says of every one of them. For the exported calls, for list and for the calls
+-- on a licence's days the same is proved in `Demands` of their crates.
 use mathlib.Core.List.{List, [], _∷_}
-use Rattle.theorems.proofs.OutsideCall.{AsksNothing, Call, Each, Ends, each-ends, each-asks-nothing}
+use Rattle.theorems.specs.Promises.{EveryCallEnds, NoPreconditions}
+use Rattle.theorems.proofs.OutsideCall.{Call, each-ends, each-asks-nothing}
 use Rattle.theorems.proofs.LeftmostCall
 use Rattle.theorems.proofs.BuildCall
 use Rattle.theorems.proofs.BuildScannedCall
@@ -73,9 +74,9 @@ calls =
     ∷ []
 
 -- "Every call ends, on every text, setting, tree and question; reads and writes only what was lent" (`Ends`).
-pub every-call-ends : Each Ends calls
+pub every-call-ends : EveryCallEnds
 every-call-ends = each-ends calls
 
 -- "trusts no caller to have checked a tree": what a call asks of its caller holds of any arguments (`AsksNothing`).
-pub trusts-no-caller : Each AsksNothing calls
+pub trusts-no-caller : NoPreconditions
 trusts-no-caller = each-asks-nothing calls

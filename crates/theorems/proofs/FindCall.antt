@@ -27,25 +27,18 @@ use Rattle.theory_counts.specs.Demands as tallies
 use Rattle.ask_select.specs.declared.Found.{Found}
 use Rattle.ask_select.specs.declared.Found.the-variants as found
 use Rattle.ask_select.specs.Found.{saidFind, Numbered as FindNumbered}
-use Rattle.theorems.proofs.AcceptedTree.{Among, among-counted, not-counted, path-length}
-use Rattle.theorems.proofs.BlocksEntered.{LengthOfPath}
+use Rattle.theorems.specs.Promises.{Among, FindAnswers, FindRefuses}
+pub use Rattle.theorems.specs.CallContracts.{Find}
+use Rattle.theorems.specs.PublicFunctions.{find-function}
+use Rattle.theorems.proofs.AcceptedTree.{among-counted, not-counted, path-length}
 use Rattle.theorems.proofs.FindOutcomes.{FindOutcome, find-outcome, outcome-below, outcome-numbers, select-through}
 use Rattle.theorems.proofs.OutsideCall.{Call, Lent, call}
 use Rattle.theorems.proofs.RefusalNumbers.{OneOf}
 use Rattle.format.specs.FindSays.{found as foundFor}
-use Rattle.ask_select.proofs.find as find-code
-use Rattle.ask_select.proofs.find.Symbol as find-symbol
 use Rattle.ask_select.proofs.find.Met as find-met
-use Rattle.ask_select.proofs.find.Reads as find-reads
-
--- what the contract allows
-abbrev pub Find : (κs : Lfts 1) → Lent → (byte j : ℕ) → Found → Type 0
-Find κs t byte j r = find-reads.Post κs (t, (byte, (j, tt))) r (t, (byte, (j, tt)))
 
 abbrev pub find-call : Call
-find-call =
-    call (record { routine = find-symbol.routine; signature = find-code.signature; clauses = find-code.spec }) find-met.met
-    (λ 𝓤 H A mem run κs a. (tt, refl))
+find-call = call find-function find-met.met (λ 𝓤 H A mem run κs a. (tt, refl))
 
 -- Any lent bytes.
 module _ (κs : Lfts 1) (t : Lent) (byte j : ℕ) where
@@ -59,19 +52,6 @@ module _ (κs : Lfts 1) (t : Lent) (byte j : ℕ) where
   -- .. a refusal is 5, 6, 7, 11, 12 or 14.
   pub find-numbers : (n : ℕ) → Find κs t byte j (found.Refused n) → OneOf (5 ∷ 6 ∷ 7 ∷ 11 ∷ 12 ∷ 14 ∷ []) n
   find-numbers n a = outcome-numbers (now t) byte j n (a .numbered) (outcome-of _ (a .says))
-
--- Answered from the text T by the tree t with the settings S: "the place of the j-th such byte, with the path of that place".
-pub record Answers (t : Lent) (S : Settings) (T : List ℕ) : Type 0 where
-  pub find-of : (κs : Lfts 1) (byte j : ℕ) (r : Found) → Find κs t byte j r → Among byte (S .counted) → 1 ≤ j → j ≤ countIn byte T
-      → (e : ℕ) × LengthOfPath (now t) (S .levels) (placeOf byte j T) e × (r ≡ found.At (record { 0 = placeOf byte j T }) e)
-
--- Refused: ..
-pub record Refuses (t : Lent) (S : Settings) (T : List ℕ) : Type 0 where
-  -- .. "Is the byte counted (for a row, byte 10)? No: 11."
-  pub find-other : (κs : Lfts 1) (byte j : ℕ) (r : Found) → Find κs t byte j r → (Among byte (S .counted) → ⊥) → r ≡ found.Refused 11
-  -- .. "Is j (or q) 1 to the total? No: 12."
-  pub find-none : (κs : Lfts 1) (byte j : ℕ) (r : Found) → Find κs t byte j r → Among byte (S .counted) → (1 ≤ j → j ≤ countIn byte T → ⊥)
-      → r ≡ found.Refused 12
 
 -- which answer says this
 find-is : (r : Found) (v e : ℕ) → FindNumbered r → saidFind r ≡ record { number = 0; value = v; entered = e } → r ≡ found.At (record { 0 = v }) e
@@ -93,7 +73,7 @@ module _ (t : Lent) (v : verdict (now t) ≡ 0) where
   abbrev S : Settings
   S = at.settings (now t)
 
-  pub accepted-answers : Answers t S T
+  pub accepted-answers : FindAnswers t S T
   unfolding foundFor
   accepted-answers = record {
     find-of = λ κs byte j r a k low high.
@@ -123,7 +103,7 @@ module _ (t : Lent) (v : verdict (now t) ≡ 0) where
   find-asked : (κs : Lfts 1) (byte j : ℕ) (r : Found) (n : ℕ) → Find κs t byte j r → selectNumber (now t) byte j ≡ suc n → r ≡ found.Refused (suc n)
   find-asked κs byte j r n a e = find-no r n (rw e at (a .says .asked (rw e (omega arith))))
 
-  pub accepted-refuses : Refuses t S T
+  pub accepted-refuses : FindRefuses t S T
   accepted-refuses = record {
     find-other = λ κs byte j r a other. find-asked κs byte j r 10 a (eleven byte j other);
     find-none = λ κs byte j r a k none. find-asked κs byte j r 11 a (twelve byte j k none);

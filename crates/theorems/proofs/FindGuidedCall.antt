@@ -22,22 +22,19 @@ use Rattle.ask_guide.proofs.GuideList.{guide-verdict}
 use Rattle.ask_guided.specs.declared.Guided.{Guided}
 use Rattle.ask_guided.specs.declared.Guided.the-variants as guided
 use Rattle.ask_guided.specs.Guided.{stepsTo, saidGuided, stepsOf, Numbered}
-use Rattle.theorems.proofs.AcceptedTree.{Among, path-length}
-use Rattle.theorems.proofs.BlocksEntered.{LengthOfPath}
+use Rattle.theorems.specs.Promises.{Among, LengthOfPath}
+use Rattle.theorems.specs.PublicFunctions.{find-guided-function}
+use Rattle.theorems.proofs.AcceptedTree.{path-length}
 use Rattle.theorems.proofs.FindOutcomes.{FindOutcome, find-outcome, outcome-below, outcome-numbers, select-through}
 use Rattle.theorems.proofs.GuideCall.{CheckGuide}
 use Rattle.theorems.proofs.OutsideCall.{Call, Lent, call}
 use Rattle.theorems.proofs.RefusalNumbers.{OneOf}
-use Rattle.ask_guided.proofs.find_guided as find-guided-code
-use Rattle.ask_guided.proofs.find_guided.Symbol as find-guided-symbol
 use Rattle.ask_guided.proofs.find_guided.Met as find-guided-met
 -- what the contract allows: `FindGuided κs tree guide byte j r`
 pub use Rattle.ask_guided.proofs.Demands.{FindGuided}
 
 abbrev pub find-guided-call : Call
-find-guided-call =
-    call (record { routine = find-guided-symbol.routine; signature = find-guided-code.signature; clauses = find-guided-code.spec }) find-guided-met.met
-    (λ 𝓤 H A mem run κs a. (tt, refl))
+find-guided-call = call find-guided-function find-guided-met.met (λ 𝓤 H A mem run κs a. (tt, refl))
 
 -- Any lent bytes: a place is one of the text, whatever the guide, and a refusal is 5, 6, 7, 11, 12 or 14.
 module _ (κs : Lfts 2) (t guide : Lent) (byte j : ℕ) where

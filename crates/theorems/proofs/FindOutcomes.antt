@@ -17,7 +17,8 @@ use Rattle.format.specs.CountSays.{isCounted, numberOfByte}
 use Rattle.format.specs.FindSays.{selectNumber, found, total, FindBy}
 use Rattle.format.specs.FindSaysLaws.{select-lets, select-passes}
 use Rattle.theory_counts.specs.Demands as tallies
-use Rattle.theorems.proofs.AcceptedTree.{Among, among-counted}
+use Rattle.theorems.specs.Promises.{Among}
+use Rattle.theorems.proofs.AcceptedTree.{among-counted}
 use Rattle.theorems.proofs.RefusalNumbers.{OneOf, asks-one, not-zero, of-left, of-right, readable-one, then-one}
 
 -- the numbers that its questions can give before it walks, ..

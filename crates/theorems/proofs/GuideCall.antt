@@ -13,34 +13,23 @@ use Rattle.format.specs.Said.{Said}
 use Rattle.format.specs.SaidLaws.{unless-number}
 use Rattle.ask_guide.specs.declared.Size.the-variants as size
 use Rattle.ask_guide.specs.Guides.{guideBytes, guideWords, guideNumber, sizeSays, makeNumber, makeSays}
+use Rattle.theorems.specs.PublicFunctions.{check-guide-function, guide-words-function, make-guide-function}
 use Rattle.theorems.proofs.OutsideCall.{Call, Lent, call}
 use Rattle.theorems.proofs.RefusalNumbers.{OneOf, asks-one, not-zero, readable-one, then-one, verdict-one}
-use Rattle.ask_guide.proofs.guide_words as guide-words-code
-use Rattle.ask_guide.proofs.guide_words.Symbol as guide-words-symbol
 use Rattle.ask_guide.proofs.guide_words.Met as guide-words-met
-use Rattle.ask_guide.proofs.make_guide as make-guide-code
-use Rattle.ask_guide.proofs.make_guide.Symbol as make-guide-symbol
 use Rattle.ask_guide.proofs.make_guide.Met as make-guide-met
-use Rattle.ask_guide.proofs.check_guide as check-guide-code
-use Rattle.ask_guide.proofs.check_guide.Symbol as check-guide-symbol
 use Rattle.ask_guide.proofs.check_guide.Met as check-guide-met
 -- what the contracts allow: `GuideWords κs tree r`, `MakeGuide κs tree table after r`, which leaves the table as `after`, `CheckGuide κs tree guide r`
 pub use Rattle.ask_guide.proofs.Demands.{GuideWords, MakeGuide, CheckGuide}
 
 abbrev pub guide-words-call : Call
-guide-words-call =
-    call (record { routine = guide-words-symbol.routine; signature = guide-words-code.signature; clauses = guide-words-code.spec }) guide-words-met.met
-    (λ 𝓤 H A mem run κs a. (tt, refl))
+guide-words-call = call guide-words-function guide-words-met.met (λ 𝓤 H A mem run κs a. (tt, refl))
 
 abbrev pub make-guide-call : Call
-make-guide-call =
-    call (record { routine = make-guide-symbol.routine; signature = make-guide-code.signature; clauses = make-guide-code.spec }) make-guide-met.met
-    (λ 𝓤 H A mem run κs a. (tt, refl))
+make-guide-call = call make-guide-function make-guide-met.met (λ 𝓤 H A mem run κs a. (tt, refl))
 
 abbrev pub check-guide-call : Call
-check-guide-call =
-    call (record { routine = check-guide-symbol.routine; signature = check-guide-code.signature; clauses = check-guide-code.spec }) check-guide-met.met
-    (λ 𝓤 H A mem run κs a. (tt, refl))
+check-guide-call = call check-guide-function check-guide-met.met (λ 𝓤 H A mem run κs a. (tt, refl))
 
 -- Checking a guide: 0, 5 to 9, or 24.
 pub check-guide-numbers : (κs : Lfts 2) (t guide : Lent) (r : ℕ) → CheckGuide κs t guide r → OneOf (5 ∷ 6 ∷ 7 ∷ 8 ∷ 9 ∷ 24 ∷ 0 ∷ []) r

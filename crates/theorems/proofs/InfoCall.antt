@@ -4,26 +4,19 @@ use mathlib.Core.Path.{refl}
 use Prim.Native.Nat.{ℕ}
 use contract.Lifetimes.{Lfts}
 use denote.Ref.{now}
+use Rattle.theorems.specs.PublicFunctions.{info-function, version-function}
 use Rattle.theorems.proofs.OutsideCall.{Call, Lent, call}
 use Rattle.theorems.proofs.RefusalNumbers.{OneOf, readable-one}
-use Rattle.ask_facts.proofs.info as info-code
-use Rattle.ask_facts.proofs.info.Symbol as info-symbol
 use Rattle.ask_facts.proofs.info.Met as info-met
-use Rattle.ask_facts.proofs.version as version-code
-use Rattle.ask_facts.proofs.version.Symbol as version-symbol
 use Rattle.ask_facts.proofs.version.Met as version-met
 -- what the contracts allow: `Info κs tree figures after r`, which leaves the figures as `after`, and `Version`
 pub use Rattle.ask_facts.proofs.Demands.{Info, Version}
 
 abbrev pub info-call : Call
-info-call =
-    call (record { routine = info-symbol.routine; signature = info-code.signature; clauses = info-code.spec }) info-met.met
-    (λ 𝓤 H A mem run κs a. (tt, refl))
+info-call = call info-function info-met.met (λ 𝓤 H A mem run κs a. (tt, refl))
 
 abbrev pub version-call : Call
-version-call =
-    call (record { routine = version-symbol.routine; signature = version-code.signature; clauses = version-code.spec }) version-met.met
-    (λ 𝓤 H A mem run κs a. (tt, refl))
+version-call = call version-function version-met.met (λ 𝓤 H A mem run κs a. (tt, refl))
 
 -- Any lent bytes: info answers 0, or 5, 6 or 7.
 pub info-numbers : (κs : Lfts 2) (t figures after : Lent) (r : ℕ) → Info κs t figures after r → OneOf (5 ∷ 6 ∷ 7 ∷ 0 ∷ []) r

@@ -1,49 +1,39 @@
 -- next_match(tree, ranges, mark): the next row after a mark whose cuts are each in their range; show(mark, tree, ranges) moves a lent mark by it. What
 -- holds of the mark stands in the `Demands` of their crate.
 use mathlib.Core.List.{List, [], _∷_}
-use mathlib.Core.Bool.{true, false, cond}
+use mathlib.Core.Bool.{true}
 use mathlib.Core.Path.{_≡_, refl}
 use mathlib.Core.Logic.{_⊎_, inl, inr}
 use Prim.Native.Nat.{ℕ}
 use contract.Lifetimes.{Lfts}
 use denote.Ref.{now}
-use lib.Dec.{eqb}
-use Rattle.format.specs.Settings.{Settings}
 use Rattle.format.specs.Layout as at
 use Rattle.format.specs.Fits.{textOf}
 use Rattle.format.specs.Verdict.{readable, verdict}
 use Rattle.format.specs.VerdictLaws.{accepted-readable}
 use Rattle.format.specs.CountSays.{isCounted}
 use Rattle.keys.specs.Keys.{rangesOk}
-use Rattle.keys.specs.Matches.{nextMatch, shownFor}
 use Rattle.ask_worn_keys.specs.MatchSays.{matchNumber}
 use Rattle.ask_worn_keys.proofs.Demands.{refusal-is}
 use Rattle.ask_worn_keys.proofs.Demands as worn-keys
-use Rattle.query_row_filter.specs.declared.NextRowAnswer.{NextRowAnswer}
 use Rattle.query_row_filter.specs.declared.NextRowAnswer.the-variants as shown
 use Rattle.query_row_filter.specs.AllowedOutcome.{newlineRefusal, queryRefusal}
-use Rattle.theorems.proofs.AcceptedTree.{Among, among-counted, not-counted}
+use Rattle.theorems.specs.Promises.{Among, MatchAnswers, MatchRefuses}
+use Rattle.theorems.specs.PublicFunctions.{next-match-function, show-function}
+use Rattle.theorems.proofs.AcceptedTree.{among-counted, not-counted}
 use Rattle.theorems.proofs.OutsideCall.{Call, Lent, call}
 use Rattle.theorems.proofs.RefusalNumbers.{OneOf, asks-one, not-zero, of-left, of-right, readable-one, then-one}
-use Rattle.ask_worn_keys.proofs.next_match as next-match-code
-use Rattle.ask_worn_keys.proofs.next_match.Symbol as next-match-symbol
 use Rattle.ask_worn_keys.proofs.next_match.Met as next-match-met
-use Rattle.ask_worn_keys.proofs.show as show-code
-use Rattle.ask_worn_keys.proofs.show.Symbol as show-symbol
 use Rattle.ask_worn_keys.proofs.show.Met as show-met
 -- what the contract of `next_match` allows: `NextMatch κs tree ranges mark r`; the contract of `show` is `Moved`
-pub use Rattle.ask_worn_keys.proofs.Demands.{NextMatch}
+pub use Rattle.theorems.specs.CallContracts.{NextMatch}
 pub use Rattle.ask_worn_keys.specs.MatchAnswer.{Moved}
 
 abbrev pub next-match-call : Call
-next-match-call =
-    call (record { routine = next-match-symbol.routine; signature = next-match-code.signature; clauses = next-match-code.spec }) next-match-met.met
-    (λ 𝓤 H A mem run κs a. (tt, refl))
+next-match-call = call next-match-function next-match-met.met (λ 𝓤 H A mem run κs a. (tt, refl))
 
 abbrev pub show-call : Call
-show-call =
-    call (record { routine = show-symbol.routine; signature = show-code.signature; clauses = show-code.spec }) show-met.met
-    (λ 𝓤 H A mem run κs a. (tt, refl))
+show-call = call show-function show-met.met (λ 𝓤 H A mem run κs a. (tt, refl))
 
 -- Any lent bytes.
 
@@ -62,20 +52,6 @@ match-numbers κs t ranges mark n a = go (refusal-is (now t) (now ranges) mark n
     go (inl e) = of-left (5 ∷ 6 ∷ 7 ∷ 19 ∷ 11 ∷ []) (14 ∷ []) n (not-zero (5 ∷ 6 ∷ 7 ∷ 19 ∷ 11 ∷ []) n (a .numbered) (rw e (match-one (now t) (now ranges))))
     go (inr h) = of-right (5 ∷ 6 ∷ 7 ∷ 19 ∷ 11 ∷ []) (14 ∷ []) n (inl (h .0))
 
--- Answered from the text T by the tree t with the settings S: "the mark .. is moved on to the next match"; "if no row after it matches, the answer is none
--- and the mark goes to the number of rows".
-pub record Answers (t : Lent) (S : Settings) (T : List ℕ) : Type 0 where
-  pub match-of : (κs : Lfts 2) (ranges : Lent) (mark : ℕ) (r : NextRowAnswer) → NextMatch κs t ranges mark r
-      → rangesOk (now ranges) ≡ true → Among 10 (S .counted)
-      → r ≡ cond (eqb (nextMatch (now ranges) T mark) 0) (shown.Nothing (shownFor (now ranges) T mark .mark)) (shown.Row (nextMatch (now ranges) T mark))
-
--- Refused: "It refuses a number of cuts outside 1 to 10, a depth above 9 or a low above its high with 19, .. before 11".
-pub record Refuses (t : Lent) (S : Settings) (T : List ℕ) : Type 0 where
-  pub match-ranges : (κs : Lfts 2) (ranges : Lent) (mark : ℕ) (r : NextRowAnswer) → NextMatch κs t ranges mark r → rangesOk (now ranges) ≡ false
-      → r ≡ shown.Refused 19
-  pub match-other : (κs : Lfts 2) (ranges : Lent) (mark : ℕ) (r : NextRowAnswer) → NextMatch κs t ranges mark r → rangesOk (now ranges) ≡ true
-      → (Among 10 (S .counted) → ⊥) → r ≡ shown.Refused 11
-
 -- Any tree that the check accepts, and the one text that fits it.
 module _ (t : Lent) (v : verdict (now t) ≡ 0) where
   pass : readable (now t) ≡ 0
@@ -85,12 +61,12 @@ module _ (t : Lent) (v : verdict (now t) ≡ 0) where
   match-through : (ranges : List ℕ) → rangesOk ranges ≡ true → Among 10 (at.settings (now t) .counted) → matchNumber (now t) ranges ≡ 0
   match-through ranges ok k = worn-keys.match-through (now t) ranges pass ok (among-counted (now t) 10 k)
 
-  pub accepted-answers : Answers t (at.settings (now t)) (textOf (now t))
+  pub accepted-answers : MatchAnswers t (at.settings (now t)) (textOf (now t))
   accepted-answers = record {
     match-of = λ κs ranges mark r a ok k. worn-keys.match-is (now t) (now ranges) v mark r a (match-through (now ranges) ok k);
   }
 
-  pub accepted-refuses : Refuses t (at.settings (now t)) (textOf (now t))
+  pub accepted-refuses : MatchRefuses t (at.settings (now t)) (textOf (now t))
   accepted-refuses = record {
     match-ranges = λ κs ranges mark r a wrong. worn-keys.match-ranges (now t) (now ranges) mark r a pass wrong;
     match-other = λ κs ranges mark r a ok other. worn-keys.match-uncounted (now t) (now ranges) mark r a pass ok (not-counted (now t) v 10 other);

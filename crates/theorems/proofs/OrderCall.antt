@@ -25,14 +25,11 @@ use Rattle.ask_order.specs.Order.{Standing, before, same, after, Ordered, stand
 use Rattle.ask_order.specs.OrderLaws.{clash, flip, Upto, shared-itself}
 use Rattle.ask_order.specs.OrderAnswers.{outcome, firstOf}
 use Rattle.ask_order.proofs.HandLaws.{refused-low}
+use Rattle.theorems.specs.PublicFunctions.{compare-function, first-function}
 use Rattle.theorems.proofs.CheckCall.{Check}
 use Rattle.theorems.proofs.OutsideCall.{Call, Lent, call}
 use Rattle.theorems.proofs.RefusalNumbers.{OneOf, not-zero, of-left, of-right, readable-one}
-use Rattle.ask_order.proofs.compare as compare-code
-use Rattle.ask_order.proofs.compare.Symbol as compare-symbol
 use Rattle.ask_order.proofs.compare.Met as compare-met
-use Rattle.ask_order.proofs.first as first-code
-use Rattle.ask_order.proofs.first.Symbol as first-symbol
 use Rattle.ask_order.proofs.first.Met as first-met
 -- what the contracts allow: `Compare κs one other r`, and `First`
 pub use Rattle.ask_order.proofs.Demands.{Compare, First}
@@ -42,14 +39,10 @@ pub use Rattle.ask_order.specs.OrderLaws.{text-order, standing-flip, standing-r
 pub use Rattle.ask_order.specs.OrderLaws.{shared-is, shared-flip, stands-by, empty-first}
 
 abbrev pub compare-call : Call
-compare-call =
-    call (record { routine = compare-symbol.routine; signature = compare-code.signature; clauses = compare-code.spec }) compare-met.met
-    (λ 𝓤 H A mem run κs a. (tt, refl))
+compare-call = call compare-function compare-met.met (λ 𝓤 H A mem run κs a. (tt, refl))
 
 abbrev pub first-call : Call
-first-call =
-    call (record { routine = first-symbol.routine; signature = first-code.signature; clauses = first-code.spec }) first-met.met
-    (λ 𝓤 H A mem run κs a. (tt, refl))
+first-call = call first-function first-met.met (λ 𝓤 H A mem run κs a. (tt, refl))
 
 -- the numbers that a comparison refuses with, for any lent bytes
 

@@ -11,7 +11,6 @@ use lib.ListN.{length, getD, drop}
 use lib.Dec.{leb}
 use borrow.Author.Tests.{ne-eqb, leb-true}
 use Rattle.text.specs.ListLaws.{and-left, and-right}
-use Rattle.format.specs.Settings.{Settings}
 use Rattle.format.specs.Layout as at
 use Rattle.format.specs.Path.{Path, pathOf}
 use Rattle.format.specs.Fits.{linksOk, textOf}
@@ -27,20 +26,17 @@ use Rattle.theory_paths.specs.Reads.{text-of-path}
 use Rattle.ask_patterns.specs.PlacesLaws.{places-all, AllPlaces}
 use Rattle.ask_patterns.proofs.Demands as patterns
 use Rattle.ask_patterns.specs.Places.{maxPattern, placesIn, patternOk, placesOf, placesNumber, placesSays, placesLeaves}
-use Rattle.ask_patterns.specs.declared.PlacesWritten.{PlacesWritten}
 use Rattle.ask_patterns.specs.declared.PlacesWritten.the-variants as places
+use Rattle.theorems.specs.Promises.{PlacesAnswers, PlacesRefuses}
+use Rattle.theorems.specs.PublicFunctions.{places-function}
 use Rattle.theorems.proofs.OutsideCall.{Call, Lent, call}
 use Rattle.theorems.proofs.RefusalNumbers.{OneOf, asks-one, not-zero, readable-one, then-one}
-use Rattle.ask_patterns.proofs.places as places-code
-use Rattle.ask_patterns.proofs.places.Symbol as places-symbol
 use Rattle.ask_patterns.proofs.places.Met as places-met
 -- what the contract allows, where the table is left as `after`: `Places κs tree pattern table after r`
-pub use Rattle.ask_patterns.proofs.Demands.{Places}
+pub use Rattle.theorems.specs.CallContracts.{Places}
 
 abbrev pub places-call : Call
-places-call =
-    call (record { routine = places-symbol.routine; signature = places-code.signature; clauses = places-code.spec }) places-met.met
-    (λ 𝓤 H A mem run κs a. (tt, refl))
+places-call = call places-function places-met.met (λ 𝓤 H A mem run κs a. (tt, refl))
 
 -- Any lent bytes.
 
@@ -117,20 +113,6 @@ module _ (κs : Lfts 3) (t P table after : Lent) where
     unfolding placesLeaves
     places-unchanged = a .1 ∙ rw (← places-says, ne-eqb n 0 (λ e. omega (arith, a .0 .numbered)))
 
--- Answered from the text T by the tree t: "all its places are written to a lent table of words in rising order, each once, overlaps included, with their
--- number".
-pub record Answers (t : Lent) (S : Settings) (T : List ℕ) : Type 0 where
-  pub places-of : (κs : Lfts 3) (P table after : Lent) (r : PlacesWritten) → Places κs t P table after r
-      → 1 ≤ length (now P) → length (now P) ≤ maxPattern → (ps : List ℕ) → ps ≡ placesIn (now P) T → length ps ≤ length (now table)
-      → AllPlaces (now P) T ps × (r ≡ places.Number (length ps)) × (now after ≡ ps ++ drop (length ps) (now table))
-
--- Refused, the table unchanged: "It refuses a pattern of other length with 16 .. and a table that is too short with 17".
-pub record Refuses (t : Lent) (S : Settings) (T : List ℕ) : Type 0 where
-  pub places-length : (κs : Lfts 3) (P table after : Lent) (r : PlacesWritten) → Places κs t P table after r
-      → (1 ≤ length (now P) → length (now P) ≤ maxPattern → ⊥) → (r ≡ places.Refused 16) × (now after ≡ now table)
-  pub places-short : (κs : Lfts 3) (P table after : Lent) (r : PlacesWritten) → Places κs t P table after r
-      → 1 ≤ length (now P) → length (now P) ≤ maxPattern → length (now table) < length (placesIn (now P) T) → (r ≡ places.Refused 17) × (now after ≡ now table)
-
 -- Any tree that the check accepts, and the one text that fits it.
 module _ (t : Lent) (v : verdict (now t) ≡ 0) where
   pass : readable (now t) ≡ 0
@@ -139,14 +121,14 @@ module _ (t : Lent) (v : verdict (now t) ≡ 0) where
   links : linksOk (now t) ≡ true
   links = accepted-links (now t) v
 
-  pub accepted-answers : Answers t (at.settings (now t)) (textOf (now t))
+  pub accepted-answers : PlacesAnswers t (at.settings (now t)) (textOf (now t))
   accepted-answers = record {
     places-of = λ κs P table after r a low high ps e room.
         let w = patterns.places-written κs t P table after r a pass low high (paths.no-path-breaks (now t) pass links) (rw e at room) in
         rw e (places-all (now P) (textOf (now t)) low, w .0, w .1);
   }
 
-  pub accepted-refuses : Refuses t (at.settings (now t)) (textOf (now t))
+  pub accepted-refuses : PlacesRefuses t (at.settings (now t)) (textOf (now t))
   accepted-refuses = record {
     places-length = λ κs P table after r a wrong. patterns.places-length κs t P table after r a pass wrong;
     places-short = λ κs P table after r a low high short.

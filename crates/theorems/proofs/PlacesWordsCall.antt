@@ -12,18 +12,15 @@ use Rattle.format.specs.Verdict.{readable}
 use Rattle.format.specs.Said.{Said}
 use Rattle.ask_patterns.specs.Places.{maxPattern, roomOf, roomSays}
 use Rattle.ask_patterns.specs.declared.PlacesRoom.the-variants as places-room
+use Rattle.theorems.specs.PublicFunctions.{places-words-function}
 use Rattle.theorems.proofs.OutsideCall.{Call, Lent, call}
 use Rattle.theorems.proofs.RefusalNumbers.{OneOf, asks-one, not-zero, readable-one, unless-one}
-use Rattle.ask_patterns.proofs.places_words as places-words-code
-use Rattle.ask_patterns.proofs.places_words.Symbol as places-words-symbol
 use Rattle.ask_patterns.proofs.places_words.Met as places-words-met
 -- what the contract allows: `PlacesWords κs tree length r`
 pub use Rattle.ask_patterns.proofs.Demands.{PlacesWords}
 
 abbrev pub places-words-call : Call
-places-words-call =
-    call (record { routine = places-words-symbol.routine; signature = places-words-code.signature; clauses = places-words-code.spec }) places-words-met.met
-    (λ 𝓤 H A mem run κs a. (tt, refl))
+places-words-call = call places-words-function places-words-met.met (λ 𝓤 H A mem run κs a. (tt, refl))
 
 -- Any lent bytes: a refusal is 5, 6, 7 or 16.
 pub room-numbers : (κs : Lfts 1) (t : Lent) (len n : ℕ) → PlacesWords κs t len (places-room.Refused n) → OneOf (5 ∷ 6 ∷ 7 ∷ 16 ∷ []) n

@@ -1,25 +1,17 @@
 -- next_row_with_prefix(tree, prefix, mark): the next row after a mark that starts with the prefix; next_row_with_prefix_guided(tree, guide, prefix, mark)
 -- the same with a guide. The theorems about repeated calls are in `Demands` of their crate.
 use mathlib.Core.List.{List, [], _∷_}
-use mathlib.Core.Bool.{true, false, cond}
 use mathlib.Core.Path.{_≡_, refl}
 use mathlib.Core.Logic.{_⊎_, inl, inr}
 use Prim.Native.Nat.{ℕ}
 use contract.Lifetimes.{Lfts}
 use denote.Ref.{now}
-use lib.ListN.{length}
-use lib.Dec.{eqb}
-use Rattle.text.specs.Rows.{rowsOf}
-use Rattle.format.specs.Settings.{Settings}
 use Rattle.format.specs.Layout as at
 use Rattle.format.specs.Fits.{textOf}
 use Rattle.format.specs.Verdict.{readable, verdict}
 use Rattle.format.specs.VerdictLaws.{accepted-readable}
 use Rattle.format.specs.CountSays.{isCounted}
-use Rattle.row_filter.specs.SelectedRows.{outcomeAt}
-use Rattle.prefix_match.specs.PrefixRows.{nextWithPrefix}
 use Rattle.ask_patterns.specs.Places.{patternOk}
-use Rattle.query_row_filter.specs.declared.NextRowAnswer.{NextRowAnswer}
 use Rattle.query_row_filter.specs.declared.NextRowAnswer.the-variants as answer
 use Rattle.query_row_filter.specs.AllowedOutcome.{newlineRefusal, queryRefusal}
 use Rattle.query_prefix.specs.PrefixRefusals.{prefixRefusal}
@@ -27,27 +19,22 @@ use Rattle.ask_guide.specs.Guides.{guideNumber}
 use Rattle.ask_guide.proofs.GuideList.{guide-verdict}
 use Rattle.query_prefix.proofs.Demands.{PrefixAnswer}
 use Rattle.query_prefix.proofs.Demands as query-prefix
-use Rattle.theorems.proofs.AcceptedTree.{Among, among-counted, not-counted}
+use Rattle.theorems.specs.Promises.{PrefixAnswers, PrefixRefuses}
+use Rattle.theorems.specs.PublicFunctions.{next-row-with-prefix-function, next-row-with-prefix-guided-function}
+use Rattle.theorems.proofs.AcceptedTree.{among-counted, not-counted}
 use Rattle.theorems.proofs.OutsideCall.{Call, Lent, call}
 use Rattle.theorems.proofs.RefusalNumbers.{OneOf, asks-one, not-zero, of-left, of-right, readable-one, then-one}
-use Rattle.query_prefix.proofs.next_row_with_prefix as next-code
-use Rattle.query_prefix.proofs.next_row_with_prefix.Symbol as next-symbol
 use Rattle.query_prefix.proofs.next_row_with_prefix.Met as next-met
-use Rattle.query_prefix.proofs.next_row_with_prefix_guided as guided-code
-use Rattle.query_prefix.proofs.next_row_with_prefix_guided.Symbol as guided-symbol
 use Rattle.query_prefix.proofs.next_row_with_prefix_guided.Met as guided-met
 -- what the contracts allow: `NextRowWithPrefix κs tree prefix mark r`, `NextRowWithPrefixGuided κs tree guide prefix mark r`
-pub use Rattle.query_prefix.proofs.Demands.{NextRowWithPrefix, NextRowWithPrefixGuided}
+pub use Rattle.theorems.specs.CallContracts.{NextRowWithPrefix}
+pub use Rattle.query_prefix.proofs.Demands.{NextRowWithPrefixGuided}
 
 abbrev pub next-row-with-prefix-call : Call
-next-row-with-prefix-call =
-    call (record { routine = next-symbol.routine; signature = next-code.signature; clauses = next-code.spec }) next-met.met
-    (λ 𝓤 H A mem run κs a. (tt, refl))
+next-row-with-prefix-call = call next-row-with-prefix-function next-met.met (λ 𝓤 H A mem run κs a. (tt, refl))
 
 abbrev pub next-row-with-prefix-guided-call : Call
-next-row-with-prefix-guided-call =
-    call (record { routine = guided-symbol.routine; signature = guided-code.signature; clauses = guided-code.spec }) guided-met.met
-    (λ 𝓤 H A mem run κs a. (tt, refl))
+next-row-with-prefix-guided-call = call next-row-with-prefix-guided-function guided-met.met (λ 𝓤 H A mem run κs a. (tt, refl))
 
 -- Any lent bytes.
 
@@ -77,34 +64,18 @@ pub prefix-guided-numbers : (κs : Lfts 3) (t guide prefix : Lent) (mark n : ℕ
 prefix-guided-numbers κs t guide prefix mark n a =
     refusal-one (now t) (guideNumber (now t) (now guide)) (guide-verdict (now t) (now guide)) (now prefix) mark n a
 
--- The answer from the text T of the tree t with the settings S: the next row after the mark that starts with the prefix; or none, with the mark at the number
--- of rows.
-pub record Answers (t : Lent) (S : Settings) (T : List ℕ) : Type 0 where
-  pub prefix-of : (κs : Lfts 2) (prefix : Lent) (mark : ℕ) (r : NextRowAnswer) → NextRowWithPrefix κs t prefix mark r
-      → patternOk (now prefix) ≡ true → Among 10 (S .counted)
-      → r ≡ cond (eqb (nextWithPrefix (now prefix) (rowsOf T) mark) 0)
-      (answer.Nothing (outcomeAt (nextWithPrefix (now prefix) (rowsOf T) mark) (length (rowsOf T)) mark .mark))
-      (answer.Row (nextWithPrefix (now prefix) (rowsOf T) mark))
-
--- 16 for a prefix without a byte or of more than 256, before 11.
-pub record Refuses (t : Lent) (S : Settings) (T : List ℕ) : Type 0 where
-  pub prefix-length : (κs : Lfts 2) (prefix : Lent) (mark : ℕ) (r : NextRowAnswer) → NextRowWithPrefix κs t prefix mark r
-      → patternOk (now prefix) ≡ false → r ≡ answer.Refused 16
-  pub prefix-other : (κs : Lfts 2) (prefix : Lent) (mark : ℕ) (r : NextRowAnswer) → NextRowWithPrefix κs t prefix mark r → patternOk (now prefix) ≡ true
-      → (Among 10 (S .counted) → ⊥) → r ≡ answer.Refused 11
-
 -- Any tree that the check accepts, and the one text that fits it.
 module _ (t : Lent) (v : verdict (now t) ≡ 0) where
   pass : readable (now t) ≡ 0
   pass = accepted-readable (now t) v
 
-  pub accepted-answers : Answers t (at.settings (now t)) (textOf (now t))
+  pub accepted-answers : PrefixAnswers t (at.settings (now t)) (textOf (now t))
   accepted-answers = record {
     prefix-of = λ κs prefix mark r a ok k. query-prefix.prefix-is (now t) (verdict (now t)) (λ w. w) (now prefix) v mark r a
         (query-prefix.prefix-through (now t) (now prefix) pass ok (among-counted (now t) 10 k));
   }
 
-  pub accepted-refuses : Refuses t (at.settings (now t)) (textOf (now t))
+  pub accepted-refuses : PrefixRefuses t (at.settings (now t)) (textOf (now t))
   accepted-refuses = record {
     prefix-length = λ κs prefix mark r a wrong. query-prefix.prefix-length (now t) (verdict (now t)) (λ w. w) (now prefix) mark r a pass wrong;
     prefix-other = λ κs prefix mark r a ok other. query-prefix.prefix-uncounted (now t) (verdict (now t)) (λ w. w) (now prefix) mark r a pass ok

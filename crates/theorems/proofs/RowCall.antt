@@ -8,7 +8,7 @@ use contract.Lifetimes.{Lfts}
 use denote.Ref.{now}
 use lib.ListN.{length, drop}
 use Rattle.text.specs.Text.{stretch}
-use Rattle.text.specs.Rows.{rowOf, rowsOf}
+use Rattle.text.specs.Rows.{rowOf}
 use Rattle.format.specs.Settings.{Settings}
 use Rattle.format.specs.Layout as at
 use Rattle.format.specs.Fits.{textOf}
@@ -19,24 +19,18 @@ use Rattle.theory_counts.specs.RowsOfText.{row-lets, row-twelve, row-eleven}
 use Rattle.ask_rows.specs.declared.RowCopied.{RowCopied}
 use Rattle.ask_rows.specs.declared.RowCopied.the-variants as rows
 use Rattle.ask_rows.specs.RowAnswers.{saidRow, Numbered as RowNumbered}
-use Rattle.theorems.proofs.AcceptedTree.{Among, among-counted, not-counted}
+use Rattle.theorems.specs.Promises.{RowAnswers, RowRefuses}
+pub use Rattle.theorems.specs.CallContracts.{Row}
+use Rattle.theorems.specs.PublicFunctions.{row-function}
+use Rattle.theorems.proofs.AcceptedTree.{among-counted, not-counted}
 use Rattle.theorems.proofs.OutsideCall.{Call, Lent, call}
 use Rattle.theorems.proofs.RefusalNumbers.{OneOf}
 use Rattle.theorems.proofs.RowOutcomes.{RowOutcome, Zeros, outcome-copied, row-outcome, row-outcome-leaves, row-outcome-numbers}
 use Rattle.theorems.proofs.RowOutcomes.{free-copied, free-short}
-use Rattle.ask_rows.proofs.row as row-code
-use Rattle.ask_rows.proofs.row.Symbol as row-symbol
 use Rattle.ask_rows.proofs.row.Met as row-met
-use Rattle.ask_rows.proofs.row.Reads as row-reads
-
--- what the contract allows, where the buffer is left as `after`
-abbrev pub Row : (κs : Lfts 2) → Lent → (q : ℕ) → (buffer after : Lent) → RowCopied → Type 0
-Row κs t q buffer after r = row-reads.Post κs (t, (q, (buffer, tt))) r (t, (q, (after, tt)))
 
 abbrev pub row-call : Call
-row-call =
-    call (record { routine = row-symbol.routine; signature = row-code.signature; clauses = row-code.spec }) row-met.met
-    (λ 𝓤 H A mem run κs a. (tt, refl))
+row-call = call row-function row-met.met (λ 𝓤 H A mem run κs a. (tt, refl))
 
 -- Any lent bytes.
 module _ (κs : Lfts 2) (t : Lent) (q : ℕ) (buffer after : Lent) where
@@ -66,24 +60,6 @@ module _ (κs : Lfts 2) (t : Lent) (q : ℕ) (buffer after : Lent) where
     pub row-leaves : (now after ≡ now buffer) ⊎ ((n ≡ 14) × Zeros (rowMost (now t) q) (now buffer) (now after))
     row-leaves = row-outcome-leaves (now t) q (now buffer) n (now after) (a .numbered) (outcome-of n 0 (a .says))
 
--- Answered from the text T by the tree t with the settings S: row q of the text, "copied".
-pub record Answers (t : Lent) (S : Settings) (T : List ℕ) : Type 0 where
-  pub row-of : (κs : Lfts 2) (q : ℕ) (buffer after : Lent) (r : RowCopied) → Row κs t q buffer after r
-      → Among 10 (S .counted) → 1 ≤ q → q ≤ length (rowsOf T) → length (rowOf T q) ≤ length (now buffer)
-      → (r ≡ rows.Bytes (length (rowOf T q))) × (now after ≡ rowOf T q ++ drop (length (rowOf T q)) (now buffer))
-
--- Refused, the buffer unchanged: ..
-pub record Refuses (t : Lent) (S : Settings) (T : List ℕ) : Type 0 where
-  -- .. "Is the byte counted (for a row, byte 10)? No: 11."
-  pub row-other : (κs : Lfts 2) (q : ℕ) (buffer after : Lent) (r : RowCopied) → Row κs t q buffer after r
-      → (Among 10 (S .counted) → ⊥) → (r ≡ rows.Refused 11) × (now after ≡ now buffer)
-  -- .. "Is j (or q) 1 to the total? No: 12." For a row, the number of the text's rows.
-  pub row-none : (κs : Lfts 2) (q : ℕ) (buffer after : Lent) (r : RowCopied) → Row κs t q buffer after r
-      → Among 10 (S .counted) → (1 ≤ q → q ≤ length (rowsOf T) → ⊥) → (r ≡ rows.Refused 12) × (now after ≡ now buffer)
-  -- .. "Does the answer fit the buffer? No: 13."
-  pub row-short : (κs : Lfts 2) (q : ℕ) (buffer after : Lent) (r : RowCopied) → Row κs t q buffer after r
-      → Among 10 (S .counted) → 1 ≤ q → q ≤ length (rowsOf T) → length (now buffer) < length (rowOf T q) → (r ≡ rows.Refused 13) × (now after ≡ now buffer)
-
 -- which answer says this
 row-is : (r : RowCopied) (v : ℕ) → RowNumbered r → saidRow r .number ≡ 0 → saidRow r .value ≡ v → r ≡ rows.Bytes v
 row-is (rows.Bytes m) v k z e = ap rows.Bytes e
@@ -101,7 +77,7 @@ module _ (t : Lent) (v : verdict (now t) ≡ 0) where
   abbrev S : Settings
   S = at.settings (now t)
 
-  pub accepted-answers : Answers t S T
+  pub accepted-answers : RowAnswers t S T
   accepted-answers = record {
     row-of = λ κs q buffer after r a k low high room.
         let h = a .says .accepted (row-lets (now t) v (among-counted (now t) 10 k) q low high) v room in
@@ -113,7 +89,7 @@ module _ (t : Lent) (v : verdict (now t) ≡ 0) where
       → rowNumber (now t) q ≡ suc n → (r ≡ rows.Refused (suc n)) × (now after ≡ now buffer)
   row-asked κs q buffer after r n a e = let h = a .says .asked (rw e (omega arith)) in (row-no r n (h .0 ∙ e), h .2)
 
-  pub accepted-refuses : Refuses t S T
+  pub accepted-refuses : RowRefuses t S T
   accepted-refuses = record {
     row-other = λ κs q buffer after r a other.
         row-asked κs q buffer after r 10 a (row-eleven (now t) q (accepted-readable (now t) v) (not-counted (now t) v 10 other));

@@ -21,19 +21,16 @@ use Rattle.format.specs.SaidLaws.{unless-number}
 use Rattle.theory_paths.specs.PlaceBytes.{byte-path}
 use Rattle.ask_rows.specs.declared.RowCount.the-variants as row-count
 use Rattle.ask_rows.specs.RowLengths.{rowsNumber, lastOpen, rowsSays}
+use Rattle.theorems.specs.PublicFunctions.{row-count-function}
 use Rattle.theorems.proofs.ByteCall.{byteOf-one}
 use Rattle.theorems.proofs.OutsideCall.{Call, Lent, call}
 use Rattle.theorems.proofs.RefusalNumbers.{OneOf, not-zero, of-left, of-right, readable-one}
-use Rattle.ask_rows.proofs.row_count as row-count-code
-use Rattle.ask_rows.proofs.row_count.Symbol as row-count-symbol
 use Rattle.ask_rows.proofs.row_count.Met as row-count-met
 -- what the contract allows: `CountOf κs tree r`
 pub use Rattle.ask_rows.proofs.Demands.{CountOf}
 
 abbrev pub row-count-call : Call
-row-count-call =
-    call (record { routine = row-count-symbol.routine; signature = row-count-code.signature; clauses = row-count-code.spec }) row-count-met.met
-    (λ 𝓤 H A mem run κs a. (tt, refl))
+row-count-call = call row-count-function row-count-met.met (λ 𝓤 H A mem run κs a. (tt, refl))
 
 -- Any lent bytes: a refusal is 5, 6, 7, 11 or 14.
 last-one : (t : List ℕ) → readable t ≡ 0 → OneOf (14 ∷ 0 ∷ []) (cond (eqb (at.textLength t) 0) 0 (byteSays t (at.textLength t - 1) .number))

@@ -12,20 +12,17 @@ use Rattle.format.specs.Fits.{textOf}
 use Rattle.format.specs.RowSays.{rowMost}
 use Rattle.ask_guide.specs.Guides.{guideNumber}
 use Rattle.ask_rows.specs.declared.RowCopied.the-variants as rows
+use Rattle.theorems.specs.PublicFunctions.{row-guided-function}
 use Rattle.theorems.proofs.OutsideCall.{Call, Lent, call}
 use Rattle.theorems.proofs.RefusalNumbers.{OneOf}
 use Rattle.theorems.proofs.RowOutcomes.{RowOutcome, Zeros, outcome-copied, row-outcome, row-outcome-leaves, row-outcome-numbers}
 use Rattle.theorems.proofs.RowOutcomes.{free-copied, free-short}
-use Rattle.ask_rows.proofs.row_guided as row-guided-code
-use Rattle.ask_rows.proofs.row_guided.Symbol as row-guided-symbol
 use Rattle.ask_rows.proofs.row_guided.Met as row-guided-met
 -- what the contract allows, where the buffer is left as `after`: `RowGuided κs tree guide q buffer after r`
 pub use Rattle.ask_rows.proofs.Demands.{RowGuided}
 
 abbrev pub row-guided-call : Call
-row-guided-call =
-    call (record { routine = row-guided-symbol.routine; signature = row-guided-code.signature; clauses = row-guided-code.spec }) row-guided-met.met
-    (λ 𝓤 H A mem run κs a. (tt, refl))
+row-guided-call = call row-guided-function row-guided-met.met (λ 𝓤 H A mem run κs a. (tt, refl))
 
 -- Any lent bytes: an answer fits, and the bytes past it are unchanged; ..
 module _ (κs : Lfts 3) (t guide : Lent) (q : ℕ) (buffer after : Lent) where

@@ -10,19 +10,16 @@ use Rattle.text.specs.ListLaws.{lt-or-ge}
 use Rattle.format.specs.Verdict.{verdict}
 use Rattle.format.specs.RowSays.{rowMost, rowNumber}
 use Rattle.ask_rows.specs.declared.RowLength.the-variants as row-length
+use Rattle.theorems.specs.PublicFunctions.{row-length-function}
 use Rattle.theorems.proofs.OutsideCall.{Call, Lent, call}
 use Rattle.theorems.proofs.RefusalNumbers.{OneOf, of-right}
 use Rattle.theorems.proofs.RowOutcomes.{row-before}
-use Rattle.ask_rows.proofs.row_length as row-length-code
-use Rattle.ask_rows.proofs.row_length.Symbol as row-length-symbol
 use Rattle.ask_rows.proofs.row_length.Met as row-length-met
 -- what the contract allows: `LengthOf κs tree q r`
 pub use Rattle.ask_rows.proofs.Demands.{LengthOf}
 
 abbrev pub row-length-call : Call
-row-length-call =
-    call (record { routine = row-length-symbol.routine; signature = row-length-code.signature; clauses = row-length-code.spec }) row-length-met.met
-    (λ 𝓤 H A mem run κs a. (tt, refl))
+row-length-call = call row-length-function row-length-met.met (λ 𝓤 H A mem run κs a. (tt, refl))
 
 -- Any lent bytes: a refusal is 5, 6, 7, 11, 12 or 14.
 pub length-numbers : (κs : Lfts 1) (t : Lent) (q n : ℕ) → LengthOf κs t q (row-length.Refused n) → OneOf (5 ∷ 6 ∷ 7 ∷ 11 ∷ 12 ∷ 14 ∷ []) n

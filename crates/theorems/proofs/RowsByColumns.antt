@@ -18,13 +18,13 @@ use Rattle.ask_access.specs.declared.Copied.the-variants as copied
 use Rattle.columns.specs.Columns.{widthOk, columns}
 use Rattle.columns.specs.ColumnLaws.{columns-length, restored}
 use Rattle.columns.proofs.Demands as rearranging
+use Rattle.theorems.specs.Promises.{Answers}
 use Rattle.theorems.proofs.BuildCall.{Build, build-answers}
 use Rattle.theorems.proofs.BuildScannedCall.{BuildScanned, scanned-answers}
 use Rattle.theorems.proofs.CheckCall.{Check, check-answers}
 use Rattle.theorems.proofs.ColumnRowCall.{ByColumns}
 use Rattle.theorems.proofs.ColumnsCall.{ToColumns}
 use Rattle.theorems.proofs.OutsideCall.{Lent}
-use Rattle.theorems.proofs.TreeAnswers.{Answers}
 
 -- "Row a read by columns from the tree of a rearranged text is row a of the text", end byte included, and then what stood in the buffer: as what is
 -- said of every call on a tree.

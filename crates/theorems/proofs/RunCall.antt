@@ -1,15 +1,13 @@
 -- run(tree, place): a part of the lent tree that stands in the text from a place on; run_part answers where it lies.
-use mathlib.Core.List.{List, [], _∷_}
+use mathlib.Core.List.{[], _∷_}
 use mathlib.Core.Path.{_≡_, sym, ap, refl}
-use Prim.Native.Nat.{ℕ, _+_, _≤_, _<_}
+use Prim.Native.Nat.{ℕ, _+_, _≤_}
 use native.Mathlib.Omega.{arith}
 use contract.Lifetimes.{Lfts}
 use denote.Ref.{now}
 use lib.ListN.{length, take, drop}
 use borrow.Author.Tests.{ne-eqb}
-use Rattle.text.specs.Text.{stretch}
 use Rattle.text.specs.declared.TextPlace.{TextPlace}
-use Rattle.format.specs.Settings.{Settings}
 use Rattle.format.specs.Layout as at
 use Rattle.format.specs.Fits.{textOf}
 use Rattle.format.specs.Verdict.{verdict}
@@ -21,33 +19,27 @@ use Rattle.ask_access.proofs.Demands as access
 use Rattle.ask_access.specs.declared.Answer.the-variants as answer
 use Rattle.ask_access.specs.declared.read_by_header.Ran.{Ran}
 use Rattle.ask_access.specs.declared.read_by_header.Ran.the-variants as ran
+use Rattle.theorems.specs.Promises.{RunAnswers, RunRefuses}
+use Rattle.theorems.specs.PublicFunctions.{run-function, run-part-function}
 use Rattle.theorems.proofs.AcceptedTree.{below, text-size}
 use Rattle.theorems.proofs.ByteCall.{Byte, byte-not-zero, byte-one, byte-reached, byte-ten}
 use Rattle.theorems.proofs.OutsideCall.{Call, Lent, call}
 use Rattle.theorems.proofs.RefusalNumbers.{OneOf, not-zero}
-use Rattle.ask_access.proofs.run as run-code
-use Rattle.ask_access.proofs.run.Symbol as run-symbol
 use Rattle.ask_access.proofs.run.Met as run-met
-use Rattle.ask_access.proofs.run_part as run-part-code
-use Rattle.ask_access.proofs.run_part.Symbol as run-part-symbol
 use Rattle.ask_access.proofs.run_part.Met as run-part-met
 use Rattle.ask_access.proofs.run_part.Reads as run-part-reads
 -- what the contract of `run` allows: `Run κs tree place part`
-pub use Rattle.ask_access.proofs.Demands.{Run}
+pub use Rattle.theorems.specs.CallContracts.{Run}
 
 -- what the contract of `run_part` allows
 abbrev pub RunPart : (κs : Lfts 1) → Lent → TextPlace → Ran → Type 0
 RunPart κs t p r = run-part-reads.Post κs (t, (p, tt)) r (t, (p, tt))
 
 abbrev pub run-call : Call
-run-call =
-    call (record { routine = run-symbol.routine; signature = run-code.signature; clauses = run-code.spec }) run-met.met
-    (λ 𝓤 H A mem run κs a. (tt, refl))
+run-call = call run-function run-met.met (λ 𝓤 H A mem run κs a. (tt, refl))
 
 abbrev pub run-part-call : Call
-run-part-call =
-    call (record { routine = run-part-symbol.routine; signature = run-part-code.signature; clauses = run-part-code.spec }) run-part-met.met
-    (λ 𝓤 H A mem run κs a. (tt, refl))
+run-part-call = call run-part-function run-part-met.met (λ 𝓤 H A mem run κs a. (tt, refl))
 
 -- Any lent bytes; κ is byte's lifetime, κs run's.
 module _ (κ κs : Lfts 1) (t : Lent) (p : TextPlace) (r : Lent) where
@@ -72,19 +64,9 @@ module _ (κ κs : Lfts 1) (t : Lent) (p : TextPlace) (r : Lent) where
 pub run-part-numbers : (κs : Lfts 1) (t : Lent) (p : TextPlace) (n : ℕ) → RunPart κs t p (ran.Refused n) → OneOf (5 ∷ 6 ∷ 7 ∷ 10 ∷ 14 ∷ []) n
 run-part-numbers κs t p n a = not-zero (5 ∷ 6 ∷ 7 ∷ 10 ∷ 14 ∷ []) n (a .numbered) (rw (a .number-is) (byte-one (now t) (p .0)))
 
--- Answered from the text T by the tree t: a part of the lent tree, of one byte or more, that stands in the text from p on.
-pub record Answers (t : Lent) (S : Settings) (T : List ℕ) : Type 0 where
-  pub run-of : (κs : Lfts 1) (p : TextPlace) (r : Lent) → Run κs t p r → p .0 < length T
-      → (from : ℕ) × (size : ℕ) × (1 ≤ size) × (from + size ≤ length (now t)) × (r .ptr ≡ (t .ptr .0, t .ptr .1 + from))
-      × (now r ≡ take size (drop from (now t))) × (p .0 + size ≤ length T) × (now r ≡ stretch T (p .0) size)
-
--- Refused: the empty part.
-pub record Refuses (t : Lent) (S : Settings) (T : List ℕ) : Type 0 where
-  pub run-past : (κs : Lfts 1) (p : TextPlace) (r : Lent) → Run κs t p r → length T ≤ p .0 → now r ≡ []
-
 -- Any tree that the check accepts, and the one text that fits it.
 module _ (t : Lent) (v : verdict (now t) ≡ 0) where
-  pub accepted-answers : Answers t (at.settings (now t)) (textOf (now t))
+  pub accepted-answers : RunAnswers t (at.settings (now t)) (textOf (now t))
   accepted-answers = record {
     run-of = λ κs p r a h.
         let w = access.run-stretches t (accepted-readable (now t) v) (accepted-links (now t) v) κs p r (below (now t) v h) a in
@@ -95,5 +77,5 @@ module _ (t : Lent) (v : verdict (now t) ≡ 0) where
   unfolding runSays
   past κs p r a h = rw (byte-ten (now t) v (p .0) h) at (a .0)
 
-  pub accepted-refuses : Refuses t (at.settings (now t)) (textOf (now t))
+  pub accepted-refuses : RunRefuses t (at.settings (now t)) (textOf (now t))
   accepted-refuses = record { run-past = past }

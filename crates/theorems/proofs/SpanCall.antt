@@ -10,9 +10,7 @@ use lib.ListN.{length, drop, replicate}
 use lib.Dec.{eqb, leb}
 use lib.Seq.{drop-at}
 use borrow.Author.Tests.{eq-eqb, ne-eqb, leb-true, le-leb, lt-leb}
-use Rattle.text.specs.Text.{stretch}
 use Rattle.text.specs.declared.TextPlace.{TextPlace}
-use Rattle.format.specs.Settings.{Settings}
 use Rattle.format.specs.Layout as at
 use Rattle.format.specs.Fits.{textOf}
 use Rattle.format.specs.Verdict.{readable, verdict, ask}
@@ -25,20 +23,18 @@ use Rattle.theory_edges.specs.Demands as margins
 use Rattle.ask_access.proofs.Demands as access
 use Rattle.ask_access.specs.declared.Copied.{Copied}
 use Rattle.ask_access.specs.declared.Copied.the-variants as copied
+use Rattle.theorems.specs.Promises.{BlocksOfSpan, SpanAnswers, SpanRefuses}
+use Rattle.theorems.specs.PublicFunctions.{span-function}
 use Rattle.theorems.proofs.AcceptedTree.{text-size}
-use Rattle.theorems.proofs.BlocksEntered.{BlocksOfSpan, blocks-of-span}
+use Rattle.theorems.proofs.BlocksEntered.{blocks-of-span}
 use Rattle.theorems.proofs.OutsideCall.{Call, Lent, call}
 use Rattle.theorems.proofs.RefusalNumbers.{OneOf, asks-one, not-zero, readable-one, says-answer, says-refused, then-one}
-use Rattle.ask_access.proofs.span as span-code
-use Rattle.ask_access.proofs.span.Symbol as span-symbol
 use Rattle.ask_access.proofs.span.Met as span-met
 -- what the contract allows, where the buffer is left as `after`: `Span κs tree place length buffer after r`
-pub use Rattle.ask_access.proofs.Demands.{Span}
+pub use Rattle.theorems.specs.CallContracts.{Span}
 
 abbrev pub span-call : Call
-span-call =
-    call (record { routine = span-symbol.routine; signature = span-code.signature; clauses = span-code.spec }) span-met.met
-    (λ 𝓤 H A mem run κs a. (tt, refl))
+span-call = call span-function span-met.met (λ 𝓤 H A mem run κs a. (tt, refl))
 
 -- Any lent bytes.
 
@@ -111,22 +107,6 @@ module _ (κs : Lfts 2) (t : Lent) (p : TextPlace) (len : ℕ) (buffer after : L
     pub span-unchanged : (n ≡ 14 → ⊥) → now after ≡ now buffer
     span-unchanged e = span-left ∙ rw (ne-eqb n 14 e)
 
--- Answered from the text T by the tree t with the settings S: "bytes from p, length given, copied to a buffer"; a short one "reports the blocks
--- entered, on an accepted tree at most twice the number of levels", any other "reports 0".
-pub record Answers (t : Lent) (S : Settings) (T : List ℕ) : Type 0 where
-  pub span-of : (κs : Lfts 2) (p : TextPlace) (len : ℕ) (buffer after : Lent) (r : Copied) → Span κs t p len buffer after r
-      → p .0 + len ≤ length T → len ≤ length (now buffer)
-      → (e : ℕ) × BlocksOfSpan (now t) (S .levels) (p .0) len e × (r ≡ copied.Bytes len e) × (now after ≡ stretch T (p .0) len ++ drop len (now buffer))
-
--- Refused, the buffer unchanged: ..
-pub record Refuses (t : Lent) (S : Settings) (T : List ℕ) : Type 0 where
-  -- .. "Is p below n; or start + length, or i, at most n? No: 10."
-  pub span-past : (κs : Lfts 2) (p : TextPlace) (len : ℕ) (buffer after : Lent) (r : Copied) → Span κs t p len buffer after r
-      → length T < p .0 + len → (r ≡ copied.Refused 10) × (now after ≡ now buffer)
-  -- .. "Does the answer fit the buffer? No: 13."
-  pub span-short : (κs : Lfts 2) (p : TextPlace) (len : ℕ) (buffer after : Lent) (r : Copied) → Span κs t p len buffer after r
-      → p .0 + len ≤ length T → length (now buffer) < len → (r ≡ copied.Refused 13) × (now after ≡ now buffer)
-
 -- Any tree that the check accepts, and the one text that fits it.
 module _ (t : Lent) (v : verdict (now t) ≡ 0) where
   abbrev T : List ℕ
@@ -138,7 +118,7 @@ module _ (t : Lent) (v : verdict (now t) ≡ 0) where
   size : length T ≡ at.textLength (now t)
   size = text-size (now t) v
 
-  pub accepted-answers : Answers t (at.settings (now t)) T
+  pub accepted-answers : SpanAnswers t (at.settings (now t)) T
   accepted-answers = record {
     span-of = λ κs p len buffer after r a low room.
         let in-text : p .0 + len ≤ at.textLength (now t) = omega (arith, size) in
@@ -161,7 +141,7 @@ module _ (t : Lent) (v : verdict (now t) ≡ 0) where
   unfolding spanNumber asksSpan
   span-thirteen p len room h short = rw (pass, le-leb (p + len) (at.textLength (now t)) (omega (arith, size)), lt-leb len room short)
 
-  pub accepted-refuses : Refuses t (at.settings (now t)) T
+  pub accepted-refuses : SpanRefuses t (at.settings (now t)) T
   accepted-refuses = record {
     span-past = λ κs p len buffer after r a h. refuses κs p len buffer after r 9 a (span-ten (p .0) len (length (now buffer)) h) (λ z. omega arith);
     span-short = λ κs p len buffer after r a h small.

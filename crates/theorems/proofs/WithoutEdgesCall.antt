@@ -17,20 +17,18 @@ use Rattle.theory_without_edges.specs.WithoutEdges.{withoutEdges}
 use Rattle.build_without_edges.specs.declared.WithoutEdgesAnswer.{WithoutEdgesAnswer}
 use Rattle.build_without_edges.specs.declared.WithoutEdgesAnswer.the-variants.{Size}
 use Rattle.build_without_edges.specs.WithoutEdgesAnswers.{withoutEdgesRefusal, refusalOf}
+use Rattle.theorems.specs.Promises.{Answers, Refuses}
+use Rattle.theorems.specs.PublicFunctions.{without-edges-function}
 use Rattle.theorems.proofs.OutsideCall.{Call, Lent, call}
 use Rattle.theorems.proofs.RefusalNumbers.{OneOf, readable-one}
-use Rattle.theorems.proofs.TreeAnswers.{Answers, Refuses, accepted-answers, accepted-refuses}
-use Rattle.build_without_edges.proofs.without_edges as without-edges-code
-use Rattle.build_without_edges.proofs.without_edges.Symbol as without-edges-symbol
+use Rattle.theorems.proofs.TreeAnswers.{accepted-answers, accepted-refuses}
 use Rattle.build_without_edges.proofs.without_edges.Met as without-edges-met
 use Rattle.build_without_edges.proofs.Demands as drops
 -- `WithoutEdges κs tree out after r`: the contract allows r, with the buffer left as `after`
 pub use Rattle.build_without_edges.proofs.Demands.{WithoutEdges}
 
 abbrev pub without-edges-call : Call
-without-edges-call =
-    call (record { routine = without-edges-symbol.routine; signature = without-edges-code.signature; clauses = without-edges-code.spec })
-    without-edges-met.met (λ 𝓤 H A mem run κs a. (tt, refl))
+without-edges-call = call without-edges-function without-edges-met.met (λ 𝓤 H A mem run κs a. (tt, refl))
 
 -- On any bytes it returns 0, 5, 6, 7 or 13.
 number-one : (t out : List ℕ) → OneOf (5 ∷ 6 ∷ 7 ∷ 13 ∷ 0 ∷ []) (withoutEdgesRefusal t out)
