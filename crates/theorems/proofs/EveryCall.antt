@@ -1,6 +1,9 @@
 -- The calls of the library, in the order of `PublicFunctions`, and what demand 1 says of every one of them. For the exported calls, for list and for the calls
--- on a licence's days the same is proved in `Demands` of their crates.
+-- on a licence's days it is proved in `Demands` of their crates.
 use mathlib.Core.List.{List, [], _∷_}
+use Rattle.abi.proofs.Demands as exports
+use Rattle.list_lines.proofs.Demands as lists
+use Rattle.term.proofs.Demands as days
 use Rattle.theorems.specs.Promises.{EveryCallEnds, NoPreconditions}
 use Rattle.theorems.proofs.OutsideCall.{Call, each-ends, each-asks-nothing}
 use Rattle.theorems.proofs.LeftmostCall
@@ -75,8 +78,8 @@ calls =
 
 -- "Every call ends, on every text, setting, tree and question; reads and writes only what was lent" (`Ends`).
 pub every-call-ends : EveryCallEnds
-every-call-ends = each-ends calls
+every-call-ends = (each-ends calls, exports.every-call-ends, lists.every-call-ends, days.every-call-ends)
 
 -- "trusts no caller to have checked a tree": what a call asks of its caller holds of any arguments (`AsksNothing`).
 pub trusts-no-caller : NoPreconditions
-trusts-no-caller = each-asks-nothing calls
+trusts-no-caller = (each-asks-nothing calls, exports.trusts-no-caller, lists.trusts-no-caller, days.trusts-no-caller)

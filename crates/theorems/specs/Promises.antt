@@ -22,8 +22,8 @@ use Rattle.format.specs.Short.{Short, shortOf}
 use Rattle.format.specs.ReadSaysLaws.{ShortSpan}
 use Rattle.theory_paths.specs.Visits.{pointers}
 use Rattle.theory_accepted.specs.AcceptedTrees.{StandsFor}
-use Rattle.theory_machine.specs.Ends.{Ends}
-use Rattle.theory_machine.specs.OutsideCalls.{AsksNothing}
+use Rattle.theory_machine.specs.Ends.{Function, Ends}
+use Rattle.theory_machine.specs.OutsideCalls.{AsksNothing, Each}
 use Rattle.row_filter.specs.SelectedRows.{outcomeAt}
 use Rattle.keys.specs.Keys.{rangesOk}
 use Rattle.keys.specs.Matches.{nextMatch, shownFor}
@@ -43,6 +43,9 @@ use Rattle.ask_patterns.specs.declared.PlacesWritten.the-variants as places
 use Rattle.query_row_filter.specs.declared.NextRowAnswer.the-variants as next
 use Rattle.build_by_search.specs.declared.Built.the-variants as built
 use Rattle.build_by_scan.specs.declared.Scanned.the-variants as scanned
+use Rattle.abi.proofs.Demands.{calls as exported}
+use Rattle.list_lines.proofs.Demands.{calls as listing}
+use Rattle.term.proofs.Demands.{calls as licence}
 use Rattle.theorems.specs.PublicFunctions.{functions, Every}
 use Rattle.theorems.specs.CallContracts.{Lent, TextPlace, Answer, Copied, Counted, Found, RowCopied, PlacesWritten, NextRowAnswer, Built}
 use Rattle.theorems.specs.CallContracts.{Check, Build, BuildScanned, Byte, Run, Span, Count, Find, Row, Places, Digest, NextMatch}
@@ -274,13 +277,17 @@ module _ (t : Lent) (S : Settings) (T : List ℕ) where
 
 -- docs/FORMAT.md, "What is promised"
 
+-- P holds of every call: of the library, of those exported to C, of list, and of those on a licence's days.
+abbrev pub OfEveryCall : (Function → Type 2) → Type 2
+OfEveryCall P = Every P functions × Each P exported × Each P listing × Each P licence
+
 -- Demand 1, `every-call-ends`: every call ends, and reads and writes only what it was lent.
 abbrev pub EveryCallEnds : Type 2
-EveryCallEnds = Every Ends functions
+EveryCallEnds = OfEveryCall Ends
 
 -- Demand 1, `trusts-no-caller`: no call requires anything of its caller.
 abbrev pub NoPreconditions : Type 2
-NoPreconditions = Every AsksNothing functions
+NoPreconditions = OfEveryCall AsksNothing
 
 -- Demand 3, `check-accepts`: the check accepts a tree exactly if it stands for a text.
 abbrev pub ExactCheck : Type 0
