@@ -63,7 +63,7 @@ pub record LengthOfPath (t : List ℕ) (H p e : ℕ) : Type 0 where
   pub path-is : pathOf t p ≡ some path
   -- names e blocks:
   pub length-is : e ≡ length (path .visits)
-  -- one on each level, and a second on each level where the first one entered points,
+  -- a block for each level, and one more for each pointer followed,
   pub each-level : e ≡ H + pointers t (path .visits)
   -- at most 2H - 1.
   pub short : e ≤ 2 * H - 1
@@ -77,7 +77,7 @@ pub record BlocksOfSpan (t : List ℕ) (H p len e : ℕ) : Type 0 where
   -- At most 2H.
   pub most : e ≤ 2 * H
 
--- The questions to a tree t with the settings S, answered from a text T.
+-- docs/FORMAT.md, "What can be asked": the questions to a tree t with the settings S, answered from a text T.
 module _ (t : Lent) (S : Settings) (T : List ℕ) where
   -- docs/FORMAT.md, "Byte"
   pub record ByteAnswers : Type 0 where
@@ -226,7 +226,7 @@ module _ (t : Lent) (S : Settings) (T : List ℕ) where
         → (r ≡ copied.Bytes w 0) × (now after ≡ stretch (uncolumns w T) (a * w) w ++ drop w (now buffer))
 
   pub record ColumnRefuses : Type 0 where
-    -- A width of 0, or one that does not divide the text's length: 20, and the buffer is unchanged.
+    -- Width 0, or the length of the text is no multiple of the width: 20, and the buffer is unchanged.
     pub column-width : (κs : Lfts 2) (w a : ℕ) (buffer after : Lent) (r : Copied) → ByColumns κs t w a buffer after r
         → widthOk w (length T) ≡ false → (r ≡ copied.Refused 20) × (now after ≡ now buffer)
     -- A row past the last: 10, and the buffer is unchanged.
@@ -236,7 +236,7 @@ module _ (t : Lent) (S : Settings) (T : List ℕ) where
     pub column-short : (κs : Lfts 2) (w a : ℕ) (buffer after : Lent) (r : Copied) → ByColumns κs t w a buffer after r
         → widthOk w (length T) ≡ true → a < length T / w → length (now buffer) < w → (r ≡ copied.Refused 13) × (now after ≡ now buffer)
 
-  -- docs/FORMAT.md, "What can be asked": every question is answered from T.
+  -- All questions together: T answers each,
   pub record Answers : Type 0 where
     pub byte : ByteAnswers
     pub run : RunAnswers
@@ -250,7 +250,7 @@ module _ (t : Lent) (S : Settings) (T : List ℕ) where
     pub prefix-row : PrefixAnswers
     pub column-row : ColumnAnswers
 
-  -- docs/FORMAT.md, "The questions, in order": what T does not answer is refused with its number.
+  -- docs/FORMAT.md, "The questions, in order": and where T has no answer, it is refused with its number.
   pub record Refuses : Type 0 where
     pub byte : ByteRefuses
     pub run : RunRefuses
@@ -264,7 +264,7 @@ module _ (t : Lent) (S : Settings) (T : List ℕ) where
     pub prefix-row : PrefixRefuses
     pub column-row : ColumnRefuses
 
-  -- docs/FORMAT.md, "Which text a tree stands for": the tree stands for T alone, and T settles every question.
+  -- docs/FORMAT.md, "What is promised": the tree stands for T alone, and T settles every question.
   pub record OnlyText : Type 0 where
     -- T fits the tree, and the tree's counts and edges are true of T.
     pub stands : StandsFor (now t) T
@@ -274,8 +274,6 @@ module _ (t : Lent) (S : Settings) (T : List ℕ) where
     pub answers : Answers
     -- or refused.
     pub refuses : Refuses
-
--- docs/FORMAT.md, "What is promised"
 
 -- P holds of every call: of the library, of those exported to C, of list, and of those on a licence's days.
 abbrev pub OfEveryCall : (Function → Type 2) → Type 2
