@@ -12,7 +12,7 @@ from pathlib import Path
 
 ROOT = Path(__file__).resolve().parents[1]
 CRATES = ROOT / "crates"
-PAGES = ["README.md", "CONTRIBUTING.md", "docs/FORMAT.md", "docs/PROOFS.md", "docs/DECISIONS.md", "docs/BENCHMARKS.md"]
+PAGES = ["README.md", "CONTRIBUTING.md", "docs/FORMAT.md", "docs/PROOFS.md", "docs/DECISIONS.md", "docs/BENCHMARKS.md", "docs/ARCHITECTURE.md"]
 
 
 def comments(text):

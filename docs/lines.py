@@ -6,7 +6,7 @@
 
 What must be believed is found, not listed: the definitions that the contract of an outside call names, and those that they name in turn. An outside call is a public function of a facade
 (FACADES), its own or handed on. A contract is a `requires` or `ensures` and what it goes on with, and the `ghost use` lines that it needs. Empty lines and comments are not counted.
-Needs python3 and nothing else."""
+In .antt files the lines that import (`use`, `pub use`) are counted apart from all others. Needs python3 and nothing else."""
 
 import re
 import sys
@@ -97,18 +97,26 @@ def believed_table():
     rank = {name: at for at, name in enumerate(re.findall(r"^(\w+):", (ROOT / "crates.txt").read_text(), re.M))}
     files = believed()
     files.sort(key=lambda path: rank[path.relative_to(CRATES).parts[0]])
-    rows, total = [], 0
+    rows, sums = [], [0, 0]
     for at, path in enumerate(files, 1):
-        size = len(counted(path, "--"))
-        total += size
-        rows.append(f"| {at} | `{path.relative_to(ROOT).as_posix()}` | {size} | {says(path)} |")
-    return "\n".join(["| | File | Lines | What it says |", "|---:|---|---:|---|", *rows, f"| | all | {total:,} | |"])
+        sizes = stated(path)
+        sums = [a + b for a, b in zip(sums, sizes)]
+        rows.append(f"| {at} | `{path.relative_to(ROOT).as_posix()}` | {sizes[0]} | {sizes[1]} | {says(path)} |")
+    head = ["| | File | Definitions | Imports | What it says |", "|---:|---|---:|---:|---|"]
+    return "\n".join([*head, *rows, f"| | all | {sums[0]:,} | {sums[1]:,} | |"])
 
 
 # ---- lines by crate
 
 def counted(path, comment):
     return [line for line in path.read_text().splitlines() if line.strip() and not line.strip().startswith(comment)]
+
+
+def stated(path):
+    """Lines of an .antt file that define or prove, and lines that import."""
+    lines = counted(path, "--")
+    imported = sum(line.startswith(("use ", "pub use ")) for line in lines)
+    return len(lines) - imported, imported
 
 
 def source(folder):
@@ -129,22 +137,23 @@ def source(folder):
 
 def crates_table():
     read = set(believed())
-    rows, sums = [], [0, 0, 0, 0, 0]
+    rows, sums = [], [0, 0, 0, 0, 0, 0]
     for crate in sorted(path for path in CRATES.iterdir() if path.is_dir()):
         code, promised = source(crate / "src")
-        trusted = examples = laws = 0
+        trusted = examples = laws = imported = 0
         for path in crate.glob("**/*.antt"):
-            size = len(counted(path, "--"))
+            size, used = stated(path)
+            imported += used
             if path in read:
                 trusted += size
             elif EXAMPLES.search(path.name):
                 examples += size
             else:
                 laws += size
-        row = [code, promised, trusted, examples, laws]
+        row = [code, promised, trusted, examples, laws, imported]
         sums = [a + b for a, b in zip(sums, row)]
         rows.append(f"| `{crate.name}` | " + " | ".join(f"{n:,}" if n else "" for n in row) + " |")
-    head = ["| Crate | Code | Contracts | Believed | Examples | Laws and proofs |", "|---|---:|---:|---:|---:|---:|"]
+    head = ["| Crate | Code | Contracts | Believed | Examples | Laws and proofs | Imports |", "|---|---:|---:|---:|---:|---:|---:|"]
     return "\n".join([*head, *rows, "| all | " + " | ".join(f"{n:,}" for n in sums) + " |"])
 
 

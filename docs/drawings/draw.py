@@ -17,7 +17,7 @@ ROOT = Path(__file__).resolve().parents[2]
 HERE = Path(__file__).resolve().parent
 INK, LINE, KEPT, POINTS, PATH, SOFT = "#1c2430", "#8a94a3", "#cfe3f5", "#f9dcc0", "#c0392b", "#f4f6f9"
 # a colour for each layer, in the order of crates.txt
-LAYERS = ["#cfe3f5", "#dcd6f2", "#e6e9ee", "#f9dcc0", "#fdf0b8", "#cdeccf", "#f6cfd0", "#c9ecec", "#ecd9c6", "#ffffff"]
+LAYERS = ["#cfe3f5", "#dcd6f2", "#e6e9ee", "#f9dcc0", "#fdf0b8", "#cdeccf", "#f6cfd0", "#c9ecec", "#f3c9e4", "#ecd9c6", "#ffffff"]
 STYLE = f"text{{font:13px system-ui,sans-serif;fill:{INK}}} .s{{font-size:11px}} .m{{font:12px ui-monospace,monospace}} .h{{font-weight:600}}"
 
 
@@ -43,7 +43,11 @@ class Svg:
 
     def done(self):
         w, h = self.size
-        arrow = f'<marker id="a" viewBox="0 0 8 8" refX="7" refY="4" markerWidth="7" markerHeight="7" orient="auto"><path d="M0 0L8 4L0 8z" fill="{PATH}"/></marker>'
+        arrow = "".join(
+            f'<marker id="{name}" viewBox="0 0 8 8" refX="7" refY="4" markerWidth="7" markerHeight="7" orient="auto"><path d="M0 0L8 4L0 8z" fill="{colour}"/></marker>'
+            for name, colour in (("a", PATH), ("b", LINE))
+            if name == "a" or any(f"url(#{name})" in part for part in self.parts)
+        )
         head = f'<svg xmlns="http://www.w3.org/2000/svg" viewBox="0 0 {w} {h}" width="{w}" height="{h}" role="img"><title>{html.escape(self.title)}</title>'
         return "\n".join([head, f"<style>{STYLE}</style><defs>{arrow}</defs>", f'<rect width="{w}" height="{h}" fill="white"/>', *self.parts, "</svg>", ""])
 
@@ -80,32 +84,118 @@ def depths(found):
     return depth
 
 
+def needed(found):
+    """For each crate those that it depends on and reaches by no other way: the arrows."""
+    reached = {}
+
+    def below(name):
+        if name not in reached:
+            direct = [dep for dep in found[name][1] if dep in found]
+            reached[name] = set(direct).union(*(below(dep) for dep in direct), set())
+        return reached[name]
+
+    for name in found:
+        below(name)
+    return {name: [dep for dep in found[name][1] if dep in found and not any(dep in reached[other] for other in found[name][1] if other in found)] for name in found}
+
+
+def heights(found):
+    """The row of each crate, counted from below: as low as it can be, and then as near below the lowest crate that needs it as it can be."""
+    height = depths(found)
+    for name in sorted(found, key=lambda name: -height[name]):
+        above = [height[other] for other in found if name in found[other][1]]
+        height[name] = max([height[name], min(above) - 1] if above else [height[name]])
+    return height
+
+
+def apart(row, wish, sizes, width):
+    """The middles of a row's nodes, in their order, side by side where they would overlap: as near to the wishes as that allows (isotonic regression)."""
+    starts, at = [], 0
+    for node in row:
+        starts.append(at + sizes[node] / 2)
+        at += sizes[node]
+    groups = []
+    for node, start in zip(row, starts):
+        groups.append([wish[node] - start, 1])
+        while len(groups) > 1 and groups[-2][0] > groups[-1][0]:
+            (a, n), (b, m) = groups[-2:]
+            groups[-2:] = [[(a * n + b * m) / (n + m), n + m]]
+    moved = [min(max(value, 0), width - at) for value, count in groups for _ in range(count)]
+    return {node: start + by for node, start, by in zip(row, starts, moved)}
+
+
+def places(rows, links, sizes, width):
+    """The middle of each node. Nodes of a row are ordered and moved towards the nodes that they are linked with, again and again, and never overlap."""
+    middle = {}
+    for row in rows:
+        gap = (width - sum(sizes[node] for node in row)) / len(row)
+        x = gap / 2
+        for node in row:
+            middle[node] = x + sizes[node] / 2
+            x += sizes[node] + gap
+    for turn in range(60):
+        for row in rows if turn % 2 else reversed(rows):
+            wish = {node: sum(middle[other] for other in links[node]) / len(links[node]) if links[node] else middle[node] for node in row}
+            row.sort(key=lambda node: wish[node])
+            middle.update(apart(row, wish, sizes, width))
+    return middle
+
+
 def draw_crates():
     found = crates()
-    depth = depths(found)
-    rows = [sorted(name for name in found if depth[name] == d) for d in range(max(depth.values()) + 1)]
+    height, arrows = heights(found), needed(found)
+    rows = [[name for name in found if height[name] == h] for h in range(max(height.values()) + 1)]
+    sizes = {name: 24 + 6.4 * len(name) for name in found}
+    # an arrow over several rows has a bend, a node of its own, in each row that it passes
+    links, ways = {name: [] for name in found}, []
+    for name, below in arrows.items():
+        for dep in below:
+            bends = [(name, dep, h) for h in range(height[name] - 1, height[dep], -1)]
+            way = [name, *bends, dep]
+            for bend in bends:
+                rows[bend[2]].append(bend)
+                links[bend], sizes[bend] = [], 10
+            for one, other in zip(way, way[1:]):
+                links[one].append(other)
+                links[other].append(one)
+            ways.append(way)
     layers = list(dict.fromkeys(layer for layer, _ in found.values()))
-    width, step, top = 1120, 46, 76
-    svg = Svg(width, top + step * len(rows) + 16, "The crates: each stands above all that it depends on")
-    svg.text(16, 26, "The crates: each stands above all that it depends on; no arrow goes up", "h")
+    width, step, top, tall = 1060, 58, 76, 24
+    middle = places(rows, links, sizes, width - 32)
+    svg = Svg(width, top + step * len(rows), "The crates, and what each depends on")
+    svg.text(16, 26, "The crates, and what each depends on: an arrow for each crate that it reaches by no other way; all arrows go down", "h")
     x = 16
     for layer in layers:
         svg.box(x, 40, 14, 14, LAYERS[layers.index(layer) % len(LAYERS)])
         svg.text(x + 18, 51, layer, "s")
         x += 34 + 6.1 * len(layer)
-    svg.text(16, 70, "dashed: no code", "s")
-    for level, row in enumerate(reversed(rows)):
-        y = top + level * step
-        svg.box(8, y, width - 16, step - 8, SOFT, stroke=SOFT)
-        sizes = [12 + 7 * len(name) for name in row]
-        gap = (width - 32 - sum(sizes)) / len(row)
-        x = 16 + gap / 2
-        for name, w in zip(row, sizes):
-            source = ROOT / "crates" / name / "src"
-            code = any(" fn " in f" {line}" for f in source.glob("*.rt") for line in f.read_text().splitlines() if not line.lstrip().startswith("//"))
-            svg.box(x, y + 6, w, step - 20, LAYERS[layers.index(found[name][0]) % len(LAYERS)], dash=not code)
-            svg.text(x + w / 2, y + 23, name, "s", "middle")
-            x += w + gap
+    svg.text(16, 70, "dashed: no functions", "s")
+
+    def spot(node):
+        h = height[node] if node in height else node[2]
+        return 16 + middle[node], top + step * (len(rows) - 1 - h)
+
+    for way in ways:
+        (x, y), parts = spot(way[0]), []
+        parts.append(f"M{x:.0f} {y + tall}")
+        y += tall
+        for node in way[1:]:
+            x2, y2 = spot(node)
+            half = (y2 - y) / 2
+            parts.append(f"C{x:.0f} {y + half:g} {x2:.0f} {y2 - half:g} {x2:.0f} {y2:g}")
+            x, y = x2, y2
+            if node in height:
+                break
+            parts.append(f"V{y + tall}")
+            y += tall
+        svg.parts.append(f'<path d="{"".join(parts)}" stroke="{LINE}" stroke-width="0.9" fill="none" marker-end="url(#b)"/>')
+    for name in found:
+        x, y = spot(name)
+        source = ROOT / "crates" / name / "src"
+        code = any(" fn " in f" {line}" for f in source.glob("*.rt") for line in f.read_text().splitlines() if not line.lstrip().startswith("//"))
+        w = sizes[name] - 12
+        svg.box(x - w / 2, y, w, tall, LAYERS[layers.index(found[name][0]) % len(LAYERS)], dash=not code)
+        svg.text(x, y + 16, name, "s", "middle")
     return svg.done()
 
 

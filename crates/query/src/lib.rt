@@ -1,5 +1,5 @@
-// The questions put to a tree, asked of any bytes lent as one: no call asks anything of its caller. The demands on them, and on build
-// and check, stand in proofs/Demands.antt.
+// The public calls that read a tree, any bytes lent as one, under one name each. No call has a `requires`. The theorems about them are in the
+// crate `theorems`.
 pub use ask_access::Answer;
 pub use ask_access::Copied;
 pub use ask_access::byte;

@@ -1,0 +1,181 @@
+-- build(text, leaf, arity, levels, counted, out): the block tree of a text, written into a buffer. Demand 2: "The builder's output is, byte for byte, the
+-- block tree of its text as this page defines it; read back, every byte, span, run, row, count and place is the text's." And
+-- the end of demand 3: "What the builder writes is accepted, and its one text is the input."
+use mathlib.Core.List.{List, [], _∷_, _++_}
+use mathlib.Core.Bool.{true, cond}
+use mathlib.Core.Path.{_≡_, sym, ap, _∙_, refl}
+use Prim.Native.Nat.{ℕ, zero, suc, _≤_}
+use native.Mathlib.Omega.{arith}
+use contract.Lifetimes.{Lfts}
+use denote.Ref.{now}
+use lib.ListN.{length, take, drop, replicate}
+use lib.Dec.{eqb, leb}
+use lib.Seq.{take-append-seam, drop-append-seam}
+use borrow.Author.Tests.{eq-eqb, ne-eqb, leb-true, le-leb}
+use Rattle.format.specs.Settings.{Settings, lengthOk, sizesOk, countedOk}
+use Rattle.format.specs.Layout as at
+use Rattle.format.specs.Fits.{textOf, fits}
+use Rattle.format.specs.Verdict.{verdict, ask}
+use Rattle.format.specs.Blocks.{treeOf}
+use Rattle.format.specs.LayoutLaws.{readable-facts, ask-test, ask-rest}
+use Rattle.format.specs.BuildSays.{buildNumber, buildSize, buildLeaves}
+use Rattle.theory_built.specs.BlockSizes.{Taken}
+use Rattle.theory_built.specs.Readable.{built-readable}
+use Rattle.theory_built.specs.ReadBack.{read-settings}
+use Rattle.theory_accepted.specs.AcceptedTrees.{StandsFor, accepted-stands, one-text}
+use Rattle.build_by_search.specs.BuildAnswer.{given, sizeOf}
+use Rattle.build_by_search.specs.declared.Built.{Built}
+use Rattle.build_by_search.specs.declared.Built.the-variants as built
+use Rattle.build_enough.specs.Enough.{enoughFor}
+use Rattle.build_enough.specs.EnoughHolds.{never-full}
+use Rattle.build_enough.specs.declared.Room.the-variants as room
+use Rattle.tree.proofs.Demands as tree
+use Rattle.theorems.specs.Promises.{Answers, CompleteBuilder, Refuses}
+use Rattle.theorems.specs.PublicFunctions.{build-function}
+use Rattle.theorems.proofs.CheckCall.{Check}
+use Rattle.theorems.proofs.EnoughCall.{Enough, enough-answer}
+use Rattle.theorems.proofs.OutsideCall.{Call, Lent, call}
+use Rattle.theorems.proofs.RefusalNumbers.{OneOf, asks-one, not-zero}
+use Rattle.build_by_search.proofs.build.Met as build-met
+use Rattle.theorems.proofs.TreeAnswers.{accepted-answers, accepted-refuses}
+-- what the contract allows, where the buffer is left as `after`: `Build κs text leaf arity levels counted out after r`
+pub use Rattle.theorems.specs.CallContracts.{Build}
+
+abbrev pub build-call : Call
+build-call = call build-function build-met.met (λ 𝓤 H A mem run κs a. (tt, refl))
+
+-- Any lent bytes.
+
+-- the numbers that its questions can give
+build-one : (S : Settings) (T out : List ℕ) → OneOf (1 ∷ 2 ∷ 3 ∷ 4 ∷ 0 ∷ []) (buildNumber S T out)
+unfolding buildNumber
+build-one S T out =
+    asks-one ((1, lengthOk (length T)) ∷ (2, sizesOk S) ∷ (3, countedOk (S .counted)) ∷ (4, leb (length (treeOf S T)) (length out)) ∷ [])
+
+-- it answers only where the tree fits the buffer
+build-fits : (S : Settings) (T out : List ℕ) → buildNumber S T out ≡ 0 → length (treeOf S T) ≤ length out
+unfolding buildNumber
+build-fits S T out h =
+    let four = ask 4 (leb (length (treeOf S T)) (length out)) 0 in
+    let three = ask 3 (countedOk (S .counted)) four in
+    let two = ask 2 (sizesOk S) three in
+    let asked = ask-rest 2 (countedOk (S .counted)) four (ask-rest 1 (sizesOk S) three (ask-rest 0 (lengthOk (length T)) two h)) in
+    leb-true _ _ (ask-test 3 (leb (length (treeOf S T)) (length out)) 0 asked)
+
+module _ (κs : Lfts 3) (text : Lent) (leaf arity levels : ℕ) (counted out after : Lent) where
+  abbrev S : Settings
+  S = given leaf arity levels (now counted)
+
+  -- An answer is the tree's size, which fits; the buffer begins with the tree, and the bytes past it are unchanged; ..
+  pub build-answer : (size : ℕ) → Build κs text leaf arity levels counted out after (built.Size size)
+      → (size ≤ length (now out)) × (take size (now after) ≡ treeOf S (now text)) × (drop size (now after) ≡ drop size (now out))
+  unfolding buildSize buildLeaves
+  build-answer size a =
+      let passed : buildNumber S (now text) (now out) ≡ 0 = sym (a .0) in
+      let tree = treeOf S (now text) in
+      let size-is : size ≡ length tree = a .1 .0 ∙ rw passed in
+      let left : now after ≡ tree ++ drop (length tree) (now out) = a .1 .1 ∙ rw passed in
+      let past = drop (length tree) (now out) in (
+        rw size-is (build-fits S (now text) (now out) passed),
+        rw (left, size-is) (take-append-seam tree past),
+        rw (left, size-is) (drop-append-seam tree past),
+      )
+
+  module _ (n : ℕ) (a : Build κs text leaf arity levels counted out after (built.Refused n)) where
+    -- a tree has bytes, so that a size of 0 is a refusal's
+    build-not-zero : (m : ℕ) → buildNumber S (now text) (now out) ≡ m → 1 ≤ m
+    unfolding buildSize
+    build-not-zero zero e =
+        let long = readable-facts (treeOf S (now text)) (built-readable S (now text) (tree.taken S (now text) (now out) e)) .long in
+        let size : 0 ≡ length (treeOf S (now text)) = a .1 .0 ∙ rw e in
+        absurd (let z : ⊥ = omega arith in z)
+    build-not-zero (suc m) e = omega arith
+
+    build-low : 1 ≤ n
+    build-low = rw (a .0) (build-not-zero (buildNumber S (now text) (now out)) refl)
+
+    -- .. a refusal is 1, 2, 3 or 4; ..
+    pub build-numbers : OneOf (1 ∷ 2 ∷ 3 ∷ 4 ∷ []) n
+    build-numbers = not-zero (1 ∷ 2 ∷ 3 ∷ 4 ∷ []) n build-low (rw (a .0) (build-one S (now text) (now out)))
+
+    -- what is left in the buffer, by the number
+    build-left : now after ≡ cond (eqb n 4) (replicate (length (now out)) 0) (now out)
+    unfolding buildLeaves
+    build-left = a .1 .1 ∙ rw (← a .0, ne-eqb n 0 (λ e. omega (arith, build-low)))
+
+    -- .. 4 leaves the buffer all zero, ..
+    pub build-zeros : n ≡ 4 → now after ≡ replicate (length (now out)) 0
+    build-zeros e = build-left ∙ rw (eq-eqb n 4 e)
+
+    -- .. and any other leaves it unchanged.
+    pub build-unchanged : (n ≡ 4 → ⊥) → now after ≡ now out
+    build-unchanged e = build-left ∙ rw (ne-eqb n 4 e)
+
+    -- With room of the size that enough answers, and counted bytes that question 3 takes, build is not refused.
+    pub build-has-room : (m : ℕ) → Enough (length (now text)) leaf arity levels (length (now counted)) (room.Bytes m) → m ≤ length (now out)
+        → countedOk (now counted) ≡ true → ⊥
+    unfolding sizesOk
+    build-has-room m e space rising =
+        let size = enoughFor (length (now text)) leaf arity levels (length (now counted)) in
+        let k = enough-answer (length (now text)) leaf arity levels (length (now counted)) m e in
+        let taken : Taken S (now text) = record { length-ok = k .0; sizes-ok = k .1; counted-ok = rising } in
+        let enough : size ≤ length (now out) = omega (arith, k .2) in
+        omega (arith, build-low, a .0, never-full S (now text) taken (now out) enough)
+
+  -- It wrote a tree, of so many bytes, at the start of the buffer.
+  module _ (size : ℕ) (a : Build κs text leaf arity levels counted out after (built.Size size)) where
+    abbrev T : List ℕ
+    T = now text
+
+    -- "The builder's output is, byte for byte, the block tree of its text."
+    pub build-writes : take size (now after) ≡ treeOf S T
+    build-writes = tree.build-writes κs text leaf arity levels counted out after (built.Size size) a refl
+
+    -- The tree, lent to another call.
+    module _ (t : Lent) (is : now t ≡ take size (now after)) where
+      -- no question refused
+      passed : buildNumber S T (now out) ≡ 0
+      passed = sym (a .0)
+
+      accepted : verdict (now t) ≡ 0
+      accepted = rw is (tree.build-accepted κs text leaf arity levels counted out after (built.Size size) a refl)
+
+      text-is : textOf (now t) ≡ T
+      text-is = rw is (tree.build-text κs text leaf arity levels counted out after (built.Size size) a refl)
+
+      -- its header has the settings that were given
+      settings-are : at.settings (now t) ≡ S
+      settings-are = rw (is ∙ build-writes) (read-settings S T (tree.taken S T (now out) passed))
+
+      -- "Read back, every byte, span, run, row, count and place is the text's."
+      pub build-answers : Answers t S T
+      build-answers = rw (← settings-are, ← text-is) (accepted-answers t accepted)
+
+      -- Where questions 10 to 13 do not let one through, their number is answered.
+      pub build-refuses : Refuses t S T
+      build-refuses = rw (← settings-are, ← text-is) (accepted-refuses t accepted)
+
+      -- "What the builder writes is accepted, ..
+      pub build-accepted : (κ : Lfts 1) (r : ℕ) → Check κ t r → r ≡ 0
+      build-accepted κ r c = c ∙ accepted
+
+      -- .. and its one text is the input": it stands for the input, and any text that fits is the input.
+      pub build-one-text : StandsFor (now t) T × ((U : List ℕ) → fits U (now t) ≡ true → U ≡ T)
+      build-one-text =
+          let s = accepted-stands (now t) accepted in
+          (rw text-is at s, λ U f. one-text (now t) (s .readable-is) (s .linked) U f ∙ text-is)
+
+-- which answer has a size
+size-is : (r : Built) (n : ℕ) → 1 ≤ n → sizeOf r ≡ n → r ≡ built.Size n
+size-is (built.Size m) n low e = ap built.Size e
+size-is (built.Refused q) n low e = absurd (let z : ⊥ = omega arith in z)
+
+-- "For every text, setting and buffer that questions 1 to 4 let through, the builder writes the tree": no buffer that holds it is refused.
+pub build-lets-through : CompleteBuilder
+unfolding buildNumber buildSize
+build-lets-through κs text leaf arity levels counted out after r a one two three four =
+    let S = given leaf arity levels (now counted) in
+    let passed : buildNumber S (now text) (now out) ≡ 0 = rw (one, two, three, le-leb (length (treeOf S (now text))) (length (now out)) four) in
+    let long = readable-facts (treeOf S (now text)) (built-readable S (now text) (record { length-ok = one; sizes-ok = two; counted-ok = three })) .long in
+    let size : sizeOf r ≡ length (treeOf S (now text)) = a .1 .0 ∙ rw passed in
+    size-is r (length (treeOf S (now text))) (omega (arith, long)) size

@@ -1,0 +1,116 @@
+-- row_by_columns(tree, width, a, buffer): row a, from 0, of the text whose rearrangement the tree is of: all its bytes, copied.
+use mathlib.Core.List.{List, [], _∷_, _++_}
+use mathlib.Core.Bool.{cond}
+use mathlib.Core.Path.{_≡_, sym, _∙_, refl}
+use Prim.Native.Nat.{ℕ, _≤_, _/_}
+use native.Mathlib.Omega.{arith}
+use contract.Lifetimes.{Lfts}
+use denote.Ref.{now}
+use lib.ListN.{length, drop, replicate}
+use lib.Dec.{eqb, leb, ltb}
+use lib.Seq.{drop-at}
+use borrow.Author.Tests.{eq-eqb, ne-eqb, leb-true}
+use Rattle.text.specs.ListLaws.{length-tabulate}
+use Rattle.text.specs.Lists.{tabulate}
+use Rattle.format.specs.Layout as at
+use Rattle.format.specs.Fits.{textOf}
+use Rattle.format.specs.Verdict.{readable, verdict, ask}
+use Rattle.format.specs.VerdictLaws.{accepted-readable}
+use Rattle.format.specs.Said.{refused}
+use Rattle.format.specs.ReadSays.{byteSays}
+use Rattle.format.specs.LayoutLaws.{ask-test, ask-rest}
+use Rattle.format.specs.SaidLaws.{unless-passes, then-is}
+use Rattle.ask_access.specs.declared.Copied.the-variants as copied
+use Rattle.columns.specs.Columns.{widthOk}
+use Rattle.ask_columns.proofs.Demands as columns
+use Rattle.ask_columns.specs.ColumnRows.{cell, cellsHold, columnNumber, columnSays, columnLeaves}
+use Rattle.theorems.specs.Promises.{ColumnAnswers, ColumnRefuses}
+use Rattle.theorems.specs.PublicFunctions.{row-by-columns-function}
+use Rattle.theorems.proofs.AcceptedTree.{text-size}
+use Rattle.theorems.proofs.OutsideCall.{Call, Lent, call}
+use Rattle.theorems.proofs.RefusalNumbers.{OneOf, asks-one, not-zero, readable-one, says-answer, says-refused, then-one}
+use Rattle.ask_columns.proofs.row_by_columns.Met as row-by-columns-met
+-- what the contract allows, where the buffer is left as `after`: `ByColumns κs tree width a buffer after r`
+pub use Rattle.theorems.specs.CallContracts.{ByColumns}
+
+abbrev pub row-by-columns-call : Call
+row-by-columns-call = call row-by-columns-function row-by-columns-met.met (λ 𝓤 H A mem run κs a. (tt, refl))
+
+-- Any lent bytes.
+
+-- the numbers that its questions can give
+column-one : (t : List ℕ) (w a room : ℕ) → OneOf (5 ∷ 6 ∷ 7 ∷ 20 ∷ 10 ∷ 13 ∷ 14 ∷ 0 ∷ []) (columnNumber t w a room)
+unfolding columnNumber
+column-one t w a room =
+    then-one (5 ∷ 6 ∷ 7 ∷ []) (20 ∷ 10 ∷ 13 ∷ 14 ∷ 0 ∷ []) (readable t) _ (readable-one t)
+    (asks-one ((20, widthOk w (at.textLength t)) ∷ (10, ltb a (at.textLength t / w)) ∷ (13, leb w room) ∷ (14, cellsHold t w a) ∷ []))
+
+-- where no question refuses, the row fits
+column-fits : (t : List ℕ) (w a room : ℕ) → columnNumber t w a room ≡ 0 → w ≤ room
+unfolding columnNumber
+column-fits t w a room h =
+    let fourteen = ask 14 (cellsHold t w a) 0 in
+    let thirteen = ask 13 (leb w room) fourteen in
+    let ten = ask 10 (ltb a (at.textLength t / w)) thirteen in
+    let twenty = ask 20 (widthOk w (at.textLength t)) ten in
+    let z = unless-passes (readable t) (refused twenty) (sym (then-is (readable t) twenty) ∙ h) in
+    let y = ask-rest 9 (ltb a (at.textLength t / w)) thirteen (ask-rest 19 (widthOk w (at.textLength t)) ten (z .1)) in
+    leb-true w room (ask-test 12 (leb w room) fourteen y)
+
+module _ (κs : Lfts 2) (t : Lent) (w a : ℕ) (buffer after : Lent) where
+  -- An answer is w bytes, which fit, and the bytes past them are unchanged; ..
+  pub column-answer : (m e : ℕ) → ByColumns κs t w a buffer after (copied.Bytes m e)
+      → (m ≡ w) × (e ≡ 0) × (w ≤ length (now buffer)) × (drop w (now after) ≡ drop w (now buffer))
+  unfolding columnSays columnLeaves
+  column-answer m e c =
+      let s = says-answer m e _ w 0 (c .0 .says) in
+      let row = tabulate w (λ b. byteSays (now t) (cell (now t) w a b) .value) in
+      let left : now after ≡ row ++ drop w (now buffer) = rw (eq-eqb (columnNumber (now t) w a (length (now buffer))) 0 (s .0)) at (c .1) in (
+        s .1,
+        s .2,
+        column-fits (now t) w a (length (now buffer)) (s .0),
+        rw left (drop-at row (drop w (now buffer)) w (length-tabulate w (λ b. byteSays (now t) (cell (now t) w a b) .value))),
+      )
+
+  module _ (n : ℕ) (c : ByColumns κs t w a buffer after (copied.Refused n)) where
+    -- the number is the definition's
+    column-says : n ≡ columnNumber (now t) w a (length (now buffer))
+    unfolding columnSays
+    column-says = says-refused n _ w 0 (c .0 .numbered) (c .0 .says)
+
+    -- .. a refusal is 5, 6, 7, 20, 10, 13 or 14, ..
+    pub column-numbers : OneOf (5 ∷ 6 ∷ 7 ∷ 20 ∷ 10 ∷ 13 ∷ 14 ∷ []) n
+    column-numbers =
+        not-zero (5 ∷ 6 ∷ 7 ∷ 20 ∷ 10 ∷ 13 ∷ 14 ∷ []) n (c .0 .numbered) (rw column-says (column-one (now t) w a (length (now buffer))))
+
+    -- what is left in the buffer, by the number
+    column-left : now after ≡ cond (eqb n 14) (replicate w 0 ++ drop w (now buffer)) (now buffer)
+    unfolding columnLeaves
+    column-left = c .1 ∙ rw (← column-says, ne-eqb n 0 (λ e. omega (arith, c .0 .numbered)))
+
+    -- .. "a 14 leaves the w bytes zero", ..
+    pub column-zeros : n ≡ 14 → now after ≡ replicate w 0 ++ drop w (now buffer)
+    column-zeros e = column-left ∙ rw (eq-eqb n 14 e)
+
+    -- .. and any other leaves the buffer unchanged.
+    pub column-unchanged : (n ≡ 14 → ⊥) → now after ≡ now buffer
+    column-unchanged e = column-left ∙ rw (ne-eqb n 14 e)
+
+-- Any tree that the check accepts, and the one text that fits it.
+module _ (t : Lent) (v : verdict (now t) ≡ 0) where
+  pass : readable (now t) ≡ 0
+  pass = accepted-readable (now t) v
+
+  size : length (textOf (now t)) ≡ at.textLength (now t)
+  size = text-size (now t) v
+
+  pub accepted-answers : ColumnAnswers t (at.settings (now t)) (textOf (now t))
+  accepted-answers = record { column-of = λ κs w a buffer after r c ok low room. columns.column-copies κs t v w a buffer after r c ok low room }
+
+  pub accepted-refuses : ColumnRefuses t (at.settings (now t)) (textOf (now t))
+  accepted-refuses = record {
+    column-width = λ κs w a buffer after r c other. columns.column-width κs t w a buffer after r c pass (rw size at other);
+    column-past = λ κs w a buffer after r c ok past. columns.column-past κs t w a buffer after r c pass (rw size at ok) (rw size at past);
+    column-short = λ κs w a buffer after r c ok low small.
+        columns.column-short κs t w a buffer after r c pass (rw size at ok) (rw size at low) small;
+  }

@@ -1,0 +1,126 @@
+-- Request 111, of answers: how far the correction of one byte reaches into what count and find answer, from any two accepted trees that the two texts
+-- fit, whoever built them.
+use mathlib.Core.List.{List}
+use mathlib.Core.Bool.{true}
+use mathlib.Core.Path.{_≡_, sym, ap, _∙_}
+use mathlib.Core.Logic.{_⊎_, inl, inr, _↔_}
+use Prim.Native.Nat.{ℕ, zero, suc, _+_, _≤_, _<_}
+use native.Mathlib.Omega.{arith}
+use contract.Lifetimes.{Lfts}
+use denote.Ref.{now}
+use lib.ListN.{length, take}
+use Rattle.text.specs.Text.{countIn, placeOf}
+use Rattle.text.specs.ListLaws.{lt-or-ge}
+use Rattle.text.specs.declared.TextPlace.{TextPlace}
+use Rattle.format.specs.Layout as at
+use Rattle.format.specs.Fits.{fits}
+use Rattle.ask_rank.specs.declared.Counted.{Counted}
+use Rattle.ask_rank.specs.declared.Counted.the-variants as counted
+use Rattle.ask_select.specs.declared.Found.{Found}
+use Rattle.ask_select.specs.declared.Found.the-variants as found
+use Rattle.theorems.specs.Promises.{Among}
+use Rattle.theorems.proofs.CheckCall.{Check, check-answers, check-refuses}
+use Rattle.theorems.proofs.CountCall.{Count}
+use Rattle.theorems.proofs.FindCall.{Find}
+use Rattle.theorems.proofs.OneByte.{OneByte, one-byte-back, count-before, count-near, place-same}
+use Rattle.theorems.proofs.OutsideCall.{Lent}
+
+-- an accepted tree that the text fits and that counts the byte, "whoever built" it, of any settings and layout
+pub record CountingTree (T : List ℕ) (byte : ℕ) (t : Lent) : Type 0 where
+  pub lifetime : Lfts 1
+  pub accepted : Check lifetime t 0
+  pub fitting : fits T (now t) ≡ true
+  pub counting : Among byte (at.settings (now t) .counted)
+
+-- two answers of count, from d the place of the difference: neither is refused, and ..
+pub record CountsNear (d i : ℕ) (r s : Counted) : Type 0 where
+  pub one : ℕ
+  pub other : ℕ
+  pub one-entered : ℕ
+  pub other-entered : ℕ
+  pub one-is : r ≡ counted.Times one one-entered
+  pub other-is : s ≡ counted.Times other other-entered
+  -- .. "differs by at most one, ..
+  pub above : one ≤ other + 1
+  pub below : other ≤ one + 1
+  -- .. and not at all where i does not pass that place"
+  pub same : i ≤ d → one ≡ other
+
+-- an answer of find: this place, with any figure
+abbrev pub FoundAt : Found → TextPlace → Type 0
+FoundAt r p = (e : ℕ) × (r ≡ found.At p e)
+
+module _ (T : List ℕ) (byte : ℕ) (t : Lent) (k : CountingTree T byte t) where
+  -- what count answers for any number of bytes of the text
+  count-of : (κs : Lfts 1) (i : ℕ) (r : Counted) → Count κs t byte i r → i ≤ length T → (e : ℕ) × (r ≡ counted.Times (countIn byte (take i T)) e)
+  unfolding countIn
+  count-of κs zero r c h = (0, check-answers (k .lifetime) t (k .accepted) T (k .fitting) .count .count-none κs byte r c (k .counting))
+  count-of κs (suc i) r c h =
+      let w = check-answers (k .lifetime) t (k .accepted) T (k .fitting) .count .count-of κs byte (suc i) r c (k .counting) (omega arith) h in
+      (w .0, w .2)
+
+  -- what find answers where there are so many
+  find-of : (κs : Lfts 1) (j : ℕ) (r : Found) → Find κs t byte j r → 1 ≤ j → j ≤ countIn byte T → FoundAt r (record { 0 = placeOf byte j T })
+  find-of κs j r c low high =
+      let w = check-answers (k .lifetime) t (k .accepted) T (k .fitting) .find .find-of κs byte j r c (k .counting) low high in
+      (w .0, w .2)
+
+  -- it answers a place only there
+  find-low : (κs : Lfts 1) (j : ℕ) (r : Found) → Find κs t byte j r → (p : TextPlace) → FoundAt r p → (1 ≤ j) × (j ≤ countIn byte T)
+  find-low κs j r c p is = go (lt-or-ge 0 j) (lt-or-ge (countIn byte T) j)
+    where
+      clash : (e q : ℕ) → r ≡ found.At p e → r ≡ found.Refused q → (1 ≤ j) × (j ≤ countIn byte T)
+      clash e q y z = absurd (let x : _≡_ {A = ℕ} 0 1 = cc in omega arith)
+
+      none : (1 ≤ j → j ≤ countIn byte T → ⊥) → (1 ≤ j) × (j ≤ countIn byte T)
+      none h = clash (is .0) 12 (is .1) (check-refuses (k .lifetime) t (k .accepted) T (k .fitting) .find .find-none κs byte j r c (k .counting) h)
+
+      go : (0 < j) ⊎ (j ≤ 0) → (countIn byte T < j) ⊎ (j ≤ countIn byte T) → (1 ≤ j) × (j ≤ countIn byte T)
+      go (inl low) (inr high) = (low, high)
+      go (inl low) (inl past) = none (λ x y. omega arith)
+      go (inr least) h = none (λ x y. omega arith)
+
+-- the place that the first tree answers, before the difference, is the second tree's too
+place-kept :
+    (T U : List ℕ) (d : ℕ) → OneByte T U d → (byte : ℕ) (t u : Lent) → CountingTree T byte t → CountingTree U byte u
+    → (κs κ : Lfts 1) (j : ℕ) (r s : Found) → Find κs t byte j r → Find κ u byte j s → (p : TextPlace) → p .0 < d → FoundAt r p → FoundAt s p
+place-kept T U d k byte t u kt ku κs κ j r s a b p before is =
+    let z = find-low T byte t kt κs j r a p is in
+    let x = find-of T byte t kt κs j r a (z .0) (z .1) in
+    let p-is : p ≡ record { 0 = placeOf byte j T } = placed p (record { 0 = placeOf byte j T }) (is .0) (x .0) (sym (is .1) ∙ x .1) in
+    let w = place-same T U d k byte j (z .0) (z .1) (rw (ap (λ (q : TextPlace). q .0) p-is) at before) in
+    let y = find-of U byte u ku κ j s b (z .0) (w .0) in
+    (y .0, same p (placeOf byte j T) (placeOf byte j U) (y .0) s p-is (w .1) (y .1))
+  where
+    placed : (p q : TextPlace) (e f : ℕ) → found.At p e ≡ found.At q f → p ≡ q
+    placed p q e f z = cc
+
+    same : (p : TextPlace) (x y f : ℕ) (s : Found) → p ≡ record { 0 = x } → y ≡ x → s ≡ found.At (record { 0 = y }) f → s ≡ found.At p f
+    same p x y f s p-is y-is s-is = rw (p-is, ← y-is) s-is
+
+-- "two texts of equal length that differ in one place", and "any two accepted trees that these texts fit and that count the byte, whoever built them"
+module _ (T U : List ℕ) (d : ℕ) (k : OneByte T U d) (byte : ℕ) (t u : Lent) (kt : CountingTree T byte t) (ku : CountingTree U byte u) where
+  -- "each count over the first i bytes differs by at most one, and not at all where i does not pass that place"
+  pub counts-near : (κs κ : Lfts 1) (i : ℕ) (r s : Counted) → Count κs t byte i r → Count κ u byte i s → i ≤ length T → CountsNear d i r s
+  counts-near κs κ i r s a b h =
+      let x = count-of T byte t kt κs i r a h in
+      let y = count-of U byte u ku κ i s b (omega (arith, k .same-length)) in
+      let near = count-near T U d k byte i h in record {
+        one = countIn byte (take i T);
+        other = countIn byte (take i U);
+        one-entered = x .0;
+        other-entered = y .0;
+        one-is = x .1;
+        other-is = y .1;
+        above = near .0;
+        below = near .1;
+        same = count-before T U d k byte i;
+      }
+
+  -- "A j-th place that lies before it is the same in both"
+  pub place-before : (κs κ : Lfts 1) (j : ℕ) (r s : Found) → Find κs t byte j r → Find κ u byte j s
+      → (p : TextPlace) → p .0 < d → FoundAt r p ↔ FoundAt s p
+  place-before κs κ j r s a b p before = (
+    place-kept T U d k byte t u kt ku κs κ j r s a b p before,
+    place-kept U T d (one-byte-back T U d k) byte u t ku kt κ κs j s r b a p before,
+  )

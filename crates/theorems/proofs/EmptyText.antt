@@ -1,0 +1,149 @@
+-- A text of no bytes: it "builds a tree of the header alone, with all counts 0, .. and the check accepts it. Its counts of 0 bytes are 0, its totals
+-- are 0, it has no row, and a byte is refused with 10." All of it follows from what holds of every text.
+use mathlib.Core.List.{List, []}
+use mathlib.Core.Bool.{true}
+use mathlib.Core.Path.{_≡_, sym, ap, _∙_}
+use mathlib.Core.Logic.{_⊎_, inl, inr}
+use Prim.Native.Nat.{ℕ, zero, suc, _+_, _-_, _≤_, _<_, _*_}
+use native.Mathlib.Omega.{arith}
+use native.Mathlib.Nat.{zero-mul}
+use native.Mathlib.Numerals.{add-one}
+use contract.Lifetimes.{Lfts}
+use denote.Ref.{now}
+use lib.ListN.{length}
+use Rattle.text.specs.Text.{countIn, stretch}
+use Rattle.text.specs.Rows.{rowsOf}
+use Rattle.text.specs.ListLaws.{lt-or-ge, sumBelow-none}
+use Rattle.text.specs.declared.TextPlace.{TextPlace}
+use Rattle.text.specs.Lists.{tabulate, sumBelow}
+use Rattle.format.specs.Settings.{Settings, maxLevels}
+use Rattle.format.specs.HeaderPlaces.{headerLength}
+use Rattle.format.specs.Layout as at
+use Rattle.format.specs.Fits.{textOf, fits}
+use Rattle.format.specs.VerdictLaws.{accepted-readable, accepted-links}
+use Rattle.format.specs.LayoutLaws.{Readable, readable-facts}
+use Rattle.format.specs.PieceLaws.{pieces-none}
+use Rattle.theory_paths.specs.Links.{Linked, linked-facts}
+use Rattle.theory_accepted.specs.AcceptedTrees.{one-text}
+use Rattle.ask_access.specs.declared.Answer.{Answer}
+use Rattle.ask_access.specs.declared.Answer.the-variants as answer
+use Rattle.ask_access.specs.declared.Copied.{Copied}
+use Rattle.ask_access.specs.declared.Copied.the-variants as copied
+use Rattle.ask_rank.specs.declared.Counted.{Counted}
+use Rattle.ask_rank.specs.declared.Counted.the-variants as counted
+use Rattle.ask_select.specs.declared.Found.{Found}
+use Rattle.ask_select.specs.declared.Found.the-variants as found
+use Rattle.ask_rows.specs.declared.RowCopied.{RowCopied}
+use Rattle.ask_rows.specs.declared.RowCopied.the-variants as rows
+use Rattle.theorems.specs.Promises.{Among, Answers, Refuses}
+use Rattle.theorems.proofs.ByteCall.{Byte}
+use Rattle.theorems.proofs.CheckCall.{Check, check-answers, check-one-text, check-refuses}
+use Rattle.theorems.proofs.CountCall.{Count}
+use Rattle.theorems.proofs.FindCall.{Find}
+use Rattle.theorems.proofs.OutsideCall.{Lent}
+use Rattle.theorems.proofs.RowCall.{Row}
+use Rattle.theorems.proofs.RunCall.{Run}
+use Rattle.theorems.proofs.SpanCall.{Span}
+
+-- The answers of a tree of the empty text, whichever road led to it.
+module _ (t : Lent) (S : Settings) (answers : Answers t S []) (refuses : Refuses t S []) where
+  -- "a byte is refused with 10", and its run is empty; ..
+  pub empty-byte : (κ : Lfts 1) (p : TextPlace) (r : Answer) → Byte κ t p r → r ≡ answer.Refused 10
+  empty-byte κ p r b = refuses .byte .byte-past κ p r b (omega arith)
+
+  pub empty-run : (κ : Lfts 1) (p : TextPlace) (r : Lent) → Run κ t p r → now r ≡ []
+  empty-run κ p r b = refuses .run .run-past κ p r b (omega arith)
+
+  -- .. a span of 0 bytes at 0 is empty, any other is refused with 10; ..
+  pub empty-span : (κ : Lfts 2) (p : TextPlace) (buffer after : Lent) (r : Copied) → Span κ t p 0 buffer after r → p .0 ≡ 0
+      → (r ≡ copied.Bytes 0 0) × (now after ≡ now buffer)
+  unfolding stretch
+  empty-span κ p buffer after r s z =
+      let w = answers .span .span-of κ p 0 buffer after r s (omega arith) (omega arith) in
+      (w .2 ∙ ap (copied.Bytes 0) (w .1 .other (λ short. omega (arith, short .low))), w .3)
+
+  pub empty-span-past : (κ : Lfts 2) (p : TextPlace) (len : ℕ) (buffer after : Lent) (r : Copied) → Span κ t p len buffer after r → 1 ≤ p .0 + len
+      → (r ≡ copied.Refused 10) × (now after ≡ now buffer)
+  empty-span-past κ p len buffer after r s some = refuses .span .span-past κ p len buffer after r s (omega arith)
+
+  -- .. "Its counts of 0 bytes are 0", with none entered, and of more are refused with 10; ..
+  pub empty-count : (κ : Lfts 1) (byte : ℕ) (r : Counted) → Count κ t byte 0 r → Among byte (S .counted) → r ≡ counted.Times 0 0
+  empty-count = answers .count .count-none
+
+  pub empty-count-past : (κ : Lfts 1) (byte i : ℕ) (r : Counted) → Count κ t byte i r → 1 ≤ i → r ≡ counted.Refused 10
+  empty-count-past κ byte i r c some = refuses .count .count-past κ byte i r c (omega arith)
+
+  -- .. "its totals are 0": there is no j-th byte; ..
+  pub empty-find : (κ : Lfts 1) (byte j : ℕ) (r : Found) → Find κ t byte j r → Among byte (S .counted) → r ≡ found.Refused 12
+  unfolding countIn
+  empty-find κ byte j r f k = refuses .find .find-none κ byte j r f k (λ low high. omega arith)
+
+  -- .. "it has no row".
+  pub empty-row : (κ : Lfts 2) (q : ℕ) (buffer after : Lent) (r : RowCopied) → Row κ t q buffer after r → Among 10 (S .counted)
+      → (r ≡ rows.Refused 12) × (now after ≡ now buffer)
+  unfolding rowsOf
+  empty-row κ q buffer after r w k = refuses .row .row-none κ q buffer after r w k (λ low high. omega arith)
+
+-- A tree with n 0 that the check accepts, whoever made it and whatever its settings.
+module _ (κs : Lfts 1) (t : Lent) (c : Check κs t 0) (none : at.textLength (now t) ≡ 0) where
+  k : Readable (now t)
+  k = readable-facts (now t) (accepted-readable (now t) (sym c))
+
+  d : Linked (now t)
+  d = linked-facts (now t) (accepted-links (now t) (sym c))
+
+  -- level 0 has no block, and a level below a level of no blocks has none
+  no-blocks : (l : ℕ) → l < at.settings (now t) .levels → at.levelCount (now t) l ≡ 0
+  unfolding sumBelow
+  no-blocks zero h = k .level0 ∙ rw none (pieces-none (at.fullLength (now t) 0))
+  no-blocks (suc l) h =
+      let e = d .next-count l (omega arith) in
+      sym (rw (no-blocks l (omega arith), add-one l) at e)
+
+  no-sum : (l : ℕ) → l ≤ at.settings (now t) .levels → sumBelow l (at.levelCount (now t)) ≡ 0
+  no-sum l h = sumBelow-none l (at.levelCount (now t)) (λ i il. no-blocks i (omega arith))
+
+  -- every count is 0: of the used levels, of the unused ones, and of the leaf bytes; ..
+  pub empty-counts : ((l : ℕ) → l < maxLevels → at.levelCount (now t) l ≡ 0) × (at.leafCount (now t) ≡ 0)
+  unfolding sumBelow
+  empty-counts = ((λ l h. level l h (lt-or-ge l (at.settings (now t) .levels))), leaves)
+    where
+      level : (l : ℕ) → l < maxLevels → (l < at.settings (now t) .levels) ⊎ (at.settings (now t) .levels ≤ l) → at.levelCount (now t) l ≡ 0
+      level l h (inl used) = no-blocks l used
+      level l h (inr unused) = k .count-unused l unused h
+
+      leaves : at.leafCount (now t) ≡ 0
+      leaves =
+          let H = at.settings (now t) .levels in
+          sym (rw (no-blocks (H - 1) (omega (arith, k .bounds .levels-low))) at (d .leaf-count (omega (arith, k .bounds .levels-low))))
+
+  -- .. the offsets of the used levels and of the leaf bytes are 100, those of the unused levels 0; ..
+  pub empty-offsets : ((l : ℕ) → l < at.settings (now t) .levels → at.levelOffset (now t) l ≡ headerLength)
+      × ((l : ℕ) → at.settings (now t) .levels ≤ l → l < maxLevels → at.levelOffset (now t) l ≡ 0) × (at.leafOffset (now t) ≡ headerLength)
+  empty-offsets = (
+    (λ l h. k .level-at l h ∙ rw (no-sum l (omega arith)) (after-none (at.recordSize (now t)))),
+    k .offset-unused,
+    k .leaf-at ∙ rw (no-sum (at.settings (now t) .levels) (omega arith)) (after-none (at.recordSize (now t))),
+  )
+    where
+      after-none : (size : ℕ) → headerLength + 0 * size ≡ headerLength
+      after-none size = rw (zero-mul size) (omega arith)
+
+  -- .. the tree is the header alone; ..
+  pub empty-header : length (now t) ≡ headerLength
+  empty-header = omega (arith, k .size, empty-offsets .2, empty-counts .1)
+
+  -- .. exactly one text fits it, the empty one, ..
+  text-none : textOf (now t) ≡ []
+  unfolding textOf tabulate
+  text-none = rw none
+
+  pub empty-text : (fits [] (now t) ≡ true) × ((U : List ℕ) → fits U (now t) ≡ true → U ≡ [])
+  empty-text =
+      let one = check-one-text κs t c in
+      let e : one .0 ≡ [] = one-text (now t) (one .1 .readable-is) (one .1 .linked) (one .0) (one .1 .fitting) ∙ text-none in
+      (rw e at (one .1 .fitting), λ U f. one .2 U f ∙ e)
+
+  -- .. and the questions are answered from it.
+  pub empty-answers : Answers t (at.settings (now t)) [] × Refuses t (at.settings (now t)) []
+  empty-answers = (check-answers κs t c [] (empty-text .0), check-refuses κs t c [] (empty-text .0))

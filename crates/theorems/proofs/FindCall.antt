@@ -1,0 +1,110 @@
+-- find(tree, byte, j): where a counted byte stands the j-th time, with the blocks entered.
+use mathlib.Core.List.{List, [], _∷_}
+use mathlib.Core.Bool.{true, false, _&&_}
+use mathlib.Core.Path.{_≡_, ap, refl}
+use mathlib.Core.Logic.{_⊎_, inl, inr}
+use Prim.Native.Nat.{ℕ, suc, _≤_, _<_}
+use native.Mathlib.Omega.{arith}
+use contract.Lifetimes.{Lfts}
+use denote.Ref.{now}
+use lib.ListN.{length}
+use lib.Dec.{leb}
+use borrow.Author.Tests.{leb-true}
+use Rattle.text.specs.Text.{countIn, placeOf}
+use Rattle.text.specs.CountLaws.{place-nth}
+use Rattle.text.specs.ListLaws.{bool-cases, and-left, and-right}
+use Rattle.text.specs.declared.TextPlace.{TextPlace}
+use Rattle.format.specs.Settings.{Settings}
+use Rattle.format.specs.Layout as at
+use Rattle.format.specs.Path.{pathOf}
+use Rattle.format.specs.Fits.{textOf}
+use Rattle.format.specs.Verdict.{verdict}
+use Rattle.format.specs.VerdictLaws.{accepted-readable}
+use Rattle.format.specs.Said.{Said, refused}
+use Rattle.format.specs.CountSays.{numberOfByte}
+use Rattle.format.specs.FindSays.{selectNumber, pathLength, FindSays, total}
+use Rattle.theory_counts.specs.Demands as tallies
+use Rattle.ask_select.specs.declared.Found.{Found}
+use Rattle.ask_select.specs.declared.Found.the-variants as found
+use Rattle.ask_select.specs.Found.{saidFind, Numbered as FindNumbered}
+use Rattle.theorems.specs.Promises.{Among, FindAnswers, FindRefuses}
+pub use Rattle.theorems.specs.CallContracts.{Find}
+use Rattle.theorems.specs.PublicFunctions.{find-function}
+use Rattle.theorems.proofs.AcceptedTree.{among-counted, not-counted, path-length}
+use Rattle.theorems.proofs.FindOutcomes.{FindOutcome, find-outcome, outcome-below, outcome-numbers, select-through}
+use Rattle.theorems.proofs.OutsideCall.{Call, Lent, call}
+use Rattle.theorems.proofs.RefusalNumbers.{OneOf}
+use Rattle.format.specs.FindSays.{found as foundFor}
+use Rattle.ask_select.proofs.find.Met as find-met
+
+abbrev pub find-call : Call
+find-call = call find-function find-met.met (λ 𝓤 H A mem run κs a. (tt, refl))
+
+-- Any lent bytes.
+module _ (κs : Lfts 1) (t : Lent) (byte j : ℕ) where
+  outcome-of : (s : Said) → FindSays (now t) byte j s → FindOutcome (now t) byte j s
+  outcome-of s f = find-outcome (now t) byte j (verdict (now t)) (λ v. v) s f
+
+  -- An answer is a place of the text; ..
+  pub find-answer : (p : TextPlace) (e : ℕ) → Find κs t byte j (found.At p e) → p .0 < at.textLength (now t)
+  find-answer p e a = outcome-below (now t) byte j (record { number = 0; value = p .0; entered = e }) refl (outcome-of _ (a .says))
+
+  -- .. a refusal is 5, 6, 7, 11, 12 or 14.
+  pub find-numbers : (n : ℕ) → Find κs t byte j (found.Refused n) → OneOf (5 ∷ 6 ∷ 7 ∷ 11 ∷ 12 ∷ 14 ∷ []) n
+  find-numbers n a = outcome-numbers (now t) byte j n (a .numbered) (outcome-of _ (a .says))
+
+-- which answer says this
+find-is : (r : Found) (v e : ℕ) → FindNumbered r → saidFind r ≡ record { number = 0; value = v; entered = e } → r ≡ found.At (record { 0 = v }) e
+find-is (found.At p m) v e k s =
+    let z : p ≡ record { 0 = v } = ap (λ (n : ℕ). record { 0 = n }) (ap (λ (x : Said). x .value) s) in
+    let y : m ≡ e = ap (λ (x : Said). x .entered) s in
+    cc
+find-is (found.Refused q) v e k s = absurd (let z : q ≡ 0 = ap (λ (x : Said). x .number) s in omega arith)
+
+find-no : (r : Found) (n : ℕ) → saidFind r ≡ refused (suc n) → r ≡ found.Refused (suc n)
+find-no (found.At p e) n s = absurd (let z : _≡_ {A = ℕ} 0 (suc n) = ap (λ (x : Said). x .number) s in omega arith)
+find-no (found.Refused m) n s = ap (λ (x : Said). found.Refused (x .number)) s
+
+-- Any tree that the check accepts, and the one text that fits it.
+module _ (t : Lent) (v : verdict (now t) ≡ 0) where
+  abbrev T : List ℕ
+  T = textOf (now t)
+
+  abbrev S : Settings
+  S = at.settings (now t)
+
+  pub accepted-answers : FindAnswers t S T
+  unfolding foundFor
+  accepted-answers = record {
+    find-of = λ κs byte j r a k low high.
+        let p = placeOf byte j T in
+        let in-text : p < length T = omega (arith, place-nth byte j T low high .within) in
+        let is = find-is r p _ (a .numbered) (a .says .accepted (select-through (now t) v byte j k low high) v) in
+        (pathLength (now t) (pathOf (now t) p), path-length (now t) v p in-text, is);
+  }
+
+  -- questions 11 and 12
+  eleven : (byte j : ℕ) → (Among byte (S .counted) → ⊥) → selectNumber (now t) byte j ≡ 11
+  unfolding selectNumber
+  eleven byte j other = rw (accepted-readable (now t) v, not-counted (now t) v byte other)
+
+  twelve : (byte j : ℕ) → Among byte (S .counted) → (1 ≤ j → j ≤ countIn byte T → ⊥) → selectNumber (now t) byte j ≡ 12
+  unfolding selectNumber
+  twelve byte j k none =
+      let c = among-counted (now t) byte k in
+      let all = total (now t) (numberOfByte (now t) byte) in
+      rw (accepted-readable (now t) v, c, go all (tallies.total-of-text (now t) v byte c) (bool-cases (leb 1 j && leb j all)))
+    where
+      go : (all : ℕ) → all ≡ countIn byte T → ((leb 1 j && leb j all) ≡ true) ⊎ ((leb 1 j && leb j all) ≡ false) → (leb 1 j && leb j all) ≡ false
+      go all e (inl h) = absurd (none (leb-true 1 j (and-left (leb 1 j) (leb j all) h)) (rw e at (leb-true j all (and-right (leb 1 j) (leb j all) h))))
+      go all e (inr h) = h
+
+  -- refused before the walk
+  find-asked : (κs : Lfts 1) (byte j : ℕ) (r : Found) (n : ℕ) → Find κs t byte j r → selectNumber (now t) byte j ≡ suc n → r ≡ found.Refused (suc n)
+  find-asked κs byte j r n a e = find-no r n (rw e at (a .says .asked (rw e (omega arith))))
+
+  pub accepted-refuses : FindRefuses t S T
+  accepted-refuses = record {
+    find-other = λ κs byte j r a other. find-asked κs byte j r 10 a (eleven byte j other);
+    find-none = λ κs byte j r a k none. find-asked κs byte j r 11 a (twelve byte j k none);
+  }

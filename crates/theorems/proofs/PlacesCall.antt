@@ -1,0 +1,136 @@
+-- places(tree, pattern, table): all places of a pattern, written to a lent table of words.
+use mathlib.Core.List.{List, [], _∷_, _++_}
+use mathlib.Core.Option.{some}
+use mathlib.Core.Bool.{true, _&&_}
+use mathlib.Core.Path.{_≡_, sym, ap, _∙_, refl}
+use Prim.Native.Nat.{ℕ, _+_, _≤_, _<_}
+use native.Mathlib.Omega.{arith}
+use contract.Lifetimes.{Lfts}
+use denote.Ref.{now}
+use lib.ListN.{length, getD, drop}
+use lib.Dec.{leb}
+use borrow.Author.Tests.{ne-eqb, leb-true}
+use Rattle.text.specs.ListLaws.{and-left, and-right}
+use Rattle.format.specs.Layout as at
+use Rattle.format.specs.Path.{Path, pathOf}
+use Rattle.format.specs.Fits.{linksOk, textOf}
+use Rattle.format.specs.Verdict.{readable, verdict, ask}
+use Rattle.format.specs.VerdictLaws.{accepted-readable, accepted-links}
+use Rattle.format.specs.Said.{Said, refused}
+use Rattle.format.specs.ReadSays.{pathsHold}
+use Rattle.format.specs.LayoutLaws.{readable-facts, ask-test, ask-rest}
+use Rattle.format.specs.SaidLaws.{unless-passes, then-is, unless-number}
+use Rattle.theory_paths.specs.Demands as paths
+use Rattle.theory_paths.specs.PlaceBytes.{hold-at, path-there}
+use Rattle.theory_paths.specs.Reads.{text-of-path}
+use Rattle.ask_patterns.specs.PlacesLaws.{places-all, AllPlaces}
+use Rattle.ask_patterns.proofs.Demands as patterns
+use Rattle.ask_patterns.specs.Places.{maxPattern, placesIn, patternOk, placesOf, placesNumber, placesSays, placesLeaves}
+use Rattle.ask_patterns.specs.declared.PlacesWritten.the-variants as places
+use Rattle.theorems.specs.Promises.{PlacesAnswers, PlacesRefuses}
+use Rattle.theorems.specs.PublicFunctions.{places-function}
+use Rattle.theorems.proofs.OutsideCall.{Call, Lent, call}
+use Rattle.theorems.proofs.RefusalNumbers.{OneOf, asks-one, not-zero, readable-one, then-one}
+use Rattle.ask_patterns.proofs.places.Met as places-met
+-- what the contract allows, where the table is left as `after`: `Places κs tree pattern table after r`
+pub use Rattle.theorems.specs.CallContracts.{Places}
+
+abbrev pub places-call : Call
+places-call = call places-function places-met.met (λ 𝓤 H A mem run κs a. (tt, refl))
+
+-- Any lent bytes.
+
+-- what is known where no question refuses
+record Passed (t P : List ℕ) (room : ℕ) : Type 0 where
+  pass : readable t ≡ 0
+  low : 1 ≤ length P
+  high : length P ≤ maxPattern
+  hold : pathsHold t 0 (at.textLength t) ≡ true
+  fits : length (placesOf t P) ≤ room
+
+passed : (t P : List ℕ) (room : ℕ) → placesNumber t P room ≡ 0 → Passed t P room
+unfolding placesNumber patternOk
+passed t P room h =
+    let seventeen = ask 17 (leb (length (placesOf t P)) room) 0 in
+    let fourteen = ask 14 (pathsHold t 0 (at.textLength t)) seventeen in
+    let more = ask 16 (leb 1 (length P) && leb (length P) maxPattern) fourteen in
+    let a = unless-passes (readable t) (refused more) (sym (then-is (readable t) more) ∙ h) in
+    let ok = ask-test 15 (leb 1 (length P) && leb (length P) maxPattern) fourteen (a .1) in
+    let b = ask-rest 15 (leb 1 (length P) && leb (length P) maxPattern) fourteen (a .1) in
+    let c = ask-rest 13 (pathsHold t 0 (at.textLength t)) seventeen b in
+    record {
+      pass = a .0;
+      low = leb-true 1 (length P) (and-left (leb 1 (length P)) (leb (length P) maxPattern) ok);
+      high = leb-true (length P) maxPattern (and-right (leb 1 (length P)) (leb (length P) maxPattern) ok);
+      hold = ask-test 13 (pathsHold t 0 (at.textLength t)) seventeen b;
+      fits = leb-true (length (placesOf t P)) room (ask-test 16 (leb (length (placesOf t P)) room) 0 c);
+    }
+
+-- the numbers that the questions can give
+places-one : (t P : List ℕ) (room : ℕ) → OneOf (5 ∷ 6 ∷ 7 ∷ 16 ∷ 14 ∷ 17 ∷ 0 ∷ []) (placesNumber t P room)
+unfolding placesNumber
+places-one t P room =
+    then-one (5 ∷ 6 ∷ 7 ∷ []) (16 ∷ 14 ∷ 17 ∷ 0 ∷ []) (readable t) _ (readable-one t)
+    (asks-one ((16, patternOk P) ∷ (14, pathsHold t 0 (at.textLength t)) ∷ (17, leb (length (placesOf t P)) room) ∷ []))
+
+module _ (κs : Lfts 3) (t P table after : Lent) where
+  -- An answer is the number of all places in the bytes that the tree's paths give, none of which breaks; they fit the table, stand at its
+  -- start, and what lies past them is unchanged; ..
+  pub places-answer : (n : ℕ) → Places κs t P table after (places.Number n)
+      → (ps : List ℕ) × AllPlaces (now P) (textOf (now t)) ps × (n ≡ length ps) × (n ≤ length (now table)) × (now after ≡ ps ++ drop n (now table))
+      × ((p : ℕ) → p < at.textLength (now t) → (q : Path) × (pathOf (now t) p ≡ some q) × (getD (textOf (now t)) p 0 ≡ at.leafByte (now t) (q .leaf)))
+  unfolding placesSays placesLeaves placesOf
+  places-answer n a =
+      let ps = placesIn (now P) (textOf (now t)) in
+      let number = placesNumber (now t) (now P) (length (now table)) in
+      let z : number ≡ 0 = unless-passes number _ (sym (ap (λ (s : Said). s .number) (a .0 .says))) .0 in
+      let e : n ≡ length ps = ap (λ (s : Said). s .value) (a .0 .says) ∙ rw z in
+      let k = passed (now t) (now P) (length (now table)) z in (
+        ps,
+        places-all (now P) (textOf (now t)) (k .low),
+        e,
+        rw e (k .fits),
+        rw e (a .1 ∙ rw z),
+        λ p low.
+            let z : 0 + p ≡ p = omega arith in
+            let w = path-there (now t) (k .pass) p low (rw z at (hold-at (now t) (at.textLength (now t)) 0 p (k .hold) low)) in
+            (w .0, w .1, text-of-path (now t) (readable-facts (now t) (k .pass)) (k .pass) p low (w .0) (w .1)),
+      )
+
+  module _ (n : ℕ) (a : Places κs t P table after (places.Refused n)) where
+    -- the number is the definition's
+    places-says : n ≡ placesNumber (now t) (now P) (length (now table))
+    unfolding placesSays
+    places-says = ap (λ (s : Said). s .number) (a .0 .says) ∙ unless-number (placesNumber (now t) (now P) (length (now table))) _ refl
+
+    -- .. a refusal is 5, 6, 7, 16, 14 or 17, ..
+    pub places-numbers : OneOf (5 ∷ 6 ∷ 7 ∷ 16 ∷ 14 ∷ 17 ∷ []) n
+    places-numbers =
+        not-zero (5 ∷ 6 ∷ 7 ∷ 16 ∷ 14 ∷ 17 ∷ []) n (a .0 .numbered) (rw places-says (places-one (now t) (now P) (length (now table))))
+
+    -- .. and leaves the table unchanged.
+    pub places-unchanged : now after ≡ now table
+    unfolding placesLeaves
+    places-unchanged = a .1 ∙ rw (← places-says, ne-eqb n 0 (λ e. omega (arith, a .0 .numbered)))
+
+-- Any tree that the check accepts, and the one text that fits it.
+module _ (t : Lent) (v : verdict (now t) ≡ 0) where
+  pass : readable (now t) ≡ 0
+  pass = accepted-readable (now t) v
+
+  links : linksOk (now t) ≡ true
+  links = accepted-links (now t) v
+
+  pub accepted-answers : PlacesAnswers t (at.settings (now t)) (textOf (now t))
+  accepted-answers = record {
+    places-of = λ κs P table after r a low high ps e room.
+        let w = patterns.places-written κs t P table after r a pass low high (paths.no-path-breaks (now t) pass links) (rw e at room) in
+        rw e (places-all (now P) (textOf (now t)) low, w .0, w .1);
+  }
+
+  pub accepted-refuses : PlacesRefuses t (at.settings (now t)) (textOf (now t))
+  accepted-refuses = record {
+    places-length = λ κs P table after r a wrong. patterns.places-length κs t P table after r a pass wrong;
+    places-short = λ κs P table after r a low high short.
+        patterns.places-short κs t P table after r a pass low high (paths.no-path-breaks (now t) pass links) short;
+  }

@@ -1,0 +1,100 @@
+-- row(tree, q, buffer): row q of the text, copied.
+use mathlib.Core.List.{List, [], _∷_, _++_}
+use mathlib.Core.Path.{_≡_, ap, _∙_, refl}
+use mathlib.Core.Logic.{_⊎_}
+use Prim.Native.Nat.{ℕ, suc, _+_, _≤_, _<_}
+use native.Mathlib.Omega.{arith}
+use contract.Lifetimes.{Lfts}
+use denote.Ref.{now}
+use lib.ListN.{length, drop}
+use Rattle.text.specs.Text.{stretch}
+use Rattle.text.specs.Rows.{rowOf}
+use Rattle.format.specs.Settings.{Settings}
+use Rattle.format.specs.Layout as at
+use Rattle.format.specs.Fits.{textOf}
+use Rattle.format.specs.Verdict.{verdict}
+use Rattle.format.specs.VerdictLaws.{accepted-readable}
+use Rattle.format.specs.RowSays.{rowMost, RowSays, rowNumber}
+use Rattle.theory_counts.specs.RowsOfText.{row-lets, row-twelve, row-eleven}
+use Rattle.ask_rows.specs.declared.RowCopied.{RowCopied}
+use Rattle.ask_rows.specs.declared.RowCopied.the-variants as rows
+use Rattle.ask_rows.specs.RowAnswers.{saidRow, Numbered as RowNumbered}
+use Rattle.theorems.specs.Promises.{RowAnswers, RowRefuses}
+pub use Rattle.theorems.specs.CallContracts.{Row}
+use Rattle.theorems.specs.PublicFunctions.{row-function}
+use Rattle.theorems.proofs.AcceptedTree.{among-counted, not-counted}
+use Rattle.theorems.proofs.OutsideCall.{Call, Lent, call}
+use Rattle.theorems.proofs.RefusalNumbers.{OneOf}
+use Rattle.theorems.proofs.RowOutcomes.{RowOutcome, Zeros, outcome-copied, row-outcome, row-outcome-leaves, row-outcome-numbers}
+use Rattle.theorems.proofs.RowOutcomes.{free-copied, free-short}
+use Rattle.ask_rows.proofs.row.Met as row-met
+
+abbrev pub row-call : Call
+row-call = call row-function row-met.met (λ 𝓤 H A mem run κs a. (tt, refl))
+
+-- Any lent bytes.
+module _ (κs : Lfts 2) (t : Lent) (q : ℕ) (buffer after : Lent) where
+  outcome-of : (n m : ℕ) → RowSays (now t) q (now buffer) n m (now after) → RowOutcome (now t) q (now buffer) n m (now after)
+  outcome-of n m s = row-outcome (now t) q (now buffer) (verdict (now t)) n m (now after) s
+
+  -- An answer fits, and the bytes past it are unchanged; ..
+  pub row-answer : (m : ℕ) → Row κs t q buffer after (rows.Bytes m) → (m ≤ length (now buffer)) × (drop m (now after) ≡ drop m (now buffer))
+  row-answer m a = outcome-copied (now t) q (now buffer) m (now after) (outcome-of 0 m (a .says))
+
+  -- .. on a tree that the check refuses its bytes are those that the paths give from some place of the text on, and 13 says that the buffer is
+  -- shorter than some such bytes; ..
+  pub row-free : (verdict (now t) ≡ 0 → ⊥) → (m : ℕ) → Row κs t q buffer after (rows.Bytes m)
+      → (p : ℕ) × (p + m ≤ at.textLength (now t)) × (now after ≡ stretch (textOf (now t)) p m ++ drop m (now buffer))
+  row-free refuses m a = free-copied (now t) q (now buffer) (verdict (now t)) 0 m (now after) (a .says) refuses refl
+
+  pub row-free-short : (verdict (now t) ≡ 0 → ⊥) → Row κs t q buffer after (rows.Refused 13)
+      → (p : ℕ) × (len : ℕ) × (p + len ≤ at.textLength (now t)) × (length (now buffer) < len)
+  row-free-short refuses a = free-short (now t) q (now buffer) (verdict (now t)) 13 0 (now after) (a .says) refuses refl
+
+  module _ (n : ℕ) (a : Row κs t q buffer after (rows.Refused n)) where
+    -- .. a refusal is 5, 6, 7, 11, 12, 13 or 14; ..
+    pub row-numbers : OneOf (5 ∷ 6 ∷ 7 ∷ 11 ∷ 12 ∷ 13 ∷ 14 ∷ []) n
+    row-numbers = row-outcome-numbers (now t) q (now buffer) n (now after) (a .numbered) (outcome-of n 0 (a .says))
+
+    -- .. it leaves the buffer unchanged, or, a 14 in copying, zeros at its start, no more than a row can have, and the rest unchanged.
+    pub row-leaves : (now after ≡ now buffer) ⊎ ((n ≡ 14) × Zeros (rowMost (now t) q) (now buffer) (now after))
+    row-leaves = row-outcome-leaves (now t) q (now buffer) n (now after) (a .numbered) (outcome-of n 0 (a .says))
+
+-- which answer says this
+row-is : (r : RowCopied) (v : ℕ) → RowNumbered r → saidRow r .number ≡ 0 → saidRow r .value ≡ v → r ≡ rows.Bytes v
+row-is (rows.Bytes m) v k z e = ap rows.Bytes e
+row-is (rows.Refused q) v k z e = absurd (let y : ⊥ = omega arith in y)
+
+row-no : (r : RowCopied) (n : ℕ) → saidRow r .number ≡ suc n → r ≡ rows.Refused (suc n)
+row-no (rows.Bytes m) n s = absurd (let z : ⊥ = omega arith in z)
+row-no (rows.Refused m) n s = ap rows.Refused s
+
+-- Any tree that the check accepts, and the one text that fits it.
+module _ (t : Lent) (v : verdict (now t) ≡ 0) where
+  abbrev T : List ℕ
+  T = textOf (now t)
+
+  abbrev S : Settings
+  S = at.settings (now t)
+
+  pub accepted-answers : RowAnswers t S T
+  accepted-answers = record {
+    row-of = λ κs q buffer after r a k low high room.
+        let h = a .says .accepted (row-lets (now t) v (among-counted (now t) 10 k) q low high) v room in
+        (row-is r (length (rowOf T q)) (a .numbered) (h .0) (h .1), rw (h .1) at (h .2));
+  }
+
+  -- refused before the walk
+  row-asked : (κs : Lfts 2) (q : ℕ) (buffer after : Lent) (r : RowCopied) (n : ℕ) → Row κs t q buffer after r
+      → rowNumber (now t) q ≡ suc n → (r ≡ rows.Refused (suc n)) × (now after ≡ now buffer)
+  row-asked κs q buffer after r n a e = let h = a .says .asked (rw e (omega arith)) in (row-no r n (h .0 ∙ e), h .2)
+
+  pub accepted-refuses : RowRefuses t S T
+  accepted-refuses = record {
+    row-other = λ κs q buffer after r a other.
+        row-asked κs q buffer after r 10 a (row-eleven (now t) q (accepted-readable (now t) v) (not-counted (now t) v 10 other));
+    row-none = λ κs q buffer after r a k none. row-asked κs q buffer after r 11 a (row-twelve (now t) v (among-counted (now t) 10 k) q none);
+    row-short = λ κs q buffer after r a k low high small.
+        let h = a .says .short (row-lets (now t) v (among-counted (now t) 10 k) q low high) v small in
+        (row-no r 12 (h .0), h .2);
+  }

@@ -1,0 +1,70 @@
+-- Row a read by columns from the tree of a rearranged text is row a of the text: of any tree that the check accepts and of what either builder writes.
+use mathlib.Core.List.{List, _++_}
+use mathlib.Core.Bool.{true}
+use mathlib.Core.Path.{_≡_, refl}
+use Prim.Native.Nat.{ℕ, _≤_, _<_, _*_, _/_}
+use contract.Lifetimes.{Lfts}
+use denote.Ref.{now}
+use lib.ListN.{length, take, drop}
+use Rattle.text.specs.Text.{stretch}
+use Rattle.format.specs.Settings.{Settings}
+use Rattle.format.specs.Layout as at
+use Rattle.format.specs.Fits.{fits}
+use Rattle.build_by_search.specs.BuildAnswer.{given}
+use Rattle.build_by_search.specs.declared.Built.the-variants as built
+use Rattle.build_by_scan.specs.declared.Scanned.the-variants as scanned
+use Rattle.ask_access.specs.declared.Copied.{Copied}
+use Rattle.ask_access.specs.declared.Copied.the-variants as copied
+use Rattle.columns.specs.Columns.{widthOk, columns}
+use Rattle.columns.specs.ColumnLaws.{columns-length, restored}
+use Rattle.columns.proofs.Demands as rearranging
+use Rattle.theorems.specs.Promises.{Answers}
+use Rattle.theorems.proofs.BuildCall.{Build, build-answers}
+use Rattle.theorems.proofs.BuildScannedCall.{BuildScanned, scanned-answers}
+use Rattle.theorems.proofs.CheckCall.{Check, check-answers}
+use Rattle.theorems.proofs.ColumnRowCall.{ByColumns}
+use Rattle.theorems.proofs.ColumnsCall.{ToColumns}
+use Rattle.theorems.proofs.OutsideCall.{Lent}
+
+-- "Row a read by columns from the tree of a rearranged text is row a of the text", end byte included, and then what stood in the buffer: as what is
+-- said of every call on a tree.
+abbrev pub RowsOf : Lent → ℕ → List ℕ → Type 0
+RowsOf t w T =
+    (κs : Lfts 2) (a : ℕ) (buffer after : Lent) (r : Copied) → ByColumns κs t w a buffer after r → a < length T / w → w ≤ length (now buffer)
+    → (r ≡ copied.Bytes w 0) × (now after ≡ stretch T (a * w) w ++ drop w (now buffer))
+
+-- every question is answered from the rearranged text
+module _ (t : Lent) (S : Settings) (w : ℕ) (T : List ℕ) (ok : widthOk w (length T) ≡ true) where
+  rows-of : Answers t S (columns w T) → RowsOf t w T
+  rows-of answers κs a buffer after r c low room =
+      let size = columns-length w T ok in
+      rw (restored w T ok) at (answers .column-row .column-of κs w a buffer after r c (rw size ok) (rw size low) room)
+
+-- Of any tree that the check accepts and that the rearranged text fits.
+pub accepted-rows : (κ : Lfts 1) (t : Lent) → Check κ t 0 → (w : ℕ) (T : List ℕ) → widthOk w (length T) ≡ true → fits (columns w T) (now t) ≡ true
+    → RowsOf t w T
+accepted-rows κ t c w T ok fit = rows-of t (at.settings (now t)) w T ok (check-answers κ t c (columns w T) fit)
+
+-- A text rearranged by a call, and what it wrote, lent to a builder.
+module _ (κ : Lfts 2) (text : Lent) (w : ℕ) (out turned : Lent) (done : ToColumns κ text w out turned 0)
+    (input : Lent) (is : now input ≡ take (length (now text)) (now turned)) where
+  ok : widthOk w (length (now text)) ≡ true
+  ok = rearranging.to-columns κ text w out turned 0 done .passed refl .0
+
+  input-is : now input ≡ columns w (now text)
+  input-is = rearranging.to-columns-input κ text w out turned done (now input) is
+
+  -- Of the tree that build wrote.
+  pub built-rows : (κs : Lfts 3) (leaf arity levels : ℕ) (counted room after : Lent) (size : ℕ)
+      → Build κs input leaf arity levels counted room after (built.Size size) → (t : Lent) → now t ≡ take size (now after) → RowsOf t w (now text)
+  built-rows κs leaf arity levels counted room after size a t e =
+      rows-of t (given leaf arity levels (now counted)) w (now text) ok
+      (rw input-is at (build-answers κs input leaf arity levels counted room after size a t e))
+
+  -- Of the tree that build_scanned wrote.
+  pub scanned-rows : (κs : Lfts 4) (leaf arity levels : ℕ) (counted words table room after : Lent) (size windows : ℕ)
+      → BuildScanned κs input leaf arity levels counted words table room after (scanned.Size size windows)
+      → (t : Lent) → now t ≡ take size (now after) → RowsOf t w (now text)
+  scanned-rows κs leaf arity levels counted words table room after size windows a t e =
+      rows-of t (given leaf arity levels (now counted)) w (now text) ok
+      (rw input-is at (scanned-answers κs input leaf arity levels counted words table room after size windows a t e))

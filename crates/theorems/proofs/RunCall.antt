@@ -1,0 +1,81 @@
+-- run(tree, place): a part of the lent tree that stands in the text from a place on; run_part answers where it lies.
+use mathlib.Core.List.{[], _∷_}
+use mathlib.Core.Path.{_≡_, sym, ap, refl}
+use Prim.Native.Nat.{ℕ, _+_, _≤_}
+use native.Mathlib.Omega.{arith}
+use contract.Lifetimes.{Lfts}
+use denote.Ref.{now}
+use lib.ListN.{length, take, drop}
+use borrow.Author.Tests.{ne-eqb}
+use Rattle.text.specs.declared.TextPlace.{TextPlace}
+use Rattle.format.specs.Layout as at
+use Rattle.format.specs.Fits.{textOf}
+use Rattle.format.specs.Verdict.{verdict}
+use Rattle.format.specs.VerdictLaws.{accepted-readable, accepted-links}
+use Rattle.format.specs.Said.{Said}
+use Rattle.format.specs.ReadSays.{byteSays, runSays}
+use Rattle.theory_paths.specs.Demands as paths
+use Rattle.ask_access.proofs.Demands as access
+use Rattle.ask_access.specs.declared.Answer.the-variants as answer
+use Rattle.ask_access.specs.declared.read_by_header.Ran.{Ran}
+use Rattle.ask_access.specs.declared.read_by_header.Ran.the-variants as ran
+use Rattle.theorems.specs.Promises.{RunAnswers, RunRefuses}
+use Rattle.theorems.specs.PublicFunctions.{run-function, run-part-function}
+use Rattle.theorems.proofs.AcceptedTree.{below, text-size}
+use Rattle.theorems.proofs.ByteCall.{Byte, byte-not-zero, byte-one, byte-reached, byte-ten}
+use Rattle.theorems.proofs.OutsideCall.{Call, Lent, call}
+use Rattle.theorems.proofs.RefusalNumbers.{OneOf, not-zero}
+use Rattle.ask_access.proofs.run.Met as run-met
+use Rattle.ask_access.proofs.run_part.Met as run-part-met
+use Rattle.ask_access.proofs.run_part.Reads as run-part-reads
+-- what the contract of `run` allows: `Run κs tree place part`
+pub use Rattle.theorems.specs.CallContracts.{Run}
+
+-- what the contract of `run_part` allows
+abbrev pub RunPart : (κs : Lfts 1) → Lent → TextPlace → Ran → Type 0
+RunPart κs t p r = run-part-reads.Post κs (t, (p, tt)) r (t, (p, tt))
+
+abbrev pub run-call : Call
+run-call = call run-function run-met.met (λ 𝓤 H A mem run κs a. (tt, refl))
+
+abbrev pub run-part-call : Call
+run-part-call = call run-part-function run-part-met.met (λ 𝓤 H A mem run κs a. (tt, refl))
+
+-- Any lent bytes; κ is byte's lifetime, κs run's.
+module _ (κ κs : Lfts 1) (t : Lent) (p : TextPlace) (r : Lent) where
+  -- A part of the lent tree, of one byte or more, where byte answers; ..
+  pub run-answer : (v e : ℕ) → Byte κ t p (answer.Byte v e) → Run κs t p r
+      → (from : ℕ) × (size : ℕ) × (1 ≤ size) × (from + size ≤ length (now t))
+      × (r .ptr ≡ (t .ptr .0, t .ptr .1 + from)) × (now r ≡ take size (drop from (now t)))
+  run-answer v e b a =
+      let w = byte-reached (now t) (p .0) (sym (ap (λ (s : Said). s .number) b)) in
+      let k = paths.run-by-path (now t) (w .pass) (p .0) (w .path) (w .path-is) (w .low) in
+      (runSays (now t) (p .0) .0, runSays (now t) (p .0) .1, k .some-byte, k .in-tree, a .1, a .0)
+
+  -- .. "Refused, it is the empty part, and the number is byte's for that place."
+  pub run-empty : (n : ℕ) → Byte κ t p (answer.Refused n) → Run κs t p r → now r ≡ []
+  unfolding runSays
+  run-empty n b a =
+      let e : byteSays (now t) (p .0) .number ≡ n = sym (ap (λ (s : Said). s .number) b) in
+      let z = ne-eqb (byteSays (now t) (p .0) .number) 0 (λ x. omega (arith, byte-not-zero κ t p n b)) in
+      rw z at (a .0)
+
+-- A refusal of `run_part` is 5, 6, 7, 10 or 14, as byte's is.
+pub run-part-numbers : (κs : Lfts 1) (t : Lent) (p : TextPlace) (n : ℕ) → RunPart κs t p (ran.Refused n) → OneOf (5 ∷ 6 ∷ 7 ∷ 10 ∷ 14 ∷ []) n
+run-part-numbers κs t p n a = not-zero (5 ∷ 6 ∷ 7 ∷ 10 ∷ 14 ∷ []) n (a .numbered) (rw (a .number-is) (byte-one (now t) (p .0)))
+
+-- Any tree that the check accepts, and the one text that fits it.
+module _ (t : Lent) (v : verdict (now t) ≡ 0) where
+  pub accepted-answers : RunAnswers t (at.settings (now t)) (textOf (now t))
+  accepted-answers = record {
+    run-of = λ κs p r a h.
+        let w = access.run-stretches t (accepted-readable (now t) v) (accepted-links (now t) v) κs p r (below (now t) v h) a in
+        (w .from, w .size, w .some-byte, w .in-tree, w .place, w .of-tree, omega (arith, w .in-text, text-size (now t) v), w .of-text);
+  }
+
+  past : (κs : Lfts 1) (p : TextPlace) (r : Lent) → Run κs t p r → length (textOf (now t)) ≤ p .0 → now r ≡ []
+  unfolding runSays
+  past κs p r a h = rw (byte-ten (now t) v (p .0) h) at (a .0)
+
+  pub accepted-refuses : RunRefuses t (at.settings (now t)) (textOf (now t))
+  accepted-refuses = record { run-past = past }

@@ -1,0 +1,149 @@
+-- span(tree, place, length, buffer): bytes copied from a place on, with the blocks that a short span enters.
+use mathlib.Core.List.{List, [], _∷_, _++_}
+use mathlib.Core.Bool.{true, cond}
+use mathlib.Core.Path.{_≡_, sym, _∙_, refl}
+use Prim.Native.Nat.{ℕ, suc, _+_, _≤_, _<_}
+use native.Mathlib.Omega.{arith}
+use contract.Lifetimes.{Lfts}
+use denote.Ref.{now}
+use lib.ListN.{length, drop, replicate}
+use lib.Dec.{eqb, leb}
+use lib.Seq.{drop-at}
+use borrow.Author.Tests.{eq-eqb, ne-eqb, leb-true, le-leb, lt-leb}
+use Rattle.text.specs.declared.TextPlace.{TextPlace}
+use Rattle.format.specs.Layout as at
+use Rattle.format.specs.Fits.{textOf}
+use Rattle.format.specs.Verdict.{readable, verdict, ask}
+use Rattle.format.specs.VerdictLaws.{accepted-readable}
+use Rattle.format.specs.Said.{refused}
+use Rattle.format.specs.ReadSays.{spanBlocks, spanReached, leavesSpan, spanBytes, spanNumber, spanSays, spanLeaves, asksSpan}
+use Rattle.format.specs.LayoutLaws.{ask-test, ask-rest}
+use Rattle.format.specs.SaidLaws.{unless-passes, then-is}
+use Rattle.theory_edges.specs.Demands as margins
+use Rattle.ask_access.proofs.Demands as access
+use Rattle.ask_access.specs.declared.Copied.{Copied}
+use Rattle.ask_access.specs.declared.Copied.the-variants as copied
+use Rattle.theorems.specs.Promises.{BlocksOfSpan, SpanAnswers, SpanRefuses}
+use Rattle.theorems.specs.PublicFunctions.{span-function}
+use Rattle.theorems.proofs.AcceptedTree.{text-size}
+use Rattle.theorems.proofs.BlocksEntered.{blocks-of-span}
+use Rattle.theorems.proofs.OutsideCall.{Call, Lent, call}
+use Rattle.theorems.proofs.RefusalNumbers.{OneOf, asks-one, not-zero, readable-one, says-answer, says-refused, then-one}
+use Rattle.ask_access.proofs.span.Met as span-met
+-- what the contract allows, where the buffer is left as `after`: `Span κs tree place length buffer after r`
+pub use Rattle.theorems.specs.CallContracts.{Span}
+
+abbrev pub span-call : Call
+span-call = call span-function span-met.met (λ 𝓤 H A mem run κs a. (tt, refl))
+
+-- Any lent bytes.
+
+-- the numbers that its questions can give
+span-one : (t : List ℕ) (p len room : ℕ) → OneOf (5 ∷ 6 ∷ 7 ∷ 10 ∷ 13 ∷ 14 ∷ 0 ∷ []) (spanNumber t p len room)
+unfolding spanNumber asksSpan
+span-one t p len room =
+    then-one (5 ∷ 6 ∷ 7 ∷ []) (10 ∷ 13 ∷ 14 ∷ 0 ∷ []) (readable t) _ (readable-one t)
+    (asks-one ((10, leb (p + len) (at.textLength t)) ∷ (13, leb len room) ∷ (14, spanReached t p len) ∷ []))
+
+-- it answers only where its bytes fit the buffer and are reached
+record Spanned (t : List ℕ) (p len room : ℕ) : Type 0 where
+  pass : readable t ≡ 0
+  fits : len ≤ room
+  reached : spanReached t p len ≡ true
+
+span-passes : (t : List ℕ) (p len room : ℕ) → spanNumber t p len room ≡ 0 → Spanned t p len room
+unfolding spanNumber asksSpan
+span-passes t p len room h =
+    let fourteen = ask 14 (spanReached t p len) 0 in
+    let thirteen = ask 13 (leb len room) fourteen in
+    let more = ask 10 (leb (p + len) (at.textLength t)) thirteen in
+    let a = unless-passes (readable t) (refused more) (sym (then-is (readable t) more) ∙ h) in
+    let after10 = ask-rest 9 (leb (p + len) (at.textLength t)) thirteen (a .1) in
+    record {
+      pass = a .0;
+      fits = leb-true len room (ask-test 12 (leb len room) fourteen after10);
+      reached = ask-test 13 (spanReached t p len) 0 (ask-rest 12 (leb len room) fourteen after10);
+    }
+
+module _ (κs : Lfts 2) (t : Lent) (p : TextPlace) (len : ℕ) (buffer after : Lent) where
+  -- An answer is the length asked for, which fits, with the blocks that it enters, and the bytes past it are unchanged; ..
+  pub span-answer : (m e : ℕ) → Span κs t p len buffer after (copied.Bytes m e)
+      → (m ≡ len) × BlocksOfSpan (now t) (at.settings (now t) .levels) (p .0) len e × (len ≤ length (now buffer))
+      × (drop len (now after) ≡ drop len (now buffer))
+  unfolding spanSays spanLeaves leavesSpan
+  span-answer m e a =
+      let s = says-answer m e _ len _ (a .0 .says) in
+      let bytes = spanBytes (now t) (p .0) len in
+      let number = spanNumber (now t) (p .0) len (length (now buffer)) in
+      let left : now after ≡ bytes ++ drop len (now buffer) = rw (eq-eqb number 0 (s .0)) at (a .1) in
+      let w = span-passes (now t) (p .0) len (length (now buffer)) (s .0) in (
+        s .1,
+        rw (s .2) (blocks-of-span (now t) (w .pass) (p .0) len (w .reached)),
+        w .fits,
+        rw left (drop-at bytes (drop len (now buffer)) len (margins.span-length (now t) (w .pass) (p .0) len (w .reached))),
+      )
+
+  module _ (n : ℕ) (a : Span κs t p len buffer after (copied.Refused n)) where
+    -- the number is the definition's
+    span-says : n ≡ spanNumber (now t) (p .0) len (length (now buffer))
+    unfolding spanSays
+    span-says = says-refused n _ len _ (a .0 .numbered) (a .0 .says)
+
+    -- .. a refusal is 5, 6, 7, 10, 13 or 14, ..
+    pub span-numbers : OneOf (5 ∷ 6 ∷ 7 ∷ 10 ∷ 13 ∷ 14 ∷ []) n
+    span-numbers =
+        not-zero (5 ∷ 6 ∷ 7 ∷ 10 ∷ 13 ∷ 14 ∷ []) n (a .0 .numbered) (rw span-says (span-one (now t) (p .0) len (length (now buffer))))
+
+    -- what is left in the buffer, by the number
+    span-left : now after ≡ cond (eqb n 14) (replicate len 0 ++ drop len (now buffer)) (now buffer)
+    unfolding spanLeaves leavesSpan
+    span-left = a .1 ∙ rw (← span-says, ne-eqb n 0 (λ e. omega (arith, a .0 .numbered)))
+
+    -- .. 14 leaves zeros in the part asked for, ..
+    pub span-zeros : n ≡ 14 → now after ≡ replicate len 0 ++ drop len (now buffer)
+    span-zeros e = span-left ∙ rw (eq-eqb n 14 e)
+
+    -- .. and any other leaves the buffer unchanged.
+    pub span-unchanged : (n ≡ 14 → ⊥) → now after ≡ now buffer
+    span-unchanged e = span-left ∙ rw (ne-eqb n 14 e)
+
+-- Any tree that the check accepts, and the one text that fits it.
+module _ (t : Lent) (v : verdict (now t) ≡ 0) where
+  abbrev T : List ℕ
+  T = textOf (now t)
+
+  pass : readable (now t) ≡ 0
+  pass = accepted-readable (now t) v
+
+  size : length T ≡ at.textLength (now t)
+  size = text-size (now t) v
+
+  pub accepted-answers : SpanAnswers t (at.settings (now t)) T
+  accepted-answers = record {
+    span-of = λ κs p len buffer after r a low room.
+        let in-text : p .0 + len ≤ at.textLength (now t) = omega (arith, size) in
+        let w = access.span-copies t v κs p len buffer after r in-text room a in
+        (spanBlocks (now t) (p .0) len, blocks-of-span (now t) pass (p .0) len (margins.span-reached (now t) v (p .0) len in-text), w .0, w .2);
+  }
+
+  -- a refused span answers its number, and leaves the buffer
+  refuses : (κs : Lfts 2) (p : TextPlace) (len : ℕ) (buffer after : Lent) (r : Copied) (n : ℕ) → Span κs t p len buffer after r
+      → spanNumber (now t) (p .0) len (length (now buffer)) ≡ suc n → (suc n ≡ 14 → ⊥) → (r ≡ copied.Refused (suc n)) × (now after ≡ now buffer)
+  unfolding spanSays spanLeaves leavesSpan
+  refuses κs p len buffer after r n a e other =
+      (access.copied-no r n (a .0 .says ∙ rw e), a .1 ∙ rw (e, ne-eqb (suc n) 0 (λ z. omega arith), ne-eqb (suc n) 14 other))
+
+  span-ten : (p len room : ℕ) → length T < p + len → spanNumber (now t) p len room ≡ 10
+  unfolding spanNumber asksSpan
+  span-ten p len room h = rw (pass, lt-leb (p + len) (at.textLength (now t)) (omega (arith, size)))
+
+  span-thirteen : (p len room : ℕ) → p + len ≤ length T → room < len → spanNumber (now t) p len room ≡ 13
+  unfolding spanNumber asksSpan
+  span-thirteen p len room h short = rw (pass, le-leb (p + len) (at.textLength (now t)) (omega (arith, size)), lt-leb len room short)
+
+  pub accepted-refuses : SpanRefuses t (at.settings (now t)) T
+  accepted-refuses = record {
+    span-past = λ κs p len buffer after r a h. refuses κs p len buffer after r 9 a (span-ten (p .0) len (length (now buffer)) h) (λ z. omega arith);
+    span-short = λ κs p len buffer after r a h small.
+        refuses κs p len buffer after r 12 a (span-thirteen (p .0) len (length (now buffer)) h small) (λ z. omega arith);
+  }

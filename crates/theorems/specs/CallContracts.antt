@@ -1,0 +1,54 @@
+-- The contracts of the calls that build, check or read a tree, each as a relation under the call's name: `Byte κs tree place r` says that the contract of byte
+-- allows the answer r to a call with these arguments. It is the `Post` that the prover generates from the contract. A buffer that the call writes is
+-- given twice, as it was and as it is `after` the call; κs are the lifetimes of the borrowed arguments.
+use mathlib.Core.List.{List}
+use Prim.Native.Nat.{ℕ}
+use contract.Lifetimes.{Lfts}
+use denote.Ref.{RefT}
+use Rattle.ask_rank.proofs.count.Reads as count-reads
+use Rattle.ask_select.proofs.find.Reads as find-reads
+use Rattle.ask_rows.proofs.row.Reads as row-reads
+use Rattle.build_by_scan.proofs.build_scanned.Reads as scanned-reads
+-- the types of the answers
+pub use Rattle.text.specs.declared.TextPlace.{TextPlace}
+pub use Rattle.ask_access.specs.declared.Answer.{Answer}
+pub use Rattle.ask_access.specs.declared.Copied.{Copied}
+pub use Rattle.ask_rank.specs.declared.Counted.{Counted}
+pub use Rattle.ask_select.specs.declared.Found.{Found}
+pub use Rattle.ask_rows.specs.declared.RowCopied.{RowCopied}
+pub use Rattle.ask_patterns.specs.declared.PlacesWritten.{PlacesWritten}
+pub use Rattle.query_row_filter.specs.declared.NextRowAnswer.{NextRowAnswer}
+pub use Rattle.build_by_search.specs.declared.Built.{Built}
+pub use Rattle.build_by_scan.specs.declared.Scanned.{Scanned}
+-- `Check κs tree r`, `Build κs text leaf arity levels counted out after r`
+pub use Rattle.tree.proofs.Demands.{Checked as Check, Answer as Build}
+-- `Byte κs tree place r`, `Run κs tree place part`, `Span κs tree place length buffer after r`
+pub use Rattle.ask_access.proofs.Demands.{Asked as Byte, Run, Span}
+-- `Places κs tree pattern table after r`
+pub use Rattle.ask_patterns.proofs.Demands.{Places}
+-- `NextMatch κs tree ranges mark r`
+pub use Rattle.ask_worn_keys.proofs.Demands.{NextMatch}
+-- `NextRowWithPrefix κs tree prefix mark r`
+pub use Rattle.query_prefix.proofs.Demands.{NextRowWithPrefix}
+-- `ByColumns κs tree width a buffer after r`
+pub use Rattle.ask_columns.proofs.Demands.{ByColumns}
+-- `Digest κs tree out after r`
+pub use Rattle.query_digest.proofs.Demands.{Digest}
+
+-- borrowed bytes
+abbrev pub Lent : Type 0
+Lent = RefT (List ℕ)
+
+abbrev pub Count : (κs : Lfts 1) → Lent → (byte i : ℕ) → Counted → Type 0
+Count κs t byte i r = count-reads.Post κs (t, (byte, (i, tt))) r (t, (byte, (i, tt)))
+
+abbrev pub Find : (κs : Lfts 1) → Lent → (byte j : ℕ) → Found → Type 0
+Find κs t byte j r = find-reads.Post κs (t, (byte, (j, tt))) r (t, (byte, (j, tt)))
+
+abbrev pub Row : (κs : Lfts 2) → Lent → (q : ℕ) → (buffer after : Lent) → RowCopied → Type 0
+Row κs t q buffer after r = row-reads.Post κs (t, (q, (buffer, tt))) r (t, (q, (after, tt)))
+
+-- the table `words` is left as `table`, the buffer `out` as `after`
+abbrev pub BuildScanned : (κs : Lfts 4) (text : Lent) (leaf arity levels : ℕ) (counted words table out after : Lent) → Scanned → Type 0
+BuildScanned κs text leaf arity levels counted words table out after r =
+    scanned-reads.Post κs (text, (leaf, (arity, (levels, (counted, (words, (out, tt))))))) r (text, (leaf, (arity, (levels, (counted, (table, (after, tt)))))))

@@ -1,0 +1,3 @@
+pub mod PublicFunctions
+pub mod CallContracts
+pub mod Promises

@@ -1,0 +1,322 @@
+-- What is promised of trees: statements in the order of docs/FORMAT.md, without proofs. The theorems of these types are `any-tree`, `built-tree` and
+-- `scanned-tree` of proofs/Demands.antt, and each is named below beside its type. A call is a relation (`CallContracts`): `Byte κs t p r` says that the
+-- contract of byte allows the answer r to the tree t and the place p. `now x` are the bytes that x holds.
+use mathlib.Core.List.{List, [], _++_}
+use mathlib.Core.Option.{some}
+use mathlib.Core.Bool.{true, false, cond}
+use mathlib.Core.Path.{_≡_}
+use mathlib.Core.Logic.{_↔_}
+use Prim.Native.Nat.{ℕ, _+_, _-_, _≤_, _<_, _*_, _/_}
+use contract.Lifetimes.{Lfts}
+use denote.Ref.{now}
+use lib.ListN.{length, getD, take, drop}
+use lib.Dec.{eqb}
+use Rattle.text.specs.Text.{stretch, countIn, placeOf}
+use Rattle.text.specs.Rows.{rowOf, rowsOf}
+use Rattle.format.specs.Settings.{Settings, lengthOk, sizesOk, countedOk}
+use Rattle.format.specs.Layout as at
+use Rattle.format.specs.Path.{Path, pathOf}
+use Rattle.format.specs.Fits.{fits}
+use Rattle.format.specs.Blocks.{treeOf}
+use Rattle.format.specs.Short.{Short, shortOf}
+use Rattle.format.specs.ReadSaysLaws.{ShortSpan}
+use Rattle.theory_paths.specs.Visits.{pointers}
+use Rattle.theory_accepted.specs.AcceptedTrees.{StandsFor}
+use Rattle.theory_machine.specs.Ends.{Function, Ends}
+use Rattle.theory_machine.specs.OutsideCalls.{AsksNothing, Each}
+use Rattle.row_filter.specs.SelectedRows.{outcomeAt}
+use Rattle.keys.specs.Keys.{rangesOk}
+use Rattle.keys.specs.Matches.{nextMatch, shownFor}
+use Rattle.prefix_match.specs.PrefixRows.{nextWithPrefix}
+use Rattle.columns.specs.Columns.{widthOk, uncolumns}
+use Rattle.sha256.specs.Sha256.{sha256}
+use Rattle.build_by_search.specs.BuildAnswer.{given}
+use Rattle.build_by_scan.specs.ScannedSays.{windowsOf}
+use Rattle.ask_patterns.specs.Places.{maxPattern, placesIn, patternOk}
+use Rattle.ask_patterns.specs.PlacesLaws.{AllPlaces}
+use Rattle.ask_access.specs.declared.Answer.the-variants as answer
+use Rattle.ask_access.specs.declared.Copied.the-variants as copied
+use Rattle.ask_rank.specs.declared.Counted.the-variants as counted
+use Rattle.ask_select.specs.declared.Found.the-variants as found
+use Rattle.ask_rows.specs.declared.RowCopied.the-variants as rows
+use Rattle.ask_patterns.specs.declared.PlacesWritten.the-variants as places
+use Rattle.query_row_filter.specs.declared.NextRowAnswer.the-variants as next
+use Rattle.build_by_search.specs.declared.Built.the-variants as built
+use Rattle.build_by_scan.specs.declared.Scanned.the-variants as scanned
+use Rattle.abi.proofs.Demands.{calls as exported}
+use Rattle.list_lines.proofs.Demands.{calls as listing}
+use Rattle.term.proofs.Demands.{calls as licence}
+use Rattle.theorems.specs.PublicFunctions.{functions, Every}
+use Rattle.theorems.specs.CallContracts.{Lent, TextPlace, Answer, Copied, Counted, Found, RowCopied, PlacesWritten, NextRowAnswer, Built}
+use Rattle.theorems.specs.CallContracts.{Check, Build, BuildScanned, Byte, Run, Span, Count, Find, Row, Places, Digest, NextMatch}
+use Rattle.theorems.specs.CallContracts.{NextRowWithPrefix, ByColumns}
+
+-- docs/FORMAT.md, "Settings": the byte is one of the counted bytes.
+abbrev pub Among : ℕ → List ℕ → Type 0
+Among byte counted = (i : ℕ) × (i < length counted) × (getD counted i 0 ≡ byte)
+
+-- docs/FORMAT.md, "The path of a place": e is the length of the path of place p, in a tree of H levels.
+pub record LengthOfPath (t : List ℕ) (H p e : ℕ) : Type 0 where
+  -- The path of p,
+  pub path : Path
+  -- which does not break,
+  pub path-is : pathOf t p ≡ some path
+  -- names e blocks:
+  pub length-is : e ≡ length (path .visits)
+  -- a block for each level, and one more for each pointer followed,
+  pub each-level : e ≡ H + pointers t (path .visits)
+  -- at most 2H - 1.
+  pub short : e ≤ 2 * H - 1
+
+-- docs/FORMAT.md, "The walk of a short span": e is the number of blocks that the span of len bytes from p enters, in a tree of H levels.
+pub record BlocksOfSpan (t : List ℕ) (H p len e : ℕ) : Type 0 where
+  -- A short span enters the blocks of its walk, at least one.
+  pub walked : ShortSpan t len → (q : Short) × (shortOf t p len ≡ some q) × (e ≡ length (q .visits)) × (1 ≤ e)
+  -- Any other span enters none.
+  pub other : (ShortSpan t len → ⊥) → e ≡ 0
+  -- At most 2H.
+  pub most : e ≤ 2 * H
+
+-- docs/FORMAT.md, "What can be asked": the questions to a tree t with the settings S, answered from a text T.
+module _ (t : Lent) (S : Settings) (T : List ℕ) where
+  -- docs/FORMAT.md, "Byte"
+  pub record ByteAnswers : Type 0 where
+    -- A place of the text: its byte, with the length of its path.
+    pub byte-of : (κs : Lfts 1) (p : TextPlace) (r : Answer) → Byte κs t p r → p .0 < length T
+        → (e : ℕ) × LengthOfPath (now t) (S .levels) (p .0) e × (r ≡ answer.Byte (getD T (p .0) 0) e)
+
+  pub record ByteRefuses : Type 0 where
+    -- A place past the text: 10.
+    pub byte-past : (κs : Lfts 1) (p : TextPlace) (r : Answer) → Byte κs t p r → length T ≤ p .0 → r ≡ answer.Refused 10
+
+  -- docs/FORMAT.md, "Run"
+  pub record RunAnswers : Type 0 where
+    -- A place of the text: a part of the tree's own bytes, at least one byte, equal to the text's bytes from the place on.
+    pub run-of : (κs : Lfts 1) (p : TextPlace) (r : Lent) → Run κs t p r → p .0 < length T
+        → (from : ℕ) × (size : ℕ) × (1 ≤ size) × (from + size ≤ length (now t)) × (r .ptr ≡ (t .ptr .0, t .ptr .1 + from))
+        × (now r ≡ take size (drop from (now t))) × (p .0 + size ≤ length T) × (now r ≡ stretch T (p .0) size)
+
+  pub record RunRefuses : Type 0 where
+    -- A place past the text: no bytes.
+    pub run-past : (κs : Lfts 1) (p : TextPlace) (r : Lent) → Run κs t p r → length T ≤ p .0 → now r ≡ []
+
+  -- docs/FORMAT.md, "Span"
+  pub record SpanAnswers : Type 0 where
+    -- A span inside the text, which fits the buffer: its bytes at the buffer's start, the rest of the buffer unchanged, with the blocks entered.
+    pub span-of : (κs : Lfts 2) (p : TextPlace) (len : ℕ) (buffer after : Lent) (r : Copied) → Span κs t p len buffer after r
+        → p .0 + len ≤ length T → len ≤ length (now buffer)
+        → (e : ℕ) × BlocksOfSpan (now t) (S .levels) (p .0) len e × (r ≡ copied.Bytes len e) × (now after ≡ stretch T (p .0) len ++ drop len (now buffer))
+
+  pub record SpanRefuses : Type 0 where
+    -- Past the text: 10, and the buffer is unchanged.
+    pub span-past : (κs : Lfts 2) (p : TextPlace) (len : ℕ) (buffer after : Lent) (r : Copied) → Span κs t p len buffer after r
+        → length T < p .0 + len → (r ≡ copied.Refused 10) × (now after ≡ now buffer)
+    -- A buffer that is too short: 13, and it is unchanged.
+    pub span-short : (κs : Lfts 2) (p : TextPlace) (len : ℕ) (buffer after : Lent) (r : Copied) → Span κs t p len buffer after r
+        → p .0 + len ≤ length T → length (now buffer) < len → (r ≡ copied.Refused 13) × (now after ≡ now buffer)
+
+  -- docs/FORMAT.md, "Count"
+  pub record CountAnswers : Type 0 where
+    -- A counted byte: how often it occurs in the first i bytes, with the length of the path of place i - 1.
+    pub count-of : (κs : Lfts 1) (byte i : ℕ) (r : Counted) → Count κs t byte i r → Among byte (S .counted) → 1 ≤ i → i ≤ length T
+        → (e : ℕ) × LengthOfPath (now t) (S .levels) (i - 1) e × (r ≡ counted.Times (countIn byte (take i T)) e)
+    -- In 0 bytes: 0, with no block entered.
+    pub count-none : (κs : Lfts 1) (byte : ℕ) (r : Counted) → Count κs t byte 0 r → Among byte (S .counted) → r ≡ counted.Times 0 0
+
+  pub record CountRefuses : Type 0 where
+    -- More bytes than the text has: 10.
+    pub count-past : (κs : Lfts 1) (byte i : ℕ) (r : Counted) → Count κs t byte i r → length T < i → r ≡ counted.Refused 10
+    -- A byte that is not counted: 11.
+    pub count-other : (κs : Lfts 1) (byte i : ℕ) (r : Counted) → Count κs t byte i r → i ≤ length T → (Among byte (S .counted) → ⊥)
+        → r ≡ counted.Refused 11
+
+  -- docs/FORMAT.md, "Find"
+  pub record FindAnswers : Type 0 where
+    -- A counted byte that occurs j times or more: the place of its j-th occurrence, with the length of that place's path.
+    pub find-of : (κs : Lfts 1) (byte j : ℕ) (r : Found) → Find κs t byte j r → Among byte (S .counted) → 1 ≤ j → j ≤ countIn byte T
+        → (e : ℕ) × LengthOfPath (now t) (S .levels) (placeOf byte j T) e × (r ≡ found.At (record { 0 = placeOf byte j T }) e)
+
+  pub record FindRefuses : Type 0 where
+    -- A byte that is not counted: 11.
+    pub find-other : (κs : Lfts 1) (byte j : ℕ) (r : Found) → Find κs t byte j r → (Among byte (S .counted) → ⊥) → r ≡ found.Refused 11
+    -- No j-th occurrence: 12.
+    pub find-none : (κs : Lfts 1) (byte j : ℕ) (r : Found) → Find κs t byte j r → Among byte (S .counted) → (1 ≤ j → j ≤ countIn byte T → ⊥)
+        → r ≡ found.Refused 12
+
+  -- docs/FORMAT.md, "Row"
+  pub record RowAnswers : Type 0 where
+    -- A row of the text, which fits the buffer: its bytes at the buffer's start, the rest of the buffer unchanged.
+    pub row-of : (κs : Lfts 2) (q : ℕ) (buffer after : Lent) (r : RowCopied) → Row κs t q buffer after r
+        → Among 10 (S .counted) → 1 ≤ q → q ≤ length (rowsOf T) → length (rowOf T q) ≤ length (now buffer)
+        → (r ≡ rows.Bytes (length (rowOf T q))) × (now after ≡ rowOf T q ++ drop (length (rowOf T q)) (now buffer))
+
+  pub record RowRefuses : Type 0 where
+    -- Byte 10 is not counted: 11, and the buffer is unchanged.
+    pub row-other : (κs : Lfts 2) (q : ℕ) (buffer after : Lent) (r : RowCopied) → Row κs t q buffer after r
+        → (Among 10 (S .counted) → ⊥) → (r ≡ rows.Refused 11) × (now after ≡ now buffer)
+    -- No row of this number: 12, and the buffer is unchanged.
+    pub row-none : (κs : Lfts 2) (q : ℕ) (buffer after : Lent) (r : RowCopied) → Row κs t q buffer after r
+        → Among 10 (S .counted) → (1 ≤ q → q ≤ length (rowsOf T) → ⊥) → (r ≡ rows.Refused 12) × (now after ≡ now buffer)
+    -- A buffer that is too short: 13, and it is unchanged.
+    pub row-short : (κs : Lfts 2) (q : ℕ) (buffer after : Lent) (r : RowCopied) → Row κs t q buffer after r → Among 10 (S .counted)
+        → 1 ≤ q → q ≤ length (rowsOf T) → length (now buffer) < length (rowOf T q) → (r ≡ rows.Refused 13) × (now after ≡ now buffer)
+
+  -- docs/FORMAT.md, "Places"
+  pub record PlacesAnswers : Type 0 where
+    -- A pattern of 1 to 256 bytes, whose places fit the table: all its places, rising, each once, at the table's start, with their number.
+    pub places-of : (κs : Lfts 3) (P table after : Lent) (r : PlacesWritten) → Places κs t P table after r
+        → 1 ≤ length (now P) → length (now P) ≤ maxPattern → (ps : List ℕ) → ps ≡ placesIn (now P) T → length ps ≤ length (now table)
+        → AllPlaces (now P) T ps × (r ≡ places.Number (length ps)) × (now after ≡ ps ++ drop (length ps) (now table))
+
+  pub record PlacesRefuses : Type 0 where
+    -- A pattern of another length: 16, and the table is unchanged.
+    pub places-length : (κs : Lfts 3) (P table after : Lent) (r : PlacesWritten) → Places κs t P table after r
+        → (1 ≤ length (now P) → length (now P) ≤ maxPattern → ⊥) → (r ≡ places.Refused 16) × (now after ≡ now table)
+    -- A table that is too short: 17, and it is unchanged.
+    pub places-short : (κs : Lfts 3) (P table after : Lent) (r : PlacesWritten) → Places κs t P table after r → 1 ≤ length (now P)
+        → length (now P) ≤ maxPattern → length (now table) < length (placesIn (now P) T) → (r ≡ places.Refused 17) × (now after ≡ now table)
+
+  -- docs/FORMAT.md, "Digest"
+  pub record DigestAnswers : Type 0 where
+    -- The text's SHA-256, in the first 32 bytes of the buffer.
+    pub digest-of : (κs : Lfts 2) (out after : Lent) (r : ℕ) → Digest κs t out after r → 32 ≤ length (now out)
+        → (r ≡ 0) × (now after ≡ sha256 T ++ drop 32 (now out))
+
+  pub record DigestRefuses : Type 0 where
+    -- A buffer that is too short: 13, and it is unchanged.
+    pub digest-short : (κs : Lfts 2) (out after : Lent) (r : ℕ) → Digest κs t out after r → length (now out) < 32 → (r ≡ 13) × (now after ≡ now out)
+
+  -- docs/FORMAT.md, "Keys"
+  pub record MatchAnswers : Type 0 where
+    -- The next row after the mark that matches the ranges; if there is none, the mark goes to the number of rows, or stays if it is above.
+    pub match-of : (κs : Lfts 2) (ranges : Lent) (mark : ℕ) (r : NextRowAnswer) → NextMatch κs t ranges mark r
+        → rangesOk (now ranges) ≡ true → Among 10 (S .counted)
+        → r ≡ cond (eqb (nextMatch (now ranges) T mark) 0) (next.Nothing (shownFor (now ranges) T mark .mark)) (next.Row (nextMatch (now ranges) T mark))
+
+  pub record MatchRefuses : Type 0 where
+    -- Ranges that are not ranges of 1 to 10 cuts: 19.
+    pub match-ranges : (κs : Lfts 2) (ranges : Lent) (mark : ℕ) (r : NextRowAnswer) → NextMatch κs t ranges mark r → rangesOk (now ranges) ≡ false
+        → r ≡ next.Refused 19
+    -- Byte 10 is not counted: 11.
+    pub match-other : (κs : Lfts 2) (ranges : Lent) (mark : ℕ) (r : NextRowAnswer) → NextMatch κs t ranges mark r → rangesOk (now ranges) ≡ true
+        → (Among 10 (S .counted) → ⊥) → r ≡ next.Refused 11
+
+  -- docs/FORMAT.md, "Rows by their first bytes"
+  pub record PrefixAnswers : Type 0 where
+    -- The next row after the mark that starts with the prefix; if there is none, the mark goes to the number of rows, or stays if it is above.
+    pub prefix-of : (κs : Lfts 2) (prefix : Lent) (mark : ℕ) (r : NextRowAnswer) → NextRowWithPrefix κs t prefix mark r
+        → patternOk (now prefix) ≡ true → Among 10 (S .counted)
+        → r ≡ cond (eqb (nextWithPrefix (now prefix) (rowsOf T) mark) 0)
+        (next.Nothing (outcomeAt (nextWithPrefix (now prefix) (rowsOf T) mark) (length (rowsOf T)) mark .mark))
+        (next.Row (nextWithPrefix (now prefix) (rowsOf T) mark))
+
+  pub record PrefixRefuses : Type 0 where
+    -- A prefix of no bytes or of more than 256: 16.
+    pub prefix-length : (κs : Lfts 2) (prefix : Lent) (mark : ℕ) (r : NextRowAnswer) → NextRowWithPrefix κs t prefix mark r
+        → patternOk (now prefix) ≡ false → r ≡ next.Refused 16
+    -- Byte 10 is not counted: 11.
+    pub prefix-other : (κs : Lfts 2) (prefix : Lent) (mark : ℕ) (r : NextRowAnswer) → NextRowWithPrefix κs t prefix mark r → patternOk (now prefix) ≡ true
+        → (Among 10 (S .counted) → ⊥) → r ≡ next.Refused 11
+
+  -- docs/FORMAT.md, "Columns before rows"
+  pub record ColumnAnswers : Type 0 where
+    -- T is a text by columns: row a of that text, all w bytes, at the buffer's start, the rest of the buffer unchanged.
+    pub column-of : (κs : Lfts 2) (w a : ℕ) (buffer after : Lent) (r : Copied) → ByColumns κs t w a buffer after r
+        → widthOk w (length T) ≡ true → a < length T / w → w ≤ length (now buffer)
+        → (r ≡ copied.Bytes w 0) × (now after ≡ stretch (uncolumns w T) (a * w) w ++ drop w (now buffer))
+
+  pub record ColumnRefuses : Type 0 where
+    -- Width 0, or the length of the text is no multiple of the width: 20, and the buffer is unchanged.
+    pub column-width : (κs : Lfts 2) (w a : ℕ) (buffer after : Lent) (r : Copied) → ByColumns κs t w a buffer after r
+        → widthOk w (length T) ≡ false → (r ≡ copied.Refused 20) × (now after ≡ now buffer)
+    -- A row past the last: 10, and the buffer is unchanged.
+    pub column-past : (κs : Lfts 2) (w a : ℕ) (buffer after : Lent) (r : Copied) → ByColumns κs t w a buffer after r
+        → widthOk w (length T) ≡ true → length T / w ≤ a → (r ≡ copied.Refused 10) × (now after ≡ now buffer)
+    -- A buffer that is too short: 13, and it is unchanged.
+    pub column-short : (κs : Lfts 2) (w a : ℕ) (buffer after : Lent) (r : Copied) → ByColumns κs t w a buffer after r
+        → widthOk w (length T) ≡ true → a < length T / w → length (now buffer) < w → (r ≡ copied.Refused 13) × (now after ≡ now buffer)
+
+  -- All questions together: T answers each,
+  pub record Answers : Type 0 where
+    pub byte : ByteAnswers
+    pub run : RunAnswers
+    pub span : SpanAnswers
+    pub count : CountAnswers
+    pub find : FindAnswers
+    pub row : RowAnswers
+    pub places : PlacesAnswers
+    pub digest : DigestAnswers
+    pub next-match : MatchAnswers
+    pub prefix-row : PrefixAnswers
+    pub column-row : ColumnAnswers
+
+  -- docs/FORMAT.md, "The questions, in order": and where T has no answer, it is refused with its number.
+  pub record Refuses : Type 0 where
+    pub byte : ByteRefuses
+    pub run : RunRefuses
+    pub span : SpanRefuses
+    pub count : CountRefuses
+    pub find : FindRefuses
+    pub row : RowRefuses
+    pub places : PlacesRefuses
+    pub digest : DigestRefuses
+    pub next-match : MatchRefuses
+    pub prefix-row : PrefixRefuses
+    pub column-row : ColumnRefuses
+
+  -- docs/FORMAT.md, "What is promised": the tree stands for T alone, and T settles every question.
+  pub record OnlyText : Type 0 where
+    -- T fits the tree, and the tree's counts and edges are true of T.
+    pub stands : StandsFor (now t) T
+    -- No other text fits.
+    pub only : (U : List ℕ) → fits U (now t) ≡ true → U ≡ T
+    -- Every question is answered from T,
+    pub answers : Answers
+    -- or refused.
+    pub refuses : Refuses
+
+-- P holds of every call: of the library, of those exported to C, of list, and of those on a licence's days.
+abbrev pub OfEveryCall : (Function → Type 2) → Type 2
+OfEveryCall P = Every P functions × Each P exported × Each P listing × Each P licence
+
+-- Demand 1, `every-call-ends`: every call ends, and reads and writes only what it was lent.
+abbrev pub EveryCallEnds : Type 2
+EveryCallEnds = OfEveryCall Ends
+
+-- Demand 1, `trusts-no-caller`: no call requires anything of its caller.
+abbrev pub NoPreconditions : Type 2
+NoPreconditions = OfEveryCall AsksNothing
+
+-- Demand 3, `check-accepts`: the check accepts a tree exactly if it stands for a text.
+abbrev pub ExactCheck : Type 0
+ExactCheck = (κs : Lfts 1) (t : Lent) (r : ℕ) → Check κs t r → (r ≡ 0) ↔ ((T : List ℕ) × StandsFor (now t) T)
+
+-- Demand 3, `any-tree`: a tree that check accepted, whoever made it, stands for one text, which settles every question.
+abbrev pub AnyTree : Type 0
+AnyTree = (κs : Lfts 1) (t : Lent) → Check κs t 0 → (T : List ℕ) × OnlyText t (at.settings (now t)) T
+
+-- Demand 3, `build-lets-through`: build refuses no text, settings and buffer that questions 1 to 4 let through.
+abbrev pub CompleteBuilder : Type 0
+CompleteBuilder =
+    (κs : Lfts 3) (text : Lent) (leaf arity levels : ℕ) (counted out after : Lent) (r : Built) → Build κs text leaf arity levels counted out after r
+    → lengthOk (length (now text)) ≡ true → sizesOk (given leaf arity levels (now counted)) ≡ true → countedOk (now counted) ≡ true
+    → length (treeOf (given leaf arity levels (now counted)) (now text)) ≤ length (now out)
+    → r ≡ built.Size (length (treeOf (given leaf arity levels (now counted)) (now text)))
+
+-- Demands 2 and 3, `built-tree`: what build wrote is the block tree of its text, check accepts it, and it stands for that text alone, which settles every
+-- question.
+abbrev pub BuiltTree : Type 0
+BuiltTree =
+    (κs : Lfts 3) (text : Lent) (leaf arity levels : ℕ) (counted out after : Lent) (size : ℕ)
+    → Build κs text leaf arity levels counted out after (built.Size size) → (t : Lent) → now t ≡ take size (now after)
+    → (now t ≡ treeOf (given leaf arity levels (now counted)) (now text)) × ((κ : Lfts 1) (r : ℕ) → Check κ t r → r ≡ 0)
+    × OnlyText t (given leaf arity levels (now counted)) (now text)
+
+-- Demands 2 and 3, `scanned-tree`: the same of build_scanned, and the windows that it reports are those of the text.
+abbrev pub ScannedTree : Type 0
+ScannedTree =
+    (κs : Lfts 4) (text : Lent) (leaf arity levels : ℕ) (counted words table out after : Lent) (size windows : ℕ)
+    → BuildScanned κs text leaf arity levels counted words table out after (scanned.Size size windows) → (t : Lent) → now t ≡ take size (now after)
+    → (windows ≡ windowsOf (given leaf arity levels (now counted)) (now text))
+    × (now t ≡ treeOf (given leaf arity levels (now counted)) (now text)) × ((κ : Lfts 1) (r : ℕ) → Check κ t r → r ≡ 0)
+    × OnlyText t (given leaf arity levels (now counted)) (now text)
