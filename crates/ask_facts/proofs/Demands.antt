@@ -32,7 +32,7 @@ Info κs t figures after r = info-reads.Post κs (t, (figures, tt)) r (t, (after
 abbrev pub Version : ℕ → Type 0
 Version r = version-reads.Post tt tt r tt
 
-pub version-is : (r : ℕ) → Version r → r ≡ 11600
+pub version-is : (r : ℕ) → Version r → r ≡ 11700
 version-is r a = a
 
 -- where a counted byte and its total stand among the figures

@@ -14,7 +14,7 @@ use Rattle.format.specs.FindSays.{total}
 
 -- major, minor and patch, two digits each after the first
 abbrev pub versionNumber : ℕ
-versionNumber = 10000 * 1 + 100 * 16 + 0
+versionNumber = 10000 * 1 + 100 * 17 + 0
 
 -- the figures before the counted bytes, where their totals begin, and all of them
 abbrev pub plainFigures : ℕ

@@ -26,7 +26,7 @@ const LEVELS: usize = Settings::MAX_LEVELS as usize;
 // The version, raised with each change of what the calls answer.
 pub const MAJOR: u32 = 1;
 
-pub const MINOR: u32 = 16;
+pub const MINOR: u32 = 17;
 
 pub const PATCH: u32 = 0;
 
