@@ -105,8 +105,16 @@ mod declared {
     }
 }
 
+#[cfg(test)]
+thread_local! {
+    /// How many buffers this thread has lent to the library, one or more for each call: tests bound the number of calls by it.
+    pub(crate) static LENT: std::cell::Cell<u64> = const { std::cell::Cell::new(0) };
+}
+
 /// How many items are lent: 64 bits on every processor, as the contracts have it.
 fn len<T>(lent: &[T]) -> u64 {
+    #[cfg(test)]
+    LENT.set(LENT.get() + 1);
     lent.len() as u64
 }
 

@@ -1,54 +1,39 @@
 //! All rows that match a worn key, in one pass over the text.
 
-use crate::refusal::answer;
-use crate::{build, calls, text_rows, Range, Refusal, Settings, Tree};
-
-/// Bytes of text that are searched at a time, to the end of their last row.
-const PIECE: usize = 1 << 12;
+use crate::{text_rows, Range, Refusal, Tree};
 
 impl Tree<'_> {
-    /// Calls `show` with the number and the bytes of each row after `mark` that matches, in row order.
+    /// Calls `show` with the number and the bytes of each row after `mark` that matches, in row order. Every refusal comes before the first row.
     ///
-    /// `next_match` starts with a find, which steps over the blocks of level 0: done for each of many matches, these steps take most of the time. So after the
-    /// first match the text is read once, in pieces of whole rows, and `next_match` searches a small tree of each piece.
+    /// A call of `next_match` for each of many matches takes several times as long as the whole text. So `next_match` finds the first match, one span reads the
+    /// text from there on, and `matches` decides each of its rows; the tests compare it with `next_match`.
     pub fn each_match(&self, ranges: &[Range], mark: u32, mut show: impl FnMut(u32, &[u8])) -> Result<(), Refusal> {
         let mut mark = mark;
         let Some(first) = self.next_match(ranges, &mut mark)? else { return Ok(()) };
         let start = if first == 1 { 0 } else { self.find(10, first - 1)?.value + 1 };
         let length = self.text_length().checked_sub(start).ok_or(Refusal::Path)?;
         let text = self.span(start, length)?.value;
-        let (ranges, mut before) = (lent(ranges), first - 1);
-        for piece in pieces(&text) {
-            before += search(piece, &ranges, |row, bytes| show(before + row, bytes))?;
+        let mut number = first;
+        for row in text_rows(&text) {
+            if matches(row, ranges) {
+                show(number, row);
+            }
+            // a damaged tree may name any first row
+            number = number.saturating_add(1);
         }
         Ok(())
     }
 }
 
-/// The text cut after the first end of a row from every `PIECE` bytes on.
-fn pieces(text: &[u8]) -> impl Iterator<Item = &[u8]> {
-    let mut rest = text;
-    std::iter::from_fn(move || {
-        let end = rest.iter().skip(PIECE).position(|&byte| byte == 10).map_or(rest.len(), |at| PIECE + at + 1);
-        let (piece, more) = rest.split_at(end);
-        rest = more;
-        (!piece.is_empty()).then_some(piece)
-    })
-}
-
-/// Shows the rows of a piece that match, numbered from 1; returns the number of its rows.
-fn search(piece: &[u8], ranges: &[u8], mut show: impl FnMut(u32, &[u8])) -> Result<u32, Refusal> {
-    let tree = build(piece, &Settings { leaf: 128, arity: 2, levels: 1, counted: vec![10] })?;
-    let mut rows = (1..).zip(text_rows(piece));
-    let mut mark = 0;
-    loop {
-        let (number, row) = calls::next_match(&tree, ranges, &mut mark);
-        if answer(number, row)? == 0 {
-            return Ok(Tree::unchecked(&tree).rows()? as u32);
-        }
-        let (_, bytes) = rows.find(|(number, _)| *number == row).expect("a match is a row of the piece");
-        show(row, bytes);
+/// Is the row, without its end, a code of 1 to 12 bytes other than space, one space, and for each range a digit in it?
+fn matches(row: &[u8], ranges: &[Range]) -> bool {
+    let Some(code) = row.len().checked_sub(ranges.len() + 1) else { return false };
+    if !(1..=12).contains(&code) || row[code] != b' ' {
+        return false;
     }
+    let cuts = row[code + 1..].iter().zip(ranges);
+    cuts.map(|(cut, range)| (cut.wrapping_sub(b'0'), range)).all(|(depth, range)| range.low <= depth && depth <= range.high)
+        && !row[..code].contains(&b' ')
 }
 
 /// Ranges as the library takes them: low, high, low, high.
@@ -58,18 +43,72 @@ pub(crate) fn lent(ranges: &[Range]) -> Vec<u8> {
 
 #[cfg(test)]
 mod tests {
-    use super::{pieces, PIECE};
-    use crate::{build_scanned, text_rows, Range, Settings, Tree};
+    use crate::{build, build_scanned, calls, text_rows, Range, Refusal, Settings, Tree};
 
-    #[test]
-    fn pieces_of_whole_rows() {
-        let cut = |text: &[u8]| pieces(text).map(<[u8]>::len).collect::<Vec<_>>();
-        assert_eq!((cut(b""), cut(b"A 1\nB"), cut(&[10; PIECE + 1])), (vec![], vec![5], vec![PIECE + 1]));
-        assert_eq!(cut(&b"A 1\n".repeat(PIECE / 2)), [PIECE + 4, PIECE - 4]);
-        assert_eq!(cut(&[[b'A'; 3 * PIECE].as_slice(), b"\n", &[b'B'; 9]].concat()), [3 * PIECE + 1, 9]);
+    const ANY: Range = Range { low: 0, high: 9 };
+
+    type Shown = Result<Vec<(u32, Vec<u8>)>, Refusal>;
+
+    fn shown(tree: Tree, ranges: &[Range], mark: u32) -> Shown {
+        let mut rows = Vec::new();
+        tree.each_match(ranges, mark, |number, row| rows.push((number, row.to_vec()))).map(|()| rows)
     }
 
-    /// The same rows as `next_match` gives one by one, over many pieces, from every part of the book on; rows of all ends, and rows that are no keys.
+    /// The same by library calls alone: `next_match` for each row.
+    fn by_calls(tree: Tree, ranges: &[Range], mut mark: u32) -> Shown {
+        let mut rows = Vec::new();
+        while let Some(number) = tree.next_match(ranges, &mut mark)? {
+            rows.push((number, tree.row(number)?));
+        }
+        Ok(rows)
+    }
+
+    fn small_tree(text: &[u8]) -> Vec<u8> {
+        build(text, &Settings { leaf: 16, arity: 2, levels: 3, counted: vec![10] }).expect("a tree")
+    }
+
+    /// Over the edges of what is a key: lengths of code and cuts, other separators, ends of rows, the row before and after.
+    #[test]
+    fn rows_at_the_edges() {
+        let codes = [&b""[..], b"A", b"A\r", b" ", b"A B", b"\xff\x00", b"ABCDEFGHIJKL", b"ABCDEFGHIJKLM"];
+        let cuts = [&b""[..], b"0", b"9", b"/", b":", b"1x", b"1 2", b"12", b"1\r", b"0123456789", b"01234567890", b"12 "];
+        let mut matched = 0;
+        for code in codes {
+            for cut in cuts {
+                for space in [&b" "[..], b"", b"  ", b"\t"] {
+                    for end in [&b""[..], b"\n", b"\r\n", b"\r\r\n", b"\r", b"\nB 3", b"\n\n\nC 45\n"] {
+                        let tree = small_tree(&[b"X 7\n", code, space, cut, end].concat());
+                        let tree = Tree::checked(&tree).expect("a tree");
+                        for ranges in [&[ANY; 1][..], &[ANY; 2], &[ANY; 10], &[Range { low: 9, high: 9 }]] {
+                            let rows = by_calls(tree, ranges, 0);
+                            assert_eq!(shown(tree, ranges, 0), rows, "{code:?} {space:?} {cut:?} {end:?}");
+                            matched += rows.expect("rows").len();
+                        }
+                    }
+                }
+            }
+        }
+        assert!(matched > 3000, "{matched}");
+    }
+
+    /// The bytes of the library's calls are lent a fixed number of times, however many rows match: a call for each row would lend them for each row.
+    #[test]
+    fn calls_for_any_number_of_rows() {
+        let lent = |rows: usize| {
+            let bytes = small_tree(&b"CH0501 142315\n".repeat(rows));
+            let (tree, before) = (Tree::unchecked(&bytes), calls::LENT.get());
+            assert_eq!(shown(tree, &[ANY; 6], 0).expect("rows").len(), rows);
+            calls::LENT.get() - before
+        };
+        assert_eq!((lent(1), lent(20), lent(2000)), (4, 4, 4));
+        let bytes = small_tree(&[b"no key\n".to_vec(), b"CH0501 142315\n".repeat(500)].concat());
+        let before = calls::LENT.get();
+        assert_eq!(shown(Tree::unchecked(&bytes), &[ANY; 6], 0).expect("rows").len(), 500);
+        // and one find
+        assert_eq!(calls::LENT.get() - before, 5);
+    }
+
+    /// The same rows as `next_match` gives one by one, from every part of the book on; rows of all ends, and rows that are no keys.
     #[test]
     fn matches_one_by_one() {
         let rows = (0..9000).map(|row: u32| match row % 11 {
@@ -81,16 +120,14 @@ mod tests {
         let text = rows.collect::<String>() + "LAST 345";
         let tree = build_scanned(text.as_bytes(), &Settings { leaf: 32, arity: 4, levels: 3, counted: vec![10] }).expect("a tree").tree;
         let tree = Tree::checked(&tree).expect("a tree");
-        let any = Range { low: 0, high: 9 };
         for (ranges, mark) in
-            [(vec![any; 3], 0), (vec![Range { low: 3, high: 3 }, any, Range { low: 5, high: 5 }], 4321), (vec![any; 3], 8999), (vec![any; 2], 0)]
+            [(vec![ANY; 3], 0), (vec![Range { low: 3, high: 3 }, ANY, Range { low: 5, high: 5 }], 4321), (vec![ANY; 3], 8999), (vec![ANY; 2], 0)]
         {
             let (mut expected, mut at) = (Vec::new(), mark);
             while let Some(row) = tree.next_match(&ranges, &mut at).expect("an answer") {
                 expected.push((row, text_rows(text.as_bytes()).nth(row as usize - 1).expect("a row").to_vec()));
             }
-            let mut got = Vec::new();
-            tree.each_match(&ranges, mark, |row, bytes| got.push((row, bytes.to_vec()))).expect("matches");
+            let got = shown(tree, &ranges, mark).expect("matches");
             assert!(got == expected, "{} and {} rows after {mark}", got.len(), expected.len());
             assert_eq!(got.is_empty(), ranges.len() == 2);
         }

@@ -21,6 +21,7 @@ mod input;
 mod json;
 mod json_reader;
 mod licence;
+mod lines;
 mod manifest;
 mod manual;
 mod nearest;

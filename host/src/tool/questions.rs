@@ -6,6 +6,7 @@ use crate::given::Given;
 use crate::guide::check_guide;
 use crate::input::{self, GUIDE, TREE};
 use crate::json::Object;
+use crate::lines::Lines;
 use crate::manifest::Figures;
 use crate::say::{self, several};
 use crate::table::{self, AFTER, FROM, ROW_COLUMNS, UNCHECKED};
@@ -36,6 +37,8 @@ pub enum Question {
 struct Page {
     json: bool,
     bytes: Vec<u8>,
+    /// Rows that match.
+    lines: Lines,
 }
 
 impl Page {
@@ -57,32 +60,20 @@ impl Page {
         self.end_line();
     }
 
-    /// A row that matches, with its number.
-    fn matching(&mut self, q: u32, row: &[u8]) {
-        if !self.json {
-            self.bytes.extend_from_slice(b"row ");
-            self.decimal(q);
-            self.bytes.extend_from_slice(b": ");
-        }
-        self.row(q, row);
-    }
-
-    /// A number in decimal. The standard library's formatting would take a tenth of what a short row takes in all.
-    fn decimal(&mut self, mut number: u32) {
-        let (mut digits, mut from) = ([b'0'; 10], 10);
-        while from == 10 || number > 0 {
-            from -= 1;
-            digits[from] = b'0' + (number % 10) as u8;
-            number /= 10;
-        }
-        self.bytes.extend_from_slice(&digits[from..]);
-    }
-
     /// An object ends its line itself.
     fn end_line(&mut self) {
         if !self.json {
             self.bytes.push(b'\n');
         }
+    }
+
+    fn is_empty(&self) -> bool {
+        self.bytes.is_empty() && self.lines.is_empty()
+    }
+
+    fn print(self) -> Result<(), Failure> {
+        self.lines.finish()?;
+        say::print(&self.bytes)
     }
 }
 
@@ -102,16 +93,16 @@ pub fn ask(given: &Given) -> Result<(), Failure> {
         check_guide(tree, guide)?;
     }
     let guide = guide.as_ref().map(|guide| guide.bytes.as_slice());
-    let mut page = Page { json: given.json(), bytes: Vec::new() };
+    let mut page = Page { json: given.json(), bytes: Vec::new(), lines: Lines::new(given.json()) };
     let failure = |refusal: Refusal| reasons::failure(&input.name, refusal, &question, tree);
     if let Some(words) = question.mismatch(tree).map_err(failure)? {
         return Err(reasons::refused(&input.name, &question, &words));
     }
     question.answer(tree, guide, &mut page).map_err(failure)?;
     match question.nothing() {
-        Some(_) if page.bytes.is_empty() && given.quiet() => Err(Failure::told(1)),
-        Some(words) if page.bytes.is_empty() => Err(Failure::nothing(&input.name, words)),
-        _ => say::print(&page.bytes),
+        Some(_) if page.is_empty() && given.quiet() => Err(Failure::told(1)),
+        Some(words) if page.is_empty() => Err(Failure::nothing(&input.name, words)),
+        _ => page.print(),
     }
 }
 
@@ -193,10 +184,10 @@ impl Question {
             Question::Places(ref pattern) => {
                 tree.places(pattern)?.into_iter().for_each(|place| page.add(format!("{place}\n"), || Object::new().number("place", place)));
             }
-            Question::Match(ref ranges, mark) => tree.each_match(ranges, mark, |q, row| page.matching(q, row))?,
+            Question::Match(ref ranges, mark) => tree.each_match(ranges, mark, |q, row| page.lines.add(q, row))?,
             Question::Next(ref ranges, mut mark) => {
                 if let Some(q) = tree.next_match(ranges, &mut mark)? {
-                    page.matching(q, &one_row(tree, None, q)?);
+                    page.lines.add(q, &one_row(tree, None, q)?);
                 }
             }
             _ => self.figures(tree, guide, page)?,
