@@ -13,7 +13,6 @@ use Rattle.format.specs.LayoutLaws.{Readable, full-pos}
 use Rattle.theory_paths.specs.Links.{Linked, Pointing}
 use Rattle.theory_paths.specs.BlockStarts.{start-below, len-pos, child, target-full}
 use Rattle.theory_paths.specs.PlacesLand.{target}
-use Rattle.layout.specs.declared.header.Header.{Header}
 use Rattle.theory_counts.specs.CountsLocal.{upLength, beforeLocal, inLeaves, lastChild, handBlock, handPlace, upTo, keptInside, keptLocal, pointingSkip}
 use Rattle.theory_counts.specs.CountsLocal.{pointingInside, pointingLocal, blockLocal}
 use Rattle.theory_counts.specs.Families.{neighbour}
@@ -27,22 +26,18 @@ unfolding upLength
 up-pos t k some zero = omega arith
 up-pos t k some (suc l) = full-pos t k l
 
-module _ (t : List ℕ) (h : Header) (level i c : ℕ) (w : InTable t h level i c) where
+module _ (t : List ℕ) (size level i c : ℕ) (w : InTable t size level i c) where
   k : Readable t
-  k = w .tree .header .facts
+  k = w .tree .facts
 
   d : Linked t
-  d = facts.linked t h (w .tree)
+  d = facts.linked t size (w .tree)
 
   -- the same counted byte in another block of the level
-  other : (j : ℕ) → j < at.levelCount t level → InTable t h level j c
+  other : (j : ℕ) → j < at.levelCount t level → InTable t size level j c
   other j hj = record { tree = w .tree; level-in = w .level-in; block-in = hj; number-in = w .number-in }
 
   -- A block's length.
-
-  pub length-is : (b x r : ℕ) → b ≡ at.fullLength t level → x ≡ at.start t level i → r ≡ min b (h .«text_length» - x) → r ≡ at.blockLengthAt t level i
-  unfolding at.blockLengthAt
-  length-is b x r b-is x-is e = e ∙ rw (b-is, x-is, facts.length-is t h (w .tree))
 
   pub length-pos : (r : ℕ) → r ≡ at.blockLengthAt t level i → 1 ≤ r
   length-pos r e = omega (arith, len-pos t k d level i (w .level-in) (w .block-in))
@@ -66,7 +61,7 @@ module _ (t : List ℕ) (h : Header) (level i c : ℕ) (w : InTable t h level i 
       pub left-low : 1 ≤ i
       left-low = neighbour t k d level i (w .level-in) (w .block-in) apart .low
 
-      pub left-there : InTable t h level (i - 1) c
+      pub left-there : InTable t size level (i - 1) c
       left-there = other (i - 1) (omega (arith, left-low, w .block-in))
 
       pub before-left : (a b : ℕ)
@@ -85,7 +80,7 @@ module _ (t : List ℕ) (h : Header) (level i c : ℕ) (w : InTable t h level i 
     pub below-pos : 0 < b
     below-pos = rw b-is (full-pos t k (level + 1))
 
-    pub last-there : InTable t h (level + 1) (j + (x - 1) / b) c
+    pub last-there : InTable t size (level + 1) (j + (x - 1) / b) c
     last-there =
         let q = child t k d level
         i (at.blockLengthAt t level i - 1) above (w .block-in) kept (omega (arith, len-pos t k d level i (w .level-in) (w .block-in))) in
@@ -116,7 +111,7 @@ module _ (t : List ℕ) (h : Header) (level i c : ℕ) (w : InTable t h level i 
     unfolding pointingLocal
     pointing-same r r-is e x y x-is y-is = rw (← sk-is, ← r-is, eq-eqb sk r e, x-is, y-is)
 
-  module _ (un : at.isKept t level i ≡ false) (below : TrueBelow t h level) where
+  module _ (un : at.isKept t level i ≡ false) (below : TrueBelow t level) where
     p : Pointing t level i
     p = d .points level i (w .level-in) (w .block-in) un
 
@@ -126,7 +121,7 @@ module _ (t : List ℕ) (h : Header) (level i c : ℕ) (w : InTable t h level i 
       no-gap z = rw (← g-is, z)
 
       module _ (n : g ≡ 0 → ⊥) (j : ℕ) (j-is : j ≡ at.link t level i) where
-        pub gap-there : InKept t h level j (g - 1) c
+        pub gap-there : InKept t size level j (g - 1) c
         gap-there = rw j-is (record {
           block = record {
             table = other (at.link t level i) (p .target-below);
@@ -141,11 +136,11 @@ module _ (t : List ℕ) (h : Header) (level i c : ℕ) (w : InTable t h level i 
         gap-is r e = e ∙ rw (← g-is, ne-eqb g 0 n, j-is)
 
     module _ (x : ℕ) (x-is : x ≡ at.blockLengthAt t level i) where
-      pub end-there : InBlock t h level i (x - 1) c
+      pub end-there : InBlock t size level i (x - 1) c
       end-there = record { table = w; place-in = omega (arith, length-pos x x-is) }
 
       module _ (on : Hand) (on-is : on ≡ handOf t level i (x - 1) c) where
-        pub hand-there : InKept t h level (on .block .0) (on .place .0) c
+        pub hand-there : InKept t size level (on .block .0) (on .place .0) c
         unfolding handOf handBlock handPlace
         hand-there =
             let q = target t k d level i (x - 1) (w .block-in) p (omega (arith, length-pos x x-is)) in

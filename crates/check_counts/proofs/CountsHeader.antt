@@ -21,7 +21,8 @@ use Rattle.theory_paths.specs.BlockStarts.{len-small}
 use Rattle.theory_counts.specs.CountsLocal.{byteOf}
 use Rattle.layout.specs.declared.header.Header.{Header}
 use Rattle.layout.specs.Record.{FieldIn, field-in}
-use Rattle.check_counts.specs.CountsAsked.{Linking, InTable}
+use Rattle.walk_steps.specs.Steps as steps
+use Rattle.check_counts.specs.CountsAsked.{Linking, Sound, InTable}
 
 module _ (t : List ℕ) (h : Header) (w : Linking t h) where
   pub counted-is : h .settings .counted ≡ at.countedCount t
@@ -39,30 +40,26 @@ module _ (t : List ℕ) (h : Header) (w : Linking t h) where
   pub length-is : h .«text_length» ≡ at.textLength t
   length-is = w .header .length-is
 
-  pub offset-is : h .«leaf_offset» ≡ at.leafOffset t
-  offset-is = w .header .offset-is
+  pub sound : Sound t (h .«record_size»)
+  sound = record { facts = w .header .facts; size-is = w .header .size-is; links = w .links }
 
+module _ (t : List ℕ) (size : ℕ) (w : Sound t size) where
   pub linked : Linked t
   linked = linked-facts t (w .links)
 
-  pub is-last : (level : ℕ) → level + 1 ≡ h .settings .levels → level + 1 ≡ at.settings t .levels
-  is-last level e = e ∙ levels-is
-
-  pub not-last : (level : ℕ) → level < at.settings t .levels → (level + 1 ≡ h .settings .levels → ⊥) → level + 1 < at.settings t .levels
+  pub not-last : (level : ℕ) → level < at.settings t .levels → (level + 1 ≡ at.settings t .levels → ⊥) → level + 1 < at.settings t .levels
   not-last level hl n = go (below-suc level (at.settings t .levels - 1) (omega arith))
     where
       go : (level < at.settings t .levels - 1) ⊎ (level ≡ at.settings t .levels - 1) → level + 1 < at.settings t .levels
       go (inl l) = omega arith
-      go (inr e) = absurd (n (omega (arith, levels-is, w .header .facts .bounds .levels-low)))
-
-  pub arity-pos : 0 < h .settings .arity
-  arity-pos = omega (arith, arity-is, w .header .facts .bounds .arity-low)
+      go (inr e) = absurd (n (omega (arith, w .facts .bounds .levels-low)))
 
   -- one level down, by one division
-  pub below-is : (level b : ℕ) → b ≡ at.fullLength t level → level + 1 < at.settings t .levels → b / h .settings .arity ≡ at.fullLength t (level + 1)
-  below-is level b b-is above =
-      let pos : 0 < at.settings t .arity = omega (arith, w .header .facts .bounds .arity-low) in
-      rw (arity-is, b-is, full-step t (w .header .facts) level above) (mul-div-cancel (at.fullLength t (level + 1)) pos)
+  pub below-is : (level b r : ℕ)
+      → b ≡ at.fullLength t level → r ≡ at.settings t .arity → level + 1 < at.settings t .levels → b / r ≡ at.fullLength t (level + 1)
+  below-is level b r b-is r-is above =
+      let pos : 0 < at.settings t .arity = omega (arith, w .facts .bounds .arity-low) in
+      rw (r-is, b-is, full-step t (w .facts) level above) (mul-div-cancel (at.fullLength t (level + 1)) pos)
 
 -- a level's count is a word
 pub count-lt : (t : List ℕ) (l : ℕ) → ((k : ℕ) → getD t k 0 < 256) → at.levelCount t l < 4294967296
@@ -76,26 +73,30 @@ byte-is t c h few =
     let low : c < maxCounted = omega arith in
     sym (rw (getD-take, getD-take, getD-drop))
 
-module _ (t : List ℕ) (h : Header) (level i c : ℕ) (w : InTable t h level i c) where
+module _ (t : List ℕ) (size level i c : ℕ) (w : InTable t size level i c) where
   -- the words of the block's record
-  pub there : (f : ℕ) → f < fieldCount (at.countedCount t) → FieldIn t (h .«record_size») level i f
-  there f hf = field-in t (w .tree .header .facts) (h .«record_size») level i f (w .tree .header .size-is) (w .level-in) (w .block-in) hf
+  pub there : (f : ℕ) → f < fieldCount (at.countedCount t) → FieldIn t size level i f
+  there f hf = field-in t (w .tree .facts) size level i f (w .tree .size-is) (w .level-in) (w .block-in) hf
 
-  pub plain-there : (f : ℕ) → f < plainWords → FieldIn t (h .«record_size») level i f
+  pub plain-there : (f : ℕ) → f < plainWords → FieldIn t size level i f
   plain-there f hf = there f (omega arith)
 
-  pub before-there : FieldIn t (h .«record_size») level i (beforeField c)
+  pub before-there : FieldIn t size level i (beforeField c)
   before-there = there (beforeField c) (omega (arith, w .number-in))
 
-  pub inside-there : FieldIn t (h .«record_size») level i (insideField c)
+  pub inside-there : FieldIn t size level i (insideField c)
   inside-there = there (insideField c) (omega (arith, w .number-in))
 
-  pub skip-there : FieldIn t (h .«record_size») level i (skipField c)
+  pub skip-there : FieldIn t size level i (skipField c)
   skip-there = there (skipField c) (omega (arith, w .number-in))
+
+  -- the block, by its level's block length
+  pub stands : (b : ℕ) → b ≡ at.fullLength t level → steps.InTable t size level b i
+  stands b b-is = record { on = record { facts = w .tree .facts; size-is = w .tree .size-is; level-in = w .level-in; b-is = b-is }; block-in = w .block-in }
 
   -- no block is longer than the longest text
   pub full-lt : at.fullLength t level ≤ maxText
-  full-lt = full-small t (w .tree .header .facts) level
+  full-lt = full-small t (w .tree .facts) level
 
   pub length-lt : at.blockLengthAt t level i ≤ maxText
   length-lt = omega (arith, len-small t level i, full-lt)

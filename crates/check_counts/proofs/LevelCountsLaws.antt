@@ -49,7 +49,7 @@ module _ (t : List ℕ) (h : Header) (w : Linking t h) where
 
   -- All levels.
   module _ (left : ℕ) (some : left ≡ 0 → ⊥) (low : left ≤ at.settings t .levels) (f : (m : ℕ) → left ≤ m → m < at.settings t .levels → Level t m) where
-    pub below-left : TrueBelow t h (left - 1)
+    pub below-left : TrueBelow t (left - 1)
     below-left m l hm = f m (omega arith) hm
 
     pub level-low : left - 1 < at.settings t .levels
@@ -62,7 +62,7 @@ module _ (t : List ℕ) (h : Header) (w : Linking t h) where
         go (inl lt) = below-left m lt hm
         go (inr ge) =
             let z : m ≡ left - 1 = omega arith in
-            rw z (level-true t (w .header .facts) (facts.linked t h w) (left - 1) level-low below-left e)
+            rw z (level-true t (w .header .facts) (facts.linked t (h .«record_size») (facts.sound t h w)) (left - 1) level-low below-left e)
 
     pub level-fail : levelLocal t (left - 1) ≡ false → false ≡ countsTrue (textOf t) t
     level-fail e = go (bool-cases (countsTrue (textOf t) t))
@@ -70,7 +70,7 @@ module _ (t : List ℕ) (h : Header) (w : Linking t h) where
         go : (countsTrue (textOf t) t ≡ true) ⊎ (countsTrue (textOf t) t ≡ false) → false ≡ countsTrue (textOf t) t
         go (inl y) =
             bool-clash (levelLocal t (left - 1))
-            (level-local t (w .header .facts) (facts.linked t h w) (left - 1) level-low below-left (counts-facts t y (left - 1) level-low)) e
+            (level-local t (w .header .facts) (facts.linked t (h .«record_size») (facts.sound t h w)) (left - 1) level-low below-left (counts-facts t y (left - 1) level-low)) e
         go (inr n) = sym n
 
   pub levels-done : (left : ℕ) → left ≡ 0 → ((m : ℕ) → left ≤ m → m < at.settings t .levels → Level t m) → true ≡ countsTrue (textOf t) t

@@ -16,21 +16,21 @@ use Rattle.theory_paths.specs.BlockStarts.{len-small, child}
 use Rattle.theory_paths.specs.PlacesLand.{target-first, target-second}
 use Rattle.layout.specs.declared.place.BlockNumber.{BlockNumber}
 use Rattle.layout.specs.declared.place.BlockPlace.{BlockPlace}
-use Rattle.layout.specs.declared.header.Header.{Header}
+use Rattle.walk_steps.specs.declared.Part.{Part}
 use Rattle.theory_counts.specs.LevelTrue.{tally, Level}
 use Rattle.theory_counts.specs.CountsExact.{up-to}
 use Rattle.theory_counts.specs.CountedStretches.{leaves-end, tally-le}
 use Rattle.theory_counts.specs.PointedCounts.{Handed, handed}
 use Rattle.theory_counts.specs.CountsLocal.{handBlock, handPlace, handPlus, handMinus, inLeaves, upTo}
 use Rattle.check_counts.specs.declared.prefix.Hand.{Hand}
-use Rattle.check_counts.specs.CountsAsked.{Linking, InTable, InBlock, InKept}
+use Rattle.check_counts.specs.CountsAsked.{Sound, InTable, InBlock, InKept}
 use Rattle.check_counts.specs.Hand.{handOf, stepOf}
 use Rattle.check_counts.proofs.CountsHeader as facts
 
 -- Handing a place on.
 
-module _ (t : List ℕ) (h : Header) (level b c : ℕ) (block : BlockNumber) (place : BlockPlace)
-    (b-is : b ≡ at.fullLength t level) (w : InBlock t h level (block .0) (place .0) c) (k : ℕ) (k-is : k ≡ at.kind t level (block .0)) where
+module _ (t : List ℕ) (size level b c : ℕ) (block : BlockNumber) (place : BlockPlace)
+    (b-is : b ≡ at.fullLength t level) (w : InBlock t size level (block .0) (place .0) c) (k : ℕ) (k-is : k ≡ at.kind t level (block .0)) where
   abbrev i : ℕ
   i = block .0
 
@@ -46,14 +46,14 @@ module _ (t : List ℕ) (h : Header) (level b c : ℕ) (block : BlockNumber) (pl
     un = facts.points-of t level i k k-is ne
 
     p : Pointing t level i
-    p = facts.linked t h (w .table .tree) .points level i (w .table .level-in) (w .table .block-in) un
+    p = facts.linked t size (w .table .tree) .points level i (w .table .level-in) (w .table .block-in) un
 
     pub sum-small : (g : ℕ) → g ≡ at.gap t level i → g + o < (2 * maxText)
-    sum-small g e = omega (arith, p .gap-small, w .place-in, facts.full-lt t h level i c (w .table), facts.length-lt t h level i c (w .table))
+    sum-small g e = omega (arith, p .gap-small, w .place-in, facts.full-lt t size level i c (w .table), facts.length-lt t size level i c (w .table))
 
     module _ (j g sk : ℕ) (j-is : j ≡ at.link t level i) (g-is : g ≡ at.gap t level i) (sk-is : sk ≡ at.skip t level i c) where
       -- the block pointed to is in its table
-      pub target-there : InTable t h level j c
+      pub target-there : InTable t size level j c
       target-there = record { tree = w .table .tree; level-in = w .table .level-in; block-in = rw j-is (p .target-below); number-in = w .table .number-in }
 
       pub hand-first : g + o < b → record { block = record { 0 = j }; place = record { 0 = g + o }; plus = 0; minus = sk } ≡ handOf t level i o c
@@ -76,55 +76,54 @@ module _ (t : List ℕ) (h : Header) (level b c : ℕ) (block : BlockNumber) (pl
 
 -- Leaf bytes.
 
-module _ (t : List ℕ) (h : Header) (level i n c link : ℕ) (w : InTable t h level i c) (last : level + 1 ≡ at.settings t .levels)
+module _ (t : List ℕ) (size level i n c link : ℕ) (w : InTable t size level i c) (last : level + 1 ≡ at.settings t .levels)
     (n-low : n ≤ at.blockLengthAt t level i) (link-is : link ≡ at.link t level i) where
-  pub leaves-fit : h .«leaf_offset» + link + n ≤ length t
-  leaves-fit =
-      let k = w .tree .header .facts in
-      omega (arith, facts.offset-is t h (w .tree), leaves-end t k (facts.linked t h (w .tree)) level i last (w .block-in), k .size)
+  pub leaves-fit : (off : ℕ) → off ≡ at.leafOffset t → off + link + n ≤ length t
+  leaves-fit off off-is =
+      let k = w .tree .facts in
+      omega (arith, leaves-end t k (facts.linked t size (w .tree)) level i last (w .block-in), k .size)
 
-  pub leaves-are : (r : ℕ) → r ≡ countIn (getD t (countedAt + c) 0) (stretch t (h .«leaf_offset» + link) n) → r ≡ inLeaves t level i n c
+  pub leaves-are : (off : ℕ) → off ≡ at.leafOffset t
+      → (r : ℕ) → r ≡ countIn (getD t (countedAt + c) 0) (stretch t (off + link) n) → r ≡ inLeaves t level i n c
   unfolding inLeaves
-  leaves-are r e = e ∙ rw (facts.byte-is t c (w .number-in) (w .tree .header .facts .bounds .counted-high), facts.offset-is t h (w .tree), link-is)
+  leaves-are off off-is r e = e ∙ rw (facts.byte-is t c (w .number-in) (w .tree .facts .bounds .counted-high), off-is, link-is)
 
 -- A step to a child.
 
-module _ (t : List ℕ) (h : Header) (level b c i o : ℕ) (b-is : b ≡ at.fullLength t (level + 1)) (hl : level + 1 < at.settings t .levels)
-    (w : InKept t h level i o c) (j : ℕ) (j-is : j ≡ at.link t level i) where
+module _ (t : List ℕ) (size level b c i o : ℕ) (b-is : b ≡ at.fullLength t (level + 1)) (hl : level + 1 < at.settings t .levels)
+    (w : InKept t size level i o c) (j : ℕ) (j-is : j ≡ at.link t level i) where
   pub step-pos : 0 < b
-  step-pos = rw b-is (full-pos t (w .block .table .tree .header .facts) (level + 1))
+  step-pos = rw b-is (full-pos t (w .block .table .tree .facts) (level + 1))
 
-  pub child-there : InBlock t h (level + 1) (j + o / b) (o % b) c
-  child-there =
-      let tree = w .block .table .tree in
-      let q = child t (tree .header .facts) (facts.linked t h tree) level i o hl (w .block .table .block-in) (w .kept) (w .block .place-in) in
-      rw (j-is, b-is) (record {
-        table = record { tree = tree; level-in = hl; block-in = q .below; number-in = w .block .table .number-in };
-        place-in = q .inside;
-      })
+  module _ (part : Part) (part-is : part ≡ record { blocks = o / b; place = record { 0 = o % b } }) where
+    pub child-there : InBlock t size (level + 1) (j + part .blocks) (part .place .0) c
+    child-there =
+        let tree = w .block .table .tree in
+        let q = child t (tree .facts) (facts.linked t size tree) level i o hl (w .block .table .block-in) (w .kept) (w .block .place-in) in
+        rw (part-is, j-is, b-is) (record {
+          table = record { tree = tree; level-in = hl; block-in = q .below; number-in = w .block .table .number-in };
+          place-in = q .inside;
+        })
 
-  pub step-is : (x : ℕ) (on : Hand) → x ≡ at.before t (level + 1) (j + o / b) c → on ≡ handOf t (level + 1) (j + o / b) (o % b) c
-      → record { block = on .block; place = on .place; plus = x + on .plus; minus = on .minus } ≡ stepOf t level i o c
-  unfolding stepOf handOf
-  step-is x on x-is e = rw (x-is, e, j-is, b-is)
+    pub step-is : (x : ℕ) (on : Hand) → x ≡ at.before t (level + 1) (j + part .blocks) c → on ≡ handOf t (level + 1) (j + part .blocks) (part .place .0) c
+        → record { block = on .block; place = on .place; plus = x + on .plus; minus = on .minus } ≡ stepOf t level i o c
+    unfolding stepOf handOf
+    step-is x on x-is e = rw (x-is, e, part-is, j-is, b-is)
 
 -- The walk.
 
-module _ (t : List ℕ) (h : Header) (level b c i o : ℕ) (b-is : b ≡ at.fullLength t level) (w : InKept t h level i o c) where
-  tree : Linking t h
+module _ (t : List ℕ) (size level b c i o : ℕ) (b-is : b ≡ at.fullLength t level) (w : InKept t size level i o c) where
+  tree : Sound t size
   tree = w .block .table .tree
 
   k : Readable t
-  k = tree .header .facts
+  k = tree .facts
 
   d : Linked t
-  d = facts.linked t h tree
+  d = facts.linked t size tree
 
-  pub last-level : level + 1 ≡ h .settings .levels → level + 1 ≡ at.settings t .levels
-  last-level e = facts.is-last t h tree level e
-
-  pub not-last : (level + 1 ≡ h .settings .levels → ⊥) → level + 1 < at.settings t .levels
-  not-last n = facts.not-last t h tree level (w .block .table .level-in) n
+  pub not-last : (level + 1 ≡ at.settings t .levels → ⊥) → level + 1 < at.settings t .levels
+  not-last n = facts.not-last t size tree level (w .block .table .level-in) n
 
   pub walk-small : (r : ℕ) → r ≡ upTo t (at.settings t .levels - 1 - level) level i o c → r ≤ maxText
   walk-small r e =
@@ -135,19 +134,16 @@ module _ (t : List ℕ) (h : Header) (level b c i o : ℕ) (b-is : b ≡ at.full
             (w .block .table .number-in) (w .below),
         tally-le t c (at.start t level i) (o + 1),
         w .block .place-in,
-        facts.length-lt t h level i c (w .block .table),
+        facts.length-lt t size level i c (w .block .table),
       )
 
-  pub walk-last : level + 1 ≡ h .settings .levels → (r : ℕ) → r ≡ inLeaves t level i (o + 1) c → r ≡ upTo t (at.settings t .levels - 1 - level) level i o c
+  pub walk-last : level + 1 ≡ at.settings t .levels → (r : ℕ) → r ≡ inLeaves t level i (o + 1) c → r ≡ upTo t (at.settings t .levels - 1 - level) level i o c
   unfolding upTo
-  walk-last e r f = let z : at.settings t .levels - 1 - level ≡ 0 = omega (arith, last-level e) in f ∙ rw z
-
-  pub arity-pos : 0 < h .settings .arity
-  arity-pos = facts.arity-pos t h tree
+  walk-last e r f = let z : at.settings t .levels - 1 - level ≡ 0 = omega (arith, e) in f ∙ rw z
 
   module _ (above : level + 1 < at.settings t .levels) where
-    pub below-is : b / h .settings .arity ≡ at.fullLength t (level + 1)
-    below-is = facts.below-is t h tree level b b-is above
+    pub below-is : (r : ℕ) → r ≡ at.settings t .arity → b / r ≡ at.fullLength t (level + 1)
+    below-is r r-is = facts.below-is t size tree level b r b-is r-is above
 
     abbrev down : ℕ
     down = at.link t level i + o / at.fullLength t (level + 1)
@@ -164,7 +160,7 @@ module _ (t : List ℕ) (h : Header) (level b c i o : ℕ) (b-is : b ≡ at.full
     below-true m lt hm = w .below m (omega arith) hm
 
     module _ (on : Hand) (on-is : on ≡ stepOf t level i o c) where
-      pub walk-next : InKept t h (level + 1) (on .block .0) (on .place .0) c
+      pub walk-next : InKept t size (level + 1) (on .block .0) (on .place .0) c
       unfolding stepOf
       walk-next = rw on-is (record {
         block = record {

@@ -5,6 +5,7 @@ use mathlib.Core.Path.{_≡_}
 use Prim.Native.Nat.{ℕ, _<_}
 use Rattle.format.specs.Layout as at
 use Rattle.format.specs.Fits.{linksOk}
+use Rattle.format.specs.LayoutLaws.{Readable}
 use Rattle.theory_counts.specs.LevelTrue.{Level}
 use Rattle.layout.specs.declared.header.Header.{Header}
 use Rattle.layout.specs.HeaderSays.{HeaderOf}
@@ -15,9 +16,20 @@ module _ (t : List ℕ) (h : Header) where
     pub header : HeaderOf t h
     pub links : linksOk t ≡ true
 
+-- the counts of the levels below are true of the text
+abbrev pub TrueBelow : List ℕ → ℕ → Type 0
+TrueBelow t level = (m : ℕ) → level < m → m < at.settings t .levels → Level t m
+
+module _ (t : List ℕ) (size : ℕ) where
+  -- the tree passes questions 5 to 8, and its records have `size` bytes
+  pub record Sound : Type 0 where
+    pub facts : Readable t
+    pub size-is : size ≡ at.recordSize t
+    pub links : linksOk t ≡ true
+
   -- a block of one of its levels, and the number of a counted byte
   pub record InTable (level i c : ℕ) : Type 0 where
-    pub tree : Linking
+    pub tree : Sound
     pub level-in : level < at.settings t .levels
     pub block-in : i < at.levelCount t level
     pub number-in : c < at.countedCount t
@@ -27,12 +39,8 @@ module _ (t : List ℕ) (h : Header) where
     pub table : InTable level i c
     pub place-in : o < at.blockLengthAt t level i
 
-  -- the counts of the levels below are true of the text
-  abbrev pub TrueBelow : ℕ → Type 0
-  TrueBelow level = (m : ℕ) → level < m → m < at.settings t .levels → Level t m
-
   -- the block is kept, and what is below it is true
   pub record InKept (level i o c : ℕ) : Type 0 where
     pub block : InBlock level i o c
     pub kept : at.isKept t level i ≡ true
-    pub below : TrueBelow level
+    pub below : TrueBelow t level

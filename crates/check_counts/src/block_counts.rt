@@ -1,12 +1,11 @@
 // One block's counts of one counted byte.
 use crate::prefix;
-use layout::cut;
-use layout::header::Header;
 use layout::place::BlockNumber;
 use layout::place::BlockPlace;
 use layout::place::On;
 use layout::place::Spot;
 use layout::record;
+use walk_steps::fields;
 ghost use mathlib.Core.Bool.{true, false};
 ghost use mathlib.Core.Path.{_≡_};
 ghost use lib.Dec.{eqb};
@@ -15,11 +14,10 @@ ghost use Rattle.theory_counts.specs.CountsLocal.{upLength, beforeLocal, keptIn
 ghost use Rattle.check_counts.specs.CountsAsked.{InTable, TrueBelow};
 
 // Before is 0 at the parent's start, else that of the left neighbour with its inside; `up` is the parent's block length.
-fn before_right(t: &[u8], h: Header, level: u32, up: u32, block: BlockNumber, c: u32) -> bool
-    requires { ⌜ (up ≡ upLength (now t) level) × InTable (now t) h level (block .0) c ⌝ }
+fn before_right(t: &[u8], size: u32, level: u32, up: u32, block: BlockNumber, c: u32) -> bool
+    requires { ⌜ (up ≡ upLength (now t) level) × InTable (now t) size level (block .0) c ⌝ }
     ensures { λ r. ⌜ r ≡ eqb (at.before (now (t .entry)) level (block .0) c) (beforeLocal (now (t .entry)) level (block .0) c) ⌝ }
 {
-    let size = h.record_size;
     let before = record::before(t, size, level, block, c);
     let start = record::start(t, size, level, block);
     let apart = start.0 % up;
@@ -33,105 +31,101 @@ fn before_right(t: &[u8], h: Header, level: u32, up: u32, block: BlockNumber, c:
 }
 
 // A kept block's inside: that of its leaf bytes, or that of its children: before and inside of the last one.
-fn kept_inside(t: &[u8], h: Header, level: u32, b: u32, block: BlockNumber, c: u32) -> u64
-    requires { ⌜ (b ≡ at.fullLength (now t) level) × InTable (now t) h level (block .0) c × (at.isKept (now t) level (block .0) ≡ true) ⌝ }
+fn kept_inside(t: &[u8], size: u32, level: u32, b: u32, block: BlockNumber, c: u32) -> u64
+    requires { ⌜ (b ≡ at.fullLength (now t) level) × InTable (now t) size level (block .0) c × (at.isKept (now t) level (block .0) ≡ true) ⌝ }
     ensures { λ r. ⌜ r ≡ keptInside (now (t .entry)) level (block .0) c ⌝ }
 {
-    let size = h.record_size;
-    let start = record::start(t, size, level, block);
-    let length = cut::length_from(h.text_length, start, b);
+    let shape = fields::shape_of(t);
+    let length = walk_steps::block_length(t, size, level, b, block);
     let down = level + 1;
-    if down == h.settings.levels {
-        return prefix::in_leaves(t, h, level, block, length, c);
+    if down == shape.levels {
+        return prefix::in_leaves(t, size, level, block, length, c);
     }
     let link = record::link(t, size, level, block);
-    let last = BlockNumber(link.0 + (length - 1) / (b / h.settings.arity));
+    let last = BlockNumber(link.0 + (length - 1) / (b / shape.arity));
     let to_last = record::before(t, size, down, last, c) as u64;
     let in_last = record::inside(t, size, down, last, c) as u64;
     to_last + in_last
 }
 
 // A kept block skips nothing.
-fn kept_right(t: &[u8], h: Header, level: u32, b: u32, block: BlockNumber, c: u32) -> bool
-    requires { ⌜ (b ≡ at.fullLength (now t) level) × InTable (now t) h level (block .0) c × (at.isKept (now t) level (block .0) ≡ true) ⌝ }
+fn kept_right(t: &[u8], size: u32, level: u32, b: u32, block: BlockNumber, c: u32) -> bool
+    requires { ⌜ (b ≡ at.fullLength (now t) level) × InTable (now t) size level (block .0) c × (at.isKept (now t) level (block .0) ≡ true) ⌝ }
     ensures { λ r. ⌜ r ≡ keptLocal (now (t .entry)) level (block .0) c ⌝ }
 {
-    let size = h.record_size;
     let skip = record::skip(t, size, level, block, c);
     if skip != 0 {
         return false;
     }
     let inside = record::inside(t, size, level, block, c);
-    inside as u64 == kept_inside(t, h, level, b, block, c)
+    inside as u64 == kept_inside(t, size, level, b, block, c)
 }
 
 // How often the byte stands in the first gap bytes of the block pointed to.
-fn pointing_skip(t: &[u8], h: Header, level: u32, b: u32, block: BlockNumber, c: u32) -> u64
+fn pointing_skip(t: &[u8], size: u32, level: u32, b: u32, block: BlockNumber, c: u32) -> u64
     requires { ⌜ (b ≡ at.fullLength (now t) level)
-        × InTable (now t) h level (block .0) c × (at.isKept (now t) level (block .0) ≡ false) × TrueBelow (now t) h level ⌝ }
+        × InTable (now t) size level (block .0) c × (at.isKept (now t) level (block .0) ≡ false) × TrueBelow (now t) level ⌝ }
     ensures { λ r. ⌜ r ≡ pointingSkip (now (t .entry)) level (block .0) c ⌝ }
 {
-    let gap = record::gap(t, h.record_size, level, block);
+    let gap = record::gap(t, size, level, block);
     if gap.0 == 0 {
         return 0;
     }
-    let link = record::link(t, h.record_size, level, block);
+    let link = record::link(t, size, level, block);
     let there = Spot {
         block: BlockNumber(link.0),
         place: BlockPlace(gap.0 - 1),
     };
-    prefix::up_to(t, h, On { level, b }, there, c)
+    prefix::up_to(t, size, On { level, b }, there, c)
 }
 
 // How often it stands there in the gap and the block's own length together.
-fn pointing_inside(t: &[u8], h: Header, level: u32, b: u32, block: BlockNumber, c: u32) -> u64
+fn pointing_inside(t: &[u8], size: u32, level: u32, b: u32, block: BlockNumber, c: u32) -> u64
     requires { ⌜ (b ≡ at.fullLength (now t) level)
-        × InTable (now t) h level (block .0) c × (at.isKept (now t) level (block .0) ≡ false) × TrueBelow (now t) h level ⌝ }
+        × InTable (now t) size level (block .0) c × (at.isKept (now t) level (block .0) ≡ false) × TrueBelow (now t) level ⌝ }
     ensures { λ r. ⌜ (r ≡ pointingInside (now (t .entry)) level (block .0) c) ⌝ }
 {
-    let start = record::start(t, h.record_size, level, block);
-    let length = cut::length_from(h.text_length, start, b);
+    let length = walk_steps::block_length(t, size, level, b, block);
     let end = Spot {
         block,
         place: BlockPlace(length - 1),
     };
-    let hand = prefix::hand_on(t, h, On { level, b }, end, c);
+    let hand = prefix::hand_on(t, size, On { level, b }, end, c);
     let next = hand.block;
     let place = hand.place;
     let there = Spot { block: next, place };
-    let rest = prefix::up_to(t, h, On { level, b }, there, c);
+    let rest = prefix::up_to(t, size, On { level, b }, there, c);
     hand.plus + rest
 }
 
 // A pointing block's skip and inside are counted in the blocks that it points to.
-fn pointing_right(t: &[u8], h: Header, level: u32, b: u32, block: BlockNumber, c: u32) -> bool
+fn pointing_right(t: &[u8], size: u32, level: u32, b: u32, block: BlockNumber, c: u32) -> bool
     requires { ⌜ (b ≡ at.fullLength (now t) level)
-        × InTable (now t) h level (block .0) c × (at.isKept (now t) level (block .0) ≡ false) × TrueBelow (now t) h level ⌝ }
+        × InTable (now t) size level (block .0) c × (at.isKept (now t) level (block .0) ≡ false) × TrueBelow (now t) level ⌝ }
     ensures { λ r. ⌜ r ≡ pointingLocal (now (t .entry)) level (block .0) c ⌝ }
 {
-    let size = h.record_size;
     let skip = record::skip(t, size, level, block, c) as u64;
-    let skipped = pointing_skip(t, h, level, b, block, c);
+    let skipped = pointing_skip(t, size, level, b, block, c);
     if skip != skipped {
         return false;
     }
     let both = skip + record::inside(t, size, level, block, c) as u64;
-    let counted = pointing_inside(t, h, level, b, block, c);
+    let counted = pointing_inside(t, size, level, b, block, c);
     both == counted
 }
 
 // Before, inside and skip of one counted byte in one block; the levels below are true already.
-pub fn block_right(t: &[u8], h: Header, on: On, up: u32, block: BlockNumber, c: u32) -> bool
-    requires { ⌜ (on .b ≡ at.fullLength (now t) (on .level)) × (up ≡ upLength (now t) (on .level)) × InTable (now t) h (on .level) (block .0) c
-        × TrueBelow (now t) h (on .level) ⌝ }
+pub fn block_right(t: &[u8], size: u32, on: On, up: u32, block: BlockNumber, c: u32) -> bool
+    requires { ⌜ (on .b ≡ at.fullLength (now t) (on .level)) × (up ≡ upLength (now t) (on .level)) × InTable (now t) size (on .level) (block .0) c
+        × TrueBelow (now t) (on .level) ⌝ }
     ensures { λ r. ⌜ r ≡ blockLocal (now (t .entry)) (on .level) (block .0) c ⌝ }
 {
-    if !before_right(t, h, on.level, up, block, c) {
+    if !before_right(t, size, on.level, up, block, c) {
         return false;
     }
-    let kind = record::kind(t, h.record_size, on.level, block);
+    let kind = record::kind(t, size, on.level, block);
     if kind == 0 {
-        return kept_right(t, h, on.level, on.b, block, c);
+        return kept_right(t, size, on.level, on.b, block, c);
     }
-    pointing_right(t, h, on.level, on.b, block, c)
+    pointing_right(t, size, on.level, on.b, block, c)
 }

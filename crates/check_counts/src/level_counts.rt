@@ -16,13 +16,13 @@ ghost use Rattle.check_counts.specs.Hand.{upFrom};
 // All counted bytes of one block.
 fn block_counts_right(t: &[u8], h: Header, level: u32, b: u32, up: u32, block: BlockNumber) -> bool
     requires { ⌜ (b ≡ at.fullLength (now t) level) × (up ≡ upLength (now t) level) × Linking (now t) h × (level < at.settings (now t) .levels)
-        × (block .0 < at.levelCount (now t) level) × TrueBelow (now t) h level ⌝ }
+        × (block .0 < at.levelCount (now t) level) × TrueBelow (now t) level ⌝ }
     ensures { λ r. ⌜ r ≡ allBelow (at.countedCount (now (t .entry))) (blockLocal (now (t .entry)) level (block .0)) ⌝ }
 {
     let k = h.settings.counted;
     let mut c: u32 = 0;
     while c < k {
-        if !block_counts::block_right(t, h, On { level, b }, up, block, c) {
+        if !block_counts::block_right(t, h.record_size, On { level, b }, up, block, c) {
             return false;
         }
         c += 1;
@@ -43,7 +43,7 @@ fn up_length(h: Header, level: u32) -> u32
 
 // One pass over the records of a level.
 pub fn level_right(t: &[u8], h: Header, level: u32) -> bool
-    requires { ⌜ Linking (now t) h × (level < at.settings (now t) .levels) × TrueBelow (now t) h level ⌝ }
+    requires { ⌜ Linking (now t) h × (level < at.settings (now t) .levels) × TrueBelow (now t) level ⌝ }
     ensures { λ r. ⌜ r ≡ levelLocal (now (t .entry)) level ⌝ }
 {
     let b = h.settings.block_length(level);

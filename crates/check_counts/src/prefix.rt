@@ -1,11 +1,11 @@
 // The count walk: how often a counted byte stands in a kept block up to a place. It goes into one child a level.
 use layout::header;
-use layout::header::Header;
 use layout::place::BlockNumber;
 use layout::place::BlockPlace;
 use layout::place::On;
 use layout::place::Spot;
 use layout::record;
+use walk_steps::fields;
 ghost use mathlib.Core.Path.{_≡_};
 ghost use Prim.Native.Nat.{_+_, _-_, _≤_, _<_};
 ghost use Rattle.format.specs.Layout as at;
@@ -22,22 +22,22 @@ pub struct Hand {
 }
 
 // How often counted byte number c stands in the first n leaf bytes of a last-level block.
-pub fn in_leaves(t: &[u8], h: Header, level: u32, block: BlockNumber, n: u32, c: u32) -> u64
-    requires { ⌜ (InTable (now t) h level (block .0) c) × (level + 1 ≡ at.settings (now t) .levels) × (n ≤ at.blockLengthAt (now t) level (block .0)) ⌝ }
+pub fn in_leaves(t: &[u8], size: u32, level: u32, block: BlockNumber, n: u32, c: u32) -> u64
+    requires { ⌜ (InTable (now t) size level (block .0) c) × (level + 1 ≡ at.settings (now t) .levels) × (n ≤ at.blockLengthAt (now t) level (block .0)) ⌝ }
     ensures { λ r. ⌜ (r ≡ inLeaves (now (t .entry)) level (block .0) n c) × (r ≤ n) ⌝ }
 {
-    let link = record::link(t, h.record_size, level, block);
-    let from = h.leaf_offset as usize + link.0 as usize;
+    let shape = fields::shape_of(t);
+    let link = record::link(t, size, level, block);
+    let from = shape.leaf_offset as usize + link.0 as usize;
     let byte = t[header::COUNTED_AT + c as usize];
     stretches::count_in(t, from, n, byte) as u64
 }
 
 // A kept block answers for its own places; a pointing block hands a place to its first target, or past that one's end to the second.
-pub fn hand_on(t: &[u8], h: Header, on: On, spot: Spot, c: u32) -> Hand
-    requires { ⌜ (on .b ≡ at.fullLength (now t) (on .level)) × InBlock (now t) h (on .level) (spot .block .0) (spot .place .0) c ⌝ }
+pub fn hand_on(t: &[u8], size: u32, on: On, spot: Spot, c: u32) -> Hand
+    requires { ⌜ (on .b ≡ at.fullLength (now t) (on .level)) × InBlock (now t) size (on .level) (spot .block .0) (spot .place .0) c ⌝ }
     ensures { λ r. ⌜ (r ≡ handOf (now (t .entry)) (on .level) (spot .block .0) (spot .place .0) c) × (r .plus < 4294967296) ⌝ }
 {
-    let size = h.record_size;
     let from = spot.block;
     let kind = record::kind(t, size, on.level, from);
     if kind == 0 {
@@ -70,23 +70,25 @@ pub fn hand_on(t: &[u8], h: Header, on: On, spot: Spot, c: u32) -> Hand
 }
 
 // From a kept block to the child that holds a place; b is the children's block length.
-fn step(t: &[u8], h: Header, level: u32, b: u32, spot: Spot, c: u32) -> Hand
+fn step(t: &[u8], size: u32, level: u32, b: u32, spot: Spot, c: u32) -> Hand
     requires { ⌜ (b ≡ at.fullLength (now t) (level + 1)) × (level + 1 < at.settings (now t) .levels)
-        × InKept (now t) h level (spot .block .0) (spot .place .0) c ⌝ }
+        × InKept (now t) size level (spot .block .0) (spot .place .0) c ⌝ }
     ensures { λ r. ⌜ (r ≡ stepOf (now (t .entry)) level (spot .block .0) (spot .place .0) c) × (r .plus < 8589934592) ⌝ }
 {
-    let link = record::link(t, h.record_size, level, spot.block);
-    let child = BlockNumber(link.0 + spot.place.0 / b);
-    let before = record::before(t, h.record_size, level + 1, child, c);
+    let link = record::link(t, size, level, spot.block);
+    let part = walk_steps::part_of(spot.place, b);
+    let child = BlockNumber(link.0 + part.blocks);
+    let before = record::before(t, size, level + 1, child, c);
     let under = On {
         level: level + 1,
         b,
     };
+    let rest = part.place;
     let there = Spot {
         block: child,
-        place: BlockPlace(spot.place.0 % b),
+        place: rest,
     };
-    let hand = hand_on(t, h, under, there, c);
+    let hand = hand_on(t, size, under, there, c);
     let block = hand.block;
     let place = hand.place;
     Hand {
@@ -98,22 +100,24 @@ fn step(t: &[u8], h: Header, level: u32, b: u32, spot: Spot, c: u32) -> Hand
 }
 
 // How often counted byte number c stands in a kept block up to a place, it included; the levels left fall.
-pub fn up_to(t: &[u8], h: Header, on: On, spot: Spot, c: u32) -> u64
-    requires { ⌜ (on .b ≡ at.fullLength (now t) (on .level)) × InKept (now t) h (on .level) (spot .block .0) (spot .place .0) c ⌝ }
+pub fn up_to(t: &[u8], size: u32, on: On, spot: Spot, c: u32) -> u64
+    requires { ⌜ (on .b ≡ at.fullLength (now t) (on .level)) × InKept (now t) size (on .level) (spot .block .0) (spot .place .0) c ⌝ }
     ensures { λ r. ⌜ r ≡ upTo (now (t .entry)) (at.settings (now (t .entry)) .levels - 1 - on .level) (on .level) (spot .block .0) (spot .place .0) c ⌝ }
 {
+    let tree = fields::whole(t);
+    let shape = fields::shape_of(tree);
     let down = on.level + 1;
-    if down == h.settings.levels {
-        return in_leaves(t, h, on.level, spot.block, spot.place.0 + 1, c);
+    if down == shape.levels {
+        return in_leaves(tree, size, on.level, spot.block, spot.place.0 + 1, c);
     }
-    let below = on.b / h.settings.arity;
-    let hand = step(t, h, on.level, below, spot, c);
+    let below = walk_steps::quotient(on.b, shape.arity);
+    let hand = step(tree, size, on.level, below, spot, c);
     let block = hand.block;
     let place = hand.place;
     let under = On {
         level: down,
         b: below,
     };
-    let rest = up_to(t, h, under, Spot { block, place }, c);
+    let rest = up_to(tree, size, under, Spot { block, place }, c);
     hand.plus + rest - hand.minus
 }

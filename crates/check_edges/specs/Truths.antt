@@ -26,6 +26,13 @@ pub record Edged (t : List ℕ) (h : Header) (level b i : ℕ) : Type 0 where
   pub on : OnLevel t h level b
   pub block-in : i < at.levelCount t level
 
+-- a block of the last level of such a tree, and its bytes
+pub record Leafy (t : List ℕ) (h : Header) (level i own : ℕ) : Type 0 where
+  pub tree : Linking t h
+  pub last : level + 1 ≡ at.settings t .levels
+  pub block-in : i < at.levelCount t level
+  pub own-is : own ≡ at.blockLengthAt t level i
+
 -- the m bytes at a are the x bytes that were found, and then zeros
 abbrev pub foundIs : List ℕ → ℕ → ℕ → ℕ → Gathered → Bool
 foundIs t m a x Broken = false

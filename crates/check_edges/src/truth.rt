@@ -1,4 +1,5 @@
-// Question 9 of the edges: is each edge of each block what the short span's walk gives from that block?
+// Question 9 of the edges: a full kept block above the last level has the edges of its first and last child, a block of the last level its leaf
+// bytes, and any other block what the short span's walk gives from it.
 use crate::equal;
 use layout::header::Header;
 use layout::place::Ahead;
@@ -9,16 +10,19 @@ use layout::record;
 use layout::settings::Settings;
 use walk_short::gather;
 use walk_short::gather::Gathered;
+use walk_short::gather::Parts;
 use walk_short::gather::Stretch;
+ghost use mathlib.Core.Bool.{true};
 ghost use mathlib.Core.Path.{_≡_};
-ghost use Prim.Native.Nat.{_+_, _≤_, _<_};
+ghost use Prim.Native.Nat.{_+_, _-_, _≤_, _<_};
 ghost use lib.ListN.{length};
 ghost use Rattle.format.specs.Settings.{maxLeaf};
 ghost use Rattle.format.specs.Layout as at;
 ghost use Rattle.format.specs.Fits.{textOf, edgesTrue};
-ghost use Rattle.theory_edges.specs.EdgesLocal.{edgesLocal, levelEdges};
-ghost use Rattle.walk_short.specs.Gathered.{Within};
-ghost use Rattle.check_edges.specs.Truths.{Linking, Edged, foundIs};
+ghost use Rattle.format.specs.Short.{shortFrom};
+ghost use Rattle.theory_edges.specs.EdgesLocal.{walkedEdges, childEdges, hasFullChildren, edgesLocal, levelEdges};
+ghost use Rattle.walk_short.specs.Gathered.{gathered, Within};
+ghost use Rattle.check_edges.specs.Truths.{Linking, Edged, Leafy, foundIs};
 
 // An edge, the m bytes at a place: `own` bytes that were found, then zeros.
 fn edge_right(t: &[u8], m: u32, at: usize, own: u32, found: Gathered) -> bool
@@ -38,10 +42,10 @@ fn edge_right(t: &[u8], m: u32, at: usize, own: u32, found: Gathered) -> bool
     stretches::zeros(t, at + own as usize, m - own)
 }
 
-// Both edges of a block.
-fn block_right(t: &[u8], h: Header, level: u32, b: u32, block: BlockNumber) -> bool
+// Both edges of a block by the short span's walk.
+fn walked_right(t: &[u8], h: Header, level: u32, b: u32, block: BlockNumber) -> bool
     requires { ⌜ Edged (now t) h level b (block .0) ⌝ }
-    ensures { λ r. ⌜ r ≡ edgesLocal (now (t .entry)) level (block .0) ⌝ }
+    ensures { λ r. ⌜ r ≡ walkedEdges (now (t .entry)) level (block .0) ⌝ }
 {
     let m = h.settings.leaf;
     let length = walk_steps::block_length(t, h.record_size, level, b, block);
@@ -66,6 +70,83 @@ fn block_right(t: &[u8], h: Header, level: u32, b: u32, block: BlockNumber) -> b
     };
     let last = gather::gather(t, h, on, here, back, 0);
     edge_right(t, m, at + m as usize, own, last)
+}
+
+// Where the first leaf bytes of a block of the last level are.
+fn leaf_bytes(t: &[u8], h: Header, level: u32, block: BlockNumber, own: u32) -> Gathered
+    requires { ⌜ Leafy (now t) h level (block .0) own ⌝ }
+    ensures { λ r. ⌜ r ≡ gathered 0 (shortFrom (now (t .entry)) (at.settings (now (t .entry)) .levels - 1 - level) level (block .0 + 0) 0 own) ⌝ }
+{
+    let link = record::link(t, h.record_size, level, block);
+    Gathered::At(Parts {
+        entered: 1,
+        from: h.leaf_offset as usize + link.0 as usize,
+        size: own,
+        next: 0,
+    })
+}
+
+// Both edges of a block of the last level.
+fn leaf_right(t: &[u8], h: Header, level: u32, b: u32, block: BlockNumber) -> bool
+    requires { ⌜ (Edged (now t) h level b (block .0)) × (level + 1 ≡ h .settings .levels) ⌝ }
+    ensures { λ r. ⌜ r ≡ walkedEdges (now (t .entry)) level (block .0) ⌝ }
+{
+    let m = h.settings.leaf;
+    let own = walk_steps::block_length(t, h.record_size, level, b, block);
+    let at = record::edges(t, h.record_size, h.settings.counted, level, block);
+    let found = leaf_bytes(t, h, level, block, own);
+    if !edge_right(t, m, at, own, found) {
+        return false;
+    }
+    let again = leaf_bytes(t, h, level, block, own);
+    edge_right(t, m, at + m as usize, own, again)
+}
+
+// The first edge is that of the first child, the last edge that of the last.
+fn child_right(t: &[u8], h: Header, level: u32, b: u32, block: BlockNumber) -> bool
+    requires { ⌜ (Edged (now t) h level b (block .0)) × (hasFullChildren (now t) level (block .0) ≡ true) ⌝ }
+    ensures { λ r. ⌜ r ≡ childEdges (now (t .entry)) level (block .0) ⌝ }
+{
+    let size = h.record_size;
+    let counted = h.settings.counted;
+    let m = h.settings.leaf as usize;
+    let link = record::link(t, size, level, block);
+    let at = record::edges(t, size, counted, level, block);
+    let first = record::edges(t, size, counted, level + 1, BlockNumber(link.0));
+    if !equal::equal_at(t, at, first, m) {
+        return false;
+    }
+    let last_child = BlockNumber(link.0 + (h.settings.arity - 1));
+    let last = record::edges(t, size, counted, level + 1, last_child);
+    equal::equal_at(t, at + m, last + m, m)
+}
+
+// Whether a block above the last level is kept and has the bytes of a full one.
+fn is_full(t: &[u8], h: Header, level: u32, b: u32, block: BlockNumber) -> bool
+    requires { ⌜ (Edged (now t) h level b (block .0)) × (level + 1 < h .settings .levels) ⌝ }
+    ensures { λ r. ⌜ r ≡ hasFullChildren (now (t .entry)) level (block .0) ⌝ }
+{
+    let kind = record::kind(t, h.record_size, level, block);
+    if kind != 0 {
+        return false;
+    }
+    let length = walk_steps::block_length(t, h.record_size, level, b, block);
+    length == b
+}
+
+// Both edges of a block.
+fn block_right(t: &[u8], h: Header, level: u32, b: u32, block: BlockNumber) -> bool
+    requires { ⌜ Edged (now t) h level b (block .0) ⌝ }
+    ensures { λ r. ⌜ r ≡ edgesLocal (now (t .entry)) level (block .0) ⌝ }
+{
+    let down = level + 1;
+    if down == h.settings.levels {
+        return leaf_right(t, h, level, b, block);
+    }
+    if is_full(t, h, level, b, block) {
+        return child_right(t, h, level, b, block);
+    }
+    walked_right(t, h, level, b, block)
 }
 
 // The edges of a level's blocks.

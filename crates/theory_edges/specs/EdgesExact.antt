@@ -1,7 +1,7 @@
 -- The local equations that the check looks at hold exactly where the edges are true of the one text that fits.
 use mathlib.Core.List.{List, [], _∷_}
 use mathlib.Core.Option.{Option}
-use mathlib.Core.Bool.{Bool, true, false, not, _&&_}
+use mathlib.Core.Bool.{Bool, true, false, cond, not, _&&_}
 use mathlib.Core.Path.{_≡_, refl, sym, ap, _∙_}
 use mathlib.Core.Logic.{_⊎_, inl, inr}
 use Prim.Native.Nat.{ℕ, zero, suc, _+_, _-_, _≤_, _<_, min}
@@ -10,7 +10,7 @@ use native.Mathlib.Nat.{add-assoc}
 use lib.ListN.{length, getD, replicate, length-replicate, getD-replicate}
 use lib.Seq.{ext-getD}
 use Rattle.text.specs.Lists.{sameList}
-use Rattle.text.specs.ListLaws.{lt-or-ge, and-left, and-right, and-both, or-right, allBelow-at, allBelow-make, sameList-true, eq-sameList}
+use Rattle.text.specs.ListLaws.{lt-or-ge, bool-cases, and-left, and-right, and-both, or-right, allBelow-at, allBelow-make, sameList-true, eq-sameList}
 use Rattle.text.specs.Conjunctions.{parts}
 use Rattle.text.specs.Text.{stretch}
 use Rattle.text.specs.TextLaws.{length-stretch, getD-stretch, stretch-ext, stretch-at}
@@ -24,7 +24,8 @@ use Rattle.theory_paths.specs.FitsFacts.{Fitting, fits-facts}
 use Rattle.theory_paths.specs.OneText.{text-fits}
 use Rattle.theory_edges.specs.Truth.{Edged, edged-facts, edged-make, edges-at, edges-all}
 use Rattle.theory_edges.specs.SpanWalk as walks
-use Rattle.theory_edges.specs.EdgesLocal.{edgeIs, ownBytes, edgesLocal, levelEdges, allEdges}
+use Rattle.theory_edges.specs.EdgesLocal.{edgeIs, ownBytes, childEdges, walkedEdges, hasFullChildren, edgesLocal, levelEdges, allEdges}
+use Rattle.theory_edges.specs.ChildEdges.{Full, full-facts, child-edged, edged-child}
 
 -- a stretch of zeros, byte by byte
 zeros-at : (t : List ℕ) (a n : ℕ) → stretch t a n ≡ replicate n 0 → (y : ℕ) → y < n → getD t (a + y) 0 ≡ 0
@@ -150,17 +151,17 @@ module _ (T t : List ℕ) (k : Readable t) (d : Linked t) (two : at.layout t ≡
         last-zero = λ y hm hx. (let e : at.edgesAt t l i + (m + y) ≡ at.edgesAt t l i + m + y = omega arith in rw e (c .zeros y (omega (arith, x-is)) hm));
       }
 
-      local-edged : edgesLocal t l i ≡ true → Edged T t l i
-      unfolding edgesLocal first-test last-test
-      local-edged h =
+      walked-edged : walkedEdges t l i ≡ true → Edged T t l i
+      unfolding walkedEdges first-test last-test
+      walked-edged h =
           from-edges
           (edge-facts x some-bytes short _ _ (at.edgesAt t l i) front (omega (arith, room)) (omega (arith, block-end, x-is)) (and-left first-test last-test h))
           (edge-facts x some-bytes short
           _ _ (at.edgesAt t l i + m) back (omega (arith, room)) (omega (arith, block-end, x-is)) (and-right first-test last-test h))
 
-      edged-local : Edged T t l i → edgesLocal t l i ≡ true
-      unfolding edgesLocal
-      edged-local e =
+      edged-walked : Edged T t l i → walkedEdges t l i ≡ true
+      unfolding walkedEdges
+      edged-walked e =
           and-both
           (edge-make x some-bytes short _ _ (at.edgesAt t l i) front (omega (arith, room)) (omega (arith, block-end, x-is)) record {
             own = λ y hy. (let g : s t l i + 0 + y ≡ s t l i + y = omega arith in rw g (e .first y (omega (arith, short)) (omega (arith, x-is))));
@@ -183,16 +184,38 @@ module _ (T t : List ℕ) (k : Readable t) (d : Linked t) (two : at.layout t ≡
   Below l = (j : ℕ) → l < j → j < H t → Level j
 
   module _ (l : ℕ) (hl : l < H t) (deep : Below l) where
+    -- one block, by the equation that holds for it
+    module _ (i : ℕ) (hi : i < N t l) (w : Walks l i hl hi) where
+      under : Full t l i → Level (l + 1)
+      under full = deep (l + 1) (omega arith) (full .above)
+
+      local-edged : edgesLocal t l i ≡ true → Edged T t l i
+      unfolding edgesLocal
+      local-edged h = go (bool-cases (hasFullChildren t l i))
+        where
+          go : (hasFullChildren t l i ≡ true) ⊎ (hasFullChildren t l i ≡ false) → Edged T t l i
+          go (inl is) = let full = full-facts t l i is in child-edged t k d l i hi full T two (under full) (rw is at h)
+          go (inr is) = walked-edged l i hl hi w (rw is at h)
+
+      edged-local : Edged T t l i → edgesLocal t l i ≡ true
+      unfolding edgesLocal
+      edged-local e = go (bool-cases (hasFullChildren t l i))
+        where
+          go : (hasFullChildren t l i ≡ true)
+              ⊎ (hasFullChildren t l i ≡ false) → cond (hasFullChildren t l i) (childEdges t l i) (walkedEdges t l i) ≡ true
+          go (inl is) = let full = full-facts t l i is in rw is (edged-child t k d l i hi full T two (under full) e)
+          go (inr is) = rw is (edged-walked l i hl hi w e)
+
     kept-edged : ((i : ℕ) → i < N t l → edgesLocal t l i ≡ true) → (i : ℕ) → i < N t l → at.isKept t l i ≡ true → Edged T t l i
-    kept-edged h i hi kept = local-edged l i hl hi (λ o ho. walks.walk-kept
+    kept-edged h i hi kept = local-edged i hi (λ o ho. walks.walk-kept
         T t k d two f (x l i hl hi) (some-bytes l i hl hi) (short l i hl hi) (H t - 1 - l) l i o (omega (arith, hl)) hi kept ho deep) (h i hi)
 
     all-edged : ((i : ℕ) → i < N t l → edgesLocal t l i ≡ true) → Level l
-    all-edged h i hi = local-edged l i hl hi (λ o ho. walks.walk T
+    all-edged h i hi = local-edged i hi (λ o ho. walks.walk T
         t k d two f (x l i hl hi) (some-bytes l i hl hi) (short l i hl hi) (H t - 1 - l) l i o (omega (arith, hl)) hi ho deep (kept-edged h)) (h i hi)
 
     level-local : Level l → (i : ℕ) → i < N t l → edgesLocal t l i ≡ true
-    level-local e i hi = edged-local l i hl hi (λ o ho. walks.walk T t k d two
+    level-local e i hi = edged-local i hi (λ o ho. walks.walk T t k d two
         f (x l i hl hi) (some-bytes l i hl hi) (short l i hl hi) (H t - 1 - l) l i o (omega (arith, hl)) hi ho deep (λ j hj kept. e j hj)) (e i hi)
 
   -- All levels, from the last one up.

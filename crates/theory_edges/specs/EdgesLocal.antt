@@ -1,9 +1,11 @@
--- Question 9 of the edges, as the check looks at it: each edge of a block against what the short span's walk gives from that block.
+-- Question 9 of the edges, as the check decides it: the edges of a full kept block above the last level are compared with those of its
+-- children, the edges of every other block with what the short span's walk gives from that block.
 use mathlib.Core.List.{List}
 use mathlib.Core.Option.{Option, none, some}
-use mathlib.Core.Bool.{Bool, false, not, _&&_, _||_}
+use mathlib.Core.Bool.{Bool, false, cond, not, _&&_, _||_}
 use Prim.Native.Nat.{ℕ, _+_, _-_, min}
 use lib.ListN.{replicate}
+use lib.Dec.{ltb, eqb}
 use Rattle.text.specs.Lists.{allBelow, sameList}
 use Rattle.text.specs.Text.{stretch}
 use Rattle.format.specs.Layout as at
@@ -22,12 +24,28 @@ module _ (t : List ℕ) where
   unfoldable pub ownBytes : ℕ → ℕ → ℕ
   ownBytes l i = min (at.settings t .leaf) (at.blockLengthAt t l i)
 
-  unfoldable pub edgesLocal : ℕ → ℕ → Bool
-  edgesLocal l i =
+  -- both edges against the walk from the block
+  unfoldable pub walkedEdges : ℕ → ℕ → Bool
+  walkedEdges l i =
       let x = ownBytes l i in
       let below = at.settings t .levels - 1 - l in
       edgeIs (at.edgesAt t l i) x (shortFrom t below l i 0 x)
       && edgeIs (at.edgesAt t l i + at.settings t .leaf) x (shortFrom t below l i (at.blockLengthAt t l i - x) x)
+
+  -- the first edge is that of the first child, the last edge that of the last of r children
+  unfoldable pub childEdges : ℕ → ℕ → Bool
+  childEdges l i =
+      let m = at.settings t .leaf in
+      let first = at.link t l i in
+      sameList (stretch t (at.edgesAt t l i) m) (stretch t (at.edgesAt t (l + 1) first) m)
+      && sameList (stretch t (at.edgesAt t l i + m) m) (stretch t (at.edgesAt t (l + 1) (first + (at.settings t .arity - 1)) + m) m)
+
+  -- a kept block above the last level that the text's end does not cut
+  unfoldable pub hasFullChildren : ℕ → ℕ → Bool
+  hasFullChildren l i = ltb (l + 1) (at.settings t .levels) && at.isKept t l i && eqb (at.blockLengthAt t l i) (at.fullLength t l)
+
+  unfoldable pub edgesLocal : ℕ → ℕ → Bool
+  edgesLocal l i = cond (hasFullChildren l i) (childEdges l i) (walkedEdges l i)
 
   unfoldable pub levelEdges : ℕ → Bool
   levelEdges l = allBelow (at.levelCount t l) (edgesLocal l)

@@ -4,5 +4,6 @@ pub mod SpanWalk
 pub mod SpanEntered
 pub mod SpanPlaces
 pub mod EdgesLocal
+pub mod ChildEdges
 pub mod EdgesExact
 pub mod Demands

@@ -1,8 +1,8 @@
 use borrow.Author.Needs.{needs}
 use native.Mathlib.Omega.{arith}
 use Rattle.check_counts.proofs.BlockCountsLaws as laws
-use Rattle.check_counts.proofs.CountsHeader as facts
 use Rattle.check_counts.proofs.PrefixLaws.{walk-small}
+use Rattle.check_counts.proofs.CountsHeader as facts
 use Rattle.check_counts.proofs.block_counts.pointing_inside.Statement.{statement}
 use Rattle.check_counts.proofs.block_counts.pointing_inside.Tie as tie
 
@@ -10,31 +10,19 @@ pub pointing-inside-spec : {M : Type 1} → statement M
 pointing-inside-spec =
     tie.close
     (tie.spec
-    (λ c κs. facts.plain-there _ _ _ _ _ (c .before .pre .1) 0 (omega arith))
-    (λ c κs. search needs)
-    (λ c. let w = c .before .before .before in laws.length-pos
-    _ _ _ _ _ (w .pre .1) _ (laws.length-is _ _ _ _ _ (w .pre .1) _ _ _ (w .pre .0) (c .before .start .ensures) (c .length-from .ensures .0)))
-    (λ c κs. let w = c .before .before .before in (
-      w .pre .0,
-      laws.end-there _ _ _ _ _ (w .pre .1)
-          (w .pre .2) (w .pre .3) _ (laws.length-is _ _ _ _ _ (w .pre .1) _ _ _ (w .pre .0) (c .before .start .ensures) (c .length-from .ensures .0)),
-    ))
-    (λ c κs. let w = c .before .before .before .before .before .before in (
-      w .pre .0,
-      laws.hand-there _ _ _ _ _ (w .pre .1)
-          (w .pre .2) (w .pre .3) _ (laws.length-is _ _ _ _ _ (w .pre .1) _ _ _ (w .pre .0) (c .before .before .before .before .start .ensures)
-          (c .before .before .before .length-from .ensures .0)) _ (c .before .before .hand-on .ensures .0),
-    ))
-    (λ c. let w = c .before .before .before .before .before .before .before .before in
+    (λ c κs. let w = c .before in facts.stands _ _ _ _ _ (w .pre .1) _ (w .pre .0))
+    (λ c. laws.length-pos _ _ _ _ _ (c .before .before .pre .1) _ (c .block-length .ensures .0))
+    (λ c κs. let w = c .before .before in
+    (w .pre .0, laws.end-there _ _ _ _ _ (w .pre .1) (w .pre .2) (w .pre .3) _ (c .block-length .ensures .0)))
+    (λ c κs. let l = c .before .before .before in let w = l .before .before in
+    (w .pre .0, laws.hand-there _ _ _ _ _ (w .pre .1) (w .pre .2) (w .pre .3) _ (l .block-length .ensures .0) _ (c .before .before .hand-on .ensures .0)))
+    (λ c. let o = c .before .before .before .before in let l = o .before in let w = l .before .before in
     omega (
       arith,
-      c .before .before .before .before .hand-on .ensures .1,
-      walk-small _ _ _ _ _ _ _
-          (w .pre .0) (laws.hand-there _ _ _ _ _ (w .pre .1) (w .pre .2) (w .pre .3) _ (laws.length-is _ _ _ _ _ (w .pre .1) _ _ _ (w .pre .0)
-          (c .before .before .before .before .before .before .start .ensures) (c .before .before .before .before .before .length-from .ensures .0))
-          _ (c .before .before .before .before .hand-on .ensures .0)) _ (c .before .up-to .ensures),
+      o .hand-on .ensures .1,
+      walk-small _ _ _ _ _ _ _ (w .pre .0)
+          (laws.hand-there _ _ _ _ _ (w .pre .1) (w .pre .2) (w .pre .3) _ (l .block-length .ensures .0) _ (o .hand-on .ensures .0))
+          _ (c .before .up-to .ensures),
     ))
-    (λ c. let w = c .before .before .before .before .before .before .before .before in
-    laws.hand-is _ _ _ _ _ (w .pre .1) (w .pre .2) (w .pre .3) _ (laws.length-is _ _ _ _ _ (w .pre .1) _ _ _ (w .pre .0)
-    (c .before .before .before .before .before .before .start .ensures) (c .before .before .before .before .before .length-from .ensures .0))
-    _ (c .before .before .before .before .hand-on .ensures .0) _ (c .before .up-to .ensures)))
+    (λ c. let o = c .before .before .before .before in let l = o .before in let w = l .before .before in
+    laws.hand-is _ _ _ _ _ (w .pre .1) (w .pre .2) (w .pre .3) _ (l .block-length .ensures .0) _ (o .hand-on .ensures .0) _ (c .before .up-to .ensures)))

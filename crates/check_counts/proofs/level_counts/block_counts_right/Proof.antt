@@ -4,6 +4,7 @@ use borrow.Author.Needs.{needs}
 use mathlib.Core.Bool.{true}
 use mathlib.Core.Path.{_≡_}
 use native.Mathlib.Omega.{arith}
+use Rattle.check_counts.proofs.CountsHeader as facts
 use Rattle.check_counts.proofs.LevelCountsLaws as laws
 use Rattle.layout.proofs.AnswerTests.{failed, held}
 use Rattle.check_counts.proofs.level_counts.block_counts_right.Statement.{statement}
@@ -25,7 +26,7 @@ block-counts-right-spec =
       w .pre .0,
       w .pre .1,
       record {
-        tree = w .pre .2;
+        tree = facts.sound _ _ (w .pre .2);
         level-in = w .pre .3;
         block-in = w .pre .4;
         number-in = laws.counted-low _ _ (w .pre .2) _ (omega arith);

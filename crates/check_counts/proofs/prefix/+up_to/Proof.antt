@@ -1,7 +1,11 @@
-use Prim.Native.Nat.{ℕ, _-_, _<_}
+use mathlib.Core.List.{List}
+use mathlib.Core.Path.{sym, ap, _∙_}
+use Prim.Native.Nat.{ℕ, _+_, _-_, _≤_, _<_}
+use borrow.Author.Needs.{needs}
 use native.Mathlib.Omega.{arith}
 use borrow.Fn.Kinds.{In}
 use borrow.Fn.PlainCycle.{Measures, is, falls, and}
+use Rattle.format.specs.Layout as at
 use Rattle.check_counts.proofs.CountsHeader as facts
 use Rattle.check_counts.proofs.PrefixLaws as laws
 use Rattle.check_counts.proofs.prefix.up_to.Reads as up-to
@@ -9,12 +13,16 @@ use Rattle.check_counts.proofs.prefix.up_to.Kinds as up-to-kinds
 use Rattle.check_counts.proofs.prefix.+up_to.Lts-up_to as up-to-lts
 use Rattle.check_counts.proofs.prefix.in_leaves.Reads as in-leaves-reads
 use Rattle.check_counts.proofs.prefix.step.Reads as step-reads
+use Rattle.walk_steps.proofs.fields.whole.Reads as whole-reads
+use Rattle.walk_steps.proofs.fields.shape_of.Reads as shape-of-reads
+use Rattle.walk_steps.proofs.quotient.Reads as quotient-reads
+use Rattle.walk_steps.proofs.StepLaws.{shapes-on}
 use Rattle.check_counts.proofs.prefix.+up_to.{statement}
 use Rattle.check_counts.proofs.prefix.+up_to.Tie.{close}
 
 -- the levels left
 abbrev μ-up-to : Measures 1 up-to-kinds.ps ℕ
-μ-up-to κs a = a .1 .0 .settings .levels - a .1 .1 .0 .level
+μ-up-to κs a = at.settings (a .0 .now) .levels - a .1 .1 .0 .level
 
 abbrev up-to-at : ℕ → In 1 up-to-kinds.ps
 up-to-at t = and 1 up-to-kinds.ps (is 1 up-to-kinds.ps μ-up-to t) up-to.Pre
@@ -22,56 +30,110 @@ up-to-at t = and 1 up-to-kinds.ps (is 1 up-to-kinds.ps μ-up-to t) up-to.Pre
 abbrev up-to-below : ℕ → In 1 up-to-kinds.ps
 up-to-below t = and 1 up-to-kinds.ps (falls 1 up-to-kinds.ps _<_ μ-up-to t) up-to.Pre
 
+abbrev levels : List ℕ → ℕ
+levels t = at.settings t .levels
+
 pub +up-to-spec : {M : Type 1} → statement M
 +up-to-spec =
     close μ-up-to
-    (λ t. up-to-lts.spec (in-leaves-reads.Asked, in-leaves-reads.Learnt, step-reads.Asked, step-reads.Learnt, up-to-below t, up-to.Post)
+    (λ t. up-to-lts.spec (
+      whole-reads.Asked,
+      whole-reads.Learnt,
+      shape-of-reads.Asked,
+      shape-of-reads.Learnt,
+      in-leaves-reads.Asked,
+      in-leaves-reads.Learnt,
+      quotient-reads.Asked,
+      quotient-reads.Learnt,
+      step-reads.Asked,
+      step-reads.Learnt,
+      up-to-below t,
+      up-to.Post,
+    )
     (up-to-at t)
     up-to.Post
-    (λ c. let k = c .before .before .pre .1 .1 .block .table in omega (arith, k .level-in, k .tree .header .facts .bounds .levels-high))
-    (λ c. let w = c .before .before .before .before .before in
-    omega (arith, w .pre .1 .1 .block .place-in, facts.length-lt _ _ _ _ _ (w .pre .1 .1 .block .table)))
-    (λ c κs. let w = c .before .before .before .before .before in (
-      w .pre .1 .1 .block .table,
-      laws.last-level _ _ _ _ _ _ _ (w .pre .1 .0) (w .pre .1 .1) (c .before .if1 .taken),
-      omega (arith, w .pre .1 .1 .block .place-in),
+    (λ c κs. search needs)
+    (λ c κs. rw (c .whole .ensures) (c .before .before .pre .1 .1 .block .table .tree .facts .long))
+    (λ c. let k = c .before .before .before .before .pre .1 .1 .block .table in omega (arith, k .level-in, k .tree .facts .bounds .levels-high))
+    (λ c.
+    let w = c .before .before .before .before .before in
+    let S = w .before .before in
+    omega (arith, S .pre .1 .1 .block .place-in, facts.length-lt _ _ _ _ _ (S .pre .1 .1 .block .table)))
+    (λ c κs.
+    let s = c .before .before .before .before in
+    let w = s .before in
+    let S = w .before .before in
+    rw (w .whole .ensures) (
+      S .pre .1 .1 .block .table,
+      c .before .if1 .taken ∙ shapes-on _ _ _ (w .whole .ensures) (s .shape-of .ensures) .levels-is,
+      (let few : S .args .spot .place .0 + 1 ≤ at.blockLengthAt (S .args .t .now) (S .args .on .level) (S .args .spot .block .0) =
+          omega (arith, S .pre .1 .1 .block .place-in) in few),
     ))
-    (λ c. let w = c .before .before .before .before .before .before in
-    laws.walk-last _ _ _ _ _ _ _ (w .pre .1 .0) (w .pre .1 .1) (c .before .before .if1 .taken) _ (c .in-leaves .ensures .0))
-    (λ c. let w = c .before .before .before .before .before .before in laws.arity-pos _ _ _ _ _ _ _ (w .pre .1 .0) (w .pre .1 .1))
-    (λ c κs. let w = c .before .before .before .before .before .before in (
-      laws.below-is _ _ _ _ _ _ _ (w .pre .1 .0) (w .pre .1 .1) (laws.not-last _ _ _ _ _ _ _ (w .pre .1 .0) (w .pre .1 .1)
-          (c .before .before .if1 .left)),
-      laws.not-last _ _ _ _ _ _ _ (w .pre .1 .0) (w .pre .1 .1) (c .before .before .if1 .left),
-      w .pre .1 .1,
-    ))
-    (λ c κs. let w = c .before .before .before .before .before .before .before .before .before in (
-      omega (
-        arith,
-        w .pre .0,
-        laws.not-last _ _ _ _ _ _ _ (w .pre .1 .0) (w .pre .1 .1) (c .before .before .before .before .before .if1 .left),
-        facts.levels-is _ _ (w .pre .1 .1 .block .table .tree),
+    (λ c.
+    let s = c .before .before .before .before .before in
+    let w = s .before in
+    let S = w .before .before in
+    laws.walk-last _ _ _ _ _ _ _ (S .pre .1 .0) (S .pre .1 .1)
+    (c .before .before .if1 .taken ∙ shapes-on _ _ _ (w .whole .ensures) (s .shape-of .ensures) .levels-is)
+    _ (rw (w .whole .ensures) at (c .in-leaves .ensures .0)))
+    (λ c κs.
+    let s = c .before .before .before in
+    let w = s .before in
+    omega (arith, shapes-on _ _ _ (w .whole .ensures) (s .shape-of .ensures) .arity-is, w .before .before .pre .1 .1 .block .table .tree .facts .bounds .arity-low))
+    (λ c κs.
+    let e = c .before in
+    let s = e .before .before .before in
+    let w = s .before in
+    let S = w .before .before in
+    let x = shapes-on _ _ _ (w .whole .ensures) (s .shape-of .ensures) in
+    let up = laws.not-last _ _ _ _ _ _ _ (S .pre .1 .0) (S .pre .1 .1) (λ last. e .if1 .left (last ∙ sym (x .levels-is))) in
+    rw (w .whole .ensures)
+    (c .quotient .ensures ∙ laws.below-is _ _ _ _ _ _ _ (S .pre .1 .0) (S .pre .1 .1) up _ (x .arity-is), up, S .pre .1 .1))
+    (λ c κs.
+    let q = c .before .before .before in
+    let e = q .before in
+    let s = e .before .before .before in
+    let w = s .before in
+    let S = w .before .before in
+    let x = shapes-on _ _ _ (w .whole .ensures) (s .shape-of .ensures) in
+    let up = laws.not-last _ _ _ _ _ _ _ (S .pre .1 .0) (S .pre .1 .1) (λ last. e .if1 .left (last ∙ sym (x .levels-is))) in (
+      omega (arith, S .pre .0, ap levels (w .whole .ensures), up),
+      rw (w .whole .ensures) (
+        q .quotient .ensures ∙ laws.below-is _ _ _ _ _ _ _ (S .pre .1 .0) (S .pre .1 .1) up _ (x .arity-is),
+        laws.walk-next _ _ _ _ _ _ _ (S .pre .1 .0) (S .pre .1 .1) up _ (rw (w .whole .ensures) at (c .before .before .step .ensures .0)),
       ),
-      (
-        laws.below-is _ _ _ _ _ _ _ (w .pre .1 .0)
-            (w .pre .1 .1) (laws.not-last _ _ _ _ _ _ _ (w .pre .1 .0) (w .pre .1 .1) (c .before .before .before .before .before .if1 .left)),
-        laws.walk-next _ _ _ _ _ _ _ (w .pre .1 .0) (w .pre .1 .1) (laws.not-last _ _ _ _ _ _ _
-            (w .pre .1 .0) (w .pre .1 .1) (c .before .before .before .before .before .if1 .left)) _ (c .before .before .step .ensures .0),
-      ),
     ))
-    (λ c. let w = c .before .before .before .before .before .before .before .before .before .before .before in
+    (λ c.
+    let z = c .before .before .before .before in
+    let e = z .before .before in
+    let s = e .before .before .before in
+    let w = s .before in
+    let S = w .before .before in
+    let x = shapes-on _ _ _ (w .whole .ensures) (s .shape-of .ensures) in
+    let up = laws.not-last _ _ _ _ _ _ _ (S .pre .1 .0) (S .pre .1 .1) (λ last. e .if1 .left (last ∙ sym (x .levels-is))) in
     omega (
       arith,
-      c .before .before .before .before .step .ensures .1,
-      laws.rest-small _ _ _ _ _ _ _ (w .pre .1 .0) (w .pre .1 .1)
-          (laws.not-last _ _ _ _ _ _ _ (w .pre .1 .0) (w .pre .1 .1) (c .before .before .before .before .before .before .before .if1 .left))
-          _ (c .before .before .before .before .step .ensures .0) _ (c .before .up-to .ensures),
+      z .step .ensures .1,
+      laws.rest-small _ _ _ _ _ _ _ (S .pre .1 .0) (S .pre .1 .1) up _ (rw (w .whole .ensures) at (z .step .ensures .0))
+          _ (rw (w .whole .ensures) at (c .before .up-to .ensures)),
     ))
-    (λ c. let w = c .before .before .before .before .before .before .before .before .before .before .before .before in
-    laws.minus-low _ _ _ _ _ _ _ (w .pre .1 .0) (w .pre .1 .1)
-    (laws.not-last _ _ _ _ _ _ _ (w .pre .1 .0) (w .pre .1 .1) (c .before .before .before .before .before .before .before .before .if1 .left))
-    _ (c .before .before .before .before .before .step .ensures .0) _ (c .before .before .up-to .ensures))
-    (λ c. let w = c .before .before .before .before .before .before .before .before .before .before .before .before in
-    laws.walk-is _ _ _ _ _ _ _ (w .pre .1 .0) (w .pre .1 .1)
-    (laws.not-last _ _ _ _ _ _ _ (w .pre .1 .0) (w .pre .1 .1) (c .before .before .before .before .before .before .before .before .if1 .left))
-    _ (c .before .before .before .before .before .step .ensures .0) _ (c .before .before .up-to .ensures)))
+    (λ c.
+    let z = c .before .before .before .before .before in
+    let e = z .before .before in
+    let s = e .before .before .before in
+    let w = s .before in
+    let S = w .before .before in
+    let x = shapes-on _ _ _ (w .whole .ensures) (s .shape-of .ensures) in
+    let up = laws.not-last _ _ _ _ _ _ _ (S .pre .1 .0) (S .pre .1 .1) (λ last. e .if1 .left (last ∙ sym (x .levels-is))) in
+    laws.minus-low _ _ _ _ _ _ _ (S .pre .1 .0) (S .pre .1 .1) up _ (rw (w .whole .ensures) at (z .step .ensures .0))
+    _ (rw (w .whole .ensures) at (c .before .before .up-to .ensures)))
+    (λ c.
+    let z = c .before .before .before .before .before in
+    let e = z .before .before in
+    let s = e .before .before .before in
+    let w = s .before in
+    let S = w .before .before in
+    let x = shapes-on _ _ _ (w .whole .ensures) (s .shape-of .ensures) in
+    let up = laws.not-last _ _ _ _ _ _ _ (S .pre .1 .0) (S .pre .1 .1) (λ last. e .if1 .left (last ∙ sym (x .levels-is))) in
+    laws.walk-is _ _ _ _ _ _ _ (S .pre .1 .0) (S .pre .1 .1) up _ (rw (w .whole .ensures) at (z .step .ensures .0))
+    _ (rw (w .whole .ensures) at (c .before .before .up-to .ensures))))
