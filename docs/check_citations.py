@@ -1,7 +1,7 @@
 #!/usr/bin/env python3
-"""Says what is cited and is not there; status 1 if anything is.
+"""Prints what is cited and does not exist; status 1 if anything is.
 
-    docs/cited.py
+    docs/check_citations.py
 
 Comments in crates and documents cite docs/FORMAT.md by heading, and comments cite a name by its crate (`NAME` of crate `CRATE`). Comments and documents name files;
 documents name must-fail edits and items of crates. Each must be there. Sentences are not compared: a comment says things in its own words.
