@@ -1,7 +1,11 @@
 #!/usr/bin/env python3
-"""Makes two tables of docs/PROOFS.md: the files that must be believed, and the lines of each crate.
+"""Makes the tables that the audit (docs/PROOFS.md) refers to, from the sources:
 
-    docs/lines.py            # write both tables between their marks
+    docs/LINES.md        the files that must be believed, and the lines of each crate
+    docs/CALLS.md        each call with its contract's file and the definitions that the contract names
+    docs/MUST_FAIL.md    each must-fail edit with its comment
+
+    docs/lines.py            # write the tables between their marks
     docs/lines.py --check    # status 1 if one of them is not current
 
 What must be believed is found, not listed: the definitions that the contract of an outside call names, and those that they name in turn. An outside call is a public function of a facade
@@ -14,8 +18,8 @@ from pathlib import Path
 
 ROOT = Path(__file__).resolve().parents[1]
 CRATES = ROOT / "crates"
-PAGE = ROOT / "docs/PROOFS.md"
-FACADES = ["tree", "query", "columns", "term", "search", "list_lines", "abi"]
+# crates with outside calls; of some crates only the calls named here, the other public functions are for crates above them
+FACADES = {"tree": (), "query": (), "columns": ("to_columns", "from_columns"), "term": (), "sha256": ("digest_text",), "search": (), "list_lines": (), "abi": ()}
 # files of computed examples: nothing rests on them, and whoever reads a definition will want them
 EXAMPLES = re.compile(r"(Worked\w*|\w+Examples)\.antt$")
 
@@ -54,14 +58,23 @@ def imports(path):
 
 def outside():
     """The file and the name of each outside call."""
-    for facade in FACADES:
+    for facade, only in FACADES.items():
         for path in sorted((CRATES / facade / "src").glob("*.rt" if facade == "abi" else "lib.rt")):
             for name in contracts(path):
-                yield path, name
+                if not only or name in only:
+                    yield path, name
             for words in re.findall(r"^pub use ([\w:]+);", path.read_text(), re.M):
                 crate, *inner, name = words.split("::")
                 if name[0].islower():
                     yield CRATES / crate / "src" / f"{inner[0] if inner else 'lib'}.rt", name
+
+
+def named(path, name):
+    """Each definition that a call's contract names, with its file."""
+    known, found = imports(path), []
+    for word in re.findall(r"[^\s(){};,.⌜⌝]+", contracts(path)[name]):
+        found += [(word, module) for module in sorted(known.get(word, ())) if (word, module) not in found]
+    return found
 
 
 def believed():
@@ -76,21 +89,20 @@ def believed():
             order.append(path)
 
     for path, name in outside():
-        known = imports(path)
-        for word in re.findall(r"[^\s(){};,.⌜⌝]+", contracts(path)[name]):
-            for module in sorted(known.get(word, ())):
-                add(module)
+        for _, module in named(path, name):
+            add(module)
     return order
 
 
 def says(path):
-    """A file's first comment, to its first full stop."""
+    """A file's first comment, to its first full stop; a long sentence to its first colon."""
     words = []
     for line in path.read_text().splitlines():
         if not line.startswith("--"):
             break
         words.append(line[2:].strip())
-    return re.split(r"\.(?: |$)", " ".join(words))[0].rstrip(":") .replace("|", "\\|")
+    sentence = re.split(r"\.(?: |$)", " ".join(words))[0].replace("|", "\\|")
+    return (sentence if len(sentence) < 120 else sentence.split(": ")[0]).rstrip(":")
 
 
 def believed_table():
@@ -157,17 +169,48 @@ def crates_table():
     return "\n".join([*head, *rows, "| all | " + " | ".join(f"{n:,}" for n in sums) + " |"])
 
 
+# ---- calls and must-fail edits
+
+def calls_table(exported):
+    """A row for each call: of the library, or of the C interface."""
+    rows = []
+    for path, name in outside():
+        if (path.parts[-3] == "abi") == exported:
+            owner = re.search(rf"impl (\w+) {{(?:(?!^}}).)*?pub fn {name}\b", path.read_text(), re.M | re.S)
+            definitions = ", ".join(f"`{word}` ({module.stem})" for word, module in named(path, name))
+            rows.append(f"| {f'{owner[1]}::' if owner else ''}{name} | `{path.relative_to(ROOT).as_posix()}` | {definitions} |")
+    return "\n".join(["| Call | Contract | Definitions that it names, each with its file |", "|---|---|---|", *rows])
+
+
+def edits_table():
+    rows = []
+    for path in sorted(CRATES.glob("*/must-fail/*.edit")):
+        comment = path.read_text().splitlines()[0].lstrip("# ").replace("|", "\\|")
+        rows.append(f"| `{path.parts[-3]}/{path.stem}` | {comment} |")
+    return "\n".join(["| Edit | The wrong program |", "|---|---|", *rows])
+
+
+TABLES = {
+    "docs/LINES.md": {"believed": believed_table, "lines": crates_table},
+    "docs/CALLS.md": {"calls": lambda: calls_table(False), "exports": lambda: calls_table(True)},
+    "docs/MUST_FAIL.md": {"edits": edits_table},
+}
+
+
 def main():
-    page = new = PAGE.read_text()
-    for mark, table in (("believed", believed_table), ("lines", crates_table)):
-        before, rest = new.split(f"<!-- {mark} -->")
-        after = rest.split(f"<!-- end of {mark} -->")[1]
-        new = f"{before}<!-- {mark} -->\n{table()}\n<!-- end of {mark} -->{after}"
-    if new == page:
-        return
-    if "--check" in sys.argv:
-        raise SystemExit("docs/PROOFS.md has other tables than docs/lines.py makes; run docs/lines.py")
-    PAGE.write_text(new)
+    stale = []
+    for name, tables in TABLES.items():
+        page = new = (ROOT / name).read_text()
+        for mark, table in tables.items():
+            before, rest = new.split(f"<!-- {mark} -->")
+            after = rest.split(f"<!-- end of {mark} -->")[1]
+            new = f"{before}<!-- {mark} -->\n{table()}\n<!-- end of {mark} -->{after}"
+        if new != page:
+            stale.append(name)
+            if "--check" not in sys.argv:
+                (ROOT / name).write_text(new)
+    if stale and "--check" in sys.argv:
+        raise SystemExit(f"{', '.join(stale)}: not the tables that docs/lines.py makes; run docs/lines.py")
 
 
 if __name__ == "__main__":

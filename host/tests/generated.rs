@@ -31,10 +31,10 @@ fn script_succeeds(script: &str, option: &str) {
     }
 }
 
-/// The drawings and tables are those that their scripts make, what comments and documents cite is there, and the crates keep the habits.
+/// The drawings and tables are those that their scripts make, what comments and documents cite is there, and the crates keep the conventions.
 #[test]
-fn drawings_tables_citations_and_habits() {
-    for script in ["drawings/draw.py", "lines.py", "cited.py", "house.py"] {
+fn drawings_tables_citations_and_conventions() {
+    for script in ["drawings/draw.py", "lines.py", "check_citations.py", "check_conventions.py"] {
         script_succeeds(script, "--check");
     }
 }

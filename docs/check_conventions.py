@@ -1,7 +1,7 @@
 #!/usr/bin/env python3
-"""Says which habits of CONTRIBUTING.md the crates do not keep; status 1 if any.
+"""Prints which conventions of CONTRIBUTING.md the crates do not keep; status 1 if any.
 
-    docs/house.py
+    docs/check_conventions.py
 
 No line over 160 characters; a module's name in one crate only; crates.txt has each crate after all that it depends on, and a crate lists those that it names and no
 other, unless a comment above it says why. Needs python3 and nothing else."""

@@ -1,10 +1,11 @@
 #!/usr/bin/env python3
-"""Says what is cited and is not there; status 1 if anything is.
+"""Prints what is cited and does not exist; status 1 if anything is.
 
-    docs/cited.py
+    docs/check_citations.py
 
 Comments in crates and documents cite docs/FORMAT.md by heading, and comments cite a name by its crate (`NAME` of crate `CRATE`). Comments and documents name files;
-documents name must-fail edits and items of crates. Each must be there. Sentences are not compared: a comment says things in its own words.
+documents name must-fail edits and items of crates, cite other documents by heading (`docs/NAME.md`, *Heading*) and link to files. The pages of the audit name definitions,
+theorems and functions. Each must exist. Sentences are not compared: a comment says things in its own words.
 Needs python3 and nothing else."""
 
 import re
@@ -12,7 +13,8 @@ from pathlib import Path
 
 ROOT = Path(__file__).resolve().parents[1]
 CRATES = ROOT / "crates"
-PAGES = ["README.md", "CONTRIBUTING.md", "docs/FORMAT.md", "docs/PROOFS.md", "docs/DECISIONS.md", "docs/BENCHMARKS.md", "docs/ARCHITECTURE.md"]
+PAGES = ["README.md", "CHANGELOG.md", "CONTRIBUTING.md", *(f"docs/{path.name}" for path in sorted((ROOT / "docs").glob("*.md")))]
+AUDIT = ["docs/PROOFS.md", "docs/THEOREMS.md", "docs/CALLS.md", "docs/LINES.md", "docs/MUST_FAIL.md"]
 
 
 def comments(text):
@@ -34,6 +36,29 @@ def files_missing(text):
             yield path
 
 
+def links_missing(name, text):
+    """The files that a document links to, and the headings of documents that it cites in italics, that do not exist."""
+    for path in re.findall(r"\]\(([^)#:]+)[)#]", text):
+        if not (ROOT / name).parent.joinpath(path).exists():
+            yield f"there is no {path}"
+    for page, heading in re.findall(r"(docs/[A-Z]+\.md)`?, \*([^*]+)\*", re.sub(r"\s+", " ", text)):
+        if (ROOT / page).exists() and not re.search(rf"^#+ {re.escape(heading)}\s*$", (ROOT / page).read_text(), re.M):
+            yield f"{page} has no heading {heading!r}"
+
+
+def names_missing():
+    """The definitions, theorems, functions, modules and crates that the pages of the audit name and that no crate has."""
+    known = set()
+    for path in [*CRATES.glob("**/*.antt"), *CRATES.glob("**/*.rt")]:
+        known.add(path.stem)
+        known.update(path.relative_to(CRATES).parts)
+        known.update(re.findall(r"[^\s(){};,.:⌜⌝|&<>*]+", re.sub(r"^\s*(//|--).*$", "", path.read_text(), flags=re.M)))
+    for name in AUDIT:
+        for word in re.findall(r"`([A-Za-z][\w'-]*)`", (ROOT / name).read_text()):
+            if word not in known:
+                yield f"{name}: no crate has {word}"
+
+
 def from_comments(headings):
     definitions = {path.name: "".join(f.read_text() for f in path.glob("*/*.antt")) for path in CRATES.iterdir() if path.is_dir()}
     for path in sorted([*CRATES.glob("**/*.antt"), *CRATES.glob("**/*.rt")]):
@@ -51,6 +76,7 @@ def from_documents(headings):
         text = (ROOT / name).read_text()
         yield from (f"{name}: docs/FORMAT.md has no heading {heading!r}" for heading in headings_missing(text, headings))
         yield from (f"{name}: there is no {file}" for file in files_missing(text))
+        yield from (f"{name}: {fault}" for fault in links_missing(name, text))
         for crate, label in re.findall(r"`(\w+)/([a-z0-9-]+)`", text):
             if crate in code and not (CRATES / crate / "must-fail" / f"{label}.edit").exists() and not (CRATES / crate / label).exists():
                 yield f"{name}: there is no edit {crate}/{label}"
@@ -71,7 +97,7 @@ def from_format(source, headings):
 def main():
     source = (ROOT / "docs/FORMAT.md").read_text()
     headings = set(re.findall(r"^#+ (.*?)\s*$", source, re.M))
-    missing = [*from_comments(headings), *from_documents(headings), *from_format(source, headings)]
+    missing = [*from_comments(headings), *from_documents(headings), *names_missing(), *from_format(source, headings)]
     if missing:
         raise SystemExit("\n".join(missing))
 
