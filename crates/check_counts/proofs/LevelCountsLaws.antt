@@ -70,7 +70,8 @@ module _ (t : List ℕ) (h : Header) (w : Linking t h) where
         go : (countsTrue (textOf t) t ≡ true) ⊎ (countsTrue (textOf t) t ≡ false) → false ≡ countsTrue (textOf t) t
         go (inl y) =
             bool-clash (levelLocal t (left - 1))
-            (level-local t (w .header .facts) (facts.linked t (h .«record_size») (facts.sound t h w)) (left - 1) level-low below-left (counts-facts t y (left - 1) level-low)) e
+            (level-local t (w .header .facts) (facts.linked t (h .«record_size») (facts.sound t h w)) (left - 1) level-low below-left
+            (counts-facts t y (left - 1) level-low)) e
         go (inr n) = sym n
 
   pub levels-done : (left : ℕ) → left ≡ 0 → ((m : ℕ) → left ≤ m → m < at.settings t .levels → Level t m) → true ≡ countsTrue (textOf t) t

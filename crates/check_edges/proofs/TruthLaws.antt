@@ -267,7 +267,9 @@ module _ (t : List ℕ) (h : Header) (level b i : ℕ) (k : Edged t h level b i)
     last-fits bytes link e = omega (arith, last-in, wordAt-lt t (countAt (level + 1)) bytes)
 
     room-of : (l x e : ℕ) → l < at.settings t .levels → x < at.levelCount t l → e ≡ at.edgesAt t l x → e + (h .settings .leaf + h .settings .leaf) ≤ length t
-    room-of l x e hl hx is = omega (arith, is, edges-inside t (k .tree .header .facts) l x (k .two) hl hx, leaf-start-inside t (k .tree .header .facts), k .tree .header .leaf-is)
+    room-of l x e hl hx is =
+        let ok = k .tree .header .facts in
+        omega (arith, is, edges-inside t ok l x (k .two) hl hx, leaf-start-inside t ok, k .tree .header .leaf-is)
 
     module _ (link e f : ℕ) (link-is : link ≡ at.link t level i) (e-is : e ≡ at.edgesAt t level i) (f-is : f ≡ at.edgesAt t (level + 1) link) where
       abbrev leaf : ℕ

@@ -79,7 +79,8 @@ pub +up-to-spec : {M : Type 1} → statement M
     (λ c κs.
     let s = c .before .before .before in
     let w = s .before in
-    omega (arith, shapes-on _ _ _ (w .whole .ensures) (s .shape-of .ensures) .arity-is, w .before .before .pre .1 .1 .block .table .tree .facts .bounds .arity-low))
+    let tree = w .before .before .pre .1 .1 .block .table .tree in
+    omega (arith, shapes-on _ _ _ (w .whole .ensures) (s .shape-of .ensures) .arity-is, tree .facts .bounds .arity-low))
     (λ c κs.
     let e = c .before in
     let s = e .before .before .before in

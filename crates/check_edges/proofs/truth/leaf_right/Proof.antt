@@ -15,8 +15,9 @@ leaf-right-spec =
     (λ c κs. let p = c .before .before .before .pre in laws.leafy _ _ _ _ _ (p .0) (p .1) _ (c .before .block-length .ensures .0))
     (λ c κs. let w = c .before .before in let v = w .before .before in
     let own = laws.own-all _ _ _ _ _ (v .pre .0) (v .pre .1) _ (w .block-length .ensures .0) in
-    laws.first-asks _ _ _ _ _ (v .pre .0) _ _ _ (w .block-length .ensures .0) own (c .before .edges .ensures .0) (c .leaf-bytes .result) (laws.within _ _ _ _ _ (v .pre .0)
-    _ _ _ (w .block-length .ensures .0) own (c .before .edges .ensures .0) 0 (laws.front-in _ _ _ _ _ (v .pre .0)
+    laws.first-asks _ _ _ _ _ (v .pre .0) _ _ _ (w .block-length .ensures .0) own (c .before .edges .ensures .0)
+    (c .leaf-bytes .result) (laws.within _ _ _ _ _ (v .pre .0) _ _ _ (w .block-length .ensures .0) own (c .before .edges .ensures .0)
+    0 (laws.front-in _ _ _ _ _ (v .pre .0)
     _ _ _ (w .block-length .ensures .0) own (c .before .edges .ensures .0)) _ (c .leaf-bytes .ensures)))
     (λ c. let e = c .before .before .before in let w = e .before in let v = w .before .before in
     let own = laws.own-all _ _ _ _ _ (v .pre .0) (v .pre .1) _ (w .block-length .ensures .0) in
@@ -28,8 +29,9 @@ leaf-right-spec =
     (λ c. search needs)
     (λ c κs. let e = c .before .before .before .before in let w = e .before in let v = w .before .before in
     let own = laws.own-all _ _ _ _ _ (v .pre .0) (v .pre .1) _ (w .block-length .ensures .0) in
-    laws.last-asks _ _ _ _ _ (v .pre .0) _ _ _ (w .block-length .ensures .0) own (e .edges .ensures .0) (c .leaf-bytes2 .result) (laws.within _ _ _ _ _ (v .pre .0)
-    _ _ _ (w .block-length .ensures .0) own (e .edges .ensures .0) 0 (laws.front-in _ _ _ _ _ (v .pre .0)
+    laws.last-asks _ _ _ _ _ (v .pre .0) _ _ _ (w .block-length .ensures .0) own (e .edges .ensures .0)
+    (c .leaf-bytes2 .result) (laws.within _ _ _ _ _ (v .pre .0) _ _ _ (w .block-length .ensures .0) own (e .edges .ensures .0)
+    0 (laws.front-in _ _ _ _ _ (v .pre .0)
     _ _ _ (w .block-length .ensures .0) own (e .edges .ensures .0)) _ (c .leaf-bytes2 .ensures)))
     (λ c. let e = c .before .before .before .before .before in let w = e .before in let v = w .before .before in
     let own = laws.own-all _ _ _ _ _ (v .pre .0) (v .pre .1) _ (w .block-length .ensures .0) in
