@@ -67,7 +67,8 @@ first-known t p place first next r r-is old new = go (eqb place p) refl
     go false e = let z : r ≡ first = r-is ∙ rw e in rw z old
 
 module _ (t : List ℕ) (p : ℕ) where
-  found-is : (e before : ℕ) (run : Part) → EndsRow t p e before → ReadsOn t p (run .from) (run .length) → NewlineIs t p (newline.At (record { 0 = e }) before run)
+  found-is : (e before : ℕ) (run : Part) → EndsRow t p e before → ReadsOn t p (run .from) (run .length)
+      → NewlineIs t p (newline.At (record { 0 = e }) before run)
   found-is e before run r reads = record {
     found = λ q b f is.
         (let z : record { 0 = e } ≡ q = cc in let y : before ≡ b = cc in let x : e ≡ q .0 = ap (λ (w : TextPlace). w .0) z in rw (← x, ← y) r);

@@ -88,7 +88,8 @@ module _ (t : List ℕ) (ok number : ℕ) (row : List ℕ) (most : ℕ) where
   spans-at s len first reads r = record {
     refused = λ m e. absurd (let z : _≡_ {A = ℕ} 0 1 = cc in omega arith);
     spans = λ p n f e. (let z : record { 0 = s } ≡ p = cc in let y : len ≡ n = cc in let x : s ≡ p .0 = ap (λ (w : TextPlace). w .0) z in rw (← x, ← y) r);
-    known = λ p n f e. (let z : record { 0 = s } ≡ p = cc in let y : first ≡ f = cc in let x : s ≡ p .0 = ap (λ (w : TextPlace). w .0) z in rw (← x, ← y) reads);
+    known = λ p n f e.
+        (let z : record { 0 = s } ≡ p = cc in let y : first ≡ f = cc in let x : s ≡ p .0 = ap (λ (w : TextPlace). w .0) z in rw (← x, ← y) reads);
   }
 
   -- refused by a question before the walk
@@ -453,13 +454,13 @@ module _ (t : List ℕ) (h : Header) (k : HeaderOf t h) (q : ℕ) (asks : asksLa
             unfolding rowFrom
             last-from = spans-at t ok last-number last-row last-most (before .0 + 1)
                 (h .«text_length» - (before .0 + 1)) no-run (reads-none t (before .0 + 1) 0 (omega (arith, last-past, k .length-is)) (omega arith)) (record {
-              asked = passed;
-              within = omega (arith, last-past, k .length-is);
-              short = omega (arith, last-past, k .length-is, most-later more);
-              accepted = λ v.
-                  sym (last-is (sound v) ∙ rw
-                  (ne-eqb q 1 more, place-is t ok 10 (q - 1) sound found said-found before other-figure found-at v, text-length t, k .length-is));
-            })
+                  asked = passed;
+                  within = omega (arith, last-past, k .length-is);
+                  short = omega (arith, last-past, k .length-is, most-later more);
+                  accepted = λ v.
+                      sym (last-is (sound v) ∙ rw
+                      (ne-eqb q 1 more, place-is t ok 10 (q - 1) sound found said-found before other-figure found-at v, text-length t, k .length-is));
+                })
 
 -- The edges of row q, by which of the two it is.
 module _ (t : List ℕ) (ok : ℕ) (sound : ok ≡ 0 → verdict t ≡ 0) (q : ℕ) where

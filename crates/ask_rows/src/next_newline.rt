@@ -26,10 +26,7 @@ pub fn next_newline(t: &[u8], h: Header, from: TextPlace) -> Newline
 {
     let mut at: u32 = from.0;
     let mut earlier: u8 = 0;
-    let mut first = Part {
-        from: 0,
-        length: 0,
-    };
+    let mut first = Part { from: 0, length: 0 };
     while at < h.text_length {
         let ran = read_by_header::part_at(t, h, TextPlace(at));
         let Ran::At(part) = ran else {

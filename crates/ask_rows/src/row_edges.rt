@@ -81,10 +81,7 @@ fn last(t: &[u8], h: Header, guide: &[u8], used: bool, q: u32) -> Edges
     if value == 10 {
         return Edges::Refused(12);
     }
-    let none = Part {
-        from: 0,
-        length: 0,
-    };
+    let none = Part { from: 0, length: 0 };
     if q == 1 {
         return Edges::At(TextPlace(0), h.text_length, none);
     }

@@ -196,7 +196,9 @@ module _ (t : List ℕ) (field : CountField) (level b i below j link count : ℕ
     child-there = record { on = lower; block-in = omega (arith, last .high) }
 
     pub child-place : (x - link) * below < at.blockLengthAt t level i
-    child-place = pieces-start (at.blockLengthAt t level i) below (x - link) (omega (arith, last .low, last .high)) (b-pos t (field .size) (level + 1) below lower)
+    child-place =
+        let pos = b-pos t (field .size) (level + 1) below lower in
+        pieces-start (at.blockLengthAt t level i) below (x - link) (omega (arith, last .low, last .high)) pos
 
     pub child-place-small : (x - link) * below < maxText
     child-place-small = omega (arith, child-place, len-small t level i, kept .on .b-is, b-small t (field .size) level b (kept .on))
@@ -389,7 +391,10 @@ lower-level t size level b below x on s more e =
 -- From a kept block to a child.
 module _ (t : List ℕ) (field : CountField) (level b i j way below : ℕ) (kept : KeptIn t (field .size) level b i)
     (seeks : Seeking t field level b j way (2 * level + 1)) (lower : OnLevel t (field .size) (level + 1) below) where
-  module _ (x o rest further : ℕ) (ch : Chosen t (field .number) level i below j x o rest) (further-is : further ≡ entering way o 0) where
+  abbrev c₁ : ℕ
+  c₁ = field .number
+
+  module _ (x o rest further : ℕ) (ch : Chosen t c₁ level i below j x o rest) (further-is : further ≡ entering way o 0) where
     pub to-child : (blocks : ℕ) → 2 * level + 2 ≤ blocks → Seeking t field (level + 1) below rest further blocks
     unfolding entering
     to-child blocks m = record {
@@ -406,11 +411,11 @@ module _ (t : List ℕ) (field : CountField) (level b i j way below : ℕ) (kept
         near : (y : ℕ) → y ≤ (2 * level + 1 + 64) * 562949953421312 + 281474976710656 + maxText → y ≤ (blocks + 64) * 562949953421312
         near y l = omega arith
 
-    pub by-child : (r : ℕ) → FoundIn t (field .number) (level + 1) x rest further r → FoundIn t (field .number) level i j way r
+    pub by-child : (r : ℕ) → FoundIn t c₁ (level + 1) x rest further r → FoundIn t c₁ level i j way r
     unfolding entering
     by-child r f = record { right = λ v hc high. go v hc high }
       where
-        go : (v : verdict t ≡ 0) (hc : (field .number) < at.countedCount t) → j ≤ at.inside t level i (field .number) → Landed t v (field .number) hc level i j way r
+        go : (v : verdict t ≡ 0) (hc : c₁ < at.countedCount t) → j ≤ at.inside t level i c₁ → Landed t v c₁ hc level i j way r
         go v hc high =
             let n = x - at.link t level i in
             let hi = kept-in t level i (kept .kept) in
@@ -419,43 +424,46 @@ module _ (t : List ℕ) (field : CountField) (level b i j way below : ℕ) (kept
             let e : at.link t level i + n ≡ x = omega (arith, ch .link-low) in
             let e₁ : at.link t level i + (n + 1) ≡ x + 1 = omega (arith, ch .link-low) in
             let within : n < pieces (len t level i) (at.fullLength t (level + 1)) = rw (lower .b-is) at (ch .within) in
-            let next : n + 1 < pieces (len t level i) (at.fullLength t (level + 1)) → j ≤ at.before t (level + 1) (at.link t level i + (n + 1)) (field .number) =
+            let next : n + 1 < pieces (len t level i) (at.fullLength t (level + 1)) → j ≤ at.before t (level + 1) (at.link t level i + (n + 1)) c₁ =
             λ q. rw e₁ (ch .next (rw (lower .b-is) q)) in
-            let holds : j ≤ at.before t (level + 1) x (field .number) + at.inside t (level + 1) x (field .number) =
-            rw e at (finds.child-holds t (k t v) (d t v) (a t v) (field .number) hc level i hl hi k₁ n j within high next) in
+            let holds : j ≤ at.before t (level + 1) x c₁ + at.inside t (level + 1) x c₁ =
+            rw e at (finds.child-holds t (k t v) (d t v) (a t v) c₁ hc level i hl hi k₁ n j within high next) in
             let z = f .right v hc (omega (arith, ch .rest-is, ch .before-low)) in
             let q = z .place in
             let lands : finds.Lands t (k t v)
-            (d t v) (a t v) (field .number) hc (level + 1) (at.link t level i + n) (j - at.before t (level + 1) (at.link t level i + n) (field .number)) q (z .entered) =
-            lands-same t v (field .number) hc (level + 1) x (at.link t level i + n)
-            rest (j - at.before t (level + 1) (at.link t level i + n) (field .number)) q (z .entered) (sym e) (rw e (ch .rest-is)) (z .lands) in
-            let low : at.before t (level + 1) (at.link t level i + n) (field .number) < j = rw e (ch .before-low) in
+            (d t v) (a t v) c₁ hc (level + 1) (at.link t level i + n) (j - at.before t (level + 1) (at.link t level i + n) c₁) q (z .entered) =
+            lands-same t v c₁ hc (level + 1) x (at.link t level i + n)
+            rest (j - at.before t (level + 1) (at.link t level i + n) c₁) q (z .entered) (sym e) (rw e (ch .rest-is)) (z .lands) in
+            let low : at.before t (level + 1) (at.link t level i + n) c₁ < j = rw e (ch .before-low) in
             let place : o ≡ n * at.fullLength t (level + 1) = ch .place-is ∙ rw (lower .b-is) in record {
               place = n * at.fullLength t (level + 1) + q;
               entered = z .entered + 1;
               is = way-on (n * at.fullLength t (level + 1)) q (z .entered) (z .is) place;
-              lands = finds.lands-child t (k t v) (d t v) (a t v) (field .number) hc level i n j q (z .entered) hl hi k₁ within low lands;
+              lands = finds.lands-child t (k t v) (d t v) (a t v) c₁ hc level i n j q (z .entered) hl hi k₁ within low lands;
             }
           where
             way-on : (p q e : ℕ) → r ≡ further + e * 281474976710656 + q → o ≡ p → r ≡ way + (e + 1) * 281474976710656 + (p + q)
             way-on p q e h s = omega (arith, further-is)
 
-  pub no-child : (r : ℕ) → (verdict t ≡ 0 → ⊥) → FoundIn t (field .number) level i j way r
-  no-child r never = not-found t (field .number) level i j way r (λ v hc high. never v)
+  pub no-child : (r : ℕ) → (verdict t ≡ 0 → ⊥) → FoundIn t c₁ level i j way r
+  no-child r never = not-found t c₁ level i j way r (λ v hc high. never v)
 
 -- From a pointing block to its target.
 module _ (t : List ℕ) (field : CountField) (level b i j way : ℕ) (points : PointsIn t (field .size) level b i)
     (seeks : Seeking t field level b j way (2 * level)) where
-  pub last-points : (r : ℕ) → level + 1 ≡ H t → FoundIn t (field .number) level i j way r
+  abbrev c₂ : ℕ
+  c₂ = field .number
+
+  pub last-points : (r : ℕ) → level + 1 ≡ H t → FoundIn t c₂ level i j way r
   last-points r last =
-      not-found t (field .number) level i j way r (λ v hc high.
-      omega (arith, points-at t (field .size) (field .number) level b i j (at.link t level i) points (seeks .number-in) (seeks .low) refl v .above))
+      not-found t c₂ level i j way r (λ v hc high.
+      omega (arith, points-at t (field .size) c₂ level b i j (at.link t level i) points (seeks .number-in) (seeks .low) refl v .above))
 
   pub gap-small : (gap : ℕ) → gap ≡ at.gap t level i → gap ≤ maxText
   gap-small gap e = omega (arith, pointing-gap t level i (points .points), points .on .b-is, b-small t (field .size) level b (points .on))
 
   module _ (x forward rest gap further : ℕ)
-      (am : Aimed t (field .number) level i b j x forward rest) (gap-is : gap ≡ at.gap t level i) (further-is : further ≡ entering way forward gap) where
+      (am : Aimed t c₂ level i b j x forward rest) (gap-is : gap ≡ at.gap t level i) (further-is : further ≡ entering way forward gap) where
     pub aimed-kept : KeptIn t (field .size) level b x
     aimed-kept = record { on = points .on; kept = am .kept }
 
@@ -469,29 +477,29 @@ module _ (t : List ℕ) (field : CountField) (level b i j way : ℕ) (points : P
       near = omega (arith, seeks .near, am .forward-low, b-small t (field .size) level b (points .on));
     }
 
-    pub by-aimed : (r : ℕ) → FoundIn t (field .number) level x rest further r → FoundIn t (field .number) level i j way r
+    pub by-aimed : (r : ℕ) → FoundIn t c₂ level x rest further r → FoundIn t c₂ level i j way r
     unfolding entering
     by-aimed r f = record { right = λ v hc high. go v hc high (am .either) }
       where
         way-on : (q e : ℕ) → r ≡ further + e * 281474976710656 + q → gap ≤ forward + q → r ≡ way + (e + 1) * 281474976710656 + (forward + q - gap)
         way-on q e h low = omega (arith, further-is, gap-small gap gap-is)
 
-        go : (v : verdict t ≡ 0) (hc : (field .number) < at.countedCount t) → j ≤ at.inside t level i (field .number)
+        go : (v : verdict t ≡ 0) (hc : c₂ < at.countedCount t) → j ≤ at.inside t level i c₂
             → ((x ≡ at.link t level i)
-            × (forward ≡ 0) × (rest ≡ j + at.skip t level i (field .number)) × (rest ≤ at.inside t level (at.link t level i) (field .number)))
-            ⊎ ((x ≡ at.link t level i + 1) × (forward ≡ b) × (at.inside t level (at.link t level i) (field .number) < j + at.skip t level i (field .number))
-            × (rest ≡ j + at.skip t level i (field .number) - at.inside t level (at.link t level i) (field .number)))
-            → Landed t v (field .number) hc level i j way r
+            × (forward ≡ 0) × (rest ≡ j + at.skip t level i c₂) × (rest ≤ at.inside t level (at.link t level i) c₂))
+            ⊎ ((x ≡ at.link t level i + 1) × (forward ≡ b) × (at.inside t level (at.link t level i) c₂ < j + at.skip t level i c₂)
+            × (rest ≡ j + at.skip t level i c₂ - at.inside t level (at.link t level i) c₂))
+            → Landed t v c₂ hc level i j way r
         go v hc high (inl s) =
             let hi = pointing-in t level i (points .points) in
             let un = not-kept t level i (points .points) in
-            let most-here : rest ≤ at.inside t level x (field .number) = rw (s .0) (s .3) in
+            let most-here : rest ≤ at.inside t level x c₂ = rw (s .0) (s .3) in
             let z = f .right v hc most-here in
             let q = z .place in
-            let lands : finds.Lands t (k t v) (d t v) (a t v) (field .number) hc level (at.link t level i) (j + at.skip t level i (field .number)) q (z .entered) =
-            lands-same t v (field .number) hc level x (at.link t level i) rest (j + at.skip t level i (field .number)) q (z .entered) (s .0) (s .2) (z .lands) in
+            let lands : finds.Lands t (k t v) (d t v) (a t v) c₂ hc level (at.link t level i) (j + at.skip t level i c₂) q (z .entered) =
+            lands-same t v c₂ hc level x (at.link t level i) rest (j + at.skip t level i c₂) q (z .entered) (s .0) (s .2) (z .lands) in
             let got = finds.lands-first
-            t (k t v) (d t v) (a t v) (field .number) hc level i j (points .on .level-in) hi un (seeks .low) high q (z .entered) lands in
+            t (k t v) (d t v) (a t v) c₂ hc level i j (points .on .level-in) hi un (seeks .low) high q (z .entered) lands in
             let same : forward + q - gap ≡ q - at.gap t level i = omega (arith, s .1) in record {
               place = q - at.gap t level i;
               entered = z .entered + 1;
@@ -501,16 +509,16 @@ module _ (t : List ℕ) (field : CountField) (level b i j way : ℕ) (points : P
         go v hc high (inr s) =
             let hi = pointing-in t level i (points .points) in
             let un = not-kept t level i (points .points) in
-            let second = finds.second-holds t (k t v) (d t v) (a t v) (field .number) hc level i j (points .on .level-in) hi un (seeks .low) high (s .2) in
-            let most-here : rest ≤ at.inside t level x (field .number) = rw (s .0, s .3) (second .1) in
+            let second = finds.second-holds t (k t v) (d t v) (a t v) c₂ hc level i j (points .on .level-in) hi un (seeks .low) high (s .2) in
+            let most-here : rest ≤ at.inside t level x c₂ = rw (s .0, s .3) (second .1) in
             let z = f .right v hc most-here in
             let q = z .place in
             let lands : finds.Lands t (k t v) (d t v)
-            (a t v) (field .number) hc level (at.link t level i + 1) (j + at.skip t level i (field .number) - at.inside t level (at.link t level i) (field .number)) q (z .entered) =
-            lands-same t v (field .number) hc level x (at.link t level i + 1)
-            rest (j + at.skip t level i (field .number) - at.inside t level (at.link t level i) (field .number)) q (z .entered) (s .0) (s .3) (z .lands) in
+            (a t v) c₂ hc level (at.link t level i + 1) (j + at.skip t level i c₂ - at.inside t level (at.link t level i) c₂) q (z .entered) =
+            lands-same t v c₂ hc level x (at.link t level i + 1)
+            rest (j + at.skip t level i c₂ - at.inside t level (at.link t level i) c₂) q (z .entered) (s .0) (s .3) (z .lands) in
             let got = finds.lands-second
-            t (k t v) (d t v) (a t v) (field .number) hc level i j (points .on .level-in) hi un (seeks .low) high (s .2) q (z .entered) lands in
+            t (k t v) (d t v) (a t v) c₂ hc level i j (points .on .level-in) hi un (seeks .low) high (s .2) q (z .entered) lands in
             let full = points .on .b-is in
             let same : forward + q - gap ≡ at.fullLength t level + q - at.gap t level i = omega (arith, s .1) in record {
               place = at.fullLength t level + q - at.gap t level i;
@@ -519,5 +527,5 @@ module _ (t : List ℕ) (field : CountField) (level b i j way : ℕ) (points : P
               lands = got .1;
             }
 
-  pub no-aimed : (r : ℕ) → (verdict t ≡ 0 → j ≤ at.inside t level i (field .number) → ⊥) → FoundIn t (field .number) level i j way r
-  no-aimed r never = not-found t (field .number) level i j way r (λ v hc high. never v high)
+  pub no-aimed : (r : ℕ) → (verdict t ≡ 0 → j ≤ at.inside t level i c₂ → ⊥) → FoundIn t c₂ level i j way r
+  no-aimed r never = not-found t c₂ level i j way r (λ v hc high. never v high)

@@ -83,8 +83,10 @@ fn larger(a: u32, b: u32) -> u32
 // The largest before of the four blocks after a block.
 fn largest_before(t: &[u8], field: CountField, level: u32, block: BlockNumber) -> u32
     requires { ⌜ (Siblings (now t) field level (block .0) (block .0 + 5)) × (block .0 + 4 < 4294967296) ⌝ }
-    ensures { λ r. ⌜ (at.before (now (t .entry)) level (block .0 + 1) (field .number) ≤ r) × (at.before (now (t .entry)) level (block .0 + 2) (field .number) ≤ r)
-        × (at.before (now (t .entry)) level (block .0 + 3) (field .number) ≤ r) × (at.before (now (t .entry)) level (block .0 + 4) (field .number) ≤ r) ⌝ }
+    ensures { λ r. ⌜ (at.before (now (t .entry)) level (block .0 + 1) (field .number) ≤ r)
+        × (at.before (now (t .entry)) level (block .0 + 2) (field .number) ≤ r)
+        × (at.before (now (t .entry)) level (block .0 + 3) (field .number) ≤ r)
+        × (at.before (now (t .entry)) level (block .0 + 4) (field .number) ≤ r) ⌝ }
 {
     let size = field.size;
     let number = field.number;
@@ -336,14 +338,7 @@ fn kept_step(t: &[u8], field: CountField, on: On, block: BlockNumber, j: u64, wa
 }
 
 // From a pointing block to the target that holds its j-th byte; on the last level no block points.
-fn pointing_step(
-    t: &[u8],
-    field: CountField,
-    on: On,
-    block: BlockNumber,
-    j: u64,
-    way: u64,
-) -> u64
+fn pointing_step(t: &[u8], field: CountField, on: On, block: BlockNumber, j: u64, way: u64) -> u64
     requires { ⌜ (PointsIn (now t) (field .size) (on .level) (on .b) (block .0)) × (Seeking (now t) field (on .level) (on .b) j way (2 * on .level)) ⌝ }
     ensures { λ r. ⌜ FoundIn (now (t .entry)) (field .number) (on .level) (block .0) j way r ⌝ }
 {
@@ -365,7 +360,8 @@ fn pointing_step(
 
 // The block of level 0 that holds the j-th byte of the text.
 fn first_block(t: &[u8], field: CountField, j: u64) -> BlockNumber
-    requires { ⌜ (OnLevel (now t) (field .size) 0 (at.fullLength (now t) 0)) × (field .number < at.countedCount (now t)) × (1 ≤ total (now t) (field .number)) ⌝ }
+    requires { ⌜ (OnLevel (now t) (field .size) 0 (at.fullLength (now t) 0)) × (field .number < at.countedCount (now t))
+        × (1 ≤ total (now t) (field .number)) ⌝ }
     ensures { λ r. ⌜ LastBefore (now (t .entry)) (field .number) 0 0 (at.levelCount (now (t .entry)) 0) j (r .0) ⌝ }
 {
     let all = Blocks {

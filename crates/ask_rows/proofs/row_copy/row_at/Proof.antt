@@ -22,8 +22,7 @@ row-at-spec =
     let k = laws.copied _ _ _ _ _ (Refused 13) (omega arith) (span-short _ _ _ _ _ _ _ passes (edges .within) (c .if1 .taken)) in
     record { says = laws.row-spans _ _ (edge.settled-sound _ _ _) _ _ _ _ _ _ passes edges (k .0 .says) (k .1); numbered = omega arith })
     (λ c κs. let header = c .before .before .before .before .before .before .before .before .before .pre in
-    let edges = c .before .before .before .before .before .of-row .ensures .spans _ _ _ (c .before .before .before .found .given .1) in
-    (
+    let edges = c .before .before .before .before .before .of-row .ensures .spans _ _ _ (c .before .before .before .found .given .1) in (
       header,
       omega (arith, edges .within, header .length-is),
       c .before .if1 .left,

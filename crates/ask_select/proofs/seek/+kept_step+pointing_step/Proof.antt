@@ -80,53 +80,98 @@ pub +kept-step+pointing-step-spec : {M : Type 1} → statement M
     (λ c κs. rw (c .whole .ensures) (c .before .before .pre .1 .0 .on .facts .long))
     (λ c. let k = c .before .before .before .before .pre .1 .0 in record { fits = omega (arith, k .on .level-in, k .on .facts .bounds .levels-high) })
     (λ c κs.
-    let p = c .before .before .before .before .before .before .pre .1 in
-    rw (c .before .before .before .before .whole .ensures) (p .0, p .1, c .if1 .taken ∙ shapes-on _ _ _ (c .before .before .before .before .whole .ensures) (c .before .before .before .shape-of .ensures) .levels-is))
-    (λ c. rw (c .before .before .before .before .before .whole .ensures) at (c .leaf-place .ensures))
-    (λ c κs. omega (arith, shapes-on _ _ _ (c .before .before .before .before .whole .ensures) (c .before .before .before .shape-of .ensures) .arity-is, c .before .before .before .before .before .before .pre .1 .0 .on .facts .bounds .arity-low))
-    (λ c κs.
-    let p = c .before .before .before .before .before .before .before .pre .1 in
-    let low = laws.lower-level _ _ _ _ _ _ (c .before .before .before .before .before .before .before .pre .1 .0 .on) (shapes-on _ _ _ (c .before .before .before .before .before .whole .ensures) (c .before .before .before .before .shape-of .ensures)) (c .before .if1 .left) (c .quotient .ensures) in
-    rw (c .before .before .before .before .before .whole .ensures) (p .0, low, p .1 .number-in, p .1 .low))
-    (λ c. search needs)
-    (λ c κs. let q = c .before .before .before .before .before .before .before .before .before .before .before .pre .1 .1 in (omega (arith, q .near, q .on .level-in, q .on .facts .bounds .levels-high), omega arith))
-    (λ c κs.
-    let S = c .before .before .before .before .before .before .before .before .before .before .before .before in
+    let s = c .before .before .before in
+    let w = s .before in
+    let S = w .before .before in
     let p = S .pre .1 in
-    let same = c .before .before .before .before .before .before .before .before .before .before .whole .ensures in
-    let low = laws.lower-level _ _ _ _ _ _ (c .before .before .before .before .before .before .before .before .before .before .before .before .pre .1 .0 .on) (shapes-on _ _ _ (c .before .before .before .before .before .before .before .before .before .before .whole .ensures) (c .before .before .before .before .before .before .before .before .before .shape-of .ensures)) (c .before .before .before .before .before .before .if1 .left) (c .before .before .before .before .before .quotient .ensures) in
+    let same = w .whole .ensures in
+    rw same (p .0, p .1, c .if1 .taken ∙ shapes-on _ _ _ same (s .shape-of .ensures) .levels-is))
+    (λ c. rw (c .before .before .before .before .before .whole .ensures) at (c .leaf-place .ensures))
+    (λ c κs.
+    let s = c .before .before .before in
+    let w = s .before in
+    let S = w .before .before in
+    let p = S .pre .1 in
+    let same = w .whole .ensures in
+    omega (arith, shapes-on _ _ _ same (s .shape-of .ensures) .arity-is, p .0 .on .facts .bounds .arity-low))
+    (λ c κs.
+    let q = c in
+    let e = q .before in
+    let s = e .before .before .before in
+    let w = s .before in
+    let S = w .before .before in
+    let p = S .pre .1 in
+    let same = w .whole .ensures in
+    let low = laws.lower-level _ _ _ _ _ _ (p .0 .on) (shapes-on _ _ _ same (s .shape-of .ensures)) (e .if1 .left) (q .quotient .ensures) in
+    rw same (p .0, low, p .1 .number-in, p .1 .low))
+    (λ c. search needs)
+    (λ c κs.
+    let w = c .before .before .before .before .before .before .before .before .before in
+    let k = w .before .before .pre .1 .1 in
+    (omega (arith, k .near, k .on .level-in, k .on .facts .bounds .levels-high), omega arith))
+    (λ c κs.
+    let q = c .before .before .before .before .before in
+    let e = q .before in
+    let s = e .before .before .before in
+    let w = s .before in
+    let S = w .before .before in
+    let p = S .pre .1 in
+    let same = w .whole .ensures in
+    let low = laws.lower-level _ _ _ _ _ _ (p .0 .on) (shapes-on _ _ _ same (s .shape-of .ensures)) (e .if1 .left) (q .quotient .ensures) in
     let z = rw same at (c .before .before .before .before .child-with .ensures) .kept _ _ _ (c .before .before .next .given .1) in (
       omega (arith, S .pre .0, ap levels same, low .level-in),
       rw same (record { on = low; kept = z .1 }, laws.to-child _ _ _ _ _ _ _ _ (p .0) (p .1) low _ _ _ _ (z .0) (c .enter .ensures) _ (omega arith)),
     ))
     (λ c. search needs)
-    (λ c κs. let q = c .before .before .before .before .before .before .before .before .before .before .before .pre .1 .1 in (omega (arith, q .near, q .on .level-in, q .on .facts .bounds .levels-high), omega arith))
     (λ c κs.
-    let S = c .before .before .before .before .before .before .before .before .before .before .before .before in
+    let w = c .before .before .before .before .before .before .before .before .before in
+    let k = w .before .before .pre .1 .1 in
+    (omega (arith, k .near, k .on .level-in, k .on .facts .bounds .levels-high), omega arith))
+    (λ c κs.
+    let q = c .before .before .before .before .before in
+    let e = q .before in
+    let s = e .before .before .before in
+    let w = s .before in
+    let S = w .before .before in
     let p = S .pre .1 in
-    let same = c .before .before .before .before .before .before .before .before .before .before .whole .ensures in
-    let low = laws.lower-level _ _ _ _ _ _ (c .before .before .before .before .before .before .before .before .before .before .before .before .pre .1 .0 .on) (shapes-on _ _ _ (c .before .before .before .before .before .before .before .before .before .before .whole .ensures) (c .before .before .before .before .before .before .before .before .before .shape-of .ensures)) (c .before .before .before .before .before .before .if1 .left) (c .before .before .before .before .before .quotient .ensures) in
+    let same = w .whole .ensures in
+    let low = laws.lower-level _ _ _ _ _ _ (p .0 .on) (shapes-on _ _ _ same (s .shape-of .ensures)) (e .if1 .left) (q .quotient .ensures) in
     let z = rw same at (c .before .before .before .before .child-with .ensures) .points _ _ _ (c .before .before .next2 .given .1) in (
       omega (arith, S .pre .0, ap levels same, low .level-in),
       rw same (record { on = low; points = z .1 }, laws.to-child _ _ _ _ _ _ _ _ (p .0) (p .1) low _ _ _ _ (z .0) (c .enter2 .ensures) _ (omega arith)),
     ))
     (λ c. search needs)
     (λ c.
-    let p = c .before .before .before .before .before .before .before .before .before .before .before .before .before .pre .1 in
-    let same = c .before .before .before .before .before .before .before .before .before .before .before .whole .ensures in
-    let low = laws.lower-level _ _ _ _ _ _ (c .before .before .before .before .before .before .before .before .before .before .before .before .before .pre .1 .0 .on) (shapes-on _ _ _ (c .before .before .before .before .before .before .before .before .before .before .before .whole .ensures) (c .before .before .before .before .before .before .before .before .before .before .shape-of .ensures)) (c .before .before .before .before .before .before .before .if1 .left) (c .before .before .before .before .before .before .quotient .ensures) in
+    let q = c .before .before .before .before .before .before in
+    let e = q .before in
+    let s = e .before .before .before in
+    let w = s .before in
+    let S = w .before .before in
+    let p = S .pre .1 in
+    let same = w .whole .ensures in
+    let low = laws.lower-level _ _ _ _ _ _ (p .0 .on) (shapes-on _ _ _ same (s .shape-of .ensures)) (e .if1 .left) (q .quotient .ensures) in
     let z = rw same at (c .before .before .before .before .before .child-with .ensures) .kept _ _ _ (c .before .before .before .next .given .1) in
     laws.by-child _ _ _ _ _ _ _ _ (p .0) (p .1) low _ _ _ _ (z .0) (c .before .enter .ensures) _ (rw same at (c .kept-step .ensures)))
     (λ c.
-    let p = c .before .before .before .before .before .before .before .before .before .before .before .before .before .pre .1 in
-    let same = c .before .before .before .before .before .before .before .before .before .before .before .whole .ensures in
-    let low = laws.lower-level _ _ _ _ _ _ (c .before .before .before .before .before .before .before .before .before .before .before .before .before .pre .1 .0 .on) (shapes-on _ _ _ (c .before .before .before .before .before .before .before .before .before .before .before .whole .ensures) (c .before .before .before .before .before .before .before .before .before .before .shape-of .ensures)) (c .before .before .before .before .before .before .before .if1 .left) (c .before .before .before .before .before .before .quotient .ensures) in
+    let q = c .before .before .before .before .before .before in
+    let e = q .before in
+    let s = e .before .before .before in
+    let w = s .before in
+    let S = w .before .before in
+    let p = S .pre .1 in
+    let same = w .whole .ensures in
+    let low = laws.lower-level _ _ _ _ _ _ (p .0 .on) (shapes-on _ _ _ same (s .shape-of .ensures)) (e .if1 .left) (q .quotient .ensures) in
     let z = rw same at (c .before .before .before .before .before .child-with .ensures) .points _ _ _ (c .before .before .before .next2 .given .1) in
     laws.by-child _ _ _ _ _ _ _ _ (p .0) (p .1) low _ _ _ _ (z .0) (c .before .enter2 .ensures) _ (rw same at (c .pointing-step .ensures)))
     (λ c.
-    let p = c .before .before .before .before .before .before .before .before .before .before .pre .1 in
-    let same = c .before .before .before .before .before .before .before .before .whole .ensures in
-    let low = laws.lower-level _ _ _ _ _ _ (c .before .before .before .before .before .before .before .before .before .before .pre .1 .0 .on) (shapes-on _ _ _ (c .before .before .before .before .before .before .before .before .whole .ensures) (c .before .before .before .before .before .before .before .shape-of .ensures)) (c .before .before .before .before .if1 .left) (c .before .before .before .quotient .ensures) in
+    let q = c .before .before .before in
+    let e = q .before in
+    let s = e .before .before .before in
+    let w = s .before in
+    let S = w .before .before in
+    let p = S .pre .1 in
+    let same = w .whole .ensures in
+    let low = laws.lower-level _ _ _ _ _ _ (p .0 .on) (shapes-on _ _ _ same (s .shape-of .ensures)) (e .if1 .left) (q .quotient .ensures) in
     laws.no-child _ _ _ _ _ _ _ _ (p .0) (p .1) low _ (rw same at (c .before .before .child-with .ensures) .off (c .enum-told .given .1))))
     (λ t. pointing-step-lts.spec (
       whole-reads.Asked,
@@ -148,26 +193,43 @@ pub +kept-step+pointing-step-spec : {M : Type 1} → statement M
     (λ c κs. rw (c .whole .ensures) (c .before .before .pre .1 .0 .on .facts .long))
     (λ c. let k = c .before .before .before .before .pre .1 .0 in record { fits = omega (arith, k .on .level-in, k .on .facts .bounds .levels-high) })
     (λ c.
-    let p = c .before .before .before .before .before .before .pre .1 in
-    laws.last-points _ _ _ _ _ _ _ (p .0) (p .1) _ (c .if1 .taken ∙ shapes-on _ _ _ (c .before .before .before .before .whole .ensures) (c .before .before .before .shape-of .ensures) .levels-is))
+    let s = c .before .before .before in
+    let w = s .before in
+    let S = w .before .before in
+    let p = S .pre .1 in
+    let same = w .whole .ensures in
+    laws.last-points _ _ _ _ _ _ _ (p .0) (p .1) _ (c .if1 .taken ∙ shapes-on _ _ _ same (s .shape-of .ensures) .levels-is))
     (λ c κs.
-    let p = c .before .before .before .before .before .before .pre .1 .0 in
-    rw (c .before .before .before .before .whole .ensures) (field-there _ _ _ _ _ 3 (p .on) (pointing-in _ _ _ (p .points)) (omega arith)))
+    let s = c .before .before .before in
+    let w = s .before in
+    let S = w .before .before in
+    let p = S .pre .1 in
+    let same = w .whole .ensures in
+    rw same (field-there _ _ _ _ _ 3 (p .0 .on) (pointing-in _ _ _ (p .0 .points)) (omega arith)))
     (λ c κs.
-    let p = c .before .before .before .before .before .before .before .pre .1 in
-    rw (c .before .before .before .before .before .whole .ensures)
-    (p .0, p .1 .number-in, p .1 .low, omega (arith, p .1 .few, p .0 .on .level-in, p .0 .on .facts .bounds .levels-high)))
+    let s = c .before .before .before .before in
+    let w = s .before in
+    let S = w .before .before in
+    let p = S .pre .1 in
+    let same = w .whole .ensures in
+    rw same (p .0, p .1 .number-in, p .1 .low, omega (arith, p .1 .few, p .0 .on .level-in, p .0 .on .facts .bounds .levels-high)))
     (λ c. search needs)
     (λ c κs.
-    let p = c .before .before .before .before .before .before .before .before .before .before .before .pre .1 in
-    let gap = rw (c .before .before .before .before .before .before .before .before .before .whole .ensures) at (c .before .before .before .before .gap .ensures) in (
+    let s = c .before .before .before .before .before .before .before .before in
+    let w = s .before in
+    let S = w .before .before in
+    let p = S .pre .1 in
+    let same = w .whole .ensures in
+    let gap = rw same at (c .before .before .before .before .gap .ensures) in (
       omega (arith, p .1 .near, p .1 .on .level-in, p .1 .on .facts .bounds .levels-high),
       laws.gap-small _ _ _ _ _ _ _ (p .0) (p .1) _ gap,
     ))
     (λ c κs.
-    let S = c .before .before .before .before .before .before .before .before .before .before .before .before in
+    let s = c .before .before .before .before .before .before .before .before .before in
+    let w = s .before in
+    let S = w .before .before in
     let p = S .pre .1 in
-    let same = c .before .before .before .before .before .before .before .before .before .before .whole .ensures in
+    let same = w .whole .ensures in
     let gap = rw same at (c .before .before .before .before .before .gap .ensures) in
     let z = rw same at (c .before .before .before .before .target-with .ensures) .kept _ _ _ (c .before .before .next .given .1) in (
       omega (arith, S .pre .0, ap levels same),
@@ -178,12 +240,18 @@ pub +kept-step+pointing-step-spec : {M : Type 1} → statement M
     ))
     (λ c. search needs)
     (λ c.
-    let p = c .before .before .before .before .before .before .before .before .before .before .before .before .before .pre .1 in
-    let same = c .before .before .before .before .before .before .before .before .before .before .before .whole .ensures in
+    let s = c .before .before .before .before .before .before .before .before .before .before in
+    let w = s .before in
+    let S = w .before .before in
+    let p = S .pre .1 in
+    let same = w .whole .ensures in
     let gap = rw same at (c .before .before .before .before .before .before .gap .ensures) in
     let z = rw same at (c .before .before .before .before .before .target-with .ensures) .kept _ _ _ (c .before .before .before .next .given .1) in
     laws.by-aimed _ _ _ _ _ _ _ (p .0) (p .1) _ _ _ _ _ z gap (c .before .enter .ensures) _ (rw same at (c .kept-step .ensures)))
     (λ c.
-    let p = c .before .before .before .before .before .before .before .before .before .before .pre .1 in
-    let same = c .before .before .before .before .before .before .before .before .whole .ensures in
+    let s = c .before .before .before .before .before .before .before in
+    let w = s .before in
+    let S = w .before .before in
+    let p = S .pre .1 in
+    let same = w .whole .ensures in
     laws.no-aimed _ _ _ _ _ _ _ (p .0) (p .1) _ (rw same at (c .before .before .target-with .ensures) .off (c .enum-told .given .1))))

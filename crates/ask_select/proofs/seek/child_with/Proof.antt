@@ -26,25 +26,62 @@ child-with-spec =
     (λ c. search needs)
     (λ c. search needs)
     (λ c. search needs)
-    (λ c. let p = c .before .before .before .before .before .before .before .before .before .pre in
-    let n = rw (c .before .before .before .before .before .block-length .ensures .0) at (c .before .before .before .before .children .ensures) in
-    laws.child-past _ _ _ _ _ _ _ _ _ (p .0) (p .1) (p .2) (p .3) (c .before .before .before .before .before .before .link .ensures) n (omega (arith, c .before .before .level-count .ensures, c .if1 .taken)))
-    (λ c. let p = c .before .before .before .before .before .before .before .before .before .before .pre in
-    let n = rw (c .before .before .before .before .before .before .block-length .ensures .0) at (c .before .before .before .before .before .children .ensures) in
-    laws.child-none _ _ _ _ _ _ _ _ _ (p .0) (p .1) (p .2) (p .3) (c .before .before .before .before .before .before .before .link .ensures) n (c .if2 .taken))
+    (λ c.
+    let k = c .before .before .before .before in
+    let l = k .before .before in
+    let p = l .before .before .before .pre in
+    let n = rw (k .before .block-length .ensures .0) at (k .children .ensures) in
+    laws.child-past _ _ _ _ _ _ _ _ _ (p .0) (p .1) (p .2) (p .3) (l .link .ensures) n
+    (omega (arith, c .before .before .level-count .ensures, c .if1 .taken)))
+    (λ c.
+    let k = c .before .before .before .before .before in
+    let l = k .before .before in
+    let p = l .before .before .before .pre in
+    let n = rw (k .before .block-length .ensures .0) at (k .children .ensures) in
+    laws.child-none _ _ _ _ _ _ _ _ _ (p .0) (p .1) (p .2) (p .3) (l .link .ensures) n
+    (c .if2 .taken))
     (λ c. search needs)
     (λ c. search needs)
-    (λ c κs. let p = c .before .before .before .before .before .before .before .before .before .before .before .before .pre in
-    let n = rw (c .before .before .before .before .before .before .before .before .block-length .ensures .0) at (c .before .before .before .before .before .before .before .children .ensures) in
-    laws.siblings _ _ _ _ _ _ _ _ _ (p .0) (p .1) (p .2) (p .3) (c .before .before .before .before .before .before .before .before .before .link .ensures) n (omega (arith, c .before .before .before .before .before .level-count .ensures, c .before .before .before .if1 .left)) (c .before .before .if2 .left))
+    (λ c κs.
+    let e = c .before .before .before in
+    let v = e .before .before in
+    let k = v .before .before in
+    let l = k .before .before in
+    let p = l .before .before .before .pre in
+    let n = rw (k .before .block-length .ensures .0) at (k .children .ensures) in
+    laws.siblings _ _ _ _ _ _ _ _ _ (p .0) (p .1) (p .2) (p .3) (l .link .ensures) n
+    (omega (arith, v .level-count .ensures, e .if1 .left)) (c .before .before .if2 .left))
     (λ c. search needs)
-    (λ c. let k = (let p = c .before .before .before .before .before .before .before .before .before .before .before .before .before .before .before .before .pre in
-    let n = rw (c .before .before .before .before .before .before .before .before .before .before .before .before .block-length .ensures .0) at (c .before .before .before .before .before .before .before .before .before .before .before .children .ensures) in
-    laws.child-place-small _ _ _ _ _ _ _ _ _ (p .0) (p .1) (p .2) (p .3) (c .before .before .before .before .before .before .before .before .before .before .before .before .before .link .ensures) n _ (omega (arith, c .before .before .before .before .before .before .before .before .before .level-count .ensures, c .before .before .before .before .before .before .before .if1 .left)) (c .before .before .before .last-child .ensures)) in omega (arith, k))
-    (λ c. let p = c .before .before .before .before .before .before .before .before .before .before .before .before .before .before .before .before .before .pre .1 in record { fits = omega (arith, p .level-in, p .facts .bounds .levels-high) })
-    (λ c κs. (let p = c .before .before .before .before .before .before .before .before .before .before .before .before .before .before .before .before .before .pre in
-    let n = rw (c .before .before .before .before .before .before .before .before .before .before .before .before .before .block-length .ensures .0) at (c .before .before .before .before .before .before .before .before .before .before .before .before .children .ensures) in
-    laws.child-there _ _ _ _ _ _ _ _ _ (p .0) (p .1) (p .2) (p .3) (c .before .before .before .before .before .before .before .before .before .before .before .before .before .before .link .ensures) n _ (omega (arith, c .before .before .before .before .before .before .before .before .before .before .level-count .ensures, c .before .before .before .before .before .before .before .before .if1 .left)) (c .before .before .before .before .last-child .ensures), c .before .before .before .before .before .before .before .before .before .before .before .before .before .before .before .before .before .pre .2))
-    (λ c. let p = c .before .before .before .before .before .before .before .before .before .before .before .before .before .before .before .before .before .before .pre in
-    let n = rw (c .before .before .before .before .before .before .before .before .before .before .before .before .before .before .block-length .ensures .0) at (c .before .before .before .before .before .before .before .before .before .before .before .before .before .children .ensures) in
-    laws.child-picked _ _ _ _ _ _ _ _ _ (p .0) (p .1) (p .2) (p .3) (c .before .before .before .before .before .before .before .before .before .before .before .before .before .before .before .link .ensures) n _ (omega (arith, c .before .before .before .before .before .before .before .before .before .before .before .level-count .ensures, c .before .before .before .before .before .before .before .before .before .if1 .left)) (c .before .before .before .before .before .last-child .ensures) _ (c .pick .ensures)))
+    (λ c.
+    let e = c .before .before .before .before .before .before .before in
+    let v = e .before .before in
+    let k = v .before .before in
+    let l = k .before .before in
+    let p = l .before .before .before .pre in
+    let n = rw (k .before .block-length .ensures .0) at (k .children .ensures) in
+    let small = laws.child-place-small _ _ _ _ _ _ _ _ _ (p .0) (p .1) (p .2) (p .3) (l .link .ensures) n
+    _ (omega (arith, v .level-count .ensures, e .if1 .left)) (c .before .before .before .last-child .ensures) in
+    omega (arith, small))
+    (λ c.
+    let e = c .before .before .before .before .before .before .before .before in
+    let p = e .before .before .before .before .before .before .before .before .before .pre .1 in
+    record { fits = omega (arith, p .level-in, p .facts .bounds .levels-high) })
+    (λ c κs.
+    let e = c .before .before .before .before .before .before .before .before in
+    let v = e .before .before in
+    let k = v .before .before in
+    let l = k .before .before in
+    let p = l .before .before .before .pre in
+    let n = rw (k .before .block-length .ensures .0) at (k .children .ensures) in
+    let there = laws.child-there _ _ _ _ _ _ _ _ _ (p .0) (p .1) (p .2) (p .3) (l .link .ensures) n
+    _ (omega (arith, v .level-count .ensures, e .if1 .left)) (c .before .before .before .before .last-child .ensures) in
+    (there, p .2))
+    (λ c.
+    let e = c .before .before .before .before .before .before .before .before .before in
+    let v = e .before .before in
+    let k = v .before .before in
+    let l = k .before .before in
+    let p = l .before .before .before .pre in
+    let n = rw (k .before .block-length .ensures .0) at (k .children .ensures) in
+    laws.child-picked _ _ _ _ _ _ _ _ _ (p .0) (p .1) (p .2) (p .3) (l .link .ensures) n
+    _ (omega (arith, v .level-count .ensures, e .if1 .left)) (c .before .before .before .before .before .last-child .ensures) _ (c .pick .ensures)))

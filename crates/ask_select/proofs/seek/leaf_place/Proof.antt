@@ -17,30 +17,53 @@ leaf-place-spec =
     (λ c. search needs)
     (λ c. search needs)
     (λ c.
-    let p = c .before .before .before .before .before .before .before .pre in
-    let x = shapes _ _ (c .before .before .before .before .before .shape-of .ensures) in
-    laws.leaf-past _ _ _ _ _ _ _ _ _ _ _ _ (p .0) (p .2) (c .before .before .before .before .link .ensures) (c .before .before .before .block-length .ensures) (x .offset-is) (x .count-is) _ (c .if1 .taken))
+    let b = c .before .before .before in
+    let l = b .before in
+    let h = l .before in
+    let p = h .before .before .pre in
+    let x = shapes _ _ (h .shape-of .ensures) in
+    laws.leaf-past _ _ _ _ _ _ _ _ _ _ _ _ (p .0) (p .2) (l .link .ensures) (b .block-length .ensures)
+    (x .offset-is) (x .count-is) _ (c .if1 .taken))
     (λ c. search needs)
     (λ c. search needs)
     (λ c. search needs)
     (λ c. search needs)
-    (λ c. let p = c .before .before .before .before .before .before .before .before .before .before .pre .1 in omega (arith, p .number-in, p .on .facts .bounds .counted-high))
-    (λ c. let p = c .before .before .before .before .before .before .before .before .before .before .before .pre .1 in omega (arith, p .number-in, p .on .facts .bounds .counted-high, p .on .facts .long))
+    (λ c.
+    let b = c .before .before .before .before .before .before in
+    let p = b .before .before .before .before .pre .1 in
+    omega (arith, p .number-in, p .on .facts .bounds .counted-high))
+    (λ c.
+    let b = c .before .before .before .before .before .before .before in
+    let p = b .before .before .before .before .pre .1 in
+    omega (arith, p .number-in, p .on .facts .bounds .counted-high, p .on .facts .long))
     (λ c κs.
-    let p = c .before .before .before .before .before .before .before .before .before .before .before .pre in
-    let x = shapes _ _ (c .before .before .before .before .before .before .before .before .before .shape-of .ensures) in (
-      laws.leaf-room _ _ 0 _ _ _ 0 0 _ _ _ _ (p .0) (p .2) (c .before .before .before .before .before .before .before .before .link .ensures) (c .before .before .before .before .before .before .before .block-length .ensures)
+    let b = c .before .before .before .before .before .before .before in
+    let l = b .before in
+    let h = l .before in
+    let p = h .before .before .pre in
+    let x = shapes _ _ (h .shape-of .ensures) in (
+      laws.leaf-room _ _ 0 _ _ _ 0 0 _ _ _ _ (p .0) (p .2) (l .link .ensures) (b .block-length .ensures)
           (x .offset-is) (x .count-is) (c .before .before .before .before .if1 .left),
       p .1 .low,
     ))
-    (λ c κs. let p = c .before .before .before .before .before .before .before .before .before .before .before .before .before .pre .1 in (omega (arith, p .near, p .on .level-in, p .on .facts .bounds .levels-high), omega arith))
+    (λ c κs.
+    let b = c .before .before .before .before .before .before .before .before .before in
+    let p = b .before .before .before .before .pre .1 in
+    (omega (arith, p .near, p .on .level-in, p .on .facts .bounds .levels-high), omega arith))
     (λ c.
-    let p = c .before .before .before .before .before .before .before .before .before .before .before .before .before .before .pre in
-    let x = shapes _ _ (c .before .before .before .before .before .before .before .before .before .before .before .before .shape-of .ensures) in
-    laws.leaf-found _ _ _ _ _ _ _ _ _ _ _ _ (p .0) (p .2) (c .before .before .before .before .before .before .before .before .before .before .before .link .ensures) (c .before .before .before .before .before .before .before .before .before .before .block-length .ensures) (x .offset-is) (x .count-is) 
+    let b = c .before .before .before .before .before .before .before .before .before .before in
+    let l = b .before in
+    let h = l .before in
+    let p = h .before .before .pre in
+    let x = shapes _ _ (h .shape-of .ensures) in
+    laws.leaf-found _ _ _ _ _ _ _ _ _ _ _ _ (p .0) (p .2) (l .link .ensures) (b .block-length .ensures)
+    (x .offset-is) (x .count-is)
     _ (laws.named-byte _ _ (p .0 .on .facts) (p .1 .number-in)) _ (c .before .before .nth .ensures) _ (c .before .if2 .taken) (c .enter .ensures))
     (λ c.
-    let p = c .before .before .before .before .before .before .before .before .before .before .before .before .before .pre in
-    let x = shapes _ _ (c .before .before .before .before .before .before .before .before .before .before .before .shape-of .ensures) in
-    laws.leaf-fewer _ _ _ _ _ _ _ _ _ _ _ _ (p .0) (p .2) (c .before .before .before .before .before .before .before .before .before .before .link .ensures) (c .before .before .before .before .before .before .before .before .before .block-length .ensures) (x .offset-is) (x .count-is) 
-    _ (laws.named-byte _ _ (p .0 .on .facts) (p .1 .number-in)) _ (c .before .nth .ensures) _ (c .if2 .left)))
+    let b = c .before .before .before .before .before .before .before .before .before in
+    let l = b .before in
+    let h = l .before in
+    let p = h .before .before .pre in
+    let x = shapes _ _ (h .shape-of .ensures) in
+    laws.leaf-fewer _ _ _ _ _ _ _ _ _ _ _ _ (p .0) (p .2) (l .link .ensures) (b .block-length .ensures)
+    (x .offset-is) (x .count-is) _ (laws.named-byte _ _ (p .0 .on .facts) (p .1 .number-in)) _ (c .before .nth .ensures) _ (c .if2 .left)))

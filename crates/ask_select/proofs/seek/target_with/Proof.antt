@@ -21,7 +21,8 @@ target-with-spec =
     (λ c. search needs)
     (λ c. search needs)
     (λ c κs. let w = c .before .before .before .before .before .before in counts.field-there _ _ _ _ _ _ (w .pre .0 .on .facts)
-    (w .pre .0 .on .size-is) (w .pre .0 .on .level-in) (omega (arith, c .before .before .before .level-count .ensures, c .before .if1 .left)) (w .pre .1) (omega arith))
+    (w .pre .0 .on .size-is) (w .pre .0 .on .level-in)
+    (omega (arith, c .before .before .before .level-count .ensures, c .before .if1 .left)) (w .pre .1) (omega arith))
     (λ c. search needs)
     (λ c κs. let w = c .before .before .before in let v = w .before .before .before .before .before in
     counts.full-there _ _ _ _ _ (v .pre .0 .on) (omega (arith, w .before .before .level-count .ensures, w .if1 .left)))

@@ -13,15 +13,32 @@ word-in-spec =
     (λ c. let p = c .before .before .pre in record { fits = omega (arith, laws.way-small _ _ _ _ _ (p .0) (p .1) (p .2) (p .3) (p .4) _ (omega arith) refl) })
     (λ c κs. let p = c .before .before .pre in (laws.block-there _ _ _ _ _ (p .0) (p .1) (p .2) (p .3) (p .4), p .1))
     (λ c. search needs)
-    (λ c κs. let p = c .before .before .before .before .before .before .pre in
-    laws.top-kept _ _ _ _ _ (p .0) (p .1) (p .2) (p .3) (p .4) _ (c .before .before .before .pick .ensures) _ _ _ _ (c .before .next .given .1) (omega arith) (laws.way-small _ _ _ _ _ (p .0) (p .1) (p .2) (p .3) (p .4) _ (omega arith) refl))
+    (λ c κs.
+    let k = c .before .before .before in
+    let p = k .before .before .before .pre in
+    let near = laws.way-small _ _ _ _ _ (p .0) (p .1) (p .2) (p .3) (p .4) _ (omega arith) refl in
+    laws.top-kept _ _ _ _ _ (p .0) (p .1) (p .2) (p .3) (p .4) _ (k .pick .ensures)
+    _ _ _ _ (c .before .next .given .1) (omega arith) near)
     (λ c. search needs)
-    (λ c κs. let p = c .before .before .before .before .before .before .pre in
-    laws.top-points _ _ _ _ _ (p .0) (p .1) (p .2) (p .3) (p .4) _ (c .before .before .before .pick .ensures) _ _ _ _ (c .before .next2 .given .1) (omega arith) (laws.way-small _ _ _ _ _ (p .0) (p .1) (p .2) (p .3) (p .4) _ (omega arith) refl))
+    (λ c κs.
+    let k = c .before .before .before in
+    let p = k .before .before .before .pre in
+    let near = laws.way-small _ _ _ _ _ (p .0) (p .1) (p .2) (p .3) (p .4) _ (omega arith) refl in
+    laws.top-points _ _ _ _ _ (p .0) (p .1) (p .2) (p .3) (p .4) _ (k .pick .ensures)
+    _ _ _ _ (c .before .next2 .given .1) (omega arith) near)
     (λ c. search needs)
-    (λ c. let p = c .before .before .before .before .before .before .before .pre in
-    laws.sought-kept _ _ _ _ _ (p .0) (p .1) (p .2) (p .3) (p .4) _ (c .before .before .before .before .pick .ensures) _ _ _ _ _ refl (c .kept-step .ensures) (c .before .before .next .given .1))
-    (λ c. let p = c .before .before .before .before .before .before .before .pre in
-    laws.sought-points _ _ _ _ _ (p .0) (p .1) (p .2) (p .3) (p .4) _ (c .before .before .before .before .pick .ensures) _ _ _ _ _ refl (c .pointing-step .ensures) (c .before .before .next2 .given .1))
-    (λ c. let p = c .before .before .before .before .before .pre in
-    laws.no-block _ _ _ _ _ (p .0) (p .1) (p .2) (p .3) (p .4) _ (c .before .before .pick .ensures) _ (c .enum-told .given .1)))
+    (λ c.
+    let k = c .before .before .before .before in
+    let p = k .before .before .before .pre in
+    laws.sought-kept _ _ _ _ _ (p .0) (p .1) (p .2) (p .3) (p .4) _ (k .pick .ensures)
+    _ _ _ _ _ refl (c .kept-step .ensures) (c .before .before .next .given .1))
+    (λ c.
+    let k = c .before .before .before .before in
+    let p = k .before .before .before .pre in
+    laws.sought-points _ _ _ _ _ (p .0) (p .1) (p .2) (p .3) (p .4) _ (k .pick .ensures)
+    _ _ _ _ _ refl (c .pointing-step .ensures) (c .before .before .next2 .given .1))
+    (λ c.
+    let k = c .before .before in
+    let p = k .before .before .before .pre in
+    laws.no-block _ _ _ _ _ (p .0) (p .1) (p .2) (p .3) (p .4) _ (k .pick .ensures)
+    _ (c .enum-told .given .1)))
