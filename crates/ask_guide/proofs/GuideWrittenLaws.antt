@@ -32,10 +32,16 @@ use Rattle.ask_guide.proofs.Holders.{total-few, block-in, first-low, bl
 use Rattle.ask_guide.proofs.GuideList.{guide-length, guide-size, guide-entry, entry-below, entry-stands, entry-word}
 
 -- the blocks of level 0 from one on
-pub siblings : (t : List ℕ) (h : Header) (c from n : ℕ)
-    → HeaderOf t h → c < at.countedCount t → from < at.levelCount t 0 → n ≡ at.levelCount t 0 → Siblings t h c 0 from n
-siblings t h c from n r hc l e =
-    record { header = r; level-in = omega (arith, r .facts .bounds .levels-low); number-in = hc; some = omega arith; end-in = omega arith }
+pub siblings : (t : List ℕ) (h : Header) (c from n : ℕ) → HeaderOf t h → c < at.countedCount t → from < at.levelCount t 0 → n ≡ at.levelCount t 0
+    → Siblings t (record { size = h .«record_size»; number = c }) 0 from n
+siblings t h c from n r hc l e = record {
+  facts = r .facts;
+  size-is = r .size-is;
+  level-in = omega (arith, r .facts .bounds .levels-low);
+  number-in = hc;
+  some = omega arith;
+  end-in = omega arith;
+}
 
 pub false-not {ℓ} : {A : Type ℓ} → false ≡ true → A
 false-not e = bool-clash false e refl

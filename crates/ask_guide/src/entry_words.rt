@@ -2,6 +2,7 @@
 use ask_select::seek;
 use ask_select::seek::Along;
 use ask_select::seek::Blocks;
+use ask_select::seek::CountField;
 use layout::header::Header;
 use layout::place::BlockNumber;
 use layout::record;
@@ -52,5 +53,9 @@ pub fn block_from(t: &[u8], h: Header, number: u32, from: BlockNumber, j: u64) -
         first: from,
         end: BlockNumber(record::level_count(t, 0)),
     };
-    seek::step_along(t, h, number, 0, blocks, j)
+    let field = CountField {
+        size: h.record_size,
+        number,
+    };
+    seek::step_along(t, field, 0, blocks, j)
 }

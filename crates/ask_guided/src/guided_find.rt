@@ -3,6 +3,7 @@ use crate::Guided;
 use ask_guide::entry_words;
 use ask_select::Found;
 use ask_select::seek;
+use ask_select::seek::CountField;
 use ask_totals::Wanted;
 use layout::header::Header;
 use layout::place::BlockNumber;
@@ -51,8 +52,12 @@ fn guided(t: &[u8], h: Header, guide: &[u8], wanted: Wanted, j: u32) -> Guided
         return Guided::Refused(14);
     }
     let along = entry_words::block_from(t, h, wanted.number, BlockNumber(entry), j as u64);
-    let found = seek::seek_in(t, h, wanted, j, along.block);
-    with_steps(found, along.steps)
+    let field = CountField {
+        size: h.record_size,
+        number: wanted.number,
+    };
+    let word = seek::word_in(t, field, h.top_length, along.block, j);
+    with_steps(seek::text_place(h.text_length, word), along.steps)
 }
 
 // What was found, with the steps to its block of level 0.

@@ -1,13 +1,14 @@
 -- Find, from level 0 on.
 use mathlib.Core.List.{List}
-use mathlib.Core.Bool.{Bool, true, false, cond, _&&_}
+use mathlib.Core.Bool.{Bool, true, false, _&&_}
 use mathlib.Core.Path.{_≡_, refl, sym, ap, _∙_}
 use mathlib.Core.Logic.{_⊎_, inl, inr}
-use Prim.Native.Nat.{ℕ, suc, _+_, _-_, _*_, _≤_, _<_}
+use Prim.Native.Nat.{ℕ, suc, _+_, _-_, _*_, _/_, _%_, _≤_, _<_}
 use native.Mathlib.Omega.{arith}
 use native.Mathlib.Nat.{zero-mul, mul-le-mul}
-use borrow.Author.Tests.{ltb-true, lt-ltb, le-ltb, lt-leb, ne-eqb}
-use lib.Dec.{ltb, leb}
+use borrow.Author.Tests.{lt-ltb, le-ltb, lt-leb, ne-eqb}
+use lib.Dec.{leb}
+use Rattle.text.specs.ListLaws.{lt-or-ge}
 use Rattle.text.specs.Text.{placeOf}
 use Rattle.format.specs.Settings.{maxText}
 use Rattle.format.specs.Layout as at
@@ -26,15 +27,15 @@ use Rattle.layout.specs.declared.place.BlockNumber.{BlockNumber}
 use Rattle.layout.specs.declared.place.BlockPlace.{BlockPlace}
 use Rattle.layout.specs.Header.{headerSays}
 use Rattle.layout.specs.HeaderSays.{HeaderOf}
-use Rattle.walk_steps.specs.QuestionStands.{OnLevel, InTable}
+use Rattle.walk_steps.specs.Steps.{OnLevel, InTable}
+use Rattle.walk_steps.proofs.StepLaws.{b-small}
+use Rattle.walk_steps.proofs.QuestionStandsLaws.{plain, on-top}
 use Rattle.layout.specs.HeaderSays.{header-refused}
 use Rattle.theory_counts.specs.CountsLocal.{byteOf}
 use Rattle.theory_counts.specs.CountedStretches.{tally-none}
 use Rattle.theory_counts.specs.Ranks as ranks
 use Rattle.theory_counts.specs.Finds as finds
-use Rattle.ask_totals.specs.declared.Wanted.{Wanted}
-use Rattle.ask_select.specs.declared.seek.Placed.{Placed}
-use Rattle.ask_select.specs.declared.seek.Placed.the-variants as placed
+use Rattle.ask_select.specs.declared.seek.CountField.{CountField}
 use Rattle.ask_select.specs.declared.seek.Child.{Child}
 use Rattle.ask_select.specs.declared.seek.Child.the-variants as child
 use Rattle.ask_select.specs.Seeks.{KeptIn, PointsIn, Siblings, LastBefore, picked, Seeking, FoundIn}
@@ -43,87 +44,100 @@ use Rattle.ask_select.specs.SoughtPlaces.{placedIn, Sought, Stopped, Sou
 use Rattle.ask_totals.proofs.TotalLaws.{some-block, not-counted, is-counted}
 use Rattle.ask_select.proofs.LandLaws.{Picked, k, d, a, picked-kept, picked-points, picked-off, one-of}
 
-pub top-siblings : (t : List ℕ) (h : Header) (c n : ℕ) → HeaderOf t h → c < at.countedCount t → 1 ≤ total t c → n ≡ at.levelCount t 0 → Siblings t h c 0 0 n
-top-siblings t h c n r hc some e = record {
-  header = r;
-  level-in = omega (arith, r .facts .bounds .levels-low);
+pub top-siblings : (t : List ℕ) (field : CountField) (b n : ℕ) → OnLevel t (field .size) 0 b → field .number < at.countedCount t → 1 ≤ total t (field .number)
+    → n ≡ at.levelCount t 0 → Siblings t field 0 0 n
+top-siblings t field b n on hc some e = record {
+  facts = on .facts;
+  size-is = on .size-is;
+  level-in = on .level-in;
   number-in = hc;
-  some = omega (arith, some-block t c some);
+  some = omega (arith, some-block t (field .number) some);
   end-in = omega arith;
 }
 
+-- level 0, from the header
+pub top-level : (t : List ℕ) (h : Header) → HeaderOf t h → OnLevel t (h .«record_size») 0 (h .«top_length»)
+top-level t h r = plain t h 0 (h .«top_length») (on-top t h r)
+
+pub full-level : (t : List ℕ) (h : Header) → HeaderOf t h → OnLevel t (h .«record_size») 0 (at.fullLength t 0)
+full-level t h r = rw (r .block-is) at (top-level t h r)
+
 -- a place of the text
 
-pub product : (n s : ℕ) → n < 4294967296 → s ≤ maxText → n * s ≤ 4294967296 * maxText
-product n s a b = let c : n ≤ 4294967296 = omega arith in mul-le-mul c b
+product : (n s : ℕ) → n < 4294967296 → s ≤ maxText → n * s ≤ 36028797018963968
+product n s a b = let c : n ≤ 4294967296 = omega arith in let m : s ≤ 8388608 = omega arith in mul-le-mul c m
 
-module _ (n b i : ℕ) (x : Placed) where
-  pub place-off : x ≡ placed.Off → refused 14 ≡ placedIn n b i x
+module _ (n w : ℕ) where
+  pub place-in : w % 281474976710656 < n
+      → record { number = 0; value = w % 281474976710656; entered = w / 281474976710656 } ≡ placedIn n w
   unfolding placedIn
-  place-off e = rw e
+  place-in h = rw (lt-ltb (w % 281474976710656) n h)
 
-  module _ (o : BlockPlace) (e : ℕ) (is : x ≡ placed.At o e) where
-    pub place-in : i * b + o .0 < n → record { number = 0; value = i * b + o .0; entered = e } ≡ placedIn n b i x
-    unfolding placedIn
-    place-in h = rw (is, lt-ltb (i * b + o .0) n h)
+  pub place-past : n ≤ w % 281474976710656 → refused 14 ≡ placedIn n w
+  unfolding placedIn
+  place-past h = rw (le-ltb (w % 281474976710656) n h)
 
-    pub place-past : n ≤ i * b + o .0 → refused 14 ≡ placedIn n b i x
-    unfolding placedIn
-    place-past h = rw (is, le-ltb (i * b + o .0) n h)
+  placed-free : (placedIn n w ≡ refused 14) ⊎ ((placedIn n w .number ≡ 0) × (placedIn n w .value < n))
+  placed-free = go (lt-or-ge (w % 281474976710656) n)
+    where
+      go : (w % 281474976710656 < n) ⊎ (n ≤ w % 281474976710656) → (placedIn n w ≡ refused 14) ⊎ ((placedIn n w .number ≡ 0) × (placedIn n w .value < n))
+      go (inl h) = let e = sym (place-in h) in inr (ap (λ (y : Said). y .number) e, rw (ap (λ (y : Said). y .value) e) h)
+      go (inr h) = inl (sym (place-past h))
 
-placed-free : (n b i : ℕ) (x : Placed) (s : Said) → s ≡ placedIn n b i x → (s ≡ refused 14) ⊎ ((s .number ≡ 0) × (s .value < n))
-unfolding placedIn
-placed-free n b i placed.Off s e = inl e
-placed-free n b i (placed.At o q) s e = go (ltb (i * b + o .0) n) refl e
-  where
-    go : (y : Bool) → ltb (i * b + o .0) n ≡ y
-        → s ≡ cond y (record { number = 0; value = i * b + o .0; entered = q }) (refused 14) → (s ≡ refused 14) ⊎ ((s .number ≡ 0) × (s .value < n))
-    go true l z = inr (ap (λ (w : Said). w .number) z, rw z (ltb-true _ _ l))
-    go false l z = inl z
+-- the place and the blocks of a word
+word-place : (n w p e : ℕ) → w ≡ p + e * 281474976710656 → p < n → n ≤ maxText → placedIn n w ≡ record { number = 0; value = p; entered = e }
+word-place n w p e w-is small short =
+    let a : w % 281474976710656 ≡ p = omega arith in
+    let b : w / 281474976710656 ≡ e = omega arith in
+    sym (place-in n w (omega arith)) ∙ rw (a, b)
 
 -- from level 0 on
-module _ (t : List ℕ) (h : Header)
-    (w : Wanted) (j b block : ℕ) (r : HeaderOf t h) (hc : w .number < at.countedCount t) (byte-is : w .byte ≡ byteOf t (w .number)) (low : 1 ≤ j)
-    (high : j ≤ total t (w .number)) (on : OnLevel t h 0 b) (last : Stopped t (w .number) j block) where
+module _ (t : List ℕ) (field : CountField) (j b block : ℕ) (on : OnLevel t (field .size) 0 b) (hc : field .number < at.countedCount t) (low : 1 ≤ j)
+    (high : j ≤ total t (field .number)) (last : Stopped t (field .number) j block) where
   abbrev c : ℕ
-  c = w .number
+  c = field .number
 
-  pub block-there : InTable t h 0 b block
+  pub block-there : InTable t (field .size) 0 b block
   block-there = record { on = on; block-in = last .block-in }
 
+  pub way-small : (way : ℕ) → block < 4294967296 → way ≡ block * b → way ≤ 36028797018963968
+  way-small way small e = omega (arith, product block b small (b-small t (field .size) 0 b on))
+
   module _ (x : Child) (x-is : x ≡ picked t c 0 block 0 j) where
-    pub no-block : x ≡ child.Off → SoughtIn t (w .byte) c j block (refused 14)
-    no-block e = record {
+    pub no-block : (r : ℕ) → x ≡ child.Off → SoughtIn t (byteOf t c) c j block (placedIn (at.textLength t) r)
+    no-block r e = record {
       accepted = λ v under. absurd (picked-off t c 0 block 0 j (sym x-is ∙ e) under (one-of t v 0 block (on .level-in) (last .block-in)));
-      free = inl refl;
+      free = placed-free (at.textLength t) r;
     }
 
-    seeking : (i o rest m : ℕ) → 1 ≤ m → j < 4294967296 → Picked t c 0 block 0 j i o rest → Seeking t h w 0 b rest m
-    seeking i o rest m l small p =
-        record { on = on; number-in = hc; byte-is = byte-is; low = omega (arith, p .low, p .rest-is); few = few rest m l (omega (arith, p .rest-is)) }
+    seeking : (i o rest way m : ℕ) → j < 4294967296 → way ≤ 36028797018963968 → Picked t c 0 block 0 j i o rest → Seeking t field 0 b rest way m
+    seeking i o rest way m small near p =
+        record { on = on; number-in = hc; low = omega (arith, p .low, p .rest-is); few = few rest (omega (arith, p .rest-is)); near = far way near }
       where
-        few : (y m : ℕ) → 1 ≤ m → y ≤ 4294967295 → y ≤ m * 4294967295
-        few y m l s = omega arith
+        few : (y : ℕ) → y ≤ 4294967295 → y ≤ (m + 1) * 4294967295
+        few y s = omega arith
+
+        far : (y : ℕ) → y ≤ 36028797018963968 → y ≤ (m + 64) * 562949953421312
+        far y s = omega arith
 
     moved-on : (v : verdict t ≡ 0) (i n m o e : ℕ)
         → n ≡ m → finds.Lands t (k t v) (d t v) (a t v) c hc 0 i n o e → finds.Lands t (k t v) (d t v) (a t v) c hc 0 i m o e
     moved-on v i n m o e p z = rw (← p) z
 
-    at-end : (i : ℕ) (q : Placed) (s : Said) → s ≡ placedIn (h .«text_length») b i q
-        → (v : verdict t ≡ 0) → i < at.levelCount t 0 → at.before t 0 i c < j → (o : BlockPlace) (e : ℕ) → q ≡ placed.At o e
-        → finds.Lands t (k t v) (d t v) (a t v) c hc 0 i (j - at.before t 0 i c) (o .0) e → s ≡ found t (w .byte) j
+    at-end : (i r way : ℕ) (v : verdict t ≡ 0) → i < at.levelCount t 0 → at.before t 0 i c < j → way ≡ i * b → (o e : ℕ) → r ≡ way + e * 281474976710656 + o
+        → finds.Lands t (k t v) (d t v) (a t v) c hc 0 i (j - at.before t 0 i c) o e → placedIn (at.textLength t) r ≡ found t (byteOf t c) j
     unfolding found
-    at-end i q s s-is v hi under o e is lands =
-        let y = finds.lands-top t (k t v) (d t v) (a t v) c hc i j (o .0) e hi under lands in
+    at-end i r way v hi under way-is o e is lands =
+        let y = finds.lands-top t (k t v) (d t v) (a t v) c hc i j o e hi under lands in
         let start : at.start t 0 i ≡ i * b = d t v .start0 i hi ∙ rw (on .b-is) in
-        let place : placeOf (w .byte) j (textOf t) ≡ i * b + o .0 = rw (byte-is, ← start) (y .0) in
-        let path : pathLength t (pathOf t (i * b + o .0)) ≡ e = rw start at (y .1) in
-        let within : i * b + o .0 < h .«text_length» = omega (arith, len-inside t 0 i (o .0) (lands .inside), r .length-is) in
-        rw (place, path) (s-is ∙ sym (place-in (h .«text_length») b i q o e is within))
+        let place : placeOf (byteOf t c) j (textOf t) ≡ i * b + o = rw (← start) (y .0) in
+        let path : pathLength t (pathOf t (i * b + o)) ≡ e = rw start at (y .1) in
+        let within : i * b + o < at.textLength t = omega (arith, len-inside t 0 i o (lands .inside)) in
+        rw (place, path) (word-place (at.textLength t) r (i * b + o) e (omega arith) within (on .facts .bounds .text-high))
 
-    right : (i o rest m : ℕ) (q : Placed) (s : Said)
-        → Picked t c 0 block 0 j i o rest → FoundIn t c 0 i rest m q → s ≡ placedIn (h .«text_length») b i q → verdict t ≡ 0 → s ≡ found t (w .byte) j
-    right i o rest m q s p f s-is v =
+    right : (i o rest way r : ℕ) → Picked t c 0 block 0 j i o rest → way ≡ block * b → FoundIn t c 0 i rest way r → verdict t ≡ 0
+        → placedIn (at.textLength t) r ≡ found t (byteOf t c) j
+    right i o rest way r p way-is f v =
         let same = p .block-is in
         let hi : i < at.levelCount t 0 = omega (arith, last .block-in) in
         let under : at.before t 0 i c < j = rw same (p .low) in
@@ -131,30 +145,40 @@ module _ (t : List ℕ) (h : Header)
         let next : i + 1 < at.levelCount t 0 → j ≤ at.before t 0 (i + 1) c = rw same (last .next) in
         let holds = finds.top-holds t (k t v) (d t v) (a t v) c hc i j hi high next in
         let z = f .right v hc (omega arith) in
-        at-end i q s s-is v hi under (z .place) (z .entered) (z .is) (moved-on v i rest (j - at.before t 0 i c) (z .place .0) (z .entered) rest-is (z .lands))
+        at-end i r way v hi under (rw same way-is)
+        (z .place) (z .entered) (z .is) (moved-on v i rest (j - at.before t 0 i c) (z .place) (z .entered) rest-is (z .lands))
 
-    sought : (i o rest m : ℕ) (q : Placed) (s : Said)
-        → Picked t c 0 block 0 j i o rest → FoundIn t c 0 i rest m q → s ≡ placedIn (h .«text_length») b i q → SoughtIn t (w .byte) c j block s
-    sought i o rest m q s p f s-is =
-        record { accepted = λ v under. right i o rest m q s p f s-is v; free = rw (r .length-is) at (placed-free (h .«text_length») b i q s s-is) }
+    sought : (i o rest way r : ℕ) → Picked t c 0 block 0 j i o rest → way ≡ block * b → FoundIn t c 0 i rest way r
+        → SoughtIn t (byteOf t c) c j block (placedIn (at.textLength t) r)
+    sought i o rest way r p way-is f =
+        record { accepted = λ v under. right i o rest way r p way-is f v; free = placed-free (at.textLength t) r }
 
-    module _ (i : BlockNumber) (o : BlockPlace) (rest : ℕ) where
-      pub top-kept : x ≡ child.Kept i o rest → j < 4294967296 → (KeptIn t h 0 b (i .0)) × (Seeking t h w 0 b rest 2)
-      top-kept e small =
+    module _ (i : BlockNumber) (o : BlockPlace) (rest way : ℕ) where
+      pub top-kept : x ≡ child.Kept i o rest → j < 4294967296 → way ≤ 36028797018963968
+          → (KeptIn t (field .size) 0 b (i .0)) × (Seeking t field 0 b rest way 1)
+      top-kept e small near =
           let z = picked-kept t c 0 block 0 j i o rest (sym x-is ∙ e) in
-          (record { on = on; kept = rw (z .0 .block-is) (z .1) }, seeking (i .0) (o .0) rest 2 (omega arith) small (z .0))
+          (record { on = on; kept = rw (z .0 .block-is) (z .1) }, seeking (i .0) (o .0) rest way 1 small near (z .0))
 
-      pub top-points : x ≡ child.Points i o rest → j < 4294967296 → (PointsIn t h 0 b (i .0)) × (Seeking t h w 0 b rest 1)
-      top-points e small =
+      pub top-points : x ≡ child.Points i o rest → j < 4294967296 → way ≤ 36028797018963968
+          → (PointsIn t (field .size) 0 b (i .0)) × (Seeking t field 0 b rest way 0)
+      top-points e small near =
           let z = picked-points t c 0 block 0 j i o rest (sym x-is ∙ e) in
-          (record { on = on; points = rw (z .0 .block-is) (z .1) }, seeking (i .0) (o .0) rest 1 (omega arith) small (z .0))
+          (record { on = on; points = rw (z .0 .block-is) (z .1) }, seeking (i .0) (o .0) rest way 0 small near (z .0))
 
-      module _ (m : ℕ) (q : Placed) (s : Said) (f : FoundIn t c 0 (i .0) rest m q) (s-is : s ≡ placedIn (h .«text_length») b (i .0) q) where
-        pub sought-kept : x ≡ child.Kept i o rest → SoughtIn t (w .byte) c j block s
-        sought-kept e = sought (i .0) (o .0) rest m q s (picked-kept t c 0 block 0 j i o rest (sym x-is ∙ e) .0) f s-is
+      module _ (r : ℕ) (way-is : way ≡ block * b) (f : FoundIn t c 0 (i .0) rest way r) where
+        pub sought-kept : x ≡ child.Kept i o rest → SoughtIn t (byteOf t c) c j block (placedIn (at.textLength t) r)
+        sought-kept e = sought (i .0) (o .0) rest way r (picked-kept t c 0 block 0 j i o rest (sym x-is ∙ e) .0) way-is f
 
-        pub sought-points : x ≡ child.Points i o rest → SoughtIn t (w .byte) c j block s
-        sought-points e = sought (i .0) (o .0) rest m q s (picked-points t c 0 block 0 j i o rest (sym x-is ∙ e) .0) f s-is
+        pub sought-points : x ≡ child.Points i o rest → SoughtIn t (byteOf t c) c j block (placedIn (at.textLength t) r)
+        sought-points e = sought (i .0) (o .0) rest way r (picked-points t c 0 block 0 j i o rest (sym x-is ∙ e) .0) way-is f
+
+-- what the word's place says, said of the answer made of it
+pub sought-by : (t : List ℕ) (n byte c j block w : ℕ) (s : Said) → n ≡ at.textLength t → byte ≡ byteOf t c → s ≡ placedIn n w
+    → SoughtIn t (byteOf t c) c j block (placedIn (at.textLength t) w) → SoughtIn t byte c j block s
+sought-by t n byte c j block w s n-is byte-is s-is z =
+    let e : s ≡ placedIn (at.textLength t) w = rw n-is at s-is in
+    rw (e, byte-is) z
 
 -- the first block's before is 0, so the steps from there stop at a block with fewer than j before it
 module _ (t : List ℕ) (c j block : ℕ) (hc : c < at.countedCount t) (low : 1 ≤ j) (last : LastBefore t c 0 0 (at.levelCount t 0) j block) where

@@ -3,7 +3,7 @@ use mathlib.Core.List.{List}
 use mathlib.Core.Bool.{Bool, true, false, cond}
 use mathlib.Core.Path.{_≡_, refl, sym, ap, _∙_}
 use mathlib.Core.Logic.{_⊎_, inl, inr}
-use Prim.Native.Nat.{ℕ, _+_, _-_, _*_, _≤_, _<_}
+use Prim.Native.Nat.{ℕ, _+_, _-_, _*_, _/_, _≤_, _<_}
 use native.Mathlib.Omega.{arith}
 use native.Mathlib.Nat.{zero-mul}
 use borrow.Author.Tests.{ltb-true, lt-ltb, le-leb, ne-eqb}
@@ -13,7 +13,9 @@ use Rattle.text.specs.ListLaws.{bool-cases, bool-clash, and-right}
 use Rattle.text.specs.Text.{stretch, countIn}
 use Rattle.format.specs.Settings.{pieces, maxText}
 use Rattle.format.specs.PieceLaws.{pieces-start, lt-pieces}
+use Rattle.format.specs.HeaderPlaces.{countedAt}
 use Rattle.format.specs.LayoutLaws.{Readable, readable-facts, full-pos}
+use Rattle.ask_totals.proofs.NamedLaws.{name-at}
 use Rattle.format.specs.VerdictLaws.{accepted-readable, accepted-links}
 use Rattle.format.specs.Layout as at
 use Rattle.format.specs.Path.{keptBlock, pointingBlock}
@@ -22,29 +24,25 @@ use Rattle.theory_paths.specs.Links.{H, N, s, len, Linked, linked-facts}
 use Rattle.theory_paths.specs.Links as links
 use Rattle.theory_paths.specs.BlockStarts.{len-small, len-pos}
 use Rattle.theory_paths.specs.PlacesLand.{kept-block, pointing-block}
-use Rattle.layout.specs.declared.header.Header.{Header}
 use Rattle.layout.specs.declared.place.BlockNumber.{BlockNumber}
 use Rattle.layout.specs.declared.place.BlockPlace.{BlockPlace}
 use Rattle.walk_steps.specs.declared.Next.the-variants as next
-use Rattle.walk_steps.specs.QuestionStands.{OnLevel, InTable}
-use Rattle.walk_steps.specs.Steps.{nextAt}
-use Rattle.walk_steps.proofs.NextLaws.{pointing-not-kept}
-use Rattle.walk_steps.proofs.StepLaws.{kept-in, pointing-in}
-use Rattle.walk_steps.proofs.QuestionStandsLaws.{b-small, b-pos}
+use Rattle.walk_steps.specs.Steps.{OnLevel, InTable, nextAt}
+use Rattle.walk_steps.specs.declared.fields.Shape.{Shape}
+use Rattle.walk_steps.proofs.NextLaws.{pointing-not-kept, level-below}
+use Rattle.walk_steps.proofs.StepLaws.{kept-in, pointing-in, pointing-gap, b-small, b-pos, Shapes}
 use Rattle.theory_counts.specs.LevelTrue.{Level, tally}
 use Rattle.theory_counts.specs.CountsLocal.{byteOf, inLeaves}
 use Rattle.theory_counts.specs.CountedStretches.{leaves-end, leaves-tally}
 use Rattle.theory_counts.specs.Finds as finds
 use Rattle.theory_counts.specs.Demands as demands
-use Rattle.ask_totals.specs.declared.Wanted.{Wanted}
-use Rattle.ask_select.specs.declared.seek.Placed.{Placed}
-use Rattle.ask_select.specs.declared.seek.Placed.the-variants as placed
+use Rattle.ask_select.specs.declared.seek.CountField.{CountField}
 use Rattle.ask_select.specs.declared.seek.Child.{Child}
 use Rattle.ask_select.specs.declared.seek.Child.the-variants as child
 use Rattle.ask_select.specs.declared.seek.Target.{Target}
 use Rattle.ask_select.specs.declared.seek.Target.the-variants as target
 use Rattle.stretches.specs.Stretches.{Stands}
-use Rattle.ask_select.specs.Seeks.{moved, Near, restIn, KeptIn, PointsIn, Siblings, LastBefore, picked, Chosen, ChildWith, Aimed, targetAt}
+use Rattle.ask_select.specs.Seeks.{entering, restIn, KeptIn, PointsIn, Siblings, LastBefore, picked, Chosen, ChildWith, Aimed, targetAt}
 use Rattle.ask_select.specs.Seeks.{TargetWith, Seeking, Landed, FoundIn}
 use Rattle.ask_select.proofs.SeekLaws.{last-here}
 
@@ -159,9 +157,12 @@ unfolding keptBlock
 is-kept t l i h = and-right (ltb i (N t l)) (at.isKept t l i) h
 
 -- The child that is chosen.
-module _ (t : List ℕ) (h : Header) (c level b i below j link count : ℕ)
-    (kept : KeptIn t h level b i) (lower : OnLevel t h (level + 1) below) (hc : c < at.countedCount t) (low : 1 ≤ j)
+module _ (t : List ℕ) (field : CountField) (level b i below j link count : ℕ) (kept : KeptIn t (field .size) level b i)
+    (lower : OnLevel t (field .size) (level + 1) below) (hc : field .number < at.countedCount t) (low : 1 ≤ j)
     (link-is : link ≡ at.link t level i) (count-is : count ≡ pieces (at.blockLengthAt t level i) below) where
+  abbrev c : ℕ
+  c = field .number
+
   hi : i < N t level
   hi = kept-in t level i (kept .kept)
 
@@ -180,18 +181,27 @@ module _ (t : List ℕ) (h : Header) (c level b i below j link count : ℕ)
   child-none none = nothing (λ v. (let e = some-child t v c hc level i (lower .level-in) hi (is-kept t level i (kept .kept)) in
       let f = rw (← lower .b-is, ← count-is) at e in omega arith))
 
-  pub siblings : link + count ≤ at.levelCount t (level + 1) → (count ≡ 0 → ⊥) → Siblings t h c (level + 1) link (link + count)
-  siblings end some = record { header = lower .header; level-in = lower .level-in; number-in = hc; some = omega (arith, some); end-in = end }
+  pub siblings : link + count ≤ at.levelCount t (level + 1) → (count ≡ 0 → ⊥) → Siblings t field (level + 1) link (link + count)
+  siblings end some = record {
+    facts = lower .facts;
+    size-is = lower .size-is;
+    level-in = lower .level-in;
+    number-in = hc;
+    some = omega (arith, some);
+    end-in = end;
+  }
 
   module _ (x : ℕ) (end : link + count ≤ at.levelCount t (level + 1)) (last : LastBefore t c (level + 1) link (link + count) j x) where
-    pub child-there : InTable t h (level + 1) below x
+    pub child-there : InTable t (field .size) (level + 1) below x
     child-there = record { on = lower; block-in = omega (arith, last .high) }
 
     pub child-place : (x - link) * below < at.blockLengthAt t level i
-    child-place = pieces-start (at.blockLengthAt t level i) below (x - link) (omega (arith, last .low, last .high)) (b-pos t h (level + 1) below lower)
+    child-place =
+        let pos = b-pos t (field .size) (level + 1) below lower in
+        pieces-start (at.blockLengthAt t level i) below (x - link) (omega (arith, last .low, last .high)) pos
 
     pub child-place-small : (x - link) * below < maxText
-    child-place-small = omega (arith, child-place, len-small t level i, kept .on .b-is, b-small t h level b (kept .on))
+    child-place-small = omega (arith, child-place, len-small t level i, kept .on .b-is, b-small t (field .size) level b (kept .on))
 
     chosen : (y p r : ℕ) → Picked t c (level + 1) x ((x - link) * below) j y p r → Chosen t c level i below j y p r
     chosen y p r q =
@@ -246,8 +256,8 @@ not-kept t l i p = go (bool-cases (at.isKept t l i))
     go (inl kept) = bool-clash (keptBlock t l i) (kept-block t l i (pointing-in t l i p) kept) (pointing-not-kept t l i p)
     go (inr un) = un
 
-module _ (t : List ℕ) (h : Header)
-    (c level b i j link : ℕ) (p : PointsIn t h level b i) (hc : c < at.countedCount t) (low : 1 ≤ j) (link-is : link ≡ at.link t level i) where
+module _ (t : List ℕ) (size c level b i j link : ℕ)
+    (p : PointsIn t size level b i) (hc : c < at.countedCount t) (low : 1 ≤ j) (link-is : link ≡ at.link t level i) where
   at-block : i < N t level
   at-block = pointing-in t level i (p .points)
 
@@ -315,119 +325,97 @@ module _ (t : List ℕ) (h : Header)
 
 -- The leaf bytes.
 
-near-off : (most : ℕ) → Near placed.Off most
-near-off most = record { near = λ o e x. absurd (let z : _≡_ {A = ℕ} 0 1 = cc in omega arith) }
+-- the counted byte that is read in the header
+pub named-byte : (t : List ℕ) (c : ℕ) → Readable t → c < at.countedCount t → getD t (countedAt + c) 0 ≡ byteOf t c
+unfolding byteOf
+named-byte t c k hc = sym (name-at t (at.countedCount t) 0 c (record { long = k .long; k-is = refl; k-low = k .bounds .counted-high }) hc)
 
-module _ (t : List ℕ) (c level i j : ℕ) where
-  pub not-found : (most : ℕ) → (verdict t ≡ 0 → c < at.countedCount t → j ≤ at.inside t level i c → ⊥) → FoundIn t c level i j most placed.Off
-  not-found most never = record { near = near-off most; right = λ v hc high. absurd (never v hc high) }
+module _ (t : List ℕ) (c level i j way : ℕ) where
+  pub not-found : (r : ℕ) → (verdict t ≡ 0 → c < at.countedCount t → j ≤ at.inside t level i c → ⊥) → FoundIn t c level i j way r
+  not-found r never = record { right = λ v hc high. absurd (never v hc high) }
 
-module _ (t : List ℕ) (h : Header) (w : Wanted)
-    (level b i j link n : ℕ) (kept : KeptIn t h level b i) (w-is : Seeking t h w level b j (level + 2)) (last : level + 1 ≡ h .settings .levels)
-    (link-is : link ≡ at.link t level i) (n-is : (n ≡ at.blockLengthAt t level i) × (n ≤ b)) where
-  bottom : level + 1 ≡ H t
-  bottom = last ∙ kept .on .header .levels-is
-
+module _ (t : List ℕ) (size c level b i j way link n offset count : ℕ) (kept : KeptIn t size level b i) (bottom : level + 1 ≡ H t)
+    (link-is : link ≡ at.link t level i) (n-is : (n ≡ at.blockLengthAt t level i) × (n ≤ b))
+    (offset-is : offset ≡ at.leafOffset t) (count-is : count ≡ at.leafCount t) where
   leaf-block : i < N t level
   leaf-block = kept-in t level i (kept .kept)
 
-  pub leaf-past : h .«leaf_count» < link + n → FoundIn t (w .number) level i j 1 placed.Off
-  leaf-past past = not-found t
-      (w .number) level i j 1 (λ v hc high. omega (arith, leaves-end t (k t v) (d t v) level i bottom leaf-block, n-is .0, kept .on .header .count-is))
+  pub leaf-past : (r : ℕ) → count < link + n → FoundIn t c level i j way r
+  leaf-past r past = not-found t
+      c level i j way r (λ v hc high. omega (arith, leaves-end t (k t v) (d t v) level i bottom leaf-block, n-is .0))
 
-  pub leaf-room : link + n ≤ h .«leaf_count» → h .«leaf_offset» + link + n ≤ length t
-  leaf-room within = omega (arith, kept .on .header .facts .size, kept .on .header .offset-is, kept .on .header .count-is)
+  pub leaf-room : link + n ≤ count → offset + link + n ≤ length t
+  leaf-room within = omega (arith, kept .on .facts .size)
 
-  module _ (r : ℕ) (z : Stands t (h .«leaf_offset» + link) n (w .byte) j r) where
-    same-stretch : (x : ℕ) → countIn (w .byte) (stretch t (h .«leaf_offset» + link) x) ≡ inLeaves t level i x (w .number)
+  module _ (byte : ℕ) (byte-is : byte ≡ byteOf t c) (r : ℕ) (z : Stands t (offset + link) n byte j r) where
+    same-stretch : (x : ℕ) → countIn byte (stretch t (offset + link) x) ≡ inLeaves t level i x c
     unfolding inLeaves
-    same-stretch x = rw (kept .on .header .offset-is, link-is, w-is .byte-is)
+    same-stretch x = rw (offset-is, link-is, byte-is)
 
-    pub leaf-fewer : n ≤ r → FoundIn t (w .number) level i j 1 placed.Off
+    pub leaf-fewer : (w : ℕ) → n ≤ r → FoundIn t c level i j way w
     unfolding tally
-    leaf-fewer past = not-found t (w .number) level i j 1 (λ v hc high.
-        (let e = leaves-tally t (k t v) (d t v) level i (len t level i) (w .number) bottom leaf-block (omega arith) in
-        let f = a t v level (omega (arith, bottom)) i (w .number) leaf-block hc .inside-is in
-        let g : countIn (w .byte) (stretch t (h .«leaf_offset» + link) n) ≡ inLeaves t level i (len t level i) (w .number) = same-stretch n ∙ rw (n-is .0) in
+    leaf-fewer w past = not-found t c level i j way w (λ v hc high.
+        (let e = leaves-tally t (k t v) (d t v) level i (len t level i) c bottom leaf-block (omega arith) in
+        let f = a t v level (omega (arith, bottom)) i c leaf-block hc .inside-is in
+        let g : countIn byte (stretch t (offset + link) n) ≡ inLeaves t level i (len t level i) c = same-stretch n ∙ rw (n-is .0) in
         omega (arith, z .fewer past)))
 
-    pub leaf-found : r < n → FoundIn t (w .number) level i j 1 (placed.At (record { 0 = r }) 1)
-    unfolding at.leafByte
-    leaf-found within = record {
-      near = record {
-        near = λ o e x. (let p : record { 0 = r } ≡ o = cc in let q : 1 ≡ e = cc in
-            let p₀ : r ≡ o .0 = ap (λ (y : BlockPlace). y .0) p in (omega (arith, n-is .1, b-small t h level b (kept .on)), omega arith));
-      };
+    pub leaf-found : (w : ℕ) → r < n → w ≡ entering way r 0 → FoundIn t c level i j way w
+    unfolding at.leafByte entering
+    leaf-found w within w-is = record {
       right = λ v hc high. record {
-        place = record { 0 = r };
+        place = r;
         entered = 1;
-        is = refl;
+        is = omega arith;
         lands =
-            let byte-at : getD t (at.leafOffset t + (at.link t level i + r)) 0 ≡ byteOf t (w .number) =
-            (let e : h .«leaf_offset» + link + r ≡ at.leafOffset t + (at.link t level i + r) = omega (arith, kept .on .header .offset-is) in
-            rw e at (z .here within .0) ∙ w-is .byte-is) in
-            finds.lands-leaf t (k t v) (d t v) (a t v) (w .number) hc level i j r bottom leaf-block (omega (arith, n-is .0)) byte-at
+            let byte-at : getD t (at.leafOffset t + (at.link t level i + r)) 0 ≡ byteOf t c =
+            (let e : offset + link + r ≡ at.leafOffset t + (at.link t level i + r) = omega arith in
+            rw e at (z .here within .0) ∙ byte-is) in
+            finds.lands-leaf t (k t v) (d t v) (a t v) c hc level i j r bottom leaf-block (omega (arith, n-is .0)) byte-at
             (ap (λ (y : ℕ). y + 1) (sym (same-stretch r)) ∙ z .here within .1);
       };
     }
 
--- Places moved.
-
-near-case : (o : BlockPlace) (e f g m : ℕ) (x : Bool) (p : BlockPlace) (q : ℕ)
-    → cond x (placed.At (record { 0 = f + o .0 - g }) (e + 1)) placed.Off ≡ placed.At p q
-    → o .0 ≤ e * maxText → e ≤ m → f ≤ maxText → (p .0 ≤ q * maxText) × (q ≤ m + 1)
-near-case o e f g m true p q h a c s =
-    let p₁ : record { 0 = f + o .0 - g } ≡ p = cc in
-    let p₀ : f + o .0 - g ≡ p .0 = ap (λ (y : BlockPlace). y .0) p₁ in
-    let q₀ : e + 1 ≡ q = cc in
-    (omega arith, omega arith)
-near-case o e f g m false p q h a c s = absurd (let z : _≡_ {A = ℕ} 0 1 = cc in omega arith)
-
-near-moved : (x r : Placed) (f g m : ℕ) → Near x m → f ≤ maxText → r ≡ moved x f g → Near r (m + 1)
-unfolding moved
-near-moved (placed.At o e) r f g m n s r-is = record {
-  near = λ p q h. near-case o e f g m (leb g (f + o .0)) p q (sym r-is ∙ h) (n .near o e refl .0) (n .near o e refl .1) s;
-}
-near-moved placed.Off r f g m n s r-is = rw r-is (near-off (m + 1))
-
-pub near-more : (r : Placed) (m n : ℕ) → Near r m → m ≤ n → Near r n
-near-more r m n h l = record { near = λ o e x. (h .near o e x .0, omega (arith, h .near o e x .1)) }
-
-moved-to : (x r : Placed) (f g : ℕ) (o : BlockPlace) (e p q : ℕ)
-    → r ≡ moved x f g → x ≡ placed.At o e → g ≤ f + o .0 → p ≡ f + o .0 - g → q ≡ e + 1 → r ≡ placed.At (record { 0 = p }) q
-unfolding moved
-moved-to x r f g o e p q r-is is low p-is q-is = rw (r-is, is, le-leb g (f + o .0) low, p-is, q-is)
+-- The way carried down.
 
 lands-same : (t : List ℕ) (v : verdict t ≡ 0) (c : ℕ) (hc : c < at.countedCount t) (l x y n m o e : ℕ) → x ≡ y → n ≡ m
     → finds.Lands t (k t v) (d t v) (a t v) c hc l x n o e → finds.Lands t (k t v) (d t v) (a t v) c hc l y m o e
 lands-same t v c hc l x y n m o e p q z = rw (← p, ← q) z
 
--- From a kept block to a child.
-module _ (t : List ℕ) (h : Header) (w : Wanted)
-    (level b i j below : ℕ) (kept : KeptIn t h level b i) (seeks : Seeking t h w level b j (level + 2)) (lower : OnLevel t h (level + 1) below) where
-  abbrev c : ℕ
-  c = w .number
+-- the level of a block's children
+pub lower-level : (t : List ℕ) (size level b below : ℕ) (x : Shape) → OnLevel t size level b → Shapes t x
+    → (level + 1 ≡ x .levels → ⊥) → below ≡ b / x .arity → OnLevel t size (level + 1) below
+lower-level t size level b below x on s more e =
+    rw (e, s .arity-is) (level-below t size level b on (λ last. more (last ∙ sym (s .levels-is))))
 
-  module _ (x o rest : ℕ) (ch : Chosen t c level i below j x o rest) where
-    pub to-child : (most : ℕ) → level + 2 ≤ most → Seeking t h w (level + 1) below rest most
-    to-child most m = record {
+-- From a kept block to a child.
+module _ (t : List ℕ) (field : CountField) (level b i j way below : ℕ) (kept : KeptIn t (field .size) level b i)
+    (seeks : Seeking t field level b j way (2 * level + 1)) (lower : OnLevel t (field .size) (level + 1) below) where
+  abbrev c₁ : ℕ
+  c₁ = field .number
+
+  module _ (x o rest further : ℕ) (ch : Chosen t c₁ level i below j x o rest) (further-is : further ≡ entering way o 0) where
+    pub to-child : (blocks : ℕ) → 2 * level + 2 ≤ blocks → Seeking t field (level + 1) below rest further blocks
+    unfolding entering
+    to-child blocks m = record {
       on = lower;
       number-in = seeks .number-in;
-      byte-is = seeks .byte-is;
       low = omega (arith, ch .rest-is, ch .before-low);
       few = few rest (omega (arith, ch .rest-is, seeks .few));
+      near = near further (omega (arith, seeks .near, ch .place-low));
     }
       where
-        few : (y : ℕ) → y ≤ (level + 2) * 4294967295 → y ≤ most * 4294967295
+        few : (y : ℕ) → y ≤ (2 * level + 1 + 1) * 4294967295 → y ≤ (blocks + 1) * 4294967295
         few y l = omega arith
 
-    pub by-child : (m most : ℕ) (r r₁ : Placed) → FoundIn t c (level + 1) x rest m r₁ → r ≡ moved r₁ o 0 → m + 1 ≤ most → FoundIn t c level i j most r
-    by-child m most r r₁ f r-is l = record {
-      near = near-more r (m + 1) most (near-moved r₁ r o 0 m (f .near) (ch .place-low) r-is) l;
-      right = λ v hc high. go v hc high;
-    }
+        near : (y : ℕ) → y ≤ (2 * level + 1 + 64) * 562949953421312 + 281474976710656 + maxText → y ≤ (blocks + 64) * 562949953421312
+        near y l = omega arith
+
+    pub by-child : (r : ℕ) → FoundIn t c₁ (level + 1) x rest further r → FoundIn t c₁ level i j way r
+    unfolding entering
+    by-child r f = record { right = λ v hc high. go v hc high }
       where
-        go : (v : verdict t ≡ 0) (hc : c < at.countedCount t) → j ≤ at.inside t level i c → Landed t v c hc level i j r
+        go : (v : verdict t ≡ 0) (hc : c₁ < at.countedCount t) → j ≤ at.inside t level i c₁ → Landed t v c₁ hc level i j way r
         go v hc high =
             let n = x - at.link t level i in
             let hi = kept-in t level i (kept .kept) in
@@ -436,105 +424,108 @@ module _ (t : List ℕ) (h : Header) (w : Wanted)
             let e : at.link t level i + n ≡ x = omega (arith, ch .link-low) in
             let e₁ : at.link t level i + (n + 1) ≡ x + 1 = omega (arith, ch .link-low) in
             let within : n < pieces (len t level i) (at.fullLength t (level + 1)) = rw (lower .b-is) at (ch .within) in
-            let next : n + 1 < pieces (len t level i) (at.fullLength t (level + 1)) → j ≤ at.before t (level + 1) (at.link t level i + (n + 1)) c =
+            let next : n + 1 < pieces (len t level i) (at.fullLength t (level + 1)) → j ≤ at.before t (level + 1) (at.link t level i + (n + 1)) c₁ =
             λ q. rw e₁ (ch .next (rw (lower .b-is) q)) in
-            let holds : j ≤ at.before t (level + 1) x c + at.inside t (level + 1) x c =
-            rw e at (finds.child-holds t (k t v) (d t v) (a t v) c hc level i hl hi k₁ n j within high next) in
+            let holds : j ≤ at.before t (level + 1) x c₁ + at.inside t (level + 1) x c₁ =
+            rw e at (finds.child-holds t (k t v) (d t v) (a t v) c₁ hc level i hl hi k₁ n j within high next) in
             let z = f .right v hc (omega (arith, ch .rest-is, ch .before-low)) in
             let q = z .place in
             let lands : finds.Lands t (k t v)
-            (d t v) (a t v) c hc (level + 1) (at.link t level i + n) (j - at.before t (level + 1) (at.link t level i + n) c) (q .0) (z .entered) =
-            lands-same t v c hc (level + 1) x (at.link t level i + n)
-            rest (j - at.before t (level + 1) (at.link t level i + n) c) (q .0) (z .entered) (sym e) (rw e (ch .rest-is)) (z .lands) in
-            let low : at.before t (level + 1) (at.link t level i + n) c < j = rw e (ch .before-low) in
+            (d t v) (a t v) c₁ hc (level + 1) (at.link t level i + n) (j - at.before t (level + 1) (at.link t level i + n) c₁) q (z .entered) =
+            lands-same t v c₁ hc (level + 1) x (at.link t level i + n)
+            rest (j - at.before t (level + 1) (at.link t level i + n) c₁) q (z .entered) (sym e) (rw e (ch .rest-is)) (z .lands) in
+            let low : at.before t (level + 1) (at.link t level i + n) c₁ < j = rw e (ch .before-low) in
             let place : o ≡ n * at.fullLength t (level + 1) = ch .place-is ∙ rw (lower .b-is) in record {
-              place = record { 0 = n * at.fullLength t (level + 1) + q .0 };
+              place = n * at.fullLength t (level + 1) + q;
               entered = z .entered + 1;
-              is = moved-to r₁ r o 0 q (z .entered) (n * at.fullLength t (level + 1) + q .0) (z .entered + 1) r-is (z .is) (omega arith) (omega arith) refl;
-              lands = finds.lands-child t (k t v) (d t v) (a t v) c hc level i n j (q .0) (z .entered) hl hi k₁ within low lands;
+              is = way-on (n * at.fullLength t (level + 1)) q (z .entered) (z .is) place;
+              lands = finds.lands-child t (k t v) (d t v) (a t v) c₁ hc level i n j q (z .entered) hl hi k₁ within low lands;
             }
+          where
+            way-on : (p q e : ℕ) → r ≡ further + e * 281474976710656 + q → o ≡ p → r ≡ way + (e + 1) * 281474976710656 + (p + q)
+            way-on p q e h s = omega (arith, further-is)
 
-  pub no-child : (most : ℕ) → (verdict t ≡ 0 → ⊥) → FoundIn t c level i j most placed.Off
-  no-child most never = not-found t c level i j most (λ v hc high. never v)
+  pub no-child : (r : ℕ) → (verdict t ≡ 0 → ⊥) → FoundIn t c₁ level i j way r
+  no-child r never = not-found t c₁ level i j way r (λ v hc high. never v)
 
 -- From a pointing block to its target.
-module _ (t : List ℕ) (h : Header) (w : Wanted) (level b i j : ℕ) (points : PointsIn t h level b i) (seeks : Seeking t h w level b j (level + 1)) where
-  pub last-points : (most : ℕ) → level + 1 ≡ h .settings .levels → FoundIn t (w .number) level i j most placed.Off
-  last-points most last =
-      not-found t (w .number) level i j most (λ v hc high.
-      omega (
-        arith,
-        points-at t h (w .number) level b i j (at.link t level i) points (seeks .number-in) (seeks .low) refl v .above,
-        points .on .header .levels-is,
-      ))
+module _ (t : List ℕ) (field : CountField) (level b i j way : ℕ) (points : PointsIn t (field .size) level b i)
+    (seeks : Seeking t field level b j way (2 * level)) where
+  abbrev c₂ : ℕ
+  c₂ = field .number
 
-  module _ (x forward rest : ℕ) (am : Aimed t (w .number) level i b j x forward rest) where
-    pub aimed-kept : KeptIn t h level b x
+  pub last-points : (r : ℕ) → level + 1 ≡ H t → FoundIn t c₂ level i j way r
+  last-points r last =
+      not-found t c₂ level i j way r (λ v hc high.
+      omega (arith, points-at t (field .size) c₂ level b i j (at.link t level i) points (seeks .number-in) (seeks .low) refl v .above))
+
+  pub gap-small : (gap : ℕ) → gap ≡ at.gap t level i → gap ≤ maxText
+  gap-small gap e = omega (arith, pointing-gap t level i (points .points), points .on .b-is, b-small t (field .size) level b (points .on))
+
+  module _ (x forward rest gap further : ℕ)
+      (am : Aimed t c₂ level i b j x forward rest) (gap-is : gap ≡ at.gap t level i) (further-is : further ≡ entering way forward gap) where
+    pub aimed-kept : KeptIn t (field .size) level b x
     aimed-kept = record { on = points .on; kept = am .kept }
 
-    pub to-aimed : Seeking t h w level b rest (level + 2)
+    pub to-aimed : Seeking t field level b rest further (2 * level + 1)
+    unfolding entering
     to-aimed = record {
       on = points .on;
       number-in = seeks .number-in;
-      byte-is = seeks .byte-is;
       low = am .rest-low;
       few = omega (arith, seeks .few, am .rest-high);
+      near = omega (arith, seeks .near, am .forward-low, b-small t (field .size) level b (points .on));
     }
 
-    pub by-aimed : (gap m most : ℕ) (r r₁ : Placed) → gap ≡ at.gap t level i → FoundIn t (w .number) level x rest m r₁ → r ≡ moved r₁ forward gap → m + 1 ≤ most
-        → FoundIn t (w .number) level i j most r
-    by-aimed gap m most r r₁ gap-is f r-is l = record {
-      near = near-more r (m + 1) most (near-moved r₁ r forward gap m (f .near) (omega (arith, am .forward-low, b-small t h level b (points .on))) r-is) l;
-      right = λ v hc high. go v hc high (am .either);
-    }
+    pub by-aimed : (r : ℕ) → FoundIn t c₂ level x rest further r → FoundIn t c₂ level i j way r
+    unfolding entering
+    by-aimed r f = record { right = λ v hc high. go v hc high (am .either) }
       where
-        go : (v : verdict t ≡ 0) (hc : w .number < at.countedCount t) → j ≤ at.inside t level i (w .number)
+        way-on : (q e : ℕ) → r ≡ further + e * 281474976710656 + q → gap ≤ forward + q → r ≡ way + (e + 1) * 281474976710656 + (forward + q - gap)
+        way-on q e h low = omega (arith, further-is, gap-small gap gap-is)
+
+        go : (v : verdict t ≡ 0) (hc : c₂ < at.countedCount t) → j ≤ at.inside t level i c₂
             → ((x ≡ at.link t level i)
-            × (forward ≡ 0) × (rest ≡ j + at.skip t level i (w .number)) × (rest ≤ at.inside t level (at.link t level i) (w .number)))
-            ⊎ ((x ≡ at.link t level i + 1) × (forward ≡ b) × (at.inside t level (at.link t level i) (w .number) < j + at.skip t level i (w .number))
-            × (rest ≡ j + at.skip t level i (w .number) - at.inside t level (at.link t level i) (w .number)))
-            → Landed t v (w .number) hc level i j r
+            × (forward ≡ 0) × (rest ≡ j + at.skip t level i c₂) × (rest ≤ at.inside t level (at.link t level i) c₂))
+            ⊎ ((x ≡ at.link t level i + 1) × (forward ≡ b) × (at.inside t level (at.link t level i) c₂ < j + at.skip t level i c₂)
+            × (rest ≡ j + at.skip t level i c₂ - at.inside t level (at.link t level i) c₂))
+            → Landed t v c₂ hc level i j way r
         go v hc high (inl s) =
-            let c = w .number in
             let hi = pointing-in t level i (points .points) in
             let un = not-kept t level i (points .points) in
-            let most-here : rest ≤ at.inside t level x c = rw (s .0) (s .3) in
+            let most-here : rest ≤ at.inside t level x c₂ = rw (s .0) (s .3) in
             let z = f .right v hc most-here in
             let q = z .place in
-            let lands : finds.Lands t (k t v) (d t v) (a t v) c hc level (at.link t level i) (j + at.skip t level i c) (q .0) (z .entered) =
-            lands-same t v c hc level x (at.link t level i) rest (j + at.skip t level i c) (q .0) (z .entered) (s .0) (s .2) (z .lands) in
+            let lands : finds.Lands t (k t v) (d t v) (a t v) c₂ hc level (at.link t level i) (j + at.skip t level i c₂) q (z .entered) =
+            lands-same t v c₂ hc level x (at.link t level i) rest (j + at.skip t level i c₂) q (z .entered) (s .0) (s .2) (z .lands) in
             let got = finds.lands-first
-            t (k t v) (d t v) (a t v) c hc level i j (points .on .level-in) hi un (seeks .low) high (q .0) (z .entered) lands in record {
-              place = record { 0 = q .0 - at.gap t level i };
+            t (k t v) (d t v) (a t v) c₂ hc level i j (points .on .level-in) hi un (seeks .low) high q (z .entered) lands in
+            let same : forward + q - gap ≡ q - at.gap t level i = omega (arith, s .1) in record {
+              place = q - at.gap t level i;
               entered = z .entered + 1;
-              is = moved-to r₁ r forward
-                  gap q (z .entered) (q .0 - at.gap t level i) (z .entered + 1) r-is (z .is) (omega (arith, got .0, s .1)) (omega (arith, s .1)) refl;
+              is = rw (← same) (way-on q (z .entered) (z .is) (omega (arith, got .0, s .1)));
               lands = got .1;
             }
         go v hc high (inr s) =
-            let c = w .number in
             let hi = pointing-in t level i (points .points) in
             let un = not-kept t level i (points .points) in
-            let second = finds.second-holds t (k t v) (d t v) (a t v) c hc level i j (points .on .level-in) hi un (seeks .low) high (s .2) in
-            let most-here : rest ≤ at.inside t level x c = rw (s .0, s .3) (second .1) in
+            let second = finds.second-holds t (k t v) (d t v) (a t v) c₂ hc level i j (points .on .level-in) hi un (seeks .low) high (s .2) in
+            let most-here : rest ≤ at.inside t level x c₂ = rw (s .0, s .3) (second .1) in
             let z = f .right v hc most-here in
             let q = z .place in
             let lands : finds.Lands t (k t v) (d t v)
-            (a t v) c hc level (at.link t level i + 1) (j + at.skip t level i c - at.inside t level (at.link t level i) c) (q .0) (z .entered) =
-            lands-same t v c hc level x (at.link t level i + 1)
-            rest (j + at.skip t level i c - at.inside t level (at.link t level i) c) (q .0) (z .entered) (s .0) (s .3) (z .lands) in
+            (a t v) c₂ hc level (at.link t level i + 1) (j + at.skip t level i c₂ - at.inside t level (at.link t level i) c₂) q (z .entered) =
+            lands-same t v c₂ hc level x (at.link t level i + 1)
+            rest (j + at.skip t level i c₂ - at.inside t level (at.link t level i) c₂) q (z .entered) (s .0) (s .3) (z .lands) in
             let got = finds.lands-second
-            t (k t v) (d t v) (a t v) c hc level i j (points .on .level-in) hi un (seeks .low) high (s .2) (q .0) (z .entered) lands in
-            let full = points .on .b-is in record {
-              place = record { 0 = at.fullLength t level + q .0 - at.gap t level i };
+            t (k t v) (d t v) (a t v) c₂ hc level i j (points .on .level-in) hi un (seeks .low) high (s .2) q (z .entered) lands in
+            let full = points .on .b-is in
+            let same : forward + q - gap ≡ at.fullLength t level + q - at.gap t level i = omega (arith, s .1) in record {
+              place = at.fullLength t level + q - at.gap t level i;
               entered = z .entered + 1;
-              is = moved-to r₁ r forward gap q (z .entered) (at.fullLength t level + q .0 - at.gap t level i)
-                  (z .entered + 1) r-is (z .is) (omega (arith, got .0, s .1)) (omega (arith, s .1)) refl;
+              is = rw (← same) (way-on q (z .entered) (z .is) (omega (arith, got .0, s .1)));
               lands = got .1;
             }
 
-  pub no-aimed : (most : ℕ) → (verdict t ≡ 0 → j ≤ at.inside t level i (w .number) → ⊥) → FoundIn t (w .number) level i j most placed.Off
-  no-aimed most never = not-found t (w .number) level i j most (λ v hc high. never v high)
-
-pub found-more : (t : List ℕ) (c level i j m n : ℕ) (r : Placed) → FoundIn t c level i j m r → m ≤ n → FoundIn t c level i j n r
-found-more t c level i j m n r f l = record { near = near-more r m n (f .near) l; right = f .right }
+  pub no-aimed : (r : ℕ) → (verdict t ≡ 0 → j ≤ at.inside t level i c₂ → ⊥) → FoundIn t c₂ level i j way r
+  no-aimed r never = not-found t c₂ level i j way r (λ v hc high. never v high)

@@ -1,21 +1,49 @@
 -- The way to the j-th byte, step by step, on any tree.
 use mathlib.Core.List.{List}
-use mathlib.Core.Path.{_≡_}
+use mathlib.Core.Path.{_≡_, refl, _∙_}
 use mathlib.Core.Logic.{_⊎_, inl, inr}
-use Prim.Native.Nat.{ℕ, _+_, _-_, _≤_, _<_}
+use Prim.Native.Nat.{ℕ, _+_, _-_, _*_, _/_, _≤_, _<_}
 use native.Mathlib.Omega.{arith}
-use borrow.Author.Tests.{lt-ltb, le-ltb, lt-leb, le-leb}
+use native.Mathlib.Nat.{add-zero, mul-add-div, div-eq-of-lt}
+use borrow.Author.Tests.{lt-ltb, le-ltb}
 use Rattle.text.specs.ListLaws.{lt-or-ge}
+use Rattle.format.specs.Settings.{pieces}
+use Rattle.format.specs.RecordFields.{skipField}
 use Rattle.format.specs.Layout as at
+use Rattle.format.specs.LayoutLaws.{Readable, full-step}
+use Rattle.layout.specs.Record.{FieldIn, field-in}
 use Rattle.layout.specs.declared.place.BlockNumber.{BlockNumber}
 use Rattle.layout.specs.declared.place.BlockPlace.{BlockPlace}
 use Rattle.walk_steps.specs.declared.Next.{Next}
 use Rattle.walk_steps.specs.declared.Next.the-variants as next
-use Rattle.walk_steps.specs.Steps.{nextAt}
-use Rattle.ask_select.specs.declared.seek.Placed.{Placed}
-use Rattle.ask_select.specs.declared.seek.Placed.the-variants as placed
+use Rattle.walk_steps.specs.Steps.{OnLevel, InTable, nextAt}
 use Rattle.ask_select.specs.declared.seek.Child.the-variants as child
-use Rattle.ask_select.specs.Seeks.{moved, restIn, LastBefore, picked}
+use Rattle.ask_select.specs.Seeks.{restIn, LastBefore, picked}
+
+-- every field of every record can be read
+pub field-there : (t : List ℕ) (size level i c f : ℕ) → Readable t → size ≡ at.recordSize t → level < at.settings t .levels → i < at.levelCount t level
+    → c < at.countedCount t → f ≤ skipField c → FieldIn t size level i f
+field-there t size level i c f k size-is hl hi hc hf = field-in t k size level i f size-is hl hi (omega arith)
+
+-- a block of a level, with the block length that the tree says
+pub full-there : (t : List ℕ) (size level b i : ℕ) → OnLevel t size level b → i < at.levelCount t level → InTable t size level (at.fullLength t level) i
+full-there t size level b i on hi = record {
+  on = record { facts = on .facts; size-is = on .size-is; level-in = on .level-in; b-is = refl };
+  block-in = hi;
+}
+
+-- the block lengths of a level and of the next one
+pub full-below : (t : List ℕ) (size level b below arity : ℕ)
+    → OnLevel t size level b → OnLevel t size (level + 1) below → arity ≡ at.settings t .arity → b ≡ below * arity
+full-below t size level b below arity on lower e = on .b-is ∙ full-step t (on .facts) level (lower .level-in) ∙ rw (lower .b-is, e)
+
+-- a full block has as many children as its arity says
+pub pieces-full : (bytes b below arity : ℕ) → bytes ≡ b → b ≡ below * arity → 0 < below → arity ≡ pieces bytes below
+unfolding pieces
+pieces-full bytes b below arity full b-is pos =
+    let low : below - 1 < below = omega arith in
+    let e : (below * arity + (below - 1)) / below ≡ arity = mul-add-div pos arity (below - 1) ∙ rw (div-eq-of-lt low) (add-zero arity) in
+    rw (full, b-is, e)
 
 -- siblings
 
@@ -86,19 +114,3 @@ module _ (t : List ℕ) (c level i o j before : ℕ) (before-is : before ≡ at.
 
     pub pick-off : x ≡ next.Off → child.Off ≡ picked t c level i o j
     pick-off e = rw e at pick-some
-
--- a place moved
-
-module _ (x : Placed) (f g : ℕ) where
-  pub moved-off : x ≡ placed.Off → placed.Off ≡ moved x f g
-  unfolding moved
-  moved-off e = rw e
-
-  module _ (o : BlockPlace) (e : ℕ) (is : x ≡ placed.At o e) where
-    pub moved-before : f + o .0 < g → placed.Off ≡ moved x f g
-    unfolding moved
-    moved-before h = rw (is, lt-leb g (f + o .0) h)
-
-    pub moved-at : g ≤ f + o .0 → placed.At (record { 0 = f + o .0 - g }) (e + 1) ≡ moved x f g
-    unfolding moved
-    moved-at h = rw (is, le-leb g (f + o .0) h)

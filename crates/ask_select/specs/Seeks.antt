@@ -9,36 +9,25 @@ use Rattle.format.specs.Settings.{pieces, maxText}
 use Rattle.format.specs.Layout as at
 use Rattle.format.specs.Path.{keptBlock, pointingBlock}
 use Rattle.format.specs.Verdict.{verdict}
-use Rattle.layout.specs.declared.header.Header.{Header}
 use Rattle.layout.specs.declared.place.BlockNumber.{BlockNumber}
 use Rattle.layout.specs.declared.place.BlockPlace.{BlockPlace}
 use Rattle.walk_steps.specs.declared.Next.{Next}
 use Rattle.walk_steps.specs.declared.Next.the-variants as next
-use Rattle.layout.specs.HeaderSays.{HeaderOf}
-use Rattle.walk_steps.specs.QuestionStands.{OnLevel}
-use Rattle.walk_steps.specs.Steps.{nextAt}
-use Rattle.theory_counts.specs.CountsLocal.{byteOf}
+use Rattle.walk_steps.specs.Steps.{OnLevel, nextAt}
 use Rattle.theory_counts.specs.Finds.{Lands}
 use Rattle.theory_counts.specs.Demands as demands
-use Rattle.format.specs.LayoutLaws.{readable-facts}
+use Rattle.format.specs.LayoutLaws.{Readable, readable-facts}
 use Rattle.format.specs.VerdictLaws.{accepted-readable, accepted-links}
 use Rattle.theory_paths.specs.Links.{linked-facts}
-use Rattle.ask_totals.specs.declared.Wanted.{Wanted}
-use Rattle.ask_select.specs.declared.seek.Placed.{Placed}
-use Rattle.ask_select.specs.declared.seek.Placed.the-variants as placed
+use Rattle.ask_select.specs.declared.seek.CountField.{CountField}
 use Rattle.ask_select.specs.declared.seek.Child.{Child}
 use Rattle.ask_select.specs.declared.seek.Child.the-variants as child
 use Rattle.ask_select.specs.declared.seek.Target.{Target}
 use Rattle.ask_select.specs.declared.seek.Target.the-variants as target
 
--- a place moved on by the bytes before it and back by a gap, with one more block entered
-unfoldable pub moved : Placed → ℕ → ℕ → Placed
-moved (placed.At o e) forward back = cond (leb back (forward + o .0)) (placed.At (record { 0 = forward + o .0 - back }) (e + 1)) placed.Off
-moved placed.Off forward back = placed.Off
-
--- a place that is not far off: a block's length for each block entered
-pub record Near (r : Placed) (most : ℕ) : Type 0 where
-  pub near : (o : BlockPlace) (e : ℕ) → r ≡ placed.At o e → (o .0 ≤ e * maxText) × (e ≤ most)
+-- the way on into a block: past the bytes before it and back by a gap, with one more block entered
+unfoldable pub entering : ℕ → ℕ → ℕ → ℕ
+entering way forward back = way + 281474976710656 + forward - back
 
 -- the rest of j in a block that was arrived at
 abbrev pub restIn : Next → ℕ → Child
@@ -48,19 +37,20 @@ restIn next.Off rest = child.Off
 
 module _ (t : List ℕ) where
   -- a kept block of a level, and a pointing one
-  pub record KeptIn (h : Header) (level b i : ℕ) : Type 0 where
-    pub on : OnLevel t h level b
+  pub record KeptIn (size level b i : ℕ) : Type 0 where
+    pub on : OnLevel t size level b
     pub kept : keptBlock t level i ≡ true
 
-  pub record PointsIn (h : Header) (level b i : ℕ) : Type 0 where
-    pub on : OnLevel t h level b
+  pub record PointsIn (size level b i : ℕ) : Type 0 where
+    pub on : OnLevel t size level b
     pub points : pointingBlock t level i ≡ true
 
   -- some blocks of a level, one after the other
-  pub record Siblings (h : Header) (c level first end : ℕ) : Type 0 where
-    pub header : HeaderOf t h
+  pub record Siblings (field : CountField) (level first end : ℕ) : Type 0 where
+    pub facts : Readable t
+    pub size-is : field .size ≡ at.recordSize t
     pub level-in : level < at.settings t .levels
-    pub number-in : c < at.countedCount t
+    pub number-in : field .number < at.countedCount t
     pub some : first < end
     pub end-in : end ≤ at.levelCount t level
 
@@ -118,21 +108,20 @@ module _ (t : List ℕ) where
     pub kept : (x : BlockNumber) (forward : BlockPlace) (rest : ℕ) → r ≡ target.Kept x forward rest → Aimed c level i b j (x .0) (forward .0) rest
     pub off : r ≡ target.Off → verdict t ≡ 0 → j ≤ at.inside t level i c → ⊥
 
-  -- a level, a counted byte, and the number of the one that is looked for
-  pub record Seeking (h : Header) (w : Wanted) (level b j most : ℕ) : Type 0 where
-    pub on : OnLevel t h level b
-    pub number-in : w .number < at.countedCount t
-    pub byte-is : w .byte ≡ byteOf t (w .number)
+  -- a level, the number of a counted byte, which one of it is looked for in a block, and the way to that block, with `blocks` entered at most
+  pub record Seeking (field : CountField) (level b j way blocks : ℕ) : Type 0 where
+    pub on : OnLevel t (field .size) level b
+    pub number-in : field .number < at.countedCount t
     pub low : 1 ≤ j
-    pub few : j ≤ most * 4294967295
+    pub few : j ≤ (blocks + 1) * 4294967295
+    pub near : way ≤ (blocks + 64) * 562949953421312
 
-  -- on an accepted tree the j-th byte of block i stands at the place found, and its path from there enters so many blocks
-  pub record Landed (v : verdict t ≡ 0) (c : ℕ) (hc : c < at.countedCount t) (level i j : ℕ) (r : Placed) : Type 0 where
-    pub place : BlockPlace
+  -- on an accepted tree the j-th byte of block i is at a place of the block, and its path from there enters so many blocks: both are added to the way
+  pub record Landed (v : verdict t ≡ 0) (c : ℕ) (hc : c < at.countedCount t) (level i j way r : ℕ) : Type 0 where
+    pub place : ℕ
     pub entered : ℕ
-    pub is : r ≡ placed.At place entered
-    pub lands : Lands t (readable-facts t (accepted-readable t v)) (linked-facts t (accepted-links t v)) (demands.levels t v) c hc level i j (place .0) entered
+    pub is : r ≡ way + entered * 281474976710656 + place
+    pub lands : Lands t (readable-facts t (accepted-readable t v)) (linked-facts t (accepted-links t v)) (demands.levels t v) c hc level i j place entered
 
-  pub record FoundIn (c level i j most : ℕ) (r : Placed) : Type 0 where
-    pub near : Near r most
-    pub right : (v : verdict t ≡ 0) (hc : c < at.countedCount t) → j ≤ at.inside t level i c → Landed v c hc level i j r
+  pub record FoundIn (c level i j way r : ℕ) : Type 0 where
+    pub right : (v : verdict t ≡ 0) (hc : c < at.countedCount t) → j ≤ at.inside t level i c → Landed v c hc level i j way r

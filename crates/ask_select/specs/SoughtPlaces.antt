@@ -3,20 +3,17 @@ use mathlib.Core.List.{List}
 use mathlib.Core.Bool.{cond}
 use mathlib.Core.Path.{_≡_}
 use mathlib.Core.Logic.{_⊎_}
-use Prim.Native.Nat.{ℕ, _+_, _*_, _≤_, _<_}
+use Prim.Native.Nat.{ℕ, _+_, _/_, _%_, _≤_, _<_}
 use lib.Dec.{ltb}
 use Rattle.format.specs.Layout as at
 use Rattle.format.specs.Verdict.{verdict}
 use Rattle.format.specs.Said.{Said, refused}
 use Rattle.format.specs.FindSays as find
-use Rattle.ask_select.specs.declared.Found.the-variants.{At}
-use Rattle.ask_select.specs.declared.seek.Placed.{Placed}
-use Rattle.ask_select.specs.declared.seek.Placed.the-variants as placed
 
--- a place in block i of level 0, as a place of the text of n bytes
-unfoldable pub placedIn : ℕ → ℕ → ℕ → Placed → Said
-placedIn n b i placed.Off = refused 14
-placedIn n b i (placed.At o e) = cond (ltb (i * b + o .0) n) (record { number = 0; value = i * b + o .0; entered = e }) (refused 14)
+-- what a step's word says, as a place of the text of n bytes: 2^48 for each block entered, and the place
+unfoldable pub placedIn : ℕ → ℕ → Said
+placedIn n word =
+    cond (ltb (word % 281474976710656) n) (record { number = 0; value = word % 281474976710656; entered = word / 281474976710656 }) (refused 14)
 
 -- what the walk says: settled on accepted trees, free on the others
 pub record Sought (t : List ℕ) (byte j : ℕ) (s : Said) : Type 0 where

@@ -1,2 +1,2 @@
-mod NamedLaws
+pub mod NamedLaws
 pub mod TotalLaws

@@ -36,7 +36,7 @@ unfolding ahead numberOfByte
 ahead-start t byte = omega arith
 
 module _ (t : List ℕ) (k byte i : ℕ) (n : Names t k) where
-  name-at : i < k → getD (at.settings t .counted) i 0 ≡ getD t (countedAt + i) 0
+  pub name-at : i < k → getD (at.settings t .counted) i 0 ≡ getD t (countedAt + i) 0
   unfolding at.settings
   name-at h =
       let a : i < at.countedCount t = omega (arith, n .k-is) in

@@ -2,6 +2,7 @@ use borrow.Author.Needs.{needs}
 use native.Mathlib.Omega.{arith}
 use mathlib.Core.Path.{ap}
 use Prim.Native.Nat.{ℕ, _+_}
+use Rattle.ask_select.proofs.FindByHeaderLaws.{top-level, sought-by}
 use Rattle.ask_guide.specs.Guides.{lastEntry}
 use Rattle.ask_guided.proofs.GuidedFindLaws as laws
 use Rattle.ask_guided.proofs.guided_find.guided.Statement.{statement}
@@ -31,19 +32,28 @@ guided-spec =
     (λ c κs. let p = c .before .before .before .before .before .before .before .pre in
     (p .0, p .1, omega (arith, c .before .level-count .ensures, c .if2 .left)))
     (λ c κs. let w = c .before .before .before .before .before .before .before .before in let a = w .args in let p = w .pre in (
-      p,
+      top-level _ _ (p .0),
+      p .1,
+      p .3,
+      p .4,
       laws.stops (a .t .now) (a .guide .now) (a .wanted .byte)
           _ _ (p .1) (p .3) (p .4) _ (ap (λ (k : ℕ). k + lastEntry (c .before .before .before .before .before .before .before .before .args .j))
           (c .before .before .before .before .before .entries-before .ensures .0))
           _ _ _ (c .before .before .before .read .ensures) (c .block-from .ensures .0) (c .block-from .ensures .1),
     ))
     (λ c κs. search needs)
-    (λ c. let w = c .before .before .before .before .before .before .before .before .before .before in
-    let a = w .args in let p = w .pre in let z = c .before .seek-in .ensures in (
+    (λ c κs. search needs)
+    (λ c.
+    let f = c .before in
+    let b = f .before .before in
+    let w = b .before .before .before .before .before .before .before .before in
+    let a = w .args in
+    let p = w .pre in
+    let said = f .text-place .ensures in
+    let z = sought-by _ _ _ _ _ _ _ _ (p .0 .length-is) (p .2) (said .0) (f .before .word-in .ensures) in (
       rw (c .with-steps .ensures) (laws.sought-by (a .t .now) (a .guide .now) (a .wanted .byte) _ _ (p .1)
-          (p .3) (p .4) _ (ap (λ (k : ℕ). k + lastEntry (c .before .before .before .before .before .before .before .before .before .before .args .j))
-          (c .before .before .before .before .before .before .before .entries-before .ensures .0))
-          _ _ _ (c .before .before .before .before .before .read .ensures)
-          (c .before .before .block-from .ensures .0) (c .before .before .block-from .ensures .1) (c .before .seek-in .result) (z .1) (z .0)),
-      rw (c .with-steps .ensures) (laws.numbered-same (c .before .seek-in .result) (c .before .before .block-from .result .steps) (z .1)),
+          (p .3) (p .4) _ (ap (λ (k : ℕ). k + lastEntry (w .args .j)) (b .before .before .before .before .before .entries-before .ensures .0))
+          _ _ _ (b .before .before .before .read .ensures)
+          (b .block-from .ensures .0) (b .block-from .ensures .1) (f .text-place .result) (said .1) z),
+      rw (c .with-steps .ensures) (laws.numbered-same (f .text-place .result) (b .block-from .result .steps) (said .1)),
     )))

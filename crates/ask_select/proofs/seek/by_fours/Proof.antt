@@ -8,11 +8,11 @@ use Rattle.ask_select.proofs.seek.by_fours.Statement.{statement}
 use Rattle.ask_select.proofs.seek.by_fours.Tie as tie
 
 abbrev Inv-loop : tie.InvT-loop
-Inv-loop t h number level j last i₀ steps₀ i steps =
-    (i₀ ≤ i) × (i < last) × ((k : ℕ) → i₀ < k → k ≤ i → at.before t level k number < j) × (steps₀ + (i - i₀) ≡ steps)
+Inv-loop t field level j last i₀ steps₀ i steps =
+    (i₀ ≤ i) × (i < last) × ((k : ℕ) → i₀ < k → k ≤ i → at.before t level k (field .number) < j) × (steps₀ + (i - i₀) ≡ steps)
 
 abbrev μ-loop : tie.MeasureT-loop
-μ-loop t h number level j last i₀ steps₀ i steps = last - i
+μ-loop t field level j last i₀ steps₀ i steps = last - i
 
 pub by-fours-spec : {M : Type 1} → statement M
 by-fours-spec =
@@ -21,10 +21,14 @@ by-fours-spec =
     (λ c. (omega arith, omega (arith, c .before .pre .some), (λ k low high. absurd (let z : ⊥ = omega arith in z)), omega arith))
     (λ c. omega (arith, c .loop .inv .1))
     (λ c κs. let s = c .before .before .before .pre in (
-      s .header,
-      s .level-in,
-      s .number-in,
-      omega (arith, s .end-in, c .before .loop .inv .1, c .loop-test .taken),
+      record {
+        facts = s .facts;
+        size-is = s .size-is;
+        level-in = s .level-in;
+        number-in = s .number-in;
+        some = omega arith;
+        end-in = omega (arith, s .end-in, c .before .loop .inv .1, c .loop-test .taken);
+      },
       omega (arith, c .before .loop .inv .1, c .loop-test .taken),
     ))
     (λ c. search needs)
@@ -33,9 +37,9 @@ by-fours-spec =
       omega (arith, l .loop .inv .0, l .loop .inv .3),
     ))
     (λ c. let l = c .before .before .before in
-    omega (arith, l .before .before .good .1 .1 .1 .1 .0 .1 .1 .1 .0 .1 .1 .0 .1, l .loop .inv .1, c .before .before .loop-test .taken))
+    omega (arith, l .before .before .good .1 .1 .1 .0 .1 .1 .1 .0 .1 .1 .0 .1, l .loop .inv .1, c .before .before .loop-test .taken))
     (λ c. let l = c .before .before .before in
-    let word = l .before .before .good .1 .1 .1 .1 .0 .1 .1 .1 .0 .1 .1 .0 .1 in
+    let word = l .before .before .good .1 .1 .1 .0 .1 .1 .1 .0 .1 .1 .0 .1 in
     omega (arith, word, l .loop .inv .0, l .loop .inv .1, l .loop .inv .3, c .before .before .loop-test .taken))
     (λ c. let l = c .before .before .before in omega (arith, l .loop .inv .1, c .before .before .loop-test .taken))
     (λ c. let l = c .before .before .before in (

@@ -1,6 +1,6 @@
 use native.Mathlib.Omega.{arith}
 use borrow.Author.Needs.{needs}
-use Rattle.ask_totals.proofs.TotalLaws as totals
+use Rattle.ask_select.proofs.SeekLaws as laws
 use Rattle.ask_select.proofs.seek.largest_before.Statement.{statement}
 use Rattle.ask_select.proofs.seek.largest_before.Tie as tie
 
@@ -8,17 +8,18 @@ pub largest-before-spec : {M : Type 1} → statement M
 largest-before-spec =
     tie.close
     (tie.spec
-    (λ c. omega (arith, c .before .before .pre .4))
-    (λ c κs. let s = c .before .before in totals.field-there _ _ _ _ _ _ (s .pre .0) (s .pre .1) (omega (arith, s .pre .3)) (s .pre .2) (omega arith))
-    (λ c. omega (arith, c .before .before .before .before .pre .4))
-    (λ c κs. let s = c .before .before .before .before in
-    totals.field-there _ _ _ _ _ _ (s .pre .0) (s .pre .1) (omega (arith, s .pre .3)) (s .pre .2) (omega arith))
-    (λ c. omega (arith, c .before .before .before .before .before .before .pre .4))
-    (λ c κs. let s = c .before .before .before .before .before .before in
-    totals.field-there _ _ _ _ _ _ (s .pre .0) (s .pre .1) (omega (arith, s .pre .3)) (s .pre .2) (omega arith))
-    (λ c. omega (arith, c .before .before .before .before .before .before .before .before .pre .4))
-    (λ c κs. let s = c .before .before .before .before .before .before .before .before in
-    totals.field-there _ _ _ _ _ _ (s .pre .0) (s .pre .1) (omega (arith, s .pre .3)) (s .pre .2) (omega arith))
+    (λ c. omega (arith, c .before .before .pre .1))
+    (λ c κs. let s = c .before .before .pre .0 in
+    laws.field-there _ _ _ _ _ _ (s .facts) (s .size-is) (s .level-in) (omega (arith, s .end-in)) (s .number-in) (omega arith))
+    (λ c. omega (arith, c .before .before .before .before .pre .1))
+    (λ c κs. let s = c .before .before .before .before .pre .0 in
+    laws.field-there _ _ _ _ _ _ (s .facts) (s .size-is) (s .level-in) (omega (arith, s .end-in)) (s .number-in) (omega arith))
+    (λ c. omega (arith, c .before .before .before .before .before .before .pre .1))
+    (λ c κs. let s = c .before .before .before .before .before .before .pre .0 in
+    laws.field-there _ _ _ _ _ _ (s .facts) (s .size-is) (s .level-in) (omega (arith, s .end-in)) (s .number-in) (omega arith))
+    (λ c. omega (arith, c .before .before .before .before .before .before .before .before .pre .1))
+    (λ c κs. let s = c .before .before .before .before .before .before .before .before .pre .0 in
+    laws.field-there _ _ _ _ _ _ (s .facts) (s .size-is) (s .level-in) (omega (arith, s .end-in)) (s .number-in) (omega arith))
     (λ c κs. search needs)
     (λ c κs. search needs)
     (λ c κs. search needs)

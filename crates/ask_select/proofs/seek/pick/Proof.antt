@@ -1,8 +1,6 @@
 use borrow.Author.Needs.{needs}
 use native.Mathlib.Omega.{arith}
-use Rattle.walk_steps.proofs.QuestionStandsLaws.{plain-block}
 use Rattle.ask_select.proofs.SeekLaws as laws
-use Rattle.ask_totals.proofs.TotalLaws as totals
 use Rattle.ask_select.proofs.seek.pick.Statement.{statement}
 use Rattle.ask_select.proofs.seek.pick.Tie as tie
 
@@ -10,11 +8,11 @@ pub pick-spec : {M : Type 1} → statement M
 pick-spec =
     tie.close
     (tie.spec
-    (λ c κs. totals.field-there
-    _ _ _ _ _ _ (c .before .pre .0 .on .header) (c .before .pre .0 .on .level-in) (c .before .pre .0 .block-in) (c .before .pre .1) (omega arith))
+    (λ c κs. let s = c .before .pre .0 in
+    laws.field-there _ _ _ _ _ _ (s .on .facts) (s .on .size-is) (s .on .level-in) (s .block-in) (c .before .pre .1) (omega arith))
     (λ c. search needs)
     (λ c. laws.pick-none _ _ _ _ _ _ _ (c .before .before2 .ensures) (c .if1 .taken))
-    (λ c κs. plain-block _ _ _ _ _ (c .before .before .before .pre .0))
+    (λ c κs. c .before .before .before .pre .0)
     (λ c. search needs)
     (λ c. search needs)
     (λ c. search needs)

@@ -3,20 +3,19 @@ use Prim.Native.Nat.{ℕ, _+_, _-_, _≤_, _<_}
 use native.Mathlib.Omega.{arith}
 use borrow.Author.Needs.{needs}
 use Rattle.format.specs.Layout as at
-use Rattle.ask_totals.proofs.TotalLaws as totals
 use Rattle.ask_select.proofs.SeekLaws as laws
 use Rattle.ask_select.proofs.seek.step_along.Statement.{statement}
 use Rattle.ask_select.proofs.seek.step_along.Tie as tie
 
 abbrev Inv-loop : tie.InvT-loop
-Inv-loop t h number level j last i₀ steps₀ i steps =
-    (i₀ ≤ i) × (i < last) × ((k : ℕ) → i₀ < k → k ≤ i → at.before t level k number < j) × (steps₀ + (i - i₀) ≡ steps)
+Inv-loop t field level j last i₀ steps₀ i steps =
+    (i₀ ≤ i) × (i < last) × ((k : ℕ) → i₀ < k → k ≤ i → at.before t level k (field .number) < j) × (steps₀ + (i - i₀) ≡ steps)
 
 abbrev μ-loop : tie.MeasureT-loop
-μ-loop t h number level j last i₀ steps₀ i steps = last - i
+μ-loop t field level j last i₀ steps₀ i steps = last - i
 
 add-i : tie.Need-add-i Inv-loop μ-loop
-add-i c = search (needs, c .before .before .before .before .before .before .good .1 .1 .1 .1 .0 .1 .1 .1 .0 .1 .1 .0 .1)
+add-i c = search (needs, c .before .before .before .before .before .before .good .1 .1 .1 .0 .1 .1 .1 .0 .1 .1 .0 .1)
 
 pub step-along-spec : {M : Type 1} → statement M
 step-along-spec =
@@ -27,7 +26,7 @@ step-along-spec =
     (λ c. search needs)
     (λ c. search needs)
     (λ c κs. let s = c .before .before .before .before .pre in
-    totals.field-there _ _ _ _ _ _ (s .header) (s .level-in) (omega (arith, s .end-in)) (s .number-in) (omega arith))
+    laws.field-there _ _ _ _ _ _ (s .facts) (s .size-is) (s .level-in) (omega (arith, s .end-in)) (s .number-in) (omega arith))
     (λ c. search needs)
     (λ c.
     let l = c .before .before .before in

@@ -9,13 +9,6 @@ text-place-spec =
     tie.close
     (tie.spec
     (λ c. search needs)
-    (λ c. search needs)
-    (λ c. (laws.place-off _ _ _ _ (c .enum-told .given .1), omega arith))
-    (λ c. search needs)
-    (λ c. let w = c .before .before .before .before in record { fits = omega (arith, laws.product (w .args .block .0) (w .args .b) (omega arith) (w .pre)) })
-    (λ c. search needs)
-    (λ c. let w = c .before .before .before .before .before in
-    record { fits = omega (arith, laws.product (w .args .block .0) (w .args .b) (omega arith) (w .pre)) })
-    (λ c. search needs)
-    (λ c. (laws.place-in _ _ _ _ _ _ (c .before .before .before .before .found .given .1) (c .if1 .taken), tt))
-    (λ c. (laws.place-past _ _ _ _ _ _ (c .before .before .before .before .found .given .1) (c .if1 .left), omega arith)))
+    (λ c. omega arith)
+    (λ c. (laws.place-in _ _ (c .if1 .taken), tt))
+    (λ c. (laws.place-past _ _ (c .if1 .left), omega arith)))
