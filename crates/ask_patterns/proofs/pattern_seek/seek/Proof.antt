@@ -42,7 +42,7 @@ seek-spec =
         laws.seeking-even _ _ _ _ _ _ (l .loop .inv .0) (pre .0 .1),
         omega (arith, laws.seeking-length _ _ _ _ _ _ (l .loop .inv .0), pre .0 .2),
       ),
-      pre .1,
+      (pre .0 .1, pre .1 .0, pre .1 .1, pre .1 .2),
     ))
     (λ c. let l = c .before .before .before .before .before .before .before .before .before .before .before .before .before .before .before .before in
     let pre = l .pre in
