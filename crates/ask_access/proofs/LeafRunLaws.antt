@@ -3,54 +3,134 @@ use mathlib.Core.List.{List}
 use mathlib.Core.Path.{_≡_, refl, sym, ap, _∙_}
 use Prim.Native.Nat.{ℕ, zero, suc, _+_, _-_, _≤_, _<_, min}
 use native.Mathlib.Omega.{arith}
-use lib.ListN.{getD, set}
+use native.Mathlib.Nat.{le-trans}
+use lib.ListN.{length, getD, set}
 use Rattle.format.specs.Layout as at
-use Rattle.format.specs.Path.{pathOf}
 use Rattle.format.specs.Said.{Said, refused}
-use Rattle.format.specs.ReadSays.{byteSays}
+use Rattle.format.specs.Verdict.{readable}
+use Rattle.format.specs.ReadSays.{byteSays, runSays}
+use Rattle.theory_paths.specs.Shift.{left-most}
+use Rattle.theory_paths.specs.Reads.{byte-of-path}
+use Rattle.theory_paths.specs.PlaceBytes.{byte-text}
 use Rattle.layout.specs.declared.header.Header.{Header}
 use Rattle.layout.specs.HeaderSays.{HeaderOf}
 use Rattle.stretches.specs.Stretches.{bytesWritten}
 use Rattle.stretches.proofs.StretchLaws.{bytes-more}
-use Rattle.walk_path.specs.declared.Reached.{Reached}
-use Rattle.walk_path.specs.declared.Walked.{Walked}
-use Rattle.walk_path.specs.declared.Walked.the-variants.{At, Broken}
-use Rattle.walk_path.specs.Walk.{walked}
-use Rattle.walk_path.proofs.EndLaws.{Ends, ends}
 use Rattle.ask_access.specs.declared.Answer.{Answer}
 use Rattle.ask_access.specs.declared.Answer.the-variants.{Byte, Refused}
 use Rattle.ask_access.specs.declared.Copied.the-variants as copied
 use Rattle.ask_access.specs.declared.read_by_header.LeafRun.{LeafRun}
 use Rattle.ask_access.specs.declared.read_by_header.LeafRunAnswer.{LeafRunAnswer}
 use Rattle.ask_access.specs.declared.read_by_header.LeafRunAnswer.the-variants as found
+use Rattle.ask_access.specs.declared.read_by_header.Part.{Part}
+use Rattle.ask_access.specs.declared.read_by_header.Ran.{Ran}
 use Rattle.ask_access.specs.declared.read_by_header.Ran.the-variants as ran
+use Rattle.ask_access.specs.declared.leaf_end.LeafEnd.{LeafEnd}
+use Rattle.ask_access.specs.declared.leaf_end.LeafEndAnswer.{LeafEndAnswer}
+use Rattle.ask_access.specs.declared.leaf_end.LeafEndAnswer.the-variants as end
 use Rattle.ask_access.specs.ReadAnswers.{said, RunAnswer}
-use Rattle.ask_access.specs.ReadByRuns.{LeafRunAt, LeafRunOf, placesWritten, RunCopied}
+use Rattle.ask_access.specs.LeafEnds.{LeafEndAt, LeafEndOf, Joined}
+use Rattle.ask_access.specs.ReadByRuns.{ReadsOn, LeafRunAt, LeafRunOf, LeafRangeAt, LeafRangeOf, RangeAnswer, placesWritten, RunCopied}
 use Rattle.ask_access.proofs.ByteLaws as bytes
-use Rattle.ask_access.proofs.RunLaws.{part-reads, run-answers}
+use Rattle.ask_access.proofs.RunLaws.{run-answers, run-from, run-size, run-some}
+use Rattle.ask_access.proofs.LeafEndLaws.{end-is, end-left, end-entered, left-min, joined-says}
 
--- from the end of a walk
-module _ (t : List ℕ) (p : ℕ) (h : Header) (k : HeaderOf t h) (low : p < h .«text_length»)
-    (w : Walked) (w-is : w ≡ walked t (record { entered = 0; left = h .«text_length» - p }) (pathOf t p)) where
-  pub leaf-run-broken : w ≡ Broken → byteSays t p ≡ refused 14
-  leaf-run-broken b = sym (bytes.byte-broken t p h k low _ w w-is b)
+-- the answer of `end_of`
+module _ (t : List ℕ) (p : ℕ) (x : LeafEndAnswer) (x-is : LeafEndOf t p x) where
+  pub end-found : (r : LeafEnd) → x ≡ end.At r → LeafEndAt t p r
+  end-found r e = rw e at x-is
 
-  module _ (r : Reached) (e : w ≡ At r) where
-    walk-end : Ends t (record { entered = 0; left = h .«text_length» - p }) (pathOf t p) r
-    walk-end = ends t (record { entered = 0; left = h .«text_length» - p }) (pathOf t p) r (sym e ∙ w-is)
+  pub end-refused : x ≡ end.Broken → byteSays t p ≡ refused 14
+  end-refused e = rw e at x-is
 
-    pub leaf-run-reached : (from size : ℕ) → from ≡ h .«leaf_offset» + r .leaf → size ≡ min (r .trail .left) (h .«leaf_count» - r .leaf)
-        → LeafRunAt t p (record { from = from; length = size; entered = r .trail .entered })
-    leaf-run-reached from size from-is size-is =
-        let a = bytes.run-reached t p h k low _ w w-is r e refl from size from-is size-is in
-        let b = part-reads t h k p low (ran.At (record { from = from; length = size })) a (record { from = from; length = size }) refl in
-        let start : from ≡ at.leafOffset t + walk-end .path .leaf = omega (arith, k .offset-is, walk-end .leaf-is) in record {
-          from-is = a .from-is;
-          length-is = a .length-is;
-          some-byte = b .1;
-          in-tree = b .0 .in-tree;
-          says = λ x l. run-answers t (k .passes) p (omega (arith, k .length-is)) (walk-end .path) (walk-end .is)
-              from (r .trail .entered) start (omega (arith, walk-end .entered-is)) x (omega (arith, a .length-is));
+-- a range has a byte
+range-some : (left most within n size leaves length : ℕ) → 1 ≤ left → 1 ≤ most → within ≡ min left most → 1 ≤ n → size ≡ min within n → 1 ≤ leaves
+    → length ≡ min size leaves → 1 ≤ length
+range-some left most within n size leaves length a b within-is c size-is d length-is =
+    let w : 1 ≤ within = omega arith in
+    let s : 1 ≤ size = omega arith in
+    omega arith
+
+-- no more than each of its bounds
+record Bounds (left most n leaves long : ℕ) : Type 0 where
+  in-left : long ≤ left
+  at-most : long ≤ most
+  in-joined : long ≤ n
+  in-leaves : long ≤ leaves
+
+bounds : (left most within n size leaves long : ℕ) → within ≡ min left most → size ≡ min within n → long ≡ min size leaves → Bounds left most n leaves long
+bounds left most within n size leaves long within-is size-is long-is =
+    let a : (within ≤ left) × (within ≤ most) = (omega arith, omega arith) in
+    let b : (size ≤ within) × (size ≤ n) = (omega arith, omega arith) in
+    let c : (long ≤ size) × (long ≤ leaves) = (omega arith, omega arith) in
+    record { in-left = le-trans (c .0) (le-trans (b .0) (a .0)); at-most = le-trans (c .0) (le-trans (b .0) (a .1)); in-joined = le-trans (c .0) (b .1); in-leaves = c .1 }
+
+sub-pos : (a b : ℕ) → b < a → 1 ≤ a - b
+sub-pos a b h = omega arith
+
+in-room : (left long n p : ℕ) → long ≤ left → left ≤ n - p → p < n → p + long ≤ n
+in-room left long n p a b c = omega arith
+
+in-count : (x long n leaf : ℕ) → x < long → long ≤ n - leaf → leaf + x < n
+in-count x long n leaf a b = omega arith
+
+-- from the end of a path
+module _ (t : List ℕ) (p : ℕ) (h : Header) (k : HeaderOf t h) (low : p < h .«text_length») (r : LeafEnd) (e : LeafEndAt t p r) where
+  low-text : p < at.textLength t
+  low-text = omega (arith, k .length-is)
+
+  answered : byteSays t p .number ≡ 0
+  answered = ap (λ (s : Said). s .number) (byte-of-path t (k .facts) (k .passes) p low-text _ (end-is t p h k r e))
+
+  size-is : runSays t p .1 ≡ min (min (r .left) (at.settings t .leaf - r .place .0)) (at.leafCount t - r .leaf)
+  size-is =
+      let most = min (at.textLength t - p) (at.leafCount t - r .leaf) in
+      run-size t (k .passes) p low-text _ (end-is t p h k r e) ∙ end-left t p h k r e most
+      ∙ omega (arith, left-min t (e .above .visits) (at.textLength t - p) (at.leafCount t - r .leaf), e .left-is)
+
+  module _ (from : ℕ) (from-is : from ≡ h .«leaf_offset» + r .leaf) where
+    start : from ≡ at.leafOffset t + r .leaf
+    start = omega (arith, k .offset-is)
+
+    in-leaves : (size here : ℕ) → size ≡ min here (at.leafCount t - r .leaf) → from + size ≤ length t
+    in-leaves size here is =
+        let high : size ≤ at.leafCount t - r .leaf = omega arith in
+        let low : r .leaf < at.leafCount t = e .ends-in .leaf-in in
+        let whole : length t ≡ at.leafOffset t + at.leafCount t = k .facts .size in
+        omega (arith, start)
+
+    left-some : 1 ≤ r .left
+    left-some =
+        let some = run-some t (k .passes) p low-text answered in
+        let high : min (min (r .left) (at.settings t .leaf - r .place .0)) (at.leafCount t - r .leaf) ≤ r .left = omega arith in
+        omega (arith, size-is)
+
+    -- its run
+    pub leaf-run-reached : (here size : ℕ) → here ≡ min (r .left) (h .settings .leaf - r .place .0) → size ≡ min here (h .«leaf_count» - r .leaf)
+        → LeafRunAt t p (record { from = from; length = size; entered = r .entered })
+    leaf-run-reached here size here-is is =
+        let all : size ≡ runSays t p .1 = is ∙ rw (here-is, k .leaf-is, k .count-is) (sym size-is) in record {
+          from-is = start ∙ sym (run-from t (k .passes) p low-text _ (end-is t p h k r e));
+          length-is = all;
+          some-byte = omega (arith, run-some t (k .passes) p low-text answered);
+          in-tree = in-leaves size here (is ∙ rw (k .count-is));
+          says = λ x l. run-answers t (k .passes) p low-text _ (end-is t p h k r e) from (r .entered) start (sym (end-entered t p h k r e)) x (omega arith);
+        }
+
+    -- with the blocks that continue it
+    pub leaf-range-reached : (most within n size long : ℕ) → 1 ≤ most → within ≡ min (r .left) most → Joined t r n → size ≡ min within n
+        → long ≡ min size (h .«leaf_count» - r .leaf) → LeafRangeAt t p most (record { from = from; length = long; entered = r .entered })
+    leaf-range-reached most within n size long some within-is j size-is′ length-is =
+        let short : r .left ≤ at.textLength t - p = rw (e .left-is) (left-most t (e .above .visits) (at.textLength t - p)) in
+        let leaves : long ≡ min size (at.leafCount t - r .leaf) = length-is ∙ rw (k .count-is) in
+        let f = bounds (r .left) most within n size (at.leafCount t - r .leaf) long within-is size-is′ leaves in record {
+          some-byte = range-some (r .left) most within n size (at.leafCount t - r .leaf) long left-some some within-is (j .some-byte) size-is′
+              (sub-pos (at.leafCount t) (r .leaf) (e .ends-in .leaf-in)) leaves;
+          at-most = f .at-most;
+          in-text = in-room (r .left) long (at.textLength t) p (f .in-left) short low-text;
+          in-tree = in-leaves long size leaves;
+          says = λ x l. joined-says t p h k r e n j x (le-trans l (f .in-joined)) (le-trans l (f .in-left))
+              (in-count x long (at.leafCount t) (r .leaf) l (f .in-leaves)) low-text from start;
         }
 
 -- the answer of `leaf_run`
@@ -75,6 +155,38 @@ module _ (t : List ℕ) (p : ℕ) (x : LeafRunAnswer) (x-is : LeafRunOf t p x) w
         inside = k .in-tree;
       }
 
+-- the answer of `leaf_range`
+module _ (t : List ℕ) (p most : ℕ) (x : LeafRunAnswer) (x-is : LeafRangeOf t p most x) where
+  pub range-found : (r : LeafRun) → x ≡ found.At r → LeafRangeAt t p most r
+  range-found r e = rw e at x-is
+
+  pub range-refused : x ≡ found.Broken → byteSays t p .number ≡ 14
+  range-refused e =
+      let z : byteSays t p ≡ refused 14 = rw e at x-is in
+      ap (λ (s : Said). s .number) z
+
+  pub found-range : readable t ≡ 0 → (r : LeafRun) → x ≡ found.At r → RangeAnswer t p most (ran.At (record { from = r .from; length = r .length }))
+  found-range passes r e =
+      let k = range-found r e in
+      let number : (y : ℕ) → y < r .length → byteSays t (p + y) .number ≡ 0 = λ y l. ap (λ (s : Said). s .number) (k .says y l) in (
+        record {
+          in-text = k .in-text;
+          in-tree = k .in-tree;
+          holds = number;
+          bytes = λ y l. sym (ap (λ (s : Said). s .value) (k .says y l)) ∙ byte-text t passes (p + y) (omega (arith, k .in-text)) (number y l);
+        },
+        k .some-byte,
+        k .at-most,
+      )
+
+-- the answer of `range_at`
+module _ (t : List ℕ) (p most : ℕ) (x : Ran) (x-is : RangeAnswer t p most x) where
+  pub range-reads : (part : Part) → x ≡ ran.At part → (ReadsOn t p (part .from) (part .length)) × (1 ≤ part .length) × (part .length ≤ most)
+  range-reads part e = rw e at x-is
+
+  pub range-broken : (q : ℕ) → x ≡ ran.Refused q → (q ≡ 14) × (byteSays t p .number ≡ 14)
+  range-broken q e = rw e at x-is
+
 -- the first byte of a run is that of its place
 pub run-first-byte : (t : List ℕ) (p : ℕ) (r : LeafRun) → LeafRunAt t p r
     → (a : Answer) → a ≡ Byte (getD t (r .from + 0) 0) (r .entered) → said a ≡ byteSays t p
@@ -95,23 +207,20 @@ pub byte-written : (d e t : List ℕ) (to from j : ℕ) → e ≡ bytesWritten d
 byte-written d e t to from j is a n u m given taken =
     bytes-more d e _ t to from j is (ap (set e (to + j)) (value-is a (getD t (from + j) 0) n u m given taken))
 
--- the bytes of a run are those of its places
-module _ (t : List ℕ) (p : ℕ) (r : LeafRun) (k : LeafRunAt t p r) where
-  pub leaf-run-holds : (x : ℕ) → x < r .length → byteSays t (p + x) .number ≡ 0
-  leaf-run-holds x l = ap (λ (s : Said). s .number) (k .says x l)
-
-  pub run-written : (d : List ℕ) (to n : ℕ) → n ≤ r .length → bytesWritten d to t (r .from) n ≡ placesWritten d to t p n
+-- the bytes of a range are those of its places
+module _ (t : List ℕ) (p most : ℕ) (r : LeafRun) (k : LeafRangeAt t p most r) where
+  run-written : (d : List ℕ) (to n : ℕ) → n ≤ r .length → bytesWritten d to t (r .from) n ≡ placesWritten d to t p n
   run-written d to zero fits = refl
   run-written d to (suc n) fits =
       let v : getD t (r .from + n) 0 ≡ byteSays t (p + n) .value = sym (ap (λ (s : Said). s .value) (k .says n (omega arith))) in
       rw (run-written d to n (omega arith), v)
 
-  -- the n bytes of a run that are asked for, all copied
-  pub run-copied : (most to : ℕ) (d e : List ℕ) (n : ℕ) → 1 ≤ most → n ≡ min (r .length) most → (j : ℕ) → j ≡ n → e ≡ bytesWritten d to t (r .from) j
-      → RunCopied t p most to d e (copied.Bytes n 0)
-  run-copied most to d e n some n-is j all is = (
-    omega (arith, k .some-byte),
-    omega arith,
-    λ x l. leaf-run-holds x (omega arith),
-    is ∙ ap (bytesWritten d to t (r .from)) all ∙ run-written d to n (omega arith),
+  -- all copied
+  pub run-copied : (to : ℕ) (d e : List ℕ) (j : ℕ) → j ≡ r .length → e ≡ bytesWritten d to t (r .from) j
+      → RunCopied t p most to d e (copied.Bytes (r .length) 0)
+  run-copied to d e j all is = (
+    k .some-byte,
+    k .at-most,
+    λ x l. ap (λ (s : Said). s .number) (k .says x l),
+    is ∙ ap (bytesWritten d to t (r .from)) all ∙ run-written d to (r .length) (omega arith),
   )

@@ -57,7 +57,11 @@ module _ (t : List ℕ) (r : readable t ≡ 0) (p : ℕ) (low : p < at.textLengt
     k : Readable t
     k = readable-facts t r
 
-    run-size : runSays t p .1 ≡ leftOver t (q .visits) (min (at.textLength t - p) (at.leafCount t - q .leaf))
+    pub run-from : runSays t p .0 ≡ at.leafOffset t + q .leaf
+    unfolding runSays
+    run-from = rw (reads.byte-of-path t k r p low q e, e)
+
+    pub run-size : runSays t p .1 ≡ leftOver t (q .visits) (min (at.textLength t - p) (at.leafCount t - q .leaf))
     unfolding runSays
     run-size = rw (reads.byte-of-path t k r p low q e, e)
 

@@ -1,2 +1,3 @@
 pub mod ReadAnswers
+pub mod LeafEnds
 pub mod ReadByRuns

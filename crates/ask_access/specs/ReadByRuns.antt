@@ -9,6 +9,8 @@ use Rattle.format.specs.Said.{refused}
 use Rattle.format.specs.ReadSays.{byteSays, runSays}
 use Rattle.ask_access.specs.declared.Copied.{Copied}
 use Rattle.ask_access.specs.declared.Copied.the-variants as copied
+use Rattle.ask_access.specs.declared.read_by_header.Ran.{Ran}
+use Rattle.ask_access.specs.declared.read_by_header.Ran.the-variants as ran
 use Rattle.ask_access.specs.declared.read_by_header.LeafRun.{LeafRun}
 use Rattle.ask_access.specs.declared.read_by_header.LeafRunAnswer.{LeafRunAnswer}
 use Rattle.ask_access.specs.declared.read_by_header.LeafRunAnswer.the-variants as found
@@ -32,6 +34,24 @@ pub record LeafRunAt (t : List ℕ) (p : ℕ) (r : LeafRun) : Type 0 where
 abbrev pub LeafRunOf : List ℕ → ℕ → LeafRunAnswer → Type 0
 LeafRunOf t p (found.At r) = LeafRunAt t p r
 LeafRunOf t p found.Broken = byteSays t p ≡ refused 14
+
+-- r is at most `most` bytes of the tree that are byte's answers at the places from p on, each with the same number of blocks entered
+pub record LeafRangeAt (t : List ℕ) (p most : ℕ) (r : LeafRun) : Type 0 where
+  pub some-byte : 1 ≤ r .length
+  pub at-most : r .length ≤ most
+  pub in-text : p + r .length ≤ at.textLength t
+  pub in-tree : r .from + r .length ≤ length t
+  pub says : (x : ℕ) → x < r .length → byteSays t (p + x) ≡ record { number = 0; value = getD t (r .from + x) 0; entered = r .entered }
+
+-- the answer of `leaf_range`
+abbrev pub LeafRangeOf : List ℕ → ℕ → ℕ → LeafRunAnswer → Type 0
+LeafRangeOf t p most (found.At r) = LeafRangeAt t p most r
+LeafRangeOf t p most found.Broken = byteSays t p ≡ refused 14
+
+-- the answer of `range_at`: some bytes of the tree, at most `most`, that are those of its text from place p; or 14, byte's number
+abbrev pub RangeAnswer : List ℕ → ℕ → ℕ → Ran → Type 0
+RangeAnswer t p most (ran.At part) = (ReadsOn t p (part .from) (part .length)) × (1 ≤ part .length) × (part .length ≤ most)
+RangeAnswer t p most (ran.Refused q) = (q ≡ 14) × (byteSays t p .number ≡ 14)
 
 -- buffer d with the bytes of n places from p written from `to` on
 abbrev pub placesWritten : List ℕ → ℕ → List ℕ → ℕ → ℕ → List ℕ

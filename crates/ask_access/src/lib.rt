@@ -1,4 +1,5 @@
 // The questions put to a tree. Each asks 5 to 7 first, of any bytes lent as a tree.
+pub mod leaf_end;
 pub mod read_by_header;
 
 use crate::read_by_header::Ran;

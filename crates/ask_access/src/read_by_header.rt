@@ -1,10 +1,11 @@
 // Byte, run and span of a tree that passes questions 5 to 7, by its header.
 use crate::Answer;
 use crate::Copied;
+use crate::leaf_end;
+use crate::leaf_end::LeafEndAnswer;
 use layout::header::Header;
 use layout::place::TextPlace;
 use layout::settings::Settings;
-use walk_path::Walked;
 use walk_short::gather;
 use walk_short::gather::Gathered;
 ghost use mathlib.Core.Bool.{true, _&&_};
@@ -15,7 +16,7 @@ ghost use lib.Dec.{eqb, leb};
 ghost use Rattle.format.specs.ReadSays.{byteSays, isShort, spanLeaves, copyLeaves};
 ghost use Rattle.layout.specs.HeaderSays.{HeaderOf};
 ghost use Rattle.ask_access.specs.ReadAnswers.{said, RunAnswer, SpanAnswer, CopyAnswer};
-ghost use Rattle.ask_access.specs.ReadByRuns.{LeafRunOf, RunCopied};
+ghost use Rattle.ask_access.specs.ReadByRuns.{LeafRunOf, LeafRangeOf, RangeAnswer, RunCopied};
 
 // A part of the tree's bytes.
 pub struct Part {
@@ -61,14 +62,35 @@ fn leaf_run(t: &[u8], h: Header, at: TextPlace) -> LeafRunAnswer
     requires { ⌜ (HeaderOf (now t) h) × (at .0 < h .«text_length») ⌝ }
     ensures { λ r. ⌜ LeafRunOf (now (t .entry)) (at .0) r ⌝ }
 {
-    let walked = walk_path::walk(t, h, at);
-    let Walked::At(reached) = walked else {
+    let found = leaf_end::end_of(t, h, at);
+    let LeafEndAnswer::At(end) = found else {
         return LeafRunAnswer::Broken;
     };
+    let here = stretches::shorter(end.left, h.settings.leaf - end.place.0);
     LeafRunAnswer::At(LeafRun {
-        from: h.leaf_offset as usize + reached.leaf as usize,
-        length: stretches::shorter(reached.trail.left, h.leaf_count - reached.leaf),
-        entered: reached.trail.entered,
+        from: h.leaf_offset as usize + end.leaf as usize,
+        length: stretches::shorter(here, h.leaf_count - end.leaf),
+        entered: end.entered,
+    })
+}
+
+// At most so many bytes from a place of the text, as many of them as stand together in the tree by one walk: its run, and the leaf bytes of
+// the blocks that follow its last one, within every block above the last level. Question 14.
+fn leaf_range(t: &[u8], h: Header, at: TextPlace, most: u32) -> LeafRunAnswer
+    requires { ⌜ (HeaderOf (now t) h) × (at .0 < h .«text_length») × (1 ≤ most) ⌝ }
+    ensures { λ r. ⌜ LeafRangeOf (now (t .entry)) (at .0) most r ⌝ }
+{
+    let found = leaf_end::end_of(t, h, at);
+    let LeafEndAnswer::At(end) = found else {
+        return LeafRunAnswer::Broken;
+    };
+    let within = stretches::shorter(end.left, most);
+    let joined = leaf_end::joined(t, h, end, within);
+    let size = stretches::shorter(within, joined);
+    LeafRunAnswer::At(LeafRun {
+        from: h.leaf_offset as usize + end.leaf as usize,
+        length: stretches::shorter(size, h.leaf_count - end.leaf),
+        entered: end.entered,
     })
 }
 
@@ -89,6 +111,21 @@ pub fn part_at(t: &[u8], h: Header, at: TextPlace) -> Ran
         return Ran::Refused(10);
     }
     let found = leaf_run(t, h, at);
+    let LeafRunAnswer::At(run) = found else {
+        return Ran::Refused(14);
+    };
+    Ran::At(Part {
+        from: run.from,
+        length: run.length as usize,
+    })
+}
+
+// As part_at of a place of the text, but past the end of the run as far as the bytes stand together, and at most so many.
+pub fn range_at(t: &[u8], h: Header, at: TextPlace, most: u32) -> Ran
+    requires { ⌜ (HeaderOf (now t) h) × (at .0 < h .«text_length») × (1 ≤ most) ⌝ }
+    ensures { λ r. ⌜ RangeAnswer (now (t .entry)) (at .0) most r ⌝ }
+{
+    let found = leaf_range(t, h, at, most);
     let LeafRunAnswer::At(run) = found else {
         return Ran::Refused(14);
     };
@@ -147,18 +184,17 @@ fn short_span(t: &[u8], h: Header, at: TextPlace, len: u32, buffer: &mut [u8]) -
     Copied::Bytes(len, q.entered)
 }
 
-// Copies the run of a place of the text, at most so many bytes of it, to a place in the buffer. Its bytes' answers are those of one walk, so
-// that the loop over them is a copy.
+// Copies some bytes from a place of the text, at most so many, to a place in the buffer. Their answers are those of one walk, so that the
+// loop over them is a copy.
 fn copy_run(t: &[u8], h: Header, at: TextPlace, most: u32, buffer: &mut [u8], to: usize) -> Copied
     requires { ⌜ (HeaderOf (now t) h) × (at .0 < h .«text_length») × (1 ≤ most) × (to + most ≤ length (now buffer)) ⌝ }
     ensures { λ r. ⌜ RunCopied (now (t .entry)) (at .0) most to (now (buffer .entry)) (now (buffer .exit)) r ⌝ }
 {
-    let found = leaf_run(t, h, at);
+    let found = leaf_range(t, h, at, most);
     let LeafRunAnswer::At(run) = found else {
         return Copied::Refused(14);
     };
-    let n = stretches::shorter(run.length, most);
-    let size = n as usize;
+    let size = run.length as usize;
     let mut k: usize = 0;
     while k < size {
         let answer = byte_on(t, run, k);
@@ -168,7 +204,7 @@ fn copy_run(t: &[u8], h: Header, at: TextPlace, most: u32, buffer: &mut [u8], to
         buffer[to + k] = value;
         k += 1;
     }
-    Copied::Bytes(n, 0)
+    Copied::Bytes(run.length, 0)
 }
 
 // Copies run by run; where a byte is refused, the part asked for is left zero.

@@ -67,7 +67,7 @@ module _ (t : List ℕ) where
   goes-first d (points un pt kept g) w = w .0
 
   -- a target moves with the place
-  target-step : (l i o d : ℕ) → targetPlace t l i o + d < b t l
+  pub target-step : (l i o d : ℕ) → targetPlace t l i o + d < b t l
       → (targetBlock t l i (o + d) ≡ targetBlock t l i o) × (targetPlace t l i (o + d) ≡ targetPlace t l i o + d)
   target-step l i o d h = go (lt-or-ge (at.gap t l i + o) (b t l))
     where

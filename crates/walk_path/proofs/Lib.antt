@@ -1,2 +1,4 @@
+pub mod AboveLaws
 pub mod WalkLaws
+pub mod AlongLaws
 pub mod EndLaws

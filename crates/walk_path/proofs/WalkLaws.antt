@@ -1,20 +1,20 @@
 -- The walk down a path, step by step.
 use mathlib.Core.List.{List, [], _∷_}
 use mathlib.Core.Option.{Option, none, some}
-use mathlib.Core.Bool.{true, false}
+use mathlib.Core.Bool.{Bool, true, false, cond, _&&_}
 use mathlib.Core.Logic.{_⊎_, inl, inr}
-use mathlib.Core.Path.{_≡_, refl, ap, _∙_}
+use mathlib.Core.Path.{_≡_, refl, sym, ap, _∙_}
 use Prim.Native.Nat.{ℕ, zero, suc, _+_, _-_, _*_, _/_, _%_, _≤_, _<_, min}
 use native.Mathlib.Omega.{arith}
-use native.Mathlib.Nat.{mod-lt}
+use native.Mathlib.Nat.{mod-lt, mul-le-mul-left}
 use borrow.Author.Tests.{lt-ltb, le-ltb, ne-eqb}
 use lib.ListN.{length}
-use Rattle.text.specs.ListLaws.{lt-or-ge}
+use Rattle.text.specs.ListLaws.{lt-or-ge, bool-cases, and-left, and-right}
 use Rattle.format.specs.Settings.{maxText, maxLevels}
 use Rattle.format.specs.Layout as at
-use Rattle.format.specs.Path.{Path, visit, entered, keptBlock, pointingBlock, targetBlock, targetPlace, lands, pathFrom, pathOf}
+use Rattle.format.specs.LayoutLaws.{byte-inside, size-low, full-last}
+use Rattle.format.specs.Path.{visit, keptBlock, pointingBlock, targetBlock, targetPlace, lands, pathFrom}
 use Rattle.format.specs.ReadSays.{leftOver}
-use Rattle.theory_paths.specs.PlacesLand.{from-last, from-kept, from-pointing}
 use Rattle.theory_paths.specs.Shift.{target-small}
 use Rattle.layout.specs.declared.place.BlockNumber.{BlockNumber}
 use Rattle.layout.specs.declared.place.BlockPlace.{BlockPlace}
@@ -29,7 +29,11 @@ use Rattle.walk_path.specs.declared.Walked.the-variants.{At, Broken}
 use Rattle.walk_steps.specs.Steps.{OnLevel, Pointing, nextAt, childAt, landAt}
 use Rattle.walk_steps.proofs.NextLaws.{next-kept, next-points, next-off, level-below, child-at, child-off, land-at, land-off}
 use Rattle.walk_steps.proofs.StepLaws.{b-pos, b-small, first-there, kept-in}
-use Rattle.walk_path.specs.Walk.{onward, walked, walkedIn, KeptAt, MayPoint}
+use Rattle.walk_path.specs.declared.Landing.{Landing}
+use Rattle.walk_path.specs.declared.Landing.the-variants as landed
+use Rattle.walk_path.specs.Above.{Above, enteredAbove, aboveFrom, aboveOf}
+use Rattle.walk_path.specs.Walk.{onward, walked, walkedIn, landingAt, KeptAt, MayPoint}
+use Rattle.walk_path.proofs.AboveLaws.{above-last, above-kept, above-pointing, above-off, above-past}
 
 -- what is carried
 
@@ -38,14 +42,14 @@ unfolding onward
 onward-is trail here left e = rw e
 
 -- a block entered first is carried on
-pub walked-enter : (t : List ℕ) (trail : Trail) (l i o : ℕ) (r : Option Path)
-    → walked t (onward trail (at.fullLength t l - o)) r ≡ walked t trail (entered (visit l i o ∷ []) r)
+pub walked-enter : (t : List ℕ) (trail : Trail) (l i o : ℕ) (r : Option Above)
+    → walked t (onward trail (at.fullLength t l - o)) r ≡ walked t trail (enteredAbove (visit l i o ∷ []) r)
 unfolding walked onward leftOver
 walked-enter t trail l i o none = refl
-walked-enter t trail l i o (some q) =
-    let left = leftOver t (q .visits) (min (trail .left) (at.fullLength t l - o)) in
-    let e : trail .entered + 1 + length (q .visits) ≡ trail .entered + length (visit l i o ∷ q .visits) = omega arith in
-    ap (λ (n : ℕ). At (record { leaf = q .leaf; trail = record { entered = n; left = left } })) e
+walked-enter t trail l i o (some a) =
+    let left = leftOver t (a .visits) (min (trail .left) (at.fullLength t l - o)) in
+    let e : trail .entered + 1 + length (a .visits) ≡ trail .entered + length (visit l i o ∷ a .visits) = omega arith in
+    ap (λ (n : ℕ). At (record { block = record { 0 = a .block }; place = record { 0 = a .place }; trail = record { entered = n; left = left } })) e
 
 -- paths that break
 
@@ -68,6 +72,14 @@ module _ (t : List ℕ) where
   unfolding pathFrom lands
   from-no-target n l i o k z p = rw (k, p, z)
 
+  pub from-off-lands : (n l i o : ℕ)
+      → keptBlock t l i ≡ false → (pointingBlock t l i ≡ true → keptBlock t l (targetBlock t l i o) ≡ false) → pathFrom t (suc n) l i o ≡ none
+  from-off-lands n l i o k apart = go (bool-cases (pointingBlock t l i))
+    where
+      go : (pointingBlock t l i ≡ true) ⊎ (pointingBlock t l i ≡ false) → pathFrom t (suc n) l i o ≡ none
+      go (inl p) = from-no-target n l i o k (apart p) p
+      go (inr p) = from-off (suc n) l i o k p
+
   pub from-past : (n l i o : ℕ) → at.levelCount t l ≤ i → pathFrom t n l i o ≡ none
   unfolding keptBlock pointingBlock
   from-past n l i o past = from-off n l i o (rw (le-ltb i (at.levelCount t l) past)) (rw (le-ltb i (at.levelCount t l) past))
@@ -78,20 +90,28 @@ pub broken-word : Broken ≡ walkedIn 18446744073709551615
 unfolding walkedIn
 broken-word = refl
 
-pub packed-word : (x entered left : ℕ) → x < 4294967296 → entered ≤ 2 * maxLevels → left ≤ maxText
-    → walkedIn (x + 4294967296 * (entered + 32 * left)) ≡ At (record { leaf = x; trail = record { entered = entered; left = left } })
+pub packed-word : (i o entered left : ℕ) → i < 268435456 → o < 256 → entered < 16 → left ≤ maxText
+    → walkedIn (i + 268435456 * (o + 256 * (entered + 16 * left)))
+    ≡ At (record { block = record { 0 = i }; place = record { 0 = o }; trail = record { entered = entered; left = left } })
 unfolding walkedIn
-packed-word x entered left small few short =
-    let w = x + 4294967296 * (entered + 32 * left) in
-    let a : w % 4294967296 ≡ x = omega arith in
-    let q : w / 4294967296 ≡ entered + 32 * left = omega arith in
-    let m : (entered + 32 * left) % 32 ≡ entered = omega arith in
-    let b : w / 4294967296 % 32 ≡ entered = rw q m in
-    let c : w / 137438953472 ≡ left = omega arith in
-    rw (ne-eqb w 18446744073709551615 (λ e. omega arith), a, b, c)
+packed-word i o entered left small low few short =
+    let w = i + 268435456 * (o + 256 * (entered + 16 * left)) in
+    let a : w % 268435456 ≡ i = omega arith in
+    let q : w / 268435456 ≡ o + 256 * (entered + 16 * left) = omega arith in
+    let m : (o + 256 * (entered + 16 * left)) % 256 ≡ o = omega arith in
+    let p : w / 268435456 % 256 ≡ o = rw q m in
+    let f : w / 68719476736 ≡ entered + 16 * left = omega arith in
+    let g : (entered + 16 * left) % 16 ≡ entered = omega arith in
+    let e : w / 68719476736 % 16 ≡ entered = rw f g in
+    let c : w / 1099511627776 ≡ left = omega arith in
+    rw (ne-eqb w 18446744073709551615 (λ z. omega arith), a, p, e, c)
 
 pub unpacked-word : (w : ℕ) → (w ≡ 18446744073709551615 → ⊥)
-    → At (record { leaf = w % 4294967296; trail = record { entered = w / 4294967296 % 32; left = w / 137438953472 } }) ≡ walkedIn w
+    → At (record {
+      block = record { 0 = w % 268435456 };
+      place = record { 0 = w / 268435456 % 256 };
+      trail = record { entered = w / 68719476736 % 16; left = w / 1099511627776 };
+    }) ≡ walkedIn w
 unfolding walkedIn
 unpacked-word w ne = rw (ne-eqb w 18446744073709551615 ne)
 
@@ -107,32 +127,12 @@ module _ (t : List ℕ) (size level b i o entered : ℕ) (k : KeptAt t size leve
   asks-child down below b-is = (rw b-is (level-below t size level b (k .on) down), kept-in t level i (k .kept))
 
 module _ (t : List ℕ) (size level b i o : ℕ) (trail : Trail) (k : KeptAt t size level b i o (trail .entered)) where
-  -- the blocks entered and what is left fit a word
-  pub trail-fits : (on : Trail) → on ≡ onward trail (b - o) → (on .entered ≤ 2 * maxLevels) × (on .left ≤ maxText)
+  -- what is left fits a word
+  pub left-fits : (on : Trail) → on ≡ onward trail (b - o) → on .left ≤ maxText
   unfolding onward
-  trail-fits on e =
-      let n : on .entered ≡ trail .entered + 1 = ap (λ (y : Trail). y .entered) e in
+  left-fits on e =
       let l : on .left ≡ min (trail .left) (b - o) = ap (λ (y : Trail). y .left) e in
-      (omega (arith, k .few, k .on .level-in, k .on .facts .bounds .levels-high), omega (arith, b-small t size level b (k .on)))
-
-  pub leaf-at : (r : Walked) (n link : ℕ) (on : Trail) → link ≡ at.link t level i → n ≡ link + o → n < at.leafCount t → on ≡ onward trail (b - o)
-      → r ≡ At (record { leaf = n; trail = on }) → r ≡ walked t trail (pathFrom t 0 level i o)
-  unfolding walked onward leftOver
-  leaf-at r n link on link-is n-is small on-is r-is =
-      let e : n ≡ at.link t level i + o = n-is ∙ ap (λ (x : ℕ). x + o) link-is in
-      let p = from-last t level i o (k .kept) (omega arith) in
-      r-is ∙ rw (p, e, on-is, k .on .b-is)
-
-  pub leaf-past : (link : ℕ) → link ≡ at.link t level i → at.leafCount t ≤ link + o → Broken ≡ walked t trail (pathFrom t 0 level i o)
-  unfolding walked
-  leaf-past link link-is large = rw (from-no-leaf t level i o (omega (arith, link-is)) (k .kept))
-
-  -- on the last level
-  pub kept-last : (r : Walked) → level + 1 ≡ at.settings t .levels → r ≡ walked t trail (pathFrom t 0 level i o)
-      → r ≡ walked t trail (pathFrom t (at.settings t .levels - 1 - level) level i o)
-  kept-last r last e =
-      let z : at.settings t .levels - 1 - level ≡ 0 = omega arith in
-      rw z e
+      omega (arith, b-small t size level b (k .on))
 
   module _ (down : level + 1 ≡ at.settings t .levels → ⊥) (below : ℕ) (b-is : below ≡ b / at.settings t .arity) (on : Trail) (on-is : on ≡ onward trail (b - o))
       (x : Arrived) (x-is : x ≡ childAt t (level + 1) (at.link t level i + o / below) (o % below)) where
@@ -140,13 +140,13 @@ module _ (t : List ℕ) (size level b i o : ℕ) (trail : Trail) (k : KeptAt t s
     lower = asks-child t size level b i o (trail .entered) k down below b-is .0
 
     -- the path goes on with the child
-    kept-down : (r : Walked) → r ≡ walked t on (pathFrom t (at.settings t .levels - 1 - (level + 1)) (level + 1) (at.link t level i + o / below) (o % below))
-        → r ≡ walked t trail (pathFrom t (at.settings t .levels - 1 - level) level i o)
+    kept-down : (r : Walked) → r ≡ walked t on (aboveFrom t (at.settings t .levels - 1 - (level + 1)) (level + 1) (at.link t level i + o / below) (o % below))
+        → r ≡ walked t trail (aboveFrom t (at.settings t .levels - 1 - level) level i o)
     kept-down r e =
         let n = at.settings t .levels - 1 - (level + 1) in
         let s : at.settings t .levels - 1 - level ≡ suc n = omega (arith, lower .level-in) in
-        rw (s, from-kept t n level i o (k .kept), ← lower .b-is)
-        (rw (on-is, k .on .b-is) at e ∙ walked-enter t trail level i o (pathFrom t n (level + 1) (at.link t level i + o / below) (o % below)))
+        rw (s, above-kept t n level i o (k .kept), ← lower .b-is)
+        (rw (on-is, k .on .b-is) at e ∙ walked-enter t trail level i o (aboveFrom t n (level + 1) (at.link t level i + o / below) (o % below)))
 
     pub child-may : (j : BlockNumber) (p : BlockPlace) → x ≡ arrived.At j p → MayPoint t size (level + 1) below (j .0) (p .0) (on .entered)
     unfolding onward
@@ -161,19 +161,19 @@ module _ (t : List ℕ) (size level b i o : ℕ) (trail : Trail) (k : KeptAt t s
         }
 
     pub child-by : (r : Walked) (j : BlockNumber) (p : BlockPlace) → x ≡ arrived.At j p
-        → r ≡ walked t on (pathFrom t (at.settings t .levels - 1 - (level + 1)) (level + 1) (j .0) (p .0))
-        → r ≡ walked t trail (pathFrom t (at.settings t .levels - 1 - level) level i o)
+        → r ≡ walked t on (aboveFrom t (at.settings t .levels - 1 - (level + 1)) (level + 1) (j .0) (p .0))
+        → r ≡ walked t trail (aboveFrom t (at.settings t .levels - 1 - level) level i o)
     child-by r j p e f =
         let z = child-at t (level + 1) (at.link t level i + o / below) (o % below) x x-is j p e in
         kept-down r (rw (z .1, z .2) at f)
 
-    pub child-none : x ≡ arrived.Off → Broken ≡ walked t trail (pathFrom t (at.settings t .levels - 1 - level) level i o)
+    pub child-none : x ≡ arrived.Off → Broken ≡ walked t trail (aboveFrom t (at.settings t .levels - 1 - level) level i o)
     unfolding walked
     child-none e =
         let n = at.settings t .levels - 1 - (level + 1) in
         let j = at.link t level i + o / below in
-        let f : Broken ≡ walked t on (pathFrom t n (level + 1) j (o % below)) =
-        rw (from-past t n (level + 1) j (o % below) (child-off t (level + 1) j (o % below) x x-is e)) in
+        let f : Broken ≡ walked t on (aboveFrom t n (level + 1) j (o % below)) =
+        rw (above-past t n (level + 1) j (o % below) (child-off t (level + 1) j (o % below) x x-is e)) in
         kept-down Broken f
 
 module _ (t : List ℕ) (size level b i o entered : ℕ) (k : MayPoint t size level b i o entered) where
@@ -192,12 +192,22 @@ module _ (t : List ℕ) (size level b i o entered : ℕ) (k : MayPoint t size le
     pub may-point : x ≡ Points j p → Pointing t size level b i o
     may-point e = record { on = k .on; place-in = k .place-in; points = next-points t level i o x x-is j p e .1 }
 
+-- where a block above the last level hands a place
+same-landing : (j : BlockNumber) (p : BlockPlace) (on : Trail) (i o : ℕ) (trail : Trail) → j .0 ≡ i → p .0 ≡ o → on ≡ trail
+    → landed.At j p on ≡ landed.At (record { 0 = i }) (record { 0 = o }) trail
+same-landing j p on i o trail e f g = rw (← e, ← f, g)
+
 module _ (t : List ℕ) (size level b i o : ℕ) (trail : Trail) (k : MayPoint t size level b i o (trail .entered)) (x : Next) (x-is : x ≡ nextAt t level i o) where
-  pub may-off : x ≡ Off → Broken ≡ walked t trail (pathFrom t (at.settings t .levels - 1 - level) level i o)
-  unfolding walked
-  may-off e =
+  pub landing-off : x ≡ Off → landed.Off ≡ landingAt t trail level i o
+  unfolding landingAt
+  landing-off e =
       let z = next-off t level i o x x-is e in
-      rw (from-off t (at.settings t .levels - 1 - level) level i o (z .0) (z .1))
+      rw (z .0, z .1)
+
+  pub landing-kept : (j : BlockNumber) (p : BlockPlace)
+      → x ≡ Kept j p → landed.At (record { 0 = i }) (record { 0 = o }) trail ≡ landingAt t trail level i o
+  unfolding landingAt
+  landing-kept j p e = rw (next-kept t level i o x x-is j p e .0)
 
   module _ (j : BlockNumber) (p : BlockPlace) (e : x ≡ Points j p) where
     points : pointingBlock t level i ≡ true
@@ -220,9 +230,11 @@ module _ (t : List ℕ) (size level b i o : ℕ) (trail : Trail) (k : MayPoint t
               let s : at.settings t .levels - 1 - level ≡ 0 = omega (arith, k .on .level-in) in
               rw (s, from-last-points t level i o apart)
 
-      pub land-none : y ≡ arrived.Off → Broken ≡ walked t trail (pathFrom t (at.settings t .levels - 1 - level) level i o)
-      unfolding walked
-      land-none f = rw (land-breaks f)
+      pub landing-none : level + 1 < at.settings t .levels → y ≡ arrived.Off → landed.Off ≡ landingAt t trail level i o
+      unfolding landingAt
+      landing-none more f =
+          let z : keptBlock t level (targetBlock t level i o) ≡ false = rw (lt-ltb _ _ more) at (land-off t level i o y y-is f) in
+          rw (apart, points, z)
 
       module _ (on : Trail) (on-is : on ≡ onward trail (b - o)) (m : BlockNumber) (q : BlockPlace) (f : y ≡ arrived.At m q) where
         pub land-to : KeptAt t size level b (m .0) (q .0) (on .entered)
@@ -237,16 +249,108 @@ module _ (t : List ℕ) (size level b i o : ℕ) (trail : Trail) (k : MayPoint t
               few = omega (arith, k .few);
             }
 
-        pub land-by : (r : Walked) → r ≡ walked t on (pathFrom t (at.settings t .levels - 1 - level) level (m .0) (q .0))
-            → r ≡ walked t trail (pathFrom t (at.settings t .levels - 1 - level) level i o)
-        land-by r g =
+        pub landing-target : landed.At m q on ≡ landingAt t trail level i o
+        unfolding landingAt
+        landing-target =
             let z = land-at t level i o y y-is m q f in
-            let n = at.settings t .levels - 1 - (level + 1) in
-            let s : at.settings t .levels - 1 - level ≡ suc n = omega (arith, z .0) in
-            let w : r ≡ walked t (onward trail (at.fullLength t level - o)) (pathFrom t (suc n) level (targetBlock t level i o) (targetPlace t level i o)) =
-            rw (s, z .2, z .3, on-is, k .on .b-is) at g in
-            rw (s, from-pointing t n level i o apart points (z .1))
-            (w ∙ walked-enter t trail level i o (pathFrom t (suc n) level (targetBlock t level i o) (targetPlace t level i o)))
+            rw (apart, points, z .1) (same-landing m q on _ _ _ (z .2) (z .3) (on-is ∙ ap (λ (y : ℕ). onward trail (y - o)) (k .on .b-is)))
+
+-- where the walk goes on: in the block itself, or in its target
+
+cases-at : (kept both : Bool) (i o m q : ℕ) (trail further : Trail) (j : BlockNumber) (p : BlockPlace) (on : Trail)
+    → landed.At j p on ≡ cond kept (landed.At (record { 0 = i }) (record { 0 = o }) trail)
+    (cond both (landed.At (record { 0 = m }) (record { 0 = q }) further) landed.Off)
+    → ((kept ≡ true) × (j ≡ record { 0 = i }) × (p ≡ record { 0 = o }) × (on ≡ trail))
+    ⊎ ((kept ≡ false) × (both ≡ true) × (j ≡ record { 0 = m }) × (p ≡ record { 0 = q }) × (on ≡ further))
+cases-at true both i o m q trail further j p on e = inl (refl, cc, cc, cc)
+cases-at false true i o m q trail further j p on e = inr (refl, refl, cc, cc, cc)
+cases-at false false i o m q trail further j p on e = absurd (let z : _≡_ {A = ℕ} 0 1 = cc in omega arith)
+
+cases-off : (kept both : Bool) (i o m q : ℕ) (trail further : Trail)
+    → landed.Off ≡ cond kept (landed.At (record { 0 = i }) (record { 0 = o }) trail)
+    (cond both (landed.At (record { 0 = m }) (record { 0 = q }) further) landed.Off)
+    → (kept ≡ false) × (both ≡ false)
+cases-off true both i o m q trail further e = absurd (let z : _≡_ {A = ℕ} 0 1 = cc in omega arith)
+cases-off false true i o m q trail further e = absurd (let z : _≡_ {A = ℕ} 0 1 = cc in omega arith)
+cases-off false false i o m q trail further e = (refl, refl)
+
+module _ (t : List ℕ) (size level b i o : ℕ) (trail : Trail) (k : MayPoint t size level b i o (trail .entered)) where
+  -- on the last level
+  pub last-fits : level + 1 ≡ at.settings t .levels → at.leafOffset t < 4294967296 → (i < 268435456) × (o < 256) × (trail .entered < 16)
+  last-fits last word =
+      let f = k .on .facts in
+      let R = at.recordSize t in
+      let inside = byte-inside t f level i R (k .on .level-in) (k .block-in) (omega arith) in
+      let wide : i * 16 ≤ i * R = mul-le-mul-left i (omega (arith, size-low t f)) in
+      let z : at.settings t .levels - 1 ≡ level = omega arith in
+      let leaf : at.fullLength t level ≡ at.settings t .leaf = rw z at (full-last t f) in (
+        omega arith,
+        omega (arith, k .place-in, k .on .b-is, f .bounds .leaf-high),
+        omega (arith, k .few, f .bounds .levels-high),
+      )
+
+  pub last-walked : level + 1 ≡ at.settings t .levels
+      → (r : Walked) → r ≡ At (record { block = record { 0 = i }; place = record { 0 = o }; trail = trail })
+      → r ≡ walked t trail (aboveFrom t (at.settings t .levels - 1 - level) level i o)
+  unfolding walked leftOver
+  last-walked last r e =
+      let z : at.settings t .levels - 1 - level ≡ 0 = omega arith in
+      let n : trail .entered + 0 ≡ trail .entered = omega arith in
+      e ∙ rw (z, above-last t level i o (k .block-in), n)
+
+  module _ (more : level + 1 < at.settings t .levels) (y : Landing) (y-is : y ≡ landingAt t trail level i o) where
+    abbrev both : Bool
+    both = pointingBlock t level i && keptBlock t level (targetBlock t level i o)
+
+    steps : at.settings t .levels - 1 - level ≡ suc (at.settings t .levels - 1 - (level + 1))
+    steps = omega arith
+
+    pub landed-off : y ≡ landed.Off → Broken ≡ walked t trail (aboveFrom t (at.settings t .levels - 1 - level) level i o)
+    unfolding walked landingAt
+    landed-off e =
+        let z = cases-off (keptBlock t level i) both i o _ _ trail _ (sym e ∙ y-is) in
+        rw (steps, above-off t (at.settings t .levels - 1 - (level + 1)) level i o (z .0) (λ pt. rw pt at (z .1)))
+
+    module _ (j : BlockNumber) (p : BlockPlace) (on : Trail) (e : y ≡ landed.At j p on) where
+      abbrev Cases : Type 0
+      Cases = ((keptBlock t level i ≡ true) × (j ≡ record { 0 = i }) × (p ≡ record { 0 = o }) × (on ≡ trail))
+          ⊎ ((keptBlock t level i ≡ false) × (both ≡ true) × (j ≡ record { 0 = targetBlock t level i o })
+          × (p ≡ record { 0 = targetPlace t level i o }) × (on ≡ onward trail (at.fullLength t level - o)))
+
+      landed-cases : Cases
+      unfolding landingAt
+      landed-cases = cases-at (keptBlock t level i) both i o _ _ trail _ j p on (sym e ∙ y-is)
+
+      pub landed-kept : KeptAt t size level b (j .0) (p .0) (on .entered)
+      unfolding onward
+      landed-kept = go landed-cases
+        where
+          go : Cases → KeptAt t size level b (j .0) (p .0) (on .entered)
+          go (inl c) = rw (c .1, c .2, c .3) (record { on = k .on; place-in = k .place-in; kept = c .0; few = omega (arith, k .few) })
+          go (inr c) =
+              let points = and-left (pointingBlock t level i) (keptBlock t level (targetBlock t level i o)) (c .1) in
+              let small = target-small t level i o points (rw (k .on .b-is) at (k .place-in)) in
+              rw (c .2, c .3, c .4) (record {
+                on = k .on;
+                place-in = rw (k .on .b-is) small;
+                kept = and-right (pointingBlock t level i) (keptBlock t level (targetBlock t level i o)) (c .1);
+                few = omega (arith, k .few);
+              })
+
+      pub landed-by : (r : Walked) → r ≡ walked t on (aboveFrom t (at.settings t .levels - 1 - level) level (j .0) (p .0))
+          → r ≡ walked t trail (aboveFrom t (at.settings t .levels - 1 - level) level i o)
+      landed-by r f = go landed-cases
+        where
+          go : Cases → r ≡ walked t trail (aboveFrom t (at.settings t .levels - 1 - level) level i o)
+          go (inl c) = rw (c .1, c .2, c .3) at f
+          go (inr c) =
+              let n = at.settings t .levels - 1 - (level + 1) in
+              let points = and-left (pointingBlock t level i) (keptBlock t level (targetBlock t level i o)) (c .1) in
+              let kept = and-right (pointingBlock t level i) (keptBlock t level (targetBlock t level i o)) (c .1) in
+              let w : r ≡ walked t (onward trail (at.fullLength t level - o)) (aboveFrom t (suc n) level (targetBlock t level i o) (targetPlace t level i o)) =
+              rw (steps, c .2, c .3, c .4) at f in
+              rw (steps, above-pointing t n level i o (c .0) points kept)
+              (w ∙ walked-enter t trail level i o (aboveFrom t (suc n) level (targetBlock t level i o) (targetPlace t level i o)))
 
 -- the start, on level 0
 
@@ -262,8 +366,8 @@ module _ (t : List ℕ) (size b p : ℕ) (on : OnLevel t size 0 b) (x : Spot)
       })
 
   pub top-by : (trail : Trail) (r : Walked)
-      → r ≡ walked t trail (pathFrom t (at.settings t .levels - 1 - 0) 0 (x .block .0) (x .place .0)) → r ≡ walked t trail (pathOf t p)
-  unfolding pathOf
+      → r ≡ walked t trail (aboveFrom t (at.settings t .levels - 1 - 0) 0 (x .block .0) (x .place .0)) → r ≡ walked t trail (aboveOf t p)
+  unfolding aboveOf
   top-by trail r e =
       let z : at.settings t .levels - 1 - 0 ≡ at.settings t .levels - 1 = omega arith in
       rw (z, x-is, on .b-is) at e

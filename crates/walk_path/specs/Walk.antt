@@ -1,36 +1,51 @@
 -- What a walk down a path gives, and what is asked where it stands.
 use mathlib.Core.List.{List}
 use mathlib.Core.Option.{Option, none, some}
-use mathlib.Core.Bool.{true, cond}
+use mathlib.Core.Bool.{true, cond, _&&_}
 use mathlib.Core.Path.{_≡_}
-use Prim.Native.Nat.{ℕ, _+_, _*_, _/_, _%_, _≤_, _<_, min}
+use Prim.Native.Nat.{ℕ, _+_, _-_, _*_, _/_, _%_, _≤_, _<_, min}
 use lib.Dec.{eqb}
 use lib.ListN.{length}
 use Rattle.format.specs.Layout as at
-use Rattle.format.specs.Path.{Path, keptBlock}
+use Rattle.format.specs.Path.{keptBlock, pointingBlock, targetBlock, targetPlace}
 use Rattle.format.specs.ReadSays.{leftOver}
 use Rattle.walk_path.specs.declared.Trail.{Trail}
 use Rattle.walk_path.specs.declared.Walked.{Walked}
 use Rattle.walk_path.specs.declared.Walked.the-variants.{At, Broken}
+use Rattle.walk_path.specs.declared.Landing.{Landing}
+use Rattle.walk_path.specs.declared.Landing.the-variants as landed
 use Rattle.walk_steps.specs.Steps.{OnLevel}
+use Rattle.walk_path.specs.Above.{Above}
 
 -- one more block entered, with so many bytes left in it
 unfoldable pub onward : Trail → ℕ → Trail
 onward trail here = record { entered = trail .entered + 1; left = min (trail .left) here }
 
--- a path walked to its end: the leaf byte that it reaches, its blocks counted, and what is left in all of them
-unfoldable pub walked : List ℕ → Trail → Option Path → Walked
+-- a path walked to the last level: the block and the place there, the blocks entered above counted, and what is left in all of them
+unfoldable pub walked : List ℕ → Trail → Option Above → Walked
 walked t trail none = Broken
-walked t trail (some q) = At (record {
-  leaf = q .leaf;
-  trail = record { entered = trail .entered + length (q .visits); left = leftOver t (q .visits) (trail .left) };
+walked t trail (some a) = At (record {
+  block = record { 0 = a .block };
+  place = record { 0 = a .place };
+  trail = record { entered = trail .entered + length (a .visits); left = leftOver t (a .visits) (trail .left) };
 })
 
--- what a step's word says: the leaf byte, 2^32 times the blocks entered, 2^37 times what is left; all ones where the path breaks
+-- what a step's word says: the block, 2^28 times the place, 2^36 times the blocks entered, 2^40 times what is left; all ones where the path breaks
 unfoldable pub walkedIn : ℕ → Walked
 walkedIn w =
     cond (eqb w 18446744073709551615) Broken
-    (At (record { leaf = w % 4294967296; trail = record { entered = w / 4294967296 % 32; left = w / 137438953472 } }))
+    (At (record {
+      block = record { 0 = w % 268435456 };
+      place = record { 0 = w / 268435456 % 256 };
+      trail = record { entered = w / 68719476736 % 16; left = w / 1099511627776 };
+    }))
+
+-- what a block above the last level hands a place on to: the block itself if it is kept, else its kept target, with one block entered
+unfoldable pub landingAt : List ℕ → Trail → ℕ → ℕ → ℕ → Landing
+landingAt t trail l i o =
+    cond (keptBlock t l i) (landed.At (record { 0 = i }) (record { 0 = o }) trail)
+    (cond (pointingBlock t l i && keptBlock t l (targetBlock t l i o))
+    (landed.At (record { 0 = targetBlock t l i o }) (record { 0 = targetPlace t l i o }) (onward trail (at.fullLength t l - o))) landed.Off)
 
 -- a kept block of a level, a place in it, and the blocks entered before it: two on each level above, and the one that points to it
 pub record KeptAt (t : List ℕ) (size level b i o entered : ℕ) : Type 0 where

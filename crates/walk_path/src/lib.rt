@@ -5,17 +5,16 @@ use layout::place::BlockNumber;
 use layout::place::BlockPlace;
 use layout::place::On;
 use layout::place::TextPlace;
-use layout::record;
 use walk_steps::Arrived;
 use walk_steps::Next;
 use walk_steps::fields;
 ghost use mathlib.Core.Path.{_≡_};
 ghost use Prim.Native.Nat.{_+_, _-_, _*_, _≤_, _<_};
 ghost use Rattle.format.specs.Layout as at;
-ghost use Rattle.format.specs.Path.{pathFrom, pathOf};
 ghost use Rattle.layout.specs.HeaderSays.{HeaderOf};
 ghost use Rattle.format.specs.Settings.{maxText, maxLevels};
-ghost use Rattle.walk_path.specs.Walk.{KeptAt, MayPoint, walked, walkedIn, onward};
+ghost use Rattle.walk_path.specs.Above.{aboveFrom, aboveOf};
+ghost use Rattle.walk_path.specs.Walk.{KeptAt, MayPoint, walked, walkedIn, onward, landingAt};
 
 // What is carried down a path: how many blocks were entered, and the bytes left from the place on in every one of them.
 pub struct Trail {
@@ -23,15 +22,22 @@ pub struct Trail {
     pub left: u32,
 }
 
-// The number of the leaf byte that a path reaches, and what was carried to it.
+// Where a path arrives on the last level, and what was carried there. Nothing of this block is read yet.
 pub struct Reached {
-    pub leaf: u32,
+    pub block: BlockNumber,
+    pub place: BlockPlace,
     pub trail: Trail,
 }
 
 pub enum Walked {
     At(Reached),
     Broken,
+}
+
+// The kept block that holds a place, the place in it, and what is carried there.
+pub enum Landing {
+    At(BlockNumber, BlockPlace, Trail),
+    Off,
 }
 
 impl Trail {
@@ -50,12 +56,13 @@ impl Trail {
 // The word of a path that breaks.
 const BROKEN: u64 = 18446744073709551615;
 
-// A walk in one word: the leaf byte, 2^32 times the blocks entered, and 2^37 times what is left.
-fn packed(leaf: u32, trail: Trail) -> u64
-    requires { ⌜ (trail .entered ≤ 2 * maxLevels) × (trail .left ≤ maxText) ⌝ }
-    ensures { λ r. ⌜ walkedIn r ≡ Walked.At (record { leaf = leaf; trail = trail }) ⌝ }
+// A walk in one word: the block, 2^28 times the place, 2^36 times the blocks entered, and 2^40 times what is left.
+fn packed(block: BlockNumber, place: BlockPlace, trail: Trail) -> u64
+    requires { ⌜ (block .0 < 268435456) × (place .0 < 256) × (trail .entered < 16) × (trail .left ≤ maxText) ⌝ }
+    ensures { λ r. ⌜ walkedIn r ≡ Walked.At (record { block = block; place = place; trail = trail }) ⌝ }
 {
-    leaf as u64 + 4294967296 * (trail.entered as u64 + 32 * trail.left as u64)
+    let carried = trail.entered as u64 + 16 * trail.left as u64;
+    block.0 as u64 + 268435456 * (place.0 as u64 + 256 * carried)
 }
 
 // What such a word says.
@@ -66,29 +73,43 @@ fn unpacked(word: u64) -> Walked
         return Walked::Broken;
     }
     Walked::At(Reached {
-        leaf: (word % 4294967296) as u32,
+        block: BlockNumber((word % 268435456) as u32),
+        place: BlockPlace((word / 268435456 % 256) as u32),
         trail: Trail {
-            entered: (word / 4294967296 % 32) as u32,
-            left: (word / 137438953472) as u32,
+            entered: (word / 68719476736 % 16) as u32,
+            left: (word / 1099511627776) as u32,
         },
     })
 }
 
-// The leaf byte that a kept block of the last level hands a place to.
-fn leaf(t: &[u8], size: u32, on: On, block: BlockNumber, place: BlockPlace, trail: Trail) -> u64
-    requires { ⌜ KeptAt (now t) size (on .level) (on .b) (block .0) (place .0) (trail .entered) ⌝ }
-    ensures { λ r. ⌜ walkedIn r ≡ walked (now (t .entry)) trail (pathFrom (now (t .entry)) 0 (on .level) (block .0) (place .0)) ⌝ }
+// Where a block above the last level hands a place: a kept block keeps it, a pointing one hands it to a kept block of its level.
+fn to_kept(
+    t: &[u8],
+    size: u32,
+    on: On,
+    block: BlockNumber,
+    place: BlockPlace,
+    trail: Trail,
+) -> Landing
+    requires { ⌜ (MayPoint (now t) size (on .level) (on .b) (block .0) (place .0) (trail .entered)) × (on .level + 1 < at.settings (now t) .levels) ⌝ }
+    ensures { λ r. ⌜ r ≡ landingAt (now (t .entry)) trail (on .level) (block .0) (place .0) ⌝ }
 {
-    let link = record::link(t, size, on.level, block);
-    let number = link.0 as u64 + place.0 as u64;
-    let shape = fields::shape_of(t);
-    if number < shape.leaf_count as u64 {
-        return packed(number as u32, trail.enter(on.b, place));
+    let here = walk_steps::look(t, size, on.level, on.b, block, place);
+    match here {
+        Next::Kept(_, _) => Landing::At(block, place, trail),
+        Next::Points(_, _) => {
+            let further = trail.enter(on.b, place);
+            let there = walk_steps::land(t, size, on.level, on.b, block, place);
+            let Arrived::At(i, p) = there else {
+                return Landing::Off;
+            };
+            Landing::At(i, p, further)
+        }
+        Next::Off => Landing::Off,
     }
-    BROKEN
 }
 
-// From a kept block, which hands the place to a child.
+// From a kept block above the last level, which hands the place to a child.
 fn kept_step(
     t: &[u8],
     size: u32,
@@ -97,16 +118,12 @@ fn kept_step(
     place: BlockPlace,
     trail: Trail,
 ) -> u64
-    requires { ⌜ KeptAt (now t) size (on .level) (on .b) (block .0) (place .0) (trail .entered) ⌝ }
+    requires { ⌜ (KeptAt (now t) size (on .level) (on .b) (block .0) (place .0) (trail .entered)) × (on .level + 1 < at.settings (now t) .levels) ⌝ }
     ensures { λ r. ⌜ walkedIn r ≡ walked (now (t .entry)) trail
-        (pathFrom (now (t .entry)) (at.settings (now (t .entry)) .levels - 1 - on .level) (on .level) (block .0) (place .0)) ⌝ }
+        (aboveFrom (now (t .entry)) (at.settings (now (t .entry)) .levels - 1 - on .level) (on .level) (block .0) (place .0)) ⌝ }
 {
     let tree = fields::whole(t);
     let shape = fields::shape_of(tree);
-    let down = on.level + 1;
-    if down == shape.levels {
-        return leaf(tree, size, on, block, place, trail);
-    }
     let below = walk_steps::quotient(on.b, shape.arity);
     let further = trail.enter(on.b, place);
     let child = walk_steps::child(tree, size, on.level, below, block, place);
@@ -114,14 +131,14 @@ fn kept_step(
         return BROKEN;
     };
     let under = On {
-        level: down,
+        level: on.level + 1,
         b: below,
     };
     pointing_step(tree, size, under, i, p, further)
 }
 
-// From a block at which a pointer may still be followed: a pointing one hands the place to a kept block of its level, on the last level
-// no block points.
+// From a block at which a pointer may still be followed. On the last level, where no block points, the walk ends. The one call of the step
+// for a kept block lets the compiler join the two steps.
 fn pointing_step(
     t: &[u8],
     size: u32,
@@ -130,30 +147,26 @@ fn pointing_step(
     place: BlockPlace,
     trail: Trail,
 ) -> u64
-    requires { ⌜ MayPoint (now t) size (on .level) (on .b) (block .0) (place .0) (trail .entered) ⌝ }
+    requires { ⌜ (MayPoint (now t) size (on .level) (on .b) (block .0) (place .0) (trail .entered)) × (trail .left ≤ maxText) ⌝ }
     ensures { λ r. ⌜ walkedIn r ≡ walked (now (t .entry)) trail
-        (pathFrom (now (t .entry)) (at.settings (now (t .entry)) .levels - 1 - on .level) (on .level) (block .0) (place .0)) ⌝ }
+        (aboveFrom (now (t .entry)) (at.settings (now (t .entry)) .levels - 1 - on .level) (on .level) (block .0) (place .0)) ⌝ }
 {
     let tree = fields::whole(t);
-    let here = walk_steps::look(tree, size, on.level, on.b, block, place);
-    match here {
-        Next::Kept(_, _) => kept_step(tree, size, on, block, place, trail),
-        Next::Points(_, _) => {
-            let further = trail.enter(on.b, place);
-            let there = walk_steps::land(tree, size, on.level, on.b, block, place);
-            let Arrived::At(i, p) = there else {
-                return BROKEN;
-            };
-            kept_step(tree, size, on, i, p, further)
-        }
-        Next::Off => BROKEN,
+    let shape = fields::shape_of(tree);
+    if on.level + 1 == shape.levels {
+        return packed(block, place, trail);
     }
+    let there = to_kept(tree, size, on, block, place, trail);
+    let Landing::At(i, p, further) = there else {
+        return BROKEN;
+    };
+    kept_step(tree, size, on, i, p, further)
 }
 
-// The whole path of a place of the text; what is left of the text is left at the start.
+// The path of a place of the text down to the last level; what is left of the text is left at the start.
 pub fn walk(t: &[u8], h: Header, at: TextPlace) -> Walked
     requires { ⌜ (HeaderOf (now t) h) × (at .0 < h .«text_length») ⌝ }
-    ensures { λ r. ⌜ r ≡ walked (now (t .entry)) (record { entered = 0; left = h .«text_length» - at .0 }) (pathOf (now (t .entry)) (at .0)) ⌝ }
+    ensures { λ r. ⌜ r ≡ walked (now (t .entry)) (record { entered = 0; left = h .«text_length» - at .0 }) (aboveOf (now (t .entry)) (at .0)) ⌝ }
 {
     let trail = Trail {
         entered: 0,

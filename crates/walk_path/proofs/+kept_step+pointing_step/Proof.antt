@@ -14,11 +14,10 @@ use Rattle.walk_path.proofs.+kept_step+pointing_step.Lts-pointing_step 
 use Rattle.walk_steps.proofs.child.Reads as child-reads
 use Rattle.walk_steps.proofs.fields.shape_of.Reads as shape-of-reads
 use Rattle.walk_steps.proofs.fields.whole.Reads as whole-reads
-use Rattle.walk_steps.proofs.land.Reads as land-reads
-use Rattle.walk_steps.proofs.look.Reads as look-reads
 use Rattle.walk_steps.proofs.quotient.Reads as quotient-reads
 use Rattle.walk_path.proofs.Trail.enter.Reads as enter-reads
-use Rattle.walk_path.proofs.leaf.Reads as leaf-reads
+use Rattle.walk_path.proofs.packed.Reads as packed-reads
+use Rattle.walk_path.proofs.to_kept.Reads as to-kept-reads
 use Rattle.format.specs.Layout as at
 use Rattle.walk_steps.proofs.StepLaws.{shapes-on}
 use Rattle.walk_path.proofs.WalkLaws as laws
@@ -61,8 +60,6 @@ pub +kept-step+pointing-step-spec : {M : Type 1} → statement M
       whole-reads.Learnt,
       shape-of-reads.Asked,
       shape-of-reads.Learnt,
-      leaf-reads.Asked,
-      leaf-reads.Learnt,
       quotient-reads.Asked,
       quotient-reads.Learnt,
       enter-reads.Asked,
@@ -75,122 +72,119 @@ pub +kept-step+pointing-step-spec : {M : Type 1} → statement M
     (kept-step-at t)
     kept-step.Post
     (λ c κs. search needs)
-    (λ c κs. rw (c .whole .ensures) (c .before .before .pre .1 .on .facts .long))
-    (λ c. let k = c .before .before .before .before .pre .1 in record { fits = omega (arith, k .on .level-in, k .on .facts .bounds .levels-high) })
-    (λ c κs. let w = c .before .before .before .before in rw (w .whole .ensures) (w .before .before .pre .1))
-    (λ c.
-    let s = c .before .before .before .before in
-    let w = s .before in
-    laws.kept-last _ _ _ _ _ _ _ (w .before .before .pre .1) _
-    (c .before .if1 .taken ∙ shapes-on _ _ _ (w .whole .ensures) (s .shape-of .ensures) .levels-is) (rw (w .whole .ensures) at (c .leaf .ensures)))
+    (λ c κs. rw (c .whole .ensures) (c .before .before .pre .1 .0 .on .facts .long))
     (λ c κs.
-    let s = c .before .before .before in
-    let w = s .before in
-    omega (arith, shapes-on _ _ _ (w .whole .ensures) (s .shape-of .ensures) .arity-is, w .before .before .pre .1 .on .facts .bounds .arity-low))
-    (λ c κs. let k = c .before .before .before .before .before .before .before .pre .1 in (laws.entered-fits _ _ _ _ _ _ _ k, k .place-in))
+    let w = c .before in
+    omega (arith, shapes-on _ _ _ (w .whole .ensures) (c .shape-of .ensures) .arity-is, w .before .before .pre .1 .0 .on .facts .bounds .arity-low))
+    (λ c κs. let k = c .before .before .before .before .pre .1 .0 in (laws.entered-fits _ _ _ _ _ _ _ k, k .place-in))
     (λ c κs.
-    let e = c .before .before in
-    let s = e .before .before .before in
+    let s = c .before .before in
     let w = s .before in
+    let S = w .before .before in
     let x = shapes-on _ _ _ (w .whole .ensures) (s .shape-of .ensures) in
-    rw (w .whole .ensures) (laws.asks-child _ _ _ _ _ _ _ (w .before .before .pre .1) (λ last. e .if1 .left (last ∙ sym (x .levels-is)))
-    _ (c .before .quotient .ensures ∙ ap (λ (y : ℕ). e .before .before .before .before .before .before .args .on .b / y) (x .arity-is))))
+    rw (w .whole .ensures) (laws.asks-child _ _ _ _ _ _ _ (S .pre .1 .0) (λ last. omega (arith, S .pre .1 .1))
+    _ (c .before .quotient .ensures ∙ ap (λ (y : ℕ). S .args .on .b / y) (x .arity-is))))
     (λ c. search needs)
     (λ c. search needs)
     (λ c.
     let m = c .before .before in
-    let e = m .before .before .before in
-    let s = e .before .before .before in
+    let s = m .before .before .before in
     let w = s .before in
     let S = w .before .before in
     let x = shapes-on _ _ _ (w .whole .ensures) (s .shape-of .ensures) in
-    sym laws.broken-word ∙ laws.child-none _ _ _ _ _ _ _ (S .pre .1)
-    (λ last. e .if1 .left (last ∙ sym (x .levels-is))) _ (m .before .before .quotient .ensures ∙ ap (λ (y : ℕ). S .args .on .b / y) (x .arity-is))
+    sym laws.broken-word ∙ laws.child-none _ _ _ _ _ _ _ (S .pre .1 .0)
+    (λ last. omega (arith, S .pre .1 .1)) _ (m .before .before .quotient .ensures ∙ ap (λ (y : ℕ). S .args .on .b / y) (x .arity-is))
     _ (m .before .enter .ensures) _ (rw (w .whole .ensures) at (m .child .ensures)) (c .enum-told .given .1))
+    (λ c. let S = c .before .before .before .before .before .before .before .before .before .before in
+    record { fits = omega (arith, S .pre .1 .1, S .pre .1 .0 .on .facts .bounds .levels-high) })
     (λ c κs.
-    let m = c .before .before .before in
-    let e = m .before .before .before in
-    let s = e .before .before .before in
+    let m = c .before .before .before .before in
+    let s = m .before .before .before in
     let w = s .before in
     let S = w .before .before in
     let x = shapes-on _ _ _ (w .whole .ensures) (s .shape-of .ensures) in (
-      omega (arith, S .pre .0, ap levels (w .whole .ensures), S .pre .1 .on .level-in, x .levels-is, e .if1 .left),
-      rw (w .whole .ensures) (laws.child-may _ _ _ _ _ _ _ (S .pre .1)
-          (λ last. e .if1 .left (last ∙ sym (x .levels-is))) _ (m .before .before .quotient .ensures ∙ ap (λ (y : ℕ). S .args .on .b / y) (x .arity-is))
-          _ (m .before .enter .ensures) _ (rw (w .whole .ensures) at (m .child .ensures)) _ _ (c .before .child2 .given .1)),
+      omega (arith, S .pre .0, ap levels (w .whole .ensures), S .pre .1 .1),
+      (
+        rw (w .whole .ensures) (laws.child-may _ _ _ _ _ _ _ (S .pre .1 .0)
+            (λ last. omega (arith, S .pre .1 .1)) _ (m .before .before .quotient .ensures ∙ ap (λ (y : ℕ). S .args .on .b / y) (x .arity-is))
+            _ (m .before .enter .ensures) _ (rw (w .whole .ensures) at (m .child .ensures)) _ _ (c .before .before .child2 .given .1)),
+        laws.left-fits _ _ _ _ _ _ _ (S .pre .1 .0) _ (m .before .enter .ensures),
+      ),
     ))
     (λ c.
-    let m = c .before .before .before .before in
-    let e = m .before .before .before in
-    let s = e .before .before .before in
+    let m = c .before .before .before .before .before in
+    let s = m .before .before .before in
     let w = s .before in
     let S = w .before .before in
     let x = shapes-on _ _ _ (w .whole .ensures) (s .shape-of .ensures) in
-    laws.child-by _ _ _ _ _ _ _ (S .pre .1) (λ last. e .if1 .left (last ∙ sym (x .levels-is))) _ (m .before .before .quotient .ensures
+    laws.child-by _ _ _ _ _ _ _ (S .pre .1 .0) (λ last. omega (arith, S .pre .1 .1)) _ (m .before .before .quotient .ensures
     ∙ ap (λ (y : ℕ). S .args .on .b / y) (x .arity-is)) _ (m .before .enter .ensures) _ (rw (w .whole .ensures) at (m .child .ensures))
-    _ _ _ (c .before .before .child2 .given .1) (rw (w .whole .ensures) at (c .pointing-step .ensures))))
+    _ _ _ (c .before .before .before .child2 .given .1) (rw (w .whole .ensures) at (c .pointing-step .ensures))))
     (λ t. pointing-step-lts.spec (
       whole-reads.Asked,
       whole-reads.Learnt,
-      look-reads.Asked,
-      look-reads.Learnt,
+      shape-of-reads.Asked,
+      shape-of-reads.Learnt,
+      packed-reads.Asked,
+      packed-reads.Learnt,
+      to-kept-reads.Asked,
+      to-kept-reads.Learnt,
       kept-step-below t,
       kept-step.Post,
-      enter-reads.Asked,
-      enter-reads.Learnt,
-      land-reads.Asked,
-      land-reads.Learnt,
     )
     (pointing-step-at t)
     pointing-step.Post
     (λ c κs. search needs)
-    (λ c κs. let k = c .before .before .pre .1 in rw (c .whole .ensures) (record { on = k .on; block-in = k .block-in }))
-    (λ c. search needs)
+    (λ c κs. rw (c .whole .ensures) (c .before .before .pre .1 .0 .on .facts .long))
+    (λ c. let k = c .before .before .before .before .pre .1 .0 in record { fits = omega (arith, k .on .level-in, k .on .facts .bounds .levels-high) })
     (λ c κs.
-    let m = c .before .before in
-    let w = m .before in
-    let S = w .before .before in (
-      omega (arith, S .pre .0, ap levels (w .whole .ensures)),
-      rw (w .whole .ensures) (laws.may-keep _ _ _ _ _ _ _ (S .pre .1) _ (rw (w .whole .ensures) at (m .look .ensures)) _ _ (c .enum-told .given .1)),
-    ))
+    let s = c .before .before .before in
+    let w = s .before in
+    let S = w .before .before in
+    let x = shapes-on _ _ _ (w .whole .ensures) (s .shape-of .ensures) in
+    let f = laws.last-fits _ _ _ _ _ _ (S .args .trail) (S .pre .1 .0) (c .if1 .taken ∙ x .levels-is) (rw (x .offset-is) at (s .shape-of .ok .1 .1 .1 .1 .1 .0 .1)) in
+    (f .0, f .1, f .2, S .pre .1 .1))
+    (λ c.
+    let s = c .before .before .before .before in
+    let w = s .before in
+    let S = w .before .before in
+    let x = shapes-on _ _ _ (w .whole .ensures) (s .shape-of .ensures) in
+    laws.last-walked _ _ _ _ _ _ _ (S .pre .1 .0) (c .before .if1 .taken ∙ x .levels-is) _ (c .packed .ensures))
+    (λ c κs.
+    let s = c .before .before .before in
+    let w = s .before in
+    let S = w .before .before in
+    let x = shapes-on _ _ _ (w .whole .ensures) (s .shape-of .ensures) in
+    rw (w .whole .ensures) (S .pre .1 .0, omega (arith, x .levels-is, c .if1 .left, S .pre .1 .0 .on .level-in)))
     (λ c. search needs)
-    (λ c κs. let S = c .before .before .before .before .before in (laws.may-enter _ _ _ _ _ _ _ (S .pre .1), S .pre .1 .place-in))
+    (λ c. search needs)
+    (λ c.
+    let m = c .before .before in
+    let e = m .before in
+    let s = e .before .before .before in
+    let w = s .before in
+    let S = w .before .before in
+    let x = shapes-on _ _ _ (w .whole .ensures) (s .shape-of .ensures) in
+    sym laws.broken-word ∙ laws.landed-off _ _ _ _ _ _ _ (S .pre .1 .0) (omega (arith, x .levels-is, e .if1 .left, S .pre .1 .0 .on .level-in))
+    _ (rw (w .whole .ensures) at (m .to-kept .ensures)) (c .enum-told .given .1))
     (λ c κs.
     let m = c .before .before .before in
-    let w = m .before in
+    let e = m .before in
+    let s = e .before .before .before in
+    let w = s .before in
     let S = w .before .before in
-    rw (w .whole .ensures) (laws.may-point _ _ _ _ _ _ _ (S .pre .1) _ (rw (w .whole .ensures) at (m .look .ensures)) _ _ (c .before .enum-told2 .given .1)))
-    (λ c. search needs)
-    (λ c. search needs)
-    (λ c.
-    let l = c .before .before in
-    let m = l .before .before .before .before in
-    let w = m .before in
-    let S = w .before .before in
-    sym laws.broken-word ∙ laws.land-none _ _ _ _ _ _ _ (S .pre .1) _ (rw (w .whole .ensures) at (m .look .ensures))
-    _ _ (l .before .before .enum-told2 .given .1) _ (rw (w .whole .ensures) at (l .land .ensures)) (c .enum-told3 .given .1))
-    (λ c κs.
-    let l = c .before .before .before in
-    let m = l .before .before .before .before in
-    let w = m .before in
-    let S = w .before .before in (
+    let x = shapes-on _ _ _ (w .whole .ensures) (s .shape-of .ensures) in
+    let more : S .args .on .level + 1 < levels (S .args .t .now) = omega (arith, x .levels-is, e .if1 .left, S .pre .1 .0 .on .level-in) in (
       omega (arith, S .pre .0, ap levels (w .whole .ensures)),
       rw (w .whole .ensures)
-          (laws.land-to _ _ _ _ _ _ _ (S .pre .1) _ (rw (w .whole .ensures) at (m .look .ensures)) _ _ (l .before .before .enum-told2 .given .1)
-          _ (rw (w .whole .ensures) at (l .land .ensures)) _ (l .before .enter .ensures) _ _ (c .before .there .given .1)),
+          (laws.landed-kept _ _ _ _ _ _ _ (S .pre .1 .0) more _ (rw (w .whole .ensures) at (m .to-kept .ensures)) _ _ _ (c .before .there .given .1), more),
     ))
-    (λ c. search needs)
-    (λ c. let w = c .before .before .before .before in rw (w .whole .ensures) at (c .kept-step .ensures))
     (λ c.
-    let l = c .before .before .before .before in
-    let m = l .before .before .before .before in
-    let w = m .before in
+    let m = c .before .before .before .before in
+    let e = m .before in
+    let s = e .before .before .before in
+    let w = s .before in
     let S = w .before .before in
-    laws.land-by _ _ _ _ _ _ _ (S .pre .1)
-    _ (rw (w .whole .ensures) at (m .look .ensures)) _ _ (l .before .before .enum-told2 .given .1) _ (rw (w .whole .ensures) at (l .land .ensures))
-    _ (l .before .enter .ensures) _ _ (c .before .before .there .given .1) _ (rw (w .whole .ensures) at (c .kept-step2 .ensures)))
-    (λ c.
-    let m = c .before .before in
-    let w = m .before in
-    let S = w .before .before in
-    sym laws.broken-word ∙ laws.may-off _ _ _ _ _ _ _ (S .pre .1) _ (rw (w .whole .ensures) at (m .look .ensures)) (c .enum-told4 .given .1)))
+    let x = shapes-on _ _ _ (w .whole .ensures) (s .shape-of .ensures) in
+    laws.landed-by _ _ _ _ _ _ _ (S .pre .1 .0) (omega (arith, x .levels-is, e .if1 .left, S .pre .1 .0 .on .level-in))
+    _ (rw (w .whole .ensures) at (m .to-kept .ensures)) _ _ _ (c .before .before .there .given .1) _ (rw (w .whole .ensures) at (c .kept-step .ensures))))

@@ -13,4 +13,5 @@ unpacked-spec =
     (λ c. search needs)
     (λ c. search needs)
     (λ c. search needs)
+    (λ c. search needs)
     (λ c. laws.unpacked-word _ (c .if1 .left)))

@@ -13,8 +13,10 @@ walk-spec =
     (tie.spec
     (λ c. search needs)
     (λ c κs. b-pos _ _ _ _ (on-top _ _ (c .before .before .before .pre .0)))
-    (λ c κs. let s = c .before .before .before .before in
-    laws.top-may _ _ _ _ (on-top _ _ (s .pre .0)) _ (c .top-spot .ensures) (omega (arith, s .pre .0 .length-is, s .pre .1)))
+    (λ c κs. let s = c .before .before .before .before in (
+      laws.top-may _ _ _ _ (on-top _ _ (s .pre .0)) _ (c .top-spot .ensures) (omega (arith, s .pre .0 .length-is, s .pre .1)),
+      omega (arith, s .pre .0 .length-is, s .pre .0 .facts .bounds .text-high),
+    ))
     (λ c κs. search needs)
     (λ c. let s = c .before .before .before .before .before .before in c .unpacked .ensures
     ∙ laws.top-by _ _ _ _ (on-top _ _ (s .pre .0)) _ (c .before .before .top-spot .ensures) _ _ (c .before .pointing-step .ensures)))

@@ -10,11 +10,11 @@ use Rattle.ask_access.proofs.read_by_header.copy_run.Statement.{stateme
 use Rattle.ask_access.proofs.read_by_header.copy_run.Tie as tie
 
 abbrev Inv-loop : tie.InvT-loop
-Inv-loop t most buffer₀ to run n size k₀ buffer k =
+Inv-loop t most buffer₀ to run size k₀ buffer k =
     (k ≤ size) × (length buffer ≡ length buffer₀) × (buffer ≡ bytesWritten buffer₀ to t (run .from) k)
 
 abbrev μ-loop : tie.MeasureT-loop
-μ-loop t most buffer₀ to run n size k₀ buffer k = size - k
+μ-loop t most buffer₀ to run size k₀ buffer k = size - k
 
 pub copy-run-spec : {M : Type 1} → statement M
 copy-run-spec =
@@ -25,22 +25,25 @@ copy-run-spec =
     (λ c κs. search needs)
     (λ c. search needs)
     (λ c. search needs)
-    (λ c. (refl, ap (λ (s : Said). s .number) (laws.run-refused _ _ _ (c .before .before .leaf-run .ensures) (c .enum-told .given .1)), refl))
-    (λ c κs. search needs)
+    (λ c. (refl, laws.range-refused _ _ _ _ (c .before .before .leaf-range .ensures) (c .enum-told .given .1), refl))
     (λ c. search needs)
     (λ c. (omega arith, refl, refl))
-    (λ c κs. let s = c .before .before in let w = s .before in
-    let r = laws.run-found _ _ _ (w .before .before .before .leaf-run .ensures) _ (w .before .found .given .1) in
-    omega (arith, r .in-tree, s .shorter .ensures))
+    (λ c κs. let g = c .before .before .before .before in
+    let r = laws.range-found _ _ _ _ (g .before .before .leaf-range .ensures) _ (g .found .given .1) in
+    omega (arith, r .in-tree))
     (λ c. search needs)
     (λ c. search needs)
     (λ c κs. search needs)
     (λ c. c .before .before .before .before .before .loop .inv .1)
     (λ c. absurd (laws.run-not-refused _ _ _ _ (c .before .before .before .byte-on .ensures) (c .before .enum-told2 .given .1)))
-    (λ c. let s = c .before .before .before .before .before .before in let start = s .before .before .before .before .before .before .before in
-    omega (arith, start .pre .3, s .shorter .ensures, start .good .1 .1 .1 .1 .0 .1))
-    (λ c. let l = c .before .before .before .before .before in let s = l .before in
-    omega (arith, s .before .before .before .before .before .before .before .pre .3, s .shorter .ensures, l .loop .inv .1))
+    (λ c. let g = c .before .before .before .before .before .before .before .before in
+    let start = g .before .before .before .before .before in
+    let r = laws.range-found _ _ _ _ (g .before .before .leaf-range .ensures) _ (g .found .given .1) in
+    omega (arith, start .pre .3, r .at-most, start .good .1 .1 .1 .1 .0 .1))
+    (λ c. let l = c .before .before .before .before .before in
+    let g = l .before .before .before in
+    let r = laws.range-found _ _ _ _ (g .before .before .leaf-range .ensures) _ (g .found .given .1) in
+    omega (arith, g .before .before .before .before .before .pre .3, r .at-most, l .loop .inv .1))
     (λ c. omega arith)
     (λ c. omega arith)
     (λ c. let l = c .before .before .before .before .before in
@@ -51,8 +54,8 @@ copy-run-spec =
           _ _ _ _ (c .before .before .before .byte-on .ensures) (c .before .answer .given .1),
     ))
     (λ c. c .before .loop .inv .1)
-    (λ c. let s = c .before .before in let w = s .before in
-    let r = laws.run-found _ _ _ (w .before .before .before .leaf-run .ensures) _ (w .before .found .given .1) in
-    let a = w .before .before .before .before .before .before .args in
-    laws.run-copied (a .t .now) (a .at .0) _ r (a .most) (a .to) (a .buffer .now) (c .before .loop .buffer) (s .shorter .result)
-    (w .before .before .before .before .before .before .pre .2) (s .shorter .ensures) (c .before .loop .k) (omega arith) (c .before .loop .inv .2)))
+    (λ c. let l = c .before in
+    let g = l .before .before .before in
+    let a = g .before .before .before .before .before .args in
+    let r = laws.range-found _ _ _ _ (g .before .before .leaf-range .ensures) _ (g .found .given .1) in
+    laws.run-copied (a .t .now) (a .at .0) _ _ r (a .to) (a .buffer .now) (l .loop .buffer) (l .loop .k) (omega arith) (l .loop .inv .2)))

@@ -1,7 +1,6 @@
 use mathlib.Core.Path.{refl}
 use native.Mathlib.Omega.{arith}
 use borrow.Author.Needs.{needs}
-use Rattle.ask_access.proofs.ByteLaws.{leaf-low}
 use Rattle.ask_access.proofs.LeafRunLaws as laws
 use Rattle.ask_access.proofs.read_by_header.leaf_run.Statement.{statement}
 use Rattle.ask_access.proofs.read_by_header.leaf_run.Tie as tie
@@ -13,18 +12,22 @@ leaf-run-spec =
     (λ c κs. search needs)
     (λ c. search needs)
     (λ c. search needs)
-    (λ c. let w = c .before .before in
-    let pre = w .before .before .pre in
-    laws.leaf-run-broken _ _ _ (pre .0) (pre .1) _ (w .walk .ensures) (c .enum-told .given .1))
-    (λ c. search needs)
-    (λ c. search needs)
-    (λ c. search needs)
-    (λ c. let known = c .before .before .before .before in
-    let w = known .before .before .before in
-    let pre = w .before .before .pre in
-    omega (arith, leaf-low _ _ _ (pre .0) (pre .1) _ _ (w .walk .ensures) _ (known .before .walked .given .1)))
+    (λ c. laws.end-refused _ _ _ (c .before .before .end-of .ensures) (c .enum-told .given .1))
+    (λ c. let g = c .before .before .before in
+    let w = g .before .before in
+    let e = laws.end-found _ _ _ (w .end-of .ensures) _ (g .found .given .1) in
+    omega (arith, e .ends-in .place-in, w .before .before .pre .0 .leaf-is))
     (λ c κs. search needs)
-    (λ c. let known = c .before .before .before .before .before in
-    let w = known .before .before .before in
+    (λ c. search needs)
+    (λ c. search needs)
+    (λ c. search needs)
+    (λ c. let g = c .before .before .before .before .before .before .before .before in
+    let w = g .before .before in
+    let e = laws.end-found _ _ _ (w .end-of .ensures) _ (g .found .given .1) in
+    omega (arith, e .ends-in .leaf-in, w .before .before .pre .0 .count-is))
+    (λ c κs. search needs)
+    (λ c. let g = c .before .before .before .before .before .before .before .before .before in
+    let w = g .before .before in
     let pre = w .before .before .pre in
-    laws.leaf-run-reached _ _ _ (pre .0) (pre .1) _ (w .walk .ensures) _ (known .before .walked .given .1) _ _ refl (c .shorter .ensures)))
+    let e = laws.end-found _ _ _ (w .end-of .ensures) _ (g .found .given .1) in
+    laws.leaf-run-reached _ _ _ (pre .0) (pre .1) _ e _ refl _ _ (c .before .before .before .before .before .shorter .ensures) (c .shorter2 .ensures)))
