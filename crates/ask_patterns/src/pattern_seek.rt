@@ -1,4 +1,4 @@
-// One pass over the text, read by runs: each is a part of the tree's own bytes.
+// One pass over the text, read by ranges: each is a part of the tree's own bytes.
 use ask_access::read_by_header;
 use ask_access::read_by_header::Part;
 use ask_access::read_by_header::Ran;
@@ -14,6 +14,9 @@ ghost use Rattle.layout.specs.HeaderSays.{HeaderOf};
 ghost use Rattle.ask_access.specs.ReadByRuns.{ReadsOn};
 ghost use Rattle.search_kmp.specs.Borders.{Borders};
 ghost use Rattle.ask_patterns.specs.TableFilled.{Stepped, Skips, Glides, Seeking, Even, SeekSays};
+
+// The most bytes that are read at once.
+const MOST: u32 = 65536;
 
 // How far the text was read: the place to be read next, the state of the match there, and how many places were found.
 pub struct Progress {
@@ -100,7 +103,7 @@ fn glide(t: &[u8], from: usize, n: usize, pattern: &[u8], m: Progress) -> Progre
     }
 }
 
-// The bytes of a run.
+// The bytes of a range.
 fn feed(
     t: &[u8],
     run: Unread,
@@ -152,7 +155,7 @@ pub fn seek(
         found: 0,
     };
     while m.place.0 < h.text_length {
-        let ran = read_by_header::part_at(t, h, m.place);
+        let ran = read_by_header::range_at(t, h, m.place, MOST);
         let Ran::At(part) = ran else {
             return Sought::Broken;
         };
