@@ -114,7 +114,8 @@ fn feed(
 ) -> Progress
     requires { ⌜ (ReadsOn (now t) (run .before .place .0) (run .part .from) (run .part .length)) × (run .before .place .0 + run .part .length < 4294967296)
         × (Even (now pattern) (run .before)) × (room ≤ length (now table)) ⌝ }
-    requires { ⌜ (1 ≤ length (now pattern)) × (length (now pattern) ≤ 256) × (length (now pattern) ≤ length (now borders)) × Borders (now pattern) (now borders) (length (now pattern)) ⌝ }
+    requires { ⌜ (1 ≤ length (now pattern)) × (length (now pattern) ≤ 256) × (length (now pattern) ≤ length (now borders))
+        × Borders (now pattern) (now borders) (length (now pattern)) ⌝ }
     ensures { λ r. ⌜ (r .place .0 ≡ run .before .place .0 + run .part .length)
         × ((before : List ℕ) → Seeking (now (t .entry)) (now (pattern .entry)) room before (run .before) (now (table .entry))
         → Seeking (now (t .entry)) (now (pattern .entry)) room before r (now (table .exit))) ⌝ }

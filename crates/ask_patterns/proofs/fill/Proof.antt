@@ -17,6 +17,8 @@ fill-spec =
     (λ c κs. search needs)
     (λ c. search needs)
     (λ c. search needs)
-    (λ c κs. (c .before .before .before .before .before .before .before .before .before .pre, (held (c .before .before .links-right .ensures) (c .before .if2 .left), c .before .before .before .before .most .ensures, c .before .before .before .if1 .left)))
+    (λ c κs. let e = c .before .before .before in
+    let linked = held (c .before .before .links-right .ensures) (c .before .if2 .left) in
+    (e .before .before .before .before .before .before .pre, (linked, e .before .most .ensures, e .if1 .left)))
     (λ c. search needs)
     (λ c. search needs))

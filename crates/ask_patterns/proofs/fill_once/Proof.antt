@@ -15,8 +15,10 @@ fill-once-spec =
     (λ c. search needs)
     (λ c. search needs)
     (λ c. let pre = c .before .before .before .before .before .before .before .before .before .before .pre in
-    absurd (laws.no-break _ _ [] (pre .0 .0 .passes) (pre .0 .1) (pre .0 .2) _ _ _ _ (c .before .before .before .before .seek .ensures) (pre .1 .0) (c .enum-told .given .1)))
+    absurd (laws.no-break _ _ [] (pre .0 .0 .passes) (pre .0 .1) (pre .0 .2)
+    _ _ _ _ (c .before .before .before .before .seek .ensures) (pre .1 .0) (c .enum-told .given .1)))
     (λ c. search needs)
     (λ c. let pre = c .before .before .before .before .before .before .before .before .before .before .before .pre in
-    laws.answered _ _ _ _ (Number _) tt (laws.written-once _ _ _ (pre .0 .0 .passes) (pre .0 .1) (pre .0 .2) _ _ _ (c .before .before .before .before .before .seek .ensures) _ (c .before .written .given .1)
+    laws.answered _ _ _ _ (Number _) tt (laws.written-once _ _ _ (pre .0 .0 .passes) (pre .0 .1) (pre .0 .2)
+    _ _ _ (c .before .before .before .before .before .seek .ensures) _ (c .before .written .given .1)
     (omega (arith, pre .1 .1, pre .0 .0 .length-is)) (pre .1 .2))))

@@ -44,9 +44,10 @@ feed-spec =
     (λ c κs. let pre = c .before .before .before .before .before .before .before .before .before .before .before .before .pre in
     let v = c .before .before .before .before .before .before .loop .inv in
     let g = c .before .before .before .before .glide .ensures in
-    ((g .even, omega (arith, v .1, g .most, pre .0 .1, c .before .before .if1 .left), omega (arith, v .2, pre .0 .3)), (pre .1 .2, pre .1 .3)))
+    let low = c .before .before .if1 .left in
+    ((g .even, omega (arith, v .1, g .most, pre .0 .1, low), omega (arith, v .2, pre .0 .3)), (pre .1 .2, pre .1 .3)))
     (λ c. omega arith)
-    (λ c. omega (arith, c .before .before .before .before .before .before .before .glide .ensures .least, c .before .before .before .before .before .before .before .before .before .loop .inv .1))
+    (λ c. let g = c .before .before .before .before .before .before .before in omega (arith, g .glide .ensures .least, g .before .before .loop .inv .1))
     (λ c. let g = c .before .before .before .before .before .before .before .glide in
     let v = c .before .before .before .before .before .before .before .before .before .loop .inv in
     let start = c .before .before .before .before .before .before .before .before .before .before .before .before .before .before .before in

@@ -32,7 +32,8 @@ seek-spec =
     let k = start .pre .0 .0 in
     let low = c .before .before .before .if1 .taken in
     laws.seek-broken _ _ _ _ _ _ (l .loop .inv .0)
-    (l .loop .inv .1) (omega (arith, k .length-is)) (range-broken (start .args .t .now) (l .loop .m .place .0) 65536 _ (c .before .before .range-at .ensures) _ (c .enum-told .given .1) .1))
+    (l .loop .inv .1) (omega (arith, k .length-is))
+    (range-broken (start .args .t .now) (l .loop .m .place .0) 65536 _ (c .before .before .range-at .ensures) _ (c .enum-told .given .1) .1))
     (λ c κs. let l = c .before .before .before .before .before .before .before .before in
     let start = l .before .before .before .before .before in
     let pre = start .pre in
@@ -47,7 +48,8 @@ seek-spec =
       (pre .0 .1, pre .1 .0, pre .1 .1, pre .1 .2),
     ))
     (λ c. let start = c .before .before .before .before .before .before .before .before .before .before .before .before .before .before .before .before in
-    let z = range-reads (start .args .t .now) (c .before .before .before .before .before .before .before .before .before .before .before .loop .m .place .0) 65536
+    let l = c .before .before .before .before .before .before .before .before .before .before .before in
+    let z = range-reads (start .args .t .now) (l .loop .m .place .0) 65536
     _ (c .before .before .before .before .before .before .before .range-at .ensures) _ (c .before .before .before .before .before .ran .given .1) in
     omega (arith, z .0 .in-text, z .1, c .before .before .feed .ensures .0))
     (λ c. let l = c .before .before .before .before .before .before .before .before .before .before .before in
