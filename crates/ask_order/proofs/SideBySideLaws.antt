@@ -23,9 +23,8 @@ use Rattle.layout.specs.HeaderSays.{HeaderOf, header-refused}
 use Rattle.ask_access.specs.declared.read_by_header.Part.{Part}
 use Rattle.ask_access.specs.declared.read_by_header.Ran.{Ran}
 use Rattle.ask_access.specs.declared.read_by_header.Ran.the-variants as ran
-use Rattle.ask_access.specs.ReadAnswers.{RunAnswer}
-use Rattle.ask_access.specs.ReadByRuns.{ReadsOn}
-use Rattle.ask_access.proofs.RunLaws.{reads-none, reads-rest, part-reads, part-broken}
+use Rattle.ask_access.specs.ReadByRuns.{ReadsOn, RangeAnswer}
+use Rattle.ask_access.proofs.RunLaws.{reads-none, reads-rest}
 use Rattle.ask_order.specs.declared.Compared.{Compared}
 use Rattle.ask_order.specs.declared.Compared.the-variants as compared
 use Rattle.ask_order.specs.declared.side_by_side.Progress.{Progress}
@@ -237,10 +236,10 @@ module _ (t u : List ℕ) (p : ℕ) (r : Round) (a : RoundSays t u p r) where
   pub round-settled : (x : Compared) → r ≡ round.Settled x → OrderAnswer t u x
   round-settled x e = let z : RoundSays t u p (round.Settled x) = rw e at a in z
 
--- the run of a place
-pub read-anew : (t : List ℕ) (h : Header) → HeaderOf t h → (p : ℕ) → p < h .«text_length» → (r : Ran) → RunAnswer t p r → ReadsFrom t p r
-read-anew t h k p low (ran.At part) a = part-reads t h k p low (ran.At part) a part refl
-read-anew t h k p low (ran.Refused q) a = part-broken t h k p low (ran.Refused q) a q refl .1
+-- a range from a place
+pub read-anew : (t : List ℕ) (p most : ℕ) (r : Ran) → RangeAnswer t p most r → ReadsFrom t p r
+read-anew t p most (ran.At part) a = (a .0, a .1)
+read-anew t p most (ran.Refused q) a = a .1
 
 -- a tree that does not pass questions 5 to 7, the first or the second
 handed-on : (n k q : ℕ) (rest : Ordered) → n ≡ suc k → q ≡ suc k → refusedOrder q ≡ orElse n rest

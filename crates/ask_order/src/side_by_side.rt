@@ -15,6 +15,9 @@ ghost use Rattle.ask_order.specs.Order.{byLength};
 ghost use Rattle.ask_order.specs.OrderAnswers.{orderSaid, OrderAnswer};
 ghost use Rattle.ask_order.specs.Compared.{ReadsFrom, Agrees, byByte, Comparing, RoundSays};
 
+// The most bytes of a tree that are read at once: the first difference is often near.
+const MOST: u32 = 1024;
+
 // How far two trees were compared: the next place, and what is left of the run of each.
 pub struct Progress {
     pub place: TextPlace,
@@ -78,7 +81,7 @@ fn run_from(t: &[u8], h: Header, at: TextPlace, held: Part) -> Ran
     if 0 < held.length {
         return Ran::At(held);
     }
-    read_by_header::part_at(t, h, at)
+    read_by_header::range_at(t, h, at, MOST)
 }
 
 // Compares as many bytes as both runs have.

@@ -20,6 +20,7 @@ use Rattle.theory_paths.specs.OneText.{text-length}
 use Rattle.layout.specs.declared.header.Header.{Header}
 use Rattle.layout.specs.HeaderSays.{HeaderOf}
 use Rattle.ask_access.specs.ReadByRuns.{ReadsOn}
+use Rattle.ask_access.proofs.RunLaws.{reads-rest}
 use Rattle.search_kmp.specs.Borders.{Ends, Longest}
 use Rattle.ask_patterns.specs.declared.pattern_seek.Progress.{Progress}
 use Rattle.ask_patterns.specs.declared.pattern_seek.Sought.the-variants.{All, Broken}
@@ -257,3 +258,7 @@ module _ (t P : List ℕ) (room : ℕ) (before : List ℕ) (m : Progress) (table
         says = rw all (rw e at (ap All (s .found-is)));
         table-is = λ y. s .table-is ∙ ap (λ (ps : List ℕ). filled ps room before) e;
       }
+
+-- the bytes of a part that are left
+pub reads-from : (t : List ℕ) (p at from size i : ℕ) → ReadsOn t p from size → i ≤ size → at ≡ p + i → ReadsOn t at (from + i) (size - i)
+reads-from t p at from size i reads h e = rw e (reads-rest t p from size i reads h)

@@ -2,15 +2,18 @@
 use mathlib.Core.List.{List, _++_}
 use mathlib.Core.Bool.{Bool, true, false, cond}
 use mathlib.Core.Path.{_≡_, refl, sym, ap, _∙_}
-use Prim.Native.Nat.{ℕ, suc, _≤_, _<_}
+use Prim.Native.Nat.{ℕ, suc, _+_, _-_, _≤_, _<_}
 use native.Mathlib.Omega.{arith}
 use borrow.Author.Tests.{le-leb, lt-leb, ne-eqb}
 use lib.ListN.{length, take, drop}
 use lib.Dec.{leb}
+use Rattle.text.specs.ListLaws.{bool-clash}
 use Rattle.format.specs.Layout as at
+use Rattle.format.specs.Fits.{linksOk}
 use Rattle.format.specs.Verdict.{ask, readable}
 use Rattle.format.specs.Said.{Said, refused}
 use Rattle.format.specs.ReadSays.{pathsHold}
+use Rattle.theory_paths.specs.Demands.{paths-all}
 use Rattle.layout.specs.declared.header.HeaderRead.{HeaderRead}
 use Rattle.layout.specs.declared.header.HeaderRead.the-variants as read
 use Rattle.layout.specs.Header.{headerSays}
@@ -22,6 +25,7 @@ use Rattle.ask_patterns.specs.Places.{maxPattern, patternOk, placesOf, p
 use Rattle.ask_patterns.specs.TableFilled.{SeekSays}
 use Rattle.ask_patterns.specs.PlacesAnswer.{placesSaid, Numbered, PlacesAnswer}
 use Rattle.ask_patterns.proofs.FillLaws.{filled-all, filled-take}
+use Rattle.ask_patterns.proofs.RoomLaws.{places-few}
 
 -- s and what is left of the table are what is said and left
 pub record Listed (t P table : List ℕ) (s : Said) (after : List ℕ) : Type 0 where
@@ -110,3 +114,17 @@ module _ (t P table : List ℕ) where
             written-all y last w =
                 written last (w .table-is (all .0)
                 ∙ filled-all (placesOf t P) n table (omega (arith, all .1)) ∙ ap (λ (m : ℕ). placesOf t P ++ drop m table) (sym (all .1)))
+
+      -- one pass, with room for all places that there can be
+      pub no-break : (room : ℕ) (before last : List ℕ) (x : Sought) → SeekSays t P room before x last → linksOk t ≡ true → x ≡ Broken → ⊥
+      no-break room before last x k linked e =
+          bool-clash _ (paths-all t passes linked 0 (at.textLength t) (omega arith))
+          (broken-cases (pathsHold t 0 (at.textLength t)) (length (placesOf t P)) (sym e ∙ k .says))
+
+      pub written-once : (room : ℕ) (last : List ℕ) (x : Sought) → SeekSays t P room table x last → (n : ℕ) → x ≡ All n
+          → room ≡ at.textLength t + 1 - length P → room ≤ length table → Listed t P table (record { number = 0; value = n; entered = 0 }) last
+      written-once room last x k n e is fits =
+          let few : length (placesOf t P) ≤ room = omega (arith, places-few t P low) in
+          let a = all room table last x k n e in
+          written room table last x k n e (omega (arith, a .1)) last (k .table-is (a .0)
+          ∙ filled-all (placesOf t P) room table few ∙ ap (λ (m : ℕ). placesOf t P ++ drop m table) (sym (a .1)))

@@ -2,12 +2,13 @@
 use mathlib.Core.List.{List, _++_}
 use mathlib.Core.Bool.{true, cond}
 use mathlib.Core.Path.{_≡_}
-use Prim.Native.Nat.{ℕ, _+_, _-_, _≤_}
+use Prim.Native.Nat.{ℕ, _+_, _-_, _≤_, _<_}
 use lib.ListN.{length, getD, take, drop, set}
 use lib.Dec.{ltb, eqb}
 use Rattle.format.specs.Layout as at
 use Rattle.format.specs.Fits.{textOf}
 use Rattle.format.specs.ReadSays.{pathsHold}
+use Rattle.search_byte.specs.FirstByte.{Without}
 use Rattle.search_kmp.specs.Borders.{Longest, Next}
 use Rattle.ask_patterns.specs.declared.pattern_seek.Progress.{Progress}
 use Rattle.ask_patterns.specs.declared.pattern_seek.Sought.{Sought}
@@ -28,6 +29,11 @@ pub record Stepped (P : List ℕ) (byte room : ℕ) (m : Progress) (before : Lis
   pub found-is : r .found ≡ cond (eqb (r .state) (length P)) (m .found + 1) (m .found)
   pub table-is : after ≡ cond (eqb (r .state) (length P)) (cond (ltb (m .found) room) (set before (m .found) (m .place .0 + 1 - length P)) before) before
 
+-- k bytes are passed over from state s: none unless s is 0, and none of them begins the pattern
+pub record Skips (P t : List ℕ) (from s k : ℕ) : Type 0 where
+  pub idle : 0 < s → k ≡ 0
+  pub others : Without t from k (getD P 0 0)
+
 -- the first `room` of the numbers stand at the table's start
 unfoldable pub filled : List ℕ → ℕ → List ℕ → List ℕ
 filled ps room before = take room ps ++ drop (length (take room ps)) before
@@ -43,6 +49,13 @@ module _ (t P : List ℕ) where
     pub longest : Longest P (λ p. getD (textOf t) p 0) 0 (m .place .0) (m .state)
     pub found-is : m .found ≡ length (soFar (m .place .0))
     pub table-is : table ≡ filled (soFar (m .place .0)) room before
+
+  -- read on by at most n bytes, without completing a place
+  pub record Glides (n : ℕ) (m r : Progress) : Type 0 where
+    pub least : m .place .0 ≤ r .place .0
+    pub most : r .place .0 ≤ m .place .0 + n
+    pub even : Even P r
+    pub on : (room : ℕ) (before table : List ℕ) → Seeking room before m table → Seeking room before r table
 
   -- the whole pass
   pub record SeekSays (room : ℕ) (before : List ℕ) (r : Sought) (after : List ℕ) : Type 0 where

@@ -7,9 +7,11 @@ use layout::header;
 use layout::header::Header;
 use layout::header::HeaderRead;
 ghost use mathlib.Core.Path.{_≡_};
-ghost use Prim.Native.Nat.{_≤_};
+ghost use mathlib.Core.Bool.{true};
+ghost use Prim.Native.Nat.{_+_, _-_, _≤_};
 ghost use lib.ListN.{length, take, drop};
 ghost use mathlib.Core.List.{_++_};
+ghost use Rattle.format.specs.Fits.{linksOk};
 ghost use Rattle.layout.specs.HeaderSays.{HeaderOf};
 ghost use Rattle.search_kmp.specs.Borders.{Borders};
 ghost use Rattle.ask_patterns.specs.Places.{maxPattern, placesLeaves};
@@ -20,6 +22,9 @@ pub const MAX_PATTERN: usize = 256;
 
 // So many places are kept while the text is read for the first time; more are written by reading it again.
 const FEW: usize = 256;
+
+// The number of the question that refuses where a path breaks.
+const PATH_BREAKS: u32 = 14;
 
 // How many places there are, or the number of the question that refuses.
 pub enum PlacesWritten {
@@ -73,8 +78,53 @@ fn places_at(t: &[u8], h: Header, pattern: &[u8], table: &mut [u32]) -> PlacesWr
     fill(t, h, pattern, &borders, table)
 }
 
-// Questions 14 and 17: all places are counted before the table is touched.
+// Questions 14 and 17. A refusal leaves the table as it was, so it is written at once only where neither can refuse.
 fn fill(t: &[u8], h: Header, pattern: &[u8], borders: &[u8], table: &mut [u32]) -> PlacesWritten
+    requires { ⌜ (HeaderOf (now t) h) × (1 ≤ length (now pattern)) × (length (now pattern) ≤ maxPattern)
+        × (length (now pattern) ≤ length (now borders)) × Borders (now pattern) (now borders) (length (now pattern)) ⌝ }
+    ensures { λ r. ⌜ PlacesAnswer (now (t .entry)) (now (pattern .entry)) (length (now (table .entry))) r ⌝ }
+    ensures { λ _. ⌜ now (table .exit) ≡ placesLeaves (now (t .entry)) (now (pattern .entry)) (now (table .entry)) ⌝ }
+{
+    let most = room::most(h.text_length, pattern.len() as u32);
+    if table.len() < most as usize {
+        return fill_counted(t, h, pattern, borders, table);
+    }
+    if !check_links::links_right(t, h) {
+        return fill_counted(t, h, pattern, borders, table);
+    }
+    fill_once(t, h, pattern, borders, most, table)
+}
+
+// One pass: the links are right, so no path breaks, and the table holds as many places as there can be.
+fn fill_once(
+    t: &[u8],
+    h: Header,
+    pattern: &[u8],
+    borders: &[u8],
+    most: u32,
+    table: &mut [u32],
+) -> PlacesWritten
+    requires { ⌜ (HeaderOf (now t) h) × (1 ≤ length (now pattern)) × (length (now pattern) ≤ maxPattern)
+        × (length (now pattern) ≤ length (now borders)) × Borders (now pattern) (now borders) (length (now pattern)) ⌝ }
+    requires { ⌜ (linksOk (now t) ≡ true) × (most ≡ h .«text_length» + 1 - length (now pattern)) × (most ≤ length (now table)) ⌝ }
+    ensures { λ r. ⌜ PlacesAnswer (now (t .entry)) (now (pattern .entry)) (length (now (table .entry))) r ⌝ }
+    ensures { λ _. ⌜ now (table .exit) ≡ placesLeaves (now (t .entry)) (now (pattern .entry)) (now (table .entry)) ⌝ }
+{
+    let written = pattern_seek::seek(t, h, pattern, borders, most, table);
+    let Sought::All(number) = written else {
+        return PlacesWritten::Refused(PATH_BREAKS);
+    };
+    PlacesWritten::Number(number)
+}
+
+// All places are counted before the table is touched.
+fn fill_counted(
+    t: &[u8],
+    h: Header,
+    pattern: &[u8],
+    borders: &[u8],
+    table: &mut [u32],
+) -> PlacesWritten
     requires { ⌜ (HeaderOf (now t) h) × (1 ≤ length (now pattern)) × (length (now pattern) ≤ maxPattern)
         × (length (now pattern) ≤ length (now borders)) × Borders (now pattern) (now borders) (length (now pattern)) ⌝ }
     ensures { λ r. ⌜ PlacesAnswer (now (t .entry)) (now (pattern .entry)) (length (now (table .entry))) r ⌝ }
@@ -83,7 +133,7 @@ fn fill(t: &[u8], h: Header, pattern: &[u8], borders: &[u8], table: &mut [u32]) 
     let mut few = [0u32; FEW];
     let counted = pattern_seek::seek(t, h, pattern, borders, FEW as u32, &mut few);
     let Sought::All(number) = counted else {
-        return PlacesWritten::Refused(14);
+        return PlacesWritten::Refused(PATH_BREAKS);
     };
     let words = number as usize;
     if table.len() < words {

@@ -1,4 +1,4 @@
-// One pass over the text, read by runs: each is a part of the tree's own bytes.
+// One pass over the text, read by ranges: each is a part of the tree's own bytes.
 use ask_access::read_by_header;
 use ask_access::read_by_header::Part;
 use ask_access::read_by_header::Ran;
@@ -13,7 +13,10 @@ ghost use lib.Dec.{ltb};
 ghost use Rattle.layout.specs.HeaderSays.{HeaderOf};
 ghost use Rattle.ask_access.specs.ReadByRuns.{ReadsOn};
 ghost use Rattle.search_kmp.specs.Borders.{Borders};
-ghost use Rattle.ask_patterns.specs.TableFilled.{Stepped, Seeking, Even, SeekSays};
+ghost use Rattle.ask_patterns.specs.TableFilled.{Stepped, Skips, Glides, Seeking, Even, SeekSays};
+
+// The most bytes that are read at once.
+const MOST: u32 = 65536;
 
 // How far the text was read: the place to be read next, the state of the match there, and how many places were found.
 pub struct Progress {
@@ -74,7 +77,33 @@ fn step(
     }
 }
 
-// The bytes of a run.
+// How many of the n bytes at a place are passed over: in state 0 those before the pattern's first byte.
+fn skip(t: &[u8], from: usize, n: usize, pattern: &[u8], state: usize) -> usize
+    requires { ⌜ (from + n ≤ length (now t)) × (1 ≤ length (now pattern)) ⌝ }
+    ensures { λ r. ⌜ (r ≤ n) × Skips (now (pattern .entry)) (now (t .entry)) from state r ⌝ }
+{
+    if 0 < state {
+        return 0;
+    }
+    search_byte::find(t, from, n, pattern[0])
+}
+
+// Reads on, by at most n bytes, as long as the state follows from comparing bytes alone and no place is completed.
+fn glide(t: &[u8], from: usize, n: usize, pattern: &[u8], m: Progress) -> Progress
+    requires { ⌜ (ReadsOn (now t) (m .place .0) from n) × (m .place .0 + n < 4294967296) × (Even (now pattern) m)
+        × (1 ≤ length (now pattern)) × (length (now pattern) ≤ 256) ⌝ }
+    ensures { λ r. ⌜ Glides (now (t .entry)) (now (pattern .entry)) n m r ⌝ }
+{
+    let k = skip(t, from, n, pattern, m.state);
+    let d = search_kmp::matching(t, from + k, n - k, pattern, m.state);
+    Progress {
+        place: TextPlace(m.place.0 + (k + d) as u32),
+        state: m.state + d,
+        found: m.found,
+    }
+}
+
+// The bytes of a range.
 fn feed(
     t: &[u8],
     run: Unread,
@@ -85,16 +114,23 @@ fn feed(
 ) -> Progress
     requires { ⌜ (ReadsOn (now t) (run .before .place .0) (run .part .from) (run .part .length)) × (run .before .place .0 + run .part .length < 4294967296)
         × (Even (now pattern) (run .before)) × (room ≤ length (now table)) ⌝ }
-    requires { ⌜ (length (now pattern) ≤ length (now borders)) × Borders (now pattern) (now borders) (length (now pattern)) ⌝ }
+    requires { ⌜ (1 ≤ length (now pattern)) × (length (now pattern) ≤ 256) × (length (now pattern) ≤ length (now borders))
+        × Borders (now pattern) (now borders) (length (now pattern)) ⌝ }
     ensures { λ r. ⌜ (r .place .0 ≡ run .before .place .0 + run .part .length)
         × ((before : List ℕ) → Seeking (now (t .entry)) (now (pattern .entry)) room before (run .before) (now (table .entry))
         → Seeking (now (t .entry)) (now (pattern .entry)) room before r (now (table .exit))) ⌝ }
 {
     let from = run.part.from;
     let size = run.part.length;
+    let start = run.before.place.0;
     let mut at = run.before;
     let mut i: usize = 0;
     while i < size {
+        at = glide(t, from + i, size - i, pattern, at);
+        i = (at.place.0 - start) as usize;
+        if size <= i {
+            return at;
+        }
         at = step(pattern, borders, t[from + i], at, room, table);
         i += 1;
     }
@@ -111,7 +147,7 @@ pub fn seek(
     table: &mut [u32],
 ) -> Sought
     requires { ⌜ (HeaderOf (now t) h) × (1 ≤ length (now pattern)) × (room ≤ length (now table)) ⌝ }
-    requires { ⌜ (length (now pattern) ≤ length (now borders)) × Borders (now pattern) (now borders) (length (now pattern)) ⌝ }
+    requires { ⌜ (length (now pattern) ≤ 256) × (length (now pattern) ≤ length (now borders)) × Borders (now pattern) (now borders) (length (now pattern)) ⌝ }
     ensures { λ r. ⌜ SeekSays (now (t .entry)) (now (pattern .entry)) room (now (table .entry)) r (now (table .exit)) ⌝ }
 {
     let mut m = Progress {
@@ -120,7 +156,7 @@ pub fn seek(
         found: 0,
     };
     while m.place.0 < h.text_length {
-        let ran = read_by_header::part_at(t, h, m.place);
+        let ran = read_by_header::range_at(t, h, m.place, MOST);
         let Ran::At(part) = ran else {
             return Sought::Broken;
         };

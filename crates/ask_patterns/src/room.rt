@@ -1,6 +1,7 @@
 // The size of a table that holds all places of a pattern, by the pattern's length.
 use crate::PlacesRoom;
 ghost use mathlib.Core.Path.{_≡_};
+ghost use Prim.Native.Nat.{_+_, _-_, _≤_};
 ghost use Rattle.ask_patterns.specs.Places.{roomOf};
 ghost use Rattle.ask_patterns.specs.PlacesAnswer.{roomSaid, RoomNumbered};
 
@@ -14,8 +15,16 @@ pub fn of_length(n: u32, len: u32) -> PlacesRoom
     if crate::MAX_PATTERN < len as usize {
         return PlacesRoom::Refused(16);
     }
+    PlacesRoom::Words(most(n, len))
+}
+
+// The most places of a pattern of len bytes in a text of n bytes.
+pub fn most(n: u32, len: u32) -> u32
+    requires { ⌜ 1 ≤ len ⌝ }
+    ensures { λ r. ⌜ r ≡ n + 1 - len ⌝ }
+{
     if n < len {
-        return PlacesRoom::Words(0);
+        return 0;
     }
-    PlacesRoom::Words(n - (len - 1))
+    n - (len - 1)
 }

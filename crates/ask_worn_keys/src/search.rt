@@ -21,6 +21,9 @@ ghost use Rattle.keys.specs.Forms.{keyAutomaton};
 ghost use Rattle.query_row_filter.specs.RowsAfter.{answerOf, SearchFrom};
 ghost use Rattle.ask_worn_keys.specs.MatchAnswer.{MatchAnswer};
 
+// The most bytes that are read at once: a matching row is often near.
+const MOST: u32 = 1024;
+
 // Questions 19, 11 and 14.
 pub fn match_at(t: &[u8], h: Header, question: &[u8], mark: u32) -> NextRowAnswer
     requires { ⌜ HeaderOf (now t) h ⌝ }
@@ -39,7 +42,7 @@ pub fn match_at(t: &[u8], h: Header, question: &[u8], mark: u32) -> NextRowAnswe
     }
 }
 
-// Scans the text from a place on, where row q begins, by runs of the tree's leaf bytes.
+// Scans the text from a place on, where row q begins, by ranges of the tree's leaf bytes.
 fn from(t: &[u8], h: Header, question: &[u8], place: TextPlace, q: u32) -> NextRowAnswer
     requires { ⌜ (HeaderOf (now t) h) × (rangesOk (now question) ≡ true) × (place .0 ≤ h .«text_length») × (1 ≤ q) × (q ≤ h .«text_length») ⌝ }
     ensures { λ r. ⌜ SearchFrom (now (t .entry)) (keyAutomaton (now (question .entry))) (place .0) q r ⌝ }
@@ -48,7 +51,7 @@ fn from(t: &[u8], h: Header, question: &[u8], place: TextPlace, q: u32) -> NextR
     let mut row = q;
     let mut at = place.0;
     while at < h.text_length {
-        let ran = read_by_header::part_at(t, h, TextPlace(at));
+        let ran = read_by_header::range_at(t, h, TextPlace(at), MOST);
         let Ran::At(part) = ran else {
             return NextRowAnswer::Refused(14);
         };

@@ -40,6 +40,12 @@ noByteRead (Matched k) = eqb k 0
 noByteRead Longer = false
 noByteRead Mismatch = false
 
+-- a byte other than 10 may change the state
+unfoldable pub isOpen : PrefixState → Bool
+isOpen (Matched k) = true
+isOpen Longer = false
+isOpen Mismatch = false
+
 -- the automaton of a prefix
 abbrev pub prefixAutomaton : List ℕ → Automaton PrefixState
 prefixAutomaton prefix = record {

@@ -6,7 +6,7 @@ ghost use Prim.Native.Nat.{_+_, _≤_, _<_};
 ghost use lib.ListN.{length};
 ghost use Rattle.row_filter.specs.RowAutomaton.{scanByte, scanBytes, RowBetween};
 ghost use Rattle.prefix_match.specs.PrefixStates.{prefixAutomaton};
-ghost use Rattle.prefix_match.specs.PrefixScanned.{asPrefixScan};
+ghost use Rattle.prefix_match.specs.PrefixScanned.{asPrefixScan, Passed};
 
 // Found: the first row that ends in the scanned bytes and starts with the prefix. On: none; the state and number of the row in which these bytes end.
 pub enum PrefixScan {
@@ -28,6 +28,17 @@ fn scan_byte(prefix: &[u8], state: PrefixState, row: u32, byte: u8) -> PrefixSca
     PrefixScan::On(prefix_state::step(prefix, state, byte), row)
 }
 
+// The next place, from a place on, whose byte may matter: in a state that no byte but 10 changes, that of the next byte 10.
+fn next_place(part: &[u8], from: usize, state: PrefixState) -> usize
+    requires { ⌜ from ≤ length (now part) ⌝ }
+    ensures { λ r. ⌜ (from ≤ r) × (r ≤ length (now (part .entry))) × Passed (now (part .entry)) from state r ⌝ }
+{
+    if prefix_state::is_open(state) {
+        return from;
+    }
+    from + search_byte::find(part, from, part.len() - from, 10)
+}
+
 // Scans bytes, from a state in the row with this number.
 pub fn scan(prefix: &[u8], part: &[u8], state: PrefixState, row: u32) -> PrefixScan
     requires { ⌜ (1 ≤ length (now prefix)) × (length (now prefix) < 4294967296) × (row + length (now part) < 4294967296) ⌝ }
@@ -44,7 +55,7 @@ pub fn scan(prefix: &[u8], part: &[u8], state: PrefixState, row: u32) -> PrefixS
         };
         so_far = after;
         q = number;
-        i += 1;
+        i = next_place(part, i + 1, after);
     }
     PrefixScan::On(so_far, q)
 }

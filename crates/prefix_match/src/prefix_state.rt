@@ -2,7 +2,7 @@
 ghost use mathlib.Core.Path.{_≡_};
 ghost use Prim.Native.Nat.{_≤_, _<_};
 ghost use lib.ListN.{length};
-ghost use Rattle.prefix_match.specs.PrefixStates.{prefixStep, afterMatched, prefixAtEnd, prefixAtNewline, endsWithoutCr, noByteRead};
+ghost use Rattle.prefix_match.specs.PrefixStates.{prefixStep, afterMatched, prefixAtEnd, prefixAtNewline, endsWithoutCr, noByteRead, isOpen};
 
 // The state after some bytes of a row.
 pub enum PrefixState {
@@ -82,6 +82,17 @@ pub fn no_byte(state: PrefixState) -> bool
 {
     match state {
         PrefixState::Matched(k) => k == 0,
+        PrefixState::Longer => false,
+        PrefixState::Mismatch => false,
+    }
+}
+
+// Whether a byte other than 10 may change the state.
+pub fn is_open(state: PrefixState) -> bool
+    ensures { λ r. ⌜ r ≡ isOpen state ⌝ }
+{
+    match state {
+        PrefixState::Matched(_) => true,
         PrefixState::Longer => false,
         PrefixState::Mismatch => false,
     }

@@ -23,6 +23,9 @@ ghost use Rattle.query_row_filter.specs.AllowedAnswer.{AllowedAnswer};
 ghost use Rattle.query_row_filter.specs.RowsAfter.{answerOf, SearchFrom};
 ghost use Rattle.query_prefix.specs.PrefixRefusals.{prefixRefusal};
 
+// The most bytes that are read at once: a matching row is often near.
+const MOST: u32 = 1024;
+
 // Questions 16, 11 and 14. The guide is used if `used` is true.
 pub fn next_at(
     t: &[u8],
@@ -52,7 +55,7 @@ pub fn next_at(
     }
 }
 
-// Scans the text from the place where row q begins, by runs of leaf bytes.
+// Scans the text from the place where row q begins, by ranges of leaf bytes.
 fn from(t: &[u8], h: Header, prefix: &[u8], place: TextPlace, q: u32) -> NextRowAnswer
     requires { ⌜ (HeaderOf (now t) h) × (1 ≤ length (now prefix)) × (length (now prefix) ≤ maxPattern)
         × (place .0 ≤ h .«text_length») × (1 ≤ q) × (q ≤ h .«text_length») ⌝ }
@@ -62,7 +65,7 @@ fn from(t: &[u8], h: Header, prefix: &[u8], place: TextPlace, q: u32) -> NextRow
     let mut row = q;
     let mut at = place.0;
     while at < h.text_length {
-        let ran = read_by_header::part_at(t, h, TextPlace(at));
+        let ran = read_by_header::range_at(t, h, TextPlace(at), MOST);
         let Ran::At(part) = ran else {
             return NextRowAnswer::Refused(14);
         };

@@ -10,7 +10,7 @@ use lib.Seq.{getD-set-same, getD-set-other}
 use lib.Dec.{ltb, eqb}
 use borrow.Author.Tests.{ltb-true, lt-ltb, eqb-true, eq-eqb}
 use Rattle.text.specs.ListLaws.{and-left, and-right, and-both, bool-clash, below-suc, lt-or-ge}
-use Rattle.search_kmp.specs.Borders.{Ends, Longest, Borders, Next}
+use Rattle.search_kmp.specs.Borders.{Ends, Longest, Borders, Next, GoesOn}
 
 module _ (P : List ℕ) where
   -- the pattern's own bytes
@@ -192,3 +192,18 @@ filling-more P table n k a in-table c r c-is next =
     go : (x : ℕ) → (x < n) ⊎ (x ≡ n) → Longest P (λ y. getD P y 0) 1 (x + 1) (getD (set table n r) x 0)
     go x (inl l) = let other : x ≢ n = λ e. omega arith in rw (getD-set-other table n x r 0 other) (a .borders .border x l)
     go x (inr e) = rw (e, getD-set-same table n r 0 in-table) (new P table n k a c r c-is next)
+
+-- bytes that go on with a state
+pub goes-none : (P t : List ℕ) (from s : ℕ) → GoesOn P t from s 0
+goes-none P t from s = record { same = λ x h. absurd (let y : ⊥ = omega arith in y); short = λ x h. absurd (let y : ⊥ = omega arith in y) }
+
+pub goes-more : (P t : List ℕ) (from s k : ℕ) → GoesOn P t from s k → s + k + 1 < length P → getD t (from + k) 0 ≡ getD P (s + k) 0
+    → GoesOn P t from s (k + 1)
+goes-more P t from s k g room here = record {
+  same = λ x h. same x (below-suc x k (omega arith));
+  short = λ x h. omega arith;
+}
+  where
+    same : (x : ℕ) → (x < k) ⊎ (x ≡ k) → getD t (from + x) 0 ≡ getD P (s + x) 0
+    same x (inl l) = g .same x l
+    same x (inr e) = rw e here

@@ -5,7 +5,7 @@ ghost use mathlib.Core.Bool.{_&&_};
 ghost use Prim.Native.Nat.{_+_, _≤_, _<_};
 ghost use lib.ListN.{length, getD};
 ghost use lib.Dec.{ltb, eqb};
-ghost use Rattle.search_kmp.specs.Borders.{Next, Borders};
+ghost use Rattle.search_kmp.specs.Borders.{Next, Borders, GoesOn};
 
 fn wide(byte: u8) -> usize
     ensures { λ r. ⌜ (r ≡ byte) × (r < 256) ⌝ }
@@ -55,4 +55,22 @@ pub fn prepare(pattern: &[u8], borders: &mut [u8])
         borders[i] = k as u8;
         i += 1;
     }
+}
+
+// How many of the n bytes at a place go on with a state, without completing the pattern.
+pub fn matching(t: &[u8], from: usize, n: usize, pattern: &[u8], state: usize) -> usize
+    requires { ⌜ (from + n ≤ length (now t)) × (state ≤ length (now pattern)) × (length (now pattern) ≤ 256) ⌝ }
+    ensures { λ r. ⌜ (r ≤ n) × GoesOn (now (pattern .entry)) (now (t .entry)) from state r ⌝ }
+{
+    let mut k: usize = 0;
+    while k < n {
+        if pattern.len() <= state + k + 1 {
+            return k;
+        }
+        if t[from + k] != pattern[state + k] {
+            return k;
+        }
+        k += 1;
+    }
+    k
 }

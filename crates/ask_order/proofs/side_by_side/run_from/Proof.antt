@@ -9,4 +9,4 @@ run-from-spec =
     (tie.spec
     (λ c. (c .before .before .before .pre .2, c .if1 .taken))
     (λ c κs. search needs)
-    (λ c. let pre = c .before .before .before .before .pre in laws.read-anew _ _ (pre .0) _ (pre .1) _ (c .part-at .ensures)))
+    (λ c. let a = c .before .before .before .before .args in laws.read-anew (a .t .now) (a .at .0) 1024 (c .range-at .result) (c .range-at .ensures)))

@@ -4,7 +4,7 @@ use mathlib.Core.Path.{_≡_, refl}
 use native.Mathlib.Omega.{arith}
 use Rattle.format.specs.Layout as at
 use Rattle.format.specs.ReadSays.{pathsHold}
-use Rattle.ask_access.proofs.RunLaws.{part-reads, part-broken}
+use Rattle.ask_access.proofs.LeafRunLaws.{range-reads, range-broken}
 use Rattle.ask_patterns.specs.TableFilled.{Seeking}
 use Rattle.ask_patterns.proofs.PatternSeekLaws as laws
 use Rattle.ask_patterns.proofs.pattern_seek.seek.Statement.{statement}
@@ -28,31 +28,34 @@ seek-spec =
     (λ c. search needs)
     (λ c. laws.seeking-length _ _ _ _ _ _ (c .before .before .before .before .before .before .loop .inv .0))
     (λ c. let l = c .before .before .before .before .before .before in
-    let k = l .before .before .before .before .before .pre .0 .0 in
+    let start = l .before .before .before .before .before in
+    let k = start .pre .0 .0 in
     let low = c .before .before .before .if1 .taken in
     laws.seek-broken _ _ _ _ _ _ (l .loop .inv .0)
-    (l .loop .inv .1) (omega (arith, k .length-is)) (part-broken _ _ k _ low _ (c .before .before .part-at .ensures) _ (c .enum-told .given .1) .1))
+    (l .loop .inv .1) (omega (arith, k .length-is))
+    (range-broken (start .args .t .now) (l .loop .m .place .0) 65536 _ (c .before .before .range-at .ensures) _ (c .enum-told .given .1) .1))
     (λ c κs. let l = c .before .before .before .before .before .before .before .before in
-    let pre = l .before .before .before .before .before .pre in
-    let z = part-reads _ _ (pre .0 .0) _ (c .before .before .before .before .before .if1 .taken)
-    _ (c .before .before .before .before .part-at .ensures) _ (c .before .before .ran .given .1) in (
+    let start = l .before .before .before .before .before in
+    let pre = start .pre in
+    let z = range-reads (start .args .t .now) (l .loop .m .place .0) 65536
+    _ (c .before .before .before .before .range-at .ensures) _ (c .before .before .ran .given .1) in (
       (
         z .0,
         omega (arith, z .0 .in-text, laws.text-small _ _ (pre .0 .0)),
         laws.seeking-even _ _ _ _ _ _ (l .loop .inv .0) (pre .0 .1),
         omega (arith, laws.seeking-length _ _ _ _ _ _ (l .loop .inv .0), pre .0 .2),
       ),
-      pre .1,
+      (pre .0 .1, pre .1 .0, pre .1 .1, pre .1 .2),
     ))
-    (λ c. let l = c .before .before .before .before .before .before .before .before .before .before .before .before .before .before .before .before in
-    let pre = l .pre in
-    let z = part-reads _ _ (pre .0 .0) _ (c .before .before .before .before .before .before .before .before .if1 .taken)
-    _ (c .before .before .before .before .before .before .before .part-at .ensures) _ (c .before .before .before .before .before .ran .given .1) in
+    (λ c. let start = c .before .before .before .before .before .before .before .before .before .before .before .before .before .before .before .before in
+    let l = c .before .before .before .before .before .before .before .before .before .before .before in
+    let z = range-reads (start .args .t .now) (l .loop .m .place .0) 65536
+    _ (c .before .before .before .before .before .before .before .range-at .ensures) _ (c .before .before .before .before .before .ran .given .1) in
     omega (arith, z .0 .in-text, z .1, c .before .before .feed .ensures .0))
     (λ c. let l = c .before .before .before .before .before .before .before .before .before .before .before in
-    let pre = l .before .before .before .before .before .pre in
-    let z = part-reads _ _ (pre .0 .0) _ (c .before .before .before .before .before .before .before .before .if1 .taken)
-    _ (c .before .before .before .before .before .before .before .part-at .ensures) _ (c .before .before .before .before .before .ran .given .1) in (
+    let start = l .before .before .before .before .before in
+    let z = range-reads (start .args .t .now) (l .loop .m .place .0) 65536
+    _ (c .before .before .before .before .before .before .before .range-at .ensures) _ (c .before .before .before .before .before .ran .given .1) in (
       c .before .before .feed .ensures .1 _ (l .loop .inv .0),
       laws.seek-on _ _ _ _ _ _ (l .loop .inv .0) (l .loop .inv .1) _ _ _ (z .0) (c .before .before .feed .ensures .0),
     ))

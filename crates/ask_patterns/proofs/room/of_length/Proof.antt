@@ -1,3 +1,4 @@
+use borrow.Author.Needs.{needs}
 use native.Mathlib.Omega.{arith}
 use Rattle.ask_patterns.proofs.RoomLaws as laws
 use Rattle.ask_patterns.proofs.room.of_length.Statement.{statement}
@@ -9,6 +10,5 @@ of-length-spec =
     (tie.spec
     (λ c. (laws.no-byte _ _ (c .if1 .taken), omega arith))
     (λ c. (laws.too-long _ _ (c .before .if1 .left) (c .if2 .taken), omega arith))
-    (λ c. (laws.words-are _ _ (c .before .before .if1 .left) (c .before .if2 .left) _ (omega arith), tt))
-    (λ c. omega arith)
-    (λ c. (laws.words-are _ _ (c .before .before .if1 .left) (c .before .if2 .left) _ (omega arith), tt)))
+    (λ c κs. search needs)
+    (λ c. (laws.words-are _ _ (c .before .before .if1 .left) (c .before .if2 .left) _ (c .most .ensures), tt)))

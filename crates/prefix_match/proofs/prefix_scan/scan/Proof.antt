@@ -6,7 +6,7 @@ use lib.ListN.{length, drop}
 use Rattle.row_filter.specs.RowAutomaton.{scanBytes}
 use Rattle.row_filter.specs.RowAutomatonLaws.{on-next, found-next, scan-on, scan-found, scan-end}
 use Rattle.prefix_match.specs.PrefixStates.{prefixAutomaton}
-use Rattle.prefix_match.proofs.PrefixScanLaws.{as-prefix-found, as-prefix-on, is-prefix-found, prefix-found-bounds}
+use Rattle.prefix_match.proofs.PrefixScanLaws.{scan-passed, as-prefix-found, as-prefix-on, is-prefix-found, prefix-found-bounds}
 use Rattle.prefix_match.proofs.prefix_scan.scan.Statement.{statement}
 use Rattle.prefix_match.proofs.prefix_scan.scan.Tie as tie
 
@@ -37,13 +37,16 @@ scan-spec =
       prefix-found-bounds _ _ (s .args .row) _ (c .enum-told .given .1) (omega (arith, b .0)) (omega (arith, b .1)),
     ))
     (λ c. omega arith)
-    (λ c. omega arith)
-    (λ c. let n = c .before in let t = n .before .before in let l = t .before .before .before in let s = l .before .before .before in
+    (λ c κs. omega arith)
+    (λ c. omega (arith, c .next-place .ensures .0))
+    (λ c. let n = c .before .before in let t = n .before .before in let l = t .before .before .before in let s = l .before .before .before in
     let f = as-prefix-on _ _ _ _ (n .next .given .1) (t .scan-byte .ensures) in
+    let p = c .next-place .ensures in
     let b = on-next (prefixAutomaton (s .args .prefix .now)) _ _ _ _ _ f in (
-      omega arith,
-      (omega (arith, b .0), omega (arith, b .1)),
-      scan-on (prefixAutomaton (s .args .prefix .now)) (s .args .part .now) (l .loop .i) (omega arith) _ _ _ _ f ∙ l .loop .inv .2,
+      p .1,
+      (omega (arith, b .0), omega (arith, b .1, p .0)),
+      scan-passed (s .args .prefix .now) (s .args .part .now) (l .loop .i + 1) _ _ _ (p .0) (p .1) (p .2)
+          ∙ scan-on (prefixAutomaton (s .args .prefix .now)) (s .args .part .now) (l .loop .i) (omega arith) _ _ _ _ f ∙ l .loop .inv .2,
     ))
     (λ c. let l = c .before in let s = l .before .before .before in
     (scan-end (prefixAutomaton (s .args .prefix .now)) (s .args .part .now) (l .loop .i) (omega arith) _ _ ∙ l .loop .inv .2, (omega arith, omega arith))))
