@@ -109,7 +109,7 @@ fn to_kept(
     }
 }
 
-// From a kept block above the last level, which hands the place to a child.
+// From a kept block above the last level, which hands the place to a child. On the last level, where no block points, the walk ends.
 fn kept_step(
     t: &[u8],
     size: u32,
@@ -130,15 +130,19 @@ fn kept_step(
     let Arrived::At(i, p) = child else {
         return BROKEN;
     };
+    let down = on.level + 1;
+    if down + 1 == shape.levels {
+        return packed(i, p, further);
+    }
     let under = On {
-        level: on.level + 1,
+        level: down,
         b: below,
     };
     pointing_step(tree, size, under, i, p, further)
 }
 
-// From a block at which a pointer may still be followed. On the last level, where no block points, the walk ends. The one call of the step
-// for a kept block lets the compiler join the two steps.
+// From a block above the last level, at which a pointer may still be followed. The one call of the step for a kept block lets the compiler join
+// the two steps.
 fn pointing_step(
     t: &[u8],
     size: u32,
@@ -147,15 +151,11 @@ fn pointing_step(
     place: BlockPlace,
     trail: Trail,
 ) -> u64
-    requires { ⌜ (MayPoint (now t) size (on .level) (on .b) (block .0) (place .0) (trail .entered)) × (trail .left ≤ maxText) ⌝ }
+    requires { ⌜ (MayPoint (now t) size (on .level) (on .b) (block .0) (place .0) (trail .entered)) × (on .level + 1 < at.settings (now t) .levels) ⌝ }
     ensures { λ r. ⌜ walkedIn r ≡ walked (now (t .entry)) trail
         (aboveFrom (now (t .entry)) (at.settings (now (t .entry)) .levels - 1 - on .level) (on .level) (block .0) (place .0)) ⌝ }
 {
     let tree = fields::whole(t);
-    let shape = fields::shape_of(tree);
-    if on.level + 1 == shape.levels {
-        return packed(block, place, trail);
-    }
     let there = to_kept(tree, size, on, block, place, trail);
     let Landing::At(i, p, further) = there else {
         return BROKEN;
@@ -173,6 +173,15 @@ pub fn walk(t: &[u8], h: Header, at: TextPlace) -> Walked
         left: h.text_length - at.0,
     };
     let spot = walk_steps::top_spot(at, h.top_length);
+    let block = spot.block;
+    let place = spot.place;
+    if h.settings.levels == 1 {
+        return Walked::At(Reached {
+            block,
+            place,
+            trail,
+        });
+    }
     unpacked(pointing_step(
         t,
         h.record_size,
@@ -180,8 +189,8 @@ pub fn walk(t: &[u8], h: Header, at: TextPlace) -> Walked
             level: 0,
             b: h.top_length,
         },
-        spot.block,
-        spot.place,
+        block,
+        place,
         trail,
     ))
 }

@@ -66,6 +66,8 @@ pub +kept-step+pointing-step-spec : {M : Type 1} → statement M
       enter-reads.Learnt,
       child-reads.Asked,
       child-reads.Learnt,
+      packed-reads.Asked,
+      packed-reads.Learnt,
       pointing-step-below t,
       pointing-step.Post,
     )
@@ -97,36 +99,56 @@ pub +kept-step+pointing-step-spec : {M : Type 1} → statement M
     _ (m .before .enter .ensures) _ (rw (w .whole .ensures) at (m .child .ensures)) (c .enum-told .given .1))
     (λ c. let S = c .before .before .before .before .before .before .before .before .before .before in
     record { fits = omega (arith, S .pre .1 .1, S .pre .1 .0 .on .facts .bounds .levels-high) })
+    (λ c. let S = c .before .before .before .before .before .before .before .before .before .before in
+    record { fits = omega (arith, S .pre .1 .1, S .pre .1 .0 .on .facts .bounds .levels-high) })
     (λ c κs.
-    let m = c .before .before .before .before in
+    let m = c .before .before .before .before .before .before in
     let s = m .before .before .before in
     let w = s .before in
     let S = w .before .before in
-    let x = shapes-on _ _ _ (w .whole .ensures) (s .shape-of .ensures) in (
+    let x = shapes-on _ _ _ (w .whole .ensures) (s .shape-of .ensures) in
+    let may = laws.child-may _ _ _ _ _ _ _ (S .pre .1 .0) (λ last. omega (arith, S .pre .1 .1))
+    _ (m .before .before .quotient .ensures ∙ ap (λ (y : ℕ). S .args .on .b / y) (x .arity-is))
+    _ (m .before .enter .ensures) _ (rw (w .whole .ensures) at (m .child .ensures)) _ _ (c .before .before .before .before .child2 .given .1) in
+    let f = laws.last-fits _ _ _ _ _ _ (m .before .enter .result) may (c .if1 .taken ∙ x .levels-is) (rw (x .offset-is) at (s .shape-of .ok .1 .1 .1 .1 .1 .0 .1)) in
+    (f .0, f .1, f .2, laws.left-fits _ _ _ _ _ _ _ (S .pre .1 .0) _ (m .before .enter .ensures)))
+    (λ c.
+    let m = c .before .before .before .before .before .before .before in
+    let s = m .before .before .before in
+    let w = s .before in
+    let S = w .before .before in
+    let x = shapes-on _ _ _ (w .whole .ensures) (s .shape-of .ensures) in
+    let may = laws.child-may _ _ _ _ _ _ _ (S .pre .1 .0) (λ last. omega (arith, S .pre .1 .1))
+    _ (m .before .before .quotient .ensures ∙ ap (λ (y : ℕ). S .args .on .b / y) (x .arity-is))
+    _ (m .before .enter .ensures) _ (rw (w .whole .ensures) at (m .child .ensures)) _ _ (c .before .before .before .before .before .child2 .given .1) in
+    laws.child-by _ _ _ _ _ _ _ (S .pre .1 .0) (λ last. omega (arith, S .pre .1 .1)) _ (m .before .before .quotient .ensures
+    ∙ ap (λ (y : ℕ). S .args .on .b / y) (x .arity-is)) _ (m .before .enter .ensures) _ (rw (w .whole .ensures) at (m .child .ensures))
+    _ _ _ (c .before .before .before .before .before .child2 .given .1)
+    (laws.last-walked _ _ _ _ _ _ (m .before .enter .result) may (c .before .if1 .taken ∙ x .levels-is) _ (c .packed .ensures)))
+    (λ c κs.
+    let m = c .before .before .before .before .before .before in
+    let s = m .before .before .before in
+    let w = s .before in
+    let S = w .before .before in
+    let x = shapes-on _ _ _ (w .whole .ensures) (s .shape-of .ensures) in
+    let may = laws.child-may _ _ _ _ _ _ _ (S .pre .1 .0) (λ last. omega (arith, S .pre .1 .1))
+    _ (m .before .before .quotient .ensures ∙ ap (λ (y : ℕ). S .args .on .b / y) (x .arity-is))
+    _ (m .before .enter .ensures) _ (rw (w .whole .ensures) at (m .child .ensures)) _ _ (c .before .before .before .before .child2 .given .1) in (
       omega (arith, S .pre .0, ap levels (w .whole .ensures), S .pre .1 .1),
-      (
-        rw (w .whole .ensures) (laws.child-may _ _ _ _ _ _ _ (S .pre .1 .0)
-            (λ last. omega (arith, S .pre .1 .1)) _ (m .before .before .quotient .ensures ∙ ap (λ (y : ℕ). S .args .on .b / y) (x .arity-is))
-            _ (m .before .enter .ensures) _ (rw (w .whole .ensures) at (m .child .ensures)) _ _ (c .before .before .child2 .given .1)),
-        laws.left-fits _ _ _ _ _ _ _ (S .pre .1 .0) _ (m .before .enter .ensures),
-      ),
+      rw (w .whole .ensures) (may, omega (arith, may .on .level-in, c .if1 .left, x .levels-is)),
     ))
     (λ c.
-    let m = c .before .before .before .before .before in
+    let m = c .before .before .before .before .before .before .before in
     let s = m .before .before .before in
     let w = s .before in
     let S = w .before .before in
     let x = shapes-on _ _ _ (w .whole .ensures) (s .shape-of .ensures) in
     laws.child-by _ _ _ _ _ _ _ (S .pre .1 .0) (λ last. omega (arith, S .pre .1 .1)) _ (m .before .before .quotient .ensures
     ∙ ap (λ (y : ℕ). S .args .on .b / y) (x .arity-is)) _ (m .before .enter .ensures) _ (rw (w .whole .ensures) at (m .child .ensures))
-    _ _ _ (c .before .before .before .child2 .given .1) (rw (w .whole .ensures) at (c .pointing-step .ensures))))
+    _ _ _ (c .before .before .before .before .before .child2 .given .1) (rw (w .whole .ensures) at (c .pointing-step .ensures))))
     (λ t. pointing-step-lts.spec (
       whole-reads.Asked,
       whole-reads.Learnt,
-      shape-of-reads.Asked,
-      shape-of-reads.Learnt,
-      packed-reads.Asked,
-      packed-reads.Learnt,
       to-kept-reads.Asked,
       to-kept-reads.Learnt,
       kept-step-below t,
@@ -135,56 +157,28 @@ pub +kept-step+pointing-step-spec : {M : Type 1} → statement M
     (pointing-step-at t)
     pointing-step.Post
     (λ c κs. search needs)
-    (λ c κs. rw (c .whole .ensures) (c .before .before .pre .1 .0 .on .facts .long))
-    (λ c. let k = c .before .before .before .before .pre .1 .0 in record { fits = omega (arith, k .on .level-in, k .on .facts .bounds .levels-high) })
-    (λ c κs.
-    let s = c .before .before .before in
-    let w = s .before in
-    let S = w .before .before in
-    let x = shapes-on _ _ _ (w .whole .ensures) (s .shape-of .ensures) in
-    let f = laws.last-fits _ _ _ _ _ _ (S .args .trail) (S .pre .1 .0) (c .if1 .taken ∙ x .levels-is) (rw (x .offset-is) at (s .shape-of .ok .1 .1 .1 .1 .1 .0 .1)) in
-    (f .0, f .1, f .2, S .pre .1 .1))
-    (λ c.
-    let s = c .before .before .before .before in
-    let w = s .before in
-    let S = w .before .before in
-    let x = shapes-on _ _ _ (w .whole .ensures) (s .shape-of .ensures) in
-    laws.last-walked _ _ _ _ _ _ _ (S .pre .1 .0) (c .before .if1 .taken ∙ x .levels-is) _ (c .packed .ensures))
-    (λ c κs.
-    let s = c .before .before .before in
-    let w = s .before in
-    let S = w .before .before in
-    let x = shapes-on _ _ _ (w .whole .ensures) (s .shape-of .ensures) in
-    rw (w .whole .ensures) (S .pre .1 .0, omega (arith, x .levels-is, c .if1 .left, S .pre .1 .0 .on .level-in)))
+    (λ c κs. rw (c .whole .ensures) (c .before .before .pre .1))
     (λ c. search needs)
     (λ c. search needs)
     (λ c.
     let m = c .before .before in
-    let e = m .before in
-    let s = e .before .before .before in
-    let w = s .before in
+    let w = m .before in
     let S = w .before .before in
-    let x = shapes-on _ _ _ (w .whole .ensures) (s .shape-of .ensures) in
-    sym laws.broken-word ∙ laws.landed-off _ _ _ _ _ _ _ (S .pre .1 .0) (omega (arith, x .levels-is, e .if1 .left, S .pre .1 .0 .on .level-in))
-    _ (rw (w .whole .ensures) at (m .to-kept .ensures)) (c .enum-told .given .1))
+    sym laws.broken-word
+    ∙ laws.landed-off _ _ _ _ _ _ _ (S .pre .1 .0) (S .pre .1 .1) _ (rw (w .whole .ensures) at (m .to-kept .ensures)) (c .enum-told .given .1))
     (λ c κs.
     let m = c .before .before .before in
-    let e = m .before in
-    let s = e .before .before .before in
-    let w = s .before in
-    let S = w .before .before in
-    let x = shapes-on _ _ _ (w .whole .ensures) (s .shape-of .ensures) in
-    let more : S .args .on .level + 1 < levels (S .args .t .now) = omega (arith, x .levels-is, e .if1 .left, S .pre .1 .0 .on .level-in) in (
+    let w = m .before in
+    let S = w .before .before in (
       omega (arith, S .pre .0, ap levels (w .whole .ensures)),
-      rw (w .whole .ensures)
-          (laws.landed-kept _ _ _ _ _ _ _ (S .pre .1 .0) more _ (rw (w .whole .ensures) at (m .to-kept .ensures)) _ _ _ (c .before .there .given .1), more),
+      rw (w .whole .ensures) (
+        laws.landed-kept _ _ _ _ _ _ _ (S .pre .1 .0) (S .pre .1 .1) _ (rw (w .whole .ensures) at (m .to-kept .ensures)) _ _ _ (c .before .there .given .1),
+        S .pre .1 .1,
+      ),
     ))
     (λ c.
     let m = c .before .before .before .before in
-    let e = m .before in
-    let s = e .before .before .before in
-    let w = s .before in
+    let w = m .before in
     let S = w .before .before in
-    let x = shapes-on _ _ _ (w .whole .ensures) (s .shape-of .ensures) in
-    laws.landed-by _ _ _ _ _ _ _ (S .pre .1 .0) (omega (arith, x .levels-is, e .if1 .left, S .pre .1 .0 .on .level-in))
+    laws.landed-by _ _ _ _ _ _ _ (S .pre .1 .0) (S .pre .1 .1)
     _ (rw (w .whole .ensures) at (m .to-kept .ensures)) _ _ _ (c .before .before .there .given .1) _ (rw (w .whole .ensures) at (c .kept-step .ensures))))
