@@ -25,7 +25,7 @@ impl Tree<'_> {
     }
 }
 
-/// Is the row, without its end, a code of 1 to 12 bytes other than space, one space, and for each range a digit in it?
+/// Is the row, without its end, a key (a code of 1 to 12 bytes without a space, one space, the cuts) with a cut in each range?
 fn matches(row: &[u8], ranges: &[Range]) -> bool {
     let Some(code) = row.len().checked_sub(ranges.len() + 1) else { return false };
     if !(1..=12).contains(&code) || row[code] != b' ' {

@@ -64,8 +64,7 @@ copied-no (copied.Refused m) n s = ap (λ (x : Said). copied.Refused (x .number)
 
 -- Any lent bytes.
 
--- "the byte at p, with the blocks entered": whatever the tree, a byte that is answered is the one at the end of the place's path, and the
--- figure of blocks entered is that path's length.
+-- On any tree, a byte that is not refused is the leaf byte at the end of the place's path, and the number of blocks entered is the length of that path.
 pub figure-is-length :
     (κs : Lfts 1) (t : RefT (List ℕ)) (p : TextPlace) (r : Answer) → Asked κs t p r → readable (t .now) ≡ 0 → p .0 < at.textLength (t .now)
     → (q : Path) → pathOf (t .now) (p .0) ≡ some q → r ≡ Byte (at.leafByte (t .now) (q .leaf)) (length (q .visits))

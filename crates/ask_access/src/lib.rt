@@ -36,8 +36,7 @@ pub fn byte(t: &[u8], at: TextPlace) -> Answer
     }
 }
 
-// The longest part of the tree's own leaf bytes from a place's byte that stays within every block on its path; the empty
-// part where byte refuses.
+// The longest contiguous leaf range that begins at the end of the place's path and stays in every block of the path; empty if byte is refused.
 pub fn run(t: &[u8], at: TextPlace) -> &[u8]
     ensures { λ r. ⌜ now r ≡ take (runSays (now (t .entry)) (at .0) .1) (drop (runSays (now (t .entry)) (at .0) .0) (now (t .entry))) ⌝ }
     ensures { λ r. ⌜ r .ptr ≡ (t .entry .ptr .0, t .entry .ptr .1 + runSays (now (t .entry)) (at .0) .0) ⌝ }

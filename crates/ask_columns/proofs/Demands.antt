@@ -42,32 +42,32 @@ module _ (κs : Lfts 2) (t : RefT (List ℕ)) (w a : ℕ) (buffer after : RefT (
   refuses n e other =
       (copied-no r n (c .0 .says ∙ rw e), c .1 ∙ rw (e, ne-eqb (suc n) 0 (λ z. omega arith), ne-eqb (suc n) 14 other))
 
-  -- "the reading asks 5 to 7, ..
+  -- Refused with 5, 6 or 7.
   pub column-unread : (n : ℕ) → readable (now t) ≡ suc n → suc n < 14 → (r ≡ copied.Refused (suc n)) × (now after ≡ now buffer)
   unfolding columnNumber
   column-unread n e low = refuses n (rw (e, ne-eqb (suc n) 0 (λ z. omega arith))) (λ z. omega arith)
 
   module _ (pass : readable (now t) ≡ 0) where
-    -- .. 20, ..
+    -- Refused with 20: the width is 0 or does not divide n.
     pub column-width : widthOk w (at.textLength (now t)) ≡ false → (r ≡ copied.Refused 20) × (now after ≡ now buffer)
     unfolding columnNumber
     column-width other = refuses 19 (rw (pass, other)) (λ z. omega arith)
 
     module _ (ok : widthOk w (at.textLength (now t)) ≡ true) where
-      -- .. 10 (a below rows), ..
+      -- Refused with 10: there is no row a.
       pub column-past : at.textLength (now t) / w ≤ a → (r ≡ copied.Refused 10) × (now after ≡ now buffer)
       unfolding columnNumber
       column-past h = refuses 9 (rw (pass, ok, le-ltb a (at.textLength (now t) / w) h)) (λ z. omega arith)
 
       module _ (low : a < at.textLength (now t) / w) where
-        -- .. 13, ..
+        -- Refused with 13: the buffer has fewer than w bytes.
         pub column-short : length (now buffer) < w → (r ≡ copied.Refused 13) × (now after ≡ now buffer)
         unfolding columnNumber
         column-short h =
             refuses 12 (rw (pass, ok, lt-ltb a (at.textLength (now t) / w) low, lt-leb w (length (now buffer)) h)) (λ z. omega arith)
 
         module _ (room : w ≤ length (now buffer)) where
-          -- .. 14, and a 14 leaves the w bytes zero": where the path of one of the row's places breaks
+          -- Refused with 14: the path of one of the row's places breaks. The first w bytes of the buffer are then zero.
           pub column-broken : (b : ℕ) → b < w → byteSays (now t) (b * (at.textLength (now t) / w) + a) .number ≡ 14
               → (r ≡ copied.Refused 14) × (now after ≡ replicate w 0 ++ drop w (now buffer))
           unfolding columnNumber columnSays columnLeaves cellsHold cell
@@ -122,7 +122,7 @@ module _ (κs : Lfts 2) (t : RefT (List ℕ)) (v : verdict (now t) ≡ 0) (w a :
           (λ b l. byte-is b l .1)
           ∙ sym (rw size at (row-read w (textOf (now t)) ok a low))
 
-  -- "Row a read by columns from the tree of a rearranged text is row a of the text."
+  -- From the tree of a rearranged text the call gives row a of the original text.
   pub row-of-text : (T : List ℕ) → widthOk w (length T) ≡ true → textOf (now t) ≡ columns w T → a < length T / w → w ≤ length (now buffer)
       → (r ≡ copied.Bytes w 0) × (now after ≡ stretch T (a * w) w ++ drop w (now buffer))
   row-of-text T ok is low room =

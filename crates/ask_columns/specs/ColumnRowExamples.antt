@@ -1,4 +1,4 @@
--- Rows read by columns from the tree of a rearranged text, whole and damaged, computed from the definitions.
+-- Rows by columns of a rearranged text, from valid and damaged trees, computed from the definitions.
 use mathlib.Core.List.{List, [], _∷_, _++_}
 use mathlib.Core.Path.{_≡_, refl}
 use Prim.Native.Nat.{ℕ, _+_}

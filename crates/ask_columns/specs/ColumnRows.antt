@@ -25,7 +25,7 @@ module _ (t : List ℕ) (w a : ℕ) where
   unfoldable pub cellsHold : Bool
   cellsHold = allBelow w (λ b. eqb (byteSays t (cell b) .number) 0)
 
-  -- questions 5 to 7, 20, 10 (a below rows), 13 and 14
+  -- the refusals in their order: 5 to 7, 20, 10 if there is no row a, 13, 14
   unfoldable pub columnNumber : ℕ → ℕ
   unfolding at.textLength
   columnNumber room =

@@ -1,4 +1,4 @@
-// A row read by columns from the tree of a rearranged text. It asks 5 to 7 first, of any bytes lent as a tree.
+// Reads a row of the original text from the tree of a rearranged one. Any bytes may be given as the tree: questions 5 to 7 come first.
 use ask_access::Answer;
 use ask_access::Copied;
 use ask_access::read_by_header;

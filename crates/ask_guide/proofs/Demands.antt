@@ -52,8 +52,8 @@ refused-is : (r : Size) (q : ℕ) → 1 ≤ q → saidSize r ≡ refused q → r
 refused-is (Words m) q l e = absurd (let z : ⊥ = omega (arith, ap (λ (s : Said). s .number) e) in z)
 refused-is (Refused p) q l e = ap Refused (ap (λ (s : Said). s .number) e)
 
--- The guide of an accepted tree: "for each counted byte in order, the number of the level 0 block holding its 1st, 65th, 129th occurrence and so on, a
--- word each", so many as a 64 of them is begun.
+-- Request 113, the guide of an accepted tree: for each counted byte it has total / 64 words, rounded up; word i is the block of level 0 that contains
+-- occurrence 64 i + 1.
 module _ (t : List ℕ) (v : verdict t ≡ 0) (c : ℕ) (hc : c < at.countedCount t) where
   pub guide-entries : entriesOf t c ≡ pieces (countIn (byteOf t c) (textOf t)) listedEvery
   unfolding entriesOf
@@ -65,7 +65,7 @@ module _ (t : List ℕ) (v : verdict t ≡ 0) (c : ℕ) (hc : c < at.countedCoun
   unfolding blockOf byteOf
   guide-holds e he = entry-word t v (entriesBefore t c + e) (entry-below t c e hc he) ∙ guide-entry t c e hc he
 
--- Making: the tree's check, 5 to 9, first; ..
+-- Making: refused with 5 to 9 if the check refuses the tree.
 module _ (κs : Lfts 2) (t table after : RefT (List ℕ)) (r : Size) (a : MakeGuide κs t table after r) where
   pub make-unread : (verdict (now t) ≡ 0 → ⊥) → (r ≡ Refused (verdict (now t))) × (now after ≡ now table)
   make-unread n =
@@ -73,20 +73,20 @@ module _ (κs : Lfts 2) (t table after : RefT (List ℕ)) (r : Size) (a : MakeGu
       (refused-is r (verdict (now t)) (omega (arith, n)) (a .0 .0 ∙ sym (u .0)), a .1 ∙ sym (u .1))
 
   module _ (v : verdict (now t) ≡ 0) where
-    -- .. then "a table too short with 25, untouched"; ..
+    -- Refused with 25 after it: a table that is too short, which stays unchanged.
     pub make-short : length (now table) < 4 * guideWords (now t) → (r ≡ Refused 25) × (now after ≡ now table)
     make-short l =
         let u = laws.made-short (now t) (now table) v l in
         (refused-is r 25 (omega arith) (a .0 .0 ∙ sym (u .0)), a .1 ∙ sym (u .1))
 
-    -- .. else the words, with their number; what lies past them unchanged.
+    -- Else the table gets the words, and its bytes after them are unchanged.
     pub make-writes : 4 * guideWords (now t) ≤ length (now table)
         → (r ≡ Words (guideWords (now t))) × (now after ≡ guideBytes (now t) ++ drop (4 * guideWords (now t)) (now table))
     make-writes l =
         let u = laws.made-all (now t) (now table) v l in
         (words-is r (guideWords (now t)) (a .0 .1) (a .0 .0 ∙ sym (u .0)), a .1 ∙ laws.made-leaves (now t) (now table) v l)
 
--- Checking: it accepts the guide of an accepted tree and nothing else; after the tree's check, "a wrong length or entry with 24".
+-- Checking accepts the guide of an accepted tree and nothing else. On an accepted tree every other sequence of bytes is refused with 24.
 module _ (κs : Lfts 2) (t guide : RefT (List ℕ)) (r : ℕ) (a : CheckGuide κs t guide r) where
   pub check-guide-accepts : (r ≡ 0) ↔ ((verdict (now t) ≡ 0) × (now guide ≡ guideBytes (now t)))
   check-guide-accepts = (

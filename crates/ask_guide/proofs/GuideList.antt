@@ -72,7 +72,7 @@ module _ (t : List ℕ) where
   unfolding entriesBefore guideWords
   part-ends c place count l ep ec = omega (arith, sumBelow-part (at.countedCount t) (entriesOf t) c l)
 
-  -- the last listed occurrence not after the j-th is listed
+  -- the entry from which the j-th is sought exists
   pub listed : (c j : ℕ) → 1 ≤ j → j ≤ total t c → lastEntry j < entriesOf t c
   unfolding entriesOf
   listed c j low high = lt-pieces (total t c) listedEvery (lastEntry j) (omega arith) (omega arith)

@@ -1,5 +1,5 @@
--- A guide to the level 0 blocks, kept beside a tree: for each counted byte in order the number of the level 0 block that holds its 1st, 65th,
--- 129th occurrence and so on, a word each; and what checking a guide, making one and asking for its size answer.
+-- Guides (sampled select directories): for each counted byte, a word for every 64 occurrences, the block of level 0 that contains the first of them; and
+-- what the calls return that check a guide, make one and give its size.
 -- docs/FORMAT.md: "Guides".
 use mathlib.Core.List.{List, _++_}
 use mathlib.Core.Bool.{cond}
@@ -20,7 +20,7 @@ use Rattle.format.specs.FindSays.{total}
 abbrev pub listedEvery : ℕ
 listedEvery = 64
 
--- the last listed occurrence not after the j-th, and the number of its entry among those of its byte
+-- the entry of its byte from which the j-th is sought, and the occurrence that this entry is for: the greatest sampled one up to j
 abbrev pub lastEntry : ℕ → ℕ
 lastEntry j = (j - 1) / listedEvery
 

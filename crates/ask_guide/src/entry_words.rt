@@ -43,7 +43,7 @@ pub fn entries_before(t: &[u8], h: Header, number: u32) -> u64
     sum
 }
 
-// From a block of level 0 on: the last one before any whose before is j or more, with the steps to it.
+// From a block of level 0: goes on while the next block's `before` is below j, and counts its steps.
 pub fn block_from(t: &[u8], h: Header, number: u32, from: BlockNumber, j: u64) -> Along
     requires { ⌜ (HeaderOf (now t) h) × (number < at.countedCount (now t)) × (from .0 < at.levelCount (now t) 0) ⌝ }
     ensures { λ r. ⌜ (LastBefore (now (t .entry)) number 0 (from .0) (at.levelCount (now (t .entry)) 0) j (r .block .0))

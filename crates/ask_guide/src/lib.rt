@@ -1,5 +1,5 @@
-// A guide to the level 0 blocks, kept beside a tree: for each counted byte in order, the number of the level 0 block that holds its 1st,
-// 65th, 129th occurrence and so on, a word each. Its size, making one and checking one.
+// Guides (sampled select directories): size, make and check. A guide has, for each counted byte, a word for every 64 occurrences: the block of
+// level 0 that contains the first of them.
 pub mod entry_words;
 mod guide_checked;
 mod guide_written;

@@ -52,7 +52,7 @@ one-answer t v byte j x y a b = same-found x y (a .numbered) (b .numbered) (go (
     go (inl l) = a .says .asked l ∙ sym (b .says .asked l)
     go (inr l) = let z : selectNumber t byte j ≡ 0 = omega arith in a .says .accepted z v ∙ sym (b .says .accepted z v)
 
--- "for an accepted tree and guide its answer and blocks entered are those without. ..
+-- Request 113: find with a guide. If the tree and the guide are accepted, place and blocks entered are those of find.
 module _ (κs : Lfts 2) (t guide : RefT (List ℕ)) (byte j : ℕ) (r : Guided) (a : FindGuided κs t guide byte j r) where
   module _ (κ : Lfts 2) (ok : CheckGuide κ t guide 0) where
     accepted : guideNumber (now t) (now guide) ≡ 0
@@ -70,14 +70,13 @@ module _ (κs : Lfts 2) (t guide : RefT (List ℕ)) (byte j : ℕ) (r : Guided) 
     pub guided-as-find : (κ : Lfts 1) (f : Found) → Find κ t byte j f → foundOf r ≡ f
     guided-as-find κ f b = one-answer (now t) (guide-verdict (now t) (now guide) accepted) byte j (foundOf r) f as-find b
 
-    -- .. It also reports its steps on level 0, counted on the way: for an accepted tree and guide, the number of the level 0 block holding the place less
-    -- that entry."
+    -- Its steps on level 0, counted while it runs, are then the block of level 0 that contains the place, less the entry.
     pub guided-steps : selectNumber (now t) byte j ≡ 0
         → stepsOf r ≡ blockOf (now t) (numberOfByte (now t) byte) j - blockOf (now t) (numberOfByte (now t) byte) (lastListed j)
     unfolding stepsTo
     guided-steps n = a .says .counted n accepted
 
-  -- "A guide never checked may at worst lead to a wrong place below n or to 14": after the questions that find asks, which are settled for any bytes
+  -- Any other guide leads at worst to 14 or to a place below n. The questions before the walk are those of find, whatever the guide.
   pub guided-asked : 0 < selectNumber (now t) byte j → r ≡ Refused (selectNumber (now t) byte j)
   guided-asked l = go r (a .says .finds .asked l)
     where

@@ -71,7 +71,7 @@ module _ (t guide : List ℕ) (byte c j : ℕ)
     listed-high : lastListed j ≤ total t c
     listed-high = omega arith
 
-    -- it is that of the last listed occurrence not after the j-th
+    -- it is the entry of the greatest sampled occurrence up to j
     entry-is : wordAt guide (4 * place) ≡ blockOf t c (lastListed j)
     entry-is =
         ap (λ (l : List ℕ). wordAt l (4 * place)) (guide-same t guide g) ∙ entry-word t v place below

@@ -149,18 +149,18 @@ refusal-is r q e = go r (ap (λ (x : Ordered). x .order) e) (ap (λ (x : Ordered
 
 -- Any lent bytes.
 module _ (κs : Lfts 2) (t u : RefT (List ℕ)) (r : Compared) (a : Compare κs t u r) where
-  -- "Questions 5 to 7 are put to the first tree, ..
+  -- Questions 5 to 7 of the first tree come first.
   pub order-unread : (q : ℕ) → readable (now t) ≡ suc q → r ≡ compared.Refused (suc q)
   unfolding orderSays
   order-unread q e = refusal-is r (suc q) (a .says ∙ rw e)
 
   module _ (rt : readable (now t) ≡ 0) where
-    -- .. then to the second; ..
+    -- Those of the second tree are next.
     pub order-unread-2 : (q : ℕ) → readable (now u) ≡ suc q → r ≡ compared.Refused (suc q)
     unfolding orderSays
     order-unread-2 q e = refusal-is r (suc q) (a .says ∙ rw (rt, e))
 
-    -- .. after that each place, up to the first difference or the shorter end": p is a place of both, and all before it are the same
+    -- The reading comes to place p if p is a place of both texts and the bytes at all places before p are equal.
     module _ (ru : readable (now u) ≡ 0) (p : ℕ) (low : p < shortest (now t) (now u)) (all : (x : ℕ) → x < p → SameAt (now t) (now u) x) where
       from-there : orderSays (now t) (now u) ≡ From (now t) (now u) p
       unfolding orderSays
@@ -170,12 +170,12 @@ module _ (κs : Lfts 2) (t u : RefT (List ℕ)) (r : Compared) (a : Compare κs 
           let y : 0 + p ≡ p = omega arith in
           rw (rt, ru) (rw (z, y) at e)
 
-      -- "is read in the first ..
+      -- Refused with 14: the path of p breaks in the first tree.
       pub order-broken : byteSays (now t) p .number ≡ 14 → r ≡ compared.Refused 14
       order-broken e = refusal-is r 14 (a .says ∙ from-there ∙ first-broken (now t) (now u) p low e)
 
       module _ (there : byteSays (now t) p .number ≡ 0) where
-        -- .. and then in the second, where 14 may come"
+        -- Refused with 14: the path of p holds in the first tree and breaks in the second.
         pub order-broken-2 : byteSays (now u) p .number ≡ 14 → r ≡ compared.Refused 14
         order-broken-2 e = refusal-is r 14 (a .says ∙ from-there ∙ second-broken (now t) (now u) p low there e)
 
@@ -207,11 +207,11 @@ module _ (t u : RefT (List ℕ)) (rt : readable (now t) ≡ 0) (ru : readable (n
   abbrev n : ℕ
   n = shared (textOf (now t)) (textOf (now u))
 
-  -- "compared by reading: before, same or after, and the length of the shared beginning"
+  -- The result is the lexicographic order of the texts and the length of their longest common prefix.
   pub compare-texts : (κs : Lfts 2) (r : Compared) → Compare κs t u r → r ≡ outcome s n
   compare-texts κs r a = outcome-is r s n (a .says ∙ order-of-texts (now t) (now u) rt ru lt lu)
 
-  -- "Besides, the call hands back the tree that stands first, as lent, the first given if they are the same", with the same figures
+  -- `first` returns the tree whose text comes first, the first argument if the texts are equal, with the figures of the comparison.
   pub first-texts : (κs : Lfts 4) (number order length number′ order′ length′ : RefT ℕ) (r : RefT (List ℕ))
       → First κs t u number order length number′ order′ length′ r
       → (r ≡ firstOf s t u) × (record { number = now number′; order = now order′; length = now length′ } ≡ stands s n)

@@ -137,7 +137,7 @@ module _ (t u : List ℕ) (m : Progress) (c : Comparing t u m) where
       record { says = x-is ∙ rw (n-is, k-is) e }
 
   module _ (low : m .place .0 < shortest t u) (v : Ran) (first : ReadsFrom t (m .place .0) v) where
-    -- the first tree's path breaks, ..
+    -- the first tree's path breaks
     pub compare-broken : (q : ℕ) → v ≡ ran.Refused q → OrderAnswer t u (compared.Refused 14)
     compare-broken q e =
         let z : ReadsFrom t (m .place .0) (ran.Refused q) = rw e at first in
@@ -147,7 +147,7 @@ module _ (t u : List ℕ) (m : Progress) (c : Comparing t u m) where
       here : ReadsFrom t (m .place .0) (ran.At x)
       here = rw x-is at first
 
-      -- .. then the second's
+      -- the first tree's path holds and the second's breaks
       pub compare-broken-2 : (q : ℕ) → w ≡ ran.Refused q → OrderAnswer t u (compared.Refused 14)
       compare-broken-2 q e =
           let z : ReadsFrom u (m .place .0) (ran.Refused q) = rw e at second in

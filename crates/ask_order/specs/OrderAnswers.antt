@@ -31,7 +31,7 @@ orderSaid (compared.Refused q) = refusedOrder q
 pub record OrderAnswer (t u : List ℕ) (r : Compared) : Type 0 where
   pub says : orderSaid r ≡ orderSays t u
 
--- the tree that stands first, whole and as lent, the first given if they are the same; the empty part where the comparison is refused
+-- what is returned: one of the two given references, the one whose text comes first (the first for equal texts); an empty part if refused
 pub record Handed (s : Ordered) (one other r : RefT (List ℕ)) : Type 0 where
   pub given : s .number ≡ 0 → r ≡ cond (eqb (s .order) 3) other one
   pub none : 1 ≤ s .number → now r ≡ []

@@ -77,13 +77,13 @@ standing-flip (x ∷ T) (y ∷ U) = go (which x y) (standing-flip T U)
     go (equal e) r = standing-equal y x U T (sym e) ∙ r ∙ ap flip (sym (standing-equal x y T U e))
     go (above h) r = standing-below y x U T h ∙ ap flip (sym (standing-above x y T U h))
 
--- A text is the same as itself, ..
+-- a text compares as same with itself
 pub standing-refl : (T : List ℕ) → standing T T ≡ same
 unfolding standing
 standing-refl [] = refl
 standing-refl (x ∷ T) = standing-equal x x T T refl ∙ standing-refl T
 
--- .. and as no other.
+-- only equal texts compare as same
 pub standing-same : (T U : List ℕ) → standing T U ≡ same → T ≡ U
 unfolding standing
 standing-same [] [] e = refl
@@ -121,7 +121,7 @@ unfolding standing
 empty-first [] n = absurd (n refl)
 empty-first (y ∷ T) n = refl
 
--- "a total order on their texts": at or before
+-- the total order: before or same
 
 abbrev pub Upto : List ℕ → List ℕ → Type 0
 Upto T U = standing T U ≡ after → ⊥
@@ -195,7 +195,7 @@ shared-is (x ∷ T) (y ∷ U) = go (which x y) (shared-is T U)
         at-place zero h = e
         at-place (suc z) h = r .agree z (omega arith)
 
--- it is the same the other way round, ..
+-- it is the same with the texts exchanged
 pub shared-flip : (T U : List ℕ) → shared U T ≡ shared T U
 unfolding shared
 shared-flip [] [] = refl
@@ -208,7 +208,7 @@ shared-flip (x ∷ T) (y ∷ U) = go (which x y) (shared-flip T U)
     go (above h) r = shared-other y x U T (λ e. omega arith) ∙ sym (shared-other x y T U (λ e. omega arith))
     go (equal e) r = shared-equal y x U T (sym e) ∙ ap (λ (n : ℕ). n + 1) r ∙ sym (shared-equal x y T U e)
 
--- .. and of a text and itself it is the whole
+-- a text shares all its bytes with itself
 pub shared-itself : (T : List ℕ) → shared T T ≡ length T
 unfolding shared
 shared-itself [] = refl
@@ -216,9 +216,9 @@ shared-itself (x ∷ T) = shared-equal x x T T refl ∙ add-one (shared T T) ∙
 
 -- Where a text stands is told by the byte after the shared beginning, or by the end of the shorter text.
 pub record StandsBy (T U : List ℕ) : Type 0 where
-  -- "by the first byte that differs, unsigned"
+  -- at the first difference the smaller byte decides
   pub by-byte : shared T U < length T → shared T U < length U → standing T U ≡ cond (ltb (getD T (shared T U) 0) (getD U (shared T U) 0)) before after
-  -- "where one is the beginning of the other, the shorter stands first"
+  -- a proper prefix comes first
   pub by-end : length T ≤ shared T U → shared T U < length U → standing T U ≡ before
   pub by-other-end : shared T U < length T → length U ≤ shared T U → standing T U ≡ after
   pub by-both : length T ≤ shared T U → length U ≤ shared T U → standing T U ≡ same

@@ -31,7 +31,7 @@ pub enum Round {
     Settled(Compared),
 }
 
-// Place by place, up to the first difference or the shorter end: question 14.
+// Place by place, until the bytes differ or a text ends: question 14.
 pub fn by_places(one: &[u8], h: Header, other: &[u8], g: Header) -> Compared
     requires { ⌜ (HeaderOf (now one) h) × (HeaderOf (now other) g) ⌝ }
     ensures { λ r. ⌜ OrderAnswer (now (one .entry)) (now (other .entry)) r ⌝ }

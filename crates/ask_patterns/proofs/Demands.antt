@@ -79,13 +79,13 @@ module _ (κs : Lfts 3) (t P table after : RefT (List ℕ)) (r : PlacesWritten) 
   places-unread q e = refuses q (rw (e, ne-eqb (suc q) 0 (λ z. omega arith)))
 
   module _ (pass : readable (now t) ≡ 0) where
-    -- "It refuses a pattern of other length with 16, after question 7"
+    -- Refused with 16: a pattern that does not have 1 to 256 bytes.
     pub places-length : (1 ≤ length (now P) → length (now P) ≤ maxPattern → ⊥) → (r ≡ written.Refused 16) × (now after ≡ now table)
     unfolding placesNumber
     places-length wrong = refuses 15 (rw (pass, other-length (now P) wrong))
 
     module _ (low : 1 ≤ length (now P)) (high : length (now P) ≤ maxPattern) where
-      -- "it gives 14 if the path of some place below n breaks"
+      -- Refused with 14: one of the n paths breaks.
       pub places-broken : (p : ℕ) → p < at.textLength (now t) → pathOf (now t) p ≡ none → (r ≡ written.Refused 14) × (now after ≡ now table)
       unfolding placesNumber patternOk
       places-broken p below e =
@@ -100,13 +100,13 @@ module _ (κs : Lfts 3) (t P table after : RefT (List ℕ)) (r : PlacesWritten) 
         hold : pathsHold (now t) 0 (at.textLength (now t)) ≡ true
         hold = paths-hold (now t) (readable-facts (now t) pass) pass holds (at.textLength (now t)) 0 (omega arith)
 
-        -- "a table that is too short with 17, after 14"
+        -- Refused with 17: the table has fewer words than there are places.
         pub places-short : length (now table) < length ps → (r ≡ written.Refused 17) × (now after ≡ now table)
         unfolding placesNumber patternOk placesOf
         places-short short =
             refuses 16 (rw (pass, le-leb 1 (length (now P)) low, le-leb (length (now P)) maxPattern high, hold, lt-leb (length ps) (length (now table)) short))
 
-        -- "all its places are written to a lent table of words in rising order, each once, overlaps included, with their number"
+        -- Not refused: the table begins with all places (`AllPlaces`), and their number is returned.
         pub places-written : length ps ≤ length (now table) → (r ≡ written.Number (length ps)) × (now after ≡ ps ++ drop (length ps) (now table))
         unfolding placesNumber patternOk placesSays placesLeaves placesOf
         places-written room =
@@ -120,14 +120,14 @@ module _ (κs : Lfts 3) (t P table after : RefT (List ℕ)) (r : PlacesWritten) 
 abbrev pub PlacesWords : (κs : Lfts 1) → RefT (List ℕ) → (len : ℕ) → PlacesRoom → Type 0
 PlacesWords κs t len r = words-reads.Post κs (t, (len, tt)) r (t, (len, tt))
 
--- A table of the words that are answered for a pattern's length holds all its places, on any tree that passes questions 5 to 7: ..
+-- On any tree that passes questions 5 to 7, a table of the words that places_words returns for a pattern's length is large enough for all its places.
 module _ (κ : Lfts 1) (t P table : RefT (List ℕ))
     (words : ℕ) (a : PlacesWords κ t (length (now P)) (room.Words words)) (enough : words ≤ length (now table)) where
   pub room-holds : length (placesIn (now P) (textOf (now t))) ≤ length (now table)
   unfolding placesOf
   room-holds = let k = roomy (now t) (length (now P)) words (a .says) in omega (arith, k .words-are, places-few (now t) (now P) (k .low))
 
-  -- .. no answer is 17
+  -- so 17 is not returned
   pub room-enough : (κs : Lfts 3) (after : RefT (List ℕ)) → Places κs t P table after (written.Refused 17) → ⊥
   unfolding placesSays placesNumber patternOk placesOf
   room-enough κs after b = go (pathsHold (now t) 0 (at.textLength (now t))) refl

@@ -85,7 +85,7 @@ module _ (P T : List ℕ) (p : ℕ) where
   stands-within some-byte e =
       omega (arith, ap length (sameList-true (stretch T p (length P)) P e), length-take (length P) (drop p T), length-drop p T)
 
--- "all its places .. in rising order, each once, overlaps included"
+-- ps has exactly the places of P in T, overlapping ones too, in increasing order without repetition
 pub record AllPlaces (P T ps : List ℕ) : Type 0 where
   pub entry : (x : ℕ) → x < length ps → stretch T (getD ps x 0) (length P) ≡ P
   pub all : (p : ℕ) → stretch T p (length P) ≡ P → (x : ℕ) × (x < length ps) × (getD ps x 0 ≡ p)

@@ -76,7 +76,7 @@ module _ (t : List ℕ) (v : verdict t ≡ 0)
           both 0 n (rowOf (textOf t) q ++ drop n buffer) (c .0, c .1, c .2 ∙ ap (λ (i : ℕ). rowOf (textOf t) q ++ drop i buffer) (c .1))
           (d .0, d .1, d .2 ∙ ap (λ (i : ℕ). rowOf (textOf t) q ++ drop i buffer) (d .1))
 
--- "row with a guide is row by such finds; for an accepted tree and guide its answer is row's"
+-- if the tree and the guide are accepted, row with a guide returns what row returns
 pub guided-as-row : (κs : Lfts 3) (t guide : RefT (List ℕ)) (q : ℕ) (buffer after : RefT (List ℕ)) (r : RowCopied) → RowGuided κs t guide q buffer after r
     → (κ : Lfts 2) → CheckGuide κ t guide 0 → (κ′ : Lfts 2) (left : RefT (List ℕ)) (s : RowCopied) → Row κ′ t q buffer left s → (r ≡ s) × (now after ≡ now left)
 guided-as-row κs t guide q buffer after r a κ ok κ′ left s b =
@@ -135,19 +135,19 @@ rows-say t v counted = go (lt-or-ge 0 (at.textLength t))
         )
 
 module _ (κs : Lfts 1) (t : RefT (List ℕ)) (v : verdict (now t) ≡ 0) where
-  -- the number of rows is that of the text's rows; ..
+  -- the number of rows is that of the text's rows
   pub rows-of-text : isCounted (now t) 10 ≡ true → (r : RowCount) → CountOf κs t r → r ≡ count.Rows (length (rowsOf (textOf (now t))))
   rows-of-text counted r a = rows-are r (length (rowsOf (textOf (now t)))) (a .numbered) (a .says ∙ rows-say (now t) v counted)
 
   module _ (q : ℕ) where
-    -- each of them has a length, ..
+    -- each row has a length
     pub length-of-text : isCounted (now t) 10 ≡ true → 1 ≤ q → q ≤ length (rowsOf (textOf (now t))) → (r : RowLength) → LengthOf κs t q r
         → r ≡ size.Bytes (length (rowOf (textOf (now t)) q))
     length-of-text counted low high r a =
         let z = a .says .accepted (row-lets (now t) v counted q low high) v in
         bytes-are r (length (rowOf (textOf (now t)) q)) (a .numbered) (z .0) (z .1)
 
-    -- .. and a buffer of that length is enough for row: 13 is no answer
+    -- a buffer of that length is enough for row, which is then not refused with 13
     pub length-enough : (n : ℕ) → LengthOf κs t q (size.Bytes n) → (κ : Lfts 2) (buffer after : RefT (List ℕ)) (r : RowCopied) → Row κ t q buffer after r
         → n ≤ length (now buffer) → (r ≡ row.Bytes n) × (now after ≡ rowOf (textOf (now t)) q ++ drop n (now buffer))
     length-enough n a κ buffer after r b room = go (lt-or-ge 0 (rowNumber (now t) q))

@@ -221,7 +221,7 @@ newlines-before T q low high = go (lt-or-ge 1 q)
         rw (ne-eqb q 1 (λ e. omega arith)) (omega (arith, h .rank, count-next-same 10 T 0 (placeOf 10 (q - 1) T) (h .within) (h .byte-is)))
 
 module _ (T : List ℕ) (q : ℕ) (low : 1 ≤ q) (high : q ≤ countIn 10 T) where
-  -- the first newline from there on is the q-th of the text, ..
+  -- the first newline from there on is the q-th of the text
   row-end : (e : ℕ) → rowFrom T q ≤ e → Nth 10 1 T (rowFrom T q) (e - rowFrom T q) → placeOf 10 q T ≡ e
   row-end e past first =
       let p = rowFrom T q in
@@ -229,7 +229,7 @@ module _ (T : List ℕ) (q : ℕ) (low : 1 ≤ q) (high : q ≤ countIn 10 T) wh
       let o : p + (e - p) ≡ e = omega arith in
       nth-place 10 q T e (rw (newlines-before T q low high, o) at (nth-earlier 10 1 T 0 p (e - p) (rw z first)))
 
-  -- .. which is there
+  -- that newline exists
   some-end : Nth 10 1 T (rowFrom T q) (placeOf 10 q T - rowFrom T q)
   some-end =
       let p = rowFrom T q in

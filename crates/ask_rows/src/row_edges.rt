@@ -67,8 +67,8 @@ fn asks_last(t: &[u8], h: Header, q: u32) -> bool
     (q - 1) as u64 == ask_totals::total(t, h, number)
 }
 
-// The edges of the row after the last byte 10, which is there if the text's last byte is not 10: past that byte 10, or the text's start, up
-// to the text's end.
+// The bounds of the row that no byte 10 ends, which exists if the last byte is another one: from behind the last byte 10 (or from place 0) to
+// the text's end.
 fn last(t: &[u8], h: Header, guide: &[u8], used: bool, q: u32) -> Edges
     requires { ⌜ (HeaderOf (now t) h) × (asksLast (now t) q ≡ true) ⌝ }
     ensures { λ r. ⌜ EdgesOf (now (t .entry)) (settledBy (now (t .entry)) (now (guide .entry)) used) (lastNumber

@@ -1,6 +1,6 @@
-// The way to the j-th byte: on each level to the last block before any whose before is j or more, with what is left of j. The step
-// for a kept block and the step for a pointing block call each other: twice the levels left, plus one if a pointer may still be
-// followed, falls. A step carries no header, and returns one word.
+// The way to the j-th byte: on each level to the last block before any whose before is j or more, with what is left of j. The steps
+// of kept and pointing blocks are mutually recursive. Their measure is 2 × (levels left), plus 1 while a pointer can be followed.
+// A step carries no header, and returns one word.
 use crate::Found;
 use ask_totals::Wanted;
 use layout::header;
@@ -123,7 +123,7 @@ fn by_fours(t: &[u8], field: CountField, level: u32, blocks: Blocks, j: u64) -> 
     }
 }
 
-// Of the blocks from first on, before end: the last one before any whose before is j or more, with the steps to it, counted on the way.
+// From block first on, before end: goes on while the next block's `before` is below j, and counts its steps.
 pub fn step_along(t: &[u8], field: CountField, level: u32, blocks: Blocks, j: u64) -> Along
     requires { ⌜ Siblings (now t) field level (blocks .first .0) (blocks .end .0) ⌝ }
     ensures { λ r. ⌜ (LastBefore (now (t .entry)) (field .number) level (blocks .first .0) (blocks .end .0) j (r .block .0))

@@ -32,7 +32,7 @@ NextMatch κs t ranges mark r = next-match-reads.Post κs (t, (ranges, (mark, tt
 module _ (t ranges : List ℕ) where
   -- Any lent bytes.
 
-  -- "any refusal leaves the mark"
+  -- A refused call leaves the mark unchanged.
   pub refusal-leaves : (mark n after : ℕ) → Moved t ranges mark (Refused n) after → after ≡ mark
   refusal-leaves = next-row.refusal-leaves t (verdict t) (λ v. v) (matchNumber t ranges) (matches ranges)
 
@@ -44,13 +44,13 @@ module _ (t ranges : List ℕ) where
         next-row.refused-first t (verdict t) (λ v. v) (matchNumber t ranges) (matches ranges) mark r a q (next-row.asked-unread t 19 (rangesOk ranges) q e)
 
     module _ (pass : readable t ≡ 0) where
-      -- "It refuses a number of cuts outside 1 to 10, a depth above 9 or a low above its high with 19, after question 7 ..
+      -- Refused with 19, after 7: ranges that question 19 does not allow.
       pub match-ranges : rangesOk ranges ≡ false → r ≡ Refused 19
       unfolding matchNumber
       match-ranges e =
           next-row.refused-first t (verdict t) (λ v. v) (matchNumber t ranges) (matches ranges) mark r a 18 (next-row.asked-bad t 19 (rangesOk ranges) pass e)
 
-      -- .. and before 11"
+      -- Refused with 11, after 19: byte 10 is not counted.
       pub match-uncounted : rangesOk ranges ≡ true → isCounted t 10 ≡ false → r ≡ Refused 11
       unfolding matchNumber
       match-uncounted ok e =
@@ -81,17 +81,17 @@ module _ (t ranges : List ℕ) where
     pub row-rises : (mark n after : ℕ) → Moved t ranges mark (Row n) after → (mark < n) × (n ≤ length (rowsOf T)) × (after ≡ n)
     row-rises = next-row.row-rises t (verdict t) (λ v. v) (matchNumber t ranges) (matches ranges) v
 
-    -- "If no row after it matches, the answer is none and the mark goes to the number of rows; a mark already there or beyond stays."
+    -- With none the mark becomes the number of rows, or stays if it was larger.
     pub none-moves : (mark m after : ℕ) → Moved t ranges mark (Nothing m) after
         → (shownFor ranges T mark .row ≡ 0) × (after ≡ shownFor ranges T mark .mark)
     unfolding shownFor
     none-moves = next-row.none-moves t (verdict t) (λ v. v) (matchNumber t ranges) (matches ranges) v
 
-    -- the machine asks again and again, with the question kept and the mark moved by nothing else: these rows are shown, then none
+    -- repeated calls with the same ranges, each with the mark that the call before left, return these rows and then none
     abbrev pub Asked : ℕ → List ℕ → Type 0
     Asked = next-row.Calls t (verdict t) (λ v. v) (matchNumber t ranges) (matches ranges) v
 
-    -- "On an accepted tree, from mark 0 to none, .. each match and no other row is shown, once, in row order"
+    -- Request 107: on an accepted tree, such calls from mark 0 on return exactly the matching rows, each once, in increasing order.
     pub all-matches : (ns : List ℕ) → Asked 0 ns → ns ≡ matchesOf ranges T
     unfolding matchesOf
     all-matches = next-row.all-called t (verdict t) (λ v. v) (matchNumber t ranges) (matches ranges) v
@@ -110,7 +110,7 @@ module _ (t ranges : List ℕ) where
   pub refusal-is : (mark n : ℕ) → MatchAnswer t ranges mark (Refused n) → (n ≡ matchNumber t ranges) ⊎ ((n ≡ 14) × (verdict t ≡ 0 → ⊥))
   refusal-is = next-row.refusal-is t (verdict t) (λ v. v) (matchNumber t ranges) (matches ranges)
 
--- ".. and widening a range loses no match": what is shown to a question is shown to a wider one.
+-- Wider ranges return every row that the narrower ones return.
 pub wider-loses-none : (t r s : List ℕ) (v : verdict t ≡ 0) → Wider r s → (ns ms : List ℕ) → Asked t r v 0 ns → Asked t s v 0 ms → (n : ℕ) → In n ns → In n ms
 wider-loses-none t r s v w ns ms a b n i =
     rw (all-matches t s v ms b) (wider-shown r s w (textOf t) n (rw (all-matches t r v ns a) at i))

@@ -24,7 +24,7 @@ module _ (S : Settings) (T : List ℕ) (l : ℕ) where
       let starts = startsAt S T l in
       anyBelow (length starts) (λ i. eqb (lengthOf T b starts i) n || (pairAt T b starts i && eqb (min (b + b) (length T - startOf T b starts i)) n))
 
-  -- the windows of level l: for each length that its blocks and pairs have, one at every place from which the text holds that many bytes
+  -- the windows of level l: n + 1 - L for each different length L of its blocks and pairs
   unfoldable pub windowsAt : ℕ
   windowsAt = sumBelow (suc (length T)) (λ n. cond (hasLength n) (suc (length T) - n) 0)
 
@@ -32,7 +32,7 @@ module _ (S : Settings) (T : List ℕ) (l : ℕ) where
 unfoldable pub windowsOf : Settings → List ℕ → ℕ
 windowsOf S T = sumBelow (S .levels - 1) (windowsAt S T)
 
--- the words that the table must have: four for each m bytes of text, a begun m counting whole
+-- the words that the table must have: 4 × (n / m rounded up)
 unfoldable pub tableWords : ℕ → ℕ → ℕ
 tableWords n m = 4 * pieces n m
 

@@ -61,7 +61,7 @@ fn kept_right(t: &[u8], size: u32, level: u32, b: u32, block: BlockNumber, c: u3
     inside as u64 == kept_inside(t, size, level, b, block, c)
 }
 
-// How often the byte stands in the first gap bytes of the block pointed to.
+// How often the byte occurs in the block pointed to, before place gap.
 fn pointing_skip(t: &[u8], size: u32, level: u32, b: u32, block: BlockNumber, c: u32) -> u64
     requires { ⌜ (b ≡ at.fullLength (now t) level)
         × InTable (now t) size level (block .0) c × (at.isKept (now t) level (block .0) ≡ false) × TrueBelow (now t) level ⌝ }

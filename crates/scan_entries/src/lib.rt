@@ -1,4 +1,4 @@
-// The blocks and pairs of a level, entered in a lent table of words by fingerprint, and windows of the text looked up in it.
+// A hash table in the caller's words: the blocks and pairs of a level by their fingerprints, and lookups of the text's windows.
 mod chain_head;
 pub mod entry;
 pub mod item;

@@ -1,6 +1,5 @@
--- build(text, leaf, arity, levels, counted, out): the block tree of a text, written into a buffer. Demand 2: "The builder's output is, byte for byte, the
--- block tree of its text as this page defines it; read back, every byte, span, run, row, count and place is the text's." And
--- the end of demand 3: "What the builder writes is accepted, and its one text is the input."
+-- build(text, leaf, arity, levels, counted, out): the block tree of a text, written into a buffer. Demand 2, and the last part of demand 3: the check
+-- accepts what build writes.
 use mathlib.Core.List.{List, [], _∷_, _++_}
 use mathlib.Core.Bool.{true, cond}
 use mathlib.Core.Path.{_≡_, sym, ap, _∙_, refl}
@@ -66,7 +65,7 @@ module _ (κs : Lfts 3) (text : Lent) (leaf arity levels : ℕ) (counted out aft
   abbrev S : Settings
   S = given leaf arity levels (now counted)
 
-  -- An answer is the tree's size, which fits; the buffer begins with the tree, and the bytes past it are unchanged; ..
+  -- The result is the tree's size, which fits. The buffer begins with the tree, and the bytes after it are unchanged.
   pub build-answer : (size : ℕ) → Build κs text leaf arity levels counted out after (built.Size size)
       → (size ≤ length (now out)) × (take size (now after) ≡ treeOf S (now text)) × (drop size (now after) ≡ drop size (now out))
   unfolding buildSize buildLeaves
@@ -94,7 +93,7 @@ module _ (κs : Lfts 3) (text : Lent) (leaf arity levels : ℕ) (counted out aft
     build-low : 1 ≤ n
     build-low = rw (a .0) (build-not-zero (buildNumber S (now text) (now out)) refl)
 
-    -- .. a refusal is 1, 2, 3 or 4; ..
+    -- A refusal is 1, 2, 3 or 4.
     pub build-numbers : OneOf (1 ∷ 2 ∷ 3 ∷ 4 ∷ []) n
     build-numbers = not-zero (1 ∷ 2 ∷ 3 ∷ 4 ∷ []) n build-low (rw (a .0) (build-one S (now text) (now out)))
 
@@ -103,11 +102,11 @@ module _ (κs : Lfts 3) (text : Lent) (leaf arity levels : ℕ) (counted out aft
     unfolding buildLeaves
     build-left = a .1 .1 ∙ rw (← a .0, ne-eqb n 0 (λ e. omega (arith, build-low)))
 
-    -- .. 4 leaves the buffer all zero, ..
+    -- Refusal 4 leaves zeros in the whole buffer.
     pub build-zeros : n ≡ 4 → now after ≡ replicate (length (now out)) 0
     build-zeros e = build-left ∙ rw (eq-eqb n 4 e)
 
-    -- .. and any other leaves it unchanged.
+    -- Any other refusal leaves the buffer unchanged.
     pub build-unchanged : (n ≡ 4 → ⊥) → now after ≡ now out
     build-unchanged e = build-left ∙ rw (ne-eqb n 4 e)
 
@@ -127,7 +126,7 @@ module _ (κs : Lfts 3) (text : Lent) (leaf arity levels : ℕ) (counted out aft
     abbrev T : List ℕ
     T = now text
 
-    -- "The builder's output is, byte for byte, the block tree of its text."
+    -- Demand 2, first part: the bytes written are those of the block tree of the text.
     pub build-writes : take size (now after) ≡ treeOf S T
     build-writes = tree.build-writes κs text leaf arity levels counted out after (built.Size size) a refl
 
@@ -147,7 +146,7 @@ module _ (κs : Lfts 3) (text : Lent) (leaf arity levels : ℕ) (counted out aft
       settings-are : at.settings (now t) ≡ S
       settings-are = rw (is ∙ build-writes) (read-settings S T (tree.taken S T (now out) passed))
 
-      -- "Read back, every byte, span, run, row, count and place is the text's."
+      -- Demand 2, second part: all calls on the written tree return what the text has.
       pub build-answers : Answers t S T
       build-answers = rw (← settings-are, ← text-is) (accepted-answers t accepted)
 
@@ -155,11 +154,11 @@ module _ (κs : Lfts 3) (text : Lent) (leaf arity levels : ℕ) (counted out aft
       pub build-refuses : Refuses t S T
       build-refuses = rw (← settings-are, ← text-is) (accepted-refuses t accepted)
 
-      -- "What the builder writes is accepted, ..
+      -- Demand 3, last part: the check accepts the written tree.
       pub build-accepted : (κ : Lfts 1) (r : ℕ) → Check κ t r → r ≡ 0
       build-accepted κ r c = c ∙ accepted
 
-      -- .. and its one text is the input": it stands for the input, and any text that fits is the input.
+      -- The written tree stands for the input, and no other text fits.
       pub build-one-text : StandsFor (now t) T × ((U : List ℕ) → fits U (now t) ≡ true → U ≡ T)
       build-one-text =
           let s = accepted-stands (now t) accepted in
@@ -170,7 +169,7 @@ size-is : (r : Built) (n : ℕ) → 1 ≤ n → sizeOf r ≡ n → r ≡ built.S
 size-is (built.Size m) n low e = ap built.Size e
 size-is (built.Refused q) n low e = absurd (let z : ⊥ = omega arith in z)
 
--- "For every text, setting and buffer that questions 1 to 4 let through, the builder writes the tree": no buffer that holds it is refused.
+-- Demand 3, last part: build is not refused if questions 1 to 3 pass and the buffer has at least the tree's size.
 pub build-lets-through : CompleteBuilder
 unfolding buildNumber buildSize
 build-lets-through κs text leaf arity levels counted out after r a one two three four =

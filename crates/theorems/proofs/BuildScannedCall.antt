@@ -78,7 +78,7 @@ module _ (κs : Lfts 4) (text : Lent) (leaf arity levels : ℕ) (counted words t
         (a .1 .0 ∙ size-same S T (now out) (length (now words)) long, a .1 .1 .1 .0 ∙ leaves-same S T (now out) (length (now words)) long),
       )
 
-  -- Demand 1. A refusal is 1, 2, 3, 18 or 4; ..
+  -- Demand 1: a refusal is 1, 2, 3, 18 or 4.
   module _ (n : ℕ) (a : Says (scanned.Refused n)) where
     pub scanned-numbers : OneOf (1 ∷ 2 ∷ 3 ∷ 18 ∷ 4 ∷ []) n
     scanned-numbers = go (ℕ-discrete n 18)
@@ -103,7 +103,7 @@ module _ (κs : Lfts 4) (text : Lent) (leaf arity levels : ℕ) (counted words t
         go (inr (inr (inr (inl e)))) = omega arith
         go (inr (inr (inr (inr (inl e))))) = omega arith
 
-    -- .. 4 leaves the buffer all zero, and any other leaves it unchanged; ..
+    -- Refusal 4 leaves zeros in the whole buffer, any other refusal leaves the buffer unchanged.
     pub scanned-zeros : n ≡ 4 → now after ≡ replicate (length (now out)) 0
     scanned-zeros e = build-zeros κ text leaf arity levels counted out after n (as-refused n (λ f. omega arith) a) e
 
@@ -111,12 +111,12 @@ module _ (κs : Lfts 4) (text : Lent) (leaf arity levels : ℕ) (counted words t
     unfolding scanLeaves
     scanned-unchanged e = a .1 .1 .1 .0 ∙ rw (← a .0, ne-eqb n 0 (λ f. omega (arith, scanned-low)), ne-eqb n 4 e)
 
-    -- .. any but 4 leaves the table unchanged; after 4, and after an answer, what it holds is free.
+    -- Every refusal but 4 leaves the table unchanged. After 4, and if the call is not refused, the table's content is free.
     pub scanned-table : (n ≡ 4 → ⊥) → now table ≡ now words
     scanned-table e = a .1 .1 .1 .1 .untouched (λ f. omega (arith, scanned-low)) e
 
-  -- "It refuses a table with fewer than four words for each m bytes of text, a begun m counting whole, with 18, between questions 3 and 4": where
-  -- questions 1 to 3 let it through, whatever the buffer; and never with the words that scan_words answers.
+  -- Refused with 18, if questions 1 to 3 pass and whatever the buffer: a table of fewer than 4 × (n / m rounded up) words. A table of the size that
+  -- scan_words returns is never refused with 18.
   module _ (r : Scanned) (a : Says r) where
     pub scanned-short : lengthOk (length T) ≡ true → sizesOk S ≡ true → countedOk (now counted) ≡ true → length (now words) < tableWords (length T) leaf
         → r ≡ scanned.Refused 18
@@ -143,8 +143,8 @@ module _ (κs : Lfts 4) (text : Lent) (leaf arity levels : ℕ) (counted words t
         go (inr (inr (inr (inl e)))) = omega arith
         go (inr (inr (inr (inr (inl e))))) = omega arith
 
-    -- "For every text, setting and buffer that both take, it and the first builder write the same bytes": two calls on the same text, settings and
-    -- bytes in the buffer, of which this one is not refused by 18, answer the same number and size and leave the same bytes.
+    -- Request 106: with the same text, settings and buffer, build_scanned and build return the same number and size and leave the same bytes, unless
+    -- build_scanned is refused with 18.
     pub same-as-build : (κ : Lfts 3) (lent left : Lent) (b : Built) → now lent ≡ now out → Build κ text leaf arity levels counted lent left b
         → (numberOf r ≡ 18 → ⊥)
         → (numberOf r ≡ numberBuilt b) × (sizeOf r ≡ sizeBuilt b) × (now after ≡ now left)
@@ -161,28 +161,27 @@ module _ (κs : Lfts 4) (text : Lent) (leaf arity levels : ℕ) (counted words t
     pub scanned-answer : (size ≤ length (now out)) × (take size (now after) ≡ treeOf S T) × (drop size (now after) ≡ drop size (now out))
     scanned-answer = build-answer κ text leaf arity levels counted out after size (as-size size windows a)
 
-    -- "It reports the windows it looked up": on each level above the last, for each length that its pairs and blocks have, one at every place from
-    -- which the text holds that many bytes.
+    -- The returned number of windows is the definition's: on each level above the last, n + 1 - L for each different length L of a block or pair.
     pub scanned-windows : windows ≡ windowsOf S T
     unfolding scanWindows
     scanned-windows = a .1 .1 .0 ∙ rw (← a .0)
 
-    -- Demand 2. "The builder's output is, byte for byte, the block tree of its text; ..
+    -- Demand 2, first part: the bytes written are those of the block tree of the text.
     pub scanned-writes : take size (now after) ≡ treeOf S T
     scanned-writes = build-writes κ text leaf arity levels counted out after size (as-size size windows a)
 
     module _ (t : Lent) (is : now t ≡ take size (now after)) where
-      -- .. read back, every byte, span, run, row, count and place is the text's."
+      -- Demand 2, second part: all calls on the written tree return what the text has.
       pub scanned-answers : Answers t S T
       scanned-answers = build-answers κ text leaf arity levels counted out after size (as-size size windows a) t is
 
       pub scanned-refuses : Refuses t S T
       scanned-refuses = build-refuses κ text leaf arity levels counted out after size (as-size size windows a) t is
 
-      -- Demand 3. "What the builder writes is accepted, ..
+      -- Demand 3, last part: the check accepts the written tree.
       pub scanned-accepted : (κ : Lfts 1) (r : ℕ) → Check κ t r → r ≡ 0
       scanned-accepted = build-accepted κ text leaf arity levels counted out after size (as-size size windows a) t is
 
-      -- .. and its one text is the input."
+      -- The written tree stands for the input, and no other text fits.
       pub scanned-one-text : StandsFor (now t) T × ((U : List ℕ) → fits U (now t) ≡ true → U ≡ T)
       scanned-one-text = build-one-text κ text leaf arity levels counted out after size (as-size size windows a) t is

@@ -73,7 +73,7 @@ byte-one t p =
     (unless-one (10 ∷ []) (14 ∷ 0 ∷ []) ten (byteOf t (pathOf t p)) (asks-one ((10, ltb p (at.textLength t)) ∷ [])) (byteOf-one t (pathOf t p)))
 
 module _ (κs : Lfts 1) (t : Lent) (p : TextPlace) where
-  -- An answer is the byte at the end of the place's path, with that path's length, on any tree; ..
+  -- On any tree, the result is the byte at the end of the place's path, with that path's length.
   pub byte-answer : (v e : ℕ) → Byte κs t p (answer.Byte v e)
       → (q : Path) × (pathOf (now t) (p .0) ≡ some q) × (v ≡ at.leafByte (now t) (q .leaf)) × LengthOfPath (now t) (at.settings (now t) .levels) (p .0) e
   byte-answer v e a =
@@ -90,7 +90,7 @@ module _ (κs : Lfts 1) (t : Lent) (p : TextPlace) where
       absurd (let x : ⊥ = omega (arith, ap (λ (s : Said). s .entered) z, path-long (now t) (p .0) (w .path) (w .path-is)) in x)
   byte-not-zero (suc n) a = omega arith
 
-  -- .. and a refusal is 5, 6, 7, 10 or 14.
+  -- A refusal is 5, 6, 7, 10 or 14.
   pub byte-numbers : (n : ℕ) → Byte κs t p (answer.Refused n) → OneOf (5 ∷ 6 ∷ 7 ∷ 10 ∷ 14 ∷ []) n
   byte-numbers n a =
       let e : n ≡ byteSays (now t) (p .0) .number = ap (λ (s : Said). s .number) a in

@@ -1,8 +1,5 @@
--- check(tree): 0 for a tree that stands for exactly one text and whose counts and edges are true of it. Demand 3: "The check accepts any bytes, whoever made
--- them, exactly when questions 5 to 8 hold, a text fits and the counts are true of it", a layout 2 tree "exactly when, besides, its edges are true of the
--- text that fits". "Exactly one text then fits; byte, count and find on such a tree are never refused where questions 10 to 12 let them through, are right,
--- and report blocks entered that equal the path's length, at most twice the levels less one. What the builder writes is accepted, and its one text is the
--- input." The last sentence stands in `BuildCall`.
+-- check(tree): 0 for a tree that stands for exactly one text and whose counts and edges are true of it. Demand 3, but for its last part, on what the
+-- builders write, which is in `BuildCall` and `BuildScannedCall`.
 use mathlib.Core.List.{List, [], _∷_}
 use mathlib.Core.Bool.{true}
 use mathlib.Core.Path.{_≡_, sym, refl}
@@ -30,14 +27,13 @@ check-call = call check-function check-met.met (λ 𝓤 H A mem run κs a. (tt, 
 pub check-numbers : (κs : Lfts 1) (t : Lent) (r : ℕ) → Check κs t r → OneOf (5 ∷ 6 ∷ 7 ∷ 8 ∷ 9 ∷ 0 ∷ []) r
 check-numbers κs t r a = rw a (verdict-one (now t))
 
--- "The check accepts any bytes, whoever made them, exactly when questions 5 to 8 hold, a text fits and the counts are true of it", "a layout 2
--- tree exactly when, besides, its edges are true of the text that fits."
+-- The check returns 0 if and only if questions 5 to 8 pass and a text fits of which the counts, and in layout 2 the edges, are true.
 pub check-accepts : ExactCheck
 check-accepts = tree.check-accepts
 
 -- A call of check, on any bytes, whoever made them.
 module _ (κs : Lfts 1) (t : Lent) where
-  -- "trees of layout 1 are read and checked all the same": they have no edges, and nothing is asked of them.
+  -- In layout 1 there are no edges, and the condition on edges holds of every text.
   pub older-edges : at.layout (now t) ≡ 1 → (T : List ℕ) → edgesTrue T (now t) ≡ true
   older-edges one T = no-edges T (now t) one
 
@@ -46,12 +42,12 @@ module _ (κs : Lfts 1) (t : Lent) where
     text-is : (T : List ℕ) → fits T (now t) ≡ true → T ≡ textOf (now t)
     text-is = one-text (now t) (accepted-readable (now t) (sym c)) (accepted-links (now t) (sym c))
 
-    -- "Exactly one text then fits": the tree stands for it, and any that fits is the same.
+    -- The tree stands for one text, and no other text fits.
     pub check-one-text : (T : List ℕ) × StandsFor (now t) T × ((U : List ℕ) → fits U (now t) ≡ true → U ≡ T)
     check-one-text = tree.check-one-text κs t 0 c refl
 
-    -- "byte, count and find on such a tree are never refused where questions 10 to 12 let them through, are right, and report blocks
-    -- entered that equal the path's length, at most twice the levels less one": so are run, span and row. T is the text that fits.
+    -- If questions 10 to 12 pass, byte, count and find are not refused, return what the text T has, and return the path's length, at most 2H - 1, as blocks
+    -- entered. The other calls on a tree return what T has too. T is the text that fits.
     pub check-answers : (T : List ℕ) → fits T (now t) ≡ true → Answers t (at.settings (now t)) T
     check-answers T f = rw (text-is T f) (accepted-answers t (sym c))
 

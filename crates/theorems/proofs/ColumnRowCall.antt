@@ -58,7 +58,7 @@ column-fits t w a room h =
     leb-true w room (ask-test 12 (leb w room) fourteen y)
 
 module _ (κs : Lfts 2) (t : Lent) (w a : ℕ) (buffer after : Lent) where
-  -- An answer is w bytes, which fit, and the bytes past them are unchanged; ..
+  -- A result is w bytes, which fit, and the bytes after them are unchanged.
   pub column-answer : (m e : ℕ) → ByColumns κs t w a buffer after (copied.Bytes m e)
       → (m ≡ w) × (e ≡ 0) × (w ≤ length (now buffer)) × (drop w (now after) ≡ drop w (now buffer))
   unfolding columnSays columnLeaves
@@ -78,7 +78,7 @@ module _ (κs : Lfts 2) (t : Lent) (w a : ℕ) (buffer after : Lent) where
     unfolding columnSays
     column-says = says-refused n _ w 0 (c .0 .numbered) (c .0 .says)
 
-    -- .. a refusal is 5, 6, 7, 20, 10, 13 or 14, ..
+    -- A refusal is 5, 6, 7, 20, 10, 13 or 14.
     pub column-numbers : OneOf (5 ∷ 6 ∷ 7 ∷ 20 ∷ 10 ∷ 13 ∷ 14 ∷ []) n
     column-numbers =
         not-zero (5 ∷ 6 ∷ 7 ∷ 20 ∷ 10 ∷ 13 ∷ 14 ∷ []) n (c .0 .numbered) (rw column-says (column-one (now t) w a (length (now buffer))))
@@ -88,11 +88,11 @@ module _ (κs : Lfts 2) (t : Lent) (w a : ℕ) (buffer after : Lent) where
     unfolding columnLeaves
     column-left = c .1 ∙ rw (← column-says, ne-eqb n 0 (λ e. omega (arith, c .0 .numbered)))
 
-    -- .. "a 14 leaves the w bytes zero", ..
+    -- Refusal 14 leaves w zeros.
     pub column-zeros : n ≡ 14 → now after ≡ replicate w 0 ++ drop w (now buffer)
     column-zeros e = column-left ∙ rw (eq-eqb n 14 e)
 
-    -- .. and any other leaves the buffer unchanged.
+    -- Any other refusal leaves the buffer unchanged.
     pub column-unchanged : (n ≡ 14 → ⊥) → now after ≡ now buffer
     column-unchanged e = column-left ∙ rw (ne-eqb n 14 e)
 

@@ -25,14 +25,14 @@ use Rattle.theorems.proofs.FindCall.{Find}
 use Rattle.theorems.proofs.OneByte.{OneByte, one-byte-back, count-before, count-near, place-same}
 use Rattle.theorems.proofs.OutsideCall.{Lent}
 
--- an accepted tree that the text fits and that counts the byte, "whoever built" it, of any settings and layout
+-- an accepted tree, of any origin, settings and layout, that stands for the text and counts the byte
 pub record CountingTree (T : List ℕ) (byte : ℕ) (t : Lent) : Type 0 where
   pub lifetime : Lfts 1
   pub accepted : Check lifetime t 0
   pub fitting : fits T (now t) ≡ true
   pub counting : Among byte (at.settings (now t) .counted)
 
--- two answers of count, from d the place of the difference: neither is refused, and ..
+-- two results of count, where the texts differ at place d: neither is refused
 pub record CountsNear (d i : ℕ) (r s : Counted) : Type 0 where
   pub one : ℕ
   pub other : ℕ
@@ -40,10 +40,10 @@ pub record CountsNear (d i : ℕ) (r s : Counted) : Type 0 where
   pub other-entered : ℕ
   pub one-is : r ≡ counted.Times one one-entered
   pub other-is : s ≡ counted.Times other other-entered
-  -- .. "differs by at most one, ..
+  -- they are at most 1 apart
   pub above : one ≤ other + 1
   pub below : other ≤ one + 1
-  -- .. and not at all where i does not pass that place"
+  -- they are equal if place d is not among the first i
   pub same : i ≤ d → one ≡ other
 
 -- an answer of find: this place, with any figure
@@ -98,9 +98,9 @@ place-kept T U d k byte t u kt ku κs κ j r s a b p before is =
     same : (p : TextPlace) (x y f : ℕ) (s : Found) → p ≡ record { 0 = x } → y ≡ x → s ≡ found.At (record { 0 = y }) f → s ≡ found.At p f
     same p x y f s p-is y-is s-is = rw (p-is, ← y-is) s-is
 
--- "two texts of equal length that differ in one place", and "any two accepted trees that these texts fit and that count the byte, whoever built them"
+-- Request 111: T and U differ at place d only; t and u are accepted trees of these texts, and both count the byte.
 module _ (T U : List ℕ) (d : ℕ) (k : OneByte T U d) (byte : ℕ) (t u : Lent) (kt : CountingTree T byte t) (ku : CountingTree U byte u) where
-  -- "each count over the first i bytes differs by at most one, and not at all where i does not pass that place"
+  -- the counts in the first i bytes are at most 1 apart, and equal for i up to d
   pub counts-near : (κs κ : Lfts 1) (i : ℕ) (r s : Counted) → Count κs t byte i r → Count κ u byte i s → i ≤ length T → CountsNear d i r s
   counts-near κs κ i r s a b h =
       let x = count-of T byte t kt κs i r a h in
@@ -117,7 +117,7 @@ module _ (T U : List ℕ) (d : ℕ) (k : OneByte T U d) (byte : ℕ) (t u : Lent
         same = count-before T U d k byte i;
       }
 
-  -- "A j-th place that lies before it is the same in both"
+  -- if find returns a place before d for one of the trees, it returns the same for the other
   pub place-before : (κs κ : Lfts 1) (j : ℕ) (r s : Found) → Find κs t byte j r → Find κ u byte j s
       → (p : TextPlace) → p .0 < d → FoundAt r p ↔ FoundAt s p
   place-before κs κ j r s a b p before = (

@@ -1,5 +1,5 @@
--- count(tree, byte, i): how often a counted byte stands in the first i bytes, with the blocks entered; uncounted(tree, i) answers the number that refuses a
--- count of what is no byte.
+-- count(tree, byte, i), rank: how often a counted byte occurs in the first i bytes, with the blocks entered; uncounted(tree, i) returns the refusal for a
+-- number that is not a byte.
 use mathlib.Core.List.{List, [], _∷_}
 use mathlib.Core.Option.{Option, some, none}
 use mathlib.Core.Bool.{Bool, true, false, cond}
@@ -85,7 +85,7 @@ count-summed t byte i h =
         let minus = taken t c (q .visits) in
         inr (some-path r q minus plus (leb minus plus) e k)
 
--- An answer has the length of the path of place i - 1, on any tree, or is 0 with none entered, for no bytes; ..
+-- On any tree, blocks entered is the length of the path of place i - 1, and for i = 0 the count is 0 with no blocks entered.
 pub count-answer : (κs : Lfts 1) (t : Lent) (byte i c e : ℕ) → Count κs t byte i (counted.Times c e)
     → ((i ≡ 0) × (c ≡ 0) × (e ≡ 0)) ⊎ LengthOfPath (now t) (at.settings (now t) .levels) (i - 1) e
 count-answer κs t byte i c e a = go (count-summed (now t) byte i (sym (ap (λ (s : Said). s .number) (a .says))))
@@ -123,7 +123,7 @@ module _ (t : List ℕ) where
       (unless-one (10 ∷ 11 ∷ []) (14 ∷ 0 ∷ []) _ _ (asks-one ((10, leb i (at.textLength t)) ∷ (11, isCounted t byte) ∷ []))
       (none-or (eqb i 0) (countOf t byte (numberOfByte t byte) (pathOf t (i - 1))) _ (countOf-one byte (numberOfByte t byte) (pathOf t (i - 1))) refl))
 
--- .. a refusal is 5, 6, 7, 10, 11 or 14.
+-- A refusal is 5, 6, 7, 10, 11 or 14.
 pub count-numbers : (κs : Lfts 1) (t : Lent) (byte i n : ℕ) → Count κs t byte i (counted.Refused n) → OneOf (5 ∷ 6 ∷ 7 ∷ 10 ∷ 11 ∷ 14 ∷ []) n
 count-numbers κs t byte i n a =
     let e : n ≡ countSays (now t) byte i .number = ap (λ (s : Said). s .number) (a .says) in

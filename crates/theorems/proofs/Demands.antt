@@ -3,9 +3,9 @@
 -- specs/Promises.antt. The sentences are quoted from docs/FORMAT.md, which calls itself this page.
 use mathlib.Core.Path.{_∙_}
 use Rattle.theorems.specs.Promises.{AnyTree, BuiltTree, ScannedTree}
--- Demand 1. "Every call ends, on every text, setting, tree and question; reads and writes only what was lent; ..
+-- Demand 1: every call terminates and touches only the memory it was lent.
 pub use Rattle.theorems.proofs.EveryCall.{every-call-ends}
--- .. gives its answer or a numbered refusal of this page; ..
+-- Demand 1: a call returns a result or one of its refusals.
 pub use Rattle.theorems.proofs.CheckCall.{check-numbers}
 pub use Rattle.theorems.proofs.EnoughCall.{enough-numbers}
 pub use Rattle.theorems.proofs.ByteCall.{byte-answer, byte-numbers}
@@ -15,77 +15,70 @@ pub use Rattle.theorems.proofs.FindCall.{find-answer, find-numbers}
 pub use Rattle.theorems.proofs.BuildCall.{build-numbers}
 pub use Rattle.theorems.proofs.SpanCall.{span-numbers}
 pub use Rattle.theorems.proofs.RowCall.{row-numbers}
--- .. trusts no caller to have checked a tree; ..
+-- Demand 1: no call has a precondition.
 pub use Rattle.theorems.proofs.EveryCall.{trusts-no-caller}
--- .. leaves each lent buffer as this page says."
+-- Demand 1: what a call leaves in each buffer.
 pub use Rattle.theorems.proofs.BuildCall.{build-answer, build-zeros, build-unchanged}
 pub use Rattle.theorems.proofs.SpanCall.{span-answer, span-zeros, span-unchanged}
 pub use Rattle.theorems.proofs.RowCall.{row-answer, row-free, row-free-short, row-leaves}
--- With the room that enough answers, build is not refused for want of it.
+-- In a buffer of the size that enough returns, build is not refused with 4.
 pub use Rattle.theorems.proofs.BuildCall.{build-has-room}
--- Demand 2. "The builder's output is, byte for byte, the block tree of its text as this page defines it; ..
+-- Demand 2: the bytes that build writes are those of the block tree of its text.
 pub use Rattle.theorems.proofs.BuildCall.{build-writes}
--- .. read back, every byte, span, run, row, count and place is the text's."
+-- Demand 2: all calls on the written tree return what the text has.
 pub use Rattle.theorems.proofs.BuildCall.{build-answers, build-refuses}
--- Demand 3. "The check accepts any bytes, whoever made them, exactly when questions 5 to 8 hold, a text fits and the counts are true of it",
--- "a layout 2 tree exactly when, besides, its edges are true of the text that fits"; of layout 1 nothing is asked besides. ..
+-- Demand 3: the check accepts bytes, of any origin, if and only if questions 5 to 8 pass and a text fits of which the counts, and in layout 2 the edges,
+-- are true. In layout 1 the condition on edges is void.
 pub use Rattle.theorems.proofs.CheckCall.{check-accepts, older-edges}
--- .. Exactly one text then fits; ..
+-- Demand 3: no other text fits.
 pub use Rattle.theorems.proofs.CheckCall.{check-one-text}
--- .. byte, count and find on such a tree are never refused where questions 10 to 12 let them through, are right, and report blocks entered
--- that equal the path's length, at most twice the levels less one. ..
+-- Demand 3: on an accepted tree only questions 10 to 12 refuse byte, count and find; their results are the text's, with the path's length, at most 2H - 1.
 pub use Rattle.theorems.proofs.CheckCall.{check-answers, check-refuses}
--- .. "What the builder writes is accepted, and its one text is the input."
+-- Demand 3: the check accepts what build writes, and the text that fits is the input.
 pub use Rattle.theorems.proofs.BuildCall.{build-accepted, build-one-text}
--- .. "For every text, setting and buffer that questions 1 to 4 let through, the builder writes the tree": no buffer that holds it is refused.
+-- Demand 3: build is refused by questions 1 to 4 only, and by 4 only if the buffer is shorter than the tree.
 pub use Rattle.theorems.proofs.BuildCall.{build-lets-through}
--- Rows. "If the text's last byte is not 10, the bytes after the last byte 10 (or all the text, where none stands) are one more row. Its number
--- is the total of byte 10 plus one. ..
+-- Request 101: a text has as many rows as bytes 10, plus one if its last byte is another one; that row is what comes after the last byte 10.
 pub use Rattle.text.specs.RowLaws.{rows-count, row-last}
--- .. and question 12 counts the added row." ..
+-- Request 101: questions 11 and 12 of row, where 12 allows that row.
 pub use Rattle.theory_counts.specs.RowsOfText.{row-lets, row-twelve, row-eleven}
--- .. "One byte 13 directly before the ending byte 10 belongs to the end and not to the row. A byte 13 anywhere else stays in the row, also at
--- the end of a row that has no byte 10" (`row-last`).
+-- Request 102: a byte 13 next to the byte 10 that ends a row is left out of the row; every other byte 13 is part of its row (`row-last` for the row that
+-- no byte 10 ends).
 pub use Rattle.text.specs.RowLaws.{row-between, trimmed-mark, trimmed-plain, trimmed-none}
--- Edges. "question 9 also covers edges and their zeros": what the check looks at is exact. ..
+-- Request 103: the local test of edges, zeros included, that the check makes is exact.
 pub use Rattle.theory_edges.specs.Demands.{edges-exact}
--- .. "On a layout 2 tree a span of 1 to m bytes goes down only while it lies in one block, and where it crosses a border the two edges give it": on
--- an accepted tree it is never refused with 14, and these are the text's bytes. ..
+-- Request 103: on an accepted tree the walk of a short span does not break and gives the bytes of the text.
 pub use Rattle.theory_edges.specs.Demands.{short-holds, short-text}
--- .. "It reports the blocks entered, on an accepted tree at most twice the number of levels": at least one, and so many on any tree that passes
--- questions 5 to 7. "Any other span is read by its bytes' paths and reports 0."
+-- Request 103: blocks entered of a short span, on any tree that passes questions 5 to 7, are those of its walk, 1 to 2H; for other spans they are 0.
 pub use Rattle.theory_edges.specs.Demands.{span-walked, span-entered, span-other}
--- Places. "all its places are written to a lent table of words in rising order, each once, overlaps included, with their number": of a
--- tree that the check accepts and of what build writes, `places-of` of `Answers`. ..
--- .. "They are the places in the bytes that its paths give, on an accepted tree its text; ..
+-- Request 105, places: for accepted trees and what build writes, `places-of` of `Answers`. For any bytes given as a tree, the places are those in what the
+-- paths give.
 pub use Rattle.theorems.proofs.PlacesCall.{places-answer}
--- .. it gives 14 if the path of some place below n breaks. It refuses a pattern of other length with 16, after question 7, and a table that is
--- too short with 17, after 14; ..
+-- Request 105: the refusals of places in their order, 5 to 7, 16, 14 and 17.
 pub use Rattle.ask_patterns.proofs.Demands.{places-unread, places-length, places-broken, places-short, places-written}
 pub use Rattle.theorems.proofs.PlacesCall.{places-numbers}
--- .. the table is untouched either way."
+-- Request 105: a refusal leaves the table unchanged.
 pub use Rattle.theorems.proofs.PlacesCall.{places-unchanged}
--- The builder with one scan a level: its numbers, the buffer and the table; ..
+-- Request 106, the builder with one scan a level: its refusals, the buffer and the table.
 pub use Rattle.theorems.proofs.BuildScannedCall.{scanned-answer, scanned-numbers, scanned-zeros, scanned-unchanged}
 pub use Rattle.theorems.proofs.BuildScannedCall.{scanned-table, scanned-short, scanned-has-table}
--- .. "for every text, setting and buffer that both take, it and the first builder write the same bytes"; the windows that it reports; ..
+-- Request 106: it writes what build writes, and the windows that it returns are the definition's.
 pub use Rattle.theorems.proofs.BuildScannedCall.{same-as-build, scanned-windows}
--- .. demand 2, and the end of demand 3.
+-- Demand 2 and the last part of demand 3, for build_scanned.
 pub use Rattle.theorems.proofs.BuildScannedCall.{scanned-writes, scanned-answers, scanned-refuses, scanned-accepted, scanned-one-text}
--- Worn keys. "the mark that the machine lends is moved on to the next match .. If no row after it matches, the answer is none and the mark goes to the
--- number of rows; a mark already there or beyond stays": `match-of` of `Answers`; of the lent mark, ..
+-- Request 107, worn keys: on an accepted tree the next matching row is returned (`match-of` of `Answers`). The mark moves to that row; with none it moves to
+-- the number of rows unless it is above.
 pub use Rattle.ask_worn_keys.proofs.Demands.{row-rises, none-moves}
--- .. "On an accepted tree, from mark 0 to none, with the question kept and the mark moved by nothing else, each match and no other row is shown,
--- once, in row order", ..
+-- Request 107: repeated calls from mark 0 until none return the list of matching rows.
 pub use Rattle.ask_worn_keys.proofs.Demands.{all-matches}
--- .. that is, the list rises (`selected-rise`) and has exactly the rows that match (`selected-in`, `in-selected`), ..
+-- That list is increasing (`selected-rise`) and has exactly the rows that match (`selected-in`, `in-selected`).
 pub use Rattle.row_filter.specs.SelectedRowLaws.{all-shown, selected-rise, selected-in, in-selected}
--- .. "and widening a range loses no match." ..
+-- Request 107: wider ranges return every row that the narrower ones return.
 pub use Rattle.ask_worn_keys.proofs.Demands.{wider-loses-none}
--- .. "It refuses a number of cuts outside 1 to 10, a depth above 9 or a low above its high with 19, after question 7 and before 11; ..
+-- Request 107: the refusals in their order, 5 to 7, 19, 11 and 14.
 pub use Rattle.ask_worn_keys.proofs.Demands.{match-unread, match-ranges, match-uncounted}
 pub use Rattle.theorems.proofs.NextMatchCall.{match-numbers}
--- .. any refusal leaves the mark. On a tree the check refuses, the match shown is left free as row is": what holds of it all the same.
+-- Request 107: a refusal leaves the mark unchanged. On a tree that the check refuses, the row is free, but these hold.
 pub use Rattle.ask_worn_keys.proofs.Demands.{refusal-leaves, row-after, none-after}
 -- Rows by their first bytes. On an accepted tree the answer is the next row after the mark that starts with the prefix, or none, with the mark at the number
 -- of rows: `prefix-of` of `Answers`. A returned row is after the mark.
@@ -102,105 +95,100 @@ pub use Rattle.query_prefix.proofs.Demands.{guided-as-prefix}
 pub use Rattle.theorems.proofs.PrefixRowCall.{prefix-guided-numbers}
 -- A refusal leaves the mark. A row returned from a refused tree, or with a wrong guide, is after the mark too, and at most total + 1 of byte 10.
 pub use Rattle.query_prefix.proofs.Demands.{prefix-keeps-mark, prefix-row-after, prefix-none-after}
--- Columns. "the byte in column b of row a goes to b × rows + a, both counted from 0. Its inverse restores the text, ..
+-- Request 108: to columns is the transposition of the text's rows, and from columns is its inverse.
 pub use Rattle.columns.specs.ColumnLaws.{columns-at, columns-moves, uncolumns-moves, restored, rearranged}
 pub use Rattle.columns.proofs.Demands.{there-and-back, back-and-there}
--- .. each is a permutation of the places, and an empty text stays empty. ..
+-- Request 108: both are permutations of the places, and map the empty text to itself.
 pub use Rattle.columns.specs.ColumnLaws.{goes-below, goes-back, comes-below, comes-back, empty-columns, empty-uncolumns}
 pub use Rattle.columns.proofs.Demands.{empty-stays}
--- .. Row a read by columns from the tree of a rearranged text is row a of the text; ..
+-- Request 108: row by columns gives the rows of the original text.
 pub use Rattle.theorems.proofs.RowsByColumns.{accepted-rows, built-rows, scanned-rows}
--- .. the reading asks 5 to 7, 20, 10 (a below rows), 13, 14, ..
+-- Request 108: the refusals of row by columns in their order, 5 to 7, 20, 10, 13 and 14.
 pub use Rattle.ask_columns.proofs.Demands.{column-unread, column-width, column-past, column-short, column-broken, column-read}
 pub use Rattle.theorems.proofs.ColumnRowCall.{column-numbers}
--- .. and a 14 leaves the w bytes zero. ..
+-- Request 108: what row by columns leaves in the buffer, which after 14 begins with w zeros.
 pub use Rattle.theorems.proofs.ColumnRowCall.{column-answer, column-zeros, column-unchanged}
--- .. It refuses a width of 0 or one that does not divide the length with 20, then an output shorter than the input with 21, output untouched."
+-- Request 108: the refusals of to columns and from columns, 20 and then 21, which leave the output unchanged.
 pub use Rattle.columns.proofs.Demands.{to-columns, from-columns}
 pub use Rattle.theorems.proofs.ColumnsCall.{to-columns-numbers, from-columns-numbers}
--- Digest. "the SHA-256 (FIPS 180-4) of the bytes that the paths of places 0 to n - 1 give, on an accepted tree of its text, is written to the first 32
--- bytes of a buffer": `digest-of` of `Answers`, for every tree that the check accepts and for what build writes. For the one text that fits, and for build
--- and digest_text together: digest-accepted, digest-built.
+-- Digest: for accepted trees and what build writes, the SHA-256 of the text (`digest-of` of `Answers`). For the only text that fits, and for build and
+-- digest_text together: `digest-accepted`, `digest-built`.
 pub use Rattle.query_digest.proofs.Demands.{digest-accepted, digest-bytes, digest-built}
 pub use Rattle.sha256.proofs.Demands.{digest-text-short, digest-text-written, digest-text-bytes}
--- "It asks 5 to 7, then 13: the buffer has fewer than 32 bytes, then 14: the path of some place below n breaks. A 14 leaves the 32 bytes zero."
+-- Digest: the refusals in their order, 5 to 7, 13 and 14, and the buffer, which after 14 begins with 32 zeros.
 pub use Rattle.query_digest.proofs.Demands.{digest-unread, digest-short, digest-broken}
 pub use Rattle.theorems.proofs.DigestCall.{digest-numbers, digest-zeros, digest-unchanged, digest-text-numbers}
--- A text of no bytes "builds a tree of the header alone .. and the check accepts it. Its counts of 0 bytes are 0, its totals are 0, it has no row, and
--- a byte is refused with 10": `built-tree` and `scanned-tree` below hold of it as of any text; of a tree with n 0 that the check accepts, whoever made it, ..
+-- Request 110, the empty text: `built-tree` and `scanned-tree` below hold of it as of any text. An accepted tree with n 0, of any origin, is a header, and
+-- only the empty text fits.
 pub use Rattle.theorems.proofs.EmptyText.{empty-counts, empty-offsets, empty-header, empty-text, empty-answers}
--- .. and of what is answered from the empty text: ..
+-- Request 110: what each call returns for the empty text.
 pub use Rattle.theorems.proofs.EmptyText.{empty-byte, empty-run, empty-span, empty-span-past, empty-count, empty-count-past, empty-find, empty-row}
--- One byte corrected. "two texts of equal length that differ in one place": `OneByte`. "each count over the first i bytes differs by at most one, and not at
--- all where i does not pass that place. A j-th place that lies before it is the same in both": of the texts, ..
+-- Request 111, one byte corrected, about texts: `OneByte` says that they differ at place d only. Then counts are at most 1 apart, equal up to d, and
+-- occurrences before d are the same.
 pub use Rattle.theorems.proofs.OneByte.{OneByte, one-byte-back, count-near, count-before, count-past, place-same}
--- .. "This holds for the answers read from any two accepted trees that these texts fit and that count the byte, whoever built them."
+-- Request 111: the same of what count and find return for two accepted trees of these texts that count the byte.
 pub use Rattle.theorems.proofs.Corrections.{CountingTree, CountsNear, counts-near, FoundAt, place-before}
--- A guide to the level 0 blocks. "for each counted byte in order, the number of the level 0 block holding its 1st, 65th, 129th occurrence and so on, a
--- word each": so many entries, and what each is; ..
+-- Request 113, guides: how many entries a counted byte has, and which block each of them is.
 pub use Rattle.ask_guide.proofs.Demands.{guide-entries, guide-holds}
--- .. "in making one after the tree's check, a table too short with 25, untouched"; else the words, which the check accepts, and their number, ..
+-- Request 113: making is refused with 5 to 9 or 25, and the table is then unchanged; else the words are written, and check_guide accepts them.
 pub use Rattle.ask_guide.proofs.Demands.{make-unread, make-short, make-writes, made-accepted, size-of-guide, size-refused}
--- .. "in checking a guide after the tree, a wrong length or entry with 24": it accepts the guide of an accepted tree and nothing else. ..
+-- Request 113: checking accepts the guide of an accepted tree and nothing else; its refusals are 5 to 9, then 24.
 pub use Rattle.ask_guide.proofs.Demands.{check-guide-accepts, check-guide-unread, check-guide-wrong}
--- .. "for an accepted tree and guide its answer and blocks entered are those without. It also reports its steps on level 0, counted on the way: for an
--- accepted tree and guide, the number of the level 0 block holding the place less that entry"; a row by such finds is row's. ..
+-- Request 113: with an accepted tree and guide, find and row return what they return without one, and the steps are the place's block of level 0 less the
+-- entry.
 pub use Rattle.ask_guided.proofs.Demands.{guided-as-find, guided-steps}
 pub use Rattle.theorems.proofs.FindGuidedCall.{guided-of-text}
 pub use Rattle.ask_rows.proofs.Demands.{guided-as-row}
--- .. "A guide never checked may at worst lead to a wrong place below n or to 14; that is left free": the questions before are settled for any bytes.
+-- Request 113: with any other guide the worst results are 14 and a place below n. The questions before the walk do not depend on the guide.
 pub use Rattle.ask_guided.proofs.Demands.{guided-asked, guided-worst}
 pub use Rattle.theorems.proofs.FindGuidedCall.{guided-below, guided-numbers}
 pub use Rattle.theorems.proofs.RowGuidedCall.{row-guided-answer, row-guided-free, row-guided-free-short, row-guided-numbers, row-guided-leaves}
 pub use Rattle.theorems.proofs.GuideCall.{check-guide-numbers, make-guide-numbers, guide-words-numbers}
--- The order of books. "compared by reading: before, same or after, and the length of the shared beginning. Besides, the call hands back the tree that
--- stands first, as lent, the first given if they are the same", whatever the settings and layouts: the answer depends on the texts alone. ..
+-- Request 114, the order of books: for accepted trees the order, the longest common prefix and the returned tree depend on the two texts only.
 pub use Rattle.theorems.proofs.OrderCall.{compare-of, first-of, texts-alone, first-alone}
--- .. "Two texts are ordered by the first byte that differs, unsigned; where one is the beginning of the other, the shorter stands first." ..
+-- Request 114: the order is lexicographic, by unsigned bytes, with a prefix before the longer text.
 pub use Rattle.theorems.proofs.OrderCall.{stands-by, shared-is, shared-flip, empty-first}
--- .. "For accepted trees this is a total order on their texts." ..
+-- Request 114: on the texts of accepted trees it is a total order.
 pub use Rattle.theorems.proofs.OrderCall.{tree-order, compare-flip, text-order, standing-flip, standing-refl, standing-same, standing-trans}
--- .. "Questions 5 to 7 are put to the first tree, then to the second; after that each place .. where 14 may come": the numbers, for any lent bytes.
+-- Request 114: the refusals in their order, for any bytes given as trees.
 pub use Rattle.theorems.proofs.OrderCall.{order-numbers}
 pub use Rattle.ask_order.proofs.Demands.{order-unread, order-unread-2, order-broken, order-broken-2, order-below, order-above}
--- What a caller must know of a tree without reading its bytes. The figures: those of the header and the totals, or the number of questions 5 to 7 and every
--- figure 0; on an accepted tree n is the text's length, and each total says how often its byte stands in the text. ..
+-- Figures of a tree: those of the header and the totals, or a refusal with every figure 0. On an accepted tree n is the text's length, and each total is the
+-- number of occurrences of its byte in the text.
 pub use Rattle.ask_facts.proofs.Demands.{version-is, info-told, info-refused, info-length, info-totals}
 pub use Rattle.theorems.proofs.InfoCall.{info-numbers}
--- .. The number of rows, and the length of each, on an accepted tree the text's; a buffer of that length is enough for row. ..
+-- The number of rows and their lengths: on an accepted tree those of the text, and a buffer of that length is enough for row.
 pub use Rattle.ask_rows.proofs.Demands.{rows-of-text, length-of-text, length-enough}
 pub use Rattle.theorems.proofs.RowCountCall.{row-count-numbers}
 pub use Rattle.theorems.proofs.RowLengthCall.{length-numbers}
--- .. The words of a table for the places of any pattern of some length: on any tree that passes questions 5 to 7 they hold all places, and 17 is no answer.
+-- The words of a table for the places of any pattern of some length: on any tree that passes questions 5 to 7 they are enough, so places is not refused
+-- with 17.
 pub use Rattle.ask_patterns.proofs.Demands.{room-holds, room-enough}
 pub use Rattle.theorems.proofs.PlacesWordsCall.{room-numbers}
--- A tree without its edges. "Of any bytes that pass questions 5 to 7, the same tree is written in layout 1 to the start of a lent buffer, and its size is
--- returned .. It is refused with 5, 6 or 7, then with 13 if the buffer is too small for it; a refused call leaves the buffer unchanged. The bytes of the
--- buffer past the tree are always unchanged."
+-- A tree without its edges: the refusals 5 to 7 and 13, which leave the buffer unchanged; else the tree in layout 1 at the buffer's start.
 pub use Rattle.build_without_edges.proofs.Demands.{refused-unreadable, refused-room, written-tree, tree-size-suffices, lent-on}
 pub use Rattle.theorems.proofs.WithoutEdgesCall.{without-edges-numbers}
--- "The written tree has the same settings, counts, links, leaf bytes, paths and text. The check returns for it what it returns for the given tree if edges are
--- ignored .. A tree of layout 1 is copied, and the written tree is never larger than the given one."
+-- For any tree that passes questions 5 to 7: fields, paths and text stay the same, the check returns what it returns if edges are ignored, a tree of layout
+-- 1 is copied, and no tree becomes larger.
 pub use Rattle.build_without_edges.proofs.Demands.{written-readable, written-text, written-byte, written-verdict, written-same, written-shorter}
 pub use Rattle.theory_without_edges.specs.Layout1Accepted.{layout1-length, layout1-saves, built-layout1-length}
--- "If the check accepts the given tree, it accepts the written one, the same text fits it and no other, and every question is answered from that text."
+-- For an accepted tree: the written tree is accepted, only the same text fits, and every call returns what that text has.
 pub use Rattle.build_without_edges.proofs.Demands.{written-accepted, written-only}
 pub use Rattle.theorems.proofs.WithoutEdgesCall.{without-edges-answers, without-edges-refuses}
--- "If the given tree is the one that build writes of a text, the written tree is the block tree of that text in layout 1."
+-- For a tree that build wrote: the written tree is the text's block tree in layout 1.
 pub use Rattle.build_without_edges.proofs.Demands.{written-built}
 pub use Rattle.theory_without_edges.specs.TreeInLayout.{same-built}
 
 -- The roads to a tree, each in one theorem; `Promises` has their statements.
 
--- A tree that check accepted, whoever made it: exactly one text fits it, and every question is answered from that text.
+-- A tree that check accepted, of any origin: exactly one text fits it, and every call returns what that text has.
 pub any-tree : AnyTree
 any-tree κs t c =
     let one = check-one-text κs t c in
     let fit = one .1 .fitting in
     (one .0, record { stands = one .1; only = one .2; answers = check-answers κs t c (one .0) fit; refuses = check-refuses κs t c (one .0) fit })
 
--- A tree that build wrote: it is the block tree of the text, check accepts it, the text and no other fits it, and every question is answered
--- from the text.
+-- A tree that build wrote: it is the block tree of the text, check accepts it, the text and no other fits it, and every call returns what the text has.
 pub built-tree : BuiltTree
 built-tree κs text leaf arity levels counted out after size a t is =
     let one = build-one-text κs text leaf arity levels counted out after size a t is in (

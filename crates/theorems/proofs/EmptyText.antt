@@ -1,5 +1,5 @@
--- A text of no bytes: it "builds a tree of the header alone, with all counts 0, .. and the check accepts it. Its counts of 0 bytes are 0, its totals
--- are 0, it has no row, and a byte is refused with 10." All of it follows from what holds of every text.
+-- Request 110, the empty text: its tree is the header, which the check accepts, and what the calls return for it. All follows from the theorems on any
+-- text.
 use mathlib.Core.List.{List, []}
 use mathlib.Core.Bool.{true}
 use mathlib.Core.Path.{_≡_, sym, ap, _∙_}
@@ -47,14 +47,14 @@ use Rattle.theorems.proofs.SpanCall.{Span}
 
 -- The answers of a tree of the empty text, whichever road led to it.
 module _ (t : Lent) (S : Settings) (answers : Answers t S []) (refuses : Refuses t S []) where
-  -- "a byte is refused with 10", and its run is empty; ..
+  -- byte is refused with 10, and a run is empty
   pub empty-byte : (κ : Lfts 1) (p : TextPlace) (r : Answer) → Byte κ t p r → r ≡ answer.Refused 10
   empty-byte κ p r b = refuses .byte .byte-past κ p r b (omega arith)
 
   pub empty-run : (κ : Lfts 1) (p : TextPlace) (r : Lent) → Run κ t p r → now r ≡ []
   empty-run κ p r b = refuses .run .run-past κ p r b (omega arith)
 
-  -- .. a span of 0 bytes at 0 is empty, any other is refused with 10; ..
+  -- a span of 0 bytes at place 0 is empty; any other span is refused with 10
   pub empty-span : (κ : Lfts 2) (p : TextPlace) (buffer after : Lent) (r : Copied) → Span κ t p 0 buffer after r → p .0 ≡ 0
       → (r ≡ copied.Bytes 0 0) × (now after ≡ now buffer)
   unfolding stretch
@@ -66,19 +66,19 @@ module _ (t : Lent) (S : Settings) (answers : Answers t S []) (refuses : Refuses
       → (r ≡ copied.Refused 10) × (now after ≡ now buffer)
   empty-span-past κ p len buffer after r s some = refuses .span .span-past κ p len buffer after r s (omega arith)
 
-  -- .. "Its counts of 0 bytes are 0", with none entered, and of more are refused with 10; ..
+  -- a count in 0 bytes is 0, with no blocks entered; a count in more bytes is refused with 10
   pub empty-count : (κ : Lfts 1) (byte : ℕ) (r : Counted) → Count κ t byte 0 r → Among byte (S .counted) → r ≡ counted.Times 0 0
   empty-count = answers .count .count-none
 
   pub empty-count-past : (κ : Lfts 1) (byte i : ℕ) (r : Counted) → Count κ t byte i r → 1 ≤ i → r ≡ counted.Refused 10
   empty-count-past κ byte i r c some = refuses .count .count-past κ byte i r c (omega arith)
 
-  -- .. "its totals are 0": there is no j-th byte; ..
+  -- no byte occurs, so find is refused with 12
   pub empty-find : (κ : Lfts 1) (byte j : ℕ) (r : Found) → Find κ t byte j r → Among byte (S .counted) → r ≡ found.Refused 12
   unfolding countIn
   empty-find κ byte j r f k = refuses .find .find-none κ byte j r f k (λ low high. omega arith)
 
-  -- .. "it has no row".
+  -- there is no row
   pub empty-row : (κ : Lfts 2) (q : ℕ) (buffer after : Lent) (r : RowCopied) → Row κ t q buffer after r → Among 10 (S .counted)
       → (r ≡ rows.Refused 12) × (now after ≡ now buffer)
   unfolding rowsOf
@@ -103,7 +103,7 @@ module _ (κs : Lfts 1) (t : Lent) (c : Check κs t 0) (none : at.textLength (no
   no-sum : (l : ℕ) → l ≤ at.settings (now t) .levels → sumBelow l (at.levelCount (now t)) ≡ 0
   no-sum l h = sumBelow-none l (at.levelCount (now t)) (λ i il. no-blocks i (omega arith))
 
-  -- every count is 0: of the used levels, of the unused ones, and of the leaf bytes; ..
+  -- every count is 0: of the used levels, of the unused ones, and of the leaf bytes
   pub empty-counts : ((l : ℕ) → l < maxLevels → at.levelCount (now t) l ≡ 0) × (at.leafCount (now t) ≡ 0)
   unfolding sumBelow
   empty-counts = ((λ l h. level l h (lt-or-ge l (at.settings (now t) .levels))), leaves)
@@ -117,7 +117,7 @@ module _ (κs : Lfts 1) (t : Lent) (c : Check κs t 0) (none : at.textLength (no
           let H = at.settings (now t) .levels in
           sym (rw (no-blocks (H - 1) (omega (arith, k .bounds .levels-low))) at (d .leaf-count (omega (arith, k .bounds .levels-low))))
 
-  -- .. the offsets of the used levels and of the leaf bytes are 100, those of the unused levels 0; ..
+  -- the offsets of the used levels and of the leaf bytes are 100, those of the unused levels 0
   pub empty-offsets : ((l : ℕ) → l < at.settings (now t) .levels → at.levelOffset (now t) l ≡ headerLength)
       × ((l : ℕ) → at.settings (now t) .levels ≤ l → l < maxLevels → at.levelOffset (now t) l ≡ 0) × (at.leafOffset (now t) ≡ headerLength)
   empty-offsets = (
@@ -129,11 +129,11 @@ module _ (κs : Lfts 1) (t : Lent) (c : Check κs t 0) (none : at.textLength (no
       after-none : (size : ℕ) → headerLength + 0 * size ≡ headerLength
       after-none size = rw (zero-mul size) (omega arith)
 
-  -- .. the tree is the header alone; ..
+  -- the tree has no bytes after the header
   pub empty-header : length (now t) ≡ headerLength
   empty-header = omega (arith, k .size, empty-offsets .2, empty-counts .1)
 
-  -- .. exactly one text fits it, the empty one, ..
+  -- the empty text fits the tree, and no other
   text-none : textOf (now t) ≡ []
   unfolding textOf tabulate
   text-none = rw none
@@ -144,6 +144,6 @@ module _ (κs : Lfts 1) (t : Lent) (c : Check κs t 0) (none : at.textLength (no
       let e : one .0 ≡ [] = one-text (now t) (one .1 .readable-is) (one .1 .linked) (one .0) (one .1 .fitting) ∙ text-none in
       (rw e at (one .1 .fitting), λ U f. one .2 U f ∙ e)
 
-  -- .. and the questions are answered from it.
+  -- what the calls return is that of the empty text
   pub empty-answers : Answers t (at.settings (now t)) [] × Refuses t (at.settings (now t)) []
   empty-answers = (check-answers κs t c [] (empty-text .0), check-refuses κs t c [] (empty-text .0))

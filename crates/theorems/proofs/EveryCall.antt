@@ -76,10 +76,10 @@ calls =
     ∷ WithoutEdgesCall.without-edges-call
     ∷ []
 
--- "Every call ends, on every text, setting, tree and question; reads and writes only what was lent" (`Ends`).
+-- Demand 1: each call is totally correct, with a frame (`Ends`).
 pub every-call-ends : EveryCallEnds
 every-call-ends = (each-ends calls, exports.every-call-ends, lists.every-call-ends, days.every-call-ends)
 
--- "trusts no caller to have checked a tree": what a call asks of its caller holds of any arguments (`AsksNothing`).
+-- Demand 1: no call has a precondition (`AsksNothing`).
 pub trusts-no-caller : NoPreconditions
 trusts-no-caller = (each-asks-nothing calls, exports.trusts-no-caller, lists.trusts-no-caller, days.trusts-no-caller)

@@ -45,11 +45,11 @@ module _ (κs : Lfts 1) (t : Lent) (byte j : ℕ) where
   outcome-of : (s : Said) → FindSays (now t) byte j s → FindOutcome (now t) byte j s
   outcome-of s f = find-outcome (now t) byte j (verdict (now t)) (λ v. v) s f
 
-  -- An answer is a place of the text; ..
+  -- A returned place is a place of the text.
   pub find-answer : (p : TextPlace) (e : ℕ) → Find κs t byte j (found.At p e) → p .0 < at.textLength (now t)
   find-answer p e a = outcome-below (now t) byte j (record { number = 0; value = p .0; entered = e }) refl (outcome-of _ (a .says))
 
-  -- .. a refusal is 5, 6, 7, 11, 12 or 14.
+  -- A refusal is 5, 6, 7, 11, 12 or 14.
   pub find-numbers : (n : ℕ) → Find κs t byte j (found.Refused n) → OneOf (5 ∷ 6 ∷ 7 ∷ 11 ∷ 12 ∷ 14 ∷ []) n
   find-numbers n a = outcome-numbers (now t) byte j n (a .numbered) (outcome-of _ (a .says))
 

@@ -47,8 +47,8 @@ module _ (κs : Lfts 2) (t guide : Lent) (byte j : ℕ) where
   pub guided-numbers : (n : ℕ) → FindGuided κs t guide byte j (guided.Refused n) → OneOf (5 ∷ 6 ∷ 7 ∷ 11 ∷ 12 ∷ 14 ∷ []) n
   guided-numbers n a = outcome-numbers (now t) byte j n (a .numbered) (outcome-of (guided.Refused n) a)
 
--- A tree and a guide that check_guide accepts: find with the guide answers from the tree's text, with the length of the place's path and the steps
--- from the entry of the last listed occurrence not after the j-th.
+-- If check_guide accepts the tree and the guide, find with the guide returns what the tree's text has, with the length of the place's path and the steps
+-- from entry (j - 1) / 64.
 module _ (κ : Lfts 2) (t guide : Lent) (ok : CheckGuide κ t guide 0) where
   settled : guideNumber (now t) (now guide) ≡ 0
   settled = sym ok

@@ -21,14 +21,14 @@ use Rattle.theorems.specs.Promises.{Among}
 use Rattle.theorems.proofs.AcceptedTree.{among-counted}
 use Rattle.theorems.proofs.RefusalNumbers.{OneOf, asks-one, not-zero, of-left, of-right, readable-one, then-one}
 
--- the numbers that its questions can give before it walks, ..
+-- the numbers that the questions before the walk can give
 select-one : (t : List ℕ) (byte j : ℕ) → OneOf (5 ∷ 6 ∷ 7 ∷ 11 ∷ 12 ∷ 0 ∷ []) (selectNumber t byte j)
 unfolding selectNumber
 select-one t byte j =
     then-one (5 ∷ 6 ∷ 7 ∷ []) (11 ∷ 12 ∷ 0 ∷ []) (readable t) _ (readable-one t)
     (asks-one ((11, isCounted t byte) ∷ (12, leb 1 j && leb j (total t (numberOfByte t byte))) ∷ []))
 
--- .. and then others
+-- a refusal of the questions before the walk is also one of a longer list
 pub select-first : (t : List ℕ) (byte j n : ℕ) (xs : List ℕ) → 1 ≤ n → n ≡ selectNumber t byte j → OneOf ((5 ∷ 6 ∷ 7 ∷ 11 ∷ 12 ∷ []) ++ xs) n
 select-first t byte j n xs low e =
     of-left (5 ∷ 6 ∷ 7 ∷ 11 ∷ 12 ∷ []) xs n (not-zero (5 ∷ 6 ∷ 7 ∷ 11 ∷ 12 ∷ []) n low (rw e (select-one t byte j)))
@@ -57,13 +57,13 @@ module _ (t : List ℕ) (byte j : ℕ) where
           let below = tallies.place-below t (sound v) byte j (select-passes t byte j (omega arith)) in
           placed (ap (λ (x : Said). x .number) e) (rw (ap (λ (x : Said). x .value) e) below)
 
-  -- a place is one of the text, ..
+  -- a returned place is a place of the text
   pub outcome-below : (s : Said) → s .number ≡ 0 → FindOutcome s → s .value < at.textLength t
   outcome-below s z (asked low is) = absurd (let y : s .number ≡ selectNumber t byte j = ap (λ (x : Said). x .number) is in omega arith)
   outcome-below s z (broken is) = absurd (let y : s .number ≡ 14 = ap (λ (x : Said). x .number) is in omega arith)
   outcome-below s z (placed y low) = low
 
-  -- .. and a refusal is 5, 6, 7, 11, 12 or 14
+  -- a refusal is 5, 6, 7, 11, 12 or 14
   pub outcome-numbers : (n : ℕ) → 1 ≤ n → FindOutcome (refused n) → OneOf (5 ∷ 6 ∷ 7 ∷ 11 ∷ 12 ∷ 14 ∷ []) n
   outcome-numbers n l (asked low is) = select-first t byte j n (14 ∷ []) l (ap (λ (s : Said). s .number) is)
   outcome-numbers n l (broken is) = of-right (5 ∷ 6 ∷ 7 ∷ 11 ∷ 12 ∷ []) (14 ∷ []) n (inl (ap (λ (s : Said). s .number) is))

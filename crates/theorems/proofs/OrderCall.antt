@@ -118,12 +118,11 @@ abbrev pub figuresIn : RefT ℕ → RefT ℕ → RefT ℕ → Ordered
 figuresIn number order length = record { number = now number; order = now order; length = now length }
 
 module _ (t u : Lent) (T U : List ℕ) (a : Holds t T) (b : Holds u U) where
-  -- "before, same or after, and the length of the shared beginning"
+  -- the lexicographic order of the texts, and the length of their longest common prefix
   pub compare-of : (κs : Lfts 2) (r : Compared) → Compare κs t u r → r ≡ outcome (standing T U) (shared T U)
   compare-of κs r c = rw (text-is t T a, text-is u U b) at (orders.compare-texts t u (passes t T a) (passes u U b) (links t T a) (links u U b) κs r c)
 
-  -- "the call hands back the tree that stands first, as lent, the first given if they are the same": the whole reference, pointer and bytes; its
-  -- figures are the comparison's
+  -- `first` returns the reference, pointer and bytes, of the tree whose text comes first (for equal texts the first), with the figures of the comparison
   pub first-of : (κs : Lfts 4) (number order length number′ order′ length′ : RefT ℕ) (r : Lent) → First κs t u number order length number′ order′ length′ r
       → (r ≡ firstOf (standing T U) t u)
       × (figuresIn number′ order′ length′ ≡ stands (standing T U) (shared T U))
@@ -131,7 +130,7 @@ module _ (t u : Lent) (T U : List ℕ) (a : Holds t T) (b : Holds u U) where
       rw (text-is t T a, text-is u U b) at
       (orders.first-texts t u (passes t T a) (passes u U b) (links t T a) (links u U b) κs number order length number′ order′ length′ r c)
 
--- The answer depends on the texts alone: two other trees of the same two texts, of any settings and layouts, have the same answer, ..
+-- The result depends on the texts alone: two other trees of the same two texts, of any settings and layouts, give the same.
 module _ (t u t′ u′ : Lent) (T U : List ℕ) (a : Holds t T) (b : Holds u U) (a′ : Holds t′ T) (b′ : Holds u′ U) where
   pub texts-alone : (κs κs′ : Lfts 2) (r r′ : Compared) → Compare κs t u r → Compare κs′ t′ u′ r′ → r ≡ r′
   texts-alone κs κs′ r r′ c c′ = compare-of t u T U a b κs r c ∙ sym (compare-of t′ u′ T U a′ b′ κs′ r′ c′)
@@ -151,7 +150,7 @@ module _ (t u t′ u′ : Lent) (T U : List ℕ) (a : Holds t T) (b : Holds u U)
       side same e e′ = inl (e, e′)
       side after e e′ = inr (e, e′)
 
--- .. and it is a total order on the texts.
+-- it is a total order on the texts
 
 -- the first stands at the second or before it
 abbrev pub AtOrBefore : Compared → Type 0

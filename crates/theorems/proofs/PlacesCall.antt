@@ -74,8 +74,8 @@ places-one t P room =
     (asks-one ((16, patternOk P) ∷ (14, pathsHold t 0 (at.textLength t)) ∷ (17, leb (length (placesOf t P)) room) ∷ []))
 
 module _ (κs : Lfts 3) (t P table after : Lent) where
-  -- An answer is the number of all places in the bytes that the tree's paths give, none of which breaks; they fit the table, stand at its
-  -- start, and what lies past them is unchanged; ..
+  -- The result is the number of all places in the bytes that the tree's paths give, none of which breaks. The places fit the table and are at its start, and
+  -- the words after them are unchanged.
   pub places-answer : (n : ℕ) → Places κs t P table after (places.Number n)
       → (ps : List ℕ) × AllPlaces (now P) (textOf (now t)) ps × (n ≡ length ps) × (n ≤ length (now table)) × (now after ≡ ps ++ drop n (now table))
       × ((p : ℕ) → p < at.textLength (now t) → (q : Path) × (pathOf (now t) p ≡ some q) × (getD (textOf (now t)) p 0 ≡ at.leafByte (now t) (q .leaf)))
@@ -103,12 +103,12 @@ module _ (κs : Lfts 3) (t P table after : Lent) where
     unfolding placesSays
     places-says = ap (λ (s : Said). s .number) (a .0 .says) ∙ unless-number (placesNumber (now t) (now P) (length (now table))) _ refl
 
-    -- .. a refusal is 5, 6, 7, 16, 14 or 17, ..
+    -- A refusal is 5, 6, 7, 16, 14 or 17.
     pub places-numbers : OneOf (5 ∷ 6 ∷ 7 ∷ 16 ∷ 14 ∷ 17 ∷ []) n
     places-numbers =
         not-zero (5 ∷ 6 ∷ 7 ∷ 16 ∷ 14 ∷ 17 ∷ []) n (a .0 .numbered) (rw places-says (places-one (now t) (now P) (length (now table))))
 
-    -- .. and leaves the table unchanged.
+    -- It leaves the table unchanged.
     pub places-unchanged : now after ≡ now table
     unfolding placesLeaves
     places-unchanged = a .1 ∙ rw (← places-says, ne-eqb n 0 (λ e. omega (arith, a .0 .numbered)))

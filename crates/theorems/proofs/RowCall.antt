@@ -37,12 +37,12 @@ module _ (κs : Lfts 2) (t : Lent) (q : ℕ) (buffer after : Lent) where
   outcome-of : (n m : ℕ) → RowSays (now t) q (now buffer) n m (now after) → RowOutcome (now t) q (now buffer) n m (now after)
   outcome-of n m s = row-outcome (now t) q (now buffer) (verdict (now t)) n m (now after) s
 
-  -- An answer fits, and the bytes past it are unchanged; ..
+  -- A row fits, and the bytes after it are unchanged.
   pub row-answer : (m : ℕ) → Row κs t q buffer after (rows.Bytes m) → (m ≤ length (now buffer)) × (drop m (now after) ≡ drop m (now buffer))
   row-answer m a = outcome-copied (now t) q (now buffer) m (now after) (outcome-of 0 m (a .says))
 
-  -- .. on a tree that the check refuses its bytes are those that the paths give from some place of the text on, and 13 says that the buffer is
-  -- shorter than some such bytes; ..
+  -- On a tree that the check refuses, the bytes copied are those that the paths give from some place on, and 13 means that the buffer is shorter than
+  -- some such bytes.
   pub row-free : (verdict (now t) ≡ 0 → ⊥) → (m : ℕ) → Row κs t q buffer after (rows.Bytes m)
       → (p : ℕ) × (p + m ≤ at.textLength (now t)) × (now after ≡ stretch (textOf (now t)) p m ++ drop m (now buffer))
   row-free refuses m a = free-copied (now t) q (now buffer) (verdict (now t)) 0 m (now after) (a .says) refuses refl
@@ -52,11 +52,11 @@ module _ (κs : Lfts 2) (t : Lent) (q : ℕ) (buffer after : Lent) where
   row-free-short refuses a = free-short (now t) q (now buffer) (verdict (now t)) 13 0 (now after) (a .says) refuses refl
 
   module _ (n : ℕ) (a : Row κs t q buffer after (rows.Refused n)) where
-    -- .. a refusal is 5, 6, 7, 11, 12, 13 or 14; ..
+    -- A refusal is 5, 6, 7, 11, 12, 13 or 14.
     pub row-numbers : OneOf (5 ∷ 6 ∷ 7 ∷ 11 ∷ 12 ∷ 13 ∷ 14 ∷ []) n
     row-numbers = row-outcome-numbers (now t) q (now buffer) n (now after) (a .numbered) (outcome-of n 0 (a .says))
 
-    -- .. it leaves the buffer unchanged, or, a 14 in copying, zeros at its start, no more than a row can have, and the rest unchanged.
+    -- It leaves the buffer unchanged; or, for a 14 in copying, zeros at its start, no more than a row can have, and the rest unchanged.
     pub row-leaves : (now after ≡ now buffer) ⊎ ((n ≡ 14) × Zeros (rowMost (now t) q) (now buffer) (now after))
     row-leaves = row-outcome-leaves (now t) q (now buffer) n (now after) (a .numbered) (outcome-of n 0 (a .says))
 

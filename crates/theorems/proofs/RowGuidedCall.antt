@@ -24,15 +24,15 @@ pub use Rattle.ask_rows.proofs.Demands.{RowGuided}
 abbrev pub row-guided-call : Call
 row-guided-call = call row-guided-function row-guided-met.met (λ 𝓤 H A mem run κs a. (tt, refl))
 
--- Any lent bytes: an answer fits, and the bytes past it are unchanged; ..
+-- Any lent bytes: a row fits, and the bytes after it are unchanged.
 module _ (κs : Lfts 3) (t guide : Lent) (q : ℕ) (buffer after : Lent) where
   pub row-guided-answer : (m : ℕ) → RowGuided κs t guide q buffer after (rows.Bytes m) → (m ≤ length (now buffer)) × (drop m (now after) ≡ drop m (now buffer))
   row-guided-answer m a =
       outcome-copied (now t) q (now buffer) m (now after)
       (row-outcome (now t) q (now buffer) (guideNumber (now t) (now guide)) 0 m (now after) (a .says))
 
-  -- .. if the check refuses the tree or the guide, its bytes are those that the paths give from some place of the text on, on an accepted tree
-  -- those of its text, and 13 says that the buffer is shorter than some such bytes; ..
+  -- If the tree or the guide is refused, the bytes copied are those that the paths give from some place on, on an accepted tree those of its text, and 13
+  -- means that the buffer is shorter than some such bytes.
   pub row-guided-free : (guideNumber (now t) (now guide) ≡ 0 → ⊥) → (m : ℕ) → RowGuided κs t guide q buffer after (rows.Bytes m)
       → (p : ℕ) × (p + m ≤ at.textLength (now t)) × (now after ≡ stretch (textOf (now t)) p m ++ drop m (now buffer))
   row-guided-free refuses m a = free-copied (now t) q (now buffer) (guideNumber (now t) (now guide)) 0 m (now after) (a .says) refuses refl
@@ -45,10 +45,10 @@ module _ (κs : Lfts 3) (t guide : Lent) (q : ℕ) (buffer after : Lent) where
     outcome-of : RowOutcome (now t) q (now buffer) n 0 (now after)
     outcome-of = row-outcome (now t) q (now buffer) (guideNumber (now t) (now guide)) n 0 (now after) (a .says)
 
-    -- .. a refusal is 5, 6, 7, 11, 12, 13 or 14; ..
+    -- A refusal is 5, 6, 7, 11, 12, 13 or 14.
     pub row-guided-numbers : OneOf (5 ∷ 6 ∷ 7 ∷ 11 ∷ 12 ∷ 13 ∷ 14 ∷ []) n
     row-guided-numbers = row-outcome-numbers (now t) q (now buffer) n (now after) (a .numbered) outcome-of
 
-    -- .. it leaves the buffer as row does.
+    -- It leaves the buffer as row does.
     pub row-guided-leaves : (now after ≡ now buffer) ⊎ ((n ≡ 14) × Zeros (rowMost (now t) q) (now buffer) (now after))
     row-guided-leaves = row-outcome-leaves (now t) q (now buffer) n (now after) (a .numbered) outcome-of

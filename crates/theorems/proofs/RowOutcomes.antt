@@ -117,7 +117,7 @@ module _ (t : List ℕ) (q : ℕ) (buffer : List ℕ) where
     stretch-copied : rowNumber t q ≡ 0 → (s : RowStretch t q buffer n size after) → CopyOutcome t (s .start) (s .len) buffer n size after
     stretch-copied z s = copy-outcome t (s .start) (s .len) buffer (row-readable t q z) (s .within) n size after (s .number-is) (s .size-is) (s .after-is)
 
-    -- where `ok` is not 0, all but a number before the walk and 14 is the copy of some stretch: ..
+    -- if `ok` is not 0, every outcome other than 14 and a refusal before the walk is the copy of some part of the text
     free-stretch : (ok ≡ 0 → ⊥) → (n ≡ rowNumber t q → 0 < rowNumber t q → ⊥) → (n ≡ 14 → ⊥)
         → (s : RowStretch t q buffer n size after) × CopyOutcome t (s .start) (s .len) buffer n size after
     free-stretch refuses not-asked not-14 = go (lt-or-ge 0 (rowNumber t q))
@@ -131,7 +131,7 @@ module _ (t : List ℕ) (q : ℕ) (buffer : List ℕ) where
         go (inl low) = absurd (not-asked (a .asked low .0) low)
         go (inr passed) = either (omega arith) (a .free (omega arith) refuses)
 
-    -- .. the bytes are those that the paths give from some place on, ..
+    -- the bytes copied are those that the paths give from some place on
     pub free-copied : (ok ≡ 0 → ⊥) → n ≡ 0 → (p : ℕ) × (p + size ≤ at.textLength t) × (after ≡ stretch (textOf t) p size ++ drop size buffer)
     free-copied refuses z = let f = free-stretch refuses (λ e low. omega arith) (λ e. omega arith) in from (f .0) (f .1)
       where
@@ -141,7 +141,7 @@ module _ (t : List ℕ) (q : ℕ) (buffer : List ℕ) where
         from s (no-space e small same) = absurd (let y : ⊥ = omega arith in y)
         from s (zeros e room same) = absurd (let y : ⊥ = omega arith in y)
 
-    -- .. and 13 says that the buffer is shorter than some such bytes
+    -- 13 means that the buffer is shorter than some such bytes
     pub free-short : (ok ≡ 0 → ⊥) → n ≡ 13 → (p : ℕ) × (len : ℕ) × (p + len ≤ at.textLength t) × (length buffer < len)
     free-short refuses z =
         let f = free-stretch refuses (λ e low. not-13 (rw z at (row-before t q n (omega arith) e))) (λ e. omega arith) in
@@ -180,7 +180,7 @@ module _ (t : List ℕ) (q : ℕ) (buffer : List ℕ) where
         go (inr z) (inr w) (inl r) = let h = a .short (omega arith) (omega arith) r in short (h .0) (h .2)
         go (inr z) (inr w) (inr r) = row-copied (omega arith) (omega arith) r
 
-  -- a row fits, and the bytes past it are unchanged, ..
+  -- a row fits, and the bytes after it are unchanged
   pub outcome-copied : (m : ℕ) (after : List ℕ) → RowOutcome 0 m after → (m ≤ length buffer) × (drop m after ≡ drop m buffer)
   outcome-copied m after (copied z fits rest) = (fits, rest)
   outcome-copied m after (short z same) = absurd (let y : ⊥ = omega arith in y)
@@ -188,14 +188,14 @@ module _ (t : List ℕ) (q : ℕ) (buffer : List ℕ) where
   outcome-copied m after (asked low z same) = absurd (let y : ⊥ = omega arith in y)
 
   module _ (n : ℕ) (after : List ℕ) (l : 1 ≤ n) where
-    -- .. a refusal is 5, 6, 7, 11, 12, 13 or 14, ..
+    -- a refusal is 5, 6, 7, 11, 12, 13 or 14
     pub row-outcome-numbers : RowOutcome n 0 after → OneOf (5 ∷ 6 ∷ 7 ∷ 11 ∷ 12 ∷ 13 ∷ 14 ∷ []) n
     row-outcome-numbers (asked low z same) = row-first t q n low z
     row-outcome-numbers (short z same) = of-right (5 ∷ 6 ∷ 7 ∷ 11 ∷ 12 ∷ []) (13 ∷ 14 ∷ []) n (inl z)
     row-outcome-numbers (broken z left) = of-right (5 ∷ 6 ∷ 7 ∷ 11 ∷ 12 ∷ []) (13 ∷ 14 ∷ []) n (inr (inl z))
     row-outcome-numbers (copied z fits rest) = absurd (let y : ⊥ = omega arith in y)
 
-    -- .. and leaves the buffer unchanged, or, a 14 in copying, zeros at its start and the rest unchanged
+    -- it leaves the buffer unchanged; or, for a 14 in copying, zeros at its start and the rest unchanged
     pub row-outcome-leaves : RowOutcome n 0 after → (after ≡ buffer) ⊎ ((n ≡ 14) × Zeros (rowMost t q) buffer after)
     row-outcome-leaves (asked low z same) = inl same
     row-outcome-leaves (short z same) = inl same

@@ -1,4 +1,4 @@
--- Row a read by columns from the tree of a rearranged text is row a of the text: of any tree that the check accepts and of what either builder writes.
+-- Row by columns on the tree of a rearranged text gives the rows of the original text: for any accepted tree and for what the two builders write.
 use mathlib.Core.List.{List, _++_}
 use mathlib.Core.Bool.{true}
 use mathlib.Core.Path.{_≡_, refl}
@@ -26,8 +26,7 @@ use Rattle.theorems.proofs.ColumnRowCall.{ByColumns}
 use Rattle.theorems.proofs.ColumnsCall.{ToColumns}
 use Rattle.theorems.proofs.OutsideCall.{Lent}
 
--- "Row a read by columns from the tree of a rearranged text is row a of the text", end byte included, and then what stood in the buffer: as what is
--- said of every call on a tree.
+-- What every call on the tree returns: the buffer begins with row a of the original text, end byte included, and its other bytes are unchanged.
 abbrev pub RowsOf : Lent → ℕ → List ℕ → Type 0
 RowsOf t w T =
     (κs : Lfts 2) (a : ℕ) (buffer after : Lent) (r : Copied) → ByColumns κs t w a buffer after r → a < length T / w → w ≤ length (now buffer)

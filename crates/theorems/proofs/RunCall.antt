@@ -43,7 +43,7 @@ run-part-call = call run-part-function run-part-met.met (λ 𝓤 H A mem run κs
 
 -- Any lent bytes; κ is byte's lifetime, κs run's.
 module _ (κ κs : Lfts 1) (t : Lent) (p : TextPlace) (r : Lent) where
-  -- A part of the lent tree, of one byte or more, where byte answers; ..
+  -- If byte is not refused, run returns a part of the lent tree, of one byte or more.
   pub run-answer : (v e : ℕ) → Byte κ t p (answer.Byte v e) → Run κs t p r
       → (from : ℕ) × (size : ℕ) × (1 ≤ size) × (from + size ≤ length (now t))
       × (r .ptr ≡ (t .ptr .0, t .ptr .1 + from)) × (now r ≡ take size (drop from (now t)))
@@ -52,7 +52,7 @@ module _ (κ κs : Lfts 1) (t : Lent) (p : TextPlace) (r : Lent) where
       let k = paths.run-by-path (now t) (w .pass) (p .0) (w .path) (w .path-is) (w .low) in
       (runSays (now t) (p .0) .0, runSays (now t) (p .0) .1, k .some-byte, k .in-tree, a .1, a .0)
 
-  -- .. "Refused, it is the empty part, and the number is byte's for that place."
+  -- If byte is refused, run returns an empty part.
   pub run-empty : (n : ℕ) → Byte κ t p (answer.Refused n) → Run κs t p r → now r ≡ []
   unfolding runSays
   run-empty n b a =

@@ -66,7 +66,7 @@ span-passes t p len room h =
     }
 
 module _ (κs : Lfts 2) (t : Lent) (p : TextPlace) (len : ℕ) (buffer after : Lent) where
-  -- An answer is the length asked for, which fits, with the blocks that it enters, and the bytes past it are unchanged; ..
+  -- The result is the given length, which fits, with the blocks entered, and the bytes after it are unchanged.
   pub span-answer : (m e : ℕ) → Span κs t p len buffer after (copied.Bytes m e)
       → (m ≡ len) × BlocksOfSpan (now t) (at.settings (now t) .levels) (p .0) len e × (len ≤ length (now buffer))
       × (drop len (now after) ≡ drop len (now buffer))
@@ -89,7 +89,7 @@ module _ (κs : Lfts 2) (t : Lent) (p : TextPlace) (len : ℕ) (buffer after : L
     unfolding spanSays
     span-says = says-refused n _ len _ (a .0 .numbered) (a .0 .says)
 
-    -- .. a refusal is 5, 6, 7, 10, 13 or 14, ..
+    -- A refusal is 5, 6, 7, 10, 13 or 14.
     pub span-numbers : OneOf (5 ∷ 6 ∷ 7 ∷ 10 ∷ 13 ∷ 14 ∷ []) n
     span-numbers =
         not-zero (5 ∷ 6 ∷ 7 ∷ 10 ∷ 13 ∷ 14 ∷ []) n (a .0 .numbered) (rw span-says (span-one (now t) (p .0) len (length (now buffer))))
@@ -99,11 +99,11 @@ module _ (κs : Lfts 2) (t : Lent) (p : TextPlace) (len : ℕ) (buffer after : L
     unfolding spanLeaves leavesSpan
     span-left = a .1 ∙ rw (← span-says, ne-eqb n 0 (λ e. omega (arith, a .0 .numbered)))
 
-    -- .. 14 leaves zeros in the part asked for, ..
+    -- Refusal 14 leaves zeros in the first `len` bytes.
     pub span-zeros : n ≡ 14 → now after ≡ replicate len 0 ++ drop len (now buffer)
     span-zeros e = span-left ∙ rw (eq-eqb n 14 e)
 
-    -- .. and any other leaves the buffer unchanged.
+    -- Any other refusal leaves the buffer unchanged.
     pub span-unchanged : (n ≡ 14 → ⊥) → now after ≡ now buffer
     span-unchanged e = span-left ∙ rw (ne-eqb n 14 e)
 

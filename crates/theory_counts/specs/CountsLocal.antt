@@ -63,8 +63,8 @@ module _ (t : List ℕ) where
   unfoldable pub keptLocal : ℕ → ℕ → ℕ → Bool
   keptLocal l i c = eqb (at.skip t l i c) 0 && eqb (at.inside t l i c) (keptInside l i c)
 
-  -- A pointing block's skip: that of the first gap bytes of the block pointed to. With its inside: that of the gap and the block's
-  -- own length from there on.
+  -- The skip of a pointing block is the count in the block pointed to before place gap. Skip plus inside is the count in gap + length bytes from the start
+  -- of the block pointed to.
   unfoldable pub pointingSkip : ℕ → ℕ → ℕ → ℕ
   pointingSkip l i c = cond (eqb (at.gap t l i) 0) 0 (upTo (lastLevel t - l) l (at.link t l i) (at.gap t l i - 1) c)
 

@@ -43,8 +43,7 @@ module _ (t : List ℕ) (v : verdict t ≡ 0) where
   pub levels : (l : ℕ) → l < at.settings t .levels → Level t l
   levels = counts-facts t (accepted-counts t v)
 
-  -- Count answers how often a counted byte stands in the first i bytes of the text, with the length of the path of place i - 1, or
-  -- none for no bytes.
+  -- Count is rank: it returns how often a counted byte occurs in the first i bytes of the text, and the length of the path of place i - 1 (0 for i = 0).
   pub count-of-text : (byte i : ℕ) → isCounted t byte ≡ true → i ≤ at.textLength t
       → countSays t byte i ≡ record { number = 0; value = countIn byte (take i (textOf t)); entered = cond (eqb i 0) 0 (pathLength t (pathOf t (i - 1))) }
   count-of-text = ranks.count-right t r d levels

@@ -20,7 +20,7 @@ use Rattle.theory_counts.specs.CountedStretches.{tally-parts, points-tal
 
 module _ (t : List ℕ) where
   module _ (k : Readable t) (d : Linked t) where
-    -- a pointing block's place, with the first gap bytes of the block pointed to, in the block that the place is handed to
+    -- the skip and the count up to place o of a pointing block, together, by the count up to the target place
     pub points-hand : (l i o c : ℕ) → i < N t l → at.isKept t l i ≡ false → Pointing t l i → o < len t l i
         → at.inside t l (at.link t l i) c ≡ tally t c (s t l (at.link t l i)) (len t l (at.link t l i))
         → cond (ltb (at.gap t l i + o) (b t l)) 0 (at.inside t l (at.link t l i) c) + tally t c (s t l (targetBlock t l i o)) (targetPlace t l i o + 1)

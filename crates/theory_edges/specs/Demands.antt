@@ -44,7 +44,7 @@ module _ (t : List ℕ) (r : readable t ≡ 0) (p len : ℕ) where
   low : 1 ≤ at.settings t .levels
   low = readable-facts t r .bounds .levels-low
 
-  -- A span reports at most twice as many blocks as there are levels, ..
+  -- A span returns at most 2H as blocks entered.
   pub span-entered : spanBlocks t p len ≤ 2 * at.settings t .levels
   unfolding spanBlocks
   span-entered = go (isShort t len)
@@ -53,12 +53,12 @@ module _ (t : List ℕ) (r : readable t ≡ 0) (p len : ℕ) where
       go true = short-blocks t (shortOf t p len) (2 * at.settings t .levels) (λ q e. short-entered t p len q low e .1)
       go false = omega arith
 
-  -- .. none if it is not short, ..
+  -- no blocks for a span that is not short
   pub span-other : isShort t len ≡ false → spanBlocks t p len ≡ 0
   unfolding spanBlocks
   span-other is = rw is
 
-  -- .. and if it is, those of its walk, of which there is at least one, where that does not break.
+  -- for a short one the blocks of its walk, at least one, if the walk does not break
   pub span-walked : isShort t len ≡ true → spanReached t p len ≡ true
       → (q : Short) × (shortOf t p len ≡ some q) × (spanBlocks t p len ≡ length (q .visits)) × (1 ≤ length (q .visits))
   unfolding spanReached spanBlocks
@@ -116,7 +116,7 @@ module _ (t : List ℕ) (v : verdict t ≡ 0) where
     pub short-text : shortBytes t len (shortOf t p len) ≡ stretch (textOf t) p len
     short-text = walks.reads-bytes (textOf t) t k d (sort .two) (exact.fitting t k d) len (sort .low) (sort .high) (shortOf t p len) p reads
 
-  -- Every span of the text is reached, ..
+  -- every span of the text is reached
   pub span-reached : (p len : ℕ) → p + len ≤ at.textLength t → spanReached t p len ≡ true
   unfolding spanReached
   span-reached p len fits = go (bool-cases (isShort t len))
@@ -125,7 +125,7 @@ module _ (t : List ℕ) (v : verdict t ≡ 0) where
       go (inl y) = rw (y, short-holds p len fits y .1)
       go (inr y) = rw y (paths.paths-all t r (accepted-links t v) p len fits)
 
-  -- .. and its bytes are the text's.
+  -- the bytes of a span are those of the text
   bytes : (p len : ℕ) → p + len ≤ at.textLength t → spanBytes t p len ≡ stretch (textOf t) p len
   unfolding spanBytes
   bytes p len fits = go (bool-cases (isShort t len))

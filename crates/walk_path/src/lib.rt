@@ -1,5 +1,5 @@
-// The walk down the path of a place. The step for a kept block and the step for a pointing block call each other: twice the
-// levels left, plus one if a pointer may still be followed, falls. A step carries no header, and its answer is one word.
+// The walk along the path of a place. The steps of kept and pointing blocks are mutually recursive. Their measure is 2 × (levels left), plus 1
+// while a pointer can be followed. A step carries no header and returns one word.
 use layout::header::Header;
 use layout::place::BlockNumber;
 use layout::place::BlockPlace;
@@ -82,7 +82,7 @@ fn unpacked(word: u64) -> Walked
     })
 }
 
-// Where a block above the last level hands a place: a kept block keeps it, a pointing one hands it to a kept block of its level.
+// Where a block above the last level hands a place: itself if it is kept, else the kept block that it points to.
 fn to_kept(
     t: &[u8],
     size: u32,

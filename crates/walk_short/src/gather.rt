@@ -1,4 +1,4 @@
-// The walk of a short span: it goes down only while the span lies in one block, and where it crosses a border two edges give it.
+// The walk of a short span: it descends while one block contains the span, and takes the bytes at a border from two edges.
 use layout::header::Header;
 use layout::place::Ahead;
 use layout::place::BlockNumber;

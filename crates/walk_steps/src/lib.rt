@@ -141,7 +141,7 @@ fn past(place: BlockPlace, b: u32) -> u32
     1
 }
 
-// The block that a pointing block hands a place to: link at gap + place, or, if that is b or more, the next at that less b.
+// The target of a place in a pointing block: block link at gap + place; if that is not below b, block link + 1 at gap + place - b.
 pub fn target(
     t: &[u8],
     size: u32,
@@ -193,7 +193,7 @@ pub fn land(
     }
 }
 
-// The bytes of a block: b, or n less its start where that is shorter.
+// The length of a block: the smaller of b and n - start.
 pub fn block_length(t: &[u8], size: u32, level: u32, b: u32, block: BlockNumber) -> u32
     requires { ⌜ InTable (now t) size level b (block .0) ⌝ }
     ensures { λ r. ⌜ (r ≡ at.blockLengthAt (now (t .entry)) level (block .0)) × (r ≤ b) ⌝ }
