@@ -1,12 +1,16 @@
 // Sizes of trees over settings, to choose the short lists that the tool tries: for each layout a list that comes near the smallest tree on every book.
 // Books differ in size, in how much is listed again and corrected, in the width of a row and in how cuts follow one another.
 //
-//   settings [LENGTH [KIB]]     for each layout a list of so many settings, found one by one, each the one that lowers the mean excess over the
-//                               smallest tree most, on books of so many KiB; 7 settings and 128 KiB unless said otherwise
-//   settings LENGTH KIB FILE..  the same on the books of files too; on these alone where KIB is 0
+//   settings LENGTH KIB,.. [FILE..]   for each layout a list of so many settings, found one by one, each the one that lowers the mean excess over the
+//                                     smallest tree most, on made books of so many KiB (none where KIB is 0) and on the books of files. Then, for
+//                                     each kind of book, the excess of the lists of the tool, before and now
 #include "books.hpp"
+#include <algorithm>
 #include <array>
+#include <cstring>
 #include <map>
+#include <set>
+#include <string>
 
 // Rows of one kind: how long codes and cuts are, and whether the cuts of a fresh row are drawn anew or change in one place.
 struct Kind {
@@ -23,17 +27,25 @@ static std::string fresh_row(const Kind& kind, Random& random, u32 number, std::
     return kind.prefix + std::to_string(number) + " " + cuts + "\n";
 }
 
-static Bytes rows_of(const Kind& kind, u32 size, u32 relisted, u32 corrected, u64 seed) {
+// How much of a book is listed again, in parts of up to so many rows, and how many of their rows there are to one that is corrected.
+struct Share {
+    const char* name;
+    u32 relisted, rows, corrected;
+};
+static const Share shares[] = {{"nearly all listed again", 98, 2000, 2000}, {"highly repetitive", 92, 400, 500}, {"repetitive", 80, 400, 60},
+                               {"medium", 55, 400, 60},                     {"mostly fresh", 30, 400, 20},       {"nearly random", 0, 400, 1}};
+
+static Bytes rows_of(const Kind& kind, u32 size, const Share& share, u64 seed) {
     Random random{seed};
     std::vector<std::string> rows;
     Bytes text;
     std::string cuts(kind.cuts, '3');
     for (u32 series = 1; text.size() < size; series++) {
-        const bool again = !rows.empty() && random.below(100) < relisted;
-        const u32 from = again ? random.below((u32)rows.size()) : 0, n = again ? std::min<u32>(100 + random.below(400), (u32)rows.size() - from) : 200;
+        const bool again = !rows.empty() && random.below(100) < share.relisted;
+        const u32 from = again ? random.below((u32)rows.size()) : 0, n = again ? std::min<u32>(100 + random.below(share.rows), (u32)rows.size() - from) : 200;
         for (u32 k = 0; k < n; k++) {
             std::string row = again ? rows[from + k] : fresh_row(kind, random, series * 1000 + k, cuts);
-            if (again && random.below(corrected) == 0) row[row.size() - 2] = (char)('1' + random.below(5));
+            if (again && random.below(share.corrected) == 0) row[row.size() - 2] = (char)('1' + random.below(5));
             rows.push_back(row), text.insert(text.end(), row.begin(), row.end());
         }
     }
@@ -42,6 +54,7 @@ static Bytes rows_of(const Kind& kind, u32 size, u32 relisted, u32 corrected, u6
     return text;
 }
 
+using List = std::vector<std::array<u32, 3>>;
 using Sizes = std::map<std::array<u32, 3>, std::array<double, 2>>;
 
 static const std::vector<u32> leaves = {10, 12, 16, 24, 32, 36, 48, 64, 80, 96, 128, 192, 256};
@@ -71,11 +84,12 @@ static Sizes all_sizes(const Bytes& text) {
 
 // The list of one layout, and how far it stays above the smallest tree of all.
 static void choose(const std::vector<Sizes>& books, int layout, int length) {
-    std::vector<std::array<u32, 3>> list;
+    List list;
+    std::set<std::array<u32, 3>> all;
     std::vector<double> smallest, best(books.size(), 1e18);
     for (const Sizes& sizes : books) {
         double least = 1e18;
-        for (const auto& [settings, size] : sizes) least = std::min(least, size[layout]);
+        for (const auto& [settings, size] : sizes) least = std::min(least, size[layout]), all.insert(settings);
         smallest.push_back(least);
     }
     auto with = [&](const std::array<u32, 3>& settings, double& worst) {
@@ -91,7 +105,7 @@ static void choose(const std::vector<Sizes>& books, int layout, int length) {
     for (int k = 0; k < length; k++) {
         std::array<u32, 3> chosen{};
         double least = 1e18, worst = 0, w;
-        for (const auto& [settings, size] : books.front())
+        for (const auto& settings : all)
             if (const double mean = with(settings, w); mean < least) least = mean, worst = w, chosen = settings;
         for (size_t b = 0; b < books.size(); b++)
             if (const auto found = books[b].find(chosen); found != books[b].end()) best[b] = std::min(best[b], found->second[layout]);
@@ -100,17 +114,38 @@ static void choose(const std::vector<Sizes>& books, int layout, int length) {
     }
 }
 
-// How far the lists that the tool has stay above the smallest tree.
-static void judge(const char* name, const std::vector<Sizes>& books, int layout, const std::vector<std::array<u32, 3>>& list) {
-    double sum = 0, worst = 0;
-    for (const Sizes& sizes : books) {
-        double least = 1e18, own = 1e18;
-        for (const auto& [settings, size] : sizes) least = std::min(least, size[layout]);
-        for (const auto& settings : list)
-            if (const auto found = sizes.find(settings); found != sizes.end()) own = std::min(own, found->second[layout]);
-        sum += own / least - 1, worst = std::max(worst, own / least - 1);
+// How far the smallest tree of a list is above the smallest of all.
+static double excess(const Sizes& sizes, int layout, const List& list) {
+    double least = 1e18, own = 1e18;
+    for (const auto& [settings, size] : sizes) least = std::min(least, size[layout]);
+    for (const auto& settings : list)
+        if (const auto found = sizes.find(settings); found != sizes.end()) own = std::min(own, found->second[layout]);
+    return own / least - 1;
+}
+
+// The lists of the tool: up to version 1.16, and now. host/tests/installed.rs compares the latter with the tool's.
+static const List before[] = {
+    {{256, 2, 1}, {64, 4, 3}, {48, 2, 5}, {32, 4, 4}, {24, 8, 3}, {16, 4, 4}},
+    {{256, 2, 1}, {256, 2, 2}, {192, 2, 2}, {128, 2, 2}, {96, 2, 2}, {96, 2, 4}, {64, 2, 5}},
+};
+static const List now[] = {
+    {{256, 2, 1}, {32, 6, 2}, {32, 5, 2}, {24, 5, 3}, {16, 5, 4}, {16, 4, 3}, {12, 4, 4}, {10, 3, 6}},
+    {{256, 2, 1}, {192, 2, 2}, {128, 2, 4}, {96, 2, 2}, {80, 2, 4}, {64, 2, 2}, {64, 2, 4}, {64, 2, 5}},
+};
+
+// A row of the table: mean and most of both lists of a layout on the books of one kind; on all where the kind is none.
+static void judge(const std::string& name, const std::vector<Sizes>& books, const std::vector<std::string>& kinds, int layout) {
+    std::printf("| %s", name.c_str());
+    for (const List& list : {before[layout], now[layout]}) {
+        double sum = 0, most = 0, number = 0;
+        for (size_t b = 0; b < books.size(); b++) {
+            if (name != "all" && kinds[b] != name) continue;
+            const double e = excess(books[b], layout, list);
+            sum += e, most = std::max(most, e), number++;
+        }
+        std::printf(" | %.1f %% | %.1f %%", 100 * sum / number, 100 * most);
     }
-    std::printf("%s: mean excess %.1f %%, most %.1f %%\n", name, 100 * sum / (double)books.size(), 100 * worst);
+    std::printf(" |\n");
 }
 
 static Bytes read_file(const char* name) {
@@ -122,30 +157,35 @@ static Bytes read_file(const char* name) {
     return text;
 }
 
-static std::vector<Bytes> made_books(u32 size) {
-    const Kind kinds[] = {{"CH", 6, false}, {"K", 5, true}, {"HON-", 8, false}, {"", 10, true}};
-    const u32 shares[][2] = {{92, 500}, {80, 60}, {55, 60}, {30, 20}, {0, 1}};
-    std::vector<Bytes> texts;
-    for (const Kind& kind : kinds)
-        for (const auto& share : shares) texts.push_back(rows_of(kind, size, share[0], share[1], texts.size() + 1));
-    return texts;
+static void make_books(u32 size, std::vector<Bytes>& texts, std::vector<std::string>& kinds) {
+    const Kind rows[] = {{"CH", 6, false}, {"K", 5, true}, {"HON-", 8, false}, {"", 10, true}};
+    u64 seed = 0;
+    for (const Kind& kind : rows)
+        for (const Share& share : shares) {
+            texts.push_back(rows_of(kind, size, share, ++seed));
+            kinds.push_back(share.name);
+        }
 }
 
 int main(int argc, char** argv) {
-    const int length = argc > 1 ? std::atoi(argv[1]) : 7;
-    const u32 kib = argc > 2 ? (u32)std::atoi(argv[2]) : 128;
+    demand(argc > 2, "settings LENGTH KIB,.. [FILE..]");
+    const int length = std::atoi(argv[1]);
     std::vector<Bytes> texts;
-    for (int k = 3; k < argc; k++) texts.push_back(read_file(argv[k]));
-    if (kib != 0)
-        for (const Bytes& text : made_books(1024 * kib)) texts.push_back(text);
+    std::vector<std::string> kinds;
+    for (int k = 3; k < argc; k++) texts.push_back(read_file(argv[k])), kinds.push_back("files");
+    for (const char* kib = argv[2]; kib; kib = std::strchr(kib, ',') ? std::strchr(kib, ',') + 1 : nullptr)
+        if (const int size = std::atoi(kib)) make_books(1024 * (u32)size, texts, kinds);
     std::vector<Sizes> books;
     for (const Bytes& text : texts) books.push_back(all_sizes(text)), std::fprintf(stderr, ".");
     std::fprintf(stderr, "\n");
     for (int layout = 0; layout < 2; layout++) {
-        std::printf("\nLayout %d, %zu books\n\n| Settings, added one by one | Mean excess | Most |\n|---|---:|---:|\n", 2 - layout, books.size());
+        std::printf("\nLayout %d, %zu books, %zu settings at most\n\n| Settings, added one by one | Mean excess | Most |\n|---|---:|---:|\n", 2 - layout,
+                    books.size(), books.back().size());
         choose(books, layout, length);
+        std::printf("\n| Books | List before, mean | most | List now, mean | most |\n|---|---:|---:|---:|---:|\n");
+        for (const Share& share : shares)
+            if (std::find(kinds.begin(), kinds.end(), share.name) != kinds.end()) judge(share.name, books, kinds, layout);
+        if (argc > 3) judge("files", books, kinds, layout);
+        judge("all", books, kinds, layout);
     }
-    std::printf("\n");
-    judge("the list of the tool, layout 2", books, 0, {{256, 2, 1}, {64, 4, 3}, {48, 2, 5}, {32, 4, 4}, {24, 8, 3}, {16, 4, 4}});
-    judge("the list of the tool, layout 1", books, 1, {{256, 2, 1}, {256, 2, 2}, {192, 2, 2}, {128, 2, 2}, {96, 2, 2}, {96, 2, 4}, {64, 2, 5}});
 }

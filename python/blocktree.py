@@ -63,7 +63,7 @@ REASONS = {
 }
 
 # The settings that build tries where none are given, as leaf, arity and levels: those of `codebook build`.
-SHORT_LIST = [(256, 2, 1), (64, 4, 3), (48, 2, 5), (32, 4, 4), (24, 8, 3), (16, 4, 4)]
+SHORT_LIST = [(256, 2, 1), (32, 6, 2), (32, 5, 2), (24, 5, 3), (16, 5, 4), (16, 4, 3), (12, 4, 4), (10, 3, 6)]
 
 MAX_TEXT = 8_388_608
 DIGEST = 32
@@ -229,7 +229,7 @@ def scan_words(n: int, leaf: int) -> int:
 
 def build(text: Bytes, leaf: Optional[int] = None, arity: Optional[int] = None, levels: Optional[int] = None, counted: Bytes = b"\n") -> bytes:
     """The tree of a text; `counted` are the bytes that it can count and find, rising. Without settings it is the tree of `codebook build`: each of
-    SHORT_LIST is tried, and the smallest tree is returned, of equal ones the first. That takes six builds; give settings where time matters."""
+    SHORT_LIST is tried, and the smallest tree is returned, of equal ones the first. That takes eight builds; give settings where time matters."""
     if leaf is not None and arity is not None and levels is not None:
         return _build(text, leaf, arity, levels, counted)
     if (leaf, arity, levels) != (None, None, None):

@@ -211,7 +211,7 @@ def settings_left_out():
     """build without settings makes the smallest tree of the short list; some of them alone are a mistake."""
     text = open(os.path.join(HERE, "../books/small.txt"), "rb").read()
     trees = [blocktree.build(text, *settings) for settings in blocktree.SHORT_LIST]
-    assert blocktree.build(text) == blocktree.build(text, 24, 8, 3) == min(trees, key=len)
+    assert blocktree.build(text) == blocktree.build(text, 32, 6, 2) == min(trees, key=len)
     assert blocktree.Tree(blocktree.build(text, counted=b"")).info()["totals"] == {}
     for some in ({"leaf": 24}, {"arity": 8, "levels": 3}):
         try:

@@ -9,6 +9,8 @@
 //!     cargo bench -- licence    the term of a licence only
 //!     cargo bench -- orders     the order of two trees only
 //!     cargo bench -- layouts    trees with edges and without: sizes, short spans, the rewriting
+//!     cargo bench -- lists      the sizes alone, also of books by columns and of 8 MiB
+//!     cargo bench -- write      writes books for `bench/run settings` to target/bench/books, and times nothing
 //!     cargo bench -- prefixes   rows by their first bytes, on books of 1 MiB and 8 MiB
 //!     cargo bench -- hostile    texts that are made to be slow beside honest books, of 1 MiB and 8 MiB, by the second builder
 //!
@@ -19,10 +21,11 @@ mod model;
 #[path = "../tests/support/mod.rs"]
 mod support;
 
-use codebook::{calls, MAX_TEXT, SHORT_LIST, SMALL_LIST};
+use codebook::{build_scanned, calls, Settings, MAX_TEXT, SHORT_LIST, SMALL_LIST};
 use model::{check, columns, dates, fast, guides, keys, order, prefix, read, without_edges, Shape};
 use std::hint::black_box;
 use std::io::Write;
+use std::path::Path;
 use std::process::{Command, Stdio};
 use std::time::{Duration, Instant};
 use support::books::{book, even_book, Kind, EVEN_WIDTH};
@@ -34,6 +37,9 @@ const COUNTED: &[u8] = b"\n";
 fn main() {
     let told = |wanted: &str| std::env::args().any(|word| word == wanted);
     let (quick, builders) = (told("quick"), told("builders"));
+    if told("write") {
+        return write_books();
+    }
     describe_machine();
     if told("columns") {
         return by_columns(quick);
@@ -56,6 +62,9 @@ fn main() {
     }
     if told("layouts") {
         return by_layouts(quick);
+    }
+    if told("lists") {
+        return size_lists();
     }
     if told("prefixes") {
         return time_prefixes();
@@ -151,12 +160,45 @@ fn by_layouts(quick: bool) {
     }
 }
 
+/// Books of all kinds, by rows and by columns, for the program that finds the tool's lists.
+fn write_books() {
+    let folder = Path::new(env!("CARGO_MANIFEST_DIR")).join("../target/bench/books");
+    std::fs::create_dir_all(&folder).expect("a folder");
+    let write = |name: &str, size: usize, text: &[u8]| {
+        std::fs::write(folder.join(format!("{}-{}.txt", name.replace([' ', ','], "_"), size / 1024)), text).expect("a file");
+    };
+    for size in [65_536, 524_288] {
+        KINDS.iter().for_each(|&(kind, name)| write(name, size, &book(kind, size, 1)));
+    }
+    for (kind, name) in EVEN_KINDS {
+        let text = even_book(kind, 65_536, 1);
+        let turned = columns::columns_of(&text, EVEN_WIDTH as u32).expect("rows of one width");
+        write(name, 65_536, &text);
+        write(&format!("{name}, by columns"), 65_536, &turned);
+    }
+}
+
+/// The sizes that the tool's lists give.
+fn size_lists() {
+    println!("\n| Book | Text | Layout 2 | The same without edges | Layout 1, by its own list |\n|---|---:|---:|---:|---:|");
+    size_layouts(include_bytes!("../../books/small.txt"), "`books/small.txt`");
+    for size in [65_536, 1_048_576, 8_388_608] {
+        KINDS.iter().for_each(|&(kind, name)| size_layouts(&book(kind, size, 1), name));
+        for (kind, name) in EVEN_KINDS.into_iter().filter(|_| size < MAX_TEXT) {
+            let text = even_book(kind, size, 1);
+            size_layouts(&text, name);
+            let turned = columns::columns_of(&text, EVEN_WIDTH as u32).expect("rows of one width");
+            size_layouts(&turned, &format!("{name}, by columns"));
+        }
+    }
+}
+
 const BOTH_LAYOUTS: Shape = Shape { m: 128, r: 2, h: 4 };
 
 fn size_layouts(text: &[u8], name: &str) {
     let percent = |part: usize| format!("{part} ({:.1} %)", 100.0 * part as f64 / text.len() as f64);
     let sized = |(m, r, h): (u32, u32, u32)| {
-        let tree = fast::tree(text, Shape::new(m, r, h), COUNTED);
+        let tree = build_scanned(text, &Settings { leaf: m, arity: r, levels: h, counted: COUNTED.to_vec() }).expect("a tree").tree;
         let size = without_edges::without_edges(&tree, &mut vec![0; tree.len()]).1 as usize;
         (tree.len(), size, format!("{m}/{r}/{h}"))
     };

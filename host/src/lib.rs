@@ -39,11 +39,11 @@ pub use refusal::Refusal;
 use std::collections::hash_map::RandomState;
 use std::hash::{BuildHasher, Hasher};
 
-/// Settings worth trying on a book, as leaf length, arity and levels: from few and large blocks to many and small ones.
-pub const SHORT_LIST: [(u32, u32, u32); 6] = [(256, 2, 1), (64, 4, 3), (48, 2, 5), (32, 4, 4), (24, 8, 3), (16, 4, 4)];
+/// Settings worth trying on a book, as leaf length, arity and levels: from few and large blocks to many and small ones. `bench/run settings` finds them.
+pub const SHORT_LIST: [(u32, u32, u32); 8] = [(256, 2, 1), (32, 6, 2), (32, 5, 2), (24, 5, 3), (16, 5, 4), (16, 4, 3), (12, 4, 4), (10, 3, 6)];
 
 /// The same for trees without edges (layout 1), whose records cost less and whose leaves may be larger.
-pub const SMALL_LIST: [(u32, u32, u32); 7] = [(256, 2, 1), (256, 2, 2), (192, 2, 2), (128, 2, 2), (96, 2, 2), (96, 2, 4), (64, 2, 5)];
+pub const SMALL_LIST: [(u32, u32, u32); 8] = [(256, 2, 1), (192, 2, 2), (128, 2, 4), (96, 2, 2), (80, 2, 4), (64, 2, 2), (64, 2, 4), (64, 2, 5)];
 
 /// How a tree is laid out, and which bytes it can count and find.
 #[derive(Clone, Debug, PartialEq, Eq)]

@@ -144,7 +144,7 @@ fn a_file_that_comes_meanwhile() {
             let done = child.wait_with_output().expect("the tool ends");
             let (status, errors) = (done.status.code(), String::from_utf8_lossy(&done.stderr).into_owned());
             match replaced {
-                true => assert_eq!((status, errors.as_str(), folder.read("late.tree").len()), (Some(0), "", 5884)),
+                true => assert_eq!((status, errors.as_str(), folder.read("late.tree").len()), (Some(0), "", 5680)),
                 false => {
                     assert_eq!((status, errors.as_str()), (Some(2), "codebook: late.tree: exists; --force overwrites it\n"));
                     assert_eq!(folder.read("late.tree"), b"late");

@@ -203,6 +203,16 @@ fn python_version_and_settings() {
     assert!(module.contains(&format!("\nSHORT_LIST = {:?}\n", codebook::SHORT_LIST)));
 }
 
+/// The lists that `bench/run settings` judges are those of the tool.
+#[test]
+fn settings_of_the_benchmark() {
+    let program = fs::read_to_string(repository().join("bench/settings.cpp")).expect("the program");
+    for list in [&codebook::SHORT_LIST, &codebook::SMALL_LIST] {
+        let written = format!("{list:?}").replace('(', "{").replace(')', "}").replace('[', "{").replace(']', "}");
+        assert!(program.contains(&format!("\n    {written},\n")), "{written}");
+    }
+}
+
 /// What is missing is told at once.
 #[test]
 fn needs() {

@@ -13,13 +13,13 @@ use std::process::Command;
 use std::time::{Duration, Instant};
 use waiting::{both_ways, waiting};
 
-const TREE: &str = "52b68fb8c050a721ad41325cbab54baa513f37c762b2e90bffd1283ca2b82927";
+const TREE: &str = "58c9c17dc6d736f67d80edb8d1195a581665615d597ad25f53fb41b435bd57e1";
 const TEXT: &str = "e913aa0d736292973c8ab01c65bd84ff6524fb868d54c9621602942b5dfceb6e";
 
 /// What `build` finds of the tree of small.txt.
 fn figures() -> String {
     format!(
-        "\"size\":5884,\"length\":2800,\"layout\":2,\"leaf\":24,\"arity\":8,\"levels\":3,\"counted\":[10],\"sha256\":\"{TREE}\",\"text_sha256\":\"{TEXT}\""
+        "\"size\":5680,\"length\":2800,\"layout\":2,\"leaf\":32,\"arity\":6,\"levels\":2,\"counted\":[10],\"sha256\":\"{TREE}\",\"text_sha256\":\"{TEXT}\""
     )
 }
 
@@ -160,7 +160,7 @@ fn the_manifest_comes_first() {
 fn no_manifest_of_another_tree_is_left() {
     let folder = licensed("manifest-left");
     let (tree, beside) = (folder.read("small.tree"), folder.read("small.tree.json"));
-    let says = "codebook: small.tree: by small.tree.json, which would be left beside it, its size is 5,884, and it is 2,396; it is not written; \
+    let says = "codebook: small.tree: by small.tree.json, which would be left beside it, its size is 5,680, and it is 2,396; it is not written; \
                 remove that manifest, or have a new one written\n";
     folder.run("build small.txt -f --small --leaf 64 --arity 2 --levels 5").status(2).prints("").says(says);
     assert!((folder.read("small.tree"), folder.read("small.tree.json")) == (tree.clone(), beside.clone()));
@@ -187,12 +187,12 @@ fn check_compares() {
     assert!(folder.run("check small.tree --json").succeeds().printed().ends_with(",\"manifest\":\"small.tree.json\"}\n"));
     let (good, other) = (manifest(&folder, "small.tree.json"), "0".repeat(64));
     for (due, changed, words) in [
-        ("\"size\":5884", "\"size\":5885", "its size is 5,885, and it is 5,884".to_owned()),
+        ("\"size\":5680", "\"size\":5681", "its size is 5,681, and it is 5,680".to_owned()),
         ("\"length\":2800", "\"length\":0", "its text's length is 0, and it is 2,800".to_owned()),
         ("\"layout\":2", "\"layout\":1", "its layout is 1, and it is 2".to_owned()),
-        ("\"leaf\":24", "\"leaf\":240", "its leaf length is 240, and it is 24".to_owned()),
-        ("\"arity\":8", "\"arity\":2", "its arity is 2, and it is 8".to_owned()),
-        ("\"levels\":3", "\"levels\":4", "its number of levels is 4, and it is 3".to_owned()),
+        ("\"leaf\":32", "\"leaf\":240", "its leaf length is 240, and it is 32".to_owned()),
+        ("\"arity\":6", "\"arity\":2", "its arity is 2, and it is 6".to_owned()),
+        ("\"levels\":2", "\"levels\":4", "its number of levels is 4, and it is 2".to_owned()),
         ("[10]", "[10,65]", "the list of its counted bytes is 0x0a, A, and it is 0x0a".to_owned()),
         (TEXT, &other, format!("the SHA-256 of its text is {other}, and it is {TEXT}")),
         (TREE, &other, format!("its SHA-256 is {other}, and it is {TREE}")),
@@ -217,7 +217,7 @@ fn check_compares() {
     );
     folder.write("small.tree.json", good.replacen("]", "],\"columns\":99999999999", 1).as_bytes());
     folder.run("check small.tree").status(1).prints("");
-    folder.write("small.tree.json", b"{\"size\":\"5884\"}");
+    folder.write("small.tree.json", b"{\"size\":\"5680\"}");
     let malformed = "codebook: small.tree.json: malformed manifest: its member 'size' is not a whole number\n";
     folder.run("check small.tree").status(1).prints("").says(malformed);
     folder.run("slim small.tree").status(1).prints("").says(malformed);
@@ -351,8 +351,8 @@ fn stats_show_it() {
     assert!(folder.run("stats small.tree --json").succeeds().printed().ends_with(members));
     folder.run("build small.txt -q -o plain.tree").succeeds();
     let both = folder.run("stats small.tree plain.tree").succeeds().printed();
-    assert!(both.starts_with("small.tree: 5,884 bytes, ") && both.contains("levels 3; Ilko; 3; 2024-01-01 to 2024-12-31\n"), "{both}");
-    assert!(both.ends_with("levels 3\n"));
+    assert!(both.starts_with("small.tree: 5,680 bytes, ") && both.contains("levels 2; Ilko; 3; 2024-01-01 to 2024-12-31\n"), "{both}");
+    assert!(both.ends_with("levels 2\n"));
     folder.write("small.tree.json", b"{");
     let warned = folder.run("stats small.tree");
     warned.succeeds().says("codebook: small.tree.json: warning: the manifest is not used: a member's name is expected at byte 1, in line 1\n");
@@ -366,7 +366,7 @@ fn slim_keeps_it() {
     let done = folder.run("slim small.tree");
     assert!(done.succeeds().says("").printed().ends_with("; manifest small.small.tree.json\n"));
     let slim = manifest(&folder, "small.small.tree.json");
-    let book = "{\"maker\":\"Ilko\",\"edition\":\"3\",\"first\":\"2024-01-01\",\"last\":\"2024-12-31\",\"size\":2908,\"length\":2800,\"layout\":1,";
+    let book = "{\"maker\":\"Ilko\",\"edition\":\"3\",\"first\":\"2024-01-01\",\"last\":\"2024-12-31\",\"size\":2544,\"length\":2800,\"layout\":1,";
     assert!(slim.starts_with(book) && slim.contains(TEXT) && !slim.contains(TREE), "{slim}");
     assert_eq!((mode(&folder, "small.small.tree"), mode(&folder, "small.small.tree.json")), (0o600, 0o600));
     folder.run("check small.small.tree -q").succeeds();
@@ -396,7 +396,7 @@ fn guide_enters_itself() {
     fs::set_permissions(folder.0.join("small.tree.json"), PermissionsExt::from_mode(0o600)).expect("permissions");
     folder.run("guide make small.tree -o ./small.guide").succeeds().says("");
     let after = manifest(&folder, "small.tree.json");
-    let guide = "\"guide\":\"small.guide\",\"guide_size\":16,\"guide_sha256\":\"b342c83d7060c5852f741e8e009d375103df2e1f7c76fbc512e575cd86d7b03d\"";
+    let guide = "\"guide\":\"small.guide\",\"guide_size\":16,\"guide_sha256\":\"c931454f0942c80046fd3a3cc253dba4c2732e30a3a115022d1676dc9d18e699\"";
     assert!(after.contains(guide) && after.ends_with(",\"blank\":[ 1.50 ]}\n"), "{after}");
     assert_eq!(mode(&folder, "small.tree.json"), 0o600);
     folder.run("check small.tree -q").succeeds();
@@ -405,7 +405,7 @@ fn guide_enters_itself() {
     folder.write("small.guide", &good[..12]);
     folder.run("check small.tree").status(1).says("codebook: small.guide: by small.tree.json its size is 16, and it is 12\n");
     folder.write("small.guide", &[1; 16]);
-    assert!(folder.run("check small.tree").status(1).errors().starts_with("codebook: small.guide: by small.tree.json its SHA-256 is b342c83d"));
+    assert!(folder.run("check small.tree").status(1).errors().starts_with("codebook: small.guide: by small.tree.json its SHA-256 is c931454f"));
     folder.write("small.tree.json", b"{\"guide\":\"small.guide\"}");
     assert!(folder.run("check small.tree").status(1).errors().starts_with("codebook: small.guide: refused (24)"));
     fs::remove_file(folder.0.join("small.guide")).expect("a file");
@@ -417,7 +417,7 @@ fn guide_enters_itself() {
     folder.run("guide make small.tree -o guides/small.guide").succeeds().says(left);
     assert_eq!(manifest(&folder, "small.tree.json"), after);
     assert_eq!(folder.run("guide make small.tree").succeeds().output.stdout, good);
-    folder.write("small.tree.json", after.replace("5884", "5885").as_bytes());
+    folder.write("small.tree.json", after.replace("5680", "5681").as_bytes());
     folder.run("guide make small.tree -f -o small.guide").status(1).prints("");
     assert!(!folder.0.join("small.guide").exists());
 }

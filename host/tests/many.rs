@@ -69,11 +69,9 @@ fn stats_and_lists() {
     assert_eq!(done.printed().lines().count(), 2);
     assert!(done
         .printed()
-        .starts_with("small.tree: 5,884 bytes, 210.1 % of the text; 2,800 bytes of text, 200 rows; leaf 24, arity 8, levels 3\nlate.tree: "));
+        .starts_with("small.tree: 5,680 bytes, 202.9 % of the text; 2,800 bytes of text, 200 rows; leaf 32, arity 6, levels 2\nlate.tree: "));
     let done = folder.run("list small.tree damaged.tree");
-    done.status(1)
-        .prints("small.tree: 0 2 2 0 / 1 15 6 9 / 2 45 45 0\ndamaged.tree: refused 8\n")
-        .says(&format!("codebook: damaged.tree: {LINKS}\n"));
+    done.status(1).prints("small.tree: 0 15 6 9 / 1 34 34 0\ndamaged.tree: refused 8\n").says(&format!("codebook: damaged.tree: {LINKS}\n"));
     let done = folder.run("stats small.tree damaged.tree --json");
     assert_eq!(done.status(1).printed().lines().count(), 2);
     assert!(done.printed().ends_with(&format!("{{\"failed\":\"damaged.tree\",\"status\":1,\"refused\":8,\"words\":\"{LINKS}\"}}\n")));

@@ -87,8 +87,8 @@ fn values_and_bounds() {
     let tree = folder.read("small.tree");
     folder.write("short.tree", &tree[..5000]);
     folder.write("long.tree", &[tree.as_slice(), b"more"].concat());
-    refused("check short.tree", "; it has 5,000 bytes, and by its header 5,884");
-    refused("check long.tree", "; it has 5,888 bytes, and by its header 5,884");
+    refused("check short.tree", "; it has 5,000 bytes, and by its header 5,680");
+    refused("check long.tree", "; it has 5,684 bytes, and by its header 5,680");
     refused("check small.txt", "; its layout is 892356675");
     folder.write("half.guide", &[0; 8]);
     refused("guide check half.guide small.tree", "; it has 8 bytes, and the tree's guide 16");

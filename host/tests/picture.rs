@@ -33,14 +33,14 @@ fn the_small_book() {
     folder.run("picture small.tree -o small.svg").succeeds().prints("small.tree: its picture to small.svg\n").says("");
     let svg = String::from_utf8(folder.read("small.svg")).expect("a text");
     well_formed(&svg);
-    // 53 kept blocks and 9 that point, with an arrow each, and one of each in the legend
-    assert_eq!((blocks(&svg, 40), blocks(&svg, 18), svg.matches("marker-end").count()), (54, 10, 10));
+    // 40 kept blocks and 9 that point, with an arrow each, and one of each in the legend
+    assert_eq!((blocks(&svg, 40), blocks(&svg, 18), svg.matches("marker-end").count()), (41, 10, 10));
     for words in [
         ">small.tree<",
         ">level 0<",
-        ">level 2<",
+        ">level 1<",
         "blocks of 192 bytes: 6 kept, 9 pointing",
-        "the tree's bytes: header 100, records 1,736, edges 2,976, leaf bytes 1,072",
+        "the tree's bytes: header 100, records 1,372, edges 3,136, leaf bytes 1,072",
     ] {
         assert!(svg.contains(words), "{words}");
     }

@@ -66,7 +66,7 @@ fn the_new_file_takes_the_place_of_the_old() {
         assert_eq!(folder.read("small.tree"), OLD);
         child.stdin.take().expect("a pipe").write_all(&folder.read("small.txt")).expect("the book");
         assert!(child.wait().expect("the tool ends").success());
-        assert_eq!((folder.read("small.tree").len(), folder.names()), (5884, vec!["small.tree".to_owned(), "small.txt".to_owned()]));
+        assert_eq!((folder.read("small.tree").len(), folder.names()), (5680, vec!["small.tree".to_owned(), "small.txt".to_owned()]));
         assert_eq!(fs::metadata(folder.0.join("small.tree")).expect("a file").permissions().mode() & 0o777, 0o640);
     }
 }
@@ -140,13 +140,13 @@ fn files_are_overwritten_only_by_force() {
         assert_eq!(folder.read("small.tree"), OLD);
     }
     folder.run("build small.txt --force").succeeds();
-    assert_eq!(folder.read("small.tree").len(), 5884);
+    assert_eq!(folder.read("small.tree").len(), 5680);
     // through a link: the link stays, and what it leads to is replaced
     symlink("small.tree", folder.0.join("link.tree")).expect("a link");
     folder.run("build small.txt -fo link.tree --leaf 16 --arity 4 --levels 2").succeeds();
     assert!(folder.0.join("link.tree").is_symlink());
     assert_eq!(folder.read("small.tree").len(), folder.read("link.tree").len());
-    assert_ne!(folder.read("small.tree").len(), 5884);
+    assert_ne!(folder.read("small.tree").len(), 5680);
 }
 
 // 3: no panic

@@ -27,9 +27,9 @@ fn grouped(number: usize) -> String {
 fn writes_a_tree_without_edges() {
     let folder = Folder::with_tree("slim");
     let done = folder.run("slim small.tree");
-    assert_eq!(sizes(&done.succeeds().says("").printed()), "small.small.tree: 2,908 bytes, 49.4 % of small.tree");
+    assert_eq!(sizes(&done.succeeds().says("").printed()), "small.small.tree: 2,544 bytes, 44.8 % of small.tree");
     let small = folder.read("small.small.tree");
-    assert_eq!(small, build::plain_tree_in(1, &folder.read("small.txt"), Shape::new(24, 8, 3), b"\n"));
+    assert_eq!(small, build::plain_tree_in(1, &folder.read("small.txt"), Shape::new(32, 6, 2), b"\n"));
     assert!(folder.run("check small.small.tree").succeeds().printed().starts_with("small.small.tree: valid tree of 2,800 bytes"));
     folder.run("verify small.txt small.small.tree").succeeds().prints("small.small.tree: the block tree, without edges, of small.txt, 2,800 bytes\n");
     for words in ["row ..", "find 0x0a 120", "span 14 6", "places CH0502", "match 5216[1-5]", "count 0x0a 1400"] {
@@ -44,7 +44,7 @@ fn writes_a_tree_without_edges() {
     // in a pipe
     let piped = folder.pipe("slim", &folder.read("small.tree"));
     assert_eq!(piped.succeeds().output.stdout, small);
-    assert!(piped.errors().starts_with("standard output: 2,908 bytes, 49.4 % of standard input; SHA-256 of the tree "));
+    assert!(piped.errors().starts_with("standard output: 2,544 bytes, 44.8 % of standard input; SHA-256 of the tree "));
     // a tree that has no edges is copied
     let done = folder.run("slim small.small.tree -o copy.tree");
     done.succeeds().says("codebook: small.small.tree: warning: it has no edges already, and was copied\n");
@@ -125,7 +125,7 @@ fn what_edges_cost() {
         "{stats}"
     );
     let line = folder.run("stats small.tree small.small.tree --json").succeeds().printed();
-    assert!(line.contains("\"layout\":2,\"leaf\"") && line.contains("],\"size_without_edges\":2908}\n") && line.ends_with("}]}\n"), "{line}");
+    assert!(line.contains("\"layout\":2,\"leaf\"") && line.contains("],\"size_without_edges\":2544}\n") && line.ends_with("}]}\n"), "{line}");
     let text = book(Kind::Repetitive, 65_536, 1);
     folder.write("book.txt", &text);
     let done = folder.run("build book.txt --leaf 64 --arity 2 --levels 4");
@@ -153,14 +153,15 @@ fn what_edges_cost() {
 #[test]
 fn best_searches_on() {
     let folder = Folder::with_tree("best");
-    // without edges no neighbour of the list's best is smaller
-    for (small, further) in [("", true), (" --small", false)] {
-        let short = folder.run(&format!("build small.txt -f{small}")).succeeds().printed();
-        let listed = folder.read("small.tree").len();
-        let report = folder.run(&format!("build small.txt -f --best{small}")).succeeds().printed();
-        let tree = folder.read("small.tree");
+    folder.write("same.txt", &b"CH0501 444224\n".repeat(2000));
+    // no neighbour of the list's best is smaller for the small book
+    for (book, small, further) in [("small", "", false), ("same", "", true), ("same", " --small", true)] {
+        let short = folder.run(&format!("build {book}.txt -f{small}")).succeeds().printed();
+        let listed = folder.read(&format!("{book}.tree")).len();
+        let report = folder.run(&format!("build {book}.txt -f --best{small}")).succeeds().printed();
+        let tree = folder.read(&format!("{book}.tree"));
         assert_eq!(tree.len() < listed, further, "{} {listed}", tree.len());
-        assert_eq!(Tree::checked(&tree).expect("a valid tree").text().as_deref(), Ok(&folder.read("small.txt")[..]));
+        assert_eq!(Tree::checked(&tree).expect("a valid tree").text().as_deref(), Ok(&folder.read(&format!("{book}.txt"))[..]));
         let sizes = |report: &str| -> Vec<usize> {
             let lines = report.lines().skip(2).take_while(|line| !line.starts_with("chosen"));
             lines.map(|line| line.split_whitespace().last().expect("a size").replace(',', "").parse().expect("a number")).collect()

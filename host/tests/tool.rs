@@ -21,22 +21,24 @@ fn builds_with_chosen_settings() {
 small.txt: 2,800 bytes
 leaf  arity  levels  tree's bytes
  256      2       1         8,840
-  64      4       3         7,548
-  48      2       5         7,428
-  32      4       4         6,444
-  24      8       3         5,884
-  16      4       4         6,256
-chosen: leaf 24, arity 8, levels 3, since its tree is the smallest of these 6
+  32      6       2         5,680
+  32      5       2         6,452
+  24      5       3         6,116
+  16      5       4         6,320
+  16      4       3         6,076
+  12      4       4         6,380
+  10      3       6         7,222
+chosen: leaf 32, arity 6, levels 2, since its tree is the smallest of these 8
 ";
-    let ending = "5,884 bytes, 210.1 % of the text; leaf 24, arity 8, levels 3; bytes counted: 0x0a\n\
-                  SHA-256 of the tree 52b68fb8c050a721ad41325cbab54baa513f37c762b2e90bffd1283ca2b82927\n\
+    let ending = "5,680 bytes, 202.9 % of the text; leaf 32, arity 6, levels 2; bytes counted: 0x0a\n\
+                  SHA-256 of the tree 58c9c17dc6d736f67d80edb8d1195a581665615d597ad25f53fb41b435bd57e1\n\
                   SHA-256 of its text e913aa0d736292973c8ab01c65bd84ff6524fb868d54c9621602942b5dfceb6e\n";
     let warning = |book: &str| {
         let small = "--small would give 1,928 bytes, 68.9 % of the text";
         format!("codebook: {book}: warning: {NO_SMALLER}\ncodebook: {book}: warning: {small}\n")
     };
     folder.run("build small.txt -o small.tree").succeeds().prints(&format!("{report}small.tree: {ending}")).says(&warning("small.txt"));
-    assert_eq!(folder.read("small.tree").len(), 5884);
+    assert_eq!(folder.read("small.tree").len(), 5680);
     // in a pipe the tree goes to standard output and the report to standard error
     let piped = folder.pipe("build", &folder.read("small.txt"));
     piped.succeeds().says(&format!("{}standard output: {ending}{}", report.replace("small.txt", "standard input"), warning("standard input")));
@@ -81,42 +83,41 @@ fn one_level() {
 #[test]
 fn answers() {
     let folder = Folder::with_tree("answers");
-    folder.run("list small.tree").succeeds().prints("0 2 2 0\n1 15 6 9\n2 45 45 0\n");
+    folder.run("list small.tree").succeeds().prints("0 15 6 9\n1 34 34 0\n");
     folder.run("row 1 small.tree").succeeds().prints("CH0501 444224\n");
     folder.run("row 200 small.tree").succeeds().prints("HON1012 52162\n");
     folder.run("row 199.. small.tree").succeeds().prints("HON1011 52161\nHON1012 52162\n");
     folder.run("row ..2 small.tree").succeeds().prints("CH0501 444224\nCH0502 444225\n");
     folder.run("row 5..7 small.tree").succeeds().prints("CH0505 444233\nCH0506 444234\nCH0507 444235\n");
     assert_eq!(folder.run("row .. small.tree").output.stdout, folder.read("small.txt"));
-    folder.run("run 14 small.tree").succeeds().prints("offset 4826, 10 bytes: 'CH0502 444'\n");
-    folder.run("byte 0 small.tree").succeeds().prints("67 'C' (3 blocks entered)\n");
-    folder.run("byte 13 small.tree").succeeds().prints("10 '\\n' (3 blocks entered)\n");
+    folder.run("run 14 small.tree").succeeds().prints("offset 4622, 18 bytes: 'CH0502 444225\\nCH05'\n");
+    folder.run("byte 0 small.tree").succeeds().prints("67 'C' (2 blocks entered)\n");
+    folder.run("byte 13 small.tree").succeeds().prints("10 '\\n' (2 blocks entered)\n");
     folder.run("span 14 6 small.tree").succeeds().prints("CH0502");
     folder.run("span 2800 0 small.tree").succeeds().prints("");
-    folder.run("count 0x0a 2800 small.tree").succeeds().prints("200 (3 blocks entered)\n");
+    folder.run("count 0x0a 2800 small.tree").succeeds().prints("200 (2 blocks entered)\n");
     folder.run("count \\n 0 small.tree").succeeds().prints("0 (0 blocks entered)\n");
-    folder.run("find \\x0a 1 small.tree").succeeds().prints("13 (3 blocks entered)\n");
+    folder.run("find \\x0a 1 small.tree").succeeds().prints("13 (2 blocks entered)\n");
     let text = folder.run("text small.tree");
     text.succeeds().says("");
     assert_eq!(text.output.stdout, folder.read("small.txt"));
     folder.run("stats small.tree").succeeds().prints(
         "\
-small.tree: 5,884 bytes, 210.1 % of the text
+small.tree: 5,680 bytes, 202.9 % of the text
 text        2,800 bytes
 layout      2, with edges, for short spans in one walk
-settings    leaf 24, arity 8, levels 3
+settings    leaf 32, arity 6, levels 2
 counted     10 '\\n': 200 times
 rows        200
 the tree's bytes
-  header             100    1.7 %
-  records          1,736   29.5 %
-  edges            2,976   50.6 %
-  leaf bytes       1,072   18.2 %
-without edges 2,908 bytes, 103.9 % of the text: codebook slim
+  header             100    1.8 %
+  records          1,372   24.2 %
+  edges            3,136   55.2 %
+  leaf bytes       1,072   18.9 %
+without edges 2,544 bytes, 90.9 % of the text: codebook slim
 level  block length    blocks      kept  pointing
-    0         1,536         2         2         0
-    1           192        15         6         9
-    2            24        45        45         0
+    0           192        15         6         9
+    1            32        34        34         0
 ",
     );
 }
@@ -220,15 +221,17 @@ fn by_columns() {
 small.txt, 200 rows of 14 bytes by columns: 2,800 bytes
 leaf  arity  levels  tree's bytes
  256      2       1         8,840
-  64      4       3        11,948
-  48      2       5        17,144
-  32      4       4        13,756
-  24      8       3        13,084
-  16      4       4        16,348
-chosen: leaf 256, arity 2, levels 1, since its tree is the smallest of these 6
+  32      6       2        12,376
+  32      5       2        12,652
+  24      5       3        13,804
+  16      5       4        15,660
+  16      4       3        16,168
+  12      4       4        16,444
+  10      3       6        15,994
+chosen: leaf 256, arity 2, levels 1, since its tree is the smallest of these 8
 columns.tree: 8,840 bytes, 315.7 % of the text; leaf 256, arity 2, levels 1; bytes counted: 0x0a
 ";
-    let compared = "by columns 8,840 bytes, by rows 5,884 (leaf 24, arity 8, levels 3): columns do not make it smaller\n";
+    let compared = "by columns 8,840 bytes, by rows 5,680 (leaf 32, arity 6, levels 2): columns do not make it smaller\n";
     let built = folder.run("build small.txt -o columns.tree --columns auto --allow-larger");
     assert_eq!(before_digest(built.succeeds()), report);
     assert!(built.printed().ends_with(compared));
@@ -427,7 +430,7 @@ fn damaged_trees() {
     );
     folder.write("cut.tree", &tree[..tree.len() - 1]);
     folder.run("check cut.tree").status(1).says(
-        "codebook: cut.tree: refused (7): the header is not right: its settings, unused places or offsets, or the file is longer or shorter than it says; it has 5,883 bytes, and by its header 5,884\n",
+        "codebook: cut.tree: refused (7): the header is not right: its settings, unused places or offsets, or the file is longer or shorter than it says; it has 5,679 bytes, and by its header 5,680\n",
     );
 }
 
@@ -497,7 +500,7 @@ fn progress() {
     }
     let shown = done.succeeds().printed();
     let lines: Vec<&str> = shown.split('\r').filter(|line| line.starts_with("building: ")).collect();
-    assert!(quick || lines.iter().any(|line| line.contains(" of 6 trees done, ") && line.contains(" s left")), "{shown}");
+    assert!(quick || lines.iter().any(|line| line.contains(" of 8 trees done, ") && line.contains(" s left")), "{shown}");
     folder.shell("script -qec 'codebook build -qf long.txt' /dev/null < /dev/null").succeeds().prints("");
 }
 

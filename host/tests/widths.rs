@@ -63,7 +63,7 @@ fn books_of_another_width() {
 #[test]
 fn no_larger_tree_by_columns() {
     let folder = Folder::new("larger");
-    let compared = "by columns 8,840 bytes, by rows 5,884 (leaf 24, arity 8, levels 3): columns do not make it smaller";
+    let compared = "by columns 8,840 bytes, by rows 5,680 (leaf 32, arity 6, levels 2): columns do not make it smaller";
     let says = format!("codebook: small.txt: {compared}; it is not written; --allow-larger writes it\n");
     folder.run("build small.txt --columns auto").status(1).prints("").says(&says);
     assert_eq!(folder.names(), ["small.txt"]);

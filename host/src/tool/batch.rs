@@ -7,7 +7,7 @@ use crate::json::Object;
 use crate::ordered::in_order;
 use crate::report::Report;
 use crate::say::{self, grouped, several};
-use crate::trials::Request;
+use crate::trials::{Request, LONG};
 use crate::{progress, Failure};
 use std::fs;
 use std::path::Path;
@@ -48,6 +48,12 @@ pub fn build(given: &Given, order: Order, jobs: usize) -> Result<(), Failure> {
     let request = Request { silent: true, jobs: (jobs / books.len()).max(1), ..order.request };
     let order = Order { request, ..order };
     let costs: Vec<u64> = books.iter().map(|book| fs::metadata(book).map_or(1, |file| file.len().max(1))).collect();
+    if order.request.search && !given.quiet() && costs.iter().sum::<u64>() >= LONG as u64 {
+        say::tell(&format!(
+            "codebook: --best searches for the settings of {}, some ten times as long as without it\n",
+            several(books.len() as u64, "book")
+        ));
+    }
     progress::show("books", &costs, given.quiet(), |progress| {
         let work = |at: usize| make(given, &order, Some(books[at]));
         in_order(books.len(), jobs.min(books.len()), work, |at, made| {

@@ -9,7 +9,7 @@ use crate::manifest::{self, Digests, Figures};
 use crate::say::{self, grouped, several};
 use crate::sums::{self, Sum};
 use crate::table::{Opt, COLUMNS, LIST, SHA256, SUMS, TEXT_SHA256};
-use crate::{by_columns, trials, values, Failure};
+use crate::{by_columns, progress, trials, values, Failure};
 use codebook::{digest_text, Digest, Refusal, Tree};
 use std::os::unix::ffi::OsStrExt;
 use std::path::Path;
@@ -155,7 +155,10 @@ fn verify_one(given: &Given, book: &Path, tree: &Path) -> Result<(), Failure> {
         return Err(Failure::refused(&input.name, format!("not a tree of {}: {words}", book.name)));
     }
     let small = tree.layout() == 1;
-    let built = trials::build(&due, &tree.settings(), small).is_ok_and(|built| built == input.bytes);
+    let mut built = false;
+    progress::show("trees", &[trials::cost(&due, &tree.settings())], given.quiet(), |_| {
+        built = trials::build(&due, &tree.settings(), small).is_ok_and(|built| built == input.bytes);
+    });
     let object = Object::new().text("tree", &input.name).text("book", &book.name).flag("good", true).flag("as_built", built);
     let object = members(object, &Digests { tree: digest_text(&input.bytes), text: digest_text(&due) });
     let which = match (built, small) {

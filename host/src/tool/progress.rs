@@ -91,7 +91,8 @@ pub fn show(what: &'static str, costs: &[u64], quiet: bool, work: impl FnOnce(&P
 /// How many are done, the time, and the time that the rest will take.
 fn line(what: &str, done: usize, parts: usize, time: Duration, left: Duration) -> String {
     let left = if left.is_zero() { "soon done".to_owned() } else { format!("about {:.1} s left", left.as_secs_f64()) };
-    format!("building: {done} of {parts} {what} done, {:.1} s, {left}", time.as_secs_f64())
+    let parts = if parts == 1 { String::new() } else { format!("{done} of {parts} {what} done, ") };
+    format!("building: {parts}{:.1} s, {left}", time.as_secs_f64())
 }
 
 /// The time left after `elapsed`: what is done took `time`, and the rest goes at that rate; before a part is done, at that of a common machine.
@@ -115,5 +116,6 @@ mod tests {
         assert_eq!(estimate(0, Duration::ZERO, 300_000_000, second), 2 * second);
         assert_eq!(line("trees", 2, 6, second, 3 * second), "building: 2 of 6 trees done, 1.0 s, about 3.0 s left");
         assert_eq!(line("books", 5, 6, second, Duration::ZERO), "building: 5 of 6 books done, 1.0 s, soon done");
+        assert_eq!(line("trees", 0, 1, second, 3 * second), "building: 1.0 s, about 3.0 s left");
     }
 }

@@ -1,10 +1,14 @@
 //! Which settings suit a book: a short list is tried, each once, and the smallest tree is kept; on request the search goes on from there.
 
-use crate::progress;
+use crate::{progress, say};
 use codebook::{build_scanned, one_level_size, Refusal, Settings, Tree, SHORT_LIST, SMALL_LIST};
 use std::sync::atomic::{AtomicUsize, Ordering};
 use std::sync::Mutex;
 use std::thread;
+use std::time::{Duration, Instant};
+
+/// Bytes of text from which on a search is announced.
+pub const LONG: usize = 1 << 21;
 
 /// Settings, and the size of the tree that they give.
 pub struct Trial {
@@ -44,14 +48,23 @@ pub fn best(text: &[u8], request: &Request) -> Result<Chosen, Refusal> {
         Some(settings) => choose(text, std::slice::from_ref(settings), request),
         None => {
             let settings = |&(leaf, arity, levels): &(u32, u32, u32)| Settings { leaf, arity, levels, counted: request.counted.clone() };
+            let start = Instant::now();
             let chosen = choose(text, &list.iter().map(settings).collect::<Vec<_>>(), request)?;
-            if request.search {
-                descend(text, chosen, request)
-            } else {
-                Ok(chosen)
+            if !request.search {
+                return Ok(chosen);
             }
+            if text.len() >= LONG && !request.quiet && !request.silent {
+                say::tell(&announcement(start.elapsed()));
+            }
+            descend(text, chosen, request)
         }
     }
+}
+
+/// What is said before a search that can take minutes: what the list took, and the time that the search is likely to take.
+fn announcement(list: Duration) -> String {
+    let seconds = list.as_secs_f64();
+    format!("codebook: the list of settings took {seconds:.1} s; --best searches on, some {:.0} s more\n", (10.0 * seconds).max(1.0))
 }
 
 /// From the best settings to the best of their neighbours, as long as that makes the tree smaller.
@@ -170,7 +183,9 @@ fn enter(results: &mut [Option<Tried>], at: usize, tried: Tried) {
     }
 }
 
-/// What a candidate takes, to measure progress by: the builder passes over the text once for each level above the last.
-fn cost(text: &[u8], settings: &Settings) -> u64 {
-    text.len() as u64 * u64::from(settings.levels.clamp(1, 8) - 1)
+/// What a candidate takes, to measure progress by: the builder passes over the text once for each level above the last; short leaves make its table
+/// larger than the processor's caches.
+pub fn cost(text: &[u8], settings: &Settings) -> u64 {
+    let passes = text.len() as u64 * u64::from(settings.levels.clamp(1, 8) - 1);
+    passes + 4 * passes / u64::from(settings.leaf.max(1))
 }
