@@ -110,7 +110,8 @@ pub +kept-step+pointing-step-spec : {M : Type 1} → statement M
     let may = laws.child-may _ _ _ _ _ _ _ (S .pre .1 .0) (λ last. omega (arith, S .pre .1 .1))
     _ (m .before .before .quotient .ensures ∙ ap (λ (y : ℕ). S .args .on .b / y) (x .arity-is))
     _ (m .before .enter .ensures) _ (rw (w .whole .ensures) at (m .child .ensures)) _ _ (c .before .before .before .before .child2 .given .1) in
-    let f = laws.last-fits _ _ _ _ _ _ (m .before .enter .result) may (c .if1 .taken ∙ x .levels-is) (rw (x .offset-is) at (s .shape-of .ok .1 .1 .1 .1 .1 .0 .1)) in
+    let f = laws.last-fits _ _ _ _ _ _ (m .before .enter .result) may (c .if1 .taken ∙ x .levels-is)
+    (rw (x .offset-is) at (s .shape-of .ok .1 .1 .1 .1 .1 .0 .1)) in
     (f .0, f .1, f .2, laws.left-fits _ _ _ _ _ _ _ (S .pre .1 .0) _ (m .before .enter .ensures)))
     (λ c.
     let m = c .before .before .before .before .before .before .before in

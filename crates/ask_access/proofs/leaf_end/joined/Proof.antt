@@ -57,6 +57,7 @@ joined-spec =
       omega (arith, l .loop .inv .0),
       rw (k .leaf-is) (laws.next-more _ _ _ _ _ (l .loop .inv .0) (l .loop .inv .1)),
       omega (arith, k .leaf-is, c .before .before .before .loop-test .taken),
-      rw (k .leaf-is) (laws.join-next _ _ k _ (S .pre .1) _ _ (l .loop .inv .0) (l .loop .inv .3) (l .loop .inv .1) _ (c .before .follows .ensures) (not-false _ (c .if1 .left))),
+      rw (k .leaf-is) (laws.join-next _ _ k _ (S .pre .1) _ _ (l .loop .inv .0) (l .loop .inv .3) (l .loop .inv .1)
+          _ (c .before .follows .ensures) (not-false _ (c .if1 .left))),
     ))
     (λ c. c .before .loop .inv .3))
