@@ -138,8 +138,8 @@ module _ (t : List ℕ) (p : ℕ) (h : Header) (k : HeaderOf t h) (low : p < h .
       pub end-place : r .place .0 < at.settings t .leaf
       end-place = omega (arith, above-place t (k .facts) p (end-walk .above) (end-walk .is), end-walk .place-is, full-last t (k .facts))
 
-      pub end-few : keptBlock t (lastLevel t) (r .block .0) ≡ true
-          → at.link t (lastLevel t) (r .block .0) + r .place .0 < at.leafCount t → r .trail .entered + 1 < 4294967296
+      pub end-few : keptBlock t (lastLevel t) (r .block .0) ≡ true → at.link t (lastLevel t) (r .block .0) + r .place .0 < at.leafCount t
+          → r .trail .entered + 1 < 4294967296
       unfolding pathOf
       end-few kept small =
           let vs = end-walk .above .visits ++ (visit (lastLevel t) (r .block .0) (r .place .0) ∷ []) in

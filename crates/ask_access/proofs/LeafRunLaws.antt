@@ -63,12 +63,8 @@ bounds left most within n size leaves long within-is size-is long-is =
     let a : (within ≤ left) × (within ≤ most) = (omega arith, omega arith) in
     let b : (size ≤ within) × (size ≤ n) = (omega arith, omega arith) in
     let c : (long ≤ size) × (long ≤ leaves) = (omega arith, omega arith) in
-    record {
-      in-left = le-trans (c .0) (le-trans (b .0) (a .0));
-      at-most = le-trans (c .0) (le-trans (b .0) (a .1));
-      in-joined = le-trans (c .0) (b .1);
-      in-leaves = c .1;
-    }
+    let d : long ≤ within = le-trans (c .0) (b .0) in
+    record { in-left = le-trans d (a .0); at-most = le-trans d (a .1); in-joined = le-trans (c .0) (b .1); in-leaves = c .1 }
 
 sub-pos : (a b : ℕ) → b < a → 1 ≤ a - b
 sub-pos a b h = omega arith
