@@ -31,7 +31,7 @@ use Rattle.theory_edges.specs.Demands.{edges-exact}
 use Rattle.layout.specs.declared.header.Header.{Header}
 use Rattle.layout.specs.HeaderSays.{HeaderOf}
 use Rattle.layout.specs.Record.{FieldIn, EdgesIn}
-use Rattle.walk_steps.proofs.QuestionStandsLaws.{field-there}
+use Rattle.walk_steps.proofs.QuestionStandsLaws.{plain, field-there}
 use Rattle.walk_short.specs.declared.gather.Parts.{Parts}
 use Rattle.walk_short.specs.declared.gather.Gathered.{Gathered}
 use Rattle.walk_short.specs.declared.gather.Gathered.the-variants.{At, Broken}
@@ -102,8 +102,13 @@ module _ (t : List ℕ) (h : Header) (level b i : ℕ) (k : Edged t h level b i)
     unfolding ownBytes
     own-right = own-is ∙ rw (header .leaf-is, long-is)
 
-    pub walk-asks : (o : ℕ) → o + own ≤ long → Walking t h level b o own 0
-    walk-asks o ho = record { on = k .on; place-in = omega (arith, own-low, long-few); short = omega (arith, own-is); few = omega arith }
+    pub walk-asks : (o : ℕ) → o + own ≤ long → Walking t (h .«record_size») level b o own 0
+    walk-asks o ho = record {
+      on = plain t h level b (k .on);
+      place-in = omega (arith, own-low, long-few);
+      short = omega (arith, own-is, header .leaf-is);
+      few = omega arith;
+    }
 
     pub front-in : 0 + own ≤ long
     front-in = omega (arith, own-is)

@@ -60,7 +60,7 @@ fn walked_right(t: &[u8], h: Header, level: u32, b: u32, block: BlockNumber) -> 
         place: BlockPlace(0),
         len: own,
     };
-    let first = gather::gather(t, h, on, here, front, 0);
+    let first = gather::gather(t, h.record_size, on, here, front, 0);
     if !edge_right(t, m, at, own, first) {
         return false;
     }
@@ -68,7 +68,7 @@ fn walked_right(t: &[u8], h: Header, level: u32, b: u32, block: BlockNumber) -> 
         place: BlockPlace(length - own),
         len: own,
     };
-    let last = gather::gather(t, h, on, here, back, 0);
+    let last = gather::gather(t, h.record_size, on, here, back, 0);
     edge_right(t, m, at + m as usize, own, last)
 }
 

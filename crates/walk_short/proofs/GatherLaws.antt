@@ -11,22 +11,24 @@ use borrow.Author.Tests.{lt-ltb, le-ltb, le-leb, lt-leb, ltb-true, ltb-false}
 use lib.Dec.{ltb}
 use lib.ListN.{length, length-append}
 use Rattle.text.specs.ListLaws.{lt-or-ge, and-left, and-right}
+use Rattle.format.specs.Settings.{maxLeaf}
+use Rattle.format.specs.Words.{wordAt}
+use Rattle.format.specs.HeaderPlaces.{leafAt, countedCountAt}
 use Rattle.format.specs.Layout as at
 use Rattle.format.specs.Path.{Visit, keptBlock, targetBlock, targetPlace}
 use Rattle.format.specs.LayoutLaws.{Readable, size-high, full-pos}
 use Rattle.format.specs.Short.{Short, led, byEdges, inLeaf}
 use Rattle.theory_edges.specs.SpanSteps as margins
 use Rattle.theory_paths.specs.PlacesLand.{target-first, target-second}
-use Rattle.layout.specs.declared.header.Header.{Header}
 use Rattle.layout.specs.declared.place.BlockNumber.{BlockNumber}
 use Rattle.layout.specs.declared.place.BlockPlace.{BlockPlace}
-use Rattle.layout.specs.HeaderSays.{HeaderOf}
 use Rattle.layout.specs.Record.{EdgesIn}
 use Rattle.walk_steps.specs.declared.Next.{Next}
 use Rattle.walk_steps.specs.declared.Next.the-variants as next
-use Rattle.walk_steps.specs.Steps.{nextAt}
-use Rattle.walk_steps.specs.QuestionStands.{OnLevel, Pointing}
-use Rattle.walk_steps.proofs.StepLaws.{kept-in, pointing-gap}
+use Rattle.walk_steps.specs.declared.Part.{Part}
+use Rattle.walk_steps.specs.declared.fields.Shape.{Shape}
+use Rattle.walk_steps.specs.Steps.{nextAt, OnLevel, Pointing}
+use Rattle.walk_steps.proofs.StepLaws.{kept-in, pointing-gap, Shapes}
 use Rattle.walk_steps.proofs.NextLaws.{next-kept, next-points, next-off}
 use Rattle.walk_short.specs.declared.gather.Gathered.{Gathered}
 use Rattle.walk_short.specs.declared.gather.Gathered.the-variants.{At, Broken}
@@ -43,18 +45,30 @@ gathered-led vs n k (some q) e =
     ap (λ (x : ℕ). At (record { entered = x; from = q .from; size = q .size; next = q .next })) same
 
 -- Over the end of a block.
-module _ (t : List ℕ) (h : Header) (level b o entered : ℕ) (k : Crossing t h level b o entered) where
+module _ (t : List ℕ) (size level b o entered : ℕ) (k : Crossing t size level b o entered) where
   facts : Readable t
-  facts = k .on .header .facts
+  facts = k .on .facts
 
-  pub edges-asked : EdgesIn t (h .«record_size») (h .settings .counted) level
-  edges-asked = record {
+  counted-word : wordAt t countedCountAt ≡ at.countedCount t
+  unfolding at.countedCount
+  counted-word = refl
+
+  pub leaf-word : (m : ℕ) → m ≡ wordAt t leafAt → m ≡ at.settings t .leaf
+  unfolding at.settings
+  leaf-word m e = e
+
+  -- what is left of the block is no more than an edge
+  pub leaf-few : (m : ℕ) → m ≡ wordAt t leafAt → (m ≤ maxLeaf) × (b - o ≤ m)
+  leaf-few m e = (omega (arith, leaf-word m e, facts .bounds .leaf-high), omega (arith, leaf-word m e, k .near))
+
+  pub edges-asked : (counted : ℕ) → counted ≡ wordAt t countedCountAt → EdgesIn t size counted level
+  edges-asked counted e = record {
     header = facts .long;
     level-low = omega (arith, k .on .level-in, facts .bounds .levels-high);
-    size-is = k .on .header .size-is;
-    size-few = rw (k .on .header .size-is) (size-high t facts);
-    counted-is = k .on .header .counted-is;
-    counted-few = rw (k .on .header .counted-is) (facts .bounds .counted-high);
+    size-is = k .on .size-is;
+    size-few = rw (k .on .size-is) (size-high t facts);
+    counted-is = e ∙ counted-word;
+    counted-few = rw (e ∙ counted-word) (facts .bounds .counted-high);
   }
 
   pub over-none : (i : ℕ) → at.levelCount t level ≤ i + 1 → Broken ≡ gathered entered (byEdges t level i o)
@@ -65,25 +79,24 @@ module _ (t : List ℕ) (h : Header) (level b o entered : ℕ) (k : Crossing t h
   unfolding at.edgesAt
   edges-next i = omega (arith, add-mul i 1 (at.recordSize t))
 
-  pub over-at : (i e : ℕ) → i + 1 < at.levelCount t level → e ≡ at.edgesAt t level i
-      → At (record { entered = entered + 2; from = e + (h .settings .leaf + h .settings .leaf - (b - o)); size = b - o; next = e + h .«record_size» })
-      ≡ gathered entered (byEdges t level i o)
+  pub over-at : (i e m : ℕ) → i + 1 < at.levelCount t level → e ≡ at.edgesAt t level i → m ≡ wordAt t leafAt
+      → At (record { entered = entered + 2; from = e + (m + m - (b - o)); size = b - o; next = e + size }) ≡ gathered entered (byEdges t level i o)
   unfolding gathered
-  over-at i e more is =
-      let next : e + h .«record_size» ≡ at.edgesAt t level (i + 1) = omega (arith, edges-next i, k .on .header .size-is) in
-      rw (margins.edges-give t level i o more, next, is, k .on .b-is, k .on .header .leaf-is)
+  over-at i e m more is m-is =
+      let next : e + size ≡ at.edgesAt t level (i + 1) = omega (arith, edges-next i, k .on .size-is) in
+      rw (margins.edges-give t level i o more, next, is, k .on .b-is, leaf-word m m-is)
 
 -- A span in the leaf bytes.
-module _ (t : List ℕ) (h : Header)
-    (k : HeaderOf t h) (level i o len entered link : ℕ) (kept : keptBlock t level i ≡ true) (link-is : link ≡ at.link t level i) where
-  pub leaf-past : h .«leaf_count» < link + o + len → Broken ≡ gathered entered (inLeaf t level i o len)
+module _ (t : List ℕ) (x : Shape)
+    (k : Shapes t x) (level i o len entered link : ℕ) (kept : keptBlock t level i ≡ true) (link-is : link ≡ at.link t level i) where
+  pub leaf-past : x .«leaf_count» < link + o + len → Broken ≡ gathered entered (inLeaf t level i o len)
   unfolding gathered inLeaf
   leaf-past past =
       let far : at.leafCount t < at.link t level i + o + len = omega (arith, k .count-is) in
       rw (kept, lt-leb (at.link t level i + o + len) (at.leafCount t) far)
 
-  pub leaf-at : link + o + len ≤ h .«leaf_count»
-      → At (record { entered = entered + 1; from = h .«leaf_offset» + (link + o); size = len; next = 0 }) ≡ gathered entered (inLeaf t level i o len)
+  pub leaf-at : link + o + len ≤ x .«leaf_count»
+      → At (record { entered = entered + 1; from = x .«leaf_offset» + (link + o); size = len; next = 0 }) ≡ gathered entered (inLeaf t level i o len)
   unfolding gathered inLeaf
   leaf-at near =
       let in-leaves : at.link t level i + o + len ≤ at.leafCount t = omega (arith, k .count-is) in
@@ -110,16 +123,17 @@ module _ (t : List ℕ) (level i o len entered : ℕ) (x : Next) (x-is : x ≡ n
 
 -- To the children.
 pub down-is : (t : List ℕ) (level c i o n link : ℕ) → link ≡ at.link t level i
-    → land.Down (record { 0 = link }) (o / c) (record { 0 = o % c }) n ≡ downTo t level c i o n
+    → (part : Part) → part ≡ record { blocks = o / c; place = record { 0 = o % c } }
+    → land.Down (record { 0 = link }) (part .blocks) (part .place) n ≡ downTo t level c i o n
 unfolding downTo
-down-is t level c i o n link e = rw e
+down-is t level c i o n link e part part-is = rw (e, part-is)
 
 -- the gap of a pointing block, and the length of a child
-pub gap-low : (t : List ℕ) (h : Header) (level b i o : ℕ) → Pointing t h level b i o → (g : ℕ) → g ≡ at.gap t level i → g < b
-gap-low t h level b i o k g e = omega (arith, pointing-gap t level i (k .points), k .on .b-is)
+pub gap-low : (t : List ℕ) (size level b i o : ℕ) → Pointing t size level b i o → (g : ℕ) → g ≡ at.gap t level i → g < b
+gap-low t size level b i o k g e = omega (arith, pointing-gap t level i (k .points), k .on .b-is)
 
-pub child-pos : (t : List ℕ) (h : Header) (level b : ℕ) → OnLevel t h level b → 0 < at.fullLength t (level + 1)
-child-pos t h level b on = full-pos t (on .header .facts) (level + 1)
+pub child-pos : (t : List ℕ) (size level b : ℕ) → OnLevel t size level b → 0 < at.fullLength t (level + 1)
+child-pos t size level b on = full-pos t (on .facts) (level + 1)
 
 -- a span that no border splits
 pub not-split : (b p len : ℕ) (r : Bool) → r ≡ (ltb p b && ltb b (p + len)) → r ≡ false → p < b → p + len ≤ b
@@ -130,7 +144,7 @@ split b p len r e f =
     (ltb-true p b (and-left (ltb p b) (ltb b (p + len)) (sym e ∙ f)), ltb-true b (p + len) (and-right (ltb p b) (ltb b (p + len)) (sym e ∙ f)))
 
 -- Where a pointing block hands a span.
-module _ (t : List ℕ) (h : Header) (level b c i o len : ℕ) (k : Pointing t h level b i o) (fits : o + len ≤ b) (c-is : c ≡ at.fullLength t (level + 1))
+module _ (t : List ℕ) (size level b c i o len : ℕ) (k : Pointing t size level b i o) (fits : o + len ≤ b) (c-is : c ≡ at.fullLength t (level + 1))
     (link gap : ℕ) (link-is : link ≡ at.link t level i) (gap-is : gap ≡ at.gap t level i) where
   here : gap + o < b → (targetBlock t level i o ≡ at.link t level i) × (targetPlace t level i o ≡ gap + o)
   here low =
@@ -198,9 +212,9 @@ module _ (t : List ℕ) (level c i o len : ℕ) (c-is : c ≡ at.fullLength t (l
   pub kept-there : (j : BlockNumber) (p : BlockPlace) → x ≡ next.Kept j p → j .0 < at.levelCount t level
   kept-there j p e = let z = next-kept t level i o x x-is j p e in rw (z .1) (kept-in t level i (z .0))
 
-  pub points-there : (h : Header) (b : ℕ)
-      → OnLevel t h level b → o < b → (j : BlockNumber) (p : BlockPlace) → x ≡ next.Points j p → Pointing t h level b (j .0) (p .0)
-  points-there h b on low j p e =
+  pub points-there : (size b : ℕ)
+      → OnLevel t size level b → o < b → (j : BlockNumber) (p : BlockPlace) → x ≡ next.Points j p → Pointing t size level b (j .0) (p .0)
+  points-there size b on low j p e =
       let z = next-points t level i o x x-is j p e in
       rw (z .2, z .3) (record { on = on; place-in = low; points = z .1 })
 

@@ -22,9 +22,10 @@ use Rattle.layout.specs.declared.header.Header.{Header}
 use Rattle.layout.specs.declared.place.BlockNumber.{BlockNumber}
 use Rattle.layout.specs.declared.place.BlockPlace.{BlockPlace}
 use Rattle.layout.specs.HeaderSays.{HeaderOf}
-use Rattle.walk_steps.specs.QuestionStands.{OnLevel}
-use Rattle.walk_steps.proofs.QuestionStandsLaws.{b-small}
-use Rattle.walk_steps.proofs.QuestionStandsLaws.{level-below, on-top}
+use Rattle.walk_steps.specs.Steps.{OnLevel}
+use Rattle.walk_steps.proofs.StepLaws.{b-small}
+use Rattle.walk_steps.proofs.NextLaws.{level-below}
+use Rattle.walk_steps.proofs.QuestionStandsLaws.{plain, on-top}
 use Rattle.walk_short.specs.declared.gather.Parts.{Parts}
 use Rattle.walk_short.specs.declared.gather.Gathered.{Gathered}
 use Rattle.walk_short.specs.declared.gather.Gathered.the-variants.{At, Broken}
@@ -37,24 +38,24 @@ gathered-none : (n : ℕ) → Broken ≡ gathered n none
 unfolding gathered
 gathered-none n = refl
 
-module _ (t : List ℕ) (h : Header) (level b i o len entered : ℕ) (w : Walking t h level b o len entered) where
+module _ (t : List ℕ) (size level b i o len entered : ℕ) (w : Walking t size level b o len entered) where
   abbrev H : ℕ
   H = at.settings t .levels
 
   facts : Readable t
-  facts = w .on .header .facts
+  facts = w .on .facts
 
   -- the walk from here
   abbrev Whole : Gathered → Type 0
   Whole r = r ≡ gathered entered (shortFrom t (H - 1 - level) level i o len)
 
   pub sum-few : o + len ≤ maxText + maxLeaf
-  sum-few = omega (arith, w .place-in, w .short, w .on .header .leaf-is, facts .bounds .leaf-high, b-small t h level b (w .on))
+  sum-few = omega (arith, w .place-in, w .short, facts .bounds .leaf-high, b-small t size level b (w .on))
 
   pub entered-few : entered ≤ 2 * maxLevels - 2
   entered-few = omega (arith, w .few, w .on .level-in, facts .bounds .levels-high)
 
-  pub over-asks : b < o + len → Crossing t h level b o entered
+  pub over-asks : b < o + len → Crossing t size level b o entered
   over-asks past = record { on = w .on; place-in = w .place-in; near = omega (arith, w .short); few = omega (arith, w .few) }
 
   pub over-by : b < o + len → (r : Gathered) → r ≡ gathered entered (byEdges t level i o) → Whole r
@@ -65,24 +66,24 @@ module _ (t : List ℕ) (h : Header) (level b i o len entered : ℕ) (w : Walkin
     fits-full : o + len ≤ at.fullLength t level
     fits-full = omega (arith, w .on .b-is)
 
-    pub last-by : level + 1 ≡ h .settings .levels → (r : Gathered) → r ≡ gathered entered (inLeaf t level i o len) → Whole r
+    pub last-by : level + 1 ≡ at.settings t .levels → (r : Gathered) → r ≡ gathered entered (inLeaf t level i o len) → Whole r
     last-by last r e =
-        let z : H - 1 - level ≡ 0 = omega (arith, w .on .header .levels-is) in
+        let z : H - 1 - level ≡ 0 = omega (arith, last) in
         e ∙ rw (z, margins.last-is t level i o len fits-full)
 
-    module _ (more : level + 1 ≡ h .settings .levels → ⊥) where
+    module _ (more : level + 1 ≡ at.settings t .levels → ⊥) where
       below : ℕ
       below = H - 1 - (level + 1)
 
       left : H - 1 - level ≡ suc below
       unfolding below
-      left = omega (arith, w .on .header .levels-is, w .on .level-in, more)
+      left = omega (arith, w .on .level-in, more)
 
       abbrev c : ℕ
       c = at.fullLength t (level + 1)
 
-      pub c-is : (x : ℕ) → x ≡ b / h .settings .arity → x ≡ at.fullLength t (level + 1)
-      c-is x e = e ∙ level-below t h level b (w .on) more .b-is
+      pub c-is : (x r : ℕ) → x ≡ b / r → r ≡ at.settings t .arity → x ≡ at.fullLength t (level + 1)
+      c-is x r e r-is = e ∙ rw r-is (level-below t size level b (w .on) more .b-is)
 
       -- the cases of a level
       record Inside (j p n : ℕ) : Type 0 where
@@ -166,21 +167,26 @@ module _ (t : List ℕ) (h : Header) (level b i o len entered : ℕ) (w : Walkin
         clash e = absurd (let z : ⊥ = omega arith in z)
 
         pub down-asks : (f : BlockNumber) (s : ℕ) (q : BlockPlace) (n : ℕ)
-            → x ≡ land.Down f s q n → Walking t h (level + 1) (b / h .settings .arity) (q .0) len (entered + n)
+            → x ≡ land.Down f s q n → (d : ℕ) → d ≡ at.fullLength t (level + 1) → Walking t size (level + 1) d (q .0) len (entered + n)
         unfolding Cases downTo
-        down-asks f s q n e = go cases
+        down-asks f s q n e d d-is = go cases
           where
-            on : OnLevel t h (level + 1) (b / h .settings .arity)
-            on = level-below t h level b (w .on) more
+            on : OnLevel t size (level + 1) d
+            on = record {
+              facts = w .on .facts;
+              size-is = w .on .size-is;
+              level-in = level-below t size level b (w .on) more .level-in;
+              b-is = d-is;
+            }
 
             go : ((j : ℕ) × (p : ℕ) × (n : ℕ) × Inside j p n)
-                ⊎ (((j : ℕ) × (p : ℕ) × Between j p) ⊎ Off) → Walking t h (level + 1) (b / h .settings .arity) (q .0) len (entered + n)
+                ⊎ (((j : ℕ) × (p : ℕ) × Between j p) ⊎ Off) → Walking t size (level + 1) d (q .0) len (entered + n)
             go (inl (j, p, k, v)) =
                 let same : land.Down f s q n ≡ land.Down (record { 0 = at.link t level j }) (p / c) (record { 0 = p % c }) k = sym e ∙ x-is ∙ v .land-is in
                 let place : q .0 ≡ p % c = ap (λ (y : BlockPlace). y .0) (let z : q ≡ record { 0 = p % c } = cc in z) in
                 let number : n ≡ k = cc in record {
                   on = on;
-                  place-in = rw (place, on .b-is) (mod-lt p (child-pos t h level b (w .on)));
+                  place-in = rw (place, on .b-is) (mod-lt p (child-pos t size level b (w .on)));
                   short = w .short;
                   few = omega (arith, w .few, v .few);
                 }
@@ -231,7 +237,7 @@ module _ (t : List ℕ) (h : Header) (level b i o len entered : ℕ) (w : Walkin
                 let same : land.Over f q ≡ land.Off = sym e ∙ x-is ∙ v .land-is in
                 clash (let z : _≡_ {A = ℕ} 0 1 = cc in z)
 
-        pub between-asks : (f : BlockNumber) (q : BlockPlace) → x ≡ land.Over f q → Crossing t h level b (q .0) (entered + 1)
+        pub between-asks : (f : BlockNumber) (q : BlockPlace) → x ≡ land.Over f q → Crossing t size level b (q .0) (entered + 1)
         between-asks f q e =
             let v = over-case f q e in
             record { on = w .on; place-in = v .place-in; near = omega (arith, v .past, w .short); few = omega (arith, w .few) }
@@ -277,8 +283,13 @@ module _ (t : List ℕ) (h : Header) (k : HeaderOf t h) where
   pub top-pos : 0 < h .«top_length»
   top-pos = rw (k .block-is) (full-pos t (k .facts) 0)
 
-  pub top-asks : (p len : ℕ) → len ≤ h .settings .leaf → Walking t h 0 (h .«top_length») (p % h .«top_length») len 0
-  top-asks p len short = record { on = on-top t h k; place-in = mod-lt p top-pos; short = short; few = omega arith }
+  pub top-asks : (p len : ℕ) → len ≤ h .settings .leaf → Walking t (h .«record_size») 0 (h .«top_length») (p % h .«top_length») len 0
+  top-asks p len short = record {
+    on = plain t h 0 (h .«top_length») (on-top t h k);
+    place-in = mod-lt p top-pos;
+    short = rw (k .leaf-is) at short;
+    few = omega arith;
+  }
 
   -- what was found stands in the tree
   pub within-tree : at.layout t ≡ 2

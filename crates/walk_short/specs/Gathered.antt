@@ -8,8 +8,7 @@ use lib.Dec.{leb}
 use Rattle.format.specs.Layout as at
 use Rattle.format.specs.Path.{keptBlock, pointingBlock, targetBlock, targetPlace}
 use Rattle.format.specs.Short as format
-use Rattle.layout.specs.declared.header.Header.{Header}
-use Rattle.walk_steps.specs.QuestionStands.{OnLevel}
+use Rattle.walk_steps.specs.Steps.{OnLevel}
 use Rattle.walk_short.specs.declared.gather.Gathered.{Gathered}
 use Rattle.walk_short.specs.declared.gather.Gathered.the-variants.{At, Broken}
 use Rattle.walk_short.specs.declared.gather.Land.{Land}
@@ -38,17 +37,17 @@ module _ (t : List ℕ) where
       cond (keptBlock t l i) (downTo l (at.fullLength t (l + 1)) i o 1) (cond (pointingBlock t l i) (pointedTo l i o len) land.Off)
 
   -- a block of a layout 2 tree whose end a short span crosses, fewer than m bytes before it
-  pub record Crossing (h : Header) (level b o entered : ℕ) : Type 0 where
-    pub on : OnLevel t h level b
+  pub record Crossing (size level b o entered : ℕ) : Type 0 where
+    pub on : OnLevel t size level b
     pub place-in : o < b
-    pub near : b ≤ o + h .settings .leaf
+    pub near : b ≤ o + at.settings t .leaf
     pub few : entered ≤ 2 * level + 1
 
   -- a place in a block of a layout 2 tree, and the blocks entered before it
-  pub record Walking (h : Header) (level b o len entered : ℕ) : Type 0 where
-    pub on : OnLevel t h level b
+  pub record Walking (size level b o len entered : ℕ) : Type 0 where
+    pub on : OnLevel t size level b
     pub place-in : o < b
-    pub short : len ≤ h .settings .leaf
+    pub short : len ≤ at.settings t .leaf
     pub few : entered ≤ 2 * level
 
 -- the bytes that were found stand in the tree

@@ -1,4 +1,5 @@
 // The walk of a short span: it descends while one block contains the span, and takes the bytes at a border from two edges.
+use layout::header;
 use layout::header::Header;
 use layout::place::Ahead;
 use layout::place::BlockNumber;
@@ -7,7 +8,9 @@ use layout::place::On;
 use layout::place::Spot;
 use layout::place::TextPlace;
 use layout::record;
+use layout::word;
 use walk_steps::Next;
+use walk_steps::fields;
 ghost use mathlib.Core.Bool.{true, _&&_};
 ghost use mathlib.Core.Path.{_≡_};
 ghost use Prim.Native.Nat.{_+_, _-_, _*_, _/_, _%_, _≤_, _<_};
@@ -17,7 +20,8 @@ ghost use Rattle.format.specs.Layout as at;
 ghost use Rattle.format.specs.Path.{keptBlock};
 ghost use Rattle.format.specs.Short.{byEdges, inLeaf, shortFrom, shortOf};
 ghost use Rattle.layout.specs.HeaderSays.{HeaderOf};
-ghost use Rattle.walk_steps.specs.QuestionStands.{OnLevel, Pointing};
+ghost use Rattle.format.specs.LayoutLaws.{Readable};
+ghost use Rattle.walk_steps.specs.Steps.{OnLevel, Pointing};
 ghost use Rattle.walk_short.specs.Gathered.{gathered, downTo, pointedTo, landing, Crossing, Walking, Within};
 
 // Where the bytes of a span stand in the tree: `size` of them at `from`, the others at `next`; and how many blocks were entered.
@@ -49,8 +53,8 @@ pub struct Stretch {
 
 // A span over the end of a block: the end of its last edge, and the beginning of the next block's first one. The block is
 // taken as full, and no kind is read.
-fn over(t: &[u8], h: Header, on: On, ahead: Ahead, place: BlockPlace, entered: u32) -> Gathered
-    requires { ⌜ Crossing (now t) h (on .level) (on .b) (place .0) entered ⌝ }
+fn over(t: &[u8], size: u32, on: On, ahead: Ahead, place: BlockPlace, entered: u32) -> Gathered
+    requires { ⌜ Crossing (now t) size (on .level) (on .b) (place .0) entered ⌝ }
     ensures { λ r. ⌜ r ≡ gathered entered (byEdges (now (t .entry)) (on .level) (ahead .first .0 + ahead .steps) (place .0)) ⌝ }
 {
     let count = record::level_count(t, on.level) as u64;
@@ -58,61 +62,58 @@ fn over(t: &[u8], h: Header, on: On, ahead: Ahead, place: BlockPlace, entered: u
     if count <= number + 1 {
         return Gathered::Broken;
     }
-    let m = h.settings.leaf;
+    let m = word::read(t, header::LEAF_AT);
+    let counted = word::read(t, header::COUNTED_COUNT_AT);
     let left = on.b - place.0;
-    let edges = record::edges(
-        t,
-        h.record_size,
-        h.settings.counted,
-        on.level,
-        BlockNumber(number as u32),
-    );
+    let edges = record::edges(t, size, counted, on.level, BlockNumber(number as u32));
     Gathered::At(Parts {
         entered: entered + 2,
         from: edges + (m + m - left) as usize,
         size: left,
-        next: edges + h.record_size as usize,
+        next: edges + size as usize,
     })
 }
 
 // A span in a kept block of the last level: leaf bytes.
 fn leaf_part(
     t: &[u8],
-    h: Header,
+    size: u32,
     level: u32,
     block: BlockNumber,
     span: Stretch,
     entered: u32,
 ) -> Gathered
-    requires { ⌜ (HeaderOf (now t) h) × (level < at.settings (now t) .levels) × (keptBlock (now t) level (block .0) ≡ true) × (entered ≤ 2 * maxLevels) ⌝ }
+    requires { ⌜ (Readable (now t)) × (size ≡ at.recordSize (now t)) × (level < at.settings (now t) .levels)
+        × (keptBlock (now t) level (block .0) ≡ true) × (entered ≤ 2 * maxLevels) ⌝ }
     ensures { λ r. ⌜ r ≡ gathered entered (inLeaf (now (t .entry)) level (block .0) (span .place .0) (span .len)) ⌝ }
 {
-    let link = record::link(t, h.record_size, level, block);
+    let shape = fields::shape_of(t);
+    let link = record::link(t, size, level, block);
     let end = link.0 as u64 + span.place.0 as u64 + span.len as u64;
-    if (h.leaf_count as u64) < end {
+    if (shape.leaf_count as u64) < end {
         return Gathered::Broken;
     }
     Gathered::At(Parts {
         entered: entered + 1,
-        from: h.leaf_offset as usize + (link.0 as usize + span.place.0 as usize),
+        from: shape.leaf_offset as usize + (link.0 as usize + span.place.0 as usize),
         size: span.len,
         next: 0,
     })
 }
 
 // A span in a block of the last level, where no block points.
-fn last(t: &[u8], h: Header, on: On, ahead: Ahead, span: Stretch, entered: u32) -> Gathered
-    requires { ⌜ (OnLevel (now t) h (on .level) (on .b)) × (entered ≤ 2 * maxLevels) ⌝ }
+fn last(t: &[u8], size: u32, on: On, ahead: Ahead, span: Stretch, entered: u32) -> Gathered
+    requires { ⌜ (OnLevel (now t) size (on .level) (on .b)) × (entered ≤ 2 * maxLevels) ⌝ }
     ensures { λ r. ⌜ r ≡ gathered entered (inLeaf (now (t .entry)) (on .level) (ahead .first .0 + ahead .steps) (span .place .0) (span .len)) ⌝ }
 {
-    let next = walk_steps::look_after(t, h.record_size, on, ahead, span.place);
+    let next = walk_steps::look_after(t, size, on, ahead, span.place);
     match next {
         Next::Kept(i, p) => {
             let there = Stretch {
                 place: p,
                 len: span.len,
             };
-            leaf_part(t, h, on.level, i, there, entered)
+            leaf_part(t, size, on.level, i, there, entered)
         }
         Next::Points(_, _) => Gathered::Broken,
         Next::Off => Gathered::Broken,
@@ -120,17 +121,15 @@ fn last(t: &[u8], h: Header, on: On, ahead: Ahead, span: Stretch, entered: u32) 
 }
 
 // From a kept block that holds a span to its children, of c bytes.
-fn into(t: &[u8], h: Header, level: u32, c: u32, spot: Spot, entered: u32) -> Land
-    requires { ⌜ (HeaderOf (now t) h) × (level < at.settings (now t) .levels) × (spot .block .0 < at.levelCount (now t) level) × (0 < c) ⌝ }
+fn into(t: &[u8], size: u32, level: u32, c: u32, spot: Spot, entered: u32) -> Land
+    requires { ⌜ (Readable (now t)) × (size ≡ at.recordSize (now t)) × (level < at.settings (now t) .levels)
+        × (spot .block .0 < at.levelCount (now t) level) × (0 < c) ⌝ }
     ensures { λ r. ⌜ r ≡ downTo (now (t .entry)) level c (spot .block .0) (spot .place .0) entered ⌝ }
 {
-    let link = record::link(t, h.record_size, level, spot.block);
-    Land::Down(
-        BlockNumber(link.0),
-        spot.place.0 / c,
-        BlockPlace(spot.place.0 % c),
-        entered,
-    )
+    let link = record::link(t, size, level, spot.block);
+    let part = walk_steps::part_of(spot.place, c);
+    let rest = part.place;
+    Land::Down(BlockNumber(link.0), part.blocks, rest, entered)
 }
 
 // Whether the end of a block of b bytes falls between the first and the last of some bytes.
@@ -145,64 +144,66 @@ fn splits(b: u32, place: BlockPlace, len: u32) -> bool
 }
 
 // Where a pointing block hands a span: to a kept block that holds it, or over the border of its two targets.
-fn pointed(t: &[u8], h: Header, on: On, c: u32, block: BlockNumber, span: Stretch) -> Land
-    requires { ⌜ (Pointing (now t) h (on .level) (on .b) (block .0) (span .place .0)) × (span .place .0 + span .len ≤ on .b)
+fn pointed(t: &[u8], size: u32, on: On, c: u32, block: BlockNumber, span: Stretch) -> Land
+    requires { ⌜ (Pointing (now t) size (on .level) (on .b) (block .0) (span .place .0)) × (span .place .0 + span .len ≤ on .b)
         × (c ≡ at.fullLength (now t) (on .level + 1)) ⌝ }
     ensures { λ r. ⌜ r ≡ pointedTo (now (t .entry)) (on .level) (block .0) (span .place .0) (span .len) ⌝ }
 {
-    let link = record::link(t, h.record_size, on.level, block);
-    let gap = record::gap(t, h.record_size, on.level, block);
+    let link = record::link(t, size, on.level, block);
+    let gap = record::gap(t, size, on.level, block);
     let sum = BlockPlace(gap.0 + span.place.0);
     if splits(on.b, sum, span.len) {
         return Land::Over(BlockNumber(link.0), sum);
     }
-    let next = walk_steps::target(t, h.record_size, on.level, on.b, block, span.place);
+    let next = walk_steps::target(t, size, on.level, on.b, block, span.place);
     match next {
-        Next::Kept(i, p) => into(t, h, on.level, c, Spot { block: i, place: p }, 2),
+        Next::Kept(i, p) => into(t, size, on.level, c, Spot { block: i, place: p }, 2),
         Next::Points(_, _) => Land::Off,
         Next::Off => Land::Off,
     }
 }
 
 // Where a span that lies in a block above the last level lands; c is the length of the block's children.
-fn settle(t: &[u8], h: Header, on: On, c: u32, ahead: Ahead, span: Stretch) -> Land
-    requires { ⌜ (OnLevel (now t) h (on .level) (on .b)) × (span .place .0 < on .b) × (span .place .0 + span .len ≤ on .b)
+fn settle(t: &[u8], size: u32, on: On, c: u32, ahead: Ahead, span: Stretch) -> Land
+    requires { ⌜ (OnLevel (now t) size (on .level) (on .b)) × (span .place .0 < on .b) × (span .place .0 + span .len ≤ on .b)
         × (c ≡ at.fullLength (now t) (on .level + 1)) ⌝ }
     ensures { λ r. ⌜ r ≡ landing (now (t .entry)) (on .level) (ahead .first .0 + ahead .steps) (span .place .0) (span .len) ⌝ }
 {
-    let next = walk_steps::look_after(t, h.record_size, on, ahead, span.place);
+    let next = walk_steps::look_after(t, size, on, ahead, span.place);
     match next {
-        Next::Kept(i, p) => into(t, h, on.level, c, Spot { block: i, place: p }, 1),
+        Next::Kept(i, p) => into(t, size, on.level, c, Spot { block: i, place: p }, 1),
         Next::Points(i, p) => {
             let there = Stretch {
                 place: p,
                 len: span.len,
             };
-            pointed(t, h, on, c, i, there)
+            pointed(t, size, on, c, i, there)
         }
         Next::Off => Land::Off,
     }
 }
 
 // The walk from the block some steps after another; the levels left fall.
-pub fn gather(t: &[u8], h: Header, on: On, ahead: Ahead, span: Stretch, entered: u32) -> Gathered
-    requires { ⌜ Walking (now t) h (on .level) (on .b) (span .place .0) (span .len) entered ⌝ }
+pub fn gather(t: &[u8], size: u32, on: On, ahead: Ahead, span: Stretch, entered: u32) -> Gathered
+    requires { ⌜ Walking (now t) size (on .level) (on .b) (span .place .0) (span .len) entered ⌝ }
     ensures { λ r. ⌜ r ≡ gathered entered (shortFrom (now (t .entry)) (at.settings (now (t .entry)) .levels - 1 - on .level) (on .level)
         (ahead .first .0 + ahead .steps) (span .place .0) (span .len)) ⌝ }
 {
+    let tree = fields::whole(t);
     if on.b < span.place.0 + span.len {
-        return over(t, h, on, ahead, span.place, entered);
+        return over(tree, size, on, ahead, span.place, entered);
     }
+    let shape = fields::shape_of(tree);
     let down = on.level + 1;
-    if down == h.settings.levels {
-        return last(t, h, on, ahead, span, entered);
+    if down == shape.levels {
+        return last(tree, size, on, ahead, span, entered);
     }
-    let c = on.b / h.settings.arity;
-    let land = settle(t, h, on, c, ahead, span);
+    let c = walk_steps::quotient(on.b, shape.arity);
+    let land = settle(tree, size, on, c, ahead, span);
     match land {
         Land::Down(first, steps, place, n) => gather(
-            t,
-            h,
+            tree,
+            size,
             On { level: down, b: c },
             Ahead { first, steps },
             Stretch {
@@ -211,7 +212,7 @@ pub fn gather(t: &[u8], h: Header, on: On, ahead: Ahead, span: Stretch, entered:
             },
             entered + n,
         ),
-        Land::Over(first, p) => over(t, h, on, Ahead { first, steps: 0 }, p, entered + 1),
+        Land::Over(first, p) => over(tree, size, on, Ahead { first, steps: 0 }, p, entered + 1),
         Land::Off => Gathered::Broken,
     }
 }
@@ -224,7 +225,7 @@ pub fn from_text(t: &[u8], h: Header, p: TextPlace, len: u32) -> Gathered
     let b = h.top_length;
     gather(
         t,
-        h,
+        h.record_size,
         On { level: 0, b },
         Ahead {
             first: BlockNumber(p.0 / b),

@@ -1,5 +1,6 @@
-use mathlib.Core.Path.{refl}
-use Prim.Native.Nat.{ℕ, _-_, _<_}
+use mathlib.Core.List.{List}
+use mathlib.Core.Path.{_≡_, sym, ap, _∙_}
+use Prim.Native.Nat.{ℕ, _+_, _-_, _*_, _≤_, _<_}
 use native.Mathlib.Omega.{arith}
 use borrow.Author.Needs.{needs}
 use borrow.Fn.Kinds.{In}
@@ -10,13 +11,18 @@ use Rattle.walk_short.proofs.gather.+gather.Lts-gather as gather-lts
 use Rattle.walk_short.proofs.gather.last.Reads as last-reads
 use Rattle.walk_short.proofs.gather.over.Reads as over-reads
 use Rattle.walk_short.proofs.gather.settle.Reads as settle-reads
-use Rattle.walk_steps.proofs.QuestionStandsLaws.{arity-pos}
+use Rattle.walk_steps.proofs.fields.whole.Reads as whole-reads
+use Rattle.walk_steps.proofs.fields.shape_of.Reads as shape-of-reads
+use Rattle.walk_steps.proofs.quotient.Reads as quotient-reads
+use Rattle.walk_steps.proofs.StepLaws.{shapes-on}
+use Rattle.format.specs.Settings.{maxLevels}
+use Rattle.format.specs.Layout as at
 use Rattle.walk_short.proofs.WholeLaws as laws
 use Rattle.walk_short.proofs.gather.+gather.{statement}
 use Rattle.walk_short.proofs.gather.+gather.Tie.{close}
 
 abbrev μ-gather : Measures 1 gather-kinds.ps ℕ
-μ-gather κs a = a .1 .0 .settings .levels - a .1 .1 .0 .level
+μ-gather κs a = at.settings (a .0 .now) .levels - a .1 .1 .0 .level
 
 abbrev gather-at : ℕ → In 1 gather-kinds.ps
 gather-at t = and 1 gather-kinds.ps (is 1 gather-kinds.ps μ-gather t) gather.Pre
@@ -24,14 +30,23 @@ gather-at t = and 1 gather-kinds.ps (is 1 gather-kinds.ps μ-gather t) gather.Pr
 abbrev gather-below : ℕ → In 1 gather-kinds.ps
 gather-below t = and 1 gather-kinds.ps (falls 1 gather-kinds.ps _<_ μ-gather t) gather.Pre
 
+abbrev levels : List ℕ → ℕ
+levels t = at.settings t .levels
+
 pub +gather-spec : {M : Type 1} → statement M
 +gather-spec =
     close μ-gather
     (λ t. gather-lts.spec (
+      whole-reads.Asked,
+      whole-reads.Learnt,
       over-reads.Asked,
       over-reads.Learnt,
+      shape-of-reads.Asked,
+      shape-of-reads.Learnt,
       last-reads.Asked,
       last-reads.Learnt,
+      quotient-reads.Asked,
+      quotient-reads.Learnt,
       settle-reads.Asked,
       settle-reads.Learnt,
       gather-below t,
@@ -39,43 +54,117 @@ pub +gather-spec : {M : Type 1} → statement M
     )
     (gather-at t)
     gather.Post
-    (λ c. omega (arith, laws.sum-few _ _ _ _ 0 _ _ _ (c .before .before .pre .1)))
-    (λ c κs. laws.over-asks _ _ _ _ 0 _ _ _ (c .before .before .before .before .pre .1) (c .if1 .taken))
-    (λ c. laws.over-by _ _ _ _ _ _ _ _ (c .before .before .before .before .before .pre .1) (c .before .if1 .taken) _ (c .over .ensures))
-    (λ c. search needs)
-    (λ c κs. let p = c .before .before .before .before .before .before .before .pre .1 in (p .on, omega (arith, laws.entered-few _ _ _ _ 0 _ _ _ p)))
+    (λ c κs. search needs)
+    (λ c. omega (arith, laws.sum-few _ _ _ _ 0 _ _ _ (c .before .before .before .pre .1)))
+    (λ c κs. let w = c .before .before .before in
+    rw (w .whole .ensures) (laws.over-asks _ _ _ _ 0 _ _ _ (w .before .before .pre .1) (c .if1 .taken)))
     (λ c. let w = c .before .before .before .before in
-    laws.last-by _ _ _ _ _ _ _ _ (w .before .before .before .before .pre .1) (w .if1 .left) (c .before .if2 .taken) _ (c .last .ensures))
-    (λ c. omega (arith, arity-pos _ _ (c .before .before .before .before .before .before .before .before .before .pre .1 .on .header)))
-    (λ c κs. let w = c .before .before .before .before .before in let p = w .before .before .before .before .pre .1 in
-    (p .on, p .place-in, w .if1 .left, laws.c-is _ _ _ _ 0 _ _ _ p (w .if1 .left) (c .before .before .if2 .left) _ refl))
+    laws.over-by _ _ _ _ _ _ _ _ (w .before .before .pre .1) (c .before .if1 .taken) _ (rw (w .whole .ensures) at (c .over .ensures)))
+    (λ c κs. let w = c .before .before .before in rw (w .whole .ensures) (w .before .before .pre .1 .on .facts .long))
+    (λ c. let k = c .before .before .before .before .before .before .before .pre .1 .on in
+    omega (arith, k .level-in, k .facts .bounds .levels-high))
+    (λ c κs. let w = c .before .before .before .before .before .before .before in let S = w .before .before in
+    rw (w .whole .ensures) (S .pre .1 .on, (let z : S .args .entered ≤ 2 * maxLevels = omega (arith, laws.entered-few _ _ _ _ 0 _ _ _ (S .pre .1)) in z)))
+    (λ c. let s = c .before .before .before .before in let f = s .before in let w = f .before .before .before in let S = w .before .before in
+    laws.last-by _ _ _ _ _ _ _ _ (S .pre .1) (f .if1 .left)
+    (c .before .if2 .taken ∙ shapes-on _ _ _ (w .whole .ensures) (s .shape-of .ensures) .levels-is) _ (rw (w .whole .ensures) at (c .last .ensures)))
+    (λ c κs. let s = c .before .before .before in let w = s .before .before .before .before in
+    omega (arith, shapes-on _ _ _ (w .whole .ensures) (s .shape-of .ensures) .arity-is, w .before .before .pre .1 .on .facts .bounds .arity-low))
+    (λ c κs.
+    let e = c .before in
+    let s = e .before .before .before in
+    let f = s .before in
+    let w = f .before .before .before in
+    let S = w .before .before in
+    let x = shapes-on _ _ _ (w .whole .ensures) (s .shape-of .ensures) in
+    let more : S .args .on .level + 1 ≡ levels (S .args .t .now) → ⊥ = λ last. e .if2 .left (last ∙ sym (x .levels-is)) in
+    rw (w .whole .ensures) (
+      S .pre .1 .on,
+      S .pre .1 .place-in,
+      f .if1 .left,
+      laws.c-is _ _ _ _ 0 _ _ _ (S .pre .1) (f .if1 .left) more _ _ (c .quotient .ensures) (x .arity-is),
+    ))
     (λ c. search needs)
-    (λ c. let w = c .before .before .before .before .before .before in let v = w .before .before .before .before .before .before .before in
+    (λ c.
+    let z = c .before .before .before in
+    let e = z .before .before in
+    let s = e .before .before .before in
+    let f = s .before in
+    let w = f .before .before .before in
+    let S = w .before .before in
+    let x = shapes-on _ _ _ (w .whole .ensures) (s .shape-of .ensures) in
+    let more : S .args .on .level + 1 ≡ levels (S .args .t .now) → ⊥ = λ last. e .if2 .left (last ∙ sym (x .levels-is)) in
     omega (
       arith,
-      laws.entered-few _ _ _ _ 0 _ _ _ (v .pre .1),
-      laws.down-few _ _ _ _ _ _ _ _ (v .pre .1)
-          (w .before .before .before .if1 .left) (w .if2 .left) _ (c .before .before .before .settle .ensures) _ _ _ _ (c .before .land .given .1),
+      laws.entered-few _ _ _ _ 0 _ _ _ (S .pre .1),
+      laws.down-few _ _ _ _ _ _ _ _ (S .pre .1) (f .if1 .left) more _ (rw (w .whole .ensures) at (z .settle .ensures)) _ _ _ _ (c .before .land .given .1),
     ))
-    (λ c κs. let w = c .before .before .before .before .before .before .before .before .before .before .before .before .before in (
-      omega (arith, w .pre .0, w .pre .1 .on .level-in, w .pre .1 .on .header .levels-is),
-      laws.down-asks _ _ _ _ _ _ _ _ (w .pre .1) (c .before .before .before .before .before .before .before .before .before .if1 .left)
-          (c .before .before .before .before .before .before .if2 .left)
-          _ (c .before .before .before .settle .ensures) _ _ _ _ (c .before .land .given .1),
+    (λ c κs.
+    let z = c .before .before .before in
+    let e = z .before .before in
+    let s = e .before .before .before in
+    let f = s .before in
+    let w = f .before .before .before in
+    let S = w .before .before in
+    let x = shapes-on _ _ _ (w .whole .ensures) (s .shape-of .ensures) in
+    let more : S .args .on .level + 1 ≡ levels (S .args .t .now) → ⊥ = λ last. e .if2 .left (last ∙ sym (x .levels-is)) in (
+      omega (arith, S .pre .0, ap levels (w .whole .ensures), S .pre .1 .on .level-in, e .if2 .left, x .levels-is),
+      rw (w .whole .ensures) (laws.down-asks _ _ _ _ _ _ _ _ (S .pre .1) (f .if1 .left) more _ (rw (w .whole .ensures) at (z .settle .ensures))
+          _ _ _ _ (c .before .land .given .1) _
+          (laws.c-is _ _ _ _ 0 _ _ _ (S .pre .1) (f .if1 .left) more _ _ (z .before .quotient .ensures) (x .arity-is))),
     ))
     (λ c. search needs)
-    (λ c. let w = c .before .before .before .before .before .before in
-    omega (arith, laws.entered-few _ _ _ _ 0 _ _ _ (w .before .before .before .before .before .before .before .pre .1)))
-    (λ c κs. let w = c .before .before .before .before .before .before in
-    laws.between-asks _ _ _ _ _ _ _ _ (w .before .before .before .before .before .before .before .pre .1)
-    (w .before .before .before .if1 .left) (w .if2 .left) _ (c .before .before .before .settle .ensures) _ _ (c .before .land2 .given .1))
+    (λ c.
+    let z = c .before .before .before in
+    let e = z .before .before in
+    let s = e .before .before .before in
+    let f = s .before in
+    let w = f .before .before .before in
+    let S = w .before .before in
+    let x = shapes-on _ _ _ (w .whole .ensures) (s .shape-of .ensures) in
+    let more : S .args .on .level + 1 ≡ levels (S .args .t .now) → ⊥ = λ last. e .if2 .left (last ∙ sym (x .levels-is)) in
+    omega (arith, laws.entered-few _ _ _ _ 0 _ _ _ (S .pre .1)))
+    (λ c κs.
+    let z = c .before .before .before in
+    let e = z .before .before in
+    let s = e .before .before .before in
+    let f = s .before in
+    let w = f .before .before .before in
+    let S = w .before .before in
+    let x = shapes-on _ _ _ (w .whole .ensures) (s .shape-of .ensures) in
+    let more : S .args .on .level + 1 ≡ levels (S .args .t .now) → ⊥ = λ last. e .if2 .left (last ∙ sym (x .levels-is)) in
+    rw (w .whole .ensures) (laws.between-asks _ _ _ _ _ _ _ _ (S .pre .1) (f .if1 .left) more _ (rw (w .whole .ensures) at (z .settle .ensures))
+    _ _ (c .before .land2 .given .1)))
     (λ c. search needs)
-    (λ c. let w = c .before .before .before .before .before .before .before in
-    laws.down-by _ _ _ _ _ _ _ _ (w .before .before .before .before .before .before .before .pre .1) (w .before .before .before .if1 .left)
-    (w .if2 .left) _ (c .before .before .before .before .settle .ensures) _ _ _ _ (c .before .before .land .given .1) _ (c .gather .ensures))
-    (λ c. let w = c .before .before .before .before .before .before .before in
-    laws.between-by _ _ _ _ _ _ _ _ (w .before .before .before .before .before .before .before .pre .1) (w .before .before .before .if1 .left)
-    (w .if2 .left) _ (c .before .before .before .before .settle .ensures) _ _ (c .before .before .land2 .given .1) _ (c .over2 .ensures))
-    (λ c. let w = c .before .before .before .before .before in
-    laws.off-by _ _ _ _ _ _ _ _ (w .before .before .before .before .before .before .before .pre .1)
-    (w .before .before .before .if1 .left) (w .if2 .left) _ (c .before .before .settle .ensures) (c .enum-told .given .1)))
+    (λ c.
+    let z = c .before .before .before .before in
+    let e = z .before .before in
+    let s = e .before .before .before in
+    let f = s .before in
+    let w = f .before .before .before in
+    let S = w .before .before in
+    let x = shapes-on _ _ _ (w .whole .ensures) (s .shape-of .ensures) in
+    let more : S .args .on .level + 1 ≡ levels (S .args .t .now) → ⊥ = λ last. e .if2 .left (last ∙ sym (x .levels-is)) in
+    laws.down-by _ _ _ _ _ _ _ _ (S .pre .1) (f .if1 .left) more _ (rw (w .whole .ensures) at (z .settle .ensures))
+    _ _ _ _ (c .before .before .land .given .1) _ (rw (w .whole .ensures) at (c .gather .ensures)))
+    (λ c.
+    let z = c .before .before .before .before in
+    let e = z .before .before in
+    let s = e .before .before .before in
+    let f = s .before in
+    let w = f .before .before .before in
+    let S = w .before .before in
+    let x = shapes-on _ _ _ (w .whole .ensures) (s .shape-of .ensures) in
+    let more : S .args .on .level + 1 ≡ levels (S .args .t .now) → ⊥ = λ last. e .if2 .left (last ∙ sym (x .levels-is)) in
+    laws.between-by _ _ _ _ _ _ _ _ (S .pre .1) (f .if1 .left) more _ (rw (w .whole .ensures) at (z .settle .ensures))
+    _ _ (c .before .before .land2 .given .1) _ (rw (w .whole .ensures) at (c .over2 .ensures)))
+    (λ c.
+    let z = c .before .before in
+    let e = z .before .before in
+    let s = e .before .before .before in
+    let f = s .before in
+    let w = f .before .before .before in
+    let S = w .before .before in
+    let x = shapes-on _ _ _ (w .whole .ensures) (s .shape-of .ensures) in
+    let more : S .args .on .level + 1 ≡ levels (S .args .t .now) → ⊥ = λ last. e .if2 .left (last ∙ sym (x .levels-is)) in
+    laws.off-by _ _ _ _ _ _ _ _ (S .pre .1) (f .if1 .left) more _ (rw (w .whole .ensures) at (z .settle .ensures)) (c .enum-told .given .1)))

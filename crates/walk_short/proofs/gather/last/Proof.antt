@@ -10,7 +10,8 @@ last-spec =
     (λ c κs. search needs)
     (λ c. search needs)
     (λ c κs. let p = c .before .before .before .before .before .pre in (
-      p .0 .header,
+      p .0 .facts,
+      p .0 .size-is,
       p .0 .level-in,
       laws.last-kept _ _ _ _ 0 0 _ (c .before .before .before .look-after .ensures) _ _ (c .before .next .given .1),
       p .1,

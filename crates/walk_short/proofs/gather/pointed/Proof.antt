@@ -1,6 +1,6 @@
 use borrow.Author.Needs.{needs}
 use native.Mathlib.Omega.{arith}
-use Rattle.walk_steps.proofs.QuestionStandsLaws.{pointing-there, sum-small, b-small, plain-pointing}
+use Rattle.walk_steps.proofs.StepLaws.{pointing-there, sum-small, b-small}
 use Rattle.walk_short.proofs.GatherLaws as laws
 use Rattle.walk_short.proofs.gather.pointed.Statement.{statement}
 use Rattle.walk_short.proofs.gather.pointed.Tie as tie
@@ -15,11 +15,12 @@ pointed-spec =
     (λ c κs. let p = c .before .before .before .before .before .pre in (b-small _ _ _ _ (p .0 .on), omega (arith, p .1, b-small _ _ _ _ (p .0 .on))))
     (λ c. let w = c .before .before .before .before in let p = w .before .before .before .pre in let z = laws.split _ _ _ _ (c .before .splits .ensures)
     (c .if1 .taken) in laws.pointed-over _ _ _ _ _ _ _ _ (p .0) (p .1) (p .2) _ _ (w .before .link .ensures) (w .gap .ensures) (z .0) (z .1))
-    (λ c κs. plain-pointing _ _ _ _ _ _ (c .before .before .before .before .before .before .before .pre .0))
+    (λ c κs. c .before .before .before .before .before .before .before .pre .0)
     (λ c. search needs)
     (λ c κs. let w = c .before .before .before .before .before .before .before .before in
     let v = w .before .before .before in let p = v .pre in (
-      p .0 .on .header,
+      p .0 .on .facts,
+      p .0 .on .size-is,
       p .0 .on .level-in,
       laws.target-in _ _ _ _ _ _ _ _ (v .pre .0)
           (v .pre .1) (v .pre .2) _ _ (w .before .link .ensures) (w .gap .ensures) (laws.gap-low _ _ _ _ _ _ (v .pre .0) _ (w .gap .ensures))
