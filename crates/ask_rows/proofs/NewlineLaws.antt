@@ -1,11 +1,11 @@
 -- The newline that ends a row, read on to from the row's start.
 use mathlib.Core.List.{List}
-use mathlib.Core.Bool.{Bool, true, false, cond}
-use mathlib.Core.Path.{_≡_, refl, sym, ap, _∙_}
+use mathlib.Core.Bool.{cond}
+use mathlib.Core.Path.{_≡_, sym, ap, _∙_}
 use Prim.Native.Nat.{ℕ, zero, suc, _+_, _-_, _≤_, _<_}
 use native.Mathlib.Omega.{arith}
 use native.Mathlib.Nat.{add-assoc}
-use borrow.Author.Tests.{eqb-true, eq-eqb, ne-eqb}
+use borrow.Author.Tests.{eq-eqb, ne-eqb}
 use lib.ListN.{length, getD}
 use lib.Dec.{eqb}
 use Rattle.text.specs.Text.{stretch, countIn}
@@ -22,9 +22,7 @@ use Rattle.theory_paths.specs.PlaceBytes.{never-14}
 use Rattle.layout.specs.declared.header.Header.{Header}
 use Rattle.layout.specs.HeaderSays.{HeaderOf}
 use Rattle.stretches.specs.Stretches.{Stands}
-use Rattle.ask_access.specs.declared.read_by_header.Part.{Part}
 use Rattle.ask_access.specs.ReadByRuns.{ReadsOn}
-use Rattle.ask_access.proofs.RunLaws.{reads-none}
 use Rattle.ask_rows.specs.declared.next_newline.Newline.{Newline}
 use Rattle.ask_rows.specs.declared.next_newline.Newline.the-variants as newline
 use Rattle.ask_rows.specs.RowEnds.{EndsRow, NewlineIs}
@@ -32,58 +30,33 @@ use Rattle.ask_rows.specs.RowEnds.{EndsRow, NewlineIs}
 pub text-small : (t : List ℕ) (h : Header) → HeaderOf t h → at.textLength t < 4294967296
 text-small t h k = omega (arith, k .facts .bounds .text-high)
 
--- No newline is between place p and the place that is read next, after the byte `earlier`; the first run that was read is known.
-pub record NoneYet (t : List ℕ) (p place earlier : ℕ) (run : Part) : Type 0 where
+-- No newline is between place p and the place that is read next, after the byte `earlier`.
+pub record NoneYet (t : List ℕ) (p place earlier : ℕ) : Type 0 where
   pub past : p ≤ place
   pub within : place ≤ at.textLength t
   pub none : countIn 10 (stretch (textOf t) p (place - p)) ≡ 0
   pub earlier-is : p < place → earlier ≡ getD (textOf t) (place - 1) 0
-  pub known : ReadsOn t p (run .from) (run .length)
 
-pub none-at-start : (t : List ℕ) (p : ℕ) → p ≤ at.textLength t → NoneYet t p p 0 (record { from = 0; length = 0 })
+pub none-at-start : (t : List ℕ) (p : ℕ) → p ≤ at.textLength t → NoneYet t p p 0
 none-at-start t p h =
     let z : p - p ≡ 0 = omega arith in record {
       past = omega arith;
       within = h;
       none = rw z (count-none 10 (textOf t) p);
       earlier-is = λ l. absurd (let y : ⊥ = omega arith in y);
-      known = reads-none t p 0 h (omega arith);
     }
 
--- the first run is the one that is read from the start
-module _ (place p : ℕ) (next first : Part) where
-  pub run-next : place ≡ p → next ≡ cond (eqb place p) next first
-  run-next e = rw (eq-eqb place p e)
-
-  pub run-first : (place ≡ p → ⊥) → first ≡ cond (eqb place p) next first
-  run-first n = rw (ne-eqb place p n)
-
-pub first-known : (t : List ℕ) (p place : ℕ) (first next r : Part) → r ≡ cond (eqb place p) next first
-    → ReadsOn t p (first .from) (first .length) → ReadsOn t place (next .from) (next .length) → ReadsOn t p (r .from) (r .length)
-first-known t p place first next r r-is old new = go (eqb place p) refl
-  where
-    go : (b : Bool) → eqb place p ≡ b → ReadsOn t p (r .from) (r .length)
-    go true e = let z : r ≡ next = r-is ∙ rw e in let s : place ≡ p = eqb-true place p e in rw (z, ← s) new
-    go false e = let z : r ≡ first = r-is ∙ rw e in rw z old
-
 module _ (t : List ℕ) (p : ℕ) where
-  found-is : (e before : ℕ) (run : Part) → EndsRow t p e before → ReadsOn t p (run .from) (run .length)
-      → NewlineIs t p (newline.At (record { 0 = e }) before run)
-  found-is e before run r reads = record {
-    found = λ q b f is.
-        (let z : record { 0 = e } ≡ q = cc in let y : before ≡ b = cc in let x : e ≡ q .0 = ap (λ (w : TextPlace). w .0) z in rw (← x, ← y) r);
-    known = λ q b f is. (let z : run ≡ f = cc in rw (← z) reads);
+  found-is : (e before : ℕ) → EndsRow t p e before → NewlineIs t p (newline.At (record { 0 = e }) before)
+  found-is e before r = record {
+    found = λ q b is. (let z : record { 0 = e } ≡ q = cc in let y : before ≡ b = cc in let x : e ≡ q .0 = ap (λ (w : TextPlace). w .0) z in rw (← x, ← y) r);
     missing = λ is. absurd (let z : _≡_ {A = ℕ} 0 1 = cc in omega arith);
   }
 
   missing-is : (verdict t ≡ 0 → (o : ℕ) → Nth 10 1 (textOf t) p o → ⊥) → NewlineIs t p newline.Missing
-  missing-is never = record {
-    found = λ q b f is. absurd (let z : _≡_ {A = ℕ} 0 1 = cc in omega arith);
-    known = λ q b f is. absurd (let z : _≡_ {A = ℕ} 0 1 = cc in omega arith);
-    missing = λ is. never;
-  }
+  missing-is never = record { found = λ q b is. absurd (let z : _≡_ {A = ℕ} 0 1 = cc in omega arith); missing = λ is. never }
 
-  module _ (place earlier : ℕ) (run : Part) (i : NoneYet t p place earlier run) where
+  module _ (place earlier : ℕ) (i : NoneYet t p place earlier) where
     -- the text ends before a newline
     pub text-ends : at.textLength t ≤ place → NewlineIs t p newline.Missing
     text-ends end = missing-is (λ v o n.
@@ -96,11 +69,7 @@ module _ (t : List ℕ) (p : ℕ) where
 
     -- A run of `size` bytes, with its first newline at x, or none.
     module _ (from size : ℕ) (reads : ReadsOn t place from size) (x : ℕ) (s : Stands t from size 10 1 x) (before : ℕ)
-        (before-is : before ≡ cond (eqb x 0) earlier (getD t (from + (x - 1)) 0))
-        (first : Part) (first-is : first ≡ cond (eqb place p) (record { from = from; length = size }) run) where
-      first-reads : ReadsOn t p (first .from) (first .length)
-      first-reads = first-known t p place run (record { from = from; length = size }) first first-is (i .known) reads
-
+        (before-is : before ≡ cond (eqb x 0) earlier (getD t (from + (x - 1)) 0)) where
       same : stretch t from x ≡ stretch (textOf t) place x
       same = stretch-ext t (textOf t) from place x (omega (arith, reads .in-tree, s .high)) (omega (arith, reads .in-text, s .high, text-length t))
           (λ y l. reads .bytes y (omega (arith, s .high)))
@@ -122,12 +91,12 @@ module _ (t : List ℕ) (p : ℕ) where
               let f : suc y - 1 ≡ y = omega arith in
               rw (ne-eqb (suc y) 0 (λ z. omega arith), e, f) (reads .bytes y (omega arith))
 
-      pub newline-in-run : x < size → NewlineIs t p (newline.At (record { 0 = place + x }) before first)
-      newline-in-run l = found-is (place + x) before first (record {
+      pub newline-in-run : x < size → NewlineIs t p (newline.At (record { 0 = place + x }) before)
+      newline-in-run l = found-is (place + x) before (record {
         past = omega (arith, i .past);
-        first = nearest;
+        first = first;
         before-is = before-x;
-      }) first-reads
+      })
         where
           o : place + x - p ≡ place - p + x
           o = omega (arith, i .past)
@@ -135,14 +104,14 @@ module _ (t : List ℕ) (p : ℕ) where
           at-x : p + (place - p + x) ≡ place + x
           at-x = omega (arith, i .past)
 
-          nearest : Nth 10 1 (textOf t) p (place + x - p)
-          nearest = rw o (record {
+          first : Nth 10 1 (textOf t) p (place + x - p)
+          first = rw o (record {
             within = omega (arith, i .past, reads .in-text, text-length t);
             byte-is = rw at-x (sym (reads .bytes x l) ∙ s .here l .0);
             rank = rw (joined x, ← same) (s .here l .1);
           })
 
-      pub run-passed : size ≤ x → NoneYet t p (place + size) before first
+      pub run-passed : size ≤ x → NoneYet t p (place + size) before
       run-passed l =
           let e : x ≡ size = omega (arith, s .high) in
           let o : place + size - p ≡ place - p + size = omega (arith, i .past) in record {
@@ -150,7 +119,6 @@ module _ (t : List ℕ) (p : ℕ) where
             within = reads .in-text;
             none = rw (o, joined size) (let z = rw (rw e at same) at (s .fewer l) in omega (arith, z));
             earlier-is = λ m. rw e at before-x (omega arith);
-            known = first-reads;
           }
 
 -- the byte before a place of a run

@@ -6,7 +6,7 @@ use mathlib.Core.Logic.{inl, inr}
 use Prim.Native.Nat.{ℕ, zero, suc, _+_, _≤_}
 use native.Mathlib.Omega.{arith}
 use borrow.Author.Tests.{ne-eqb}
-use lib.ListN.{length, drop, replicate, getD}
+use lib.ListN.{length, drop, replicate}
 use lib.Dec.{eqb}
 use Rattle.text.specs.Lists.{tabulate}
 use Rattle.text.specs.Text.{stretch}
@@ -17,11 +17,7 @@ use Rattle.format.specs.Fits.{textOf}
 use Rattle.format.specs.Verdict.{readable, verdict}
 use Rattle.format.specs.Said.{Said, refused, unless}
 use Rattle.format.specs.SaidLaws.{unless-number}
-use Rattle.stretches.specs.Stretches.{bytesWritten}
-use Rattle.theory_paths.specs.PlaceBytes.{byte-text}
-use Rattle.layout.specs.declared.header.Header.{Header}
-use Rattle.layout.specs.HeaderSays.{HeaderOf}
-use Rattle.format.specs.ReadSays.{byteSays, pathsHold, leavesSpan, copyNumber, copySays, copyLeaves}
+use Rattle.format.specs.ReadSays.{pathsHold, leavesSpan, copyNumber, copySays, copyLeaves}
 use Rattle.format.specs.FindSays.{selectNumber}
 use Rattle.format.specs.RowSays.{asksLast, rowNumber, rowMost, RowBy}
 use Rattle.theory_paths.specs.Demands as paths
@@ -33,9 +29,7 @@ use Rattle.ask_access.specs.ReadAnswers as access
 use Rattle.ask_access.specs.ReadAnswers.{copiedSaid}
 use Rattle.ask_access.specs.declared.Copied.{Copied}
 use Rattle.ask_access.specs.declared.Copied.the-variants as of
-use Rattle.ask_access.specs.ReadByRuns.{ReadsOn, placesWritten}
-use Rattle.ask_access.proofs.SpanLaws.{ByPaths, values, no-room, copy-answered}
-use Rattle.ask_access.proofs.CopyLaws.{copy-start, copy-run, copy-end}
+use Rattle.ask_access.proofs.SpanLaws.{ByPaths, values, no-room}
 use Rattle.layout.specs.HeaderSays.{header-refused}
 use Rattle.ask_rows.specs.declared.row_edges.Edges.{Edges}
 use Rattle.ask_rows.specs.declared.row_edges.Edges.the-variants as edges
@@ -163,22 +157,3 @@ row-unread t ok q buffer x x-is n e =
       });
       numbered = omega (arith, z .2);
     }
-
--- a row whose bytes are all in a run
-
-run-written : (t : List ℕ) (p from size : ℕ) (d : List ℕ)
-    → ReadsOn t p from size → readable t ≡ 0 → (n : ℕ) → n ≤ size → bytesWritten d 0 t from n ≡ placesWritten d 0 t p n
-run-written t p from size d reads passes zero low = refl
-run-written t p from size d reads passes (suc n) low =
-    let value : getD t (from + n) 0 ≡ byteSays t (p + n) .value =
-    reads .bytes n (omega arith) ∙ sym (byte-text t passes (p + n) (omega (arith, reads .in-text)) (reads .holds n (omega arith))) in
-    rw (run-written t p from size d reads passes n (omega arith), value)
-
-pub run-copied : (t : List ℕ) (h : Header) (p len from size : ℕ) (d after : List ℕ) → HeaderOf t h → p + len ≤ h .«text_length» → len ≤ length d
-    → ReadsOn t p from size → len ≤ size → after ≡ bytesWritten d 0 t from len
-    → access.CopyAnswer t p len (length d) (of.Bytes len 0) × (after ≡ copyLeaves t p len d)
-run-copied t h p len from size d after k low room reads within after-is =
-    let z : p + 0 ≡ p = omega arith in
-    let all = copy-run t p len d room 0 d (copy-start t p len d) len (omega arith) (λ x l. rw z (reads .holds x (omega arith))) in
-    let same : after ≡ placesWritten d 0 t (p + 0) len = rw z (after-is ∙ run-written t p from size d reads (k .passes) len within) in
-    copy-answered t p len d after (of.Bytes len 0) tt (copy-end t h p len k low d room (0 + len) after (rw same all) (omega arith))

@@ -32,9 +32,6 @@ use Rattle.layout.specs.HeaderSays.{HeaderOf}
 use Rattle.ask_access.specs.declared.Answer.{Answer}
 use Rattle.ask_access.specs.declared.Answer.the-variants as answer
 use Rattle.ask_access.specs.ReadAnswers.{said}
-use Rattle.ask_access.specs.declared.read_by_header.Part.{Part}
-use Rattle.ask_access.specs.ReadByRuns.{ReadsOn}
-use Rattle.ask_access.proofs.RunLaws.{reads-none}
 use Rattle.ask_totals.proofs.TotalLaws.{not-counted, is-counted}
 use Rattle.theory_counts.specs.Demands as tallies
 use Rattle.ask_select.specs.declared.Found.{Found}
@@ -72,24 +69,17 @@ ten-plain t guide used j r e a = rw e a
 
 -- the edges
 
-abbrev no-run : Part
-no-run = record { from = 0; length = 0 }
-
 module _ (t : List ℕ) (ok number : ℕ) (row : List ℕ) (most : ℕ) where
   not-spans : (n : ℕ) → Refuses t ok number row n → EdgesOf t ok number row most (edges.Refused n)
   not-spans n r = record {
     refused = λ m e. (let z : n ≡ m = cc in rw (← z) r);
-    spans = λ s len f e. absurd (let z : _≡_ {A = ℕ} 0 1 = cc in omega arith);
-    known = λ s len f e. absurd (let z : _≡_ {A = ℕ} 0 1 = cc in omega arith);
+    spans = λ s len e. absurd (let z : _≡_ {A = ℕ} 0 1 = cc in omega arith);
   }
 
-  spans-at : (s len : ℕ) (first : Part) → ReadsOn t s (first .from) (first .length) → Spans t ok number row most s len
-      → EdgesOf t ok number row most (edges.At (record { 0 = s }) len first)
-  spans-at s len first reads r = record {
+  spans-at : (s len : ℕ) → Spans t ok number row most s len → EdgesOf t ok number row most (edges.At (record { 0 = s }) len)
+  spans-at s len r = record {
     refused = λ m e. absurd (let z : _≡_ {A = ℕ} 0 1 = cc in omega arith);
-    spans = λ p n f e. (let z : record { 0 = s } ≡ p = cc in let y : len ≡ n = cc in let x : s ≡ p .0 = ap (λ (w : TextPlace). w .0) z in rw (← x, ← y) r);
-    known = λ p n f e.
-        (let z : record { 0 = s } ≡ p = cc in let y : first ≡ f = cc in let x : s ≡ p .0 = ap (λ (w : TextPlace). w .0) z in rw (← x, ← y) reads);
+    spans = λ p n e. (let z : record { 0 = s } ≡ p = cc in let y : len ≡ n = cc in let x : s ≡ p .0 = ap (λ (w : TextPlace). w .0) z in rw (← x, ← y) r);
   }
 
   -- refused by a question before the walk
@@ -284,9 +274,9 @@ module _ (t : List ℕ) (ok : ℕ) (sound : ok ≡ 0 → verdict t ≡ 0) (q : �
           λ v. rw (starts .accepted p is v) (some-end (textOf t) q (chosen .low) (in-book v)) in
           in-walk t ok (number t ok q) (row t ok q) end-most asked 14 (λ v. ends .missing none (sound v) o (there v)) refl
 
-      module _ (e : TextPlace) (before : ℕ) (first : Part) (at-e : y ≡ newline.At e before first) where
+      module _ (e : TextPlace) (before : ℕ) (at-e : y ≡ newline.At e before) where
         end : EndsRow t (p .0) (e .0) before
-        end = ends .found e before first at-e
+        end = ends .found e before at-e
 
         pub end-past : p .0 ≤ e .0
         end-past = end .past
@@ -306,8 +296,8 @@ module _ (t : List ℕ) (ok : ℕ) (sound : ok ≡ 0 → verdict t ≡ 0) (q : �
             rw (s, f)
 
         pub edges-trimmed : (n : ℕ) → n ≡ cond (ltb 0 len && eqb 13 before) (len - 1) len
-            → EdgesOf t ok (number t ok q) (row t ok q) end-most (edges.At p n first)
-        edges-trimmed n n-is = spans-at t ok (number t ok q) (row t ok q) end-most (p .0) n first (ends .known e before first at-e) (record {
+            → EdgesOf t ok (number t ok q) (row t ok q) end-most (edges.At p n)
+        edges-trimmed n n-is = spans-at t ok (number t ok q) (row t ok q) end-most (p .0) n (record {
           asked = asked;
           within = omega (arith, at-most, in-text, text-length t);
           short = omega (arith, at-most, in-text, text-length t);
@@ -421,9 +411,9 @@ module _ (t : List ℕ) (h : Header) (k : HeaderOf t h) (q : ℕ) (asks : asksLa
         passed = rw (here-said, is, ne-eqb 10 value (λ e. other (sym e)))
 
         -- no byte 10 stands before it
-        pub last-whole : q ≡ 1 → EdgesOf t ok last-number last-row last-most (edges.At (record { 0 = 0 }) (h .«text_length») no-run)
+        pub last-whole : q ≡ 1 → EdgesOf t ok last-number last-row last-most (edges.At (record { 0 = 0 }) (h .«text_length»))
         unfolding rowFrom
-        last-whole one = spans-at t ok last-number last-row last-most 0 (h .«text_length») no-run (reads-none t 0 0 (omega arith) (omega arith)) (record {
+        last-whole one = spans-at t ok last-number last-row last-most 0 (h .«text_length») (record {
           asked = passed;
           within = omega (arith, k .length-is);
           short = omega (arith, k .length-is, most-first one);
@@ -450,17 +440,16 @@ module _ (t : List ℕ) (h : Header) (k : HeaderOf t h) (q : ℕ) (asks : asksLa
             pub last-past : before .0 < h .«text_length»
             last-past = omega (arith, place-in-text t ok 10 (q - 1) sound found said-found before other-figure found-at, k .length-is)
 
-            pub last-from : EdgesOf t ok last-number last-row last-most (edges.At (record { 0 = before .0 + 1 }) (h .«text_length» - (before .0 + 1)) no-run)
+            pub last-from : EdgesOf t ok last-number last-row last-most (edges.At (record { 0 = before .0 + 1 }) (h .«text_length» - (before .0 + 1)))
             unfolding rowFrom
-            last-from = spans-at t ok last-number last-row last-most (before .0 + 1)
-                (h .«text_length» - (before .0 + 1)) no-run (reads-none t (before .0 + 1) 0 (omega (arith, last-past, k .length-is)) (omega arith)) (record {
-                  asked = passed;
-                  within = omega (arith, last-past, k .length-is);
-                  short = omega (arith, last-past, k .length-is, most-later more);
-                  accepted = λ v.
-                      sym (last-is (sound v) ∙ rw
-                      (ne-eqb q 1 more, place-is t ok 10 (q - 1) sound found said-found before other-figure found-at v, text-length t, k .length-is));
-                })
+            last-from = spans-at t ok last-number last-row last-most (before .0 + 1) (h .«text_length» - (before .0 + 1)) (record {
+              asked = passed;
+              within = omega (arith, last-past, k .length-is);
+              short = omega (arith, last-past, k .length-is, most-later more);
+              accepted = λ v.
+                  sym (last-is (sound v) ∙ rw
+                  (ne-eqb q 1 more, place-is t ok 10 (q - 1) sound found said-found before other-figure found-at v, text-length t, k .length-is));
+            })
 
 -- The edges of row q, by which of the two it is.
 module _ (t : List ℕ) (ok : ℕ) (sound : ok ≡ 0 → verdict t ≡ 0) (q : ℕ) where
@@ -474,8 +463,7 @@ module _ (t : List ℕ) (ok : ℕ) (sound : ok ≡ 0 → verdict t ≡ 0) (q : �
   unfolding rowMost
   edges-ended r asks e = rw (row-number-plain t q (sym asks)) (record {
     refused = λ n f. (let y = e .refused n f in record { low = y .low; asked = y .asked; accepted = y .accepted; free = y .free });
-    known = e .known;
-    spans = λ s m r f. (let y = e .spans s m r f in record {
+    spans = λ s m f. (let y = e .spans s m f in record {
       asked = y .asked;
       within = y .within;
       short = rw (← asks) (y .short);

@@ -31,7 +31,6 @@ use Rattle.layout.specs.HeaderSays.{HeaderOf, header-refused}
 use Rattle.ask_access.specs.declared.Answer.{Answer}
 use Rattle.ask_access.specs.declared.Answer.the-variants as answer
 use Rattle.ask_access.specs.ReadAnswers.{said}
-use Rattle.ask_access.specs.declared.read_by_header.Part.{Part}
 use Rattle.ask_totals.proofs.TotalLaws.{not-counted, is-counted}
 use Rattle.ask_rows.specs.declared.row_edges.Edges.{Edges}
 use Rattle.ask_rows.specs.declared.row_edges.Edges.the-variants as edges
@@ -43,10 +42,10 @@ use Rattle.ask_rows.specs.RowLengths.{rowsNumber, lastOpen, rowsSays, Le
 -- The length of a row.
 module _ (t : List ℕ) (q : ℕ) where
   module _ (guide : List ℕ) (x : Edges) (k : EdgesOf t (settledBy t guide false) (rowNumber t q) (rowOf (textOf t) q) (rowMost t q) x) where
-    pub length-told : (start : TextPlace) (len : ℕ) (first : Part) → x ≡ edges.At start len first → LengthAnswer t q (size.Bytes len)
+    pub length-told : (start : TextPlace) (len : ℕ) → x ≡ edges.At start len → LengthAnswer t q (size.Bytes len)
     unfolding settledBy
-    length-told start len first e =
-        let s = k .spans start len first e in record {
+    length-told start len e =
+        let s = k .spans start len e in record {
           says = record {
             asked = λ l. absurd (let z : ⊥ = omega (arith, s .asked) in z);
             accepted = λ z v. (

@@ -10,8 +10,6 @@ use Rattle.format.specs.Verdict.{verdict}
 use Rattle.format.specs.Said.{refused}
 use Rattle.text.specs.declared.TextPlace.{TextPlace}
 use Rattle.format.specs.ReadSays.{copySays}
-use Rattle.ask_access.specs.declared.read_by_header.Part.{Part}
-use Rattle.ask_access.specs.ReadByRuns.{ReadsOn}
 use Rattle.ask_guide.specs.Guides.{guideNumber}
 use Rattle.ask_rows.specs.declared.RowCopied.{RowCopied}
 use Rattle.ask_rows.specs.declared.RowCopied.the-variants.{Refused}
@@ -30,7 +28,7 @@ pub record CopyAnswer (t : List ℕ) (p len room : ℕ) (r : RowCopied) : Type 0
 
 -- the number of edges that are refused
 abbrev pub edgesNumber : Edges → ℕ
-edgesNumber (edges.At start len first) = 0
+edgesNumber (edges.At start len) = 0
 edgesNumber (edges.Refused number) = number
 
 -- The edges of a row: `number` is that of the questions before the walk, `row` what the row is where `ok` is 0; it has at most `most` bytes.
@@ -51,6 +49,4 @@ module _ (t : List ℕ) (ok number : ℕ) (row : List ℕ) where
 
   pub record EdgesOf (most : ℕ) (r : Edges) : Type 0 where
     pub refused : (n : ℕ) → r ≡ edges.Refused n → Refuses n
-    pub spans : (start : TextPlace) (len : ℕ) (first : Part) → r ≡ edges.At start len first → Spans most (start .0) len
-    -- a run from its start
-    pub known : (start : TextPlace) (len : ℕ) (first : Part) → r ≡ edges.At start len first → ReadsOn t (start .0) (first .from) (first .length)
+    pub spans : (start : TextPlace) (len : ℕ) → r ≡ edges.At start len → Spans most (start .0) len

@@ -1,6 +1,5 @@
 // The newline that ends a row: read from the row's start on, run by run, in a tree that passes questions 5 to 7.
 use ask_access::read_by_header;
-use ask_access::read_by_header::Part;
 use ask_access::read_by_header::Ran;
 use layout::header::Header;
 use layout::place::TextPlace;
@@ -12,10 +11,9 @@ ghost use lib.ListN.{length, getD};
 ghost use Rattle.layout.specs.HeaderSays.{HeaderOf};
 ghost use Rattle.ask_rows.specs.RowEnds.{NewlineIs};
 
-// The place of the first newline from a place on, the byte before it, if one was read, and the first run that was read; or none, because a path
-// breaks or the text ends before it.
+// The place of the first newline from a place on, and the byte before it, if one was read; or none, because a path breaks or the text ends before it.
 pub enum Newline {
-    At(TextPlace, u8, Part),
+    At(TextPlace, u8),
     Missing,
 }
 
@@ -26,33 +24,21 @@ pub fn next_newline(t: &[u8], h: Header, from: TextPlace) -> Newline
 {
     let mut at: u32 = from.0;
     let mut earlier: u8 = 0;
-    let mut first = Part { from: 0, length: 0 };
     while at < h.text_length {
         let ran = read_by_header::part_at(t, h, TextPlace(at));
         let Ran::At(part) = ran else {
             return Newline::Missing;
         };
-        first = first_run(first, part, TextPlace(at), from);
         let size = part.length as u32;
         let i = stretches::nth(t, part.from, size, 10, 1);
         let before = byte_before(t, part.from, i, earlier);
         if i < size {
-            return Newline::At(TextPlace(at + i), before, first);
+            return Newline::At(TextPlace(at + i), before);
         }
         earlier = before;
         at += size;
     }
     Newline::Missing
-}
-
-// The first run that was read: the next one, where it is read from the start, else the first so far.
-fn first_run(first: Part, next: Part, at: TextPlace, start: TextPlace) -> Part
-    ensures { λ r. ⌜ r ≡ cond (eqb (at .0) (start .0)) next first ⌝ }
-{
-    if at.0 == start.0 {
-        return next;
-    }
-    first
 }
 
 // The byte before place i of a run: for the first place the one that was read before the run.

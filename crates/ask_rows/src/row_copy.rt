@@ -4,16 +4,10 @@ use crate::row_edges;
 use crate::row_edges::Edges;
 use ask_access::Copied;
 use ask_access::read_by_header;
-use ask_access::read_by_header::Part;
 use layout::header::Header;
-use layout::place::TextPlace;
 ghost use mathlib.Core.Path.{_≡_};
-ghost use Prim.Native.Nat.{_+_, _≤_};
-ghost use lib.ListN.{length};
-ghost use Rattle.format.specs.ReadSays.{copyLeaves};
 ghost use Rattle.layout.specs.HeaderSays.{HeaderOf};
-ghost use Rattle.ask_access.specs.ReadAnswers.{copiedSaid, CopyAnswer};
-ghost use Rattle.ask_access.specs.ReadByRuns.{ReadsOn};
+ghost use Rattle.ask_access.specs.ReadAnswers.{copiedSaid};
 ghost use Rattle.ask_rows.specs.RowAnswers.{RowAnswerBy};
 ghost use Rattle.ask_rows.specs.RowSpans.{settledBy};
 
@@ -24,39 +18,18 @@ pub fn row_at(t: &[u8], h: Header, guide: &[u8], used: bool, q: u32, buffer: &mu
     ensures { λ r. ⌜ RowAnswerBy (now (t .entry)) (settledBy (now (t .entry)) (now (guide .entry)) used) q (now (buffer .entry)) r (now (buffer .exit)) ⌝ }
 {
     let found = row_edges::of_row(t, h, guide, used, q);
-    let Edges::At(start, len, first) = found else {
+    let Edges::At(start, len) = found else {
         return RowCopied::Refused(row_edges::number(found));
     };
     if buffer.len() < len as usize {
         return RowCopied::Refused(13);
     }
-    let copied = copy_row(t, h, start, len, first, buffer);
+    let copied = read_by_header::copy(t, h, start, len, buffer);
     let Copied::Bytes(n, _) = copied else {
         let number = copied_number(copied);
         return RowCopied::Refused(number);
     };
     RowCopied::Bytes(n)
-}
-
-// The row's bytes, from the run that was read where they are all in it, else by their paths.
-fn copy_row(
-    t: &[u8],
-    h: Header,
-    start: TextPlace,
-    len: u32,
-    first: Part,
-    buffer: &mut [u8],
-) -> Copied
-    requires { ⌜ (HeaderOf (now t) h) × (start .0 + len ≤ h .«text_length») × (len ≤ length (now buffer))
-        × (ReadsOn (now t) (start .0) (first .from) (first .length)) ⌝ }
-    ensures { λ r. ⌜ CopyAnswer (now (t .entry)) (start .0) len (length (now (buffer .entry))) r ⌝ }
-    ensures { λ _. ⌜ now (buffer .exit) ≡ copyLeaves (now (t .entry)) (start .0) len (now (buffer .entry)) ⌝ }
-{
-    if len as usize <= first.length {
-        stretches::copy(buffer, 0, t, first.from, len as usize);
-        return Copied::Bytes(len, 0);
-    }
-    read_by_header::copy(t, h, start, len, buffer)
 }
 
 // The number of the question that refuses a copy; 0 for bytes that were copied.

@@ -3,7 +3,6 @@ use crate::next_newline;
 use crate::next_newline::Newline;
 use ask_access::Answer;
 use ask_access::read_by_header;
-use ask_access::read_by_header::Part;
 use ask_guided::guided_find;
 use ask_select::Found;
 use ask_select::find_by_header;
@@ -25,9 +24,9 @@ ghost use Rattle.ask_select.specs.Found.{saidFind, FoundBy};
 ghost use Rattle.ask_rows.specs.RowSpans.{settledBy, edgesNumber, EdgesOf};
 ghost use Rattle.ask_rows.specs.RowEnds.{startNumber, StartIs};
 
-// Where a row starts, how many bytes it has, and a run from its start that was read, empty if none was; or the number of the question that refuses.
+// Where a row starts and how many bytes it has, or the number of the question that refuses.
 pub enum Edges {
-    At(TextPlace, u32, Part),
+    At(TextPlace, u32),
     Refused(u32),
 }
 
@@ -81,19 +80,14 @@ fn last(t: &[u8], h: Header, guide: &[u8], used: bool, q: u32) -> Edges
     if value == 10 {
         return Edges::Refused(12);
     }
-    let none = Part { from: 0, length: 0 };
     if q == 1 {
-        return Edges::At(TextPlace(0), h.text_length, none);
+        return Edges::At(TextPlace(0), h.text_length);
     }
     let found = ten(t, h, guide, used, q - 1);
     let Found::At(before, _) = found else {
         return Edges::Refused(found_number(found));
     };
-    Edges::At(
-        TextPlace(before.0 + 1),
-        h.text_length - (before.0 + 1),
-        none,
-    )
+    Edges::At(TextPlace(before.0 + 1), h.text_length - (before.0 + 1))
 }
 
 // The edges of a row that a newline ends: one find comes to its start, and the newline is read on to.
@@ -107,10 +101,10 @@ fn terminated_row(t: &[u8], h: Header, guide: &[u8], used: bool, q: u32) -> Edge
         return Edges::Refused(start_number(found));
     };
     let end = next_newline::next_newline(t, h, start);
-    let Newline::At(place, before, first) = end else {
+    let Newline::At(place, before) = end else {
         return Edges::Refused(14);
     };
-    Edges::At(start, without_cr(place.0 - start.0, before), first)
+    Edges::At(start, without_cr(place.0 - start.0, before))
 }
 
 // Where row q starts, if a newline ends it. Questions 11, 12 and 14.
@@ -187,7 +181,7 @@ pub fn number(found: Edges) -> u32
     ensures { λ r. ⌜ r ≡ edgesNumber found ⌝ }
 {
     match found {
-        Edges::At(_, _, _) => 0,
+        Edges::At(_, _) => 0,
         Edges::Refused(number) => number,
     }
 }
