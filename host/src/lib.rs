@@ -250,15 +250,36 @@ impl<'a> Tree<'a> {
 
 /// The rows of a text: byte 10 ends a row, with one byte 13 directly before it; what follows the last byte 10 is a row too.
 pub fn text_rows(text: &[u8]) -> impl Iterator<Item = &[u8]> {
-    text.split_inclusive(|&byte| byte == 10).map(|row| match row {
-        [row @ .., 13, 10] | [row @ .., 10] => row,
-        row => row,
+    let mut rest = text;
+    std::iter::from_fn(move || {
+        let Some(end) = newline(rest) else {
+            return Some(std::mem::take(&mut rest)).filter(|row| !row.is_empty());
+        };
+        let row = &rest[..end];
+        rest = &rest[end + 1..];
+        Some(row.strip_suffix(&[13]).unwrap_or(row))
     })
+}
+
+/// The place of the first byte 10. Eight bytes are compared at a time: of a byte 10 in them, nothing is left but the bits that a subtraction borrows, and no
+/// byte before the first one borrows.
+fn newline(text: &[u8]) -> Option<usize> {
+    const ONES: u64 = 0x0101_0101_0101_0101;
+    let mut eights = text.chunks_exact(8);
+    for (number, eight) in eights.by_ref().enumerate() {
+        let other = u64::from_le_bytes(eight.try_into().expect("eight bytes")) ^ (10 * ONES);
+        let found = other.wrapping_sub(ONES) & !other & (128 * ONES);
+        if found != 0 {
+            return Some(8 * number + found.trailing_zeros() as usize / 8);
+        }
+    }
+    let rest = eights.remainder();
+    rest.iter().position(|&byte| byte == 10).map(|at| text.len() - rest.len() + at)
 }
 
 #[cfg(test)]
 mod tests {
-    use super::{build, build_scanned, text_rows, Refusal, Settings, Tree};
+    use super::{build, build_scanned, newline, text_rows, Refusal, Settings, Tree};
 
     #[test]
     fn rows_of_a_text() {
@@ -266,6 +287,20 @@ mod tests {
         assert_eq!(split(b"A 1\r\nB 2\n\nC"), [b"A 1".as_slice(), b"B 2", b"", b"C"]);
         assert_eq!(split(b"A\r\r\nB\r"), [b"A\r".as_slice(), b"B\r"]);
         assert!(split(b"").is_empty());
+    }
+
+    /// Newlines found eight bytes at a time, beside each byte by itself: every pair of bytes at every place of a text of up to 20 bytes.
+    #[test]
+    fn newlines_among_other_bytes() {
+        for (length, at) in (0..=20usize).flat_map(|length| (0..length).map(move |at| (length, at))) {
+            for (first, second) in (0..=255u8).flat_map(|first| [0, 9, 10, 11, 127, 128, 138, 139, 255].map(|second| (first, second))) {
+                let mut text = vec![b'A'; length];
+                text[at] = first;
+                text[(at + 1) % length] = second;
+                assert_eq!(newline(&text), text.iter().position(|&byte| byte == 10), "{text:?}");
+            }
+        }
+        assert_eq!(newline(b""), None);
     }
 
     /// A row is copied into a buffer of its own length, whatever the text's; rows around the lengths of the buffers tried.
