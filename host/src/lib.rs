@@ -252,7 +252,7 @@ impl<'a> Tree<'a> {
 pub fn text_rows(text: &[u8]) -> impl Iterator<Item = &[u8]> {
     let mut rest = text;
     std::iter::from_fn(move || {
-        let Some(end) = newline(rest) else {
+        let Some(end) = first(rest, b'\n') else {
             return Some(std::mem::take(&mut rest)).filter(|row| !row.is_empty());
         };
         let row = &rest[..end];
@@ -261,25 +261,25 @@ pub fn text_rows(text: &[u8]) -> impl Iterator<Item = &[u8]> {
     })
 }
 
-/// The place of the first byte 10. Eight bytes are compared at a time: of a byte 10 in them, nothing is left but the bits that a subtraction borrows, and no
-/// byte before the first one borrows.
-fn newline(text: &[u8]) -> Option<usize> {
+/// The first place of a byte. Eight bytes are compared at a time: where they differ from it, a subtraction borrows from no bit but those of equal bytes, and no
+/// byte before the first equal one borrows.
+pub(crate) fn first(bytes: &[u8], byte: u8) -> Option<usize> {
     const ONES: u64 = 0x0101_0101_0101_0101;
-    let mut eights = text.chunks_exact(8);
+    let mut eights = bytes.chunks_exact(8);
     for (number, eight) in eights.by_ref().enumerate() {
-        let other = u64::from_le_bytes(eight.try_into().expect("eight bytes")) ^ (10 * ONES);
+        let other = u64::from_le_bytes(eight.try_into().expect("eight bytes")) ^ (u64::from(byte) * ONES);
         let found = other.wrapping_sub(ONES) & !other & (128 * ONES);
         if found != 0 {
             return Some(8 * number + found.trailing_zeros() as usize / 8);
         }
     }
     let rest = eights.remainder();
-    rest.iter().position(|&byte| byte == 10).map(|at| text.len() - rest.len() + at)
+    rest.iter().position(|&other| other == byte).map(|at| bytes.len() - rest.len() + at)
 }
 
 #[cfg(test)]
 mod tests {
-    use super::{build, build_scanned, newline, text_rows, Refusal, Settings, Tree};
+    use super::{build, build_scanned, first, text_rows, Refusal, Settings, Tree};
 
     #[test]
     fn rows_of_a_text() {
@@ -289,18 +289,20 @@ mod tests {
         assert!(split(b"").is_empty());
     }
 
-    /// Newlines found eight bytes at a time, beside each byte by itself: every pair of bytes at every place of a text of up to 20 bytes.
+    /// A byte found eight bytes at a time, beside each byte by itself: pairs of bytes at every place of up to 20 bytes.
     #[test]
-    fn newlines_among_other_bytes() {
+    fn first_places() {
         for (length, at) in (0..=20usize).flat_map(|length| (0..length).map(move |at| (length, at))) {
-            for (first, second) in (0..=255u8).flat_map(|first| [0, 9, 10, 11, 127, 128, 138, 139, 255].map(|second| (first, second))) {
-                let mut text = vec![b'A'; length];
-                text[at] = first;
-                text[(at + 1) % length] = second;
-                assert_eq!(newline(&text), text.iter().position(|&byte| byte == 10), "{text:?}");
+            for (one, next) in (0..=255u8).flat_map(|one| [0, 9, 10, 11, 31, 32, 127, 128, 138, 255].map(|next| (one, next))) {
+                let mut bytes = vec![b'A'; length];
+                bytes[at] = one;
+                bytes[(at + 1) % length] = next;
+                for byte in [10, 32] {
+                    assert_eq!(first(&bytes, byte), bytes.iter().position(|&other| other == byte), "{bytes:?}");
+                }
             }
         }
-        assert_eq!(newline(b""), None);
+        assert_eq!(first(b"", 10), None);
     }
 
     /// A row is copied into a buffer of its own length, whatever the text's; rows around the lengths of the buffers tried.

@@ -1,6 +1,6 @@
 //! All rows that match a worn key, in one pass over the text.
 
-use crate::{text_rows, Range, Refusal, Tree};
+use crate::{first, text_rows, Range, Refusal, Tree};
 
 impl Tree<'_> {
     /// Calls `show` with the number and the bytes of each row after `mark` that matches, in row order. Every refusal comes before the first row.
@@ -9,13 +9,15 @@ impl Tree<'_> {
     /// text from there on, and `matches` decides each of its rows; the tests compare it with `next_match`.
     pub fn each_match(&self, ranges: &[Range], mark: u32, mut show: impl FnMut(u32, &[u8])) -> Result<(), Refusal> {
         let mut mark = mark;
-        let Some(first) = self.next_match(ranges, &mut mark)? else { return Ok(()) };
-        let start = if first == 1 { 0 } else { self.find(10, first - 1)?.value + 1 };
+        let Some(shown) = self.next_match(ranges, &mut mark)? else { return Ok(()) };
+        let start = if shown == 1 { 0 } else { self.find(10, shown - 1)?.value + 1 };
         let length = self.text_length().checked_sub(start).ok_or(Refusal::Path)?;
         let text = self.span(start, length)?.value;
-        let mut number = first;
+        // the library has taken the ranges: none is empty, none goes past 9
+        let cuts: Vec<_> = ranges.iter().map(|range| (b'0' + range.low, range.high - range.low)).collect();
+        let mut number = shown;
         for row in text_rows(&text) {
-            if matches(row, ranges) {
+            if matches(row, &cuts) {
                 show(number, row);
             }
             // a damaged tree may name any first row
@@ -25,15 +27,13 @@ impl Tree<'_> {
     }
 }
 
-/// Is the row, without its end, a key (a code of 1 to 12 bytes without a space, one space, the cuts) with a cut in each range?
-fn matches(row: &[u8], ranges: &[Range]) -> bool {
-    let Some(code) = row.len().checked_sub(ranges.len() + 1) else { return false };
-    if !(1..=12).contains(&code) || row[code] != b' ' {
-        return false;
-    }
-    let cuts = row[code + 1..].iter().zip(ranges);
-    cuts.map(|(cut, range)| (cut.wrapping_sub(b'0'), range)).all(|(depth, range)| range.low <= depth && depth <= range.high)
-        && !row[..code].contains(&b' ')
+/// Is the row, without its end, a key (a code of 1 to 12 bytes without a space, one space, the cuts) with a cut in each range? A range is its least digit, and
+/// how many more there are.
+fn matches(row: &[u8], cuts: &[(u8, u8)]) -> bool {
+    let Some(code) = row.len().checked_sub(cuts.len() + 1) else { return false };
+    (1..=12).contains(&code)
+        && first(row, b' ') == Some(code)
+        && row[code + 1..].iter().zip(cuts).all(|(digit, &(least, more))| digit.wrapping_sub(least) <= more)
 }
 
 /// Ranges as the library takes them: low, high, low, high.
