@@ -1,4 +1,5 @@
 use borrow.Author.Needs.{needs}
+use mathlib.Core.Path.{refl}
 use native.Mathlib.Omega.{arith}
 use Rattle.walk_steps.proofs.StepLaws.{kept-in, field-there, b-small, b-pos, shapes}
 use Rattle.ask_select.proofs.LandLaws as laws
@@ -51,37 +52,50 @@ child-with-spec =
     let n = rw (k .before .block-length .ensures .0) at (k .children .ensures) in
     laws.siblings _ _ _ _ _ _ _ _ _ (p .0) (p .1) (p .2) (p .3) (l .link .ensures) n
     (omega (arith, v .level-count .ensures, e .if1 .left)) (c .before .before .if2 .left))
-    (λ c. search needs)
     (λ c.
-    let e = c .before .before .before .before .before .before .before in
+    let p = c .before .before .before .before .before .before .before .before .before .before .before .before .before .before .pre .1 in
+    record { fits = omega (arith, p .level-in, p .facts .bounds .levels-high) })
+    (λ c κs.
+    let e = c .before .before .before .before .before in
+    let v = e .before .before in
+    let k = v .before .before in
+    let l = k .before .before in
+    let p = l .before .before .before .pre in
+    let n = rw (k .before .block-length .ensures .0) at (k .children .ensures) in
+    laws.alone _ _ _ _ _ _ _ _ _ (p .0) (p .1) (p .2) (p .3) (l .link .ensures) n
+    _ (omega (arith, v .level-count .ensures, e .if1 .left)) (c .before .last-child .ensures))
+    (λ c.
+    let w = c .before in
+    let i = w .before .before in
+    let e = i .before .before .before .before in
+    let v = e .before .before in
+    let k = v .before .before in
+    let l = k .before .before in
+    let p = l .before .before .before .pre in
+    let n = rw (k .before .block-length .ensures .0) at (k .children .ensures) in
+    laws.child-without _ _ _ _ _ _ _ _ _ (p .0) (p .1) (p .2) (p .3) (l .link .ensures) n
+    _ (omega (arith, v .level-count .ensures, e .if1 .left)) (i .last-child .ensures) _ (w .rest-in .ensures) (c .if3 .taken))
+    (λ c. let i = c .before .before .before .before .before in omega (arith, i .last-child .ensures .low))
+    (λ c.
+    let i = c .before .before .before .before .before .before in
+    let e = i .before .before .before .before in
     let v = e .before .before in
     let k = v .before .before in
     let l = k .before .before in
     let p = l .before .before .before .pre in
     let n = rw (k .before .block-length .ensures .0) at (k .children .ensures) in
     let small = laws.child-place-small _ _ _ _ _ _ _ _ _ (p .0) (p .1) (p .2) (p .3) (l .link .ensures) n
-    _ (omega (arith, v .level-count .ensures, e .if1 .left)) (c .before .before .before .last-child .ensures) in
+    _ (omega (arith, v .level-count .ensures, e .if1 .left)) (i .last-child .ensures) in
     omega (arith, small))
     (λ c.
-    let e = c .before .before .before .before .before .before .before .before in
-    let p = e .before .before .before .before .before .before .before .before .before .pre .1 in
-    record { fits = omega (arith, p .level-in, p .facts .bounds .levels-high) })
-    (λ c κs.
-    let e = c .before .before .before .before .before .before .before .before in
+    let o = c .before .before .before in
+    let w = o .before in
+    let i = w .before .before in
+    let e = i .before .before .before .before in
     let v = e .before .before in
     let k = v .before .before in
     let l = k .before .before in
     let p = l .before .before .before .pre in
     let n = rw (k .before .block-length .ensures .0) at (k .children .ensures) in
-    let there = laws.child-there _ _ _ _ _ _ _ _ _ (p .0) (p .1) (p .2) (p .3) (l .link .ensures) n
-    _ (omega (arith, v .level-count .ensures, e .if1 .left)) (c .before .before .before .before .last-child .ensures) in
-    (there, p .2))
-    (λ c.
-    let e = c .before .before .before .before .before .before .before .before .before in
-    let v = e .before .before in
-    let k = v .before .before in
-    let l = k .before .before in
-    let p = l .before .before .before .pre in
-    let n = rw (k .before .block-length .ensures .0) at (k .children .ensures) in
-    laws.child-picked _ _ _ _ _ _ _ _ _ (p .0) (p .1) (p .2) (p .3) (l .link .ensures) n
-    _ (omega (arith, v .level-count .ensures, e .if1 .left)) (c .before .before .before .before .before .last-child .ensures) _ (c .pick .ensures)))
+    laws.child-chosen _ _ _ _ _ _ _ _ _ (p .0) (p .1) (p .2) (p .3) (l .link .ensures) n
+    _ (omega (arith, v .level-count .ensures, e .if1 .left)) (i .last-child .ensures) _ (w .rest-in .ensures) _ refl (o .if3 .left)))
