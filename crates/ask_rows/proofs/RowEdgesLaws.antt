@@ -32,6 +32,8 @@ use Rattle.layout.specs.HeaderSays.{HeaderOf}
 use Rattle.ask_access.specs.declared.Answer.{Answer}
 use Rattle.ask_access.specs.declared.Answer.the-variants as answer
 use Rattle.ask_access.specs.ReadAnswers.{said}
+use Rattle.ask_access.specs.declared.read_by_header.LeafRun.{LeafRun}
+use Rattle.ask_access.proofs.LeafRunLaws.{none-read}
 use Rattle.ask_totals.proofs.TotalLaws.{not-counted, is-counted}
 use Rattle.theory_counts.specs.Demands as tallies
 use Rattle.ask_select.specs.declared.Found.{Found}
@@ -73,13 +75,17 @@ module _ (t : List ℕ) (ok number : ℕ) (row : List ℕ) (most : ℕ) where
   not-spans : (n : ℕ) → Refuses t ok number row n → EdgesOf t ok number row most (edges.Refused n)
   not-spans n r = record {
     refused = λ m e. (let z : n ≡ m = cc in rw (← z) r);
-    spans = λ s len e. absurd (let z : _≡_ {A = ℕ} 0 1 = cc in omega arith);
+    spans = λ s len run e. absurd (let z : _≡_ {A = ℕ} 0 1 = cc in omega arith);
   }
 
-  spans-at : (s len : ℕ) → Spans t ok number row most s len → EdgesOf t ok number row most (edges.At (record { 0 = s }) len)
-  spans-at s len r = record {
+  spans-at : (s len : ℕ) (run : LeafRun) → Spans t ok number row most s len run → EdgesOf t ok number row most (edges.At (record { 0 = s }) len run)
+  spans-at s len run r = record {
     refused = λ m e. absurd (let z : _≡_ {A = ℕ} 0 1 = cc in omega arith);
-    spans = λ p n e. (let z : record { 0 = s } ≡ p = cc in let y : len ≡ n = cc in let x : s ≡ p .0 = ap (λ (w : TextPlace). w .0) z in rw (← x, ← y) r);
+    spans = λ p n u e. (let z : record { 0 = s } ≡ p = cc in
+        let y : len ≡ n = cc in
+        let v : run ≡ u = cc in
+        let x : s ≡ p .0 = ap (λ (w : TextPlace). w .0) z in
+        rw (← x, ← y, ← v) r);
   }
 
   -- refused by a question before the walk
@@ -274,9 +280,9 @@ module _ (t : List ℕ) (ok : ℕ) (sound : ok ≡ 0 → verdict t ≡ 0) (q : �
           λ v. rw (starts .accepted p is v) (some-end (textOf t) q (chosen .low) (in-book v)) in
           in-walk t ok (number t ok q) (row t ok q) end-most asked 14 (λ v. ends .missing none (sound v) o (there v)) refl
 
-      module _ (e : TextPlace) (before : ℕ) (at-e : y ≡ newline.At e before) where
+      module _ (e : TextPlace) (before : ℕ) (run : LeafRun) (at-e : y ≡ newline.At e before run) where
         end : EndsRow t (p .0) (e .0) before
-        end = ends .found e before at-e
+        end = ends .found e before run at-e .0
 
         pub end-past : p .0 ≤ e .0
         end-past = end .past
@@ -296,12 +302,13 @@ module _ (t : List ℕ) (ok : ℕ) (sound : ok ≡ 0 → verdict t ≡ 0) (q : �
             rw (s, f)
 
         pub edges-trimmed : (n : ℕ) → n ≡ cond (ltb 0 len && eqb 13 before) (len - 1) len
-            → EdgesOf t ok (number t ok q) (row t ok q) end-most (edges.At p n)
-        edges-trimmed n n-is = spans-at t ok (number t ok q) (row t ok q) end-most (p .0) n (record {
+            → EdgesOf t ok (number t ok q) (row t ok q) end-most (edges.At p n run)
+        edges-trimmed n n-is = spans-at t ok (number t ok q) (row t ok q) end-most (p .0) n run (record {
           asked = asked;
           within = omega (arith, at-most, in-text, text-length t);
           short = omega (arith, at-most, in-text, text-length t);
           accepted = λ v. rw n-is (cut (lt-or-ge 0 len)) ∙ ap trimmed (whole v);
+          reads = ends .found e before run at-e .1;
         })
           where
             at-most : n ≤ len
@@ -411,15 +418,17 @@ module _ (t : List ℕ) (h : Header) (k : HeaderOf t h) (q : ℕ) (asks : asksLa
         passed = rw (here-said, is, ne-eqb 10 value (λ e. other (sym e)))
 
         -- no byte 10 stands before it
-        pub last-whole : q ≡ 1 → EdgesOf t ok last-number last-row last-most (edges.At (record { 0 = 0 }) (h .«text_length»))
+        pub last-whole : q ≡ 1 → (run : LeafRun) → (run .length ≡ 0) × (run .from ≡ 0)
+            → EdgesOf t ok last-number last-row last-most (edges.At (record { 0 = 0 }) (h .«text_length») run)
         unfolding rowFrom
-        last-whole one = spans-at t ok last-number last-row last-most 0 (h .«text_length») (record {
+        last-whole one run none = spans-at t ok last-number last-row last-most 0 (h .«text_length») run (record {
           asked = passed;
           within = omega (arith, k .length-is);
           short = omega (arith, k .length-is, most-first one);
           accepted = λ v.
               (let e : length (textOf t) - 0 ≡ h .«text_length» = omega (arith, text-length t, k .length-is) in
               sym (last-is (sound v) ∙ rw (one, e)));
+          reads = none-read t 0 run (none .0) (none .1);
         })
 
         module _ (more : q ≡ 1 → ⊥) (found : Found) (said-found : FindBy t ok 10 (q - 1) (saidFind found)) where
@@ -440,15 +449,17 @@ module _ (t : List ℕ) (h : Header) (k : HeaderOf t h) (q : ℕ) (asks : asksLa
             pub last-past : before .0 < h .«text_length»
             last-past = omega (arith, place-in-text t ok 10 (q - 1) sound found said-found before other-figure found-at, k .length-is)
 
-            pub last-from : EdgesOf t ok last-number last-row last-most (edges.At (record { 0 = before .0 + 1 }) (h .«text_length» - (before .0 + 1)))
+            pub last-from : (run : LeafRun) → (run .length ≡ 0) × (run .from ≡ 0)
+                → EdgesOf t ok last-number last-row last-most (edges.At (record { 0 = before .0 + 1 }) (h .«text_length» - (before .0 + 1)) run)
             unfolding rowFrom
-            last-from = spans-at t ok last-number last-row last-most (before .0 + 1) (h .«text_length» - (before .0 + 1)) (record {
+            last-from run none = spans-at t ok last-number last-row last-most (before .0 + 1) (h .«text_length» - (before .0 + 1)) run (record {
               asked = passed;
               within = omega (arith, last-past, k .length-is);
               short = omega (arith, last-past, k .length-is, most-later more);
               accepted = λ v.
                   sym (last-is (sound v) ∙ rw
                   (ne-eqb q 1 more, place-is t ok 10 (q - 1) sound found said-found before other-figure found-at v, text-length t, k .length-is));
+              reads = none-read t (before .0 + 1) run (none .0) (none .1);
             })
 
 -- The edges of row q, by which of the two it is.
@@ -463,10 +474,11 @@ module _ (t : List ℕ) (ok : ℕ) (sound : ok ≡ 0 → verdict t ≡ 0) (q : �
   unfolding rowMost
   edges-ended r asks e = rw (row-number-plain t q (sym asks)) (record {
     refused = λ n f. (let y = e .refused n f in record { low = y .low; asked = y .asked; accepted = y .accepted; free = y .free });
-    spans = λ s m f. (let y = e .spans s m f in record {
+    spans = λ s m u f. (let y = e .spans s m u f in record {
       asked = y .asked;
       within = y .within;
       short = rw (← asks) (y .short);
+      reads = y .reads;
       accepted = λ v. (let c = select-passes t 10 q (y .asked) in
           y .accepted v ∙ sym (row-between (textOf t) q (c .low) (rw (tallies.total-of-text t (sound v) 10 (c .counted)) at (c .high))));
     });

@@ -3,6 +3,7 @@ use crate::next_newline;
 use crate::next_newline::Newline;
 use ask_access::Answer;
 use ask_access::read_by_header;
+use ask_access::read_by_header::LeafRun;
 use ask_guided::guided_find;
 use ask_select::Found;
 use ask_select::find_by_header;
@@ -24,9 +25,9 @@ ghost use Rattle.ask_select.specs.Found.{saidFind, FoundBy};
 ghost use Rattle.ask_rows.specs.RowSpans.{settledBy, edgesNumber, EdgesOf};
 ghost use Rattle.ask_rows.specs.RowEnds.{startNumber, StartIs};
 
-// Where a row starts and how many bytes it has, or the number of the question that refuses.
+// Where a row starts, how many bytes it has, and a range with the first of them, or with none; or the number of the question that refuses.
 pub enum Edges {
-    At(TextPlace, u32),
+    At(TextPlace, u32, LeafRun),
     Refused(u32),
 }
 
@@ -81,13 +82,17 @@ fn last(t: &[u8], h: Header, guide: &[u8], used: bool, q: u32) -> Edges
         return Edges::Refused(12);
     }
     if q == 1 {
-        return Edges::At(TextPlace(0), h.text_length);
+        return Edges::At(TextPlace(0), h.text_length, read_by_header::no_run());
     }
     let found = ten(t, h, guide, used, q - 1);
     let Found::At(before, _) = found else {
         return Edges::Refused(found_number(found));
     };
-    Edges::At(TextPlace(before.0 + 1), h.text_length - (before.0 + 1))
+    Edges::At(
+        TextPlace(before.0 + 1),
+        h.text_length - (before.0 + 1),
+        read_by_header::no_run(),
+    )
 }
 
 // The edges of a row that a newline ends: one find comes to its start, and the newline is read on to.
@@ -101,10 +106,10 @@ fn terminated_row(t: &[u8], h: Header, guide: &[u8], used: bool, q: u32) -> Edge
         return Edges::Refused(start_number(found));
     };
     let end = next_newline::next_newline(t, h, start);
-    let Newline::At(place, before) = end else {
+    let Newline::At(place, before, run) = end else {
         return Edges::Refused(14);
     };
-    Edges::At(start, without_cr(place.0 - start.0, before))
+    Edges::At(start, without_cr(place.0 - start.0, before), run)
 }
 
 // Where row q starts, if a newline ends it. Questions 11, 12 and 14.
@@ -181,7 +186,7 @@ pub fn number(found: Edges) -> u32
     ensures { λ r. ⌜ r ≡ edgesNumber found ⌝ }
 {
     match found {
-        Edges::At(_, _) => 0,
+        Edges::At(_, _, _) => 0,
         Edges::Refused(number) => number,
     }
 }

@@ -29,7 +29,7 @@ sub-without-cr c =
     omega (
       arith,
       laws.end-past _ _ (laws.settled-sound _ _ _) _ _ (f .row-start .ensures) _ (e .before .before .found .given .1)
-          _ (e .next-newline .ensures) _ _ (c .before .before .before .end .given .1),
+          _ (e .next-newline .ensures) _ _ _ (c .before .before .before .end .given .1),
     )
 
 returns-3 : tie.Need-returns-3
@@ -37,7 +37,7 @@ returns-3 c =
     let e = c .before .before .before .before .before .before in
     let f = e .before .before .before .before in
     laws.edges-trimmed _ _ (laws.settled-sound _ _ _) _ _ (f .row-start .ensures) _ (e .before .before .found .given .1)
-    _ (e .next-newline .ensures) _ _ (c .before .before .before .before .end .given .1) _ (c .without-cr .ensures)
+    _ (e .next-newline .ensures) _ _ _ (c .before .before .before .before .end .given .1) _ (c .without-cr .ensures)
 
 pub terminated-row-spec : {M : Type 1} → statement M
 terminated-row-spec =
