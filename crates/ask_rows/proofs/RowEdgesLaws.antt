@@ -44,8 +44,12 @@ use Rattle.ask_select.specs.Found.{saidFind, Numbered, FindAnswer, FoundBy}
 use Rattle.ask_select.proofs.FoundLaws.{refused-not, refused-free, place-asked, place-is, place-in-text}
 use Rattle.ask_guide.proofs.GuideList.{guide-verdict}
 use Rattle.ask_guided.specs.declared.Guided.{Guided}
-use Rattle.ask_guided.specs.Guided.{GuidedAnswer, foundOf}
-use Rattle.ask_guided.proofs.GuidedFindLaws.{found-by}
+use Rattle.ask_guided.specs.Guided.{GuidedAnswer, SoughtBy, saidGuided, stepsOf, foundOf}
+use Rattle.ask_guided.specs.Guided as guided
+use Rattle.ask_guided.proofs.GuidedFindLaws.{found-by, guided-sought}
+use Rattle.ask_select.specs.SoughtPlaces.{Sought}
+use Rattle.ask_select.proofs.FindByHeaderLaws as find
+use Rattle.theory_counts.specs.CountsLocal.{byteOf}
 use Rattle.ask_rows.specs.declared.next_newline.Newline.{Newline}
 use Rattle.ask_rows.specs.declared.next_newline.Newline.the-variants as newline
 use Rattle.ask_rows.specs.declared.row_edges.RowStart.{RowStart}
@@ -68,6 +72,24 @@ ten-guided t guide used j g r e a is = rw (e, is) (found-by t guide 10 j g a)
 pub ten-plain : (t guide : List ℕ) (used : Bool) (j : ℕ) (r : Found) → used ≡ false → FindAnswer t 10 j r → FoundBy t (settledBy t guide used) 10 j r
 unfolding settledBy
 ten-plain t guide used j r e a = rw e a
+
+-- both, after the questions before the walk
+module _ (t guide : List ℕ) (h : Header) (k : HeaderOf t h) (number j : ℕ) (is : number ≡ numberOfByte t 10)
+    (counted : number < h .settings .counted) (low : 1 ≤ j) (high : j ≤ total t number) where
+  pub ten-ready : (HeaderOf t h) × (number < at.countedCount t) × (10 ≡ byteOf t number) × (1 ≤ j) × (j ≤ total t number)
+  ten-ready = find.seek-ready t h k 10 j number is counted (total t number) refl low high
+
+  pub ten-by-guide : (used : Bool) (g : Guided) (r : Found) → used ≡ true → SoughtBy t guide 10 number j (saidGuided g) (stepsOf g) → guided.Numbered g
+      → r ≡ foundOf g → FoundBy t (settledBy t guide used) 10 j r
+  ten-by-guide used g r e z nb r-is =
+      ten-guided t guide used j g r e
+      (guided-sought t guide 10 j number g is (find.asked-none t h k 10 j number is counted (total t number) refl low high) z nb) r-is
+
+  pub ten-by-steps : (used : Bool) (r : Found) → used ≡ false → Sought t 10 j (saidFind r) → Numbered r → FoundBy t (settledBy t guide used) 10 j r
+  ten-by-steps used r e z nb = ten-plain t guide used j r e (record {
+    says = find.find-sought t h k 10 j number is counted (total t number) refl (saidFind r) low high z;
+    numbered = nb;
+  })
 
 -- the edges
 
@@ -346,8 +368,8 @@ module _ (t : List ℕ) (h : Header) (k : HeaderOf t h) (q number : ℕ) (is : n
       unfolding asksLast
       here y e = rw (k .passes, is-counted t h k 10 number is low, lt-ltb 0 (at.textLength t) (omega (arith, k .length-is, some-byte)), e)
 
-      pub asks-none : q ≡ 0 → false ≡ asksLast t q
-      asks-none z = here false (ne-eqb q (total t (numberOfByte t 10) + 1) (λ e. omega arith))
+      asks-other : (q ≡ total t (numberOfByte t 10) + 1 → ⊥) → false ≡ asksLast t q
+      asks-other n = here false (ne-eqb q (total t (numberOfByte t 10) + 1) n)
 
       pub asks-is : (q ≡ 0 → ⊥) → (all : ℕ) → all ≡ total t number → eqb (q - 1) all ≡ asksLast t q
       asks-is n all e = go (eqb (q - 1) all) refl
@@ -358,6 +380,20 @@ module _ (t : List ℕ) (h : Header) (k : HeaderOf t h) (q number : ℕ) (is : n
           go : (y : Bool) → eqb (q - 1) all ≡ y → eqb (q - 1) all ≡ asksLast t q
           go true f = f ∙ here true (rw (← sum) (eq-eqb q (all + 1) (omega (arith, n, eqb-true (q - 1) all f))))
           go false f = f ∙ here false (rw (← sum) (ne-eqb q (all + 1) (λ z. bool-clash (eqb (q - 1) all) (eq-eqb (q - 1) all (omega arith)) f)))
+
+    -- another row, in any text
+    asks-plain : (q ≡ total t (numberOfByte t 10) + 1 → ⊥) → false ≡ asksLast t q
+    asks-plain n = go (lt-or-ge 0 (h .«text_length»))
+      where
+        go : (0 < h .«text_length») ⊎ (h .«text_length» ≤ 0) → false ≡ asksLast t q
+        go (inl some) = asks-other (λ e. omega arith) n
+        go (inr none) = asks-empty (omega arith)
+
+    pub asks-none : q ≡ 0 → false ≡ asksLast t q
+    asks-none z = asks-plain (λ e. omega arith)
+
+    pub asks-ended : q ≤ total t number → false ≡ asksLast t q
+    asks-ended high = let e : total t number ≡ total t (numberOfByte t 10) = rw is in asks-plain (λ z. omega arith)
 
 -- After the last byte 10.
 module _ (t : List ℕ) (h : Header) (k : HeaderOf t h) (q : ℕ) (asks : asksLast t q ≡ true) where
@@ -370,6 +406,12 @@ module _ (t : List ℕ) (h : Header) (k : HeaderOf t h) (q : ℕ) (asks : asksLa
 
   pub last-low : 1 ≤ q
   last-low = omega (arith, a .number)
+
+  -- the last byte 10 is the one before
+  pub last-find : (number : ℕ) → number ≡ numberOfByte t 10 → (q ≡ 1 → ⊥) → (1 ≤ q - 1) × (q - 1 ≤ total t number)
+  last-find number is more =
+      let e : total t number ≡ total t (numberOfByte t 10) = rw is in
+      (omega (arith, a .number, more), omega (arith, a .number))
 
   abbrev last-number : ℕ
   last-number = lastNumber (byteSays t (at.textLength t - 1))
@@ -483,3 +525,8 @@ module _ (t : List ℕ) (ok : ℕ) (sound : ok ≡ 0 → verdict t ≡ 0) (q : �
           y .accepted v ∙ sym (row-between (textOf t) q (c .low) (rw (tallies.total-of-text t (sound v) 10 (c .counted)) at (c .high))));
     });
   })
+
+  -- refused before the walk
+  pub edges-refused : (n : ℕ) → false ≡ asksLast t q → StartIs t ok q (start.Refused n)
+      → EdgesOf t ok (rowNumber t q) (rowOf (textOf t) q) (rowMost t q) (edges.Refused n)
+  edges-refused n asks s = edges-ended (edges.Refused n) asks (edges-no-start t ok sound q (start.Refused n) s n n refl refl)

@@ -23,7 +23,9 @@ last-spec =
     laws.last-whole _ _ (v .pre .0) _ (v .pre .1) _ (laws.settled-sound _ _ _) _ (w .byte-at .ensures) _ _ (c .before .before .before .before .answer .given .1)
     (c .before .before .if1 .left) (c .before .if2 .taken) _ (c .no-run .ensures))
     (λ c. let w = c .before .before .before .before .before .before .before .before .before in omega (arith, laws.last-low _ _ (w .pre .0) _ (w .pre .1)))
-    (λ c κs. search needs)
+    (λ c κs. let p = c .before .before .before .before .before .before .before .before .before .pre in
+    let f = laws.last-find _ _ (p .0) _ (p .1) _ (p .2) (c .if2 .left) in
+    (p .0, p .2, p .3, f .0, f .1))
     (λ c. search needs)
     (λ c. search needs)
     (λ c κs. search needs)
