@@ -20,6 +20,21 @@ Inv-loop t h at len buffer₀ known done i₀ buffer i =
 abbrev μ-loop : tie.MeasureT-loop
 μ-loop t h at len buffer₀ known done i₀ buffer i = len - i
 
+abbrev start : tie.At-loop Inv-loop μ-loop → tie.Start Inv-loop μ-loop
+start l = l .before .before .before .before .before .before .before .before .before .before .before
+
+-- what was copied up to the loop's place to the buffer that was handed in
+copied : (l : tie.At-loop Inv-loop μ-loop)
+    → laws.Copying (start l .args .t .now) (start l .args .at .0) (start l .args .len) (start l .args .buffer .now) (l .loop .buffer) (l .loop .i)
+copied l =
+    let g = l .before .before in
+    let w = g .before .before .before .before in
+    let s = w .before .before in
+    let S = start l in
+    let first = laws.copy-first _ _ _ _ (S .pre .2) _ (S .pre .3) _ (s .shorter .ensures) _ (w .copy-range .ensures .0) _ _ (g .first .given .1)
+    _ (w .copy-range .ensures .1) in
+    l .loop .inv .2 _ (S .pre .2) (first .1)
+
 pub copy-on-spec : {M : Type 1} → statement M
 copy-on-spec =
     tie.close
@@ -42,111 +57,51 @@ copy-on-spec =
     _ (w .copy-range .ensures .1) in
     (first .0, refl, λ d r k. k))
     (λ c. let l = c .before .before in
-    let g = l .before .before in
-    let w = g .before .before .before .before in
-    let s = w .before .before in
-    let S = s .before .before .before in
-    let first = laws.copy-first _ _ _ _ (S .pre .2) _ (S .pre .3) _ (s .shorter .ensures) _ (w .copy-range .ensures .0) _ _ (g .first .given .1)
-    _ (w .copy-range .ensures .1) in
-    let now-copied = l .loop .inv .2 _ (S .pre .2) (first .1) in
+    let S = start l in
     omega (arith, S .pre .1))
     (λ c. search needs)
     (λ c. search needs)
     (λ c κs. let l = c .before .before .before in
-    let g = l .before .before in
-    let w = g .before .before .before .before in
-    let s = w .before .before in
-    let S = s .before .before .before in
-    let first = laws.copy-first _ _ _ _ (S .pre .2) _ (S .pre .3) _ (s .shorter .ensures) _ (w .copy-range .ensures .0) _ _ (g .first .given .1)
-    _ (w .copy-range .ensures .1) in
-    let now-copied = l .loop .inv .2 _ (S .pre .2) (first .1) in
-    (S .pre .0, omega (arith, S .pre .1), omega arith, omega (arith, S .pre .2, now-copied .same-length)))
+    let S = start l in
+    (S .pre .0, omega (arith, S .pre .1), omega arith, omega (arith, S .pre .2, copied l .same-length)))
     (λ c. search needs)
     (λ c. search needs)
     (λ c κs. let v = c .before .before .before .before .before in
     let l = v .before .before .before .before in
-    let g = l .before .before in
-    let w = g .before .before .before .before in
-    let s = w .before .before in
-    let S = s .before .before .before in
-    let first = laws.copy-first _ _ _ _ (S .pre .2) _ (S .pre .3) _ (s .shorter .ensures) _ (w .copy-range .ensures .0) _ _ (g .first .given .1)
-    _ (w .copy-range .ensures .1) in
-    let now-copied = l .loop .inv .2 _ (S .pre .2) (first .1) in
-    omega (arith, S .pre .2, now-copied .same-length, v .copy-run .kept .1 .1 .1 .1 .0))
+    let S = start l in
+    omega (arith, S .pre .2, copied l .same-length, v .copy-run .kept .1 .1 .1 .1 .0))
     (λ c. let v = c .before .before .before .before .before .before .before .before in
     let l = v .before .before .before .before in
-    let g = l .before .before in
-    let w = g .before .before .before .before in
-    let s = w .before .before in
-    let S = s .before .before .before in
-    let first = laws.copy-first _ _ _ _ (S .pre .2) _ (S .pre .3) _ (s .shorter .ensures) _ (w .copy-range .ensures .0) _ _ (g .first .given .1)
-    _ (w .copy-range .ensures .1) in
-    let now-copied = l .loop .inv .2 _ (S .pre .2) (first .1) in
-    c .before .before .clear2 .kept .0 ∙ v .copy-run .kept .1 .1 .1 .1 .0 ∙ now-copied .same-length)
+    let S = start l in
+    c .before .before .clear2 .kept .0 ∙ v .copy-run .kept .1 .1 .1 .1 .0 ∙ copied l .same-length)
     (λ c. let v = c .before .before .before .before .before .before .before .before in
     let l = v .before .before .before .before in
-    let g = l .before .before in
-    let w = g .before .before .before .before in
-    let s = w .before .before in
-    let S = s .before .before .before in
-    let first = laws.copy-first _ _ _ _ (S .pre .2) _ (S .pre .3) _ (s .shorter .ensures) _ (w .copy-range .ensures .0) _ _ (g .first .given .1)
-    _ (w .copy-range .ensures .1) in
-    let now-copied = l .loop .inv .2 _ (S .pre .2) (first .1) in
-    let a = laws.copy-broken _ _ _ _ (S .pre .0) (S .pre .1) _ (S .pre .2) _ _ now-copied _ _ (v .copy-run .ensures)
+    let S = start l in
+    let a = laws.copy-broken _ _ _ _ (S .pre .0) (S .pre .1) _ (S .pre .2) _ _ (copied l) _ _ (v .copy-run .ensures)
     (v .before .before .before .loop-test .taken) _ (c .before .before .before .before .enum-told2 .given .1) _ (c .before .before .clear2 .ensures) in
     copy-answered _ _ _ _ _ _ (a .0) (a .1))
     (λ c. let l = c .before .before .before .before .before .before .before .before .before in
-    let g = l .before .before in
-    let w = g .before .before .before .before in
-    let s = w .before .before in
-    let S = s .before .before .before in
-    let first = laws.copy-first _ _ _ _ (S .pre .2) _ (S .pre .3) _ (s .shorter .ensures) _ (w .copy-range .ensures .0) _ _ (g .first .given .1)
-    _ (w .copy-range .ensures .1) in
-    let now-copied = l .loop .inv .2 _ (S .pre .2) (first .1) in
-    let z = laws.copy-on _ _ _ _ (S .pre .0) (S .pre .1) _ (S .pre .2) _ _ now-copied _ _
+    let S = start l in
+    let z = laws.copy-on _ _ _ _ (S .pre .0) (S .pre .1) _ (S .pre .2) _ _ (copied l) _ _
     (c .before .before .before .before .before .copy-run .ensures) _ _ (c .before .copied .given .1) in
     omega (arith, z .1))
     (λ c. let l = c .before .before .before .before .before .before .before .before .before in
-    let g = l .before .before in
-    let w = g .before .before .before .before in
-    let s = w .before .before in
-    let S = s .before .before .before in
-    let first = laws.copy-first _ _ _ _ (S .pre .2) _ (S .pre .3) _ (s .shorter .ensures) _ (w .copy-range .ensures .0) _ _ (g .first .given .1)
-    _ (w .copy-range .ensures .1) in
-    let now-copied = l .loop .inv .2 _ (S .pre .2) (first .1) in
-    let z = laws.copy-on _ _ _ _ (S .pre .0) (S .pre .1) _ (S .pre .2) _ _ now-copied _ _
+    let S = start l in
+    let z = laws.copy-on _ _ _ _ (S .pre .0) (S .pre .1) _ (S .pre .2) _ _ (copied l) _ _
     (c .before .before .before .before .before .copy-run .ensures) _ _ (c .before .copied .given .1) in
     omega (arith, z .0, z .1))
     (λ c. let l = c .before .before .before .before .before .before .before .before .before in
-    let g = l .before .before in
-    let w = g .before .before .before .before in
-    let s = w .before .before in
-    let S = s .before .before .before in
-    let first = laws.copy-first _ _ _ _ (S .pre .2) _ (S .pre .3) _ (s .shorter .ensures) _ (w .copy-range .ensures .0) _ _ (g .first .given .1)
-    _ (w .copy-range .ensures .1) in
-    let now-copied = l .loop .inv .2 _ (S .pre .2) (first .1) in
+    let S = start l in
     let v = c .before .before .before .before .before in
-    let z = laws.copy-on _ _ _ _ (S .pre .0) (S .pre .1) _ (S .pre .2) _ _ now-copied _ _ (v .copy-run .ensures) _ _ (c .before .copied .given .1) in (
+    let z = laws.copy-on _ _ _ _ (S .pre .0) (S .pre .1) _ (S .pre .2) _ _ (copied l) _ _ (v .copy-run .ensures) _ _ (c .before .copied .given .1) in (
       z .1,
       v .copy-run .kept .1 .1 .1 .1 .0 ∙ l .loop .inv .1,
       λ d r k. laws.copy-on _ _ _ _ (S .pre .0) (S .pre .1) d r _ _ (l .loop .inv .2 d r k) _ _ (v .copy-run .ensures) _ _ (c .before .copied .given .1) .2,
     ))
     (λ c. let l = c .before in
-    let g = l .before .before in
-    let w = g .before .before .before .before in
-    let s = w .before .before in
-    let S = s .before .before .before in
-    let first = laws.copy-first _ _ _ _ (S .pre .2) _ (S .pre .3) _ (s .shorter .ensures) _ (w .copy-range .ensures .0) _ _ (g .first .given .1)
-    _ (w .copy-range .ensures .1) in
-    let now-copied = l .loop .inv .2 _ (S .pre .2) (first .1) in
-    now-copied .same-length)
+    let S = start l in
+    copied l .same-length)
     (λ c. let l = c .before in
-    let g = l .before .before in
-    let w = g .before .before .before .before in
-    let s = w .before .before in
-    let S = s .before .before .before in
-    let first = laws.copy-first _ _ _ _ (S .pre .2) _ (S .pre .3) _ (s .shorter .ensures) _ (w .copy-range .ensures .0) _ _ (g .first .given .1)
-    _ (w .copy-range .ensures .1) in
-    let now-copied = l .loop .inv .2 _ (S .pre .2) (first .1) in
+    let S = start l in
     copy-answered _ _ _ _ _ (Bytes _ 0)
-    tt (laws.copy-end _ _ _ _ (S .pre .0) (S .pre .1) _ (S .pre .2) _ _ now-copied (omega arith))))
+    tt (laws.copy-end _ _ _ _ (S .pre .0) (S .pre .1) _ (S .pre .2) _ _ (copied l) (omega arith))))
