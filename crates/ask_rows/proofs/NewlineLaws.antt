@@ -100,7 +100,8 @@ module _ (t : List ℕ) (p : ℕ) where
               rw (ne-eqb (suc y) 0 (λ z. omega arith), e, f) (reads .bytes y (omega arith))
 
       pub newline-in-run : x < size → (run : LeafRun) → ReadsFrom t p run → NewlineIs t p (newline.At (record { 0 = place + x }) before run)
-      newline-in-run l run reads-run = found-is (place + x) before run (record { past = omega (arith, i .past); first = first; before-is = before-x }, reads-run)
+      newline-in-run l run reads-run =
+          found-is (place + x) before run (record { past = omega (arith, i .past); first = first; before-is = before-x }, reads-run)
         where
           o : place + x - p ≡ place - p + x
           o = omega (arith, i .past)

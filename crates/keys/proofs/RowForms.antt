@@ -440,11 +440,13 @@ module _ (ranges : List ℕ) where
     whole-tests e =
         let m = length (codeOf xs) in
         let z : 0 + m ≡ m = omega arith in
-        let p = parts (leb 1 m) (leb m maxCode ∷ ltb m (length xs) ∷ cutsGood ranges (cutsOf xs) ∷ []) (rw z at (sym (code-run ranges 0 xs (omega arith)) ∙ e)) in
+        let good = rw z at (sym (code-run ranges 0 xs (omega arith)) ∙ e) in
+        let p = parts (leb 1 m) (leb m maxCode ∷ ltb m (length xs) ∷ cutsGood ranges (cutsOf xs) ∷ []) good in
         let low = leb-true 1 m (p .0) in
         let short = ltb-true m (length xs) (p .1 .1 .0) in
-        let size = eqb-true (length (cutsOf xs)) (cutCount ranges) (and-left (eqb (length (cutsOf xs)) (cutCount ranges)) (allFit ranges 0 (cutsOf xs)) (p .1 .1 .1 .0)) in
-        let fit = fit-at ranges 0 (cutsOf xs) (and-right (eqb (length (cutsOf xs)) (cutCount ranges)) (allFit ranges 0 (cutsOf xs)) (p .1 .1 .1 .0)) in
+        let all = eqb (length (cutsOf xs)) (cutCount ranges) in
+        let size = eqb-true (length (cutsOf xs)) (cutCount ranges) (and-left all (allFit ranges 0 (cutsOf xs)) (p .1 .1 .1 .0)) in
+        let fit = fit-at ranges 0 (cutsOf xs) (and-right all (allFit ranges 0 (cutsOf xs)) (p .1 .1 .1 .0)) in
         let long : length (cutsOf xs) ≡ length xs - (m + 1) = length-drop (m + 1) xs in
         let start : length xs - cutCount ranges ≡ m + 1 = omega arith in (
           omega arith,

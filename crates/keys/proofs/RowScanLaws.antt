@@ -103,7 +103,8 @@ module _ {S : Type 0} (m : Automaton S) (part : List ℕ) where
       let z : i + suc k ≡ i + 1 + k = omega arith in
       let first : i + 0 ≡ i = omega arith in
       let step = byte-step m s q (getD part i 0) (rw first at (w .other 0 (omega arith))) (m .step s (getD part i 0)) refl in
-      let rest : Without part (i + 1) k 10 = record { other = λ x h. (let y : i + suc x ≡ i + 1 + x = omega arith in rw y at (w .other (suc x) (omega arith))) } in
+      let later : (x : ℕ) → i + suc x ≡ i + 1 + x = λ x. omega arith in
+      let rest : Without part (i + 1) k 10 = record { other = λ x h. rw (later x) at (w .other (suc x) (omega arith)) } in
       let row : stretch part i (suc k) ≡ getD part i 0 ∷ stretch part (i + 1) k = rw (drop-cons part i 0 (omega arith), add-one i) in
       rw (z, row) (read-on k (i + 1) (m .step s (getD part i 0)) q (omega arith) rest
       ∙ scan-on m part i (omega arith) s q (m .step s (getD part i 0)) q step)
@@ -131,7 +132,8 @@ module _ (ranges part : List ℕ) (from : ℕ) where
 
 -- From a place on.
 module _ (ranges part : List ℕ) (form : Form) (row i : ℕ) (h : i < length part) where
-  pub turned-past : (past : ℕ) → isNone form ≡ true → RowPassed ranges part i past → i < past → TurnedOn ranges part form row i (turned.On (Code 0) (row + 1) past)
+  pub turned-past : (past : ℕ) → isNone form ≡ true → RowPassed ranges part i past → i < past
+      → TurnedOn ranges part form row i (turned.On (Code 0) (row + 1) past)
   turned-past past none p l = (l, p .high, omega arith, omega arith, rw (none-read form none) (p .scans l row))
 
   module _ (x : Scanned) (x-is : asScan x ≡ scanByte (keyAutomaton ranges) form row (getD part i 0)) where

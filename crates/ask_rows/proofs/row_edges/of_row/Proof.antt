@@ -27,7 +27,8 @@ of-row-spec =
     (λ c κs. let all = c .before in
     let e = all .before .before in
     let n = e .before .before in
-    (n .before .before .before .pre, n .number-of .ensures .0, e .if1 .left, omega (arith, all .before .if2 .left), omega (arith, c .if3 .taken, all .total .ensures)))
+    let S = n .before .before .before in
+    (S .pre, n .number-of .ensures .0, e .if1 .left, omega (arith, all .before .if2 .left), omega (arith, c .if3 .taken, all .total .ensures)))
     (λ c. let all = c .before .before in
     let e = all .before .before in
     let n = e .before .before in
@@ -56,7 +57,8 @@ of-row-spec =
     let d = all .before in
     let e = d .before in
     let n = e .before .before in
-    let asks = laws.asks-is _ _ (n .before .before .before .pre) _ _ (n .number-of .ensures .0) (e .if1 .left) (v .if4 .left) (d .if2 .left) _ (all .total .ensures) in
+    let S = n .before .before .before in
+    let asks = laws.asks-is _ _ (S .pre) _ _ (n .number-of .ensures .0) (e .if1 .left) (v .if4 .left) (d .if2 .left) _ (all .total .ensures) in
     laws.edges-last _ _ (laws.settled-sound _ _ _) _ _ (sym (eq-eqb _ _ (c .before .if5 .taken)) ∙ asks) (c .last .ensures))
     -- question 12: more rows than there are
     (λ c. let v = c .before in

@@ -13,7 +13,8 @@ ten-spec =
     (λ c κs. search needs)
     (λ c. let g = c .before in
     let p = g .before .before .before .before .pre in
-    laws.ten-by-guide _ _ _ (p .0) _ _ (p .1) (p .2) (p .3) (p .4) _ (g .guided .result) _ (g .before .if1 .taken) (g .guided .ensures .0) (g .guided .ensures .1) (c .without-steps .ensures))
+    laws.ten-by-guide _ _ _ (p .0) _ _ (p .1) (p .2) (p .3) (p .4) _ (g .guided .result) _
+    (g .before .if1 .taken) (g .guided .ensures .0) (g .guided .ensures .1) (c .without-steps .ensures))
     (λ c κs. let S = c .before .before .before in
     let p = S .pre in
     laws.ten-ready (S .args .t .now) (S .args .guide .now) _ (p .0) _ _ (p .1) (p .2) (p .3) (p .4))

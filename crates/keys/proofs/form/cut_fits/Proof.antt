@@ -19,7 +19,7 @@ cut-fits-spec =
     (λ c. omega (arith, c .before .before .before .before .before .before .pre))
     (λ c κs. search needs)
     (λ c. omega (arith, c .wide3 .ensures .1))
-    (λ c. let e = c .before .before .before in
-    fits-high _ _ _ _ _ _ (e .before .wide2 .ensures .0) (c .before .wide3 .ensures .0) (e .before .before .before .wide .ensures .0) (e .if1 .left) (c .if2 .taken))
-    (λ c. let e = c .before .before .before in
-    fits-both _ _ _ _ _ _ (e .before .wide2 .ensures .0) (c .before .wide3 .ensures .0) (e .before .before .before .wide .ensures .0) (e .if1 .left) (c .if2 .left)))
+    (λ c. let e = c .before .before .before in let s = e .before .before .before in
+    fits-high _ _ _ _ _ _ (e .before .wide2 .ensures .0) (c .before .wide3 .ensures .0) (s .wide .ensures .0) (e .if1 .left) (c .if2 .taken))
+    (λ c. let e = c .before .before .before in let s = e .before .before .before in
+    fits-both _ _ _ _ _ _ (e .before .wide2 .ensures .0) (c .before .wide3 .ensures .0) (s .wide .ensures .0) (e .if1 .left) (c .if2 .left)))
