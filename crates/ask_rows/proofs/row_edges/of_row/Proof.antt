@@ -1,10 +1,24 @@
-use mathlib.Core.Path.{sym, _∙_}
+use mathlib.Core.Path.{_≡_, sym, _∙_}
+use Prim.Native.Nat.{_-_}
+use lib.Dec.{eqb}
 use native.Mathlib.Omega.{arith}
 use borrow.Author.Needs.{needs}
 use borrow.Author.Tests.{eq-eqb, ne-eqb}
+use Rattle.format.specs.RowSays.{asksLast}
 use Rattle.ask_rows.proofs.RowEdgesLaws as laws
 use Rattle.ask_rows.proofs.row_edges.of_row.Statement.{statement}
 use Rattle.ask_rows.proofs.row_edges.of_row.Tie as tie
+
+abbrev start : tie.Else4 → tie.Start
+start v = v .before .before .before .before .before .before .before .before .before .before
+
+-- whether q asks for the row after the last newline, where it is past the total
+asks : (v : tie.Else4) → eqb (start v .args .q - 1) (v .before .before .before .total .result) ≡ asksLast (start v .args .t .now) (start v .args .q)
+asks v =
+    let all = v .before .before .before in
+    let e = all .before .before in
+    laws.asks-is _ _ (start v .pre)
+    _ _ (e .before .before .number-of .ensures .0) (e .if1 .left) (v .if4 .left) (all .before .if2 .left) _ (all .total .ensures)
 
 pub of-row-spec : {M : Type 1} → statement M
 of-row-spec =
@@ -45,28 +59,13 @@ of-row-spec =
     (λ c. search needs)
     -- no newline ends it
     (λ c κs. let v = c .before in
-    let all = v .before .before .before in
-    let d = all .before in
-    let e = d .before in
-    let n = e .before .before in
-    let S = n .before .before .before in
-    let asks = laws.asks-is _ _ (S .pre) _ _ (n .number-of .ensures .0) (e .if1 .left) (v .if4 .left) (d .if2 .left) _ (all .total .ensures) in
-    (S .pre, sym asks ∙ eq-eqb _ _ (c .if5 .taken), n .number-of .ensures .0, e .if1 .left))
-    (λ c. let v = c .before .before in
-    let all = v .before .before .before in
-    let d = all .before in
-    let e = d .before in
-    let n = e .before .before in
-    let S = n .before .before .before in
-    let asks = laws.asks-is _ _ (S .pre) _ _ (n .number-of .ensures .0) (e .if1 .left) (v .if4 .left) (d .if2 .left) _ (all .total .ensures) in
-    laws.edges-last _ _ (laws.settled-sound _ _ _) _ _ (sym (eq-eqb _ _ (c .before .if5 .taken)) ∙ asks) (c .last .ensures))
+    let e = v .before .before .before .before .before in
+    (start v .pre, sym (asks v) ∙ eq-eqb _ _ (c .if5 .taken), e .before .before .number-of .ensures .0, e .if1 .left))
+    (λ c. laws.edges-last _ _ (laws.settled-sound _ _ _) _ _ (sym (eq-eqb _ _ (c .before .if5 .taken)) ∙ asks (c .before .before)) (c .last .ensures))
     -- question 12: more rows than there are
     (λ c. let v = c .before in
     let all = v .before .before .before in
-    let d = all .before in
-    let e = d .before in
-    let n = e .before .before in
-    let S = n .before .before .before in
-    let asks = laws.asks-is _ _ (S .pre) _ _ (n .number-of .ensures .0) (e .if1 .left) (v .if4 .left) (d .if2 .left) _ (all .total .ensures) in
-    laws.edges-refused _ _ (laws.settled-sound _ _ _) _ _ (sym (ne-eqb _ _ (c .if5 .left)) ∙ asks)
-    (laws.start-past _ _ _ _ (S .pre) _ (n .number-of .ensures .0) (e .if1 .left) _ (all .total .ensures) (v .before .before .if3 .left))))
+    let e = all .before .before in
+    laws.edges-refused _ _ (laws.settled-sound _ _ _) _ _ (sym (ne-eqb _ _ (c .if5 .left)) ∙ asks v)
+    (laws.start-past _ _ _ _ (start v .pre) _ (e .before .before .number-of .ensures .0) (e .if1 .left)
+    _ (all .total .ensures) (v .before .before .if3 .left))))
