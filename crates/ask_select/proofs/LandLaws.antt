@@ -99,73 +99,81 @@ case-child n y o p r q e =
     let g : p ≡ o = cc in
     (ap (λ (z : BlockNumber). z .0) f, ap (λ (z : BlockPlace). z .0) g, cc)
 
-module _ (t : List ℕ) (field : CountField) (level b i below j link count : ℕ) (kept : KeptIn t (field .size) level b i)
-    (lower : OnLevel t (field .size) (level + 1) below) (hc : field .number < at.countedCount t) (low : 1 ≤ j)
-    (link-is : link ≡ at.link t level i) (count-is : count ≡ pieces (at.blockLengthAt t level i) below) where
+-- a kept block, with the number of its first child and how many children it has
+pub record Family (t : List ℕ) (field : CountField) (level b i below j link count : ℕ) : Type 0 where
+  pub kept : KeptIn t (field .size) level b i
+  pub lower : OnLevel t (field .size) (level + 1) below
+  pub number-in : field .number < at.countedCount t
+  pub low : 1 ≤ j
+  pub link-is : link ≡ at.link t level i
+  pub count-is : count ≡ pieces (at.blockLengthAt t level i) below
+
+module _ (t : List ℕ) (field : CountField) (level b i below j link count : ℕ) (f : Family t field level b i below j link count) where
   abbrev c : ℕ
   c = field .number
 
   hi : i < N t level
-  hi = kept-in t level i (kept .kept)
+  hi = kept-in t level i (f .kept .kept)
 
   nothing : (verdict t ≡ 0 → ⊥) → ChildWith t c level i below j child.Off
   nothing never = record { chosen = λ x o r e. absurd (let z : _≡_ {A = ℕ} 0 1 = cc in omega arith); off = λ e. never }
 
   pub child-past : at.levelCount t (level + 1) < link + count → ChildWith t c level i below j child.Off
-  child-past past = nothing (λ v. (let e = children-end t v c hc level i (lower .level-in) hi (is-kept t level i (kept .kept)) in
-      let f = rw (← lower .b-is, ← count-is, ← link-is) at e in omega arith))
+  child-past past = nothing (λ v. (let e = children-end t v c (f .number-in) level i (f .lower .level-in) hi (is-kept t level i (f .kept .kept)) in
+      let g = rw (← f .lower .b-is, ← f .count-is, ← f .link-is) at e in omega arith))
 
   pub child-none : count ≡ 0 → ChildWith t c level i below j child.Off
-  child-none none = nothing (λ v. (let e = some-child t v c hc level i (lower .level-in) hi (is-kept t level i (kept .kept)) in
-      let f = rw (← lower .b-is, ← count-is) at e in omega arith))
+  child-none none = nothing (λ v. (let e = some-child t v c (f .number-in) level i (f .lower .level-in) hi (is-kept t level i (f .kept .kept)) in
+      let g = rw (← f .lower .b-is, ← f .count-is) at e in omega arith))
 
   pub siblings : link + count ≤ at.levelCount t (level + 1) → (count ≡ 0 → ⊥) → Siblings t field (level + 1) link (link + count)
   siblings end some = record {
-    facts = lower .facts;
-    size-is = lower .size-is;
-    level-in = lower .level-in;
-    number-in = hc;
+    facts = f .lower .facts;
+    size-is = f .lower .size-is;
+    level-in = f .lower .level-in;
+    number-in = f .number-in;
     some = omega (arith, some);
     end-in = end;
   }
 
   module _ (x : ℕ) (end : link + count ≤ at.levelCount t (level + 1)) (last : LastBefore t c (level + 1) link (link + count) j x) where
     pub child-there : InTable t (field .size) (level + 1) below x
-    child-there = record { on = lower; block-in = omega (arith, last .high) }
+    child-there = record { on = f .lower; block-in = omega (arith, last .high) }
 
     pub alone : Siblings t field (level + 1) x (x + 1)
     alone = record {
-      facts = lower .facts;
-      size-is = lower .size-is;
-      level-in = lower .level-in;
-      number-in = hc;
+      facts = f .lower .facts;
+      size-is = f .lower .size-is;
+      level-in = f .lower .level-in;
+      number-in = f .number-in;
       some = omega arith;
       end-in = omega (arith, last .high);
     }
 
     pub child-place : (x - link) * below < at.blockLengthAt t level i
     child-place =
-        let pos = b-pos t (field .size) (level + 1) below lower in
-        pieces-start (at.blockLengthAt t level i) below (x - link) (omega (arith, last .low, last .high)) pos
+        let pos = b-pos t (field .size) (level + 1) below (f .lower) in
+        pieces-start (at.blockLengthAt t level i) below (x - link) (omega (arith, last .low, last .high, f .count-is)) pos
 
     pub child-place-small : (x - link) * below < maxText
-    child-place-small = omega (arith, child-place, len-small t level i, kept .on .b-is, b-small t (field .size) level b (kept .on))
+    child-place-small = omega (arith, child-place, len-small t level i, f .kept .on .b-is, b-small t (field .size) level b (f .kept .on))
 
     module _ (rest : ℕ) (rest-is : rest ≡ j - at.before t (level + 1) x c) where
       pub child-without : rest ≡ 0 → ChildWith t c level i below j child.Off
       child-without none = nothing (λ v. (let low = last-here t c (level + 1) link (link + count) j x last
-          (rw link-is (omega (arith, first-none t v c hc level i (lower .level-in) hi (is-kept t level i (kept .kept))))) in omega arith))
+          (rw (f .link-is) (omega (arith, f .low, first-none t v c (f .number-in) level i (f .lower .level-in) hi (is-kept t level i (f .kept .kept))))) in
+          omega arith))
 
       chosen : (rest ≡ 0 → ⊥) → Chosen t c level i below j x ((x - link) * below) rest
       chosen some = record {
-        link-low = omega (arith, last .low);
-        within = omega (arith, last .low, last .high);
+        link-low = omega (arith, last .low, f .link-is);
+        within = omega (arith, last .low, last .high, f .link-is, f .count-is);
         in-table = omega (arith, last .high);
-        place-is = rw link-is;
+        place-is = rw (f .link-is);
         place-low = omega (arith, child-place-small);
         before-low = omega (arith, some);
         rest-is = rest-is;
-        next = λ m. last .next (omega (arith, last .low));
+        next = λ m. last .next (omega (arith, last .low, f .link-is, f .count-is));
       }
 
       pub child-chosen : (n : BlockNumber) → n .0 ≡ x → (rest ≡ 0 → ⊥)
