@@ -2,7 +2,7 @@
 use mathlib.Core.List.{List, _++_}
 use mathlib.Core.Bool.{true, false, _&&_}
 use mathlib.Core.Path.{_≡_, refl, sym, ap, _∙_}
-use Prim.Native.Nat.{ℕ, zero, suc, _+_, _-_, _≤_, _<_}
+use Prim.Native.Nat.{ℕ, zero, suc, _+_, _-_, _≤_, _<_, min}
 use native.Mathlib.Omega.{arith}
 use native.Mathlib.Nat.{add-assoc}
 use lib.Dec.{eqb}
@@ -20,8 +20,11 @@ use Rattle.ask_access.specs.declared.Answer.the-variants.{Byte, Refused}
 use Rattle.ask_access.specs.declared.Copied.{Copied}
 use Rattle.ask_access.specs.declared.Copied.the-variants as copied
 use Rattle.ask_access.specs.ReadAnswers.{said, copiedSaid, Numbered}
-use Rattle.ask_access.specs.ReadByRuns.{placesWritten, RunCopied}
+use Rattle.ask_access.specs.ReadByRuns.{ReadsFrom, placesWritten, RunCopied}
 use Rattle.theory_paths.specs.PlaceBytes.{only-14}
+use Rattle.stretches.specs.Stretches.{bytesWritten}
+use Rattle.ask_access.specs.declared.read_by_header.LeafRun.{LeafRun}
+use Rattle.ask_access.proofs.LeafRunLaws.{run-written, run-answered}
 use Rattle.ask_access.proofs.SpanLaws.{ByPaths, values, span-copied, span-broken}
 
 -- the paths of what is left of a span, and of the whole
@@ -91,6 +94,27 @@ module _ (t : List ℕ) (p len : ℕ) (d : List ℕ) (room : len ≤ length d) w
       let z : i + suc n ≡ i + n + 1 = omega arith in
       let s : p + (i + n) ≡ p + i + n = omega arith in
       rw z (copy-more (i + n) (placesWritten e i t (p + i) n) w (omega arith) (byteSays t (p + i + n) .value) (rw s (good n (omega arith))) (rw s))
+
+  -- the first n bytes are known
+  pub copy-known : (n : ℕ) → n ≤ len → ((x : ℕ) → x < n → byteSays t (p + x) .number ≡ 0) → (e : List ℕ) → e ≡ placesWritten d 0 t p n → Copying t p len d e n
+  copy-known n fits good e is =
+      let z : p + 0 ≡ p = omega arith in
+      let s : 0 + n ≡ n = omega arith in
+      rw is (rw (z, s) at (copy-run 0 d (copy-start t p len d) n (omega arith) (λ x l. rw z (good x l))))
+
+-- what `copy_range` returns
+pub not-refused : (x : Copied) (n m q : ℕ) → x ≡ copied.Bytes n m → x ≡ copied.Refused q → ⊥
+not-refused x n m q e f = let z : _≡_ {A = ℕ} 0 1 = cc in omega arith
+
+-- the bytes of a range that is known, written first
+pub copy-first : (t : List ℕ) (p len : ℕ) (d : List ℕ) → len ≤ length d → (r : LeafRun) → ReadsFrom t p r
+    → (known : ℕ) → known ≡ min len (r .length) → (x : Copied) → x ≡ copied.Bytes known 0 → (n m : ℕ) → x ≡ copied.Bytes n m
+    → (e : List ℕ) → e ≡ bytesWritten d 0 t (r .from) known → (n ≤ len) × Copying t p len d e n
+copy-first t p len d room r k known known-is x x-is n m taken e e-is =
+    let same : n ≡ known = cc in
+    let short : known ≤ len = omega arith in
+    let within : known ≤ r .length = omega arith in
+    rw same (short, copy-known t p len d room known short (λ y l. run-answered t p r k y (omega arith)) e (e-is ∙ run-written t p r k d 0 known within))
 
 -- what `copy_run` returns
 module _ (t : List ℕ) (h : Header) (p len : ℕ)

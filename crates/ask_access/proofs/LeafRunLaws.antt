@@ -18,6 +18,7 @@ use Rattle.stretches.specs.Stretches.{bytesWritten}
 use Rattle.stretches.proofs.StretchLaws.{bytes-more}
 use Rattle.ask_access.specs.declared.Answer.{Answer}
 use Rattle.ask_access.specs.declared.Answer.the-variants.{Byte, Refused}
+use Rattle.ask_access.specs.declared.Copied.{Copied}
 use Rattle.ask_access.specs.declared.Copied.the-variants as copied
 use Rattle.ask_access.specs.declared.read_by_header.LeafRun.{LeafRun}
 use Rattle.ask_access.specs.declared.read_by_header.LeafRunAnswer.{LeafRunAnswer}
@@ -30,7 +31,7 @@ use Rattle.ask_access.specs.declared.leaf_end.LeafEndAnswer.{LeafEndAnsw
 use Rattle.ask_access.specs.declared.leaf_end.LeafEndAnswer.the-variants as end
 use Rattle.ask_access.specs.ReadAnswers.{said, RunAnswer}
 use Rattle.ask_access.specs.LeafEnds.{LeafEndAt, LeafEndOf, Joined}
-use Rattle.ask_access.specs.ReadByRuns.{ReadsOn, LeafRunAt, LeafRunOf, LeafRangeAt, LeafRangeOf, RangeAnswer, placesWritten, RunCopied}
+use Rattle.ask_access.specs.ReadByRuns.{ReadsOn, LeafRunAt, LeafRunOf, LeafRangeAt, ReadsFrom, LeafRangeOf, RangeAnswer, placesWritten, RunCopied}
 use Rattle.ask_access.proofs.ByteLaws as bytes
 use Rattle.ask_access.proofs.RunLaws.{run-answers, run-from, run-size, run-some}
 use Rattle.ask_access.proofs.LeafEndLaws.{end-is, end-left, end-entered, left-min, joined-says}
@@ -208,20 +209,27 @@ pub byte-written : (d e t : List ℕ) (to from j : ℕ) → e ≡ bytesWritten d
 byte-written d e t to from j is a n u m given taken =
     bytes-more d e _ t to from j is (ap (set e (to + j)) (value-is a (getD t (from + j) 0) n u m given taken))
 
--- the bytes of a range are those of its places
-module _ (t : List ℕ) (p most : ℕ) (r : LeafRun) (k : LeafRangeAt t p most r) where
-  run-written : (d : List ℕ) (to n : ℕ) → n ≤ r .length → bytesWritten d to t (r .from) n ≡ placesWritten d to t p n
+-- no bytes, and those of a range
+pub none-read : (t : List ℕ) (p : ℕ) (r : LeafRun) → r .length ≡ 0 → r .from ≡ 0 → ReadsFrom t p r
+none-read t p r e f = record { in-tree = omega arith; says = λ x l. absurd (let y : ⊥ = omega arith in y) }
+
+pub range-read : (t : List ℕ) (p most : ℕ) (r : LeafRun) → LeafRangeAt t p most r → ReadsFrom t p r
+range-read t p most r k = record { in-tree = k .in-tree; says = k .says }
+
+-- these bytes are those of their places
+module _ (t : List ℕ) (p : ℕ) (r : LeafRun) (k : ReadsFrom t p r) where
+  pub run-written : (d : List ℕ) (to n : ℕ) → n ≤ r .length → bytesWritten d to t (r .from) n ≡ placesWritten d to t p n
   run-written d to zero fits = refl
   run-written d to (suc n) fits =
       let v : getD t (r .from + n) 0 ≡ byteSays t (p + n) .value = sym (ap (λ (s : Said). s .value) (k .says n (omega arith))) in
       rw (run-written d to n (omega arith), v)
 
-  -- all copied
-  pub run-copied : (to : ℕ) (d e : List ℕ) (j : ℕ) → j ≡ r .length → e ≡ bytesWritten d to t (r .from) j
-      → RunCopied t p most to d e (copied.Bytes (r .length) 0)
-  run-copied to d e j all is = (
-    k .some-byte,
-    k .at-most,
-    λ x l. ap (λ (s : Said). s .number) (k .says x l),
-    is ∙ ap (bytesWritten d to t (r .from)) all ∙ run-written d to (r .length) (omega arith),
-  )
+  pub run-answered : (x : ℕ) → x < r .length → byteSays t (p + x) .number ≡ 0
+  run-answered x l = ap (λ (s : Said). s .number) (k .says x l)
+
+-- a range, all copied
+pub run-copied : (t : List ℕ) (p most : ℕ) (r : LeafRun) → LeafRangeAt t p most r
+    → (to : ℕ) (d e : List ℕ) (c : Copied) → c ≡ copied.Bytes (r .length) 0 → e ≡ bytesWritten d to t (r .from) (r .length) → RunCopied t p most to d e c
+run-copied t p most r k to d e c c-is is =
+    let f = range-read t p most r k in
+    rw c-is (k .some-byte, k .at-most, run-answered t p r f, is ∙ run-written t p r f d to (r .length) (omega arith))

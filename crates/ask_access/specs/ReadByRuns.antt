@@ -43,6 +43,11 @@ pub record LeafRangeAt (t : List ℕ) (p most : ℕ) (r : LeafRun) : Type 0 wher
   pub in-tree : r .from + r .length ≤ length t
   pub says : (x : ℕ) → x < r .length → byteSays t (p + x) ≡ record { number = 0; value = getD t (r .from + x) 0; entered = r .entered }
 
+-- the bytes of r, which may be none, are byte's answers at the places from p on, each with the same number of blocks entered
+pub record ReadsFrom (t : List ℕ) (p : ℕ) (r : LeafRun) : Type 0 where
+  pub in-tree : r .from + r .length ≤ length t
+  pub says : (x : ℕ) → x < r .length → byteSays t (p + x) ≡ record { number = 0; value = getD t (r .from + x) 0; entered = r .entered }
+
 -- the answer of `leaf_range`
 abbrev pub LeafRangeOf : List ℕ → ℕ → ℕ → LeafRunAnswer → Type 0
 LeafRangeOf t p most (found.At r) = LeafRangeAt t p most r

@@ -15,8 +15,9 @@ ghost use lib.ListN.{length, getD};
 ghost use lib.Dec.{eqb, leb};
 ghost use Rattle.format.specs.ReadSays.{byteSays, isShort, spanLeaves, copyLeaves};
 ghost use Rattle.layout.specs.HeaderSays.{HeaderOf};
+ghost use Rattle.stretches.specs.Stretches.{bytesWritten};
 ghost use Rattle.ask_access.specs.ReadAnswers.{said, RunAnswer, SpanAnswer, CopyAnswer};
-ghost use Rattle.ask_access.specs.ReadByRuns.{LeafRunOf, LeafRangeOf, RangeAnswer, RunCopied};
+ghost use Rattle.ask_access.specs.ReadByRuns.{LeafRunOf, LeafRangeOf, ReadsFrom, RangeAnswer, RunCopied};
 
 // A part of the tree's bytes.
 pub struct Part {
@@ -40,6 +41,18 @@ pub struct LeafRun {
 pub enum LeafRunAnswer {
     At(LeafRun),
     Broken,
+}
+
+// No bytes, as a run.
+pub fn no_run() -> LeafRun
+    ensures { λ r. ⌜ r .length ≡ 0 ⌝ }
+    ensures { λ r. ⌜ r .from ≡ 0 ⌝ }
+{
+    LeafRun {
+        from: 0,
+        length: 0,
+        entered: 0,
+    }
 }
 
 // Byte: questions 10 and 14.
@@ -76,7 +89,7 @@ fn leaf_run(t: &[u8], h: Header, at: TextPlace) -> LeafRunAnswer
 
 // At most so many bytes from a place of the text, as many of them as stand together in the tree by one walk: its run, and the leaf bytes of
 // the blocks that follow its last one, within every block above the last level. Question 14.
-fn leaf_range(t: &[u8], h: Header, at: TextPlace, most: u32) -> LeafRunAnswer
+pub fn leaf_range(t: &[u8], h: Header, at: TextPlace, most: u32) -> LeafRunAnswer
     requires { ⌜ (HeaderOf (now t) h) × (at .0 < h .«text_length») × (1 ≤ most) ⌝ }
     ensures { λ r. ⌜ LeafRangeOf (now (t .entry)) (at .0) most r ⌝ }
 {
@@ -184,17 +197,13 @@ fn short_span(t: &[u8], h: Header, at: TextPlace, len: u32, buffer: &mut [u8]) -
     Copied::Bytes(len, q.entered)
 }
 
-// Copies some bytes from a place of the text, at most so many, to a place in the buffer. Their answers are those of one walk, so that the
-// loop over them is a copy.
-fn copy_run(t: &[u8], h: Header, at: TextPlace, most: u32, buffer: &mut [u8], to: usize) -> Copied
-    requires { ⌜ (HeaderOf (now t) h) × (at .0 < h .«text_length») × (1 ≤ most) × (to + most ≤ length (now buffer)) ⌝ }
-    ensures { λ r. ⌜ RunCopied (now (t .entry)) (at .0) most to (now (buffer .entry)) (now (buffer .exit)) r ⌝ }
+// Copies the first n bytes of a range to a place in the buffer. Their answers are those of one walk, so that the loop over them is a copy.
+fn copy_range(t: &[u8], run: LeafRun, n: u32, buffer: &mut [u8], to: usize) -> Copied
+    requires { ⌜ (run .from + n ≤ length (now t)) × (to + n ≤ length (now buffer)) ⌝ }
+    ensures { λ r. ⌜ r ≡ Copied.Bytes n 0 ⌝ }
+    ensures { λ _. ⌜ now (buffer .exit) ≡ bytesWritten (now (buffer .entry)) to (now (t .entry)) (run .from) n ⌝ }
 {
-    let found = leaf_range(t, h, at, most);
-    let LeafRunAnswer::At(run) = found else {
-        return Copied::Refused(14);
-    };
-    let size = run.length as usize;
+    let size = n as usize;
     let mut k: usize = 0;
     while k < size {
         let answer = byte_on(t, run, k);
@@ -204,16 +213,50 @@ fn copy_run(t: &[u8], h: Header, at: TextPlace, most: u32, buffer: &mut [u8], to
         buffer[to + k] = value;
         k += 1;
     }
-    Copied::Bytes(run.length, 0)
+    Copied::Bytes(n, 0)
 }
 
-// Copies run by run; where a byte is refused, the part asked for is left zero.
+// Copies some bytes from a place of the text, at most so many, to a place in the buffer, by one walk.
+fn copy_run(t: &[u8], h: Header, at: TextPlace, most: u32, buffer: &mut [u8], to: usize) -> Copied
+    requires { ⌜ (HeaderOf (now t) h) × (at .0 < h .«text_length») × (1 ≤ most) × (to + most ≤ length (now buffer)) ⌝ }
+    ensures { λ r. ⌜ RunCopied (now (t .entry)) (at .0) most to (now (buffer .entry)) (now (buffer .exit)) r ⌝ }
+{
+    let found = leaf_range(t, h, at, most);
+    let LeafRunAnswer::At(run) = found else {
+        return Copied::Refused(14);
+    };
+    copy_range(t, run, run.length, buffer, to)
+}
+
+// Copies range by range; where a byte is refused, the part asked for is left zero.
 pub fn copy(t: &[u8], h: Header, at: TextPlace, len: u32, buffer: &mut [u8]) -> Copied
     requires { ⌜ (HeaderOf (now t) h) × (at .0 + len ≤ h .«text_length») × (len ≤ length (now buffer)) ⌝ }
     ensures { λ r. ⌜ CopyAnswer (now (t .entry)) (at .0) len (length (now (buffer .entry))) r ⌝ }
     ensures { λ _. ⌜ now (buffer .exit) ≡ copyLeaves (now (t .entry)) (at .0) len (now (buffer .entry)) ⌝ }
 {
-    let mut i: u32 = 0;
+    copy_on(t, h, no_run(), at, len, buffer)
+}
+
+// The same, where some of the first bytes, or none, are known to be a range of the tree.
+pub fn copy_on(
+    t: &[u8],
+    h: Header,
+    run: LeafRun,
+    at: TextPlace,
+    len: u32,
+    buffer: &mut [u8],
+) -> Copied
+    requires { ⌜ (HeaderOf (now t) h) × (at .0 + len ≤ h .«text_length») × (len ≤ length (now buffer)) × (ReadsFrom (now t) (at .0) run) ⌝ }
+    ensures { λ r. ⌜ CopyAnswer (now (t .entry)) (at .0) len (length (now (buffer .entry))) r ⌝ }
+    ensures { λ _. ⌜ now (buffer .exit) ≡ copyLeaves (now (t .entry)) (at .0) len (now (buffer .entry)) ⌝ }
+{
+    let known = stretches::shorter(len, run.length);
+    let first = copy_range(t, run, known, buffer, 0);
+    let Copied::Bytes(done, _) = first else {
+        stretches::clear(buffer, len as usize);
+        return first;
+    };
+    let mut i: u32 = done;
     while i < len {
         let copied = copy_run(t, h, TextPlace(at.0 + i), len - i, buffer, i as usize);
         let Copied::Bytes(n, _) = copied else {

@@ -37,7 +37,7 @@ pub fn find_guided_at(t: &[u8], h: Header, guide: &[u8], byte: u8, j: u32) -> Gu
 }
 
 // Starts at entry (j - 1) / 64 of the byte. Refused with 14 if the guide has no such entry, or if the entry is no block of level 0.
-fn guided(t: &[u8], h: Header, guide: &[u8], wanted: Wanted, j: u32) -> Guided
+pub fn guided(t: &[u8], h: Header, guide: &[u8], wanted: Wanted, j: u32) -> Guided
     requires { ⌜ (HeaderOf (now t) h) × (wanted .number < at.countedCount (now t))
         × (wanted .byte ≡ byteOf (now t) (wanted .number)) × (1 ≤ j) × (j ≤ total (now t) (wanted .number)) ⌝ }
     ensures { λ r. ⌜ (SoughtBy (now (t .entry)) (now (guide .entry)) (wanted .byte) (wanted .number) j (saidGuided r) (stepsOf r)) × (Numbered r) ⌝ }

@@ -1,11 +1,11 @@
 -- The newline that ends a row, read on to from the row's start.
 use mathlib.Core.List.{List}
-use mathlib.Core.Bool.{cond}
-use mathlib.Core.Path.{_≡_, sym, ap, _∙_}
+use mathlib.Core.Bool.{Bool, true, false, cond}
+use mathlib.Core.Path.{_≡_, refl, sym, ap, _∙_}
 use Prim.Native.Nat.{ℕ, zero, suc, _+_, _-_, _≤_, _<_}
 use native.Mathlib.Omega.{arith}
 use native.Mathlib.Nat.{add-assoc}
-use borrow.Author.Tests.{eq-eqb, ne-eqb}
+use borrow.Author.Tests.{eq-eqb, ne-eqb, eqb-true, eqb-false}
 use lib.ListN.{length, getD}
 use lib.Dec.{eqb}
 use Rattle.text.specs.Text.{stretch, countIn}
@@ -22,7 +22,11 @@ use Rattle.theory_paths.specs.PlaceBytes.{never-14}
 use Rattle.layout.specs.declared.header.Header.{Header}
 use Rattle.layout.specs.HeaderSays.{HeaderOf}
 use Rattle.stretches.specs.Stretches.{Stands}
-use Rattle.ask_access.specs.ReadByRuns.{ReadsOn}
+use Rattle.ask_access.specs.declared.read_by_header.LeafRun.{LeafRun}
+use Rattle.ask_access.specs.declared.read_by_header.LeafRunAnswer.{LeafRunAnswer}
+use Rattle.ask_access.specs.declared.read_by_header.LeafRunAnswer.the-variants as answer
+use Rattle.ask_access.specs.ReadByRuns.{ReadsOn, LeafRangeAt, ReadsFrom, LeafRangeOf}
+use Rattle.ask_access.proofs.LeafRunLaws.{none-read, range-found, range-read, found-range}
 use Rattle.ask_rows.specs.declared.next_newline.Newline.{Newline}
 use Rattle.ask_rows.specs.declared.next_newline.Newline.the-variants as newline
 use Rattle.ask_rows.specs.RowEnds.{EndsRow, NewlineIs}
@@ -47,14 +51,18 @@ none-at-start t p h =
     }
 
 module _ (t : List ℕ) (p : ℕ) where
-  found-is : (e before : ℕ) → EndsRow t p e before → NewlineIs t p (newline.At (record { 0 = e }) before)
-  found-is e before r = record {
-    found = λ q b is. (let z : record { 0 = e } ≡ q = cc in let y : before ≡ b = cc in let x : e ≡ q .0 = ap (λ (w : TextPlace). w .0) z in rw (← x, ← y) r);
+  found-is : (e before : ℕ) (run : LeafRun) → (EndsRow t p e before) × (ReadsFrom t p run) → NewlineIs t p (newline.At (record { 0 = e }) before run)
+  found-is e before run r = record {
+    found = λ q b u is. (let z : record { 0 = e } ≡ q = cc in
+        let y : before ≡ b = cc in
+        let v : run ≡ u = cc in
+        let x : e ≡ q .0 = ap (λ (w : TextPlace). w .0) z in
+        rw (← x, ← y, ← v) r);
     missing = λ is. absurd (let z : _≡_ {A = ℕ} 0 1 = cc in omega arith);
   }
 
   missing-is : (verdict t ≡ 0 → (o : ℕ) → Nth 10 1 (textOf t) p o → ⊥) → NewlineIs t p newline.Missing
-  missing-is never = record { found = λ q b is. absurd (let z : _≡_ {A = ℕ} 0 1 = cc in omega arith); missing = λ is. never }
+  missing-is never = record { found = λ q b u is. absurd (let z : _≡_ {A = ℕ} 0 1 = cc in omega arith); missing = λ is. never }
 
   module _ (place earlier : ℕ) (i : NoneYet t p place earlier) where
     -- the text ends before a newline
@@ -91,12 +99,9 @@ module _ (t : List ℕ) (p : ℕ) where
               let f : suc y - 1 ≡ y = omega arith in
               rw (ne-eqb (suc y) 0 (λ z. omega arith), e, f) (reads .bytes y (omega arith))
 
-      pub newline-in-run : x < size → NewlineIs t p (newline.At (record { 0 = place + x }) before)
-      newline-in-run l = found-is (place + x) before (record {
-        past = omega (arith, i .past);
-        first = first;
-        before-is = before-x;
-      })
+      pub newline-in-run : x < size → (run : LeafRun) → ReadsFrom t p run → NewlineIs t p (newline.At (record { 0 = place + x }) before run)
+      newline-in-run l run reads-run =
+          found-is (place + x) before run (record { past = omega (arith, i .past); first = first; before-is = before-x }, reads-run)
         where
           o : place + x - p ≡ place - p + x
           o = omega (arith, i .past)
@@ -120,6 +125,36 @@ module _ (t : List ℕ) (p : ℕ) where
             none = rw (o, joined size) (let z = rw (rw e at same) at (s .fewer l) in omega (arith, z));
             earlier-is = λ m. rw e at before-x (omega arith);
           }
+
+-- The range that was read first, or none at the start.
+pub record First (t : List ℕ) (p place : ℕ) (first : LeafRun) : Type 0 where
+  pub reads : ReadsFrom t p first
+  pub none : first .length ≡ 0 → place ≡ p
+
+pub first-none : (t : List ℕ) (p : ℕ) (first : LeafRun) → (first .length ≡ 0) × (first .from ≡ 0) → First t p p first
+first-none t p first e = record { reads = none-read t p first (e .0) (e .1); none = λ z. refl }
+
+pub first-some : (t : List ℕ) (p place : ℕ) (first : LeafRun) → (ReadsFrom t p first) × (1 ≤ first .length) → First t p place first
+first-some t p place first f = record { reads = f .0; none = λ z. absurd (let y : ⊥ = omega (arith, f .1) in y) }
+
+pub first-kept : (t : List ℕ) (p place most : ℕ) (first next r : LeafRun) → First t p place first → LeafRangeAt t place most next
+    → r ≡ cond (eqb (first .length) 0) next first → (ReadsFrom t p r) × (1 ≤ r .length)
+first-kept t p place most first next r f k r-is = go (eqb (first .length) 0) refl
+  where
+    go : (b : Bool) → eqb (first .length) 0 ≡ b → (ReadsFrom t p r) × (1 ≤ r .length)
+    go true e =
+        let z : r ≡ next = r-is ∙ rw e in
+        let same : place ≡ p = f .none (eqb-true (first .length) 0 e) in
+        rw z (rw same at (range-read t place most next k), k .some-byte)
+    go false e =
+        let z : r ≡ first = r-is ∙ rw e in
+        let some : first .length ≡ 0 → ⊥ = eqb-false (first .length) 0 e in
+        rw z (f .reads, omega (arith, some))
+
+-- the range at a place, as the text's bytes
+pub range-there : (t : List ℕ) (h : Header) (k : HeaderOf t h) (place most : ℕ) (x : LeafRunAnswer) → LeafRangeOf t place most x
+    → (r : LeafRun) → x ≡ answer.At r → (ReadsOn t place (r .from) (r .length)) × (LeafRangeAt t place most r)
+range-there t h k place most x x-is r e = (found-range t place most x x-is (k .passes) r e .0, range-found t place most x x-is r e)
 
 -- the byte before a place of a run
 module _ (i earlier byte : ℕ) where

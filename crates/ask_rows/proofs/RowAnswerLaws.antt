@@ -36,6 +36,7 @@ use Rattle.ask_rows.specs.declared.row_edges.Edges.the-variants as edges
 use Rattle.ask_rows.specs.declared.RowCopied.{RowCopied}
 use Rattle.ask_rows.specs.declared.RowCopied.the-variants as row
 use Rattle.ask_rows.specs.RowAnswers.{saidRow, Numbered, RowAnswerBy}
+use Rattle.ask_access.specs.declared.read_by_header.LeafRun.{LeafRun}
 use Rattle.ask_rows.specs.RowSpans.{edgesNumber, CopyAnswer, Refuses, Spans, EdgesOf}
 
 row-refused : (t : List ℕ) (ok q n : ℕ) (buffer : List ℕ) → Refuses t ok (rowNumber t q) (rowOf (textOf t) q) n → RowBy t ok q buffer n 0 buffer
@@ -59,8 +60,8 @@ unless-value n m s a e z = let f : s ≡ refused (suc m) = rw z at e in ap (λ (
 unless-none : (n : ℕ) (s a : Said) → s ≡ unless n a → n ≡ 0 → s ≡ a
 unless-none n s a e z = rw z at e
 
-module _ (t : List ℕ) (ok : ℕ) (sound : ok ≡ 0 → verdict t ≡ 0) (q p len : ℕ)
-    (buffer after : List ℕ) (s : Said) (passes : readable t ≡ 0) (sp : Spans t ok (rowNumber t q) (rowOf (textOf t) q) (rowMost t q) p len)
+module _ (t : List ℕ) (ok : ℕ) (sound : ok ≡ 0 → verdict t ≡ 0) (q p len : ℕ) (run : LeafRun)
+    (buffer after : List ℕ) (s : Said) (passes : readable t ≡ 0) (sp : Spans t ok (rowNumber t q) (rowOf (textOf t) q) (rowMost t q) p len run)
     (s-is : s ≡ copySays t p len (length buffer)) (after-is : after ≡ copyLeaves t p len buffer) where
   abbrev bytes-said : Said
   bytes-said = record { number = 0; value = len; entered = 0 }

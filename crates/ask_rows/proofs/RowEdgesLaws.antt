@@ -32,6 +32,8 @@ use Rattle.layout.specs.HeaderSays.{HeaderOf}
 use Rattle.ask_access.specs.declared.Answer.{Answer}
 use Rattle.ask_access.specs.declared.Answer.the-variants as answer
 use Rattle.ask_access.specs.ReadAnswers.{said}
+use Rattle.ask_access.specs.declared.read_by_header.LeafRun.{LeafRun}
+use Rattle.ask_access.proofs.LeafRunLaws.{none-read}
 use Rattle.ask_totals.proofs.TotalLaws.{not-counted, is-counted}
 use Rattle.theory_counts.specs.Demands as tallies
 use Rattle.ask_select.specs.declared.Found.{Found}
@@ -42,8 +44,12 @@ use Rattle.ask_select.specs.Found.{saidFind, Numbered, FindAnswer, FoundBy}
 use Rattle.ask_select.proofs.FoundLaws.{refused-not, refused-free, place-asked, place-is, place-in-text}
 use Rattle.ask_guide.proofs.GuideList.{guide-verdict}
 use Rattle.ask_guided.specs.declared.Guided.{Guided}
-use Rattle.ask_guided.specs.Guided.{GuidedAnswer, foundOf}
-use Rattle.ask_guided.proofs.GuidedFindLaws.{found-by}
+use Rattle.ask_guided.specs.Guided.{GuidedAnswer, SoughtBy, saidGuided, stepsOf, foundOf}
+use Rattle.ask_guided.specs.Guided as guided
+use Rattle.ask_guided.proofs.GuidedFindLaws.{found-by, guided-sought}
+use Rattle.ask_select.specs.SoughtPlaces.{Sought}
+use Rattle.ask_select.proofs.FindByHeaderLaws as find
+use Rattle.theory_counts.specs.CountsLocal.{byteOf}
 use Rattle.ask_rows.specs.declared.next_newline.Newline.{Newline}
 use Rattle.ask_rows.specs.declared.next_newline.Newline.the-variants as newline
 use Rattle.ask_rows.specs.declared.row_edges.RowStart.{RowStart}
@@ -67,19 +73,41 @@ pub ten-plain : (t guide : List ℕ) (used : Bool) (j : ℕ) (r : Found) → use
 unfolding settledBy
 ten-plain t guide used j r e a = rw e a
 
+-- both, after the questions before the walk
+module _ (t guide : List ℕ) (h : Header) (k : HeaderOf t h) (number j : ℕ) (is : number ≡ numberOfByte t 10)
+    (counted : number < h .settings .counted) (low : 1 ≤ j) (high : j ≤ total t number) where
+  pub ten-ready : (HeaderOf t h) × (number < at.countedCount t) × (10 ≡ byteOf t number) × (1 ≤ j) × (j ≤ total t number)
+  ten-ready = find.seek-ready t h k 10 j number is counted (total t number) refl low high
+
+  pub ten-by-guide : (used : Bool) (g : Guided) (r : Found) → used ≡ true → SoughtBy t guide 10 number j (saidGuided g) (stepsOf g) → guided.Numbered g
+      → r ≡ foundOf g → FoundBy t (settledBy t guide used) 10 j r
+  ten-by-guide used g r e z nb r-is =
+      ten-guided t guide used j g r e
+      (guided-sought t guide 10 j number g is (find.asked-none t h k 10 j number is counted (total t number) refl low high) z nb) r-is
+
+  pub ten-by-steps : (used : Bool) (r : Found) → used ≡ false → Sought t 10 j (saidFind r) → Numbered r → FoundBy t (settledBy t guide used) 10 j r
+  ten-by-steps used r e z nb = ten-plain t guide used j r e (record {
+    says = find.find-sought t h k 10 j number is counted (total t number) refl (saidFind r) low high z;
+    numbered = nb;
+  })
+
 -- the edges
 
 module _ (t : List ℕ) (ok number : ℕ) (row : List ℕ) (most : ℕ) where
   not-spans : (n : ℕ) → Refuses t ok number row n → EdgesOf t ok number row most (edges.Refused n)
   not-spans n r = record {
     refused = λ m e. (let z : n ≡ m = cc in rw (← z) r);
-    spans = λ s len e. absurd (let z : _≡_ {A = ℕ} 0 1 = cc in omega arith);
+    spans = λ s len run e. absurd (let z : _≡_ {A = ℕ} 0 1 = cc in omega arith);
   }
 
-  spans-at : (s len : ℕ) → Spans t ok number row most s len → EdgesOf t ok number row most (edges.At (record { 0 = s }) len)
-  spans-at s len r = record {
+  spans-at : (s len : ℕ) (run : LeafRun) → Spans t ok number row most s len run → EdgesOf t ok number row most (edges.At (record { 0 = s }) len run)
+  spans-at s len run r = record {
     refused = λ m e. absurd (let z : _≡_ {A = ℕ} 0 1 = cc in omega arith);
-    spans = λ p n e. (let z : record { 0 = s } ≡ p = cc in let y : len ≡ n = cc in let x : s ≡ p .0 = ap (λ (w : TextPlace). w .0) z in rw (← x, ← y) r);
+    spans = λ p n u e. (let z : record { 0 = s } ≡ p = cc in
+        let y : len ≡ n = cc in
+        let v : run ≡ u = cc in
+        let x : s ≡ p .0 = ap (λ (w : TextPlace). w .0) z in
+        rw (← x, ← y, ← v) r);
   }
 
   -- refused by a question before the walk
@@ -274,9 +302,9 @@ module _ (t : List ℕ) (ok : ℕ) (sound : ok ≡ 0 → verdict t ≡ 0) (q : �
           λ v. rw (starts .accepted p is v) (some-end (textOf t) q (chosen .low) (in-book v)) in
           in-walk t ok (number t ok q) (row t ok q) end-most asked 14 (λ v. ends .missing none (sound v) o (there v)) refl
 
-      module _ (e : TextPlace) (before : ℕ) (at-e : y ≡ newline.At e before) where
+      module _ (e : TextPlace) (before : ℕ) (run : LeafRun) (at-e : y ≡ newline.At e before run) where
         end : EndsRow t (p .0) (e .0) before
-        end = ends .found e before at-e
+        end = ends .found e before run at-e .0
 
         pub end-past : p .0 ≤ e .0
         end-past = end .past
@@ -296,12 +324,13 @@ module _ (t : List ℕ) (ok : ℕ) (sound : ok ≡ 0 → verdict t ≡ 0) (q : �
             rw (s, f)
 
         pub edges-trimmed : (n : ℕ) → n ≡ cond (ltb 0 len && eqb 13 before) (len - 1) len
-            → EdgesOf t ok (number t ok q) (row t ok q) end-most (edges.At p n)
-        edges-trimmed n n-is = spans-at t ok (number t ok q) (row t ok q) end-most (p .0) n (record {
+            → EdgesOf t ok (number t ok q) (row t ok q) end-most (edges.At p n run)
+        edges-trimmed n n-is = spans-at t ok (number t ok q) (row t ok q) end-most (p .0) n run (record {
           asked = asked;
           within = omega (arith, at-most, in-text, text-length t);
           short = omega (arith, at-most, in-text, text-length t);
           accepted = λ v. rw n-is (cut (lt-or-ge 0 len)) ∙ ap trimmed (whole v);
+          reads = ends .found e before run at-e .1;
         })
           where
             at-most : n ≤ len
@@ -339,8 +368,8 @@ module _ (t : List ℕ) (h : Header) (k : HeaderOf t h) (q number : ℕ) (is : n
       unfolding asksLast
       here y e = rw (k .passes, is-counted t h k 10 number is low, lt-ltb 0 (at.textLength t) (omega (arith, k .length-is, some-byte)), e)
 
-      pub asks-none : q ≡ 0 → false ≡ asksLast t q
-      asks-none z = here false (ne-eqb q (total t (numberOfByte t 10) + 1) (λ e. omega arith))
+      asks-other : (q ≡ total t (numberOfByte t 10) + 1 → ⊥) → false ≡ asksLast t q
+      asks-other n = here false (ne-eqb q (total t (numberOfByte t 10) + 1) n)
 
       pub asks-is : (q ≡ 0 → ⊥) → (all : ℕ) → all ≡ total t number → eqb (q - 1) all ≡ asksLast t q
       asks-is n all e = go (eqb (q - 1) all) refl
@@ -351,6 +380,20 @@ module _ (t : List ℕ) (h : Header) (k : HeaderOf t h) (q number : ℕ) (is : n
           go : (y : Bool) → eqb (q - 1) all ≡ y → eqb (q - 1) all ≡ asksLast t q
           go true f = f ∙ here true (rw (← sum) (eq-eqb q (all + 1) (omega (arith, n, eqb-true (q - 1) all f))))
           go false f = f ∙ here false (rw (← sum) (ne-eqb q (all + 1) (λ z. bool-clash (eqb (q - 1) all) (eq-eqb (q - 1) all (omega arith)) f)))
+
+    -- another row, in any text
+    asks-plain : (q ≡ total t (numberOfByte t 10) + 1 → ⊥) → false ≡ asksLast t q
+    asks-plain n = go (lt-or-ge 0 (h .«text_length»))
+      where
+        go : (0 < h .«text_length») ⊎ (h .«text_length» ≤ 0) → false ≡ asksLast t q
+        go (inl some) = asks-other (λ e. omega arith) n
+        go (inr none) = asks-empty (omega arith)
+
+    pub asks-none : q ≡ 0 → false ≡ asksLast t q
+    asks-none z = asks-plain (λ e. omega arith)
+
+    pub asks-ended : q ≤ total t number → false ≡ asksLast t q
+    asks-ended high = let e : total t number ≡ total t (numberOfByte t 10) = rw is in asks-plain (λ z. omega arith)
 
 -- After the last byte 10.
 module _ (t : List ℕ) (h : Header) (k : HeaderOf t h) (q : ℕ) (asks : asksLast t q ≡ true) where
@@ -363,6 +406,12 @@ module _ (t : List ℕ) (h : Header) (k : HeaderOf t h) (q : ℕ) (asks : asksLa
 
   pub last-low : 1 ≤ q
   last-low = omega (arith, a .number)
+
+  -- the last byte 10 is the one before
+  pub last-find : (number : ℕ) → number ≡ numberOfByte t 10 → (q ≡ 1 → ⊥) → (1 ≤ q - 1) × (q - 1 ≤ total t number)
+  last-find number is more =
+      let e : total t number ≡ total t (numberOfByte t 10) = rw is in
+      (omega (arith, a .number, more), omega (arith, a .number))
 
   abbrev last-number : ℕ
   last-number = lastNumber (byteSays t (at.textLength t - 1))
@@ -411,15 +460,17 @@ module _ (t : List ℕ) (h : Header) (k : HeaderOf t h) (q : ℕ) (asks : asksLa
         passed = rw (here-said, is, ne-eqb 10 value (λ e. other (sym e)))
 
         -- no byte 10 stands before it
-        pub last-whole : q ≡ 1 → EdgesOf t ok last-number last-row last-most (edges.At (record { 0 = 0 }) (h .«text_length»))
+        pub last-whole : q ≡ 1 → (run : LeafRun) → (run .length ≡ 0) × (run .from ≡ 0)
+            → EdgesOf t ok last-number last-row last-most (edges.At (record { 0 = 0 }) (h .«text_length») run)
         unfolding rowFrom
-        last-whole one = spans-at t ok last-number last-row last-most 0 (h .«text_length») (record {
+        last-whole one run none = spans-at t ok last-number last-row last-most 0 (h .«text_length») run (record {
           asked = passed;
           within = omega (arith, k .length-is);
           short = omega (arith, k .length-is, most-first one);
           accepted = λ v.
               (let e : length (textOf t) - 0 ≡ h .«text_length» = omega (arith, text-length t, k .length-is) in
               sym (last-is (sound v) ∙ rw (one, e)));
+          reads = none-read t 0 run (none .0) (none .1);
         })
 
         module _ (more : q ≡ 1 → ⊥) (found : Found) (said-found : FindBy t ok 10 (q - 1) (saidFind found)) where
@@ -440,15 +491,17 @@ module _ (t : List ℕ) (h : Header) (k : HeaderOf t h) (q : ℕ) (asks : asksLa
             pub last-past : before .0 < h .«text_length»
             last-past = omega (arith, place-in-text t ok 10 (q - 1) sound found said-found before other-figure found-at, k .length-is)
 
-            pub last-from : EdgesOf t ok last-number last-row last-most (edges.At (record { 0 = before .0 + 1 }) (h .«text_length» - (before .0 + 1)))
+            pub last-from : (run : LeafRun) → (run .length ≡ 0) × (run .from ≡ 0)
+                → EdgesOf t ok last-number last-row last-most (edges.At (record { 0 = before .0 + 1 }) (h .«text_length» - (before .0 + 1)) run)
             unfolding rowFrom
-            last-from = spans-at t ok last-number last-row last-most (before .0 + 1) (h .«text_length» - (before .0 + 1)) (record {
+            last-from run none = spans-at t ok last-number last-row last-most (before .0 + 1) (h .«text_length» - (before .0 + 1)) run (record {
               asked = passed;
               within = omega (arith, last-past, k .length-is);
               short = omega (arith, last-past, k .length-is, most-later more);
               accepted = λ v.
                   sym (last-is (sound v) ∙ rw
                   (ne-eqb q 1 more, place-is t ok 10 (q - 1) sound found said-found before other-figure found-at v, text-length t, k .length-is));
+              reads = none-read t (before .0 + 1) run (none .0) (none .1);
             })
 
 -- The edges of row q, by which of the two it is.
@@ -463,11 +516,17 @@ module _ (t : List ℕ) (ok : ℕ) (sound : ok ≡ 0 → verdict t ≡ 0) (q : �
   unfolding rowMost
   edges-ended r asks e = rw (row-number-plain t q (sym asks)) (record {
     refused = λ n f. (let y = e .refused n f in record { low = y .low; asked = y .asked; accepted = y .accepted; free = y .free });
-    spans = λ s m f. (let y = e .spans s m f in record {
+    spans = λ s m u f. (let y = e .spans s m u f in record {
       asked = y .asked;
       within = y .within;
       short = rw (← asks) (y .short);
+      reads = y .reads;
       accepted = λ v. (let c = select-passes t 10 q (y .asked) in
           y .accepted v ∙ sym (row-between (textOf t) q (c .low) (rw (tallies.total-of-text t (sound v) 10 (c .counted)) at (c .high))));
     });
   })
+
+  -- refused before the walk
+  pub edges-refused : (n : ℕ) → false ≡ asksLast t q → StartIs t ok q (start.Refused n)
+      → EdgesOf t ok (rowNumber t q) (rowOf (textOf t) q) (rowMost t q) (edges.Refused n)
+  edges-refused n asks s = edges-ended (edges.Refused n) asks (edges-no-start t ok sound q (start.Refused n) s n n refl refl)

@@ -36,16 +36,17 @@ use Rattle.ask_rows.specs.declared.row_edges.Edges.{Edges}
 use Rattle.ask_rows.specs.declared.row_edges.Edges.the-variants as edges
 use Rattle.ask_rows.specs.declared.RowLength.the-variants as size
 use Rattle.ask_rows.specs.declared.RowCount.the-variants as count
+use Rattle.ask_access.specs.declared.read_by_header.LeafRun.{LeafRun}
 use Rattle.ask_rows.specs.RowSpans.{settledBy, EdgesOf}
 use Rattle.ask_rows.specs.RowLengths.{rowsNumber, lastOpen, rowsSays, LengthAnswer, CountAnswer}
 
 -- The length of a row.
 module _ (t : List ℕ) (q : ℕ) where
   module _ (guide : List ℕ) (x : Edges) (k : EdgesOf t (settledBy t guide false) (rowNumber t q) (rowOf (textOf t) q) (rowMost t q) x) where
-    pub length-told : (start : TextPlace) (len : ℕ) → x ≡ edges.At start len → LengthAnswer t q (size.Bytes len)
+    pub length-told : (start : TextPlace) (len : ℕ) (run : LeafRun) → x ≡ edges.At start len run → LengthAnswer t q (size.Bytes len)
     unfolding settledBy
-    length-told start len e =
-        let s = k .spans start len e in record {
+    length-told start len run e =
+        let s = k .spans start len run e in record {
           says = record {
             asked = λ l. absurd (let z : ⊥ = omega (arith, s .asked) in z);
             accepted = λ z v. (

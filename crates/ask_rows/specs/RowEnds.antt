@@ -10,6 +10,8 @@ use Rattle.format.specs.Layout as at
 use Rattle.format.specs.Fits.{textOf}
 use Rattle.format.specs.Verdict.{verdict}
 use Rattle.format.specs.FindSays.{selectNumber}
+use Rattle.ask_access.specs.declared.read_by_header.LeafRun.{LeafRun}
+use Rattle.ask_access.specs.ReadByRuns.{ReadsFrom}
 use Rattle.ask_rows.specs.declared.next_newline.Newline.{Newline}
 use Rattle.ask_rows.specs.declared.next_newline.Newline.the-variants as newline
 use Rattle.ask_rows.specs.declared.row_edges.RowStart.{RowStart}
@@ -23,7 +25,7 @@ pub record EndsRow (t : List ℕ) (p e before : ℕ) : Type 0 where
   pub before-is : p < e → before ≡ getD (textOf t) (e - 1) 0
 
 pub record NewlineIs (t : List ℕ) (p : ℕ) (r : Newline) : Type 0 where
-  pub found : (e : TextPlace) (before : ℕ) → r ≡ newline.At e before → EndsRow t p (e .0) before
+  pub found : (e : TextPlace) (before : ℕ) (run : LeafRun) → r ≡ newline.At e before run → (EndsRow t p (e .0) before) × (ReadsFrom t p run)
   pub missing : r ≡ newline.Missing → verdict t ≡ 0 → (o : ℕ) → Nth 10 1 (textOf t) p o → ⊥
 
 -- the number of a start that is refused

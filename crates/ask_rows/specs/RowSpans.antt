@@ -10,6 +10,8 @@ use Rattle.format.specs.Verdict.{verdict}
 use Rattle.format.specs.Said.{refused}
 use Rattle.text.specs.declared.TextPlace.{TextPlace}
 use Rattle.format.specs.ReadSays.{copySays}
+use Rattle.ask_access.specs.declared.read_by_header.LeafRun.{LeafRun}
+use Rattle.ask_access.specs.ReadByRuns.{ReadsFrom}
 use Rattle.ask_guide.specs.Guides.{guideNumber}
 use Rattle.ask_rows.specs.declared.RowCopied.{RowCopied}
 use Rattle.ask_rows.specs.declared.RowCopied.the-variants.{Refused}
@@ -28,7 +30,7 @@ pub record CopyAnswer (t : List ℕ) (p len room : ℕ) (r : RowCopied) : Type 0
 
 -- the number of edges that are refused
 abbrev pub edgesNumber : Edges → ℕ
-edgesNumber (edges.At start len) = 0
+edgesNumber (edges.At start len run) = 0
 edgesNumber (edges.Refused number) = number
 
 -- The edges of a row: `number` is that of the questions before the walk, `row` what the row is where `ok` is 0; it has at most `most` bytes.
@@ -40,13 +42,14 @@ module _ (t : List ℕ) (ok number : ℕ) (row : List ℕ) where
     pub accepted : number ≡ 0 → ok ≡ 0 → ⊥
     pub free : number ≡ 0 → n ≡ 14
 
-  -- it is these bytes of the text
-  pub record Spans (most start len : ℕ) : Type 0 where
+  -- it is these bytes of the text, the first of them those of a range
+  pub record Spans (most start len : ℕ) (run : LeafRun) : Type 0 where
     pub asked : number ≡ 0
     pub within : start + len ≤ at.textLength t
     pub short : len ≤ most
     pub accepted : ok ≡ 0 → stretch (textOf t) start len ≡ row
+    pub reads : ReadsFrom t start run
 
   pub record EdgesOf (most : ℕ) (r : Edges) : Type 0 where
     pub refused : (n : ℕ) → r ≡ edges.Refused n → Refuses n
-    pub spans : (start : TextPlace) (len : ℕ) → r ≡ edges.At start len → Spans most (start .0) len
+    pub spans : (start : TextPlace) (len : ℕ) (run : LeafRun) → r ≡ edges.At start len run → Spans most (start .0) len run

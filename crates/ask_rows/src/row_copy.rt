@@ -18,13 +18,13 @@ pub fn row_at(t: &[u8], h: Header, guide: &[u8], used: bool, q: u32, buffer: &mu
     ensures { λ r. ⌜ RowAnswerBy (now (t .entry)) (settledBy (now (t .entry)) (now (guide .entry)) used) q (now (buffer .entry)) r (now (buffer .exit)) ⌝ }
 {
     let found = row_edges::of_row(t, h, guide, used, q);
-    let Edges::At(start, len) = found else {
+    let Edges::At(start, len, run) = found else {
         return RowCopied::Refused(row_edges::number(found));
     };
     if buffer.len() < len as usize {
         return RowCopied::Refused(13);
     }
-    let copied = read_by_header::copy(t, h, start, len, buffer);
+    let copied = read_by_header::copy_on(t, h, run, start, len, buffer);
     let Copied::Bytes(n, _) = copied else {
         let number = copied_number(copied);
         return RowCopied::Refused(number);

@@ -3,30 +3,33 @@ use crate::next_newline;
 use crate::next_newline::Newline;
 use ask_access::Answer;
 use ask_access::read_by_header;
+use ask_access::read_by_header::LeafRun;
 use ask_guided::guided_find;
 use ask_select::Found;
-use ask_select::find_by_header;
+use ask_select::seek;
+use ask_totals::Wanted;
 use layout::header::Header;
 use layout::place::TextPlace;
 ghost use mathlib.Core.Bool.{true, cond, _&&_};
 ghost use mathlib.Core.Path.{_≡_};
-ghost use Prim.Native.Nat.{_-_};
+ghost use Prim.Native.Nat.{_-_, _≤_, _<_};
 ghost use lib.Dec.{ltb, eqb};
 ghost use Rattle.text.specs.Rows.{rowOf};
 ghost use Rattle.text.specs.RowLaws.{between, trimmed};
 ghost use Rattle.format.specs.Layout as at;
 ghost use Rattle.format.specs.Fits.{textOf};
 ghost use Rattle.format.specs.ReadSays.{byteSays};
-ghost use Rattle.format.specs.FindSays.{selectNumber};
+ghost use Rattle.format.specs.CountSays.{numberOfByte};
+ghost use Rattle.format.specs.FindSays.{total, selectNumber};
 ghost use Rattle.format.specs.RowSays.{lastNumber, asksLast, rowNumber, rowMost};
 ghost use Rattle.layout.specs.HeaderSays.{HeaderOf};
 ghost use Rattle.ask_select.specs.Found.{saidFind, FoundBy};
 ghost use Rattle.ask_rows.specs.RowSpans.{settledBy, edgesNumber, EdgesOf};
 ghost use Rattle.ask_rows.specs.RowEnds.{startNumber, StartIs};
 
-// Where a row starts and how many bytes it has, or the number of the question that refuses.
+// Where a row starts, how many bytes it has, and a range with the first of them, or with none; or the number of the question that refuses.
 pub enum Edges {
-    At(TextPlace, u32),
+    At(TextPlace, u32, LeafRun),
     Refused(u32),
 }
 
@@ -36,40 +39,36 @@ pub enum RowStart {
     Refused(u32),
 }
 
-// The edges of row q, by finds with the guide if it is used. Questions 11, 12 and 14.
+// The edges of row q, by finds with the guide if it is used. Questions 11, 12 and 14. The number of byte 10 and its total are looked for once.
 pub fn of_row(t: &[u8], h: Header, guide: &[u8], used: bool, q: u32) -> Edges
     requires { ⌜ HeaderOf (now t) h ⌝ }
     ensures { λ r. ⌜ EdgesOf (now (t .entry)) (settledBy (now (t .entry)) (now (guide .entry)) used)
         (rowNumber (now (t .entry)) q) (rowOf (textOf (now (t .entry))) q) (rowMost (now (t .entry)) q) r ⌝ }
 {
-    if asks_last(t, h, q) {
-        return last(t, h, guide, used, q);
-    }
-    terminated_row(t, h, guide, used, q)
-}
-
-// Whether q is the total of byte 10 plus one, in a text that has a byte.
-fn asks_last(t: &[u8], h: Header, q: u32) -> bool
-    requires { ⌜ HeaderOf (now t) h ⌝ }
-    ensures { λ r. ⌜ r ≡ asksLast (now (t .entry)) q ⌝ }
-{
     let number = ask_totals::number_of(t, h.settings.counted, 10);
     if h.settings.counted <= number {
-        return false;
-    }
-    if h.text_length == 0 {
-        return false;
+        return Edges::Refused(11);
     }
     if q == 0 {
-        return false;
+        return Edges::Refused(12);
     }
-    (q - 1) as u64 == ask_totals::total(t, h, number)
+    let all = ask_totals::total(t, h, number);
+    if q as u64 <= all {
+        return terminated_row(t, h, guide, used, number, q);
+    }
+    if h.text_length == 0 {
+        return Edges::Refused(12);
+    }
+    if (q - 1) as u64 == all {
+        return last(t, h, guide, used, number, q);
+    }
+    Edges::Refused(12)
 }
 
 // The bounds of the row that no byte 10 ends, which exists if the last byte is another one: from behind the last byte 10 (or from place 0) to
 // the text's end.
-fn last(t: &[u8], h: Header, guide: &[u8], used: bool, q: u32) -> Edges
-    requires { ⌜ (HeaderOf (now t) h) × (asksLast (now t) q ≡ true) ⌝ }
+fn last(t: &[u8], h: Header, guide: &[u8], used: bool, number: u32, q: u32) -> Edges
+    requires { ⌜ (HeaderOf (now t) h) × (asksLast (now t) q ≡ true) × (number ≡ numberOfByte (now t) 10) × (number < h .settings .counted) ⌝ }
     ensures { λ r. ⌜ EdgesOf (now (t .entry)) (settledBy (now (t .entry)) (now (guide .entry)) used) (lastNumber
         (byteSays (now (t .entry)) (at.textLength (now (t .entry)) - 1))) (rowOf (textOf (now (t .entry))) q) (rowMost (now (t .entry)) q) r ⌝ }
 {
@@ -81,51 +80,45 @@ fn last(t: &[u8], h: Header, guide: &[u8], used: bool, q: u32) -> Edges
         return Edges::Refused(12);
     }
     if q == 1 {
-        return Edges::At(TextPlace(0), h.text_length);
+        return Edges::At(TextPlace(0), h.text_length, read_by_header::no_run());
     }
-    let found = ten(t, h, guide, used, q - 1);
+    let found = ten(t, h, guide, used, number, q - 1);
     let Found::At(before, _) = found else {
         return Edges::Refused(found_number(found));
     };
-    Edges::At(TextPlace(before.0 + 1), h.text_length - (before.0 + 1))
+    Edges::At(
+        TextPlace(before.0 + 1),
+        h.text_length - (before.0 + 1),
+        read_by_header::no_run(),
+    )
 }
 
 // The edges of a row that a newline ends: one find comes to its start, and the newline is read on to.
-fn terminated_row(t: &[u8], h: Header, guide: &[u8], used: bool, q: u32) -> Edges
-    requires { ⌜ HeaderOf (now t) h ⌝ }
+fn terminated_row(t: &[u8], h: Header, guide: &[u8], used: bool, number: u32, q: u32) -> Edges
+    requires { ⌜ (HeaderOf (now t) h) × (number ≡ numberOfByte (now t) 10) × (number < h .settings .counted) × (1 ≤ q) × (q ≤ total (now t) number) ⌝ }
     ensures { λ r. ⌜ EdgesOf (now (t .entry)) (settledBy (now (t .entry)) (now (guide .entry)) used)
         (selectNumber (now (t .entry)) 10 q) (trimmed (between (textOf (now (t .entry))) q)) (at.textLength (now (t .entry)) - 1) r ⌝ }
 {
-    let found = row_start(t, h, guide, used, q);
+    let found = row_start(t, h, guide, used, number, q);
     let RowStart::At(start) = found else {
         return Edges::Refused(start_number(found));
     };
     let end = next_newline::next_newline(t, h, start);
-    let Newline::At(place, before) = end else {
+    let Newline::At(place, before, run) = end else {
         return Edges::Refused(14);
     };
-    Edges::At(start, without_cr(place.0 - start.0, before))
+    Edges::At(start, without_cr(place.0 - start.0, before), run)
 }
 
-// Where row q starts, if a newline ends it. Questions 11, 12 and 14.
-fn row_start(t: &[u8], h: Header, guide: &[u8], used: bool, q: u32) -> RowStart
-    requires { ⌜ HeaderOf (now t) h ⌝ }
+// Where row q starts, which a newline ends. Question 14.
+fn row_start(t: &[u8], h: Header, guide: &[u8], used: bool, number: u32, q: u32) -> RowStart
+    requires { ⌜ (HeaderOf (now t) h) × (number ≡ numberOfByte (now t) 10) × (number < h .settings .counted) × (1 ≤ q) × (q ≤ total (now t) number) ⌝ }
     ensures { λ r. ⌜ StartIs (now (t .entry)) (settledBy (now (t .entry)) (now (guide .entry)) used) q r ⌝ }
 {
-    let number = ask_totals::number_of(t, h.settings.counted, 10);
-    if h.settings.counted <= number {
-        return RowStart::Refused(11);
-    }
-    if q == 0 {
-        return RowStart::Refused(12);
-    }
-    if ask_totals::total(t, h, number) < q as u64 {
-        return RowStart::Refused(12);
-    }
     if q == 1 {
         return RowStart::At(TextPlace(0));
     }
-    let found = ten(t, h, guide, used, q - 1);
+    let found = ten(t, h, guide, used, number, q - 1);
     let Found::At(before, _) = found else {
         return RowStart::Refused(found_number(found));
     };
@@ -155,15 +148,16 @@ fn start_number(found: RowStart) -> u32
     }
 }
 
-// The place of the j-th byte 10, by the guide if it is used.
-pub fn ten(t: &[u8], h: Header, guide: &[u8], used: bool, j: u32) -> Found
-    requires { ⌜ HeaderOf (now t) h ⌝ }
+// The place of the j-th byte 10, which has this number, by the guide if it is used.
+pub fn ten(t: &[u8], h: Header, guide: &[u8], used: bool, number: u32, j: u32) -> Found
+    requires { ⌜ (HeaderOf (now t) h) × (number ≡ numberOfByte (now t) 10) × (number < h .settings .counted) × (1 ≤ j) × (j ≤ total (now t) number) ⌝ }
     ensures { λ r. ⌜ FoundBy (now (t .entry)) (settledBy (now (t .entry)) (now (guide .entry)) used) 10 j r ⌝ }
 {
+    let wanted = Wanted { byte: 10, number };
     if used {
-        return guided_find::without_steps(guided_find::find_guided_at(t, h, guide, 10, j));
+        return guided_find::without_steps(guided_find::guided(t, h, guide, wanted, j));
     }
-    find_by_header::find_at(t, h, 10, j)
+    seek::seek(t, h, wanted, j)
 }
 
 // The number of the question that refuses a find; 0 for a place.
@@ -181,7 +175,7 @@ pub fn number(found: Edges) -> u32
     ensures { λ r. ⌜ r ≡ edgesNumber found ⌝ }
 {
     match found {
-        Edges::At(_, _) => 0,
+        Edges::At(_, _, _) => 0,
         Edges::Refused(number) => number,
     }
 }

@@ -17,7 +17,7 @@ pub fn length_at(t: &[u8], h: Header, q: u32) -> RowLength
 {
     let found = row_edges::of_row(t, h, &t[0..0], false, q);
     match found {
-        Edges::At(_, len) => RowLength::Bytes(len),
+        Edges::At(_, len, _) => RowLength::Bytes(len),
         Edges::Refused(number) => RowLength::Refused(number),
     }
 }

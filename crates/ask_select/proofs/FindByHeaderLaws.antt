@@ -23,26 +23,22 @@ use Rattle.theory_paths.specs.BlockStarts.{len-inside}
 use Rattle.layout.specs.declared.header.Header.{Header}
 use Rattle.layout.specs.declared.header.HeaderRead.{HeaderRead}
 use Rattle.layout.specs.declared.header.HeaderRead.the-variants.{Refused}
-use Rattle.layout.specs.declared.place.BlockNumber.{BlockNumber}
-use Rattle.layout.specs.declared.place.BlockPlace.{BlockPlace}
 use Rattle.layout.specs.Header.{headerSays}
 use Rattle.layout.specs.HeaderSays.{HeaderOf}
 use Rattle.walk_steps.specs.Steps.{OnLevel, InTable}
 use Rattle.walk_steps.proofs.StepLaws.{b-small}
-use Rattle.walk_steps.proofs.QuestionStandsLaws.{plain, on-top}
+use Rattle.walk_steps.proofs.NextLaws.{on-top}
 use Rattle.layout.specs.HeaderSays.{header-refused}
 use Rattle.theory_counts.specs.CountsLocal.{byteOf}
 use Rattle.theory_counts.specs.CountedStretches.{tally-none}
 use Rattle.theory_counts.specs.Ranks as ranks
 use Rattle.theory_counts.specs.Finds as finds
 use Rattle.ask_select.specs.declared.seek.CountField.{CountField}
-use Rattle.ask_select.specs.declared.seek.Child.{Child}
-use Rattle.ask_select.specs.declared.seek.Child.the-variants as child
-use Rattle.ask_select.specs.Seeks.{KeptIn, PointsIn, Siblings, LastBefore, picked, Seeking, FoundIn}
+use Rattle.ask_select.specs.Seeks.{Siblings, LastBefore, Seeking, FoundIn}
 use Rattle.ask_select.proofs.SeekLaws.{last-here}
 use Rattle.ask_select.specs.SoughtPlaces.{placedIn, Sought, Stopped, SoughtIn}
 use Rattle.ask_totals.proofs.TotalLaws.{some-block, not-counted, is-counted}
-use Rattle.ask_select.proofs.LandLaws.{Picked, k, d, a, picked-kept, picked-points, picked-off, one-of}
+use Rattle.ask_select.proofs.LandLaws.{k, d, a}
 
 pub top-siblings : (t : List ℕ) (field : CountField) (b n : ℕ) → OnLevel t (field .size) 0 b → field .number < at.countedCount t → 1 ≤ total t (field .number)
     → n ≡ at.levelCount t 0 → Siblings t field 0 0 n
@@ -55,12 +51,8 @@ top-siblings t field b n on hc some e = record {
   end-in = omega arith;
 }
 
--- level 0, from the header
-pub top-level : (t : List ℕ) (h : Header) → HeaderOf t h → OnLevel t (h .«record_size») 0 (h .«top_length»)
-top-level t h r = plain t h 0 (h .«top_length») (on-top t h r)
-
 pub full-level : (t : List ℕ) (h : Header) → HeaderOf t h → OnLevel t (h .«record_size») 0 (at.fullLength t 0)
-full-level t h r = rw (r .block-is) at (top-level t h r)
+full-level t h r = rw (r .block-is) at (on-top t h r)
 
 -- a place of the text
 
@@ -103,75 +95,48 @@ module _ (t : List ℕ) (field : CountField) (j b block : ℕ) (on : OnLevel t (
   pub way-small : (way : ℕ) → block < 4294967296 → way ≡ block * b → way ≤ 36028797018963968
   way-small way small e = omega (arith, product block b small (b-small t (field .size) 0 b on))
 
-  module _ (x : Child) (x-is : x ≡ picked t c 0 block 0 j) where
-    pub no-block : (r : ℕ) → x ≡ child.Off → SoughtIn t (byteOf t c) c j block (placedIn (at.textLength t) r)
-    no-block r e = record {
-      accepted = λ v under. absurd (picked-off t c 0 block 0 j (sym x-is ∙ e) under (one-of t v 0 block (on .level-in) (last .block-in)));
-      free = placed-free (at.textLength t) r;
-    }
+  pub alone : Siblings t field 0 block (block + 1)
+  alone = record {
+    facts = on .facts;
+    size-is = on .size-is;
+    level-in = on .level-in;
+    number-in = hc;
+    some = omega arith;
+    end-in = omega (arith, last .block-in);
+  }
 
-    seeking : (i o rest way m : ℕ) → j < 4294967296 → way ≤ 36028797018963968 → Picked t c 0 block 0 j i o rest → Seeking t field 0 b rest way m
-    seeking i o rest way m small near p =
-        record { on = on; number-in = hc; low = omega (arith, p .low, p .rest-is); few = few rest (omega (arith, p .rest-is)); near = far way near }
-      where
-        few : (y : ℕ) → y ≤ 4294967295 → y ≤ (m + 1) * 4294967295
-        few y s = omega arith
+  module _ (rest : ℕ) (rest-is : rest ≡ j - at.before t 0 block c) where
+    pub no-block : (r : ℕ) → rest ≡ 0 → SoughtIn t (byteOf t c) c j block (placedIn (at.textLength t) r)
+    no-block r none = record { accepted = λ v under. absurd (let z : ⊥ = omega arith in z); free = placed-free (at.textLength t) r }
 
-        far : (y : ℕ) → y ≤ 36028797018963968 → y ≤ (m + 64) * 562949953421312
-        far y s = omega arith
+    module _ (some : rest ≡ 0 → ⊥) (way : ℕ) where
+      pub seeking : j < 4294967296 → way ≤ 36028797018963968 → Seeking t field 0 b rest way 0
+      seeking small near =
+          record { on = on; number-in = hc; low = omega (arith, some); few = omega arith; near = omega arith }
 
-    moved-on : (v : verdict t ≡ 0) (i n m o e : ℕ)
-        → n ≡ m → finds.Lands t (k t v) (d t v) (a t v) c hc 0 i n o e → finds.Lands t (k t v) (d t v) (a t v) c hc 0 i m o e
-    moved-on v i n m o e p z = rw (← p) z
+      at-end : (v : verdict t ≡ 0) (r : ℕ) → way ≡ block * b → (o e : ℕ) → r ≡ way + e * 281474976710656 + o
+          → finds.Lands t (k t v) (d t v) (a t v) c hc 0 block (j - at.before t 0 block c) o e → placedIn (at.textLength t) r ≡ found t (byteOf t c) j
+      unfolding found
+      at-end v r way-is o e is lands =
+          let y = finds.lands-top t (k t v) (d t v) (a t v) c hc block j o e (last .block-in) (omega (arith, some)) lands in
+          let start : at.start t 0 block ≡ block * b = d t v .start0 block (last .block-in) ∙ rw (on .b-is) in
+          let place : placeOf (byteOf t c) j (textOf t) ≡ block * b + o = rw (← start) (y .0) in
+          let path : pathLength t (pathOf t (block * b + o)) ≡ e = rw start at (y .1) in
+          let within : block * b + o < at.textLength t = omega (arith, len-inside t 0 block o (lands .inside)) in
+          rw (place, path) (word-place (at.textLength t) r (block * b + o) e (omega arith) within (on .facts .bounds .text-high))
 
-    at-end : (i r way : ℕ) (v : verdict t ≡ 0) → i < at.levelCount t 0 → at.before t 0 i c < j → way ≡ i * b → (o e : ℕ) → r ≡ way + e * 281474976710656 + o
-        → finds.Lands t (k t v) (d t v) (a t v) c hc 0 i (j - at.before t 0 i c) o e → placedIn (at.textLength t) r ≡ found t (byteOf t c) j
-    unfolding found
-    at-end i r way v hi under way-is o e is lands =
-        let y = finds.lands-top t (k t v) (d t v) (a t v) c hc i j o e hi under lands in
-        let start : at.start t 0 i ≡ i * b = d t v .start0 i hi ∙ rw (on .b-is) in
-        let place : placeOf (byteOf t c) j (textOf t) ≡ i * b + o = rw (← start) (y .0) in
-        let path : pathLength t (pathOf t (i * b + o)) ≡ e = rw start at (y .1) in
-        let within : i * b + o < at.textLength t = omega (arith, len-inside t 0 i o (lands .inside)) in
-        rw (place, path) (word-place (at.textLength t) r (i * b + o) e (omega arith) within (on .facts .bounds .text-high))
+      moved-on : (v : verdict t ≡ 0) (n m o e : ℕ)
+          → n ≡ m → finds.Lands t (k t v) (d t v) (a t v) c hc 0 block n o e → finds.Lands t (k t v) (d t v) (a t v) c hc 0 block m o e
+      moved-on v n m o e p z = rw (← p) z
 
-    right : (i o rest way r : ℕ) → Picked t c 0 block 0 j i o rest → way ≡ block * b → FoundIn t c 0 i rest way r → verdict t ≡ 0
-        → placedIn (at.textLength t) r ≡ found t (byteOf t c) j
-    right i o rest way r p way-is f v =
-        let same = p .block-is in
-        let hi : i < at.levelCount t 0 = omega (arith, last .block-in) in
-        let under : at.before t 0 i c < j = rw same (p .low) in
-        let rest-is : rest ≡ j - at.before t 0 i c = rw same (p .rest-is) in
-        let next : i + 1 < at.levelCount t 0 → j ≤ at.before t 0 (i + 1) c = rw same (last .next) in
-        let holds = finds.top-holds t (k t v) (d t v) (a t v) c hc i j hi high next in
-        let z = f .right v hc (omega arith) in
-        at-end i r way v hi under (rw same way-is)
-        (z .place) (z .entered) (z .is) (moved-on v i rest (j - at.before t 0 i c) (z .place) (z .entered) rest-is (z .lands))
+      right : (r : ℕ) → way ≡ block * b → FoundIn t c 0 block rest way r → verdict t ≡ 0 → placedIn (at.textLength t) r ≡ found t (byteOf t c) j
+      right r way-is f v =
+          let holds = finds.top-holds t (k t v) (d t v) (a t v) c hc block j (last .block-in) high (last .next) in
+          let z = f .right v hc (omega arith) in
+          at-end v r way-is (z .place) (z .entered) (z .is) (moved-on v rest (j - at.before t 0 block c) (z .place) (z .entered) rest-is (z .lands))
 
-    sought : (i o rest way r : ℕ) → Picked t c 0 block 0 j i o rest → way ≡ block * b → FoundIn t c 0 i rest way r
-        → SoughtIn t (byteOf t c) c j block (placedIn (at.textLength t) r)
-    sought i o rest way r p way-is f =
-        record { accepted = λ v under. right i o rest way r p way-is f v; free = placed-free (at.textLength t) r }
-
-    module _ (i : BlockNumber) (o : BlockPlace) (rest way : ℕ) where
-      pub top-kept : x ≡ child.Kept i o rest → j < 4294967296 → way ≤ 36028797018963968
-          → (KeptIn t (field .size) 0 b (i .0)) × (Seeking t field 0 b rest way 1)
-      top-kept e small near =
-          let z = picked-kept t c 0 block 0 j i o rest (sym x-is ∙ e) in
-          (record { on = on; kept = rw (z .0 .block-is) (z .1) }, seeking (i .0) (o .0) rest way 1 small near (z .0))
-
-      pub top-points : x ≡ child.Points i o rest → j < 4294967296 → way ≤ 36028797018963968
-          → (PointsIn t (field .size) 0 b (i .0)) × (Seeking t field 0 b rest way 0)
-      top-points e small near =
-          let z = picked-points t c 0 block 0 j i o rest (sym x-is ∙ e) in
-          (record { on = on; points = rw (z .0 .block-is) (z .1) }, seeking (i .0) (o .0) rest way 0 small near (z .0))
-
-      module _ (r : ℕ) (way-is : way ≡ block * b) (f : FoundIn t c 0 (i .0) rest way r) where
-        pub sought-kept : x ≡ child.Kept i o rest → SoughtIn t (byteOf t c) c j block (placedIn (at.textLength t) r)
-        sought-kept e = sought (i .0) (o .0) rest way r (picked-kept t c 0 block 0 j i o rest (sym x-is ∙ e) .0) way-is f
-
-        pub sought-points : x ≡ child.Points i o rest → SoughtIn t (byteOf t c) c j block (placedIn (at.textLength t) r)
-        sought-points e = sought (i .0) (o .0) rest way r (picked-points t c 0 block 0 j i o rest (sym x-is ∙ e) .0) way-is f
+      pub sought : (r : ℕ) → way ≡ block * b → FoundIn t c 0 block rest way r → SoughtIn t (byteOf t c) c j block (placedIn (at.textLength t) r)
+      sought r way-is f = record { accepted = λ v under. right r way-is f v; free = placed-free (at.textLength t) r }
 
 -- what the word's place says, said of the answer made of it
 pub sought-by : (t : List ℕ) (n byte c j block w : ℕ) (s : Said) → n ≡ at.textLength t → byte ≡ byteOf t c → s ≡ placedIn n w

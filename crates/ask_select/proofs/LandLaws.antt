@@ -26,10 +26,11 @@ use Rattle.theory_paths.specs.BlockStarts.{len-small, len-pos}
 use Rattle.theory_paths.specs.PlacesLand.{kept-block, pointing-block}
 use Rattle.layout.specs.declared.place.BlockNumber.{BlockNumber}
 use Rattle.layout.specs.declared.place.BlockPlace.{BlockPlace}
+use Rattle.walk_steps.specs.declared.Next.{Next}
 use Rattle.walk_steps.specs.declared.Next.the-variants as next
 use Rattle.walk_steps.specs.Steps.{OnLevel, InTable, nextAt}
 use Rattle.walk_steps.specs.declared.fields.Shape.{Shape}
-use Rattle.walk_steps.proofs.NextLaws.{pointing-not-kept, level-below}
+use Rattle.walk_steps.proofs.NextLaws.{pointing-not-kept, level-below, next-kept, next-points, next-off}
 use Rattle.walk_steps.proofs.StepLaws.{kept-in, pointing-in, pointing-gap, b-small, b-pos, Shapes}
 use Rattle.theory_counts.specs.LevelTrue.{Level, tally}
 use Rattle.theory_counts.specs.CountsLocal.{byteOf, inLeaves}
@@ -41,78 +42,12 @@ use Rattle.ask_select.specs.declared.seek.Child.{Child}
 use Rattle.ask_select.specs.declared.seek.Child.the-variants as child
 use Rattle.ask_select.specs.declared.seek.Target.{Target}
 use Rattle.ask_select.specs.declared.seek.Target.the-variants as target
+use Rattle.ask_select.specs.declared.seek.Landing.{Landing}
+use Rattle.ask_select.specs.declared.seek.Landing.the-variants as landing
 use Rattle.stretches.specs.Stretches.{Stands}
-use Rattle.ask_select.specs.Seeks.{entering, restIn, KeptIn, PointsIn, Siblings, LastBefore, picked, Chosen, ChildWith, Aimed, targetAt}
-use Rattle.ask_select.specs.Seeks.{TargetWith, Seeking, Landed, FoundIn}
+use Rattle.ask_select.specs.Seeks.{entering, KeptIn, PointsIn, Siblings, LastBefore, Chosen, ChildWith, Aimed, targetAt}
+use Rattle.ask_select.specs.Seeks.{TargetWith, Seeking, Landed, FoundIn, HandedTo, HandsOn}
 use Rattle.ask_select.proofs.SeekLaws.{last-here}
-
--- What a pick says.
-
-abbrev picked-cases : (low kept points : Bool) (i o rest : ℕ) → Child
-picked-cases low kept points i o rest =
-    cond low (restIn (cond kept (next.Kept (record { 0 = i }) (record { 0 = o }))
-    (cond points (next.Points (record { 0 = i }) (record { 0 = o })) next.Off)) rest) child.Off
-
-case-kept : (low kept points : Bool) (i o rest : ℕ) (x : BlockNumber) (p : BlockPlace) (r : ℕ) → picked-cases low kept points i o rest ≡ child.Kept x p r
-    → (low ≡ true) × (kept ≡ true) × (x ≡ record { 0 = i }) × (p ≡ record { 0 = o }) × (r ≡ rest)
-case-kept true true points i o rest x p r e = (refl, refl, cc, cc, cc)
-case-kept true false true i o rest x p r e = absurd (let z : _≡_ {A = ℕ} 0 1 = cc in omega arith)
-case-kept true false false i o rest x p r e = absurd (let z : _≡_ {A = ℕ} 0 1 = cc in omega arith)
-case-kept false kept points i o rest x p r e = absurd (let z : _≡_ {A = ℕ} 0 1 = cc in omega arith)
-
-case-points : (low kept points : Bool) (i o rest : ℕ) (x : BlockNumber) (p : BlockPlace) (r : ℕ) → picked-cases low kept points i o rest ≡ child.Points x p r
-    → (low ≡ true) × (points ≡ true) × (x ≡ record { 0 = i }) × (p ≡ record { 0 = o }) × (r ≡ rest)
-case-points true true points i o rest x p r e = absurd (let z : _≡_ {A = ℕ} 0 1 = cc in omega arith)
-case-points true false true i o rest x p r e = (refl, refl, cc, cc, cc)
-case-points true false false i o rest x p r e = absurd (let z : _≡_ {A = ℕ} 0 1 = cc in omega arith)
-case-points false kept points i o rest x p r e = absurd (let z : _≡_ {A = ℕ} 0 1 = cc in omega arith)
-
-case-off : (low kept points : Bool) (i o rest : ℕ) → picked-cases low kept points i o rest ≡ child.Off → low ≡ true → (kept ≡ true) ⊎ (points ≡ true) → ⊥
-case-off true true points i o rest e l s = (let z : _≡_ {A = ℕ} 0 1 = cc in omega arith)
-case-off true false true i o rest e l s = (let z : _≡_ {A = ℕ} 0 1 = cc in omega arith)
-case-off true false false i o rest e l (inl k) = (let z : _≡_ {A = Bool} true false = sym k in bool-clash false k refl)
-case-off true false false i o rest e l (inr k) = bool-clash false k refl
-case-off false kept points i o rest e l s = bool-clash false l refl
-
-pub record Picked (t : List ℕ) (c level i o j x p r : ℕ) : Type 0 where
-  pub low : at.before t level i c < j
-  pub block-is : x ≡ i
-  pub place-is : p ≡ o
-  pub rest-is : r ≡ j - at.before t level i c
-
-module _ (t : List ℕ) (c level i o j : ℕ) where
-  pub picked-kept : (x : BlockNumber) (p : BlockPlace) (r : ℕ)
-      → picked t c level i o j ≡ child.Kept x p r → (Picked t c level i o j (x .0) (p .0) r) × (keptBlock t level i ≡ true)
-  unfolding picked nextAt
-  picked-kept x p r e =
-      let z = case-kept (ltb (at.before t level i c) j) (keptBlock t level i) (pointingBlock t level i) i o (j - at.before t level i c) x p r e in (
-        record {
-          low = ltb-true _ _ (z .0);
-          block-is = ap (λ (n : BlockNumber). n .0) (z .2);
-          place-is = ap (λ (n : BlockPlace). n .0) (z .3);
-          rest-is = z .4;
-        },
-        z .1,
-      )
-
-  pub picked-points : (x : BlockNumber) (p : BlockPlace) (r : ℕ)
-      → picked t c level i o j ≡ child.Points x p r → (Picked t c level i o j (x .0) (p .0) r) × (pointingBlock t level i ≡ true)
-  unfolding picked nextAt
-  picked-points x p r e =
-      let z = case-points (ltb (at.before t level i c) j) (keptBlock t level i) (pointingBlock t level i) i o (j - at.before t level i c) x p r e in (
-        record {
-          low = ltb-true _ _ (z .0);
-          block-is = ap (λ (n : BlockNumber). n .0) (z .2);
-          place-is = ap (λ (n : BlockPlace). n .0) (z .3);
-          rest-is = z .4;
-        },
-        z .1,
-      )
-
-  pub picked-off : picked t c level i o j ≡ child.Off → at.before t level i c < j → (keptBlock t level i ≡ true) ⊎ (pointingBlock t level i ≡ true) → ⊥
-  unfolding picked nextAt
-  picked-off e low s = case-off
-      (ltb (at.before t level i c) j) (keptBlock t level i) (pointingBlock t level i) i o (j - at.before t level i c) e (lt-ltb _ _ low) s
 
 -- Accepted trees.
 
@@ -157,76 +92,97 @@ unfolding keptBlock
 is-kept t l i h = and-right (ltb i (N t l)) (at.isKept t l i) h
 
 -- The child that is chosen.
-module _ (t : List ℕ) (field : CountField) (level b i below j link count : ℕ) (kept : KeptIn t (field .size) level b i)
-    (lower : OnLevel t (field .size) (level + 1) below) (hc : field .number < at.countedCount t) (low : 1 ≤ j)
-    (link-is : link ≡ at.link t level i) (count-is : count ≡ pieces (at.blockLengthAt t level i) below) where
+
+case-child : (n y : BlockNumber) (o p : BlockPlace) (r q : ℕ) → child.At n o r ≡ child.At y p q → (y .0 ≡ n .0) × (p .0 ≡ o .0) × (q ≡ r)
+case-child n y o p r q e =
+    let f : y ≡ n = cc in
+    let g : p ≡ o = cc in
+    (ap (λ (z : BlockNumber). z .0) f, ap (λ (z : BlockPlace). z .0) g, cc)
+
+-- a kept block, with the number of its first child and how many children it has
+pub record Family (t : List ℕ) (field : CountField) (level b i below j link count : ℕ) : Type 0 where
+  pub kept : KeptIn t (field .size) level b i
+  pub lower : OnLevel t (field .size) (level + 1) below
+  pub number-in : field .number < at.countedCount t
+  pub low : 1 ≤ j
+  pub link-is : link ≡ at.link t level i
+  pub count-is : count ≡ pieces (at.blockLengthAt t level i) below
+
+module _ (t : List ℕ) (field : CountField) (level b i below j link count : ℕ) (f : Family t field level b i below j link count) where
   abbrev c : ℕ
   c = field .number
 
   hi : i < N t level
-  hi = kept-in t level i (kept .kept)
+  hi = kept-in t level i (f .kept .kept)
 
   nothing : (verdict t ≡ 0 → ⊥) → ChildWith t c level i below j child.Off
-  nothing never = record {
-    kept = λ x o r e. absurd (let z : _≡_ {A = ℕ} 0 1 = cc in omega arith);
-    points = λ x o r e. absurd (let z : _≡_ {A = ℕ} 0 1 = cc in omega arith);
-    off = λ e. never;
-  }
+  nothing never = record { chosen = λ x o r e. absurd (let z : _≡_ {A = ℕ} 0 1 = cc in omega arith); off = λ e. never }
 
   pub child-past : at.levelCount t (level + 1) < link + count → ChildWith t c level i below j child.Off
-  child-past past = nothing (λ v. (let e = children-end t v c hc level i (lower .level-in) hi (is-kept t level i (kept .kept)) in
-      let f = rw (← lower .b-is, ← count-is, ← link-is) at e in omega arith))
+  child-past past = nothing (λ v. (let e = children-end t v c (f .number-in) level i (f .lower .level-in) hi (is-kept t level i (f .kept .kept)) in
+      let g = rw (← f .lower .b-is, ← f .count-is, ← f .link-is) at e in omega arith))
 
   pub child-none : count ≡ 0 → ChildWith t c level i below j child.Off
-  child-none none = nothing (λ v. (let e = some-child t v c hc level i (lower .level-in) hi (is-kept t level i (kept .kept)) in
-      let f = rw (← lower .b-is, ← count-is) at e in omega arith))
+  child-none none = nothing (λ v. (let e = some-child t v c (f .number-in) level i (f .lower .level-in) hi (is-kept t level i (f .kept .kept)) in
+      let g = rw (← f .lower .b-is, ← f .count-is) at e in omega arith))
 
   pub siblings : link + count ≤ at.levelCount t (level + 1) → (count ≡ 0 → ⊥) → Siblings t field (level + 1) link (link + count)
   siblings end some = record {
-    facts = lower .facts;
-    size-is = lower .size-is;
-    level-in = lower .level-in;
-    number-in = hc;
+    facts = f .lower .facts;
+    size-is = f .lower .size-is;
+    level-in = f .lower .level-in;
+    number-in = f .number-in;
     some = omega (arith, some);
     end-in = end;
   }
 
   module _ (x : ℕ) (end : link + count ≤ at.levelCount t (level + 1)) (last : LastBefore t c (level + 1) link (link + count) j x) where
     pub child-there : InTable t (field .size) (level + 1) below x
-    child-there = record { on = lower; block-in = omega (arith, last .high) }
+    child-there = record { on = f .lower; block-in = omega (arith, last .high) }
+
+    pub alone : Siblings t field (level + 1) x (x + 1)
+    alone = record {
+      facts = f .lower .facts;
+      size-is = f .lower .size-is;
+      level-in = f .lower .level-in;
+      number-in = f .number-in;
+      some = omega arith;
+      end-in = omega (arith, last .high);
+    }
 
     pub child-place : (x - link) * below < at.blockLengthAt t level i
     child-place =
-        let pos = b-pos t (field .size) (level + 1) below lower in
-        pieces-start (at.blockLengthAt t level i) below (x - link) (omega (arith, last .low, last .high)) pos
+        let pos = b-pos t (field .size) (level + 1) below (f .lower) in
+        pieces-start (at.blockLengthAt t level i) below (x - link) (omega (arith, last .low, last .high, f .count-is)) pos
 
     pub child-place-small : (x - link) * below < maxText
-    child-place-small = omega (arith, child-place, len-small t level i, kept .on .b-is, b-small t (field .size) level b (kept .on))
+    child-place-small = omega (arith, child-place, len-small t level i, f .kept .on .b-is, b-small t (field .size) level b (f .kept .on))
 
-    chosen : (y p r : ℕ) → Picked t c (level + 1) x ((x - link) * below) j y p r → Chosen t c level i below j y p r
-    chosen y p r q =
-        let same = q .block-is in record {
-          link-low = omega (arith, last .low);
-          within = omega (arith, last .low, last .high);
-          in-table = omega (arith, last .high);
-          place-is = rw (same, ← link-is) (q .place-is);
-          place-low = omega (arith, child-place-small, q .place-is);
-          before-low = rw same (q .low);
-          rest-is = rw same (q .rest-is);
-          next = λ m. (rw same (last .next (omega (arith, last .low))));
-        }
+    module _ (rest : ℕ) (rest-is : rest ≡ j - at.before t (level + 1) x c) where
+      pub child-without : rest ≡ 0 → ChildWith t c level i below j child.Off
+      child-without none = nothing (λ v. (let low = last-here t c (level + 1) link (link + count) j x last
+          (rw (f .link-is) (omega (arith, f .low, first-none t v c (f .number-in) level i (f .lower .level-in) hi (is-kept t level i (f .kept .kept))))) in
+          omega arith))
 
-    pub child-picked : (r : Child) → r ≡ picked t c (level + 1) x ((x - link) * below) j → ChildWith t c level i below j r
-    child-picked r r-is = record {
-      kept = λ y p q e. (let z = picked-kept t c (level + 1) x ((x - link) * below) j y p q (sym r-is ∙ e) in
-          (chosen (y .0) (p .0) q (z .0), rw (z .0 .block-is) (z .1)));
-      points = λ y p q e. (let z = picked-points t c (level + 1) x ((x - link) * below) j y p q (sym r-is ∙ e) in
-          (chosen (y .0) (p .0) q (z .0), rw (z .0 .block-is) (z .1)));
-      off = λ e v. picked-off t c (level + 1) x ((x - link) * below) j (sym r-is ∙ e)
-          (last-here t c (level + 1) link (link + count) j x last
-          (rw link-is (omega (arith, first-none t v c hc level i (lower .level-in) hi (is-kept t level i (kept .kept))))))
-          (one-of t v (level + 1) x (lower .level-in) (omega (arith, last .high)));
-    }
+      chosen : (rest ≡ 0 → ⊥) → Chosen t c level i below j x ((x - link) * below) rest
+      chosen some = record {
+        link-low = omega (arith, last .low, f .link-is);
+        within = omega (arith, last .low, last .high, f .link-is, f .count-is);
+        in-table = omega (arith, last .high);
+        place-is = rw (f .link-is);
+        place-low = omega (arith, child-place-small);
+        before-low = omega (arith, some);
+        rest-is = rest-is;
+        next = λ m. last .next (omega (arith, last .low, f .link-is, f .count-is));
+      }
+
+      pub child-chosen : (n : BlockNumber) → n .0 ≡ x → (rest ≡ 0 → ⊥)
+          → ChildWith t c level i below j (child.At n (record { 0 = (x - link) * below }) rest)
+      child-chosen n n-is some = record {
+        chosen = λ y p q e. (let z = case-child n y (record { 0 = (x - link) * below }) p rest q e in
+            rw (z .0, n-is, z .1, z .2) (chosen some));
+        off = λ e. absurd (let z : _≡_ {A = ℕ} 0 1 = cc in omega arith);
+      }
 
 -- The target that is chosen.
 
@@ -389,27 +345,26 @@ lower-level t size level b below x on s more e =
     rw (e, s .arity-is) (level-below t size level b on (λ last. more (last ∙ sym (s .levels-is))))
 
 -- From a kept block to a child.
+module _ (t : List ℕ) (field : CountField) (level b i j way : ℕ) (kept : KeptIn t (field .size) level b i)
+    (seeks : Seeking t field level b j way (2 * level + 1)) where
+  pub no-child : (r : ℕ) → (verdict t ≡ 0 → ⊥) → FoundIn t (field .number) level i j way r
+  no-child r never = not-found t (field .number) level i j way r (λ v hc high. never v)
+
 module _ (t : List ℕ) (field : CountField) (level b i j way below : ℕ) (kept : KeptIn t (field .size) level b i)
     (seeks : Seeking t field level b j way (2 * level + 1)) (lower : OnLevel t (field .size) (level + 1) below) where
   abbrev c₁ : ℕ
   c₁ = field .number
 
   module _ (x o rest further : ℕ) (ch : Chosen t c₁ level i below j x o rest) (further-is : further ≡ entering way o 0) where
-    pub to-child : (blocks : ℕ) → 2 * level + 2 ≤ blocks → Seeking t field (level + 1) below rest further blocks
+    pub to-child : Seeking t field (level + 1) below rest further (2 * (level + 1))
     unfolding entering
-    to-child blocks m = record {
+    to-child = record {
       on = lower;
       number-in = seeks .number-in;
       low = omega (arith, ch .rest-is, ch .before-low);
-      few = few rest (omega (arith, ch .rest-is, seeks .few));
-      near = near further (omega (arith, seeks .near, ch .place-low));
+      few = omega (arith, ch .rest-is, seeks .few);
+      near = omega (arith, seeks .near, ch .place-low);
     }
-      where
-        few : (y : ℕ) → y ≤ (2 * level + 1 + 1) * 4294967295 → y ≤ (blocks + 1) * 4294967295
-        few y l = omega arith
-
-        near : (y : ℕ) → y ≤ (2 * level + 1 + 64) * 562949953421312 + 281474976710656 + maxText → y ≤ (blocks + 64) * 562949953421312
-        near y l = omega arith
 
     pub by-child : (r : ℕ) → FoundIn t c₁ (level + 1) x rest further r → FoundIn t c₁ level i j way r
     unfolding entering
@@ -445,8 +400,17 @@ module _ (t : List ℕ) (field : CountField) (level b i j way below : ℕ) (kept
             way-on : (p q e : ℕ) → r ≡ further + e * 281474976710656 + q → o ≡ p → r ≡ way + (e + 1) * 281474976710656 + (p + q)
             way-on p q e h s = omega (arith, further-is)
 
-  pub no-child : (r : ℕ) → (verdict t ≡ 0 → ⊥) → FoundIn t c₁ level i j way r
-  no-child r never = not-found t c₁ level i j way r (λ v hc high. never v)
+-- From a block to the kept block that it hands its j-th byte to.
+module _ (t : List ℕ) (field : CountField) (level b i j way : ℕ) where
+  hands-off : (verdict t ≡ 0 → j ≤ at.inside t level i (field .number) → ⊥) → HandsOn t field level b i j way landing.Off
+  hands-off never = record { to = λ x rest further e. absurd (let z : _≡_ {A = ℕ} 0 1 = cc in omega arith); off = λ e. never }
+
+  hands-to : (x : BlockNumber) (rest further : ℕ)
+      → HandedTo t field level b i j way (x .0) rest further → HandsOn t field level b i j way (landing.At x rest further)
+  hands-to x rest further h = record {
+    to = λ y q w e. (let f : y ≡ x = cc in let g : q ≡ rest = cc in let k : w ≡ further = cc in rw (f, g, k) h);
+    off = λ e. absurd (let z : _≡_ {A = ℕ} 0 1 = cc in omega arith);
+  }
 
 -- From a pointing block to its target.
 module _ (t : List ℕ) (field : CountField) (level b i j way : ℕ) (points : PointsIn t (field .size) level b i)
@@ -454,9 +418,8 @@ module _ (t : List ℕ) (field : CountField) (level b i j way : ℕ) (points : P
   abbrev c₂ : ℕ
   c₂ = field .number
 
-  pub last-points : (r : ℕ) → level + 1 ≡ H t → FoundIn t c₂ level i j way r
-  last-points r last =
-      not-found t c₂ level i j way r (λ v hc high.
+  pub last-points : level + 1 ≡ H t → HandsOn t field level b i j way landing.Off
+  last-points last = hands-off t field level b i j way (λ v high.
       omega (arith, points-at t (field .size) c₂ level b i j (at.link t level i) points (seeks .number-in) (seeks .low) refl v .above))
 
   pub gap-small : (gap : ℕ) → gap ≡ at.gap t level i → gap ≤ maxText
@@ -464,10 +427,7 @@ module _ (t : List ℕ) (field : CountField) (level b i j way : ℕ) (points : P
 
   module _ (x forward rest gap further : ℕ)
       (am : Aimed t c₂ level i b j x forward rest) (gap-is : gap ≡ at.gap t level i) (further-is : further ≡ entering way forward gap) where
-    pub aimed-kept : KeptIn t (field .size) level b x
-    aimed-kept = record { on = points .on; kept = am .kept }
-
-    pub to-aimed : Seeking t field level b rest further (2 * level + 1)
+    to-aimed : Seeking t field level b rest further (2 * level + 1)
     unfolding entering
     to-aimed = record {
       on = points .on;
@@ -477,7 +437,7 @@ module _ (t : List ℕ) (field : CountField) (level b i j way : ℕ) (points : P
       near = omega (arith, seeks .near, am .forward-low, b-small t (field .size) level b (points .on));
     }
 
-    pub by-aimed : (r : ℕ) → FoundIn t c₂ level x rest further r → FoundIn t c₂ level i j way r
+    by-aimed : (r : ℕ) → FoundIn t c₂ level x rest further r → FoundIn t c₂ level i j way r
     unfolding entering
     by-aimed r f = record { right = λ v hc high. go v hc high (am .either) }
       where
@@ -527,5 +487,48 @@ module _ (t : List ℕ) (field : CountField) (level b i j way : ℕ) (points : P
               lands = got .1;
             }
 
-  pub no-aimed : (r : ℕ) → (verdict t ≡ 0 → j ≤ at.inside t level i c₂ → ⊥) → FoundIn t c₂ level i j way r
-  no-aimed r never = not-found t c₂ level i j way r (λ v hc high. never v high)
+    pub aimed : HandedTo t field level b i j way x rest further
+    aimed = record { kept = record { on = points .on; kept = am .kept }; seeks = to-aimed; found = by-aimed }
+
+  module _ (r : Target) (r-is : TargetWith t c₂ level i b j r) where
+    pub pointer-to : (x : BlockNumber) (forward : BlockPlace) (rest gap further : ℕ)
+        → r ≡ target.Kept x forward rest → gap ≡ at.gap t level i → further ≡ entering way (forward .0) gap
+        → HandsOn t field level b i j way (landing.At x rest further)
+    pointer-to x forward rest gap further e gap-is further-is =
+        hands-to t field level b i j way x rest further
+        (aimed (x .0) (forward .0) rest gap further (r-is .kept x forward rest e) gap-is further-is)
+
+    pub pointer-off : r ≡ target.Off → HandsOn t field level b i j way landing.Off
+    pointer-off e = hands-off t field level b i j way (r-is .off e)
+
+-- From a block that may be kept or may point.
+module _ (t : List ℕ) (field : CountField) (level b : ℕ) (i : BlockNumber) (j way : ℕ) (there : InTable t (field .size) level b (i .0))
+    (seeks : Seeking t field level b j way (2 * level)) (x : Next) (x-is : x ≡ nextAt t level (i .0) 0) where
+  pub itself-kept : (n : BlockNumber) (p : BlockPlace) → x ≡ next.Kept n p → HandsOn t field level b (i .0) j way (landing.At i j way)
+  itself-kept n p e = hands-to t field level b (i .0) j way i j way (record {
+    kept = record { on = there .on; kept = next-kept t level (i .0) 0 x x-is n p e .0 };
+    seeks = record {
+      on = there .on;
+      number-in = seeks .number-in;
+      low = seeks .low;
+      few = omega (arith, seeks .few);
+      near = omega (arith, seeks .near);
+    };
+    found = λ r f. f;
+  })
+
+  pub itself-points : (n : BlockNumber) (p : BlockPlace) → x ≡ next.Points n p → PointsIn t (field .size) level b (i .0)
+  itself-points n p e = record { on = there .on; points = next-points t level (i .0) 0 x x-is n p e .1 }
+
+  pub itself-off : x ≡ next.Off → HandsOn t field level b (i .0) j way landing.Off
+  itself-off e = hands-off t field level b (i .0) j way (λ v high. (let z = next-off t level (i .0) 0 x x-is e in
+      neither (keptBlock t level (i .0)) (pointingBlock t level (i .0)) (z .0) (z .1) (one-of t v level (i .0) (there .on .level-in) (there .block-in))))
+    where
+      neither : (k p : Bool) → k ≡ false → p ≡ false → (k ≡ true) ⊎ (p ≡ true) → ⊥
+      neither k p a b (inl h) = bool-clash k h a
+      neither k p a b (inr h) = bool-clash p h b
+
+-- The kept block that was handed the j-th byte.
+module _ (t : List ℕ) (field : CountField) (level b i j way : ℕ) (x : Landing) (x-is : HandsOn t field level b i j way x) where
+  pub not-handed : x ≡ landing.Off → (r : ℕ) → FoundIn t (field .number) level i j way r
+  not-handed e r = not-found t (field .number) level i j way r (λ v hc high. x-is .off e v high)

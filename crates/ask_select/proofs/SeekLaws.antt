@@ -5,20 +5,14 @@ use mathlib.Core.Logic.{_⊎_, inl, inr}
 use Prim.Native.Nat.{ℕ, _+_, _-_, _*_, _/_, _≤_, _<_}
 use native.Mathlib.Omega.{arith}
 use native.Mathlib.Nat.{add-zero, mul-add-div, div-eq-of-lt}
-use borrow.Author.Tests.{lt-ltb, le-ltb}
 use Rattle.text.specs.ListLaws.{lt-or-ge}
 use Rattle.format.specs.Settings.{pieces}
 use Rattle.format.specs.RecordFields.{skipField}
 use Rattle.format.specs.Layout as at
 use Rattle.format.specs.LayoutLaws.{Readable, full-step}
 use Rattle.layout.specs.Record.{FieldIn, field-in}
-use Rattle.layout.specs.declared.place.BlockNumber.{BlockNumber}
-use Rattle.layout.specs.declared.place.BlockPlace.{BlockPlace}
-use Rattle.walk_steps.specs.declared.Next.{Next}
-use Rattle.walk_steps.specs.declared.Next.the-variants as next
-use Rattle.walk_steps.specs.Steps.{OnLevel, InTable, nextAt}
-use Rattle.ask_select.specs.declared.seek.Child.the-variants as child
-use Rattle.ask_select.specs.Seeks.{restIn, LastBefore, picked}
+use Rattle.walk_steps.specs.Steps.{OnLevel, InTable}
+use Rattle.ask_select.specs.Seeks.{LastBefore}
 
 -- every field of every record can be read
 pub field-there : (t : List ℕ) (size level i c f : ℕ) → Readable t → size ≡ at.recordSize t → level < at.settings t .levels → i < at.levelCount t level
@@ -93,24 +87,3 @@ module _ (t : List ℕ) (c level first end j : ℕ) where
   pub last-end : (r : ℕ) → first ≤ r
       → r < end → ((k : ℕ) → first < k → k ≤ r → at.before t level k c < j) → end ≤ r + 1 → LastBefore t c level first end j r
   last-end r low high passed stop = record { low = low; high = high; passed = passed; next = λ x. absurd (let z : ⊥ = omega arith in z) }
-
--- a block with what is left of j
-
-module _ (t : List ℕ) (c level i o j before : ℕ) (before-is : before ≡ at.before t level i c) where
-  pub pick-none : j ≤ before → child.Off ≡ picked t c level i o j
-  unfolding picked
-  pick-none past = rw (le-ltb (at.before t level i c) j (omega arith))
-
-  module _ (low : before < j) (x : Next) (x-is : x ≡ nextAt t level i o) where
-    pick-some : restIn x (j - before) ≡ picked t c level i o j
-    unfolding picked
-    pick-some = rw (lt-ltb (at.before t level i c) j (omega arith), x-is, before-is)
-
-    pub pick-kept : (n : BlockNumber) (p : BlockPlace) → x ≡ next.Kept n p → child.Kept n p (j - before) ≡ picked t c level i o j
-    pick-kept n p e = rw e at pick-some
-
-    pub pick-points : (n : BlockNumber) (p : BlockPlace) → x ≡ next.Points n p → child.Points n p (j - before) ≡ picked t c level i o j
-    pick-points n p e = rw e at pick-some
-
-    pub pick-off : x ≡ next.Off → child.Off ≡ picked t c level i o j
-    pick-off e = rw e at pick-some

@@ -4,16 +4,13 @@ use mathlib.Core.Bool.{true, cond}
 use mathlib.Core.Path.{_≡_}
 use mathlib.Core.Logic.{_⊎_}
 use Prim.Native.Nat.{ℕ, _+_, _-_, _*_, _≤_, _<_}
-use lib.Dec.{ltb, leb}
 use Rattle.format.specs.Settings.{pieces, maxText}
 use Rattle.format.specs.Layout as at
 use Rattle.format.specs.Path.{keptBlock, pointingBlock}
 use Rattle.format.specs.Verdict.{verdict}
 use Rattle.layout.specs.declared.place.BlockNumber.{BlockNumber}
 use Rattle.layout.specs.declared.place.BlockPlace.{BlockPlace}
-use Rattle.walk_steps.specs.declared.Next.{Next}
-use Rattle.walk_steps.specs.declared.Next.the-variants as next
-use Rattle.walk_steps.specs.Steps.{OnLevel, nextAt}
+use Rattle.walk_steps.specs.Steps.{OnLevel}
 use Rattle.theory_counts.specs.Finds.{Lands}
 use Rattle.theory_counts.specs.Demands as demands
 use Rattle.format.specs.LayoutLaws.{Readable, readable-facts}
@@ -24,16 +21,12 @@ use Rattle.ask_select.specs.declared.seek.Child.{Child}
 use Rattle.ask_select.specs.declared.seek.Child.the-variants as child
 use Rattle.ask_select.specs.declared.seek.Target.{Target}
 use Rattle.ask_select.specs.declared.seek.Target.the-variants as target
+use Rattle.ask_select.specs.declared.seek.Landing.{Landing}
+use Rattle.ask_select.specs.declared.seek.Landing.the-variants as landing
 
 -- the way on into a block: past the bytes before it and back by a gap, with one more block entered
 unfoldable pub entering : ℕ → ℕ → ℕ → ℕ
 entering way forward back = way + 281474976710656 + forward - back
-
--- the rest of j in a block that was arrived at
-abbrev pub restIn : Next → ℕ → Child
-restIn (next.Kept i o) rest = child.Kept i o rest
-restIn (next.Points i o) rest = child.Points i o rest
-restIn next.Off rest = child.Off
 
 module _ (t : List ℕ) where
   -- a kept block of a level, and a pointing one
@@ -67,10 +60,6 @@ module _ (t : List ℕ) where
     pub passed : (i : ℕ) → first < i → i ≤ r → at.before t level i c < j
     pub next : r + 1 < end → j ≤ at.before t level (r + 1) c
 
-  -- what is left of j past a block's before, with what the block is
-  unfoldable pub picked : ℕ → ℕ → ℕ → ℕ → ℕ → Child
-  picked c level i o j = cond (ltb (at.before t level i c) j) (restIn (nextAt t level i o) (j - at.before t level i c)) child.Off
-
   -- the child of block i that is chosen for j: its number x, where it starts in the block, and what is left of j
   pub record Chosen (c level i below j : ℕ) (x o rest : ℕ) : Type 0 where
     pub link-low : at.link t level i ≤ x
@@ -82,12 +71,9 @@ module _ (t : List ℕ) where
     pub rest-is : rest ≡ j - at.before t (level + 1) x c
     pub next : x - at.link t level i + 1 < pieces (at.blockLengthAt t level i) below → j ≤ at.before t (level + 1) (x + 1) c
 
-  -- it is kept or it points; on an accepted tree there is one
+  -- on an accepted tree there is one
   pub record ChildWith (c level i below j : ℕ) (r : Child) : Type 0 where
-    pub kept : (x : BlockNumber) (o : BlockPlace) (rest : ℕ)
-        → r ≡ child.Kept x o rest → (Chosen c level i below j (x .0) (o .0) rest) × (keptBlock t (level + 1) (x .0) ≡ true)
-    pub points : (x : BlockNumber) (o : BlockPlace) (rest : ℕ)
-        → r ≡ child.Points x o rest → (Chosen c level i below j (x .0) (o .0) rest) × (pointingBlock t (level + 1) (x .0) ≡ true)
+    pub chosen : (x : BlockNumber) (o : BlockPlace) (rest : ℕ) → r ≡ child.At x o rest → Chosen c level i below j (x .0) (o .0) rest
     pub off : r ≡ child.Off → verdict t ≡ 0 → ⊥
 
   -- the target of pointing block i that has the j-th byte: the first with all of j and the skip, or the second with the rest
@@ -125,3 +111,13 @@ module _ (t : List ℕ) where
 
   pub record FoundIn (c level i j way r : ℕ) : Type 0 where
     pub right : (v : verdict t ≡ 0) (hc : c < at.countedCount t) → j ≤ at.inside t level i c → Landed v c hc level i j way r
+
+  -- a kept block that block i hands its j-th byte to, what is left of j there, and the way to it: what is found from there on is found in block i
+  pub record HandedTo (field : CountField) (level b i j way : ℕ) (x rest further : ℕ) : Type 0 where
+    pub kept : KeptIn (field .size) level b x
+    pub seeks : Seeking field level b rest further (2 * level + 1)
+    pub found : (r : ℕ) → FoundIn (field .number) level x rest further r → FoundIn (field .number) level i j way r
+
+  pub record HandsOn (field : CountField) (level b i j way : ℕ) (r : Landing) : Type 0 where
+    pub to : (x : BlockNumber) (rest further : ℕ) → r ≡ landing.At x rest further → HandedTo field level b i j way (x .0) rest further
+    pub off : r ≡ landing.Off → verdict t ≡ 0 → j ≤ at.inside t level i (field .number) → ⊥

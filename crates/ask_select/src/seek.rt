@@ -8,7 +8,6 @@ use layout::header::Header;
 use layout::place::BlockNumber;
 use layout::place::BlockPlace;
 use layout::place::On;
-use layout::place::Spot;
 use layout::place::TextPlace;
 use layout::record;
 use layout::settings;
@@ -24,8 +23,8 @@ ghost use Rattle.walk_steps.specs.Steps.{OnLevel, InTable};
 ghost use Rattle.theory_counts.specs.CountsLocal.{byteOf};
 ghost use Rattle.ask_select.specs.Found.{saidFind, Numbered};
 ghost use Rattle.ask_select.specs.SoughtPlaces.{placedIn, Sought, Stopped, SoughtIn};
-ghost use Rattle.ask_select.specs.Seeks.{entering, Siblings, Passed, LastBefore, picked, KeptIn, PointsIn, ChildWith, targetAt, TargetWith};
-ghost use Rattle.ask_select.specs.Seeks.{Seeking, FoundIn};
+ghost use Rattle.ask_select.specs.Seeks.{entering, Siblings, Passed, LastBefore, KeptIn, PointsIn, ChildWith, targetAt, TargetWith};
+ghost use Rattle.ask_select.specs.Seeks.{Seeking, FoundIn, HandsOn};
 
 // The bytes of a record, and the number of the counted byte whose words are read in it.
 pub struct CountField {
@@ -53,14 +52,19 @@ struct Parent {
 
 // A block, where it starts in its parent, and what is left of j in it.
 pub enum Child {
-    Kept(BlockNumber, BlockPlace, u64),
-    Points(BlockNumber, BlockPlace, u64),
+    At(BlockNumber, BlockPlace, u64),
     Off,
 }
 
 // A kept block, the place of its start counted from the first target's, and what is left of j in it.
 pub enum Target {
     Kept(BlockNumber, BlockPlace, u64),
+    Off,
+}
+
+// A kept block, what is left of j in it, and the way to it.
+pub enum Landing {
+    At(BlockNumber, u64, u64),
     Off,
 }
 
@@ -167,20 +171,16 @@ fn last_child(t: &[u8], field: CountField, level: u32, blocks: Blocks, j: u64) -
     BlockNumber(i)
 }
 
-// What a block is, with what is left of j past its before; no block where its before is j or more.
-fn pick(t: &[u8], field: CountField, on: On, spot: Spot, j: u64) -> Child
-    requires { ⌜ (InTable (now t) (field .size) (on .level) (on .b) (spot .block .0)) × (field .number < at.countedCount (now t)) ⌝ }
-    ensures { λ r. ⌜ r ≡ picked (now (t .entry)) (field .number) (on .level) (spot .block .0) (spot .place .0) j ⌝ }
+// What is left of j past the bytes before a block: 0 where its before is j or more.
+fn rest_in(t: &[u8], field: CountField, level: u32, block: BlockNumber, j: u64) -> u64
+    requires { ⌜ Siblings (now t) field level (block .0) (block .0 + 1) ⌝ }
+    ensures { λ r. ⌜ r ≡ j - at.before (now (t .entry)) level (block .0) (field .number) ⌝ }
 {
-    let before = record::before(t, field.size, on.level, spot.block, field.number) as u64;
+    let before = record::before(t, field.size, level, block, field.number) as u64;
     if j <= before {
-        return Child::Off;
+        return 0;
     }
-    match walk_steps::look(t, field.size, on.level, on.b, spot.block, spot.place) {
-        Next::Kept(i, o) => Child::Kept(i, o, j - before),
-        Next::Points(i, o) => Child::Points(i, o, j - before),
-        Next::Off => Child::Off,
-    }
+    j - before
 }
 
 // How many children a block of so many bytes has, where full blocks have b: all of them in a full block.
@@ -216,15 +216,11 @@ fn child_with(t: &[u8], field: CountField, on: On, parent: Parent, j: u64) -> Ch
         end: BlockNumber(link.0 + count),
     };
     let i = last_child(t, field, on.level + 1, all, j);
-    let spot = Spot {
-        block: i,
-        place: BlockPlace((i.0 - link.0) * parent.below),
-    };
-    let under = On {
-        level: on.level + 1,
-        b: parent.below,
-    };
-    pick(t, field, under, spot, j)
+    let rest = rest_in(t, field, on.level + 1, i, j);
+    if rest == 0 {
+        return Child::Off;
+    }
+    Child::At(i, BlockPlace((i.0 - link.0) * parent.below), rest)
 }
 
 // A block pointed to, which must be kept.
@@ -307,6 +303,42 @@ fn leaf_place(t: &[u8], field: CountField, on: On, block: BlockNumber, j: u64, w
     BROKEN
 }
 
+// Where a pointing block hands its j-th byte; on the last level no block points.
+fn from_pointer(
+    t: &[u8],
+    field: CountField,
+    on: On,
+    block: BlockNumber,
+    j: u64,
+    way: u64,
+) -> Landing
+    requires { ⌜ (PointsIn (now t) (field .size) (on .level) (on .b) (block .0)) × (Seeking (now t) field (on .level) (on .b) j way (2 * on .level)) ⌝ }
+    ensures { λ r. ⌜ HandsOn (now (t .entry)) field (on .level) (on .b) (block .0) j way r ⌝ }
+{
+    let shape = fields::shape_of(t);
+    if on.level + 1 == shape.levels {
+        return Landing::Off;
+    }
+    let gap = record::gap(t, field.size, on.level, block);
+    let next = target_with(t, field, on, block, j);
+    match next {
+        Target::Kept(i, forward, rest) => Landing::At(i, rest, enter(way, forward, gap)),
+        Target::Off => Landing::Off,
+    }
+}
+
+// Where a block hands its j-th byte: itself if it is kept, else a kept block that it points to.
+fn to_kept(t: &[u8], field: CountField, on: On, block: BlockNumber, j: u64, way: u64) -> Landing
+    requires { ⌜ (InTable (now t) (field .size) (on .level) (on .b) (block .0)) × (Seeking (now t) field (on .level) (on .b) j way (2 * on .level)) ⌝ }
+    ensures { λ r. ⌜ HandsOn (now (t .entry)) field (on .level) (on .b) (block .0) j way r ⌝ }
+{
+    match walk_steps::look(t, field.size, on.level, on.b, block, BlockPlace(0)) {
+        Next::Kept(_, _) => Landing::At(block, j, way),
+        Next::Points(_, _) => from_pointer(t, field, on, block, j, way),
+        Next::Off => Landing::Off,
+    }
+}
+
 // From a kept block to the child that holds its j-th byte.
 fn kept_step(t: &[u8], field: CountField, on: On, block: BlockNumber, j: u64, way: u64) -> u64
     requires { ⌜ (KeptIn (now t) (field .size) (on .level) (on .b) (block .0)) × (Seeking (now t) field (on .level) (on .b) j way (2 * on .level + 1)) ⌝ }
@@ -320,42 +352,28 @@ fn kept_step(t: &[u8], field: CountField, on: On, block: BlockNumber, j: u64, wa
     }
     let below = walk_steps::quotient(on.b, shape.arity);
     let next = child_with(tree, field, on, Parent { block, below }, j);
+    let Child::At(i, o, rest) = next else {
+        return BROKEN;
+    };
+    let further = enter(way, o, BlockPlace(0));
     let under = On {
         level: down,
         b: below,
     };
-    match next {
-        Child::Kept(i, o, rest) => {
-            let further = enter(way, o, BlockPlace(0));
-            kept_step(tree, field, under, i, rest, further)
-        }
-        Child::Points(i, o, rest) => {
-            let further = enter(way, o, BlockPlace(0));
-            pointing_step(tree, field, under, i, rest, further)
-        }
-        Child::Off => BROKEN,
-    }
+    pointing_step(tree, field, under, i, rest, further)
 }
 
-// From a pointing block to the target that holds its j-th byte; on the last level no block points.
+// From a block at which a pointer may still be followed. The one call of the step for a kept block lets the compiler join the two steps.
 fn pointing_step(t: &[u8], field: CountField, on: On, block: BlockNumber, j: u64, way: u64) -> u64
-    requires { ⌜ (PointsIn (now t) (field .size) (on .level) (on .b) (block .0)) × (Seeking (now t) field (on .level) (on .b) j way (2 * on .level)) ⌝ }
+    requires { ⌜ (InTable (now t) (field .size) (on .level) (on .b) (block .0)) × (Seeking (now t) field (on .level) (on .b) j way (2 * on .level)) ⌝ }
     ensures { λ r. ⌜ FoundIn (now (t .entry)) (field .number) (on .level) (block .0) j way r ⌝ }
 {
     let tree = fields::whole(t);
-    let shape = fields::shape_of(tree);
-    if on.level + 1 == shape.levels {
+    let there = to_kept(tree, field, on, block, j, way);
+    let Landing::At(i, rest, further) = there else {
         return BROKEN;
-    }
-    let gap = record::gap(tree, field.size, on.level, block);
-    let next = target_with(tree, field, on, block, j);
-    match next {
-        Target::Kept(i, forward, rest) => {
-            let further = enter(way, forward, gap);
-            kept_step(tree, field, on, i, rest, further)
-        }
-        Target::Off => BROKEN,
-    }
+    };
+    kept_step(tree, field, on, i, rest, further)
 }
 
 // The block of level 0 that holds the j-th byte of the text.
@@ -389,18 +407,12 @@ pub fn word_in(t: &[u8], field: CountField, b: u32, block: BlockNumber, j: u32) 
     ensures { λ r. ⌜ SoughtIn (now (t .entry)) (byteOf (now (t .entry)) (field .number)) (field .number) j (block .0)
         (placedIn (at.textLength (now (t .entry))) r) ⌝ }
 {
-    let on = On { level: 0, b };
-    let spot = Spot {
-        block,
-        place: BlockPlace(0),
-    };
-    let way = block.0 as u64 * b as u64;
-    let next = pick(t, field, on, spot, j as u64);
-    match next {
-        Child::Kept(i, _, rest) => kept_step(t, field, on, i, rest, way),
-        Child::Points(i, _, rest) => pointing_step(t, field, on, i, rest, way),
-        Child::Off => BROKEN,
+    let rest = rest_in(t, field, 0, block, j as u64);
+    if rest == 0 {
+        return BROKEN;
     }
+    let way = block.0 as u64 * b as u64;
+    pointing_step(t, field, On { level: 0, b }, block, rest, way)
 }
 
 // The place of the j-th byte of the text.

@@ -5,12 +5,14 @@ use mathlib.Core.Path.{_≡_, refl, sym, _∙_}
 use mathlib.Core.Logic.{_⊎_, inl, inr}
 use Prim.Native.Nat.{ℕ, zero, suc, _+_, _-_, _%_, _≤_, _<_}
 use native.Mathlib.Omega.{arith}
-use lib.ListN.{length, getD}
+use lib.ListN.{length, getD, length-drop}
+use lib.Seq.{getD-drop}
 use lib.Dec.{ltb, leb, eqb, leb·suc-suc}
 use borrow.Author.Tests.{ltb-true, leb-true, le-leb, lt-leb, lt-ltb, le-ltb, eqb-true, eqb-false, eq-eqb, ne-eqb, leb-false}
 use Rattle.text.specs.Lists.{allBelow}
 use Rattle.text.specs.Text.{isDigit}
-use Rattle.text.specs.ListLaws.{and-left, and-right, and-both, and-false, lt-or-ge, allBelow-at, allBelow-make}
+use Rattle.text.specs.RowLaws.{trimmed}
+use Rattle.text.specs.ListLaws.{and-left, and-right, and-both, and-false, bool-clash, lt-or-ge, allBelow-at, allBelow-make}
 use Rattle.text.specs.Conjunctions.{parts}
 use Rattle.keys.specs.declared.form.Form.{Form}
 use Rattle.keys.specs.declared.form.Form.the-variants.{Code, Cuts, Ended, Wrong}
@@ -418,3 +420,49 @@ module _ (ranges : List ℕ) where
     no-byte-then = λ x xs. started-none (runFrom (keyAutomaton ranges) (Code 0) (x ∷ xs)) (started-run (stepOf ranges (Code 0) x) xs (started-step (Code 0) x));
     empty-rejected = sym (at-end-is ranges ok []);
   }
+
+-- What a row that a byte 10 ends must have to match.
+module _ (ranges : List ℕ) where
+  pub done-whole : (row : List ℕ)
+      → isDone ranges (runFrom (keyAutomaton ranges) (Code 0) row) ≡ isWhole ranges (runFrom (keyAutomaton ranges) (Code 0) (trimmed row))
+  unfolding isWhole isDone
+  done-whole = newline-trimmed (keyAutomaton ranges) (λ row. isWhole ranges (runFrom (keyAutomaton ranges) (Code 0) row))
+      (λ row. refl) refl (λ ys z b e. step-13 ranges (runFrom (keyAutomaton ranges) (Code 0) ys) z b (few-run ranges (Code 0) ys tt) e)
+
+  module _ (xs : List ℕ) where
+    abbrev whole : Bool
+    whole = isWhole ranges (runFrom (keyAutomaton ranges) (Code 0) xs)
+
+    -- its last bytes are the cuts, after a code and a space
+    whole-tests : whole ≡ true → (cutCount ranges + 2 ≤ length xs)
+        × ((j : ℕ) → j < cutCount ranges → cutFits ranges j (getD xs (length xs - cutCount ranges + j) 0) ≡ true)
+    unfolding cutsOf
+    whole-tests e =
+        let m = length (codeOf xs) in
+        let z : 0 + m ≡ m = omega arith in
+        let good = rw z at (sym (code-run ranges 0 xs (omega arith)) ∙ e) in
+        let p = parts (leb 1 m) (leb m maxCode ∷ ltb m (length xs) ∷ cutsGood ranges (cutsOf xs) ∷ []) good in
+        let low = leb-true 1 m (p .0) in
+        let short = ltb-true m (length xs) (p .1 .1 .0) in
+        let all = eqb (length (cutsOf xs)) (cutCount ranges) in
+        let size = eqb-true (length (cutsOf xs)) (cutCount ranges) (and-left all (allFit ranges 0 (cutsOf xs)) (p .1 .1 .1 .0)) in
+        let fit = fit-at ranges 0 (cutsOf xs) (and-right all (allFit ranges 0 (cutsOf xs)) (p .1 .1 .1 .0)) in
+        let long : length (cutsOf xs) ≡ length xs - (m + 1) = length-drop (m + 1) xs in
+        let start : length xs - cutCount ranges ≡ m + 1 = omega arith in (
+          omega arith,
+          λ j l. (let y : 0 + j ≡ j = omega arith in rw (start, ← getD-drop (m + 1) xs j 0) (rw y at (fit j (omega arith)))),
+        )
+
+    pub too-short : length xs < cutCount ranges + 2 → whole ≡ false
+    too-short h = by whole refl
+      where
+        by : (b : Bool) → whole ≡ b → whole ≡ false
+        by true e = absurd (let z : ⊥ = omega (arith, whole-tests e .0) in z)
+        by false e = e
+
+    pub not-fitting : (j : ℕ) → j < cutCount ranges → cutFits ranges j (getD xs (length xs - cutCount ranges + j) 0) ≡ false → whole ≡ false
+    not-fitting j l f = by whole refl
+      where
+        by : (b : Bool) → whole ≡ b → whole ≡ false
+        by true e = bool-clash (cutFits ranges j (getD xs (length xs - cutCount ranges + j) 0)) (whole-tests e .1 j l) f
+        by false e = e

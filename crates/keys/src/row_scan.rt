@@ -2,11 +2,11 @@
 use crate::form;
 use crate::form::Form;
 ghost use mathlib.Core.Path.{_≡_};
-ghost use Prim.Native.Nat.{_+_, _*_, _≤_, _<_};
+ghost use Prim.Native.Nat.{_+_, _*_, _/_, _≤_, _<_};
 ghost use lib.ListN.{length};
 ghost use Rattle.row_filter.specs.RowAutomaton.{scanByte, scanBytes, RowBetween};
 ghost use Rattle.keys.specs.Forms.{keyAutomaton};
-ghost use Rattle.keys.specs.RowScanned.{asScan};
+ghost use Rattle.keys.specs.RowScanned.{asScan, BytesEnd, CutsFit, MayMatch, RowPassed, TurnedOn};
 ghost use Rattle.keys.specs.Keys.{maxCuts};
 
 // The number of the first row that ends in the stretch and matches; or how far the row is in which the stretch ends, and its number.
@@ -29,6 +29,89 @@ fn turn(ranges: &[u8], form: Form, row: u32, byte: u8) -> Scanned
     Scanned::On(form::step(ranges, form, byte), row)
 }
 
+// The end of a row's bytes, where a newline is at `end`: a carriage return directly before the newline is none of them.
+fn bytes_end(part: &[u8], from: usize, end: usize) -> usize
+    requires { ⌜ (from ≤ end) × (end ≤ length (now part)) ⌝ }
+    ensures { λ r. ⌜ BytesEnd (now (part .entry)) from end r ⌝ }
+{
+    if end == from {
+        return end;
+    }
+    if part[end - 1] == 13 {
+        return end - 1;
+    }
+    end
+}
+
+// Whether the bytes at a place may be all cuts.
+fn cuts_fit(ranges: &[u8], part: &[u8], at: usize) -> bool
+    requires { ⌜ at + length (now ranges) / 2 ≤ length (now part) ⌝ }
+    ensures { λ r. ⌜ CutsFit (now (ranges .entry)) (now (part .entry)) at r ⌝ }
+{
+    let cuts = ranges.len() / 2;
+    let mut k: usize = 0;
+    while k < cuts {
+        if !form::cut_fits(ranges, k, part[at + k]) {
+            return false;
+        }
+        k += 1;
+    }
+    true
+}
+
+// Whether the row up to a newline may match: its last bytes are looked at, without reading its code.
+fn may_match(ranges: &[u8], part: &[u8], from: usize, end: usize) -> bool
+    requires { ⌜ (from ≤ end) × (end ≤ length (now part)) × (length (now ranges) ≤ 2 * maxCuts) ⌝ }
+    ensures { λ r. ⌜ MayMatch (now (ranges .entry)) (now (part .entry)) from end r ⌝ }
+{
+    let cuts = ranges.len() / 2;
+    let last = bytes_end(part, from, end);
+    if last - from < cuts + 2 {
+        return false;
+    }
+    cuts_fit(ranges, part, last - cuts)
+}
+
+// The place after the row that begins at a place, if a newline of the stretch ends it and it cannot match; else the same place.
+fn past_row(ranges: &[u8], part: &[u8], from: usize) -> usize
+    requires { ⌜ (from ≤ length (now part)) × (length (now ranges) ≤ 2 * maxCuts) ⌝ }
+    ensures { λ r. ⌜ RowPassed (now (ranges .entry)) (now (part .entry)) from r ⌝ }
+{
+    let n = part.len() - from;
+    let k = search_byte::find(part, from, n, 10);
+    if n <= k {
+        return from;
+    }
+    if may_match(ranges, part, from, from + k) {
+        return from;
+    }
+    from + k + 1
+}
+
+// As Scanned, with the place from which the scan goes on.
+pub enum Turned {
+    Found(u32),
+    On(Form, u32, usize),
+}
+
+// From a place on: one byte, or at a row's first byte a whole row that cannot match.
+fn advance(ranges: &[u8], part: &[u8], form: Form, row: u32, i: usize) -> Turned
+    requires { ⌜ (length (now ranges) ≤ 2 * maxCuts) × (row + 1 < 4294967296) × (i < length (now part)) ⌝ }
+    ensures { λ r. ⌜ TurnedOn (now (ranges .entry)) (now (part .entry)) form row i r ⌝ }
+{
+    if form::none(form) {
+        let past = past_row(ranges, part, i);
+        if i < past {
+            return Turned::On(Form::Code(0), row + 1, past);
+        }
+    }
+    let next = turn(ranges, form, row, part[i]);
+    match next {
+        Scanned::Found(q) => Turned::Found(q),
+        Scanned::On(after, q) => Turned::On(after, q, i + 1),
+    }
+}
+
 // A stretch of the text, from a row so far read, with its number.
 pub fn scan(ranges: &[u8], part: &[u8], form: Form, row: u32) -> Scanned
     requires { ⌜ (length (now ranges) ≤ 2 * maxCuts) × (row + length (now part) < 4294967296) ⌝ }
@@ -39,13 +122,17 @@ pub fn scan(ranges: &[u8], part: &[u8], form: Form, row: u32) -> Scanned
     let mut q = row;
     let mut i = 0;
     while i < part.len() {
-        let next = turn(ranges, so_far, q, part[i]);
-        let Scanned::On(after, number) = next else {
-            return next;
-        };
-        so_far = after;
-        q = number;
-        i += 1;
+        let next = advance(ranges, part, so_far, q, i);
+        match next {
+            Turned::Found(number) => {
+                return Scanned::Found(number);
+            }
+            Turned::On(after, number, place) => {
+                so_far = after;
+                q = number;
+                i = place;
+            }
+        }
     }
     Scanned::On(so_far, q)
 }

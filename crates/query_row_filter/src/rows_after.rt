@@ -6,7 +6,7 @@ use layout::header::Header;
 use layout::place::TextPlace;
 ghost use mathlib.Core.Path.{_≡_};
 ghost use mathlib.Core.Bool.{true};
-ghost use Prim.Native.Nat.{_+_, _≤_};
+ghost use Prim.Native.Nat.{_+_, _≤_, _<_};
 ghost use lib.Dec.{ltb};
 ghost use Rattle.format.specs.CountSays.{isCounted, numberOfByte};
 ghost use Rattle.format.specs.FindSays.{total};
@@ -36,7 +36,7 @@ pub fn begin(t: &[u8], h: Header, guide: &[u8], used: bool, mark: u32) -> RowsSt
     if newlines < mark as u64 {
         return RowsStart::Answered(NextRowAnswer::Nothing(mark));
     }
-    let place = start(t, h, guide, used, mark);
+    let place = start(t, h, guide, used, number, mark);
     let StartPlace::At(p) = place else {
         return RowsStart::Answered(NextRowAnswer::Refused(14));
     };
@@ -50,14 +50,15 @@ pub enum StartPlace {
 }
 
 // The place after the byte 10 that ends the mark's row (select); for mark 0 the text's start.
-fn start(t: &[u8], h: Header, guide: &[u8], used: bool, mark: u32) -> StartPlace
-    requires { ⌜ (HeaderOf (now t) h) × (isCounted (now t) 10 ≡ true) × (mark ≤ total (now t) (numberOfByte (now t) 10)) ⌝ }
+fn start(t: &[u8], h: Header, guide: &[u8], used: bool, number: u32, mark: u32) -> StartPlace
+    requires { ⌜ (HeaderOf (now t) h) × (isCounted (now t) 10 ≡ true) × (mark ≤ total (now t) (numberOfByte (now t) 10))
+        × (number ≡ numberOfByte (now t) 10) × (number < h .settings .counted) ⌝ }
     ensures { λ r. ⌜ StartIs (now (t .entry)) (settledBy (now (t .entry)) (now (guide .entry)) used) mark r ⌝ }
 {
     if mark == 0 {
         return StartPlace::At(TextPlace(0));
     }
-    let found = row_edges::ten(t, h, guide, used, mark);
+    let found = row_edges::ten(t, h, guide, used, number, mark);
     let Found::At(end, _) = found else {
         return StartPlace::Broken;
     };

@@ -1,8 +1,9 @@
 use borrow.Author.Needs.{needs}
 use native.Mathlib.Omega.{arith}
+use Rattle.walk_steps.proofs.NextLaws.{on-top}
 use mathlib.Core.Path.{ap}
 use Prim.Native.Nat.{ℕ, _+_}
-use Rattle.ask_select.proofs.FindByHeaderLaws.{top-level, sought-by}
+use Rattle.ask_select.proofs.FindByHeaderLaws.{sought-by}
 use Rattle.ask_guide.specs.Guides.{lastEntry}
 use Rattle.ask_guided.proofs.GuidedFindLaws as laws
 use Rattle.ask_guided.proofs.guided_find.guided.Statement.{statement}
@@ -32,7 +33,7 @@ guided-spec =
     (λ c κs. let p = c .before .before .before .before .before .before .before .pre in
     (p .0, p .1, omega (arith, c .before .level-count .ensures, c .if2 .left)))
     (λ c κs. let w = c .before .before .before .before .before .before .before .before in let a = w .args in let p = w .pre in (
-      top-level _ _ (p .0),
+      on-top _ _ (p .0),
       p .1,
       p .3,
       p .4,

@@ -18,30 +18,30 @@ row-at-spec =
     (λ c. laws.row-edges _ _ _ _ _ _ _ (c .before .before .before .of-row .ensures) (c .before .enum-told .given .1) (c .number .ensures))
     (λ c. search needs)
     (λ c. let passes = c .before .before .before .before .before .before .before .before .pre .passes in
-    let edges = c .before .before .before .before .of-row .ensures .spans _ _ (c .before .before .found .given .1) in
+    let edges = c .before .before .before .before .of-row .ensures .spans _ _ _ (c .before .before .found .given .1) in
     let k = laws.copied _ _ _ _ _ (Refused 13) (omega arith) (span-short _ _ _ _ _ _ _ passes (edges .within) (c .if1 .taken)) in
-    record { says = laws.row-spans _ _ (edge.settled-sound _ _ _) _ _ _ _ _ _ passes edges (k .0 .says) (k .1); numbered = omega arith })
+    record { says = laws.row-spans _ _ (edge.settled-sound _ _ _) _ _ _ _ _ _ _ passes edges (k .0 .says) (k .1); numbered = omega arith })
     (λ c κs. let header = c .before .before .before .before .before .before .before .before .before .pre in
-    let edges = c .before .before .before .before .before .of-row .ensures .spans _ _ (c .before .before .before .found .given .1) in
-    (header, omega (arith, edges .within, header .length-is), c .before .if1 .left))
+    let edges = c .before .before .before .before .before .of-row .ensures .spans _ _ _ (c .before .before .before .found .given .1) in
+    (header, omega (arith, edges .within, header .length-is), c .before .if1 .left, edges .reads))
     (λ c. search needs)
     (λ c. search needs)
     (λ c κs. search needs)
     (λ c. search needs)
     (λ c. let k = c .before .before .before .before .before in let w = k .before .before .before .before in
-    let edges = w .before .before .of-row .ensures .spans _ _ (w .found .given .1) in
+    let edges = w .before .before .of-row .ensures .spans _ _ _ (w .found .given .1) in
     let passes = w .before .before .before .before .before .before .pre .passes in
-    let copied = laws.row-passed _ _ _ _ _ (k .copy .ensures .0) _ _ (c .before .enum-told2 .given .1) (c .copied-number .ensures) in
+    let copied = laws.row-passed _ _ _ _ _ (k .copy-on .ensures .0) _ _ (c .before .enum-told2 .given .1) (c .copied-number .ensures) in
     record {
-      says = laws.row-spans _ _ (edge.settled-sound _ _ _) _ _ _ _ _ _ passes edges (copied .says) (k .copy .ensures .1);
+      says = laws.row-spans _ _ (edge.settled-sound _ _ _) _ _ _ _ _ _ _ passes edges (copied .says) (k .copy-on .ensures .1);
       numbered = copied .numbered;
     })
     (λ c. search needs)
     (λ c. let k = c .before .before .before .before .before in let w = k .before .before .before .before in
-    let edges = w .before .before .of-row .ensures .spans _ _ (w .found .given .1) in
+    let edges = w .before .before .of-row .ensures .spans _ _ _ (w .found .given .1) in
     let passes = w .before .before .before .before .before .before .pre .passes in
-    let copied = laws.row-bytes _ _ _ _ _ (k .copy .ensures .0) _ _ (c .before .copied .given .1) in
+    let copied = laws.row-bytes _ _ _ _ _ (k .copy-on .ensures .0) _ _ (c .before .copied .given .1) in
     record {
-      says = laws.row-spans _ _ (edge.settled-sound _ _ _) _ _ _ _ _ _ passes edges (copied .says) (k .copy .ensures .1);
+      says = laws.row-spans _ _ (edge.settled-sound _ _ _) _ _ _ _ _ _ _ passes edges (copied .says) (k .copy-on .ensures .1);
       numbered = copied .numbered;
     }))

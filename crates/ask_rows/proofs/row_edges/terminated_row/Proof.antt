@@ -12,7 +12,7 @@ returns c = laws.edges-no-start _ _ (laws.settled-sound _ _ _) _ _
 next-newline-requires : tie.Need-next-newline-requires
 next-newline-requires c κs =
     let f = c .before .before .before in
-    let pre = f .before .before .before .pre in
+    let pre = f .before .before .before .pre .0 in
     (pre, omega (arith, pre .length-is, laws.start-within _ _ (laws.settled-sound _ _ _) _ _ (f .row-start .ensures) _ (c .before .found .given .1)))
 
 -- no newline ends it
@@ -29,7 +29,7 @@ sub-without-cr c =
     omega (
       arith,
       laws.end-past _ _ (laws.settled-sound _ _ _) _ _ (f .row-start .ensures) _ (e .before .before .found .given .1)
-          _ (e .next-newline .ensures) _ _ (c .before .before .before .end .given .1),
+          _ (e .next-newline .ensures) _ _ _ (c .before .before .before .end .given .1),
     )
 
 returns-3 : tie.Need-returns-3
@@ -37,13 +37,13 @@ returns-3 c =
     let e = c .before .before .before .before .before .before in
     let f = e .before .before .before .before in
     laws.edges-trimmed _ _ (laws.settled-sound _ _ _) _ _ (f .row-start .ensures) _ (e .before .before .found .given .1)
-    _ (e .next-newline .ensures) _ _ (c .before .before .before .before .end .given .1) _ (c .without-cr .ensures)
+    _ (e .next-newline .ensures) _ _ _ (c .before .before .before .before .end .given .1) _ (c .without-cr .ensures)
 
 pub terminated-row-spec : {M : Type 1} → statement M
 terminated-row-spec =
     tie.close
     (tie.spec
-    (λ c κs. search needs)
+    (λ c κs. c .before .before .pre)
     (λ c. search needs)
     (λ c. search needs)
     (λ c κs. search needs)

@@ -13,5 +13,5 @@ length-at-spec =
     (λ c κs. search needs)
     (λ c. search needs)
     (λ c. search needs)
-    (λ c. laws.length-told _ _ _ _ (c .before .before .before .of-row .ensures) _ _ (c .before .found .given .1))
+    (λ c. laws.length-told _ _ _ _ (c .before .before .before .of-row .ensures) _ _ _ (c .before .found .given .1))
     (λ c. laws.length-refused _ _ _ _ (c .before .before .before .of-row .ensures) _ (c .before .found2 .given .1)))

@@ -1,10 +1,27 @@
 use borrow.Author.Needs.{needs}
+use mathlib.Core.Path.{refl}
 use native.Mathlib.Omega.{arith}
 use Rattle.walk_steps.proofs.StepLaws.{kept-in, field-there, b-small, b-pos, shapes}
 use Rattle.ask_select.proofs.LandLaws as laws
 use Rattle.ask_select.proofs.SeekLaws as counts
 use Rattle.ask_select.proofs.seek.child_with.Statement.{statement}
 use Rattle.ask_select.proofs.seek.child_with.Tie as tie
+
+abbrev start : tie.After-children → tie.Start
+start k = k .before .before .before .before .before
+
+family : (k : tie.After-children)
+    → laws.Family (start k .args .t .now) (start k .args .field) (start k .args .on .level) (start k .args .on .b) (start k .args .parent .block .0)
+    (start k .args .parent .below) (start k .args .j) (k .before .before .link .result .0) (k .children .result)
+family k =
+    let p = start k .pre in record {
+      kept = p .0;
+      lower = p .1;
+      number-in = p .2;
+      low = p .3;
+      link-is = k .before .before .link .ensures;
+      count-is = rw (k .before .block-length .ensures .0) at (k .children .ensures);
+    }
 
 pub child-with-spec : {M : Type 1} → statement M
 child-with-spec =
@@ -27,61 +44,40 @@ child-with-spec =
     (λ c. search needs)
     (λ c. search needs)
     (λ c.
-    let k = c .before .before .before .before in
-    let l = k .before .before in
-    let p = l .before .before .before .pre in
-    let n = rw (k .before .block-length .ensures .0) at (k .children .ensures) in
-    laws.child-past _ _ _ _ _ _ _ _ _ (p .0) (p .1) (p .2) (p .3) (l .link .ensures) n
+    laws.child-past _ _ _ _ _ _ _ _ _ (family (c .before .before .before .before))
     (omega (arith, c .before .before .level-count .ensures, c .if1 .taken)))
     (λ c.
-    let k = c .before .before .before .before .before in
-    let l = k .before .before in
-    let p = l .before .before .before .pre in
-    let n = rw (k .before .block-length .ensures .0) at (k .children .ensures) in
-    laws.child-none _ _ _ _ _ _ _ _ _ (p .0) (p .1) (p .2) (p .3) (l .link .ensures) n
-    (c .if2 .taken))
+    laws.child-none _ _ _ _ _ _ _ _ _ (family (c .before .before .before .before .before)) (c .if2 .taken))
     (λ c. search needs)
     (λ c. search needs)
     (λ c κs.
     let e = c .before .before .before in
-    let v = e .before .before in
-    let k = v .before .before in
-    let l = k .before .before in
-    let p = l .before .before .before .pre in
-    let n = rw (k .before .block-length .ensures .0) at (k .children .ensures) in
-    laws.siblings _ _ _ _ _ _ _ _ _ (p .0) (p .1) (p .2) (p .3) (l .link .ensures) n
-    (omega (arith, v .level-count .ensures, e .if1 .left)) (c .before .before .if2 .left))
-    (λ c. search needs)
+    laws.siblings _ _ _ _ _ _ _ _ _ (family (e .before .before .before .before))
+    (omega (arith, e .before .before .level-count .ensures, e .if1 .left)) (c .before .before .if2 .left))
     (λ c.
-    let e = c .before .before .before .before .before .before .before in
-    let v = e .before .before in
-    let k = v .before .before in
-    let l = k .before .before in
-    let p = l .before .before .before .pre in
-    let n = rw (k .before .block-length .ensures .0) at (k .children .ensures) in
-    let small = laws.child-place-small _ _ _ _ _ _ _ _ _ (p .0) (p .1) (p .2) (p .3) (l .link .ensures) n
-    _ (omega (arith, v .level-count .ensures, e .if1 .left)) (c .before .before .before .last-child .ensures) in
-    omega (arith, small))
-    (λ c.
-    let e = c .before .before .before .before .before .before .before .before in
-    let p = e .before .before .before .before .before .before .before .before .before .pre .1 in
+    let p = c .before .before .before .before .before .before .before .before .before .before .before .before .before .before .pre .1 in
     record { fits = omega (arith, p .level-in, p .facts .bounds .levels-high) })
     (λ c κs.
-    let e = c .before .before .before .before .before .before .before .before in
-    let v = e .before .before in
-    let k = v .before .before in
-    let l = k .before .before in
-    let p = l .before .before .before .pre in
-    let n = rw (k .before .block-length .ensures .0) at (k .children .ensures) in
-    let there = laws.child-there _ _ _ _ _ _ _ _ _ (p .0) (p .1) (p .2) (p .3) (l .link .ensures) n
-    _ (omega (arith, v .level-count .ensures, e .if1 .left)) (c .before .before .before .before .last-child .ensures) in
-    (there, p .2))
+    let e = c .before .before .before .before .before in
+    laws.alone _ _ _ _ _ _ _ _ _ (family (e .before .before .before .before))
+    _ (omega (arith, e .before .before .level-count .ensures, e .if1 .left)) (c .before .last-child .ensures))
     (λ c.
-    let e = c .before .before .before .before .before .before .before .before .before in
-    let v = e .before .before in
-    let k = v .before .before in
-    let l = k .before .before in
-    let p = l .before .before .before .pre in
-    let n = rw (k .before .block-length .ensures .0) at (k .children .ensures) in
-    laws.child-picked _ _ _ _ _ _ _ _ _ (p .0) (p .1) (p .2) (p .3) (l .link .ensures) n
-    _ (omega (arith, v .level-count .ensures, e .if1 .left)) (c .before .before .before .before .before .last-child .ensures) _ (c .pick .ensures)))
+    let w = c .before in
+    let i = w .before .before in
+    let e = i .before .before .before .before in
+    laws.child-without _ _ _ _ _ _ _ _ _ (family (e .before .before .before .before))
+    _ (omega (arith, e .before .before .level-count .ensures, e .if1 .left)) (i .last-child .ensures) _ (w .rest-in .ensures) (c .if3 .taken))
+    (λ c. let i = c .before .before .before .before .before in omega (arith, i .last-child .ensures .low))
+    (λ c.
+    let i = c .before .before .before .before .before .before in
+    let e = i .before .before .before .before in
+    let small = laws.child-place-small _ _ _ _ _ _ _ _ _ (family (e .before .before .before .before))
+    _ (omega (arith, e .before .before .level-count .ensures, e .if1 .left)) (i .last-child .ensures) in
+    omega (arith, small))
+    (λ c.
+    let o = c .before .before .before in
+    let w = o .before in
+    let i = w .before .before in
+    let e = i .before .before .before .before in
+    laws.child-chosen _ _ _ _ _ _ _ _ _ (family (e .before .before .before .before))
+    _ (omega (arith, e .before .before .level-count .ensures, e .if1 .left)) (i .last-child .ensures) _ (w .rest-in .ensures) _ refl (o .if3 .left)))

@@ -1,5 +1,6 @@
 use borrow.Author.Needs.{needs}
 use native.Mathlib.Omega.{arith}
+use Rattle.walk_steps.proofs.NextLaws.{on-top}
 use Rattle.ask_select.proofs.FindByHeaderLaws as laws
 use Rattle.ask_select.proofs.seek.seek.Statement.{statement}
 use Rattle.ask_select.proofs.seek.seek.Tie as tie
@@ -10,7 +11,7 @@ seek-spec =
     (tie.spec
     (λ c κs. let p = c .before .pre in (laws.full-level _ _ (p .0), p .1, omega (arith, p .3, p .4)))
     (λ c κs. let p = c .before .before .pre in
-    (laws.top-level _ _ (p .0), p .1, p .3, p .4, laws.stopped _ _ _ _ (p .1) (p .3) (c .first-block .ensures)))
+    (on-top _ _ (p .0), p .1, p .3, p .4, laws.stopped _ _ _ _ (p .1) (p .3) (c .first-block .ensures)))
     (λ c κs. search needs)
     (λ c. let p = c .before .before .before .before .pre in (
       laws.from-first _ _ _ _ (p .1) (p .3) (c .before .before .first-block .ensures) _ _

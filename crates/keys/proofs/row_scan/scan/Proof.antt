@@ -4,9 +4,9 @@ use native.Mathlib.Omega.{arith}
 use borrow.Author.Needs.{needs}
 use lib.ListN.{length, drop}
 use Rattle.row_filter.specs.RowAutomaton.{scanBytes}
-use Rattle.row_filter.specs.RowAutomatonLaws.{on-next, found-next, scan-on, scan-found, scan-end}
+use Rattle.row_filter.specs.RowAutomatonLaws.{scan-end}
 use Rattle.keys.specs.Forms.{keyAutomaton}
-use Rattle.keys.proofs.RowScanLaws.{as-found, as-on, is-found, low-found}
+use Rattle.keys.proofs.RowScanLaws as laws
 use Rattle.keys.proofs.row_scan.scan.Statement.{statement}
 use Rattle.keys.proofs.row_scan.scan.Tie as tie
 
@@ -25,25 +25,19 @@ scan-spec =
     Inv-loop
     μ-loop
     (λ c. (omega arith, (omega arith, omega arith), refl))
-    (λ c. omega arith)
-    (λ c κs. search needs)
+    (λ c κs. let p = c .before .before .before .before .pre in (p .0, omega (arith, p .1), omega arith))
     (λ c. search needs)
+    (λ c. let a = c .before .before .before in
+    let l = a .before .before in
+    let f = laws.found-there _ _ _ _ _ _ (a .advance .ensures) _ (c .before .next .given .1) in
+    (f .2 ∙ l .loop .inv .2, (omega (arith, f .0), omega (arith, f .1))))
     (λ c. search needs)
-    (λ c. let t = c .before .before in let l = t .before .before .before in let s = l .before .before .before in
-    let f = as-found _ _ _ (c .enum-told .given .1) (t .turn .ensures) in
-    let b = found-next (keyAutomaton (s .args .ranges .now)) _ _ _ _ f in (
-      is-found _ _ _ (c .enum-told .given .1)
-          (scan-found (keyAutomaton (s .args .ranges .now)) (s .args .part .now) (l .loop .i) (omega arith) _ _ _ f ∙ l .loop .inv .2),
-      low-found _ _ (s .args .row) _ (c .enum-told .given .1) (omega (arith, b .0)) (omega (arith, b .1)),
-    ))
-    (λ c. omega arith)
-    (λ c. omega arith)
-    (λ c. let n = c .before in let t = n .before .before in let l = t .before .before .before in let s = l .before .before .before in
-    let f = as-on _ _ _ _ (n .next .given .1) (t .turn .ensures) in
-    let b = on-next (keyAutomaton (s .args .ranges .now)) _ _ _ _ _ f in (
-      omega arith,
-      (omega (arith, b .0), omega (arith, b .1)),
-      scan-on (keyAutomaton (s .args .ranges .now)) (s .args .part .now) (l .loop .i) (omega arith) _ _ _ _ f ∙ l .loop .inv .2,
-    ))
+    (λ c. let a = c .before .before .before in
+    let f = laws.goes-on _ _ _ _ _ _ (a .advance .ensures) _ _ _ (c .before .next2 .given .1) in
+    omega (arith, f .0, f .1))
+    (λ c. let a = c .before .before .before in
+    let l = a .before .before in
+    let f = laws.goes-on _ _ _ _ _ _ (a .advance .ensures) _ _ _ (c .before .next2 .given .1) in
+    (f .1, (omega (arith, f .2), omega (arith, f .0, f .3)), f .4 ∙ l .loop .inv .2))
     (λ c. let l = c .before in let s = l .before .before .before in
     (scan-end (keyAutomaton (s .args .ranges .now)) (s .args .part .now) (l .loop .i) (omega arith) _ _ ∙ l .loop .inv .2, (omega arith, omega arith))))

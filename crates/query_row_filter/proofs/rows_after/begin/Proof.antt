@@ -25,7 +25,7 @@ begin-spec =
     (settled-sound _ _ _) (omega (arith, c .if3 .taken, all))))
     (λ c κs. let f = c .before in let d = f .before .before .before in let n = d .before .before in let s = n .before .before .before in
     let all = f .total .ensures ∙ ap (total (s .args .t .now)) (n .number-of .ensures .0) in
-    (s .pre, is-counted _ _ (s .pre) 10 _ (n .number-of .ensures .0) (d .if1 .left), omega (arith, c .if3 .left, all)))
+    (s .pre, is-counted _ _ (s .pre) 10 _ (n .number-of .ensures .0) (d .if1 .left), omega (arith, c .if3 .left, all), n .number-of .ensures .0, d .if1 .left))
     (λ c. search needs)
     (λ c. search needs)
     (λ c. let b = c .before .before in let f = b .before .before in

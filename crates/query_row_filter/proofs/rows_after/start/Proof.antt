@@ -12,7 +12,7 @@ start-spec =
     tie.close
     (tie.spec
     (λ c. start-first _ _ _ (c .if1 .taken))
-    (λ c κs. search needs)
+    (λ c κs. let p = c .before .before .before .pre in (p .0, p .3, p .4, omega (arith, c .if1 .left), rw (p .3) (p .2)))
     (λ c. search needs)
     (λ c. search needs)
     (λ c. let f = c .before .before in let s = f .before .before .before .before in
