@@ -8,16 +8,16 @@ pub mod licence_exports;
 pub mod order_exports;
 pub mod without_edges_exports;
 
+use ask_access::Answer;
+use ask_access::Copied;
+use ask_access::read_by_header::Ran;
+use ask_patterns::PlacesWritten;
+use ask_rank::Counted;
+use ask_rows::RowCopied;
+use ask_select::Found;
 use list_lines::Listed;
-use query::Answer;
-use query::Copied;
-use query::Counted;
-use query::Found;
-use query::NextRowAnswer;
-use query::PlacesWritten;
-use query::Ran;
-use query::RowCopied;
-use query::TextPlace;
+use query_row_filter::NextRowAnswer;
+use text::TextPlace;
 use tree::Built;
 use tree::Room;
 use tree::Scanned;
@@ -152,7 +152,7 @@ pub extern "C" fn bt_check(tree: &[u8]) -> u32
 pub extern "C" fn bt_byte(tree: &[u8], place: u32, value: &mut u32, entered: &mut u32) -> u32
     ensures { λ r. ⌜ saying r (now (value .exit)) (now (entered .exit)) ≡ byteSays (now (tree .entry)) place ⌝ }
 {
-    let answer = query::byte(tree, TextPlace(place));
+    let answer = ask_access::byte(tree, TextPlace(place));
     match answer {
         Answer::Byte(byte, blocks) => {
             *value = byte as u32;
@@ -174,7 +174,7 @@ pub extern "C" fn bt_run(tree: &[u8], place: u32, offset: &mut u64, len: &mut u3
     ensures { λ _. ⌜ now (offset .exit) ≡ runSays (now (tree .entry)) place .0 ⌝ }
     ensures { λ _. ⌜ now (len .exit) ≡ runSays (now (tree .entry)) place .1 ⌝ }
 {
-    let ran = query::run_part(tree, TextPlace(place));
+    let ran = ask_access::run_part(tree, TextPlace(place));
     match ran {
         Ran::At(part) => {
             *offset = part.from as u64;
@@ -202,7 +202,7 @@ pub extern "C" fn bt_span(
     ensures { λ _. ⌜ now (entered .exit) ≡ spanSays (now (tree .entry)) place len (length (now (buffer .entry))) .entered ⌝ }
     ensures { λ _. ⌜ now (buffer .exit) ≡ spanLeaves (now (tree .entry)) place len (now (buffer .entry)) ⌝ }
 {
-    let copied = query::span(tree, TextPlace(place), len, buffer);
+    let copied = ask_access::span(tree, TextPlace(place), len, buffer);
     match copied {
         Copied::Bytes(_, blocks) => {
             *entered = blocks;
@@ -229,9 +229,9 @@ pub extern "C" fn bt_count(
     if 255 < byte {
         *times = 0;
         *entered = 0;
-        return query::uncounted(tree, i);
+        return ask_rank::uncounted::uncounted(tree, i);
     }
-    let counted = query::count(tree, byte as u8, i);
+    let counted = ask_rank::count(tree, byte as u8, i);
     match counted {
         Counted::Times(count, visits) => {
             *times = count;
@@ -254,9 +254,9 @@ pub extern "C" fn bt_find(tree: &[u8], byte: u32, j: u32, place: &mut u32, enter
     if 255 < byte {
         *place = 0;
         *entered = 0;
-        return query::uncounted(tree, 0);
+        return ask_rank::uncounted::uncounted(tree, 0);
     }
-    let found = query::find(tree, byte as u8, j);
+    let found = ask_select::find(tree, byte as u8, j);
     match found {
         Found::At(at, path) => {
             *place = at.0;
@@ -276,7 +276,7 @@ pub extern "C" fn bt_find(tree: &[u8], byte: u32, j: u32, place: &mut u32, enter
 pub extern "C" fn bt_row(tree: &[u8], q: u32, buffer: &mut [u8], len: &mut u32) -> u32
     ensures { λ r. ⌜ RowSays (now (tree .entry)) q (now (buffer .entry)) r (now (len .exit)) (now (buffer .exit)) ⌝ }
 {
-    let copied = query::row(tree, q, buffer);
+    let copied = ask_rows::row(tree, q, buffer);
     match copied {
         RowCopied::Bytes(size) => {
             *len = size;
@@ -295,7 +295,7 @@ pub extern "C" fn bt_places(tree: &[u8], pattern: &[u8], table: &mut [u32], numb
     ensures { λ r. ⌜ saying r (now (number .exit)) 0 ≡ placesSays (now (tree .entry)) (now (pattern .entry)) (length (now (table .entry))) ⌝ }
     ensures { λ _. ⌜ now (table .exit) ≡ placesLeaves (now (tree .entry)) (now (pattern .entry)) (now (table .entry)) ⌝ }
 {
-    let written = query::places(tree, pattern, table);
+    let written = ask_patterns::places(tree, pattern, table);
     match written {
         PlacesWritten::Number(n) => {
             *number = n;
@@ -315,7 +315,7 @@ pub extern "C" fn bt_next_match(tree: &[u8], ranges: &[u8], mark: &mut u32, row:
         (now (tree .entry)) (now (ranges .entry)) (now (mark .entry)) (record { refusal = r; row = now (row .exit); mark = now (mark .exit) }) ⌝ }
 {
     let at = *mark;
-    let shown = query::next_match(tree, ranges, at);
+    let shown = ask_worn_keys::next_match(tree, ranges, at);
     match shown {
         NextRowAnswer::Row(q) => {
             *row = q;
@@ -346,7 +346,7 @@ pub extern "C" fn bt_next_with_prefix(
         (startsWith (now (prefix .entry))) (now (mark .entry)) (record { refusal = r; row = now (row .exit); mark = now (mark .exit) }) ⌝ }
 {
     let at = *mark;
-    let answer = query::next_row_with_prefix(tree, prefix, at);
+    let answer = query_prefix::next_row_with_prefix(tree, prefix, at);
     match answer {
         NextRowAnswer::Row(q) => {
             *row = q;

@@ -1,5 +1,5 @@
 // The order of two trees' texts, exported to C.
-use query::Compared;
+use ask_order::Compared;
 ghost use mathlib.Core.Path.{_≡_};
 ghost use Rattle.ask_order.specs.Order.{orderSays};
 ghost use Rattle.abi.specs.ExportAnswers.{firstGiven};
@@ -17,7 +17,7 @@ pub extern "C" fn bt_order(
     ensures { λ r. ⌜ record { number = r; order = now (order .exit); length = now (shared .exit) } ≡ orderSays (now (one .entry)) (now (other .entry)) ⌝ }
     ensures { λ _. ⌜ now (first .exit) ≡ firstGiven (orderSays (now (one .entry)) (now (other .entry)) .order) ⌝ }
 {
-    let compared = query::compare(one, other);
+    let compared = ask_order::compare(one, other);
     match compared {
         Compared::Before(length) => {
             *order = 1;

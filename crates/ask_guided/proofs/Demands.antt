@@ -20,7 +20,6 @@ use Rattle.ask_select.proofs.FoundLaws.{by-find}
 use Rattle.ask_select.proofs.find.Reads as find-reads
 use Rattle.ask_guide.specs.Guides.{lastListed, blockOf, guideNumber}
 use Rattle.ask_guide.proofs.GuideList.{guide-verdict}
-use Rattle.ask_guide.proofs.Demands.{CheckGuide}
 use Rattle.ask_guided.specs.declared.Guided.{Guided}
 use Rattle.ask_guided.specs.declared.Guided.the-variants.{At, Refused}
 use Rattle.ask_guided.specs.Guided.{stepsTo, saidGuided, stepsOf, foundOf}
@@ -52,12 +51,9 @@ one-answer t v byte j x y a b = same-found x y (a .numbered) (b .numbered) (go (
     go (inl l) = a .says .asked l ∙ sym (b .says .asked l)
     go (inr l) = let z : selectNumber t byte j ≡ 0 = omega arith in a .says .accepted z v ∙ sym (b .says .accepted z v)
 
--- Request 113: find with a guide. If the tree and the guide are accepted, place and blocks entered are those of find.
+-- Request 113: find with a guide. If the tree and the guide are accepted (check_guide returns `guideNumber`), place and blocks entered are those of find.
 module _ (κs : Lfts 2) (t guide : RefT (List ℕ)) (byte j : ℕ) (r : Guided) (a : FindGuided κs t guide byte j r) where
-  module _ (κ : Lfts 2) (ok : CheckGuide κ t guide 0) where
-    accepted : guideNumber (now t) (now guide) ≡ 0
-    accepted = sym ok
-
+  module _ (accepted : guideNumber (now t) (now guide) ≡ 0) where
     as-find : FindAnswer (now t) byte j (foundOf r)
     as-find =
         let f = found-by (now t) (now guide) byte j r a in

@@ -26,7 +26,6 @@ use Rattle.theory_counts.specs.Demands as tallies
 use Rattle.theory_counts.specs.RowsOfText.{row-lets}
 use Rattle.ask_guide.specs.Guides.{guideNumber}
 use Rattle.ask_guide.proofs.GuideList.{guide-verdict}
-use Rattle.ask_guide.proofs.Demands.{CheckGuide}
 use Rattle.ask_rows.specs.declared.RowCopied.{RowCopied}
 use Rattle.ask_rows.specs.declared.RowCopied.the-variants as row
 use Rattle.ask_rows.specs.RowAnswers.{saidRow, Numbered, RowAnswer}
@@ -78,9 +77,8 @@ module _ (t : List ℕ) (v : verdict t ≡ 0)
 
 -- if the tree and the guide are accepted, row with a guide returns what row returns
 pub guided-as-row : (κs : Lfts 3) (t guide : RefT (List ℕ)) (q : ℕ) (buffer after : RefT (List ℕ)) (r : RowCopied) → RowGuided κs t guide q buffer after r
-    → (κ : Lfts 2) → CheckGuide κ t guide 0 → (κ′ : Lfts 2) (left : RefT (List ℕ)) (s : RowCopied) → Row κ′ t q buffer left s → (r ≡ s) × (now after ≡ now left)
-guided-as-row κs t guide q buffer after r a κ ok κ′ left s b =
-    let g : guideNumber (now t) (now guide) ≡ 0 = sym ok in
+    → guideNumber (now t) (now guide) ≡ 0 → (κ : Lfts 2) (left : RefT (List ℕ)) (s : RowCopied) → Row κ t q buffer left s → (r ≡ s) × (now after ≡ now left)
+guided-as-row κs t guide q buffer after r a g κ left s b =
     let v = guide-verdict (now t) (now guide) g in
     let z = a .says in
     one-row (now t) v q (now buffer) r s (now after) (now left)

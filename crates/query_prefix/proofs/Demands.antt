@@ -1,7 +1,7 @@
 -- The sentences of docs/FORMAT.md, "Rows by their first bytes", as theorems over the contract `PrefixAnswer` of both calls.
 use mathlib.Core.List.{List, [], _++_}
 use mathlib.Core.Bool.{true, false, cond}
-use mathlib.Core.Path.{_≡_, sym, _∙_}
+use mathlib.Core.Path.{_≡_, _∙_}
 use mathlib.Core.Logic.{_⊎_}
 use Prim.Native.Nat.{ℕ, suc, _≤_, _<_}
 use contract.Lifetimes.{Lfts}
@@ -21,7 +21,6 @@ use Rattle.prefix_match.specs.PrefixRowLaws.{longer-sublist, longer-in, newline
 use Rattle.ask_patterns.specs.Places.{patternOk}
 use Rattle.ask_guide.specs.Guides.{guideNumber}
 use Rattle.ask_guide.proofs.GuideList.{guide-verdict}
-use Rattle.ask_guide.proofs.Demands.{CheckGuide}
 use Rattle.query_row_filter.specs.declared.NextRowAnswer.{NextRowAnswer}
 use Rattle.query_row_filter.specs.declared.NextRowAnswer.the-variants.{Row, Nothing, Refused}
 use Rattle.query_row_filter.specs.AllowedOutcome.{maxRows}
@@ -58,9 +57,8 @@ guided-answers κs t guide prefix mark r p = p
 
 -- for an accepted tree and guide the answer is that without the guide
 pub guided-as-prefix : (κs : Lfts 3) (t guide prefix : RefT (List ℕ)) (mark : ℕ) (r : NextRowAnswer) → NextRowWithPrefixGuided κs t guide prefix mark r
-    → (κ : Lfts 2) → CheckGuide κ t guide 0 → (κ′ : Lfts 2) (s : NextRowAnswer) → NextRowWithPrefix κ′ t prefix mark s → r ≡ s
-guided-as-prefix κs t guide prefix mark r a κ ok κ′ s b =
-    let g : guideNumber (now t) (now guide) ≡ 0 = sym ok in
+    → guideNumber (now t) (now guide) ≡ 0 → (κ : Lfts 2) (s : NextRowAnswer) → NextRowWithPrefix κ t prefix mark s → r ≡ s
+guided-as-prefix κs t guide prefix mark r a g κ s b =
     next-row.one-next-row (now t) (prefixRefusal (now t) (now prefix)) (startsWith (now prefix)) mark
     (guideNumber (now t) (now guide)) (verdict (now t)) g (guide-verdict (now t) (now guide) g) r s a b
 

@@ -1,9 +1,9 @@
 use borrow.Author.Needs.{needs}
 use native.Mathlib.Omega.{arith}
 use mathlib.Core.Path.{sym, _∙_}
-use Rattle.ask_guide.proofs.GuideWrittenLaws as laws
-use Rattle.ask_guide.proofs.make_guide.Statement.{statement}
-use Rattle.ask_guide.proofs.make_guide.Tie as tie
+use Rattle.build_guide.proofs.GuideWrittenLaws as laws
+use Rattle.build_guide.proofs.make_guide.Statement.{statement}
+use Rattle.build_guide.proofs.make_guide.Tie as tie
 
 pub make-guide-spec : {M : Type 1} → statement M
 make-guide-spec =

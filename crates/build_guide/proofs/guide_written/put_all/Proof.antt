@@ -2,12 +2,12 @@ use native.Mathlib.Omega.{arith}
 use mathlib.Core.Path.{_≡_}
 use Prim.Native.Nat.{_-_, _≤_, _<_}
 use Rattle.format.specs.Layout as at
 use Rattle.ask_guide.specs.Guides.{entriesBefore}
-use Rattle.ask_guide.specs.EntriesWritten.{Puts}
+use Rattle.build_guide.specs.EntriesWritten.{Puts}
 use Rattle.ask_guide.proofs.GuideList as list
-use Rattle.ask_guide.proofs.GuideWrittenLaws as laws
-use Rattle.ask_guide.proofs.guide_written.put_all.Statement.{statement}
-use Rattle.ask_guide.proofs.guide_written.put_all.Tie as tie
+use Rattle.build_guide.proofs.GuideWrittenLaws as laws
+use Rattle.build_guide.proofs.guide_written.put_all.Statement.{statement}
+use Rattle.build_guide.proofs.guide_written.put_all.Tie as tie
 
 abbrev Inv-loop : tie.InvT-loop
 Inv-loop table₀ t h place₀ c₀ table place c = (c ≤ at.countedCount t) × (place ≡ entriesBefore t c) × Puts t table₀ table 0 place

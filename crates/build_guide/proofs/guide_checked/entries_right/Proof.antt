@@ -4,11 +4,11 @@ use Prim.Native.Nat.{ℕ, _+_, _-_, _*_, _≤_, _<_}
 use lib.ListN.{getD}
 use Rattle.format.specs.Words.{wordAt}
 use Rattle.format.specs.Layout as at
 use Rattle.ask_guide.specs.Guides.{guideOf, listedEvery}
-use Rattle.ask_guide.proofs.GuideWrittenLaws as laws
-use Rattle.ask_guide.proofs.GuideWrittenLaws.{false-not, true-not}
-use Rattle.ask_guide.proofs.guide_checked.entries_right.Statement.{statement}
-use Rattle.ask_guide.proofs.guide_checked.entries_right.Tie as tie
+use Rattle.build_guide.proofs.GuideWrittenLaws as laws
+use Rattle.build_guide.proofs.GuideWrittenLaws.{false-not, true-not}
+use Rattle.build_guide.proofs.guide_checked.entries_right.Statement.{statement}
+use Rattle.build_guide.proofs.guide_checked.entries_right.Tie as tie
 
 abbrev Inv-loop : tie.InvT-loop
 Inv-loop guide t h number place count block₀ e₀ block e =

@@ -1,9 +1,8 @@
 use borrow.Author.Needs.{needs}
-use borrow.Author.Needs.{needs}
-use Rattle.ask_guide.proofs.GuideWrittenLaws as laws
+use Rattle.build_guide.proofs.GuideWrittenLaws as laws
 use Rattle.layout.specs.HeaderSays.{header-good, header-refused}
-use Rattle.ask_guide.proofs.guide_written.put_guide.Statement.{statement}
-use Rattle.ask_guide.proofs.guide_written.put_guide.Tie as tie
+use Rattle.build_guide.proofs.guide_written.put_guide.Statement.{statement}
+use Rattle.build_guide.proofs.guide_written.put_guide.Tie as tie
 
 pub put-guide-spec : {M : Type 1} → statement M
 put-guide-spec =

@@ -1,5 +1,5 @@
 // A guide, compared with that of an accepted tree: each entry with the block that making would write, in the same pass.
-use crate::entry_words;
+use ask_guide::entry_words;
 use layout::header;
 use layout::header::Header;
 use layout::header::HeaderRead;
@@ -12,8 +12,8 @@ ghost use Rattle.text.specs.Lists.{sameList};
 ghost use Rattle.format.specs.Layout as at;
 ghost use Rattle.format.specs.Verdict.{verdict};
 ghost use Rattle.layout.specs.HeaderSays.{HeaderOf};
 ghost use Rattle.ask_guide.specs.Guides.{entriesOf, entriesBefore, guideBytes};
-ghost use Rattle.ask_guide.specs.EntriesWritten.{Compared};
+ghost use Rattle.build_guide.specs.EntriesWritten.{Compared};
 
 // Whether the entries of a counted byte stand in the guide; those before it have so many words.
 fn entries_right(guide: &[u8], t: &[u8], h: Header, number: u32, place: usize, count: u64) -> bool

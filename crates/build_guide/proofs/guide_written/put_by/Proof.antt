@@ -2,10 +2,10 @@ use borrow.Author.Needs.{needs}
 use native.Mathlib.Omega.{arith}
 use mathlib.Core.Path.{_∙_, ap}
 use Prim.Native.Nat.{ℕ}
 use Rattle.ask_guide.proofs.GuideList as list
-use Rattle.ask_guide.proofs.GuideWrittenLaws as laws
-use Rattle.ask_guide.proofs.guide_written.put_by.Statement.{statement}
-use Rattle.ask_guide.proofs.guide_written.put_by.Tie as tie
+use Rattle.build_guide.proofs.GuideWrittenLaws as laws
+use Rattle.build_guide.proofs.guide_written.put_by.Statement.{statement}
+use Rattle.build_guide.proofs.guide_written.put_by.Tie as tie
 
 pub put-by-spec : {M : Type 1} → statement M
 put-by-spec =

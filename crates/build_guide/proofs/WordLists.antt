@@ -8,13 +8,7 @@ use lib.ListN.{length, getD, take, drop, length-append, length-drop}
 use lib.Seq.{length-take-le, take-suc, take-at, drop-append-add, drop-drop, getD-append-add}
 use Rattle.text.specs.Lists.{concat}
 use Rattle.format.specs.Words.{wordAt, wordBytes, wordsBytes, setWord}
-use Rattle.format.specs.WordLaws.{length-words, word-at, setWord-eq, wordAt-append}
-
--- word i of the words ws
-pub word-of : (ws : List ℕ) (i : ℕ) → i < length ws → getD ws i 0 < 4294967296 → wordAt (wordsBytes ws) (4 * i) ≡ getD ws i 0
-word-of ws i l small =
-    let e : 0 + 4 * i ≡ 4 * i = omega arith in
-    ap (λ (x : List ℕ). wordAt x (4 * i)) (sym (append-nil (wordsBytes ws))) ∙ rw e at (word-at [] ws [] 0 i refl l small)
+use Rattle.format.specs.WordLaws.{length-words, setWord-eq, wordAt-append}
 
 -- bytes that read as the words ws are their bytes
 pub words-are : (ws g : List ℕ)

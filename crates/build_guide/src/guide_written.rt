@@ -1,7 +1,7 @@
 // The guide of an accepted tree, written: the block of each entry is looked for from that of the one before it on, so that making the entries of
 // a counted byte passes once over level 0.
-use crate::Size;
-use crate::entry_words;
+use ask_guide::Size;
+use ask_guide::entry_words;
 use layout::header;
 use layout::header::Header;
 use layout::header::HeaderRead;
@@ -13,9 +13,9 @@ ghost use lib.ListN.{length};
 ghost use Rattle.format.specs.Layout as at;
 ghost use Rattle.format.specs.Verdict.{verdict};
 ghost use Rattle.layout.specs.HeaderSays.{HeaderOf};
 ghost use Rattle.ask_guide.specs.Guides.{entriesOf, entriesBefore, guideWords, makeSays, makeLeaves};
 ghost use Rattle.ask_guide.specs.GuideAnswers.{saidSize, Numbered};
-ghost use Rattle.ask_guide.specs.EntriesWritten.{Puts};
+ghost use Rattle.build_guide.specs.EntriesWritten.{Puts};
 
 // Writes the entries of a counted byte; those before it have so many words.
 fn put_entries(table: &mut [u8], t: &[u8], h: Header, number: u32, place: usize, count: u64)

@@ -5,11 +5,11 @@ use lib.ListN.{getD}
 use borrow.Author.Tests.{not-true, not-false}
 use Rattle.format.specs.Words.{wordAt}
 use Rattle.format.specs.Layout as at
 use Rattle.ask_guide.specs.Guides.{entriesBefore, guideOf}
 use Rattle.ask_guide.proofs.GuideList as list
-use Rattle.ask_guide.proofs.GuideWrittenLaws as laws
-use Rattle.ask_guide.proofs.guide_checked.right_by.Statement.{statement}
-use Rattle.ask_guide.proofs.guide_checked.right_by.Tie as tie
+use Rattle.build_guide.proofs.GuideWrittenLaws as laws
+use Rattle.build_guide.proofs.guide_checked.right_by.Statement.{statement}
+use Rattle.build_guide.proofs.guide_checked.right_by.Tie as tie
 
 abbrev Inv-loop : tie.InvT-loop
 Inv-loop t h guide all place₀ c₀ place c =

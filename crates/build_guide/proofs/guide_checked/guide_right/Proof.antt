@@ -1,8 +1,8 @@
 use borrow.Author.Needs.{needs}
-use Rattle.ask_guide.proofs.GuideWrittenLaws as laws
+use Rattle.build_guide.proofs.GuideWrittenLaws as laws
 use Rattle.layout.specs.HeaderSays.{header-good, header-refused}
-use Rattle.ask_guide.proofs.guide_checked.guide_right.Statement.{statement}
-use Rattle.ask_guide.proofs.guide_checked.guide_right.Tie as tie
+use Rattle.build_guide.proofs.guide_checked.guide_right.Statement.{statement}
+use Rattle.build_guide.proofs.guide_checked.guide_right.Tie as tie
 
 pub guide-right-spec : {M : Type 1} → statement M
 guide-right-spec =

@@ -20,28 +20,14 @@ use Rattle.format.specs.VerdictLaws.{accepted-readable}
 use Rattle.format.specs.Said.{refused}
 use Rattle.format.specs.SaidLaws.{unless-refused}
 use Rattle.format.specs.FindSays.{total}
-use Rattle.layout.specs.declared.header.Header.{Header}
-use Rattle.layout.specs.HeaderSays.{HeaderOf}
-use Rattle.ask_select.specs.Seeks.{Siblings, LastBefore}
+use Rattle.ask_select.specs.Seeks.{LastBefore}
 use Rattle.ask_select.proofs.SeekLaws.{last-here}
-use Rattle.ask_guide.specs.Guides.{entriesOf, entriesBefore, guideWords, guideOf, guideBytes, guideNumber, sizeSays, makeNumber}
+use Rattle.ask_guide.specs.Guides.{entriesOf, entriesBefore, guideWords, guideOf, guideBytes, guideNumber, makeNumber}
 use Rattle.ask_guide.specs.Guides.{makeSays, makeLeaves, listedEvery}
-use Rattle.ask_guide.specs.EntriesWritten.{written, Puts, Compared}
-use Rattle.ask_guide.proofs.WordLists.{words-are, put-word}
+use Rattle.build_guide.specs.EntriesWritten.{written, Puts, Compared}
+use Rattle.build_guide.proofs.WordLists.{words-are, put-word}
 use Rattle.ask_guide.proofs.Holders.{total-few, block-in, first-low, block-is}
 use Rattle.ask_guide.proofs.GuideList.{guide-length, guide-size, guide-entry, entry-below, entry-stands, entry-word}
-
--- the blocks of level 0 from one on
-pub siblings : (t : List ℕ) (h : Header) (c from n : ℕ) → HeaderOf t h → c < at.countedCount t → from < at.levelCount t 0 → n ≡ at.levelCount t 0
-    → Siblings t (record { size = h .«record_size»; number = c }) 0 from n
-siblings t h c from n r hc l e = record {
-  facts = r .facts;
-  size-is = r .size-is;
-  level-in = omega (arith, r .facts .bounds .levels-low);
-  number-in = hc;
-  some = omega arith;
-  end-in = omega arith;
-}
 
 pub false-not {ℓ} : {A : Type ℓ} → false ≡ true → A
 false-not e = bool-clash false e refl
@@ -159,15 +145,6 @@ module _ (t old : List ℕ) where
       pos-suc : (n : ℕ) → (n ≡ 0 → ⊥) → (k : ℕ) × (n ≡ suc k)
       pos-suc zero l = absurd (l refl)
       pos-suc (suc k) l = (k, refl)
-
--- the size
-pub size-unread : (t : List ℕ) (k n : ℕ) → readable t ≡ suc k → n ≡ suc k → refused n ≡ sizeSays t
-unfolding sizeSays
-size-unread t k n e f = unless-refused (readable t) k n (record { number = 0; value = guideWords t; entered = 0 }) e f
-
-pub size-is : (t : List ℕ) (n : ℕ) → readable t ≡ 0 → n ≡ guideWords t → record { number = 0; value = n; entered = 0 } ≡ sizeSays t
-unfolding sizeSays
-size-is t n e f = rw (e, f)
 
 -- Compared.
 module _ (t guide : List ℕ) where

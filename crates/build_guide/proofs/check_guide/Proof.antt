@@ -1,9 +1,9 @@
 use borrow.Author.Needs.{needs}
 use mathlib.Core.Bool.{true, false}
 use mathlib.Core.Path.{sym, _∙_}
-use Rattle.ask_guide.proofs.GuideWrittenLaws as laws
-use Rattle.ask_guide.proofs.check_guide.Statement.{statement}
-use Rattle.ask_guide.proofs.check_guide.Tie as tie
+use Rattle.build_guide.proofs.GuideWrittenLaws as laws
+use Rattle.build_guide.proofs.check_guide.Statement.{statement}
+use Rattle.build_guide.proofs.check_guide.Tie as tie
 
 pub check-guide-spec : {M : Type 1} → statement M
 check-guide-spec =
