@@ -29,7 +29,7 @@ use Rattle.layout.specs.Header.{headerSays}
 use Rattle.layout.specs.HeaderSays.{HeaderOf}
 use Rattle.walk_steps.specs.Steps.{OnLevel, InTable}
 use Rattle.walk_steps.proofs.StepLaws.{b-small}
-use Rattle.walk_steps.proofs.QuestionStandsLaws.{plain, on-top}
+use Rattle.walk_steps.proofs.NextLaws.{on-top}
 use Rattle.layout.specs.HeaderSays.{header-refused}
 use Rattle.theory_counts.specs.CountsLocal.{byteOf}
 use Rattle.theory_counts.specs.CountedStretches.{tally-none}
@@ -57,7 +57,7 @@ top-siblings t field b n on hc some e = record {
 
 -- level 0, from the header
 pub top-level : (t : List ℕ) (h : Header) → HeaderOf t h → OnLevel t (h .«record_size») 0 (h .«top_length»)
-top-level t h r = plain t h 0 (h .«top_length») (on-top t h r)
+top-level t h r = on-top t h r
 
 pub full-level : (t : List ℕ) (h : Header) → HeaderOf t h → OnLevel t (h .«record_size») 0 (at.fullLength t 0)
 full-level t h r = rw (r .block-is) at (top-level t h r)

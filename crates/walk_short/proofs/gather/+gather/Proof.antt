@@ -106,7 +106,8 @@ pub +gather-spec : {M : Type 1} → statement M
     omega (
       arith,
       laws.entered-few _ _ _ _ 0 _ _ _ (S e .pre .1),
-      laws.down-few _ _ _ _ _ _ _ _ (S e .pre .1) (f e .if1 .left) (more e) _ (rw (w e .whole .ensures) at (z .settle .ensures)) _ _ _ _ (c .before .land .given .1),
+      laws.down-few _ _ _ _ _ _ _ _ (S e .pre .1) (f e .if1 .left) (more e) _ (rw (w e .whole .ensures) at (z .settle .ensures)) _ _ _ _
+          (c .before .land .given .1),
     ))
     (λ c κs.
     let z = c .before .before .before in let e = z .before .before in (
