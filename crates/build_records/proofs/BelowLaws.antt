@@ -86,13 +86,15 @@ module _ (S : Settings) (T out : List ℕ) (level next : Level) (i : ℕ) (w : B
         v (within-part (treeOf S T) out headerLength (offset S T (suc l)) (P + x) (P + x + 4) (w .body) (omega (arith, low)) (omega (arith, ends))) s small)
 
     kind-read : wordAt out (at + 4 * kindField) ≡ kindOf S T l i
-    kind-read = word (4 * kindField) (kindOf S T l i) (omega (arith, record-size S T)) (kind-stands S T (lev .taken) l i (lev .number-in) i-in) (omega (arith, kind-le S T l i))
+    kind-read = word (4 * kindField) (kindOf S T l i) (omega (arith, record-size S T)) (kind-stands S T (lev .taken) l i (lev .number-in) i-in)
+        (omega (arith, kind-le S T l i))
 
     link-read : wordAt out (at + 4 * linkField) ≡ linkOf S T l i
     link-read =
         let e : P + 4 * kindField + 4 ≡ P + 4 * linkField = omega arith in
         word (4 * linkField) (linkOf S T l i) (omega (arith, record-size S T))
-        (rw e at (link-stands S T (lev .taken) l i (lev .number-in) i-in)) (omega (arith, link-le S T (lev .taken) l (lev .number-in) i i-in, limits .text-high))
+        (rw e at (link-stands S T (lev .taken) l i (lev .number-in) i-in))
+        (omega (arith, link-le S T (lev .taken) l (lev .number-in) i i-in, limits .text-high))
 
     module _ (kind : ℕ) (kind-is : kind ≡ wordAt out (at + 4 * kindField)) where
       -- a pointing block has no children
@@ -177,7 +179,8 @@ module _ (S : Settings) (T out : List ℕ) (level next : Level) (i : ℕ) (w : B
                 inside j h = omega (arith, child-fits j h, table-inside S T (lev .taken) (suc l) up)
 
                 pub children-grown : Grown (treeOf S T) out new
-                children-grown = rw new-right (starts-grown (treeOf S T) out to (recordBytes S) (own .start .0) (next .size) n stands fits inside n (omega arith))
+                children-grown = rw new-right (starts-grown (treeOf S T) out to (recordBytes S) (own .start .0) (next .size) n stands fits inside n
+                    (omega arith))
 
                 child-started : (j : ℕ) → j < n → Within (treeOf S T) new (placeAt S T (suc l) (sum + j)) (placeAt S T (suc l) (sum + j) + 4)
                 child-started j h = rw (← to-child j, new-right)

@@ -40,7 +40,8 @@ module _ (S : Settings) (T out : List ℕ) (level : Level) (i : ℕ) (w : On S T
 
     pub start-read : wordAt out (recordPlace (level .table) x (settingsOf (level .settings) (S .counted))) ≡ start S T l x
     start-read = rw at (read-right (treeOf S T) out (placeAt S T l x) (start S T l x) (w .filled .starts x x-in)
-        (start-stands S T (lev .taken) l x (lev .number-in) x-in) (omega (arith, level-at S T (lev .taken) l (lev .number-in) .within x x-in, bounds S T (lev .taken) .text-high)))
+        (start-stands S T (lev .taken) l x (lev .number-in) x-in)
+        (omega (arith, level-at S T (lev .taken) l (lev .number-in) .within x x-in, bounds S T (lev .taken) .text-high)))
 
     pub start-in : start S T l x < length T
     start-in = level-at S T (lev .taken) l (lev .number-in) .within x x-in

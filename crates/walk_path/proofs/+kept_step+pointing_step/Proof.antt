@@ -166,11 +166,13 @@ pub +kept-step+pointing-step-spec : {M : Type 1} → statement M
     let m = c .before .before .before in (
       omega (arith, from m .pre .0, ap levels (tree m .whole .ensures)),
       rw (tree m .whole .ensures) (
-        laws.landed-kept _ _ _ _ _ _ _ (from m .pre .1 .0) (from m .pre .1 .1) _ (rw (tree m .whole .ensures) at (m .to-kept .ensures)) _ _ _ (c .before .there .given .1),
+        laws.landed-kept _ _ _ _ _ _ _ (from m .pre .1 .0) (from m .pre .1 .1) _ (rw (tree m .whole .ensures) at (m .to-kept .ensures)) _ _ _
+            (c .before .there .given .1),
         from m .pre .1 .1,
       ),
     ))
     (λ c.
     let m = c .before .before .before .before in
     laws.landed-by _ _ _ _ _ _ _ (from m .pre .1 .0) (from m .pre .1 .1)
-    _ (rw (tree m .whole .ensures) at (m .to-kept .ensures)) _ _ _ (c .before .before .there .given .1) _ (rw (tree m .whole .ensures) at (c .kept-step .ensures))))
+    _ (rw (tree m .whole .ensures) at (m .to-kept .ensures)) _ _ _ (c .before .before .there .given .1) _
+    (rw (tree m .whole .ensures) at (c .kept-step .ensures))))

@@ -131,7 +131,8 @@ pub +kept-step+pointing-step-spec : {M : Type 1} → statement M
     (λ c.
     let m = c .before .before in
     let e = m .before .before in
-    laws.by-off _ _ _ _ _ _ _ (S e .pre .1 .0) (above e) _ (below e _ (m .before .quotient .ensures)) _ (rw (w e .whole .ensures) at (m .child .ensures)) _ _ (c .enum-told .given .1))
+    laws.by-off _ _ _ _ _ _ _ (S e .pre .1 .0) (above e) _ (below e _ (m .before .quotient .ensures)) _
+    (rw (w e .whole .ensures) at (m .child .ensures)) _ _ (c .enum-told .given .1))
     (λ c κs.
     let m = c .before .before .before in
     let e = m .before .before in
@@ -163,13 +164,17 @@ pub +kept-step+pointing-step-spec : {M : Type 1} → statement M
     (λ c κs.
     let m = c .before .before in (
       omega (arith, from m .pre .0, ap levels (tree m .whole .ensures)),
-      rw (tree m .whole .ensures)
-          (walk.may-keep _ _ _ _ _ _ _ (from m .pre .1 .0) _ (rw (tree m .whole .ensures) at (m .look .ensures)) _ _ (c .enum-told .given .1), from m .pre .1 .1),
+      rw (tree m .whole .ensures) (
+        walk.may-keep _ _ _ _ _ _ _ (from m .pre .1 .0) _ (rw (tree m .whole .ensures) at (m .look .ensures)) _ _
+            (c .enum-told .given .1),
+        from m .pre .1 .1,
+      ),
     ))
     (λ c. search needs)
     (λ c κs.
     let m = c .before .before in
-    rw (tree m .whole .ensures) (walk.may-point _ _ _ _ _ _ _ (from m .pre .1 .0) _ (rw (tree m .whole .ensures) at (m .look .ensures)) _ _ (c .enum-told2 .given .1)))
+    rw (tree m .whole .ensures) (walk.may-point _ _ _ _ _ _ _ (from m .pre .1 .0) _ (rw (tree m .whole .ensures) at (m .look .ensures)) _ _
+    (c .enum-told2 .given .1)))
     (λ c. search needs)
     (λ c. search needs)
     (λ c.
