@@ -3,13 +3,14 @@ use native.Mathlib.Omega.{arith}
 use lib.Seq.{length-take-le}
 use Rattle.cases_script.proofs.GivenBytesLaws.{gives-inside}
 use borrow.Author.Needs.{needs}
-use Rattle.cases.proofs.digest_cases.ask.Statement.{statement}
-use Rattle.cases.proofs.digest_cases.ask.Tie as tie
+use Rattle.cases.proofs.output_cases.ask.Statement.{statement}
+use Rattle.cases.proofs.output_cases.ask.Tie as tie
 
 pub ask-spec : {M : Type 1} → statement M
 ask-spec =
     tie.close
     (tie.spec
+    (λ c. search needs)
     (λ c κs. search needs)
     (λ c κs. search needs)
     (λ c. search needs)
