@@ -8,8 +8,8 @@ ghost use Rattle.ask_guide.specs.Guides.{guideNumber, sizeSays, makeSays, makeL
 ghost use Rattle.ask_guided.specs.Guided.{GuidedSays};
 ghost use Rattle.format.specs.RowSays.{RowBy};
 ghost use Rattle.prefix_match.specs.PrefixRows.{startsWith};
-ghost use Rattle.query_row_filter.specs.AllowedOutcome.{AllowedOutcome};
-ghost use Rattle.query_prefix.specs.PrefixRefusals.{prefixRefusal};
+ghost use Rattle.query_row_filter.specs.AllowedOutcome.{AllowedOutcome, queryRefusal};
+ghost use Rattle.ask_patterns.specs.Places.{patternOk};
 ghost use Rattle.abi.specs.ExportAnswers.{saying};
 
 // How many words the guide of a tree has.
@@ -128,7 +128,7 @@ pub extern "C" fn bt_next_with_prefix_guided(
     row: &mut u32,
 ) -> u32
     ensures { λ r. ⌜ AllowedOutcome (now (tree .entry)) (guideNumber (now (tree .entry)) (now (guide .entry)))
-        (prefixRefusal (now (tree .entry)) (now (prefix .entry))) (startsWith (now (prefix .entry)))
+        (queryRefusal (now (tree .entry)) 16 (patternOk (now (prefix .entry)))) (startsWith (now (prefix .entry)))
         (now (mark .entry)) (record { refusal = r; row = now (row .exit); mark = now (mark .exit) }) ⌝ }
 {
     let at = *mark;

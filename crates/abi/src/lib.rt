@@ -29,15 +29,14 @@ ghost use Rattle.format.specs.CountSays.{countSays};
 ghost use Rattle.format.specs.FindSays.{FindSays};
 ghost use Rattle.format.specs.RowSays.{RowSays};
 ghost use Rattle.format.specs.Verdict.{verdict};
-ghost use Rattle.build_by_search.specs.BuildAnswer.{given};
+ghost use Rattle.format.specs.Settings.{given};
 ghost use Rattle.build_enough.specs.Enough.{enoughSays};
 ghost use Rattle.list_lines.specs.ListSays.{listSays, listLeaves};
-ghost use Rattle.ask_patterns.specs.Places.{placesSays, placesLeaves};
+ghost use Rattle.ask_patterns.specs.Places.{placesSays, placesLeaves, patternOk};
 ghost use Rattle.build_by_scan.specs.ScannedSays.{tableWords, scanNumber, scanSize, scanWindows, scanLeaves, TableLeft};
 ghost use Rattle.prefix_match.specs.PrefixRows.{startsWith};
-ghost use Rattle.query_row_filter.specs.AllowedOutcome.{AllowedOutcome};
-ghost use Rattle.ask_worn_keys.specs.MatchSays.{MatchSays};
-ghost use Rattle.query_prefix.specs.PrefixRefusals.{prefixRefusal};
+ghost use Rattle.query_row_filter.specs.AllowedOutcome.{AllowedOutcome, queryRefusal};
+ghost use Rattle.ask_worn_keys.specs.MatchAnswer.{MatchSays};
 ghost use Rattle.abi.specs.ExportAnswers.{saying};
 
 // Builds the tree of a text.
@@ -342,7 +341,7 @@ pub extern "C" fn bt_next_with_prefix(
     mark: &mut u32,
     row: &mut u32,
 ) -> u32
-    ensures { λ r. ⌜ AllowedOutcome (now (tree .entry)) (verdict (now (tree .entry))) (prefixRefusal (now (tree .entry)) (now (prefix .entry)))
+    ensures { λ r. ⌜ AllowedOutcome (now (tree .entry)) (verdict (now (tree .entry))) (queryRefusal (now (tree .entry)) 16 (patternOk (now (prefix .entry))))
         (startsWith (now (prefix .entry))) (now (mark .entry)) (record { refusal = r; row = now (row .exit); mark = now (mark .exit) }) ⌝ }
 {
     let at = *mark;

@@ -14,8 +14,8 @@ pub extern "C" fn bt_order(
     shared: &mut u32,
     first: &mut u32,
 ) -> u32
-    ensures { λ r. ⌜ record { number = r; order = now (order .exit); length = now (shared .exit) } ≡ orderSays (now (one .entry)) (now (other .entry)) ⌝ }
-    ensures { λ _. ⌜ now (first .exit) ≡ firstGiven (orderSays (now (one .entry)) (now (other .entry)) .order) ⌝ }
+    ensures { λ r. ⌜ record { number = r; value = now (order .exit); entered = now (shared .exit) } ≡ orderSays (now (one .entry)) (now (other .entry)) ⌝ }
+    ensures { λ _. ⌜ now (first .exit) ≡ firstGiven (orderSays (now (one .entry)) (now (other .entry)) .value) ⌝ }
 {
     let compared = query::compare(one, other);
     match compared {

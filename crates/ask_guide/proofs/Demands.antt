@@ -16,7 +16,7 @@ use Rattle.format.specs.Settings.{pieces}
 use Rattle.format.specs.Layout as at
 use Rattle.format.specs.Fits.{textOf}
 use Rattle.format.specs.Verdict.{readable, verdict}
-use Rattle.format.specs.Said.{Said, refused}
+use Rattle.format.specs.Said.{Said, refused, NeverZero, replied}
 use Rattle.format.specs.LayoutLaws.{readable-facts}
 use Rattle.format.specs.VerdictLaws.{accepted-readable, accepted-links}
 use Rattle.theory_paths.specs.Links.{linked-facts}
@@ -26,7 +26,7 @@ use Rattle.theory_counts.specs.Demands as tallies
 use Rattle.ask_guide.specs.declared.Size.{Size}
 use Rattle.ask_guide.specs.declared.Size.the-variants.{Words, Refused}
 use Rattle.ask_guide.specs.Guides.{listedEvery, blockOf, entriesOf, entriesBefore, guideWords, guideBytes}
-use Rattle.ask_guide.specs.GuideAnswers.{saidSize, Numbered}
+use Rattle.ask_guide.specs.GuideAnswers.{sizeReply}
 use Rattle.ask_guide.proofs.GuideList.{guide-size, guide-entry, entry-below, entry-word, guide-verdict, guide-same}
 use Rattle.ask_guide.proofs.GuideWrittenLaws as laws
 use Rattle.ask_guide.proofs.make_guide.Reads as make-reads
@@ -44,11 +44,11 @@ abbrev pub GuideWords : (κs : Lfts 1) → RefT (List ℕ) → Size → Type 0
 GuideWords κs t r = words-reads.Post κs (t, tt) r (t, tt)
 
 -- which answer says this
-words-is : (r : Size) (n : ℕ) → Numbered r → saidSize r ≡ record { number = 0; value = n; entered = 0 } → r ≡ Words n
+words-is : (r : Size) (n : ℕ) → NeverZero (sizeReply r) → replied (sizeReply r) ≡ record { number = 0; value = n; entered = 0 } → r ≡ Words n
 words-is (Words m) n k e = ap Words (ap (λ (s : Said). s .value) e)
 words-is (Refused q) n k e = absurd (let z : ⊥ = omega (arith, ap (λ (s : Said). s .number) e) in z)
 
-refused-is : (r : Size) (q : ℕ) → 1 ≤ q → saidSize r ≡ refused q → r ≡ Refused q
+refused-is : (r : Size) (q : ℕ) → 1 ≤ q → replied (sizeReply r) ≡ refused q → r ≡ Refused q
 refused-is (Words m) q l e = absurd (let z : ⊥ = omega (arith, ap (λ (s : Said). s .number) e) in z)
 refused-is (Refused p) q l e = ap Refused (ap (λ (s : Said). s .number) e)
 
@@ -114,7 +114,7 @@ made-accepted κs κ t table after guide n r a is c = go (lt-or-ge 0 (verdict (n
     go (inr l) (inr s) =
         let v : verdict (now t) ≡ 0 = omega arith in
         let w = make-writes κs t table after (Words n) a v s in
-        let size : length (guideBytes (now t)) ≡ 4 * n = guide-size (now t) ∙ ap (λ (x : Size). 4 * saidSize x .value) (sym (w .0)) in
+        let size : length (guideBytes (now t)) ≡ 4 * n = guide-size (now t) ∙ ap (λ (x : Size). 4 * replied (sizeReply x) .value) (sym (w .0)) in
         let same : now guide ≡ guideBytes (now t) =
         is ∙ ap (take (4 * n)) (w .1) ∙ take-at (guideBytes (now t)) (drop (4 * guideWords (now t)) (now table)) (4 * n) size in
         check-guide-accepts κ t guide r c .1 (v, same)

@@ -10,11 +10,12 @@ use layout::word;
 ghost use mathlib.Core.Path.{_≡_};
 ghost use Prim.Native.Nat.{_+_, _*_, _≤_, _<_};
 ghost use lib.ListN.{length};
+ghost use Rattle.format.specs.Said.{NeverZero, replied};
 ghost use Rattle.format.specs.Layout as at;
 ghost use Rattle.format.specs.Verdict.{verdict};
 ghost use Rattle.layout.specs.HeaderSays.{HeaderOf};
 ghost use Rattle.ask_guide.specs.Guides.{entriesOf, entriesBefore, guideWords, makeSays, makeLeaves};
-ghost use Rattle.ask_guide.specs.GuideAnswers.{saidSize, Numbered};
+ghost use Rattle.ask_guide.specs.GuideAnswers.{sizeReply};
 ghost use Rattle.ask_guide.specs.EntriesWritten.{Puts};
 
 // Writes the entries of a counted byte; those before it have so many words.
@@ -57,7 +58,7 @@ fn put_all(table: &mut [u8], t: &[u8], h: Header)
 // Question 25, of an accepted tree, by its header.
 fn put_by(t: &[u8], h: Header, table: &mut [u8]) -> Size
     requires { ⌜ (HeaderOf (now t) h) × (verdict (now t) ≡ 0) ⌝ }
-    ensures { λ r. ⌜ (saidSize r ≡ makeSays (now (t .entry)) (now (table .entry))) × (Numbered r) ⌝ }
+    ensures { λ r. ⌜ (replied (sizeReply r) ≡ makeSays (now (t .entry)) (now (table .entry))) × (NeverZero (sizeReply r)) ⌝ }
     ensures { λ _. ⌜ now (table .exit) ≡ makeLeaves (now (t .entry)) (now (table .entry)) ⌝ }
 {
     let all = entry_words::entries_before(t, h, h.settings.counted);
@@ -71,7 +72,7 @@ fn put_by(t: &[u8], h: Header, table: &mut [u8]) -> Size
 // Writes the guide of an accepted tree.
 pub fn put_guide(t: &[u8], table: &mut [u8]) -> Size
     requires { ⌜ verdict (now t) ≡ 0 ⌝ }
-    ensures { λ r. ⌜ (saidSize r ≡ makeSays (now (t .entry)) (now (table .entry))) × (Numbered r) ⌝ }
+    ensures { λ r. ⌜ (replied (sizeReply r) ≡ makeSays (now (t .entry)) (now (table .entry))) × (NeverZero (sizeReply r)) ⌝ }
     ensures { λ _. ⌜ now (table .exit) ≡ makeLeaves (now (t .entry)) (now (table .entry)) ⌝ }
 {
     let read = header::read_header(t);

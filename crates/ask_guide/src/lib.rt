@@ -7,8 +7,9 @@ mod guide_written;
 use layout::header;
 use layout::header::HeaderRead;
 ghost use mathlib.Core.Path.{_≡_};
+ghost use Rattle.format.specs.Said.{NeverZero, replied};
 ghost use Rattle.ask_guide.specs.Guides.{guideNumber, sizeSays, makeSays, makeLeaves};
-ghost use Rattle.ask_guide.specs.GuideAnswers.{saidSize, Numbered};
+ghost use Rattle.ask_guide.specs.GuideAnswers.{sizeReply};
 
 // How many words a guide has, or the number of the question that refuses.
 pub enum Size {
@@ -18,7 +19,7 @@ pub enum Size {
 
 // How many words the guide of a tree has. It asks 5 to 7, of any bytes lent as a tree.
 pub fn guide_words(t: &[u8]) -> Size
-    ensures { λ r. ⌜ (saidSize r ≡ sizeSays (now (t .entry))) × (Numbered r) ⌝ }
+    ensures { λ r. ⌜ (replied (sizeReply r) ≡ sizeSays (now (t .entry))) × (NeverZero (sizeReply r)) ⌝ }
 {
     let read = header::read_header(t);
     match read {
@@ -29,7 +30,7 @@ pub fn guide_words(t: &[u8]) -> Size
 
 // Writes the guide of a tree to the start of a table: questions 5 to 9 of the tree, then 25. Refused, the table is unchanged.
 pub fn make_guide(t: &[u8], table: &mut [u8]) -> Size
-    ensures { λ r. ⌜ (saidSize r ≡ makeSays (now (t .entry)) (now (table .entry))) × (Numbered r) ⌝ }
+    ensures { λ r. ⌜ (replied (sizeReply r) ≡ makeSays (now (t .entry)) (now (table .entry))) × (NeverZero (sizeReply r)) ⌝ }
     ensures { λ _. ⌜ now (table .exit) ≡ makeLeaves (now (t .entry)) (now (table .entry)) ⌝ }
 {
     let number = tree::check(t);

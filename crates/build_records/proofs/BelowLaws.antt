@@ -11,7 +11,8 @@ use Rattle.text.specs.Lists.{sumBelow}
 use Rattle.text.specs.ListLaws.{lt-or-ge, sumBelow-suc, sumBelow-part}
 use Rattle.format.specs.Words.{wordAt}
 use Rattle.format.specs.RecordFields.{kindField, linkField, plainBytes}
-use Rattle.format.specs.Settings.{Settings, blockLength, pieces, maxText, maxRecord}
+use Rattle.format.specs.Settings.{Settings, blockLength, pieces, maxText}
+use Rattle.format.specs.SizeLaws.{maxRecord}
 use Rattle.format.specs.HeaderPlaces.{headerLength}
 use Rattle.format.specs.Blocks.{treeOf, recordBytes}
 use Rattle.theory_built.specs.BuiltBytes.{Stands}

@@ -9,7 +9,7 @@ use lib.Dec.{ltb, leb, eqb}
 use Rattle.text.specs.Text.{stretch, countIn}
 use Rattle.format.specs.Layout as at
 use Rattle.format.specs.Path.{Path, Visit, pathOf}
-use Rattle.format.specs.Verdict.{ask, readable}
+use Rattle.format.specs.Verdict.{asks, readable}
 use Rattle.format.specs.Said.{Said, refused, unless}
 
 -- the place of c in the list; the length where it is not there
@@ -76,7 +76,7 @@ module _ (t : List ℕ) where
   unfoldable pub countSays : ℕ → ℕ → Said
   unfolding at.textLength
   countSays byte i =
-      let asked = ask 10 (leb i (at.textLength t)) (ask 11 (isCounted byte) 0) in
+      let asked = asks ((10, leb i (at.textLength t)) ∷ (11, isCounted byte) ∷ []) in
       let none-asked : Said = record { number = 0; value = 0; entered = 0 } in
       let walked = countOf byte (numberOfByte byte) (pathOf t (i - 1)) in
       unless (readable t) (unless asked (cond (eqb i 0) none-asked walked))

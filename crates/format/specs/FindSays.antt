@@ -1,7 +1,7 @@
 -- What find answers, for any bytes lent as a tree: settled by the questions before the walk and on accepted trees, and named as free on the
 -- others.
 -- docs/FORMAT.md: "Find", "What is left free".
-use mathlib.Core.List.{List}
+use mathlib.Core.List.{List, [], _∷_}
 use mathlib.Core.Option.{Option, none, some}
 use mathlib.Core.Path.{_≡_}
 use mathlib.Core.Bool.{cond, _&&_}
@@ -13,7 +13,7 @@ use Rattle.text.specs.Text.{placeOf}
 use Rattle.format.specs.Layout as at
 use Rattle.format.specs.Path.{Path, pathOf}
 use Rattle.format.specs.Fits.{textOf}
-use Rattle.format.specs.Verdict.{ask, readable, verdict}
+use Rattle.format.specs.Verdict.{asks, orNext, readable, verdict}
 use Rattle.format.specs.Said.{Said, refused}
 use Rattle.format.specs.CountSays.{isCounted, numberOfByte}
 
@@ -27,8 +27,7 @@ module _ (t : List ℕ) where
 
   unfoldable pub selectNumber : ℕ → ℕ → ℕ
   selectNumber byte j =
-      let asked = ask 11 (isCounted t byte) (ask 12 (leb 1 j && leb j (total (numberOfByte t byte))) 0) in
-      cond (eqb (readable t) 0) asked (readable t)
+      orNext (readable t) (asks ((11, isCounted t byte) ∷ (12, leb 1 j && leb j (total (numberOfByte t byte))) ∷ []))
 
   abbrev pub pathLength : Option Path → ℕ
   pathLength none = 0

@@ -4,7 +4,7 @@ use mathlib.Core.List.{List}
 use mathlib.Core.Option.{Option, none, some}
 use mathlib.Core.Bool.{Bool, cond, not, _&&_, _||_}
 use Prim.Native.Nat.{ℕ, zero, suc, _+_, _-_, _*_, _/_}
-use lib.ListN.{length, getD}
+use lib.ListN.{getD}
 use lib.Dec.{ltb, leb, eqb}
 use Rattle.text.specs.Lists.{tabulate, allBelow, sumBelow, sameList}
 use Rattle.text.specs.Text.{stretch, countIn}
@@ -72,20 +72,6 @@ module _ (t : List ℕ) where
   textOf = tabulate (at.textLength t) (λ p. leafOf (pathOf t p))
 
 module _ (T t : List ℕ) where
-  -- block i's bytes in the text are its leaf bytes if it is on the last level, and those of its occurrence if it points (kind 1)
-  unfoldable pub blockFits : ℕ → ℕ → Bool
-  unfolding lastLevel at.blockLengthAt at.start at.link at.gap at.isPointing
-  blockFits l i =
-      let bytes = stretch T (at.start t l i) (at.blockLengthAt t l i) in
-      let leaves = tabulate (at.blockLengthAt t l i) (λ o. at.leafByte t (at.link t l i + o)) in
-      let pointedTo = stretch T (at.start t l (at.link t l i) + at.gap t l i) (at.blockLengthAt t l i) in
-      (not (eqb l (lastLevel t)) || sameList bytes leaves) && (not (at.isPointing t l i) || sameList bytes pointedTo)
-
-  unfoldable pub fits : Bool
-  unfolding at.textLength at.settings at.levelCount
-  fits =
-      eqb (length T) (at.textLength t) && allBelow (at.settings t .levels) (λ l. allBelow (at.levelCount t l) (blockFits l))
-
   -- the start of the parent of a block of level l that starts at s; the text's on level 0. In every tree that passes questions 5 to 8 the parent of a
   -- block that starts at s starts at s / b × b, b being the block length of the parent's level: `parent-start` of crate `theory_paths`
   -- (specs/BlockStarts.antt)

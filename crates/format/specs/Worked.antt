@@ -17,8 +17,9 @@ use Rattle.format.specs.Blocks.{isKept, startsAt, cut, keptByPairs, firs
 use Rattle.format.specs.Layout as at
 use Rattle.format.specs.Path.{pathOf, pathFrom, visit, targetPlace, targetBlock, pointingBlock, keptBlock, lands, landBlock, landPlace, landVisits}
 use Rattle.format.specs.Short.{shortOf, shortFrom, byEdges, inLeaf}
-use Rattle.format.specs.Fits.{linksOk, textOf, fits, countsTrue, edgesTrue, blockEdgesTrue, lastLevel, widthAt, keptRight, pointingRight}
-use Rattle.format.specs.Fits.{blockRight, countBelowRight, blockFits, blockCountsTrue}
+use Rattle.format.specs.Fits.{linksOk, textOf, countsTrue, edgesTrue, blockEdgesTrue, lastLevel, widthAt, keptRight, pointingRight}
+use Rattle.format.specs.FittingText.{fits, blockFits}
+use Rattle.format.specs.Fits.{blockRight, countBelowRight, blockCountsTrue}
 use Rattle.format.specs.Verdict.{verdict, readable}
 use Rattle.format.specs.Said.{Said}
 use Rattle.format.specs.ReadSays.{byteSays, runSays, asksSpan, leavesSpan, isShort, spanReached, spanBytes, spanBlocks, spanNumber, spanSays}

@@ -12,8 +12,9 @@ use Rattle.format.specs.Blocks.{treeOf, header, leafBytes, levelPairs, recordBy
 use Rattle.format.specs.Blocks.{startsAt, cut, keptByPairs, firstPairAt, pairAt, lengthOf, startOf}
 use Rattle.format.specs.Layout as at
 use Rattle.format.specs.Path.{pathOf, pathFrom, targetPlace, targetBlock, pointingBlock, keptBlock, lands, landBlock, landPlace, landVisits}
-use Rattle.format.specs.Fits.{linksOk, textOf, fits, countsTrue, edgesTrue, blockEdgesTrue, lastLevel, widthAt, keptRight, pointingRight, blockRight}
-use Rattle.format.specs.Fits.{countBelowRight, blockFits, blockCountsTrue}
+use Rattle.format.specs.Fits.{linksOk, textOf, countsTrue, edgesTrue, blockEdgesTrue, lastLevel, widthAt, keptRight, pointingRight, blockRight}
+use Rattle.format.specs.FittingText.{fits, blockFits}
+use Rattle.format.specs.Fits.{countBelowRight, blockCountsTrue}
 use Rattle.format.specs.Verdict.{verdict, readable}
 use Rattle.list_lines.specs.Lines.{digitsWithin, decimal, figure, line, levelLine, linesBelow, refusedLine, inputNumber, printed}
 

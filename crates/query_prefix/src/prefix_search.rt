@@ -17,11 +17,11 @@ ghost use Rattle.layout.specs.HeaderSays.{HeaderOf};
 ghost use Rattle.row_filter.specs.RowAutomaton.{atEndOfText};
 ghost use Rattle.prefix_match.specs.PrefixRows.{startsWith};
 ghost use Rattle.prefix_match.specs.PrefixStates.{prefixAutomaton};
-ghost use Rattle.ask_patterns.specs.Places.{maxPattern};
+ghost use Rattle.ask_patterns.specs.Places.{maxPattern, patternOk};
 ghost use Rattle.ask_rows.specs.RowSpans.{settledBy};
 ghost use Rattle.query_row_filter.specs.AllowedAnswer.{AllowedAnswer};
 ghost use Rattle.query_row_filter.specs.RowsAfter.{answerOf, SearchFrom};
-ghost use Rattle.query_prefix.specs.PrefixRefusals.{prefixRefusal};
+ghost use Rattle.query_row_filter.specs.AllowedOutcome.{queryRefusal};
 
 // The most bytes that are read at once: a matching row is often near.
 const MOST: u32 = 1024;
@@ -37,7 +37,7 @@ pub fn next_at(
 ) -> NextRowAnswer
     requires { ⌜ HeaderOf (now t) h ⌝ }
     ensures { λ r. ⌜ AllowedAnswer (now (t .entry)) (settledBy (now (t .entry)) (now (guide .entry)) used)
-        (prefixRefusal (now (t .entry)) (now (prefix .entry))) (startsWith (now (prefix .entry))) mark r ⌝ }
+        (queryRefusal (now (t .entry)) 16 (patternOk (now (prefix .entry)))) (startsWith (now (prefix .entry))) mark r ⌝ }
 {
     if prefix.len() < 1 {
         return NextRowAnswer::Refused(16);

@@ -17,7 +17,8 @@ use Rattle.format.specs.Said.{refused}
 use Rattle.format.specs.SaidLaws.{unless-passes, then-is}
 use Rattle.format.specs.CountSays.{isCounted}
 use Rattle.theory_counts.specs.RowsOfText.{rows-total}
-use Rattle.row_filter.specs.SelectedRows.{NextRowOutcome, selectedRows, nextSelected, outcomeAt, nextOutcome}
+use Rattle.row_filter.specs.SelectedRows.{NextRowOutcome, nextSelected, outcomeAt, nextOutcome}
+use Rattle.row_filter.specs.SelectedRowNumbers.{selectedRows}
 use Rattle.row_filter.specs.SelectedRowLaws.{Next, no-more, next, next-of, Shows, shown-all, all-shown}
 use Rattle.query_row_filter.specs.declared.NextRowAnswer.{NextRowAnswer}
 use Rattle.query_row_filter.specs.declared.NextRowAnswer.the-variants.{Row, Nothing, Refused}

@@ -12,11 +12,13 @@ use lib.ListN.{length, getD, take, drop}
 use lib.Seq.{take-append-seam}
 use lib.Dec.{leb}
 use Rattle.text.specs.Text.{stretch}
-use Rattle.format.specs.Settings.{Settings, lengthOk, sizesOk, countedOk}
+use Rattle.format.specs.Said.{replied}
+use Rattle.format.specs.Settings.{Settings, lengthOk, sizesOk, countedOk, given}
 use Rattle.format.specs.Blocks.{treeOf}
 use Rattle.format.specs.Layout as at
 use Rattle.format.specs.Path.{Path, pathOf}
-use Rattle.format.specs.Fits.{textOf, fits}
+use Rattle.format.specs.Fits.{textOf}
+use Rattle.format.specs.FittingText.{fits}
 use Rattle.format.specs.Verdict.{ask, verdict}
 use Rattle.format.specs.LayoutLaws.{ask-test, ask-rest}
 use Rattle.format.specs.BuildSays.{buildNumber, buildSize, buildLeaves}
@@ -26,7 +28,7 @@ use Rattle.theory_accepted.specs.AcceptedTrees.{StandsFor, accepts, one-text, b
 use Rattle.theory_paths.specs.Demands as paths
 use Rattle.theory_edges.specs.Demands as margins
 use Rattle.build_by_search.specs.declared.Built.{Built}
-use Rattle.build_by_search.specs.BuildAnswer.{numberOf, sizeOf, given}
+use Rattle.build_by_search.specs.BuildAnswer.{builtReply}
 use Rattle.build_by_search.proofs.build.Reads as build-reads
 use Rattle.tree.proofs.check.Reads as check-reads
 
@@ -71,7 +73,7 @@ Answer κs text leaf arity levels counted out after r =
     build-reads.Post κs (text, (leaf, (arity, (levels, (counted, (out, tt)))))) r (text, (leaf, (arity, (levels, (counted, (after, tt))))))
 
 module _ (κs : Lfts 3) (text : RefT (List ℕ)) (leaf arity levels : ℕ) (counted out after : RefT (List ℕ)) (r : Built)
-    (a : Answer κs text leaf arity levels counted out after r) (good : numberOf r ≡ 0) where
+    (a : Answer κs text leaf arity levels counted out after r) (good : replied (builtReply r) .number ≡ 0) where
   abbrev S : Settings
   S = given leaf arity levels (now counted)
 
@@ -83,7 +85,7 @@ module _ (κs : Lfts 3) (text : RefT (List ℕ)) (leaf arity levels : ℕ) (coun
 
   -- the part of the buffer that is the tree
   abbrev tree : List ℕ
-  tree = take (sizeOf r) (now after)
+  tree = take (replied (builtReply r) .value) (now after)
 
   passed : buildNumber S T before ≡ 0
   passed = sym (a .0) ∙ good
@@ -121,6 +123,7 @@ module _ (κs : Lfts 3) (text : RefT (List ℕ)) (leaf arity levels : ℕ) (coun
 -- The contract determines the result and the buffer, so they cannot depend on the base or the modulus that a builder uses.
 pub build-settled : (κs : Lfts 3) (text : RefT (List ℕ)) (leaf arity levels : ℕ) (counted out one other : RefT (List ℕ)) (r s : Built)
     → Answer κs text leaf arity levels counted out one r → Answer κs text leaf arity levels counted out other s
-    → (numberOf r ≡ numberOf s) × (sizeOf r ≡ sizeOf s) × (now one ≡ now other)
+    → (replied (builtReply r) .number ≡ replied (builtReply s) .number) × (replied (builtReply r) .value ≡ replied (builtReply s) .value)
+    × (now one ≡ now other)
 build-settled κs text leaf arity levels counted out one other r s p q =
     (p .0 ∙ sym (q .0), p .1 .0 ∙ sym (q .1 .0), p .1 .1 ∙ sym (q .1 .1))
