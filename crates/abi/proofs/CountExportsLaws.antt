@@ -15,8 +15,9 @@ use Rattle.format.specs.Layout as at
 use Rattle.format.specs.Verdict.{ask, readable}
 use Rattle.format.specs.LayoutLaws.{readable-facts}
 use Rattle.format.specs.CountSays.{isCounted, numberOfByte, countSays}
-use Rattle.format.specs.FindSays.{selectNumber, FindSays}
-use Rattle.format.specs.RowSays.{RowSays}
+use Rattle.format.specs.FindSays.{selectNumber}
+use Rattle.format.specs.FindSaysLaws.{FindSays}
+use Rattle.format.specs.RowSaysLaws.{RowSays}
 use Rattle.theory_counts.specs.CountsLocal.{byteOf}
 use Rattle.theory_counts.specs.Ranks as tally
 use Rattle.ask_rank.specs.declared.Counted.{Counted}

@@ -26,8 +26,8 @@ ghost use lib.ListN.{length};
 ghost use Rattle.format.specs.BuildSays.{buildNumber, buildSize, buildLeaves};
 ghost use Rattle.format.specs.ReadSays.{byteSays, runSays, spanSays, spanLeaves};
 ghost use Rattle.format.specs.CountSays.{countSays};
-ghost use Rattle.format.specs.FindSays.{FindSays};
-ghost use Rattle.format.specs.RowSays.{RowSays};
+ghost use Rattle.format.specs.FindSays.{FindBy};
+ghost use Rattle.format.specs.RowSays.{RowBy};
 ghost use Rattle.format.specs.Verdict.{verdict};
 ghost use Rattle.format.specs.Settings.{given};
 ghost use Rattle.build_enough.specs.Enough.{enoughSays};
@@ -248,7 +248,7 @@ pub extern "C" fn bt_count(
 // The place of the j-th such byte, and the blocks on its path.
 #[no_mangle]
 pub extern "C" fn bt_find(tree: &[u8], byte: u32, j: u32, place: &mut u32, entered: &mut u32) -> u32
-    ensures { λ r. ⌜ FindSays (now (tree .entry)) byte j (saying r (now (place .exit)) (now (entered .exit))) ⌝ }
+    ensures { λ r. ⌜ FindBy (now (tree .entry)) (verdict (now (tree .entry))) byte j (saying r (now (place .exit)) (now (entered .exit))) ⌝ }
 {
     if 255 < byte {
         *place = 0;
@@ -273,7 +273,7 @@ pub extern "C" fn bt_find(tree: &[u8], byte: u32, j: u32, place: &mut u32, enter
 // Copies row q, and answers its length.
 #[no_mangle]
 pub extern "C" fn bt_row(tree: &[u8], q: u32, buffer: &mut [u8], len: &mut u32) -> u32
-    ensures { λ r. ⌜ RowSays (now (tree .entry)) q (now (buffer .entry)) r (now (len .exit)) (now (buffer .exit)) ⌝ }
+    ensures { λ r. ⌜ RowBy (now (tree .entry)) (verdict (now (tree .entry))) q (now (buffer .entry)) r (now (len .exit)) (now (buffer .exit)) ⌝ }
 {
     let copied = query::row(tree, q, buffer);
     match copied {

@@ -17,7 +17,6 @@ use Rattle.ask_access.specs.ReadAnswers.{copiedReply}
 module _ (t : List ℕ) (w a : ℕ) where
   -- the place of column b of row a
   unfoldable pub cell : ℕ → ℕ
-  unfolding at.textLength
   cell b = b * (at.textLength t / w) + a
 
   -- the paths of row a's places all hold
@@ -26,7 +25,6 @@ module _ (t : List ℕ) (w a : ℕ) where
 
   -- the refusals in their order: 5 to 7, 20, 10 if there is no row a, 13, 14
   unfoldable pub columnNumber : ℕ → ℕ
-  unfolding at.textLength
   columnNumber room =
       let n = at.textLength t in
       orNext (readable t) (asks ((20, widthOk w n) ∷ (10, ltb a (n / w)) ∷ (13, leb w room) ∷ (14, cellsHold) ∷ []))

@@ -30,7 +30,6 @@ lastListed j = listedEvery * lastEntry j + 1
 module _ (t : List ℕ) where
   -- the number of the level 0 block that holds the j-th occurrence of counted byte number c
   unfoldable pub blockOf : ℕ → ℕ → ℕ
-  unfolding at.fullLength
   blockOf c j = placeOf (getD (at.settings t .counted) c 0) j (textOf t) / at.fullLength t 0
 
   -- how many entries counted byte number c has, a begun 64 counting whole, and how many those before it have
@@ -42,12 +41,10 @@ module _ (t : List ℕ) where
 
   -- how many words the guide has
   unfoldable pub guideWords : ℕ
-  unfolding at.countedCount
   guideWords = entriesBefore (at.countedCount t)
 
   -- the entries of an accepted tree's guide, and its bytes
   unfoldable pub guideOf : List ℕ
-  unfolding at.countedCount
   guideOf = concat (tabulate (at.countedCount t) (λ c. tabulate (entriesOf c) (λ e. blockOf c (listedEvery * e + 1))))
 
   unfoldable pub guideBytes : List ℕ

@@ -44,7 +44,6 @@ module _ (t P : List ℕ) where
 
   -- questions 5 to 7, then 16, then 14, for every place below n, then 17: the table has room for all places
   unfoldable pub placesNumber : ℕ → ℕ
-  unfolding at.textLength
   placesNumber room =
       orNext (readable t) (asks ((16, patternOk P) ∷ (14, pathsHold t 0 (at.textLength t)) ∷ (17, leb (length placesOf) room) ∷ []))
 
@@ -63,5 +62,4 @@ roomOf n len = unless (asks ((16, patternLength len) ∷ [])) (record { number =
 
 -- questions 5 to 7 first
 unfoldable pub roomSays : List ℕ → ℕ → Said
-unfolding at.textLength
 roomSays t len = unless (readable t) (roomOf (at.textLength t) len)

@@ -30,14 +30,12 @@ module _ (t : List ℕ) where
 
   -- The number of rows: questions 5 to 7, then 11 for byte 10, then the last byte's own, if there is one
   unfoldable pub rowsNumber : ℕ
-  unfolding at.textLength
   rowsNumber =
       let last = cond (eqb (at.textLength t) 0) 0 (byteSays t (at.textLength t - 1) .number) in
       orNext (readable t) (ask 11 (isCounted t 10) last)
 
   -- the last byte is not 10
   unfoldable pub lastOpen : Bool
-  unfolding at.textLength
   lastOpen = ltb 0 (at.textLength t) && not (eqb 10 (byteSays t (at.textLength t - 1) .value))
 
   -- the total of byte 10, and one more where a row is open at the end

@@ -13,8 +13,8 @@ use Rattle.format.specs.Fits.{textOf}
 use Rattle.format.specs.Verdict.{verdict}
 use Rattle.format.specs.VerdictLaws.{accepted-readable, accepted-links}
 use Rattle.format.specs.Said.{Said, refused, replied}
-use Rattle.format.specs.FindSays.{selectNumber, pathLength, found, FindBy, FindSays}
-use Rattle.format.specs.FindSaysLaws.{Selected, select-passes}
+use Rattle.format.specs.FindSays.{selectNumber, pathLength, found, FindBy}
+use Rattle.format.specs.FindSaysLaws.{FindSays, Selected, select-passes}
 use Rattle.theory_paths.specs.Visits.{path-long}
 use Rattle.theory_paths.specs.Demands as paths
 use Rattle.theory_counts.specs.Demands as tallies

@@ -40,14 +40,14 @@ module _ (t ranges : List ℕ) where
     pub match-unread : (q : ℕ) → readable t ≡ suc q → r ≡ Refused (suc q)
     match-unread q e =
         next-row.refused-first t (verdict t) (λ v. v) (queryRefusal t 19 (rangesOk ranges)) (matches ranges) mark r a q
-            (next-row.asked-unread t 19 (rangesOk ranges) q e)
+        (next-row.asked-unread t 19 (rangesOk ranges) q e)
 
     module _ (pass : readable t ≡ 0) where
       -- Refused with 19, after 7: ranges that question 19 does not allow.
       pub match-ranges : rangesOk ranges ≡ false → r ≡ Refused 19
       match-ranges e =
           next-row.refused-first t (verdict t) (λ v. v) (queryRefusal t 19 (rangesOk ranges)) (matches ranges) mark r a 18
-              (next-row.asked-bad t 19 (rangesOk ranges) pass e)
+          (next-row.asked-bad t 19 (rangesOk ranges) pass e)
 
       -- Refused with 11, after 19: byte 10 is not counted.
       pub match-uncounted : rangesOk ranges ≡ true → isCounted t 10 ≡ false → r ≡ Refused 11

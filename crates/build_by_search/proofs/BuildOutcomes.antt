@@ -10,13 +10,13 @@ use lib.Seq.{drop-length}
 use lib.Dec.{eqb}
 use borrow.Author.Tests.{le-leb, lt-leb}
 use Rattle.format.specs.Said.{replied}
-use Rattle.format.specs.Settings.{Settings, lengthOk, sizesOk, countedOk, maxText, sizes, given}
+use Rattle.format.specs.Settings.{Settings, lengthOk, sizesOk, countedOk, maxText, given}
+use Rattle.layout.specs.CheckedSettings.{sizes, checked}
 use Rattle.format.specs.Blocks.{treeOf}
 use Rattle.format.specs.BuildSays.{buildNumber, buildSize, buildLeaves}
 use Rattle.layout.specs.declared.settings.Settings as code
 use Rattle.layout.specs.declared.settings.Checked.{Checked}
 use Rattle.layout.specs.declared.settings.Checked.the-variants.{Fine, Refused}
-use Rattle.layout.specs.CheckedSettings.{checked}
 use Rattle.theory_built.specs.BlockSizes.{Taken}
 use Rattle.build_by_search.specs.declared.Built.{Built}
 use Rattle.build_by_search.specs.declared.Built.the-variants.{Size, Refused as Not}

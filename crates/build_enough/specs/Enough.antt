@@ -5,7 +5,7 @@ use mathlib.Core.List.{[], _∷_}
 use Prim.Native.Nat.{ℕ, _+_, _-_, _*_, _^_}
 use lib.Dec.{leb}
 use Rattle.text.specs.Lists.{sumBelow}
-use Rattle.format.specs.Settings.{pieces, recordLength, lengthOk, sizesOk, maxCounted, sizes}
+use Rattle.format.specs.Settings.{pieces, recordLength, lengthOk, sizesOk, maxCounted, given}
 use Rattle.format.specs.HeaderPlaces.{headerLength}
 use Rattle.format.specs.Blocks.{builtLayout}
 use Rattle.format.specs.Verdict.{asks}
@@ -22,7 +22,7 @@ enoughFor n m r H k = headerLength + n + recordLength builtLayout m k * blocksAt
 
 -- question 1 of the length, 2 of the sizes, 3 of the number of counted bytes
 unfoldable pub enoughRefusal : ℕ → ℕ → ℕ → ℕ → ℕ → ℕ
-enoughRefusal n m r H k = asks ((1, lengthOk n) ∷ (2, sizesOk (sizes m r H)) ∷ (3, leb k maxCounted) ∷ [])
+enoughRefusal n m r H k = asks ((1, lengthOk n) ∷ (2, sizesOk (given m r H [])) ∷ (3, leb k maxCounted) ∷ [])
 
 -- the size, unless a question refuses
 unfoldable pub enoughSays : ℕ → ℕ → ℕ → ℕ → ℕ → Said

@@ -1,4 +1,5 @@
 -- What the call returns and what the caller's buffer then holds: refused with 5, 6 or 7, then with 13 if the buffer is too small.
+-- docs/FORMAT.md: "A tree without its edges".
 use mathlib.Core.List.{List, [], _∷_, _++_}
 use mathlib.Core.Bool.{cond}
 use Prim.Native.Nat.{ℕ}

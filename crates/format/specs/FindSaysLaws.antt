@@ -2,14 +2,20 @@
 use mathlib.Core.List.{List, [], _∷_}
 use mathlib.Core.Bool.{true, _&&_}
 use mathlib.Core.Path.{_≡_, refl}
-use Prim.Native.Nat.{ℕ, _≤_}
+use Prim.Native.Nat.{ℕ, _≤_, _-_}
 use borrow.Author.Tests.{leb-true, le-leb}
 use lib.Dec.{leb}
 use Rattle.text.specs.ListLaws.{and-left, and-right}
-use Rattle.format.specs.Verdict.{readable}
+use Rattle.format.specs.Verdict.{readable, verdict}
 use Rattle.format.specs.SaidLaws.{next-passes, asks-pass}
 use Rattle.format.specs.CountSays.{isCounted, numberOfByte}
-use Rattle.format.specs.FindSays.{total, selectNumber}
+use Rattle.format.specs.FindSays.{total, selectNumber, FindBy}
+use Rattle.format.specs.Said.{Said}
+
+module _ (t : List ℕ) where
+  -- find's own: settled on accepted trees (with a guide, where the guide is accepted too)
+  abbrev pub FindSays : (byte j : ℕ) → Said → Type 0
+  FindSays = FindBy t (verdict t)
 
 -- find and row walk exactly where the byte is counted and so many stand in the tree
 pub record Selected (t : List ℕ) (byte j : ℕ) : Type 0 where

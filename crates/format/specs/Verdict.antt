@@ -23,11 +23,7 @@ orNext number next = cond (eqb number 0) next number
 
 -- questions 5 to 7, which every question put to a tree asks first
 unfoldable pub readable : List ℕ → ℕ
-unfolding at.longEnough at.layoutOk at.headerOk
 readable t = asks ((5, at.longEnough t) ∷ (6, at.layoutOk t) ∷ (7, at.headerOk t) ∷ [])
 
 unfoldable pub verdict : List ℕ → ℕ
-unfolding at.longEnough at.layoutOk at.headerOk
-verdict t =
-    let true-of-text = countsTrue (textOf t) t && edgesTrue (textOf t) t in
-    asks ((5, at.longEnough t) ∷ (6, at.layoutOk t) ∷ (7, at.headerOk t) ∷ (8, linksOk t) ∷ (9, true-of-text) ∷ [])
+verdict t = asks ((5, at.longEnough t) ∷ (6, at.layoutOk t) ∷ (7, at.headerOk t) ∷ (8, linksOk t) ∷ (9, countsTrue (textOf t) t && edgesTrue (textOf t) t) ∷ [])

@@ -10,7 +10,8 @@ use lib.Seq.{take-take}
 use lib.Dec.{leb, eqb}
 use borrow.Author.Tests.{le-leb, lt-leb}
 use Rattle.text.specs.Lists.{allBelow, sumBelow}
-use Rattle.format.specs.Settings.{maxText, maxCounted, sizes}
+use Rattle.format.specs.Settings.{maxText, maxCounted}
+use Rattle.layout.specs.CheckedSettings.{sizes}
 use Rattle.format.specs.Words.{wordAt}
 use Rattle.format.specs.Layout as at
 use Rattle.format.specs.Settings as format

@@ -1,5 +1,5 @@
 -- What the checking constructor of the settings answers.
-use mathlib.Core.List.{List}
+use mathlib.Core.List.{List, []}
 use mathlib.Core.Bool.{cond}
 use Prim.Native.Nat.{ℕ}
 use lib.ListN.{length}
@@ -8,9 +8,13 @@ use Rattle.layout.specs.declared.settings.Settings.{Settings}
 use Rattle.layout.specs.declared.settings.Checked.{Checked}
 use Rattle.layout.specs.declared.settings.Checked.the-variants.{Fine, Refused}
 
+-- m, r and H, with no byte counted
+abbrev pub sizes : ℕ → ℕ → ℕ → format.Settings
+sizes m r H = format.given m r H []
+
 -- the settings, or the number of the first question that refuses them
 unfoldable pub checked : ℕ → ℕ → ℕ → List ℕ → Checked
 checked m r H cs =
-    cond (format.sizesOk (format.sizes m r H))
+    cond (format.sizesOk (sizes m r H))
     (cond (format.countedOk cs) (Fine (record { leaf = m; arity = r; levels = H; counted = length cs })) (Refused 3))
     (Refused 2)

@@ -13,7 +13,6 @@ use Rattle.sha256.specs.Sha256.{sha256}
 module _ (t : List ℕ) where
   -- 5 to 7, then 13: the buffer has fewer than 32 bytes, then 14: the path of some place of the text breaks
   unfoldable pub digestRefusal : ℕ → ℕ
-  unfolding at.textLength
   digestRefusal room =
       orNext (readable t) (asks ((13, leb 32 room) ∷ (14, pathsHold t 0 (at.textLength t)) ∷ []))
 

@@ -80,14 +80,14 @@ module _ (t : List ℕ) (ok : ℕ) (sound : ok ≡ 0 → verdict t ≡ 0) (prefi
     pub prefix-unread : (q : ℕ) → readable t ≡ suc q → r ≡ Refused (suc q)
     prefix-unread q e =
         next-row.refused-first t ok sound (queryRefusal t 16 (patternOk prefix)) (startsWith prefix) mark r a q
-            (next-row.asked-unread t 16 (patternOk prefix) q e)
+        (next-row.asked-unread t 16 (patternOk prefix) q e)
 
     module _ (pass : readable t ≡ 0) where
       -- 16, after question 7: the prefix has no byte or more than 256
       pub prefix-length : patternOk prefix ≡ false → r ≡ Refused 16
       prefix-length e =
           next-row.refused-first t ok sound (queryRefusal t 16 (patternOk prefix)) (startsWith prefix) mark r a 15
-              (next-row.asked-bad t 16 (patternOk prefix) pass e)
+          (next-row.asked-bad t 16 (patternOk prefix) pass e)
 
       -- 11, after 16
       pub prefix-uncounted : patternOk prefix ≡ true → isCounted t 10 ≡ false → r ≡ Refused 11

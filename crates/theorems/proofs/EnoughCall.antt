@@ -4,7 +4,8 @@ use mathlib.Core.Bool.{true}
 use mathlib.Core.Path.{_≡_, refl}
 use Prim.Native.Nat.{ℕ}
 use lib.Dec.{leb}
-use Rattle.format.specs.Settings.{lengthOk, sizesOk, maxCounted, sizes}
+use Rattle.format.specs.Settings.{lengthOk, sizesOk, maxCounted}
+use Rattle.layout.specs.CheckedSettings.{sizes}
 use Rattle.format.specs.Verdict.{ask}
 use Rattle.format.specs.LayoutLaws.{ask-test, ask-rest}
 use Rattle.build_enough.specs.Enough.{enoughFor, enoughRefusal, enoughSays}

@@ -22,7 +22,8 @@ use Rattle.format.specs.Verdict.{verdict}
 use Rattle.format.specs.VerdictLaws.{accepted-readable}
 use Rattle.format.specs.Said.{Said, refused, NeverZero, replied}
 use Rattle.format.specs.CountSays.{numberOfByte}
-use Rattle.format.specs.FindSays.{selectNumber, pathLength, FindSays, total}
+use Rattle.format.specs.FindSays.{selectNumber, pathLength, total, found as foundFor}
+use Rattle.format.specs.FindSaysLaws.{FindSays}
 use Rattle.theory_counts.specs.Demands as tallies
 use Rattle.ask_select.specs.declared.Found.{Found}
 use Rattle.ask_select.specs.declared.Found.the-variants as found
@@ -34,7 +35,6 @@ use Rattle.theorems.proofs.AcceptedTree.{among-counted, not-counted, pa
 use Rattle.theorems.proofs.FindOutcomes.{FindOutcome, find-outcome, outcome-below, outcome-numbers, select-through}
 use Rattle.theorems.proofs.OutsideCall.{Call, Lent, call}
 use Rattle.theorems.proofs.RefusalNumbers.{OneOf}
-use Rattle.format.specs.FindSays.{found as foundFor}
 use Rattle.ask_select.proofs.find.Met as find-met
 
 abbrev pub find-call : Call

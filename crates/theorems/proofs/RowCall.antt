@@ -15,7 +15,8 @@ use Rattle.format.specs.Layout as at
 use Rattle.format.specs.Fits.{textOf}
 use Rattle.format.specs.Verdict.{verdict}
 use Rattle.format.specs.VerdictLaws.{accepted-readable}
-use Rattle.format.specs.RowSays.{rowMost, RowSays, rowNumber}
+use Rattle.format.specs.RowSays.{rowMost, rowNumber}
+use Rattle.format.specs.RowSaysLaws.{RowSays}
 use Rattle.theory_counts.specs.RowsOfText.{row-lets, row-twelve, row-eleven}
 use Rattle.ask_rows.specs.declared.RowCopied.{RowCopied}
 use Rattle.ask_rows.specs.declared.RowCopied.the-variants as rows

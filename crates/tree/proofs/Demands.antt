@@ -1,9 +1,9 @@
 -- The demands on build and check, as theorems over what their calls promise.
 -- docs/FORMAT.md: "What is promised".
-use mathlib.Core.List.{List, _++_}
-use mathlib.Core.Path.{_≡_, sym, ap, _∙_}
+use mathlib.Core.List.{List, _++_, [], _∷_}
+use mathlib.Core.Path.{_≡_, sym, ap, _∙_, refl}
 use mathlib.Core.Logic.{_↔_}
-use mathlib.Core.Bool.{true}
+use mathlib.Core.Bool.{true, Bool}
 use mathlib.Core.Option.{some}
 use Prim.Native.Nat.{ℕ, _+_, _≤_, _<_}
 use contract.Lifetimes.{Lfts}
@@ -19,10 +19,10 @@ use Rattle.format.specs.Layout as at
 use Rattle.format.specs.Path.{Path, pathOf}
 use Rattle.format.specs.Fits.{textOf}
 use Rattle.format.specs.FittingText.{fits}
-use Rattle.format.specs.Verdict.{ask, verdict}
-use Rattle.format.specs.LayoutLaws.{ask-test, ask-rest}
+use Rattle.format.specs.Verdict.{verdict}
 use Rattle.format.specs.BuildSays.{buildNumber, buildSize, buildLeaves}
 use Rattle.format.specs.ReadSays.{byteSays, spanNumber, spanLeaves}
+use Rattle.format.specs.SaidLaws.{asks-pass}
 use Rattle.theory_built.specs.BlockSizes.{Taken}
 use Rattle.theory_accepted.specs.AcceptedTrees.{StandsFor, accepts, one-text, built-text, built-verdict, accepted-stands}
 use Rattle.theory_paths.specs.Demands as paths
@@ -53,14 +53,10 @@ module _ (S : Settings) (T out : List ℕ) (passed : buildNumber S T out ≡ 0) 
   pub taken : Taken S T
   unfolding buildNumber
   taken =
-      let four = ask 4 (leb (length (treeOf S T)) (length out)) 0 in
-      let after1 = ask-rest 0 (lengthOk (length T)) (ask 2 (sizesOk S) (ask 3 (countedOk (S .counted)) four)) passed in
-      let after2 = ask-rest 1 (sizesOk S) (ask 3 (countedOk (S .counted)) four) after1 in
-      record {
-        length-ok = ask-test 0 (lengthOk (length T)) (ask 2 (sizesOk S) (ask 3 (countedOk (S .counted)) four)) passed;
-        sizes-ok = ask-test 1 (sizesOk S) (ask 3 (countedOk (S .counted)) four) after1;
-        counted-ok = ask-test 2 (countedOk (S .counted)) four after2;
-      }
+      let questions : List (ℕ × Bool) = (1, lengthOk (length T)) ∷ (2, sizesOk S) ∷ (3, countedOk (S .counted))
+      ∷ (4, leb (length (treeOf S T)) (length out)) ∷ [] in
+      let p = asks-pass questions refl passed in
+      record { length-ok = p .0; sizes-ok = p .1 .0; counted-ok = p .1 .1 .0 }
 
   -- the buffer begins with the block tree of the text, and the size is the tree's
   pub leaves-tree : take (buildSize S T out) (buildLeaves S T out) ≡ treeOf S T
