@@ -105,10 +105,20 @@ def says(path):
     return (sentence if len(sentence) < 120 else sentence.split(": ")[0]).rstrip(":")
 
 
+def cited(path):
+    """The headings of docs/FORMAT.md that the comments at a file's top cite."""
+    top = []
+    for line in path.read_text().splitlines():
+        if not line.startswith("--"):
+            break
+        top.append(line)
+    return [heading for place in re.findall(r'docs/FORMAT\.md[,:]((?:,? "[^"]+")+)', " ".join(top)) for heading in re.findall(r'"([^"]+)"', place)]
+
+
 def believed_table():
-    rank = {name: at for at, name in enumerate(re.findall(r"^(\w+):", (ROOT / "crates.txt").read_text(), re.M))}
+    rank = {heading: at for at, heading in enumerate(re.findall(r"^#+ (.*)$", (ROOT / "docs/FORMAT.md").read_text(), re.M))}
     files = believed()
-    files.sort(key=lambda path: rank[path.relative_to(CRATES).parts[0]])
+    files.sort(key=lambda path: min((rank[heading] for heading in cited(path) if heading in rank), default=0))
     rows, sums = [], [0, 0]
     for at, path in enumerate(files, 1):
         sizes = stated(path)

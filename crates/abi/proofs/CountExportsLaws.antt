@@ -10,13 +10,14 @@ use lib.Seq.{getD-take, getD-drop}
 use lib.Dec.{leb, eqb}
 use Rattle.format.specs.Settings.{maxCounted}
 use Rattle.format.specs.HeaderPlaces.{countedAt}
-use Rattle.format.specs.Said.{Said, refused, unless}
+use Rattle.format.specs.Said.{Said, refused, unless, replied}
 use Rattle.format.specs.Layout as at
 use Rattle.format.specs.Verdict.{ask, readable}
 use Rattle.format.specs.LayoutLaws.{readable-facts}
 use Rattle.format.specs.CountSays.{isCounted, numberOfByte, countSays}
-use Rattle.format.specs.FindSays.{selectNumber, FindSays}
-use Rattle.format.specs.RowSays.{RowSays}
+use Rattle.format.specs.FindSays.{selectNumber}
+use Rattle.format.specs.FindSaysLaws.{FindSays}
+use Rattle.format.specs.RowSaysLaws.{RowSays}
 use Rattle.theory_counts.specs.CountsLocal.{byteOf}
 use Rattle.theory_counts.specs.Ranks as tally
 use Rattle.ask_rank.specs.declared.Counted.{Counted}
@@ -25,32 +26,33 @@ use Rattle.ask_select.specs.declared.Found.{Found}
 use Rattle.ask_select.specs.declared.Found.the-variants as found
 use Rattle.ask_rows.specs.declared.RowCopied.{RowCopied}
 use Rattle.ask_rows.specs.declared.RowCopied.the-variants as row
-use Rattle.ask_rank.specs.Counts.{saidCount, uncountedNumber}
-use Rattle.ask_select.specs.Found.{saidFind}
-use Rattle.ask_rows.specs.RowAnswers.{saidRow}
+use Rattle.ask_rank.specs.Counts.{countReply, uncountedNumber}
+use Rattle.ask_select.specs.Found.{findReply}
+use Rattle.ask_rows.specs.RowAnswers.{rowReply}
 use Rattle.text.specs.declared.TextPlace.{TextPlace}
 use Rattle.abi.specs.ExportAnswers.{saying}
 
-module _ (r : Counted) (s : Said) (is : saidCount r ≡ s) where
+module _ (r : Counted) (s : Said) (is : replied (countReply r) ≡ s) where
   pub count-told : (times entered : ℕ) → r ≡ count.Times times entered → saying 0 times entered ≡ s
-  count-told times entered e = sym (ap saidCount e) ∙ is
+  count-told times entered e = sym (ap (λ (x : Counted). replied (countReply x)) e) ∙ is
 
   pub count-refused : (q : ℕ) → r ≡ count.Refused q → saying q 0 0 ≡ s
-  count-refused q e = sym (ap saidCount e) ∙ is
+  count-refused q e = sym (ap (λ (x : Counted). replied (countReply x)) e) ∙ is
 
-module _ (t : List ℕ) (byte j : ℕ) (r : Found) (k : FindSays t byte j (saidFind r)) where
+module _ (t : List ℕ) (byte j : ℕ) (r : Found) (k : FindSays t byte j (replied (findReply r))) where
   pub find-told : (place : TextPlace) (entered : ℕ) → r ≡ found.At place entered → FindSays t byte j (saying 0 (place .0) entered)
-  find-told place entered e = subst (λ (x : Found). FindSays t byte j (saidFind x)) e k
+  find-told place entered e = subst (λ (x : Found). FindSays t byte j (replied (findReply x))) e k
 
   pub find-refused : (q : ℕ) → r ≡ found.Refused q → FindSays t byte j (saying q 0 0)
-  find-refused q e = subst (λ (x : Found). FindSays t byte j (saidFind x)) e k
+  find-refused q e = subst (λ (x : Found). FindSays t byte j (replied (findReply x))) e k
 
-module _ (t : List ℕ) (q : ℕ) (buffer after : List ℕ) (r : RowCopied) (k : RowSays t q buffer (saidRow r .number) (saidRow r .value) after) where
+module _ (t : List ℕ) (q : ℕ) (buffer after : List ℕ) (r : RowCopied)
+    (k : RowSays t q buffer (replied (rowReply r) .number) (replied (rowReply r) .value) after) where
   pub row-told : (size : ℕ) → r ≡ row.Bytes size → RowSays t q buffer 0 size after
-  row-told size e = subst (λ (x : RowCopied). RowSays t q buffer (saidRow x .number) (saidRow x .value) after) e k
+  row-told size e = subst (λ (x : RowCopied). RowSays t q buffer (replied (rowReply x) .number) (replied (rowReply x) .value) after) e k
 
   pub row-refused : (number : ℕ) → r ≡ row.Refused number → RowSays t q buffer number 0 after
-  row-refused number e = subst (λ (x : RowCopied). RowSays t q buffer (saidRow x .number) (saidRow x .value) after) e k
+  row-refused number e = subst (λ (x : RowCopied). RowSays t q buffer (replied (rowReply x) .number) (replied (rowReply x) .value) after) e k
 
 -- of a number above 255
 

@@ -4,7 +4,7 @@
 use mathlib.Core.List.{List, [], _∷_}
 use mathlib.Core.Path.{refl}
 use Rattle.theory_machine.specs.Ends.{Ends}
-use Rattle.theory_machine.specs.OutsideCalls.{AsksNothing, Call, call, Each, each-ends, each-asks-nothing}
+use Rattle.theory_machine.specs.OutsideCalls.{AsksNothing, Call, callOf, Each, each-ends, each-asks-nothing}
 use Rattle.abi.proofs.bt_build as bt-build-of
 use Rattle.abi.proofs.bt_build.Symbol as bt-build-at
 use Rattle.abi.proofs.bt_build.Met as bt-build-met
@@ -44,9 +44,9 @@ use Rattle.abi.proofs.bt_places.Met as bt-places-met
 use Rattle.abi.proofs.bt_next_match as bt-next-match-of
 use Rattle.abi.proofs.bt_next_match.Symbol as bt-next-match-at
 use Rattle.abi.proofs.bt_next_match.Met as bt-next-match-met
-use Rattle.abi.proofs.bt_next_with_prefix as bt-next-with-prefix-of
-use Rattle.abi.proofs.bt_next_with_prefix.Symbol as bt-next-with-prefix-at
-use Rattle.abi.proofs.bt_next_with_prefix.Met as bt-next-with-prefix-met
+use Rattle.abi.proofs.bt_next_with_prefix as with-prefix-of
+use Rattle.abi.proofs.bt_next_with_prefix.Symbol as with-prefix-at
+use Rattle.abi.proofs.bt_next_with_prefix.Met as with-prefix-met
 use Rattle.abi.proofs.bt_list as bt-list-of
 use Rattle.abi.proofs.bt_list.Symbol as bt-list-at
 use Rattle.abi.proofs.bt_list.Met as bt-list-met
@@ -65,9 +65,9 @@ use Rattle.abi.proofs.guide_exports.bt_find_guided.Met as bt-find-guide
 use Rattle.abi.proofs.guide_exports.bt_row_guided as bt-row-guided-of
 use Rattle.abi.proofs.guide_exports.bt_row_guided.Symbol as bt-row-guided-at
 use Rattle.abi.proofs.guide_exports.bt_row_guided.Met as bt-row-guided-met
-use Rattle.abi.proofs.guide_exports.bt_next_with_prefix_guided as bt-next-with-prefix-guided-of
-use Rattle.abi.proofs.guide_exports.bt_next_with_prefix_guided.Symbol as bt-next-with-prefix-guided-at
-use Rattle.abi.proofs.guide_exports.bt_next_with_prefix_guided.Met as bt-next-with-prefix-guided-met
+use Rattle.abi.proofs.guide_exports.bt_next_with_prefix_guided as prefix-guided-of
+use Rattle.abi.proofs.guide_exports.bt_next_with_prefix_guided.Symbol as prefix-guided-at
+use Rattle.abi.proofs.guide_exports.bt_next_with_prefix_guided.Met as prefix-guided-met
 use Rattle.abi.proofs.licence_exports.bt_open_on as bt-open-on-of
 use Rattle.abi.proofs.licence_exports.bt_open_on.Symbol as bt-open-on-at
 use Rattle.abi.proofs.licence_exports.bt_open_on.Met as bt-open-on-met
@@ -116,102 +116,42 @@ use Rattle.abi.proofs.without_edges_exports.bt_without_edges.Met as bt-
 
 abbrev pub calls : List Call
 calls =
-    call (record { routine = bt-build-at.routine; signature = bt-build-of.signature; clauses = bt-build-of.spec }) bt-build-met.met
-    (λ 𝓤 H A mem run κs a. (tt, refl))
-    ∷ call (record {
-      routine = bt-build-scanned-at.routine;
-      signature = bt-build-scanned-of.signature;
-      clauses = bt-build-scanned-of.spec;
-    }) bt-build-scanned-met.met
-    (λ 𝓤 H A mem run κs a. (tt, refl))
-    ∷ call (record { routine = bt-scan-words-at.routine; signature = bt-scan-words-of.signature; clauses = bt-scan-words-of.spec }) bt-scan-words-met.met
-    (λ 𝓤 H A mem run κs a. (tt, refl))
-    ∷ call (record { routine = bt-enough-at.routine; signature = bt-enough-of.signature; clauses = bt-enough-of.spec }) bt-enough-met.met
-    (λ 𝓤 H A mem run κs a. (tt, refl))
-    ∷ call (record { routine = bt-check-at.routine; signature = bt-check-of.signature; clauses = bt-check-of.spec }) bt-check-met.met
-    (λ 𝓤 H A mem run κs a. (tt, refl))
-    ∷ call (record { routine = bt-byte-at.routine; signature = bt-byte-of.signature; clauses = bt-byte-of.spec }) bt-byte-met.met
-    (λ 𝓤 H A mem run κs a. (tt, refl))
-    ∷ call (record { routine = bt-run-at.routine; signature = bt-run-of.signature; clauses = bt-run-of.spec }) bt-run-met.met
-    (λ 𝓤 H A mem run κs a. (tt, refl))
-    ∷ call (record { routine = bt-span-at.routine; signature = bt-span-of.signature; clauses = bt-span-of.spec }) bt-span-met.met
-    (λ 𝓤 H A mem run κs a. (tt, refl))
-    ∷ call (record { routine = bt-count-at.routine; signature = bt-count-of.signature; clauses = bt-count-of.spec }) bt-count-met.met
-    (λ 𝓤 H A mem run κs a. (tt, refl))
-    ∷ call (record { routine = bt-find-at.routine; signature = bt-find-of.signature; clauses = bt-find-of.spec }) bt-find-met.met
-    (λ 𝓤 H A mem run κs a. (tt, refl))
-    ∷ call (record { routine = bt-row-at.routine; signature = bt-row-of.signature; clauses = bt-row-of.spec }) bt-row-met.met
-    (λ 𝓤 H A mem run κs a. (tt, refl))
-    ∷ call (record { routine = bt-places-at.routine; signature = bt-places-of.signature; clauses = bt-places-of.spec }) bt-places-met.met
-    (λ 𝓤 H A mem run κs a. (tt, refl))
-    ∷ call (record { routine = bt-next-match-at.routine; signature = bt-next-match-of.signature; clauses = bt-next-match-of.spec }) bt-next-match-met.met
-    (λ 𝓤 H A mem run κs a. (tt, refl))
-    ∷ call (record {
-      routine = bt-next-with-prefix-at.routine;
-      signature = bt-next-with-prefix-of.signature;
-      clauses = bt-next-with-prefix-of.spec;
-    }) bt-next-with-prefix-met.met
-    (λ 𝓤 H A mem run κs a. (tt, refl))
-    ∷ call (record { routine = bt-list-at.routine; signature = bt-list-of.signature; clauses = bt-list-of.spec }) bt-list-met.met
-    (λ 𝓤 H A mem run κs a. (tt, refl))
-    ∷ call (record { routine = bt-guide-words-at.routine; signature = bt-guide-words-of.signature; clauses = bt-guide-words-of.spec }) bt-guide-words-met.met
-    (λ 𝓤 H A mem run κs a. (tt, refl))
-    ∷ call (record { routine = bt-make-guide-at.routine; signature = bt-make-guide-of.signature; clauses = bt-make-guide-of.spec }) bt-make-guide-met.met
-    (λ 𝓤 H A mem run κs a. (tt, refl))
-    ∷ call (record { routine = bt-check-guide-at.routine; signature = bt-check-guide-of.signature; clauses = bt-check-guide-of.spec }) bt-check-guide-met.met
-    (λ 𝓤 H A mem run κs a. (tt, refl))
-    ∷ call (record { routine = bt-find-guided-at.routine; signature = bt-find-guided-of.signature; clauses = bt-find-guided-of.spec }) bt-find-guided-met.met
-    (λ 𝓤 H A mem run κs a. (tt, refl))
-    ∷ call (record { routine = bt-row-guided-at.routine; signature = bt-row-guided-of.signature; clauses = bt-row-guided-of.spec }) bt-row-guided-met.met
-    (λ 𝓤 H A mem run κs a. (tt, refl))
-    ∷ call (record {
-      routine = bt-next-with-prefix-guided-at.routine;
-      signature = bt-next-with-prefix-guided-of.signature;
-      clauses = bt-next-with-prefix-guided-of.spec;
-    }) bt-next-with-prefix-guided-met.met
-    (λ 𝓤 H A mem run κs a. (tt, refl))
-    ∷ call (record { routine = bt-open-on-at.routine; signature = bt-open-on-of.signature; clauses = bt-open-on-of.spec }) bt-open-on-met.met
-    (λ 𝓤 H A mem run κs a. (tt, refl))
-    ∷ call (record { routine = bt-days-left-at.routine; signature = bt-days-left-of.signature; clauses = bt-days-left-of.spec }) bt-days-left-met.met
-    (λ 𝓤 H A mem run κs a. (tt, refl))
-    ∷ call (record { routine = bt-renew-at.routine; signature = bt-renew-of.signature; clauses = bt-renew-of.spec }) bt-renew-met.met
-    (λ 𝓤 H A mem run κs a. (tt, refl))
-    ∷ call (record { routine = bt-order-at.routine; signature = bt-order-of.signature; clauses = bt-order-of.spec }) bt-order-met.met
-    (λ 𝓤 H A mem run κs a. (tt, refl))
-    ∷ call (record { routine = bt-to-columns-at.routine; signature = bt-to-columns-of.signature; clauses = bt-to-columns-of.spec }) bt-to-columns-met.met
-    (λ 𝓤 H A mem run κs a. (tt, refl))
-    ∷ call (record {
-      routine = bt-from-columns-at.routine;
-      signature = bt-from-columns-of.signature;
-      clauses = bt-from-columns-of.spec;
-    }) bt-from-columns-met.met
-    (λ 𝓤 H A mem run κs a. (tt, refl))
-    ∷ call (record { routine = bt-column-row-at.routine; signature = bt-column-row-of.signature; clauses = bt-column-row-of.spec }) bt-column-row-met.met
-    (λ 𝓤 H A mem run κs a. (tt, refl))
-    ∷ call (record { routine = bt-digest-at.routine; signature = bt-digest-of.signature; clauses = bt-digest-of.spec }) bt-digest-met.met
-    (λ 𝓤 H A mem run κs a. (tt, refl))
-    ∷ call (record { routine = bt-digest-text-at.routine; signature = bt-digest-text-of.signature; clauses = bt-digest-text-of.spec }) bt-digest-text-met.met
-    (λ 𝓤 H A mem run κs a. (tt, refl))
-    ∷ call (record { routine = bt-version-at.routine; signature = bt-version-of.signature; clauses = bt-version-of.spec }) bt-version-met.met
-    (λ 𝓤 H A mem run κs a. (tt, refl))
-    ∷ call (record { routine = bt-info-at.routine; signature = bt-info-of.signature; clauses = bt-info-of.spec }) bt-info-met.met
-    (λ 𝓤 H A mem run κs a. (tt, refl))
-    ∷ call (record { routine = bt-row-count-at.routine; signature = bt-row-count-of.signature; clauses = bt-row-count-of.spec }) bt-row-count-met.met
-    (λ 𝓤 H A mem run κs a. (tt, refl))
-    ∷ call (record { routine = bt-row-length-at.routine; signature = bt-row-length-of.signature; clauses = bt-row-length-of.spec }) bt-row-length-met.met
-    (λ 𝓤 H A mem run κs a. (tt, refl))
-    ∷ call (record {
-      routine = bt-places-words-at.routine;
-      signature = bt-places-words-of.signature;
-      clauses = bt-places-words-of.spec;
-    }) bt-places-words-met.met
-    (λ 𝓤 H A mem run κs a. (tt, refl))
-    ∷ call (record {
-      routine = bt-without-edges-at.routine;
-      signature = bt-without-edges-of.signature;
-      clauses = bt-without-edges-of.spec;
-    }) bt-without-edges-met.met
-    (λ 𝓤 H A mem run κs a. (tt, refl))
+    callOf bt-build-at.routine bt-build-of.signature bt-build-of.spec bt-build-met.met (λ 𝓤 H A mem run κs a. (tt, refl))
+    ∷ callOf bt-build-scanned-at.routine bt-build-scanned-of.signature bt-build-scanned-of.spec bt-build-scanned-met.met (λ 𝓤 H A mem run κs a. (tt, refl))
+    ∷ callOf bt-scan-words-at.routine bt-scan-words-of.signature bt-scan-words-of.spec bt-scan-words-met.met (λ 𝓤 H A mem run κs a. (tt, refl))
+    ∷ callOf bt-enough-at.routine bt-enough-of.signature bt-enough-of.spec bt-enough-met.met (λ 𝓤 H A mem run κs a. (tt, refl))
+    ∷ callOf bt-check-at.routine bt-check-of.signature bt-check-of.spec bt-check-met.met (λ 𝓤 H A mem run κs a. (tt, refl))
+    ∷ callOf bt-byte-at.routine bt-byte-of.signature bt-byte-of.spec bt-byte-met.met (λ 𝓤 H A mem run κs a. (tt, refl))
+    ∷ callOf bt-run-at.routine bt-run-of.signature bt-run-of.spec bt-run-met.met (λ 𝓤 H A mem run κs a. (tt, refl))
+    ∷ callOf bt-span-at.routine bt-span-of.signature bt-span-of.spec bt-span-met.met (λ 𝓤 H A mem run κs a. (tt, refl))
+    ∷ callOf bt-count-at.routine bt-count-of.signature bt-count-of.spec bt-count-met.met (λ 𝓤 H A mem run κs a. (tt, refl))
+    ∷ callOf bt-find-at.routine bt-find-of.signature bt-find-of.spec bt-find-met.met (λ 𝓤 H A mem run κs a. (tt, refl))
+    ∷ callOf bt-row-at.routine bt-row-of.signature bt-row-of.spec bt-row-met.met (λ 𝓤 H A mem run κs a. (tt, refl))
+    ∷ callOf bt-places-at.routine bt-places-of.signature bt-places-of.spec bt-places-met.met (λ 𝓤 H A mem run κs a. (tt, refl))
+    ∷ callOf bt-next-match-at.routine bt-next-match-of.signature bt-next-match-of.spec bt-next-match-met.met (λ 𝓤 H A mem run κs a. (tt, refl))
+    ∷ callOf with-prefix-at.routine with-prefix-of.signature with-prefix-of.spec with-prefix-met.met (λ 𝓤 H A mem run κs a. (tt, refl))
+    ∷ callOf bt-list-at.routine bt-list-of.signature bt-list-of.spec bt-list-met.met (λ 𝓤 H A mem run κs a. (tt, refl))
+    ∷ callOf bt-guide-words-at.routine bt-guide-words-of.signature bt-guide-words-of.spec bt-guide-words-met.met (λ 𝓤 H A mem run κs a. (tt, refl))
+    ∷ callOf bt-make-guide-at.routine bt-make-guide-of.signature bt-make-guide-of.spec bt-make-guide-met.met (λ 𝓤 H A mem run κs a. (tt, refl))
+    ∷ callOf bt-check-guide-at.routine bt-check-guide-of.signature bt-check-guide-of.spec bt-check-guide-met.met (λ 𝓤 H A mem run κs a. (tt, refl))
+    ∷ callOf bt-find-guided-at.routine bt-find-guided-of.signature bt-find-guided-of.spec bt-find-guided-met.met (λ 𝓤 H A mem run κs a. (tt, refl))
+    ∷ callOf bt-row-guided-at.routine bt-row-guided-of.signature bt-row-guided-of.spec bt-row-guided-met.met (λ 𝓤 H A mem run κs a. (tt, refl))
+    ∷ callOf prefix-guided-at.routine prefix-guided-of.signature prefix-guided-of.spec prefix-guided-met.met (λ 𝓤 H A mem run κs a. (tt, refl))
+    ∷ callOf bt-open-on-at.routine bt-open-on-of.signature bt-open-on-of.spec bt-open-on-met.met (λ 𝓤 H A mem run κs a. (tt, refl))
+    ∷ callOf bt-days-left-at.routine bt-days-left-of.signature bt-days-left-of.spec bt-days-left-met.met (λ 𝓤 H A mem run κs a. (tt, refl))
+    ∷ callOf bt-renew-at.routine bt-renew-of.signature bt-renew-of.spec bt-renew-met.met (λ 𝓤 H A mem run κs a. (tt, refl))
+    ∷ callOf bt-order-at.routine bt-order-of.signature bt-order-of.spec bt-order-met.met (λ 𝓤 H A mem run κs a. (tt, refl))
+    ∷ callOf bt-to-columns-at.routine bt-to-columns-of.signature bt-to-columns-of.spec bt-to-columns-met.met (λ 𝓤 H A mem run κs a. (tt, refl))
+    ∷ callOf bt-from-columns-at.routine bt-from-columns-of.signature bt-from-columns-of.spec bt-from-columns-met.met (λ 𝓤 H A mem run κs a. (tt, refl))
+    ∷ callOf bt-column-row-at.routine bt-column-row-of.signature bt-column-row-of.spec bt-column-row-met.met (λ 𝓤 H A mem run κs a. (tt, refl))
+    ∷ callOf bt-digest-at.routine bt-digest-of.signature bt-digest-of.spec bt-digest-met.met (λ 𝓤 H A mem run κs a. (tt, refl))
+    ∷ callOf bt-digest-text-at.routine bt-digest-text-of.signature bt-digest-text-of.spec bt-digest-text-met.met (λ 𝓤 H A mem run κs a. (tt, refl))
+    ∷ callOf bt-version-at.routine bt-version-of.signature bt-version-of.spec bt-version-met.met (λ 𝓤 H A mem run κs a. (tt, refl))
+    ∷ callOf bt-info-at.routine bt-info-of.signature bt-info-of.spec bt-info-met.met (λ 𝓤 H A mem run κs a. (tt, refl))
+    ∷ callOf bt-row-count-at.routine bt-row-count-of.signature bt-row-count-of.spec bt-row-count-met.met (λ 𝓤 H A mem run κs a. (tt, refl))
+    ∷ callOf bt-row-length-at.routine bt-row-length-of.signature bt-row-length-of.spec bt-row-length-met.met (λ 𝓤 H A mem run κs a. (tt, refl))
+    ∷ callOf bt-places-words-at.routine bt-places-words-of.signature bt-places-words-of.spec bt-places-words-met.met (λ 𝓤 H A mem run κs a. (tt, refl))
+    ∷ callOf bt-without-edges-at.routine bt-without-edges-of.signature bt-without-edges-of.spec bt-without-edges-met.met (λ 𝓤 H A mem run κs a. (tt, refl))
     ∷ []
 
 pub every-call-ends : Each Ends calls

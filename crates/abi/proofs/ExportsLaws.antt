@@ -8,7 +8,7 @@ use native.Mathlib.Omega.{arith}
 use borrow.Author.Tests.{eqb-true}
 use lib.Dec.{eqb}
 use Rattle.format.specs.Settings.{maxText}
-use Rattle.format.specs.Said.{Said}
+use Rattle.format.specs.Said.{Said, replied}
 use Rattle.format.specs.SaidLaws.{unless-passes}
 use Rattle.format.specs.Layout as at
 use Rattle.format.specs.Path.{Path, pathOf}
@@ -20,51 +20,51 @@ use Rattle.ask_access.specs.declared.Answer.{Answer}
 use Rattle.ask_access.specs.declared.Answer.the-variants as answer
 use Rattle.ask_access.specs.declared.Copied.{Copied}
 use Rattle.ask_access.specs.declared.Copied.the-variants as copied
-use Rattle.ask_access.specs.ReadAnswers.{said, copiedSaid, SpanAnswer}
+use Rattle.ask_access.specs.ReadAnswers.{byteReply, copiedReply, SpanAnswer}
 use Rattle.build_by_search.specs.declared.Built.{Built}
 use Rattle.build_by_search.specs.declared.Built.the-variants as built
-use Rattle.build_by_search.specs.BuildAnswer.{numberOf, sizeOf}
+use Rattle.build_by_search.specs.BuildAnswer.{builtReply}
 use Rattle.build_enough.specs.declared.Room.{Room}
 use Rattle.build_enough.specs.declared.Room.the-variants as room
-use Rattle.build_enough.specs.Enough.{enoughSaid}
+use Rattle.build_enough.specs.Enough.{enoughReply}
 use Rattle.list_lines.specs.declared.Listed.{Listed}
 use Rattle.list_lines.specs.declared.Listed.the-variants as listed
-use Rattle.list_lines.specs.ListSays.{listSaid}
+use Rattle.list_lines.specs.ListSays.{listReply}
 use Rattle.abi.specs.ExportAnswers.{saying}
 
 -- build and enough
 
-module _ (r : Built) (number size : ℕ) (n-is : numberOf r ≡ number) (s-is : sizeOf r ≡ size) where
+module _ (r : Built) (number size : ℕ) (n-is : replied (builtReply r) .number ≡ number) (s-is : replied (builtReply r) .value ≡ size) where
   pub build-told : (n : ℕ) → r ≡ built.Size n → (0 ≡ number) × (n ≡ size)
-  build-told n e = (sym (ap numberOf e) ∙ n-is, sym (ap sizeOf e) ∙ s-is)
+  build-told n e = (sym (ap (λ (x : Built). replied (builtReply x) .number) e) ∙ n-is, sym (ap (λ (x : Built). replied (builtReply x) .value) e) ∙ s-is)
 
   pub build-refused : (q : ℕ) → r ≡ built.Refused q → (q ≡ number) × (0 ≡ size)
-  build-refused q e = (sym (ap numberOf e) ∙ n-is, sym (ap sizeOf e) ∙ s-is)
+  build-refused q e = (sym (ap (λ (x : Built). replied (builtReply x) .number) e) ∙ n-is, sym (ap (λ (x : Built). replied (builtReply x) .value) e) ∙ s-is)
 
-module _ (r : Room) (s : Said) (is : enoughSaid r ≡ s) where
+module _ (r : Room) (s : Said) (is : replied (enoughReply r) ≡ s) where
   pub enough-told : (n : ℕ) → r ≡ room.Bytes n → saying 0 n 0 ≡ s
-  enough-told n e = sym (ap enoughSaid e) ∙ is
+  enough-told n e = sym (ap (λ (x : Room). replied (enoughReply x)) e) ∙ is
 
   pub enough-refused : (q : ℕ) → r ≡ room.Refused q → saying q 0 0 ≡ s
-  enough-refused q e = sym (ap enoughSaid e) ∙ is
+  enough-refused q e = sym (ap (λ (x : Room). replied (enoughReply x)) e) ∙ is
 
 -- list
 
-module _ (r : Listed) (s : Said) (is : listSaid r ≡ s) where
+module _ (r : Listed) (s : Said) (is : replied (listReply r) ≡ s) where
   pub list-told : (n : ℕ) → r ≡ listed.Bytes n → saying 0 n 0 ≡ s
-  list-told n e = sym (ap listSaid e) ∙ is
+  list-told n e = sym (ap (λ (x : Listed). replied (listReply x)) e) ∙ is
 
   pub list-refused : (q : ℕ) → r ≡ listed.Refused q → saying q 0 0 ≡ s
-  list-refused q e = sym (ap listSaid e) ∙ is
+  list-refused q e = sym (ap (λ (x : Listed). replied (listReply x)) e) ∙ is
 
 -- byte
 
-module _ (r : Answer) (s : Said) (is : said r ≡ s) where
+module _ (r : Answer) (s : Said) (is : replied (byteReply r) ≡ s) where
   pub byte-told : (value entered : ℕ) → r ≡ answer.Byte value entered → saying 0 value entered ≡ s
-  byte-told value entered e = sym (ap said e) ∙ is
+  byte-told value entered e = sym (ap (λ (x : Answer). replied (byteReply x)) e) ∙ is
 
   pub byte-refused : (q : ℕ) → r ≡ answer.Refused q → saying q 0 0 ≡ s
-  byte-refused q e = sym (ap said e) ∙ is
+  byte-refused q e = sym (ap (λ (x : Answer). replied (byteReply x)) e) ∙ is
 
 -- run: no longer than the longest text
 
@@ -90,7 +90,8 @@ run-short t p =
 
 module _ (t : List ℕ) (p len room : ℕ) (r : Copied) (k : SpanAnswer t p len room r) where
   pub span-told : (n entered : ℕ) → r ≡ copied.Bytes n entered → (0 ≡ spanSays t p len room .number) × (entered ≡ spanSays t p len room .entered)
-  span-told n entered e = let z = sym (ap copiedSaid e) ∙ k .says in (ap (λ (s : Said). s .number) z, ap (λ (s : Said). s .entered) z)
+  span-told n entered e = let z = sym (ap (λ (x : Copied). replied (copiedReply x)) e) ∙ k .says in
+      (ap (λ (s : Said). s .number) z, ap (λ (s : Said). s .entered) z)
 
   pub span-refused : (q : ℕ) → r ≡ copied.Refused q → (q ≡ spanSays t p len room .number) × (0 ≡ spanSays t p len room .entered)
-  span-refused q e = let z = sym (ap copiedSaid e) ∙ k .says in (ap (λ (s : Said). s .number) z, ap (λ (s : Said). s .entered) z)
+  span-refused q e = let z = sym (ap (λ (x : Copied). replied (copiedReply x)) e) ∙ k .says in (ap (λ (s : Said). s .number) z, ap (λ (s : Said). s .entered) z)

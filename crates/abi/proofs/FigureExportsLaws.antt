@@ -2,34 +2,34 @@
 use mathlib.Core.List.{List}
 use mathlib.Core.Path.{_≡_, sym, ap, subst, _∙_}
 use Prim.Native.Nat.{ℕ}
-use Rattle.format.specs.Said.{Said}
+use Rattle.format.specs.Said.{Said, replied}
 use Rattle.ask_rows.specs.declared.RowLength.{RowLength}
 use Rattle.ask_rows.specs.declared.RowLength.the-variants as size
 use Rattle.ask_rows.specs.declared.RowCount.{RowCount}
 use Rattle.ask_rows.specs.declared.RowCount.the-variants as count
-use Rattle.ask_rows.specs.RowLengths.{LengthSays, saidLength, saidCount}
+use Rattle.ask_rows.specs.RowLengths.{LengthSays, lengthReply, rowCountReply}
 use Rattle.ask_patterns.specs.declared.PlacesRoom.{PlacesRoom}
 use Rattle.ask_patterns.specs.declared.PlacesRoom.the-variants as room
-use Rattle.ask_patterns.specs.PlacesAnswer.{roomSaid}
+use Rattle.ask_patterns.specs.PlacesAnswer.{roomReply}
 use Rattle.abi.specs.ExportAnswers.{saying}
 
-module _ (r : RowCount) (s : Said) (is : saidCount r ≡ s) where
+module _ (r : RowCount) (s : Said) (is : replied (rowCountReply r) ≡ s) where
   pub count-told : (n : ℕ) → r ≡ count.Rows n → saying 0 n 0 ≡ s
-  count-told n e = sym (ap saidCount e) ∙ is
+  count-told n e = sym (ap (λ (x : RowCount). replied (rowCountReply x)) e) ∙ is
 
   pub count-refused : (q : ℕ) → r ≡ count.Refused q → saying q 0 0 ≡ s
-  count-refused q e = sym (ap saidCount e) ∙ is
+  count-refused q e = sym (ap (λ (x : RowCount). replied (rowCountReply x)) e) ∙ is
 
-module _ (r : PlacesRoom) (s : Said) (is : roomSaid r ≡ s) where
+module _ (r : PlacesRoom) (s : Said) (is : replied (roomReply r) ≡ s) where
   pub room-told : (n : ℕ) → r ≡ room.Words n → saying 0 n 0 ≡ s
-  room-told n e = sym (ap roomSaid e) ∙ is
+  room-told n e = sym (ap (λ (x : PlacesRoom). replied (roomReply x)) e) ∙ is
 
   pub room-refused : (q : ℕ) → r ≡ room.Refused q → saying q 0 0 ≡ s
-  room-refused q e = sym (ap roomSaid e) ∙ is
+  room-refused q e = sym (ap (λ (x : PlacesRoom). replied (roomReply x)) e) ∙ is
 
-module _ (t : List ℕ) (q : ℕ) (r : RowLength) (k : LengthSays t q (saidLength r .number) (saidLength r .value)) where
+module _ (t : List ℕ) (q : ℕ) (r : RowLength) (k : LengthSays t q (replied (lengthReply r) .number) (replied (lengthReply r) .value)) where
   pub length-told : (n : ℕ) → r ≡ size.Bytes n → LengthSays t q 0 n
-  length-told n e = subst (λ (x : RowLength). LengthSays t q (saidLength x .number) (saidLength x .value)) e k
+  length-told n e = subst (λ (x : RowLength). LengthSays t q (replied (lengthReply x) .number) (replied (lengthReply x) .value)) e k
 
   pub length-refused : (number : ℕ) → r ≡ size.Refused number → LengthSays t q number 0
-  length-refused number e = subst (λ (x : RowLength). LengthSays t q (saidLength x .number) (saidLength x .value)) e k
+  length-refused number e = subst (λ (x : RowLength). LengthSays t q (replied (lengthReply x) .number) (replied (lengthReply x) .value)) e k

@@ -2,16 +2,17 @@
 use mathlib.Core.List.{List}
 use mathlib.Core.Path.{_≡_, ap}
 use Prim.Native.Nat.{ℕ}
+use Rattle.format.specs.Said.{Said, replied}
 use Rattle.ask_order.specs.declared.Compared.{Compared}
-use Rattle.ask_order.specs.Order.{Ordered, orderSays}
-use Rattle.ask_order.specs.OrderAnswers.{orderSaid, OrderAnswer}
+use Rattle.ask_order.specs.Order.{orderSays}
+use Rattle.ask_order.specs.OrderAnswers.{orderReply, OrderAnswer}
 use Rattle.abi.specs.ExportAnswers.{firstGiven}
 
 -- the figures of an answer, and which tree stands first
-abbrev pub Figures : List ℕ → List ℕ → Ordered → Type 0
-Figures t u s = (s ≡ orderSays t u) × (firstGiven (s .order) ≡ firstGiven (orderSays t u .order))
+abbrev pub Figures : List ℕ → List ℕ → Said → Type 0
+Figures t u s = (s ≡ orderSays t u) × (firstGiven (s .value) ≡ firstGiven (orderSays t u .value))
 
-pub order-told : (t u : List ℕ) (r : Compared) → OrderAnswer t u r → (x : Compared) → r ≡ x → Figures t u (orderSaid x)
+pub order-told : (t u : List ℕ) (r : Compared) → OrderAnswer t u r → (x : Compared) → r ≡ x → Figures t u (replied (orderReply x))
 order-told t u r a x e =
-    let z : orderSaid x ≡ orderSays t u = rw e at (a .says) in
-    (z, ap (λ (s : Ordered). firstGiven (s .order)) z)
+    let z : replied (orderReply x) ≡ orderSays t u = rw e at (a .says) in
+    (z, ap (λ (s : Said). firstGiven (s .value)) z)

@@ -1,5 +1,5 @@
 // Columns before rows: the calls exported to C.
-use query::Copied;
+use ask_access::Copied;
 ghost use mathlib.Core.Path.{_≡_};
 ghost use lib.ListN.{length};
 ghost use Rattle.columns.specs.Columns.{columnsNumber, columnsLeaves, uncolumnsLeaves};
@@ -29,7 +29,7 @@ pub extern "C" fn bt_column_row(tree: &[u8], width: u32, a: u32, buffer: &mut [u
     ensures { λ r. ⌜ r ≡ columnNumber (now (tree .entry)) width a (length (now (buffer .entry))) ⌝ }
     ensures { λ _. ⌜ now (buffer .exit) ≡ columnLeaves (now (tree .entry)) width a (now (buffer .entry)) ⌝ }
 {
-    let copied = query::row_by_columns(tree, width, a, buffer);
+    let copied = ask_columns::row_by_columns(tree, width, a, buffer);
     match copied {
         Copied::Bytes(_, _) => 0,
         Copied::Refused(number) => number,

@@ -10,7 +10,7 @@ pub extern "C" fn bt_digest(tree: &[u8], out: &mut [u8]) -> u32
     ensures { λ r. ⌜ r ≡ digestRefusal (now (tree .entry)) (length (now (out .entry))) ⌝ }
     ensures { λ _. ⌜ now (out .exit) ≡ digestBuffer (now (tree .entry)) (now (out .entry)) ⌝ }
 {
-    query::digest(tree, out)
+    query_digest::digest(tree, out)
 }
 
 // Writes the SHA-256 of a text to the first 32 bytes of `out`.

@@ -1,7 +1,7 @@
 // What a caller must know of a tree without reading its bytes; and the library's version.
-use query::PlacesRoom;
-use query::RowCount;
-use query::RowLength;
+use ask_patterns::PlacesRoom;
+use ask_rows::RowCount;
+use ask_rows::RowLength;
 ghost use mathlib.Core.Path.{_≡_};
 ghost use Rattle.format.specs.Verdict.{readable};
 ghost use Rattle.ask_rows.specs.RowLengths.{LengthSays, rowsSays};
@@ -14,16 +14,16 @@ ghost use Rattle.abi.specs.ExportAnswers.{saying};
 pub extern "C" fn bt_version() -> u32
     ensures { λ r. ⌜ r ≡ versionNumber ⌝ }
 {
-    query::version()
+    ask_facts::version()
 }
 
 // Writes the figures of a tree, in order.
 #[no_mangle]
-pub extern "C" fn bt_info(tree: &[u8], figures: &mut [u64; query::FIGURES]) -> u32
+pub extern "C" fn bt_info(tree: &[u8], figures: &mut [u64; ask_facts::FIGURES]) -> u32
     ensures { λ r. ⌜ r ≡ readable (now (tree .entry)) ⌝ }
     ensures { λ _. ⌜ now (figures .exit) ≡ infoLeaves (now (tree .entry)) ⌝ }
 {
-    query::info(tree, figures)
+    ask_facts::info(tree, figures)
 }
 
 // How many rows the text has.
@@ -31,7 +31,7 @@ pub extern "C" fn bt_info(tree: &[u8], figures: &mut [u64; query::FIGURES]) -> u
 pub extern "C" fn bt_row_count(tree: &[u8], rows: &mut u64) -> u32
     ensures { λ r. ⌜ saying r (now (rows .exit)) 0 ≡ rowsSays (now (tree .entry)) ⌝ }
 {
-    let count = query::row_count(tree);
+    let count = ask_rows::row_count(tree);
     match count {
         RowCount::Rows(n) => {
             *rows = n;
@@ -49,7 +49,7 @@ pub extern "C" fn bt_row_count(tree: &[u8], rows: &mut u64) -> u32
 pub extern "C" fn bt_row_length(tree: &[u8], q: u32, len: &mut u32) -> u32
     ensures { λ r. ⌜ LengthSays (now (tree .entry)) q r (now (len .exit)) ⌝ }
 {
-    let length = query::row_length(tree, q);
+    let length = ask_rows::row_length(tree, q);
     match length {
         RowLength::Bytes(n) => {
             *len = n;
@@ -67,7 +67,7 @@ pub extern "C" fn bt_row_length(tree: &[u8], q: u32, len: &mut u32) -> u32
 pub extern "C" fn bt_places_words(tree: &[u8], len: u32, words: &mut u32) -> u32
     ensures { λ r. ⌜ saying r (now (words .exit)) 0 ≡ roomSays (now (tree .entry)) len ⌝ }
 {
-    let room = query::places_words(tree, len);
+    let room = ask_patterns::places_words(tree, len);
     match room {
         PlacesRoom::Words(n) => {
             *words = n;

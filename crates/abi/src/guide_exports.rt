@@ -1,15 +1,15 @@
 // A guide to the level 0 blocks: its size, making one, checking one; find, row and rows by their first bytes with one. Any bytes may be lent as a guide.
-use query::Guided;
-use query::NextRowAnswer;
-use query::RowCopied;
-use query::Size;
+use ask_guide::Size;
+use ask_guided::Guided;
+use ask_rows::RowCopied;
+use query_row_filter::NextRowAnswer;
 ghost use mathlib.Core.Path.{_≡_};
 ghost use Rattle.ask_guide.specs.Guides.{guideNumber, sizeSays, makeSays, makeLeaves};
 ghost use Rattle.ask_guided.specs.Guided.{GuidedSays};
 ghost use Rattle.format.specs.RowSays.{RowBy};
 ghost use Rattle.prefix_match.specs.PrefixRows.{startsWith};
-ghost use Rattle.query_row_filter.specs.AllowedOutcome.{AllowedOutcome};
-ghost use Rattle.query_prefix.specs.PrefixRefusals.{prefixRefusal};
+ghost use Rattle.query_row_filter.specs.AllowedOutcome.{AllowedOutcome, queryRefusal};
+ghost use Rattle.ask_patterns.specs.Places.{patternOk};
 ghost use Rattle.abi.specs.ExportAnswers.{saying};
 
 // How many words the guide of a tree has.
@@ -17,7 +17,7 @@ ghost use Rattle.abi.specs.ExportAnswers.{saying};
 pub extern "C" fn bt_guide_words(tree: &[u8], words: &mut u64) -> u32
     ensures { λ r. ⌜ saying r (now (words .exit)) 0 ≡ sizeSays (now (tree .entry)) ⌝ }
 {
-    let size = query::guide_words(tree);
+    let size = ask_guide::guide_words(tree);
     match size {
         Size::Words(n) => {
             *words = n;
@@ -36,7 +36,7 @@ pub extern "C" fn bt_make_guide(tree: &[u8], table: &mut [u8], words: &mut u64) 
     ensures { λ r. ⌜ saying r (now (words .exit)) 0 ≡ makeSays (now (tree .entry)) (now (table .entry)) ⌝ }
     ensures { λ _. ⌜ now (table .exit) ≡ makeLeaves (now (tree .entry)) (now (table .entry)) ⌝ }
 {
-    let size = query::make_guide(tree, table);
+    let size = build_guide::make_guide(tree, table);
     match size {
         Size::Words(n) => {
             *words = n;
@@ -54,7 +54,7 @@ pub extern "C" fn bt_make_guide(tree: &[u8], table: &mut [u8], words: &mut u64) 
 pub extern "C" fn bt_check_guide(tree: &[u8], guide: &[u8]) -> u32
     ensures { λ r. ⌜ r ≡ guideNumber (now (tree .entry)) (now (guide .entry)) ⌝ }
 {
-    query::check_guide(tree, guide)
+    build_guide::check_guide(tree, guide)
 }
 
 // The place of the j-th such byte, the blocks on its path, and the steps on level 0.
@@ -74,9 +74,9 @@ pub extern "C" fn bt_find_guided(
         *place = 0;
         *entered = 0;
         *steps = 0;
-        return query::uncounted(tree, 0);
+        return ask_rank::uncounted::uncounted(tree, 0);
     }
-    let found = query::find_guided(tree, guide, byte as u8, j);
+    let found = ask_guided::find_guided(tree, guide, byte as u8, j);
     match found {
         Guided::At(at, path, walked) => {
             *place = at.0;
@@ -105,7 +105,7 @@ pub extern "C" fn bt_row_guided(
     ensures { λ r. ⌜ RowBy (now (tree .entry))
         (guideNumber (now (tree .entry)) (now (guide .entry))) q (now (buffer .entry)) r (now (len .exit)) (now (buffer .exit)) ⌝ }
 {
-    let copied = query::row_guided(tree, guide, q, buffer);
+    let copied = ask_rows::row_guided(tree, guide, q, buffer);
     match copied {
         RowCopied::Bytes(size) => {
             *len = size;
@@ -128,11 +128,11 @@ pub extern "C" fn bt_next_with_prefix_guided(
     row: &mut u32,
 ) -> u32
     ensures { λ r. ⌜ AllowedOutcome (now (tree .entry)) (guideNumber (now (tree .entry)) (now (guide .entry)))
-        (prefixRefusal (now (tree .entry)) (now (prefix .entry))) (startsWith (now (prefix .entry)))
+        (queryRefusal (now (tree .entry)) 16 (patternOk (now (prefix .entry)))) (startsWith (now (prefix .entry)))
         (now (mark .entry)) (record { refusal = r; row = now (row .exit); mark = now (mark .exit) }) ⌝ }
 {
     let at = *mark;
-    let answer = query::next_row_with_prefix_guided(tree, guide, prefix, at);
+    let answer = query_prefix::next_row_with_prefix_guided(tree, guide, prefix, at);
     match answer {
         NextRowAnswer::Row(q) => {
             *row = q;

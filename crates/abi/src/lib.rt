@@ -8,16 +8,16 @@ pub mod licence_exports;
 pub mod order_exports;
 pub mod without_edges_exports;
 
+use ask_access::Answer;
+use ask_access::Copied;
+use ask_access::read_by_header::Ran;
+use ask_patterns::PlacesWritten;
+use ask_rank::Counted;
+use ask_rows::RowCopied;
+use ask_select::Found;
 use list_lines::Listed;
-use query::Answer;
-use query::Copied;
-use query::Counted;
-use query::Found;
-use query::NextRowAnswer;
-use query::PlacesWritten;
-use query::Ran;
-use query::RowCopied;
-use query::TextPlace;
+use query_row_filter::NextRowAnswer;
+use text::TextPlace;
 use tree::Built;
 use tree::Room;
 use tree::Scanned;
@@ -26,18 +26,17 @@ ghost use lib.ListN.{length};
 ghost use Rattle.format.specs.BuildSays.{buildNumber, buildSize, buildLeaves};
 ghost use Rattle.format.specs.ReadSays.{byteSays, runSays, spanSays, spanLeaves};
 ghost use Rattle.format.specs.CountSays.{countSays};
-ghost use Rattle.format.specs.FindSays.{FindSays};
-ghost use Rattle.format.specs.RowSays.{RowSays};
+ghost use Rattle.format.specs.FindSays.{FindBy};
+ghost use Rattle.format.specs.RowSays.{RowBy};
 ghost use Rattle.format.specs.Verdict.{verdict};
-ghost use Rattle.build_by_search.specs.BuildAnswer.{given};
+ghost use Rattle.format.specs.Settings.{given};
 ghost use Rattle.build_enough.specs.Enough.{enoughSays};
 ghost use Rattle.list_lines.specs.ListSays.{listSays, listLeaves};
-ghost use Rattle.ask_patterns.specs.Places.{placesSays, placesLeaves};
+ghost use Rattle.ask_patterns.specs.Places.{placesSays, placesLeaves, patternOk};
 ghost use Rattle.build_by_scan.specs.ScannedSays.{tableWords, scanNumber, scanSize, scanWindows, scanLeaves, TableLeft};
 ghost use Rattle.prefix_match.specs.PrefixRows.{startsWith};
-ghost use Rattle.query_row_filter.specs.AllowedOutcome.{AllowedOutcome};
-ghost use Rattle.ask_worn_keys.specs.MatchSays.{MatchSays};
-ghost use Rattle.query_prefix.specs.PrefixRefusals.{prefixRefusal};
+ghost use Rattle.query_row_filter.specs.AllowedOutcome.{AllowedOutcome, queryRefusal};
+ghost use Rattle.ask_worn_keys.specs.MatchAnswer.{MatchSays};
 ghost use Rattle.abi.specs.ExportAnswers.{saying};
 
 // Builds the tree of a text.
@@ -152,7 +151,7 @@ pub extern "C" fn bt_check(tree: &[u8]) -> u32
 pub extern "C" fn bt_byte(tree: &[u8], place: u32, value: &mut u32, entered: &mut u32) -> u32
     ensures { λ r. ⌜ saying r (now (value .exit)) (now (entered .exit)) ≡ byteSays (now (tree .entry)) place ⌝ }
 {
-    let answer = query::byte(tree, TextPlace(place));
+    let answer = ask_access::byte(tree, TextPlace(place));
     match answer {
         Answer::Byte(byte, blocks) => {
             *value = byte as u32;
@@ -174,7 +173,7 @@ pub extern "C" fn bt_run(tree: &[u8], place: u32, offset: &mut u64, len: &mut u3
     ensures { λ _. ⌜ now (offset .exit) ≡ runSays (now (tree .entry)) place .0 ⌝ }
     ensures { λ _. ⌜ now (len .exit) ≡ runSays (now (tree .entry)) place .1 ⌝ }
 {
-    let ran = query::run_part(tree, TextPlace(place));
+    let ran = ask_access::run_part(tree, TextPlace(place));
     match ran {
         Ran::At(part) => {
             *offset = part.from as u64;
@@ -202,7 +201,7 @@ pub extern "C" fn bt_span(
     ensures { λ _. ⌜ now (entered .exit) ≡ spanSays (now (tree .entry)) place len (length (now (buffer .entry))) .entered ⌝ }
     ensures { λ _. ⌜ now (buffer .exit) ≡ spanLeaves (now (tree .entry)) place len (now (buffer .entry)) ⌝ }
 {
-    let copied = query::span(tree, TextPlace(place), len, buffer);
+    let copied = ask_access::span(tree, TextPlace(place), len, buffer);
     match copied {
         Copied::Bytes(_, blocks) => {
             *entered = blocks;
@@ -229,9 +228,9 @@ pub extern "C" fn bt_count(
     if 255 < byte {
         *times = 0;
         *entered = 0;
-        return query::uncounted(tree, i);
+        return ask_rank::uncounted::uncounted(tree, i);
     }
-    let counted = query::count(tree, byte as u8, i);
+    let counted = ask_rank::count(tree, byte as u8, i);
     match counted {
         Counted::Times(count, visits) => {
             *times = count;
@@ -249,14 +248,14 @@ pub extern "C" fn bt_count(
 // The place of the j-th such byte, and the blocks on its path.
 #[no_mangle]
 pub extern "C" fn bt_find(tree: &[u8], byte: u32, j: u32, place: &mut u32, entered: &mut u32) -> u32
-    ensures { λ r. ⌜ FindSays (now (tree .entry)) byte j (saying r (now (place .exit)) (now (entered .exit))) ⌝ }
+    ensures { λ r. ⌜ FindBy (now (tree .entry)) (verdict (now (tree .entry))) byte j (saying r (now (place .exit)) (now (entered .exit))) ⌝ }
 {
     if 255 < byte {
         *place = 0;
         *entered = 0;
-        return query::uncounted(tree, 0);
+        return ask_rank::uncounted::uncounted(tree, 0);
     }
-    let found = query::find(tree, byte as u8, j);
+    let found = ask_select::find(tree, byte as u8, j);
     match found {
         Found::At(at, path) => {
             *place = at.0;
@@ -274,9 +273,9 @@ pub extern "C" fn bt_find(tree: &[u8], byte: u32, j: u32, place: &mut u32, enter
 // Copies row q, and answers its length.
 #[no_mangle]
 pub extern "C" fn bt_row(tree: &[u8], q: u32, buffer: &mut [u8], len: &mut u32) -> u32
-    ensures { λ r. ⌜ RowSays (now (tree .entry)) q (now (buffer .entry)) r (now (len .exit)) (now (buffer .exit)) ⌝ }
+    ensures { λ r. ⌜ RowBy (now (tree .entry)) (verdict (now (tree .entry))) q (now (buffer .entry)) r (now (len .exit)) (now (buffer .exit)) ⌝ }
 {
-    let copied = query::row(tree, q, buffer);
+    let copied = ask_rows::row(tree, q, buffer);
     match copied {
         RowCopied::Bytes(size) => {
             *len = size;
@@ -295,7 +294,7 @@ pub extern "C" fn bt_places(tree: &[u8], pattern: &[u8], table: &mut [u32], numb
     ensures { λ r. ⌜ saying r (now (number .exit)) 0 ≡ placesSays (now (tree .entry)) (now (pattern .entry)) (length (now (table .entry))) ⌝ }
     ensures { λ _. ⌜ now (table .exit) ≡ placesLeaves (now (tree .entry)) (now (pattern .entry)) (now (table .entry)) ⌝ }
 {
-    let written = query::places(tree, pattern, table);
+    let written = ask_patterns::places(tree, pattern, table);
     match written {
         PlacesWritten::Number(n) => {
             *number = n;
@@ -315,7 +314,7 @@ pub extern "C" fn bt_next_match(tree: &[u8], ranges: &[u8], mark: &mut u32, row:
         (now (tree .entry)) (now (ranges .entry)) (now (mark .entry)) (record { refusal = r; row = now (row .exit); mark = now (mark .exit) }) ⌝ }
 {
     let at = *mark;
-    let shown = query::next_match(tree, ranges, at);
+    let shown = ask_worn_keys::next_match(tree, ranges, at);
     match shown {
         NextRowAnswer::Row(q) => {
             *row = q;
@@ -342,11 +341,11 @@ pub extern "C" fn bt_next_with_prefix(
     mark: &mut u32,
     row: &mut u32,
 ) -> u32
-    ensures { λ r. ⌜ AllowedOutcome (now (tree .entry)) (verdict (now (tree .entry))) (prefixRefusal (now (tree .entry)) (now (prefix .entry)))
+    ensures { λ r. ⌜ AllowedOutcome (now (tree .entry)) (verdict (now (tree .entry))) (queryRefusal (now (tree .entry)) 16 (patternOk (now (prefix .entry))))
         (startsWith (now (prefix .entry))) (now (mark .entry)) (record { refusal = r; row = now (row .exit); mark = now (mark .exit) }) ⌝ }
 {
     let at = *mark;
-    let answer = query::next_row_with_prefix(tree, prefix, at);
+    let answer = query_prefix::next_row_with_prefix(tree, prefix, at);
     match answer {
         NextRowAnswer::Row(q) => {
             *row = q;

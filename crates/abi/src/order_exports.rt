@@ -1,5 +1,5 @@
 // The order of two trees' texts, exported to C.
-use query::Compared;
+use ask_order::Compared;
 ghost use mathlib.Core.Path.{_≡_};
 ghost use Rattle.ask_order.specs.Order.{orderSays};
 ghost use Rattle.abi.specs.ExportAnswers.{firstGiven};
@@ -14,10 +14,10 @@ pub extern "C" fn bt_order(
     shared: &mut u32,
     first: &mut u32,
 ) -> u32
-    ensures { λ r. ⌜ record { number = r; order = now (order .exit); length = now (shared .exit) } ≡ orderSays (now (one .entry)) (now (other .entry)) ⌝ }
-    ensures { λ _. ⌜ now (first .exit) ≡ firstGiven (orderSays (now (one .entry)) (now (other .entry)) .order) ⌝ }
+    ensures { λ r. ⌜ record { number = r; value = now (order .exit); entered = now (shared .exit) } ≡ orderSays (now (one .entry)) (now (other .entry)) ⌝ }
+    ensures { λ _. ⌜ now (first .exit) ≡ firstGiven (orderSays (now (one .entry)) (now (other .entry)) .value) ⌝ }
 {
-    let compared = query::compare(one, other);
+    let compared = ask_order::compare(one, other);
     match compared {
         Compared::Before(length) => {
             *order = 1;

@@ -1,5 +1,5 @@
 // The export of `without_edges`.
-use query::WithoutEdgesAnswer;
+use build_without_edges::WithoutEdgesAnswer;
 ghost use mathlib.Core.Path.{_≡_};
 ghost use Rattle.build_without_edges.specs.WithoutEdgesAnswers.{withoutEdgesRefusal, withoutEdgesSize, withoutEdgesBuffer};
 
@@ -10,7 +10,7 @@ pub extern "C" fn bt_without_edges(tree: &[u8], out: &mut [u8], size: &mut u64) 
     ensures written { λ _. ⌜ now (size .exit) ≡ withoutEdgesSize (now (tree .entry)) (now (out .entry)) ⌝ }
     ensures buffer { λ _. ⌜ now (out .exit) ≡ withoutEdgesBuffer (now (tree .entry)) (now (out .entry)) ⌝ }
 {
-    let answer = query::without_edges(tree, out);
+    let answer = build_without_edges::without_edges(tree, out);
     match answer {
         WithoutEdgesAnswer::Size(n) => {
             *size = n as u64;

@@ -11,7 +11,7 @@ use lib.Seq.{drop-set-lt}
 use Rattle.text.specs.Lists.{tabulate}
 use Rattle.text.specs.ListLaws.{tab-none, tab-more}
 use Rattle.format.specs.Layout as at
-use Rattle.format.specs.Said.{Said}
+use Rattle.format.specs.Said.{Said, NeverZero, replied}
 use Rattle.format.specs.ReadSays.{byteSays, pathsHold}
 use Rattle.layout.specs.declared.header.Header.{Header}
 use Rattle.layout.specs.HeaderSays.{HeaderOf}
@@ -19,7 +19,7 @@ use Rattle.ask_access.specs.declared.Answer.{Answer}
 use Rattle.ask_access.specs.declared.Answer.the-variants.{Byte, Refused}
 use Rattle.ask_access.specs.declared.Copied.{Copied}
 use Rattle.ask_access.specs.declared.Copied.the-variants as copied
-use Rattle.ask_access.specs.ReadAnswers.{said, copiedSaid, Numbered}
+use Rattle.ask_access.specs.ReadAnswers.{byteReply, copiedReply}
 use Rattle.ask_access.specs.ReadByRuns.{ReadsFrom, placesWritten, RunCopied}
 use Rattle.theory_paths.specs.PlaceBytes.{only-14}
 use Rattle.stretches.specs.Stretches.{bytesWritten}
@@ -55,14 +55,14 @@ module _ (t : List ℕ) (p len : ℕ) where
     rest-broken z = rw (open-rest, z)
 
 -- a byte's answer: the byte of its place, or a refusal by 14
-module _ (t : List ℕ) (h : Header) (k : HeaderOf t h) (p : ℕ) (low : p < h .«text_length») (a : Answer) (a-is : said a ≡ byteSays t p) where
+module _ (t : List ℕ) (h : Header) (k : HeaderOf t h) (p : ℕ) (low : p < h .«text_length») (a : Answer) (a-is : replied (byteReply a) ≡ byteSays t p) where
   pub byte-good : (v n : ℕ) → a ≡ Byte v n → (byteSays t p .number ≡ 0) × (v ≡ byteSays t p .value)
   byte-good v n e =
-      let z : record { number = 0; value = v; entered = n } ≡ byteSays t p = ap said (sym e) ∙ a-is in
+      let z : record { number = 0; value = v; entered = n } ≡ byteSays t p = ap (λ (x : Answer). replied (byteReply x)) (sym e) ∙ a-is in
       (sym (ap (λ (s : Said). s .number) z), ap (λ (s : Said). s .value) z)
 
   pub byte-refused : (q : ℕ) → a ≡ Refused q → byteSays t p .number ≡ 14
-  byte-refused q e = only-14 t (k .passes) p (omega (arith, k .length-is)) q (ap said (sym e) ∙ a-is)
+  byte-refused q e = only-14 t (k .passes) p (omega (arith, k .length-is)) q (ap (λ (x : Answer). replied (byteReply x)) (sym e) ∙ a-is)
 
 -- Buffer e, where i of the len bytes from p were copied to buffer d.
 pub record Copying (t : List ℕ) (p len : ℕ) (d e : List ℕ) (i : ℕ) : Type 0 where
@@ -128,7 +128,7 @@ module _ (t : List ℕ) (h : Header) (p len : ℕ)
 
     -- a refusal, and the part asked for is cleared
     pub copy-broken : i < len → (q : ℕ) → r ≡ copied.Refused q → (z : List ℕ) → z ≡ replicate len 0 ++ drop len f
-        → Numbered r × ByPaths t p len d (copiedSaid r) z
+        → NeverZero (copiedReply r) × ByPaths t p len d (replied (copiedReply r)) z
     copy-broken more q is z z-is =
         let y : RunCopied t (p + i) (len - i) i e f (copied.Refused q) = rw is at r-is in
         let past : drop len f ≡ drop len d = ap (drop len) (y .2) ∙ c .past in

@@ -14,18 +14,19 @@ use Rattle.text.specs.Text.{stretch}
 use Rattle.text.specs.declared.TextPlace.{TextPlace}
 use Rattle.format.specs.Layout as at
 use Rattle.format.specs.Path.{Path, pathOf}
-use Rattle.format.specs.Fits.{linksOk, textOf, fits}
+use Rattle.format.specs.Fits.{linksOk, textOf}
+use Rattle.format.specs.FittingText.{fits}
 use Rattle.format.specs.Verdict.{readable, verdict}
 use Rattle.format.specs.VerdictLaws.{accepted-readable}
 use Rattle.theory_edges.specs.Demands as margins
-use Rattle.format.specs.Said.{Said, refused}
+use Rattle.format.specs.Said.{Said, refused, NeverZero, replied}
 use Rattle.format.specs.ReadSays.{runSays, spanBlocks, spanSays}
 use Rattle.theory_paths.specs.Demands as paths
 use Rattle.ask_access.specs.declared.Answer.{Answer}
 use Rattle.ask_access.specs.declared.Answer.the-variants.{Byte, Refused}
 use Rattle.ask_access.specs.declared.Copied.{Copied}
 use Rattle.ask_access.specs.declared.Copied.the-variants as copied
-use Rattle.ask_access.specs.ReadAnswers.{said, copiedSaid, Numbered}
+use Rattle.ask_access.specs.ReadAnswers.{byteReply, copiedReply}
 use Rattle.theory_paths.specs.Visits.{path-long}
 use Rattle.ask_access.proofs.byte.Reads as byte-reads
 use Rattle.ask_access.proofs.run.Reads as run-reads
@@ -44,21 +45,22 @@ abbrev pub Span : (κs : Lfts 2) → RefT (List ℕ) → TextPlace → ℕ → R
 Span κs t p len buffer after r = span-reads.Post κs (t, (p, (len, (buffer, tt)))) r (t, (p, (len, (after, tt))))
 
 -- which answer says this
-byte-is : (r : Answer) (v n : ℕ) → 1 ≤ n → said r ≡ record { number = 0; value = v; entered = n } → r ≡ Byte v n
+byte-is : (r : Answer) (v n : ℕ) → 1 ≤ n → replied (byteReply r) ≡ record { number = 0; value = v; entered = n } → r ≡ Byte v n
 byte-is (Byte w m) v n low e =
     let z : w ≡ v = ap (λ (s : Said). s .value) e in
     let y : m ≡ n = ap (λ (s : Said). s .entered) e in
     cc
 byte-is (Refused q) v n low e = absurd (let z : 0 ≡ n = ap (λ (s : Said). s .entered) e in omega arith)
 
-pub copied-is : (r : Copied) (len n : ℕ) → Numbered r → copiedSaid r ≡ record { number = 0; value = len; entered = n } → r ≡ copied.Bytes len n
+pub copied-is : (r : Copied) (len n : ℕ) → NeverZero (copiedReply r) → replied (copiedReply r) ≡ record { number = 0; value = len; entered = n }
+    → r ≡ copied.Bytes len n
 copied-is (copied.Bytes m b) len n k e =
     let z : m ≡ len = ap (λ (s : Said). s .value) e in
     let y : b ≡ n = ap (λ (s : Said). s .entered) e in
     cc
 copied-is (copied.Refused q) len n k e = absurd (let z : q ≡ 0 = ap (λ (s : Said). s .number) e in omega arith)
 
-pub copied-no : (r : Copied) (n : ℕ) → copiedSaid r ≡ refused (suc n) → r ≡ copied.Refused (suc n)
+pub copied-no : (r : Copied) (n : ℕ) → replied (copiedReply r) ≡ refused (suc n) → r ≡ copied.Refused (suc n)
 copied-no (copied.Bytes m e) n s = absurd (let z : _≡_ {A = ℕ} 0 (suc n) = ap (λ (x : Said). x .number) s in omega arith)
 copied-no (copied.Refused m) n s = ap (λ (x : Said). copied.Refused (x .number)) s
 
@@ -131,7 +133,7 @@ pub span-copies :
 unfolding spanSays
 span-copies t v κs p len buffer after r low room a =
     let z = margins.span-good (t .now) v (p .0) len (length (buffer .now)) low room in
-    let s : copiedSaid r ≡ record { number = 0; value = len; entered = spanBlocks (t .now) (p .0) len } = a .0 .says ∙ rw z in (
+    let s : replied (copiedReply r) ≡ record { number = 0; value = len; entered = spanBlocks (t .now) (p .0) len } = a .0 .says ∙ rw z in (
       copied-is r len (spanBlocks (t .now) (p .0) len) (a .0 .numbered) s,
       margins.span-entered (t .now) (accepted-readable (t .now) v) (p .0) len,
       a .1 ∙ margins.span-of-text (t .now) v (p .0) len (buffer .now) low room,

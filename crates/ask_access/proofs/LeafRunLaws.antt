@@ -6,7 +6,7 @@ use native.Mathlib.Omega.{arith}
 use native.Mathlib.Nat.{le-trans}
 use lib.ListN.{length, getD, set}
 use Rattle.format.specs.Layout as at
-use Rattle.format.specs.Said.{Said, refused}
+use Rattle.format.specs.Said.{Said, refused, replied}
 use Rattle.format.specs.Verdict.{readable}
 use Rattle.format.specs.ReadSays.{byteSays, runSays}
 use Rattle.theory_paths.specs.Shift.{left-most}
@@ -29,7 +29,7 @@ use Rattle.ask_access.specs.declared.read_by_header.Ran.the-variants as 
 use Rattle.ask_access.specs.declared.leaf_end.LeafEnd.{LeafEnd}
 use Rattle.ask_access.specs.declared.leaf_end.LeafEndAnswer.{LeafEndAnswer}
 use Rattle.ask_access.specs.declared.leaf_end.LeafEndAnswer.the-variants as end
-use Rattle.ask_access.specs.ReadAnswers.{said, RunAnswer}
+use Rattle.ask_access.specs.ReadAnswers.{byteReply, RunAnswer}
 use Rattle.ask_access.specs.LeafEnds.{LeafEndAt, LeafEndOf, Joined}
 use Rattle.ask_access.specs.ReadByRuns.{ReadsOn, LeafRunAt, LeafRunOf, LeafRangeAt, ReadsFrom, LeafRangeOf, RangeAnswer, placesWritten, RunCopied}
 use Rattle.ask_access.proofs.ByteLaws as bytes
@@ -191,10 +191,10 @@ module _ (t : List ℕ) (p most : ℕ) (x : Ran) (x-is : RangeAnswer t p most x)
 
 -- the first byte of a run is that of its place
 pub run-first-byte : (t : List ℕ) (p : ℕ) (r : LeafRun) → LeafRunAt t p r
-    → (a : Answer) → a ≡ Byte (getD t (r .from + 0) 0) (r .entered) → said a ≡ byteSays t p
+    → (a : Answer) → a ≡ Byte (getD t (r .from + 0) 0) (r .entered) → replied (byteReply a) ≡ byteSays t p
 run-first-byte t p r k a e =
     let z : p + 0 ≡ p = omega arith in
-    ap said e ∙ sym (rw z at (k .says 0 (k .some-byte)))
+    ap (λ (x : Answer). replied (byteReply x)) e ∙ sym (rw z at (k .says 0 (k .some-byte)))
 
 -- no byte of a run is refused
 pub run-not-refused : (a : Answer) (v n q : ℕ) → a ≡ Byte v n → a ≡ Refused q → ⊥

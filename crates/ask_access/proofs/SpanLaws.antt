@@ -10,7 +10,7 @@ use lib.ListN.{length, drop, replicate}
 use Rattle.text.specs.Lists.{tabulate}
 use Rattle.format.specs.Layout as at
 use Rattle.format.specs.Verdict.{ask, readable}
-use Rattle.format.specs.Said.{Said, refused, unless}
+use Rattle.format.specs.Said.{Said, refused, unless, NeverZero, replied}
 use Rattle.format.specs.ReadSays.{byteSays, pathsHold, asksSpan, leavesSpan, isShort, spanReached, spanBytes, spanBlocks, spanNumber, spanSays}
 use Rattle.format.specs.ReadSays.{spanLeaves, copyNumber, copySays, copyLeaves}
 use Rattle.layout.specs.declared.header.HeaderRead.{HeaderRead}
@@ -18,7 +18,8 @@ use Rattle.layout.specs.declared.header.HeaderRead.the-variants as read
 use Rattle.layout.specs.Header.{headerSays}
 use Rattle.layout.specs.HeaderSays.{header-refused, readable-small}
 use Rattle.ask_access.specs.declared.Copied.{Copied}
-use Rattle.ask_access.specs.ReadAnswers.{copiedSaid, Numbered, SpanAnswer, CopyAnswer}
+use Rattle.ask_access.specs.ReadAnswers.{copiedReply, SpanAnswer}
+use Rattle.ask_access.specs.ReadByRuns.{CopyAnswer}
 
 -- s and what is left of buffer d are what a span says and leaves, whose bytes are reached or not and which reports so many blocks
 pub record Spanned (t : List ℕ) (p len : ℕ) (d : List ℕ) (reached : Bool) (bytes : List ℕ) (blocks : ℕ) (s : Said) (after : List ℕ) : Type 0 where
@@ -36,12 +37,12 @@ ByPaths t p len d = Spanned t p len d (pathsHold t p len) (tabulate len (values 
 abbrev pub Whole : List ℕ → ℕ → ℕ → List ℕ → Said → List ℕ → Type 0
 Whole t p len d = Spanned t p len d (spanReached t p len) (spanBytes t p len) (spanBlocks t p len)
 
-pub answered : (t : List ℕ) (p len : ℕ) (d after : List ℕ) (r : Copied) → Numbered r → Whole t p len d (copiedSaid r) after
+pub answered : (t : List ℕ) (p len : ℕ) (d after : List ℕ) (r : Copied) → NeverZero (copiedReply r) → Whole t p len d (replied (copiedReply r)) after
     → SpanAnswer t p len (length d) r × (after ≡ spanLeaves t p len d)
 unfolding spanSays spanNumber spanLeaves
 answered t p len d after r numbered k = (record { says = k .says; numbered = numbered }, k .leaves)
 
-pub copy-answered : (t : List ℕ) (p len : ℕ) (d after : List ℕ) (r : Copied) → Numbered r → ByPaths t p len d (copiedSaid r) after
+pub copy-answered : (t : List ℕ) (p len : ℕ) (d after : List ℕ) (r : Copied) → NeverZero (copiedReply r) → ByPaths t p len d (replied (copiedReply r)) after
     → CopyAnswer t p len (length d) r × (after ≡ copyLeaves t p len d)
 unfolding copySays copyNumber copyLeaves
 copy-answered t p len d after r numbered k = (record { says = k .says; numbered = numbered }, k .leaves)

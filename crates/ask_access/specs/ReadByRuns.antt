@@ -5,8 +5,8 @@ use Prim.Native.Nat.{ℕ, zero, suc, _+_, _≤_, _<_}
 use lib.ListN.{length, getD, set}
 use Rattle.format.specs.Layout as at
 use Rattle.format.specs.Fits.{textOf}
-use Rattle.format.specs.Said.{refused}
-use Rattle.format.specs.ReadSays.{byteSays, runSays}
+use Rattle.format.specs.Said.{refused, Is}
+use Rattle.format.specs.ReadSays.{byteSays, runSays, copySays}
 use Rattle.ask_access.specs.declared.Copied.{Copied}
 use Rattle.ask_access.specs.declared.Copied.the-variants as copied
 use Rattle.ask_access.specs.declared.read_by_header.Ran.{Ran}
@@ -14,6 +14,11 @@ use Rattle.ask_access.specs.declared.read_by_header.Ran.the-variants as 
 use Rattle.ask_access.specs.declared.read_by_header.LeafRun.{LeafRun}
 use Rattle.ask_access.specs.declared.read_by_header.LeafRunAnswer.{LeafRunAnswer}
 use Rattle.ask_access.specs.declared.read_by_header.LeafRunAnswer.the-variants as found
+use Rattle.ask_access.specs.ReadAnswers.{copiedReply}
+
+-- the same of bytes that are copied by their paths
+abbrev pub CopyAnswer : (t : List ℕ) (p len room : ℕ) → Copied → Type 0
+CopyAnswer t p len room = Is copiedReply (copySays t p len room)
 
 -- `size` bytes of the tree, from `from`, are those of its text from place p, and no path of these places breaks
 pub record ReadsOn (t : List ℕ) (p from size : ℕ) : Type 0 where

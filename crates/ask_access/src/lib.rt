@@ -9,8 +9,9 @@ use layout::place::TextPlace;
 ghost use mathlib.Core.Path.{_≡_};
 ghost use Prim.Native.Nat.{_+_};
 ghost use lib.ListN.{length, take, drop};
+ghost use Rattle.format.specs.Said.{replied};
 ghost use Rattle.format.specs.ReadSays.{byteSays, runSays, spanLeaves};
-ghost use Rattle.ask_access.specs.ReadAnswers.{said, RunAnswer, SpanAnswer};
+ghost use Rattle.ask_access.specs.ReadAnswers.{byteReply, RunAnswer, SpanAnswer};
 
 // A byte of the text with the number of blocks entered, or the number of the question that refuses.
 pub enum Answer {
@@ -27,7 +28,7 @@ pub enum Copied {
 
 // The byte at a place of the text.
 pub fn byte(t: &[u8], at: TextPlace) -> Answer
-    ensures { λ r. ⌜ said r ≡ byteSays (now (t .entry)) (at .0) ⌝ }
+    ensures { λ r. ⌜ replied (byteReply r) ≡ byteSays (now (t .entry)) (at .0) ⌝ }
 {
     let read = header::read_header(t);
     match read {

@@ -13,11 +13,12 @@ ghost use mathlib.Core.Path.{_≡_};
 ghost use Prim.Native.Nat.{_+_, _≤_, _<_};
 ghost use lib.ListN.{length, getD};
 ghost use lib.Dec.{eqb, leb};
+ghost use Rattle.format.specs.Said.{replied};
 ghost use Rattle.format.specs.ReadSays.{byteSays, isShort, spanLeaves, copyLeaves};
 ghost use Rattle.layout.specs.HeaderSays.{HeaderOf};
 ghost use Rattle.stretches.specs.Stretches.{bytesWritten};
-ghost use Rattle.ask_access.specs.ReadAnswers.{said, RunAnswer, SpanAnswer, CopyAnswer};
-ghost use Rattle.ask_access.specs.ReadByRuns.{LeafRunOf, LeafRangeOf, ReadsFrom, RangeAnswer, RunCopied};
+ghost use Rattle.ask_access.specs.ReadAnswers.{byteReply, RunAnswer, SpanAnswer};
+ghost use Rattle.ask_access.specs.ReadByRuns.{CopyAnswer, LeafRunOf, LeafRangeOf, ReadsFrom, RangeAnswer, RunCopied};
 
 // A part of the tree's bytes.
 pub struct Part {
@@ -58,7 +59,7 @@ pub fn no_run() -> LeafRun
 // Byte: questions 10 and 14.
 pub fn byte_at(t: &[u8], h: Header, at: TextPlace) -> Answer
     requires { ⌜ HeaderOf (now t) h ⌝ }
-    ensures { λ r. ⌜ said r ≡ byteSays (now (t .entry)) (at .0) ⌝ }
+    ensures { λ r. ⌜ replied (byteReply r) ≡ byteSays (now (t .entry)) (at .0) ⌝ }
 {
     if h.text_length <= at.0 {
         return Answer::Refused(10);
@@ -270,7 +271,7 @@ pub fn copy_on(
 
 // The number of the question that refuses; 0 for an answer.
 pub fn number(answer: Answer) -> u32
-    ensures { λ r. ⌜ r ≡ said answer .number ⌝ }
+    ensures { λ r. ⌜ r ≡ replied (byteReply answer) .number ⌝ }
 {
     match answer {
         Answer::Byte(_, _) => 0,

@@ -12,6 +12,7 @@ use borrow.Author.Count.{below-more}
 use borrow.Author.Tests.{lt-ltb, le-ltb, le-leb, lt-leb, eq-eqb, ne-eqb}
 use Rattle.text.specs.Lists.{tabulate}
 use Rattle.text.specs.ListLaws.{allBelow-not, allBelow-make, tab-none, tab-more}
+use Rattle.format.specs.Said.{replied}
 use Rattle.columns.specs.Columns.{widthOk}
 use Rattle.columns.specs.ColumnLaws.{within, width-rows}
 use Rattle.format.specs.Layout as at
@@ -26,7 +27,7 @@ use Rattle.ask_access.specs.declared.Answer.{Answer}
 use Rattle.ask_access.specs.declared.Answer.the-variants as answer
 use Rattle.ask_access.specs.declared.Copied.{Copied}
 use Rattle.ask_access.specs.declared.Copied.the-variants as copied
-use Rattle.ask_access.specs.ReadAnswers.{said}
+use Rattle.ask_access.specs.ReadAnswers.{byteReply}
 use Rattle.ask_access.proofs.CopyLaws as bytes
 use Rattle.ask_columns.specs.ColumnRows.{cell, cellsHold, columnNumber, columnLeaves, columnSays, ColumnAnswer}
 use Rattle.ask_columns.specs.RowThere.{RowThere}
@@ -100,7 +101,7 @@ module _ (t : List ℕ) (h : Header) (w rows a : ℕ) (d : List ℕ) (k : RowThe
       rw (k .header .passes, ok, lt-ltb a (at.textLength t / w) low, le-leb w (length d) (k .fits))
 
   module _ (e : List ℕ) (b : ℕ) (c : Reading t w a d e b) where
-    module _ (more : b < w) (x : Answer) (x-is : said x ≡ byteSays t (b * rows + a)) where
+    module _ (more : b < w) (x : Answer) (x-is : replied (byteReply x) ≡ byteSays t (b * rows + a)) where
       -- one column more
       pub read-more : (v n : ℕ) → x ≡ answer.Byte v n → Reading t w a d (set e b v) (b + 1)
       read-more v n is =
@@ -113,7 +114,7 @@ module _ (t : List ℕ) (h : Header) (w rows a : ℕ) (d : List ℕ) (k : RowThe
           }
 
       -- one is refused, and the row's part is cleared
-      pub read-broken : (q : ℕ) → x ≡ answer.Refused q → (n : ℕ) → n ≡ said x .number → (z : List ℕ) → z ≡ replicate w 0 ++ drop w e
+      pub read-broken : (q : ℕ) → x ≡ answer.Refused q → (n : ℕ) → n ≡ replied (byteReply x) .number → (z : List ℕ) → z ≡ replicate w 0 ++ drop w e
           → Read t w a d (copied.Refused n) z
       unfolding columnSays columnLeaves cellsHold
       read-broken q is n n-is z z-is =

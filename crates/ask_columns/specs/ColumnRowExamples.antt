@@ -57,11 +57,13 @@ pub record Marked : Type 0 where
   unread : (columnSays (take 99 tree) 0 0 0 ≡ said 5 0) × (columnSays (with tree 0 9) 0 0 0 ≡ said 6 0) × (columnSays (with tree 4 13) 0 0 0 ≡ said 7 0)
 
 pub marked : Marked
-unfolding book tree with broken lent said transposed columns widthOk cell cellsHold columnNumber
-    columnLeaves columnSays tabulate concat sumBelow countBelow allBelow sameList wordAt wordsBytes wordBytes stretch leftmost firstFrom countIn
-    blockLength pieces recordLength lengthOk sizesOk countedOk rising risingAfter treeOf header leafBytes levelPairs recordBytes edgesOf filledOut
-    levelBytes recordIn recordOf target occurrence width isKept startsAt cut keptByPairs firstPairAt pairAt lengthOf startOf pathOf pathFrom targetPlace
-    targetBlock pointingBlock keptBlock lands landBlock landPlace landVisits readable at.leafByte byteSays at.blockLengthAt at.levelCount at.levelOffset
+unfolding book tree with broken lent said transposed columns widthOk cell cellsHold columnNumber columnLeaves columnSays tabulate concat sumBelow
+    countBelow allBelow sameList wordAt wordsBytes wordBytes stretch leftmost firstFrom countIn blockLength pieces recordLength lengthOk sizesOk
+    countedOk rising risingAfter treeOf header leafBytes levelPairs recordBytes edgesOf filledOut levelBytes recordIn recordOf target occurrence width
+    isKept startsAt cut keptByPairs firstPairAt pairAt lengthOf startOf pathOf pathFrom targetPlace targetBlock pointingBlock keptBlock lands
+    landBlock landPlace landVisits readable at.leafByte byteSays at.blockLengthAt at.levelCount at.levelOffset at.layout at.textLength at.countedCount
+    at.settings at.leafOffset at.leafCount at.recordSize at.field at.start at.kind at.link at.gap at.before at.inside at.skip at.edgesAt at.fullLength
+    at.isKept at.isPointing at.hasEdges at.longEnough at.layoutOk at.headerOk
 marked = record {
   rows = (refl, refl);
   copied = (refl, refl);

@@ -1,24 +1,22 @@
 -- What the reading of a row by columns answers, for any bytes lent as a tree, and what it leaves in the lent buffer.
 -- docs/FORMAT.md: "Columns before rows".
-use mathlib.Core.List.{List, _++_}
+use mathlib.Core.List.{List, [], _∷_, _++_}
 use mathlib.Core.Bool.{Bool, cond}
-use mathlib.Core.Path.{_≡_}
 use Prim.Native.Nat.{ℕ, _+_, _*_, _/_}
 use lib.ListN.{length, drop, replicate}
 use lib.Dec.{ltb, leb, eqb}
 use Rattle.text.specs.Lists.{tabulate, allBelow}
 use Rattle.columns.specs.Columns.{widthOk}
 use Rattle.format.specs.Layout as at
-use Rattle.format.specs.Verdict.{ask, readable}
-use Rattle.format.specs.Said.{Said, unless}
+use Rattle.format.specs.Verdict.{asks, orNext, readable}
+use Rattle.format.specs.Said.{Said, unless, Is}
 use Rattle.format.specs.ReadSays.{byteSays}
 use Rattle.ask_access.specs.declared.Copied.{Copied}
-use Rattle.ask_access.specs.ReadAnswers.{copiedSaid, Numbered}
+use Rattle.ask_access.specs.ReadAnswers.{copiedReply}
 
 module _ (t : List ℕ) (w a : ℕ) where
   -- the place of column b of row a
   unfoldable pub cell : ℕ → ℕ
-  unfolding at.textLength
   cell b = b * (at.textLength t / w) + a
 
   -- the paths of row a's places all hold
@@ -27,10 +25,9 @@ module _ (t : List ℕ) (w a : ℕ) where
 
   -- the refusals in their order: 5 to 7, 20, 10 if there is no row a, 13, 14
   unfoldable pub columnNumber : ℕ → ℕ
-  unfolding at.textLength
   columnNumber room =
-      let asked = ask 20 (widthOk w (at.textLength t)) (ask 10 (ltb a (at.textLength t / w)) (ask 13 (leb w room) (ask 14 cellsHold 0))) in
-      cond (eqb (readable t) 0) asked (readable t)
+      let n = at.textLength t in
+      orNext (readable t) (asks ((20, widthOk w n) ∷ (10, ltb a (n / w)) ∷ (13, leb w room) ∷ (14, cellsHold) ∷ []))
 
   -- a 14 leaves the w bytes zero
   unfoldable pub columnLeaves : List ℕ → List ℕ
@@ -43,6 +40,5 @@ module _ (t : List ℕ) (w a : ℕ) where
   columnSays room = unless (columnNumber room) (record { number = 0; value = w; entered = 0 })
 
 -- the answer, with room for so many bytes
-pub record ColumnAnswer (t : List ℕ) (w a room : ℕ) (r : Copied) : Type 0 where
-  pub says : copiedSaid r ≡ columnSays t w a room
-  pub numbered : Numbered r
+abbrev pub ColumnAnswer : (t : List ℕ) (w a room : ℕ) → Copied → Type 0
+ColumnAnswer t w a room = Is copiedReply (columnSays t w a room)

@@ -35,22 +35,22 @@ Version r = version-reads.Post tt tt r tt
 pub version-is : (r : ℕ) → Version r → r ≡ 11700
 version-is r a = a
 
--- where a counted byte and its total stand among the figures
+-- each counted byte of a tree, by its index
+each-counted : (P : ℕ → Type 0) → P 0 → P 1 → P 2 → P 3 → (c : ℕ) → c < maxCounted → P c
+each-counted P a b d e zero h = a
+each-counted P a b d e (suc zero) h = b
+each-counted P a b d e (suc (suc zero)) h = d
+each-counted P a b d e (suc (suc (suc zero))) h = e
+each-counted P a b d e (suc (suc (suc (suc c)))) h = absurd (let z : ⊥ = omega arith in z)
+
+-- where a counted byte and its total are among the figures
 byte-figure : (t : List ℕ) (c : ℕ) → c < maxCounted → getD (figuresOf t) (plainFigures + c) 0 ≡ countedByte t c
 unfolding figuresOf tabulate
-byte-figure t zero h = refl
-byte-figure t (suc zero) h = refl
-byte-figure t (suc (suc zero)) h = refl
-byte-figure t (suc (suc (suc zero))) h = refl
-byte-figure t (suc (suc (suc (suc c)))) h = absurd (let z : ⊥ = omega arith in z)
+byte-figure t = each-counted (λ c. getD (figuresOf t) (plainFigures + c) 0 ≡ countedByte t c) refl refl refl refl
 
 total-figure : (t : List ℕ) (c : ℕ) → c < maxCounted → getD (figuresOf t) (totalsFrom + c) 0 ≡ totalOf t c
 unfolding figuresOf tabulate
-total-figure t zero h = refl
-total-figure t (suc zero) h = refl
-total-figure t (suc (suc zero)) h = refl
-total-figure t (suc (suc (suc zero))) h = refl
-total-figure t (suc (suc (suc (suc c)))) h = absurd (let z : ⊥ = omega arith in z)
+total-figure t = each-counted (λ c. getD (figuresOf t) (totalsFrom + c) 0 ≡ totalOf t c) refl refl refl refl
 
 -- the counted bytes of the settings
 counted-at : (t : List ℕ) (c : ℕ) → c < at.countedCount t → c < maxCounted → byteOf t c ≡ countedByte t c

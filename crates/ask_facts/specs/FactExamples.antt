@@ -28,8 +28,10 @@ pub record Marked : Type 0 where
   short : (readable (take 99 (tree book)) ≡ 5) × (infoLeaves (take 99 (tree book)) ≡ replicate 23 0)
 
 pub marked : Marked
-unfolding book tree countedByte totalOf figuresOf infoLeaves total
-    tabulate concat sumBelow countBelow allBelow sameList wordAt wordsBytes wordBytes stretch leftmost firstFrom countIn blockLength pieces recordLength
-    lengthOk sizesOk countedOk rising risingAfter treeOf header leafBytes levelPairs recordBytes edgesOf filledOut levelBytes recordIn recordOf
-    target occurrence width isKept startsAt cut keptByPairs firstPairAt pairAt lengthOf startOf readable at.blockLengthAt at.levelCount at.levelOffset
+unfolding book tree countedByte totalOf figuresOf infoLeaves total tabulate concat sumBelow countBelow allBelow sameList wordAt wordsBytes wordBytes
+    stretch leftmost firstFrom countIn blockLength pieces recordLength lengthOk sizesOk countedOk rising risingAfter treeOf header leafBytes
+    levelPairs recordBytes edgesOf filledOut levelBytes recordIn recordOf target occurrence width isKept startsAt cut keptByPairs firstPairAt pairAt
+    lengthOf startOf readable at.blockLengthAt at.levelCount at.levelOffset at.layout at.textLength at.countedCount at.settings at.leafOffset
+    at.leafCount at.recordSize at.field at.start at.kind at.link at.gap at.before at.inside at.skip at.edgesAt at.leafByte at.fullLength at.isKept
+    at.isPointing at.hasEdges at.longEnough at.layoutOk at.headerOk
 marked = record { worked = refl; empty = refl; short = (refl, refl) }

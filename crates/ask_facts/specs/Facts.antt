@@ -32,12 +32,10 @@ module _ (t : List ℕ) where
   countedByte c = getD t (countedAt + c) 0
 
   unfoldable pub totalOf : ℕ → ℕ
-  unfolding at.countedCount
   totalOf c = cond (ltb c (at.countedCount t)) (total t c) 0
 
   -- the layout, n, leaf, arity, levels, the leaf bytes, how many bytes are counted; then the counted bytes, their totals and the levels' blocks
   unfoldable pub figuresOf : List ℕ
-  unfolding at.layout at.textLength at.settings at.leafCount at.countedCount at.levelCount
   figuresOf =
       let S = at.settings t in
       at.layout t ∷ at.textLength t ∷ S .leaf ∷ S .arity ∷ S .levels ∷ at.leafCount t ∷ at.countedCount t

@@ -1,24 +1,25 @@
--- The guide as a list of words: its length and its entries; and what an accepted guide is.
-use mathlib.Core.List.{List}
+-- The guide as a list of words: its length, its entries and its size; and what an accepted guide is.
+use mathlib.Core.List.{List, [], append-nil}
 use mathlib.Core.Bool.{true, false, cond}
 use mathlib.Core.Path.{_≡_, refl, sym, ap, _∙_}
-use Prim.Native.Nat.{ℕ, _+_, _*_, _/_, _%_, _≤_, _<_}
+use Prim.Native.Nat.{ℕ, suc, _+_, _*_, _/_, _%_, _≤_, _<_}
 use native.Mathlib.Omega.{arith}
 use lib.ListN.{length, getD}
 use lib.Dec.{eqb}
 use borrow.Author.Tests.{eq-eqb, eqb-true}
 use Rattle.text.specs.Lists.{tabulate, concat, sumBelow, sameList}
 use Rattle.text.specs.ListLaws.{length-tabulate, getD-tabulate, sumBelow-ext, sumBelow-suc, sumBelow-part, sameList-true}
-use Rattle.format.specs.Words.{wordAt}
-use Rattle.format.specs.WordLaws.{length-words}
+use Rattle.format.specs.Words.{wordAt, wordsBytes}
+use Rattle.format.specs.WordLaws.{length-words, word-at}
 use Rattle.format.specs.Settings.{pieces, maxText}
 use Rattle.format.specs.PieceLaws.{pieces-start, lt-pieces}
 use Rattle.format.specs.Layout as at
-use Rattle.format.specs.Verdict.{ask, verdict}
+use Rattle.format.specs.Verdict.{ask, readable, verdict}
+use Rattle.format.specs.Said.{refused}
+use Rattle.format.specs.SaidLaws.{unless-refused}
 use Rattle.format.specs.FindSays.{total}
 use Rattle.theory_built.specs.Gather.{placed, length-concat, getD-concat}
-use Rattle.ask_guide.specs.Guides.{lastEntry, blockOf, entriesOf, entriesBefore, guideWords, guideOf, guideBytes, guideNumber, listedEvery}
-use Rattle.ask_guide.proofs.WordLists.{word-of}
+use Rattle.ask_guide.specs.Guides.{lastEntry, blockOf, entriesOf, entriesBefore, guideWords, guideOf, guideBytes, guideNumber, listedEvery, sizeSays}
 use Rattle.ask_guide.proofs.Holders.{block-few}
 
 -- entries, of a total
@@ -89,6 +90,21 @@ module _ (t : List ℕ) where
   pub all-words : (c n : ℕ) → c ≡ at.countedCount t → n ≡ entriesBefore t c → n ≡ guideWords t
   unfolding guideWords
   all-words c n e f = f ∙ ap (entriesBefore t) e
+
+-- the size
+pub size-unread : (t : List ℕ) (k n : ℕ) → readable t ≡ suc k → n ≡ suc k → refused n ≡ sizeSays t
+unfolding sizeSays
+size-unread t k n e f = unless-refused (readable t) k n (record { number = 0; value = guideWords t; entered = 0 }) e f
+
+pub size-is : (t : List ℕ) (n : ℕ) → readable t ≡ 0 → n ≡ guideWords t → record { number = 0; value = n; entered = 0 } ≡ sizeSays t
+unfolding sizeSays
+size-is t n e f = rw (e, f)
+
+-- word i of the words ws
+pub word-of : (ws : List ℕ) (i : ℕ) → i < length ws → getD ws i 0 < 4294967296 → wordAt (wordsBytes ws) (4 * i) ≡ getD ws i 0
+word-of ws i l small =
+    let e : 0 + 4 * i ≡ 4 * i = omega arith in
+    ap (λ (x : List ℕ). wordAt x (4 * i)) (sym (append-nil (wordsBytes ws))) ∙ rw e at (word-at [] ws [] 0 i refl l small)
 
 -- of an accepted tree
 module _ (t : List ℕ) (v : verdict t ≡ 0) where

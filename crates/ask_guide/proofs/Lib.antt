@@ -1,5 +1,4 @@
-pub mod WordLists
 pub mod Holders
 pub mod GuideList
-pub mod GuideWrittenLaws
+pub mod EntryWordsLaws
 pub mod Demands

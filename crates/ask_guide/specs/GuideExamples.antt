@@ -13,8 +13,9 @@ use Rattle.format.specs.Blocks.{startsAt, cut, keptByPairs, firstPairAt, pairAt
 use Rattle.format.specs.Layout as at
 use Rattle.format.specs.Path.{pathOf, pathFrom, targetPlace, targetBlock, pointingBlock, keptBlock, lands, landBlock, landPlace, landVisits}
 use Rattle.format.specs.Short.{shortOf, shortFrom, byEdges, inLeaf}
-use Rattle.format.specs.Fits.{linksOk, textOf, fits, countsTrue, edgesTrue, blockEdgesTrue, lastLevel, widthAt, keptRight, pointingRight, blockRight}
-use Rattle.format.specs.Fits.{countBelowRight, blockFits, blockCountsTrue}
+use Rattle.format.specs.Fits.{linksOk, textOf, countsTrue, edgesTrue, blockEdgesTrue, lastLevel, widthAt, keptRight, pointingRight, blockRight}
+use Rattle.format.specs.FittingText.{fits, blockFits}
+use Rattle.format.specs.Fits.{countBelowRight, blockCountsTrue}
 use Rattle.format.specs.Verdict.{verdict, readable}
 use Rattle.format.specs.Said.{Said}
 use Rattle.format.specs.FindSays.{total}
@@ -66,13 +67,15 @@ pub record Marked : Type 0 where
   unlinked : (guideNumber (setWord W 112 1) [] ≡ 8) × (makeSays (setWord W 112 1) [] ≡ said 8 0) × (sizeSays (setWord W 112 1) ≡ said 0 1)
 
 pub marked : Marked
-unfolding book blocks W both said blockOf entriesOf entriesBefore guideWords guideOf guideBytes guideNumber
-    sizeSays makeNumber makeSays makeLeaves total tabulate concat sumBelow countBelow allBelow sameList setWord wordAt wordsBytes wordBytes stretch
-    leftmost firstFrom countIn placeOf placeIn blockLength pieces lengthOk sizesOk countedOk rising risingAfter treeOf header leafBytes levelPairs
-    recordBytes recordLength edgesOf filledOut levelBytes recordIn recordOf target occurrence width isKept startsAt cut keptByPairs firstPairAt pairAt
-    lengthOf startOf pathOf pathFrom targetPlace targetBlock pointingBlock keptBlock lands landBlock landPlace landVisits shortOf shortFrom byEdges
-    inLeaf linksOk textOf fits countsTrue edgesTrue blockEdgesTrue lastLevel widthAt keptRight pointingRight blockRight countBelowRight blockFits
-    blockCountsTrue verdict readable at.leafByte at.blockLengthAt at.levelCount at.levelOffset at.fullLength at.countedCount at.before at.inside
+unfolding book blocks W both said blockOf entriesOf entriesBefore guideWords guideOf guideBytes guideNumber sizeSays makeNumber makeSays makeLeaves
+    total tabulate concat sumBelow countBelow allBelow sameList setWord wordAt wordsBytes wordBytes stretch leftmost firstFrom countIn placeOf placeIn
+    blockLength pieces lengthOk sizesOk countedOk rising risingAfter treeOf header leafBytes levelPairs recordBytes recordLength edgesOf filledOut
+    levelBytes recordIn recordOf target occurrence width isKept startsAt cut keptByPairs firstPairAt pairAt lengthOf startOf pathOf pathFrom
+    targetPlace targetBlock pointingBlock keptBlock lands landBlock landPlace landVisits shortOf shortFrom byEdges inLeaf linksOk textOf fits
+    countsTrue edgesTrue blockEdgesTrue lastLevel widthAt keptRight pointingRight blockRight countBelowRight blockFits blockCountsTrue verdict
+    readable at.leafByte at.blockLengthAt at.levelCount at.levelOffset at.fullLength at.countedCount at.before at.inside at.layout at.textLength
+    at.settings at.leafOffset at.leafCount at.recordSize at.field at.start at.kind at.link at.gap at.skip at.edgesAt at.isKept at.isPointing
+    at.hasEdges at.longEnough at.layoutOk at.headerOk
 marked = record {
   worked = (refl, refl, refl, refl);
   right = (refl, refl, refl, refl, refl, refl, refl);

@@ -1,7 +1,7 @@
 -- Guides (sampled select directories): for each counted byte, a word for every 64 occurrences, the block of level 0 that contains the first of them; and
 -- what the calls return that check a guide, make one and give its size.
 -- docs/FORMAT.md: "Guides".
-use mathlib.Core.List.{List, _++_}
+use mathlib.Core.List.{List, [], _∷_, _++_}
 use mathlib.Core.Bool.{cond}
 use Prim.Native.Nat.{ℕ, _+_, _-_, _*_, _/_}
 use lib.ListN.{length, getD, drop}
@@ -12,7 +12,7 @@ use Rattle.format.specs.Words.{wordsBytes}
 use Rattle.format.specs.Settings.{pieces}
 use Rattle.format.specs.Layout as at
 use Rattle.format.specs.Fits.{textOf}
-use Rattle.format.specs.Verdict.{ask, readable, verdict}
+use Rattle.format.specs.Verdict.{asks, orNext, readable, verdict}
 use Rattle.format.specs.Said.{Said, unless}
 use Rattle.format.specs.FindSays.{total}
 
@@ -30,7 +30,6 @@ lastListed j = listedEvery * lastEntry j + 1
 module _ (t : List ℕ) where
   -- the number of the level 0 block that holds the j-th occurrence of counted byte number c
   unfoldable pub blockOf : ℕ → ℕ → ℕ
-  unfolding at.fullLength
   blockOf c j = placeOf (getD (at.settings t .counted) c 0) j (textOf t) / at.fullLength t 0
 
   -- how many entries counted byte number c has, a begun 64 counting whole, and how many those before it have
@@ -42,12 +41,10 @@ module _ (t : List ℕ) where
 
   -- how many words the guide has
   unfoldable pub guideWords : ℕ
-  unfolding at.countedCount
   guideWords = entriesBefore (at.countedCount t)
 
   -- the entries of an accepted tree's guide, and its bytes
   unfoldable pub guideOf : List ℕ
-  unfolding at.countedCount
   guideOf = concat (tabulate (at.countedCount t) (λ c. tabulate (entriesOf c) (λ e. blockOf c (listedEvery * e + 1))))
 
   unfoldable pub guideBytes : List ℕ
@@ -55,7 +52,7 @@ module _ (t : List ℕ) where
 
   -- Checking a guide: questions 5 to 9 of the tree, then 24, for its length and each entry
   unfoldable pub guideNumber : List ℕ → ℕ
-  guideNumber guide = cond (eqb (verdict t) 0) (ask 24 (sameList guide guideBytes) 0) (verdict t)
+  guideNumber guide = orNext (verdict t) (asks ((24, sameList guide guideBytes) ∷ []))
 
   -- The size of a guide: questions 5 to 7, then its words
   unfoldable pub sizeSays : Said
@@ -64,7 +61,7 @@ module _ (t : List ℕ) where
   -- Making a guide: questions 5 to 9, then 25; its words, and the lent table afterwards
   module _ (table : List ℕ) where
     unfoldable pub makeNumber : ℕ
-    makeNumber = cond (eqb (verdict t) 0) (ask 25 (leb (length guideBytes) (length table)) 0) (verdict t)
+    makeNumber = orNext (verdict t) (asks ((25, leb (length guideBytes) (length table)) ∷ []))
 
     unfoldable pub makeSays : Said
     makeSays = unless makeNumber (record { number = 0; value = guideWords; entered = 0 })

@@ -1,4 +1,3 @@
 pub mod Guides
 pub mod GuideAnswers
 pub mod GuideExamples
-pub mod EntriesWritten

@@ -8,7 +8,7 @@ use lib.ListN.{length, getD}
 use Rattle.format.specs.Words.{wordAt}
 use Rattle.format.specs.Layout as at
 use Rattle.format.specs.Verdict.{verdict}
-use Rattle.format.specs.Said.{Said, refused}
+use Rattle.format.specs.Said.{Said, refused, NeverZero, replied}
 use Rattle.format.specs.CountSays.{numberOfByte}
 use Rattle.format.specs.FindSays.{total, selectNumber, found}
 use Rattle.ask_select.specs.declared.Found.{Found}
@@ -22,7 +22,8 @@ use Rattle.ask_guide.proofs.Holders.{block-in, block-low, block-is}
 use Rattle.ask_guide.proofs.GuideList.{guide-length, guide-size, guide-entry, entry-below, entry-word, listed, guide-verdict, guide-same}
 use Rattle.ask_guided.specs.declared.Guided.{Guided}
 use Rattle.ask_guided.specs.declared.Guided.the-variants as guided
-use Rattle.ask_guided.specs.Guided.{stepsTo, saidGuided, stepsOf, Numbered, GuidedAnswer, stepped, foundOf, SoughtBy}
+use Rattle.ask_guided.specs.Guided.{stepsTo, guidedReply, stepsOf, GuidedAnswer}
+use Rattle.ask_guided.specs.GuidedWalk.{stepped, foundOf, SoughtBy}
 
 -- steps put beside what was found, and taken away
 pub with-at : (f : Found) (steps : ℕ) → (p : _) (e : ℕ) → f ≡ find.At p e → stepped (find.At p e) steps ≡ stepped f steps
@@ -37,11 +38,11 @@ without-at g p e steps q = rw q
 pub without-refused : (g : Guided) (n : ℕ) → g ≡ guided.Refused n → find.Refused n ≡ foundOf g
 without-refused g n q = rw q
 
-said-same : (f : Found) (steps : ℕ) → saidGuided (stepped f steps) ≡ select.saidFind f
+said-same : (f : Found) (steps : ℕ) → replied (guidedReply (stepped f steps)) ≡ replied (select.findReply f)
 said-same (find.At p e) steps = refl
 said-same (find.Refused n) steps = refl
 
-pub numbered-same : (f : Found) (steps : ℕ) → select.Numbered f → Numbered (stepped f steps)
+pub numbered-same : (f : Found) (steps : ℕ) → NeverZero (select.findReply f) → NeverZero (guidedReply (stepped f steps))
 numbered-same (find.At p e) steps h = tt
 numbered-same (find.Refused n) steps h = h
 
@@ -104,8 +105,9 @@ module _ (t guide : List ℕ) (byte c j : ℕ)
         let b = block-is t (v g) c hc j low high block (last .high) under (last .next) in
         (under, omega (arith, steps-are, b, entry-read, entry-is g))
 
-    pub sought-by : (f : Found) → select.Numbered f
-        → sought.SoughtIn t byte c j block (select.saidFind f) → SoughtBy t guide byte c j (saidGuided (stepped f steps)) (stepsOf (stepped f steps))
+    pub sought-by : (f : Found) → NeverZero (select.findReply f)
+        → sought.SoughtIn t byte c j block (replied (select.findReply f))
+        → SoughtBy t guide byte c j (replied (guidedReply (stepped f steps))) (stepsOf (stepped f steps))
     unfolding found
     sought-by f nb z = record {
       accepted = λ g.
@@ -115,14 +117,16 @@ module _ (t guide : List ℕ) (byte c j : ℕ)
       free = free-of f nb (z .free);
     }
       where
-        steps-right : (f : Found) → select.Numbered f → select.saidFind f ≡ found t byte j → steps ≡ stepsTo t c j → stepsOf (stepped f steps) ≡ stepsTo t c j
+        steps-right : (f : Found) → NeverZero (select.findReply f) → replied (select.findReply f) ≡ found t byte j → steps ≡ stepsTo t c j
+            → stepsOf (stepped f steps) ≡ stepsTo t c j
         steps-right (find.At p e) nb r k = k
         steps-right (find.Refused n) nb r k = absurd (let z : n ≡ 0 = ap (λ (s : Said). s .number) r in let y : ⊥ = omega arith in y)
 
-        free-of : (f : Found) → select.Numbered f
-            → (select.saidFind f ≡ refused 14) ⊎ ((select.saidFind f .number ≡ 0) × (select.saidFind f .value < at.textLength t))
-            → ((saidGuided (stepped f steps) ≡ refused 14) × (stepsOf (stepped f steps) ≡ 0))
-            ⊎ ((saidGuided (stepped f steps) .number ≡ 0) × (saidGuided (stepped f steps) .value < at.textLength t))
+        free-of : (f : Found) → NeverZero (select.findReply f)
+            → (replied (select.findReply f) ≡ refused 14)
+            ⊎ ((replied (select.findReply f) .number ≡ 0) × (replied (select.findReply f) .value < at.textLength t))
+            → ((replied (guidedReply (stepped f steps)) ≡ refused 14) × (stepsOf (stepped f steps) ≡ 0))
+            ⊎ ((replied (guidedReply (stepped f steps)) .number ≡ 0) × (replied (guidedReply (stepped f steps)) .value < at.textLength t))
         free-of (find.At p e) nb (inl r) = absurd (let z : _≡_ {A = ℕ} 0 14 = ap (λ (s : Said). s .number) r in let y : ⊥ = omega arith in y)
         free-of (find.At p e) nb (inr r) = inr r
         free-of (find.Refused n) nb (inl r) = inl (r, refl)
@@ -141,7 +145,7 @@ module _ (t guide : List ℕ) (byte j : ℕ) where
   }
 
   pub guided-sought : (c : ℕ) (r : Guided) → c ≡ numberOfByte t byte
-      → selectNumber t byte j ≡ 0 → SoughtBy t guide byte c j (saidGuided r) (stepsOf r) → Numbered r → GuidedAnswer t guide byte j r
+      → selectNumber t byte j ≡ 0 → SoughtBy t guide byte c j (replied (guidedReply r)) (stepsOf r) → NeverZero (guidedReply r) → GuidedAnswer t guide byte j r
   guided-sought c r e n z nb = record {
     says = record {
       finds = record { asked = λ m. absurd (let y : ⊥ = omega arith in y); accepted = λ _ g. z .accepted g .0; free = λ _ g. free-of (z .free) };
@@ -151,11 +155,12 @@ module _ (t guide : List ℕ) (byte j : ℕ) where
     numbered = nb;
   }
     where
-      free-of : ((saidGuided r ≡ refused 14) × (stepsOf r ≡ 0)) ⊎ ((saidGuided r .number ≡ 0) × (saidGuided r .value < at.textLength t))
-          → (saidGuided r ≡ refused 14) ⊎ ((saidGuided r .number ≡ 0) × (saidGuided r .value < at.textLength t))
+      free-of : ((replied (guidedReply r) ≡ refused 14) × (stepsOf r ≡ 0))
+          ⊎ ((replied (guidedReply r) .number ≡ 0) × (replied (guidedReply r) .value < at.textLength t))
+          → (replied (guidedReply r) ≡ refused 14) ⊎ ((replied (guidedReply r) .number ≡ 0) × (replied (guidedReply r) .value < at.textLength t))
       free-of (inl x) = inl (x .0)
       free-of (inr x) = inr x
 
-      nothing : (r : Guided) → 0 < saidGuided r .number → stepsOf r ≡ 0
+      nothing : (r : Guided) → 0 < replied (guidedReply r) .number → stepsOf r ≡ 0
       nothing (guided.At p e steps) m = absurd (let y : ⊥ = omega arith in y)
       nothing (guided.Refused n) m = refl

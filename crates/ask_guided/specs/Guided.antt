@@ -3,14 +3,10 @@
 -- docs/FORMAT.md: "Guides", "What is left free".
 use mathlib.Core.List.{List}
 use mathlib.Core.Path.{_≡_}
-use mathlib.Core.Logic.{_⊎_}
-use Prim.Native.Nat.{ℕ, _-_, _≤_, _<_}
-use Rattle.format.specs.Layout as at
-use Rattle.format.specs.Said.{Said, refused}
+use Prim.Native.Nat.{ℕ, _-_, _<_}
+use Rattle.format.specs.Said.{Said, Reply, figures, refusal, Allowed}
 use Rattle.format.specs.CountSays.{numberOfByte}
-use Rattle.format.specs.FindSays.{selectNumber, found, FindBy}
-use Rattle.ask_select.specs.declared.Found.{Found}
-use Rattle.ask_select.specs.declared.Found.the-variants as find
+use Rattle.format.specs.FindSays.{selectNumber, FindBy}
 use Rattle.ask_guide.specs.Guides.{lastListed, blockOf, guideNumber}
 use Rattle.ask_guided.specs.declared.Guided.{Guided}
 use Rattle.ask_guided.specs.declared.Guided.the-variants.{At, Refused}
@@ -27,33 +23,13 @@ pub record GuidedSays (t guide : List ℕ) (byte j : ℕ) (s : Said) (steps : �
   pub counted : selectNumber t byte j ≡ 0 → guideNumber t guide ≡ 0 → steps ≡ stepsTo t (numberOfByte t byte) j
 
 -- a place with the blocks on its path, and the steps on level 0
-abbrev pub saidGuided : Guided → Said
-saidGuided (At place entered steps) = record { number = 0; value = place .0; entered = entered }
-saidGuided (Refused number) = refused number
+abbrev pub guidedReply : Guided → Reply
+guidedReply (At place entered steps) = figures (place .0) entered
+guidedReply (Refused number) = refusal number
 
 abbrev pub stepsOf : Guided → ℕ
 stepsOf (At place entered steps) = steps
 stepsOf (Refused number) = 0
 
--- a refusal's number is not 0
-abbrev pub Numbered : Guided → Type 0
-Numbered (At place entered steps) = Unit {0}
-Numbered (Refused number) = 1 ≤ number
-
-pub record GuidedAnswer (t guide : List ℕ) (byte j : ℕ) (r : Guided) : Type 0 where
-  pub says : GuidedSays t guide byte j (saidGuided r) (stepsOf r)
-  pub numbered : Numbered r
-
--- what was found, with the steps to its block and without
-abbrev pub stepped : Found → ℕ → Guided
-stepped (find.At place entered) steps = At place entered steps
-stepped (find.Refused number) steps = Refused number
-
-abbrev pub foundOf : Guided → Found
-foundOf (At place entered steps) = find.At place entered
-foundOf (Refused number) = find.Refused number
-
--- the walk with a guide, after the questions before it, for counted byte number c
-pub record SoughtBy (t guide : List ℕ) (byte c j : ℕ) (s : Said) (steps : ℕ) : Type 0 where
-  pub accepted : guideNumber t guide ≡ 0 → (s ≡ found t byte j) × (steps ≡ stepsTo t c j)
-  pub free : ((s ≡ refused 14) × (steps ≡ 0)) ⊎ ((s .number ≡ 0) × (s .value < at.textLength t))
+abbrev pub GuidedAnswer : (t guide : List ℕ) (byte j : ℕ) → Guided → Type 0
+GuidedAnswer t guide byte j r = Allowed guidedReply (λ s. GuidedSays t guide byte j s (stepsOf r)) r

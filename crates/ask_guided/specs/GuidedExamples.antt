@@ -38,4 +38,6 @@ unfolding book W long blockOf stepsTo found tabulate concat sumBelow countBelow 
     wordAt wordsBytes wordBytes blockLength pieces recordLength edgesOf filledOut treeOf header leafBytes levelPairs recordBytes levelBytes recordIn
     recordOf target occurrence width isKept startsAt cut keptByPairs firstPairAt pairAt lengthOf startOf pathOf pathFrom targetPlace targetBlock
     pointingBlock keptBlock lands landBlock landPlace landVisits textOf at.leafByte at.blockLengthAt at.levelCount at.levelOffset at.fullLength
+    at.layout at.textLength at.countedCount at.settings at.leafOffset at.leafCount at.recordSize at.field at.start at.kind at.link at.gap at.before
+    at.inside at.skip at.edgesAt at.isKept at.isPointing at.hasEdges at.longEnough at.layoutOk at.headerOk
 marked = record { fourth = (refl, refl); steps = (refl, refl, refl, refl) }

@@ -1,2 +1,3 @@
 pub mod Guided
+pub mod GuidedWalk
 pub mod GuidedExamples

@@ -11,11 +11,13 @@ use layout::record;
 use layout::word;
 ghost use mathlib.Core.Path.{_≡_};
 ghost use Prim.Native.Nat.{_≤_, _<_};
+ghost use Rattle.format.specs.Said.{NeverZero, replied};
 ghost use Rattle.format.specs.Layout as at;
 ghost use Rattle.format.specs.FindSays.{total};
 ghost use Rattle.layout.specs.HeaderSays.{HeaderOf};
 ghost use Rattle.theory_counts.specs.CountsLocal.{byteOf};
-ghost use Rattle.ask_guided.specs.Guided.{GuidedAnswer, Numbered, saidGuided, stepsOf, stepped, foundOf, SoughtBy};
+ghost use Rattle.ask_guided.specs.Guided.{GuidedAnswer, guidedReply, stepsOf};
+ghost use Rattle.ask_guided.specs.GuidedWalk.{stepped, foundOf, SoughtBy};
 
 // Questions 11, 12 and 14.
 pub fn find_guided_at(t: &[u8], h: Header, guide: &[u8], byte: u8, j: u32) -> Guided
@@ -40,7 +42,8 @@ pub fn find_guided_at(t: &[u8], h: Header, guide: &[u8], byte: u8, j: u32) -> Gu
 pub fn guided(t: &[u8], h: Header, guide: &[u8], wanted: Wanted, j: u32) -> Guided
     requires { ⌜ (HeaderOf (now t) h) × (wanted .number < at.countedCount (now t))
         × (wanted .byte ≡ byteOf (now t) (wanted .number)) × (1 ≤ j) × (j ≤ total (now t) (wanted .number)) ⌝ }
-    ensures { λ r. ⌜ (SoughtBy (now (t .entry)) (now (guide .entry)) (wanted .byte) (wanted .number) j (saidGuided r) (stepsOf r)) × (Numbered r) ⌝ }
+    ensures { λ r. ⌜ (SoughtBy (now (t .entry)) (now (guide .entry)) (wanted .byte) (wanted .number) j (replied (guidedReply r)) (stepsOf r))
+        × (NeverZero (guidedReply r)) ⌝ }
 {
     let place = entry_words::entries_before(t, h, wanted.number)
         + (j as u64 - 1) / entry_words::LISTED_EVERY;

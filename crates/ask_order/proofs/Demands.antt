@@ -16,15 +16,15 @@ use lib.Dec.{ltb}
 use Rattle.format.specs.Layout as at
 use Rattle.format.specs.Fits.{linksOk, textOf}
 use Rattle.format.specs.Verdict.{readable}
-use Rattle.format.specs.Said.{Said}
+use Rattle.format.specs.Said.{Said, refused, replied, unless}
 use Rattle.format.specs.ReadSays.{byteSays}
 use Rattle.theory_paths.specs.Demands as paths
 use Rattle.ask_order.specs.declared.Compared.{Compared}
 use Rattle.ask_order.specs.declared.Compared.the-variants as compared
-use Rattle.ask_order.specs.Order.{Standing, before, same, after, standing, shared, Ordered, code, stands, refusedOrder, orElse, byLength}
-use Rattle.ask_order.specs.Order.{comparedFrom, orderSays}
+use Rattle.ask_order.specs.Order.{Standing, before, same, after, code, stands, byLength, comparedFrom, orderSays}
+use Rattle.ask_order.specs.TextOrder.{standing, shared, outcome, firstOf}
 use Rattle.ask_order.specs.OrderLaws.{Which, below, equal, above, which, standing-below, standing-equal, standing-above, shared-equal, shared-other}
-use Rattle.ask_order.specs.OrderAnswers.{outcome, firstOf, orderSaid, Handed}
+use Rattle.ask_order.specs.OrderAnswers.{orderReply, Handed}
 use Rattle.ask_order.specs.Compared.{shortest, byByte}
 use Rattle.ask_order.proofs.SideBySideLaws.{SameAt, From, first-broken, second-broken, place-differs, places-same}
 use Rattle.ask_order.proofs.compare.Reads as compare-reads
@@ -35,7 +35,7 @@ abbrev pub Compare : (κs : Lfts 2) → RefT (List ℕ) → RefT (List ℕ) → 
 Compare κs t u r = compare-reads.Post κs (t, (u, tt)) r (t, (u, tt))
 
 -- One byte of each, at place p: by these bytes, or as what follows them stands.
-by-first : (x y : ℕ) (A B : List ℕ) (p : ℕ) (rest : Ordered) → rest ≡ stands (standing A B) (suc p + shared A B)
+by-first : (x y : ℕ) (A B : List ℕ) (p : ℕ) (rest : Said) → rest ≡ stands (standing A B) (suc p + shared A B)
     → cond (ltb x y) (stands before p) (cond (ltb y x) (stands after p) rest) ≡ stands (standing (x ∷ A) (y ∷ B)) (p + shared (x ∷ A) (y ∷ B))
 by-first x y A B p rest r = go (which x y)
   where
@@ -62,7 +62,7 @@ module _ (t u : List ℕ) (rt : readable t ≡ 0) (ru : readable u ≡ 0) (lt : 
   m-is = paths.text-size u ru lu
 
   -- what is left of both from place p on
-  abbrev Left : ℕ → Ordered
+  abbrev Left : ℕ → Said
   Left p = stands (standing (drop p T) (drop p U)) (p + shared (drop p T) (drop p U))
 
   -- at the shorter end
@@ -95,8 +95,8 @@ module _ (t u : List ℕ) (rt : readable t ≡ 0) (ru : readable u ≡ 0) (lt : 
     other : (byteSays u p .number ≡ 0) × (byteSays u p .value ≡ getD U p 0)
     other = let e = paths.byte-of-text u ru lu p low′ .2 in (ap (λ (s : Said). s .number) e, ap (λ (s : Said). s .value) e)
 
-    at-place : (rest : Ordered) → rest ≡ Left (p + 1)
-        → orElse (byteSays t p .number) (orElse (byteSays u p .number)
+    at-place : (rest : Said) → rest ≡ Left (p + 1)
+        → unless (byteSays t p .number) (unless (byteSays u p .number)
         (cond (ltb (byteSays t p .value) (byteSays u p .value)) (stands before p)
         (cond (ltb (byteSays u p .value) (byteSays t p .value)) (stands after p) rest)))
         ≡ Left p
@@ -120,10 +120,10 @@ module _ (t u : List ℕ) (rt : readable t ≡ 0) (ru : readable u ≡ 0) (lt : 
       start = let z : 0 + shared T U ≡ shared T U = omega arith in rw z
 
 -- which answer says this
-outcome-is : (r : Compared) (s : Standing) (n : ℕ) → orderSaid r ≡ stands s n → r ≡ outcome s n
-outcome-is r s n e = go r s (ap (λ (x : Ordered). x .order) e) (ap (λ (x : Ordered). x .length) e)
+outcome-is : (r : Compared) (s : Standing) (n : ℕ) → replied (orderReply r) ≡ stands s n → r ≡ outcome s n
+outcome-is r s n e = go r s (ap (λ (x : Said). x .value) e) (ap (λ (x : Said). x .entered) e)
   where
-    go : (r : Compared) (s : Standing) → orderSaid r .order ≡ code s → orderSaid r .length ≡ n → r ≡ outcome s n
+    go : (r : Compared) (s : Standing) → replied (orderReply r) .value ≡ code s → replied (orderReply r) .entered ≡ n → r ≡ outcome s n
     go (compared.Before k) before o l = ap compared.Before l
     go (compared.Before k) same o l = absurd (let z : ⊥ = omega arith in z)
     go (compared.Before k) after o l = absurd (let z : ⊥ = omega arith in z)
@@ -138,10 +138,10 @@ outcome-is r s n e = go r s (ap (λ (x : Ordered). x .order) e) (ap (λ (x : Ord
     go (compared.Refused q) after o l = absurd (let z : ⊥ = omega arith in z)
 
 -- a refusal has no order
-refusal-is : (r : Compared) (q : ℕ) → orderSaid r ≡ refusedOrder q → r ≡ compared.Refused q
-refusal-is r q e = go r (ap (λ (x : Ordered). x .order) e) (ap (λ (x : Ordered). x .number) e)
+refusal-is : (r : Compared) (q : ℕ) → replied (orderReply r) ≡ refused q → r ≡ compared.Refused q
+refusal-is r q e = go r (ap (λ (x : Said). x .value) e) (ap (λ (x : Said). x .number) e)
   where
-    go : (r : Compared) → orderSaid r .order ≡ 0 → orderSaid r .number ≡ q → r ≡ compared.Refused q
+    go : (r : Compared) → replied (orderReply r) .value ≡ 0 → replied (orderReply r) .number ≡ q → r ≡ compared.Refused q
     go (compared.Before k) o n = absurd (let z : ⊥ = omega arith in z)
     go (compared.Same k) o n = absurd (let z : ⊥ = omega arith in z)
     go (compared.After k) o n = absurd (let z : ⊥ = omega arith in z)
@@ -214,7 +214,7 @@ module _ (t u : RefT (List ℕ)) (rt : readable (now t) ≡ 0) (ru : readable (n
   -- `first` returns the tree whose text comes first, the first argument if the texts are equal, with the figures of the comparison.
   pub first-texts : (κs : Lfts 4) (number order length number′ order′ length′ : RefT ℕ) (r : RefT (List ℕ))
       → First κs t u number order length number′ order′ length′ r
-      → (r ≡ firstOf s t u) × (record { number = now number′; order = now order′; length = now length′ } ≡ stands s n)
+      → (r ≡ firstOf s t u) × (record { number = now number′; value = now order′; entered = now length′ } ≡ stands s n)
   first-texts κs number order length number′ order′ length′ r a =
       let e = order-of-texts (now t) (now u) rt ru lt lu in
       (whole s n (rw e at (a .1)), a .0 ∙ e)

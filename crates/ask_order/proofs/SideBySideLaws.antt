@@ -10,6 +10,7 @@ use borrow.Author.Tests.{lt-ltb, le-ltb}
 use lib.ListN.{length, getD}
 use lib.Dec.{ltb}
 use Rattle.text.specs.ListLaws.{lt-or-ge, below-suc}
+use Rattle.format.specs.Said.{Said, refused, replied, unless}
 use Rattle.format.specs.Layout as at
 use Rattle.format.specs.Verdict.{readable}
 use Rattle.format.specs.LayoutLaws.{readable-facts}
@@ -30,8 +31,8 @@ use Rattle.ask_order.specs.declared.Compared.the-variants as compared
 use Rattle.ask_order.specs.declared.side_by_side.Progress.{Progress}
 use Rattle.ask_order.specs.declared.side_by_side.Round.{Round}
 use Rattle.ask_order.specs.declared.side_by_side.Round.the-variants as round
-use Rattle.ask_order.specs.Order.{Ordered, before, after, stands, refusedOrder, orElse, byLength, comparedFrom, orderSays}
-use Rattle.ask_order.specs.OrderAnswers.{orderSaid, OrderAnswer}
+use Rattle.ask_order.specs.Order.{before, after, stands, byLength, comparedFrom, orderSays}
+use Rattle.ask_order.specs.OrderAnswers.{orderReply, OrderAnswer}
 use Rattle.ask_order.specs.Compared.{ReadsFrom, Agrees, byByte, shortest, Comparing, RoundSays}
 
 -- a byte of a part that is read is the one that byte answers
@@ -50,12 +51,12 @@ module _ (t u : List ℕ) where
   SameAt p = (byteSays t p .number ≡ 0) × (byteSays u p .number ≡ 0) × (byteSays t p .value ≡ byteSays u p .value)
 
   -- what is left to compare from place p on
-  abbrev pub From : ℕ → Ordered
+  abbrev pub From : ℕ → Said
   From p = comparedFrom t u (shortest t u - p) p
 
   -- a place that is not the shorter end
   module _ (p : ℕ) (low : p < shortest t u) where
-    open-place : From p ≡ orElse (byteSays t p .number) (orElse (byteSays u p .number)
+    open-place : From p ≡ unless (byteSays t p .number) (unless (byteSays u p .number)
         (cond (ltb (byteSays t p .value) (byteSays u p .value)) (stands before p)
         (cond (ltb (byteSays u p .value) (byteSays t p .value)) (stands after p) (From (p + 1)))))
     unfolding comparedFrom
@@ -63,11 +64,11 @@ module _ (t u : List ℕ) where
         let s : shortest t u - p ≡ suc (shortest t u - (p + 1)) = omega arith in
         rw (s, comparedFrom)
 
-    pub first-broken : byteSays t p .number ≡ 14 → From p ≡ refusedOrder 14
+    pub first-broken : byteSays t p .number ≡ 14 → From p ≡ refused 14
     first-broken e = open-place ∙ rw e
 
     module _ (a : byteSays t p .number ≡ 0) where
-      pub second-broken : byteSays u p .number ≡ 14 → From p ≡ refusedOrder 14
+      pub second-broken : byteSays u p .number ≡ 14 → From p ≡ refused 14
       second-broken e = open-place ∙ rw (a, e)
 
       module _ (b : byteSays u p .number ≡ 0) where
@@ -87,7 +88,7 @@ module _ (t u : List ℕ) where
             y = byteSays u p .value
 
             go : (x < y) ⊎ (y ≤ x)
-                → orElse (byteSays t p .number) (orElse (byteSays u p .number)
+                → unless (byteSays t p .number) (unless (byteSays u p .number)
                 (cond (ltb x y) (stands before p) (cond (ltb y x) (stands after p) (From (p + 1)))))
                 ≡ cond (ltb x y) (stands before p) (stands after p)
             go (inl h) = rw (a, b, lt-ltb x y h)
@@ -129,7 +130,7 @@ module _ (t u : List ℕ) (h g : Header) (k : HeaderOf t h) (l : HeaderOf u g) (
 module _ (t u : List ℕ) (m : Progress) (c : Comparing t u m) where
   -- at the shorter end
   pub compare-end : shortest t u ≤ m .place .0 → (n k : ℕ) → n ≡ at.textLength t → k ≡ at.textLength u
-      → (x : Compared) → orderSaid x ≡ byLength n k (m .place .0) → OrderAnswer t u x
+      → (x : Compared) → replied (orderReply x) ≡ byLength n k (m .place .0) → OrderAnswer t u x
   unfolding comparedFrom
   compare-end past n k n-is k-is x x-is =
       let z : shortest t u - m .place .0 ≡ 0 = omega arith in
@@ -201,7 +202,7 @@ module _ (t u : List ℕ) (x y : Part) (p : ℕ) (c : Comparing t u (record { pl
     on = sym (places-same t u p k (omega (arith, g .most, in-both)) agreed) ∙ c .left
 
     -- the next do not
-    pub compare-differs : k < n → (z : Compared) → orderSaid z ≡ byByte (getD t (x .from + k) 0) (getD u (y .from + k) 0) (p + k) → OrderAnswer t u z
+    pub compare-differs : k < n → (z : Compared) → replied (orderReply z) ≡ byByte (getD t (x .from + k) 0) (getD u (y .from + k) 0) (p + k) → OrderAnswer t u z
     compare-differs less z z-is =
         let a = one-is k less in
         let b = other-is k less in
@@ -242,7 +243,7 @@ read-anew t p most (ran.At part) a = (a .0, a .1)
 read-anew t p most (ran.Refused q) a = a .1
 
 -- a tree that does not pass questions 5 to 7, the first or the second
-handed-on : (n k q : ℕ) (rest : Ordered) → n ≡ suc k → q ≡ suc k → refusedOrder q ≡ orElse n rest
+handed-on : (n k q : ℕ) (rest : Said) → n ≡ suc k → q ≡ suc k → refused q ≡ unless n rest
 handed-on n k q rest e f = rw (e, f)
 
 module _ (t u : List ℕ) (x : HeaderRead) (q : ℕ) (e : x ≡ read.Refused q) where

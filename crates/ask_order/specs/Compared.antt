@@ -5,6 +5,7 @@ use mathlib.Core.Path.{_≡_}
 use Prim.Native.Nat.{ℕ, _+_, _-_, _≤_, _<_, min}
 use lib.ListN.{getD}
 use lib.Dec.{ltb}
+use Rattle.format.specs.Said.{Said}
 use Rattle.format.specs.Layout as at
 use Rattle.format.specs.Verdict.{readable}
 use Rattle.format.specs.ReadSays.{byteSays}
@@ -14,7 +15,7 @@ use Rattle.ask_access.specs.ReadByRuns.{ReadsOn}
 use Rattle.ask_order.specs.declared.side_by_side.Progress.{Progress}
 use Rattle.ask_order.specs.declared.side_by_side.Round.{Round}
 use Rattle.ask_order.specs.declared.side_by_side.Round.the-variants as round
-use Rattle.ask_order.specs.Order.{Ordered, before, after, stands, comparedFrom, orderSays}
+use Rattle.ask_order.specs.Order.{before, after, stands, comparedFrom, orderSays}
 use Rattle.ask_order.specs.OrderAnswers.{OrderAnswer}
 
 -- bytes of the text from place p, at least one, or none because the path of p breaks
@@ -29,7 +30,7 @@ pub record Agrees (s : List ℕ) (a : ℕ) (t : List ℕ) (b n r : ℕ) : Type 0
   pub differ : r < n → getD s (a + r) 0 ≡ getD t (b + r) 0 → ⊥
 
 -- by the first byte that differs, at place p
-unfoldable pub byByte : ℕ → ℕ → ℕ → Ordered
+unfoldable pub byByte : ℕ → ℕ → ℕ → Said
 byByte x y p = cond (ltb x y) (stands before p) (stands after p)
 
 -- the bytes of the shorter text

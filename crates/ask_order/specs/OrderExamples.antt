@@ -5,6 +5,7 @@ use Prim.Native.Nat.{ℕ, _+_}
 use lib.ListN.{replicate, length, take, drop}
 use Rattle.text.specs.Lists.{tabulate, concat, sumBelow, countBelow, allBelow, sameList}
 use Rattle.text.specs.Text.{stretch, leftmost, firstFrom, countIn}
+use Rattle.format.specs.Said.{refused}
 use Rattle.format.specs.Words.{wordAt, wordsBytes, wordBytes}
 use Rattle.format.specs.Settings.{Settings, blockLength, pieces, recordLength, lengthOk, sizesOk, countedOk, rising, risingAfter}
 use Rattle.format.specs.Blocks.{treeOf, header, leafBytes, levelPairs, recordBytes, levelBytes, recordIn, recordOf, target, occurrence, width, isKept}
@@ -14,7 +15,8 @@ use Rattle.format.specs.Layout as at
 use Rattle.format.specs.Path.{pathOf, pathFrom, targetPlace, targetBlock, pointingBlock, keptBlock, lands, landBlock, landPlace, landVisits}
 use Rattle.format.specs.Verdict.{readable}
 use Rattle.format.specs.ReadSays.{byteSays}
-use Rattle.ask_order.specs.Order.{before, same, after, stands, refusedOrder, standing, shared, byLength, comparedFrom, orderSays}
+use Rattle.ask_order.specs.Order.{before, same, after, stands, byLength, comparedFrom, orderSays}
+use Rattle.ask_order.specs.TextOrder.{standing, shared}
 
 nine : List ℕ
 nine = 81 ∷ 65 ∷ 66 ∷ 67 ∷ 68 ∷ 65 ∷ 66 ∷ 67 ∷ 68 ∷ []
@@ -84,20 +86,22 @@ pub record Marked : Type 0 where
   empties : (orderSays empty w ≡ stands before 0) × (orderSays older empty ≡ stands after 0)
       × (orderSays empty empty′ ≡ stands same 0) × (orderSays early empty ≡ stands after 0)
   -- a path that breaks, and one that breaks past the first difference or the shorter end, which is not read
-  broken : (orderSays late w ≡ refusedOrder 14) × (orderSays w late ≡ refusedOrder 14) × (orderSays late late ≡ refusedOrder 14)
-      × (orderSays early high ≡ refusedOrder 14)
+  broken : (orderSays late w ≡ refused 14) × (orderSays w late ≡ refused 14) × (orderSays late late ≡ refused 14)
+      × (orderSays early high ≡ refused 14)
   unseen : (orderSays late x ≡ stands before 8) × (orderSays x late ≡ stands after 8) × (orderSays late p ≡ stands after 9)
   -- 5 to 7 of the first, then of the second, before any 14
-  unread : (orderSays (take 99 w) [] ≡ refusedOrder 5) × (orderSays w (take 99 w) ≡ refusedOrder 5)
-      × (orderSays (with w 0 9) (take 99 w) ≡ refusedOrder 6)
-      × (orderSays early (with w 4 21) ≡ refusedOrder 7) × (orderSays (with w 4 21) (with w 0 9) ≡ refusedOrder 7)
+  unread : (orderSays (take 99 w) [] ≡ refused 5) × (orderSays w (take 99 w) ≡ refused 5)
+      × (orderSays (with w 0 9) (take 99 w) ≡ refused 6)
+      × (orderSays early (with w 4 21) ≡ refused 7) × (orderSays (with w 4 21) (with w 0 9) ≡ refused 7)
 
 pub marked : Marked
-unfolding nine book two w w′ p x high low empty empty′ words older with late early standing shared
-    byLength comparedFrom orderSays tabulate concat sumBelow countBelow allBelow sameList wordAt wordsBytes wordBytes stretch leftmost firstFrom countIn
-    blockLength pieces recordLength lengthOk sizesOk countedOk rising risingAfter treeOf header leafBytes levelPairs recordBytes edgesOf filledOut
-    levelBytes recordIn recordOf target occurrence width isKept startsAt cut keptByPairs firstPairAt pairAt lengthOf startOf pathOf pathFrom targetPlace
-    targetBlock pointingBlock keptBlock lands landBlock landPlace landVisits readable at.leafByte byteSays at.blockLengthAt at.levelCount at.levelOffset
+unfolding nine book two w w′ p x high low empty empty′ words older with late early standing shared byLength comparedFrom orderSays tabulate concat
+    sumBelow countBelow allBelow sameList wordAt wordsBytes wordBytes stretch leftmost firstFrom countIn blockLength pieces recordLength lengthOk
+    sizesOk countedOk rising risingAfter treeOf header leafBytes levelPairs recordBytes edgesOf filledOut levelBytes recordIn recordOf target
+    occurrence width isKept startsAt cut keptByPairs firstPairAt pairAt lengthOf startOf pathOf pathFrom targetPlace targetBlock pointingBlock
+    keptBlock lands landBlock landPlace landVisits readable at.leafByte byteSays at.blockLengthAt at.levelCount at.levelOffset at.layout at.textLength
+    at.countedCount at.settings at.leafOffset at.leafCount at.recordSize at.field at.start at.kind at.link at.gap at.before at.inside at.skip
+    at.edgesAt at.fullLength at.isKept at.isPointing at.hasEdges at.longEnough at.layoutOk at.headerOk
 marked = record {
   texts = (refl, refl, refl, refl);
   settings = refl;

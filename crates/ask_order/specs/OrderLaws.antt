@@ -10,7 +10,8 @@ use borrow.Author.Tests.{lt-ltb, le-ltb, eq-eqb, ne-eqb}
 use lib.ListN.{length, getD}
 use lib.Dec.{ltb}
 use Rattle.text.specs.ListLaws.{lt-or-ge}
-use Rattle.ask_order.specs.Order.{Standing, before, same, after, standing, shared}
+use Rattle.ask_order.specs.Order.{Standing, before, same, after}
+use Rattle.ask_order.specs.TextOrder.{standing, shared}
 
 -- One byte of each.
 

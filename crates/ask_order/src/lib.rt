@@ -49,7 +49,7 @@ pub fn first<'a>(
     order: &mut u32,
     shared: &mut u32,
 ) -> &'a [u8]
-    ensures { λ _. ⌜ record { number = now (number .exit); order = now (order .exit); length = now (shared .exit) }
+    ensures { λ _. ⌜ record { number = now (number .exit); value = now (order .exit); entered = now (shared .exit) }
         ≡ orderSays (now (one .entry)) (now (other .entry)) ⌝ }
     ensures { λ r. ⌜ Handed (orderSays (now (one .entry)) (now (other .entry))) (one .entry) (other .entry) r ⌝ }
 {

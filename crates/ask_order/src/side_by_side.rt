@@ -9,10 +9,11 @@ ghost use mathlib.Core.Bool.{true};
 ghost use mathlib.Core.Path.{_≡_};
 ghost use Prim.Native.Nat.{ℕ, _+_, _-_, _≤_, _<_, min};
 ghost use lib.ListN.{length, getD};
+ghost use Rattle.format.specs.Said.{replied};
 ghost use Rattle.layout.specs.HeaderSays.{HeaderOf};
 ghost use Rattle.ask_access.specs.ReadByRuns.{ReadsOn};
 ghost use Rattle.ask_order.specs.Order.{byLength};
-ghost use Rattle.ask_order.specs.OrderAnswers.{orderSaid, OrderAnswer};
+ghost use Rattle.ask_order.specs.OrderAnswers.{orderReply, OrderAnswer};
 ghost use Rattle.ask_order.specs.Compared.{ReadsFrom, Agrees, byByte, Comparing, RoundSays};
 
 // The most bytes of a tree that are read at once: the first difference is often near.
@@ -170,7 +171,7 @@ fn first_difference(one: &[u8], from: usize, other: &[u8], at: usize, n: usize) 
 // By the first byte that differs: the k-th of two parts, which stand at a place of the text.
 fn by_byte(one: &[u8], from: usize, other: &[u8], at: usize, k: usize, place: TextPlace) -> Compared
     requires { ⌜ (from + k < length (now one)) × (at + k < length (now other)) × (place .0 + k < 4294967296) ⌝ }
-    ensures { λ r. ⌜ orderSaid r ≡ byByte (getD (now (one .entry)) (from + k) 0) (getD (now (other .entry)) (at + k) 0) (place .0 + k) ⌝ }
+    ensures { λ r. ⌜ replied (orderReply r) ≡ byByte (getD (now (one .entry)) (from + k) 0) (getD (now (other .entry)) (at + k) 0) (place .0 + k) ⌝ }
 {
     let length = place.0 + k as u32;
     if one[from + k] < other[at + k] {
@@ -181,7 +182,7 @@ fn by_byte(one: &[u8], from: usize, other: &[u8], at: usize, k: usize, place: Te
 
 // One is the beginning of the other: by their lengths.
 fn by_length(n: u32, m: u32, at: u32) -> Compared
-    ensures { λ r. ⌜ orderSaid r ≡ byLength n m at ⌝ }
+    ensures { λ r. ⌜ replied (orderReply r) ≡ byLength n m at ⌝ }
 {
     if n < m {
         return Compared::Before(at);

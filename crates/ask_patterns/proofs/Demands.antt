@@ -18,7 +18,7 @@ use Rattle.format.specs.Path.{Path, pathOf}
 use Rattle.format.specs.Fits.{textOf}
 use Rattle.format.specs.Verdict.{ask, readable}
 use Rattle.format.specs.LayoutLaws.{readable-facts}
-use Rattle.format.specs.Said.{Said, refused}
+use Rattle.format.specs.Said.{Said, refused, NeverZero, replied}
 use Rattle.format.specs.SaidLaws.{unless-number}
 use Rattle.format.specs.ReadSays.{byteOf, byteSays, pathsHold}
 use Rattle.theory_paths.specs.Reads.{paths-hold}
@@ -26,7 +26,7 @@ use Rattle.theory_paths.specs.PlaceBytes.{byte-path}
 use Rattle.ask_patterns.specs.declared.PlacesWritten.{PlacesWritten}
 use Rattle.ask_patterns.specs.declared.PlacesWritten.the-variants as written
 use Rattle.ask_patterns.specs.Places.{maxPattern, patternOk, placesIn, placesOf, placesNumber, placesSays, placesLeaves}
-use Rattle.ask_patterns.specs.PlacesAnswer.{placesSaid, Numbered}
+use Rattle.ask_patterns.specs.PlacesAnswer.{placesReply}
 use Rattle.ask_patterns.specs.declared.PlacesRoom.{PlacesRoom}
 use Rattle.ask_patterns.specs.declared.PlacesRoom.the-variants as room
 use Rattle.ask_patterns.proofs.RoomLaws.{places-few, roomy}
@@ -38,11 +38,12 @@ abbrev pub Places : (κs : Lfts 3) → (t P table after : RefT (List ℕ)) → P
 Places κs t P table after r = places-reads.Post κs (t, (P, (table, tt))) r (t, (P, (after, tt)))
 
 -- which answer says this
-number-is : (r : PlacesWritten) (n : ℕ) → Numbered r → placesSaid r ≡ record { number = 0; value = n; entered = 0 } → r ≡ written.Number n
+number-is : (r : PlacesWritten) (n : ℕ) → NeverZero (placesReply r) → replied (placesReply r) ≡ record { number = 0; value = n; entered = 0 }
+    → r ≡ written.Number n
 number-is (written.Number m) n k e = ap written.Number (ap (λ (s : Said). s .value) e)
 number-is (written.Refused q) n k e = absurd (let z : ⊥ = omega (arith, ap (λ (s : Said). s .number) e) in z)
 
-refused-is : (r : PlacesWritten) (q : ℕ) → placesSaid r ≡ refused (suc q) → r ≡ written.Refused (suc q)
+refused-is : (r : PlacesWritten) (q : ℕ) → replied (placesReply r) ≡ refused (suc q) → r ≡ written.Refused (suc q)
 refused-is (written.Number m) q e = absurd (let z : ⊥ = omega (arith, ap (λ (s : Said). s .number) e) in z)
 refused-is (written.Refused p) q e = ap written.Refused (ap (λ (s : Said). s .number) e)
 

@@ -11,7 +11,7 @@ use Rattle.text.specs.ListLaws.{bool-clash}
 use Rattle.format.specs.Layout as at
 use Rattle.format.specs.Fits.{linksOk}
 use Rattle.format.specs.Verdict.{ask, readable}
-use Rattle.format.specs.Said.{Said, refused}
+use Rattle.format.specs.Said.{Said, refused, NeverZero, replied}
 use Rattle.format.specs.ReadSays.{pathsHold}
 use Rattle.theory_paths.specs.Demands.{paths-all}
 use Rattle.layout.specs.declared.header.HeaderRead.{HeaderRead}
@@ -23,7 +23,7 @@ use Rattle.ask_patterns.specs.declared.pattern_seek.Sought.{Sought}
 use Rattle.ask_patterns.specs.declared.pattern_seek.Sought.the-variants.{All, Broken}
 use Rattle.ask_patterns.specs.Places.{maxPattern, patternOk, placesOf, placesNumber, placesSays, placesLeaves}
 use Rattle.ask_patterns.specs.TableFilled.{SeekSays}
-use Rattle.ask_patterns.specs.PlacesAnswer.{placesSaid, Numbered, PlacesAnswer}
+use Rattle.ask_patterns.specs.PlacesAnswer.{placesReply, PlacesAnswer}
 use Rattle.ask_patterns.proofs.FillLaws.{filled-all, filled-take}
 use Rattle.ask_patterns.proofs.RoomLaws.{places-few}
 
@@ -32,7 +32,7 @@ pub record Listed (t P table : List ℕ) (s : Said) (after : List ℕ) : Type 0 
   pub says : s ≡ placesSays t P (length table)
   pub leaves : after ≡ placesLeaves t P table
 
-pub answered : (t P table after : List ℕ) (r : PlacesWritten) → Numbered r → Listed t P table (placesSaid r) after
+pub answered : (t P table after : List ℕ) (r : PlacesWritten) → NeverZero (placesReply r) → Listed t P table (replied (placesReply r)) after
     → PlacesAnswer t P (length table) r × (after ≡ placesLeaves t P table)
 answered t P table after r numbered k = (record { says = k .says; numbered = numbered }, k .leaves)
 

@@ -10,7 +10,7 @@ use mathlib.Core.Bool.{_&&_}
 use Rattle.text.specs.ListLaws.{and-left, and-right}
 use Rattle.format.specs.Layout as at
 use Rattle.format.specs.Fits.{textOf}
-use Rattle.format.specs.Said.{Said, refused, unless}
+use Rattle.format.specs.Said.{Said, refused, unless, NeverZero, replied}
 use Rattle.format.specs.SaidLaws.{unless-refused, unless-passes}
 use Rattle.format.specs.Verdict.{ask, readable}
 use Rattle.format.specs.LayoutLaws.{ask-test}
@@ -24,7 +24,7 @@ use Rattle.ask_patterns.specs.declared.PlacesRoom.{PlacesRoom}
 use Rattle.ask_patterns.specs.declared.PlacesRoom.the-variants as room
 use Rattle.ask_patterns.specs.Places.{maxPattern, standsAt, placesOf, roomOf, roomSays}
 use Rattle.ask_patterns.specs.TableFilled.{soFar}
-use Rattle.ask_patterns.specs.PlacesAnswer.{roomSaid, RoomNumbered, RoomAnswer}
+use Rattle.ask_patterns.specs.PlacesAnswer.{roomReply, RoomAnswer}
 use Rattle.ask_patterns.proofs.PatternSeekLaws.{below-few, so-far-end}
 
 module _ (n len : ℕ) where
@@ -43,7 +43,8 @@ module _ (n len : ℕ) where
 
 module _ (t : List ℕ) (len : ℕ) where
   -- a tree that passes questions 5 to 7, and one that does not
-  pub answered : (h : Header) → HeaderOf t h → (r : PlacesRoom) → (roomSaid r ≡ roomOf (h .«text_length») len) × RoomNumbered r → RoomAnswer t len r
+  pub answered : (h : Header) → HeaderOf t h → (r : PlacesRoom) → (replied (roomReply r) ≡ roomOf (h .«text_length») len) × NeverZero (roomReply r)
+      → RoomAnswer t len r
   unfolding roomSays
   answered h k r e = record { says = rw (k .passes) (e .0 ∙ ap (λ (n : ℕ). roomOf n len) (k .length-is)); numbered = e .1 }
 

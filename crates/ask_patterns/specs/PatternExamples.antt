@@ -63,10 +63,12 @@ pub record Marked : Type 0 where
 
 pub marked : Marked
 unfolding book tree twelve with abcd said nines standsAt below placesIn patternOk placesOf placesNumber placesSays placesLeaves roomOf roomSays
-    tabulate concat sumBelow countBelow allBelow sameList wordAt wordsBytes wordBytes stretch leftmost firstFrom countIn blockLength pieces recordLength
-    lengthOk sizesOk countedOk rising risingAfter treeOf header leafBytes levelPairs recordBytes edgesOf filledOut levelBytes recordIn recordOf
-    target occurrence width isKept startsAt cut keptByPairs firstPairAt pairAt lengthOf startOf pathOf pathFrom targetPlace targetBlock pointingBlock
-    keptBlock lands landBlock landPlace landVisits textOf readable at.leafByte byteSays pathsHold at.blockLengthAt at.levelCount at.levelOffset
+    tabulate concat sumBelow countBelow allBelow sameList wordAt wordsBytes wordBytes stretch leftmost firstFrom countIn blockLength pieces
+    recordLength lengthOk sizesOk countedOk rising risingAfter treeOf header leafBytes levelPairs recordBytes edgesOf filledOut levelBytes recordIn
+    recordOf target occurrence width isKept startsAt cut keptByPairs firstPairAt pairAt lengthOf startOf pathOf pathFrom targetPlace targetBlock
+    pointingBlock keptBlock lands landBlock landPlace landVisits textOf readable at.leafByte byteSays pathsHold at.blockLengthAt at.levelCount
+    at.levelOffset at.layout at.textLength at.countedCount at.settings at.leafOffset at.leafCount at.recordSize at.field at.start at.kind at.link
+    at.gap at.before at.inside at.skip at.edgesAt at.fullLength at.isKept at.isPointing at.hasEdges at.longEnough at.layoutOk at.headerOk
 marked = record {
   fragment = (refl, refl);
   room = (refl, refl, refl);

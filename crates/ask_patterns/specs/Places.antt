@@ -9,7 +9,7 @@ use Rattle.text.specs.Lists.{sameList}
 use Rattle.text.specs.Text.{stretch}
 use Rattle.format.specs.Layout as at
 use Rattle.format.specs.Fits.{textOf}
-use Rattle.format.specs.Verdict.{ask, readable}
+use Rattle.format.specs.Verdict.{asks, orNext, readable}
 use Rattle.format.specs.Said.{Said, unless}
 use Rattle.format.specs.ReadSays.{pathsHold}
 
@@ -44,10 +44,8 @@ module _ (t P : List ℕ) where
 
   -- questions 5 to 7, then 16, then 14, for every place below n, then 17: the table has room for all places
   unfoldable pub placesNumber : ℕ → ℕ
-  unfolding at.textLength
   placesNumber room =
-      let asked = ask 16 (patternOk P) (ask 14 (pathsHold t 0 (at.textLength t)) (ask 17 (leb (length placesOf) room) 0)) in
-      cond (eqb (readable t) 0) asked (readable t)
+      orNext (readable t) (asks ((16, patternOk P) ∷ (14, pathsHold t 0 (at.textLength t)) ∷ (17, leb (length placesOf) room) ∷ []))
 
   -- how many places there are
   unfoldable pub placesSays : ℕ → Said
@@ -60,9 +58,8 @@ module _ (t P : List ℕ) where
 -- How many words hold all places of any pattern of len bytes: question 16, then one for each place of a text of n bytes from which so many bytes
 -- are left
 unfoldable pub roomOf : ℕ → ℕ → Said
-roomOf n len = unless (ask 16 (patternLength len) 0) (record { number = 0; value = n + 1 - len; entered = 0 })
+roomOf n len = unless (asks ((16, patternLength len) ∷ [])) (record { number = 0; value = n + 1 - len; entered = 0 })
 
 -- questions 5 to 7 first
 unfoldable pub roomSays : List ℕ → ℕ → Said
-unfolding at.textLength
 roomSays t len = unless (readable t) (roomOf (at.textLength t) len)

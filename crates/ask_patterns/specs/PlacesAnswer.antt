@@ -1,8 +1,7 @@
 -- The answer by its number and its figure (docs/FORMAT.md, "The questions, in order").
 use mathlib.Core.List.{List}
-use mathlib.Core.Path.{_≡_}
-use Prim.Native.Nat.{ℕ, _≤_}
-use Rattle.format.specs.Said.{Said, refused}
+use Prim.Native.Nat.{ℕ}
+use Rattle.format.specs.Said.{Reply, figures, refusal, Is}
 use Rattle.ask_patterns.specs.declared.PlacesWritten.{PlacesWritten}
 use Rattle.ask_patterns.specs.declared.PlacesWritten.the-variants as places
 use Rattle.ask_patterns.specs.declared.PlacesRoom.{PlacesRoom}
@@ -10,29 +9,18 @@ use Rattle.ask_patterns.specs.declared.PlacesRoom.the-variants as room
 use Rattle.ask_patterns.specs.Places.{placesSays, roomSays}
 
 -- how many places there are
-abbrev pub placesSaid : PlacesWritten → Said
-placesSaid (places.Number n) = record { number = 0; value = n; entered = 0 }
-placesSaid (places.Refused number) = refused number
-
--- a refusal's number is not 0
-abbrev pub Numbered : PlacesWritten → Type 0
-Numbered (places.Number n) = Unit {0}
-Numbered (places.Refused number) = 1 ≤ number
+abbrev pub placesReply : PlacesWritten → Reply
+placesReply (places.Number n) = figures n 0
+placesReply (places.Refused number) = refusal number
 
 -- what is answered with room for so many words
-pub record PlacesAnswer (t P : List ℕ) (room : ℕ) (r : PlacesWritten) : Type 0 where
-  pub says : placesSaid r ≡ placesSays t P room
-  pub numbered : Numbered r
+abbrev pub PlacesAnswer : (t P : List ℕ) (room : ℕ) → PlacesWritten → Type 0
+PlacesAnswer t P room = Is placesReply (placesSays t P room)
 
 -- how many words a table must have
-abbrev pub roomSaid : PlacesRoom → Said
-roomSaid (room.Words n) = record { number = 0; value = n; entered = 0 }
-roomSaid (room.Refused number) = refused number
+abbrev pub roomReply : PlacesRoom → Reply
+roomReply (room.Words n) = figures n 0
+roomReply (room.Refused number) = refusal number
 
-abbrev pub RoomNumbered : PlacesRoom → Type 0
-RoomNumbered (room.Words n) = Unit {0}
-RoomNumbered (room.Refused number) = 1 ≤ number
-
-pub record RoomAnswer (t : List ℕ) (len : ℕ) (r : PlacesRoom) : Type 0 where
-  pub says : roomSaid r ≡ roomSays t len
-  pub numbered : RoomNumbered r
+abbrev pub RoomAnswer : (t : List ℕ) (len : ℕ) → PlacesRoom → Type 0
+RoomAnswer t len = Is roomReply (roomSays t len)

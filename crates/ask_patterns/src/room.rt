@@ -2,12 +2,13 @@
 use crate::PlacesRoom;
 ghost use mathlib.Core.Path.{_≡_};
 ghost use Prim.Native.Nat.{_+_, _-_, _≤_};
+ghost use Rattle.format.specs.Said.{NeverZero, replied};
 ghost use Rattle.ask_patterns.specs.Places.{roomOf};
-ghost use Rattle.ask_patterns.specs.PlacesAnswer.{roomSaid, RoomNumbered};
+ghost use Rattle.ask_patterns.specs.PlacesAnswer.{roomReply};
 
 // Question 16; a text of n bytes has a place for each byte from which the whole pattern is left.
 pub fn of_length(n: u32, len: u32) -> PlacesRoom
-    ensures { λ r. ⌜ (roomSaid r ≡ roomOf n len) × (RoomNumbered r) ⌝ }
+    ensures { λ r. ⌜ (replied (roomReply r) ≡ roomOf n len) × (NeverZero (roomReply r)) ⌝ }
 {
     if len < 1 {
         return PlacesRoom::Refused(16);

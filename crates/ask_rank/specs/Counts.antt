@@ -1,30 +1,22 @@
 -- What count answers, by its number and figures (docs/FORMAT.md, "Count").
-use mathlib.Core.Bool.{cond}
 use mathlib.Core.List.{List}
-use mathlib.Core.Path.{_≡_}
-use Prim.Native.Nat.{ℕ, _≤_}
-use lib.Dec.{eqb, leb}
+use Prim.Native.Nat.{ℕ}
+use lib.Dec.{leb}
 use Rattle.format.specs.Layout as at
-use Rattle.format.specs.Verdict.{ask, readable}
-use Rattle.format.specs.Said.{Said, refused}
+use Rattle.format.specs.Verdict.{ask, orNext, readable}
+use Rattle.format.specs.Said.{Reply, figures, refusal, Is}
 use Rattle.format.specs.CountSays.{countSays}
 use Rattle.ask_rank.specs.declared.Counted.{Counted}
 use Rattle.ask_rank.specs.declared.Counted.the-variants.{Times, Refused}
 
 -- how often the byte stands, with the blocks entered
-abbrev pub saidCount : Counted → Said
-saidCount (Times times entered) = record { number = 0; value = times; entered = entered }
-saidCount (Refused number) = refused number
+abbrev pub countReply : Counted → Reply
+countReply (Times times entered) = figures times entered
+countReply (Refused number) = refusal number
 
--- a refusal's number is not 0
-abbrev pub Numbered : Counted → Type 0
-Numbered (Times times entered) = Unit {0}
-Numbered (Refused number) = 1 ≤ number
-
-pub record CountAnswer (t : List ℕ) (byte i : ℕ) (r : Counted) : Type 0 where
-  pub says : saidCount r ≡ countSays t byte i
-  pub numbered : Numbered r
+abbrev pub CountAnswer : (t : List ℕ) (byte i : ℕ) → Counted → Type 0
+CountAnswer t byte i = Is countReply (countSays t byte i)
 
 -- Count and find of a number above 255, which is no byte and so not counted: questions 5 to 7, then 10 for what ends at i, then 11
 unfoldable pub uncountedNumber : List ℕ → ℕ → ℕ
-uncountedNumber t i = cond (eqb (readable t) 0) (ask 10 (leb i (at.textLength t)) 11) (readable t)
+uncountedNumber t i = orNext (readable t) (ask 10 (leb i (at.textLength t)) 11)

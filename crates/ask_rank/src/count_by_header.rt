@@ -5,8 +5,9 @@ use ask_totals::Wanted;
 use layout::header::Header;
 use layout::place::TextPlace;
 ghost use mathlib.Core.Path.{_≡_};
+ghost use Rattle.format.specs.Said.{NeverZero, replied};
 ghost use Rattle.layout.specs.HeaderSays.{HeaderOf};
-ghost use Rattle.ask_rank.specs.Counts.{saidCount, Numbered, CountAnswer};
+ghost use Rattle.ask_rank.specs.Counts.{countReply, CountAnswer};
 ghost use Rattle.ask_rank.specs.Sums.{saidIn};
 
 // Questions 10, 11 and 14; the first i bytes end with place i - 1, and none of them need no path.
@@ -29,7 +30,7 @@ pub fn count_at(t: &[u8], h: Header, byte: u8, i: u32) -> Counted
 
 // What a count's word says.
 fn settle(word: u64) -> Counted
-    ensures { λ r. ⌜ (saidCount r ≡ saidIn word) × (Numbered r) ⌝ }
+    ensures { λ r. ⌜ (replied (countReply r) ≡ saidIn word) × (NeverZero (countReply r)) ⌝ }
 {
     if word == sums::BROKEN {
         return Counted::Refused(14);

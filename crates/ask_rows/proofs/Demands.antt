@@ -17,7 +17,7 @@ use Rattle.format.specs.Layout as at
 use Rattle.format.specs.Fits.{textOf}
 use Rattle.format.specs.Verdict.{verdict}
 use Rattle.format.specs.VerdictLaws.{accepted-readable, accepted-links}
-use Rattle.format.specs.Said.{Said}
+use Rattle.format.specs.Said.{Said, NeverZero, replied}
 use Rattle.format.specs.CountSays.{isCounted}
 use Rattle.format.specs.RowSays.{rowNumber}
 use Rattle.theory_paths.specs.OneText.{text-length}
@@ -26,15 +26,14 @@ use Rattle.theory_counts.specs.Demands as tallies
 use Rattle.theory_counts.specs.RowsOfText.{row-lets}
 use Rattle.ask_guide.specs.Guides.{guideNumber}
 use Rattle.ask_guide.proofs.GuideList.{guide-verdict}
-use Rattle.ask_guide.proofs.Demands.{CheckGuide}
 use Rattle.ask_rows.specs.declared.RowCopied.{RowCopied}
 use Rattle.ask_rows.specs.declared.RowCopied.the-variants as row
-use Rattle.ask_rows.specs.RowAnswers.{saidRow, Numbered, RowAnswer}
+use Rattle.ask_rows.specs.RowAnswers.{rowReply, RowAnswer}
 use Rattle.ask_rows.specs.declared.RowLength.{RowLength}
 use Rattle.ask_rows.specs.declared.RowLength.the-variants as size
 use Rattle.ask_rows.specs.declared.RowCount.{RowCount}
 use Rattle.ask_rows.specs.declared.RowCount.the-variants as count
-use Rattle.ask_rows.specs.RowLengths.{rowsNumber, lastOpen, rowsSays, saidLength, saidCount, LengthNumbered, CountNumbered}
+use Rattle.ask_rows.specs.RowLengths.{rowsNumber, lastOpen, rowsSays, lengthReply, rowCountReply}
 use Rattle.ask_rows.proofs.row_length.Reads as length-reads
 use Rattle.ask_rows.proofs.row_count.Reads as count-reads
 use Rattle.ask_rows.proofs.row.Reads as row-reads
@@ -48,7 +47,8 @@ abbrev Row : (κs : Lfts 2) → RefT (List ℕ) → (q : ℕ) → (buffer after 
 Row κs t q buffer after r = row-reads.Post κs (t, (q, (buffer, tt))) r (t, (q, (after, tt)))
 
 -- two answers with the same number and length are the same
-same-copied : (x y : RowCopied) → Numbered x → Numbered y → saidRow x .number ≡ saidRow y .number → saidRow x .value ≡ saidRow y .value → x ≡ y
+same-copied : (x y : RowCopied) → NeverZero (rowReply x) → NeverZero (rowReply y) → replied (rowReply x) .number ≡ replied (rowReply y) .number
+    → replied (rowReply x) .value ≡ replied (rowReply y) .value → x ≡ y
 same-copied (row.Bytes m) (row.Bytes n) k l s z = ap row.Bytes z
 same-copied (row.Bytes m) (row.Refused n) k l s z = absurd (let y : ⊥ = omega arith in y)
 same-copied (row.Refused m) (row.Bytes n) k l s z = absurd (let y : ⊥ = omega arith in y)
@@ -60,8 +60,9 @@ module _ (t : List ℕ) (v : verdict t ≡ 0)
   one-row : (x ≡ y) × (after ≡ other)
   one-row = go (lt-or-ge 0 (rowNumber t q)) (lt-or-ge (length buffer) (length (rowOf (textOf t) q)))
     where
-      both : (n m : ℕ) (l : List ℕ) → (saidRow x .number ≡ n)
-          × (saidRow x .value ≡ m) × (after ≡ l) → (saidRow y .number ≡ n) × (saidRow y .value ≡ m) × (other ≡ l) → (x ≡ y) × (after ≡ other)
+      both : (n m : ℕ) (l : List ℕ) → (replied (rowReply x) .number ≡ n)
+          × (replied (rowReply x) .value ≡ m) × (after ≡ l) → (replied (rowReply y) .number ≡ n) × (replied (rowReply y) .value ≡ m) × (other ≡ l)
+          → (x ≡ y) × (after ≡ other)
       both n m l c d = (same-copied x y (a .numbered) (b .numbered) (c .0 ∙ sym (d .0)) (c .1 ∙ sym (d .1)), c .2 ∙ sym (d .2))
 
       go : (0 < rowNumber t q) ⊎ (rowNumber t q ≤ 0)
@@ -78,9 +79,8 @@ module _ (t : List ℕ) (v : verdict t ≡ 0)
 
 -- if the tree and the guide are accepted, row with a guide returns what row returns
 pub guided-as-row : (κs : Lfts 3) (t guide : RefT (List ℕ)) (q : ℕ) (buffer after : RefT (List ℕ)) (r : RowCopied) → RowGuided κs t guide q buffer after r
-    → (κ : Lfts 2) → CheckGuide κ t guide 0 → (κ′ : Lfts 2) (left : RefT (List ℕ)) (s : RowCopied) → Row κ′ t q buffer left s → (r ≡ s) × (now after ≡ now left)
-guided-as-row κs t guide q buffer after r a κ ok κ′ left s b =
-    let g : guideNumber (now t) (now guide) ≡ 0 = sym ok in
+    → guideNumber (now t) (now guide) ≡ 0 → (κ : Lfts 2) (left : RefT (List ℕ)) (s : RowCopied) → Row κ t q buffer left s → (r ≡ s) × (now after ≡ now left)
+guided-as-row κs t guide q buffer after r a g κ left s b =
     let v = guide-verdict (now t) (now guide) g in
     let z = a .says in
     one-row (now t) v q (now buffer) r s (now after) (now left)
@@ -97,11 +97,11 @@ LengthOf κs t q r = length-reads.Post κs (t, (q, tt)) r (t, (q, tt))
 abbrev pub CountOf : (κs : Lfts 1) → RefT (List ℕ) → RowCount → Type 0
 CountOf κs t r = count-reads.Post κs (t, tt) r (t, tt)
 
-bytes-are : (r : RowLength) (n : ℕ) → LengthNumbered r → saidLength r .number ≡ 0 → saidLength r .value ≡ n → r ≡ size.Bytes n
+bytes-are : (r : RowLength) (n : ℕ) → NeverZero (lengthReply r) → replied (lengthReply r) .number ≡ 0 → replied (lengthReply r) .value ≡ n → r ≡ size.Bytes n
 bytes-are (size.Bytes m) n k e f = ap size.Bytes f
 bytes-are (size.Refused m) n k e f = absurd (let z : ⊥ = omega arith in z)
 
-rows-are : (r : RowCount) (n : ℕ) → CountNumbered r → saidCount r ≡ record { number = 0; value = n; entered = 0 } → r ≡ count.Rows n
+rows-are : (r : RowCount) (n : ℕ) → NeverZero (rowCountReply r) → replied (rowCountReply r) ≡ record { number = 0; value = n; entered = 0 } → r ≡ count.Rows n
 rows-are (count.Rows m) n k e = ap count.Rows (ap (λ (s : Said). s .value) e)
 rows-are (count.Refused m) n k e = absurd (let z : ⊥ = omega (arith, ap (λ (s : Said). s .number) e) in z)
 
@@ -158,5 +158,5 @@ module _ (κs : Lfts 1) (t : RefT (List ℕ)) (v : verdict (now t) ≡ 0) where
             let z : rowNumber (now t) q ≡ 0 = omega arith in
             let size-is = a .says .accepted z v .1 in
             let c = b .says .accepted z v (omega arith) in
-            let all : saidRow r .value ≡ n = c .1 ∙ sym size-is in
+            let all : replied (rowReply r) .value ≡ n = c .1 ∙ sym size-is in
             (same-copied r (row.Bytes n) (b .numbered) tt (c .0) all, rw all at (c .2))

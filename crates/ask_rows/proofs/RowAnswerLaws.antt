@@ -15,7 +15,7 @@ use Rattle.text.specs.Rows.{rowOf}
 use Rattle.format.specs.VerdictLaws.{accepted-links}
 use Rattle.format.specs.Fits.{textOf}
 use Rattle.format.specs.Verdict.{readable, verdict}
-use Rattle.format.specs.Said.{Said, refused, unless}
+use Rattle.format.specs.Said.{Said, refused, unless, NeverZero, replied}
 use Rattle.format.specs.SaidLaws.{unless-number}
 use Rattle.format.specs.ReadSays.{pathsHold, leavesSpan, copyNumber, copySays, copyLeaves}
 use Rattle.format.specs.FindSays.{selectNumber}
@@ -25,8 +25,7 @@ use Rattle.theory_paths.specs.OneText.{text-length}
 use Rattle.layout.specs.declared.header.HeaderRead.{HeaderRead}
 use Rattle.layout.specs.declared.header.HeaderRead.the-variants as header
 use Rattle.layout.specs.Header.{headerSays}
-use Rattle.ask_access.specs.ReadAnswers as access
-use Rattle.ask_access.specs.ReadAnswers.{copiedSaid}
+use Rattle.ask_access.specs.ReadAnswers.{copiedReply}
 use Rattle.ask_access.specs.declared.Copied.{Copied}
 use Rattle.ask_access.specs.declared.Copied.the-variants as of
 use Rattle.ask_access.proofs.SpanLaws.{ByPaths, values, no-room}
@@ -35,9 +34,10 @@ use Rattle.ask_rows.specs.declared.row_edges.Edges.{Edges}
 use Rattle.ask_rows.specs.declared.row_edges.Edges.the-variants as edges
 use Rattle.ask_rows.specs.declared.RowCopied.{RowCopied}
 use Rattle.ask_rows.specs.declared.RowCopied.the-variants as row
-use Rattle.ask_rows.specs.RowAnswers.{saidRow, Numbered, RowAnswerBy}
+use Rattle.ask_rows.specs.RowAnswers.{rowReply, RowAnswerBy}
 use Rattle.ask_access.specs.declared.read_by_header.LeafRun.{LeafRun}
 use Rattle.ask_rows.specs.RowSpans.{edgesNumber, CopyAnswer, Refuses, Spans, EdgesOf}
+use Rattle.ask_access.specs.ReadByRuns as access
 
 row-refused : (t : List ℕ) (ok q n : ℕ) (buffer : List ℕ) → Refuses t ok (rowNumber t q) (rowOf (textOf t) q) n → RowBy t ok q buffer n 0 buffer
 row-refused t ok q n buffer r = record {
@@ -119,19 +119,19 @@ module _ (t : List ℕ) (p len room : ℕ) (x : Copied) (a : access.CopyAnswer t
   pub row-bytes : (n entered : ℕ) → x ≡ of.Bytes n entered → CopyAnswer t p len room (row.Bytes n)
   unfolding copySays
   row-bytes n entered e =
-      let s : copiedSaid (of.Bytes n entered) ≡ copySays t p len room = rw e at (a .says) in
+      let s : replied (copiedReply (of.Bytes n entered)) ≡ copySays t p len room = rw e at (a .says) in
       let z : entered ≡ 0 = ap (λ (y : Said). y .entered) s ∙ none-entered (copyNumber t p len room) len in
       record { says = rw z at s; numbered = tt }
 
   -- its refusal, passed on
-  pub row-passed : (n k : ℕ) → x ≡ of.Refused k → n ≡ copiedSaid x .number → CopyAnswer t p len room (row.Refused n)
+  pub row-passed : (n k : ℕ) → x ≡ of.Refused k → n ≡ replied (copiedReply x) .number → CopyAnswer t p len room (row.Refused n)
   row-passed n k e m =
-      let z : n ≡ k = m ∙ ap (λ (y : Copied). copiedSaid y .number) e in
+      let z : n ≡ k = m ∙ ap (λ (y : Copied). replied (copiedReply y) .number) e in
       record { says = rw z (rw e at (a .says)); numbered = rw z (rw e at (a .numbered)) }
 
 -- as the code returns it
 
-pub copied : (t : List ℕ) (p len : ℕ) (d after : List ℕ) (r : RowCopied) → Numbered r → ByPaths t p len d (saidRow r) after
+pub copied : (t : List ℕ) (p len : ℕ) (d after : List ℕ) (r : RowCopied) → NeverZero (rowReply r) → ByPaths t p len d (replied (rowReply r)) after
     → CopyAnswer t p len (length d) r × (after ≡ copyLeaves t p len d)
 unfolding copySays copyNumber copyLeaves
 copied t p len d after r numbered k = (record { says = k .says; numbered = numbered }, k .leaves)

@@ -14,24 +14,23 @@ use Rattle.text.specs.CountLaws.{count-none, count-next-same, Nth, nth-earlier,
 use Rattle.text.specs.Rows.{rowOf}
 use Rattle.text.specs.RowLaws.{trimmed, trimmed-none, trimmed-mark, trimmed-plain, rowFrom, between, row-between, row-last}
 use Rattle.text.specs.declared.TextPlace.{TextPlace}
-use Rattle.format.specs.VerdictLaws.{accepted-links}
 use Rattle.format.specs.Layout as at
 use Rattle.format.specs.Fits.{textOf}
 use Rattle.format.specs.Verdict.{verdict}
-use Rattle.format.specs.Said.{Said, refused}
+use Rattle.format.specs.Said.{Said, refused, NeverZero, replied}
 use Rattle.format.specs.ReadSays.{byteSays}
 use Rattle.format.specs.CountSays.{numberOfByte}
 use Rattle.format.specs.FindSays.{total, selectNumber, FindBy}
 use Rattle.format.specs.FindSaysLaws.{Selected, select-passes, select-lets}
 use Rattle.format.specs.RowSays.{lastNumber, asksLast, rowNumber, rowMost}
 use Rattle.format.specs.RowSaysLaws.{AsksLast, asks-last, row-number-last, row-number-plain}
-use Rattle.theory_paths.specs.PlaceBytes.{byte-text, only-14, never-14}
+use Rattle.theory_paths.specs.PlaceBytes.{only-14}
 use Rattle.theory_paths.specs.OneText.{text-length}
 use Rattle.layout.specs.declared.header.Header.{Header}
 use Rattle.layout.specs.HeaderSays.{HeaderOf}
 use Rattle.ask_access.specs.declared.Answer.{Answer}
 use Rattle.ask_access.specs.declared.Answer.the-variants as answer
-use Rattle.ask_access.specs.ReadAnswers.{said}
+use Rattle.ask_access.specs.ReadAnswers.{byteReply}
 use Rattle.ask_access.specs.declared.read_by_header.LeafRun.{LeafRun}
 use Rattle.ask_access.proofs.LeafRunLaws.{none-read}
 use Rattle.ask_totals.proofs.TotalLaws.{not-counted, is-counted}
@@ -40,12 +39,12 @@ use Rattle.ask_select.specs.declared.Found.{Found}
 use Rattle.ask_select.specs.declared.Found.the-variants as found-is
 use Rattle.ask_rows.specs.declared.row_edges.Edges.{Edges}
 use Rattle.ask_rows.specs.declared.row_edges.Edges.the-variants as edges
-use Rattle.ask_select.specs.Found.{saidFind, Numbered, FindAnswer, FoundBy}
-use Rattle.ask_select.proofs.FoundLaws.{refused-not, refused-free, place-asked, place-is, place-in-text}
+use Rattle.ask_select.specs.Found.{findReply, FindAnswer, FoundBy}
+use Rattle.ask_select.proofs.FoundLaws.{refused-not, refused-free, place-is, place-in-text}
 use Rattle.ask_guide.proofs.GuideList.{guide-verdict}
 use Rattle.ask_guided.specs.declared.Guided.{Guided}
-use Rattle.ask_guided.specs.Guided.{GuidedAnswer, SoughtBy, saidGuided, stepsOf, foundOf}
-use Rattle.ask_guided.specs.Guided as guided
+use Rattle.ask_guided.specs.Guided.{GuidedAnswer, guidedReply, stepsOf}
+use Rattle.ask_guided.specs.GuidedWalk.{SoughtBy, foundOf}
 use Rattle.ask_guided.proofs.GuidedFindLaws.{found-by, guided-sought}
 use Rattle.ask_select.specs.SoughtPlaces.{Sought}
 use Rattle.ask_select.proofs.FindByHeaderLaws as find
@@ -79,15 +78,15 @@ module _ (t guide : List ℕ) (h : Header) (k : HeaderOf t h) (number j : ℕ) (
   pub ten-ready : (HeaderOf t h) × (number < at.countedCount t) × (10 ≡ byteOf t number) × (1 ≤ j) × (j ≤ total t number)
   ten-ready = find.seek-ready t h k 10 j number is counted (total t number) refl low high
 
-  pub ten-by-guide : (used : Bool) (g : Guided) (r : Found) → used ≡ true → SoughtBy t guide 10 number j (saidGuided g) (stepsOf g) → guided.Numbered g
+  pub ten-by-guide : (used : Bool) (g : Guided) (r : Found) → used ≡ true → SoughtBy t guide 10 number j (replied (guidedReply g)) (stepsOf g) → NeverZero (guidedReply g)
       → r ≡ foundOf g → FoundBy t (settledBy t guide used) 10 j r
   ten-by-guide used g r e z nb r-is =
       ten-guided t guide used j g r e
       (guided-sought t guide 10 j number g is (find.asked-none t h k 10 j number is counted (total t number) refl low high) z nb) r-is
 
-  pub ten-by-steps : (used : Bool) (r : Found) → used ≡ false → Sought t 10 j (saidFind r) → Numbered r → FoundBy t (settledBy t guide used) 10 j r
+  pub ten-by-steps : (used : Bool) (r : Found) → used ≡ false → Sought t 10 j (replied (findReply r)) → NeverZero (findReply r) → FoundBy t (settledBy t guide used) 10 j r
   ten-by-steps used r e z nb = ten-plain t guide used j r e (record {
-    says = find.find-sought t h k 10 j number is counted (total t number) refl (saidFind r) low high z;
+    says = find.find-sought t h k 10 j number is counted (total t number) refl (replied (findReply r)) low high z;
     numbered = nb;
   })
 
@@ -197,7 +196,7 @@ module _ (t : List ℕ) (ok : ℕ) (q : ℕ) where
           unfolding rowFrom
           start-first one = starts-at 0 let-through (omega arith) (λ v. rw one)
 
-          module _ (more : q ≡ 1 → ⊥) (sound : ok ≡ 0 → verdict t ≡ 0) (found : Found) (says : FindBy t ok 10 (q - 1) (saidFind found)) where
+          module _ (more : q ≡ 1 → ⊥) (sound : ok ≡ 0 → verdict t ≡ 0) (found : Found) (says : FindBy t ok 10 (q - 1) (replied (findReply found))) where
             before-asked : Selected t 10 (q - 1)
             before-asked = record {
               pass = k .passes;
@@ -206,7 +205,8 @@ module _ (t : List ℕ) (ok : ℕ) (q : ℕ) where
               high = omega (arith, selected .high);
             }
 
-            pub start-refused : (j n : ℕ) → found ≡ found-is.Refused j → n ≡ saidFind found .number → Numbered found → StartIs t ok q (start.Refused n)
+            pub start-refused : (j n : ℕ) → found ≡ found-is.Refused j → n ≡ replied (findReply found) .number → NeverZero (findReply found)
+                → StartIs t ok q (start.Refused n)
             start-refused j n e n-is numbered =
                 let m : n ≡ j = n-is ∙ rw e in
                 let low : 1 ≤ j = rw e at numbered in
@@ -437,12 +437,12 @@ module _ (t : List ℕ) (h : Header) (k : HeaderOf t h) (q : ℕ) (asks : asksLa
       let e : q ≡ countIn 10 (textOf t) + 1 = a .number ∙ ap (λ (n : ℕ). n + 1) (tallies.total-of-text t v 10 (a .counted)) in
       rw e (row-last (textOf t))
 
-  module _ (ok : ℕ) (sound : ok ≡ 0 → verdict t ≡ 0) (x : Answer) (x-is : said x ≡ byteSays t (h .«text_length» - 1)) where
-    here-said : byteSays t (at.textLength t - 1) ≡ said x
+  module _ (ok : ℕ) (sound : ok ≡ 0 → verdict t ≡ 0) (x : Answer) (x-is : replied (byteReply x) ≡ byteSays t (h .«text_length» - 1)) where
+    here-said : byteSays t (at.textLength t - 1) ≡ replied (byteReply x)
     here-said = rw (← k .length-is) (sym x-is)
 
     -- the last byte is refused
-    pub last-broken : (m n : ℕ) → x ≡ answer.Refused m → n ≡ said x .number → EdgesOf t ok last-number last-row last-most (edges.Refused n)
+    pub last-broken : (m n : ℕ) → x ≡ answer.Refused m → n ≡ replied (byteReply x) .number → EdgesOf t ok last-number last-row last-most (edges.Refused n)
     last-broken m n e n-is =
         let p = at.textLength t - 1 in
         let same : byteSays t p ≡ refused m = here-said ∙ rw e in
@@ -473,13 +473,14 @@ module _ (t : List ℕ) (h : Header) (k : HeaderOf t h) (q : ℕ) (asks : asksLa
           reads = none-read t 0 run (none .0) (none .1);
         })
 
-        module _ (more : q ≡ 1 → ⊥) (found : Found) (said-found : FindBy t ok 10 (q - 1) (saidFind found)) where
+        module _ (more : q ≡ 1 → ⊥) (found : Found) (said-found : FindBy t ok 10 (q - 1) (replied (findReply found))) where
           last-asked : Selected t 10 (q - 1)
           last-asked = record { pass = a .pass; counted = a .counted; low = omega (arith, a .number, more); high = omega (arith, a .number) }
 
           -- the last byte 10 is refused
           pub last-no-start : (j n : ℕ)
-              → found ≡ found-is.Refused j → n ≡ saidFind found .number → Numbered found → EdgesOf t ok last-number last-row last-most (edges.Refused n)
+              → found ≡ found-is.Refused j → n ≡ replied (findReply found) .number → NeverZero (findReply found)
+              → EdgesOf t ok last-number last-row last-most (edges.Refused n)
           last-no-start j n e n-is numbered =
               let m : n ≡ j = n-is ∙ rw e in
               let low : 1 ≤ j = rw e at numbered in

@@ -15,7 +15,7 @@ use Rattle.format.specs.WordLaws.{wordAt-lt}
 use Rattle.format.specs.RecordFields.{beforeField, insideField}
 use Rattle.format.specs.Layout as at
 use Rattle.format.specs.Fits.{textOf}
-use Rattle.format.specs.Said.{Said, refused}
+use Rattle.format.specs.Said.{Said, refused, replied}
 use Rattle.format.specs.SaidLaws.{unless-refused}
 use Rattle.format.specs.ReadSays.{byteSays}
 use Rattle.format.specs.CountSays.{isCounted, numberOfByte}
@@ -30,7 +30,7 @@ use Rattle.layout.specs.Header.{headerSays}
 use Rattle.layout.specs.HeaderSays.{HeaderOf, header-refused}
 use Rattle.ask_access.specs.declared.Answer.{Answer}
 use Rattle.ask_access.specs.declared.Answer.the-variants as answer
-use Rattle.ask_access.specs.ReadAnswers.{said}
+use Rattle.ask_access.specs.ReadAnswers.{byteReply}
 use Rattle.ask_totals.proofs.TotalLaws.{not-counted, is-counted}
 use Rattle.ask_rows.specs.declared.row_edges.Edges.{Edges}
 use Rattle.ask_rows.specs.declared.row_edges.Edges.the-variants as edges
@@ -124,14 +124,14 @@ module _ (t : List ℕ) (h : Header) (k : HeaderOf t h) (number : ℕ) (is : num
         let z : tens ≡ tens + 0 = omega arith in
         record { says = rw (k .passes, counted, eq-eqb (at.textLength t) 0 e, le-ltb 0 (at.textLength t) (omega arith), ← all, ← z); numbered = tt }
 
-    module _ (some-byte : h .«text_length» ≡ 0 → ⊥) (x : Answer) (x-is : said x ≡ byteSays t (h .«text_length» - 1)) where
-      here : byteSays t (at.textLength t - 1) ≡ said x
+    module _ (some-byte : h .«text_length» ≡ 0 → ⊥) (x : Answer) (x-is : replied (byteReply x) ≡ byteSays t (h .«text_length» - 1)) where
+      here : byteSays t (at.textLength t - 1) ≡ replied (byteReply x)
       here = rw (← k .length-is) (sym x-is)
 
       not-zero : eqb (at.textLength t) 0 ≡ false
       not-zero = ne-eqb (at.textLength t) 0 (λ e. some-byte (omega (arith, k .length-is)))
 
-      pub count-broken : (m n : ℕ) → x ≡ answer.Refused m → n ≡ said x .number → CountAnswer t (count.Refused n)
+      pub count-broken : (m n : ℕ) → x ≡ answer.Refused m → n ≡ replied (byteReply x) .number → CountAnswer t (count.Refused n)
       unfolding rowsSays rowsNumber
       count-broken m n e n-is =
           let same : byteSays t (at.textLength t - 1) ≡ refused m = here ∙ rw e in

@@ -41,9 +41,11 @@ pub record Marked : Type 0 where
   short : rowsSays (take 99 (tree (10 ∷ []) open-book)) ≡ said 5 0
 
 pub marked : Marked
-unfolding tree open-book said rowsNumber lastOpen rowsSays tabulate concat sumBelow
-    countBelow allBelow sameList setWord wordAt wordsBytes wordBytes stretch leftmost firstFrom countIn blockLength pieces recordLength lengthOk
-    sizesOk countedOk rising risingAfter treeOf header leafBytes levelPairs recordBytes edgesOf filledOut levelBytes recordIn recordOf target occurrence
-    width isKept startsAt cut keptByPairs firstPairAt pairAt lengthOf startOf pathOf pathFrom targetPlace targetBlock pointingBlock keptBlock lands
-    landBlock landPlace landVisits readable byteSays indexOf isCounted numberOfByte total at.leafByte at.blockLengthAt at.levelCount at.levelOffset
+unfolding tree open-book said rowsNumber lastOpen rowsSays tabulate concat sumBelow countBelow allBelow sameList setWord wordAt wordsBytes wordBytes
+    stretch leftmost firstFrom countIn blockLength pieces recordLength lengthOk sizesOk countedOk rising risingAfter treeOf header leafBytes
+    levelPairs recordBytes edgesOf filledOut levelBytes recordIn recordOf target occurrence width isKept startsAt cut keptByPairs firstPairAt pairAt
+    lengthOf startOf pathOf pathFrom targetPlace targetBlock pointingBlock keptBlock lands landBlock landPlace landVisits readable byteSays indexOf
+    isCounted numberOfByte total at.leafByte at.blockLengthAt at.levelCount at.levelOffset at.layout at.textLength at.countedCount at.settings
+    at.leafOffset at.leafCount at.recordSize at.field at.start at.kind at.link at.gap at.before at.inside at.skip at.edgesAt at.fullLength at.isKept
+    at.isPointing at.hasEdges at.longEnough at.layoutOk at.headerOk
 marked = record { open-end = refl; ended = refl; one = refl; empty = refl; uncounted = (refl, refl); broken = refl; short = refl }

@@ -10,8 +10,8 @@ use lib.Dec.{ltb, eqb}
 use Rattle.text.specs.Rows.{rowOf}
 use Rattle.format.specs.Layout as at
 use Rattle.format.specs.Fits.{textOf}
-use Rattle.format.specs.Verdict.{ask, readable, verdict}
-use Rattle.format.specs.Said.{Said, refused, unless}
+use Rattle.format.specs.Verdict.{ask, orNext, readable, verdict}
+use Rattle.format.specs.Said.{Said, unless, Reply, figures, refusal, Allowed, Is}
 use Rattle.format.specs.ReadSays.{byteSays}
 use Rattle.format.specs.CountSays.{isCounted, numberOfByte}
 use Rattle.format.specs.FindSays.{total}
@@ -30,41 +30,29 @@ module _ (t : List ℕ) where
 
   -- The number of rows: questions 5 to 7, then 11 for byte 10, then the last byte's own, if there is one
   unfoldable pub rowsNumber : ℕ
-  unfolding at.textLength
   rowsNumber =
       let last = cond (eqb (at.textLength t) 0) 0 (byteSays t (at.textLength t - 1) .number) in
-      cond (eqb (readable t) 0) (ask 11 (isCounted t 10) last) (readable t)
+      orNext (readable t) (ask 11 (isCounted t 10) last)
 
   -- the last byte is not 10
   unfoldable pub lastOpen : Bool
-  unfolding at.textLength
   lastOpen = ltb 0 (at.textLength t) && not (eqb 10 (byteSays t (at.textLength t - 1) .value))
 
   -- the total of byte 10, and one more where a row is open at the end
   unfoldable pub rowsSays : Said
   rowsSays = unless rowsNumber (record { number = 0; value = total t (numberOfByte t 10) + cond lastOpen 1 0; entered = 0 })
 
--- the answers by their numbers and figures; a refusal's number is not 0
-abbrev pub saidLength : RowLength → Said
-saidLength (size.Bytes n) = record { number = 0; value = n; entered = 0 }
-saidLength (size.Refused number) = refused number
+-- the answers by their numbers and figures
+abbrev pub lengthReply : RowLength → Reply
+lengthReply (size.Bytes n) = figures n 0
+lengthReply (size.Refused number) = refusal number
 
-abbrev pub LengthNumbered : RowLength → Type 0
-LengthNumbered (size.Bytes n) = Unit {0}
-LengthNumbered (size.Refused number) = 1 ≤ number
+abbrev pub LengthAnswer : (t : List ℕ) (q : ℕ) → RowLength → Type 0
+LengthAnswer t q = Allowed lengthReply (λ s. LengthSays t q (s .number) (s .value))
 
-pub record LengthAnswer (t : List ℕ) (q : ℕ) (r : RowLength) : Type 0 where
-  pub says : LengthSays t q (saidLength r .number) (saidLength r .value)
-  pub numbered : LengthNumbered r
+abbrev pub rowCountReply : RowCount → Reply
+rowCountReply (count.Rows n) = figures n 0
+rowCountReply (count.Refused number) = refusal number
 
-abbrev pub saidCount : RowCount → Said
-saidCount (count.Rows n) = record { number = 0; value = n; entered = 0 }
-saidCount (count.Refused number) = refused number
-
-abbrev pub CountNumbered : RowCount → Type 0
-CountNumbered (count.Rows n) = Unit {0}
-CountNumbered (count.Refused number) = 1 ≤ number
-
-pub record CountAnswer (t : List ℕ) (r : RowCount) : Type 0 where
-  pub says : saidCount r ≡ rowsSays t
-  pub numbered : CountNumbered r
+abbrev pub CountAnswer : (t : List ℕ) → RowCount → Type 0
+CountAnswer t = Is rowCountReply (rowsSays t)

@@ -7,7 +7,7 @@ use Rattle.text.specs.Text.{stretch}
 use Rattle.format.specs.Layout as at
 use Rattle.format.specs.Fits.{textOf}
 use Rattle.format.specs.Verdict.{verdict}
-use Rattle.format.specs.Said.{refused}
+use Rattle.format.specs.Said.{refused, Is}
 use Rattle.text.specs.declared.TextPlace.{TextPlace}
 use Rattle.format.specs.ReadSays.{copySays}
 use Rattle.ask_access.specs.declared.read_by_header.LeafRun.{LeafRun}
@@ -17,16 +17,15 @@ use Rattle.ask_rows.specs.declared.RowCopied.{RowCopied}
 use Rattle.ask_rows.specs.declared.RowCopied.the-variants.{Refused}
 use Rattle.ask_rows.specs.declared.row_edges.Edges.{Edges}
 use Rattle.ask_rows.specs.declared.row_edges.Edges.the-variants as edges
-use Rattle.ask_rows.specs.RowAnswers.{Numbered, saidRow}
+use Rattle.ask_rows.specs.RowAnswers.{rowReply}
 
 -- the number that settles a row: the guide's, or the check's where there is none
 unfoldable pub settledBy : List ℕ → List ℕ → Bool → ℕ
 settledBy t guide guided = cond guided (guideNumber t guide) (verdict t)
 
 -- what the copying of a row answers, with room for so many bytes: what their paths give
-pub record CopyAnswer (t : List ℕ) (p len room : ℕ) (r : RowCopied) : Type 0 where
-  pub says : saidRow r ≡ copySays t p len room
-  pub numbered : Numbered r
+abbrev pub CopyAnswer : (t : List ℕ) (p len room : ℕ) → RowCopied → Type 0
+CopyAnswer t p len room = Is rowReply (copySays t p len room)
 
 -- the number of edges that are refused
 abbrev pub edgesNumber : Edges → ℕ

@@ -6,8 +6,9 @@ use ask_access::Copied;
 use ask_access::read_by_header;
 use layout::header::Header;
 ghost use mathlib.Core.Path.{_≡_};
+ghost use Rattle.format.specs.Said.{replied};
 ghost use Rattle.layout.specs.HeaderSays.{HeaderOf};
-ghost use Rattle.ask_access.specs.ReadAnswers.{copiedSaid};
+ghost use Rattle.ask_access.specs.ReadAnswers.{copiedReply};
 ghost use Rattle.ask_rows.specs.RowAnswers.{RowAnswerBy};
 ghost use Rattle.ask_rows.specs.RowSpans.{settledBy};
 
@@ -34,7 +35,7 @@ pub fn row_at(t: &[u8], h: Header, guide: &[u8], used: bool, q: u32, buffer: &mu
 
 // The number of the question that refuses a copy; 0 for bytes that were copied.
 fn copied_number(copied: Copied) -> u32
-    ensures { λ r. ⌜ r ≡ copiedSaid copied .number ⌝ }
+    ensures { λ r. ⌜ r ≡ replied (copiedReply copied) .number ⌝ }
 {
     match copied {
         Copied::Bytes(_, _) => 0,

@@ -16,6 +16,7 @@ ghost use Prim.Native.Nat.{_-_, _≤_, _<_};
 ghost use lib.Dec.{ltb, eqb};
 ghost use Rattle.text.specs.Rows.{rowOf};
 ghost use Rattle.text.specs.RowLaws.{between, trimmed};
+ghost use Rattle.format.specs.Said.{replied};
 ghost use Rattle.format.specs.Layout as at;
 ghost use Rattle.format.specs.Fits.{textOf};
 ghost use Rattle.format.specs.ReadSays.{byteSays};
@@ -23,7 +24,7 @@ ghost use Rattle.format.specs.CountSays.{numberOfByte};
 ghost use Rattle.format.specs.FindSays.{total, selectNumber};
 ghost use Rattle.format.specs.RowSays.{lastNumber, asksLast, rowNumber, rowMost};
 ghost use Rattle.layout.specs.HeaderSays.{HeaderOf};
-ghost use Rattle.ask_select.specs.Found.{saidFind, FoundBy};
+ghost use Rattle.ask_select.specs.Found.{findReply, FoundBy};
 ghost use Rattle.ask_rows.specs.RowSpans.{settledBy, edgesNumber, EdgesOf};
 ghost use Rattle.ask_rows.specs.RowEnds.{startNumber, StartIs};
 
@@ -162,7 +163,7 @@ pub fn ten(t: &[u8], h: Header, guide: &[u8], used: bool, number: u32, j: u32) -
 
 // The number of the question that refuses a find; 0 for a place.
 fn found_number(found: Found) -> u32
-    ensures { λ r. ⌜ r ≡ saidFind found .number ⌝ }
+    ensures { λ r. ⌜ r ≡ replied (findReply found) .number ⌝ }
 {
     match found {
         Found::At(_, _) => 0,

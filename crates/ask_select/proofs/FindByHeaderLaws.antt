@@ -17,18 +17,17 @@ use Rattle.format.specs.Fits.{textOf}
 use Rattle.format.specs.Verdict.{ask, readable, verdict}
 use Rattle.format.specs.Said.{Said, refused}
 use Rattle.format.specs.CountSays.{numberOfByte}
-use Rattle.format.specs.FindSays.{total, selectNumber, pathLength, found, FindSays}
-use Rattle.format.specs.FindSaysLaws.{select-lets}
+use Rattle.format.specs.FindSays.{total, selectNumber, pathLength, found}
+use Rattle.format.specs.FindSaysLaws.{FindSays, select-lets}
 use Rattle.theory_paths.specs.BlockStarts.{len-inside}
 use Rattle.layout.specs.declared.header.Header.{Header}
 use Rattle.layout.specs.declared.header.HeaderRead.{HeaderRead}
 use Rattle.layout.specs.declared.header.HeaderRead.the-variants.{Refused}
 use Rattle.layout.specs.Header.{headerSays}
-use Rattle.layout.specs.HeaderSays.{HeaderOf}
+use Rattle.layout.specs.HeaderSays.{HeaderOf, header-refused}
 use Rattle.walk_steps.specs.Steps.{OnLevel, InTable}
 use Rattle.walk_steps.proofs.StepLaws.{b-small}
 use Rattle.walk_steps.proofs.NextLaws.{on-top}
-use Rattle.layout.specs.HeaderSays.{header-refused}
 use Rattle.theory_counts.specs.CountsLocal.{byteOf}
 use Rattle.theory_counts.specs.CountedStretches.{tally-none}
 use Rattle.theory_counts.specs.Ranks as ranks

@@ -12,15 +12,15 @@ use Rattle.format.specs.Path.{pathOf}
 use Rattle.format.specs.Fits.{textOf}
 use Rattle.format.specs.Verdict.{verdict}
 use Rattle.format.specs.VerdictLaws.{accepted-readable, accepted-links}
-use Rattle.format.specs.Said.{Said, refused}
-use Rattle.format.specs.FindSays.{selectNumber, pathLength, found, FindBy, FindSays}
-use Rattle.format.specs.FindSaysLaws.{Selected, select-passes}
+use Rattle.format.specs.Said.{Said, refused, replied}
+use Rattle.format.specs.FindSays.{selectNumber, pathLength, found, FindBy}
+use Rattle.format.specs.FindSaysLaws.{FindSays, Selected, select-passes}
 use Rattle.theory_paths.specs.Visits.{path-long}
 use Rattle.theory_paths.specs.Demands as paths
 use Rattle.theory_counts.specs.Demands as tallies
 use Rattle.ask_select.specs.declared.Found.{Found}
 use Rattle.ask_select.specs.declared.Found.the-variants.{At, Refused}
-use Rattle.ask_select.specs.Found.{saidFind}
+use Rattle.ask_select.specs.Found.{findReply}
 
 -- on an accepted tree the path of the j-th byte enters a block
 path-enters : (t : List ℕ) → verdict t ≡ 0 → (byte j : ℕ) → Selected t byte j → 1 ≤ pathLength t (pathOf t (placeOf byte j (textOf t)))
@@ -32,9 +32,9 @@ path-enters t v byte j h =
 pub by-find : (t : List ℕ) (byte j : ℕ) (s : Said) (ok : ℕ) → (ok ≡ 0 → verdict t ≡ 0) → ok ≡ 0 → FindBy t ok byte j s → FindSays t byte j s
 by-find t byte j s ok sound z f = record { asked = f .asked; accepted = λ n v. f .accepted n z; free = λ n v. absurd (v (sound z)) }
 
-module _ (t : List ℕ) (ok byte j : ℕ) (sound : ok ≡ 0 → verdict t ≡ 0) (x : Found) (says : FindBy t ok byte j (saidFind x)) where
+module _ (t : List ℕ) (ok byte j : ℕ) (sound : ok ≡ 0 → verdict t ≡ 0) (x : Found) (says : FindBy t ok byte j (replied (findReply x))) where
   module _ (n : ℕ) (e : x ≡ Refused n) (asked : selectNumber t byte j ≡ 0) where
-    said-refused : saidFind x ≡ refused n
+    said-refused : replied (findReply x) ≡ refused n
     said-refused = rw e
 
     pub refused-not : ok ≡ 0 → ⊥
@@ -47,7 +47,7 @@ module _ (t : List ℕ) (ok byte j : ℕ) (sound : ok ≡ 0 → verdict t ≡ 0)
     pub refused-free : 1 ≤ n → n ≡ 14
     refused-free low = go (lt-or-ge 0 ok)
       where
-        either : (saidFind x ≡ refused 14) ⊎ ((saidFind x .number ≡ 0) × (saidFind x .value < at.textLength t)) → n ≡ 14
+        either : (replied (findReply x) ≡ refused 14) ⊎ ((replied (findReply x) .number ≡ 0) × (replied (findReply x) .value < at.textLength t)) → n ≡ 14
         either (inl s) = ap (λ (y : Said). y .number) (sym said-refused ∙ s)
         either (inr s) = absurd (let z : n ≡ 0 = sym (ap (λ (y : Said). y .number) said-refused) ∙ s .0 in omega arith)
 
@@ -56,7 +56,7 @@ module _ (t : List ℕ) (ok byte j : ℕ) (sound : ok ≡ 0 → verdict t ≡ 0)
         go (inr high) = absurd (refused-not (omega arith))
 
   module _ (p : TextPlace) (e : ℕ) (is : x ≡ At p e) where
-    said-at : saidFind x ≡ record { number = 0; value = p .0; entered = e }
+    said-at : replied (findReply x) ≡ record { number = 0; value = p .0; entered = e }
     said-at = rw is
 
     pub place-asked : selectNumber t byte j ≡ 0
@@ -73,7 +73,8 @@ module _ (t : List ℕ) (ok byte j : ℕ) (sound : ok ≡ 0 → verdict t ≡ 0)
     pub place-in-text : p .0 < at.textLength t
     place-in-text = go (lt-or-ge 0 ok)
       where
-        either : (saidFind x ≡ refused 14) ⊎ ((saidFind x .number ≡ 0) × (saidFind x .value < at.textLength t)) → p .0 < at.textLength t
+        either : (replied (findReply x) ≡ refused 14) ⊎ ((replied (findReply x) .number ≡ 0) × (replied (findReply x) .value < at.textLength t))
+            → p .0 < at.textLength t
         either (inl s) = absurd (let z : _≡_ {A = ℕ} 0 14 = ap (λ (y : Said). y .number) (sym said-at ∙ s) in omega arith)
         either (inr s) = rw (ap (λ (y : Said). y .value) said-at) at (s .1)
 

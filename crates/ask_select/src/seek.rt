@@ -15,13 +15,14 @@ use walk_steps::Next;
 use walk_steps::fields;
 ghost use mathlib.Core.Path.{_≡_};
 ghost use Prim.Native.Nat.{_+_, _-_, _*_, _/_, _≤_, _<_};
+ghost use Rattle.format.specs.Said.{NeverZero, replied};
 ghost use Rattle.format.specs.Settings.{pieces, maxText};
 ghost use Rattle.format.specs.Layout as at;
 ghost use Rattle.format.specs.FindSays.{total};
 ghost use Rattle.layout.specs.HeaderSays.{HeaderOf};
 ghost use Rattle.walk_steps.specs.Steps.{OnLevel, InTable};
 ghost use Rattle.theory_counts.specs.CountsLocal.{byteOf};
-ghost use Rattle.ask_select.specs.Found.{saidFind, Numbered};
+ghost use Rattle.ask_select.specs.Found.{findReply};
 ghost use Rattle.ask_select.specs.SoughtPlaces.{placedIn, Sought, Stopped, SoughtIn};
 ghost use Rattle.ask_select.specs.Seeks.{entering, Siblings, Passed, LastBefore, KeptIn, PointsIn, ChildWith, targetAt, TargetWith};
 ghost use Rattle.ask_select.specs.Seeks.{Seeking, FoundIn, HandsOn};
@@ -391,7 +392,7 @@ fn first_block(t: &[u8], field: CountField, j: u64) -> BlockNumber
 
 // The place of a text of n bytes that a step's word says, if it is one.
 pub fn text_place(n: u32, word: u64) -> Found
-    ensures { λ r. ⌜ (saidFind r ≡ placedIn n word) × (Numbered r) ⌝ }
+    ensures { λ r. ⌜ (replied (findReply r) ≡ placedIn n word) × (NeverZero (findReply r)) ⌝ }
 {
     let place = word % ENTERED;
     if place < n as u64 {
@@ -419,7 +420,7 @@ pub fn word_in(t: &[u8], field: CountField, b: u32, block: BlockNumber, j: u32) 
 pub fn seek(t: &[u8], h: Header, wanted: Wanted, j: u32) -> Found
     requires { ⌜ (HeaderOf (now t) h) × (wanted .number < at.countedCount (now t))
         × (wanted .byte ≡ byteOf (now t) (wanted .number)) × (1 ≤ j) × (j ≤ total (now t) (wanted .number)) ⌝ }
-    ensures { λ r. ⌜ (Sought (now (t .entry)) (wanted .byte) j (saidFind r)) × (Numbered r) ⌝ }
+    ensures { λ r. ⌜ (Sought (now (t .entry)) (wanted .byte) j (replied (findReply r))) × (NeverZero (findReply r)) ⌝ }
 {
     let field = CountField {
         size: h.record_size,

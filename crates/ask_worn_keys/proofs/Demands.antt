@@ -19,9 +19,8 @@ use Rattle.keys.specs.Matches.{matchesOf, nextMatch, shownFor}
 use Rattle.keys.specs.MatchLaws.{Wider, wider-shown}
 use Rattle.query_row_filter.specs.declared.NextRowAnswer.{NextRowAnswer}
 use Rattle.query_row_filter.specs.declared.NextRowAnswer.the-variants.{Row, Nothing, Refused}
-use Rattle.query_row_filter.specs.AllowedOutcome.{maxRows}
+use Rattle.query_row_filter.specs.AllowedOutcome.{maxRows, queryRefusal}
 use Rattle.query_row_filter.proofs.NextRowTheorems as next-row
-use Rattle.ask_worn_keys.specs.MatchSays.{matchNumber}
 use Rattle.ask_worn_keys.specs.MatchAnswer.{MatchAnswer, Moved}
 use Rattle.ask_worn_keys.proofs.next_match.Reads as next-match-reads
 
@@ -34,36 +33,33 @@ module _ (t ranges : List ℕ) where
 
   -- A refused call leaves the mark unchanged.
   pub refusal-leaves : (mark n after : ℕ) → Moved t ranges mark (Refused n) after → after ≡ mark
-  refusal-leaves = next-row.refusal-leaves t (verdict t) (λ v. v) (matchNumber t ranges) (matches ranges)
+  refusal-leaves = next-row.refusal-leaves t (verdict t) (λ v. v) (queryRefusal t 19 (rangesOk ranges)) (matches ranges)
 
   module _ (mark : ℕ) (r : NextRowAnswer) (a : MatchAnswer t ranges mark r) where
     -- questions 5 to 7
     pub match-unread : (q : ℕ) → readable t ≡ suc q → r ≡ Refused (suc q)
-    unfolding matchNumber
     match-unread q e =
-        next-row.refused-first t (verdict t) (λ v. v) (matchNumber t ranges) (matches ranges) mark r a q (next-row.asked-unread t 19 (rangesOk ranges) q e)
+        next-row.refused-first t (verdict t) (λ v. v) (queryRefusal t 19 (rangesOk ranges)) (matches ranges) mark r a q
+        (next-row.asked-unread t 19 (rangesOk ranges) q e)
 
     module _ (pass : readable t ≡ 0) where
       -- Refused with 19, after 7: ranges that question 19 does not allow.
       pub match-ranges : rangesOk ranges ≡ false → r ≡ Refused 19
-      unfolding matchNumber
       match-ranges e =
-          next-row.refused-first t (verdict t) (λ v. v) (matchNumber t ranges) (matches ranges) mark r a 18 (next-row.asked-bad t 19 (rangesOk ranges) pass e)
+          next-row.refused-first t (verdict t) (λ v. v) (queryRefusal t 19 (rangesOk ranges)) (matches ranges) mark r a 18
+          (next-row.asked-bad t 19 (rangesOk ranges) pass e)
 
       -- Refused with 11, after 19: byte 10 is not counted.
       pub match-uncounted : rangesOk ranges ≡ true → isCounted t 10 ≡ false → r ≡ Refused 11
-      unfolding matchNumber
       match-uncounted ok e =
-          next-row.refused-first t (verdict t) (λ v. v) (matchNumber t ranges) (matches ranges) mark r a 10
+          next-row.refused-first t (verdict t) (λ v. v) (queryRefusal t 19 (rangesOk ranges)) (matches ranges) mark r a 10
           (next-row.asked-uncounted t 19 (rangesOk ranges) pass ok e)
 
   -- questions 19 and 11 let a search through
-  pub match-through : readable t ≡ 0 → rangesOk ranges ≡ true → isCounted t 10 ≡ true → matchNumber t ranges ≡ 0
-  unfolding matchNumber
+  pub match-through : readable t ≡ 0 → rangesOk ranges ≡ true → isCounted t 10 ≡ true → queryRefusal t 19 (rangesOk ranges) ≡ 0
   match-through = next-row.asked-all t 19 (rangesOk ranges)
 
-  counted-of : matchNumber t ranges ≡ 0 → isCounted t 10 ≡ true
-  unfolding matchNumber
+  counted-of : queryRefusal t 19 (rangesOk ranges) ≡ 0 → isCounted t 10 ≡ true
   counted-of h = next-row.asked-counted t 18 (rangesOk ranges) h
 
   -- A tree that the check accepts.
@@ -72,43 +68,43 @@ module _ (t ranges : List ℕ) where
     T = textOf t
 
     -- where no question refuses, the next match is shown; or none, and the mark goes to where `shownFor` says
-    pub match-is : (mark : ℕ) (r : NextRowAnswer) → MatchAnswer t ranges mark r → matchNumber t ranges ≡ 0
+    pub match-is : (mark : ℕ) (r : NextRowAnswer) → MatchAnswer t ranges mark r → queryRefusal t 19 (rangesOk ranges) ≡ 0
         → r ≡ cond (eqb (nextMatch ranges T mark) 0) (Nothing (shownFor ranges T mark .mark)) (Row (nextMatch ranges T mark))
     unfolding nextMatch shownFor
-    match-is = next-row.answer-is t (verdict t) (λ v. v) (matchNumber t ranges) (matches ranges) v
+    match-is = next-row.answer-is t (verdict t) (λ v. v) (queryRefusal t 19 (rangesOk ranges)) (matches ranges) v
 
     -- a row that is shown stands after the mark, which goes to it: so it comes to none after as many calls as there are rows, at most
     pub row-rises : (mark n after : ℕ) → Moved t ranges mark (Row n) after → (mark < n) × (n ≤ length (rowsOf T)) × (after ≡ n)
-    row-rises = next-row.row-rises t (verdict t) (λ v. v) (matchNumber t ranges) (matches ranges) v
+    row-rises = next-row.row-rises t (verdict t) (λ v. v) (queryRefusal t 19 (rangesOk ranges)) (matches ranges) v
 
     -- With none the mark becomes the number of rows, or stays if it was larger.
     pub none-moves : (mark m after : ℕ) → Moved t ranges mark (Nothing m) after
         → (shownFor ranges T mark .row ≡ 0) × (after ≡ shownFor ranges T mark .mark)
     unfolding shownFor
-    none-moves = next-row.none-moves t (verdict t) (λ v. v) (matchNumber t ranges) (matches ranges) v
+    none-moves = next-row.none-moves t (verdict t) (λ v. v) (queryRefusal t 19 (rangesOk ranges)) (matches ranges) v
 
     -- repeated calls with the same ranges, each with the mark that the call before left, return these rows and then none
     abbrev pub Asked : ℕ → List ℕ → Type 0
-    Asked = next-row.Calls t (verdict t) (λ v. v) (matchNumber t ranges) (matches ranges) v
+    Asked = next-row.Calls t (verdict t) (λ v. v) (queryRefusal t 19 (rangesOk ranges)) (matches ranges) v
 
     -- Request 107: on an accepted tree, such calls from mark 0 on return exactly the matching rows, each once, in increasing order.
     pub all-matches : (ns : List ℕ) → Asked 0 ns → ns ≡ matchesOf ranges T
     unfolding matchesOf
-    all-matches = next-row.all-called t (verdict t) (λ v. v) (matchNumber t ranges) (matches ranges) v
+    all-matches = next-row.all-called t (verdict t) (λ v. v) (queryRefusal t 19 (rangesOk ranges)) (matches ranges) v
 
   -- Any lent bytes again: what holds of every answer, also of one that is free.
 
   -- a row that is shown stands after the mark, and is at most one more than the total of byte 10
   pub row-after : (mark n : ℕ) → MatchAnswer t ranges mark (Row n) → (mark < n) × (n ≤ maxRows t)
-  row-after = next-row.row-after t (verdict t) (λ v. v) (matchNumber t ranges) (matches ranges) counted-of
+  row-after = next-row.row-after t (verdict t) (λ v. v) (queryRefusal t 19 (rangesOk ranges)) (matches ranges) counted-of
 
   -- none does not move the mark back, nor, unless it stood there, past that number
   pub none-after : (mark m : ℕ) → MatchAnswer t ranges mark (Nothing m) → (mark ≤ m) × ((m ≡ mark) ⊎ (m ≤ maxRows t))
-  none-after = next-row.none-after t (verdict t) (λ v. v) (matchNumber t ranges) (matches ranges) counted-of
+  none-after = next-row.none-after t (verdict t) (λ v. v) (queryRefusal t 19 (rangesOk ranges)) (matches ranges) counted-of
 
   -- a refusal is a question's before the walk, or 14, on a tree that the check refuses
-  pub refusal-is : (mark n : ℕ) → MatchAnswer t ranges mark (Refused n) → (n ≡ matchNumber t ranges) ⊎ ((n ≡ 14) × (verdict t ≡ 0 → ⊥))
-  refusal-is = next-row.refusal-is t (verdict t) (λ v. v) (matchNumber t ranges) (matches ranges)
+  pub refusal-is : (mark n : ℕ) → MatchAnswer t ranges mark (Refused n) → (n ≡ queryRefusal t 19 (rangesOk ranges)) ⊎ ((n ≡ 14) × (verdict t ≡ 0 → ⊥))
+  refusal-is = next-row.refusal-is t (verdict t) (λ v. v) (queryRefusal t 19 (rangesOk ranges)) (matches ranges)
 
 -- Wider ranges return every row that the narrower ones return.
 pub wider-loses-none : (t r s : List ℕ) (v : verdict t ≡ 0) → Wider r s → (ns ms : List ℕ) → Asked t r v 0 ns → Asked t s v 0 ms → (n : ℕ) → In n ns → In n ms

@@ -5,7 +5,7 @@ use layout::header;
 use layout::header::HeaderRead;
 use query_row_filter::NextRowAnswer;
 ghost use mathlib.Core.Path.{_≡_};
-ghost use Rattle.query_row_filter.specs.AllowedAnswer.{markAfter};
+ghost use Rattle.query_row_filter.specs.AllowedAnswer.{outcomeOf};
 ghost use Rattle.ask_worn_keys.specs.MatchAnswer.{MatchAnswer, Moved};
 
 // A mark: the number of the row shown last, 0 before the first row.
@@ -53,7 +53,7 @@ pub fn next_match(t: &[u8], question: &[u8], mark: u32) -> NextRowAnswer
 
 // Where a mark stands after an answer: a refusal leaves it.
 pub fn after(shown: NextRowAnswer, mark: u32) -> u32
-    ensures { λ r. ⌜ r ≡ markAfter shown mark ⌝ }
+    ensures { λ r. ⌜ r ≡ outcomeOf mark shown .mark ⌝ }
 {
     match shown {
         NextRowAnswer::Row(q) => q,

@@ -1,5 +1,4 @@
 // The search for a match, of a tree that passes questions 5 to 7, by its header.
-use ask_access::read_by_header;
 use ask_access::read_by_header::Ran;
 use keys::form;
 use keys::form::Form;
@@ -15,14 +14,10 @@ ghost use mathlib.Core.Path.{_≡_};
 ghost use mathlib.Core.Bool.{true};
 ghost use Prim.Native.Nat.{_≤_};
 ghost use Rattle.layout.specs.HeaderSays.{HeaderOf};
-ghost use Rattle.row_filter.specs.RowAutomaton.{atEndOfText};
 ghost use Rattle.keys.specs.Keys.{rangesOk};
 ghost use Rattle.keys.specs.Forms.{keyAutomaton};
-ghost use Rattle.query_row_filter.specs.RowsAfter.{answerOf, SearchFrom};
+ghost use Rattle.query_row_filter.specs.RowsAfter.{SearchFrom};
 ghost use Rattle.ask_worn_keys.specs.MatchAnswer.{MatchAnswer};
-
-// The most bytes that are read at once: a matching row is often near.
-const MOST: u32 = 1024;
 
 // Questions 19, 11 and 14.
 pub fn match_at(t: &[u8], h: Header, question: &[u8], mark: u32) -> NextRowAnswer
@@ -51,7 +46,7 @@ fn from(t: &[u8], h: Header, question: &[u8], place: TextPlace, q: u32) -> NextR
     let mut row = q;
     let mut at = place.0;
     while at < h.text_length {
-        let ran = read_by_header::range_at(t, h, TextPlace(at), MOST);
+        let ran = rows_after::next_part(t, h, at);
         let Ran::At(part) = ran else {
             return NextRowAnswer::Refused(14);
         };
@@ -69,19 +64,5 @@ fn from(t: &[u8], h: Header, question: &[u8], place: TextPlace, q: u32) -> NextR
         }
         at += part.length as u32;
     }
-    end_of_text(question, so_far, row)
-}
-
-// The text ends in row q: a row with no byte is none.
-fn end_of_text(question: &[u8], form: Form, q: u32) -> NextRowAnswer
-    requires { ⌜ 1 ≤ q ⌝ }
-    ensures { λ r. ⌜ r ≡ answerOf (atEndOfText (keyAutomaton (now (question .entry))) form q) ⌝ }
-{
-    if form::whole(question, form) {
-        return NextRowAnswer::Row(q);
-    }
-    if form::none(form) {
-        return NextRowAnswer::Nothing(q - 1);
-    }
-    NextRowAnswer::Nothing(q)
+    rows_after::end_of_text(form::whole(question, so_far), form::none(so_far), row)
 }

@@ -8,7 +8,8 @@ use lib.ListN.{length, drop, replicate}
 use lib.Seq.{drop-length}
 use lib.Dec.{leb, eqb}
 use borrow.Author.Tests.{le-leb, lt-leb}
-use Rattle.format.specs.Settings.{Settings, lengthOk, sizesOk, countedOk}
+use Rattle.format.specs.Said.{replied}
+use Rattle.format.specs.Settings.{Settings, lengthOk, sizesOk, countedOk, given}
 use Rattle.format.specs.Blocks.{treeOf}
 use Rattle.format.specs.BuildSays.{buildNumber, buildSize, buildLeaves}
 use Rattle.format.specs.Verdict.{ask}
@@ -17,7 +18,6 @@ use Rattle.layout.specs.declared.settings.Checked.{Checked}
 use Rattle.layout.specs.declared.settings.Checked.the-variants.{Fine, Refused}
 use Rattle.layout.specs.CheckedSettings.{checked}
 use Rattle.theory_built.specs.BlockSizes.{Taken}
-use Rattle.build_by_search.specs.BuildAnswer.{given}
 use Rattle.build_by_search.proofs.BuildOutcomes as first
 use Rattle.build_records.specs.Grown.{Grown}
 use Rattle.build_records.specs.State.{settingsOf}
@@ -25,16 +25,16 @@ use Rattle.build_levels.specs.Trees.{Finished}
 use Rattle.build_levels.proofs.WrittenTree.{finished-full, finished-whole}
 use Rattle.build_by_scan.specs.declared.Scanned.{Scanned}
 use Rattle.build_by_scan.specs.declared.Scanned.the-variants.{Size, Refused as Not}
-use Rattle.build_by_scan.specs.ScannedAnswer.{numberOf, sizeOf, windowsSaid}
+use Rattle.build_by_scan.specs.ScannedAnswer.{scannedReply}
 use Rattle.build_by_scan.specs.ScannedSays.{scanNumber, scanSize, scanWindows, scanLeaves, windowsOf, tableWords, TableLeft}
 
 -- an answer, with what the buffer and the table hold afterwards
 pub record Said (S : Settings) (T out W : List ℕ) (r : Scanned) (new Z : List ℕ) : Type 0 where
-  pub number : numberOf r ≡ scanNumber S T out (length W)
-  pub size : sizeOf r ≡ scanSize S T out (length W)
-  pub windows : windowsSaid r ≡ scanWindows S T out (length W)
+  pub number : replied (scannedReply r) .number ≡ scanNumber S T out (length W)
+  pub size : replied (scannedReply r) .value ≡ scanSize S T out (length W)
+  pub windows : replied (scannedReply r) .entered ≡ scanWindows S T out (length W)
   pub buffer : new ≡ scanLeaves S T out (length W)
-  pub table : TableLeft (numberOf r) W Z
+  pub table : TableLeft (replied (scannedReply r) .number) W Z
 
 module _ (S : Settings) (T out W : List ℕ) where
   -- refused before anything is written
@@ -112,9 +112,10 @@ module _ (m r H : ℕ) (cs T out W : List ℕ) (ok : lengthOk (length T) ≡ tru
     same = first.fine-is m r H cs T out ok x is s e .2
 
     pub settings-said : (b : Scanned) (new Z : List ℕ)
-        → numberOf b ≡ scanNumber (settingsOf s cs) T out (length W) → sizeOf b ≡ scanSize (settingsOf s cs) T out (length W)
-        → windowsSaid b ≡ scanWindows (settingsOf s cs) T out (length W)
-        → new ≡ scanLeaves (settingsOf s cs) T out (length W) → TableLeft (numberOf b) W Z → Said S T out W b new Z
+        → replied (scannedReply b) .number ≡ scanNumber (settingsOf s cs) T out (length W)
+        → replied (scannedReply b) .value ≡ scanSize (settingsOf s cs) T out (length W)
+        → replied (scannedReply b) .entered ≡ scanWindows (settingsOf s cs) T out (length W)
+        → new ≡ scanLeaves (settingsOf s cs) T out (length W) → TableLeft (replied (scannedReply b) .number) W Z → Said S T out W b new Z
     settings-said b new Z n z w l t = record {
       number = n ∙ ap (λ (S : Settings). scanNumber S T out (length W)) same;
       size = z ∙ ap (λ (S : Settings). scanSize S T out (length W)) same;

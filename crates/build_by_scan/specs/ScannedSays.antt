@@ -1,6 +1,6 @@
 -- What the builder with one scan a level answers, and what the lent buffer and the lent table hold afterwards.
 -- docs/FORMAT.md: "Two builders", "What is left in lent buffers".
-use mathlib.Core.List.{List, _++_}
+use mathlib.Core.List.{List, [], _∷_, _++_}
 use mathlib.Core.Bool.{Bool, false, cond, _&&_, _||_}
 use mathlib.Core.Path.{_≡_}
 use Prim.Native.Nat.{ℕ, zero, suc, _+_, _-_, _*_, min}
@@ -9,7 +9,7 @@ use lib.Dec.{leb, eqb}
 use Rattle.text.specs.Lists.{sumBelow}
 use Rattle.format.specs.Settings.{Settings, blockLength, pieces, lengthOk, sizesOk, countedOk}
 use Rattle.format.specs.Blocks.{treeOf, startsAt, startOf, lengthOf, pairAt}
-use Rattle.format.specs.Verdict.{ask}
+use Rattle.format.specs.Verdict.{asks}
 
 -- p holds at one of 0, 1, .., n - 1
 unfoldable pub anyBelow : ℕ → (ℕ → Bool) → Bool
@@ -40,8 +40,8 @@ tableWords n m = 4 * pieces n m
 module _ (S : Settings) (T out : List ℕ) (words : ℕ) where
   unfoldable pub scanNumber : ℕ
   scanNumber =
-      ask 1 (lengthOk (length T)) (ask 2 (sizesOk S) (ask 3 (countedOk (S .counted))
-      (ask 18 (leb (tableWords (length T) (S .leaf)) words) (ask 4 (leb (length (treeOf S T)) (length out)) 0))))
+      asks ((1, lengthOk (length T)) ∷ (2, sizesOk S) ∷ (3, countedOk (S .counted))
+      ∷ (18, leb (tableWords (length T) (S .leaf)) words) ∷ (4, leb (length (treeOf S T)) (length out)) ∷ [])
 
   unfoldable pub scanSize : ℕ
   scanSize = cond (eqb scanNumber 0) (length (treeOf S T)) 0

@@ -8,10 +8,11 @@ use layout::settings::Checked;
 use layout::settings::Settings;
 ghost use mathlib.Core.Path.{_≡_};
 ghost use lib.ListN.{length};
+ghost use Rattle.format.specs.Said.{replied};
 ghost use Rattle.theory_built.specs.BlockSizes.{Taken};
-ghost use Rattle.build_by_search.specs.BuildAnswer.{given};
+ghost use Rattle.format.specs.Settings.{given};
 ghost use Rattle.build_records.specs.State.{settingsOf};
-ghost use Rattle.build_by_scan.specs.ScannedAnswer.{numberOf, sizeOf, windowsSaid};
+ghost use Rattle.build_by_scan.specs.ScannedAnswer.{scannedReply};
 ghost use Rattle.build_by_scan.specs.ScannedSays.{tableWords, scanNumber, scanSize, scanWindows, scanLeaves, TableLeft};
 
 // How many words the table must have for a text of n bytes.
@@ -42,15 +43,15 @@ pub fn build_scanned(
     words: &mut [u32],
     out: &mut [u8],
 ) -> Scanned
-    ensures number { λ r. ⌜ numberOf r
+    ensures number { λ r. ⌜ replied (scannedReply r) .number
         ≡ scanNumber (given leaf arity levels (now (counted .entry))) (now (text .entry)) (now (out .entry)) (length (now (words .entry))) ⌝ }
-    ensures size { λ r. ⌜ sizeOf r
+    ensures size { λ r. ⌜ replied (scannedReply r) .value
         ≡ scanSize (given leaf arity levels (now (counted .entry))) (now (text .entry)) (now (out .entry)) (length (now (words .entry))) ⌝ }
-    ensures windows { λ r. ⌜ windowsSaid r
+    ensures windows { λ r. ⌜ replied (scannedReply r) .entered
         ≡ scanWindows (given leaf arity levels (now (counted .entry))) (now (text .entry)) (now (out .entry)) (length (now (words .entry))) ⌝ }
     ensures buffer { λ _. ⌜ now (out .exit)
         ≡ scanLeaves (given leaf arity levels (now (counted .entry))) (now (text .entry)) (now (out .entry)) (length (now (words .entry))) ⌝ }
-    ensures table { λ r. ⌜ TableLeft (numberOf r) (now (words .entry)) (now (words .exit)) ⌝ }
+    ensures table { λ r. ⌜ TableLeft (replied (scannedReply r) .number) (now (words .entry)) (now (words .exit)) ⌝ }
 {
     if (Settings::MAX_TEXT as usize) < text.len() {
         return Scanned::Refused(1);
@@ -65,11 +66,14 @@ pub fn build_scanned(
 // The same with settings that questions 1 to 3 take.
 fn scan_with(text: &[u8], counted: &[u8], s: Settings, words: &mut [u32], out: &mut [u8]) -> Scanned
     requires { ⌜ Taken (settingsOf s (now counted)) (now text) ⌝ }
-    ensures { λ r. ⌜ numberOf r ≡ scanNumber (settingsOf s (now (counted .entry))) (now (text .entry)) (now (out .entry)) (length (now (words .entry))) ⌝ }
-    ensures { λ r. ⌜ sizeOf r ≡ scanSize (settingsOf s (now (counted .entry))) (now (text .entry)) (now (out .entry)) (length (now (words .entry))) ⌝ }
-    ensures { λ r. ⌜ windowsSaid r ≡ scanWindows (settingsOf s (now (counted .entry))) (now (text .entry)) (now (out .entry)) (length (now (words .entry))) ⌝ }
+    ensures { λ r. ⌜ replied (scannedReply r) .number
+        ≡ scanNumber (settingsOf s (now (counted .entry))) (now (text .entry)) (now (out .entry)) (length (now (words .entry))) ⌝ }
+    ensures { λ r. ⌜ replied (scannedReply r) .value
+        ≡ scanSize (settingsOf s (now (counted .entry))) (now (text .entry)) (now (out .entry)) (length (now (words .entry))) ⌝ }
+    ensures { λ r. ⌜ replied (scannedReply r) .entered
+        ≡ scanWindows (settingsOf s (now (counted .entry))) (now (text .entry)) (now (out .entry)) (length (now (words .entry))) ⌝ }
     ensures { λ _. ⌜ now (out .exit) ≡ scanLeaves (settingsOf s (now (counted .entry))) (now (text .entry)) (now (out .entry)) (length (now (words .entry))) ⌝ }
-    ensures { λ r. ⌜ TableLeft (numberOf r) (now (words .entry)) (now (words .exit)) ⌝ }
+    ensures { λ r. ⌜ TableLeft (replied (scannedReply r) .number) (now (words .entry)) (now (words .exit)) ⌝ }
 {
     if (words.len() as u64) < scan_words(text.len() as u32, s.leaf) {
         return Scanned::Refused(18);

@@ -9,17 +9,18 @@ use lib.ListN.{length, drop, replicate}
 use lib.Seq.{drop-length}
 use lib.Dec.{eqb}
 use borrow.Author.Tests.{le-leb, lt-leb}
-use Rattle.format.specs.Settings.{Settings, lengthOk, sizesOk, countedOk, maxText}
+use Rattle.format.specs.Said.{replied}
+use Rattle.format.specs.Settings.{Settings, lengthOk, sizesOk, countedOk, maxText, given}
+use Rattle.layout.specs.CheckedSettings.{sizes, checked}
 use Rattle.format.specs.Blocks.{treeOf}
 use Rattle.format.specs.BuildSays.{buildNumber, buildSize, buildLeaves}
 use Rattle.layout.specs.declared.settings.Settings as code
 use Rattle.layout.specs.declared.settings.Checked.{Checked}
 use Rattle.layout.specs.declared.settings.Checked.the-variants.{Fine, Refused}
-use Rattle.layout.specs.CheckedSettings.{checked, sizes}
 use Rattle.theory_built.specs.BlockSizes.{Taken}
 use Rattle.build_by_search.specs.declared.Built.{Built}
 use Rattle.build_by_search.specs.declared.Built.the-variants.{Size, Refused as Not}
-use Rattle.build_by_search.specs.BuildAnswer.{numberOf, sizeOf, given}
+use Rattle.build_by_search.specs.BuildAnswer.{builtReply}
 use Rattle.build_records.specs.Grown.{Grown}
 use Rattle.build_records.specs.State.{settingsOf}
 use Rattle.build_levels.specs.Trees.{Finished}
@@ -27,8 +28,8 @@ use Rattle.build_levels.proofs.WrittenTree.{finished-full, finished-whole}
 
 -- an answer, with what the buffer holds afterwards
 pub record Told (S : Settings) (T out : List ℕ) (r : Built) (new : List ℕ) : Type 0 where
-  pub number : numberOf r ≡ buildNumber S T out
-  pub size : sizeOf r ≡ buildSize S T out
+  pub number : replied (builtReply r) .number ≡ buildNumber S T out
+  pub size : replied (builtReply r) .value ≡ buildSize S T out
   pub buffer : new ≡ buildLeaves S T out
 
 module _ (S : Settings) (T out : List ℕ) where
@@ -151,7 +152,8 @@ module _ (m r H : ℕ) (cs T out : List ℕ) (ok : lengthOk (length T) ≡ true)
     pub settings-taken : Taken (settingsOf s cs) T
     settings-taken = rw (fine-is .2) (record { length-ok = ok; sizes-ok = fine-is .0; counted-ok = fine-is .1 })
 
-    pub settings-told : (b : Built) (new : List ℕ) → numberOf b ≡ buildNumber (settingsOf s cs) T out → sizeOf b ≡ buildSize (settingsOf s cs) T out
+    pub settings-told : (b : Built) (new : List ℕ) → replied (builtReply b) .number ≡ buildNumber (settingsOf s cs) T out
+        → replied (builtReply b) .value ≡ buildSize (settingsOf s cs) T out
         → new ≡ buildLeaves (settingsOf s cs) T out → Told S T out b new
     settings-told b new n z l = record {
       number = n ∙ ap (λ (S : Settings). buildNumber S T out) (fine-is .2);

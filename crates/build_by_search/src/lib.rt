@@ -5,9 +5,11 @@ pub mod level_fill;
 use layout::settings::Checked;
 use layout::settings::Settings;
 ghost use mathlib.Core.Path.{_≡_};
+ghost use Rattle.format.specs.Said.{replied};
 ghost use Rattle.format.specs.BuildSays.{buildNumber, buildSize, buildLeaves};
 ghost use Rattle.theory_built.specs.BlockSizes.{Taken};
-ghost use Rattle.build_by_search.specs.BuildAnswer.{numberOf, sizeOf, given};
+ghost use Rattle.build_by_search.specs.BuildAnswer.{builtReply};
+ghost use Rattle.format.specs.Settings.{given};
 ghost use Rattle.build_records.specs.State.{settingsOf};
 
 // The tree's size, or the number of the question that refuses it.
@@ -26,8 +28,9 @@ pub fn build(
     counted: &[u8],
     out: &mut [u8],
 ) -> Built
-    ensures number { λ r. ⌜ numberOf r ≡ buildNumber (given leaf arity levels (now (counted .entry))) (now (text .entry)) (now (out .entry)) ⌝ }
-    ensures size { λ r. ⌜ sizeOf r ≡ buildSize (given leaf arity levels (now (counted .entry))) (now (text .entry)) (now (out .entry)) ⌝ }
+    ensures number { λ r. ⌜ replied (builtReply r) .number
+        ≡ buildNumber (given leaf arity levels (now (counted .entry))) (now (text .entry)) (now (out .entry)) ⌝ }
+    ensures size { λ r. ⌜ replied (builtReply r) .value ≡ buildSize (given leaf arity levels (now (counted .entry))) (now (text .entry)) (now (out .entry)) ⌝ }
     ensures buffer { λ _. ⌜ now (out .exit) ≡ buildLeaves (given leaf arity levels (now (counted .entry))) (now (text .entry)) (now (out .entry)) ⌝ }
 {
     if (Settings::MAX_TEXT as usize) < text.len() {
@@ -43,8 +46,8 @@ pub fn build(
 // The same with settings that questions 1 to 3 take.
 fn build_with(text: &[u8], counted: &[u8], s: Settings, out: &mut [u8]) -> Built
     requires { ⌜ Taken (settingsOf s (now counted)) (now text) ⌝ }
-    ensures { λ r. ⌜ numberOf r ≡ buildNumber (settingsOf s (now (counted .entry))) (now (text .entry)) (now (out .entry)) ⌝ }
-    ensures { λ r. ⌜ sizeOf r ≡ buildSize (settingsOf s (now (counted .entry))) (now (text .entry)) (now (out .entry)) ⌝ }
+    ensures { λ r. ⌜ replied (builtReply r) .number ≡ buildNumber (settingsOf s (now (counted .entry))) (now (text .entry)) (now (out .entry)) ⌝ }
+    ensures { λ r. ⌜ replied (builtReply r) .value ≡ buildSize (settingsOf s (now (counted .entry))) (now (text .entry)) (now (out .entry)) ⌝ }
     ensures { λ _. ⌜ now (out .exit) ≡ buildLeaves (settingsOf s (now (counted .entry))) (now (text .entry)) (now (out .entry)) ⌝ }
 {
     let size = all_levels::write_tree(out, text, counted, s);

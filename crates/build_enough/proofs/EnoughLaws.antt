@@ -9,16 +9,16 @@ use lib.Dec.{leb}
 use borrow.Author.Tests.{le-leb, lt-leb}
 use Rattle.text.specs.Lists.{sumBelow}
 use Rattle.text.specs.ListLaws.{sumBelow-suc}
-use Rattle.format.specs.Settings.{pieces, lengthOk, sizesOk, countedOk, rising, recordLength, maxText, maxLevels, maxCounted, maxRecord}
+use Rattle.format.specs.Settings.{pieces, lengthOk, sizesOk, countedOk, rising, recordLength, maxText, maxLevels, maxCounted}
+use Rattle.layout.specs.CheckedSettings.{sizes, checked}
+use Rattle.format.specs.SizeLaws.{maxRecord, Sizes, within-bounds}
 use Rattle.format.specs.HeaderPlaces.{headerLength}
 use Rattle.format.specs.Blocks.{builtLayout}
 use Rattle.format.specs.Verdict.{ask}
 use Rattle.format.specs.Said.{unless}
-use Rattle.format.specs.SizeLaws.{Sizes, within-bounds}
 use Rattle.layout.specs.declared.settings.Settings as code
 use Rattle.layout.specs.declared.settings.Checked.{Checked}
 use Rattle.layout.specs.declared.settings.Checked.the-variants as checked-is
-use Rattle.layout.specs.CheckedSettings.{checked, sizes}
 use Rattle.layout.specs.SettingsLevel.{Sized}
 use Rattle.build_enough.specs.declared.Room.the-variants.{Bytes, Refused}
 use Rattle.build_enough.specs.Enough.{blocksAtMost, enoughFor, enoughRefusal, enoughSays, EnoughAnswer}

@@ -1,16 +1,15 @@
 -- A size that is enough for every tree of texts of n bytes: the header, a leaf byte for each byte of the text, and on each level a record for
 -- each block that the text can be cut into.
 -- docs/FORMAT.md: "Size", "Two builders".
-use mathlib.Core.Path.{_≡_}
-use Prim.Native.Nat.{ℕ, _+_, _-_, _*_, _^_, _≤_}
+use mathlib.Core.List.{[], _∷_}
+use Prim.Native.Nat.{ℕ, _+_, _-_, _*_, _^_}
 use lib.Dec.{leb}
 use Rattle.text.specs.Lists.{sumBelow}
-use Rattle.format.specs.Settings.{pieces, recordLength, lengthOk, sizesOk, maxCounted}
+use Rattle.format.specs.Settings.{pieces, recordLength, lengthOk, sizesOk, maxCounted, given}
 use Rattle.format.specs.HeaderPlaces.{headerLength}
 use Rattle.format.specs.Blocks.{builtLayout}
-use Rattle.format.specs.Verdict.{ask}
-use Rattle.format.specs.Said.{Said, refused, unless}
-use Rattle.layout.specs.CheckedSettings.{sizes}
+use Rattle.format.specs.Verdict.{asks}
+use Rattle.format.specs.Said.{Said, unless, Reply, figures, refusal, Is}
 use Rattle.build_enough.specs.declared.Room.{Room}
 use Rattle.build_enough.specs.declared.Room.the-variants.{Bytes, Refused}
 
@@ -23,22 +22,16 @@ enoughFor n m r H k = headerLength + n + recordLength builtLayout m k * blocksAt
 
 -- question 1 of the length, 2 of the sizes, 3 of the number of counted bytes
 unfoldable pub enoughRefusal : ℕ → ℕ → ℕ → ℕ → ℕ → ℕ
-enoughRefusal n m r H k = ask 1 (lengthOk n) (ask 2 (sizesOk (sizes m r H)) (ask 3 (leb k maxCounted) 0))
+enoughRefusal n m r H k = asks ((1, lengthOk n) ∷ (2, sizesOk (given m r H [])) ∷ (3, leb k maxCounted) ∷ [])
 
 -- the size, unless a question refuses
 unfoldable pub enoughSays : ℕ → ℕ → ℕ → ℕ → ℕ → Said
 enoughSays n m r H k = unless (enoughRefusal n m r H k) (record { number = 0; value = enoughFor n m r H k; entered = 0 })
 
 -- the answer by its number and size
-abbrev pub enoughSaid : Room → Said
-enoughSaid (Bytes n) = record { number = 0; value = n; entered = 0 }
-enoughSaid (Refused number) = refused number
+abbrev pub enoughReply : Room → Reply
+enoughReply (Bytes n) = figures n 0
+enoughReply (Refused number) = refusal number
 
--- a refusal's number is not 0
-abbrev pub EnoughNumbered : Room → Type 0
-EnoughNumbered (Bytes n) = Unit {0}
-EnoughNumbered (Refused number) = 1 ≤ number
-
-pub record EnoughAnswer (n leaf arity levels counted : ℕ) (r : Room) : Type 0 where
-  pub says : enoughSaid r ≡ enoughSays n leaf arity levels counted
-  pub numbered : EnoughNumbered r
+abbrev pub EnoughAnswer : (n leaf arity levels counted : ℕ) → Room → Type 0
+EnoughAnswer n leaf arity levels counted = Is enoughReply (enoughSays n leaf arity levels counted)

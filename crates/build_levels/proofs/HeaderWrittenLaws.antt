@@ -6,7 +6,8 @@ use native.Mathlib.Omega.{arith}
 use native.Mathlib.Numerals.{add-one}
 use lib.ListN.{length, getD, set, replicate, getD-replicate, List·getD-append}
 use lib.Seq.{getD-append-add}
-use Rattle.format.specs.Words.{setWord, putThree}
+use Rattle.format.specs.Words.{setWord}
+use Rattle.format.specs.WordLaws.{putThree}
 use Rattle.format.specs.Settings.{Settings, maxLevels, maxCounted}
 use Rattle.format.specs.HeaderPlaces.{layoutAt, arityAt, countedAt, pairsAt, countAt, offsetAt, leafOffsetAt, leafCountAt, headerLength}
 use Rattle.format.specs.Blocks.{treeOf, leafBytes, builtLayout}

@@ -15,13 +15,12 @@ use Rattle.format.specs.Blocks.{target}
 use Rattle.theory_built.specs.Descent.{countBelow-upto}
 use Rattle.theory_built.specs.LevelBlocks.{Level as InOrder, start-le}
 use Rattle.theory_built.specs.Structure.{size, count, start, keptAt, widthOf, level-at}
-use Rattle.theory_built.specs.BlockSizes.{Taken}
 use Rattle.theory_built.specs.BuiltRecords.{parentOf, kindOf, linkOf, gapOf, skipOf}
 use Rattle.theory_built.specs.BuiltTargets.{placeOf, targetOf, PointsTo, points-to}
 use Rattle.build_records.specs.declared.level_written.Level.{Level}
 use Rattle.build_records.specs.declared.level_written.Stretch.{Stretch}
 use Rattle.build_records.specs.RecordPlaces.{recordPlace}
-use Rattle.build_records.specs.State.{settingsOf, On, StretchIs, BlockIs}
+use Rattle.build_records.specs.State.{LevelIs, settingsOf, On, StretchIs, BlockIs}
 use Rattle.build_marking.specs.TargetSearch.{parentSays, Sorted, Between}
 use Rattle.build_records.proofs.RecordsRead.{start-fits, start-read}
 use Rattle.build_records.proofs.StateLaws.{few}
@@ -31,21 +30,18 @@ module _ (S : Settings) (T out : List ℕ) (level : Level) (i : ℕ) (w : On S T
   abbrev l : ℕ
   l = level .number
 
-  taken : Taken S T
-  taken = w .level-is .taken
-
-  l-in : l < S .levels
-  l-in = w .level-is .number-in
+  abbrev lev : LevelIs S T level
+  lev = w .level-is
 
   i-in : i < count S T l
-  i-in = omega (arith, w .block-in, w .level-is .count-is)
+  i-in = omega (arith, w .block-in, lev .count-is)
 
   order : InOrder (length T) (size S T l) (count S T l) (start S T l)
-  order = level-at S T taken l l-in
+  order = level-at S T (lev .taken) l (lev .number-in)
 
   pub sorted : Sorted out (level .table) (level .count) (settingsOf (level .settings) (S .counted))
   sorted =
-      let f = few S T level (w .level-is) in
+      let f = few S T level lev in
       record {
         counted-few = f .counted-few;
         table-few = f .table-few;
@@ -56,7 +52,7 @@ module _ (S : Settings) (T out : List ℕ) (level : Level) (i : ℕ) (w : On S T
           arith,
           start-read S T out level i w x (omega arith),
           start-read S T out level i w y yl,
-          order .rising x y xy (omega (arith, w .level-is .count-is)),
+          order .rising x y xy (omega (arith, lev .count-is)),
           order .size,
         );
       }
@@ -69,7 +65,7 @@ module _ (S : Settings) (T out : List ℕ) (level : Level) (i : ℕ) (w : On S T
   -- the block as the code reads it
   module _ (own : Stretch) (own-is : StretchIs S T l i own) (up : ℕ) (up-is : up ≡ parentSays (level .number) (level .above) (own .start .0)) where
     up-right : up ≡ parentOf S T l (start S T l i)
-    up-right = up-is ∙ parent-by l (own .start .0) (w .level-is .above-is) ∙ ap (parentOf S T l) (own-is .start-is)
+    up-right = up-is ∙ parent-by l (own .start .0) (lev .above-is) ∙ ap (parentOf S T l) (own-is .start-is)
 
     pub kept-is : (link : ℕ) → keptAt S T l i ≡ true → link ≡ sumBelow i (widthOf S T l)
         → BlockIs S T l i (record {
@@ -96,7 +92,7 @@ module _ (S : Settings) (T out : List ℕ) (level : Level) (i : ℕ) (w : On S T
   -- the block points
   module _ (points : keptAt S T l i ≡ false) (p : ℕ) (p-right : p ≡ placeOf S T l i) where
     to : PointsTo S T l i (targetOf S T l i)
-    to = points-to S T taken l i (points-above S T l i l-in points) i-in points
+    to = points-to S T (lev .taken) l i (points-above S T l i (lev .number-in) points) i-in points
 
     pub whole-range : Between out (level .table) (level .count) (settingsOf (level .settings) (S .counted)) p 0 (level .count)
     whole-range =
@@ -116,7 +112,7 @@ module _ (S : Settings) (T out : List ℕ) (level : Level) (i : ℕ) (w : On S T
       at-or-before : (j : ℕ) → j < count S T l → j < suc r → leb (start S T l j) (placeOf S T l i) ≡ true
       at-or-before j jl jr = le-leb (start S T l j) (placeOf S T l i) (omega (
         arith,
-        start-le (length T) (size S T l) (count S T l) (start S T l) order j r (omega arith) (omega (arith, r-in, w .level-is .count-is)),
+        start-le (length T) (size S T l) (count S T l) (start S T l) order j r (omega arith) (omega (arith, r-in, lev .count-is)),
         start-read S T out level i w r r-in,
         b .from,
         p-right,
@@ -125,8 +121,8 @@ module _ (S : Settings) (T out : List ℕ) (level : Level) (i : ℕ) (w : On S T
       after-it : (j : ℕ) → j < count S T l → suc r ≤ j → leb (start S T l j) (placeOf S T l i) ≡ false
       after-it j jl jr = lt-leb (start S T l j) (placeOf S T l i) (omega (
         arith,
-        b .after j (omega arith) (omega (arith, w .level-is .count-is)),
-        start-read S T out level i w j (omega (arith, w .level-is .count-is)),
+        b .after j (omega arith) (omega (arith, lev .count-is)),
+        start-read S T out level i w j (omega (arith, lev .count-is)),
         p-right,
       ))
 
@@ -135,7 +131,7 @@ module _ (S : Settings) (T out : List ℕ) (level : Level) (i : ℕ) (w : On S T
       r-right = omega (
         arith,
         r-in,
-        w .level-is .count-is,
+        lev .count-is,
         countBelow-upto (count S T l) (suc r) (λ j. leb (start S T l j) (placeOf S T l i)) at-or-before after-it,
       )
 

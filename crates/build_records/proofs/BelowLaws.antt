@@ -11,12 +11,13 @@ use Rattle.text.specs.Lists.{sumBelow}
 use Rattle.text.specs.ListLaws.{lt-or-ge, sumBelow-suc, sumBelow-part}
 use Rattle.format.specs.Words.{wordAt}
 use Rattle.format.specs.RecordFields.{kindField, linkField, plainBytes}
-use Rattle.format.specs.Settings.{Settings, blockLength, pieces, maxText, maxRecord}
+use Rattle.format.specs.Settings.{Settings, blockLength, pieces, maxText}
+use Rattle.format.specs.SizeLaws.{maxRecord}
 use Rattle.format.specs.HeaderPlaces.{headerLength}
 use Rattle.format.specs.Blocks.{treeOf, recordBytes}
 use Rattle.theory_built.specs.BuiltBytes.{Stands}
 use Rattle.theory_built.specs.BuiltLinks.{link-kept}
-use Rattle.theory_built.specs.BlockSizes.{Taken, Bounds, bounds, size-pos, maxTable}
+use Rattle.theory_built.specs.BlockSizes.{Bounds, bounds, size-pos, maxTable}
 use Rattle.theory_built.specs.Structure.{size, count, start, keptAt, widthOf, bytesIn-is, cut-at, count-below, start-below}
 use Rattle.theory_built.specs.BuiltLeaves.{widths-le}
 use Rattle.theory_built.specs.Pairs.{offset}
@@ -27,7 +28,7 @@ use Rattle.build_records.specs.declared.level_written.Stretch.{Stretch}
 use Rattle.build_records.specs.Grown.{Grown, Within}
 use Rattle.build_records.specs.RecordPlaces.{recordPlace}
 use Rattle.build_records.specs.WrittenStarts.{startsWritten, StartsAsk}
-use Rattle.build_records.specs.State.{settingsOf, Filled, Below, Started, On, StretchIs, placeAt}
+use Rattle.build_records.specs.State.{LevelIs, settingsOf, Filled, Below, Started, On, StretchIs, placeAt}
 use Rattle.build_records.proofs.Growth.{read-right, within-grown, within-part}
 use Rattle.build_records.proofs.RecordsRead.{on-written}
 use Rattle.build_records.proofs.WrittenStartsLaws.{starts-grown, starts-within}
@@ -44,8 +45,8 @@ module _ (S : Settings) (T out : List ℕ) (level next : Level) (i : ℕ) (w : B
   abbrev l : ℕ
   l = level .number
 
-  abbrev D : List ℕ
-  D = treeOf S T
+  abbrev lev : LevelIs S T level
+  lev = w .level-is
 
   abbrev P : ℕ
   P = placeAt S T l i
@@ -54,20 +55,14 @@ module _ (S : Settings) (T out : List ℕ) (level next : Level) (i : ℕ) (w : B
   abbrev sum : ℕ
   sum = sumBelow i (widthOf S T l)
 
-  taken : Taken S T
-  taken = w .level-is .taken
-
   limits : Bounds S T
-  limits = bounds S T taken
-
-  l-in : l < S .levels
-  l-in = w .level-is .number-in
+  limits = bounds S T (lev .taken)
 
   up : suc l < S .levels
   up = omega (arith, w .next-is .number-in, w .follows)
 
   i-in : i < count S T l
-  i-in = omega (arith, w .level-is .count-is)
+  i-in = omega (arith, lev .count-is)
 
   low : headerLength ≤ P
   low = omega (arith, offset-low S T l)
@@ -77,35 +72,37 @@ module _ (S : Settings) (T out : List ℕ) (level next : Level) (i : ℕ) (w : B
 
   -- the records of the level are written
   pub children-on : On S T out level i
-  children-on = on-written S T out level i (w .level-is) (omega (arith, offset-rises S T (suc l) (suc (suc l)) (omega arith), w .room)) (w .body) il
+  children-on = on-written S T out level i lev (omega (arith, offset-rises S T (suc l) (suc (suc l)) (omega arith), w .room)) (w .body) il
 
   module _ (at : ℕ) (at-is : at ≡ recordPlace (level .table) i (settingsOf (level .settings) (S .counted))) where
     at-right : at ≡ P
-    at-right = at-is ∙ place-is S T level (w .level-is) i
+    at-right = at-is ∙ place-is S T level lev i
 
     pub record-fits : at + plainBytes ≤ length out
     record-fits = omega (arith, at-right, ends, record-size S T, offset-rises S T (suc l) (suc (suc l)) (omega arith), w .room)
 
-    word : (x v : ℕ) → x + 4 ≤ recordBytes S → Stands D (P + x) v → v < 4294967296 → wordAt out (at + x) ≡ v
+    word : (x v : ℕ) → x + 4 ≤ recordBytes S → Stands (treeOf S T) (P + x) v → v < 4294967296 → wordAt out (at + x) ≡ v
     word x v in-record s small =
-        rw at-right (read-right D out (P + x)
-        v (within-part D out headerLength (offset S T (suc l)) (P + x) (P + x + 4) (w .body) (omega (arith, low)) (omega (arith, ends))) s small)
+        rw at-right (read-right (treeOf S T) out (P + x)
+        v (within-part (treeOf S T) out headerLength (offset S T (suc l)) (P + x) (P + x + 4) (w .body) (omega (arith, low)) (omega (arith, ends))) s small)
 
     kind-read : wordAt out (at + 4 * kindField) ≡ kindOf S T l i
-    kind-read = word (4 * kindField) (kindOf S T l i) (omega (arith, record-size S T)) (kind-stands S T taken l i l-in i-in) (omega (arith, kind-le S T l i))
+    kind-read = word (4 * kindField) (kindOf S T l i) (omega (arith, record-size S T)) (kind-stands S T (lev .taken) l i (lev .number-in) i-in)
+        (omega (arith, kind-le S T l i))
 
     link-read : wordAt out (at + 4 * linkField) ≡ linkOf S T l i
     link-read =
         let e : P + 4 * kindField + 4 ≡ P + 4 * linkField = omega arith in
         word (4 * linkField) (linkOf S T l i) (omega (arith, record-size S T))
-        (rw e at (link-stands S T taken l i l-in i-in)) (omega (arith, link-le S T taken l l-in i i-in, limits .text-high))
+        (rw e at (link-stands S T (lev .taken) l i (lev .number-in) i-in))
+        (omega (arith, link-le S T (lev .taken) l (lev .number-in) i i-in, limits .text-high))
 
     module _ (kind : ℕ) (kind-is : kind ≡ wordAt out (at + 4 * kindField)) where
       -- a pointing block has no children
       pub no-children : (kind ≡ 0 → ⊥) → Started S T out (suc l) 0 (sumBelow (i + 1) (widthOf S T l))
       no-children n =
           let e : sumBelow (i + 1) (widthOf S T l) ≡ sum =
-          sumBelow-suc i (widthOf S T l) ∙ omega (arith, cut-at S T taken l up .uncut i (points-by-kind S T l i kind (kind-is ∙ kind-read) n)) in
+          sumBelow-suc i (widthOf S T l) ∙ omega (arith, cut-at S T (lev .taken) l up .uncut i (points-by-kind S T l i kind (kind-is ∙ kind-read) n)) in
           rw e (w .done)
 
       module _ (zero-kind : kind ≡ 0) where
@@ -117,7 +114,7 @@ module _ (S : Settings) (T out : List ℕ) (level next : Level) (i : ℕ) (w : B
           link-right = link-is ∙ link-read ∙ link-kept S T l i kept
 
           pub link-few : link ≤ maxText
-          link-few = omega (arith, link-right, widths-le S T taken l i l-in (omega (arith, i-in)), limits .text-high)
+          link-few = omega (arith, link-right, widths-le S T (lev .taken) l i (lev .number-in) (omega (arith, i-in)), limits .text-high)
 
           module _ (own : Stretch) (own-is : StretchIs S T l i own) where
             size-right : next .size ≡ size S T (suc l)
@@ -126,14 +123,14 @@ module _ (S : Settings) (T out : List ℕ) (level next : Level) (i : ℕ) (w : B
             pub pieces-asks : (own .length ≤ maxText) × (0 < next .size) × (next .size ≤ maxText)
             pieces-asks = (
               omega (arith, own-is .fits, limits .text-high),
-              rw size-right (size-pos S T taken (suc l)),
-              rw size-right (size-high S T taken (suc l)),
+              rw size-right (size-pos S T (lev .taken) (suc l)),
+              rw size-right (size-high S T (lev .taken) (suc l)),
             )
 
             module _ (n : ℕ) (n-is : n ≡ pieces (own .length) (next .size)) (to : ℕ) (to-is : to ≡ recordPlace (next .table) link (settingsOf
                 (next .settings) (S .counted))) (to-few : to ≤ maxTable + maxRecord * maxText) (step : ℕ) (step-is : step ≡ recordBytes S) where
               n-right : n ≡ widthOf S T l i
-              n-right = n-is ∙ rw (own-is .length-is, size-right, bytesIn-is S T l i) (sym (cut-at S T taken l up .cut i kept))
+              n-right = n-is ∙ rw (own-is .length-is, size-right, bytesIn-is S T l i) (sym (cut-at S T (lev .taken) l up .cut i kept))
 
               to-right : to ≡ placeAt S T (suc l) sum
               to-right = to-is ∙ place-is S T next (w .next-is) link ∙ rw (w .follows, link-right)
@@ -142,19 +139,19 @@ module _ (S : Settings) (T out : List ℕ) (level next : Level) (i : ℕ) (w : B
               to-child j = omega (arith, to-right, add-mul sum j (recordBytes S))
 
               child-in : (j : ℕ) → j < n → sum + j < count S T (suc l)
-              child-in j h = omega (arith, count-below S T taken l up, sumBelow-part (count S T l) (widthOf S T l) i i-in, n-right)
+              child-in j h = omega (arith, count-below S T (lev .taken) l up, sumBelow-part (count S T l) (widthOf S T l) i i-in, n-right)
 
               all-in : sum + n ≤ count S T (suc l)
-              all-in = omega (arith, count-below S T taken l up, sumBelow-part (count S T l) (widthOf S T l) i i-in, n-right)
+              all-in = omega (arith, count-below S T (lev .taken) l up, sumBelow-part (count S T l) (widthOf S T l) i i-in, n-right)
 
               child-fits : (j : ℕ) → j < n → to + j * recordBytes S + 4 ≤ offset S T (suc (suc l))
               child-fits j h = omega (arith, to-child j, record-inside-table S T (suc l) (sum + j) (child-in j h), record-size S T)
 
-              stands : (j : ℕ) → j < n → Stands D (to + j * recordBytes S) (own .start .0 + j * next .size)
+              stands : (j : ℕ) → j < n → Stands (treeOf S T) (to + j * recordBytes S) (own .start .0 + j * next .size)
               stands j h =
                   let e : start S T (suc l) (sum + j) ≡ own .start .0 + j * next .size =
-                  start-below S T taken l i j up i-in (omega (arith, n-right)) ∙ rw (own-is .start-is, size-right) in
-                  rw (to-child j, ← e) (start-stands S T taken (suc l) (sum + j) up (child-in j h))
+                  start-below S T (lev .taken) l i j up i-in (omega (arith, n-right)) ∙ rw (own-is .start-is, size-right) in
+                  rw (to-child j, ← e) (start-stands S T (lev .taken) (suc l) (sum + j) up (child-in j h))
 
               pub starts-ask : StartsAsk out to step (own .start .0) (next .size) n
               starts-ask = record {
@@ -166,7 +163,7 @@ module _ (S : Settings) (T out : List ℕ) (level next : Level) (i : ℕ) (w : B
                   arith,
                   n-right,
                   sumBelow-part (count S T l) (widthOf S T l) i i-in,
-                  widths-le S T taken l (count S T l) l-in (omega arith),
+                  widths-le S T (lev .taken) l (count S T l) (lev .number-in) (omega arith),
                   limits .text-high,
                 );
                 ends = rw n-is (omega (arith, pieces-most (own .length) (next .size), pieces-asks .0, pieces-asks .2, own-is .fits, limits .text-high));
@@ -179,23 +176,24 @@ module _ (S : Settings) (T out : List ℕ) (level next : Level) (i : ℕ) (w : B
                 fits : (j : ℕ) → j < n → to + j * recordBytes S + 4 ≤ length out
                 fits j h = omega (arith, child-fits j h, w .room)
 
-                inside : (j : ℕ) → j < n → to + j * recordBytes S + 4 ≤ length D
-                inside j h = omega (arith, child-fits j h, table-inside S T taken (suc l) up)
+                inside : (j : ℕ) → j < n → to + j * recordBytes S + 4 ≤ length (treeOf S T)
+                inside j h = omega (arith, child-fits j h, table-inside S T (lev .taken) (suc l) up)
 
-                pub children-grown : Grown D out new
-                children-grown = rw new-right (starts-grown D out to (recordBytes S) (own .start .0) (next .size) n stands fits inside n (omega arith))
+                pub children-grown : Grown (treeOf S T) out new
+                children-grown = rw new-right (starts-grown (treeOf S T) out to (recordBytes S) (own .start .0) (next .size) n stands fits inside n
+                    (omega arith))
 
-                child-started : (j : ℕ) → j < n → Within D new (placeAt S T (suc l) (sum + j)) (placeAt S T (suc l) (sum + j) + 4)
+                child-started : (j : ℕ) → j < n → Within (treeOf S T) new (placeAt S T (suc l) (sum + j)) (placeAt S T (suc l) (sum + j) + 4)
                 child-started j h = rw (← to-child j, new-right)
-                    (starts-within D out to (recordBytes S) (own .start .0) (next .size) n stands fits inside n (omega arith) j h)
+                    (starts-within (treeOf S T) out to (recordBytes S) (own .start .0) (next .size) n stands fits inside n (omega arith) j h)
 
                 pub children-started : Started S T new (suc l) 0 (sumBelow (i + 1) (widthOf S T l))
                 children-started = record { starts = λ x _ h. go x h (lt-or-ge x sum) }
                   where
                     go : (x : ℕ) → x < sumBelow (i + 1) (widthOf S T l)
-                        → (x < sum) ⊎ (sum ≤ x) → Within D new (placeAt S T (suc l) x) (placeAt S T (suc l) x + 4)
+                        → (x < sum) ⊎ (sum ≤ x) → Within (treeOf S T) new (placeAt S T (suc l) x) (placeAt S T (suc l) x + 4)
                     go x h (inl y) = within-grown
-                        D out new (placeAt S T (suc l) x) (placeAt S T (suc l) x + 4) children-grown (w .done .starts x (omega arith) y)
+                        (treeOf S T) out new (placeAt S T (suc l) x) (placeAt S T (suc l) x + 4) children-grown (w .done .starts x (omega arith) y)
                     go x h (inr y) =
                         let e : sum + (x - sum) ≡ x = omega arith in
                         let k : x - sum < n = omega (arith, sumBelow-suc i (widthOf S T l), n-right) in

@@ -10,7 +10,6 @@ use Rattle.format.specs.RecordFields.{plainBytes, countedBytes, fieldBytes}
 use Rattle.format.specs.Settings.{Settings}
 use Rattle.format.specs.Blocks.{treeOf}
 use Rattle.format.specs.EdgeLaws.{first-own, first-none, last-own, last-none}
-use Rattle.theory_built.specs.BlockSizes.{Taken}
 use Rattle.theory_built.specs.Structure.{count, start, bytesIn}
 use Rattle.theory_built.specs.BuiltLeaves.{bytes-fit}
 use Rattle.theory_built.specs.BuiltRecords.{edgesIn, recordWords}
@@ -21,7 +20,7 @@ use Rattle.build_records.specs.declared.record_written.Block.{Block}
 use Rattle.build_records.specs.Grown.{Grown, Within}
 use Rattle.build_records.specs.RecordPlaces.{recordPlace}
 use Rattle.build_records.specs.RecordWords.{edgeWritten}
-use Rattle.build_records.specs.State.{settingsOf, Writing, placeAt}
+use Rattle.build_records.specs.State.{LevelIs, settingsOf, Writing, placeAt}
 use Rattle.build_records.proofs.Growth.{grown-then, within-grown, within-join, bytes-grown, bytes-within}
 use Rattle.build_records.proofs.StateLaws.{record-size, place-is, place-next, record-inside-table, table-inside}
 
@@ -61,27 +60,21 @@ module _ (S : Settings) (T out : List ℕ) (level : Level) (i : ℕ) (block : Bl
   abbrev l : ℕ
   l = level .number
 
+  abbrev lev : LevelIs S T level
+  lev = w .level-is
+
   abbrev D : List ℕ
   D = treeOf S T
-
-  abbrev P : ℕ
-  P = placeAt S T l i
 
   abbrev m : ℕ
   m = S .leaf
 
   -- where the edges begin
   abbrev A : ℕ
-  A = P + plainBytes + countedBytes * length (S .counted)
-
-  taken : Taken S T
-  taken = w .level-is .taken
-
-  l-in : l < S .levels
-  l-in = w .level-is .number-in
+  A = placeAt S T l i + plainBytes + countedBytes * length (S .counted)
 
   i-in : i < count S T l
-  i-in = omega (arith, w .block-in, w .level-is .count-is)
+  i-in = omega (arith, w .block-in, lev .count-is)
 
   words : 4 * recordWords S T ≡ fieldBytes (length (S .counted))
   unfolding recordWords
@@ -89,17 +82,17 @@ module _ (S : Settings) (T out : List ℕ) (level : Level) (i : ℕ) (block : Bl
 
   edge-at : (x : ℕ) → x < m + m → getD D (A + x) 0 ≡ getD (edgesIn S T l i) x 0
   edge-at x h =
-      let e : A + x ≡ P + 4 * recordWords S T + x = omega (arith, words) in
-      rw e (edge-stands S T taken l i x l-in i-in h)
+      let e : A + x ≡ placeAt S T l i + 4 * recordWords S T + x = omega (arith, words) in
+      rw e (edge-stands S T (lev .taken) l i x (lev .number-in) i-in h)
 
   fit : start S T l i + bytesIn S T l i ≤ length T
-  fit = bytes-fit S T taken l i l-in i-in
+  fit = bytes-fit S T (lev .taken) l i (lev .number-in) i-in
 
   room : A + (m + m) ≤ length out
   room = omega (arith, record-inside-table S T l i i-in, w .filled .room, record-size S T)
 
   in-tree : A + (m + m) ≤ length D
-  in-tree = omega (arith, record-inside-table S T l i i-in, table-inside S T taken l l-in, record-size S T)
+  in-tree = omega (arith, record-inside-table S T l i i-in, table-inside S T (lev .taken) l (lev .number-in), record-size S T)
 
   ends : A + (m + m) ≡ placeAt S T l (i + 1)
   ends = omega (arith, add-one i, place-next S T l i, record-size S T)
@@ -107,7 +100,7 @@ module _ (S : Settings) (T out : List ℕ) (level : Level) (i : ℕ) (block : Bl
   module _ (at : ℕ) (at-is : at ≡ recordPlace (level .table) i (settingsOf (level .settings) (S .counted)))
       (own : ℕ) (own-is : own ≡ min m (block .length)) where
     here : at + plainBytes + countedBytes * length (S .counted) ≡ A
-    here = omega (arith, at-is, place-is S T level (w .level-is) i)
+    here = omega (arith, at-is, place-is S T level lev i)
 
     few : own ≤ m
     few = omega (arith, own-is)

@@ -8,8 +8,8 @@ use lib.ListN.{length, getD, set, take, drop, length-append, length-set, List·g
 use lib.Seq.{getD-append-add, length-take-le, getD-set-same, getD-set-other}
 use native.Mathlib.Decide.{ℕ-discrete}
 use Rattle.text.specs.ListLaws.{lt-or-ge, below-suc}
-use Rattle.format.specs.Words.{wordAt, wordBytes, setWord, putThree}
-use Rattle.format.specs.WordLaws.{length-setWord, getD-setWord-other, setWord-eq}
+use Rattle.format.specs.Words.{wordAt, wordBytes, setWord}
+use Rattle.format.specs.WordLaws.{putThree, length-setWord, getD-setWord-other, setWord-eq}
 use Rattle.theory_built.specs.BuiltBytes.{Stands, stands-word}
 use Rattle.stretches.specs.Stretches.{bytesWritten}
 use Rattle.build_records.specs.Grown.{Grown, Within}

@@ -6,8 +6,8 @@ use native.Mathlib.Omega.{arith}
 use native.Mathlib.Nat.{mul-le-mul}
 use lib.ListN.{length}
 use Rattle.format.specs.RecordFields.{plainBytes, fieldBytes}
-use Rattle.format.specs.Settings.{maxText, maxLeaf, maxCounted, maxRecord}
-use Rattle.format.specs.SizeLaws.{record-edged}
+use Rattle.format.specs.Settings.{maxText, maxLeaf, maxCounted}
+use Rattle.format.specs.SizeLaws.{maxRecord, record-edged}
 use Rattle.format.specs.Blocks.{recordBytes, builtLayout}
 use Rattle.layout.specs.declared.settings.Settings as code
 use Rattle.build_records.specs.State.{settingsOf}

@@ -10,7 +10,8 @@ use lib.Dec.{eqb}
 use borrow.Author.Tests.{eqb-true, eqb-false}
 use Rattle.text.specs.ListLaws.{bool-cases}
 use Rattle.text.specs.Text.{stretch, countIn}
-use Rattle.format.specs.Words.{wordAt, putThree}
+use Rattle.format.specs.Words.{wordAt}
+use Rattle.format.specs.WordLaws.{putThree}
 use Rattle.format.specs.RecordFields.{kindField, plainBytes, countedBytes}
 use Rattle.format.specs.Settings.{Settings}
 use Rattle.format.specs.HeaderPlaces.{headerLength}

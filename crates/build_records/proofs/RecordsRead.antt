@@ -12,7 +12,7 @@ use Rattle.text.specs.declared.TextPlace.{TextPlace}
 use Rattle.theory_built.specs.BuiltLeaves.{bytes-fit}
 use Rattle.theory_built.specs.Pairs.{offset}
 use Rattle.theory_built.specs.Structure.{count, start, bytesIn, bytesIn-is, level-at}
-use Rattle.theory_built.specs.BlockSizes.{Taken, bounds}
+use Rattle.theory_built.specs.BlockSizes.{bounds}
 use Rattle.build_records.specs.declared.level_written.Level.{Level}
 use Rattle.build_records.specs.Grown.{Within}
 use Rattle.build_records.specs.RecordPlaces.{recordPlace}
@@ -24,29 +24,27 @@ module _ (S : Settings) (T out : List ℕ) (level : Level) (i : ℕ) (w : On S T
   abbrev l : ℕ
   l = level .number
 
-  taken : Taken S T
-  taken = w .level-is .taken
-
-  l-in : l < S .levels
-  l-in = w .level-is .number-in
+  abbrev lev : LevelIs S T level
+  lev = w .level-is
 
   -- the start of any block of the level
   module _ (x : ℕ) (xl : x < level .count) where
     x-in : x < count S T l
-    x-in = omega (arith, w .level-is .count-is)
+    x-in = omega (arith, lev .count-is)
 
     at : recordPlace (level .table) x (settingsOf (level .settings) (S .counted)) ≡ placeAt S T l x
-    at = place-is S T level (w .level-is) x
+    at = place-is S T level lev x
 
     pub start-fits : recordPlace (level .table) x (settingsOf (level .settings) (S .counted)) + 4 ≤ length out
     start-fits = omega (arith, at, record-size S T, record-inside-table S T l x x-in, w .filled .room)
 
     pub start-read : wordAt out (recordPlace (level .table) x (settingsOf (level .settings) (S .counted))) ≡ start S T l x
     start-read = rw at (read-right (treeOf S T) out (placeAt S T l x) (start S T l x) (w .filled .starts x x-in)
-        (start-stands S T taken l x l-in x-in) (omega (arith, level-at S T taken l l-in .within x x-in, bounds S T taken .text-high)))
+        (start-stands S T (lev .taken) l x (lev .number-in) x-in)
+        (omega (arith, level-at S T (lev .taken) l (lev .number-in) .within x x-in, bounds S T (lev .taken) .text-high)))
 
     pub start-in : start S T l x < length T
-    start-in = level-at S T taken l l-in .within x x-in
+    start-in = level-at S T (lev .taken) l (lev .number-in) .within x x-in
 
   -- the bytes of block i
   module _ (s : TextPlace) (s-is : s .0 ≡ wordAt out (recordPlace (level .table) i (settingsOf (level .settings) (S .counted)))) where
@@ -55,11 +53,11 @@ module _ (S : Settings) (T out : List ℕ) (level : Level) (i : ℕ) (w : On S T
 
     pub stretch-is : (len : ℕ) → len ≡ min (level .size) (length T - s .0) → StretchIs S T l i (record { start = s; length = len })
     stretch-is len len-is =
-        let e : len ≡ bytesIn S T l i = len-is ∙ rw (s-right, w .level-is .size-is) (sym (bytesIn-is S T l i)) in
+        let e : len ≡ bytesIn S T l i = len-is ∙ rw (s-right, lev .size-is) (sym (bytesIn-is S T l i)) in
         record {
           start-is = s-right;
           length-is = e;
-          fits = omega (arith, s-right, e, bytes-fit S T taken l i l-in (omega (arith, w .block-in, w .level-is .count-is)));
+          fits = omega (arith, s-right, e, bytes-fit S T (lev .taken) l i (lev .number-in) (omega (arith, w .block-in, lev .count-is)));
         }
 
 -- a block of a level whose records are all written

@@ -11,11 +11,11 @@ use Rattle.format.specs.Settings.{Settings, pieces, maxText, maxLevels}
 use Rattle.theory_built.specs.BuiltLeaves.{bytes-fit, kept-last, width-last}
 use Rattle.theory_built.specs.BuiltLinks.{kind-points}
 use Rattle.theory_built.specs.BuiltRecords.{kindOf}
-use Rattle.theory_built.specs.BlockSizes.{Taken, Bounds, bounds, size-pos}
+use Rattle.theory_built.specs.BlockSizes.{Bounds, bounds, size-pos}
 use Rattle.theory_built.specs.Structure.{keptAt, widthOf, bytesIn-is, cut-at}
 use Rattle.build_records.specs.declared.level_written.Level.{Level}
 use Rattle.build_records.specs.declared.record_written.Block.{Block}
-use Rattle.build_records.specs.State.{Writing}
+use Rattle.build_records.specs.State.{LevelIs, Writing}
 use Rattle.build_records.proofs.StateLaws.{size-high}
 
 -- a block is kept if its kind is 0, and points if not
@@ -50,22 +50,19 @@ module _ (S : Settings) (T out : List ℕ) (level : Level) (i : ℕ) (block : Bl
   abbrev l : ℕ
   l = level .number
 
-  taken : Taken S T
-  taken = w .level-is .taken
+  abbrev lev : LevelIs S T level
+  lev = w .level-is
 
   limits : Bounds S T
-  limits = bounds S T taken
-
-  l-in : l < S .levels
-  l-in = w .level-is .number-in
+  limits = bounds S T (lev .taken)
 
   pub number-few : l < maxLevels
-  number-few = omega (arith, l-in, limits .levels-high)
+  number-few = omega (arith, lev .number-in, limits .levels-high)
 
   pub none-below : (block .kind ≡ 0 → ⊥) → 0 ≡ widthOf S T l i
   none-below n =
       let points = points-by-kind S T l i (block .kind) (w .block-is .kind-is) n in
-      sym (cut-at S T taken l (points-above S T l i l-in points) .uncut i points)
+      sym (cut-at S T (lev .taken) l (points-above S T l i (lev .number-in) points) .uncut i points)
 
   pub leaves-below : l + 1 ≡ S .levels → block .length ≡ widthOf S T l i
   leaves-below e = w .block-is .length-is ∙ sym (width-last S T l i (sym (add-one l) ∙ e))
@@ -77,16 +74,16 @@ module _ (S : Settings) (T out : List ℕ) (level : Level) (i : ℕ) (block : Bl
       where
         go : (suc l < S .levels) ⊎ (S .levels ≤ suc l) → suc l < S .levels
         go (inl z) = z
-        go (inr z) = absurd (n (let e : l + 1 ≡ S .levels = omega (arith, l-in) in e))
+        go (inr z) = absurd (n (let e : l + 1 ≡ S .levels = omega (arith, lev .number-in) in e))
 
     pub pieces-ask : (block .length ≤ maxText) × (0 < level .below) × (level .below ≤ maxText)
     pieces-ask = (
-      omega (arith, w .block-is .length-is, bytes-fit S T taken l i l-in (omega (arith, w .block-in, w .level-is .count-is)), limits .text-high),
-      rw (w .level-is .below-is up) (size-pos S T taken (suc l)),
-      rw (w .level-is .below-is up) (size-high S T taken (suc l)),
+      omega (arith, w .block-is .length-is, bytes-fit S T (lev .taken) l i (lev .number-in) (omega (arith, w .block-in, lev .count-is)), limits .text-high),
+      rw (lev .below-is up) (size-pos S T (lev .taken) (suc l)),
+      rw (lev .below-is up) (size-high S T (lev .taken) (suc l)),
     )
 
     pub children-below : block .kind ≡ 0 → (r : ℕ) → r ≡ pieces (block .length) (level .below) → r ≡ widthOf S T l i
     children-below e r is =
-        is ∙ rw (w .block-is .length-is, w .level-is .below-is up, bytesIn-is S T l i)
-        (sym (cut-at S T taken l up .cut i (kept-by-kind S T l i (block .kind) (w .block-is .kind-is) e)))
+        is ∙ rw (w .block-is .length-is, lev .below-is up, bytesIn-is S T l i)
+        (sym (cut-at S T (lev .taken) l up .cut i (kept-by-kind S T l i (block .kind) (w .block-is .kind-is) e)))

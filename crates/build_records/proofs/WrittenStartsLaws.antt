@@ -8,7 +8,8 @@ use native.Mathlib.Numerals.{add-one}
 use native.Mathlib.Nat.{suc-mul, mul-le-mul-right, mul-le-mul}
 use lib.ListN.{length}
 use Rattle.text.specs.ListLaws.{below-suc}
-use Rattle.format.specs.Settings.{maxText, maxRecord}
+use Rattle.format.specs.Settings.{maxText}
+use Rattle.format.specs.SizeLaws.{maxRecord}
 use Rattle.format.specs.Words.{setWord}
 use Rattle.theory_built.specs.BuiltBytes.{Stands}
 use Rattle.build_records.specs.Grown.{Grown, Within}

@@ -12,15 +12,17 @@ use denote.Ref.{RefT, now}
 use lib.ListN.{length, take, drop}
 use lib.Seq.{take-at}
 use borrow.Author.Tests.{le-leb, lt-leb, ne-eqb}
+use Rattle.format.specs.Said.{replied}
 use Rattle.format.specs.Settings.{Settings}
 use Rattle.format.specs.Blocks.{treeOf}
 use Rattle.format.specs.Layout as at
-use Rattle.format.specs.Fits.{linksOk, textOf, fits, countsTrue}
+use Rattle.format.specs.Fits.{linksOk, textOf, countsTrue}
+use Rattle.format.specs.FittingText.{fits}
 use Rattle.format.specs.ReadSays.{byteSays}
 use Rattle.format.specs.Verdict.{ask, readable, verdict}
 use Rattle.theory_built.specs.BlockSizes.{Taken}
 use Rattle.theory_without_edges.specs.WithoutEdges.{edgelessLayout, withoutEdges}
-use Rattle.build_without_edges.specs.WithoutEdgesAnswers.{withoutEdgesRefusal, withoutEdgesSize, withoutEdgesBuffer, refusalOf, writtenSizeOf}
+use Rattle.build_without_edges.specs.WithoutEdgesAnswers.{withoutEdgesRefusal, withoutEdgesSize, withoutEdgesBuffer, withoutEdgesReply}
 use Rattle.theory_without_edges.specs.TreeInLayout.{treeIn}
 use Rattle.theory_without_edges.specs.TreesAgree.{Agree}
 use Rattle.theory_without_edges.specs.Layout1Accepted as layout1
@@ -36,11 +38,11 @@ abbrev pub WithoutEdges : Lfts 2 → (t out after : Lent) → WithoutEdgesAnswer
 WithoutEdges κs t out after r = reads.Post κs (t, (out, tt)) r (t, (after, tt))
 
 -- refusal and size determine the answer
-refused-is : (r : WithoutEdgesAnswer) (q : ℕ) → refusalOf r ≡ suc q → r ≡ Refused (suc q)
+refused-is : (r : WithoutEdgesAnswer) (q : ℕ) → replied (withoutEdgesReply r) .number ≡ suc q → r ≡ Refused (suc q)
 refused-is (Size n) q e = absurd (let z : ⊥ = omega arith in z)
 refused-is (Refused n) q e = rw e
 
-size-is : (r : WithoutEdgesAnswer) (m : ℕ) → refusalOf r ≡ 0 → writtenSizeOf r ≡ m → 0 < m → r ≡ Size m
+size-is : (r : WithoutEdgesAnswer) (m : ℕ) → replied (withoutEdgesReply r) .number ≡ 0 → replied (withoutEdgesReply r) .value ≡ m → 0 < m → r ≡ Size m
 size-is (Size n) m z e low = rw e
 size-is (Refused n) m z e low = absurd (let z : ⊥ = omega arith in z)
 

@@ -10,6 +10,7 @@ use lib.Seq.{paste-zero, paste-suc, getD-drop, take-at, drop-append-add, drop-dr
 use Rattle.text.specs.Lists.{tabulate, concat, sumBelow}
 use Rattle.text.specs.ListLaws.{sumBelow-suc}
 use Rattle.text.specs.Text.{stretch}
+use Rattle.format.specs.Said.{replied}
 use Rattle.format.specs.Words.{setWord}
 use Rattle.format.specs.WordLaws.{length-setWord}
 use Rattle.format.specs.Settings.{maxLevels}
@@ -30,7 +31,7 @@ use Rattle.layout.specs.declared.header.HeaderRead.the-variants as read
 use Rattle.layout.specs.Header.{headerSays}
 use Rattle.layout.specs.HeaderSays.{HeaderOf, header-refused}
 use borrow.Author.Tests.{le-leb, lt-leb, ne-eqb}
-use Rattle.build_without_edges.specs.WithoutEdgesAnswers.{withoutEdgesRefusal, withoutEdgesSize, withoutEdgesBuffer, refusalOf, writtenSizeOf}
+use Rattle.build_without_edges.specs.WithoutEdgesAnswers.{withoutEdgesRefusal, withoutEdgesSize, withoutEdgesBuffer, withoutEdgesReply}
 use Rattle.build_without_edges.specs.declared.WithoutEdgesAnswer.{WithoutEdgesAnswer}
 use Rattle.build_without_edges.specs.declared.WithoutEdgesAnswer.the-variants.{Size, Refused}
 use Rattle.build_without_edges.specs.WithoutEdgesState.{ReadableSizes, HeaderRoom, RecordRoom, WholeRoom}
@@ -272,7 +273,8 @@ module _ (t : List ℕ) (h : Header) (k : HeaderOf t h) where
 -- The answer.
 module _ (t out : List ℕ) where
   abbrev pub AnswerIs : WithoutEdgesAnswer → List ℕ → Type 0
-  AnswerIs r e = (refusalOf r ≡ withoutEdgesRefusal t out) × ((writtenSizeOf r ≡ withoutEdgesSize t out) × (e ≡ withoutEdgesBuffer t out))
+  AnswerIs r e = (replied (withoutEdgesReply r) .number ≡ withoutEdgesRefusal t out)
+      × ((replied (withoutEdgesReply r) .value ≡ withoutEdgesSize t out) × (e ≡ withoutEdgesBuffer t out))
 
   refused-as : (n : ℕ) → withoutEdgesRefusal t out ≡ suc n → AnswerIs (Refused (suc n)) out
   unfolding withoutEdgesSize withoutEdgesBuffer

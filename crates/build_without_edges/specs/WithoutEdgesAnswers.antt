@@ -1,17 +1,19 @@
 -- What the call returns and what the caller's buffer then holds: refused with 5, 6 or 7, then with 13 if the buffer is too small.
-use mathlib.Core.List.{List, _++_}
+-- docs/FORMAT.md: "A tree without its edges".
+use mathlib.Core.List.{List, [], _∷_, _++_}
 use mathlib.Core.Bool.{cond}
 use Prim.Native.Nat.{ℕ}
 use lib.ListN.{length, drop}
 use lib.Dec.{leb, eqb}
-use Rattle.format.specs.Verdict.{ask, readable}
+use Rattle.format.specs.Verdict.{asks, orNext, readable}
+use Rattle.format.specs.Said.{Reply, figures, refusal}
 use Rattle.theory_without_edges.specs.WithoutEdges.{withoutEdges}
 use Rattle.build_without_edges.specs.declared.WithoutEdgesAnswer.{WithoutEdgesAnswer}
 use Rattle.build_without_edges.specs.declared.WithoutEdgesAnswer.the-variants.{Size, Refused}
 
 module _ (t out : List ℕ) where
   unfoldable pub withoutEdgesRefusal : ℕ
-  withoutEdgesRefusal = cond (eqb (readable t) 0) (ask 13 (leb (length (withoutEdges t)) (length out)) 0) (readable t)
+  withoutEdgesRefusal = orNext (readable t) (asks ((13, leb (length (withoutEdges t)) (length out)) ∷ []))
 
   unfoldable pub withoutEdgesSize : ℕ
   withoutEdgesSize = cond (eqb withoutEdgesRefusal 0) (length (withoutEdges t)) 0
@@ -19,12 +21,7 @@ module _ (t out : List ℕ) where
   unfoldable pub withoutEdgesBuffer : List ℕ
   withoutEdgesBuffer = cond (eqb withoutEdgesRefusal 0) (withoutEdges t ++ drop (length (withoutEdges t)) out) out
 
--- the number of the question that refuses, 0 if the tree is written
-abbrev pub refusalOf : WithoutEdgesAnswer → ℕ
-refusalOf (Size n) = 0
-refusalOf (Refused q) = q
-
--- the size of what is written, 0 if the call is refused
-abbrev pub writtenSizeOf : WithoutEdgesAnswer → ℕ
-writtenSizeOf (Size n) = n
-writtenSizeOf (Refused q) = 0
+-- the size of what is written
+abbrev pub withoutEdgesReply : WithoutEdgesAnswer → Reply
+withoutEdgesReply (Size n) = figures n 0
+withoutEdgesReply (Refused q) = refusal q

@@ -10,10 +10,11 @@ ghost use mathlib.Core.Path.{_≡_};
 ghost use Prim.Native.Nat.{_+_, _-_, _*_, _/_, _≤_, _<_};
 ghost use lib.ListN.{length, take, drop};
 ghost use Rattle.text.specs.Lists.{tabulate, concat};
+ghost use Rattle.format.specs.Said.{replied};
 ghost use Rattle.format.specs.HeaderPlaces.{headerLength};
 ghost use Rattle.layout.specs.HeaderSays.{HeaderOf};
 ghost use Rattle.theory_without_edges.specs.WithoutEdges.{AllBytes, layout1RecordSize, offsetsIn, layout1Header, layout1Record, withoutEdges};
-ghost use Rattle.build_without_edges.specs.WithoutEdgesAnswers.{withoutEdgesRefusal, withoutEdgesSize, withoutEdgesBuffer, refusalOf, writtenSizeOf};
+ghost use Rattle.build_without_edges.specs.WithoutEdgesAnswers.{withoutEdgesRefusal, withoutEdgesSize, withoutEdgesBuffer, withoutEdgesReply};
 ghost use Rattle.build_without_edges.specs.WithoutEdgesState.{ReadableSizes, HeaderRoom, RecordRoom, WholeRoom};
 
 // The size of the written tree, or the number of the refusing question.
@@ -27,8 +28,8 @@ const FIRST_RECORD_AT: u32 = header::HEADER_LENGTH as u32;
 // Writes a tree in layout 1 to the start of a buffer. Any bytes may be given as a tree: questions 5 to 7 come first, then 13. If the
 // call is refused, the buffer is unchanged. A tree of layout 1 is copied.
 pub fn without_edges(tree: &[u8], out: &mut [u8]) -> WithoutEdgesAnswer
-    ensures refusal { λ r. ⌜ refusalOf r ≡ withoutEdgesRefusal (now (tree .entry)) (now (out .entry)) ⌝ }
-    ensures size { λ r. ⌜ writtenSizeOf r ≡ withoutEdgesSize (now (tree .entry)) (now (out .entry)) ⌝ }
+    ensures refusal { λ r. ⌜ replied (withoutEdgesReply r) .number ≡ withoutEdgesRefusal (now (tree .entry)) (now (out .entry)) ⌝ }
+    ensures size { λ r. ⌜ replied (withoutEdgesReply r) .value ≡ withoutEdgesSize (now (tree .entry)) (now (out .entry)) ⌝ }
     ensures buffer { λ _. ⌜ now (out .exit) ≡ withoutEdgesBuffer (now (tree .entry)) (now (out .entry)) ⌝ }
     ensures bytes { λ _. ⌜ AllBytes (now (tree .entry)) ⌝ }
 {
@@ -42,8 +43,8 @@ pub fn without_edges(tree: &[u8], out: &mut [u8]) -> WithoutEdgesAnswer
 // Checks question 13 with the header at hand, then writes.
 fn by_header(tree: &[u8], h: Header, out: &mut [u8]) -> WithoutEdgesAnswer
     requires { ⌜ HeaderOf (now tree) h ⌝ }
-    ensures { λ r. ⌜ refusalOf r ≡ withoutEdgesRefusal (now (tree .entry)) (now (out .entry)) ⌝ }
-    ensures { λ r. ⌜ writtenSizeOf r ≡ withoutEdgesSize (now (tree .entry)) (now (out .entry)) ⌝ }
+    ensures { λ r. ⌜ replied (withoutEdgesReply r) .number ≡ withoutEdgesRefusal (now (tree .entry)) (now (out .entry)) ⌝ }
+    ensures { λ r. ⌜ replied (withoutEdgesReply r) .value ≡ withoutEdgesSize (now (tree .entry)) (now (out .entry)) ⌝ }
     ensures { λ _. ⌜ now (out .exit) ≡ withoutEdgesBuffer (now (tree .entry)) (now (out .entry)) ⌝ }
 {
     let stride = h.settings.record_size(Settings::PLAIN);

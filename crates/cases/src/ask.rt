@@ -1,11 +1,9 @@
 // What a line asks, put to the library.
 use crate::beside;
-use crate::column_cases;
-use crate::digest_cases;
 use crate::guide_cases;
 use crate::licence_cases;
 use crate::order_cases;
-use crate::without_edges_cases;
+use crate::output_cases;
 use crate::wrong;
 use cases_replies::Sizes;
 use cases_script::Gift;
@@ -42,10 +40,7 @@ pub fn line(script: &[u8], line: &[u8], bytes: &mut [u8], lent: &mut [u8]) {
 
 // A line with a word of another file, or with no such word.
 fn other(script: &[u8], line: &[u8], bytes: &mut [u8], lent: &mut [u8]) {
-    if column_cases::line(script, line, bytes, lent) {
-        return;
-    }
-    if digest_cases::line(script, line, bytes, lent) {
+    if output_cases::line(script, line, bytes, lent) {
         return;
     }
     if licence_cases::line(line) {
@@ -55,9 +50,6 @@ fn other(script: &[u8], line: &[u8], bytes: &mut [u8], lent: &mut [u8]) {
         return;
     }
     if order_cases::line(script, line, bytes) {
-        return;
-    }
-    if without_edges_cases::line(script, line, bytes, lent) {
         return;
     }
     wrong::say(b"no such word");

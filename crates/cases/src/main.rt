@@ -2,12 +2,10 @@
 // the line. The lines are those of the cases file of an independent model; the file stdout has that model's answers.
 mod ask;
 mod beside;
-mod column_cases;
-mod digest_cases;
 mod guide_cases;
 mod licence_cases;
 mod order_cases;
-mod without_edges_cases;
+mod output_cases;
 mod wrong;
 
 ghost use Prim.Native.Nat.{_≤_};

@@ -13,9 +13,9 @@ use Rattle.text.specs.ListLaws.{below-suc}
 use Rattle.format.specs.Settings.{maxText, maxCounted}
 use Rattle.format.specs.Layout as at
 use Rattle.format.specs.WordLaws.{wordAt-lt}
-use Rattle.format.specs.RecordFields.{plainWords, beforeField, insideField, skipField, fieldCount}
+use Rattle.format.specs.RecordFields.{plainWords, beforeField, insideField, skipField}
+use Rattle.format.specs.LayoutLaws.{fieldCount, full-small, full-step}
 use Rattle.format.specs.HeaderPlaces.{countedAt, countAt}
-use Rattle.format.specs.LayoutLaws.{full-small, full-step}
 use Rattle.theory_paths.specs.Links.{Linked, linked-facts}
 use Rattle.theory_paths.specs.BlockStarts.{len-small}
 use Rattle.theory_counts.specs.CountsLocal.{byteOf}

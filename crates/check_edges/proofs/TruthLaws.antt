@@ -30,8 +30,8 @@ use Rattle.theory_edges.specs.EdgesLocal.{edgeIs, ownBytes, walkedEdges, childE
 use Rattle.theory_edges.specs.Demands.{edges-exact}
 use Rattle.layout.specs.declared.header.Header.{Header}
 use Rattle.layout.specs.HeaderSays.{HeaderOf}
-use Rattle.layout.specs.Record.{FieldIn, EdgesIn}
-use Rattle.walk_steps.proofs.QuestionStandsLaws.{plain, field-there}
+use Rattle.layout.specs.Record.{FieldIn, EdgesIn, field-in}
+use Rattle.walk_steps.proofs.StepLaws.{field-there}
 use Rattle.walk_short.specs.declared.gather.Parts.{Parts}
 use Rattle.walk_short.specs.declared.gather.Gathered.{Gathered}
 use Rattle.walk_short.specs.declared.gather.Gathered.the-variants.{At, Broken}
@@ -104,7 +104,7 @@ module _ (t : List ℕ) (h : Header) (level b i : ℕ) (k : Edged t h level b i)
 
     pub walk-asks : (o : ℕ) → o + own ≤ long → Walking t (h .«record_size») level b o own 0
     walk-asks o ho = record {
-      on = plain t h level b (k .on);
+      on = k .on;
       place-in = omega (arith, own-low, long-few);
       short = omega (arith, own-is, header .leaf-is);
       few = omega arith;
@@ -173,7 +173,7 @@ module _ (t : List ℕ) (h : Header) (level i own : ℕ) (k : Leafy t h level i 
   level-is = omega (arith, k .last)
 
   pub leaf-there : FieldIn t (h .«record_size») level i 2
-  leaf-there = field-there t h level i 2 (k .tree .header) (omega (arith, k .last)) (k .block-in) (omega arith)
+  leaf-there = field-in t leafy-facts (h .«record_size») level i 2 (k .tree .header .size-is) (omega (arith, k .last)) (k .block-in) (omega arith)
 
   last-found : (l : ℕ) → l ≡ at.settings t .levels - 1 → i < at.levelCount t l → own ≡ at.blockLengthAt t l i
       → shortFrom t 0 l i 0 own ≡ some (record { visits = visit l i 0 ∷ []; from = at.leafOffset t + (at.link t l i + 0); size = own; next = 0 })
@@ -212,7 +212,7 @@ module _ (t : List ℕ) (h : Header) (level b i : ℕ) (k : Edged t h level b i)
 -- A block by its kind.
 module _ (t : List ℕ) (h : Header) (level b i : ℕ) (k : Edged t h level b i) where
   pub plain-there : (f : ℕ) → f < plainWords → FieldIn t (h .«record_size») level i f
-  plain-there f hf = field-there t h level i f (k .tree .header) (k .on .level-in) (k .block-in) hf
+  plain-there f hf = field-there t (h .«record_size») level b i f (k .on) (k .block-in) hf
 
   module _ (kind : ℕ) (kind-is : kind ≡ at.kind t level i) where
     pub not-full : (kind ≡ 0 → ⊥) → false ≡ hasFullChildren t level i
@@ -314,7 +314,12 @@ module _ (t : List ℕ) (h : Header) (level b i : ℕ) (k : Edged t h level b i)
 module _ (t : List ℕ) (h : Header) (k : Linking t h) where
   pub block-asks : at.layout t ≡ 2
       → (level b i : ℕ) → level < at.settings t .levels → b ≡ at.fullLength t level → i < at.levelCount t level → Edged t h level b i
-  block-asks two level b i hl hb hi = record { tree = k; two = two; on = record { header = k .header; level-in = hl; b-is = hb }; block-in = hi }
+  block-asks two level b i hl hb hi = record {
+    tree = k;
+    two = two;
+    on = record { facts = k .header .facts; size-is = k .header .size-is; level-in = hl; b-is = hb };
+    block-in = hi;
+  }
 
   module _ (level n : ℕ) (n-is : n ≡ at.levelCount t level) where
     pub level-fails : (i : ℕ) → i < n → edgesLocal t level i ≡ false → false ≡ levelEdges t level

@@ -10,7 +10,7 @@ use Rattle.format.specs.Layout as at
 use Rattle.format.specs.Fits.{linksOk}
 use Rattle.layout.specs.declared.header.Header.{Header}
 use Rattle.layout.specs.HeaderSays.{HeaderOf}
-use Rattle.walk_steps.specs.QuestionStands.{OnLevel}
+use Rattle.walk_steps.specs.Steps.{OnLevel}
 use Rattle.walk_short.specs.declared.gather.Gathered.{Gathered}
 use Rattle.walk_short.specs.declared.gather.Gathered.the-variants.{At, Broken}
 
@@ -23,7 +23,7 @@ pub record Linking (t : List ℕ) (h : Header) : Type 0 where
 pub record Edged (t : List ℕ) (h : Header) (level b i : ℕ) : Type 0 where
   pub tree : Linking t h
   pub two : at.layout t ≡ 2
-  pub on : OnLevel t h level b
+  pub on : OnLevel t (h .«record_size») level b
   pub block-in : i < at.levelCount t level
 
 -- a block of the last level of such a tree, and its bytes

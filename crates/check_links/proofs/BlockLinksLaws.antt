@@ -207,8 +207,9 @@ module _ (t : List ℕ) (v : Level) (k : LevelOf t v) where
           pointing-target f = rw (pointing-is i, points, not-last n, gap-fits, target-is false f)
 
           module _ (r : targetRight t (v .number) link gap len start ≡ true) where
-            pub pointing-within : gap + len ≤ v .full → true ≡ pointingRight t (v .number) i
-            pointing-within w =
+            -- what is left to be decided
+            rest-is : (x : Bool) → leb (gap + len) (v .full) ≡ x → pointingRight t (v .number) i ≡ (x || nextRight t (v .number) link)
+            rest-is x e =
                 rw (
                   pointing-is i,
                   points,
@@ -218,23 +219,15 @@ module _ (t : List ℕ) (v : Level) (k : LevelOf t v) where
                   ← gap-is,
                   ← length-is i start len start-is len-is,
                   ← k .full-is,
-                  le-leb (gap + len) (v .full) w,
+                  e,
+                  ← link-is,
                 )
 
+            pub pointing-within : gap + len ≤ v .full → true ≡ pointingRight t (v .number) i
+            pointing-within w = sym (rest-is true (le-leb (gap + len) (v .full) w))
+
             pub pointing-next : v .full < gap + len → (x : Bool) → x ≡ nextRight t (v .number) link → x ≡ pointingRight t (v .number) i
-            pointing-next w x e =
-                rw (
-                  pointing-is i,
-                  points,
-                  not-last n,
-                  gap-fits,
-                  target-is true r,
-                  ← gap-is,
-                  ← length-is i start len start-is len-is,
-                  ← k .full-is,
-                  lt-leb (gap + len) (v .full) w,
-                  ← link-is,
-                ) e
+            pointing-next w x e = e ∙ sym (rest-is false (lt-leb (gap + len) (v .full) w))
 
   -- either kind
   module _ (i kind : ℕ) (kind-is : kind ≡ at.kind t (v .number) i) (r : Bool) where

@@ -70,6 +70,11 @@ module _ (w : ℕ) (T out U after W : List ℕ) (a : Rearranges w T out U after 
       let z = b .written (rw size (a .passed refl .0)) (rw size room) in
       (z .0, rw size at (z .1))
 
+  -- by a rearrangement that takes U to T
+  back-by : (f : List ℕ → List ℕ) → f U ≡ T → (back left : List ℕ) (r : ℕ) → Rearranges w W back (f W) left r → length T ≤ length back
+      → (r ≡ 0) × (left ≡ T ++ drop (length T) back)
+  back-by f e back left r b room = again back left r (rw (ap f turned ∙ e) at b) room
+
 -- what the call wrote, lent to another
 pub to-columns-input : (κs : Lfts 2) (text : Lent) (w : ℕ) (out after : Lent) → ToColumns κs text w out after 0
     → (W : List ℕ) → W ≡ take (length (now text)) (now after) → W ≡ columns w (now text)
@@ -84,11 +89,7 @@ pub there-and-back : (κs κ : Lfts 2) (text rearranged : Lent) (w : ℕ) (out a
 there-and-back κs κ text rearranged w out after back left r a is b room =
     let k = to-columns κs text w out after 0 a in
     let ok = k .passed refl .0 in
-    let same = columns-length w (now text) ok in
-    let e = turned w (now text) (now out) (columns w (now text)) (now after) (now rearranged) k same is in
-    let back-is : uncolumns w (now rearranged) ≡ now text = ap (uncolumns w) e ∙ restored w (now text) ok in
-    again w (now text) (now out) (columns w (now text)) (now after) (now rearranged) k same is (now back) (now left) r
-    (rw back-is at (from-columns κ rearranged w back left r b)) room
+    back-by w _ _ _ _ _ k (columns-length w (now text) ok) is (uncolumns w) (restored w (now text) ok) _ _ r (from-columns κ rearranged w back left r b) room
 
 pub back-and-there : (κs κ : Lfts 2) (text rearranged : Lent) (w : ℕ) (out after back left : Lent) (r : ℕ) → FromColumns κs text w out after 0
     → now rearranged ≡ take (length (now text)) (now after) → ToColumns κ rearranged w back left r → length (now text) ≤ length (now back)
@@ -96,11 +97,8 @@ pub back-and-there : (κs κ : Lfts 2) (text rearranged : Lent) (w : ℕ) (out a
 back-and-there κs κ text rearranged w out after back left r a is b room =
     let k = from-columns κs text w out after 0 a in
     let ok = k .passed refl .0 in
-    let same = uncolumns-length w (now text) ok in
-    let e = turned w (now text) (now out) (uncolumns w (now text)) (now after) (now rearranged) k same is in
-    let back-is : columns w (now rearranged) ≡ now text = ap (columns w) e ∙ columns-uncolumns w (now text) ok in
-    again w (now text) (now out) (uncolumns w (now text)) (now after) (now rearranged) k same is (now back) (now left) r
-    (rw back-is at (to-columns κ rearranged w back left r b)) room
+    back-by w _ _ _ _ _ k (uncolumns-length w (now text) ok) is (columns w) (columns-uncolumns w (now text) ok) _ _ r
+    (to-columns κ rearranged w back left r b) room
 
 -- The empty text is rearranged to itself: any width above 0 is accepted, and nothing is written.
 pub empty-stays : (w : ℕ) (T out U after : List ℕ) (r : ℕ) → Rearranges w T out U after r → T ≡ [] → U ≡ [] → 0 < w → (r ≡ 0) × (after ≡ out)

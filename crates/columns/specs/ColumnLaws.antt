@@ -14,7 +14,14 @@ use Rattle.text.specs.Lists.{tabulate}
 use Rattle.text.specs.ListLaws.{and-left, and-right, pos-of-ne, length-tabulate, getD-tabulate}
 use Rattle.text.specs.Text.{stretch}
 use Rattle.text.specs.TextLaws.{length-stretch, getD-stretch}
-use Rattle.columns.specs.Columns.{transposed, columns, uncolumns, goesTo, comesFrom, widthOk}
+use Rattle.columns.specs.Columns.{transposed, columns, uncolumns, widthOk}
+
+-- The places: where the byte of place p of a text of n bytes goes, and where that of place p comes from.
+unfoldable pub goesTo : ℕ → ℕ → ℕ → ℕ
+goesTo w n p = p % w * (n / w) + p / w
+
+unfoldable pub comesFrom : ℕ → ℕ → ℕ → ℕ
+comesFrom w n p = p % (n / w) * w + p / (n / w)
 
 -- place o of row b, of rows of r
 pub in-row : (b r o : ℕ) → o < r → (b * r + o) % r ≡ o

@@ -50,39 +50,34 @@ startsAt S T (suc l) =
 
 -- One level of the tree of T, whose blocks start at `starts`.
 module _ (S : Settings) (T : List ℕ) (l : ℕ) (starts : List ℕ) where
-  b : ℕ
+  abbrev b : ℕ
   b = blockLength S l
 
-  isLast : Bool
+  abbrev isLast : Bool
   isLast = eqb (suc l) (S .levels)
 
   unfoldable pub isKept : ℕ → Bool
-  unfolding b isLast
   isKept i = isLast || keptByPairs T b starts i
 
   -- bytes or children that block i has one level below
   unfoldable pub width : ℕ → ℕ
-  unfolding b isLast
   width i =
       cond (isKept i) (cond isLast (lengthOf T b starts i) (pieces (lengthOf T b starts i) (blockLength S (suc l)))) 0
 
   -- where the bytes of a pointing block first occur, and the number of the block that holds that place
   unfoldable pub occurrence : ℕ → ℕ
-  unfolding b
   occurrence i = leftmost T (startOf T b starts i) (lengthOf T b starts i)
 
   unfoldable pub target : ℕ → ℕ
-  unfolding b
   target i = countBelow (length starts) (λ j. leb (startOf T b starts j) (occurrence i)) - 1
 
   -- the start of the parent of a block that starts at s; the text's on level 0. That this is the parent's start is proved: `parent-start` of crate
   -- `theory_built`
   -- (specs/Parents.antt)
-  parentStart : ℕ → ℕ
+  abbrev parentStart : ℕ → ℕ
   parentStart s = elim l [ zero ↦ 0 | suc above ↦ s / blockLength S above * blockLength S above ]
 
-  countsOf : ℕ → ℕ → List ℕ
-  unfolding b parentStart
+  abbrev countsOf : ℕ → ℕ → List ℕ
   countsOf i c =
       let s = startOf T b starts i in
       let up = parentStart s in
@@ -92,7 +87,6 @@ module _ (S : Settings) (T : List ℕ) (l : ℕ) (starts : List ℕ) where
 
   -- the words of block i's record
   unfoldable pub recordOf : ℕ → List ℕ
-  unfolding b countsOf parentStart
   recordOf i =
       let s = startOf T b starts i in
       let kept = plainFields s 0 (sumBelow i width) 0 in
@@ -101,7 +95,6 @@ module _ (S : Settings) (T : List ℕ) (l : ℕ) (starts : List ℕ) where
 
   -- the bytes of block i's record: its words, then its edges
   unfoldable pub recordIn : ℕ → List ℕ
-  unfolding b
   recordIn i = wordsBytes (recordOf i) ++ edgesOf (S .leaf) (stretch T (startOf T b starts i) (lengthOf T b starts i))
 
   unfoldable pub levelBytes : List ℕ

@@ -9,7 +9,7 @@ use lib.Dec.{ltb, leb, eqb}
 use Rattle.text.specs.Text.{stretch, countIn}
 use Rattle.format.specs.Layout as at
 use Rattle.format.specs.Path.{Path, Visit, pathOf}
-use Rattle.format.specs.Verdict.{ask, readable}
+use Rattle.format.specs.Verdict.{asks, readable}
 use Rattle.format.specs.Said.{Said, refused, unless}
 
 -- the place of c in the list; the length where it is not there
@@ -24,7 +24,6 @@ module _ (t : List ℕ) where
   -- visit of a level: in place of its before the pointing block's skip is taken off, and the first target's inside is added if the
   -- second is entered.
   unfoldable pub addedAfter : ℕ → Visit → List Visit → ℕ
-  unfolding at.before at.inside at.link
   addedAfter c u [] = 0
   addedAfter c u (v ∷ vs) =
       let first = at.link t (u .level) (u .block) in
@@ -32,12 +31,10 @@ module _ (t : List ℕ) where
       cond (eqb (u .level) (v .level)) target (at.before t (v .level) (v .block) c) + addedAfter c v vs
 
   unfoldable pub added : ℕ → List Visit → ℕ
-  unfolding at.before
   added c [] = 0
   added c (v ∷ vs) = at.before t (v .level) (v .block) c + addedAfter c v vs
 
   unfoldable pub takenAfter : ℕ → Visit → List Visit → ℕ
-  unfolding at.skip
   takenAfter c u [] = 0
   takenAfter c u (v ∷ vs) = cond (eqb (u .level) (v .level)) (at.skip t (u .level) (u .block) c) 0 + takenAfter c v vs
 
@@ -55,7 +52,6 @@ module _ (t : List ℕ) where
 
   -- the bytes of the last block up to the place reached, it included
   unfoldable pub leavesReached : Path → List ℕ
-  unfolding at.leafOffset
   leavesReached p = let o = lastPlace (p .visits) in stretch t (at.leafOffset t + (p .leaf - o)) (o + 1)
 
   abbrev pub countOf : ℕ → ℕ → Option Path → Said
@@ -66,17 +62,13 @@ module _ (t : List ℕ) where
       cond (leb minus plus) (record { number = 0; value = plus - minus; entered = length (p .visits) }) (refused 14)
 
   unfoldable pub isCounted : ℕ → Bool
-  unfolding at.settings at.countedCount
   isCounted byte = ltb (indexOf byte (at.settings t .counted)) (length (at.settings t .counted))
 
   unfoldable pub numberOfByte : ℕ → ℕ
-  unfolding at.settings
   numberOfByte byte = indexOf byte (at.settings t .counted)
 
   unfoldable pub countSays : ℕ → ℕ → Said
-  unfolding at.textLength
   countSays byte i =
-      let asked = ask 10 (leb i (at.textLength t)) (ask 11 (isCounted byte) 0) in
-      let none-asked : Said = record { number = 0; value = 0; entered = 0 } in
+      let asked = asks ((10, leb i (at.textLength t)) ∷ (11, isCounted byte) ∷ []) in
       let walked = countOf byte (numberOfByte byte) (pathOf t (i - 1)) in
-      unless (readable t) (unless asked (cond (eqb i 0) none-asked walked))
+      unless (readable t) (unless asked (cond (eqb i 0) (refused 0) walked))

@@ -1,7 +1,7 @@
 -- What find answers, for any bytes lent as a tree: settled by the questions before the walk and on accepted trees, and named as free on the
 -- others.
 -- docs/FORMAT.md: "Find", "What is left free".
-use mathlib.Core.List.{List}
+use mathlib.Core.List.{List, [], _∷_}
 use mathlib.Core.Option.{Option, none, some}
 use mathlib.Core.Path.{_≡_}
 use mathlib.Core.Bool.{cond, _&&_}
@@ -13,22 +13,20 @@ use Rattle.text.specs.Text.{placeOf}
 use Rattle.format.specs.Layout as at
 use Rattle.format.specs.Path.{Path, pathOf}
 use Rattle.format.specs.Fits.{textOf}
-use Rattle.format.specs.Verdict.{ask, readable, verdict}
+use Rattle.format.specs.Verdict.{asks, orNext, readable}
 use Rattle.format.specs.Said.{Said, refused}
 use Rattle.format.specs.CountSays.{isCounted, numberOfByte}
 
 module _ (t : List ℕ) where
   -- Find (select). The questions before the walk.
   unfoldable pub total : ℕ → ℕ
-  unfolding at.levelCount at.before at.inside
   total c =
       let last = at.levelCount t 0 - 1 in
       cond (eqb (at.levelCount t 0) 0) 0 (at.before t 0 last c + at.inside t 0 last c)
 
   unfoldable pub selectNumber : ℕ → ℕ → ℕ
   selectNumber byte j =
-      let asked = ask 11 (isCounted t byte) (ask 12 (leb 1 j && leb j (total (numberOfByte t byte))) 0) in
-      cond (eqb (readable t) 0) asked (readable t)
+      orNext (readable t) (asks ((11, isCounted t byte) ∷ (12, leb 1 j && leb j (total (numberOfByte t byte))) ∷ []))
 
   abbrev pub pathLength : Option Path → ℕ
   pathLength none = 0
@@ -45,7 +43,3 @@ module _ (t : List ℕ) where
     pub asked : (0 < selectNumber byte j) → s ≡ refused (selectNumber byte j)
     pub accepted : selectNumber byte j ≡ 0 → ok ≡ 0 → s ≡ found byte j
     pub free : selectNumber byte j ≡ 0 → (ok ≡ 0 → ⊥) → (s ≡ refused 14) ⊎ ((s .number ≡ 0) × (s .value < at.textLength t))
-
-  -- find's own: settled on accepted trees (with a guide, where the guide is accepted too)
-  abbrev pub FindSays : (byte j : ℕ) → Said → Type 0
-  FindSays = FindBy (verdict t)

@@ -1,17 +1,21 @@
 -- Laws of the questions before find and row walk.
-use mathlib.Core.List.{List}
+use mathlib.Core.List.{List, [], _∷_}
 use mathlib.Core.Bool.{true, _&&_}
-use mathlib.Core.Path.{_≡_, sym, _∙_}
-use Prim.Native.Nat.{ℕ, _≤_}
+use mathlib.Core.Path.{_≡_, refl}
+use Prim.Native.Nat.{ℕ, _≤_, _-_}
 use borrow.Author.Tests.{leb-true, le-leb}
 use lib.Dec.{leb}
 use Rattle.text.specs.ListLaws.{and-left, and-right}
-use Rattle.format.specs.Verdict.{ask, readable}
-use Rattle.format.specs.LayoutLaws.{ask-test, ask-rest}
-use Rattle.format.specs.Said.{refused}
-use Rattle.format.specs.SaidLaws.{unless-passes, then-is}
+use Rattle.format.specs.Verdict.{readable, verdict}
+use Rattle.format.specs.SaidLaws.{next-passes, asks-pass}
 use Rattle.format.specs.CountSays.{isCounted, numberOfByte}
-use Rattle.format.specs.FindSays.{total, selectNumber}
+use Rattle.format.specs.FindSays.{total, selectNumber, FindBy}
+use Rattle.format.specs.Said.{Said}
+
+module _ (t : List ℕ) where
+  -- find's own: settled on accepted trees (with a guide, where the guide is accepted too)
+  abbrev pub FindSays : (byte j : ℕ) → Said → Type 0
+  FindSays = FindBy t (verdict t)
 
 -- find and row walk exactly where the byte is counted and so many stand in the tree
 pub record Selected (t : List ℕ) (byte j : ℕ) : Type 0 where
@@ -24,14 +28,12 @@ pub select-passes : (t : List ℕ) (byte j : ℕ) → selectNumber t byte j ≡ 
 unfolding selectNumber
 select-passes t byte j h =
     let all = total t (numberOfByte t byte) in
-    let twelve = ask 12 (leb 1 j && leb j all) 0 in
-    let eleven = ask 11 (isCounted t byte) twelve in
-    let a = unless-passes (readable t) (refused eleven) (sym (then-is (readable t) eleven) ∙ h) in
-    let range = ask-test 11 (leb 1 j && leb j all) 0 (ask-rest 10 (isCounted t byte) twelve (a .1)) in record {
+    let a = next-passes (readable t) _ h in
+    let b = asks-pass ((11, isCounted t byte) ∷ (12, leb 1 j && leb j all) ∷ []) refl (a .1) in record {
       pass = a .0;
-      counted = ask-test 10 (isCounted t byte) twelve (a .1);
-      low = leb-true 1 j (and-left (leb 1 j) (leb j all) range);
-      high = leb-true j all (and-right (leb 1 j) (leb j all) range);
+      counted = b .0;
+      low = leb-true 1 j (and-left (leb 1 j) (leb j all) (b .1 .0));
+      high = leb-true j all (and-right (leb 1 j) (leb j all) (b .1 .0));
     }
 
 pub select-lets : (t : List ℕ) (byte j : ℕ) → Selected t byte j → selectNumber t byte j ≡ 0

@@ -4,7 +4,7 @@ use mathlib.Core.List.{List}
 use mathlib.Core.Option.{Option, none, some}
 use mathlib.Core.Bool.{Bool, cond, not, _&&_, _||_}
 use Prim.Native.Nat.{ℕ, zero, suc, _+_, _-_, _*_, _/_}
-use lib.ListN.{length, getD}
+use lib.ListN.{getD}
 use lib.Dec.{ltb, leb, eqb}
 use Rattle.text.specs.Lists.{tabulate, allBelow, sumBelow, sameList}
 use Rattle.text.specs.Text.{stretch, countIn}
@@ -15,18 +15,15 @@ use Rattle.format.specs.Path.{Path, pathOf}
 
 module _ (t : List ℕ) where
   unfoldable pub lastLevel : ℕ
-  unfolding at.settings
   lastLevel = at.settings t .levels - 1
 
   -- how many children, or on the last level leaf bytes, block i of level l has by the kinds in the tree
   unfoldable pub widthAt : ℕ → ℕ → ℕ
-  unfolding at.isKept at.blockLengthAt at.fullLength
   widthAt l i =
       cond (at.isKept t l i) (cond (eqb l lastLevel) (at.blockLengthAt t l i) (pieces (at.blockLengthAt t l i) (at.fullLength t (l + 1)))) 0
 
   -- a kept block links to what the kept blocks before it leave free one level below, where its children start as cut
   unfoldable pub keptRight : ℕ → ℕ → Bool
-  unfolding at.link at.gap at.start at.fullLength
   keptRight l i =
       eqb (at.link t l i) (sumBelow i (widthAt l)) && eqb (at.gap t l i) 0
       && (eqb l lastLevel || allBelow (widthAt l i) (λ j. eqb (at.start t (l + 1) (at.link t l i + j)) (at.start t l i + j * at.fullLength t (l + 1))))
@@ -34,7 +31,6 @@ module _ (t : List ℕ) where
   -- a pointing block: above the last level, to a kept block, with an occurrence that ends at or before its own start; where the
   -- occurrence passes that block, the next one is kept and follows in the text
   unfoldable pub pointingRight : ℕ → ℕ → Bool
-  unfolding at.kind at.link at.gap at.start at.fullLength at.blockLengthAt at.levelCount at.isKept
   pointingRight l i =
       let j = at.link t l i in
       let g = at.gap t l i in
@@ -45,18 +41,15 @@ module _ (t : List ℕ) where
       || (ltb (j + 1) (at.levelCount t l) && at.isKept t l (j + 1) && eqb (at.start t l (j + 1)) (at.start t l j + at.fullLength t l)))
 
   unfoldable pub blockRight : ℕ → ℕ → Bool
-  unfolding at.isKept
   blockRight l i = cond (at.isKept t l i) (keptRight l i) (pointingRight l i)
 
   -- the count one level below (leaf bytes, below the last) is what the kinds give
   unfoldable pub countBelowRight : ℕ → Bool
-  unfolding at.levelCount at.leafCount
   countBelowRight l =
       eqb (sumBelow (at.levelCount t l) (widthAt l)) (cond (eqb l lastLevel) (at.leafCount t) (at.levelCount t (l + 1)))
 
   -- question 8
   unfoldable pub linksOk : Bool
-  unfolding at.settings at.levelCount at.start at.fullLength
   linksOk =
       allBelow (at.levelCount t 0) (λ i. eqb (at.start t 0 i) (i * at.fullLength t 0))
       && allBelow (at.settings t .levels) (λ l. countBelowRight l && allBelow (at.levelCount t l) (blockRight l))
@@ -68,34 +61,17 @@ module _ (t : List ℕ) where
 
   -- the text of a tree: at each place what its path gives
   unfoldable pub textOf : List ℕ
-  unfolding at.textLength
   textOf = tabulate (at.textLength t) (λ p. leafOf (pathOf t p))
 
 module _ (T t : List ℕ) where
-  -- block i's bytes in the text are its leaf bytes if it is on the last level, and those of its occurrence if it points (kind 1)
-  unfoldable pub blockFits : ℕ → ℕ → Bool
-  unfolding lastLevel at.blockLengthAt at.start at.link at.gap at.isPointing
-  blockFits l i =
-      let bytes = stretch T (at.start t l i) (at.blockLengthAt t l i) in
-      let leaves = tabulate (at.blockLengthAt t l i) (λ o. at.leafByte t (at.link t l i + o)) in
-      let pointedTo = stretch T (at.start t l (at.link t l i) + at.gap t l i) (at.blockLengthAt t l i) in
-      (not (eqb l (lastLevel t)) || sameList bytes leaves) && (not (at.isPointing t l i) || sameList bytes pointedTo)
-
-  unfoldable pub fits : Bool
-  unfolding at.textLength at.settings at.levelCount
-  fits =
-      eqb (length T) (at.textLength t) && allBelow (at.settings t .levels) (λ l. allBelow (at.levelCount t l) (blockFits l))
-
   -- the start of the parent of a block of level l that starts at s; the text's on level 0. In every tree that passes questions 5 to 8 the parent of a
   -- block that starts at s starts at s / b × b, b being the block length of the parent's level: `parent-start` of crate `theory_paths`
   -- (specs/BlockStarts.antt)
-  parentStart : ℕ → ℕ → ℕ
-  unfolding at.fullLength
+  abbrev parentStart : ℕ → ℕ → ℕ
   parentStart l s = elim l [ zero ↦ 0 | suc above ↦ s / at.fullLength t above * at.fullLength t above ]
 
   -- the counts of counted byte number c in block i are those of the text
   unfoldable pub blockCountsTrue : ℕ → ℕ → ℕ → Bool
-  unfolding parentStart at.settings at.start at.link at.gap at.before at.inside at.skip at.isKept at.blockLengthAt
   blockCountsTrue l i c =
       let byte = getD (at.settings t .counted) c 0 in
       let s = at.start t l i in
@@ -105,20 +81,17 @@ module _ (T t : List ℕ) where
       && eqb (at.skip t l i c) (cond (at.isKept t l i) 0 (countIn byte (stretch T (at.start t l (at.link t l i)) (at.gap t l i))))
 
   unfoldable pub countsTrue : Bool
-  unfolding at.settings at.levelCount at.countedCount
   countsTrue =
       allBelow (at.settings t .levels) (λ l.
       allBelow (at.levelCount t l) (λ i. allBelow (at.countedCount t) (blockCountsTrue l i)))
 
   -- the edges of block i are those of its bytes in the text
   unfoldable pub blockEdgesTrue : ℕ → ℕ → Bool
-  unfolding at.settings at.edgesAt at.start at.blockLengthAt
   blockEdgesTrue l i =
       let m = at.settings t .leaf in
       sameList (stretch t (at.edgesAt t l i) (m + m)) (edgesOf m (stretch T (at.start t l i) (at.blockLengthAt t l i)))
 
   -- in layout 1 there are none
   unfoldable pub edgesTrue : Bool
-  unfolding at.settings at.levelCount at.hasEdges
   edgesTrue =
       not (at.hasEdges t) || allBelow (at.settings t .levels) (λ l. allBelow (at.levelCount t l) (blockEdgesTrue l))

@@ -24,7 +24,6 @@ module _ (t : List ℕ) where
   countedCount = wordAt t countedCountAt
 
   unfoldable pub settings : Settings
-  unfolding countedCount
   settings = record {
     leaf = wordAt t leafAt;
     arity = wordAt t arityAt;
@@ -45,70 +44,54 @@ module _ (t : List ℕ) where
   leafCount = wordAt t leafCountAt
 
   unfoldable pub recordSize : ℕ
-  unfolding layout settings countedCount
   recordSize = recordLength layout (settings .leaf) countedCount
 
   -- word f of the record of block i of level l
   unfoldable pub field : ℕ → ℕ → ℕ → ℕ
-  unfolding levelOffset recordSize
   field l i f = wordAt t (levelOffset l + i * recordSize + 4 * f)
 
   unfoldable pub start : ℕ → ℕ → ℕ
-  unfolding field
   start l i = field l i startField
 
   unfoldable pub kind : ℕ → ℕ → ℕ
-  unfolding field
   kind l i = field l i kindField
 
   unfoldable pub link : ℕ → ℕ → ℕ
-  unfolding field
   link l i = field l i linkField
 
   unfoldable pub gap : ℕ → ℕ → ℕ
-  unfolding field
   gap l i = field l i gapField
 
   -- of the counted byte with number c
   unfoldable pub before : ℕ → ℕ → ℕ → ℕ
-  unfolding field
   before l i c = field l i (beforeField c)
 
   unfoldable pub inside : ℕ → ℕ → ℕ → ℕ
-  unfolding field
   inside l i c = field l i (insideField c)
 
   unfoldable pub skip : ℕ → ℕ → ℕ → ℕ
-  unfolding field
   skip l i c = field l i (skipField c)
 
   -- where the edges of block i of level l stand in a layout 2 tree: after its words
   unfoldable pub edgesAt : ℕ → ℕ → ℕ
-  unfolding levelOffset recordSize countedCount
   edgesAt l i = levelOffset l + i * recordSize + fieldBytes countedCount
 
   unfoldable pub leafByte : ℕ → ℕ
-  unfolding leafOffset
   leafByte x = getD t (leafOffset + x) 0
 
   unfoldable pub fullLength : ℕ → ℕ
-  unfolding settings
   fullLength l = blockLength settings l
 
   unfoldable pub blockLengthAt : ℕ → ℕ → ℕ
-  unfolding fullLength start textLength
   blockLengthAt l i = min (fullLength l) (textLength - start l i)
 
   unfoldable pub isKept : ℕ → ℕ → Bool
-  unfolding kind
   isKept l i = eqb (kind l i) 0
 
   unfoldable pub isPointing : ℕ → ℕ → Bool
-  unfolding kind
   isPointing l i = eqb (kind l i) 1
 
   unfoldable pub hasEdges : Bool
-  unfolding layout
   hasEdges = eqb layout 2
 
   -- questions 5 and 6
@@ -116,12 +99,10 @@ module _ (t : List ℕ) where
   longEnough = leb headerLength (length t)
 
   unfoldable pub layoutOk : Bool
-  unfolding layout
   layoutOk = eqb layout 1 || eqb layout 2
 
   -- question 7
   unfoldable pub headerOk : Bool
-  unfolding textLength settings countedCount levelCount levelOffset recordSize leafOffset leafCount fullLength
   headerOk =
       let H = settings .levels in
       lengthOk textLength && sizesOk settings

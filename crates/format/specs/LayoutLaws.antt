@@ -12,8 +12,9 @@ use lib.Dec.{eqb, leb}
 use Rattle.text.specs.Lists.{allBelow, sumBelow}
 use Rattle.text.specs.ListLaws.{and-left, and-right, or-cases, allBelow-at, sumBelow-part}
 use Rattle.text.specs.Conjunctions.{parts}
-use Rattle.format.specs.RecordFields.{fieldCount, fieldBytes}
-use Rattle.format.specs.Settings.{maxText, maxLevels, maxCounted, maxRecord, pieces, lengthOk, sizesOk, countedOk, rising}
+use Rattle.format.specs.RecordFields.{fieldBytes, startField, kindField, linkField, gapField, plainWords, countedWords, plainFields}
+use Rattle.format.specs.Settings.{maxText, maxLevels, maxCounted, pieces, lengthOk, sizesOk, countedOk, rising}
+use Rattle.format.specs.SizeLaws.{maxRecord}
 use Rattle.format.specs.HeaderPlaces.{countedAt, headerLength}
 use Rattle.format.specs.SizeLaws.{Bounds, within-bounds, length-step, length-pos, length-last, length-falls, length-top, record-low, record-high}
 use Rattle.format.specs.SizeLaws.{record-edged}
@@ -21,6 +22,14 @@ use Rattle.format.specs.PieceLaws.{pieces-hold}
 use Rattle.format.specs.Layout.{layout, textLength, countedCount, settings, levelCount, levelOffset, leafOffset, leafCount, recordSize, edgesAt}
 use Rattle.format.specs.Layout.{fullLength, longEnough, layoutOk, headerOk}
 use Rattle.format.specs.Verdict.{ask, readable}
+
+-- the words of a record with k counted bytes
+abbrev pub fieldCount : ℕ → ℕ
+fieldCount k = plainWords + countedWords * k
+
+pub in-order : (s k l g : ℕ) → (getD (plainFields s k l g) startField 0 ≡ s) × (getD (plainFields s k l g) kindField 0 ≡ k)
+    × (getD (plainFields s k l g) linkField 0 ≡ l) × (getD (plainFields s k l g) gapField 0 ≡ g)
+in-order s k l g = (refl, refl, refl, refl)
 
 -- Questions 5 to 7, one fact each.
 pub record Readable (t : List ℕ) : Type 0 where

@@ -27,28 +27,24 @@ entered vs none = none
 entered vs (some p) = some (record { visits = vs ++ p .visits; leaf = p .leaf })
 
 -- what a test lets through
-abbrev pub provided : Bool → Option Path → Option Path
+abbrev pub provided : {A : Type 0} → Bool → Option A → Option A
 provided true p = p
 provided false p = none
 
 module _ (t : List ℕ) where
   -- block i of level l is in its table, and kept
   unfoldable pub keptBlock : ℕ → ℕ → Bool
-  unfolding at.levelCount at.isKept
   keptBlock l i = ltb i (at.levelCount t l) && at.isKept t l i
 
   -- it is in its table, and points with a gap below the block length
   unfoldable pub pointingBlock : ℕ → ℕ → Bool
-  unfolding at.levelCount at.isPointing at.gap at.fullLength
   pointingBlock l i = ltb i (at.levelCount t l) && at.isPointing t l i && ltb (at.gap t l i) (at.fullLength t l)
 
   -- where a pointing block hands place o: link at gap + o, or, if that is b or more, link + 1 at that less b
   unfoldable pub targetBlock : ℕ → ℕ → ℕ → ℕ
-  unfolding at.link at.gap at.fullLength
   targetBlock l i o = cond (ltb (at.gap t l i + o) (at.fullLength t l)) (at.link t l i) (at.link t l i + 1)
 
   unfoldable pub targetPlace : ℕ → ℕ → ℕ → ℕ
-  unfolding at.gap at.fullLength
   targetPlace l i o = cond (ltb (at.gap t l i + o) (at.fullLength t l)) (at.gap t l i + o) (at.gap t l i + o - at.fullLength t l)
 
   -- the kept block of level l that answers for place o of block i, the place in it, and the visits that lead there
@@ -68,7 +64,6 @@ module _ (t : List ℕ) where
   -- the path from place o of block i of level l, which has `below` levels under it; none where it leaves the tables, meets a
   -- pointing block after a pointing one or on the last level, a kind above 1, or a gap that is not below the block length
   unfoldable pub pathFrom : ℕ → ℕ → ℕ → ℕ → Option Path
-  unfolding at.link at.leafCount at.fullLength
   pathFrom zero l i o =
       provided (keptBlock l i && ltb (at.link t l i + o) (at.leafCount t))
       (some (record { visits = visit l i o ∷ []; leaf = at.link t l i + o }))
@@ -79,5 +74,4 @@ module _ (t : List ℕ) where
       provided (lands l i o) (entered (landVisits l i o) (pathFrom below (l + 1) (at.link t l j + p / child) (p % child)))
 
   unfoldable pub pathOf : ℕ → Option Path
-  unfolding at.settings at.fullLength
   pathOf p = pathFrom (at.settings t .levels - 1) 0 (p / at.fullLength t 0) (p % at.fullLength t 0)

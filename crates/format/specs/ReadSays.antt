@@ -10,7 +10,7 @@ use Rattle.text.specs.Lists.{tabulate}
 use Rattle.format.specs.Layout as at
 use Rattle.format.specs.Path.{Path, Visit, pathOf}
 use Rattle.format.specs.Short.{Short, shortOf, shortBytes}
-use Rattle.format.specs.Verdict.{ask, readable}
+use Rattle.format.specs.Verdict.{asks, orNext, readable}
 use Rattle.format.specs.Said.{Said, refused, unless}
 
 module _ (t : List ℕ) where
@@ -20,12 +20,10 @@ module _ (t : List ℕ) where
   byteOf (some p) = record { number = 0; value = at.leafByte t (p .leaf); entered = length (p .visits) }
 
   unfoldable pub byteSays : ℕ → Said
-  unfolding at.textLength
-  byteSays p = unless (readable t) (unless (ask 10 (ltb p (at.textLength t)) 0) (byteOf (pathOf t p)))
+  byteSays p = unless (readable t) (unless (asks ((10, ltb p (at.textLength t)) ∷ [])) (byteOf (pathOf t p)))
 
   -- Run: where the part of the tree starts, and its length; 0 and 0 where byte refuses
   unfoldable pub leftOver : List Visit → ℕ → ℕ
-  unfolding at.fullLength
   leftOver [] most = most
   leftOver (v ∷ vs) most = leftOver vs (min most (at.fullLength t (v .level) - v .place))
 
@@ -39,10 +37,8 @@ module _ (t : List ℕ) where
 
   -- A span's number, given whether its bytes are reached, and the buffer that a number leaves
   unfoldable pub asksSpan : ℕ → ℕ → ℕ → Bool → ℕ
-  unfolding at.textLength
   asksSpan p len room reached =
-      let more = ask 10 (leb (p + len) (at.textLength t)) (ask 13 (leb len room) (ask 14 reached 0)) in
-      cond (eqb (readable t) 0) more (readable t)
+      orNext (readable t) (asks ((10, leb (p + len) (at.textLength t)) ∷ (13, leb len room) ∷ (14, reached) ∷ []))
 
   unfoldable pub leavesSpan : ℕ → ℕ → List ℕ → List ℕ → List ℕ
   leavesSpan number len bytes buffer =
@@ -68,7 +64,6 @@ module _ (t : List ℕ) where
   -- Span: what it says, and the buffer afterwards
   -- short: 1 to m bytes of a layout 2 tree; other spans are read byte by byte along their paths and return 0 as blocks entered
   unfoldable pub isShort : ℕ → Bool
-  unfolding at.hasEdges at.settings
   isShort len = at.hasEdges t && leb 1 len && leb len (at.settings t .leaf)
 
   abbrev pub holds : Option Short → Bool

@@ -1,9 +1,7 @@
 -- The words of a record (docs/FORMAT.md, "Layout"): the number of each field, named once, for the definition that writes records (`Blocks`) and the one
 -- that reads them (`Layout`).
 use mathlib.Core.List.{List, [], _∷_}
-use mathlib.Core.Path.{_≡_, refl}
 use Prim.Native.Nat.{ℕ, _+_, _*_}
-use lib.ListN.{getD}
 
 abbrev pub startField : ℕ
 startField = 0
@@ -34,10 +32,6 @@ insideField c = plainWords + 1 + countedWords * c
 abbrev pub skipField : ℕ → ℕ
 skipField c = plainWords + 2 + countedWords * c
 
--- the words of a record with k counted bytes
-abbrev pub fieldCount : ℕ → ℕ
-fieldCount k = plainWords + countedWords * k
-
 -- their bytes, four to a word
 abbrev pub plainBytes : ℕ
 plainBytes = 4 * plainWords
@@ -54,7 +48,3 @@ plainFields start kind link gap = start ∷ kind ∷ link ∷ gap ∷ []
 
 abbrev pub countFields : ℕ → ℕ → ℕ → List ℕ
 countFields before inside skip = before ∷ inside ∷ skip ∷ []
-
-pub in-order : (s k l g : ℕ) → (getD (plainFields s k l g) startField 0 ≡ s) × (getD (plainFields s k l g) kindField 0 ≡ k)
-    × (getD (plainFields s k l g) linkField 0 ≡ l) × (getD (plainFields s k l g) gapField 0 ≡ g)
-in-order s k l g = (refl, refl, refl, refl)

@@ -7,7 +7,7 @@ use Prim.Native.Nat.{ℕ, zero, suc, _+_, _-_, _/_, _%_}
 use lib.Dec.{ltb, leb}
 use Rattle.text.specs.Text.{stretch}
 use Rattle.format.specs.Layout as at
-use Rattle.format.specs.Path.{Visit, visit, keptBlock, pointingBlock, lands, landBlock, landPlace, landVisits}
+use Rattle.format.specs.Path.{Visit, visit, keptBlock, pointingBlock, lands, landBlock, landPlace, landVisits, provided}
 
 -- the blocks entered, first to last, and where the bytes stand in the tree: `size` of them at `from`, the others at `next`
 pub record Short : Type 0 where
@@ -21,20 +21,14 @@ abbrev pub led : List Visit → Option Short → Option Short
 led vs none = none
 led vs (some s) = some (record { visits = vs ++ s .visits; from = s .from; size = s .size; next = s .next })
 
--- what a test lets through
-abbrev pub allowed : Bool → Option Short → Option Short
-allowed true s = s
-allowed false s = none
-
 module _ (t : List ℕ) where
   -- len bytes from place o of block i of level l, over its end: so many as are left of a full block from its last edge, the others from the
   -- first edge of the next block. Both count as entered, and their kinds are not read.
   unfoldable pub byEdges : ℕ → ℕ → ℕ → Option Short
-  unfolding at.levelCount at.fullLength at.settings at.edgesAt
   byEdges l i o =
       let left = at.fullLength t l - o in
       let m = at.settings t .leaf in
-      allowed (ltb (i + 1) (at.levelCount t l))
+      provided (ltb (i + 1) (at.levelCount t l))
       (some (record {
         visits = visit l i o ∷ visit l (i + 1) 0 ∷ [];
         from = at.edgesAt t l i + (m + m - left);
@@ -44,16 +38,14 @@ module _ (t : List ℕ) where
 
   -- the len bytes from place o of block i of the last level, if it holds them: leaf bytes
   unfoldable pub inLeaf : ℕ → ℕ → ℕ → ℕ → Option Short
-  unfolding at.link at.leafCount at.leafOffset
   inLeaf l i o len =
-      allowed (keptBlock t l i && leb (at.link t l i + o + len) (at.leafCount t))
+      provided (keptBlock t l i && leb (at.link t l i + o + len) (at.leafCount t))
       (some (record { visits = visit l i o ∷ []; from = at.leafOffset t + (at.link t l i + o); size = len; next = 0 }))
 
   -- the len bytes from place o of block i of level l, which has `below` levels under it. Where the block holds them all and is kept, they are
   -- looked for in its children; where it points, in its target, and the border between the two targets is one too. None where the walk leaves
   -- the tables, or meets a block that a path could not pass.
   unfoldable pub shortFrom : ℕ → ℕ → ℕ → ℕ → ℕ → Option Short
-  unfolding at.link at.fullLength
   shortFrom zero l i o len = cond (leb (o + len) (at.fullLength t l)) (inLeaf l i o len) (byEdges l i o)
   shortFrom (suc below) l i o len =
       let b = at.fullLength t l in
@@ -61,13 +53,12 @@ module _ (t : List ℕ) where
       let p = landPlace t l i o in
       let child = at.fullLength t (l + 1) in
       let down = shortFrom below (l + 1) (at.link t l j + p / child) (p % child) len in
-      let inside = allowed (lands t l i o) (led (landVisits t l i o) down) in
-      let between = allowed (pointingBlock t l i) (led (visit l i o ∷ []) (byEdges l j p)) in
+      let inside = provided (lands t l i o) (led (landVisits t l i o) down) in
+      let between = provided (pointingBlock t l i) (led (visit l i o ∷ []) (byEdges l j p)) in
       cond (leb (o + len) b) (cond (leb (p + len) b) inside between) (byEdges l i o)
 
   -- from place p of the text
   unfoldable pub shortOf : ℕ → ℕ → Option Short
-  unfolding at.settings at.fullLength
   shortOf p len = shortFrom (at.settings t .levels - 1) 0 (p / at.fullLength t 0) (p % at.fullLength t 0) len
 
   -- the bytes, how many blocks were entered, and whether the walk holds

@@ -10,7 +10,11 @@ use lib.Dec.{leb, eqb}
 use Rattle.text.specs.ListLaws.{and-left, and-right}
 use Rattle.text.specs.Conjunctions.{parts}
 use Rattle.format.specs.RecordFields.{fieldBytes}
-use Rattle.format.specs.Settings.{Settings, sizesOk, blockLength, recordLength, maxText, maxLeaf, minArity, maxArity, maxLevels, maxCounted, maxRecord}
+use Rattle.format.specs.Settings.{Settings, sizesOk, blockLength, recordLength, maxText, maxLeaf, minArity, maxArity, maxLevels, maxCounted}
+
+-- the most bytes of a record
+abbrev pub maxRecord : ℕ
+maxRecord = fieldBytes maxCounted + (maxLeaf + maxLeaf)
 
 -- The one record of bounds: of n, m, r, H and k. The header of a tree that is read, the settings of the code and those that are built with have it.
 pub record Bounds (n m r H k : ℕ) : Type 0 where

@@ -1,8 +1,9 @@
 -- What the check answers: 0 for an accepted tree, else the number of the first question that it fails.
 -- docs/FORMAT.md: "The questions, in order".
-use mathlib.Core.List.{List}
-use mathlib.Core.Bool.{Bool, true, false, _&&_}
+use mathlib.Core.List.{List, [], _∷_}
+use mathlib.Core.Bool.{Bool, true, false, cond, _&&_}
 use Prim.Native.Nat.{ℕ}
+use lib.Dec.{eqb}
 use Rattle.format.specs.Layout as at
 use Rattle.format.specs.Fits.{linksOk, textOf, countsTrue, edgesTrue}
 
@@ -11,13 +12,18 @@ abbrev pub ask : ℕ → Bool → ℕ → ℕ
 ask number true rest = rest
 ask number false rest = number
 
+-- questions in order, each with its number: the number of the first that fails, else 0
+abbrev pub asks : List (ℕ × Bool) → ℕ
+asks [] = 0
+asks (q ∷ qs) = ask (q .0) (q .1) (asks qs)
+
+-- the number of questions that refuse, else what the next ones say
+abbrev pub orNext : ℕ → ℕ → ℕ
+orNext number next = cond (eqb number 0) next number
+
 -- questions 5 to 7, which every question put to a tree asks first
 unfoldable pub readable : List ℕ → ℕ
-unfolding at.longEnough at.layoutOk at.headerOk
-readable t = ask 5 (at.longEnough t) (ask 6 (at.layoutOk t) (ask 7 (at.headerOk t) 0))
+readable t = asks ((5, at.longEnough t) ∷ (6, at.layoutOk t) ∷ (7, at.headerOk t) ∷ [])
 
 unfoldable pub verdict : List ℕ → ℕ
-unfolding at.longEnough at.layoutOk at.headerOk
-verdict t =
-    let true-of-text = countsTrue (textOf t) t && edgesTrue (textOf t) t in
-    ask 5 (at.longEnough t) (ask 6 (at.layoutOk t) (ask 7 (at.headerOk t) (ask 8 (linksOk t) (ask 9 true-of-text 0))))
+verdict t = asks ((5, at.longEnough t) ∷ (6, at.layoutOk t) ∷ (7, at.headerOk t) ∷ (8, linksOk t) ∷ (9, countsTrue (textOf t) t && edgesTrue (textOf t) t) ∷ [])

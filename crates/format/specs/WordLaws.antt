@@ -11,6 +11,10 @@ use lib.Seq.{getD-set-other, sets-eq, getD-append-add}
 use Rattle.text.specs.Lists.{concat}
 use Rattle.format.specs.Words.{wordAt, wordBytes, wordsBytes, setWord}
 
+-- three words, one after the other
+abbrev pub putThree : List ℕ → ℕ → ℕ → ℕ → ℕ → List ℕ
+putThree t i a b c = setWord (setWord (setWord t i a) (i + 4) b) (i + 8) c
+
 -- a number below 2^32 is the sum of its four digits to base 256
 pub digits : (w : ℕ) → w < 4294967296 → w % 256 + 256 * (w / 256 % 256) + 65536 * (w / 65536 % 256) + 16777216 * (w / 16777216 % 256) ≡ w
 digits w small =

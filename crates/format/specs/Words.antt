@@ -18,7 +18,3 @@ wordsBytes ws = concat (map wordBytes ws)
 unfoldable pub setWord : List ℕ → ℕ → ℕ → List ℕ
 setWord t i w =
     set (set (set (set t i (w % 256)) (i + 1) (w / 256 % 256)) (i + 2) (w / 65536 % 256)) (i + 3) (w / 16777216 % 256)
-
--- three words, one after the other
-abbrev pub putThree : List ℕ → ℕ → ℕ → ℕ → ℕ → List ℕ
-putThree t i a b c = setWord (setWord (setWord t i a) (i + 4) b) (i + 8) c

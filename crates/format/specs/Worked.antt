@@ -17,14 +17,16 @@ use Rattle.format.specs.Blocks.{isKept, startsAt, cut, keptByPairs, firs
 use Rattle.format.specs.Layout as at
 use Rattle.format.specs.Path.{pathOf, pathFrom, visit, targetPlace, targetBlock, pointingBlock, keptBlock, lands, landBlock, landPlace, landVisits}
 use Rattle.format.specs.Short.{shortOf, shortFrom, byEdges, inLeaf}
-use Rattle.format.specs.Fits.{linksOk, textOf, fits, countsTrue, edgesTrue, blockEdgesTrue, lastLevel, widthAt, keptRight, pointingRight}
-use Rattle.format.specs.Fits.{blockRight, countBelowRight, blockFits, blockCountsTrue}
+use Rattle.format.specs.Fits.{linksOk, textOf, countsTrue, edgesTrue, blockEdgesTrue, lastLevel, widthAt, keptRight, pointingRight}
+use Rattle.format.specs.FittingText.{fits, blockFits}
+use Rattle.format.specs.Fits.{blockRight, countBelowRight, blockCountsTrue}
 use Rattle.format.specs.Verdict.{verdict, readable}
 use Rattle.format.specs.Said.{Said}
 use Rattle.format.specs.ReadSays.{byteSays, runSays, asksSpan, leavesSpan, isShort, spanReached, spanBytes, spanBlocks, spanNumber, spanSays}
 use Rattle.format.specs.ReadSays.{spanLeaves, leftOver, pathsHold}
 use Rattle.format.specs.CountSays.{countSays, indexOf, added, addedAfter, taken, takenAfter, lastPlace, leavesReached, isCounted, numberOfByte}
-use Rattle.format.specs.FindSays.{selectNumber, total, found, FindSays}
+use Rattle.format.specs.FindSays.{selectNumber, total, found}
+use Rattle.format.specs.FindSaysLaws.{FindSays}
 
 book : List ℕ
 book = 81 ∷ 65 ∷ 66 ∷ 67 ∷ 68 ∷ 65 ∷ 66 ∷ 67 ∷ 68 ∷ 69 ∷ 70 ∷ 71 ∷ 65 ∷ 66 ∷ 67 ∷ 68 ∷ 65 ∷ 66 ∷ 67 ∷ 68 ∷ []
@@ -143,14 +145,16 @@ pub record Marked : Type 0 where
   blocks-too-large : (sizesOk (shape 256 8 7) ≡ false) × (sizesOk (shape 129 16 5) ≡ false) × (sizesOk (shape 256 16 5) ≡ false)
 
 pub marked : Marked
-unfolding shape spanned other-kinds other-start pointing-two leaf-two other-end other-first words older older-twelve abcd
-    said book two plain tabulate concat sumBelow countBelow allBelow sameList setWord wordAt wordsBytes wordBytes stretch leftmost firstFrom countIn
-    placeOf placeIn blockLength pieces lengthOk sizesOk countedOk rising risingAfter treeOf header leafBytes levelPairs recordBytes recordLength edgesOf
-    filledOut levelBytes recordIn recordOf target occurrence width isKept startsAt cut keptByPairs firstPairAt pairAt lengthOf startOf pathOf pathFrom
-    targetPlace targetBlock pointingBlock keptBlock lands landBlock landPlace landVisits shortOf shortFrom byEdges inLeaf linksOk textOf fits countsTrue
-    edgesTrue blockEdgesTrue lastLevel widthAt keptRight pointingRight blockRight countBelowRight blockFits blockCountsTrue verdict readable at.leafByte
-    byteSays countSays runSays asksSpan leavesSpan isShort spanReached spanBytes spanBlocks spanNumber spanSays spanLeaves selectNumber indexOf leftOver
-    pathsHold added addedAfter taken takenAfter lastPlace leavesReached isCounted numberOfByte total found at.blockLengthAt at.levelCount at.levelOffset
+unfolding shape spanned other-kinds other-start pointing-two leaf-two other-end other-first words older older-twelve abcd said book two plain tabulate
+    concat sumBelow countBelow allBelow sameList setWord wordAt wordsBytes wordBytes stretch leftmost firstFrom countIn placeOf placeIn blockLength
+    pieces lengthOk sizesOk countedOk rising risingAfter treeOf header leafBytes levelPairs recordBytes recordLength edgesOf filledOut levelBytes
+    recordIn recordOf target occurrence width isKept startsAt cut keptByPairs firstPairAt pairAt lengthOf startOf pathOf pathFrom targetPlace
+    targetBlock pointingBlock keptBlock lands landBlock landPlace landVisits shortOf shortFrom byEdges inLeaf linksOk textOf fits countsTrue edgesTrue
+    blockEdgesTrue lastLevel widthAt keptRight pointingRight blockRight countBelowRight blockFits blockCountsTrue verdict readable at.leafByte
+    byteSays countSays runSays asksSpan leavesSpan isShort spanReached spanBytes spanBlocks spanNumber spanSays spanLeaves selectNumber indexOf
+    leftOver pathsHold added addedAfter taken takenAfter lastPlace leavesReached isCounted numberOfByte total found at.blockLengthAt at.levelCount
+    at.levelOffset at.layout at.textLength at.countedCount at.settings at.leafOffset at.leafCount at.recordSize at.field at.start at.kind at.link
+    at.gap at.before at.inside at.skip at.edgesAt at.fullLength at.isKept at.isPointing at.hasEdges at.longEnough at.layoutOk at.headerOk
 marked = record {
   level0 = refl;
   level1 = (refl, refl);
@@ -221,14 +225,16 @@ pub record Empty : Type 0 where
   block : verdict (laid-out 1 0 128 0 (replicate 28 0)) ≡ 7
 
 pub empty : Empty
-unfolding spanned no-bytes-tree
-    laid-out said two tabulate concat sumBelow countBelow allBelow sameList setWord wordAt wordsBytes wordBytes stretch leftmost firstFrom countIn
-    placeOf placeIn blockLength pieces lengthOk sizesOk countedOk rising risingAfter treeOf header leafBytes levelPairs recordBytes recordLength edgesOf
-    filledOut levelBytes recordIn recordOf target occurrence width isKept startsAt cut keptByPairs firstPairAt pairAt lengthOf startOf pathOf pathFrom
-    targetPlace targetBlock pointingBlock keptBlock lands landBlock landPlace landVisits shortOf shortFrom byEdges inLeaf linksOk textOf fits countsTrue
-    edgesTrue blockEdgesTrue lastLevel widthAt keptRight pointingRight blockRight countBelowRight blockFits blockCountsTrue verdict readable at.leafByte
-    byteSays countSays runSays asksSpan leavesSpan isShort spanReached spanBytes spanBlocks spanNumber spanSays spanLeaves selectNumber indexOf leftOver
-    pathsHold added addedAfter taken takenAfter lastPlace leavesReached isCounted numberOfByte total found at.blockLengthAt at.levelCount at.levelOffset
+unfolding spanned no-bytes-tree laid-out said two tabulate concat sumBelow countBelow allBelow sameList setWord wordAt wordsBytes wordBytes stretch
+    leftmost firstFrom countIn placeOf placeIn blockLength pieces lengthOk sizesOk countedOk rising risingAfter treeOf header leafBytes levelPairs
+    recordBytes recordLength edgesOf filledOut levelBytes recordIn recordOf target occurrence width isKept startsAt cut keptByPairs firstPairAt pairAt
+    lengthOf startOf pathOf pathFrom targetPlace targetBlock pointingBlock keptBlock lands landBlock landPlace landVisits shortOf shortFrom byEdges
+    inLeaf linksOk textOf fits countsTrue edgesTrue blockEdgesTrue lastLevel widthAt keptRight pointingRight blockRight countBelowRight blockFits
+    blockCountsTrue verdict readable at.leafByte byteSays countSays runSays asksSpan leavesSpan isShort spanReached spanBytes spanBlocks spanNumber
+    spanSays spanLeaves selectNumber indexOf leftOver pathsHold added addedAfter taken takenAfter lastPlace leavesReached isCounted numberOfByte total
+    found at.blockLengthAt at.levelCount at.levelOffset at.layout at.textLength at.countedCount at.settings at.leafOffset at.leafCount at.recordSize
+    at.field at.start at.kind at.link at.gap at.before at.inside at.skip at.edgesAt at.fullLength at.isKept at.isPointing at.hasEdges at.longEnough
+    at.layoutOk at.headerOk
 empty = record {
   bytes = refl;
   size = refl;

@@ -11,6 +11,7 @@ use lib.Dec.{leb, eqb}
 use borrow.Author.Tests.{le-leb, lt-leb}
 use Rattle.text.specs.Lists.{allBelow, sumBelow}
 use Rattle.format.specs.Settings.{maxText, maxCounted}
+use Rattle.layout.specs.CheckedSettings.{sizes}
 use Rattle.format.specs.Words.{wordAt}
 use Rattle.format.specs.Layout as at
 use Rattle.format.specs.Settings as format
@@ -137,7 +138,7 @@ header-many t k k-is h = seven-counted t (rw (← k-is, lt-leb k maxCounted h))
 -- the header's settings, checked
 module _ (t : List ℕ) (m r H k : ℕ)
     (m-is : m ≡ wordAt t leafAt) (r-is : r ≡ wordAt t arityAt) (H-is : H ≡ wordAt t levelsAt) (k-is : k ≡ wordAt t countedCountAt) where
-  sizes-here : (b : Bool) → format.sizesOk (given.sizes m r H) ≡ b → format.sizesOk (at.settings t) ≡ b
+  sizes-here : (b : Bool) → format.sizesOk (sizes m r H) ≡ b → format.sizesOk (at.settings t) ≡ b
   unfolding at.settings format.sizesOk
   sizes-here b e = rw (← m-is, ← r-is, ← H-is) e
 
@@ -157,7 +158,7 @@ module _ (t : List ℕ) (m r H k : ℕ)
     part = take (countedAt + k - countedAt) (drop countedAt t)
 
     abbrev sizes-fit : Bool
-    sizes-fit = format.sizesOk (given.sizes m r H)
+    sizes-fit = format.sizesOk (sizes m r H)
 
     abbrev there : Settings
     there = record { leaf = m; arity = r; levels = H; counted = length part }
@@ -196,7 +197,7 @@ module _ (t : List ℕ) (m r H k : ℕ)
             arity-is = r-is;
             levels-is = H-is;
             counted-is = size ∙ k-is;
-            bounds = within-bounds n (length part) (given.sizes m r H) high fit (rw size few);
+            bounds = within-bounds n (length part) (sizes m r H) high fit (rw size few);
           })
 
       settings-are : HasSettings t n s → s ≡ settingsOf t

@@ -10,7 +10,7 @@ use Rattle.layout.specs.declared.settings.Checked.the-variants.{Fine, Re
 
 -- m, r and H, with no byte counted
 abbrev pub sizes : ℕ → ℕ → ℕ → format.Settings
-sizes m r H = record { leaf = m; arity = r; levels = H; counted = [] }
+sizes m r H = format.given m r H []
 
 -- the settings, or the number of the first question that refuses them
 unfoldable pub checked : ℕ → ℕ → ℕ → List ℕ → Checked

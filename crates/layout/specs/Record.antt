@@ -6,10 +6,10 @@ use lib.ListN.{length, getD}
 use native.Mathlib.Omega.{arith}
 use Rattle.format.specs.Layout.{settings, layout, levelCount, levelOffset, countedCount, recordSize, field}
 use Rattle.format.specs.WordLaws.{wordAt-agree}
-use Rattle.format.specs.RecordFields.{fieldCount}
-use Rattle.format.specs.Settings.{maxLevels, maxCounted, maxRecord}
+use Rattle.format.specs.LayoutLaws.{fieldCount, Readable, word-inside}
+use Rattle.format.specs.Settings.{maxLevels, maxCounted}
+use Rattle.format.specs.SizeLaws.{maxRecord}
 use Rattle.format.specs.HeaderPlaces.{layoutAt, leafAt, countedCountAt, offsetAt, headerLength}
-use Rattle.format.specs.LayoutLaws.{Readable, word-inside}
 
 pub record FieldIn (t : List ℕ) (size level block f : ℕ) : Type 0 where
   pub header : headerLength ≤ length t

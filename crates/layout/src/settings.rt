@@ -2,9 +2,10 @@
 use crate::record;
 ghost use mathlib.Core.Path.{_≡_};
 ghost use Prim.Native.Nat.{_+_, _*_, _^_, _-_, _≤_, _<_};
-ghost use Rattle.format.specs.Settings.{sizesOk, rising, recordLength, maxText, maxLeaf, maxArity, maxLevels, maxCounted, maxRecord};
-ghost use Rattle.format.specs.Settings as format;
+ghost use Rattle.format.specs.Settings.{sizesOk, rising, recordLength, maxText, maxLeaf, maxArity, maxLevels, maxCounted};
 ghost use Rattle.layout.specs.CheckedSettings.{sizes, checked};
+ghost use Rattle.format.specs.SizeLaws.{maxRecord};
+ghost use Rattle.format.specs.Settings as format;
 ghost use Rattle.layout.specs.SettingsLevel.{Sized};
 
 // The bytes of a record's words: of every record, and for each counted byte.

@@ -2,7 +2,8 @@
 ghost use mathlib.Core.Path.{_≡_};
 ghost use Prim.Native.Nat.{_+_, _≤_, _<_};
 ghost use lib.ListN.{length};
-ghost use Rattle.format.specs.Words.{wordAt, setWord, putThree};
+ghost use Rattle.format.specs.Words.{wordAt, setWord};
+ghost use Rattle.format.specs.WordLaws.{putThree};
 
 fn wide(b: u8) -> u32
     ensures { λ r. ⌜ (r ≡ b) × (r < 256) ⌝ }

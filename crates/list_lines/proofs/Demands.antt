@@ -15,7 +15,7 @@ use borrow.Author.Tests.{ne-eqb}
 use Rattle.format.specs.Verdict.{verdict}
 use Rattle.theory_accepted.specs.QuestionNumbers.{OneOf, asks-one, then-one, not-zero, verdict-one, says-refused, says-answer}
 use Rattle.theory_machine.specs.Ends.{Ends}
-use Rattle.theory_machine.specs.OutsideCalls.{AsksNothing, Call, call, Each, each-ends, each-asks-nothing}
+use Rattle.theory_machine.specs.OutsideCalls.{AsksNothing, Call, callOf, Each, each-ends, each-asks-nothing}
 use Rattle.list_lines.specs.Lines.{inputNumber, printed, maxInput}
 use Rattle.list_lines.specs.ListSays.{listRefusal, listSays, listLeaves}
 use Rattle.list_lines.specs.declared.Listed.{Listed}
@@ -30,10 +30,8 @@ use Rattle.list_lines.proofs.print.Met as print-met
 
 abbrev pub calls : List Call
 calls =
-    call (record { routine = list-at.routine; signature = list-of.signature; clauses = list-of.spec }) list-met.met
-    (λ 𝓤 H A mem run κs a. (tt, refl))
-    ∷ call (record { routine = print-at.routine; signature = print-of.signature; clauses = print-of.spec }) print-met.met
-    (λ 𝓤 H A mem run κs a. (tt, refl))
+    callOf list-at.routine list-of.signature list-of.spec list-met.met (λ 𝓤 H A mem run κs a. (tt, refl))
+    ∷ callOf print-at.routine print-of.signature print-of.spec print-met.met (λ 𝓤 H A mem run κs a. (tt, refl))
     ∷ []
 
 pub every-call-ends : Each Ends calls

@@ -21,9 +21,9 @@ use Rattle.layout.specs.declared.header.Header.{Header}
 use Rattle.layout.specs.declared.header.HeaderRead.{HeaderRead}
 use Rattle.layout.specs.declared.header.HeaderRead.the-variants as header
 use Rattle.list_lines.specs.Written.{Put}
-use Rattle.list_lines.specs.Lines.{figure, line, hasKind, levelLine, linesBelow, refusedLine, linesOf, maxInput, inputNumber, printed, maxFigure}
-use Rattle.list_lines.specs.Lines.{maxLine, maxLines, maxRefused}
-use Rattle.list_lines.specs.LevelTable.{Level}
+use Rattle.list_lines.specs.Lines.{figure, line, levelLine, linesBelow, refusedLine, linesOf, maxInput, inputNumber, printed, maxFigure}
+use Rattle.list_lines.specs.LevelTable.{hasKind, maxRefused, Level}
+use Rattle.list_lines.specs.Lines.{maxLine, maxLines}
 use Rattle.list_lines.proofs.WrittenLaws.{then-put, put-nothing, put-within}
 
 -- Counting.

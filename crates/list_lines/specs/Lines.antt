@@ -1,10 +1,10 @@
 -- What the list program prints.
 -- docs/FORMAT.md: "The list program".
 use mathlib.Core.List.{List, [], _∷_, _++_}
-use mathlib.Core.Bool.{Bool, cond}
+use mathlib.Core.Bool.{cond}
 use Prim.Native.Nat.{ℕ, zero, suc, _+_, _*_, _/_, _%_}
 use lib.ListN.{length}
-use lib.Dec.{eqb, leb, ltb}
+use lib.Dec.{leb, ltb}
 use Rattle.text.specs.Lists.{countBelow}
 use Rattle.format.specs.Settings.{maxLevels}
 use Rattle.format.specs.Layout as at
@@ -28,9 +28,6 @@ unfoldable pub line : ℕ → ℕ → ℕ → ℕ → List ℕ
 line level blocks kept pointing = figure level 32 ++ figure blocks 32 ++ figure kept 32 ++ figure pointing 10
 
 module _ (t : List ℕ) where
-  abbrev pub hasKind : ℕ → ℕ → ℕ → Bool
-  hasKind l k i = eqb (at.kind t l i) k
-
   -- level, blocks, kept, pointing
   unfoldable pub levelLine : ℕ → List ℕ
   levelLine l = line l (at.levelCount t l) (countBelow (at.levelCount t l) (at.isKept t l)) (countBelow (at.levelCount t l) (at.isPointing t l))
@@ -48,7 +45,7 @@ refusedLine q = 114 ∷ 101 ∷ 102 ∷ 117 ∷ 115 ∷ 101 ∷ 100 ∷ 32 ∷ [
 abbrev pub maxInput : ℕ
 maxInput = 65536
 
--- the most bytes of a number of 32 bits, with the byte after it; of a line; of the lines of all levels; and of the line of a refused tree
+-- the most bytes of a number of 32 bits, with the byte after it; of a line; of the lines of all levels
 abbrev pub maxFigure : ℕ
 maxFigure = 11
 
@@ -57,9 +54,6 @@ maxLine = 4 * maxFigure
 
 abbrev pub maxLines : ℕ
 maxLines = maxLevels * maxLine
-
-abbrev pub maxRefused : ℕ
-maxRefused = 8 + maxFigure
 
 -- question 15, then the check's
 unfoldable pub inputNumber : List ℕ → ℕ

@@ -12,8 +12,9 @@ use Rattle.format.specs.Blocks.{treeOf, header, leafBytes, levelPairs, recordBy
 use Rattle.format.specs.Blocks.{startsAt, cut, keptByPairs, firstPairAt, pairAt, lengthOf, startOf}
 use Rattle.format.specs.Layout as at
 use Rattle.format.specs.Path.{pathOf, pathFrom, targetPlace, targetBlock, pointingBlock, keptBlock, lands, landBlock, landPlace, landVisits}
-use Rattle.format.specs.Fits.{linksOk, textOf, fits, countsTrue, edgesTrue, blockEdgesTrue, lastLevel, widthAt, keptRight, pointingRight, blockRight}
-use Rattle.format.specs.Fits.{countBelowRight, blockFits, blockCountsTrue}
+use Rattle.format.specs.Fits.{linksOk, textOf, countsTrue, edgesTrue, blockEdgesTrue, lastLevel, widthAt, keptRight, pointingRight, blockRight}
+use Rattle.format.specs.FittingText.{fits, blockFits}
+use Rattle.format.specs.Fits.{countBelowRight, blockCountsTrue}
 use Rattle.format.specs.Verdict.{verdict, readable}
 use Rattle.list_lines.specs.Lines.{digitsWithin, decimal, figure, line, levelLine, linesBelow, refusedLine, inputNumber, printed}
 
@@ -33,10 +34,12 @@ pub record Printed : Type 0 where
   three-digits : decimal 532 ≡ 53 ∷ 51 ∷ 50 ∷ []
 
 pub shown : Printed
-unfolding book two tabulate concat sumBelow countBelow allBelow sameList wordAt wordsBytes wordBytes stretch
-    leftmost firstFrom countIn placeOf placeIn blockLength pieces lengthOk sizesOk countedOk rising risingAfter treeOf header leafBytes levelPairs
-    recordBytes recordLength edgesOf filledOut levelBytes recordIn recordOf target occurrence width isKept startsAt cut keptByPairs firstPairAt
-    pairAt lengthOf startOf pathOf pathFrom targetPlace targetBlock pointingBlock keptBlock lands landBlock landPlace landVisits linksOk textOf fits
-    countsTrue edgesTrue blockEdgesTrue lastLevel widthAt keptRight pointingRight blockRight countBelowRight blockFits blockCountsTrue verdict readable
-    at.leafByte at.blockLengthAt at.levelCount at.levelOffset digitsWithin decimal figure line levelLine linesBelow refusedLine inputNumber printed
+unfolding book two tabulate concat sumBelow countBelow allBelow sameList wordAt wordsBytes wordBytes stretch leftmost firstFrom countIn placeOf
+    placeIn blockLength pieces lengthOk sizesOk countedOk rising risingAfter treeOf header leafBytes levelPairs recordBytes recordLength edgesOf
+    filledOut levelBytes recordIn recordOf target occurrence width isKept startsAt cut keptByPairs firstPairAt pairAt lengthOf startOf pathOf pathFrom
+    targetPlace targetBlock pointingBlock keptBlock lands landBlock landPlace landVisits linksOk textOf fits countsTrue edgesTrue blockEdgesTrue
+    lastLevel widthAt keptRight pointingRight blockRight countBelowRight blockFits blockCountsTrue verdict readable at.leafByte at.blockLengthAt
+    at.levelCount at.levelOffset digitsWithin decimal figure line levelLine linesBelow refusedLine inputNumber printed at.layout at.textLength
+    at.countedCount at.settings at.leafOffset at.leafCount at.recordSize at.field at.start at.kind at.link at.gap at.before at.inside at.skip
+    at.edgesAt at.fullLength at.isKept at.isPointing at.hasEdges at.longEnough at.layoutOk at.headerOk
 shown = record { book-lines = refl; short-tree = refl; short-header = refl; no-text = refl; three-digits = refl }

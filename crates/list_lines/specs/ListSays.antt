@@ -1,38 +1,31 @@
 -- What list answers, by its number and length, and what it leaves in the lent buffer.
 -- docs/FORMAT.md: "The list program".
-use mathlib.Core.List.{List, _++_}
+use mathlib.Core.List.{List, [], _∷_, _++_}
 use mathlib.Core.Bool.{cond}
-use mathlib.Core.Path.{_≡_}
-use Prim.Native.Nat.{ℕ, _≤_}
+use Prim.Native.Nat.{ℕ}
 use lib.ListN.{length, drop}
 use lib.Dec.{leb, eqb}
-use Rattle.format.specs.Verdict.{ask}
-use Rattle.format.specs.Said.{Said, refused, unless}
+use Rattle.format.specs.Verdict.{asks, orNext}
+use Rattle.format.specs.Said.{Said, unless, Reply, figures, refusal, Is}
 use Rattle.list_lines.specs.Lines.{inputNumber, printed}
 use Rattle.list_lines.specs.declared.Listed.{Listed}
 use Rattle.list_lines.specs.declared.Listed.the-variants.{Bytes, Refused}
 
 -- questions 15 and 5 to 9, then 13 of the lines' own length
 unfoldable pub listRefusal : List ℕ → ℕ → ℕ
-listRefusal t room = cond (eqb (inputNumber t) 0) (ask 13 (leb (length (printed t)) room) 0) (inputNumber t)
+listRefusal t room = orNext (inputNumber t) (asks ((13, leb (length (printed t)) room) ∷ []))
 
 -- the lines' length, unless a question refuses
 unfoldable pub listSays : List ℕ → ℕ → Said
 listSays t room = unless (listRefusal t room) (record { number = 0; value = length (printed t); entered = 0 })
 
 -- the answer by its number and length
-abbrev pub listSaid : Listed → Said
-listSaid (Bytes size) = record { number = 0; value = size; entered = 0 }
-listSaid (Refused number) = refused number
+abbrev pub listReply : Listed → Reply
+listReply (Bytes size) = figures size 0
+listReply (Refused number) = refusal number
 
--- a refusal's number is not 0
-abbrev pub ListNumbered : Listed → Type 0
-ListNumbered (Bytes size) = Unit {0}
-ListNumbered (Refused number) = 1 ≤ number
-
-pub record ListAnswer (t : List ℕ) (room : ℕ) (r : Listed) : Type 0 where
-  pub says : listSaid r ≡ listSays t room
-  pub numbered : ListNumbered r
+abbrev pub ListAnswer : (t : List ℕ) (room : ℕ) → Listed → Type 0
+ListAnswer t room = Is listReply (listSays t room)
 
 -- the buffer: the lines at its start where they are answered, else unchanged
 unfoldable pub listLeaves : List ℕ → List ℕ → List ℕ

@@ -7,8 +7,7 @@ ghost use Prim.Native.Nat.{_≤_, _<_};
 ghost use lib.Dec.{eqb};
 ghost use Rattle.text.specs.Lists.{countBelow};
 ghost use Rattle.format.specs.Layout as at;
-ghost use Rattle.list_lines.specs.Lines.{hasKind};
-ghost use Rattle.list_lines.specs.LevelTable.{Level};
+ghost use Rattle.list_lines.specs.LevelTable.{hasKind, Level};
 
 // How many blocks of a level have the given kind.
 pub fn count_of(t: &[u8], size: u32, level: u32, kind: u32) -> u32

@@ -13,9 +13,9 @@ ghost use lib.ListN.{length};
 ghost use Rattle.format.specs.Layout as at;
 ghost use Rattle.layout.specs.HeaderSays.{HeaderOf};
 ghost use Rattle.list_lines.specs.Written.{Put};
-ghost use Rattle.list_lines.specs.Lines.{line, levelLine, linesBelow, refusedLine, inputNumber, printed, maxLine, maxLines, maxRefused};
+ghost use Rattle.list_lines.specs.Lines.{line, levelLine, linesBelow, refusedLine, inputNumber, printed, maxLine, maxLines};
+ghost use Rattle.list_lines.specs.LevelTable.{maxRefused, Level};
 ghost use Rattle.list_lines.specs.ListSays.{ListAnswer, listLeaves};
-ghost use Rattle.list_lines.specs.LevelTable.{Level};
 
 // The longest tree that is listed.
 pub const MAX_INPUT: usize = 65536;

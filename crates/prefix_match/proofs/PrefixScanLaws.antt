@@ -8,27 +8,12 @@ use native.Mathlib.Omega.{arith}
 use lib.ListN.{length, getD, drop}
 use Rattle.text.specs.ListLaws.{bool-clash, lt-or-ge}
 use Rattle.search_byte.specs.FirstByte.{Without}
-use Rattle.row_filter.specs.RowAutomaton.{Scan, found, on, RowBetween, scanBytes}
+use Rattle.row_filter.specs.RowAutomaton.{scanBytes}
 use Rattle.row_filter.specs.RowAutomatonLaws.{byte-step, scan-on}
 use Rattle.prefix_match.specs.declared.prefix_state.PrefixState.{PrefixState}
-use Rattle.prefix_match.specs.declared.prefix_scan.PrefixScan.{PrefixScan}
-use Rattle.prefix_match.specs.declared.prefix_scan.PrefixScan.the-variants.{Found, On}
 use Rattle.prefix_match.specs.declared.prefix_state.PrefixState.the-variants.{Matched, Longer, Mismatch}
 use Rattle.prefix_match.specs.PrefixStates.{isOpen, prefixStep, prefixAutomaton}
-use Rattle.prefix_match.specs.PrefixScanned.{asPrefixScan, Passed}
-
-module _ (r : PrefixScan) (n : ℕ) where
-  pub as-prefix-found : (y : Scan PrefixState) → r ≡ Found n → asPrefixScan r ≡ y → found n ≡ y
-  as-prefix-found y e f = rw e at f
-
-  pub as-prefix-on : (state : PrefixState) (y : Scan PrefixState) → r ≡ On state n → asPrefixScan r ≡ y → on state n ≡ y
-  as-prefix-on state y e f = rw e at f
-
-  pub is-prefix-found : (y : Scan PrefixState) → r ≡ Found n → found n ≡ y → asPrefixScan r ≡ y
-  is-prefix-found y e f = rw e f
-
-  pub prefix-found-bounds : (q more : ℕ) → r ≡ Found n → q ≤ n → n ≤ q + more → RowBetween q more (asPrefixScan r)
-  prefix-found-bounds q more e a b = rw e (a, b)
+use Rattle.prefix_match.specs.PrefixScanned.{Passed}
 
 -- a state that no byte but 10 changes
 stays : (prefix : List ℕ) (s : PrefixState) → isOpen s ≡ false → (x : ℕ) → s ≡ prefixStep prefix s x

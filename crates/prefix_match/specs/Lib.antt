@@ -1,5 +1,6 @@
 -- Rows that start with a prefix, and the automaton that recognizes them.
 pub mod PrefixRows
+pub mod PrefixRowNumbers
 pub mod PrefixRowLaws
 pub mod PrefixStates
 pub mod PrefixScanned

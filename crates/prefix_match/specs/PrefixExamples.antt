@@ -4,8 +4,10 @@ use mathlib.Core.Path.{_≡_, refl}
 use Prim.Native.Nat.{ℕ}
 use Rattle.text.specs.Rows.{rowsOf}
 use Rattle.text.specs.Lists.{sameList}
-use Rattle.row_filter.specs.SelectedRows.{selectedFrom, selectedRows, firstSelected, nextSelected, outcomeAt, nextOutcome}
-use Rattle.prefix_match.specs.PrefixRows.{startsWith, rowsWithPrefix, nextWithPrefix}
+use Rattle.row_filter.specs.SelectedRows.{firstSelected, nextSelected, outcomeAt, nextOutcome}
+use Rattle.row_filter.specs.SelectedRowNumbers.{selectedFrom, selectedRows}
+use Rattle.prefix_match.specs.PrefixRows.{startsWith}
+use Rattle.prefix_match.specs.PrefixRowNumbers.{rowsWithPrefix, nextWithPrefix}
 
 -- AB1, 10, B, 10, AB, 13 10, CAB, 10, AB2
 book : List ℕ

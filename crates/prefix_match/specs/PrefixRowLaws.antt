@@ -12,9 +12,10 @@ use Rattle.text.specs.ListLaws.{bool-clash, bool-cases, and-left, and-right, an
 use Rattle.text.specs.Text.{countIn}
 use Rattle.text.specs.CountLaws.{one, count-cons, count-nil, count-append}
 use Rattle.text.specs.Rows.{inFirst, rowsOf}
-use Rattle.row_filter.specs.SelectedRows.{selectedFrom, selectedRows}
+use Rattle.row_filter.specs.SelectedRowNumbers.{selectedFrom, selectedRows}
 use Rattle.row_filter.specs.SelectedRowLaws.{In, more-selected, Sublist, selected-sublist}
-use Rattle.prefix_match.specs.PrefixRows.{startsWith, rowsWithPrefix}
+use Rattle.prefix_match.specs.PrefixRows.{startsWith}
+use Rattle.prefix_match.specs.PrefixRowNumbers.{rowsWithPrefix}
 
 starts-less : (p q row : List ℕ) → startsWith (p ++ q) row ≡ true → startsWith p row ≡ true
 unfolding startsWith sameList

@@ -17,7 +17,8 @@ use Rattle.format.specs.Settings.{Settings}
 use Rattle.format.specs.Blocks.{treeOf}
 use Rattle.format.specs.Layout as at
 use Rattle.format.specs.Path.{pathOf}
-use Rattle.format.specs.Fits.{textOf, fits}
+use Rattle.format.specs.Fits.{textOf}
+use Rattle.format.specs.FittingText.{fits}
 use Rattle.format.specs.Verdict.{readable, verdict}
 use Rattle.format.specs.VerdictLaws.{accepted-readable, accepted-links}
 use Rattle.format.specs.Said.{Said}

@@ -12,7 +12,7 @@ use Rattle.text.specs.ListLaws.{bool-clash, length-tabulate, getD-tabulate}
 use Rattle.format.specs.Layout as at
 use Rattle.format.specs.Fits.{textOf}
 use Rattle.format.specs.Verdict.{ask}
-use Rattle.format.specs.Said.{Said}
+use Rattle.format.specs.Said.{Said, replied}
 use Rattle.format.specs.SaidLaws.{unless-number}
 use Rattle.format.specs.ReadSays.{byteSays, pathsHold, asksSpan, leavesSpan, copyNumber, copySays, copyLeaves}
 use Rattle.theory_paths.specs.OneText.{text-length}
@@ -21,7 +21,8 @@ use Rattle.layout.specs.declared.header.Header.{Header}
 use Rattle.layout.specs.HeaderSays.{HeaderOf}
 use Rattle.ask_access.specs.declared.Copied.{Copied}
 use Rattle.ask_access.specs.declared.Copied.the-variants.{Bytes, Refused}
-use Rattle.ask_access.specs.ReadAnswers.{copiedSaid, CopyAnswer}
+use Rattle.ask_access.specs.ReadAnswers.{copiedReply}
+use Rattle.ask_access.specs.ReadByRuns.{CopyAnswer}
 use Rattle.sha256.specs.declared.HashState.{HashState}
 use Rattle.sha256.specs.Sha256.{initialState, padding, stateAfter, hashOf}
 use Rattle.sha256.specs.Sha256Laws.{state-continued, hash-by-parts}
@@ -44,14 +45,14 @@ module _ (t : List ℕ) (h : Header) (k : HeaderOf t h) (p len : ℕ) (low : p +
   unfolding copyNumber asksSpan
   number-is = rw (k .passes, le-leb (p + len) (at.textLength t) (omega (arith, k .length-is)), le-leb len (length d) room)
 
-  said-is : copiedSaid r .number ≡ ask 14 (pathsHold t p len) 0
+  said-is : replied (copiedReply r) .number ≡ ask 14 (pathsHold t p len) 0
   unfolding copySays
   said-is = ap (λ (s : Said). s .number) (a .says)
       ∙ unless-number (copyNumber t p len (length d)) (record { number = 0; value = len; entered = 0 }) refl ∙ number-is
 
   module _ (n e : ℕ) (is : r ≡ Bytes n e) where
     hold : pathsHold t p len ≡ true
-    hold = asked-good (pathsHold t p len) (sym (ap (λ (x : Copied). copiedSaid x .number) is) ∙ said-is)
+    hold = asked-good (pathsHold t p len) (sym (ap (λ (x : Copied). replied (copiedReply x) .number) is) ∙ said-is)
 
     left : after ≡ tabulate len (λ x. byteSays t (p + x) .value) ++ drop len d
     unfolding copyLeaves leavesSpan
@@ -69,7 +70,7 @@ module _ (t : List ℕ) (h : Header) (k : HeaderOf t h) (p len : ℕ) (low : p +
   pub part-broken : (q : ℕ) → r ≡ Refused q → PartRead t p len false after
   part-broken q is =
       let pos : 1 ≤ q = rw is at (a .numbered) in
-      let b = asked-broken (pathsHold t p len) q pos (sym (ap (λ (x : Copied). copiedSaid x .number) is) ∙ said-is) in
+      let b = asked-broken (pathsHold t p len) q pos (sym (ap (λ (x : Copied). replied (copiedReply x) .number) is) ∙ said-is) in
       record { holds = sym b; bytes = λ y. bool-clash false y refl }
 
 -- Parts hashed one after the other.

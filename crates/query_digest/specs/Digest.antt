@@ -1,23 +1,20 @@
 -- digest, for any bytes given as a tree: its refusal, and what the buffer then holds.
 -- docs/FORMAT.md: "Digest".
-use mathlib.Core.List.{List}
-use mathlib.Core.Bool.{cond}
+use mathlib.Core.List.{List, [], _∷_}
 use Prim.Native.Nat.{ℕ}
 use lib.ListN.{length}
-use lib.Dec.{leb, eqb}
+use lib.Dec.{leb}
 use Rattle.format.specs.Layout as at
 use Rattle.format.specs.Fits.{textOf}
-use Rattle.format.specs.Verdict.{ask, readable}
+use Rattle.format.specs.Verdict.{asks, orNext, readable}
 use Rattle.format.specs.ReadSays.{pathsHold, leavesSpan}
 use Rattle.sha256.specs.Sha256.{sha256}
 
 module _ (t : List ℕ) where
   -- 5 to 7, then 13: the buffer has fewer than 32 bytes, then 14: the path of some place of the text breaks
   unfoldable pub digestRefusal : ℕ → ℕ
-  unfolding at.textLength
   digestRefusal room =
-      let asked = ask 13 (leb 32 room) (ask 14 (pathsHold t 0 (at.textLength t)) 0) in
-      cond (eqb (readable t) 0) asked (readable t)
+      orNext (readable t) (asks ((13, leb 32 room) ∷ (14, pathsHold t 0 (at.textLength t)) ∷ []))
 
   -- Span's rule with 32 bytes: the SHA-256 of the bytes that the paths give is written, 14 writes zeros, any other refusal writes nothing.
   unfoldable pub digestBuffer : List ℕ → List ℕ

@@ -52,12 +52,13 @@ pub record Marked : Type 0 where
 
 pub marked : Marked
 unfolding book tree with broken lent digestRefusal digestBuffer leavesSpan pathsHold textOf tabulate concat sumBelow countBelow allBelow sameList
-    wordAt wordsBytes wordBytes stretch leftmost firstFrom countIn
-    blockLength pieces recordLength lengthOk sizesOk countedOk rising risingAfter treeOf header leafBytes levelPairs recordBytes edgesOf filledOut
-    levelBytes recordIn recordOf target occurrence width isKept startsAt cut keptByPairs firstPairAt pairAt lengthOf startOf pathOf pathFrom targetPlace
-    targetBlock pointingBlock keptBlock lands landBlock landPlace landVisits readable at.leafByte byteSays at.blockLengthAt at.levelCount at.levelOffset
-    rotr ch maj bigSigma0 bigSigma1 sigma0 sigma1 constants initialState lengthBytes padding padded wordBE blockAt schedule round rounds
-    addStates compressed stateAfter bytesBE stateBytes hashOf sha256
+    wordAt wordsBytes wordBytes stretch leftmost firstFrom countIn blockLength pieces recordLength lengthOk sizesOk countedOk rising risingAfter
+    treeOf header leafBytes levelPairs recordBytes edgesOf filledOut levelBytes recordIn recordOf target occurrence width isKept startsAt cut
+    keptByPairs firstPairAt pairAt lengthOf startOf pathOf pathFrom targetPlace targetBlock pointingBlock keptBlock lands landBlock landPlace
+    landVisits readable at.leafByte byteSays at.blockLengthAt at.levelCount at.levelOffset rotr ch maj bigSigma0 bigSigma1 sigma0 sigma1 constants
+    initialState lengthBytes padding padded wordBE blockAt schedule round rounds addStates compressed stateAfter bytesBE stateBytes hashOf sha256
+    at.layout at.textLength at.countedCount at.settings at.leafOffset at.leafCount at.recordSize at.field at.start at.kind at.link at.gap at.before
+    at.inside at.skip at.edgesAt at.fullLength at.isKept at.isPointing at.hasEdges at.longEnough at.layoutOk at.headerOk
 marked = record {
   whole = (refl, refl);
   short = (refl, refl);

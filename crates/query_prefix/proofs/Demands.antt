@@ -1,7 +1,7 @@
 -- The sentences of docs/FORMAT.md, "Rows by their first bytes", as theorems over the contract `PrefixAnswer` of both calls.
 use mathlib.Core.List.{List, [], _++_}
 use mathlib.Core.Bool.{true, false, cond}
-use mathlib.Core.Path.{_≡_, sym, _∙_}
+use mathlib.Core.Path.{_≡_, _∙_}
 use mathlib.Core.Logic.{_⊎_}
 use Prim.Native.Nat.{ℕ, suc, _≤_, _<_}
 use contract.Lifetimes.{Lfts}
@@ -16,18 +16,17 @@ use Rattle.format.specs.Verdict.{readable, verdict}
 use Rattle.format.specs.CountSays.{isCounted}
 use Rattle.row_filter.specs.SelectedRows.{outcomeAt, nextOutcome}
 use Rattle.row_filter.specs.SelectedRowLaws.{In, Rising, Sublist, selected-rise, selected-in, in-selected}
-use Rattle.prefix_match.specs.PrefixRows.{startsWith, rowsWithPrefix, nextWithPrefix}
+use Rattle.prefix_match.specs.PrefixRows.{startsWith}
+use Rattle.prefix_match.specs.PrefixRowNumbers.{rowsWithPrefix, nextWithPrefix}
 use Rattle.prefix_match.specs.PrefixRowLaws.{longer-sublist, longer-in, newline-starts-none}
 use Rattle.ask_patterns.specs.Places.{patternOk}
 use Rattle.ask_guide.specs.Guides.{guideNumber}
 use Rattle.ask_guide.proofs.GuideList.{guide-verdict}
-use Rattle.ask_guide.proofs.Demands.{CheckGuide}
 use Rattle.query_row_filter.specs.declared.NextRowAnswer.{NextRowAnswer}
 use Rattle.query_row_filter.specs.declared.NextRowAnswer.the-variants.{Row, Nothing, Refused}
-use Rattle.query_row_filter.specs.AllowedOutcome.{maxRows}
+use Rattle.query_row_filter.specs.AllowedOutcome.{maxRows, queryRefusal}
 use Rattle.query_row_filter.specs.AllowedAnswer.{AllowedAnswer, MarkMoved}
 use Rattle.query_row_filter.proofs.NextRowTheorems as next-row
-use Rattle.query_prefix.specs.PrefixRefusals.{prefixRefusal}
 use Rattle.query_prefix.proofs.next_row_with_prefix.Reads as next-reads
 use Rattle.query_prefix.proofs.next_row_with_prefix_guided.Reads as guided-reads
 
@@ -41,11 +40,11 @@ NextRowWithPrefixGuided κs t guide prefix mark r = guided-reads.Post κs (t, (g
 
 -- `ok` is 0 where the answer is settled: the check's result without a guide, that of checking the guide with one
 abbrev pub PrefixAnswer : List ℕ → ℕ → List ℕ → ℕ → NextRowAnswer → Type 0
-PrefixAnswer t ok prefix mark r = AllowedAnswer t ok (prefixRefusal t prefix) (startsWith prefix) mark r
+PrefixAnswer t ok prefix mark r = AllowedAnswer t ok (queryRefusal t 16 (patternOk prefix)) (startsWith prefix) mark r
 
 -- an allowed answer, and the mark before and after it
 abbrev pub PrefixMoved : List ℕ → ℕ → List ℕ → ℕ → NextRowAnswer → ℕ → Type 0
-PrefixMoved t ok prefix before r after = MarkMoved t ok (prefixRefusal t prefix) (startsWith prefix) before r after
+PrefixMoved t ok prefix before r after = MarkMoved t ok (queryRefusal t 16 (patternOk prefix)) (startsWith prefix) before r after
 
 -- the contracts are `PrefixAnswer`
 pub next-answers : (κs : Lfts 2) (t prefix : RefT (List ℕ)) (mark : ℕ) (r : NextRowAnswer) → NextRowWithPrefix κs t prefix mark r
@@ -58,20 +57,17 @@ guided-answers κs t guide prefix mark r p = p
 
 -- for an accepted tree and guide the answer is that without the guide
 pub guided-as-prefix : (κs : Lfts 3) (t guide prefix : RefT (List ℕ)) (mark : ℕ) (r : NextRowAnswer) → NextRowWithPrefixGuided κs t guide prefix mark r
-    → (κ : Lfts 2) → CheckGuide κ t guide 0 → (κ′ : Lfts 2) (s : NextRowAnswer) → NextRowWithPrefix κ′ t prefix mark s → r ≡ s
-guided-as-prefix κs t guide prefix mark r a κ ok κ′ s b =
-    let g : guideNumber (now t) (now guide) ≡ 0 = sym ok in
-    next-row.one-next-row (now t) (prefixRefusal (now t) (now prefix)) (startsWith (now prefix)) mark
+    → guideNumber (now t) (now guide) ≡ 0 → (κ : Lfts 2) (s : NextRowAnswer) → NextRowWithPrefix κ t prefix mark s → r ≡ s
+guided-as-prefix κs t guide prefix mark r a g κ s b =
+    next-row.one-next-row (now t) (queryRefusal (now t) 16 (patternOk (now prefix))) (startsWith (now prefix)) mark
     (guideNumber (now t) (now guide)) (verdict (now t)) g (guide-verdict (now t) (now guide) g) r s a b
 
 module _ (t prefix : List ℕ) where
   -- the search starts if questions 5 to 7, 16 and 11 pass
-  pub prefix-through : readable t ≡ 0 → patternOk prefix ≡ true → isCounted t 10 ≡ true → prefixRefusal t prefix ≡ 0
-  unfolding prefixRefusal
+  pub prefix-through : readable t ≡ 0 → patternOk prefix ≡ true → isCounted t 10 ≡ true → queryRefusal t 16 (patternOk prefix) ≡ 0
   prefix-through = next-row.asked-all t 16 (patternOk prefix)
 
-  counted-of : prefixRefusal t prefix ≡ 0 → isCounted t 10 ≡ true
-  unfolding prefixRefusal
+  counted-of : queryRefusal t 16 (patternOk prefix) ≡ 0 → isCounted t 10 ≡ true
   counted-of h = next-row.asked-counted t 15 (patternOk prefix) h
 
 module _ (t : List ℕ) (ok : ℕ) (sound : ok ≡ 0 → verdict t ≡ 0) (prefix : List ℕ) where
@@ -80,39 +76,38 @@ module _ (t : List ℕ) (ok : ℕ) (sound : ok ≡ 0 → verdict t ≡ 0) (prefi
   module _ (mark : ℕ) (r : NextRowAnswer) (a : PrefixAnswer t ok prefix mark r) where
     -- questions 5 to 7
     pub prefix-unread : (q : ℕ) → readable t ≡ suc q → r ≡ Refused (suc q)
-    unfolding prefixRefusal
     prefix-unread q e =
-        next-row.refused-first t ok sound (prefixRefusal t prefix) (startsWith prefix) mark r a q (next-row.asked-unread t 16 (patternOk prefix) q e)
+        next-row.refused-first t ok sound (queryRefusal t 16 (patternOk prefix)) (startsWith prefix) mark r a q
+        (next-row.asked-unread t 16 (patternOk prefix) q e)
 
     module _ (pass : readable t ≡ 0) where
       -- 16, after question 7: the prefix has no byte or more than 256
       pub prefix-length : patternOk prefix ≡ false → r ≡ Refused 16
-      unfolding prefixRefusal
       prefix-length e =
-          next-row.refused-first t ok sound (prefixRefusal t prefix) (startsWith prefix) mark r a 15 (next-row.asked-bad t 16 (patternOk prefix) pass e)
+          next-row.refused-first t ok sound (queryRefusal t 16 (patternOk prefix)) (startsWith prefix) mark r a 15
+          (next-row.asked-bad t 16 (patternOk prefix) pass e)
 
       -- 11, after 16
       pub prefix-uncounted : patternOk prefix ≡ true → isCounted t 10 ≡ false → r ≡ Refused 11
-      unfolding prefixRefusal
       prefix-uncounted good e =
-          next-row.refused-first t ok sound (prefixRefusal t prefix) (startsWith prefix) mark r a 10
+          next-row.refused-first t ok sound (queryRefusal t 16 (patternOk prefix)) (startsWith prefix) mark r a 10
           (next-row.asked-uncounted t 16 (patternOk prefix) pass good e)
 
   -- a refusal leaves the mark
   pub prefix-keeps-mark : (mark n after : ℕ) → PrefixMoved t ok prefix mark (Refused n) after → after ≡ mark
-  prefix-keeps-mark = next-row.refusal-leaves t ok sound (prefixRefusal t prefix) (startsWith prefix)
+  prefix-keeps-mark = next-row.refusal-leaves t ok sound (queryRefusal t 16 (patternOk prefix)) (startsWith prefix)
 
   -- a refusal is that of the questions before the walk; or 14, where the answer is not settled
-  pub prefix-refusal : (mark n : ℕ) → PrefixAnswer t ok prefix mark (Refused n) → (n ≡ prefixRefusal t prefix) ⊎ ((n ≡ 14) × (ok ≡ 0 → ⊥))
-  prefix-refusal = next-row.refusal-is t ok sound (prefixRefusal t prefix) (startsWith prefix)
+  pub prefix-refusal : (mark n : ℕ) → PrefixAnswer t ok prefix mark (Refused n) → (n ≡ queryRefusal t 16 (patternOk prefix)) ⊎ ((n ≡ 14) × (ok ≡ 0 → ⊥))
+  prefix-refusal = next-row.refusal-is t ok sound (queryRefusal t 16 (patternOk prefix)) (startsWith prefix)
 
   -- a returned row, free or not, is after the mark and at most total + 1 of byte 10
   pub prefix-row-after : (mark n : ℕ) → PrefixAnswer t ok prefix mark (Row n) → (mark < n) × (n ≤ maxRows t)
-  prefix-row-after = next-row.row-after t ok sound (prefixRefusal t prefix) (startsWith prefix) (counted-of t prefix)
+  prefix-row-after = next-row.row-after t ok sound (queryRefusal t 16 (patternOk prefix)) (startsWith prefix) (counted-of t prefix)
 
   -- none leaves the mark, or moves it forward up to that number
   pub prefix-none-after : (mark m : ℕ) → PrefixAnswer t ok prefix mark (Nothing m) → (mark ≤ m) × ((m ≡ mark) ⊎ (m ≤ maxRows t))
-  prefix-none-after = next-row.none-after t ok sound (prefixRefusal t prefix) (startsWith prefix) (counted-of t prefix)
+  prefix-none-after = next-row.none-after t ok sound (queryRefusal t 16 (patternOk prefix)) (startsWith prefix) (counted-of t prefix)
 
   -- A settled answer: of an accepted tree, and an accepted guide if there is one.
   module _ (v : ok ≡ 0) where
@@ -120,24 +115,24 @@ module _ (t : List ℕ) (ok : ℕ) (sound : ok ≡ 0 → verdict t ≡ 0) (prefi
     rows = rowsOf (textOf t)
 
     -- where no question refuses: the row `nextWithPrefix`; or none, with the mark moved to the number of rows, never back
-    pub prefix-is : (mark : ℕ) (r : NextRowAnswer) → PrefixAnswer t ok prefix mark r → prefixRefusal t prefix ≡ 0
+    pub prefix-is : (mark : ℕ) (r : NextRowAnswer) → PrefixAnswer t ok prefix mark r → queryRefusal t 16 (patternOk prefix) ≡ 0
         → r ≡ cond (eqb (nextWithPrefix prefix rows mark) 0)
         (Nothing (outcomeAt (nextWithPrefix prefix rows mark) (length rows) mark .mark)) (Row (nextWithPrefix prefix rows mark))
     unfolding nextWithPrefix nextOutcome
-    prefix-is = next-row.answer-is t ok sound (prefixRefusal t prefix) (startsWith prefix) v
+    prefix-is = next-row.answer-is t ok sound (queryRefusal t 16 (patternOk prefix)) (startsWith prefix) v
 
     -- a returned row is after the mark and becomes the mark
     pub prefix-rises : (mark n after : ℕ) → PrefixMoved t ok prefix mark (Row n) after → (mark < n) × (n ≤ length rows) × (after ≡ n)
-    prefix-rises = next-row.row-rises t ok sound (prefixRefusal t prefix) (startsWith prefix) v
+    prefix-rises = next-row.row-rises t ok sound (queryRefusal t 16 (patternOk prefix)) (startsWith prefix) v
 
     -- repeated calls with the same prefix, each from the mark that the one before left, return these rows, then none
     abbrev pub PrefixCalls : ℕ → List ℕ → Type 0
-    PrefixCalls = next-row.Calls t ok sound (prefixRefusal t prefix) (startsWith prefix) v
+    PrefixCalls = next-row.Calls t ok sound (queryRefusal t 16 (patternOk prefix)) (startsWith prefix) v
 
     -- from mark 0 to none, the rows returned are exactly those that start with the prefix
     pub all-with-prefix : (ns : List ℕ) → PrefixCalls 0 ns → ns ≡ rowsWithPrefix prefix rows
     unfolding rowsWithPrefix
-    all-with-prefix = next-row.all-called t ok sound (prefixRefusal t prefix) (startsWith prefix) v
+    all-with-prefix = next-row.all-called t ok sound (queryRefusal t 16 (patternOk prefix)) (startsWith prefix) v
 
     -- each row once, in row order
     pub in-order : (ns : List ℕ) → PrefixCalls 0 ns → Rising 1 ns
@@ -157,10 +152,10 @@ module _ (t : List ℕ) (ok : ℕ) (sound : ok ≡ 0 → verdict t ≡ 0) (prefi
         (f .0, f .1, rw (row-at (textOf t) n (f .0)) (f .2))
 
     -- calls that keep the contract do return them all, then none
-    pub comes-to-none : prefixRefusal t prefix ≡ 0
+    pub comes-to-none : queryRefusal t 16 (patternOk prefix) ≡ 0
         → ((mark : ℕ) → mark ≤ length rows → (r : NextRowAnswer) × PrefixAnswer t ok prefix mark r) → PrefixCalls 0 (rowsWithPrefix prefix rows)
     unfolding rowsWithPrefix
-    comes-to-none = next-row.comes-to-none t ok sound (prefixRefusal t prefix) (startsWith prefix) v
+    comes-to-none = next-row.comes-to-none t ok sound (queryRefusal t 16 (patternOk prefix)) (startsWith prefix) v
 
     -- a prefix with a byte 10 starts no row
     pub newline-shows-none : 1 ≤ countIn 10 prefix → (ns : List ℕ) → PrefixCalls 0 ns → ns ≡ []

@@ -12,33 +12,31 @@ use Rattle.layout.specs.Header.{headerSays}
 use Rattle.ask_patterns.specs.Places.{maxPattern, patternOk}
 use Rattle.query_row_filter.specs.declared.NextRowAnswer.{NextRowAnswer}
 use Rattle.query_row_filter.specs.declared.NextRowAnswer.the-variants.{Refused}
-use Rattle.query_row_filter.specs.AllowedOutcome.{newlineRefusal}
+use Rattle.query_row_filter.specs.AllowedOutcome.{newlineRefusal, queryRefusal}
 use Rattle.query_row_filter.specs.AllowedAnswer.{AllowedAnswer}
 use Rattle.query_row_filter.proofs.AllowedAnswerLaws.{ask-unread, ask-bad, ask-good}
 use Rattle.prefix_match.specs.PrefixRows.{startsWith}
-use Rattle.query_prefix.specs.PrefixRefusals.{prefixRefusal}
 
 module _ (t : List ℕ) (ok : ℕ) (prefix : List ℕ) (mark : ℕ) where
   pub prefix-unread : (x : HeaderRead) → x ≡ headerSays t → (q : ℕ) → x ≡ read.Refused q
-      → AllowedAnswer t ok (prefixRefusal t prefix) (startsWith prefix) mark (Refused q)
-  unfolding prefixRefusal
+      → AllowedAnswer t ok (queryRefusal t 16 (patternOk prefix)) (startsWith prefix) mark (Refused q)
   prefix-unread x is q e = ask-unread t ok (startsWith prefix) mark 16 (patternOk prefix) x is q e
 
   module _ (pass : readable t ≡ 0) where
-    pub prefix-short : length prefix < 1 → AllowedAnswer t ok (prefixRefusal t prefix) (startsWith prefix) mark (Refused 16)
-    unfolding prefixRefusal patternOk
+    pub prefix-short : length prefix < 1 → AllowedAnswer t ok (queryRefusal t 16 (patternOk prefix)) (startsWith prefix) mark (Refused 16)
+    unfolding patternOk
     prefix-short h = ask-bad t ok (startsWith prefix) mark 16 (patternOk prefix) pass (rw (lt-leb 1 (length prefix) h)) (omega arith)
 
     module _ (some : 1 ≤ length prefix) where
-      pub prefix-long : maxPattern < length prefix → AllowedAnswer t ok (prefixRefusal t prefix) (startsWith prefix) mark (Refused 16)
-      unfolding prefixRefusal patternOk
+      pub prefix-long : maxPattern < length prefix → AllowedAnswer t ok (queryRefusal t 16 (patternOk prefix)) (startsWith prefix) mark (Refused 16)
+      unfolding patternOk
       prefix-long h =
           ask-bad t ok (startsWith prefix) mark 16 (patternOk prefix) pass
           (rw (le-leb 1 (length prefix) some, lt-leb (length prefix) maxPattern h)) (omega arith)
 
       pub prefix-good : length prefix ≤ maxPattern
           → (r : NextRowAnswer) → AllowedAnswer t ok (newlineRefusal t) (startsWith prefix) mark r
-          → AllowedAnswer t ok (prefixRefusal t prefix) (startsWith prefix) mark r
-      unfolding prefixRefusal patternOk
+          → AllowedAnswer t ok (queryRefusal t 16 (patternOk prefix)) (startsWith prefix) mark r
+      unfolding patternOk
       prefix-good h r a =
           ask-good t ok (startsWith prefix) mark 16 (patternOk prefix) pass (rw (le-leb 1 (length prefix) some, le-leb (length prefix) maxPattern h)) r a

@@ -8,12 +8,13 @@ ghost use Rattle.format.specs.Verdict.{verdict};
 ghost use Rattle.prefix_match.specs.PrefixRows.{startsWith};
 ghost use Rattle.ask_guide.specs.Guides.{guideNumber};
 ghost use Rattle.query_row_filter.specs.AllowedAnswer.{AllowedAnswer};
-ghost use Rattle.query_prefix.specs.PrefixRefusals.{prefixRefusal};
+ghost use Rattle.ask_patterns.specs.Places.{patternOk};
+ghost use Rattle.query_row_filter.specs.AllowedOutcome.{queryRefusal};
 
 // The first row after a mark that starts with a prefix.
 pub fn next_row_with_prefix(t: &[u8], prefix: &[u8], mark: u32) -> NextRowAnswer
     ensures { λ r. ⌜ AllowedAnswer (now (t .entry)) (verdict (now (t .entry)))
-        (prefixRefusal (now (t .entry)) (now (prefix .entry))) (startsWith (now (prefix .entry))) mark r ⌝ }
+        (queryRefusal (now (t .entry)) 16 (patternOk (now (prefix .entry)))) (startsWith (now (prefix .entry))) mark r ⌝ }
 {
     let read = header::read_header(t);
     match read {
@@ -30,7 +31,7 @@ pub fn next_row_with_prefix_guided(
     mark: u32,
 ) -> NextRowAnswer
     ensures { λ r. ⌜ AllowedAnswer (now (t .entry)) (guideNumber (now (t .entry)) (now (guide .entry)))
-        (prefixRefusal (now (t .entry)) (now (prefix .entry))) (startsWith (now (prefix .entry))) mark r ⌝ }
+        (queryRefusal (now (t .entry)) 16 (patternOk (now (prefix .entry)))) (startsWith (now (prefix .entry))) mark r ⌝ }
 {
     let read = header::read_header(t);
     match read {

@@ -1,5 +1,4 @@
 // The search for the next row that starts with a prefix, in a tree that passes questions 5 to 7.
-use ask_access::read_by_header;
 use ask_access::read_by_header::Ran;
 use layout::header::Header;
 use layout::place::TextPlace;
@@ -14,17 +13,13 @@ ghost use mathlib.Core.Path.{_≡_};
 ghost use Prim.Native.Nat.{_≤_};
 ghost use lib.ListN.{length};
 ghost use Rattle.layout.specs.HeaderSays.{HeaderOf};
-ghost use Rattle.row_filter.specs.RowAutomaton.{atEndOfText};
 ghost use Rattle.prefix_match.specs.PrefixRows.{startsWith};
 ghost use Rattle.prefix_match.specs.PrefixStates.{prefixAutomaton};
-ghost use Rattle.ask_patterns.specs.Places.{maxPattern};
+ghost use Rattle.ask_patterns.specs.Places.{maxPattern, patternOk};
 ghost use Rattle.ask_rows.specs.RowSpans.{settledBy};
 ghost use Rattle.query_row_filter.specs.AllowedAnswer.{AllowedAnswer};
-ghost use Rattle.query_row_filter.specs.RowsAfter.{answerOf, SearchFrom};
-ghost use Rattle.query_prefix.specs.PrefixRefusals.{prefixRefusal};
-
-// The most bytes that are read at once: a matching row is often near.
-const MOST: u32 = 1024;
+ghost use Rattle.query_row_filter.specs.RowsAfter.{SearchFrom};
+ghost use Rattle.query_row_filter.specs.AllowedOutcome.{queryRefusal};
 
 // Questions 16, 11 and 14. The guide is used if `used` is true.
 pub fn next_at(
@@ -37,7 +32,7 @@ pub fn next_at(
 ) -> NextRowAnswer
     requires { ⌜ HeaderOf (now t) h ⌝ }
     ensures { λ r. ⌜ AllowedAnswer (now (t .entry)) (settledBy (now (t .entry)) (now (guide .entry)) used)
-        (prefixRefusal (now (t .entry)) (now (prefix .entry))) (startsWith (now (prefix .entry))) mark r ⌝ }
+        (queryRefusal (now (t .entry)) 16 (patternOk (now (prefix .entry)))) (startsWith (now (prefix .entry))) mark r ⌝ }
 {
     if prefix.len() < 1 {
         return NextRowAnswer::Refused(16);
@@ -65,7 +60,7 @@ fn from(t: &[u8], h: Header, prefix: &[u8], place: TextPlace, q: u32) -> NextRow
     let mut row = q;
     let mut at = place.0;
     while at < h.text_length {
-        let ran = read_by_header::range_at(t, h, TextPlace(at), MOST);
+        let ran = rows_after::next_part(t, h, at);
         let Ran::At(part) = ran else {
             return NextRowAnswer::Refused(14);
         };
@@ -83,19 +78,9 @@ fn from(t: &[u8], h: Header, prefix: &[u8], place: TextPlace, q: u32) -> NextRow
         }
         at += part.length as u32;
     }
-    end_of_text(prefix, so_far, row)
-}
-
-// The text ends in row q. A row without a byte does not count.
-fn end_of_text(prefix: &[u8], state: PrefixState, q: u32) -> NextRowAnswer
-    requires { ⌜ 1 ≤ q ⌝ }
-    ensures { λ r. ⌜ r ≡ answerOf (atEndOfText (prefixAutomaton (now (prefix .entry))) state q) ⌝ }
-{
-    if prefix_state::at_end(prefix, state) {
-        return NextRowAnswer::Row(q);
-    }
-    if prefix_state::no_byte(state) {
-        return NextRowAnswer::Nothing(q - 1);
-    }
-    NextRowAnswer::Nothing(q)
+    rows_after::end_of_text(
+        prefix_state::at_end(prefix, so_far),
+        prefix_state::no_byte(so_far),
+        row,
+    )
 }

@@ -13,11 +13,11 @@ use Rattle.text.specs.Rows.{rowsOf}
 use Rattle.format.specs.Fits.{textOf}
 use Rattle.format.specs.Verdict.{ask, readable, verdict}
 use Rattle.format.specs.LayoutLaws.{ask-test, ask-rest}
-use Rattle.format.specs.Said.{refused}
-use Rattle.format.specs.SaidLaws.{unless-passes, then-is}
+use Rattle.format.specs.SaidLaws.{next-passes}
 use Rattle.format.specs.CountSays.{isCounted}
 use Rattle.theory_counts.specs.RowsOfText.{rows-total}
-use Rattle.row_filter.specs.SelectedRows.{NextRowOutcome, selectedRows, nextSelected, outcomeAt, nextOutcome}
+use Rattle.row_filter.specs.SelectedRows.{NextRowOutcome, nextSelected, outcomeAt, nextOutcome}
+use Rattle.row_filter.specs.SelectedRowNumbers.{selectedRows}
 use Rattle.row_filter.specs.SelectedRowLaws.{Next, no-more, next, next-of, Shows, shown-all, all-shown}
 use Rattle.query_row_filter.specs.declared.NextRowAnswer.{NextRowAnswer}
 use Rattle.query_row_filter.specs.declared.NextRowAnswer.the-variants.{Row, Nothing, Refused}
@@ -119,8 +119,7 @@ pub asked-counted : (t : List ℕ) (k : ℕ) (ok : Bool) → queryRefusal t (suc
 unfolding queryRefusal newlineRefusal
 asked-counted t k ok h =
     let eleven = ask 11 (isCounted t 10) 0 in
-    let more = ask (suc k) ok eleven in
-    let a = unless-passes (readable t) (refused more) (sym (then-is (readable t) more) ∙ h) in
+    let a = next-passes (readable t) (ask (suc k) ok eleven) h in
     ask-test 10 (isCounted t 10) 0 (ask-rest k ok eleven (a .1))
 
 -- `ok` is 0 where the outcome is settled.

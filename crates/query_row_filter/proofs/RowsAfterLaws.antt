@@ -13,6 +13,8 @@ use Rattle.text.specs.declared.TextPlace.{TextPlace}
 use Rattle.text.specs.Rows.{rowsOf}
 use Rattle.text.specs.RowLaws.{rows-past}
 use Rattle.format.specs.Layout as at
+use Rattle.format.specs.LayoutLaws.{Readable}
+use Rattle.format.specs.VerdictLaws.{accepted-links}
 use Rattle.format.specs.Fits.{textOf}
 use Rattle.format.specs.Verdict.{verdict}
 use Rattle.format.specs.CountSays.{isCounted, numberOfByte}
@@ -20,15 +22,20 @@ use Rattle.format.specs.FindSays.{total}
 use Rattle.format.specs.FindSaysLaws.{Selected}
 use Rattle.layout.specs.declared.header.Header.{Header}
 use Rattle.layout.specs.HeaderSays.{HeaderOf}
+use Rattle.theory_paths.specs.OneText.{text-length}
+use Rattle.theory_paths.specs.PlaceBytes.{never-14}
 use Rattle.theory_counts.specs.Demands as tallies
 use Rattle.row_filter.specs.RowAutomaton.{Automaton, Scan, found, on, at-row, nothing, resumeScan, RowBetween, scanBytes, atEndOfText, finishScan}
 use Rattle.row_filter.specs.RowAutomatonLaws.{scan-append}
-use Rattle.ask_access.specs.ReadByRuns.{ReadsOn}
+use Rattle.ask_access.specs.declared.read_by_header.Part.{Part}
+use Rattle.ask_access.specs.declared.read_by_header.Ran.{Ran}
+use Rattle.ask_access.specs.declared.read_by_header.Ran.the-variants as ran
+use Rattle.ask_access.specs.ReadByRuns.{ReadsOn, RangeAnswer}
 use Rattle.ask_access.proofs.RunLaws.{reads-stretch}
 use Rattle.query_row_filter.specs.declared.NextRowAnswer.{NextRowAnswer}
 use Rattle.query_row_filter.specs.declared.NextRowAnswer.the-variants.{Row, Nothing, Refused}
 use Rattle.query_row_filter.specs.declared.rows_after.StartPlace.the-variants as start
-use Rattle.query_row_filter.specs.RowsAfter.{StartIs, FromRow, answerOf, SearchFrom, limited}
+use Rattle.query_row_filter.specs.RowsAfter.{StartIs, PartFrom, FromRow, answerOf, endResult, SearchFrom, limited}
 
 -- the rest of a text, cut after x bytes
 rest-parts : (T : List ℕ) (p x : ℕ) → drop p T ≡ stretch T p x ++ drop (p + x) T
@@ -79,7 +86,22 @@ pub start-asked : (t : List ℕ) (h : Header) (mark : ℕ)
     → HeaderOf t h → isCounted t 10 ≡ true → (mark ≡ 0 → ⊥) → mark ≤ total t (numberOfByte t 10) → Selected t 10 mark
 start-asked t h mark k c some high = record { pass = k .passes; counted = c; low = omega (arith, some); high = high }
 
--- The text is scanned by runs. Row q begins at place p₀; the scan has reached place p, in state f of row `row`.
+-- the bytes that are scanned next
+module _ (t : List ℕ) (p : ℕ) (x : Ran) where
+  pub part-from : (h : Header) → HeaderOf t h → p < h .«text_length» → (most : ℕ) → RangeAnswer t p most x → PartFrom t p x
+  part-from h k low most e = by x refl e
+    where
+      by : (y : Ran) → x ≡ y → RangeAnswer t p most y → PartFrom t p y
+      by (ran.At part) z a = (a .0, a .1)
+      by (ran.Refused number) z a = λ v. never-14 t (k .passes) p (omega (arith, k .length-is)) (accepted-links t v) (a .1)
+
+  pub part-reads : (part : Part) → x ≡ ran.At part → PartFrom t p x → (ReadsOn t p (part .from) (part .length)) × (1 ≤ part .length)
+  part-reads part e a = rw e at a
+
+  pub part-none : (number : ℕ) → x ≡ ran.Refused number → PartFrom t p x → verdict t ≡ 0 → ⊥
+  part-none number e a = rw e at a
+
+-- The text is scanned part by part. Row q begins at place p₀; the scan has reached place p, in state f of row `row`.
 module _ {S : Type 0} (t : List ℕ) (m : Automaton S) (p₀ q : ℕ) where
   abbrev T : List ℕ
   T = textOf t
@@ -87,33 +109,58 @@ module _ {S : Type 0} (t : List ℕ) (m : Automaton S) (p₀ q : ℕ) where
   abbrev whole : Scan S
   whole = scanBytes m (drop p₀ T) (m .start) q
 
-  pub from-broken : (verdict t ≡ 0 → ⊥) → SearchFrom t m p₀ q (Refused 14)
-  from-broken never = record { settled = inr (refl, never); rows = refl }
+  pub record Searching (p row : ℕ) (f : S) : Type 0 where
+    pub low : p₀ ≤ p
+    pub high : p ≤ at.textLength t
+    pub above : q ≤ row
+    pub few : row + p₀ ≤ q + p
+    pub far : scanBytes m (drop p T) f row ≡ whole
 
-  module _ (p row : ℕ) (f : S) (far : scanBytes m (drop p T) f row ≡ whole) (above : q ≤ row) where
-    -- one more run
-    module _ (a x : ℕ) (run : ReadsOn t p a x)
-        (part : List ℕ) (part-is : part ≡ stretch t a x) (r : Scan S) (r-is : r ≡ scanBytes m part f row) (low : RowBetween row (length part) r) where
-      short : length part ≤ x
+  pub search-begins : p₀ ≤ at.textLength t → Searching p₀ q (m .start)
+  search-begins h = record { low = omega arith; high = h; above = omega arith; few = omega arith; far = refl }
+
+  pub search-broken : (verdict t ≡ 0 → ⊥) → SearchFrom t m p₀ q (Refused 14)
+  search-broken never = record { settled = inr (refl, never); rows = refl }
+
+  module _ (p row : ℕ) (f : S) (k : Searching p row f) where
+    -- one more part: the slice of the tree's bytes that the code takes
+    module _ (a x : ℕ) (run : ReadsOn t p a x) where
+      abbrev part : List ℕ
+      part = take (a + x - a) (drop a t)
+
+      part-short : length part ≤ x
+      part-short = rw (length-take (a + x - a) (drop a t)) (omega arith)
+
+      part-is : part ≡ stretch T p x
       unfolding stretch
-      short = rw (part-is, length-take x (drop a t)) (omega arith)
+      part-is = (let e : a + x - a ≡ x = omega arith in rw e) ∙ reads-stretch t p a x run
 
-      scanned : resumeScan (scanBytes m (drop (p + x) T)) r ≡ whole
-      scanned =
-          let e : r ≡ scanBytes m (stretch T p x) f row = r-is ∙ ap (λ (s : List ℕ). scanBytes m s f row) (part-is ∙ reads-stretch t p a x run) in
-          rw e (sym (ap (λ (s : List ℕ). scanBytes m s f row) (rest-parts T p x) ∙ scan-append m (stretch T p x) (drop (p + x) T) f row)) ∙ far
+      pub part-few : Readable t → q ≤ at.textLength t → row + length part < 4294967296
+      part-few facts h = omega (arith, part-short, k .few, run .in-text, facts .bounds .text-high)
 
-      pub from-on : (g : S) (n : ℕ) → on g n ≡ r → (scanBytes m (drop (p + x) T) g n ≡ whole) × (q ≤ n) × (n ≤ row + x)
-      from-on g n e =
-          let b : (row ≤ n) × (n ≤ row + length part) = rw (← e) at low in
-          (rw (← e) at scanned, omega (arith, b .0), omega (arith, b .1, short))
+      module _ (r : Scan S) (r-is : (r ≡ scanBytes m part f row) × RowBetween row (length part) r) where
+        scanned : resumeScan (scanBytes m (drop (p + x) T)) r ≡ whole
+        scanned =
+            let e : r ≡ scanBytes m (stretch T p x) f row = r-is .0 ∙ ap (λ (s : List ℕ). scanBytes m s f row) part-is in
+            rw e (sym (ap (λ (s : List ℕ). scanBytes m s f row) (rest-parts T p x) ∙ scan-append m (stretch T p x) (drop (p + x) T) f row)) ∙ k .far
 
-      pub from-found : (n : ℕ) → found n ≡ r → SearchFrom t m p₀ q (Row n)
-      unfolding finishScan
-      from-found n e =
-          let b : (row ≤ n) × (n ≤ row + length part) = rw (← e) at low in
-          let w : found n ≡ whole = rw (← e) at scanned in
-          record { settled = inl (rw (← w)); rows = omega (arith, b .0) }
+        pub search-on : (g : S) (n : ℕ) → r ≡ on g n → Searching (p + x) n g
+        search-on g n e =
+            let b : (row ≤ n) × (n ≤ row + length part) = rw e at (r-is .1) in
+            record {
+              low = omega (arith, k .low);
+              high = run .in-text;
+              above = omega (arith, b .0, k .above);
+              few = omega (arith, b .1, part-short, k .few);
+              far = rw e at scanned;
+            }
+
+        pub search-found : (n : ℕ) → r ≡ found n → SearchFrom t m p₀ q (Row n)
+        unfolding finishScan
+        search-found n e =
+            let b : (row ≤ n) × (n ≤ row + length part) = rw e at (r-is .1) in
+            let w : found n ≡ whole = rw e at scanned in
+            record { settled = inl (rw (← w)); rows = omega (arith, b .0, k .above) }
 
     -- the text's end
     end-low : 1 ≤ row → FromRow q (answerOf (atEndOfText m f row))
@@ -121,35 +168,26 @@ module _ {S : Type 0} (t : List ℕ) (m : Automaton S) (p₀ q : ℕ) where
     end-low some = by (m .at-end f) (m .no-byte f)
       where
         by : (a b : Bool) → FromRow q (answerOf (cond a (at-row row) (cond b (nothing (row - 1)) (nothing row))))
-        by true b = above
-        by false true = omega arith
-        by false false = omega arith
+        by true b = k .above
+        by false true = omega (arith, k .above)
+        by false false = omega (arith, k .above)
 
-    pub from-end : length T ≤ p → 1 ≤ row → (s : NextRowAnswer) → s ≡ answerOf (atEndOfText m f row) → SearchFrom t m p₀ q s
-    unfolding finishScan scanBytes
-    from-end past some s s-is =
-        let e : drop p T ≡ [] = drop-of-length-le T past in
-        let w : on f row ≡ whole = rw e at far in
-        rw s-is (record { settled = inl (rw (← w)); rows = end-low some })
-
--- the slice of the tree's bytes that the code takes
-pub part-cut : (t : List ℕ) (a x : ℕ) → take (a + x - a) (drop a t) ≡ stretch t a x
-unfolding stretch
-part-cut t a x = let e : a + x - a ≡ x = omega arith in rw e
-
-pub part-short : (t : List ℕ) (a x : ℕ) → length (take (a + x - a) (drop a t)) ≤ x
-part-short t a x = rw (length-take (a + x - a) (drop a t)) (omega arith)
+    pub search-ends : at.textLength t ≤ p → 1 ≤ q → (a b : Bool) → a ≡ m .at-end f → b ≡ m .no-byte f
+        → (s : NextRowAnswer) → s ≡ answerOf (endResult a b row) → SearchFrom t m p₀ q s
+    unfolding finishScan scanBytes atEndOfText
+    search-ends past some a b a-is b-is s s-is =
+        let all : length T ≤ p = omega (arith, text-length t) in
+        let e : drop p T ≡ [] = drop-of-length-le T all in
+        let w : on f row ≡ whole = rw e at (k .far) in
+        rw (s-is, a-is, b-is) (record { settled = inl (rw (← w)); rows = end-low (omega (arith, k .above)) })
 
 -- the text's end, test by test
-module _ {S : Type 0} (m : Automaton S) (f : S) (q : ℕ) where
-  pub end-whole : m .at-end f ≡ true → Row q ≡ answerOf (atEndOfText m f q)
-  unfolding atEndOfText
-  end-whole e = rw e
+module _ (selected empty : Bool) (q : ℕ) where
+  pub end-selected : selected ≡ true → Row q ≡ answerOf (endResult selected empty q)
+  end-selected e = rw e
 
-  pub end-none : m .at-end f ≡ false → m .no-byte f ≡ true → Nothing (q - 1) ≡ answerOf (atEndOfText m f q)
-  unfolding atEndOfText
+  pub end-none : selected ≡ false → empty ≡ true → Nothing (q - 1) ≡ answerOf (endResult selected empty q)
   end-none e g = rw (e, g)
 
-  pub end-some : m .at-end f ≡ false → m .no-byte f ≡ false → Nothing q ≡ answerOf (atEndOfText m f q)
-  unfolding atEndOfText
+  pub end-some : selected ≡ false → empty ≡ false → Nothing q ≡ answerOf (endResult selected empty q)
   end-some e g = rw (e, g)

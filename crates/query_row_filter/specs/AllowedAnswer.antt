@@ -14,12 +14,6 @@ outcomeOf mark (Row q) = record { refusal = 0; row = q; mark = q }
 outcomeOf mark (Nothing m) = record { refusal = 0; row = 0; mark = m }
 outcomeOf mark (Refused refusal) = refusedAt refusal mark
 
--- the mark after an answer
-abbrev pub markAfter : NextRowAnswer → ℕ → ℕ
-markAfter (Row q) mark = q
-markAfter (Nothing m) mark = m
-markAfter (Refused refusal) mark = mark
-
 -- a returned row and a refusal are not 0
 abbrev pub Numbered : NextRowAnswer → Type 0
 Numbered (Row q) = 1 ≤ q
@@ -33,4 +27,4 @@ pub record AllowedAnswer (t : List ℕ) (ok refusal : ℕ) (selected : List ℕ 
 -- an allowed answer to a search from the mark `before`, and the mark `after` it
 pub record MarkMoved (t : List ℕ) (ok refusal : ℕ) (selected : List ℕ → Bool) (before : ℕ) (r : NextRowAnswer) (after : ℕ) : Type 0 where
   pub answer : AllowedAnswer t ok refusal selected before r
-  pub mark-is : after ≡ markAfter r before
+  pub mark-is : after ≡ outcomeOf before r .mark

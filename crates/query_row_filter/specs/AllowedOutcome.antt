@@ -1,17 +1,16 @@
 -- The outcomes that a search for the next selected row may have, for any bytes as a tree and as a guide: one where a question refuses or both are accepted;
 -- else those that are left free.
 -- docs/FORMAT.md: "Keys", "What is left free".
-use mathlib.Core.List.{List}
-use mathlib.Core.Bool.{Bool, cond}
+use mathlib.Core.List.{List, [], _∷_}
+use mathlib.Core.Bool.{Bool}
 use mathlib.Core.Path.{_≡_}
 use mathlib.Core.Logic.{_⊎_}
 use Prim.Native.Nat.{ℕ, _+_, _≤_, _<_}
 use lib.ListN.{drop}
-use lib.Dec.{eqb}
 use Rattle.text.specs.Rows.{rowsOf}
 use Rattle.format.specs.Layout as at
 use Rattle.format.specs.Fits.{textOf}
-use Rattle.format.specs.Verdict.{ask, readable}
+use Rattle.format.specs.Verdict.{ask, asks, orNext, readable}
 use Rattle.format.specs.CountSays.{isCounted, numberOfByte}
 use Rattle.format.specs.FindSays.{total}
 use Rattle.row_filter.specs.SelectedRows.{NextRowOutcome, firstSelected, nextOutcome}
@@ -23,11 +22,11 @@ refusedAt refusal mark = record { refusal = refusal; row = 0; mark = mark }
 module _ (t : List ℕ) where
   -- question 11: byte 10 is counted
   unfoldable pub newlineRefusal : ℕ
-  newlineRefusal = ask 11 (isCounted t 10) 0
+  newlineRefusal = asks ((11, isCounted t 10) ∷ [])
 
   -- questions 5 to 7, then the query's own with its number, then 11
   unfoldable pub queryRefusal : ℕ → Bool → ℕ
-  queryRefusal refusal ok = cond (eqb (readable t) 0) (ask refusal ok newlineRefusal) (readable t)
+  queryRefusal refusal ok = orNext (readable t) (ask refusal ok newlineRefusal)
 
   -- no row number above this passes question 12
   abbrev pub maxRows : ℕ

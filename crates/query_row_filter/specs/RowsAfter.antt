@@ -3,7 +3,7 @@ use mathlib.Core.List.{List}
 use mathlib.Core.Bool.{Bool, true, cond}
 use mathlib.Core.Path.{_≡_}
 use mathlib.Core.Logic.{_⊎_}
-use Prim.Native.Nat.{ℕ, _+_, _≤_, _<_}
+use Prim.Native.Nat.{ℕ, _+_, _-_, _≤_, _<_}
 use lib.ListN.{drop}
 use lib.Dec.{ltb}
 use Rattle.text.specs.declared.TextPlace.{TextPlace}
@@ -13,6 +13,9 @@ use Rattle.format.specs.Fits.{textOf}
 use Rattle.format.specs.Verdict.{verdict}
 use Rattle.format.specs.CountSays.{isCounted, numberOfByte}
 use Rattle.format.specs.FindSays.{total}
+use Rattle.ask_access.specs.declared.read_by_header.Ran.{Ran}
+use Rattle.ask_access.specs.declared.read_by_header.Ran.the-variants as ran
+use Rattle.ask_access.specs.ReadByRuns.{ReadsOn}
 use Rattle.row_filter.specs.RowAutomaton.{Automaton, SearchResult, at-row, nothing, scanBytes, finishScan}
 use Rattle.query_row_filter.specs.declared.NextRowAnswer.{NextRowAnswer}
 use Rattle.query_row_filter.specs.declared.NextRowAnswer.the-variants.{Row, Nothing, Refused}
@@ -43,6 +46,11 @@ pub record BeginIs (t : List ℕ) (ok mark : ℕ) (r : RowsStart) : Type 0 where
   pub begins-at : (p : TextPlace) (newlines : ℕ) → r ≡ begins.At p newlines → StartFacts t ok mark (p .0) newlines
   pub answered : (s : NextRowAnswer) → r ≡ begins.Answered s → (selected : List ℕ → Bool) → AllowedAnswer t ok (newlineRefusal t) selected mark s
 
+-- a range of the tree's bytes that has the next bytes of the text from place p on; there is none only in a tree that the check refuses
+abbrev pub PartFrom : List ℕ → ℕ → Ran → Type 0
+PartFrom t p (ran.At part) = (ReadsOn t p (part .from) (part .length)) × (1 ≤ part .length)
+PartFrom t p (ran.Refused number) = verdict t ≡ 0 → ⊥
+
 -- the answer names no row below q
 abbrev pub FromRow : ℕ → NextRowAnswer → Type 0
 FromRow q (Row n) = q ≤ n
@@ -53,6 +61,10 @@ FromRow q (Refused number) = number ≡ 14
 abbrev pub answerOf : SearchResult → NextRowAnswer
 answerOf (at-row q) = Row q
 answerOf (nothing m) = Nothing m
+
+-- the result where the text ends in row q
+abbrev pub endResult : Bool → Bool → ℕ → SearchResult
+endResult selected empty q = cond selected (at-row q) (cond empty (nothing (q - 1)) (nothing q))
 
 -- the answer of a search from place p, where row q begins: that of the text's scan from there; or 14, on a tree that the check refuses
 pub record SearchFrom {S : Type 0} (t : List ℕ) (m : Automaton S) (p q : ℕ) (r : NextRowAnswer) : Type 0 where

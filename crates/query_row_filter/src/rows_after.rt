@@ -1,5 +1,8 @@
-// Where the rows after a mark begin, in a tree that passes questions 5 to 7, and the largest row number that may be returned.
+// Where the rows after a mark begin, in a tree that passes questions 5 to 7; the bytes that are scanned from there; and the largest row number that may
+// be returned.
 use crate::NextRowAnswer;
+use ask_access::read_by_header;
+use ask_access::read_by_header::Ran;
 use ask_rows::row_edges;
 use ask_select::Found;
 use layout::header::Header;
@@ -12,7 +15,10 @@ ghost use Rattle.format.specs.CountSays.{isCounted, numberOfByte};
 ghost use Rattle.format.specs.FindSays.{total};
 ghost use Rattle.layout.specs.HeaderSays.{HeaderOf};
 ghost use Rattle.ask_rows.specs.RowSpans.{settledBy};
-ghost use Rattle.query_row_filter.specs.RowsAfter.{StartIs, BeginIs, limited};
+ghost use Rattle.query_row_filter.specs.RowsAfter.{StartIs, BeginIs, PartFrom, answerOf, endResult, limited};
+
+// The most bytes that are read at once: a selected row is often near.
+const MOST: u32 = 1024;
 
 // Where the rows after a mark begin, with the total of byte 10; or the answer of the call, if no row begins there or the place is not found.
 pub enum RowsStart {
@@ -41,6 +47,28 @@ pub fn begin(t: &[u8], h: Header, guide: &[u8], used: bool, mark: u32) -> RowsSt
         return RowsStart::Answered(NextRowAnswer::Refused(14));
     };
     RowsStart::At(p, newlines)
+}
+
+// The bytes of the text from a place on that are scanned next, as a range of the tree's bytes.
+pub fn next_part(t: &[u8], h: Header, at: u32) -> Ran
+    requires { ⌜ (HeaderOf (now t) h) × (at < h .«text_length») ⌝ }
+    ensures { λ r. ⌜ PartFrom (now (t .entry)) at r ⌝ }
+{
+    read_by_header::range_at(t, h, TextPlace(at), MOST)
+}
+
+// The answer where the text ends in row q, which is selected or not, and empty or not: a row without a byte does not count.
+pub fn end_of_text(selected: bool, empty: bool, q: u32) -> NextRowAnswer
+    requires { ⌜ 1 ≤ q ⌝ }
+    ensures { λ r. ⌜ r ≡ answerOf (endResult selected empty q) ⌝ }
+{
+    if selected {
+        return NextRowAnswer::Row(q);
+    }
+    if empty {
+        return NextRowAnswer::Nothing(q - 1);
+    }
+    NextRowAnswer::Nothing(q)
 }
 
 // Where the rows after a mark begin; Broken if the walk to that place fails.

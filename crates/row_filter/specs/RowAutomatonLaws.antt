@@ -65,6 +65,46 @@ module _ {S : Type 0} (m : Automaton S) where
   unfolding scanBytes
   scan-end part i e s q = rw (e, drop-length part)
 
+  -- Bytes scanned one by one from the state `first` in row `row`: the bytes before i were read, and led to the state s in row q.
+  pub record Scanning (part : List ℕ) (first : S) (row i : ℕ) (s : S) (q : ℕ) : Type 0 where
+    pub within : i ≤ length part
+    pub low : row ≤ q
+    pub high : q ≤ row + i
+    pub same : scanBytes m (drop i part) s q ≡ scanBytes m part first row
+
+  module _ (part : List ℕ) (first : S) (row : ℕ) where
+    pub scanning-none : Scanning part first row 0 first row
+    scanning-none = record { within = omega arith; low = omega arith; high = omega arith; same = refl }
+
+    module _ (i : ℕ) (s : S) (q : ℕ) (k : Scanning part first row i s q) where
+      module _ (h : i < length part) (r : Scan S) (n : ℕ) (r-is : r ≡ scanByte m s q (getD part i 0)) where
+        -- byte i ends an accepted row
+        pub scanning-found : r ≡ found n → (r ≡ scanBytes m part first row) × RowBetween row (length part) r
+        scanning-found e =
+            let f : found n ≡ scanByte m s q (getD part i 0) = sym e ∙ r-is in
+            let b = found-next s q (getD part i 0) n f in
+            rw e (scan-found part i h s q n f ∙ k .same, (omega (arith, b .0, k .low), omega (arith, b .1, k .high)))
+
+        -- byte i leads to a state
+        pub scanning-on : (g : S) → r ≡ on g n → Scanning part first row (i + 1) g n
+        scanning-on g e =
+            let f : on g n ≡ scanByte m s q (getD part i 0) = sym e ∙ r-is in
+            let b = on-next s q (getD part i 0) g n f in
+            record {
+              within = omega arith;
+              low = omega (arith, b .0, k .low);
+              high = omega (arith, b .1, k .high);
+              same = scan-on part i h s q g n f ∙ k .same;
+            }
+
+      -- bytes that change nothing are passed over
+      pub scanning-passed : (j : ℕ) → i ≤ j → j ≤ length part → scanBytes m (drop j part) s q ≡ scanBytes m (drop i part) s q → Scanning part first row j s q
+      scanning-passed j a b e = record { within = b; low = k .low; high = omega (arith, k .high); same = e ∙ k .same }
+
+      pub scanning-end : length part ≤ i → (on s q ≡ scanBytes m part first row) × ((row ≤ q) × (q ≤ row + length part))
+      scanning-end past =
+          (scan-end part i (omega (arith, k .within)) s q ∙ k .same, (k .low, omega (arith, k .high, k .within)))
+
   -- scanning two parts one after the other
   pub scan-append : (xs ys : List ℕ) (s : S) (q : ℕ) → scanBytes m (xs ++ ys) s q ≡ resumeScan (scanBytes m ys) (scanBytes m xs s q)
   unfolding scanBytes

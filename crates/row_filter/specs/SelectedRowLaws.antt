@@ -10,7 +10,8 @@ use lib.ListN.{length, getD, drop, length-drop}
 use lib.Seq.{drop-drop}
 use borrow.Author.Tests.{ne-eqb}
 use Rattle.text.specs.ListLaws.{bool-clash}
-use Rattle.row_filter.specs.SelectedRows.{NextRowOutcome, selectedFrom, selectedRows, firstSelected, nextSelected, outcomeAt, nextOutcome}
+use Rattle.row_filter.specs.SelectedRows.{NextRowOutcome, firstSelected, nextSelected, outcomeAt, nextOutcome}
+use Rattle.row_filter.specs.SelectedRowNumbers.{selectedFrom, selectedRows}
 
 -- The first selected row of a list that begins with row q, and the selected rows after it.
 

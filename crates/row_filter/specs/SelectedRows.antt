@@ -1,4 +1,4 @@
--- Rows selected by a predicate on their bytes: their numbers in row order, and the next one after a mark.
+-- Rows selected by a predicate on their bytes: the next one after a mark.
 -- docs/FORMAT.md: "Keys".
 use mathlib.Core.List.{List, [], _∷_}
 use mathlib.Core.Bool.{Bool, cond}
@@ -13,17 +13,6 @@ pub record NextRowOutcome : Type 0 where
   pub mark : ℕ
 
 module _ (selected : List ℕ → Bool) where
-  -- the numbers of the selected rows, where the list begins with row q
-  unfoldable pub selectedFrom : ℕ → List (List ℕ) → List ℕ
-  selectedFrom q [] = []
-  selectedFrom q (row ∷ rows) =
-      let rest = selectedFrom (q + 1) rows in
-      cond (selected row) (q ∷ rest) rest
-
-  -- the numbers of all selected rows of a text, ascending
-  unfoldable pub selectedRows : List (List ℕ) → List ℕ
-  selectedRows rows = selectedFrom 1 rows
-
   -- the first selected row, where the list begins with row q; 0 if there is none
   unfoldable pub firstSelected : ℕ → List (List ℕ) → ℕ
   firstSelected q [] = 0

@@ -10,7 +10,7 @@ use lib.ListN.{length, take, getD}
 use lib.Seq.{take-suc, drop-cons}
 use Rattle.text.specs.Text.{stretch}
 use Rattle.text.specs.TextLaws.{stretch-add, length-stretch}
-use Rattle.search.specs.Fingers.{digits}
+use Rattle.search.specs.FingerValues.{digits}
 use Rattle.search.proofs.Modulo.{mul-mod, cancel, added, power-more}
 use Rattle.scan_windows.specs.Prints.{baseOf, print}
 

@@ -8,7 +8,7 @@ use native.Mathlib.Nat.{zero-mod, add-mul, mul-assoc, mul-comm, pow-succ', pow-z
 use lib.ListN.{length, take, drop, getD, length-drop}
 use lib.Seq.{take-suc, drop-cons, getD-drop, length-take-le}
 use Rattle.text.specs.Text.{stretch}
-use Rattle.search.specs.Fingers.{digits, finger}
+use Rattle.search.specs.FingerValues.{digits, finger}
 use Rattle.search.proofs.Modulo.{pushed, rolled}
 
 digits-snoc : (b a : ℕ) (s : List ℕ) (y : ℕ) → digits b a (s ++ (y ∷ [])) ≡ digits b a s * b + y

@@ -8,7 +8,7 @@ use native.Mathlib.Nat.{sub-zero}
 use Rattle.text.specs.Lists.{sameList}
 use Rattle.text.specs.ListLaws.{ne-sameList}
 use Rattle.text.specs.Text.{stretch, firstFrom, leftmost}
-use Rattle.search.specs.Fingers.{finger}
+use Rattle.search.specs.FingerValues.{finger}
 
 -- bytes with different fingerprints differ
 pub differ : (b q : ℕ) (s t : List ℕ) (h k : ℕ) → h ≡ finger b q s → k ≡ finger b q t → (h ≡ k → ⊥) → sameList s t ≡ false

@@ -1,6 +1,5 @@
--- Fingerprints of bytes: a number in a base, modulo a modulus.
-use mathlib.Core.List.{List, [], _∷_}
-use Prim.Native.Nat.{ℕ, _+_, _*_, _%_, _≤_, _<_, min, max}
+-- The base and the modulus of fingerprints: any two numbers are made usable.
+use Prim.Native.Nat.{ℕ, _%_, min, max}
 use Rattle.search.specs.declared.Fingerprint.{Fingerprint}
 
 -- the modulus that is used for a given one: from 1 to 2147483647
@@ -10,15 +9,3 @@ usableModulus q = max 1 (min q 2147483647)
 -- any two numbers made usable: the base is below the modulus
 unfoldable pub usable : ℕ → ℕ → Fingerprint
 usable b q = record { base = b % usableModulus q; modulus = usableModulus q }
-
-pub record Ready (b q : ℕ) : Type 0 where
-  pub below : b < q
-  pub most : q ≤ 2147483647
-
--- the bytes as digits in base b, after the number a
-unfoldable pub digits : ℕ → ℕ → List ℕ → ℕ
-digits b a [] = a
-digits b a (x ∷ s) = digits b (a * b + x) s
-
-unfoldable pub finger : ℕ → ℕ → List ℕ → ℕ
-finger b q s = digits b 0 s % q

@@ -5,7 +5,7 @@ ghost use mathlib.Core.Path.{_≡_};
 ghost use Prim.Native.Nat.{_+_, _-_, _*_, _%_, _^_, _≤_, _<_};
 ghost use lib.ListN.{length};
 ghost use Rattle.text.specs.Text.{stretch};
-ghost use Rattle.search.specs.Fingers.{Ready, finger};
+ghost use Rattle.search.specs.FingerValues.{Ready, finger};
 
 // The fingerprint of bytes with one byte more at their end.
 fn push(by: Fingerprint, h: u64, enters: u8) -> u64

@@ -9,7 +9,8 @@ use borrow.Author.Tests.{eqb-true, leb-true, le-leb, lt-ltb, le-ltb}
 use Rattle.text.specs.Lists.{sumBelow, allBelow}
 use Rattle.text.specs.ListLaws.{allBelow-at}
 use Rattle.term.specs.declared.calendar.Date.{Date}
-use Rattle.term.specs.Calendar.{leap, lengths, monthLength, yearLength, isDate, DateFacts, beforeYear, beforeMonth, dayNumber}
+use Rattle.term.specs.Calendar.{leap, lengths, monthLength, yearLength, isDate, beforeYear, beforeMonth, dayNumber}
+use Rattle.term.specs.CalendarDays.{DateFacts}
 use Rattle.term.specs.MonthLaws.{same-but, befores, months-before}
 
 -- the days before a year

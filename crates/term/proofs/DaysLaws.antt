@@ -14,10 +14,11 @@ use Rattle.text.specs.Text.{isDigit}
 use Rattle.term.specs.declared.calendar.Date.{Date}
 use Rattle.term.specs.declared.days.DayRead.{DayRead}
 use Rattle.term.specs.declared.days.DayRead.the-variants.{Good, Bad}
-use Rattle.term.specs.Calendar.{isDate, DateFacts}
+use Rattle.term.specs.Calendar.{isDate}
+use Rattle.term.specs.CalendarDays.{DateFacts}
 use Rattle.term.specs.CalendarLaws.{date-facts}
 use Rattle.term.specs.Days.{pairAt, dateIn, isDay, ones, written}
-use Rattle.term.specs.TermAnswers.{dayRead}
+use Rattle.term.specs.TermSteps.{dayRead}
 
 -- a digit is 48 to 57
 pub digit-low : (x : ℕ) → isDigit x ≡ true → 48 ≤ x

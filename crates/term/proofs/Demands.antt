@@ -19,7 +19,8 @@ use Rattle.term.specs.declared.Opened.{Opened}
 use Rattle.term.specs.declared.Opened.the-variants as opened
 use Rattle.term.specs.declared.Left.{Left}
 use Rattle.term.specs.declared.Left.the-variants as left
-use Rattle.term.specs.Calendar.{dayNumber, earlier, renewed}
+use Rattle.term.specs.Calendar.{dayNumber, renewed}
+use Rattle.term.specs.CalendarDays.{earlier}
 use Rattle.term.specs.Days.{isDay, dateIn, written}
 use Rattle.term.specs.DateWrittenLaws.{date-back, day-back}
 use Rattle.term.specs.Term.{numberIn, openNumber, openOn, leftNumber, daysLeft, renewNumber, renewLeaves}

@@ -14,7 +14,8 @@ use Rattle.term.specs.declared.Left.the-variants as left
 use Rattle.term.specs.Calendar.{renewed}
 use Rattle.term.specs.Days.{isDay, dateIn, written}
 use Rattle.term.specs.Term.{numberIn, openNumber, openOn, leftNumber, daysLeft, renewNumber, renewLeaves}
-use Rattle.term.specs.TermAnswers.{OpenAnswer, between, LeftAnswer}
+use Rattle.term.specs.TermAnswers.{OpenAnswer, LeftAnswer}
+use Rattle.term.specs.TermSteps.{between}
 
 -- Open.
 module _ (first last today : List ℕ) where

@@ -11,7 +11,8 @@ use Rattle.text.specs.Lists.{sumBelow}
 use Rattle.text.specs.ListLaws.{and-left, and-right, or-cases, or-right, lt-or-ge, sumBelow-part}
 use Rattle.text.specs.Conjunctions.{parts}
 use Rattle.term.specs.declared.calendar.Date.{Date}
-use Rattle.term.specs.Calendar.{monthLength, yearLength, isDate, DateFacts, beforeYear, beforeMonth, dayNumber, nextDay, earlier}
+use Rattle.term.specs.Calendar.{monthLength, yearLength, isDate, beforeYear, beforeMonth, dayNumber}
+use Rattle.term.specs.CalendarDays.{DateFacts, nextDay, earlier}
 use Rattle.term.specs.MonthLaws.{month-long, year-after, month-after, year-months}
 
 pub date-facts : (d : Date) → isDate d ≡ true → DateFacts d

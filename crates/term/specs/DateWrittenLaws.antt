@@ -11,7 +11,7 @@ use Rattle.text.specs.Lists.{allBelow}
 use Rattle.text.specs.Text.{isDigit}
 use Rattle.text.specs.ListLaws.{allBelow-at, and-both}
 use Rattle.term.specs.declared.calendar.Date.{Date}
-use Rattle.term.specs.Calendar.{DateFacts}
+use Rattle.term.specs.CalendarDays.{DateFacts}
 use Rattle.term.specs.MonthLaws.{month-short}
 use Rattle.term.specs.CalendarLaws.{facts-date}
 use Rattle.term.specs.Days.{pairAt, dateIn, isDay, ones, written}

@@ -1,5 +1,6 @@
 -- The term of a licence: the calendar, days written as eight digits, what is asked of them; and their laws.
 pub mod Calendar
+pub mod CalendarDays
 pub mod MonthLaws
 pub mod CalendarLaws
 pub mod RenewalLaws
@@ -7,4 +8,5 @@ pub mod Days
 pub mod DateWrittenLaws
 pub mod Term
 pub mod TermAnswers
+pub mod TermSteps
 pub mod TermExamples

@@ -8,7 +8,8 @@ use lib.Dec.{ltb, eqb}
 use borrow.Author.Tests.{eqb-true, eqb-false, ne-eqb, le-ltb}
 use Rattle.text.specs.ListLaws.{and-false}
 use Rattle.term.specs.declared.calendar.Date.{Date}
-use Rattle.term.specs.Calendar.{leap, monthLength, DateFacts, dayNumber, renewed}
+use Rattle.term.specs.Calendar.{leap, monthLength, dayNumber, renewed}
+use Rattle.term.specs.CalendarDays.{DateFacts}
 use Rattle.term.specs.MonthLaws.{same-month, february, month-long, year-days, months-before, year-after}
 
 module _ (d : Date) where

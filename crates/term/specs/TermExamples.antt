@@ -6,7 +6,8 @@ use Prim.Native.Nat.{ℕ, _+_}
 use lib.IntN.{pos, negsuc}
 use Rattle.text.specs.Lists.{sumBelow, allBelow}
 use Rattle.text.specs.Text.{isDigit}
-use Rattle.term.specs.Calendar.{leap, monthLength, yearLength, isDate, dayNumber, nextDay, renewed}
+use Rattle.term.specs.Calendar.{leap, monthLength, yearLength, isDate, dayNumber, renewed}
+use Rattle.term.specs.CalendarDays.{nextDay}
 use Rattle.term.specs.Days.{pairAt, dateIn, isDay, written}
 use Rattle.term.specs.Term.{openNumber, openOn, leftNumber, daysLeft, renewNumber, renewLeaves}
 

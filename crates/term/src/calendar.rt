@@ -1,7 +1,8 @@
 // The Gregorian calendar, years 2000 to 2099.
 ghost use mathlib.Core.Path.{_≡_};
 ghost use Prim.Native.Nat.{_≤_, _<_};
-ghost use Rattle.term.specs.Calendar.{leap, monthLength, isDate, DateFacts, beforeMonth, dayNumber, renewed};
+ghost use Rattle.term.specs.Calendar.{leap, monthLength, isDate, beforeMonth, dayNumber, renewed};
+ghost use Rattle.term.specs.CalendarDays.{DateFacts};
 
 // The days of each month, of a year without a 29 February, and those before each month.
 const LENGTHS: [u32; 12] = [31, 28, 31, 30, 31, 30, 31, 31, 30, 31, 30, 31];

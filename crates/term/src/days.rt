@@ -8,7 +8,7 @@ ghost use lib.ListN.{length, getD};
 ghost use Rattle.text.specs.Lists.{allBelow};
 ghost use Rattle.text.specs.Text.{isDigit};
 ghost use Rattle.term.specs.Days.{pairAt, written};
-ghost use Rattle.term.specs.TermAnswers.{dayRead};
+ghost use Rattle.term.specs.TermSteps.{dayRead};
 
 // The date that eight digits write.
 pub enum DayRead {

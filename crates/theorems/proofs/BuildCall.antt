@@ -1,7 +1,7 @@
 -- build(text, leaf, arity, levels, counted, out): the block tree of a text, written into a buffer. Demand 2, and the last part of demand 3: the check
 -- accepts what build writes.
 use mathlib.Core.List.{List, [], _∷_, _++_}
-use mathlib.Core.Bool.{true, cond}
+use mathlib.Core.Bool.{true, cond, Bool}
 use mathlib.Core.Path.{_≡_, sym, ap, _∙_, refl}
 use Prim.Native.Nat.{ℕ, zero, suc, _≤_}
 use native.Mathlib.Omega.{arith}
@@ -11,18 +11,21 @@ use lib.ListN.{length, take, drop, replicate}
 use lib.Dec.{eqb, leb}
 use lib.Seq.{take-append-seam, drop-append-seam}
 use borrow.Author.Tests.{eq-eqb, ne-eqb, leb-true, le-leb}
-use Rattle.format.specs.Settings.{Settings, lengthOk, sizesOk, countedOk}
+use Rattle.format.specs.Said.{replied}
+use Rattle.format.specs.Settings.{Settings, lengthOk, sizesOk, countedOk, given}
 use Rattle.format.specs.Layout as at
-use Rattle.format.specs.Fits.{textOf, fits}
-use Rattle.format.specs.Verdict.{verdict, ask}
+use Rattle.format.specs.Fits.{textOf}
+use Rattle.format.specs.FittingText.{fits}
+use Rattle.format.specs.Verdict.{verdict}
 use Rattle.format.specs.Blocks.{treeOf}
-use Rattle.format.specs.LayoutLaws.{readable-facts, ask-test, ask-rest}
+use Rattle.format.specs.LayoutLaws.{readable-facts}
 use Rattle.format.specs.BuildSays.{buildNumber, buildSize, buildLeaves}
+use Rattle.format.specs.SaidLaws.{asks-pass}
 use Rattle.theory_built.specs.BlockSizes.{Taken}
 use Rattle.theory_built.specs.Readable.{built-readable}
 use Rattle.theory_built.specs.ReadBack.{read-settings}
 use Rattle.theory_accepted.specs.AcceptedTrees.{StandsFor, accepted-stands, one-text}
-use Rattle.build_by_search.specs.BuildAnswer.{given, sizeOf}
+use Rattle.build_by_search.specs.BuildAnswer.{builtReply}
 use Rattle.build_by_search.specs.declared.Built.{Built}
 use Rattle.build_by_search.specs.declared.Built.the-variants as built
 use Rattle.build_enough.specs.Enough.{enoughFor}
@@ -55,11 +58,9 @@ build-one S T out =
 build-fits : (S : Settings) (T out : List ℕ) → buildNumber S T out ≡ 0 → length (treeOf S T) ≤ length out
 unfolding buildNumber
 build-fits S T out h =
-    let four = ask 4 (leb (length (treeOf S T)) (length out)) 0 in
-    let three = ask 3 (countedOk (S .counted)) four in
-    let two = ask 2 (sizesOk S) three in
-    let asked = ask-rest 2 (countedOk (S .counted)) four (ask-rest 1 (sizesOk S) three (ask-rest 0 (lengthOk (length T)) two h)) in
-    leb-true _ _ (ask-test 3 (leb (length (treeOf S T)) (length out)) 0 asked)
+    let questions : List (ℕ × Bool) = (1, lengthOk (length T)) ∷ (2, sizesOk S) ∷ (3, countedOk (S .counted))
+    ∷ (4, leb (length (treeOf S T)) (length out)) ∷ [] in
+    leb-true _ _ (asks-pass questions refl h .1 .1 .1 .0)
 
 module _ (κs : Lfts 3) (text : Lent) (leaf arity levels : ℕ) (counted out after : Lent) where
   abbrev S : Settings
@@ -165,7 +166,7 @@ module _ (κs : Lfts 3) (text : Lent) (leaf arity levels : ℕ) (counted out aft
           (rw text-is at s, λ U f. one-text (now t) (s .readable-is) (s .linked) U f ∙ text-is)
 
 -- which answer has a size
-size-is : (r : Built) (n : ℕ) → 1 ≤ n → sizeOf r ≡ n → r ≡ built.Size n
+size-is : (r : Built) (n : ℕ) → 1 ≤ n → replied (builtReply r) .value ≡ n → r ≡ built.Size n
 size-is (built.Size m) n low e = ap built.Size e
 size-is (built.Refused q) n low e = absurd (let z : ⊥ = omega arith in z)
 
@@ -176,5 +177,5 @@ build-lets-through κs text leaf arity levels counted out after r a one two thre
     let S = given leaf arity levels (now counted) in
     let passed : buildNumber S (now text) (now out) ≡ 0 = rw (one, two, three, le-leb (length (treeOf S (now text))) (length (now out)) four) in
     let long = readable-facts (treeOf S (now text)) (built-readable S (now text) (record { length-ok = one; sizes-ok = two; counted-ok = three })) .long in
-    let size : sizeOf r ≡ length (treeOf S (now text)) = a .1 .0 ∙ rw passed in
+    let size : replied (builtReply r) .value ≡ length (treeOf S (now text)) = a .1 .0 ∙ rw passed in
     size-is r (length (treeOf S (now text))) (omega (arith, long)) size

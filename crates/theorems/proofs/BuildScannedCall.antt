@@ -13,19 +13,20 @@ use denote.Ref.{now}
 use lib.ListN.{length, take, drop, replicate}
 use lib.Dec.{leb}
 use borrow.Author.Tests.{ne-eqb, le-leb, lt-leb}
-use Rattle.format.specs.Settings.{Settings, lengthOk, sizesOk, countedOk}
-use Rattle.format.specs.Fits.{fits}
+use Rattle.format.specs.Said.{replied}
+use Rattle.format.specs.Settings.{Settings, lengthOk, sizesOk, countedOk, given}
+use Rattle.format.specs.FittingText.{fits}
 use Rattle.format.specs.Verdict.{ask}
 use Rattle.format.specs.Blocks.{treeOf}
 use Rattle.format.specs.BuildSays.{buildNumber, buildSize, buildLeaves}
 use Rattle.theory_accepted.specs.AcceptedTrees.{StandsFor}
-use Rattle.build_by_search.specs.BuildAnswer.{given, numberOf as numberBuilt, sizeOf as sizeBuilt}
+use Rattle.build_by_search.specs.BuildAnswer.{builtReply}
 use Rattle.build_by_search.specs.declared.Built.{Built}
 use Rattle.build_by_search.specs.declared.Built.the-variants as built
 use Rattle.build_by_scan.specs.declared.Scanned.{Scanned}
 use Rattle.build_by_scan.specs.declared.Scanned.the-variants as scanned
 use Rattle.build_by_scan.specs.ScannedSays.{windowsOf, tableWords, scanNumber, scanWindows, scanLeaves}
-use Rattle.build_by_scan.specs.ScannedAnswer.{numberOf, sizeOf}
+use Rattle.build_by_scan.specs.ScannedAnswer.{scannedReply}
 use Rattle.build_by_scan.proofs.ScannedOutcomes.{number-same, size-same, leaves-same}
 pub use Rattle.theorems.specs.CallContracts.{BuildScanned}
 use Rattle.theorems.specs.Promises.{Answers, Refuses}
@@ -123,11 +124,11 @@ module _ (κs : Lfts 4) (text : Lent) (leaf arity levels : ℕ) (counted words t
     unfolding scanNumber
     scanned-short one two three short = go r (a .0 ∙ rw (one, two, three, lt-leb (tableWords (length T) leaf) (length (now words)) short))
       where
-        go : (r : Scanned) → numberOf r ≡ 18 → r ≡ scanned.Refused 18
+        go : (r : Scanned) → replied (scannedReply r) .number ≡ 18 → r ≡ scanned.Refused 18
         go (scanned.Size n w) e = absurd (let z : ⊥ = omega arith in z)
         go (scanned.Refused n) e = ap scanned.Refused e
 
-    pub scanned-has-table : (w : ℕ) → ScanWords (length T) leaf w → w ≤ length (now words) → numberOf r ≡ 18 → ⊥
+    pub scanned-has-table : (w : ℕ) → ScanWords (length T) leaf w → w ≤ length (now words) → replied (scannedReply r) .number ≡ 18 → ⊥
     unfolding scanNumber
     scanned-has-table w c enough e =
         let long : tableWords (length T) leaf ≤ length (now words) = omega (arith, c) in
@@ -146,8 +147,9 @@ module _ (κs : Lfts 4) (text : Lent) (leaf arity levels : ℕ) (counted words t
     -- Request 106: with the same text, settings and buffer, build_scanned and build return the same number and size and leave the same bytes, unless
     -- build_scanned is refused with 18.
     pub same-as-build : (κ : Lfts 3) (lent left : Lent) (b : Built) → now lent ≡ now out → Build κ text leaf arity levels counted lent left b
-        → (numberOf r ≡ 18 → ⊥)
-        → (numberOf r ≡ numberBuilt b) × (sizeOf r ≡ sizeBuilt b) × (now after ≡ now left)
+        → (replied (scannedReply r) .number ≡ 18 → ⊥)
+        → (replied (scannedReply r) .number ≡ replied (builtReply b) .number) × (replied (scannedReply r) .value ≡ replied (builtReply b) .value)
+        × (now after ≡ now left)
     same-as-build κ lent left b same c other =
         let long : scanNumber S T (now out) (length (now words)) ≡ 18 → ⊥ = λ e. other (a .0 ∙ e) in (
           a .0 ∙ number-same S T (now out) (length (now words)) long ∙ ap (buildNumber S T) (sym same) ∙ sym (c .0),

@@ -16,7 +16,7 @@ use Rattle.format.specs.Path.{Path, pathOf}
 use Rattle.format.specs.Fits.{textOf}
 use Rattle.format.specs.Verdict.{readable, verdict, ask}
 use Rattle.format.specs.VerdictLaws.{accepted-readable, accepted-links}
-use Rattle.format.specs.Said.{Said, refused, unless}
+use Rattle.format.specs.Said.{Said, refused, unless, replied}
 use Rattle.format.specs.ReadSays.{byteSays, byteOf}
 use Rattle.format.specs.FindSays.{pathLength}
 use Rattle.format.specs.LayoutLaws.{ask-test}
@@ -27,7 +27,7 @@ use Rattle.theory_paths.specs.PlaceBytes.{path-there}
 use Rattle.ask_access.proofs.Demands as access
 use Rattle.ask_access.specs.declared.Answer.{Answer}
 use Rattle.ask_access.specs.declared.Answer.the-variants as answer
-use Rattle.ask_access.specs.ReadAnswers.{said}
+use Rattle.ask_access.specs.ReadAnswers.{byteReply}
 use Rattle.theorems.specs.Promises.{ByteAnswers, ByteRefuses, LengthOfPath}
 use Rattle.theorems.specs.PublicFunctions.{byte-function}
 use Rattle.theorems.proofs.AcceptedTree.{below, path-length, text-size}
@@ -102,7 +102,7 @@ unfolding byteSays
 byte-ten t v p h = rw (accepted-readable t v, le-ltb p (at.textLength t) (omega (arith, text-size t v)))
 
 -- which refusal says this
-byte-no : (r : Answer) (n : ℕ) → said r ≡ refused (suc n) → r ≡ answer.Refused (suc n)
+byte-no : (r : Answer) (n : ℕ) → replied (byteReply r) ≡ refused (suc n) → r ≡ answer.Refused (suc n)
 byte-no (answer.Byte v e) n s = absurd (let z : _≡_ {A = ℕ} 0 (suc n) = ap (λ (x : Said). x .number) s in omega arith)
 byte-no (answer.Refused m) n s = ap (λ (x : Said). answer.Refused (x .number)) s
 

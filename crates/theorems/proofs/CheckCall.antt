@@ -7,7 +7,8 @@ use Prim.Native.Nat.{ℕ}
 use contract.Lifetimes.{Lfts}
 use denote.Ref.{now}
 use Rattle.format.specs.Layout as at
-use Rattle.format.specs.Fits.{textOf, fits, edgesTrue}
+use Rattle.format.specs.Fits.{textOf, edgesTrue}
+use Rattle.format.specs.FittingText.{fits}
 use Rattle.format.specs.VerdictLaws.{accepted-readable, accepted-links, no-edges}
 use Rattle.theory_accepted.specs.AcceptedTrees.{StandsFor, one-text}
 use Rattle.tree.proofs.Demands as tree

@@ -1,7 +1,7 @@
 -- row_by_columns(tree, width, a, buffer): row a, from 0, of the text whose rearrangement the tree is of: all its bytes, copied.
 use mathlib.Core.List.{List, [], _∷_, _++_}
-use mathlib.Core.Bool.{cond}
-use mathlib.Core.Path.{_≡_, sym, _∙_, refl}
+use mathlib.Core.Bool.{cond, Bool}
+use mathlib.Core.Path.{_≡_, _∙_, refl}
 use Prim.Native.Nat.{ℕ, _≤_, _/_}
 use native.Mathlib.Omega.{arith}
 use contract.Lifetimes.{Lfts}
@@ -14,12 +14,10 @@ use Rattle.text.specs.ListLaws.{length-tabulate}
 use Rattle.text.specs.Lists.{tabulate}
 use Rattle.format.specs.Layout as at
 use Rattle.format.specs.Fits.{textOf}
-use Rattle.format.specs.Verdict.{readable, verdict, ask}
+use Rattle.format.specs.Verdict.{readable, verdict, asks}
 use Rattle.format.specs.VerdictLaws.{accepted-readable}
-use Rattle.format.specs.Said.{refused}
 use Rattle.format.specs.ReadSays.{byteSays}
-use Rattle.format.specs.LayoutLaws.{ask-test, ask-rest}
-use Rattle.format.specs.SaidLaws.{unless-passes, then-is}
+use Rattle.format.specs.SaidLaws.{next-passes, asks-pass}
 use Rattle.ask_access.specs.declared.Copied.the-variants as copied
 use Rattle.columns.specs.Columns.{widthOk}
 use Rattle.ask_columns.proofs.Demands as columns
@@ -49,13 +47,9 @@ column-one t w a room =
 column-fits : (t : List ℕ) (w a room : ℕ) → columnNumber t w a room ≡ 0 → w ≤ room
 unfolding columnNumber
 column-fits t w a room h =
-    let fourteen = ask 14 (cellsHold t w a) 0 in
-    let thirteen = ask 13 (leb w room) fourteen in
-    let ten = ask 10 (ltb a (at.textLength t / w)) thirteen in
-    let twenty = ask 20 (widthOk w (at.textLength t)) ten in
-    let z = unless-passes (readable t) (refused twenty) (sym (then-is (readable t) twenty) ∙ h) in
-    let y = ask-rest 9 (ltb a (at.textLength t / w)) thirteen (ask-rest 19 (widthOk w (at.textLength t)) ten (z .1)) in
-    leb-true w room (ask-test 12 (leb w room) fourteen y)
+    let n = at.textLength t in
+    let questions : List (ℕ × Bool) = (20, widthOk w n) ∷ (10, ltb a (n / w)) ∷ (13, leb w room) ∷ (14, cellsHold t w a) ∷ [] in
+    leb-true w room (asks-pass questions refl (next-passes (readable t) (asks questions) h .1) .1 .1 .0)
 
 module _ (κs : Lfts 2) (t : Lent) (w a : ℕ) (buffer after : Lent) where
   -- A result is w bytes, which fit, and the bytes after them are unchanged.

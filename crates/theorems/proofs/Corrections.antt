@@ -13,7 +13,7 @@ use Rattle.text.specs.Text.{countIn, placeOf}
 use Rattle.text.specs.ListLaws.{lt-or-ge}
 use Rattle.text.specs.declared.TextPlace.{TextPlace}
 use Rattle.format.specs.Layout as at
-use Rattle.format.specs.Fits.{fits}
+use Rattle.format.specs.FittingText.{fits}
 use Rattle.ask_rank.specs.declared.Counted.{Counted}
 use Rattle.ask_rank.specs.declared.Counted.the-variants as counted
 use Rattle.ask_select.specs.declared.Found.{Found}

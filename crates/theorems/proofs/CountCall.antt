@@ -19,14 +19,14 @@ use Rattle.format.specs.Path.{Path, pathOf}
 use Rattle.format.specs.Fits.{textOf}
 use Rattle.format.specs.Verdict.{readable, verdict, ask}
 use Rattle.format.specs.VerdictLaws.{accepted-readable}
-use Rattle.format.specs.Said.{Said, refused, unless}
+use Rattle.format.specs.Said.{Said, refused, unless, NeverZero, replied}
 use Rattle.format.specs.CountSays.{isCounted, countSays, numberOfByte, added, taken, leavesReached, countOf}
 use Rattle.format.specs.FindSays.{pathLength}
 use Rattle.format.specs.SaidLaws.{unless-passes}
 use Rattle.theory_counts.specs.Demands as tallies
 use Rattle.ask_rank.specs.declared.Counted.{Counted}
 use Rattle.ask_rank.specs.declared.Counted.the-variants as counted
-use Rattle.ask_rank.specs.Counts.{saidCount, Numbered as CountNumbered, uncountedNumber}
+use Rattle.ask_rank.specs.Counts.{countReply, uncountedNumber}
 use Rattle.theorems.specs.Promises.{Among, CountAnswers, CountRefuses, LengthOfPath}
 pub use Rattle.theorems.specs.CallContracts.{Count}
 use Rattle.theorems.specs.PublicFunctions.{count-function, uncounted-function}
@@ -140,14 +140,14 @@ uncounted-numbers κs t i r a =
     last false = inl refl
 
 -- which answer says this
-count-is : (r : Counted) (v e : ℕ) → CountNumbered r → saidCount r ≡ record { number = 0; value = v; entered = e } → r ≡ counted.Times v e
+count-is : (r : Counted) (v e : ℕ) → NeverZero (countReply r) → replied (countReply r) ≡ record { number = 0; value = v; entered = e } → r ≡ counted.Times v e
 count-is (counted.Times w m) v e k s =
     let z : w ≡ v = ap (λ (x : Said). x .value) s in
     let y : m ≡ e = ap (λ (x : Said). x .entered) s in
     cc
 count-is (counted.Refused q) v e k s = absurd (let z : q ≡ 0 = ap (λ (x : Said). x .number) s in omega arith)
 
-count-no : (r : Counted) (n : ℕ) → saidCount r ≡ refused (suc n) → r ≡ counted.Refused (suc n)
+count-no : (r : Counted) (n : ℕ) → replied (countReply r) ≡ refused (suc n) → r ≡ counted.Refused (suc n)
 count-no (counted.Times v e) n s = absurd (let z : _≡_ {A = ℕ} 0 (suc n) = ap (λ (x : Said). x .number) s in omega arith)
 count-no (counted.Refused m) n s = ap (λ (x : Said). counted.Refused (x .number)) s
 

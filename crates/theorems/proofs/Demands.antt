@@ -131,9 +131,10 @@ pub use Rattle.theorems.proofs.Corrections.{CountingTree, CountsNear, c
 -- Request 113, guides: how many entries a counted byte has, and which block each of them is.
 pub use Rattle.ask_guide.proofs.Demands.{guide-entries, guide-holds}
 -- Request 113: making is refused with 5 to 9 or 25, and the table is then unchanged; else the words are written, and check_guide accepts them.
-pub use Rattle.ask_guide.proofs.Demands.{make-unread, make-short, make-writes, made-accepted, size-of-guide, size-refused}
+pub use Rattle.build_guide.proofs.Demands.{make-unread, make-short, make-writes, made-accepted}
+pub use Rattle.ask_guide.proofs.Demands.{size-of-guide, size-refused}
 -- Request 113: checking accepts the guide of an accepted tree and nothing else; its refusals are 5 to 9, then 24.
-pub use Rattle.ask_guide.proofs.Demands.{check-guide-accepts, check-guide-unread, check-guide-wrong}
+pub use Rattle.build_guide.proofs.Demands.{check-guide-accepts, check-guide-unread, check-guide-wrong}
 -- Request 113: with an accepted tree and guide, find and row return what they return without one, and the steps are the place's block of level 0 less the
 -- entry.
 pub use Rattle.ask_guided.proofs.Demands.{guided-as-find, guided-steps}

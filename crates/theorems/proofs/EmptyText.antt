@@ -19,7 +19,8 @@ use Rattle.text.specs.Lists.{tabulate, sumBelow}
 use Rattle.format.specs.Settings.{Settings, maxLevels}
 use Rattle.format.specs.HeaderPlaces.{headerLength}
 use Rattle.format.specs.Layout as at
-use Rattle.format.specs.Fits.{textOf, fits}
+use Rattle.format.specs.Fits.{textOf}
+use Rattle.format.specs.FittingText.{fits}
 use Rattle.format.specs.VerdictLaws.{accepted-readable, accepted-links}
 use Rattle.format.specs.LayoutLaws.{Readable, readable-facts}
 use Rattle.format.specs.PieceLaws.{pieces-none}

@@ -5,9 +5,9 @@ use mathlib.Core.Path.{_≡_, refl}
 use Prim.Native.Nat.{ℕ}
 use lib.Dec.{leb}
 use Rattle.format.specs.Settings.{lengthOk, sizesOk, maxCounted}
+use Rattle.layout.specs.CheckedSettings.{sizes}
 use Rattle.format.specs.Verdict.{ask}
 use Rattle.format.specs.LayoutLaws.{ask-test, ask-rest}
-use Rattle.layout.specs.CheckedSettings.{sizes}
 use Rattle.build_enough.specs.Enough.{enoughFor, enoughRefusal, enoughSays}
 use Rattle.build_enough.specs.declared.Room.{Room}
 use Rattle.build_enough.specs.declared.Room.the-variants as room

@@ -20,13 +20,14 @@ use Rattle.format.specs.Path.{pathOf}
 use Rattle.format.specs.Fits.{textOf}
 use Rattle.format.specs.Verdict.{verdict}
 use Rattle.format.specs.VerdictLaws.{accepted-readable}
-use Rattle.format.specs.Said.{Said, refused}
+use Rattle.format.specs.Said.{Said, refused, NeverZero, replied}
 use Rattle.format.specs.CountSays.{numberOfByte}
-use Rattle.format.specs.FindSays.{selectNumber, pathLength, FindSays, total}
+use Rattle.format.specs.FindSays.{selectNumber, pathLength, total, found as foundFor}
+use Rattle.format.specs.FindSaysLaws.{FindSays}
 use Rattle.theory_counts.specs.Demands as tallies
 use Rattle.ask_select.specs.declared.Found.{Found}
 use Rattle.ask_select.specs.declared.Found.the-variants as found
-use Rattle.ask_select.specs.Found.{saidFind, Numbered as FindNumbered}
+use Rattle.ask_select.specs.Found.{findReply}
 use Rattle.theorems.specs.Promises.{Among, FindAnswers, FindRefuses}
 pub use Rattle.theorems.specs.CallContracts.{Find}
 use Rattle.theorems.specs.PublicFunctions.{find-function}
@@ -34,7 +35,6 @@ use Rattle.theorems.proofs.AcceptedTree.{among-counted, not-counted, pa
 use Rattle.theorems.proofs.FindOutcomes.{FindOutcome, find-outcome, outcome-below, outcome-numbers, select-through}
 use Rattle.theorems.proofs.OutsideCall.{Call, Lent, call}
 use Rattle.theorems.proofs.RefusalNumbers.{OneOf}
-use Rattle.format.specs.FindSays.{found as foundFor}
 use Rattle.ask_select.proofs.find.Met as find-met
 
 abbrev pub find-call : Call
@@ -54,14 +54,15 @@ module _ (κs : Lfts 1) (t : Lent) (byte j : ℕ) where
   find-numbers n a = outcome-numbers (now t) byte j n (a .numbered) (outcome-of _ (a .says))
 
 -- which answer says this
-find-is : (r : Found) (v e : ℕ) → FindNumbered r → saidFind r ≡ record { number = 0; value = v; entered = e } → r ≡ found.At (record { 0 = v }) e
+find-is : (r : Found) (v e : ℕ) → NeverZero (findReply r) → replied (findReply r) ≡ record { number = 0; value = v; entered = e }
+    → r ≡ found.At (record { 0 = v }) e
 find-is (found.At p m) v e k s =
     let z : p ≡ record { 0 = v } = ap (λ (n : ℕ). record { 0 = n }) (ap (λ (x : Said). x .value) s) in
     let y : m ≡ e = ap (λ (x : Said). x .entered) s in
     cc
 find-is (found.Refused q) v e k s = absurd (let z : q ≡ 0 = ap (λ (x : Said). x .number) s in omega arith)
 
-find-no : (r : Found) (n : ℕ) → saidFind r ≡ refused (suc n) → r ≡ found.Refused (suc n)
+find-no : (r : Found) (n : ℕ) → replied (findReply r) ≡ refused (suc n) → r ≡ found.Refused (suc n)
 find-no (found.At p e) n s = absurd (let z : _≡_ {A = ℕ} 0 (suc n) = ap (λ (x : Said). x .number) s in omega arith)
 find-no (found.Refused m) n s = ap (λ (x : Said). found.Refused (x .number)) s
 

@@ -14,14 +14,14 @@ use Rattle.format.specs.Layout as at
 use Rattle.format.specs.Path.{pathOf}
 use Rattle.format.specs.Fits.{textOf}
 use Rattle.format.specs.Verdict.{verdict}
-use Rattle.format.specs.Said.{Said}
+use Rattle.format.specs.Said.{Said, NeverZero, replied}
 use Rattle.format.specs.CountSays.{numberOfByte}
 use Rattle.format.specs.FindSays.{found, pathLength}
 use Rattle.ask_guide.specs.Guides.{guideNumber}
 use Rattle.ask_guide.proofs.GuideList.{guide-verdict}
 use Rattle.ask_guided.specs.declared.Guided.{Guided}
 use Rattle.ask_guided.specs.declared.Guided.the-variants as guided
-use Rattle.ask_guided.specs.Guided.{stepsTo, saidGuided, stepsOf, Numbered}
+use Rattle.ask_guided.specs.Guided.{stepsTo, guidedReply, stepsOf}
 use Rattle.theorems.specs.Promises.{Among, LengthOfPath}
 use Rattle.theorems.specs.PublicFunctions.{find-guided-function}
 use Rattle.theorems.proofs.AcceptedTree.{path-length}
@@ -38,8 +38,8 @@ find-guided-call = call find-guided-function find-guided-met.met (λ 𝓤 H A me
 
 -- Any lent bytes: a place is one of the text, whatever the guide, and a refusal is 5, 6, 7, 11, 12 or 14.
 module _ (κs : Lfts 2) (t guide : Lent) (byte j : ℕ) where
-  outcome-of : (r : Guided) → FindGuided κs t guide byte j r → FindOutcome (now t) byte j (saidGuided r)
-  outcome-of r a = find-outcome (now t) byte j (guideNumber (now t) (now guide)) (guide-verdict (now t) (now guide)) (saidGuided r) (a .says .finds)
+  outcome-of : (r : Guided) → FindGuided κs t guide byte j r → FindOutcome (now t) byte j (replied (guidedReply r))
+  outcome-of r a = find-outcome (now t) byte j (guideNumber (now t) (now guide)) (guide-verdict (now t) (now guide)) (replied (guidedReply r)) (a .says .finds)
 
   pub guided-below : (p : TextPlace) (e steps : ℕ) → FindGuided κs t guide byte j (guided.At p e steps) → p .0 < at.textLength (now t)
   guided-below p e steps a = outcome-below (now t) byte j (record { number = 0; value = p .0; entered = e }) refl (outcome-of (guided.At p e steps) a)
@@ -68,7 +68,8 @@ module _ (κ : Lfts 2) (t guide : Lent) (ok : CheckGuide κ t guide 0) where
       let long = path-length (now t) v p in-text in
       (pathLength (now t) (pathOf (now t) p), long, guided-is r p _ _ (a .numbered) (a .says .finds .accepted n settled) (a .says .counted n settled))
     where
-      guided-is : (r : Guided) (p e steps : ℕ) → Numbered r → saidGuided r ≡ record { number = 0; value = p; entered = e } → stepsOf r ≡ steps
+      guided-is : (r : Guided) (p e steps : ℕ) → NeverZero (guidedReply r) → replied (guidedReply r) ≡ record { number = 0; value = p; entered = e }
+          → stepsOf r ≡ steps
           → r ≡ guided.At (record { 0 = p }) e steps
       guided-is (guided.At q m s) p e steps k x y =
           let z : q ≡ record { 0 = p } = ap (λ (n : ℕ). record { 0 = n }) (ap (λ (s : Said). s .value) x) in

@@ -1,5 +1,5 @@
 -- guide_words(tree), make_guide(tree, table) and check_guide(tree, guide): a guide to the level 0 blocks, kept beside the tree: how many words it has; made;
--- checked. What else holds of them stands in the `Demands` of their crate.
+-- checked. What else holds of them stands in the `Demands` of their crates.
 use mathlib.Core.List.{[], _∷_}
 use mathlib.Core.Path.{_≡_, ap, _∙_, refl}
 use Prim.Native.Nat.{ℕ}
@@ -17,10 +17,11 @@ use Rattle.theorems.specs.PublicFunctions.{check-guide-function, guide-w
 use Rattle.theorems.proofs.OutsideCall.{Call, Lent, call}
 use Rattle.theorems.proofs.RefusalNumbers.{OneOf, asks-one, not-zero, readable-one, then-one, verdict-one}
 use Rattle.ask_guide.proofs.guide_words.Met as guide-words-met
-use Rattle.ask_guide.proofs.make_guide.Met as make-guide-met
-use Rattle.ask_guide.proofs.check_guide.Met as check-guide-met
+use Rattle.build_guide.proofs.make_guide.Met as make-guide-met
+use Rattle.build_guide.proofs.check_guide.Met as check-guide-met
 -- what the contracts allow: `GuideWords κs tree r`, `MakeGuide κs tree table after r`, which leaves the table as `after`, `CheckGuide κs tree guide r`
-pub use Rattle.ask_guide.proofs.Demands.{GuideWords, MakeGuide, CheckGuide}
+pub use Rattle.ask_guide.proofs.Demands.{GuideWords}
+pub use Rattle.build_guide.proofs.Demands.{MakeGuide, CheckGuide}
 
 abbrev pub guide-words-call : Call
 guide-words-call = call guide-words-function guide-words-met.met (λ 𝓤 H A mem run κs a. (tt, refl))

@@ -13,11 +13,10 @@ use Rattle.format.specs.Verdict.{readable, verdict}
 use Rattle.format.specs.VerdictLaws.{accepted-readable}
 use Rattle.format.specs.CountSays.{isCounted}
 use Rattle.keys.specs.Keys.{rangesOk}
-use Rattle.ask_worn_keys.specs.MatchSays.{matchNumber}
+use Rattle.query_row_filter.specs.AllowedOutcome.{queryRefusal, newlineRefusal}
 use Rattle.ask_worn_keys.proofs.Demands.{refusal-is}
 use Rattle.ask_worn_keys.proofs.Demands as worn-keys
 use Rattle.query_row_filter.specs.declared.NextRowAnswer.the-variants as shown
-use Rattle.query_row_filter.specs.AllowedOutcome.{newlineRefusal, queryRefusal}
 use Rattle.theorems.specs.Promises.{Among, MatchAnswers, MatchRefuses}
 use Rattle.theorems.specs.PublicFunctions.{next-match-function, show-function}
 use Rattle.theorems.proofs.AcceptedTree.{among-counted, not-counted}
@@ -38,8 +37,8 @@ show-call = call show-function show-met.met (λ 𝓤 H A mem run κs a. (tt, ref
 -- Any lent bytes.
 
 -- the numbers that the questions before the walk can give
-match-one : (t ranges : List ℕ) → OneOf (5 ∷ 6 ∷ 7 ∷ 19 ∷ 11 ∷ 0 ∷ []) (matchNumber t ranges)
-unfolding matchNumber queryRefusal newlineRefusal
+match-one : (t ranges : List ℕ) → OneOf (5 ∷ 6 ∷ 7 ∷ 19 ∷ 11 ∷ 0 ∷ []) (queryRefusal t 19 (rangesOk ranges))
+unfolding queryRefusal newlineRefusal
 match-one t ranges =
     then-one (5 ∷ 6 ∷ 7 ∷ []) (19 ∷ 11 ∷ 0 ∷ []) (readable t) _ (readable-one t)
     (asks-one ((19, rangesOk ranges) ∷ (11, isCounted t 10) ∷ []))
@@ -48,7 +47,7 @@ match-one t ranges =
 pub match-numbers : (κs : Lfts 2) (t ranges : Lent) (mark n : ℕ) → NextMatch κs t ranges mark (shown.Refused n) → OneOf (5 ∷ 6 ∷ 7 ∷ 19 ∷ 11 ∷ 14 ∷ []) n
 match-numbers κs t ranges mark n a = go (refusal-is (now t) (now ranges) mark n a)
   where
-    go : (n ≡ matchNumber (now t) (now ranges)) ⊎ ((n ≡ 14) × (verdict (now t) ≡ 0 → ⊥)) → OneOf (5 ∷ 6 ∷ 7 ∷ 19 ∷ 11 ∷ 14 ∷ []) n
+    go : (n ≡ queryRefusal (now t) 19 (rangesOk (now ranges))) ⊎ ((n ≡ 14) × (verdict (now t) ≡ 0 → ⊥)) → OneOf (5 ∷ 6 ∷ 7 ∷ 19 ∷ 11 ∷ 14 ∷ []) n
     go (inl e) = of-left (5 ∷ 6 ∷ 7 ∷ 19 ∷ 11 ∷ []) (14 ∷ []) n (not-zero (5 ∷ 6 ∷ 7 ∷ 19 ∷ 11 ∷ []) n (a .numbered) (rw e (match-one (now t) (now ranges))))
     go (inr h) = of-right (5 ∷ 6 ∷ 7 ∷ 19 ∷ 11 ∷ []) (14 ∷ []) n (inl (h .0))
 
@@ -58,7 +57,7 @@ module _ (t : Lent) (v : verdict (now t) ≡ 0) where
   pass = accepted-readable (now t) v
 
   -- questions 19 and 11 let the search for a match through
-  match-through : (ranges : List ℕ) → rangesOk ranges ≡ true → Among 10 (at.settings (now t) .counted) → matchNumber (now t) ranges ≡ 0
+  match-through : (ranges : List ℕ) → rangesOk ranges ≡ true → Among 10 (at.settings (now t) .counted) → queryRefusal (now t) 19 (rangesOk ranges) ≡ 0
   match-through ranges ok k = worn-keys.match-through (now t) ranges pass ok (among-counted (now t) 10 k)
 
   pub accepted-answers : MatchAnswers t (at.settings (now t)) (textOf (now t))

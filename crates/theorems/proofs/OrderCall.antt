@@ -11,8 +11,10 @@ use denote.Ref.{now, RefT}
 use lib.ListN.{length}
 use lib.Dec.{ltb}
 use Rattle.text.specs.ListLaws.{lt-or-ge}
+use Rattle.format.specs.Said.{Said, unless}
 use Rattle.format.specs.Layout as at
-use Rattle.format.specs.Fits.{linksOk, textOf, fits}
+use Rattle.format.specs.Fits.{linksOk, textOf}
+use Rattle.format.specs.FittingText.{fits}
 use Rattle.format.specs.Verdict.{readable}
 use Rattle.format.specs.VerdictLaws.{accepted-readable, accepted-links}
 use Rattle.format.specs.ReadSays.{byteSays}
@@ -21,9 +23,9 @@ use Rattle.theory_accepted.specs.AcceptedTrees.{one-text}
 use Rattle.ask_order.specs.declared.Compared.{Compared}
 use Rattle.ask_order.specs.declared.Compared.the-variants as compared
 use Rattle.ask_order.proofs.Demands as orders
-use Rattle.ask_order.specs.Order.{Standing, before, same, after, Ordered, stands, orElse, byLength, comparedFrom, orderSays, standing, shared}
+use Rattle.ask_order.specs.Order.{Standing, before, same, after, stands, byLength, comparedFrom, orderSays}
+use Rattle.ask_order.specs.TextOrder.{standing, shared, outcome, firstOf}
 use Rattle.ask_order.specs.OrderLaws.{clash, flip, Upto, shared-itself}
-use Rattle.ask_order.specs.OrderAnswers.{outcome, firstOf}
 use Rattle.ask_order.proofs.HandLaws.{refused-low}
 use Rattle.theorems.specs.PublicFunctions.{compare-function, first-function}
 use Rattle.theorems.proofs.CheckCall.{Check}
@@ -46,11 +48,11 @@ first-call = call first-function first-met.met (λ 𝓤 H A mem run κs a. (tt, 
 
 -- the numbers that a comparison refuses with, for any lent bytes
 
-or-one : (n : ℕ) (s : Ordered) → OneOf (14 ∷ 0 ∷ []) n → OneOf (14 ∷ 0 ∷ []) (s .number) → OneOf (14 ∷ 0 ∷ []) (orElse n s .number)
+or-one : (n : ℕ) (s : Said) → OneOf (14 ∷ 0 ∷ []) n → OneOf (14 ∷ 0 ∷ []) (s .number) → OneOf (14 ∷ 0 ∷ []) (unless n s .number)
 or-one zero s h k = k
 or-one (suc q) s h k = h
 
-cond-one : (b : Bool) (x y : Ordered) → OneOf (14 ∷ 0 ∷ []) (x .number) → OneOf (14 ∷ 0 ∷ []) (y .number) → OneOf (14 ∷ 0 ∷ []) (cond b x y .number)
+cond-one : (b : Bool) (x y : Said) → OneOf (14 ∷ 0 ∷ []) (x .number) → OneOf (14 ∷ 0 ∷ []) (y .number) → OneOf (14 ∷ 0 ∷ []) (cond b x y .number)
 cond-one true x y h k = h
 cond-one false x y h k = k
 
@@ -84,7 +86,7 @@ module _ (t u : List ℕ) where
       first n low h = of-left (5 ∷ 6 ∷ 7 ∷ []) (14 ∷ 0 ∷ []) n (not-zero (5 ∷ 6 ∷ 7 ∷ []) n low h)
 
       go : (n m : ℕ) → readable t ≡ n → readable u ≡ m
-          → OneOf (5 ∷ 6 ∷ 7 ∷ 14 ∷ 0 ∷ []) (orElse n (orElse m (comparedFrom t u (min (at.textLength t) (at.textLength u)) 0)) .number)
+          → OneOf (5 ∷ 6 ∷ 7 ∷ 14 ∷ 0 ∷ []) (unless n (unless m (comparedFrom t u (min (at.textLength t) (at.textLength u)) 0)) .number)
       go (suc n) m e f = first (suc n) (omega arith) (rw e at (readable-one t))
       go zero (suc m) e f = first (suc m) (omega arith) (rw f at (readable-one u))
       go zero zero e f = of-right (5 ∷ 6 ∷ 7 ∷ []) (14 ∷ 0 ∷ []) _ (from-one e f (min (at.textLength t) (at.textLength u)) 0 (omega arith))
@@ -92,7 +94,7 @@ module _ (t u : List ℕ) where
 -- A refusal is 5, 6, 7 or 14.
 pub order-numbers : (κs : Lfts 2) (t u : Lent) (n : ℕ) → Compare κs t u (compared.Refused n) → OneOf (5 ∷ 6 ∷ 7 ∷ 14 ∷ []) n
 order-numbers κs t u n a =
-    let e : n ≡ orderSays (now t) (now u) .number = ap (λ (s : Ordered). s .number) (a .says) in
+    let e : n ≡ orderSays (now t) (now u) .number = ap (λ (s : Said). s .number) (a .says) in
     not-zero (5 ∷ 6 ∷ 7 ∷ 14 ∷ []) n (refused-low (now t) (now u) (compared.Refused n) a t u n refl) (rw e (order-one (now t) (now u)))
 
 -- Trees that the check accepts.
@@ -114,8 +116,8 @@ module _ (t : Lent) (T : List ℕ) (a : Holds t T) where
   text-is = sym (one-text (now t) passes links T (a .fitting))
 
 -- the figures that `first` leaves behind its references
-abbrev pub figuresIn : RefT ℕ → RefT ℕ → RefT ℕ → Ordered
-figuresIn number order length = record { number = now number; order = now order; length = now length }
+abbrev pub figuresIn : RefT ℕ → RefT ℕ → RefT ℕ → Said
+figuresIn number order length = record { number = now number; value = now order; entered = now length }
 
 module _ (t u : Lent) (T U : List ℕ) (a : Holds t T) (b : Holds u U) where
   -- the lexicographic order of the texts, and the length of their longest common prefix

@@ -1,7 +1,7 @@
 -- places(tree, pattern, table): all places of a pattern, written to a lent table of words.
 use mathlib.Core.List.{List, [], _∷_, _++_}
 use mathlib.Core.Option.{some}
-use mathlib.Core.Bool.{true, _&&_}
+use mathlib.Core.Bool.{true, _&&_, Bool}
 use mathlib.Core.Path.{_≡_, sym, ap, _∙_, refl}
 use Prim.Native.Nat.{ℕ, _+_, _≤_, _<_}
 use native.Mathlib.Omega.{arith}
@@ -14,12 +14,12 @@ use Rattle.text.specs.ListLaws.{and-left, and-right}
 use Rattle.format.specs.Layout as at
 use Rattle.format.specs.Path.{Path, pathOf}
 use Rattle.format.specs.Fits.{linksOk, textOf}
-use Rattle.format.specs.Verdict.{readable, verdict, ask}
+use Rattle.format.specs.Verdict.{readable, verdict, asks}
 use Rattle.format.specs.VerdictLaws.{accepted-readable, accepted-links}
-use Rattle.format.specs.Said.{Said, refused}
+use Rattle.format.specs.Said.{Said}
 use Rattle.format.specs.ReadSays.{pathsHold}
-use Rattle.format.specs.LayoutLaws.{readable-facts, ask-test, ask-rest}
-use Rattle.format.specs.SaidLaws.{unless-passes, then-is, unless-number}
+use Rattle.format.specs.LayoutLaws.{readable-facts}
+use Rattle.format.specs.SaidLaws.{unless-passes, unless-number, next-passes, asks-pass}
 use Rattle.theory_paths.specs.Demands as paths
 use Rattle.theory_paths.specs.PlaceBytes.{hold-at, path-there}
 use Rattle.theory_paths.specs.Reads.{text-of-path}
@@ -51,19 +51,16 @@ record Passed (t P : List ℕ) (room : ℕ) : Type 0 where
 passed : (t P : List ℕ) (room : ℕ) → placesNumber t P room ≡ 0 → Passed t P room
 unfolding placesNumber patternOk
 passed t P room h =
-    let seventeen = ask 17 (leb (length (placesOf t P)) room) 0 in
-    let fourteen = ask 14 (pathsHold t 0 (at.textLength t)) seventeen in
-    let more = ask 16 (leb 1 (length P) && leb (length P) maxPattern) fourteen in
-    let a = unless-passes (readable t) (refused more) (sym (then-is (readable t) more) ∙ h) in
-    let ok = ask-test 15 (leb 1 (length P) && leb (length P) maxPattern) fourteen (a .1) in
-    let b = ask-rest 15 (leb 1 (length P) && leb (length P) maxPattern) fourteen (a .1) in
-    let c = ask-rest 13 (pathsHold t 0 (at.textLength t)) seventeen b in
+    let long = leb 1 (length P) && leb (length P) maxPattern in
+    let questions : List (ℕ × Bool) = (16, long) ∷ (14, pathsHold t 0 (at.textLength t)) ∷ (17, leb (length (placesOf t P)) room) ∷ [] in
+    let a = next-passes (readable t) (asks questions) h in
+    let b = asks-pass questions refl (a .1) in
     record {
       pass = a .0;
-      low = leb-true 1 (length P) (and-left (leb 1 (length P)) (leb (length P) maxPattern) ok);
-      high = leb-true (length P) maxPattern (and-right (leb 1 (length P)) (leb (length P) maxPattern) ok);
-      hold = ask-test 13 (pathsHold t 0 (at.textLength t)) seventeen b;
-      fits = leb-true (length (placesOf t P)) room (ask-test 16 (leb (length (placesOf t P)) room) 0 c);
+      low = leb-true 1 (length P) (and-left (leb 1 (length P)) (leb (length P) maxPattern) (b .0));
+      high = leb-true (length P) maxPattern (and-right (leb 1 (length P)) (leb (length P) maxPattern) (b .0));
+      hold = b .1 .0;
+      fits = leb-true (length (placesOf t P)) room (b .1 .1 .0);
     }
 
 -- the numbers that the questions can give

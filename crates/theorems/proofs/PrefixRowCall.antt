@@ -14,7 +14,6 @@ use Rattle.format.specs.CountSays.{isCounted}
 use Rattle.ask_patterns.specs.Places.{patternOk}
 use Rattle.query_row_filter.specs.declared.NextRowAnswer.the-variants as answer
 use Rattle.query_row_filter.specs.AllowedOutcome.{newlineRefusal, queryRefusal}
-use Rattle.query_prefix.specs.PrefixRefusals.{prefixRefusal}
 use Rattle.ask_guide.specs.Guides.{guideNumber}
 use Rattle.ask_guide.proofs.GuideList.{guide-verdict}
 use Rattle.query_prefix.proofs.Demands.{PrefixAnswer}
@@ -39,8 +38,8 @@ next-row-with-prefix-guided-call = call next-row-with-prefix-guided-function gui
 -- Any lent bytes.
 
 -- the numbers that the questions before the walk can give
-prefix-one : (t prefix : List ℕ) → OneOf (5 ∷ 6 ∷ 7 ∷ 16 ∷ 11 ∷ 0 ∷ []) (prefixRefusal t prefix)
-unfolding prefixRefusal queryRefusal newlineRefusal
+prefix-one : (t prefix : List ℕ) → OneOf (5 ∷ 6 ∷ 7 ∷ 16 ∷ 11 ∷ 0 ∷ []) (queryRefusal t 16 (patternOk prefix))
+unfolding queryRefusal newlineRefusal
 prefix-one t prefix =
     then-one (5 ∷ 6 ∷ 7 ∷ []) (16 ∷ 11 ∷ 0 ∷ []) (readable t) _ (readable-one t)
     (asks-one ((16, patternOk prefix) ∷ (11, isCounted t 10) ∷ []))
@@ -50,7 +49,7 @@ refusal-one : (t : List ℕ) (ok : ℕ) (sound : ok ≡ 0 → verdict t ≡ 0) (
     → PrefixAnswer t ok prefix mark (answer.Refused n) → OneOf (5 ∷ 6 ∷ 7 ∷ 16 ∷ 11 ∷ 14 ∷ []) n
 refusal-one t ok sound prefix mark n a = go (query-prefix.prefix-refusal t ok sound prefix mark n a)
   where
-    go : (n ≡ prefixRefusal t prefix) ⊎ ((n ≡ 14) × (ok ≡ 0 → ⊥)) → OneOf (5 ∷ 6 ∷ 7 ∷ 16 ∷ 11 ∷ 14 ∷ []) n
+    go : (n ≡ queryRefusal t 16 (patternOk prefix)) ⊎ ((n ≡ 14) × (ok ≡ 0 → ⊥)) → OneOf (5 ∷ 6 ∷ 7 ∷ 16 ∷ 11 ∷ 14 ∷ []) n
     go (inl e) = of-left (5 ∷ 6 ∷ 7 ∷ 16 ∷ 11 ∷ []) (14 ∷ []) n (not-zero (5 ∷ 6 ∷ 7 ∷ 16 ∷ 11 ∷ []) n (a .numbered) (rw e (prefix-one t prefix)))
     go (inr h) = of-right (5 ∷ 6 ∷ 7 ∷ 16 ∷ 11 ∷ []) (14 ∷ []) n (inl (h .0))
 

@@ -9,16 +9,18 @@ use denote.Ref.{now}
 use lib.ListN.{length, drop}
 use Rattle.text.specs.Text.{stretch}
 use Rattle.text.specs.Rows.{rowOf}
+use Rattle.format.specs.Said.{NeverZero, replied}
 use Rattle.format.specs.Settings.{Settings}
 use Rattle.format.specs.Layout as at
 use Rattle.format.specs.Fits.{textOf}
 use Rattle.format.specs.Verdict.{verdict}
 use Rattle.format.specs.VerdictLaws.{accepted-readable}
-use Rattle.format.specs.RowSays.{rowMost, RowSays, rowNumber}
+use Rattle.format.specs.RowSays.{rowMost, rowNumber}
+use Rattle.format.specs.RowSaysLaws.{RowSays}
 use Rattle.theory_counts.specs.RowsOfText.{row-lets, row-twelve, row-eleven}
 use Rattle.ask_rows.specs.declared.RowCopied.{RowCopied}
 use Rattle.ask_rows.specs.declared.RowCopied.the-variants as rows
-use Rattle.ask_rows.specs.RowAnswers.{saidRow, Numbered as RowNumbered}
+use Rattle.ask_rows.specs.RowAnswers.{rowReply}
 use Rattle.theorems.specs.Promises.{RowAnswers, RowRefuses}
 pub use Rattle.theorems.specs.CallContracts.{Row}
 use Rattle.theorems.specs.PublicFunctions.{row-function}
@@ -61,11 +63,11 @@ module _ (κs : Lfts 2) (t : Lent) (q : ℕ) (buffer after : Lent) where
     row-leaves = row-outcome-leaves (now t) q (now buffer) n (now after) (a .numbered) (outcome-of n 0 (a .says))
 
 -- which answer says this
-row-is : (r : RowCopied) (v : ℕ) → RowNumbered r → saidRow r .number ≡ 0 → saidRow r .value ≡ v → r ≡ rows.Bytes v
+row-is : (r : RowCopied) (v : ℕ) → NeverZero (rowReply r) → replied (rowReply r) .number ≡ 0 → replied (rowReply r) .value ≡ v → r ≡ rows.Bytes v
 row-is (rows.Bytes m) v k z e = ap rows.Bytes e
 row-is (rows.Refused q) v k z e = absurd (let y : ⊥ = omega arith in y)
 
-row-no : (r : RowCopied) (n : ℕ) → saidRow r .number ≡ suc n → r ≡ rows.Refused (suc n)
+row-no : (r : RowCopied) (n : ℕ) → replied (rowReply r) .number ≡ suc n → r ≡ rows.Refused (suc n)
 row-no (rows.Bytes m) n s = absurd (let z : ⊥ = omega arith in z)
 row-no (rows.Refused m) n s = ap rows.Refused s
 

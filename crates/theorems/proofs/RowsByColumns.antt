@@ -7,10 +7,9 @@ use contract.Lifetimes.{Lfts}
 use denote.Ref.{now}
 use lib.ListN.{length, take, drop}
 use Rattle.text.specs.Text.{stretch}
-use Rattle.format.specs.Settings.{Settings}
+use Rattle.format.specs.Settings.{Settings, given}
 use Rattle.format.specs.Layout as at
-use Rattle.format.specs.Fits.{fits}
-use Rattle.build_by_search.specs.BuildAnswer.{given}
+use Rattle.format.specs.FittingText.{fits}
 use Rattle.build_by_search.specs.declared.Built.the-variants as built
 use Rattle.build_by_scan.specs.declared.Scanned.the-variants as scanned
 use Rattle.ask_access.specs.declared.Copied.{Copied}

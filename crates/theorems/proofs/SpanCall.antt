@@ -1,7 +1,7 @@
 -- span(tree, place, length, buffer): bytes copied from a place on, with the blocks that a short span enters.
 use mathlib.Core.List.{List, [], _∷_, _++_}
-use mathlib.Core.Bool.{true, cond}
-use mathlib.Core.Path.{_≡_, sym, _∙_, refl}
+use mathlib.Core.Bool.{true, cond, Bool}
+use mathlib.Core.Path.{_≡_, _∙_, refl}
 use Prim.Native.Nat.{ℕ, suc, _+_, _≤_, _<_}
 use native.Mathlib.Omega.{arith}
 use contract.Lifetimes.{Lfts}
@@ -13,12 +13,10 @@ use borrow.Author.Tests.{eq-eqb, ne-eqb, leb-true, le-leb, lt-leb}
 use Rattle.text.specs.declared.TextPlace.{TextPlace}
 use Rattle.format.specs.Layout as at
 use Rattle.format.specs.Fits.{textOf}
-use Rattle.format.specs.Verdict.{readable, verdict, ask}
+use Rattle.format.specs.Verdict.{readable, verdict, asks}
 use Rattle.format.specs.VerdictLaws.{accepted-readable}
-use Rattle.format.specs.Said.{refused}
 use Rattle.format.specs.ReadSays.{spanBlocks, spanReached, leavesSpan, spanBytes, spanNumber, spanSays, spanLeaves, asksSpan}
-use Rattle.format.specs.LayoutLaws.{ask-test, ask-rest}
-use Rattle.format.specs.SaidLaws.{unless-passes, then-is}
+use Rattle.format.specs.SaidLaws.{next-passes, asks-pass}
 use Rattle.theory_edges.specs.Demands as margins
 use Rattle.ask_access.proofs.Demands as access
 use Rattle.ask_access.specs.declared.Copied.{Copied}
@@ -54,16 +52,10 @@ record Spanned (t : List ℕ) (p len room : ℕ) : Type 0 where
 span-passes : (t : List ℕ) (p len room : ℕ) → spanNumber t p len room ≡ 0 → Spanned t p len room
 unfolding spanNumber asksSpan
 span-passes t p len room h =
-    let fourteen = ask 14 (spanReached t p len) 0 in
-    let thirteen = ask 13 (leb len room) fourteen in
-    let more = ask 10 (leb (p + len) (at.textLength t)) thirteen in
-    let a = unless-passes (readable t) (refused more) (sym (then-is (readable t) more) ∙ h) in
-    let after10 = ask-rest 9 (leb (p + len) (at.textLength t)) thirteen (a .1) in
-    record {
-      pass = a .0;
-      fits = leb-true len room (ask-test 12 (leb len room) fourteen after10);
-      reached = ask-test 13 (spanReached t p len) 0 (ask-rest 12 (leb len room) fourteen after10);
-    }
+    let questions : List (ℕ × Bool) = (10, leb (p + len) (at.textLength t)) ∷ (13, leb len room) ∷ (14, spanReached t p len) ∷ [] in
+    let a = next-passes (readable t) (asks questions) h in
+    let b = asks-pass questions refl (a .1) in
+    record { pass = a .0; fits = leb-true len room (b .1 .0); reached = b .1 .1 .0 }
 
 module _ (κs : Lfts 2) (t : Lent) (p : TextPlace) (len : ℕ) (buffer after : Lent) where
   -- The result is the given length, which fits, with the blocks entered, and the bytes after it are unchanged.

@@ -10,13 +10,14 @@ use denote.Ref.{now}
 use lib.ListN.{length, take}
 use lib.Dec.{leb, eqb}
 use Rattle.text.specs.ListLaws.{bool-cases}
+use Rattle.format.specs.Said.{replied}
 use Rattle.format.specs.Layout as at
 use Rattle.format.specs.Fits.{textOf}
 use Rattle.format.specs.Verdict.{ask, readable, verdict}
 use Rattle.theory_without_edges.specs.WithoutEdges.{withoutEdges}
 use Rattle.build_without_edges.specs.declared.WithoutEdgesAnswer.{WithoutEdgesAnswer}
 use Rattle.build_without_edges.specs.declared.WithoutEdgesAnswer.the-variants.{Size}
-use Rattle.build_without_edges.specs.WithoutEdgesAnswers.{withoutEdgesRefusal, refusalOf}
+use Rattle.build_without_edges.specs.WithoutEdgesAnswers.{withoutEdgesRefusal, withoutEdgesReply}
 use Rattle.theorems.specs.Promises.{Answers, Refuses}
 use Rattle.theorems.specs.PublicFunctions.{without-edges-function}
 use Rattle.theorems.proofs.OutsideCall.{Call, Lent, call}
@@ -47,7 +48,7 @@ number-one t out = go (readable t) (readable-one t) (bool-cases (leb (length (wi
     go n (inr (inr (inr (inl e)))) (inr f) = rw (e, f) (inr (inr (inr (inl refl))))
 
 module _ (κs : Lfts 2) (t out after : Lent) (r : WithoutEdgesAnswer) (a : WithoutEdges κs t out after r) where
-  pub without-edges-numbers : OneOf (5 ∷ 6 ∷ 7 ∷ 13 ∷ 0 ∷ []) (refusalOf r)
+  pub without-edges-numbers : OneOf (5 ∷ 6 ∷ 7 ∷ 13 ∷ 0 ∷ []) (replied (withoutEdgesReply r) .number)
   without-edges-numbers = rw (a .0) (number-one (now t) (now out))
 
   -- If the check accepts the tree, every question about the tree and about the written tree is answered, or refused, by the same text and settings.

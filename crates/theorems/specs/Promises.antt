@@ -13,10 +13,10 @@ use lib.ListN.{length, getD, take, drop}
 use lib.Dec.{eqb}
 use Rattle.text.specs.Text.{stretch, countIn, placeOf}
 use Rattle.text.specs.Rows.{rowOf, rowsOf}
-use Rattle.format.specs.Settings.{Settings, lengthOk, sizesOk, countedOk}
+use Rattle.format.specs.Settings.{Settings, lengthOk, sizesOk, countedOk, given}
 use Rattle.format.specs.Layout as at
 use Rattle.format.specs.Path.{Path, pathOf}
-use Rattle.format.specs.Fits.{fits}
+use Rattle.format.specs.FittingText.{fits}
 use Rattle.format.specs.Blocks.{treeOf}
 use Rattle.format.specs.Short.{Short, shortOf}
 use Rattle.format.specs.ReadSaysLaws.{ShortSpan}
@@ -27,10 +27,9 @@ use Rattle.theory_machine.specs.OutsideCalls.{AsksNothing, Each}
 use Rattle.row_filter.specs.SelectedRows.{outcomeAt}
 use Rattle.keys.specs.Keys.{rangesOk}
 use Rattle.keys.specs.Matches.{nextMatch, shownFor}
-use Rattle.prefix_match.specs.PrefixRows.{nextWithPrefix}
+use Rattle.prefix_match.specs.PrefixRowNumbers.{nextWithPrefix}
 use Rattle.columns.specs.Columns.{widthOk, uncolumns}
 use Rattle.sha256.specs.Sha256.{sha256}
-use Rattle.build_by_search.specs.BuildAnswer.{given}
 use Rattle.build_by_scan.specs.ScannedSays.{windowsOf}
 use Rattle.ask_patterns.specs.Places.{maxPattern, placesIn, patternOk}
 use Rattle.ask_patterns.specs.PlacesLaws.{AllPlaces}

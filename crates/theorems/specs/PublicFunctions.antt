@@ -32,8 +32,8 @@ use Rattle.ask_columns.proofs.row_by_columns as row-by-columns-code
 use Rattle.query_digest.proofs.digest as digest-code
 use Rattle.sha256.proofs.digest_text as digest-text-code
 use Rattle.ask_guide.proofs.guide_words as guide-words-code
-use Rattle.ask_guide.proofs.make_guide as make-guide-code
-use Rattle.ask_guide.proofs.check_guide as check-guide-code
+use Rattle.build_guide.proofs.make_guide as make-guide-code
+use Rattle.build_guide.proofs.check_guide as check-guide-code
 use Rattle.ask_guided.proofs.find_guided as find-guided-code
 use Rattle.ask_rows.proofs.row_guided as row-guided-code
 use Rattle.ask_order.proofs.compare as compare-code

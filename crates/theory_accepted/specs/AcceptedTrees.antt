@@ -6,7 +6,8 @@ use mathlib.Core.Logic.{_↔_}
 use Prim.Native.Nat.{ℕ}
 use Rattle.format.specs.Settings.{Settings}
 use Rattle.format.specs.Blocks.{treeOf}
-use Rattle.format.specs.Fits.{linksOk, textOf, fits, countsTrue, edgesTrue}
+use Rattle.format.specs.Fits.{linksOk, textOf, countsTrue, edgesTrue}
+use Rattle.format.specs.FittingText.{fits}
 use Rattle.format.specs.Verdict.{readable, verdict}
 use Rattle.format.specs.VerdictLaws as verdicts
 use Rattle.theory_paths.specs.Demands as paths

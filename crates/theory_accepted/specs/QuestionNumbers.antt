@@ -8,7 +8,7 @@ use native.Mathlib.Omega.{arith}
 use lib.Dec.{eqb}
 use Rattle.format.specs.Layout as at
 use Rattle.format.specs.Fits.{linksOk, textOf, edgesTrue, countsTrue}
-use Rattle.format.specs.Verdict.{readable, verdict, ask}
+use Rattle.format.specs.Verdict.{readable, verdict, ask, asks}
 use Rattle.format.specs.Said.{Said, refused, unless}
 use Rattle.format.specs.SaidLaws.{then-is}
 
@@ -37,11 +37,6 @@ not-zero [] n low (inl e) = omega arith
 not-zero [] n low (inr h) = h
 not-zero (x ∷ xs) n low (inl e) = inl e
 not-zero (x ∷ xs) n low (inr h) = inr (not-zero xs n low h)
-
--- questions in order, each a number and a test: the number of the first that fails, else 0
-abbrev pub asks : List (ℕ × Bool) → ℕ
-asks [] = 0
-asks (q ∷ qs) = ask (q .0) (q .1) (asks qs)
 
 abbrev pub numbers : List (ℕ × Bool) → List ℕ
 numbers [] = 0 ∷ []

@@ -7,7 +7,8 @@ use native.Mathlib.Omega.{arith}
 use lib.ListN.{length}
 use Rattle.format.specs.Settings.{Settings}
 use Rattle.format.specs.Blocks.{treeOf}
-use Rattle.format.specs.Fits.{linksOk, textOf, fits, countsTrue, edgesTrue}
+use Rattle.format.specs.Fits.{linksOk, textOf, countsTrue, edgesTrue}
+use Rattle.format.specs.FittingText.{fits}
 use Rattle.format.specs.Verdict.{readable, verdict}
 use Rattle.theory_built.specs.BlockSizes.{Taken, bounds, maxTree}
 use Rattle.theory_built.specs.BuiltLeaves.{leaves-le}

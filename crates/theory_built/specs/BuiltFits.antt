@@ -15,7 +15,8 @@ use Rattle.text.specs.Text.{stretch}
 use Rattle.format.specs.Settings.{Settings}
 use Rattle.format.specs.Blocks.{treeOf}
 use Rattle.format.specs.Layout as at
-use Rattle.format.specs.Fits.{lastLevel, blockFits, fits}
+use Rattle.format.specs.Fits.{lastLevel}
+use Rattle.format.specs.FittingText.{blockFits, fits}
 use Rattle.theory_built.specs.BlockSizes.{Taken}
 use Rattle.text.specs.TextLaws.{length-stretch, getD-stretch}
 use Rattle.theory_built.specs.Structure.{count, start, bytesIn, keptAt, widthOf}

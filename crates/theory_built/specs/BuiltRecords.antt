@@ -15,7 +15,8 @@ use Rattle.format.specs.Settings.{Settings}
 use Rattle.format.specs.Words.{wordsBytes}
 use Rattle.format.specs.WordLaws.{length-words}
 use Rattle.format.specs.RecordFields.{startField, kindField, linkField, gapField, plainFields, plainWords, countedWords}
-use Rattle.format.specs.RecordFields.{beforeField, insideField, skipField, countFields, fieldCount}
+use Rattle.format.specs.RecordFields.{beforeField, insideField, skipField, countFields}
+use Rattle.format.specs.LayoutLaws.{fieldCount}
 use Rattle.format.specs.Edges.{edgesOf}
 use Rattle.format.specs.EdgeLaws.{length-edges}
 use Rattle.format.specs.SizeLaws.{record-edged}

@@ -8,8 +8,8 @@ use native.Mathlib.Omega.{arith}
 use lib.ListN.{length, length-append}
 use lib.Dec.{leb, ltb}
 use Rattle.format.specs.Layout as at
-use Rattle.format.specs.Path.{Visit, visit, keptBlock, pointingBlock, lands, landBlock, landPlace, landVisits}
-use Rattle.format.specs.Short.{Short, led, allowed, byEdges, inLeaf, shortFrom, shortOf}
+use Rattle.format.specs.Path.{Visit, visit, keptBlock, pointingBlock, lands, landBlock, landPlace, landVisits, provided}
+use Rattle.format.specs.Short.{Short, led, byEdges, inLeaf, shortFrom, shortOf}
 
 -- what is found was found with at least one block entered, and at most n
 Few : ℕ → Option Short → Type 0
@@ -19,7 +19,7 @@ few-some : (n : ℕ) (q : Short) → 1 ≤ length (q .visits) → length (q .vis
 unfolding Few
 few-some n q low h p e = let z : p .visits ≡ q .visits = cc in rw z (low, h)
 
-few-allowed : (n : ℕ) (c : Bool) (r : Option Short) → Few n r → Few n (allowed c r)
+few-allowed : (n : ℕ) (c : Bool) (r : Option Short) → Few n r → Few n (provided c r)
 unfolding Few
 few-allowed n true r h = h
 few-allowed n false r h = λ q e. absurd (let z : _≡_ {A = ℕ} 0 1 = cc in omega arith)
@@ -66,10 +66,10 @@ module _ (t : List ℕ) where
       let p = landPlace t l i o in
       let child = at.fullLength t (l + 1) in
       let down = shortFrom t below (l + 1) (at.link t l j + p / child) (p % child) len in
-      let inside : Few (2 * suc below + 2) (allowed (lands t l i o) (led (landVisits t l i o) down)) =
+      let inside : Few (2 * suc below + 2) (provided (lands t l i o) (led (landVisits t l i o) down)) =
       few-allowed (2 * suc below + 2) (lands t l i o) _ (few-more (2 + (2 * below + 2)) (2 * suc below + 2) _ (omega arith)
       (few-led (2 * below + 2) 2 (landVisits t l i o) down (lands-two l i o) (short-few below (l + 1) (at.link t l j + p / child) (p % child) len))) in
-      let between : Few (2 * suc below + 2) (allowed (pointingBlock t l i) (led (visit l i o ∷ []) (byEdges t l j p))) =
+      let between : Few (2 * suc below + 2) (provided (pointingBlock t l i) (led (visit l i o ∷ []) (byEdges t l j p))) =
       few-allowed (2 * suc below + 2) (pointingBlock t l i) _ (few-more (1 + 2) (2 * suc below + 2) _ (omega arith)
       (few-led 2 1 (visit l i o ∷ []) (byEdges t l j p) (omega arith) (edges-two l j p))) in
       few-cond (2 * suc below + 2) (leb (o + len) (at.fullLength t l)) _ _ (few-cond (2 * suc below + 2) (leb (p + len) (at.fullLength t l)) _ _ inside between)

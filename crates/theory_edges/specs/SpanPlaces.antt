@@ -13,8 +13,8 @@ use lib.Dec.{leb, ltb}
 use Rattle.text.specs.ListLaws.{lt-or-ge, bool-cases, and-right}
 use Rattle.format.specs.Layout as at
 use Rattle.format.specs.LayoutLaws.{Readable, full-pos, edges-inside, leaf-start-inside}
-use Rattle.format.specs.Path.{Visit, visit, keptBlock, pointingBlock, targetPlace, lands, landBlock, landPlace, landVisits}
-use Rattle.format.specs.Short.{Short, led, allowed, byEdges, inLeaf, shortFrom, shortOf}
+use Rattle.format.specs.Path.{Visit, visit, keptBlock, pointingBlock, targetPlace, lands, landBlock, landPlace, landVisits, provided}
+use Rattle.format.specs.Short.{Short, led, byEdges, inLeaf, shortFrom, shortOf}
 use Rattle.format.specs.ReadSaysLaws.{ShortSpan}
 use Rattle.theory_paths.specs.Links.{H, N, b}
 use Rattle.theory_paths.specs.PlacesLand.{target-first, target-second}
@@ -37,7 +37,7 @@ module _ (t : List ℕ) (k : Readable t) (two : at.layout t ≡ 2) (x : ℕ) (lo
       let d : q .next ≡ p .next = cc in
       record { few = rw c (h .few); first-in = rw (a, c) (h .first-in); next-in = rw (d, c) (h .next-in) }
 
-  allowed-in : (c : Bool) (r : Option Short) → (c ≡ true → Found r) → Found (allowed c r)
+  allowed-in : (c : Bool) (r : Option Short) → (c ≡ true → Found r) → Found (provided c r)
   allowed-in true r h = h refl
   allowed-in false r h = λ q e. absurd (let z : _≡_ {A = ℕ} 0 1 = cc in omega arith)
 
@@ -98,10 +98,10 @@ module _ (t : List ℕ) (k : Readable t) (two : at.layout t ≡ 2) (x : ℕ) (lo
       let p = landPlace t l i o in
       let c = b t (l + 1) in
       let down = shortFrom t below (l + 1) (at.link t l j + p / c) (p % c) x in
-      let inside : Found (allowed (lands t l i o) (led (landVisits t l i o) down)) =
+      let inside : Found (provided (lands t l i o) (led (landVisits t l i o) down)) =
       allowed-in (lands t l i o) _ (λ y. led-in
       (landVisits t l i o) down (short-in below (l + 1) (at.link t l j + p / c) (p % c) (omega arith) (mod-lt p (full-pos t k (l + 1))))) in
-      let between : leb (p + x) (b t l) ≡ false → Found (allowed (pointingBlock t l i) (led (visit l i o ∷ []) (byEdges t l j p))) =
+      let between : leb (p + x) (b t l) ≡ false → Found (provided (pointingBlock t l i) (led (visit l i o ∷ []) (byEdges t l j p))) =
       λ z. allowed-in (pointingBlock t l i)
       _ (λ y. led-in (visit l i o ∷ []) (byEdges t l j p) (edges-in l j p (omega arith) (land-low l i o ho y) (leb-false (p + x) (b t l) z))) in
       cond-in (leb (o + x) (b t l)) _ _ (λ y. cond-in (leb (p + x) (b t l)) _ _ (λ z. inside) between)

@@ -13,8 +13,9 @@ use ghost.Model as Closed
 use contract.Lifetimes.{Lfts}
 use contract.Monad.{Fun}
 use contract.Running.{GhostRules, Running}
+use denote.Signature.{Signature}
 use denote.Triple.Entry.{Args}
-use denote.Triple.Spec.{Meets}
+use denote.Triple.Spec.{Spec, Meets}
 use Rattle.theory_machine.specs.Ends.{Function, Ends, ends}
 
 -- No precondition: the contract requires nothing of a caller, for any lifetimes and arguments.
@@ -36,6 +37,14 @@ abbrev pub call : (f : Function)
     → Meets 𝓤 H (𝓖 .A) (f .signature) (𝓡 .run (f .routine)) (f .clauses 𝓤 H (𝓖 .A) (𝓜 .mem) (𝓡 .run)))
     → AsksNothing f → Call
 call f met nothing = record { function = f; ends = ends f met; asks-nothing = nothing }
+
+-- the same of a function by its parts, as the modules of its crate have them
+abbrev pub callOf : (r : Routine) (s : Signature)
+    (clauses : (𝓤 : URA Closed.Res) (H : Heap 𝓤) (A : Atoms 𝓤) → (Memory → SProp 𝓤) → (Routine → Fun 𝓤) → Spec 𝓤 s)
+    → ((𝓤 : URA Closed.Res) (H : Heap 𝓤) (𝓜 : Model 𝓤 H) (𝓖 : GhostRules 𝓤 H) (𝓡 : Running 𝓤 H 𝓜)
+    → Meets 𝓤 H (𝓖 .A) s (𝓡 .run r) (clauses 𝓤 H (𝓖 .A) (𝓜 .mem) (𝓡 .run)))
+    → AsksNothing (record { routine = r; signature = s; clauses = clauses }) → Call
+callOf r s clauses met nothing = call (record { routine = r; signature = s; clauses = clauses }) met nothing
 
 -- it holds of each of some calls
 abbrev pub Each : (Function → Type 2) → List Call → Type 2

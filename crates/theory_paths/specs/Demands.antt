@@ -10,7 +10,8 @@ use lib.ListN.{length, getD, drop}
 use Rattle.text.specs.Text.{stretch}
 use Rattle.format.specs.Layout as at
 use Rattle.format.specs.Path.{Path, Visit, entered, pathFrom, pathOf}
-use Rattle.format.specs.Fits.{linksOk, textOf, fits}
+use Rattle.format.specs.Fits.{linksOk, textOf}
+use Rattle.format.specs.FittingText.{fits}
 use Rattle.format.specs.Verdict.{readable}
 use Rattle.format.specs.LayoutLaws.{Readable, readable-facts}
 use Rattle.format.specs.ReadSays.{byteSays, runSays, pathsHold, copyNumber, copyLeaves}

@@ -16,7 +16,8 @@ use Rattle.text.specs.Text.{stretch}
 use Rattle.text.specs.TextLaws.{length-stretch, getD-stretch, stretch-ext, stretch-at}
 use Rattle.format.specs.LayoutLaws.{Readable}
 use Rattle.format.specs.Layout as at
-use Rattle.format.specs.Fits.{lastLevel, blockFits, fits}
+use Rattle.format.specs.Fits.{lastLevel}
+use Rattle.format.specs.FittingText.{blockFits, fits}
 use Rattle.theory_paths.specs.Links.{H, N, s, len, Linked, points-not-kept}
 use Rattle.theory_paths.specs.BlockStarts.{len-end, start-below}
 

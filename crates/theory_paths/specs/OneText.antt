@@ -10,7 +10,8 @@ use Rattle.text.specs.ListLaws.{length-tabulate, getD-tabulate}
 use Rattle.format.specs.LayoutLaws.{Readable}
 use Rattle.format.specs.Layout as at
 use Rattle.format.specs.Path.{visit, targetBlock, targetPlace, pathFrom, pathOf}
-use Rattle.format.specs.Fits.{leafOf, textOf, fits}
+use Rattle.format.specs.Fits.{leafOf, textOf}
+use Rattle.format.specs.FittingText.{fits}
 use Rattle.theory_paths.specs.Links.{H, N, s, len, pointing-kind, points-not-kept, Linked}
 use Rattle.theory_paths.specs.BlockStarts.{len-inside, last-kept, leaf-below}
 use Rattle.theory_paths.specs.PlacesLand.{leaf-entered, from-last, kept-block, kept-not, pointing-block, from-pointing, target}

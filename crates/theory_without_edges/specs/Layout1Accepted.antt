@@ -17,7 +17,8 @@ use Rattle.format.specs.Blocks.{treeOf, startsAt, leafBytes}
 use Rattle.format.specs.LayoutLaws.{Readable, readable-facts, size-edged}
 use Rattle.format.specs.Layout as at
 use Rattle.format.specs.Path.{pathOf}
-use Rattle.format.specs.Fits.{linksOk, textOf, fits, countsTrue}
+use Rattle.format.specs.Fits.{linksOk, textOf, countsTrue}
+use Rattle.format.specs.FittingText.{fits}
 use Rattle.format.specs.ReadSays.{byteSays}
 use Rattle.format.specs.Verdict.{ask, readable, verdict}
 use Rattle.format.specs.VerdictLaws as verdicts

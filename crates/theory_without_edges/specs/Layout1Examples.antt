@@ -57,7 +57,9 @@ unfolding book twelve two uncounted words older older-twelve withoutEdges layout
     layout1Record layout1Records layout1LeafBytes treeIn headerIn pairsIn levelIn bytesOf sizeIn tabulate concat sumBelow countBelow sameList setWord
     wordAt wordsBytes wordBytes stretch leftmost firstFrom countIn blockLength pieces recordLength treeOf header leafBytes levelPairs recordBytes
     edgesOf filledOut levelBytes recordIn recordOf target occurrence width isKept startsAt cut keptByPairs firstPairAt pairAt lengthOf startOf
-    at.levelCount at.levelOffset
+    at.levelCount at.levelOffset at.layout at.textLength at.countedCount at.settings at.leafOffset at.leafCount at.recordSize at.field at.start
+    at.kind at.link at.gap at.before at.inside at.skip at.edgesAt at.leafByte at.fullLength at.blockLengthAt at.isKept at.isPointing at.hasEdges
+    at.longEnough at.layoutOk at.headerOk
 marked = record {
   book-layout1 = (refl, refl, refl);
   twelve-layout1 = (refl, refl, refl);

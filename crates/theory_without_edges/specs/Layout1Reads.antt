@@ -14,12 +14,11 @@ use Rattle.text.specs.ListLaws.{and-both, allBelow-make, sumBelow-ext, sumBelow
 use Rattle.text.specs.Text.{stretch}
 use Rattle.text.specs.TextLaws.{stretch-ext}
 use Rattle.format.specs.Words.{wordAt}
-use Rattle.format.specs.RecordFields.{fieldCount}
+use Rattle.format.specs.LayoutLaws.{fieldCount, Readable}
 use Rattle.format.specs.Settings.{Settings, maxLevels, maxCounted, lengthOk, sizesOk, countedOk, pieces}
 use Rattle.format.specs.SizeLaws.{record-plain}
 use Rattle.format.specs.HeaderPlaces.{layoutAt, textLengthAt, leafAt, arityAt, levelsAt, countedCountAt, countedAt, pairsAt, countAt, offsetAt, leafOffsetAt}
 use Rattle.format.specs.HeaderPlaces.{leafCountAt, headerLength}
-use Rattle.format.specs.LayoutLaws.{Readable}
 use Rattle.format.specs.Layout as at
 use Rattle.format.specs.Verdict.{readable}
 use Rattle.theory_built.specs.BuiltBytes.{stands-word}

@@ -8,11 +8,11 @@ use Prim.Native.Nat.{ℕ, zero, suc, _+_, _-_, _≤_, _<_}
 use native.Mathlib.Omega.{arith}
 use Rattle.text.specs.Lists.{sumBelow}
 use Rattle.text.specs.ListLaws.{bool-cases, sumBelow-ext, sumBelow-part}
-use Rattle.format.specs.RecordFields.{startField, kindField, linkField, gapField, beforeField, insideField, skipField, fieldCount}
+use Rattle.format.specs.RecordFields.{startField, kindField, linkField, gapField, beforeField, insideField, skipField}
+use Rattle.format.specs.LayoutLaws.{fieldCount, Readable, readable-facts}
 use Rattle.format.specs.Settings.{Settings, maxLevels}
-use Rattle.format.specs.LayoutLaws.{Readable, readable-facts}
 use Rattle.format.specs.Layout as at
-use Rattle.format.specs.Fits.{lastLevel, widthAt, textOf, fits, countsTrue}
+use Rattle.format.specs.Fits.{lastLevel, widthAt, textOf, countsTrue}
 use Rattle.format.specs.Verdict.{readable, verdict}
 use Rattle.format.specs.VerdictLaws as verdicts
 use Rattle.theory_paths.specs.Links.{H, N, b, s, len, Kept, Follows, Pointing, Linked, linked-facts, points-not-kept}

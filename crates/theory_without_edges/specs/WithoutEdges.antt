@@ -22,12 +22,10 @@ AllBytes t = (x : ℕ) → getD t x 0 < 256
 module _ (t : List ℕ) where
   -- the size of a record without its edges
   unfoldable pub layout1RecordSize : ℕ
-  unfolding at.countedCount
   layout1RecordSize = fieldBytes (at.countedCount t)
 
   -- the offset of level l in layout 1; for l = levels, the offset of the leaf bytes
   unfoldable pub layout1Offset : ℕ → ℕ
-  unfolding at.levelCount
   layout1Offset l = headerLength + sumBelow l (at.levelCount t) * layout1RecordSize
 
   -- the header h with the offsets of its first l levels replaced
@@ -36,25 +34,21 @@ module _ (t : List ℕ) where
   offsetsIn (suc l) h = setWord (offsetsIn l h) (offsetAt l) (layout1Offset l)
 
   unfoldable pub layout1Header : List ℕ
-  unfolding at.settings
   layout1Header =
       let H = at.settings t .levels in
       setWord (offsetsIn H (setWord (take headerLength t) layoutAt edgelessLayout)) leafOffsetAt (layout1Offset H)
 
   -- the records of all levels, in their order; j counts from 0
   unfoldable pub recordCount : ℕ
-  unfolding at.settings at.levelCount
   recordCount = sumBelow (at.settings t .levels) (at.levelCount t)
 
   unfoldable pub layout1Record : ℕ → List ℕ
-  unfolding at.recordSize
   layout1Record j = stretch t (headerLength + j * at.recordSize t) layout1RecordSize
 
   unfoldable pub layout1Records : List ℕ
   layout1Records = concat (tabulate recordCount layout1Record)
 
   unfoldable pub layout1LeafBytes : List ℕ
-  unfolding at.leafOffset at.leafCount
   layout1LeafBytes = stretch t (at.leafOffset t) (at.leafCount t)
 
   unfoldable pub withoutEdges : List ℕ

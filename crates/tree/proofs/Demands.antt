@@ -1,9 +1,9 @@
 -- The demands on build and check, as theorems over what their calls promise.
 -- docs/FORMAT.md: "What is promised".
-use mathlib.Core.List.{List, _++_}
-use mathlib.Core.Path.{_≡_, sym, ap, _∙_}
+use mathlib.Core.List.{List, _++_, [], _∷_}
+use mathlib.Core.Path.{_≡_, sym, ap, _∙_, refl}
 use mathlib.Core.Logic.{_↔_}
-use mathlib.Core.Bool.{true}
+use mathlib.Core.Bool.{true, Bool}
 use mathlib.Core.Option.{some}
 use Prim.Native.Nat.{ℕ, _+_, _≤_, _<_}
 use contract.Lifetimes.{Lfts}
@@ -12,21 +12,23 @@ use lib.ListN.{length, getD, take, drop}
 use lib.Seq.{take-append-seam}
 use lib.Dec.{leb}
 use Rattle.text.specs.Text.{stretch}
-use Rattle.format.specs.Settings.{Settings, lengthOk, sizesOk, countedOk}
+use Rattle.format.specs.Said.{replied}
+use Rattle.format.specs.Settings.{Settings, lengthOk, sizesOk, countedOk, given}
 use Rattle.format.specs.Blocks.{treeOf}
 use Rattle.format.specs.Layout as at
 use Rattle.format.specs.Path.{Path, pathOf}
-use Rattle.format.specs.Fits.{textOf, fits}
-use Rattle.format.specs.Verdict.{ask, verdict}
-use Rattle.format.specs.LayoutLaws.{ask-test, ask-rest}
+use Rattle.format.specs.Fits.{textOf}
+use Rattle.format.specs.FittingText.{fits}
+use Rattle.format.specs.Verdict.{verdict}
 use Rattle.format.specs.BuildSays.{buildNumber, buildSize, buildLeaves}
 use Rattle.format.specs.ReadSays.{byteSays, spanNumber, spanLeaves}
+use Rattle.format.specs.SaidLaws.{asks-pass}
 use Rattle.theory_built.specs.BlockSizes.{Taken}
 use Rattle.theory_accepted.specs.AcceptedTrees.{StandsFor, accepts, one-text, built-text, built-verdict, accepted-stands}
 use Rattle.theory_paths.specs.Demands as paths
 use Rattle.theory_edges.specs.Demands as margins
 use Rattle.build_by_search.specs.declared.Built.{Built}
-use Rattle.build_by_search.specs.BuildAnswer.{numberOf, sizeOf, given}
+use Rattle.build_by_search.specs.BuildAnswer.{builtReply}
 use Rattle.build_by_search.proofs.build.Reads as build-reads
 use Rattle.tree.proofs.check.Reads as check-reads
 
@@ -51,14 +53,10 @@ module _ (S : Settings) (T out : List ℕ) (passed : buildNumber S T out ≡ 0) 
   pub taken : Taken S T
   unfolding buildNumber
   taken =
-      let four = ask 4 (leb (length (treeOf S T)) (length out)) 0 in
-      let after1 = ask-rest 0 (lengthOk (length T)) (ask 2 (sizesOk S) (ask 3 (countedOk (S .counted)) four)) passed in
-      let after2 = ask-rest 1 (sizesOk S) (ask 3 (countedOk (S .counted)) four) after1 in
-      record {
-        length-ok = ask-test 0 (lengthOk (length T)) (ask 2 (sizesOk S) (ask 3 (countedOk (S .counted)) four)) passed;
-        sizes-ok = ask-test 1 (sizesOk S) (ask 3 (countedOk (S .counted)) four) after1;
-        counted-ok = ask-test 2 (countedOk (S .counted)) four after2;
-      }
+      let questions : List (ℕ × Bool) = (1, lengthOk (length T)) ∷ (2, sizesOk S) ∷ (3, countedOk (S .counted))
+      ∷ (4, leb (length (treeOf S T)) (length out)) ∷ [] in
+      let p = asks-pass questions refl passed in
+      record { length-ok = p .0; sizes-ok = p .1 .0; counted-ok = p .1 .1 .0 }
 
   -- the buffer begins with the block tree of the text, and the size is the tree's
   pub leaves-tree : take (buildSize S T out) (buildLeaves S T out) ≡ treeOf S T
@@ -71,7 +69,7 @@ Answer κs text leaf arity levels counted out after r =
     build-reads.Post κs (text, (leaf, (arity, (levels, (counted, (out, tt)))))) r (text, (leaf, (arity, (levels, (counted, (after, tt))))))
 
 module _ (κs : Lfts 3) (text : RefT (List ℕ)) (leaf arity levels : ℕ) (counted out after : RefT (List ℕ)) (r : Built)
-    (a : Answer κs text leaf arity levels counted out after r) (good : numberOf r ≡ 0) where
+    (a : Answer κs text leaf arity levels counted out after r) (good : replied (builtReply r) .number ≡ 0) where
   abbrev S : Settings
   S = given leaf arity levels (now counted)
 
@@ -83,7 +81,7 @@ module _ (κs : Lfts 3) (text : RefT (List ℕ)) (leaf arity levels : ℕ) (coun
 
   -- the part of the buffer that is the tree
   abbrev tree : List ℕ
-  tree = take (sizeOf r) (now after)
+  tree = take (replied (builtReply r) .value) (now after)
 
   passed : buildNumber S T before ≡ 0
   passed = sym (a .0) ∙ good
@@ -121,6 +119,7 @@ module _ (κs : Lfts 3) (text : RefT (List ℕ)) (leaf arity levels : ℕ) (coun
 -- The contract determines the result and the buffer, so they cannot depend on the base or the modulus that a builder uses.
 pub build-settled : (κs : Lfts 3) (text : RefT (List ℕ)) (leaf arity levels : ℕ) (counted out one other : RefT (List ℕ)) (r s : Built)
     → Answer κs text leaf arity levels counted out one r → Answer κs text leaf arity levels counted out other s
-    → (numberOf r ≡ numberOf s) × (sizeOf r ≡ sizeOf s) × (now one ≡ now other)
+    → (replied (builtReply r) .number ≡ replied (builtReply s) .number) × (replied (builtReply r) .value ≡ replied (builtReply s) .value)
+    × (now one ≡ now other)
 build-settled κs text leaf arity levels counted out one other r s p q =
     (p .0 ∙ sym (q .0), p .1 .0 ∙ sym (q .1 .0), p .1 .1 ∙ sym (q .1 .1))

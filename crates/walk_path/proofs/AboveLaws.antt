@@ -50,12 +50,10 @@ module _ (t : List ℕ) where
   -- a pointing block's path is its target's, with one visit more
   pub above-pointing : (n l i o : ℕ) → keptBlock t l i ≡ false → pointingBlock t l i ≡ true → keptBlock t l (targetBlock t l i o) ≡ true
       → aboveFrom t (suc n) l i o ≡ enteredAbove (visit l i o ∷ []) (aboveFrom t (suc n) l (targetBlock t l i o) (targetPlace t l i o))
+  unfolding aboveFrom lands landBlock landPlace landVisits
   above-pointing n l i o un pt kept =
-      let j = targetBlock t l i o in
-      let p = targetPlace t l i o in
-      let rest = aboveFrom t n (l + 1) (at.link t l j + p / b t (l + 1)) (p % b t (l + 1)) in
-      above-points n l i o un pt kept ∙ sym (above-twice (visit l i o ∷ []) (visit l j p ∷ []) rest)
-      ∙ ap (enteredAbove (visit l i o ∷ [])) (sym (above-kept n l j p kept))
+      rw (un, pt, kept) (sym (above-twice (visit l i o ∷ []) (visit l (targetBlock t l i o) (targetPlace t l i o) ∷ [])
+      (aboveFrom t n (l + 1) (at.link t l (targetBlock t l i o) + targetPlace t l i o / b t (l + 1)) (targetPlace t l i o % b t (l + 1)))))
 
   pub above-off : (n l i o : ℕ) → keptBlock t l i ≡ false → (pointingBlock t l i ≡ true → keptBlock t l (targetBlock t l i o) ≡ false)
       → aboveFrom t (suc n) l i o ≡ none

@@ -24,8 +24,7 @@ use Rattle.layout.specs.declared.place.BlockPlace.{BlockPlace}
 use Rattle.layout.specs.HeaderSays.{HeaderOf}
 use Rattle.walk_steps.specs.Steps.{OnLevel}
 use Rattle.walk_steps.proofs.StepLaws.{b-small}
-use Rattle.walk_steps.proofs.NextLaws.{level-below}
-use Rattle.walk_steps.proofs.QuestionStandsLaws.{plain, on-top}
+use Rattle.walk_steps.proofs.NextLaws.{level-below, on-top}
 use Rattle.walk_short.specs.declared.gather.Parts.{Parts}
 use Rattle.walk_short.specs.declared.gather.Gathered.{Gathered}
 use Rattle.walk_short.specs.declared.gather.Gathered.the-variants.{At, Broken}
@@ -166,29 +165,30 @@ module _ (t : List ℕ) (size level b i o len entered : ℕ) (w : Walking t size
         clash : {A : Type 0} → _≡_ {A = ℕ} 0 1 → A
         clash e = absurd (let z : ⊥ = omega arith in z)
 
-        pub down-asks : (f : BlockNumber) (s : ℕ) (q : BlockPlace) (n : ℕ)
-            → x ≡ land.Down f s q n → (d : ℕ) → d ≡ at.fullLength t (level + 1) → Walking t size (level + 1) d (q .0) len (entered + n)
-        unfolding Cases downTo
-        down-asks f s q n e d d-is = go cases
-          where
-            on : OnLevel t size (level + 1) d
-            on = record {
-              facts = w .on .facts;
-              size-is = w .on .size-is;
-              level-in = level-below t size level b (w .on) more .level-in;
-              b-is = d-is;
-            }
+        -- the block and place that the walk goes down from
+        record DownFrom (f : BlockNumber) (s : ℕ) (q : BlockPlace) (n : ℕ) : Type 0 where
+          block : ℕ
+          place : ℕ
+          inside : Inside block place n
+          block-is : f .0 + s ≡ at.link t level block + place / c
+          place-is : q .0 ≡ place % c
 
-            go : ((j : ℕ) × (p : ℕ) × (n : ℕ) × Inside j p n)
-                ⊎ (((j : ℕ) × (p : ℕ) × Between j p) ⊎ Off) → Walking t size (level + 1) d (q .0) len (entered + n)
+        down-case : (f : BlockNumber) (s : ℕ) (q : BlockPlace) (n : ℕ) → x ≡ land.Down f s q n → DownFrom f s q n
+        unfolding Cases downTo
+        down-case f s q n e = go cases
+          where
+            go : ((j : ℕ) × (p : ℕ) × (n : ℕ) × Inside j p n) ⊎ (((j : ℕ) × (p : ℕ) × Between j p) ⊎ Off) → DownFrom f s q n
             go (inl (j, p, k, v)) =
                 let same : land.Down f s q n ≡ land.Down (record { 0 = at.link t level j }) (p / c) (record { 0 = p % c }) k = sym e ∙ x-is ∙ v .land-is in
-                let place : q .0 ≡ p % c = ap (λ (y : BlockPlace). y .0) (let z : q ≡ record { 0 = p % c } = cc in z) in
-                let number : n ≡ k = cc in record {
-                  on = on;
-                  place-in = rw (place, on .b-is) (mod-lt p (child-pos t size level b (w .on)));
-                  short = w .short;
-                  few = omega (arith, w .few, v .few);
+                let number : n ≡ k = cc in
+                let first : f .0 ≡ at.link t level j = ap (λ (y : BlockNumber). y .0) (let z : f ≡ record { 0 = at.link t level j } = cc in z) in
+                let steps : s ≡ p / c = cc in
+                record {
+                  block = j;
+                  place = p;
+                  inside = rw number v;
+                  block-is = ap (λ (y : ℕ). y + s) first ∙ ap (λ (y : ℕ). at.link t level j + y) steps;
+                  place-is = ap (λ (y : BlockPlace). y .0) (let z : q ≡ record { 0 = p % c } = cc in z);
                 }
             go (inr (inl (j, p, v))) =
                 let same : land.Down f s q n ≡ land.Over (record { 0 = j }) (record { 0 = p }) = sym e ∙ x-is ∙ v .land-is in
@@ -197,28 +197,26 @@ module _ (t : List ℕ) (size level b i o len entered : ℕ) (w : Walking t size
                 let same : land.Down f s q n ≡ land.Off = sym e ∙ x-is ∙ v .land-is in
                 clash (let z : _≡_ {A = ℕ} 0 1 = cc in z)
 
+        pub down-asks : (f : BlockNumber) (s : ℕ) (q : BlockPlace) (n : ℕ)
+            → x ≡ land.Down f s q n → (d : ℕ) → d ≡ at.fullLength t (level + 1) → Walking t size (level + 1) d (q .0) len (entered + n)
+        down-asks f s q n e d d-is =
+            let v = down-case f s q n e in
+            record {
+              on = record { facts = w .on .facts; size-is = w .on .size-is; level-in = level-below t size level b (w .on) more .level-in; b-is = d-is };
+              place-in = rw (v .place-is, d-is) (mod-lt (v .place) (child-pos t size level b (w .on)));
+              short = w .short;
+              few = omega (arith, w .few, v .inside .few);
+            }
+
         pub down-by : (f : BlockNumber) (s : ℕ) (q : BlockPlace) (n : ℕ) → x ≡ land.Down f s q n → (r : Gathered)
             → r ≡ gathered (entered + n) (shortFrom t (H - 1 - (level + 1)) (level + 1) (f .0 + s) (q .0) len) → Whole r
-        unfolding Cases downTo below
-        down-by f s q n e r r-is = go cases
-          where
-            go : ((j : ℕ) × (p : ℕ) × (n : ℕ) × Inside j p n) ⊎ (((j : ℕ) × (p : ℕ) × Between j p) ⊎ Off) → Whole r
-            go (inl (j, p, k, v)) =
-                let same : land.Down f s q n ≡ land.Down (record { 0 = at.link t level j }) (p / c) (record { 0 = p % c }) k = sym e ∙ x-is ∙ v .land-is in
-                let place : q .0 ≡ p % c = ap (λ (y : BlockPlace). y .0) (let z : q ≡ record { 0 = p % c } = cc in z) in
-                let first : f .0 ≡ at.link t level j = ap (λ (y : BlockNumber). y .0) (let z : f ≡ record { 0 = at.link t level j } = cc in z) in
-                let steps : s ≡ p / c = cc in
-                let number : n ≡ k = cc in
-                let u = v .walk-is in
-                r-is ∙ rw (place, first, steps, number)
-                (gathered-led (u .0) entered k (shortFrom t (H - 1 - (level + 1)) (level + 1) (at.link t level j + p / c) (p % c) len) (u .1))
-                ∙ ap (gathered entered) (sym (u .2)) ∙ rw left
-            go (inr (inl (j, p, v))) =
-                let same : land.Down f s q n ≡ land.Over (record { 0 = j }) (record { 0 = p }) = sym e ∙ x-is ∙ v .land-is in
-                clash (let z : _≡_ {A = ℕ} 0 1 = cc in z)
-            go (inr (inr v)) =
-                let same : land.Down f s q n ≡ land.Off = sym e ∙ x-is ∙ v .land-is in
-                clash (let z : _≡_ {A = ℕ} 0 1 = cc in z)
+        unfolding below
+        down-by f s q n e r r-is =
+            let v = down-case f s q n e in
+            let u = v .inside .walk-is in
+            let down : ℕ → ℕ → Gathered = λ a x. gathered (entered + n) (shortFrom t (H - 1 - (level + 1)) (level + 1) a x len) in
+            r-is ∙ ap (λ (a : ℕ). down a (q .0)) (v .block-is) ∙ ap (down (at.link t level (v .block) + v .place / c)) (v .place-is)
+            ∙ gathered-led (u .0) entered n _ (u .1) ∙ ap (gathered entered) (sym (u .2)) ∙ rw left
 
         over-case : (f : BlockNumber) (q : BlockPlace) → x ≡ land.Over f q → Between (f .0) (q .0)
         unfolding Cases downTo
@@ -264,19 +262,7 @@ module _ (t : List ℕ) (size level b i o len entered : ℕ) (w : Walking t size
 
         -- with so few blocks entered
         pub down-few : (f : BlockNumber) (s : ℕ) (q : BlockPlace) (n : ℕ) → x ≡ land.Down f s q n → n ≤ 2
-        unfolding Cases downTo
-        down-few f s q n e = go cases
-          where
-            go : ((j : ℕ) × (p : ℕ) × (n : ℕ) × Inside j p n) ⊎ (((j : ℕ) × (p : ℕ) × Between j p) ⊎ Off) → n ≤ 2
-            go (inl (j, p, k, v)) =
-                let same : land.Down f s q n ≡ land.Down (record { 0 = at.link t level j }) (p / c) (record { 0 = p % c }) k = sym e ∙ x-is ∙ v .land-is in
-                let number : n ≡ k = cc in omega (arith, v .few)
-            go (inr (inl (j, p, v))) =
-                let same : land.Down f s q n ≡ land.Over (record { 0 = j }) (record { 0 = p }) = sym e ∙ x-is ∙ v .land-is in
-                clash (let z : _≡_ {A = ℕ} 0 1 = cc in z)
-            go (inr (inr v)) =
-                let same : land.Down f s q n ≡ land.Off = sym e ∙ x-is ∙ v .land-is in
-                clash (let z : _≡_ {A = ℕ} 0 1 = cc in z)
+        down-few f s q n e = down-case f s q n e .inside .few
 
 -- From a place of the text, and from a block.
 module _ (t : List ℕ) (h : Header) (k : HeaderOf t h) where
@@ -285,7 +271,7 @@ module _ (t : List ℕ) (h : Header) (k : HeaderOf t h) where
 
   pub top-asks : (p len : ℕ) → len ≤ h .settings .leaf → Walking t (h .«record_size») 0 (h .«top_length») (p % h .«top_length») len 0
   top-asks p len short = record {
-    on = plain t h 0 (h .«top_length») (on-top t h k);
+    on = on-top t h k;
     place-in = mod-lt p top-pos;
     short = rw (k .leaf-is) at short;
     few = omega arith;

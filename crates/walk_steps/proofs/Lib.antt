@@ -1,3 +1,3 @@
 pub mod StepLaws
 pub mod NextLaws
-pub mod QuestionStandsLaws
+pub mod CycleClaims

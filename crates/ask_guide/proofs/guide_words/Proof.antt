@@ -2,7 +2,6 @@ use borrow.Author.Needs.{needs}
 use native.Mathlib.Omega.{arith}
 use Rattle.layout.specs.HeaderSays.{header-good, header-refused}
 use Rattle.ask_guide.proofs.GuideList as list
-use Rattle.ask_guide.proofs.GuideWrittenLaws as laws
 use Rattle.ask_guide.proofs.guide_words.Statement.{statement}
 use Rattle.ask_guide.proofs.guide_words.Tie as tie
 
@@ -15,6 +14,6 @@ guide-words-spec =
     (λ c κs. let h = header-good _ _ (c .before .before .before .read-header .ensures) _ (c .before .read .given .1) in (h, omega (arith, h .counted-is)))
     (λ c. search needs)
     (λ c. let h = header-good _ _ (c .before .before .before .before .read-header .ensures) _ (c .before .before .read .given .1) in
-    (laws.size-is _ _ (h .passes) (list.all-words _ _ _ (h .counted-is) (c .entries-before .ensures .0)), tt))
+    (list.size-is _ _ (h .passes) (list.all-words _ _ _ (h .counted-is) (c .entries-before .ensures .0)), tt))
     (λ c. let h = header-refused _ _ (c .before .before .before .read-header .ensures) _ (c .before .read2 .given .1) in
-    (laws.size-unread _ _ _ (h .1) (h .2), omega (arith, h .2))))
+    (list.size-unread _ _ _ (h .1) (h .2), omega (arith, h .2))))

@@ -44,7 +44,7 @@ use denote.Triple.Walked.{says, Stays, stay-ref, stay-none-slice, walkOf, goes-r
 use denote.Exit.{yes}
 use denote.Signature.{plain}
 use Rattle.ask_worn_keys.specs.MatchAnswer.{MatchAnswer}
-use Rattle.query_row_filter.specs.AllowedAnswer.{markAfter}
+use Rattle.query_row_filter.specs.AllowedAnswer.{outcomeOf}
 use Rattle.ask_worn_keys.specs.declared.Mark.{Mark}
 use Rattle.ask_worn_keys.proofs.Mark as T
 use Rattle.ask_worn_keys.proofs.Mark.Laws as T′
@@ -149,14 +149,14 @@ module _ {M : Type 1} (𝓤 : URA M) (H : Heap 𝓤) (A : Atoms 𝓤) (W : Given
       (Is u32) (uint-makes 𝓤 H A W w32) (h .row) _ (refl, at-fits) $ fjoin ! $ move ! (1 ∷ 0 ∷ []) $ fjoin ! $ nothing ! $ join ! $ frame ! $ done !
 
   said-after : (f : NextRowAnswer) (r : ℕ)
-      → ent 𝓤 (ensured 𝓤 H A after.ended (after.clauses 𝓤 H A at-mem run) tt (f, (h .row, tt)) tt r) (fact 𝓤 (r ≡ markAfter f (h .row)))
-  said-after f r = exE 𝓤 _ (λ ws. snd∗ 𝓤 (sem 𝓤 H A (lasts after.ended tt (f, (h .row, tt)) ws)) (fact 𝓤 (r ≡ markAfter f (h .row))))
+      → ent 𝓤 (ensured 𝓤 H A after.ended (after.clauses 𝓤 H A at-mem run) tt (f, (h .row, tt)) tt r) (fact 𝓤 (r ≡ outcomeOf (h .row) f .mark))
+  said-after f r = exE 𝓤 _ (λ ws. snd∗ 𝓤 (sem 𝓤 H A (lasts after.ended tt (f, (h .row, tt)) ws)) (fact 𝓤 (r ≡ outcomeOf (h .row) f .mark)))
 
   made : (r : ℕ) → r < 2 ^ 32 → Is (T.the-row) (moved r) (mach r ∷ [])
   made r fits = LL.owes T.the-type T′.the-laws (moved r) ((refl, fits), tt)
 
   exits : (f : NextRowAnswer) (u : Val) (r : ℕ)
-      → Is S.the-row f (u ∷ []) → Found f → r ≡ markAfter f (h .row) → ent 𝓤 (⋆ 𝓤 H A (‵ (fobs γ (T.the-row .coded .code (moved r))) ∷ ‵
+      → Is S.the-row f (u ∷ []) → Found f → r ≡ outcomeOf (h .row) f .mark → ent 𝓤 (⋆ 𝓤 H A (‵ (fobs γ (T.the-row .coded .code (moved r))) ∷ ‵
       (fbor κ (Body (mem (T.the-row)) b o γ)) ∷ ‵ (flft κ q) ∷ (‵ (flft κ′ q′) ⊛ ‵ (flft κ″ q″) ⊛ ‵ ftrue) ∷ (‵ Own ⊛ ‵ Own₂) ∷ [])) (Post u)
   exits f u r is e e′ =
       qed W (‵ (fobs γ (T.the-row .coded .code (moved r))) ∷ ‵
@@ -202,7 +202,7 @@ module _ {M : Type 1} (𝓤 : URA M) (H : Heap 𝓤) (A : Atoms 𝓤) (W : Given
         use1 W (later (some (λ (r : ℕ). (‵ ftrue ⊛ ‵ (u32 .own r (u′ ∷ [])))
         ⊛ raw (ensured 𝓤 H A after.ended (after.clauses 𝓤 H A at-mem run) tt (f, (h .row, tt)) tt r)))) (id⊢ 𝓤 _) $ await ! tt $ pick ! (λ r.
         split ! $ move ! (1 ∷ [])
-        $ use1 W (raw (fact 𝓤 (r ≡ markAfter f (h .row)))) (said-after f r) $ heard ! (r ≡ markAfter f (h .row)) (λ e′. split ! $ drop ! $
+        $ use1 W (raw (fact 𝓤 (r ≡ outcomeOf (h .row) f .mark))) (said-after f r) $ heard ! (r ≡ outcomeOf (h .row) f .mark) (λ e′. split ! $ drop ! $
         -- [the number; t's token; what t owns; the cell; what a Mark owns; the open borrow; obs; auth; _6 8; _5 10; ..]
         peeks ! u32 (Is u32) (shows 𝓤 H A u32) r (u′ ∷ []) (λ is′.
         land ! (from ! (stop !)) (init ! 8 refl (uint-lawful 𝓤 H A W w32 .typed r _ is′ .0))

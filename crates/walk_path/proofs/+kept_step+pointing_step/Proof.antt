@@ -1,10 +1,10 @@
 use mathlib.Core.List.{List}
-use mathlib.Core.Path.{sym, ap, _∙_}
-use Prim.Native.Nat.{ℕ, _+_, _-_, _*_, _/_, _<_}
+use mathlib.Core.Path.{_≡_, sym, ap, _∙_}
+use Prim.Native.Nat.{ℕ, _+_, _-_, _*_, _/_}
 use native.Mathlib.Omega.{arith}
 use borrow.Author.Needs.{needs}
 use borrow.Fn.Kinds.{In}
-use borrow.Fn.PlainCycle.{Measures, is, falls, and}
+use borrow.Fn.PlainCycle.{Measures}
 use Rattle.walk_path.proofs.kept_step.Reads as kept-step
 use Rattle.walk_path.proofs.kept_step.Kinds as kept-step-kinds
 use Rattle.walk_path.proofs.+kept_step+pointing_step.Lts-kept_step as kept-step-lts
@@ -19,7 +19,8 @@ use Rattle.walk_path.proofs.Trail.enter.Reads as enter-reads
 use Rattle.walk_path.proofs.packed.Reads as packed-reads
 use Rattle.walk_path.proofs.to_kept.Reads as to-kept-reads
 use Rattle.format.specs.Layout as at
-use Rattle.walk_steps.proofs.StepLaws.{shapes-on}
+use Rattle.walk_steps.proofs.CycleClaims.{at-measure, below-measure}
+use Rattle.walk_steps.proofs.StepLaws.{Shapes, shapes-on}
 use Rattle.walk_path.proofs.WalkLaws as laws
 use Rattle.walk_path.proofs.+kept_step+pointing_step.{statement}
 use Rattle.walk_path.proofs.+kept_step+pointing_step.Tie.{close}
@@ -31,46 +32,71 @@ abbrev μ-pointing-step : Measures 1 pointing-step-kinds.ps ℕ
 μ-pointing-step κs a = 2 * (at.settings (a .0 .now) .levels - 1 - a .1 .1 .0 .level) + 1
 
 abbrev kept-step-at : ℕ → In 1 kept-step-kinds.ps
-kept-step-at t = and 1 kept-step-kinds.ps (is 1 kept-step-kinds.ps μ-kept-step t) kept-step.Pre
-
-abbrev kept-step-below : ℕ → In 1 kept-step-kinds.ps
-kept-step-below t =
-    and 1 kept-step-kinds.ps (falls 1 kept-step-kinds.ps _<_ μ-kept-step t) kept-step.Pre
+kept-step-at t = at-measure kept-step-kinds.ps μ-kept-step kept-step.Pre t
 
 abbrev pointing-step-at : ℕ → In 1 pointing-step-kinds.ps
-pointing-step-at t =
-    and 1 pointing-step-kinds.ps (is 1 pointing-step-kinds.ps μ-pointing-step t) pointing-step.Pre
-
-abbrev pointing-step-below : ℕ → In 1 pointing-step-kinds.ps
-pointing-step-below t =
-    and
-    1
-    pointing-step-kinds.ps
-    (falls 1 pointing-step-kinds.ps _<_ μ-pointing-step t)
-    pointing-step.Pre
+pointing-step-at t = at-measure pointing-step-kinds.ps μ-pointing-step pointing-step.Pre t
 
 abbrev levels : List ℕ → ℕ
 levels t = at.settings t .levels
 
+abbrev kept-claims : ℕ → kept-step-lts.Claims
+kept-claims t = (
+  whole-reads.Asked,
+  whole-reads.Learnt,
+  shape-of-reads.Asked,
+  shape-of-reads.Learnt,
+  quotient-reads.Asked,
+  quotient-reads.Learnt,
+  enter-reads.Asked,
+  enter-reads.Learnt,
+  child-reads.Asked,
+  child-reads.Learnt,
+  packed-reads.Asked,
+  packed-reads.Learnt,
+  below-measure pointing-step-kinds.ps μ-pointing-step pointing-step.Pre t,
+  pointing-step.Post,
+)
+
+abbrev pointing-claims : ℕ → pointing-step-lts.Claims
+pointing-claims t = (
+  whole-reads.Asked,
+  whole-reads.Learnt,
+  to-kept-reads.Asked,
+  to-kept-reads.Learnt,
+  below-measure kept-step-kinds.ps μ-kept-step kept-step.Pre t,
+  kept-step.Post,
+)
+
+-- After the look at a child: what was read of the tree, and the size of the blocks below.
+module _ {t : ℕ} (m : kept-step-lts.After-child (kept-claims t) (kept-step-at t) kept-step.Post) where
+  abbrev w : kept-step-lts.After-whole (kept-claims t) (kept-step-at t) kept-step.Post
+  w = m .before .before .before .before
+
+  abbrev S : kept-step-lts.Start (kept-claims t) (kept-step-at t) kept-step.Post
+  S = w .before .before
+
+  x : Shapes (S .args .t .now) (m .before .before .before .shape-of .result)
+  x = shapes-on _ _ _ (w .whole .ensures) (m .before .before .before .shape-of .ensures)
+
+  above : S .args .on .level + 1 ≡ levels (S .args .t .now) → ⊥
+  above last = omega (arith, S .pre .1 .1)
+
+  below : m .before .before .quotient .result ≡ S .args .on .b / at.settings (S .args .t .now) .arity
+  below = m .before .before .quotient .ensures ∙ ap (λ (y : ℕ). S .args .on .b / y) (x .arity-is)
+
+-- After the look for a kept block.
+module _ {t : ℕ} (m : pointing-step-lts.After-to-kept (pointing-claims t) (pointing-step-at t) pointing-step.Post) where
+  abbrev tree : pointing-step-lts.After-whole (pointing-claims t) (pointing-step-at t) pointing-step.Post
+  tree = m .before
+
+  abbrev from : pointing-step-lts.Start (pointing-claims t) (pointing-step-at t) pointing-step.Post
+  from = tree .before .before
+
 pub +kept-step+pointing-step-spec : {M : Type 1} → statement M
 +kept-step+pointing-step-spec =
     close μ-kept-step μ-pointing-step
-    (λ t. kept-step-lts.spec (
-      whole-reads.Asked,
-      whole-reads.Learnt,
-      shape-of-reads.Asked,
-      shape-of-reads.Learnt,
-      quotient-reads.Asked,
-      quotient-reads.Learnt,
-      enter-reads.Asked,
-      enter-reads.Learnt,
-      child-reads.Asked,
-      child-reads.Learnt,
-      packed-reads.Asked,
-      packed-reads.Learnt,
-      pointing-step-below t,
-      pointing-step.Post,
-    )
+    (λ t. kept-step-lts.spec (kept-claims t)
     (kept-step-at t)
     kept-step.Post
     (λ c κs. search needs)
@@ -90,71 +116,42 @@ pub +kept-step+pointing-step-spec : {M : Type 1} → statement M
     (λ c. search needs)
     (λ c.
     let m = c .before .before in
-    let s = m .before .before .before in
-    let w = s .before in
-    let S = w .before .before in
-    let x = shapes-on _ _ _ (w .whole .ensures) (s .shape-of .ensures) in
-    sym laws.broken-word ∙ laws.child-none _ _ _ _ _ _ _ (S .pre .1 .0)
-    (λ last. omega (arith, S .pre .1 .1)) _ (m .before .before .quotient .ensures ∙ ap (λ (y : ℕ). S .args .on .b / y) (x .arity-is))
-    _ (m .before .enter .ensures) _ (rw (w .whole .ensures) at (m .child .ensures)) (c .enum-told .given .1))
+    sym laws.broken-word ∙ laws.child-none _ _ _ _ _ _ _ (S m .pre .1 .0)
+    (above m) _ (below m)
+    _ (m .before .enter .ensures) _ (rw (w m .whole .ensures) at (m .child .ensures)) (c .enum-told .given .1))
     (λ c. let S = c .before .before .before .before .before .before .before .before .before .before in
     record { fits = omega (arith, S .pre .1 .1, S .pre .1 .0 .on .facts .bounds .levels-high) })
     (λ c. let S = c .before .before .before .before .before .before .before .before .before .before in
     record { fits = omega (arith, S .pre .1 .1, S .pre .1 .0 .on .facts .bounds .levels-high) })
     (λ c κs.
     let m = c .before .before .before .before .before .before in
-    let s = m .before .before .before in
-    let w = s .before in
-    let S = w .before .before in
-    let x = shapes-on _ _ _ (w .whole .ensures) (s .shape-of .ensures) in
-    let may = laws.child-may _ _ _ _ _ _ _ (S .pre .1 .0) (λ last. omega (arith, S .pre .1 .1))
-    _ (m .before .before .quotient .ensures ∙ ap (λ (y : ℕ). S .args .on .b / y) (x .arity-is))
-    _ (m .before .enter .ensures) _ (rw (w .whole .ensures) at (m .child .ensures)) _ _ (c .before .before .before .before .child2 .given .1) in
-    let f = laws.last-fits _ _ _ _ _ _ (m .before .enter .result) may (c .if1 .taken ∙ x .levels-is)
-    (rw (x .offset-is) at (s .shape-of .ok .1 .1 .1 .1 .1 .0 .1)) in
-    (f .0, f .1, f .2, laws.left-fits _ _ _ _ _ _ _ (S .pre .1 .0) _ (m .before .enter .ensures)))
+    let may = laws.child-may _ _ _ _ _ _ _ (S m .pre .1 .0) (above m)
+    _ (below m)
+    _ (m .before .enter .ensures) _ (rw (w m .whole .ensures) at (m .child .ensures)) _ _ (c .before .before .before .before .child2 .given .1) in
+    let f = laws.last-fits _ _ _ _ _ _ (m .before .enter .result) may (c .if1 .taken ∙ x m .levels-is)
+    (rw (x m .offset-is) at (m .before .before .before .shape-of .ok .1 .1 .1 .1 .1 .0 .1)) in
+    (f .0, f .1, f .2, laws.left-fits _ _ _ _ _ _ _ (S m .pre .1 .0) _ (m .before .enter .ensures)))
     (λ c.
     let m = c .before .before .before .before .before .before .before in
-    let s = m .before .before .before in
-    let w = s .before in
-    let S = w .before .before in
-    let x = shapes-on _ _ _ (w .whole .ensures) (s .shape-of .ensures) in
-    let may = laws.child-may _ _ _ _ _ _ _ (S .pre .1 .0) (λ last. omega (arith, S .pre .1 .1))
-    _ (m .before .before .quotient .ensures ∙ ap (λ (y : ℕ). S .args .on .b / y) (x .arity-is))
-    _ (m .before .enter .ensures) _ (rw (w .whole .ensures) at (m .child .ensures)) _ _ (c .before .before .before .before .before .child2 .given .1) in
-    laws.child-by _ _ _ _ _ _ _ (S .pre .1 .0) (λ last. omega (arith, S .pre .1 .1)) _ (m .before .before .quotient .ensures
-    ∙ ap (λ (y : ℕ). S .args .on .b / y) (x .arity-is)) _ (m .before .enter .ensures) _ (rw (w .whole .ensures) at (m .child .ensures))
+    let may = laws.child-may _ _ _ _ _ _ _ (S m .pre .1 .0) (above m)
+    _ (below m)
+    _ (m .before .enter .ensures) _ (rw (w m .whole .ensures) at (m .child .ensures)) _ _ (c .before .before .before .before .before .child2 .given .1) in
+    laws.child-by _ _ _ _ _ _ _ (S m .pre .1 .0) (above m) _ (below m) _ (m .before .enter .ensures) _ (rw (w m .whole .ensures) at (m .child .ensures))
     _ _ _ (c .before .before .before .before .before .child2 .given .1)
-    (laws.last-walked _ _ _ _ _ _ (m .before .enter .result) may (c .before .if1 .taken ∙ x .levels-is) _ (c .packed .ensures)))
+    (laws.last-walked _ _ _ _ _ _ (m .before .enter .result) may (c .before .if1 .taken ∙ x m .levels-is) _ (c .packed .ensures)))
     (λ c κs.
     let m = c .before .before .before .before .before .before in
-    let s = m .before .before .before in
-    let w = s .before in
-    let S = w .before .before in
-    let x = shapes-on _ _ _ (w .whole .ensures) (s .shape-of .ensures) in
-    let may = laws.child-may _ _ _ _ _ _ _ (S .pre .1 .0) (λ last. omega (arith, S .pre .1 .1))
-    _ (m .before .before .quotient .ensures ∙ ap (λ (y : ℕ). S .args .on .b / y) (x .arity-is))
-    _ (m .before .enter .ensures) _ (rw (w .whole .ensures) at (m .child .ensures)) _ _ (c .before .before .before .before .child2 .given .1) in (
-      omega (arith, S .pre .0, ap levels (w .whole .ensures), S .pre .1 .1),
-      rw (w .whole .ensures) (may, omega (arith, may .on .level-in, c .if1 .left, x .levels-is)),
+    let may = laws.child-may _ _ _ _ _ _ _ (S m .pre .1 .0) (above m)
+    _ (below m)
+    _ (m .before .enter .ensures) _ (rw (w m .whole .ensures) at (m .child .ensures)) _ _ (c .before .before .before .before .child2 .given .1) in (
+      omega (arith, S m .pre .0, ap levels (w m .whole .ensures), S m .pre .1 .1),
+      rw (w m .whole .ensures) (may, omega (arith, may .on .level-in, c .if1 .left, x m .levels-is)),
     ))
     (λ c.
     let m = c .before .before .before .before .before .before .before in
-    let s = m .before .before .before in
-    let w = s .before in
-    let S = w .before .before in
-    let x = shapes-on _ _ _ (w .whole .ensures) (s .shape-of .ensures) in
-    laws.child-by _ _ _ _ _ _ _ (S .pre .1 .0) (λ last. omega (arith, S .pre .1 .1)) _ (m .before .before .quotient .ensures
-    ∙ ap (λ (y : ℕ). S .args .on .b / y) (x .arity-is)) _ (m .before .enter .ensures) _ (rw (w .whole .ensures) at (m .child .ensures))
-    _ _ _ (c .before .before .before .before .before .child2 .given .1) (rw (w .whole .ensures) at (c .pointing-step .ensures))))
-    (λ t. pointing-step-lts.spec (
-      whole-reads.Asked,
-      whole-reads.Learnt,
-      to-kept-reads.Asked,
-      to-kept-reads.Learnt,
-      kept-step-below t,
-      kept-step.Post,
-    )
+    laws.child-by _ _ _ _ _ _ _ (S m .pre .1 .0) (above m) _ (below m) _ (m .before .enter .ensures) _ (rw (w m .whole .ensures) at (m .child .ensures))
+    _ _ _ (c .before .before .before .before .before .child2 .given .1) (rw (w m .whole .ensures) at (c .pointing-step .ensures))))
+    (λ t. pointing-step-lts.spec (pointing-claims t)
     (pointing-step-at t)
     pointing-step.Post
     (λ c κs. search needs)
@@ -163,23 +160,19 @@ pub +kept-step+pointing-step-spec : {M : Type 1} → statement M
     (λ c. search needs)
     (λ c.
     let m = c .before .before in
-    let w = m .before in
-    let S = w .before .before in
     sym laws.broken-word
-    ∙ laws.landed-off _ _ _ _ _ _ _ (S .pre .1 .0) (S .pre .1 .1) _ (rw (w .whole .ensures) at (m .to-kept .ensures)) (c .enum-told .given .1))
+    ∙ laws.landed-off _ _ _ _ _ _ _ (from m .pre .1 .0) (from m .pre .1 .1) _ (rw (tree m .whole .ensures) at (m .to-kept .ensures)) (c .enum-told .given .1))
     (λ c κs.
-    let m = c .before .before .before in
-    let w = m .before in
-    let S = w .before .before in (
-      omega (arith, S .pre .0, ap levels (w .whole .ensures)),
-      rw (w .whole .ensures) (
-        laws.landed-kept _ _ _ _ _ _ _ (S .pre .1 .0) (S .pre .1 .1) _ (rw (w .whole .ensures) at (m .to-kept .ensures)) _ _ _ (c .before .there .given .1),
-        S .pre .1 .1,
+    let m = c .before .before .before in (
+      omega (arith, from m .pre .0, ap levels (tree m .whole .ensures)),
+      rw (tree m .whole .ensures) (
+        laws.landed-kept _ _ _ _ _ _ _ (from m .pre .1 .0) (from m .pre .1 .1) _ (rw (tree m .whole .ensures) at (m .to-kept .ensures)) _ _ _
+            (c .before .there .given .1),
+        from m .pre .1 .1,
       ),
     ))
     (λ c.
     let m = c .before .before .before .before in
-    let w = m .before in
-    let S = w .before .before in
-    laws.landed-by _ _ _ _ _ _ _ (S .pre .1 .0) (S .pre .1 .1)
-    _ (rw (w .whole .ensures) at (m .to-kept .ensures)) _ _ _ (c .before .before .there .given .1) _ (rw (w .whole .ensures) at (c .kept-step .ensures))))
+    laws.landed-by _ _ _ _ _ _ _ (from m .pre .1 .0) (from m .pre .1 .1)
+    _ (rw (tree m .whole .ensures) at (m .to-kept .ensures)) _ _ _ (c .before .before .there .given .1) _
+    (rw (tree m .whole .ensures) at (c .kept-step .ensures))))

@@ -1,5 +1,5 @@
 use borrow.Author.Needs.{needs}
-use Rattle.ask_guide.proofs.GuideWrittenLaws as laws
+use Rattle.ask_guide.proofs.EntryWordsLaws as laws
 use Rattle.ask_guide.proofs.entry_words.block_from.Statement.{statement}
 use Rattle.ask_guide.proofs.entry_words.block_from.Tie as tie
 

@@ -1,10 +1,10 @@
 use mathlib.Core.List.{List}
-use mathlib.Core.Path.{sym, ap, _∙_}
-use Prim.Native.Nat.{ℕ, _+_, _-_, _*_, _/_, _<_}
+use mathlib.Core.Path.{_≡_, sym, ap, _∙_}
+use Prim.Native.Nat.{ℕ, _+_, _-_, _*_, _/_}
 use native.Mathlib.Omega.{arith}
 use borrow.Author.Needs.{needs}
 use borrow.Fn.Kinds.{In}
-use borrow.Fn.PlainCycle.{Measures, is, falls, and}
+use borrow.Fn.PlainCycle.{Measures}
 use Rattle.ask_rank.proofs.sums.kept_step.Reads as kept-step
 use Rattle.ask_rank.proofs.sums.kept_step.Kinds as kept-step-kinds
 use Rattle.ask_rank.proofs.sums.+kept_step+pointing_step.Lts-kept_step as kept-step-lts
@@ -21,7 +21,8 @@ use Rattle.walk_steps.proofs.land.Reads as land-reads
 use Rattle.walk_steps.proofs.look.Reads as look-reads
 use Rattle.walk_steps.proofs.quotient.Reads as quotient-reads
 use Rattle.format.specs.Layout as at
-use Rattle.walk_steps.proofs.StepLaws.{shapes-on}
+use Rattle.walk_steps.proofs.CycleClaims.{at-measure, below-measure}
+use Rattle.walk_steps.proofs.StepLaws.{Shapes, shapes-on}
 use Rattle.walk_path.proofs.WalkLaws as walk
 use Rattle.ask_rank.proofs.SumsLaws as laws
 use Rattle.ask_rank.proofs.sums.+kept_step+pointing_step.{statement}
@@ -34,46 +35,78 @@ abbrev μ-pointing-step : Measures 1 pointing-step-kinds.ps ℕ
 μ-pointing-step κs a = 2 * (at.settings (a .0 .now) .levels - 1 - a .1 .1 .1 .0 .level) + 1
 
 abbrev kept-step-at : ℕ → In 1 kept-step-kinds.ps
-kept-step-at t = and 1 kept-step-kinds.ps (is 1 kept-step-kinds.ps μ-kept-step t) kept-step.Pre
-
-abbrev kept-step-below : ℕ → In 1 kept-step-kinds.ps
-kept-step-below t =
-    and 1 kept-step-kinds.ps (falls 1 kept-step-kinds.ps _<_ μ-kept-step t) kept-step.Pre
+kept-step-at t = at-measure kept-step-kinds.ps μ-kept-step kept-step.Pre t
 
 abbrev pointing-step-at : ℕ → In 1 pointing-step-kinds.ps
-pointing-step-at t =
-    and 1 pointing-step-kinds.ps (is 1 pointing-step-kinds.ps μ-pointing-step t) pointing-step.Pre
-
-abbrev pointing-step-below : ℕ → In 1 pointing-step-kinds.ps
-pointing-step-below t =
-    and
-    1
-    pointing-step-kinds.ps
-    (falls 1 pointing-step-kinds.ps _<_ μ-pointing-step t)
-    pointing-step.Pre
+pointing-step-at t = at-measure pointing-step-kinds.ps μ-pointing-step pointing-step.Pre t
 
 abbrev levels : List ℕ → ℕ
 levels t = at.settings t .levels
 
+abbrev kept-claims : ℕ → kept-step-lts.Claims
+kept-claims t = (
+  whole-reads.Asked,
+  whole-reads.Learnt,
+  shape-of-reads.Asked,
+  shape-of-reads.Learnt,
+  leaf-reads.Asked,
+  leaf-reads.Learnt,
+  quotient-reads.Asked,
+  quotient-reads.Learnt,
+  child-reads.Asked,
+  child-reads.Learnt,
+  down-reads.Asked,
+  down-reads.Learnt,
+  below-measure pointing-step-kinds.ps μ-pointing-step pointing-step.Pre t,
+  pointing-step.Post,
+)
+
+abbrev pointing-claims : ℕ → pointing-step-lts.Claims
+pointing-claims t = (
+  whole-reads.Asked,
+  whole-reads.Learnt,
+  look-reads.Asked,
+  look-reads.Learnt,
+  below-measure kept-step-kinds.ps μ-kept-step kept-step.Pre t,
+  kept-step.Post,
+  land-reads.Asked,
+  land-reads.Learnt,
+  across-reads.Asked,
+  across-reads.Learnt,
+)
+
+-- Above the last level: what was read of the tree, and the size of the blocks below.
+module _ {t : ℕ} (e : kept-step-lts.Else1 (kept-claims t) (kept-step-at t) kept-step.Post) where
+  abbrev s : kept-step-lts.After-shape-of (kept-claims t) (kept-step-at t) kept-step.Post
+  s = e .before .before .before
+
+  abbrev w : kept-step-lts.After-whole (kept-claims t) (kept-step-at t) kept-step.Post
+  w = s .before
+
+  abbrev S : kept-step-lts.Start (kept-claims t) (kept-step-at t) kept-step.Post
+  S = w .before .before
+
+  x : Shapes (S .args .t .now) (s .shape-of .result)
+  x = shapes-on _ _ _ (w .whole .ensures) (s .shape-of .ensures)
+
+  above : S .args .on .level + 1 ≡ levels (S .args .t .now) → ⊥
+  above last = e .if1 .left (last ∙ sym (x .levels-is))
+
+  below : (q : ℕ) → q ≡ S .args .on .b / s .shape-of .result .arity → q ≡ S .args .on .b / at.settings (S .args .t .now) .arity
+  below q q-is = q-is ∙ ap (λ (y : ℕ). S .args .on .b / y) (x .arity-is)
+
+-- After the look at a block.
+module _ {t : ℕ} (m : pointing-step-lts.After-look (pointing-claims t) (pointing-step-at t) pointing-step.Post) where
+  abbrev tree : pointing-step-lts.After-whole (pointing-claims t) (pointing-step-at t) pointing-step.Post
+  tree = m .before
+
+  abbrev from : pointing-step-lts.Start (pointing-claims t) (pointing-step-at t) pointing-step.Post
+  from = tree .before .before
+
 pub +kept-step+pointing-step-spec : {M : Type 1} → statement M
 +kept-step+pointing-step-spec =
     close μ-kept-step μ-pointing-step
-    (λ t. kept-step-lts.spec (
-      whole-reads.Asked,
-      whole-reads.Learnt,
-      shape-of-reads.Asked,
-      shape-of-reads.Learnt,
-      leaf-reads.Asked,
-      leaf-reads.Learnt,
-      quotient-reads.Asked,
-      quotient-reads.Learnt,
-      child-reads.Asked,
-      child-reads.Learnt,
-      down-reads.Asked,
-      down-reads.Learnt,
-      pointing-step-below t,
-      pointing-step.Post,
-    )
+    (λ t. kept-step-lts.spec (kept-claims t)
     (kept-step-at t)
     kept-step.Post
     (λ c κs. search needs)
@@ -91,118 +124,81 @@ pub +kept-step+pointing-step-spec : {M : Type 1} → statement M
     omega (arith, shapes-on _ _ _ (w .whole .ensures) (s .shape-of .ensures) .arity-is, w .before .before .pre .1 .0 .on .facts .bounds .arity-low))
     (λ c κs.
     let e = c .before in
-    let s = e .before .before .before in
-    let w = s .before in
-    let S = w .before .before in
-    let x = shapes-on _ _ _ (w .whole .ensures) (s .shape-of .ensures) in
-    rw (w .whole .ensures) (walk.asks-child _ _ _ _ _ _ _ (S .pre .1 .0)
-    (λ last. e .if1 .left (last ∙ sym (x .levels-is))) _ (c .quotient .ensures ∙ ap (λ (y : ℕ). S .args .on .b / y) (x .arity-is))))
+    rw (w e .whole .ensures) (walk.asks-child _ _ _ _ _ _ _ (S e .pre .1 .0)
+    (above e) _ (below e _ (c .quotient .ensures))))
     (λ c. search needs)
     (λ c. search needs)
     (λ c.
     let m = c .before .before in
     let e = m .before .before in
-    let s = e .before .before .before in
-    let w = s .before in
-    let S = w .before .before in
-    let x = shapes-on _ _ _ (w .whole .ensures) (s .shape-of .ensures) in
-    laws.by-off _ _ _ _ _ _ _ (S .pre .1 .0) (λ last. e .if1 .left (last ∙ sym (x .levels-is))) _ (m .before .quotient .ensures
-    ∙ ap (λ (y : ℕ). S .args .on .b / y) (x .arity-is)) _ (rw (w .whole .ensures) at (m .child .ensures)) _ _ (c .enum-told .given .1))
+    laws.by-off _ _ _ _ _ _ _ (S e .pre .1 .0) (above e) _ (below e _ (m .before .quotient .ensures)) _
+    (rw (w e .whole .ensures) at (m .child .ensures)) _ _ (c .enum-told .given .1))
     (λ c κs.
     let m = c .before .before .before in
     let e = m .before .before in
-    let s = e .before .before .before in
-    let w = s .before in
-    let S = w .before .before in
-    let x = shapes-on _ _ _ (w .whole .ensures) (s .shape-of .ensures) in
-    rw (w .whole .ensures) (laws.down-asks _ _ _ _ _ _ _ (S .pre .1 .0)
-    (λ last. e .if1 .left (last ∙ sym (x .levels-is))) _ (m .before .quotient .ensures ∙ ap (λ (y : ℕ). S .args .on .b / y) (x .arity-is))
-    _ (rw (w .whole .ensures) at (m .child .ensures)) _ _ _ (c .before .child2 .given .1) (S .pre .1 .1)))
+    rw (w e .whole .ensures) (laws.down-asks _ _ _ _ _ _ _ (S e .pre .1 .0)
+    (above e) _ (below e _ (m .before .quotient .ensures))
+    _ (rw (w e .whole .ensures) at (m .child .ensures)) _ _ _ (c .before .child2 .given .1) (S e .pre .1 .1)))
     (λ c κs.
     let m = c .before .before .before .before in
     let e = m .before .before in
-    let s = e .before .before .before in
-    let w = s .before in
-    let S = w .before .before in
-    let x = shapes-on _ _ _ (w .whole .ensures) (s .shape-of .ensures) in
-    let d = rw (w .whole .ensures) at (c .down .ensures) in (
-      omega (arith, S .pre .0, ap levels (w .whole .ensures), S .pre .1 .0 .on .level-in, x .levels-is, e .if1 .left),
-      rw (w .whole .ensures) (laws.to-child _ _ _ _ _ _ _ (S .pre .1 .0)
-          (λ last. e .if1 .left (last ∙ sym (x .levels-is))) _ (m .before .quotient .ensures ∙ ap (λ (y : ℕ). S .args .on .b / y) (x .arity-is))
-          _ (rw (w .whole .ensures) at (m .child .ensures)) _ _ _ (c .before .before .child2 .given .1) _ (d .0) (d .1)),
+    let d = rw (w e .whole .ensures) at (c .down .ensures) in (
+      omega (arith, S e .pre .0, ap levels (w e .whole .ensures), S e .pre .1 .0 .on .level-in, x e .levels-is, e .if1 .left),
+      rw (w e .whole .ensures) (laws.to-child _ _ _ _ _ _ _ (S e .pre .1 .0)
+          (above e) _ (below e _ (m .before .quotient .ensures))
+          _ (rw (w e .whole .ensures) at (m .child .ensures)) _ _ _ (c .before .before .child2 .given .1) _ (d .0) (d .1)),
     ))
     (λ c.
     let m = c .before .before .before .before .before in
     let e = m .before .before in
-    let s = e .before .before .before in
-    let w = s .before in
-    let S = w .before .before in
-    let x = shapes-on _ _ _ (w .whole .ensures) (s .shape-of .ensures) in
-    let d = rw (w .whole .ensures) at (c .before .down .ensures) in
-    laws.by-child _ _ _ _ _ _ _ (S .pre .1 .0) (λ last. e .if1 .left (last ∙ sym (x .levels-is)))
-    _ (m .before .quotient .ensures ∙ ap (λ (y : ℕ). S .args .on .b / y) (x .arity-is)) _ (rw (w .whole .ensures) at (m .child .ensures))
-    _ _ _ (c .before .before .before .child2 .given .1) _ (d .0) _ _ (rw (w .whole .ensures) at (c .pointing-step .ensures))))
-    (λ t. pointing-step-lts.spec (
-      whole-reads.Asked,
-      whole-reads.Learnt,
-      look-reads.Asked,
-      look-reads.Learnt,
-      kept-step-below t,
-      kept-step.Post,
-      land-reads.Asked,
-      land-reads.Learnt,
-      across-reads.Asked,
-      across-reads.Learnt,
-    )
+    let d = rw (w e .whole .ensures) at (c .before .down .ensures) in
+    laws.by-child _ _ _ _ _ _ _ (S e .pre .1 .0) (above e)
+    _ (below e _ (m .before .quotient .ensures)) _ (rw (w e .whole .ensures) at (m .child .ensures))
+    _ _ _ (c .before .before .before .child2 .given .1) _ (d .0) _ _ (rw (w e .whole .ensures) at (c .pointing-step .ensures))))
+    (λ t. pointing-step-lts.spec (pointing-claims t)
     (pointing-step-at t)
     pointing-step.Post
     (λ c κs. search needs)
     (λ c κs. let k = c .before .before .pre .1 .0 in rw (c .whole .ensures) (record { on = k .on; block-in = k .block-in }))
     (λ c. search needs)
     (λ c κs.
-    let m = c .before .before in
-    let w = m .before in
-    let S = w .before .before in (
-      omega (arith, S .pre .0, ap levels (w .whole .ensures)),
-      rw (w .whole .ensures)
-          (walk.may-keep _ _ _ _ _ _ _ (S .pre .1 .0) _ (rw (w .whole .ensures) at (m .look .ensures)) _ _ (c .enum-told .given .1), S .pre .1 .1),
+    let m = c .before .before in (
+      omega (arith, from m .pre .0, ap levels (tree m .whole .ensures)),
+      rw (tree m .whole .ensures) (
+        walk.may-keep _ _ _ _ _ _ _ (from m .pre .1 .0) _ (rw (tree m .whole .ensures) at (m .look .ensures)) _ _
+            (c .enum-told .given .1),
+        from m .pre .1 .1,
+      ),
     ))
     (λ c. search needs)
     (λ c κs.
     let m = c .before .before in
-    let w = m .before in
-    let S = w .before .before in
-    rw (w .whole .ensures) (walk.may-point _ _ _ _ _ _ _ (S .pre .1 .0) _ (rw (w .whole .ensures) at (m .look .ensures)) _ _ (c .enum-told2 .given .1)))
+    rw (tree m .whole .ensures) (walk.may-point _ _ _ _ _ _ _ (from m .pre .1 .0) _ (rw (tree m .whole .ensures) at (m .look .ensures)) _ _
+    (c .enum-told2 .given .1)))
     (λ c. search needs)
     (λ c. search needs)
     (λ c.
     let l = c .before .before in
     let m = l .before .before .before in
-    let w = m .before in
-    let S = w .before .before in
-    laws.by-no-land _ _ _ _ _ _ _ (S .pre .1 .0) _ (rw (w .whole .ensures) at (m .look .ensures))
-    _ _ (l .before .enum-told2 .given .1) _ (rw (w .whole .ensures) at (l .land .ensures)) _ _ (c .enum-told3 .given .1))
+    laws.by-no-land _ _ _ _ _ _ _ (from m .pre .1 .0) _ (rw (tree m .whole .ensures) at (m .look .ensures))
+    _ _ (l .before .enum-told2 .given .1) _ (rw (tree m .whole .ensures) at (l .land .ensures)) _ _ (c .enum-told3 .given .1))
     (λ c κs.
     let l = c .before .before .before .before in
     let m = l .before .before .before in
-    let w = m .before in
-    let S = w .before .before in
-    rw (w .whole .ensures) (
-      laws.target-across _ _ _ _ _ _ (S .args .sum) (S .pre .1 .0) _ (rw (w .whole .ensures) at (m .look .ensures))
-          _ _ (l .before .enum-told2 .given .1) _ (rw (w .whole .ensures) at (l .land .ensures)) _ _ (c .before .before .there .given .1),
-      walk.may-enter _ _ _ _ _ _ _ (S .pre .1 .0),
-      S .pre .1 .1,
+    rw (tree m .whole .ensures) (
+      laws.target-across _ _ _ _ _ _ (from m .args .sum) (from m .pre .1 .0) _ (rw (tree m .whole .ensures) at (m .look .ensures))
+          _ _ (l .before .enum-told2 .given .1) _ (rw (tree m .whole .ensures) at (l .land .ensures)) _ _ (c .before .before .there .given .1),
+      walk.may-enter _ _ _ _ _ _ _ (from m .pre .1 .0),
+      from m .pre .1 .1,
     ))
     (λ c κs.
     let l = c .before .before .before .before .before in
     let m = l .before .before .before in
-    let w = m .before in
-    let S = w .before .before in
-    let d = rw (w .whole .ensures) at (c .across .ensures) in (
-      omega (arith, S .pre .0, ap levels (w .whole .ensures)),
-      rw (w .whole .ensures) (
-        laws.to-target _ _ _ _ _ _ _ (S .pre .1 .0) _ (rw (w .whole .ensures) at (m .look .ensures)) _ _ (l .before .enum-told2 .given .1)
-            _ (rw (w .whole .ensures) at (l .land .ensures)) _ _ (c .before .before .before .there .given .1) 0 _ _ (d .0),
+    let d = rw (tree m .whole .ensures) at (c .across .ensures) in (
+      omega (arith, from m .pre .0, ap levels (tree m .whole .ensures)),
+      rw (tree m .whole .ensures) (
+        laws.to-target _ _ _ _ _ _ _ (from m .pre .1 .0) _ (rw (tree m .whole .ensures) at (m .look .ensures)) _ _ (l .before .enum-told2 .given .1)
+            _ (rw (tree m .whole .ensures) at (l .land .ensures)) _ _ (c .before .before .before .there .given .1) 0 _ _ (d .0),
         d .1,
       ),
     ))
@@ -211,14 +207,10 @@ pub +kept-step+pointing-step-spec : {M : Type 1} → statement M
     (λ c.
     let l = c .before .before .before .before .before .before in
     let m = l .before .before .before in
-    let w = m .before in
-    let S = w .before .before in
-    let d = rw (w .whole .ensures) at (c .before .across .ensures) in
-    laws.by-target _ _ _ _ _ _ _ (S .pre .1 .0)
-    _ (rw (w .whole .ensures) at (m .look .ensures)) _ _ (l .before .enum-told2 .given .1) _ (rw (w .whole .ensures) at (l .land .ensures))
-    _ _ (c .before .before .before .before .there .given .1) _ _ _ (d .0) _ (rw (w .whole .ensures) at (c .kept-step2 .ensures)))
+    let d = rw (tree m .whole .ensures) at (c .before .across .ensures) in
+    laws.by-target _ _ _ _ _ _ _ (from m .pre .1 .0)
+    _ (rw (tree m .whole .ensures) at (m .look .ensures)) _ _ (l .before .enum-told2 .given .1) _ (rw (tree m .whole .ensures) at (l .land .ensures))
+    _ _ (c .before .before .before .before .there .given .1) _ _ _ (d .0) _ (rw (tree m .whole .ensures) at (c .kept-step2 .ensures)))
     (λ c.
     let m = c .before .before in
-    let w = m .before in
-    let S = w .before .before in
-    laws.by-none _ _ _ _ _ _ _ (S .pre .1 .0) _ (rw (w .whole .ensures) at (m .look .ensures)) _ _ (c .enum-told4 .given .1)))
+    laws.by-none _ _ _ _ _ _ _ (from m .pre .1 .0) _ (rw (tree m .whole .ensures) at (m .look .ensures)) _ _ (c .enum-told4 .given .1)))

@@ -16,21 +16,7 @@ digit-spec =
     (λ c. (simp (le-ltb _ 48 (c .before .before .if1 .left), lt-leb _ 57 (c .before .if2 .left), lt-ltb _ 97 (c .if3 .taken)), omega arith))
     (λ c. search needs)
     (λ c. search needs)
-    (λ c. (
-      simp (
-        le-ltb _ 48 (c .before .before .before .if1 .left),
-        lt-leb _ 57 (c .before .before .if2 .left),
-        le-ltb _ 97 (c .before .if3 .left),
-        le-leb _ 102 (c .if4 .taken),
-      ),
-      omega arith,
-    ))
-    (λ c. (
-      simp (
-        le-ltb _ 48 (c .before .before .before .if1 .left),
-        lt-leb _ 57 (c .before .before .if2 .left),
-        le-ltb _ 97 (c .before .if3 .left),
-        lt-leb _ 102 (c .if4 .left),
-      ),
-      omega arith,
-    )))
+    (λ c. let w = c .before .before in
+    (simp (le-ltb _ 48 (w .before .if1 .left), lt-leb _ 57 (w .if2 .left), le-ltb _ 97 (c .before .if3 .left), le-leb _ 102 (c .if4 .taken)), omega arith))
+    (λ c. let w = c .before .before in
+    (simp (le-ltb _ 48 (w .before .if1 .left), lt-leb _ 57 (w .if2 .left), le-ltb _ 97 (c .before .if3 .left), lt-leb _ 102 (c .if4 .left)), omega arith)))

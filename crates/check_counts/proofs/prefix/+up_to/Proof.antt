@@ -4,7 +4,7 @@ use Prim.Native.Nat.{ℕ, _+_, _-_, _≤_, _<_}
 use borrow.Author.Needs.{needs}
 use native.Mathlib.Omega.{arith}
 use borrow.Fn.Kinds.{In}
-use borrow.Fn.PlainCycle.{Measures, is, falls, and}
+use borrow.Fn.PlainCycle.{Measures}
 use Rattle.format.specs.Layout as at
 use Rattle.check_counts.proofs.CountsHeader as facts
 use Rattle.check_counts.proofs.PrefixLaws as laws
@@ -16,7 +16,8 @@ use Rattle.check_counts.proofs.prefix.step.Reads as step-reads
 use Rattle.walk_steps.proofs.fields.whole.Reads as whole-reads
 use Rattle.walk_steps.proofs.fields.shape_of.Reads as shape-of-reads
 use Rattle.walk_steps.proofs.quotient.Reads as quotient-reads
-use Rattle.walk_steps.proofs.StepLaws.{shapes-on}
+use Rattle.walk_steps.proofs.CycleClaims.{at-measure, below-measure}
+use Rattle.walk_steps.proofs.StepLaws.{Shapes, shapes-on}
 use Rattle.check_counts.proofs.prefix.+up_to.{statement}
 use Rattle.check_counts.proofs.prefix.+up_to.Tie.{close}
 
@@ -25,31 +26,48 @@ abbrev μ-up-to : Measures 1 up-to-kinds.ps ℕ
 μ-up-to κs a = at.settings (a .0 .now) .levels - a .1 .1 .0 .level
 
 abbrev up-to-at : ℕ → In 1 up-to-kinds.ps
-up-to-at t = and 1 up-to-kinds.ps (is 1 up-to-kinds.ps μ-up-to t) up-to.Pre
-
-abbrev up-to-below : ℕ → In 1 up-to-kinds.ps
-up-to-below t = and 1 up-to-kinds.ps (falls 1 up-to-kinds.ps _<_ μ-up-to t) up-to.Pre
+up-to-at t = at-measure up-to-kinds.ps μ-up-to up-to.Pre t
 
 abbrev levels : List ℕ → ℕ
 levels t = at.settings t .levels
 
+abbrev claims : ℕ → up-to-lts.Claims
+claims t = (
+  whole-reads.Asked,
+  whole-reads.Learnt,
+  shape-of-reads.Asked,
+  shape-of-reads.Learnt,
+  in-leaves-reads.Asked,
+  in-leaves-reads.Learnt,
+  quotient-reads.Asked,
+  quotient-reads.Learnt,
+  step-reads.Asked,
+  step-reads.Learnt,
+  below-measure up-to-kinds.ps μ-up-to up-to.Pre t,
+  up-to.Post,
+)
+
+-- Above the last level: what was read of the tree.
+module _ {t : ℕ} (e : up-to-lts.Else1 (claims t) (up-to-at t) up-to.Post) where
+  abbrev s : up-to-lts.After-shape-of (claims t) (up-to-at t) up-to.Post
+  s = e .before .before .before
+
+  abbrev w : up-to-lts.After-whole (claims t) (up-to-at t) up-to.Post
+  w = s .before
+
+  abbrev S : up-to-lts.Start (claims t) (up-to-at t) up-to.Post
+  S = w .before .before
+
+  x : Shapes (S .args .t .now) (s .shape-of .result)
+  x = shapes-on _ _ _ (w .whole .ensures) (s .shape-of .ensures)
+
+  up : S .args .on .level + 1 < levels (S .args .t .now)
+  up = laws.not-last _ _ _ _ _ _ _ (S .pre .1 .0) (S .pre .1 .1) (λ last. e .if1 .left (last ∙ sym (x .levels-is)))
+
 pub +up-to-spec : {M : Type 1} → statement M
 +up-to-spec =
     close μ-up-to
-    (λ t. up-to-lts.spec (
-      whole-reads.Asked,
-      whole-reads.Learnt,
-      shape-of-reads.Asked,
-      shape-of-reads.Learnt,
-      in-leaves-reads.Asked,
-      in-leaves-reads.Learnt,
-      quotient-reads.Asked,
-      quotient-reads.Learnt,
-      step-reads.Asked,
-      step-reads.Learnt,
-      up-to-below t,
-      up-to.Post,
-    )
+    (λ t. up-to-lts.spec (claims t)
     (up-to-at t)
     up-to.Post
     (λ c κs. search needs)
@@ -83,58 +101,33 @@ pub +up-to-spec : {M : Type 1} → statement M
     omega (arith, shapes-on _ _ _ (w .whole .ensures) (s .shape-of .ensures) .arity-is, tree .facts .bounds .arity-low))
     (λ c κs.
     let e = c .before in
-    let s = e .before .before .before in
-    let w = s .before in
-    let S = w .before .before in
-    let x = shapes-on _ _ _ (w .whole .ensures) (s .shape-of .ensures) in
-    let up = laws.not-last _ _ _ _ _ _ _ (S .pre .1 .0) (S .pre .1 .1) (λ last. e .if1 .left (last ∙ sym (x .levels-is))) in
-    rw (w .whole .ensures)
-    (c .quotient .ensures ∙ laws.below-is _ _ _ _ _ _ _ (S .pre .1 .0) (S .pre .1 .1) up _ (x .arity-is), up, S .pre .1 .1))
+    rw (w e .whole .ensures)
+    (c .quotient .ensures ∙ laws.below-is _ _ _ _ _ _ _ (S e .pre .1 .0) (S e .pre .1 .1) (up e) _ (x e .arity-is), (up e), S e .pre .1 .1))
     (λ c κs.
     let q = c .before .before .before in
-    let e = q .before in
-    let s = e .before .before .before in
-    let w = s .before in
-    let S = w .before .before in
-    let x = shapes-on _ _ _ (w .whole .ensures) (s .shape-of .ensures) in
-    let up = laws.not-last _ _ _ _ _ _ _ (S .pre .1 .0) (S .pre .1 .1) (λ last. e .if1 .left (last ∙ sym (x .levels-is))) in (
-      omega (arith, S .pre .0, ap levels (w .whole .ensures), up),
-      rw (w .whole .ensures) (
-        q .quotient .ensures ∙ laws.below-is _ _ _ _ _ _ _ (S .pre .1 .0) (S .pre .1 .1) up _ (x .arity-is),
-        laws.walk-next _ _ _ _ _ _ _ (S .pre .1 .0) (S .pre .1 .1) up _ (rw (w .whole .ensures) at (c .before .before .step .ensures .0)),
+    let e = q .before in (
+      omega (arith, S e .pre .0, ap levels (w e .whole .ensures), up e),
+      rw (w e .whole .ensures) (
+        q .quotient .ensures ∙ laws.below-is _ _ _ _ _ _ _ (S e .pre .1 .0) (S e .pre .1 .1) (up e) _ (x e .arity-is),
+        laws.walk-next _ _ _ _ _ _ _ (S e .pre .1 .0) (S e .pre .1 .1) (up e) _ (rw (w e .whole .ensures) at (c .before .before .step .ensures .0)),
       ),
     ))
     (λ c.
     let z = c .before .before .before .before in
     let e = z .before .before in
-    let s = e .before .before .before in
-    let w = s .before in
-    let S = w .before .before in
-    let x = shapes-on _ _ _ (w .whole .ensures) (s .shape-of .ensures) in
-    let up = laws.not-last _ _ _ _ _ _ _ (S .pre .1 .0) (S .pre .1 .1) (λ last. e .if1 .left (last ∙ sym (x .levels-is))) in
     omega (
       arith,
       z .step .ensures .1,
-      laws.rest-small _ _ _ _ _ _ _ (S .pre .1 .0) (S .pre .1 .1) up _ (rw (w .whole .ensures) at (z .step .ensures .0))
-          _ (rw (w .whole .ensures) at (c .before .up-to .ensures)),
+      laws.rest-small _ _ _ _ _ _ _ (S e .pre .1 .0) (S e .pre .1 .1) (up e) _ (rw (w e .whole .ensures) at (z .step .ensures .0))
+          _ (rw (w e .whole .ensures) at (c .before .up-to .ensures)),
     ))
     (λ c.
     let z = c .before .before .before .before .before in
     let e = z .before .before in
-    let s = e .before .before .before in
-    let w = s .before in
-    let S = w .before .before in
-    let x = shapes-on _ _ _ (w .whole .ensures) (s .shape-of .ensures) in
-    let up = laws.not-last _ _ _ _ _ _ _ (S .pre .1 .0) (S .pre .1 .1) (λ last. e .if1 .left (last ∙ sym (x .levels-is))) in
-    laws.minus-low _ _ _ _ _ _ _ (S .pre .1 .0) (S .pre .1 .1) up _ (rw (w .whole .ensures) at (z .step .ensures .0))
-    _ (rw (w .whole .ensures) at (c .before .before .up-to .ensures)))
+    laws.minus-low _ _ _ _ _ _ _ (S e .pre .1 .0) (S e .pre .1 .1) (up e) _ (rw (w e .whole .ensures) at (z .step .ensures .0))
+    _ (rw (w e .whole .ensures) at (c .before .before .up-to .ensures)))
     (λ c.
     let z = c .before .before .before .before .before in
     let e = z .before .before in
-    let s = e .before .before .before in
-    let w = s .before in
-    let S = w .before .before in
-    let x = shapes-on _ _ _ (w .whole .ensures) (s .shape-of .ensures) in
-    let up = laws.not-last _ _ _ _ _ _ _ (S .pre .1 .0) (S .pre .1 .1) (λ last. e .if1 .left (last ∙ sym (x .levels-is))) in
-    laws.walk-is _ _ _ _ _ _ _ (S .pre .1 .0) (S .pre .1 .1) up _ (rw (w .whole .ensures) at (z .step .ensures .0))
-    _ (rw (w .whole .ensures) at (c .before .before .up-to .ensures))))
+    laws.walk-is _ _ _ _ _ _ _ (S e .pre .1 .0) (S e .pre .1 .1) (up e) _ (rw (w e .whole .ensures) at (z .step .ensures .0))
+    _ (rw (w e .whole .ensures) at (c .before .before .up-to .ensures))))

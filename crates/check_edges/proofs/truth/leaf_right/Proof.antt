@@ -1,7 +1,6 @@
 use borrow.Author.Needs.{needs}
 use native.Mathlib.Omega.{arith}
 use Rattle.layout.proofs.AnswerTests.{failed, held}
-use Rattle.walk_steps.proofs.QuestionStandsLaws.{plain}
 use Rattle.check_edges.proofs.TruthLaws as laws
 use Rattle.check_edges.proofs.truth.leaf_right.Statement.{statement}
 use Rattle.check_edges.proofs.truth.leaf_right.Tie as tie
@@ -10,7 +9,7 @@ pub leaf-right-spec : {M : Type 1} → statement M
 leaf-right-spec =
     tie.close
     (tie.spec
-    (λ c κs. let k = c .before .pre .0 in record { on = plain _ _ _ _ (k .on); block-in = k .block-in })
+    (λ c κs. let k = c .before .pre .0 in record { on = k .on; block-in = k .block-in })
     (λ c κs. laws.edges-asked _ _ _ _ _ (c .before .before .pre .0))
     (λ c κs. let p = c .before .before .before .pre in laws.leafy _ _ _ _ _ (p .0) (p .1) _ (c .before .block-length .ensures .0))
     (λ c κs. let w = c .before .before in let v = w .before .before in

@@ -1,6 +1,5 @@
 use borrow.Author.Needs.{needs}
 use Rattle.layout.proofs.AnswerTests.{failed, held}
-use Rattle.walk_steps.proofs.QuestionStandsLaws.{plain}
 use Rattle.check_edges.proofs.TruthLaws as laws
 use Rattle.check_edges.proofs.truth.walked_right.Statement.{statement}
 use Rattle.check_edges.proofs.truth.walked_right.Tie as tie
@@ -9,7 +8,7 @@ pub walked-right-spec : {M : Type 1} → statement M
 walked-right-spec =
     tie.close
     (tie.spec
-    (λ c κs. let k = c .before .pre in record { on = plain _ _ _ _ (k .on); block-in = k .block-in })
+    (λ c κs. let k = c .before .pre in record { on = k .on; block-in = k .block-in })
     (λ c κs. search needs)
     (λ c κs. laws.edges-asked _ _ _ _ _ (c .before .before .before .pre))
     (λ c κs. let w = c .before .before in

@@ -2,7 +2,7 @@ use Prim.Native.Nat.{ℕ, _≤_, _*_, _<_, _^_}
 use mathlib.Core.Path.{refl}
 use native.Mathlib.Nat.{mul-le-mul}
 use native.Mathlib.Omega.{arith}
-use Rattle.format.specs.Settings.{maxRecord}
+use Rattle.format.specs.SizeLaws.{maxRecord}
 use Rattle.layout.proofs.header.table_bytes.Statement.{statement}
 use Rattle.layout.proofs.header.table_bytes.Tie as tie
 

@@ -3,7 +3,7 @@ use borrow.Author.Needs.{needs}
 use mathlib.Core.Bool.{true}
 use mathlib.Core.Path.{_≡_, _∙_, ap}
 use native.Mathlib.Omega.{arith}
-use Rattle.format.specs.Settings.{maxRecord}
+use Rattle.format.specs.SizeLaws.{maxRecord}
 use Rattle.format.specs.HeaderPlaces.{headerLength}
 use Rattle.format.specs.Layout.{levelCount, recordSize}
 use Rattle.layout.proofs.HeaderLaws.{apart, meets, end-none, end-more, leaves-meet, level-apart}

@@ -5,7 +5,7 @@ use native.Mathlib.Omega.{arith}
 use Rattle.list_lines.proofs.LineLaws as laws
 use Rattle.list_lines.proofs.kinds.count_of.Statement.{statement}
 use Rattle.list_lines.proofs.kinds.count_of.Tie as tie
-use Rattle.list_lines.specs.Lines.{hasKind}
+use Rattle.list_lines.specs.LevelTable.{hasKind}
 use Rattle.text.specs.Lists.{countBelow}
 
 abbrev Inv-loop : tie.InvT-loop

@@ -5,7 +5,7 @@ use native.Mathlib.Omega.{arith}
 use lib.ListN.{length, take}
 use lib.Seq.{take-all}
 use borrow.Author.Needs.{needs}
-use Rattle.search.specs.Fingers.{finger}
+use Rattle.search.specs.FingerValues.{finger}
 use Rattle.search.proofs.FingerLaws.{finger-nil, finger-push, finger-below}
 use Rattle.search.proofs.finger.fingerprint.Statement.{statement}
 use Rattle.search.proofs.finger.fingerprint.Tie as tie

@@ -5,7 +5,7 @@ use native.Mathlib.Nat.{add-sub-cancel-left}
 use lib.ListN.{take, drop}
 use borrow.Author.Needs.{needs}
 use Rattle.text.specs.Text.{stretch}
-use Rattle.search.specs.Fingers.{finger}
+use Rattle.search.specs.FingerValues.{finger}
 use Rattle.search.proofs.finger.fingerprint_at.Statement.{statement}
 use Rattle.search.proofs.finger.fingerprint_at.Tie as tie
 

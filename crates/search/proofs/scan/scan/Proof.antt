@@ -4,7 +4,7 @@ use Prim.Native.Nat.{_-_, _≤_}
 use native.Mathlib.Omega.{arith}
 use borrow.Author.Needs.{needs}
 use Rattle.text.specs.Text.{stretch, leftmost}
-use Rattle.search.specs.Fingers.{finger}
+use Rattle.search.specs.FingerValues.{finger}
 use Rattle.search.proofs.Modulo.{below}
 use Rattle.search.proofs.FingerLaws.{finger-roll, finger-below}
 use Rattle.search.proofs.ScanLaws.{ahead, ahead-start, ahead-hit, ahead-miss, ahead-end}

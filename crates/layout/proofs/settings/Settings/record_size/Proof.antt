@@ -3,8 +3,8 @@ use borrow.Author.Needs.{needs}
 use mathlib.Core.Path.{_≡_, sym}
 use native.Mathlib.Omega.{arith}
 use Rattle.format.specs.RecordFields.{fieldBytes}
-use Rattle.format.specs.Settings.{recordLength, maxLeaf, maxCounted, maxRecord}
-use Rattle.format.specs.SizeLaws.{record-plain, record-edged}
+use Rattle.format.specs.Settings.{recordLength, maxLeaf, maxCounted}
+use Rattle.format.specs.SizeLaws.{maxRecord, record-plain, record-edged}
 use Rattle.layout.proofs.settings.Settings.record_size.Statement.{statement}
 use Rattle.layout.proofs.settings.Settings.record_size.Tie as tie
 

@@ -1,0 +1,83 @@
+// The guide of an accepted tree, written: the block of each entry is looked for from that of the one before it on, so that making the entries of
+// a counted byte passes once over level 0.
+use ask_guide::Size;
+use ask_guide::entry_words;
+use layout::header;
+use layout::header::Header;
+use layout::header::HeaderRead;
+use layout::place::BlockNumber;
+use layout::word;
+ghost use mathlib.Core.Path.{_≡_};
+ghost use Prim.Native.Nat.{_+_, _*_, _≤_, _<_};
+ghost use lib.ListN.{length};
+ghost use Rattle.format.specs.Said.{NeverZero, replied};
+ghost use Rattle.format.specs.Layout as at;
+ghost use Rattle.format.specs.Verdict.{verdict};
+ghost use Rattle.layout.specs.HeaderSays.{HeaderOf};
+ghost use Rattle.ask_guide.specs.Guides.{entriesOf, entriesBefore, guideWords, makeSays, makeLeaves};
+ghost use Rattle.ask_guide.specs.GuideAnswers.{sizeReply};
+ghost use Rattle.build_guide.specs.EntriesWritten.{Puts};
+
+// Writes the entries of a counted byte; those before it have so many words.
+fn put_entries(table: &mut [u8], t: &[u8], h: Header, number: u32, place: usize, count: u64)
+    requires { ⌜ (HeaderOf (now t) h) × (verdict (now t) ≡ 0) × (number < at.countedCount (now t)) × (place ≡ entriesBefore (now t) number) ⌝ }
+    requires { ⌜ (count ≡ entriesOf (now t) number) × (4 * (place + count) ≤ length (now table)) ⌝ }
+    ensures { λ _. ⌜ Puts (now (t .entry)) (now (table .entry)) (now (table .exit)) place (place + count) ⌝ }
+{
+    let mut block: u32 = 0;
+    let mut e: u64 = 0;
+    while e < count {
+        let along = entry_words::block_from(
+            t,
+            h,
+            number,
+            BlockNumber(block),
+            entry_words::LISTED_EVERY * e + 1,
+        );
+        block = along.block.0;
+        word::write(table, 4 * (place + e as usize), block);
+        e += 1;
+    }
+}
+
+// Writes the entries of all counted bytes.
+fn put_all(table: &mut [u8], t: &[u8], h: Header)
+    requires { ⌜ (HeaderOf (now t) h) × (verdict (now t) ≡ 0) × (4 * guideWords (now t) ≤ length (now table)) ⌝ }
+    ensures { λ _. ⌜ now (table .exit) ≡ makeLeaves (now (t .entry)) (now (table .entry)) ⌝ }
+{
+    let mut place: usize = 0;
+    let mut c: u32 = 0;
+    while c < h.settings.counted {
+        let count = entry_words::entries_of(t, h, c);
+        put_entries(table, t, h, c, place, count);
+        place = place + count as usize;
+        c += 1;
+    }
+}
+
+// Question 25, of an accepted tree, by its header.
+fn put_by(t: &[u8], h: Header, table: &mut [u8]) -> Size
+    requires { ⌜ (HeaderOf (now t) h) × (verdict (now t) ≡ 0) ⌝ }
+    ensures { λ r. ⌜ (replied (sizeReply r) ≡ makeSays (now (t .entry)) (now (table .entry))) × (NeverZero (sizeReply r)) ⌝ }
+    ensures { λ _. ⌜ now (table .exit) ≡ makeLeaves (now (t .entry)) (now (table .entry)) ⌝ }
+{
+    let all = entry_words::entries_before(t, h, h.settings.counted);
+    if (table.len() as u64) < 4 * all {
+        return Size::Refused(25);
+    }
+    put_all(table, t, h);
+    Size::Words(all)
+}
+
+// Writes the guide of an accepted tree.
+pub fn put_guide(t: &[u8], table: &mut [u8]) -> Size
+    requires { ⌜ verdict (now t) ≡ 0 ⌝ }
+    ensures { λ r. ⌜ (replied (sizeReply r) ≡ makeSays (now (t .entry)) (now (table .entry))) × (NeverZero (sizeReply r)) ⌝ }
+    ensures { λ _. ⌜ now (table .exit) ≡ makeLeaves (now (t .entry)) (now (table .entry)) ⌝ }
+{
+    let read = header::read_header(t);
+    match read {
+        HeaderRead::Good(h) => put_by(t, h, table),
+        HeaderRead::Refused(number) => Size::Refused(number),
+    }
+}

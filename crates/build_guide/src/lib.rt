@@ -1,0 +1,35 @@
+// Guides made and checked: a guide is written for a tree that the check accepts, or compared with the one that would be written.
+mod guide_checked;
+mod guide_written;
+
+use ask_guide::Size;
+ghost use mathlib.Core.Path.{_≡_};
+ghost use Rattle.format.specs.Said.{NeverZero, replied};
+ghost use Rattle.ask_guide.specs.Guides.{guideNumber, makeSays, makeLeaves};
+ghost use Rattle.ask_guide.specs.GuideAnswers.{sizeReply};
+
+// Writes the guide of a tree to the start of a table: questions 5 to 9 of the tree, then 25. Refused, the table is unchanged.
+pub fn make_guide(t: &[u8], table: &mut [u8]) -> Size
+    ensures { λ r. ⌜ (replied (sizeReply r) ≡ makeSays (now (t .entry)) (now (table .entry))) × (NeverZero (sizeReply r)) ⌝ }
+    ensures { λ _. ⌜ now (table .exit) ≡ makeLeaves (now (t .entry)) (now (table .entry)) ⌝ }
+{
+    let number = tree::check(t);
+    if number != 0 {
+        return Size::Refused(number);
+    }
+    guide_written::put_guide(t, table)
+}
+
+// Questions 5 to 9 of the tree, then 24: 0 for the guide of an accepted tree, else the number of the first that fails.
+pub fn check_guide(t: &[u8], guide: &[u8]) -> u32
+    ensures { λ r. ⌜ r ≡ guideNumber (now (t .entry)) (now (guide .entry)) ⌝ }
+{
+    let number = tree::check(t);
+    if number != 0 {
+        return number;
+    }
+    if guide_checked::guide_right(t, guide) {
+        return 0;
+    }
+    24
+}

@@ -1,0 +1,15 @@
+-- The numbers of the rows that start with a prefix, and the next one after a mark.
+-- docs/FORMAT.md: "Rows by their first bytes".
+use mathlib.Core.List.{List}
+use Prim.Native.Nat.{ℕ}
+use Rattle.row_filter.specs.SelectedRows.{nextSelected}
+use Rattle.row_filter.specs.SelectedRowNumbers.{selectedRows}
+use Rattle.prefix_match.specs.PrefixRows.{startsWith}
+
+-- the numbers of all rows that start with the prefix, ascending
+unfoldable pub rowsWithPrefix : List ℕ → List (List ℕ) → List ℕ
+rowsWithPrefix prefix rows = selectedRows (startsWith prefix) rows
+
+-- the first row after a mark that starts with the prefix; 0 if there is none
+unfoldable pub nextWithPrefix : List ℕ → List (List ℕ) → ℕ → ℕ
+nextWithPrefix prefix rows mark = nextSelected (startsWith prefix) rows mark

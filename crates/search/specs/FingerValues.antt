@@ -1,0 +1,15 @@
+-- The fingerprint of bytes: a number in a base, modulo a modulus.
+use mathlib.Core.List.{List, [], _∷_}
+use Prim.Native.Nat.{ℕ, _+_, _*_, _%_, _≤_, _<_}
+
+pub record Ready (b q : ℕ) : Type 0 where
+  pub below : b < q
+  pub most : q ≤ 2147483647
+
+-- the bytes as digits in base b, after the number a
+unfoldable pub digits : ℕ → ℕ → List ℕ → ℕ
+digits b a [] = a
+digits b a (x ∷ s) = digits b (a * b + x) s
+
+unfoldable pub finger : ℕ → ℕ → List ℕ → ℕ
+finger b q s = digits b 0 s % q

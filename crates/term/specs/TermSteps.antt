@@ -1,0 +1,20 @@
+-- What the steps of the calls return: a day that is read, and a day between two others.
+use mathlib.Core.List.{List}
+use mathlib.Core.Bool.{cond, _&&_}
+use Prim.Native.Nat.{ℕ}
+use lib.Dec.{ltb, leb}
+use Rattle.term.specs.declared.days.DayRead.{DayRead}
+use Rattle.term.specs.declared.days.DayRead.the-variants as read
+use Rattle.term.specs.declared.Opened.{Opened}
+use Rattle.term.specs.declared.Opened.the-variants as opened
+use Rattle.term.specs.Days.{isDay, dateIn}
+
+-- the date that is written, where one is
+unfoldable pub dayRead : List ℕ → DayRead
+dayRead xs = cond (isDay xs) (read.Good (dateIn xs)) read.Bad
+
+-- a day by its number, between those of the first and the last
+unfoldable pub between : ℕ → ℕ → ℕ → Opened
+between first last day =
+    cond (ltb last first) (opened.Refused 23)
+    (cond (leb first day && leb day last) opened.Open opened.Closed)
