@@ -1,4 +1,4 @@
--- What the reading of a row by columns answers, for any bytes lent as a tree, and what it leaves in the lent buffer.
+-- What row_by_columns returns for any bytes given as a tree, and what the caller's buffer contains afterwards.
 -- docs/FORMAT.md: "Columns before rows".
 use mathlib.Core.List.{List, _++_}
 use mathlib.Core.Bool.{Bool, cond}
@@ -16,23 +16,23 @@ use Rattle.ask_access.specs.declared.Copied.{Copied}
 use Rattle.ask_access.specs.ReadAnswers.{copiedSaid, Numbered}
 
 module _ (t : List ℕ) (w a : ℕ) where
-  -- the place of column b of row a
+  -- The place of column b of row a.
   unfoldable pub cell : ℕ → ℕ
   unfolding at.textLength
   cell b = b * (at.textLength t / w) + a
 
-  -- the paths of row a's places all hold
+  -- Whether every place of row a has a path.
   unfoldable pub cellsHold : Bool
   cellsHold = allBelow w (λ b. eqb (byteSays t (cell b) .number) 0)
 
-  -- the refusals in their order: 5 to 7, 20, 10 if there is no row a, 13, 14
+  -- The refusal: 5 to 7, then 20, then 10 if there is no row a, then 13 and 14.
   unfoldable pub columnNumber : ℕ → ℕ
   unfolding at.textLength
   columnNumber room =
       let asked = ask 20 (widthOk w (at.textLength t)) (ask 10 (ltb a (at.textLength t / w)) (ask 13 (leb w room) (ask 14 cellsHold 0))) in
       cond (eqb (readable t) 0) asked (readable t)
 
-  -- a 14 leaves the w bytes zero
+  -- The buffer afterwards: the row at its start; w zeros if refused with 14; unchanged for any other refusal.
   unfoldable pub columnLeaves : List ℕ → List ℕ
   columnLeaves buffer =
       let number = columnNumber (length buffer) in
@@ -42,7 +42,7 @@ module _ (t : List ℕ) (w a : ℕ) where
   unfoldable pub columnSays : ℕ → Said
   columnSays room = unless (columnNumber room) (record { number = 0; value = w; entered = 0 })
 
--- the answer, with room for so many bytes
+-- The answer of row_by_columns, with a buffer of `room` bytes.
 pub record ColumnAnswer (t : List ℕ) (w a room : ℕ) (r : Copied) : Type 0 where
   pub says : copiedSaid r ≡ columnSays t w a room
   pub numbered : Numbered r

@@ -1,4 +1,4 @@
--- The answer by its number and its figure (docs/FORMAT.md, "The questions, in order").
+-- The answers of places and places_words by their refusals and figures (docs/FORMAT.md, "The questions, in order").
 use mathlib.Core.List.{List}
 use mathlib.Core.Path.{_≡_}
 use Prim.Native.Nat.{ℕ, _≤_}
@@ -9,22 +9,22 @@ use Rattle.ask_patterns.specs.declared.PlacesRoom.{PlacesRoom}
 use Rattle.ask_patterns.specs.declared.PlacesRoom.the-variants as room
 use Rattle.ask_patterns.specs.Places.{placesSays, roomSays}
 
--- how many places there are
+-- The number of places, or a refusal.
 abbrev pub placesSaid : PlacesWritten → Said
 placesSaid (places.Number n) = record { number = 0; value = n; entered = 0 }
 placesSaid (places.Refused number) = refused number
 
--- a refusal's number is not 0
+-- A refusal is not 0.
 abbrev pub Numbered : PlacesWritten → Type 0
 Numbered (places.Number n) = Unit {0}
 Numbered (places.Refused number) = 1 ≤ number
 
--- what is answered with room for so many words
+-- The answer of places, with a table of `room` words.
 pub record PlacesAnswer (t P : List ℕ) (room : ℕ) (r : PlacesWritten) : Type 0 where
   pub says : placesSaid r ≡ placesSays t P room
   pub numbered : Numbered r
 
--- how many words a table must have
+-- The number of words that are enough, or a refusal.
 abbrev pub roomSaid : PlacesRoom → Said
 roomSaid (room.Words n) = record { number = 0; value = n; entered = 0 }
 roomSaid (room.Refused number) = refused number

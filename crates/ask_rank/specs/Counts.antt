@@ -1,4 +1,4 @@
--- What count answers, by its number and figures (docs/FORMAT.md, "Count").
+-- The answer of count by its refusal and figures (docs/FORMAT.md, "Count").
 use mathlib.Core.Bool.{cond}
 use mathlib.Core.List.{List}
 use mathlib.Core.Path.{_≡_}
@@ -11,12 +11,12 @@ use Rattle.format.specs.CountSays.{countSays}
 use Rattle.ask_rank.specs.declared.Counted.{Counted}
 use Rattle.ask_rank.specs.declared.Counted.the-variants.{Times, Refused}
 
--- how often the byte stands, with the blocks entered
+-- How often the byte occurs with the number of blocks entered, or a refusal.
 abbrev pub saidCount : Counted → Said
 saidCount (Times times entered) = record { number = 0; value = times; entered = entered }
 saidCount (Refused number) = refused number
 
--- a refusal's number is not 0
+-- A refusal is not 0.
 abbrev pub Numbered : Counted → Type 0
 Numbered (Times times entered) = Unit {0}
 Numbered (Refused number) = 1 ≤ number
@@ -25,6 +25,6 @@ pub record CountAnswer (t : List ℕ) (byte i : ℕ) (r : Counted) : Type 0 wher
   pub says : saidCount r ≡ countSays t byte i
   pub numbered : Numbered r
 
--- Count and find of a number above 255, which is no byte and so not counted: questions 5 to 7, then 10 for what ends at i, then 11
+-- The refusal of count and find for a number above 255, which is not a byte and so not counted: questions 5 to 7, then 10 for a prefix of i bytes, then 11.
 unfoldable pub uncountedNumber : List ℕ → ℕ → ℕ
 uncountedNumber t i = cond (eqb (readable t) 0) (ask 10 (leb i (at.textLength t)) 11) (readable t)

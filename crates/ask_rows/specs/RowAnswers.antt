@@ -1,4 +1,4 @@
--- What row answers, by its number and length (docs/FORMAT.md, "Row").
+-- The answer of row by its refusal and length (docs/FORMAT.md, "Row").
 use mathlib.Core.List.{List}
 use Prim.Native.Nat.{ℕ, _≤_}
 use Rattle.format.specs.Verdict.{verdict}
@@ -7,17 +7,18 @@ use Rattle.format.specs.RowSays.{RowBy}
 use Rattle.ask_rows.specs.declared.RowCopied.{RowCopied}
 use Rattle.ask_rows.specs.declared.RowCopied.the-variants.{Bytes, Refused}
 
--- the bytes of the row, or the number of the question that refuses
+-- The number of bytes of the row, or a refusal.
 abbrev pub saidRow : RowCopied → Said
 saidRow (Bytes size) = record { number = 0; value = size; entered = 0 }
 saidRow (Refused number) = refused number
 
--- a refusal's number is not 0
+-- A refusal is not 0.
 abbrev pub Numbered : RowCopied → Type 0
 Numbered (Bytes size) = Unit {0}
 Numbered (Refused number) = 1 ≤ number
 
--- what a row answers that is settled where `ok` is 0: row's own is the check's number, that of a row with a guide the guide's
+-- The answers that row may return, where `ok` is 0 for a valid tree: without a guide `ok` is the result of the check, with a guide that of checking the
+-- guide.
 module _ (t : List ℕ) (ok : ℕ) where
   pub record RowAnswerBy (q : ℕ) (buffer : List ℕ) (r : RowCopied) (after : List ℕ) : Type 0 where
     pub says : RowBy t ok q buffer (saidRow r .number) (saidRow r .value) after

@@ -1,4 +1,4 @@
--- The answer of the search for the next match by its number and figures, and the mark that it moves (docs/FORMAT.md, "Keys").
+-- The answer of next_match by its refusal and row, and the mark that show moves (docs/FORMAT.md, "Keys").
 use mathlib.Core.List.{List}
 use Prim.Native.Nat.{ℕ}
 use Rattle.format.specs.Verdict.{verdict}
@@ -10,6 +10,6 @@ use Rattle.ask_worn_keys.specs.MatchSays.{matchNumber}
 abbrev pub MatchAnswer : List ℕ → List ℕ → ℕ → NextRowAnswer → Type 0
 MatchAnswer t ranges mark r = AllowedAnswer t (verdict t) (matchNumber t ranges) (matches ranges) mark r
 
--- a lent mark moved on: the answer from where it stood, and where it then stands
+-- The answer of show from the caller's mark, and the mark afterwards.
 abbrev pub Moved : List ℕ → List ℕ → ℕ → NextRowAnswer → ℕ → Type 0
 Moved t ranges before r after = MarkMoved t (verdict t) (matchNumber t ranges) (matches ranges) before r after

@@ -1,14 +1,14 @@
--- The builder's answer by its number and figures.
+-- The answer of build_scanned by its refusal and figures.
 use Prim.Native.Nat.{ℕ}
 use Rattle.build_by_scan.specs.declared.Scanned.{Scanned}
 use Rattle.build_by_scan.specs.declared.Scanned.the-variants.{Size, Refused}
 
--- the number of the question that refuses, 0 for a tree that is built
+-- The refusal, 0 for none.
 abbrev pub numberOf : Scanned → ℕ
 numberOf (Size n w) = 0
 numberOf (Refused q) = q
 
--- the tree's size and the windows looked up, 0 where it is refused
+-- The size of the tree and the number of windows looked up, 0 if refused.
 abbrev pub sizeOf : Scanned → ℕ
 sizeOf (Size n w) = n
 sizeOf (Refused q) = 0

@@ -14,27 +14,27 @@ use Rattle.layout.specs.CheckedSettings.{sizes}
 use Rattle.build_enough.specs.declared.Room.{Room}
 use Rattle.build_enough.specs.declared.Room.the-variants.{Bytes, Refused}
 
--- the blocks of all levels, where each level covers the text
+-- The number of blocks of all levels if each level covers the whole text.
 unfoldable pub blocksAtMost : ℕ → ℕ → ℕ → ℕ → ℕ
 blocksAtMost n m r H = sumBelow H (λ l. pieces n (m * r ^ (H - 1 - l)))
 
 abbrev pub enoughFor : ℕ → ℕ → ℕ → ℕ → ℕ → ℕ
 enoughFor n m r H k = headerLength + n + recordLength builtLayout m k * blocksAtMost n m r H
 
--- question 1 of the length, 2 of the sizes, 3 of the number of counted bytes
+-- The refusal: question 1 for the length, 2 for the settings, 3 for the number of counted bytes.
 unfoldable pub enoughRefusal : ℕ → ℕ → ℕ → ℕ → ℕ → ℕ
 enoughRefusal n m r H k = ask 1 (lengthOk n) (ask 2 (sizesOk (sizes m r H)) (ask 3 (leb k maxCounted) 0))
 
--- the size, unless a question refuses
+-- The size, or the refusal.
 unfoldable pub enoughSays : ℕ → ℕ → ℕ → ℕ → ℕ → Said
 enoughSays n m r H k = unless (enoughRefusal n m r H k) (record { number = 0; value = enoughFor n m r H k; entered = 0 })
 
--- the answer by its number and size
+-- The answer of the call as a refusal and a size.
 abbrev pub enoughSaid : Room → Said
 enoughSaid (Bytes n) = record { number = 0; value = n; entered = 0 }
 enoughSaid (Refused number) = refused number
 
--- a refusal's number is not 0
+-- A refusal is not 0.
 abbrev pub EnoughNumbered : Room → Type 0
 EnoughNumbered (Bytes n) = Unit {0}
 EnoughNumbered (Refused number) = 1 ≤ number

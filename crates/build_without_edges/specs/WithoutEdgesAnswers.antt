@@ -19,12 +19,12 @@ module _ (t out : List ℕ) where
   unfoldable pub withoutEdgesBuffer : List ℕ
   withoutEdgesBuffer = cond (eqb withoutEdgesRefusal 0) (withoutEdges t ++ drop (length (withoutEdges t)) out) out
 
--- the number of the question that refuses, 0 if the tree is written
+-- The refusal, 0 for none.
 abbrev pub refusalOf : WithoutEdgesAnswer → ℕ
 refusalOf (Size n) = 0
 refusalOf (Refused q) = q
 
--- the size of what is written, 0 if the call is refused
+-- The number of bytes written, 0 if refused.
 abbrev pub writtenSizeOf : WithoutEdgesAnswer → ℕ
 writtenSizeOf (Size n) = n
 writtenSizeOf (Refused q) = 0

@@ -1,4 +1,5 @@
--- Questions 8 and 9: which trees are well linked, which text fits a tree, and which counts and edges are true of it.
+-- Questions 8 and 9: whether the blocks of a tree are linked correctly, whether a text fits a tree (the tree represents the text), and whether the counts and
+-- edges are right for the text.
 -- docs/FORMAT.md: "Which text a tree stands for", "Question 8", "Question 9".
 use mathlib.Core.List.{List}
 use mathlib.Core.Option.{Option, none, some}
@@ -18,21 +19,21 @@ module _ (t : List ℕ) where
   unfolding at.settings
   lastLevel = at.settings t .levels - 1
 
-  -- how many children, or on the last level leaf bytes, block i of level l has by the kinds in the tree
+  -- The number of children of block i of level l, or of its leaf bytes on the last level, by its kind; 0 for a block that points.
   unfoldable pub widthAt : ℕ → ℕ → ℕ
   unfolding at.isKept at.blockLengthAt at.fullLength
   widthAt l i =
       cond (at.isKept t l i) (cond (eqb l lastLevel) (at.blockLengthAt t l i) (pieces (at.blockLengthAt t l i) (at.fullLength t (l + 1)))) 0
 
-  -- a kept block links to what the kept blocks before it leave free one level below, where its children start as cut
+  -- A kept block links to the first child, or leaf byte, that the kept blocks before it do not use, and its children start where they must.
   unfoldable pub keptRight : ℕ → ℕ → Bool
   unfolding at.link at.gap at.start at.fullLength
   keptRight l i =
       eqb (at.link t l i) (sumBelow i (widthAt l)) && eqb (at.gap t l i) 0
       && (eqb l lastLevel || allBelow (widthAt l i) (λ j. eqb (at.start t (l + 1) (at.link t l i + j)) (at.start t l i + j * at.fullLength t (l + 1))))
 
-  -- a pointing block: above the last level, to a kept block, with an occurrence that ends at or before its own start; where the
-  -- occurrence passes that block, the next one is kept and follows in the text
+  -- A pointing block is above the last level and links to a kept block; its occurrence lies wholly before the block itself. Where this occurrence crosses the
+  -- end of the linked block, the block after that one is kept too and adjacent in the text.
   unfoldable pub pointingRight : ℕ → ℕ → Bool
   unfolding at.kind at.link at.gap at.start at.fullLength at.blockLengthAt at.levelCount at.isKept
   pointingRight l i =
@@ -44,35 +45,36 @@ module _ (t : List ℕ) where
       && (leb (g + len) (at.fullLength t l)
       || (ltb (j + 1) (at.levelCount t l) && at.isKept t l (j + 1) && eqb (at.start t l (j + 1)) (at.start t l j + at.fullLength t l)))
 
+  -- Block i of level l is linked correctly, by its kind.
   unfoldable pub blockRight : ℕ → ℕ → Bool
   unfolding at.isKept
   blockRight l i = cond (at.isKept t l i) (keptRight l i) (pointingRight l i)
 
-  -- the count one level below (leaf bytes, below the last) is what the kinds give
+  -- The level below, or the leaf bytes below the last level, has as many items as the kinds of level l require.
   unfoldable pub countBelowRight : ℕ → Bool
   unfolding at.levelCount at.leafCount
   countBelowRight l =
       eqb (sumBelow (at.levelCount t l) (widthAt l)) (cond (eqb l lastLevel) (at.leafCount t) (at.levelCount t (l + 1)))
 
-  -- question 8
+  -- Question 8: the blocks of level 0 start where they must, and on each level all blocks are linked correctly.
   unfoldable pub linksOk : Bool
   unfolding at.settings at.levelCount at.start at.fullLength
   linksOk =
       allBelow (at.levelCount t 0) (λ i. eqb (at.start t 0 i) (i * at.fullLength t 0))
       && allBelow (at.settings t .levels) (λ l. countBelowRight l && allBelow (at.levelCount t l) (blockRight l))
 
-  -- the byte at the end of a path; 0 for a path that breaks
+  -- The byte at the end of a path; 0 if there is no path.
   abbrev pub leafOf : Option Path → ℕ
   leafOf none = 0
   leafOf (some p) = at.leafByte t (p .leaf)
 
-  -- the text of a tree: at each place what its path gives
+  -- The text of a tree: at each place the byte at the end of its path.
   unfoldable pub textOf : List ℕ
   unfolding at.textLength
   textOf = tabulate (at.textLength t) (λ p. leafOf (pathOf t p))
 
 module _ (T t : List ℕ) where
-  -- block i's bytes in the text are its leaf bytes if it is on the last level, and those of its occurrence if it points (kind 1)
+  -- On the last level, the bytes of block i in the text T are its leaf bytes; if it points, they are the bytes of its occurrence.
   unfoldable pub blockFits : ℕ → ℕ → Bool
   unfolding lastLevel at.blockLengthAt at.start at.link at.gap at.isPointing
   blockFits l i =
@@ -81,19 +83,19 @@ module _ (T t : List ℕ) where
       let pointedTo = stretch T (at.start t l (at.link t l i) + at.gap t l i) (at.blockLengthAt t l i) in
       (not (eqb l (lastLevel t)) || sameList bytes leaves) && (not (at.isPointing t l i) || sameList bytes pointedTo)
 
+  -- T fits the tree t: it has the length in the header, and every block fits.
   unfoldable pub fits : Bool
   unfolding at.textLength at.settings at.levelCount
   fits =
       eqb (length T) (at.textLength t) && allBelow (at.settings t .levels) (λ l. allBelow (at.levelCount t l) (blockFits l))
 
-  -- the start of the parent of a block of level l that starts at s; the text's on level 0. In every tree that passes questions 5 to 8 the parent of a
-  -- block that starts at s starts at s / b × b, b being the block length of the parent's level: `parent-start` of crate `theory_paths`
-  -- (specs/BlockStarts.antt)
+  -- The start of the parent of a block of level l that starts at s; 0 on level 0. In every tree that passes questions 5 to 8 the parent starts at s / b × b,
+  -- where b is the block length of the parent's level: `parent-start` of crate `theory_paths` (specs/BlockStarts.antt).
   parentStart : ℕ → ℕ → ℕ
   unfolding at.fullLength
   parentStart l s = elim l [ zero ↦ 0 | suc above ↦ s / at.fullLength t above * at.fullLength t above ]
 
-  -- the counts of counted byte number c in block i are those of the text
+  -- The three counts of counted byte number c in block i are those of the text.
   unfoldable pub blockCountsTrue : ℕ → ℕ → ℕ → Bool
   unfolding parentStart at.settings at.start at.link at.gap at.before at.inside at.skip at.isKept at.blockLengthAt
   blockCountsTrue l i c =
@@ -104,20 +106,21 @@ module _ (T t : List ℕ) where
       && eqb (at.inside t l i c) (countIn byte (stretch T s (at.blockLengthAt t l i)))
       && eqb (at.skip t l i c) (cond (at.isKept t l i) 0 (countIn byte (stretch T (at.start t l (at.link t l i)) (at.gap t l i))))
 
+  -- All counts are those of the text.
   unfoldable pub countsTrue : Bool
   unfolding at.settings at.levelCount at.countedCount
   countsTrue =
       allBelow (at.settings t .levels) (λ l.
       allBelow (at.levelCount t l) (λ i. allBelow (at.countedCount t) (blockCountsTrue l i)))
 
-  -- the edges of block i are those of its bytes in the text
+  -- The edges of block i are those of its bytes in the text.
   unfoldable pub blockEdgesTrue : ℕ → ℕ → Bool
   unfolding at.settings at.edgesAt at.start at.blockLengthAt
   blockEdgesTrue l i =
       let m = at.settings t .leaf in
       sameList (stretch t (at.edgesAt t l i) (m + m)) (edgesOf m (stretch T (at.start t l i) (at.blockLengthAt t l i)))
 
-  -- in layout 1 there are none
+  -- All edges are those of the text; a layout 1 tree has none.
   unfoldable pub edgesTrue : Bool
   unfolding at.settings at.levelCount at.hasEdges
   edgesTrue =

@@ -1,5 +1,5 @@
--- Where the header's words stand (docs/FORMAT.md, "Layout"), each place named once: six words, the places for counted bytes, for each level that a
--- tree may have its count and its offset, and two words for the leaf bytes.
+-- The offsets of the header's words, in bytes (docs/FORMAT.md, "Layout"): six words, one byte for each of up to four counted bytes, a count and an offset for
+-- each of up to eight levels, and two words for the leaf bytes.
 use Prim.Native.Nat.{ℕ, _+_, _*_}
 use Rattle.format.specs.Settings.{maxCounted, maxLevels}
 
@@ -24,7 +24,7 @@ countedCountAt = 20
 abbrev pub countedAt : ℕ
 countedAt = 24
 
--- the levels' words; those of level l
+-- Where the words of the levels begin; then the block count and the offset of level l.
 abbrev pub pairsAt : ℕ
 pairsAt = countedAt + maxCounted
 
@@ -34,7 +34,7 @@ countAt l = pairsAt + 8 * l
 abbrev pub offsetAt : ℕ → ℕ
 offsetAt l = pairsAt + 4 + 8 * l
 
--- after the last level that a tree may have: the leaf bytes' offset and count, and the first record
+-- After the words of eight levels: the offset and the count of the leaf bytes, then the end of the header.
 abbrev pub leafOffsetAt : ℕ
 leafOffsetAt = pairsAt + 8 * maxLevels
 

@@ -1,4 +1,4 @@
--- The path of a place, read off a tree's bytes alone.
+-- The path of a place: the blocks that lead from level 0 to its leaf byte, read from the bytes of a tree alone.
 -- docs/FORMAT.md: "The path of a place".
 use mathlib.Core.List.{List, [], _∷_, _++_}
 use mathlib.Core.Option.{Option, none, some}
@@ -7,13 +7,13 @@ use Prim.Native.Nat.{ℕ, zero, suc, _+_, _-_, _/_, _%_}
 use lib.Dec.{ltb}
 use Rattle.format.specs.Layout as at
 
--- a block entered, and the place in it
+-- A block entered, and the place in it.
 pub record Visit : Type 0 where
   pub level : ℕ
   pub block : ℕ
   pub place : ℕ
 
--- the blocks entered, first to last, and the number of the leaf byte reached
+-- A path: the blocks entered, first to last, and the number of the leaf byte at its end.
 pub record Path : Type 0 where
   pub visits : List Visit
   pub leaf : ℕ
@@ -21,28 +21,29 @@ pub record Path : Type 0 where
 abbrev pub visit : ℕ → ℕ → ℕ → Visit
 visit l i o = record { level = l; block = i; place = o }
 
--- the path with visits in front
+-- The path with visits prepended.
 abbrev pub entered : List Visit → Option Path → Option Path
 entered vs none = none
 entered vs (some p) = some (record { visits = vs ++ p .visits; leaf = p .leaf })
 
--- what a test lets through
+-- The path if the test holds, else none.
 abbrev pub provided : Bool → Option Path → Option Path
 provided true p = p
 provided false p = none
 
 module _ (t : List ℕ) where
-  -- block i of level l is in its table, and kept
+  -- Whether block i of level l exists and is kept.
   unfoldable pub keptBlock : ℕ → ℕ → Bool
   unfolding at.levelCount at.isKept
   keptBlock l i = ltb i (at.levelCount t l) && at.isKept t l i
 
-  -- it is in its table, and points with a gap below the block length
+  -- Whether block i of level l exists and points with a gap below the block length b.
   unfoldable pub pointingBlock : ℕ → ℕ → Bool
   unfolding at.levelCount at.isPointing at.gap at.fullLength
   pointingBlock l i = ltb i (at.levelCount t l) && at.isPointing t l i && ltb (at.gap t l i) (at.fullLength t l)
 
-  -- where a pointing block hands place o: link at gap + o, or, if that is b or more, link + 1 at that less b
+  -- The block and the place in it that place o of a pointing block refers to: place gap + o of the linked block, or, if that is b or more, place gap + o - b
+  -- of the next one.
   unfoldable pub targetBlock : ℕ → ℕ → ℕ → ℕ
   unfolding at.link at.gap at.fullLength
   targetBlock l i o = cond (ltb (at.gap t l i + o) (at.fullLength t l)) (at.link t l i) (at.link t l i + 1)
@@ -51,7 +52,7 @@ module _ (t : List ℕ) where
   unfolding at.gap at.fullLength
   targetPlace l i o = cond (ltb (at.gap t l i + o) (at.fullLength t l)) (at.gap t l i + o) (at.gap t l i + o - at.fullLength t l)
 
-  -- the kept block of level l that answers for place o of block i, the place in it, and the visits that lead there
+  -- The kept block of level l that contains the bytes of place o of block i, the place in it, and the visits that lead to it.
   unfoldable pub landBlock : ℕ → ℕ → ℕ → ℕ
   landBlock l i o = cond (keptBlock l i) i (targetBlock l i o)
 
@@ -61,12 +62,12 @@ module _ (t : List ℕ) where
   unfoldable pub landVisits : ℕ → ℕ → ℕ → List Visit
   landVisits l i o = cond (keptBlock l i) (visit l i o ∷ []) (visit l i o ∷ visit l (targetBlock l i o) (targetPlace l i o) ∷ [])
 
-  -- there is such a block: i itself, or the target of i where i points
+  -- Whether that block exists: i is kept, or i points and its target is kept.
   unfoldable pub lands : ℕ → ℕ → ℕ → Bool
   lands l i o = keptBlock l i || (pointingBlock l i && keptBlock l (targetBlock l i o))
 
-  -- the path from place o of block i of level l, which has `below` levels under it; none where it leaves the tables, meets a
-  -- pointing block after a pointing one or on the last level, a kind above 1, or a gap that is not below the block length
+  -- The path from place o of block i of level l, with `below` levels under it. There is none if it leaves the tables, meets a kind above 1, a pointing block
+  -- after a pointing one or on the last level, or a gap that is not below the block length.
   unfoldable pub pathFrom : ℕ → ℕ → ℕ → ℕ → Option Path
   unfolding at.link at.leafCount at.fullLength
   pathFrom zero l i o =
@@ -78,6 +79,7 @@ module _ (t : List ℕ) where
       let child = at.fullLength t (l + 1) in
       provided (lands l i o) (entered (landVisits l i o) (pathFrom below (l + 1) (at.link t l j + p / child) (p % child)))
 
+  -- The path of place p of the text.
   unfoldable pub pathOf : ℕ → Option Path
   unfolding at.settings at.fullLength
   pathOf p = pathFrom (at.settings t .levels - 1) 0 (p / at.fullLength t 0) (p % at.fullLength t 0)

@@ -1,5 +1,5 @@
--- The words of a record (docs/FORMAT.md, "Layout"): the number of each field, named once, for the definition that writes records (`Blocks`) and the one
--- that reads them (`Layout`).
+-- The words of a record (docs/FORMAT.md, "Layout"): the index of each field. The definition that writes records (`Blocks`) and the one that reads them
+-- (`Layout`) share these names.
 use mathlib.Core.List.{List, [], _∷_}
 use mathlib.Core.Path.{_≡_, refl}
 use Prim.Native.Nat.{ℕ, _+_, _*_}
@@ -17,14 +17,15 @@ linkField = 2
 abbrev pub gapField : ℕ
 gapField = 3
 
--- how many words every record has, and how many more for each counted byte
+-- The number of words of a record before its counts.
 abbrev pub plainWords : ℕ
 plainWords = 4
 
+-- The number of words of a record for each counted byte.
 abbrev pub countedWords : ℕ
 countedWords = 3
 
--- of the counted byte with number c
+-- The fields of counted byte number c.
 abbrev pub beforeField : ℕ → ℕ
 beforeField c = plainWords + countedWords * c
 
@@ -34,11 +35,11 @@ insideField c = plainWords + 1 + countedWords * c
 abbrev pub skipField : ℕ → ℕ
 skipField c = plainWords + 2 + countedWords * c
 
--- the words of a record with k counted bytes
+-- The number of words of a record with k counted bytes.
 abbrev pub fieldCount : ℕ → ℕ
 fieldCount k = plainWords + countedWords * k
 
--- their bytes, four to a word
+-- The same sizes in bytes; a word has four bytes.
 abbrev pub plainBytes : ℕ
 plainBytes = 4 * plainWords
 
@@ -48,7 +49,7 @@ countedBytes = 4 * countedWords
 abbrev pub fieldBytes : ℕ → ℕ
 fieldBytes k = plainBytes + countedBytes * k
 
--- the words themselves, in the order of their numbers
+-- The words of a record, in the order of their indices; `in-order` shows that the order agrees.
 abbrev pub plainFields : ℕ → ℕ → ℕ → ℕ → List ℕ
 plainFields start kind link gap = start ∷ kind ∷ link ∷ gap ∷ []
 

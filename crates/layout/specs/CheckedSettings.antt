@@ -1,4 +1,4 @@
--- What the checking constructor of the settings answers.
+-- What the constructor of checked settings returns.
 use mathlib.Core.List.{List, []}
 use mathlib.Core.Bool.{cond}
 use Prim.Native.Nat.{ℕ}
@@ -8,11 +8,11 @@ use Rattle.layout.specs.declared.settings.Settings.{Settings}
 use Rattle.layout.specs.declared.settings.Checked.{Checked}
 use Rattle.layout.specs.declared.settings.Checked.the-variants.{Fine, Refused}
 
--- m, r and H, with no byte counted
+-- Settings with m, r and H and no counted byte.
 abbrev pub sizes : ℕ → ℕ → ℕ → format.Settings
 sizes m r H = record { leaf = m; arity = r; levels = H; counted = [] }
 
--- the settings, or the number of the first question that refuses them
+-- The settings, or the number of the first question that refuses them.
 unfoldable pub checked : ℕ → ℕ → ℕ → List ℕ → Checked
 checked m r H cs =
     cond (format.sizesOk (sizes m r H))

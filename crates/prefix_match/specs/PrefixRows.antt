@@ -7,14 +7,14 @@ use lib.ListN.{length, take}
 use Rattle.text.specs.Lists.{sameList}
 use Rattle.row_filter.specs.SelectedRows.{selectedRows, nextSelected}
 
--- the row's first bytes are the prefix
+-- Whether the first bytes of a row are the prefix.
 unfoldable pub startsWith : List ℕ → List ℕ → Bool
 startsWith prefix row = sameList (take (length prefix) row) prefix
 
--- the numbers of all rows that start with the prefix, ascending
+-- The numbers of all rows that start with the prefix, ascending.
 unfoldable pub rowsWithPrefix : List ℕ → List (List ℕ) → List ℕ
 rowsWithPrefix prefix rows = selectedRows (startsWith prefix) rows
 
--- the first row after a mark that starts with the prefix; 0 if there is none
+-- The first row after a mark that starts with the prefix; 0 if there is none.
 unfoldable pub nextWithPrefix : List ℕ → List (List ℕ) → ℕ → ℕ
 nextWithPrefix prefix rows mark = nextSelected (startsWith prefix) rows mark

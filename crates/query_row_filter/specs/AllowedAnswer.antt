@@ -8,19 +8,19 @@ use Rattle.query_row_filter.specs.declared.NextRowAnswer.{NextRowAnswer}
 use Rattle.query_row_filter.specs.declared.NextRowAnswer.the-variants.{Row, Nothing, Refused}
 use Rattle.query_row_filter.specs.AllowedOutcome.{refusedAt, AllowedOutcome}
 
--- the outcome of an answer to a search from a mark
+-- The outcome of an answer to a search from a mark.
 abbrev pub outcomeOf : ℕ → NextRowAnswer → NextRowOutcome
 outcomeOf mark (Row q) = record { refusal = 0; row = q; mark = q }
 outcomeOf mark (Nothing m) = record { refusal = 0; row = 0; mark = m }
 outcomeOf mark (Refused refusal) = refusedAt refusal mark
 
--- the mark after an answer
+-- The mark after an answer.
 abbrev pub markAfter : NextRowAnswer → ℕ → ℕ
 markAfter (Row q) mark = q
 markAfter (Nothing m) mark = m
 markAfter (Refused refusal) mark = mark
 
--- a returned row and a refusal are not 0
+-- A returned row and a refusal are not 0.
 abbrev pub Numbered : NextRowAnswer → Type 0
 Numbered (Row q) = 1 ≤ q
 Numbered (Nothing m) = Unit {0}
@@ -30,7 +30,7 @@ pub record AllowedAnswer (t : List ℕ) (ok refusal : ℕ) (selected : List ℕ 
   pub says : AllowedOutcome t ok refusal selected mark (outcomeOf mark r)
   pub numbered : Numbered r
 
--- an allowed answer to a search from the mark `before`, and the mark `after` it
+-- An allowed answer to a search from the mark `before`, and the mark `after` it.
 pub record MarkMoved (t : List ℕ) (ok refusal : ℕ) (selected : List ℕ → Bool) (before : ℕ) (r : NextRowAnswer) (after : ℕ) : Type 0 where
   pub answer : AllowedAnswer t ok refusal selected before r
   pub mark-is : after ≡ markAfter r before

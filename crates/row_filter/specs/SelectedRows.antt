@@ -6,41 +6,41 @@ use Prim.Native.Nat.{ℕ, _+_}
 use lib.ListN.{length, drop}
 use lib.Dec.{leb, eqb}
 
--- the result of a search: the refusal, 0 for none; the row, 0 for none; the new mark
+-- The outcome of a search: the refusal (0 for none), the row (0 for none), and the new mark.
 pub record NextRowOutcome : Type 0 where
   pub refusal : ℕ
   pub row : ℕ
   pub mark : ℕ
 
 module _ (selected : List ℕ → Bool) where
-  -- the numbers of the selected rows, where the list begins with row q
+  -- The numbers of the selected rows of a list that begins with row q.
   unfoldable pub selectedFrom : ℕ → List (List ℕ) → List ℕ
   selectedFrom q [] = []
   selectedFrom q (row ∷ rows) =
       let rest = selectedFrom (q + 1) rows in
       cond (selected row) (q ∷ rest) rest
 
-  -- the numbers of all selected rows of a text, ascending
+  -- The numbers of all selected rows of a text, ascending.
   unfoldable pub selectedRows : List (List ℕ) → List ℕ
   selectedRows rows = selectedFrom 1 rows
 
-  -- the first selected row, where the list begins with row q; 0 if there is none
+  -- The first selected row of a list that begins with row q; 0 if there is none.
   unfoldable pub firstSelected : ℕ → List (List ℕ) → ℕ
   firstSelected q [] = 0
   firstSelected q (row ∷ rows) =
       let rest = firstSelected (q + 1) rows in
       cond (selected row) q rest
 
-  -- the first selected row after a mark; 0 if there is none
+  -- The first selected row after a mark; 0 if there is none.
   unfoldable pub nextSelected : List (List ℕ) → ℕ → ℕ
   nextSelected rows mark = firstSelected (mark + 1) (drop mark rows)
 
--- a row q moves the mark to q; none (q = 0) moves it to the number of rows, never back
+-- Row q moves the mark to q; without a row (q = 0) the mark moves to the number of rows, never back.
 unfoldable pub outcomeAt : ℕ → ℕ → ℕ → NextRowOutcome
 outcomeAt q rows mark =
     cond (eqb q 0) (record { refusal = 0; row = 0; mark = cond (leb mark rows) rows mark })
     (record { refusal = 0; row = q; mark = q })
 
--- the result of the search for the next selected row
+-- The outcome of the search for the next selected row.
 unfoldable pub nextOutcome : (List ℕ → Bool) → List (List ℕ) → ℕ → NextRowOutcome
 nextOutcome selected rows mark = outcomeAt (nextSelected selected rows mark) (length rows) mark

@@ -202,7 +202,7 @@ functions =
     ∷ without-edges-function
     ∷ []
 
--- P holds of each of these functions
+-- P holds for each of these functions.
 abbrev pub Every : (Function → Type 2) → List Function → Type 2
 Every P [] = Unit {2}
 Every P (f ∷ fs) = P f × Every P fs
