@@ -65,7 +65,7 @@ enum bt_number {
     BT_LAYOUT = 6,      /* the tree's layout is neither 1 nor 2 */
     BT_HEADER = 7,      /* the header is not right: settings, unused places, offsets, or the tree's length */
     BT_LINKS = 8,       /* starts, kinds, links, gaps, or the counts of levels or leaf bytes are not right */
-    BT_COUNTS = 9,      /* a count or an edge in the tree is not true */
+    BT_COUNTS = 9,      /* a count or an edge in the tree is wrong */
     BT_PLACE = 10,      /* the place, or the end of what is asked for, lies past the text's end */
     BT_NOT_COUNTED = 11, /* the byte is not one that the tree counts (for a row: byte 10) */
     BT_NO_SUCH = 12,    /* the byte does not stand so often in the text; there is no such row */
@@ -79,7 +79,7 @@ enum bt_number {
     BT_WIDTH = 20,      /* the width of rows is 0, or does not divide the text's length */
     BT_OUTPUT = 21,     /* bt_to_columns and bt_from_columns only: the output is shorter than the text */
     BT_DATE = 22,       /* a day is no date of the years 2000 to 2099 in eight digits, or its renewal passes 2099 */
-    BT_TERM = 23,       /* the last day lies before the first */
+    BT_TERM = 23,       /* the last day is before the first */
     BT_GUIDE = 24,      /* a guide of another length, or an entry that is not the tree's */
     BT_GUIDE_TABLE = 25 /* the table is too short for the guide */
 };
@@ -97,21 +97,21 @@ static inline const char *bt_refusal_text(uint32_t number)
     case BT_LAYOUT: return "the layout is neither 1 nor 2; this is no block tree, or one of another version";
     case BT_HEADER: return "the header is not right: its settings, unused places or offsets, or the file is longer or shorter than it says";
     case BT_LINKS: return "the blocks are not right: a start, kind, link or gap, or the number of blocks or leaf bytes";
-    case BT_COUNTS: return "a count or an edge in the tree is not true";
-    case BT_PLACE: return "this lies past the text's end";
+    case BT_COUNTS: return "a count or an edge in the tree is wrong";
+    case BT_PLACE: return "this is past the end of the text";
     case BT_NOT_COUNTED: return "the tree does not count this byte";
     case BT_NO_SUCH: return "the text has no occurrence or row of this number; numbers start at 1";
     case BT_BUFFER: return "the answer does not fit the buffer";
-    case BT_PATH: return "the tree is damaged: the way to a byte breaks off, or a count comes out below zero";
+    case BT_PATH: return "the tree is damaged: the path to a byte breaks off, or a count is negative";
     case BT_INPUT: return "only trees of at most 65,536 bytes are listed";
     case BT_PATTERN: return "a pattern must have 1 to 256 bytes";
     case BT_TABLE: return "the table has fewer words than the pattern has places";
-    case BT_WORK: return "the table of words is too short: four words are needed for each leaf length of text, a begun one counting whole";
+    case BT_WORK: return "the table of words is too short: it needs four words for each leaf length of the text, rounded up";
     case BT_RANGES: return "a worn key must have 1 to 10 cuts, each with a low and a high depth of 0 to 9, the low one not above the high one";
     case BT_WIDTH: return "the width must be above 0 and divide the text's length";
     case BT_OUTPUT: return "the output is shorter than the text";
     case BT_DATE: return "a day is eight digits, year, month and day, from 20000101 to 20991231, and a renewal does not pass 2099";
-    case BT_TERM: return "the last day lies before the first";
+    case BT_TERM: return "the last day is before the first";
     case BT_GUIDE: return "this is no guide of this tree: it has too few or too many words, or an entry is wrong";
     case BT_GUIDE_TABLE: return "the table is too short for the guide";
     default: return "a number that this header does not know";

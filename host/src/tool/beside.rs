@@ -112,7 +112,7 @@ impl Beside {
             _ => "not open yet".to_owned(),
         };
         let by = self.name();
-        Err(Failure::refused(name, format!("closed on {today}, {why}: by {by} its licence is {term}; --any-day reads it all the same")))
+        Err(Failure::refused(name, format!("closed on {today}, {why}: by {by} its licence is {term}; --any-day reads it nevertheless")))
     }
 
     /// A failure where a tree is not as the manifest says.
@@ -142,7 +142,7 @@ impl Beside {
         let Manifest { columns, figures, .. } = &self.manifest;
         match (columns, asked) {
             (Some(due), Some(asked)) if *due != u64::from(asked) => {
-                Some(format!("by {} its rows of {} are by columns, and {asked} is asked for", self.name(), several(*due, "byte")))
+                Some(format!("by {} its rows of {} are by columns, and {asked} was given", self.name(), several(*due, "byte")))
             }
             (Some(due), None) => {
                 Some(format!("by {} its rows of {} are by columns: only row --columns {due} reads them", self.name(), several(*due, "byte")))
@@ -164,7 +164,7 @@ fn first_bytes(file: File) -> io::Result<Vec<u8>> {
 fn today(given: &Given) -> Result<Option<Day>, Failure> {
     let Some(word) = given.value(&TODAY) else { return Ok(None) };
     if given.has(&ANY_DAY) {
-        return Err(given.usage("--today and --any-day do not go together"));
+        return Err(given.usage("--today cannot be used with --any-day"));
     }
     given.day(&TODAY, word).map(Some)
 }

@@ -49,7 +49,7 @@ pub fn build(given: &Given) -> Result<(), Failure> {
     let settings = settings(given, &counted)?;
     let width = given.value(&COLUMNS).map(|width| given.reading(values::width("--columns", width))).transpose()?;
     if width.is_none() && given.has(&ALLOW_LARGER) {
-        return Err(given.usage("--allow-larger is of use with --columns alone"));
+        return Err(given.usage("--allow-larger can only be used with --columns"));
     }
     if settings.is_some() && given.has(&BEST) {
         return Err(given.usage("--best searches for settings: give it, or --leaf, --arity and --levels"));
@@ -84,7 +84,7 @@ fn described(given: &Given) -> Result<Option<Manifest>, Failure> {
     let day = |option: &Opt| given.value(option).map(|word| given.day(option, word)).transpose();
     let manifest = Manifest { maker: text(&MAKER)?, edition: text(&EDITION)?, first: day(&FIRST)?, last: day(&LAST)?, ..Manifest::default() };
     match (manifest.first.is_some() == manifest.last.is_some(), manifest.term()) {
-        (false, _) => Err(given.usage("--first and --last go together: a term has both")),
+        (false, _) => Err(given.usage("--first and --last must be given together")),
         (_, Some(term @ Term { first, last })) if term.is_open(first).is_err() => {
             Err(given.usage(format!("--last {last} is before --first {first}")))
         }
@@ -226,7 +226,7 @@ pub fn settings(given: &Given, counted: &[u8]) -> Result<Option<Settings>, Failu
     match (given.number(&LEAF)?, given.number(&ARITY)?, given.number(&LEVELS)?) {
         (None, None, None) => Ok(None),
         (Some(leaf), Some(arity), Some(levels)) => Ok(Some(Settings { leaf, arity, levels, counted: counted.to_vec() })),
-        _ => Err(given.usage("--leaf, --arity and --levels go together: give all three, or none to have a short list tried")),
+        _ => Err(given.usage("--leaf, --arity and --levels must be given together; without them a short list is tried")),
     }
 }
 

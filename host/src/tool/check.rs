@@ -46,7 +46,7 @@ pub fn check(given: &Given) -> Result<(), Failure> {
 /// The trees of a list, each with its digest.
 fn check_listed(given: &Given, list: &Path) -> Result<(), Failure> {
     if !given.words.is_empty() || [&SHA256, &TEXT_SHA256, &SUMS].into_iter().any(|option| given.has(option)) {
-        return Err(given.usage("-c LIST names the trees and their digests: neither TREE, --sha256, --text-sha256 nor --sums goes with it"));
+        return Err(given.usage("-c LIST names the trees and their digests: it cannot be used with TREE, --sha256, --text-sha256 or --sums"));
     }
     let list = input::read(Some(list), &input::LIST)?;
     let sums = sums::read(&list.bytes).map_err(|(line, words)| Failure::file(&format!("{}:{line}", list.name), words))?;

@@ -219,7 +219,7 @@ fn command(words: &[OsString]) -> Result<(&'static Command, &[OsString]), Failur
     }
     let seconds = Command::group(&name);
     if name.starts_with('-') {
-        return Err(Failure::usage(format!("'{name}' stands before the command; options stand after it; see codebook --help")));
+        return Err(Failure::usage(format!("'{name}' is before the command; options follow it; see codebook --help")));
     }
     if seconds.is_empty() {
         return Err(unknown(&name));
@@ -245,8 +245,14 @@ fn command(words: &[OsString]) -> Result<(&'static Command, &[OsString]), Failur
     }
 }
 
+/// Commands of version 1 that have another name now.
+const RENAMED: [(&str, &str); 2] = [("shelf", "sort"), ("worn", "match")];
+
 /// There is no such command.
 pub fn unknown(name: &str) -> Failure {
+    if let Some((_, now)) = RENAMED.iter().find(|(before, _)| *before == name) {
+        return Failure::usage(format!("there is no command '{name}'; since version 2 it is '{now}'; see codebook help {now}"));
+    }
     let first_words = COMMANDS.iter().filter_map(|command| command.name.split(' ').next());
     let meant = suggestion(name, first_words).unwrap_or("; see codebook --help".to_owned());
     Failure::usage(format!("there is no command '{name}'{meant}"))

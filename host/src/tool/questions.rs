@@ -117,8 +117,7 @@ impl Question {
             "count" => Question::Count(given.reading(values::byte(word(0)))?, given.figure(1)?),
             "find" => Question::Find(given.reading(values::byte(word(0)))?, given.figure(1)?),
             "places" => Question::Places(given.reading(values::pattern(word(0)))?),
-            "match" => Question::matching(given, given.reading(values::cuts(word(0)))?)?,
-            "worn" => Question::matching(given, given.reading(values::depths(word(0), word(1)))?)?,
+            "match" => Question::matching(given)?,
             _ => Question::Text,
         })
     }
@@ -126,15 +125,16 @@ impl Question {
     fn rows(given: &Given) -> Result<Self, Failure> {
         let (first, last) = given.reading(values::rows(&given.words[0]))?;
         match given.number(&ROW_COLUMNS)? {
-            Some(_) if given.has(&table::GUIDE) => Err(given.usage("--guide is of no use with --columns")),
+            Some(_) if given.has(&table::GUIDE) => Err(given.usage("--guide cannot be used with --columns")),
             Some(width) => Ok(Question::ColumnRows(first, last, width)),
             None => Ok(Question::Rows(first, last)),
         }
     }
 
-    fn matching(given: &Given, ranges: Vec<Range>) -> Result<Self, Failure> {
+    fn matching(given: &Given) -> Result<Self, Failure> {
+        let ranges = given.reading(values::cuts(&given.words[0]))?;
         match (given.number(&FROM)?, given.number(&AFTER)?) {
-            (Some(_), Some(_)) => Err(given.usage("--from and --after do not go together")),
+            (Some(_), Some(_)) => Err(given.usage("--from cannot be used with --after")),
             (_, Some(mark)) => Ok(Question::Next(ranges, mark)),
             (from, None) => Ok(Question::Match(ranges, from.unwrap_or(1).saturating_sub(1))),
         }

@@ -52,7 +52,7 @@ pub fn rows(word: &OsStr) -> Result<(u32, Option<u32>), String> {
     let first = if first.is_empty() { 1 } else { read(first)? };
     let last = if last.is_empty() { None } else { Some(read(last)?) };
     match last {
-        Some(last) if first > last => Err(format!("{text}: row {first} stands after row {last}")),
+        Some(last) if first > last => Err(format!("{text}: row {first} is after row {last}")),
         _ => Ok((first, last)),
     }
 }
@@ -137,19 +137,6 @@ pub fn cuts(word: &OsStr) -> Result<Vec<Range>, String> {
     Ok(ranges)
 }
 
-/// A low and a high depth for each cut.
-pub fn depths(lows: &OsStr, highs: &OsStr) -> Result<Vec<Range>, String> {
-    let digits = |what: &str, word: &OsStr| match word.as_bytes().iter().all(u8::is_ascii_digit) {
-        true => Ok(word.as_bytes().to_vec()),
-        false => Err(format!("{what} has a digit for each cut, not '{}'", word.to_string_lossy())),
-    };
-    let (lows, highs) = (digits("LOWS", lows)?, digits("HIGHS", highs)?);
-    if lows.len() != highs.len() {
-        return Err(format!("LOWS and HIGHS have a digit for each cut; they have {} and {}", lows.len(), highs.len()));
-    }
-    Ok(lows.iter().zip(&highs).map(|(low, high)| Range { low: low - b'0', high: high - b'0' }).collect())
-}
-
 #[cfg(test)]
 mod tests {
     use super::{byte, number, pattern, rows};
@@ -170,7 +157,7 @@ mod tests {
         let read = |word: &str| rows(OsStr::new(word));
         assert_eq!((read("7"), read("5..20"), read("5..5")), (Ok((7, Some(7))), Ok((5, Some(20))), Ok((5, Some(5)))));
         assert_eq!((read("5.."), read("..20"), read("..")), (Ok((5, None)), Ok((1, Some(20))), Ok((1, None))));
-        assert_eq!(read("5..4"), Err("5..4: row 5 stands after row 4".to_owned()));
+        assert_eq!(read("5..4"), Err("5..4: row 5 is after row 4".to_owned()));
         for word in ["x", "1..x", "-1..2", "1..2..3", "1...2"] {
             assert!(read(word).is_err(), "{word}");
         }
