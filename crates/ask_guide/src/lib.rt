@@ -10,13 +10,13 @@ ghost use mathlib.Core.Path.{_≡_};
 ghost use Rattle.ask_guide.specs.Guides.{guideNumber, sizeSays, makeSays, makeLeaves};
 ghost use Rattle.ask_guide.specs.GuideAnswers.{saidSize, Numbered};
 
-// How many words a guide has, or the number of the question that refuses.
+// The number of words of a guide, or the refusal.
 pub enum Size {
     Words(u64),
     Refused(u32),
 }
 
-// How many words the guide of a tree has. It asks 5 to 7, of any bytes lent as a tree.
+// The number of words of the guide of a tree. Any bytes may be given as a tree: questions 5 to 7.
 pub fn guide_words(t: &[u8]) -> Size
     ensures { λ r. ⌜ (saidSize r ≡ sizeSays (now (t .entry))) × (Numbered r) ⌝ }
 {
@@ -27,7 +27,7 @@ pub fn guide_words(t: &[u8]) -> Size
     }
 }
 
-// Writes the guide of a tree to the start of a table: questions 5 to 9 of the tree, then 25. Refused, the table is unchanged.
+// Writes the guide of a tree to the start of a table: questions 5 to 9, then 25. If refused, the table is unchanged.
 pub fn make_guide(t: &[u8], table: &mut [u8]) -> Size
     ensures { λ r. ⌜ (saidSize r ≡ makeSays (now (t .entry)) (now (table .entry))) × (Numbered r) ⌝ }
     ensures { λ _. ⌜ now (table .exit) ≡ makeLeaves (now (t .entry)) (now (table .entry)) ⌝ }
@@ -39,7 +39,7 @@ pub fn make_guide(t: &[u8], table: &mut [u8]) -> Size
     guide_written::put_guide(t, table)
 }
 
-// Questions 5 to 9 of the tree, then 24: 0 for the guide of an accepted tree, else the number of the first that fails.
+// Questions 5 to 9 for the tree, then 24: 0 for the guide of an accepted tree, else the first that fails.
 pub fn check_guide(t: &[u8], guide: &[u8]) -> u32
     ensures { λ r. ⌜ r ≡ guideNumber (now (t .entry)) (now (guide .entry)) ⌝ }
 {

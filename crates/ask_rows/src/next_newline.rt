@@ -1,4 +1,4 @@
-// The newline that ends a row: read from the row's start on, run by run, in a tree that passes questions 5 to 7.
+// The newline that ends a row, read from the start of the row run by run, in a tree that passes questions 5 to 7.
 use ask_access::read_by_header;
 use ask_access::read_by_header::Ran;
 use layout::header::Header;
@@ -17,7 +17,7 @@ pub enum Newline {
     Missing,
 }
 
-// The runs are read in place; question 14 where one breaks.
+// Reads the runs in place; question 14 if a path breaks.
 pub fn next_newline(t: &[u8], h: Header, from: TextPlace) -> Newline
     requires { ⌜ (HeaderOf (now t) h) × (from .0 ≤ h .«text_length») ⌝ }
     ensures { λ r. ⌜ NewlineIs (now (t .entry)) (from .0) r ⌝ }
@@ -41,7 +41,7 @@ pub fn next_newline(t: &[u8], h: Header, from: TextPlace) -> Newline
     Newline::Missing
 }
 
-// The byte before place i of a run: for the first place the one that was read before the run.
+// The byte before place i of a run; for the first place, the byte that was read before the run.
 fn byte_before(t: &[u8], from: usize, i: u32, earlier: u8) -> u8
     requires { ⌜ from + i ≤ length (now t) ⌝ }
     ensures { λ r. ⌜ r ≡ cond (eqb i 0) earlier (getD (now (t .entry)) (from + (i - 1)) 0) ⌝ }

@@ -1,4 +1,4 @@
-// The edges of a row, of a tree that passes questions 5 to 7, by its header.
+// The bounds of a row in a tree that passes questions 5 to 7, given its header.
 use crate::next_newline;
 use crate::next_newline::Newline;
 use ask_access::Answer;
@@ -24,19 +24,19 @@ ghost use Rattle.ask_select.specs.Found.{saidFind, FoundBy};
 ghost use Rattle.ask_rows.specs.RowSpans.{settledBy, edgesNumber, EdgesOf};
 ghost use Rattle.ask_rows.specs.RowEnds.{startNumber, StartIs};
 
-// Where a row starts and how many bytes it has, or the number of the question that refuses.
+// The start and the length of a row, or the refusal.
 pub enum Edges {
     At(TextPlace, u32),
     Refused(u32),
 }
 
-// Where a row starts that a newline ends, or the number of the question that refuses.
+// The start of a row that ends in a newline, or the refusal.
 pub enum RowStart {
     At(TextPlace),
     Refused(u32),
 }
 
-// The edges of row q, by finds with the guide if it is used. Questions 11, 12 and 14.
+// The bounds of row q, by finds with the guide if `used` is true. Questions 11, 12 and 14.
 pub fn of_row(t: &[u8], h: Header, guide: &[u8], used: bool, q: u32) -> Edges
     requires { ⌜ HeaderOf (now t) h ⌝ }
     ensures { λ r. ⌜ EdgesOf (now (t .entry)) (settledBy (now (t .entry)) (now (guide .entry)) used)
@@ -48,7 +48,7 @@ pub fn of_row(t: &[u8], h: Header, guide: &[u8], used: bool, q: u32) -> Edges
     terminated_row(t, h, guide, used, q)
 }
 
-// Whether q is the total of byte 10 plus one, in a text that has a byte.
+// Whether q is the total of byte 10 plus one, in a text that is not empty.
 fn asks_last(t: &[u8], h: Header, q: u32) -> bool
     requires { ⌜ HeaderOf (now t) h ⌝ }
     ensures { λ r. ⌜ r ≡ asksLast (now (t .entry)) q ⌝ }
@@ -66,8 +66,8 @@ fn asks_last(t: &[u8], h: Header, q: u32) -> bool
     (q - 1) as u64 == ask_totals::total(t, h, number)
 }
 
-// The bounds of the row that no byte 10 ends, which exists if the last byte is another one: from behind the last byte 10 (or from place 0) to
-// the text's end.
+// The bounds of the row without a byte 10 at its end, which exists if the last byte of the text is another one: from the place after the last byte 10, or
+// from place 0, to the end of the text.
 fn last(t: &[u8], h: Header, guide: &[u8], used: bool, q: u32) -> Edges
     requires { ⌜ (HeaderOf (now t) h) × (asksLast (now t) q ≡ true) ⌝ }
     ensures { λ r. ⌜ EdgesOf (now (t .entry)) (settledBy (now (t .entry)) (now (guide .entry)) used) (lastNumber
@@ -90,7 +90,7 @@ fn last(t: &[u8], h: Header, guide: &[u8], used: bool, q: u32) -> Edges
     Edges::At(TextPlace(before.0 + 1), h.text_length - (before.0 + 1))
 }
 
-// The edges of a row that a newline ends: one find comes to its start, and the newline is read on to.
+// The bounds of a row that ends in a newline: one find gives its start, and the newline is found by reading on.
 fn terminated_row(t: &[u8], h: Header, guide: &[u8], used: bool, q: u32) -> Edges
     requires { ⌜ HeaderOf (now t) h ⌝ }
     ensures { λ r. ⌜ EdgesOf (now (t .entry)) (settledBy (now (t .entry)) (now (guide .entry)) used)
@@ -107,7 +107,7 @@ fn terminated_row(t: &[u8], h: Header, guide: &[u8], used: bool, q: u32) -> Edge
     Edges::At(start, without_cr(place.0 - start.0, before))
 }
 
-// Where row q starts, if a newline ends it. Questions 11, 12 and 14.
+// The start of row q, if it ends in a newline. Questions 11, 12 and 14.
 fn row_start(t: &[u8], h: Header, guide: &[u8], used: bool, q: u32) -> RowStart
     requires { ⌜ HeaderOf (now t) h ⌝ }
     ensures { λ r. ⌜ StartIs (now (t .entry)) (settledBy (now (t .entry)) (now (guide .entry)) used) q r ⌝ }
@@ -132,7 +132,7 @@ fn row_start(t: &[u8], h: Header, guide: &[u8], used: bool, q: u32) -> RowStart
     RowStart::At(TextPlace(before.0 + 1))
 }
 
-// A row's length without a carriage return directly before the newline that ends it.
+// The length of a row without a carriage return directly before the newline.
 fn without_cr(len: u32, before: u8) -> u32
     ensures { λ r. ⌜ r ≡ cond (ltb 0 len && eqb 13 before) (len - 1) len ⌝ }
 {
@@ -145,7 +145,7 @@ fn without_cr(len: u32, before: u8) -> u32
     len
 }
 
-// The number of the question that refuses a row's start; 0 for a place.
+// The refusal of a row's start, 0 for none.
 fn start_number(found: RowStart) -> u32
     ensures { λ r. ⌜ r ≡ startNumber found ⌝ }
 {
@@ -155,7 +155,7 @@ fn start_number(found: RowStart) -> u32
     }
 }
 
-// The place of the j-th byte 10, by the guide if it is used.
+// The place of the j-th byte 10, with the guide if `used` is true.
 pub fn ten(t: &[u8], h: Header, guide: &[u8], used: bool, j: u32) -> Found
     requires { ⌜ HeaderOf (now t) h ⌝ }
     ensures { λ r. ⌜ FoundBy (now (t .entry)) (settledBy (now (t .entry)) (now (guide .entry)) used) 10 j r ⌝ }
@@ -166,7 +166,7 @@ pub fn ten(t: &[u8], h: Header, guide: &[u8], used: bool, j: u32) -> Found
     find_by_header::find_at(t, h, 10, j)
 }
 
-// The number of the question that refuses a find; 0 for a place.
+// The refusal of a find, 0 for none.
 fn found_number(found: Found) -> u32
     ensures { λ r. ⌜ r ≡ saidFind found .number ⌝ }
 {
@@ -176,7 +176,7 @@ fn found_number(found: Found) -> u32
     }
 }
 
-// The number of the question that refuses the edges.
+// The refusal of the bounds, 0 for none.
 pub fn number(found: Edges) -> u32
     ensures { λ r. ⌜ r ≡ edgesNumber found ⌝ }
 {

@@ -1,4 +1,4 @@
-// The search for a match, of a tree that passes questions 5 to 7, by its header.
+// The search for a match in a tree that passes questions 5 to 7, given its header.
 use ask_access::read_by_header;
 use ask_access::read_by_header::Ran;
 use keys::form;
@@ -21,7 +21,7 @@ ghost use Rattle.keys.specs.Forms.{keyAutomaton};
 ghost use Rattle.query_row_filter.specs.RowsAfter.{answerOf, SearchFrom};
 ghost use Rattle.ask_worn_keys.specs.MatchAnswer.{MatchAnswer};
 
-// The most bytes that are read at once: a matching row is often near.
+// The largest number of bytes that are read at once: a matching row is often near.
 const MOST: u32 = 1024;
 
 // Questions 19, 11 and 14.
@@ -42,7 +42,7 @@ pub fn match_at(t: &[u8], h: Header, question: &[u8], mark: u32) -> NextRowAnswe
     }
 }
 
-// Scans the text from a place on, where row q begins, by ranges of the tree's leaf bytes.
+// Scans the text from the place where row q begins, by ranges of leaf bytes.
 fn from(t: &[u8], h: Header, question: &[u8], place: TextPlace, q: u32) -> NextRowAnswer
     requires { ⌜ (HeaderOf (now t) h) × (rangesOk (now question) ≡ true) × (place .0 ≤ h .«text_length») × (1 ≤ q) × (q ≤ h .«text_length») ⌝ }
     ensures { λ r. ⌜ SearchFrom (now (t .entry)) (keyAutomaton (now (question .entry))) (place .0) q r ⌝ }
@@ -72,7 +72,7 @@ fn from(t: &[u8], h: Header, question: &[u8], place: TextPlace, q: u32) -> NextR
     end_of_text(question, so_far, row)
 }
 
-// The text ends in row q: a row with no byte is none.
+// The text ends in row q. A row without a byte does not count.
 fn end_of_text(question: &[u8], form: Form, q: u32) -> NextRowAnswer
     requires { ⌜ 1 ≤ q ⌝ }
     ensures { λ r. ⌜ r ≡ answerOf (atEndOfText (keyAutomaton (now (question .entry))) form q) ⌝ }

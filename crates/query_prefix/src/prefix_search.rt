@@ -23,7 +23,7 @@ ghost use Rattle.query_row_filter.specs.AllowedAnswer.{AllowedAnswer};
 ghost use Rattle.query_row_filter.specs.RowsAfter.{answerOf, SearchFrom};
 ghost use Rattle.query_prefix.specs.PrefixRefusals.{prefixRefusal};
 
-// The most bytes that are read at once: a matching row is often near.
+// The largest number of bytes that are read at once: a matching row is often near.
 const MOST: u32 = 1024;
 
 // Questions 16, 11 and 14. The guide is used if `used` is true.
