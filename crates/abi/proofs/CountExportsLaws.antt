@@ -1,4 +1,4 @@
--- Count, find and row: their answers by variants, and of a number above 255.
+-- Count, find and row: their answers by variants, also for a number above 255.
 use mathlib.Core.List.{List}
 use mathlib.Core.Bool.{Bool, true, false, cond}
 use mathlib.Core.Path.{_≡_, refl, sym, ap, subst, _∙_}

@@ -1,4 +1,4 @@
--- The loop that copies runs to a buffer, span's and row's; where a byte is refused, the part asked for is cleared.
+-- The loop of span and row that copies runs to a buffer, and clears the copied part if a byte is refused.
 use mathlib.Core.List.{List, _++_}
 use mathlib.Core.Bool.{true, false, _&&_}
 use mathlib.Core.Path.{_≡_, refl, sym, ap, _∙_}

@@ -1,4 +1,4 @@
--- What stands in a table on the way of making a guide, and what of one was compared.
+-- The contents of a table while a guide is made, and the part of a guide that has been compared.
 use mathlib.Core.List.{List, _++_}
 use mathlib.Core.Bool.{Bool, true, false}
 use mathlib.Core.Path.{_≡_}

@@ -1,4 +1,4 @@
--- What docs/FORMAT.md, "Guides", says of find with a guide, as theorems over what the call promises.
+-- The statements of docs/FORMAT.md, "Guides", about find with a guide, as theorems over the contract of the call.
 use mathlib.Core.List.{List}
 use mathlib.Core.Path.{_≡_, sym, ap, _∙_}
 use mathlib.Core.Logic.{_⊎_, inl, inr}

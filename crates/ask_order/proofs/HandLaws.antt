@@ -1,4 +1,4 @@
--- The tree handed back, by the comparison's outcome.
+-- The tree that `first` returns, by the outcome of the comparison.
 use mathlib.Core.List.{List, []}
 use mathlib.Core.Bool.{Bool, true, false, cond}
 use mathlib.Core.Path.{_≡_, refl, sym, ap, _∙_}

@@ -1,4 +1,4 @@
--- Two trees read side by side: what is left to compare, place by place and run by run.
+-- Two trees read side by side: what remains to be compared, place by place and run by run.
 use mathlib.Core.List.{List}
 use mathlib.Core.Bool.{cond}
 use mathlib.Core.Path.{_≡_, refl, sym, _∙_}

@@ -1,4 +1,4 @@
--- The table: the first `room` of the places found stand at its start.
+-- The table: it starts with the first `room` of the places found.
 use mathlib.Core.List.{List, [], _∷_, _++_, append-assoc}
 use mathlib.Core.Path.{_≡_, sym, _∙_}
 use Prim.Native.Nat.{ℕ, suc, _+_, _≤_, _<_}

@@ -1,4 +1,4 @@
--- A pass over the text: which places are found where, and what is left at the end.
+-- A pass over the text: the places found so far, and the result at the end.
 use mathlib.Core.List.{List, [], _∷_, _++_, append-nil}
 use mathlib.Core.Bool.{Bool, true, false, cond}
 use mathlib.Core.Path.{_≡_, sym, ap, _∙_}

@@ -1,4 +1,4 @@
--- The places of a pattern: each of the questions, and what is then left in the table.
+-- The places of a pattern: each refusal, and the table afterwards.
 use mathlib.Core.List.{List, _++_}
 use mathlib.Core.Bool.{Bool, true, false, cond}
 use mathlib.Core.Path.{_≡_, refl, sym, ap, _∙_}

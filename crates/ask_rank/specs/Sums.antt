@@ -1,4 +1,4 @@
--- What is carried down the path of a count, and what is asked where it stands.
+-- The state of a count on its path, and the preconditions of its steps.
 use mathlib.Core.List.{List, [], _∷_}
 use mathlib.Core.Option.{Option, none, some}
 use Prim.Native.Nat.{ℕ, _+_, _*_, _≤_, _<_}

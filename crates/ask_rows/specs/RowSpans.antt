@@ -1,4 +1,4 @@
--- What settles a row, what its copying answers, and what its edges are.
+-- The condition that determines a row, the answer of copying it, and its bounds.
 use mathlib.Core.List.{List}
 use mathlib.Core.Bool.{Bool, cond}
 use mathlib.Core.Path.{_≡_}

@@ -1,4 +1,5 @@
--- What the answer of a find says: a place of the text, which is the j-th byte's where it is settled, or a refusal, which is 14 and only where it is free.
+-- The answer of a find: a place of the text, which is that of the j-th occurrence if the answer is determined; or a refusal, which is 14 and only occurs if
+-- the answer is free.
 use mathlib.Core.List.{List}
 use mathlib.Core.Path.{_≡_, sym, ap, _∙_}
 use mathlib.Core.Logic.{_⊎_, inl, inr}

@@ -1,4 +1,4 @@
--- What is asked and answered on the way to the j-th byte.
+-- The preconditions and results of the steps to the j-th occurrence.
 use mathlib.Core.List.{List}
 use mathlib.Core.Bool.{true, cond}
 use mathlib.Core.Path.{_≡_}

@@ -1,4 +1,4 @@
--- What the walk of a find says, and where its steps stop.
+-- The result of the walk of a find, and where its steps stop.
 use mathlib.Core.List.{List}
 use mathlib.Core.Bool.{cond}
 use mathlib.Core.Path.{_≡_}

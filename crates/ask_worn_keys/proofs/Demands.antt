@@ -1,5 +1,5 @@
--- What docs/FORMAT.md, "Keys", says of a worn key, as theorems over what the calls promise: `MatchAnswer` is the contract of `next_match`, `Moved` that
--- of `show`.
+-- The statements of docs/FORMAT.md, "Keys", about a worn key, as theorems over the contracts of the calls: `MatchAnswer` is the contract of `next_match`,
+-- `Moved` that of `show`.
 use mathlib.Core.List.{List}
 use mathlib.Core.Bool.{true, false, cond}
 use mathlib.Core.Path.{_≡_}

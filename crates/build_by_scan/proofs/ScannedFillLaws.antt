@@ -1,4 +1,4 @@
--- A level of the tree, as the items of a table: what a scan asks, and what it tells.
+-- A level of the tree as the items of a table: the preconditions of a scan, and its result.
 use mathlib.Core.List.{List}
 use mathlib.Core.Bool.{true}
 use mathlib.Core.Path.{_≡_, sym, ap, ap₂, _∙_, subst}

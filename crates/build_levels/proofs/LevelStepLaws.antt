@@ -1,4 +1,4 @@
--- From level to level: the next level is the tree's, and what was written so far stands.
+-- From level to level: the next level is that of the tree, and what was written before is unchanged.
 use mathlib.Core.List.{List}
 use mathlib.Core.Path.{_≡_, refl, sym, ap, _∙_}
 use mathlib.Core.Logic.{inl, inr}

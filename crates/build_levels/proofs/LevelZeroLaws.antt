@@ -1,4 +1,4 @@
--- Level 0: the tree's first level, and what is written before its records.
+-- Level 0: the first level of the tree, and the words written before its records.
 use mathlib.Core.List.{List}
 use mathlib.Core.Path.{_≡_, refl, sym, ap, _∙_, subst}
 use Prim.Native.Nat.{ℕ, _+_, _-_, _*_, _/_, _^_, _≤_, _<_}

@@ -1,4 +1,4 @@
--- The marking rule: what the searches say is what docs/FORMAT.md, "Blocks", asks of pairs.
+-- The marking rule: the results of the searches decide the conditions of docs/FORMAT.md, "Blocks", on pairs.
 use mathlib.Core.List.{List}
 use mathlib.Core.Bool.{Bool, true, false, cond, not, _&&_, _||_}
 use mathlib.Core.Path.{_≡_, refl, sym, ap, _∙_}

@@ -1,4 +1,4 @@
--- The marking rule, as the builder asks it: how each block and the next one stand.
+-- The marking rule as the builder decides it, for each block and the next one.
 use mathlib.Core.List.{List}
 use mathlib.Core.Bool.{Bool, true, false, cond}
 use mathlib.Core.Path.{_≡_}

@@ -1,4 +1,4 @@
--- What the search for the block that holds a place asks, and what it finds, over the starts that the records hold.
+-- The precondition and the result of the search for the block that contains a place, over the starts in the records.
 use mathlib.Core.List.{List}
 use mathlib.Core.Bool.{cond}
 use Prim.Native.Nat.{ℕ, _+_, _*_, _/_, _≤_, _<_}

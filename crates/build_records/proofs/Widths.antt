@@ -1,4 +1,4 @@
--- What a block has one level below, by the kind that its record says.
+-- The number of children or leaf bytes of a block, by the kind in its record.
 use mathlib.Core.List.{List}
 use mathlib.Core.Bool.{true, false}
 use mathlib.Core.Path.{_≡_, sym, _∙_}

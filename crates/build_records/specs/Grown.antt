@@ -1,4 +1,4 @@
--- A buffer that grows into a tree: every write puts down what the tree has at that place, so what is right stays right.
+-- A buffer that is filled with the bytes of a tree: every write stores what the tree has at that place, so bytes that are right stay right.
 use mathlib.Core.List.{List}
 use mathlib.Core.Path.{_≡_}
 use Prim.Native.Nat.{ℕ, _≤_, _<_}

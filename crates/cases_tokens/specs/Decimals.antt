@@ -1,4 +1,4 @@
--- The number that a token says in decimal.
+-- The number that a token represents in decimal.
 use mathlib.Core.List.{List, [], _∷_}
 use mathlib.Core.Bool.{Bool, true, false, cond}
 use Prim.Native.Nat.{ℕ, _+_, _-_, _*_}

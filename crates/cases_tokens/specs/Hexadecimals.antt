@@ -1,4 +1,4 @@
--- The bytes that a token says in hexadecimal.
+-- The bytes that a token represents in hexadecimal.
 use mathlib.Core.List.{List, [], _∷_}
 use mathlib.Core.Bool.{Bool, cond}
 use Prim.Native.Nat.{ℕ, _+_, _-_, _*_, _/_, _%_}

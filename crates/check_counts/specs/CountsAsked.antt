@@ -1,4 +1,4 @@
--- What the check of counts asks where it looks at a block: questions 5 to 8 are passed, and what it looks at is in its table.
+-- The preconditions of the check of counts at a block: the tree passes questions 5 to 8, and the block is in its table.
 use mathlib.Core.List.{List}
 use mathlib.Core.Bool.{true}
 use mathlib.Core.Path.{_≡_}

@@ -1,4 +1,4 @@
--- Where a block hands a place to, and what that adds and takes off, as the code's struct.
+-- The block that a place of a block refers to, and what is added and subtracted on the way, as the struct of the code.
 use mathlib.Core.List.{List}
 use mathlib.Core.Bool.{cond}
 use Prim.Native.Nat.{ℕ, _+_, _-_, _*_, _/_, _%_, _^_}

@@ -1,4 +1,4 @@
--- What is asked where edges are checked, and what the test of one edge says.
+-- The preconditions of the check of edges, and the result of testing one edge.
 use mathlib.Core.List.{List}
 use mathlib.Core.Bool.{Bool, true, false, _&&_}
 use mathlib.Core.Path.{_≡_}

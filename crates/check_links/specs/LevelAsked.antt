@@ -1,4 +1,4 @@
--- What is asked of a level as its blocks are checked against it.
+-- The preconditions on a level whose blocks are checked.
 use mathlib.Core.List.{List}
 use mathlib.Core.Bool.{Bool, cond, _&&_}
 use mathlib.Core.Path.{_≡_}

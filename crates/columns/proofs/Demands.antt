@@ -1,4 +1,4 @@
--- The demands on the rearrangement and its inverse, as theorems over what the two calls promise, for any arguments and any lent bytes.
+-- The demands on the rearrangement and its inverse, as theorems over the contracts of the two calls, for any arguments.
 -- docs/FORMAT.md: "Columns before rows".
 use mathlib.Core.List.{List, [], _++_}
 use mathlib.Core.Bool.{true, false, cond}

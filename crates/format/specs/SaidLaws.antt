@@ -1,4 +1,4 @@
--- Laws of answers: a number that is not 0 is the answer.
+-- Laws of answers: a refusal that is not 0 is the answer.
 use mathlib.Core.Bool.{cond}
 use mathlib.Core.Path.{_≡_, refl}
 use Prim.Native.Nat.{ℕ, zero, suc}

@@ -1,5 +1,5 @@
--- The worked book and the marked cases of docs/FORMAT.md, "Example", two more texts and the empty one, computed from the definitions; trees are of layout 2
--- where nothing else is said.
+-- The worked book and the marked cases of docs/FORMAT.md, "Example", two more texts and the empty one, computed from the definitions. Trees have layout 2
+-- unless stated otherwise.
 use mathlib.Core.Bool.{true, false}
 use mathlib.Core.List.{List, [], _∷_, _++_}
 use mathlib.Core.Option.{some}

@@ -1,4 +1,4 @@
--- Tests and cases, as the code's answers state them.
+-- Tests and cases, as in the answers of the code.
 use mathlib.Core.Bool.{Bool, true, false, not}
 use mathlib.Core.Path.{_≡_, sym, _∙_}
 use borrow.Author.Tests.{not-true, not-false}

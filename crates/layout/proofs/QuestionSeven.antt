@@ -1,4 +1,4 @@
--- How the tests of question 7, asked one by one, make the whole.
+-- The tests of the code, taken together, decide question 7.
 use mathlib.Core.List.{List}
 use mathlib.Core.Bool.{Bool, true, false, cond, _&&_}
 use mathlib.Core.Path.{_≡_, refl, sym, _∙_}

@@ -1,4 +1,4 @@
--- What reading a header answers, and the parts of question 7 as the code asks them.
+-- The result of reading a header, and the parts of question 7 as the code tests them.
 use mathlib.Core.List.{List}
 use mathlib.Core.Bool.{Bool, cond, _&&_}
 use mathlib.Core.Path.{_≡_}

@@ -1,4 +1,4 @@
--- What reading a header gives: the header of a tree that passes questions 5 to 7, or the number that every question answers.
+-- The result of reading a header: the header of a tree that passes questions 5 to 7, or the refusal that every call returns.
 use mathlib.Core.List.{List}
 use mathlib.Core.Bool.{Bool, true, false}
 use mathlib.Core.Path.{_≡_, refl, sym, ap, _∙_}

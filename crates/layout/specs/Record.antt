@@ -1,4 +1,4 @@
--- What is asked where a field of a record is read: that the lent bytes hold its four.
+-- The precondition of reading a field of a record: the slice has its four bytes.
 use mathlib.Core.List.{List}
 use mathlib.Core.Path.{_≡_, _∙_}
 use Prim.Native.Nat.{ℕ, _+_, _*_, _≤_, _<_}

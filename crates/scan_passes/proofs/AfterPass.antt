@@ -1,4 +1,4 @@
--- What the table says once the pass is over.
+-- The results in the table after the pass.
 use mathlib.Core.List.{List}
 use mathlib.Core.Path.{_≡_, sym, ap, _∙_, subst}
 use mathlib.Core.Logic.{_⊎_, inl, inr}

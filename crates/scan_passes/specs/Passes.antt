@@ -1,4 +1,4 @@
--- One pass over the text for a level: what stands in the table before, on the way and afterwards.
+-- One pass over the text for a level: the contents of the table before, during and after it.
 use mathlib.Core.List.{List}
 use mathlib.Core.Bool.{cond}
 use mathlib.Core.Path.{_≡_}

@@ -1,4 +1,4 @@
--- The first occurrence of a byte in n bytes, and the number whose binary digits say which of the bytes are equal to it.
+-- The first occurrence of a byte in n bytes, and the number whose binary digits show which of the bytes are equal to it.
 use mathlib.Core.List.{List}
 use mathlib.Core.Bool.{cond}
 use mathlib.Core.Path.{_≡_}

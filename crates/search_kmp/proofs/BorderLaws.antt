@@ -1,4 +1,4 @@
--- The laws of borders: how the longest match goes on with one byte more.
+-- The laws of borders: how one more byte continues the longest match.
 use mathlib.Core.List.{List}
 use mathlib.Core.Bool.{true, false, _&&_}
 use mathlib.Core.Path.{_≡_, refl, sym, ap, _∙_}

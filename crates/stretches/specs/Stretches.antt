@@ -1,4 +1,4 @@
--- What is answered where a byte is looked for in a stretch of lent bytes, and what is left where bytes are copied.
+-- The result of looking for a byte in a range of bytes, and the contents of a buffer after bytes are copied.
 use mathlib.Core.List.{List}
 use mathlib.Core.Path.{_≡_}
 use Prim.Native.Nat.{ℕ, zero, suc, _+_, _≤_, _<_}

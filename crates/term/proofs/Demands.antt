@@ -1,5 +1,5 @@
--- Request 112, as theorems over what the calls promise, for any lent bytes. The calendar's own laws: the day after a day has the next number
--- (`next-number`) and is a day (`next-date`), the order of dates is the order of their numbers (`in-order`), a number is one day's (`one-day`).
+-- Request 112, as theorems over the contracts of the calls, for any bytes. The laws of the calendar: the day after a day has the next number (`next-number`)
+-- and is a day (`next-date`), the order of dates is the order of their numbers (`in-order`), and no two days have one number (`one-day`).
 -- docs/FORMAT.md: "The term of a licence".
 use mathlib.Core.List.{List, [], _∷_}
 use mathlib.Core.Bool.{Bool, true, false, cond, not, _&&_}

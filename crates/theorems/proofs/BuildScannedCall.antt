@@ -1,6 +1,6 @@
--- build_scanned(text, leaf, arity, levels, counted, words, out): the block tree of a text, by one scan of it for each level, in a lent table of words;
--- scan_words(n, leaf) answers how many words that table must have. What it writes is what build writes, so that demand 2 and the end of demand 3 hold of
--- it by build's own theorems; the windows that it reports; the numbers it refuses with, the lent table and the lent buffer.
+-- build_scanned(text, leaf, arity, levels, counted, words, out): the block tree of a text by one scan for each level, with the caller's table of words;
+-- scan_words(n, leaf) returns the number of words of that table. It writes what build writes, so demand 2 and the end of demand 3 follow from the theorems on
+-- build. Besides: the number of windows that it returns, its refusals, the table and the buffer afterwards.
 use mathlib.Core.List.{List, [], _∷_}
 use mathlib.Core.Bool.{true}
 use mathlib.Core.Path.{_≡_, sym, ap, _∙_, refl}

@@ -1,4 +1,4 @@
--- check(tree): 0 for a tree that stands for exactly one text and whose counts and edges are true of it. Demand 3, but for its last part, on what the
+-- check(tree): 0 for a tree that represents exactly one text and whose counts and edges are right for it. Demand 3, except for its last part, on what the
 -- builders write, which is in `BuildCall` and `BuildScannedCall`.
 use mathlib.Core.List.{List, [], _∷_}
 use mathlib.Core.Bool.{true}

@@ -1,5 +1,5 @@
--- Request 111, of answers: how far the correction of one byte reaches into what count and find answer, from any two accepted trees that the two texts
--- fit, whoever built them.
+-- Request 111, for answers: how far the correction of one byte changes what count and find return, for any two accepted trees that the two texts fit, whoever
+-- built them.
 use mathlib.Core.List.{List}
 use mathlib.Core.Bool.{true}
 use mathlib.Core.Path.{_≡_, sym, ap, _∙_}

@@ -1,4 +1,4 @@
--- find(tree, byte, j): where a counted byte stands the j-th time, with the blocks entered.
+-- find(tree, byte, j): the place of the j-th occurrence of a counted byte, with the number of blocks entered.
 use mathlib.Core.List.{List, [], _∷_}
 use mathlib.Core.Bool.{true, false, _&&_}
 use mathlib.Core.Path.{_≡_, ap, refl}

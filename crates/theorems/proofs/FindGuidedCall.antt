@@ -1,5 +1,4 @@
--- find_guided(tree, guide, byte, j): find, from an entry of a guide on; it also answers its steps on level 0. What else holds of it stands in
--- the `Demands` of its crate.
+-- find_guided(tree, guide, byte, j): find from an entry of a guide on; it also returns its steps on level 0. `Demands` of its crate has the other theorems.
 use mathlib.Core.List.{[], _∷_}
 use mathlib.Core.Path.{_≡_, sym, ap, refl}
 use Prim.Native.Nat.{ℕ, _≤_, _<_}

@@ -1,4 +1,4 @@
--- How find ends, with a guide or without, for any bytes lent as a tree and as a guide.
+-- The outcomes of find, with or without a guide, for any bytes given as a tree and as a guide.
 use mathlib.Core.List.{List, [], _∷_, _++_}
 use mathlib.Core.Bool.{_&&_}
 use mathlib.Core.Path.{_≡_, ap}

@@ -1,5 +1,5 @@
--- guide_words(tree), make_guide(tree, table) and check_guide(tree, guide): a guide to the level 0 blocks, kept beside the tree: how many words it has; made;
--- checked. What else holds of them stands in the `Demands` of their crate.
+-- guide_words(tree), make_guide(tree, table) and check_guide(tree, guide): the size of a guide to the level 0 blocks; make one; check one. `Demands` of their
+-- crate has the other theorems.
 use mathlib.Core.List.{[], _∷_}
 use mathlib.Core.Path.{_≡_, ap, _∙_, refl}
 use Prim.Native.Nat.{ℕ}

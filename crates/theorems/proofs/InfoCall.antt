@@ -1,4 +1,4 @@
--- info(tree, figures): the figures of a tree, and version(): the library's version. What they answer stands in the `Demands` of their crate.
+-- info(tree, figures): the figures of a tree, and version(): the version of the library. `Demands` of their crate has the theorems on what they return.
 use mathlib.Core.List.{[], _∷_}
 use mathlib.Core.Path.{refl}
 use Prim.Native.Nat.{ℕ}

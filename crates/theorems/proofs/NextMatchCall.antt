@@ -1,5 +1,5 @@
--- next_match(tree, ranges, mark): the next row after a mark whose cuts are each in their range; show(mark, tree, ranges) moves a lent mark by it. What
--- holds of the mark stands in the `Demands` of their crate.
+-- next_match(tree, ranges, mark): the next row after a mark whose cuts are each in their range; show(mark, tree, ranges) moves the caller's mark. `Demands`
+-- of their crate has the theorems on the mark.
 use mathlib.Core.List.{List, [], _∷_}
 use mathlib.Core.Bool.{true}
 use mathlib.Core.Path.{_≡_, refl}

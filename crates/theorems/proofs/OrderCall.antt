@@ -1,5 +1,6 @@
--- compare(one, other) and first(one, other, number, order, shared): the order of two trees' texts and the length of their shared beginning; `first` hands
--- back the tree that stands first. Of any lent bytes, and of two trees that the check accepts, whoever made them, with the texts that fit them.
+-- compare(one, other) and first(one, other, number, order, shared): the lexicographic order of two trees' texts and the length of their longest common
+-- prefix; `first` returns the tree that comes first. For any bytes, and for two trees that the check accepts, whoever made them, with the texts that fit
+-- them.
 use mathlib.Core.List.{List, [], _∷_}
 use mathlib.Core.Bool.{Bool, true, false, cond}
 use mathlib.Core.Path.{_≡_, sym, ap, _∙_, refl}

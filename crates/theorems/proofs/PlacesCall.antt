@@ -1,4 +1,4 @@
--- places(tree, pattern, table): all places of a pattern, written to a lent table of words.
+-- places(tree, pattern, table): all places of a pattern, written to the caller's table of words.
 use mathlib.Core.List.{List, [], _∷_, _++_}
 use mathlib.Core.Option.{some}
 use mathlib.Core.Bool.{true, _&&_}

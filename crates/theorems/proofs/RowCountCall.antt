@@ -1,4 +1,4 @@
--- row_count(tree): how many rows there are. What it answers stands in the `Demands` of its crate.
+-- row_count(tree): the number of rows. `Demands` of its crate has the theorems on what it returns.
 use mathlib.Core.List.{List, [], _∷_}
 use mathlib.Core.Bool.{Bool, true, false, cond}
 use mathlib.Core.Path.{_≡_, ap, _∙_, refl}

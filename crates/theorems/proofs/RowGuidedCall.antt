@@ -1,4 +1,4 @@
--- row_guided(tree, guide, q, buffer): row, by finds that start at an entry of a guide. What else holds of it stands in the `Demands` of its crate.
+-- row_guided(tree, guide, q, buffer): row by finds that start at an entry of a guide. `Demands` of its crate has the other theorems.
 use mathlib.Core.List.{[], _∷_, _++_}
 use mathlib.Core.Path.{_≡_, refl}
 use mathlib.Core.Logic.{_⊎_}

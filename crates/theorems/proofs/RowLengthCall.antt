@@ -1,4 +1,4 @@
--- row_length(tree, q): how many bytes a row has. What it answers stands in the `Demands` of its crate.
+-- row_length(tree, q): the number of bytes of a row. `Demands` of its crate has the theorems on what it returns.
 use mathlib.Core.List.{[], _∷_}
 use mathlib.Core.Path.{_≡_, refl}
 use mathlib.Core.Logic.{_⊎_, inl, inr}

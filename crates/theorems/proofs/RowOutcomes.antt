@@ -1,4 +1,4 @@
--- How row ends, with a guide or without, for any bytes lent as a tree and as a guide, and what it leaves in the buffer.
+-- The outcomes of row, with or without a guide, for any bytes given as a tree and as a guide, and the buffer afterwards.
 use mathlib.Core.List.{List, [], _∷_, _++_}
 use mathlib.Core.Option.{Option, some, none}
 use mathlib.Core.Bool.{Bool, true, false, not}

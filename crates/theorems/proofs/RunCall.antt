@@ -1,4 +1,4 @@
--- run(tree, place): a part of the lent tree that stands in the text from a place on; run_part answers where it lies.
+-- run(tree, place): a part of the tree that is the text from a place on; run_part returns where it is.
 use mathlib.Core.List.{[], _∷_}
 use mathlib.Core.Path.{_≡_, sym, ap, refl}
 use Prim.Native.Nat.{ℕ, _+_, _≤_}

@@ -1,4 +1,4 @@
--- Which trees the check accepts, which text they stand for, and that the built tree is one of them.
+-- The trees that the check accepts, the text that each represents, and that the built tree is one of them.
 use mathlib.Core.List.{List}
 use mathlib.Core.Bool.{true}
 use mathlib.Core.Path.{_≡_, sym}

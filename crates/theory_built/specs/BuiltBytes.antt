@@ -1,4 +1,4 @@
--- The bytes of the built tree, one by one: which word's bytes stand where.
+-- The bytes of the built tree, one by one: which word each belongs to.
 use mathlib.Core.List.{List, [], _∷_, _++_}
 use mathlib.Core.Path.{_≡_, refl, ap, _∙_}
 use Prim.Native.Nat.{ℕ, zero, suc, _+_, _*_, _<_}

@@ -1,4 +1,4 @@
--- The words and the edges of a record of the built tree, one by one, and where each byte of it stands among the bytes of all records.
+-- The words and the edges of a record of the built tree, one by one, and the place of each of its bytes among those of all records.
 use mathlib.Core.List.{List, _++_, map}
 use mathlib.Core.Bool.{Bool, true, false, cond}
 use mathlib.Core.Path.{_≡_, refl, sym, ap, _∙_}

@@ -1,4 +1,4 @@
--- Where a first occurrence stands on one level: inside kept blocks, if the blocks of the level hold it.
+-- Where a first occurrence is on one level: inside kept blocks, if the blocks of the level cover it.
 use Prim.Native.Nat.{ℕ, zero, suc, _+_, _-_, _≤_, _<_, min}
 use mathlib.Core.Path.{_≡_, refl, sym, ap, _∙_, subst}
 use mathlib.Core.Logic.{_⊎_, inl, inr}

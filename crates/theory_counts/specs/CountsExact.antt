@@ -1,4 +1,4 @@
--- The check of counts is exact: the local equations of every level hold exactly where the counts are true of the tree's text.
+-- The check of counts is exact: the local equations of every level hold exactly if the counts are right for the tree's text.
 use mathlib.Core.List.{List}
 use mathlib.Core.Bool.{Bool, true, false, cond}
 use mathlib.Core.Path.{_≡_, refl, sym, _∙_}

@@ -1,4 +1,4 @@
--- That a level's counts are true of the tree's text, as plain facts.
+-- The counts of a level are right for the tree's text, as plain facts.
 use mathlib.Core.List.{List, [], _∷_}
 use mathlib.Core.Bool.{Bool, true, cond, _&&_}
 use mathlib.Core.Path.{_≡_}

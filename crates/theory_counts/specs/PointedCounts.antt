@@ -1,4 +1,4 @@
--- Counts in a pointing block, and in the kept blocks that it hands its places to.
+-- Counts in a pointing block, and in the kept blocks that it points to.
 use mathlib.Core.List.{List}
 use mathlib.Core.Bool.{true, false, cond}
 use mathlib.Core.Path.{_≡_, refl, ap, _∙_}

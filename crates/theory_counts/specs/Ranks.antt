@@ -1,4 +1,4 @@
--- Count (rank) on an accepted tree: what is added down the path, less what is taken off, is the text's count.
+-- Count (rank) on an accepted tree: the sum of what is added along the path, minus what is subtracted, is the count of the text.
 use mathlib.Core.List.{List, [], _∷_}
 use mathlib.Core.Option.{some}
 use mathlib.Core.Bool.{Bool, true, false, cond}

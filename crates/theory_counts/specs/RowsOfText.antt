@@ -1,4 +1,4 @@
--- The rows of an accepted tree are those of its text: which numbers row answers before it walks.
+-- The rows of an accepted tree are those of its text: the refusals of row before its walk.
 use mathlib.Core.List.{List}
 use mathlib.Core.Bool.{Bool, true, false, cond, _&&_}
 use mathlib.Core.Path.{_≡_, sym, ap, _∙_}

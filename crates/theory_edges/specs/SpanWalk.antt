@@ -1,5 +1,5 @@
--- In a layout 2 tree that passes questions 5 to 8, a short span's walk gives the bytes of the text that fits, where the edges that it reads are
--- true: those of the levels below the block asked, and where that one points those of the kept blocks of its level.
+-- In a layout 2 tree that passes questions 5 to 8, the walk of a short span reads the bytes of the text that fits, if the edges that it reads are right:
+-- those of the levels below the first block, and, if that block points, those of the kept blocks of its level.
 use mathlib.Core.List.{List, [], _∷_, _++_}
 use mathlib.Core.Option.{Option, some}
 use mathlib.Core.Bool.{true, false}

@@ -1,4 +1,4 @@
--- That the edges of a layout 2 tree are true of a text that fits it, as plain facts on bytes.
+-- The edges of a layout 2 tree are right for a text that fits it, as plain facts on bytes.
 use mathlib.Core.List.{List}
 use mathlib.Core.Bool.{Bool, true, not}
 use mathlib.Core.Path.{_≡_, sym, ap, _∙_}

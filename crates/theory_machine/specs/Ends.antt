@@ -1,5 +1,5 @@
--- What a proved contract says of the machine: that a call ends, from which memories, and what becomes of the rest of the memory. It is the logic's
--- adequacy theorem at its closed model, so that nothing is left to be assumed: the machine is the one that gives the code its meaning.
+-- What a proved contract means on the machine: a call terminates from which memories, and what happens to the rest of the memory. It is the adequacy theorem
+-- of the logic for its closed model, so there are no assumptions left: the machine is the one that gives the code its meaning.
 use mathlib.Core.Path.{_≡_}
 use mathlib.Core.Option.{some}
 use mathlib.Core.Logic.{∥∥₁-prop, ∥∥₁-elim, ∥∥₁-map}

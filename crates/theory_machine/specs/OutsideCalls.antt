@@ -1,4 +1,4 @@
--- What is shown of every outside call, whatever it returns: it terminates, it touches only the memory it was lent, and it has no precondition.
+-- What is proved of every public call, whatever it returns: it terminates, it accesses only the memory that it was given, and it has no precondition.
 -- docs/FORMAT.md: "What is promised".
 use mathlib.Core.List.{List, [], _∷_}
 use mathlib.Core.Path.{_≡_}

@@ -1,4 +1,4 @@
--- Where the blocks of a tree that passes questions 5 to 8 stand in the text: parents, children, starts and lengths.
+-- Where the blocks of a tree that passes questions 5 to 8 are in the text: parents, children, starts and lengths.
 use mathlib.Core.List.{List}
 use mathlib.Core.Bool.{true, false}
 use mathlib.Core.Path.{_≡_, _∙_}

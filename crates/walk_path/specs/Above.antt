@@ -1,4 +1,4 @@
--- A path without its last step: the blocks entered above the last level, and where on the last level it arrives.
+-- A path without its last step: the blocks entered above the last level, and where it reaches the last level.
 -- docs/FORMAT.md: "The path of a place".
 use mathlib.Core.List.{List, [], _++_}
 use mathlib.Core.Option.{Option, none, some}

@@ -1,4 +1,4 @@
--- What a walk down a path gives, and what is asked where it stands.
+-- The result of a walk down a path, and the preconditions of its steps.
 use mathlib.Core.List.{List}
 use mathlib.Core.Option.{Option, none, some}
 use mathlib.Core.Bool.{true, cond, _&&_}

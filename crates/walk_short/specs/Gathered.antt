@@ -1,4 +1,4 @@
--- What the walk of a short span answers, and what is asked where it stands.
+-- The result of the walk of a short span, and the preconditions of its steps.
 use mathlib.Core.List.{List}
 use mathlib.Core.Option.{Option, none, some}
 use mathlib.Core.Bool.{cond}

@@ -1,4 +1,4 @@
--- What the steps of a path ask, from a tree's header.
+-- The preconditions of the steps of a path, from the header of a tree.
 use mathlib.Core.List.{List}
 use mathlib.Core.Path.{_≡_, refl, sym, ap, _∙_}
 use Prim.Native.Nat.{ℕ, _+_, _*_, _/_, _≤_, _<_}

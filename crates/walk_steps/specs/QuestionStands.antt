@@ -1,4 +1,4 @@
--- Where a question stands, in a tree by its header.
+-- The state of a walk in a tree, by its header.
 use mathlib.Core.List.{List}
 use mathlib.Core.Bool.{true}
 use mathlib.Core.Path.{_≡_}

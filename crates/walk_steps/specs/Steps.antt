@@ -1,4 +1,4 @@
--- What a step of a path gives, and what is asked where it is made.
+-- The result of a step of a path, and its preconditions.
 use mathlib.Core.List.{List}
 use mathlib.Core.Bool.{Bool, true, cond, _&&_}
 use mathlib.Core.Path.{_≡_}
