@@ -34,7 +34,7 @@ pub record Skips (P t : List ℕ) (from s k : ℕ) : Type 0 where
   pub idle : 0 < s → k ≡ 0
   pub others : Without t from k (getD P 0 0)
 
--- the first `room` of the numbers stand at the table's start
+-- The table starts with the first `room` of the numbers.
 unfoldable pub filled : List ℕ → ℕ → List ℕ → List ℕ
 filled ps room before = take room ps ++ drop (length (take room ps)) before
 

@@ -17,7 +17,7 @@ use Prim.Native.Nat.{ℕ, _-_, _/_, _%_, _≤_}
 use lib.Dec.{eqb, leb}
 use Rattle.format.specs.Said.{Said, refused}
 
--- one more block entered, so much more added and taken off
+-- The state after one more block, with more added and subtracted.
 unfoldable pub onward : Sum → ℕ → ℕ → Sum
 onward s plus minus = record { entered = s .entered + 1; plus = s .plus + plus; minus = s .minus + minus }
 
@@ -64,6 +64,6 @@ unfoldable pub settled : Summed → Said
 settled Broken = refused 14
 settled (At s) = cond (leb (s .minus) (s .plus)) (record { number = 0; value = s .plus - s .minus; entered = s .entered }) (refused 14)
 
--- what a count's word says: how often, and 2^48 times the blocks entered; all ones where the path breaks or the count is below zero
+-- The answer that the word of a count represents: the count + 2^48 × the blocks entered; all ones if the path breaks or the count is negative.
 unfoldable pub saidIn : ℕ → Said
 saidIn w = cond (eqb w 18446744073709551615) (refused 14) (record { number = 0; value = w % 281474976710656; entered = w / 281474976710656 })

@@ -21,7 +21,7 @@ use Rattle.ask_rows.specs.RowAnswers.{Numbered, saidRow}
 unfoldable pub settledBy : List ℕ → List ℕ → Bool → ℕ
 settledBy t guide guided = cond guided (guideNumber t guide) (verdict t)
 
--- what the copying of a row answers, with room for so many bytes: what their paths give
+-- The answer of copying a row into a buffer of `room` bytes: what the paths of its places give.
 pub record CopyAnswer (t : List ℕ) (p len room : ℕ) (r : RowCopied) : Type 0 where
   pub says : saidRow r ≡ copySays t p len room
   pub numbered : Numbered r

@@ -116,7 +116,8 @@ module _ (t : List ℕ) where
     pub few : j ≤ (blocks + 1) * 4294967295
     pub near : way ≤ (blocks + 64) * 562949953421312
 
-  -- on an accepted tree the j-th byte of block i is at a place of the block, and its path from there enters so many blocks: both are added to the way
+  -- On an accepted tree the j-th occurrence in block i is at a place of the block, and the path from the block to it enters some blocks: both are added to
+  -- the way.
   pub record Landed (v : verdict t ≡ 0) (c : ℕ) (hc : c < at.countedCount t) (level i j way r : ℕ) : Type 0 where
     pub place : ℕ
     pub entered : ℕ

@@ -6,7 +6,7 @@ use lib.Dec.{eqb}
 use Rattle.format.specs.Words.{wordAt}
 use Rattle.stretches.specs.Stretches.{bytesWritten}
 
--- an edge of m bytes at a place: so many bytes of T, then zeros
+-- An edge of m bytes at a place: some bytes of T, then zeros.
 abbrev pub edgeWritten : List ℕ → ℕ → List ℕ → ℕ → ℕ → ℕ → List ℕ
 edgeWritten t at T from own m = bytesWritten (bytesWritten t at T from own) (at + own) [] 0 (m - own)
 

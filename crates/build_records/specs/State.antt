@@ -18,7 +18,7 @@ use Rattle.build_records.specs.declared.level_written.Stretch.{Stretch}
 use Rattle.build_records.specs.declared.record_written.Block.{Block}
 use Rattle.build_records.specs.Grown.{Within}
 
--- the settings that the code holds, with the counted bytes that it was lent
+-- The settings in the code, with the caller's counted bytes.
 abbrev pub settingsOf : code.Settings → List ℕ → Settings
 settingsOf s cs = record { leaf = s .leaf; arity = s .arity; levels = s .levels; counted = cs }
 
@@ -35,7 +35,7 @@ module _ (S : Settings) (T : List ℕ) where
     pub count-is : level .count ≡ count S T (level .number)
     pub table-is : level .table ≡ offset S T (level .number)
 
-  -- where the record of block i of level l stands
+  -- The offset of the record of block i of level l.
   abbrev pub placeAt : ℕ → ℕ → ℕ
   placeAt l i = offset S T l + i * recordBytes S
 
@@ -75,7 +75,7 @@ module _ (S : Settings) (T : List ℕ) where
     pub filled : Filled out (level .number) i
     pub block-in : i < level .count
 
-  -- the starts of blocks a to b of level l stand in the buffer
+  -- The buffer has the starts of blocks a to b of level l.
   pub record Started (out : List ℕ) (l a b : ℕ) : Type 0 where
     pub starts : (x : ℕ) → a ≤ x → x < b → Within (treeOf S T) out (placeAt l x) (placeAt l x + 4)
 

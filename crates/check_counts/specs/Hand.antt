@@ -9,7 +9,7 @@ use Rattle.layout.specs.declared.header.Header.{Header}
 use Rattle.check_counts.specs.declared.prefix.Hand.{Hand}
 
 module _ (t : List ℕ) where
-  -- what i adds and takes off as it hands on place o
+  -- What block i adds and subtracts when place o refers to another block.
   unfoldable pub handOf : ℕ → ℕ → ℕ → ℕ → Hand
   handOf l i o c = record {
     block = record { 0 = handBlock t l i o };

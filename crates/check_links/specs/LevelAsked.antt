@@ -30,7 +30,7 @@ pub record LevelOf (t : List ℕ) (v : Level) : Type 0 where
   pub part-is : v .part ≡ partLength t (v .number)
   pub room-is : v .room ≡ roomBelow t (v .number)
 
--- Parts of question 8, as the code asks them.
+-- Parts of question 8, as the code tests them.
 module _ (t : List ℕ) where
   -- block i of level 0 starts where the text is cut
   abbrev pub startAsCut : ℕ → Bool

@@ -9,7 +9,6 @@ use Rattle.format.specs.Settings.{Settings, lengthOk, sizesOk, countedOk
 use Rattle.format.specs.Blocks.{treeOf}
 use Rattle.format.specs.Verdict.{ask}
 
--- Build: questions 1 to 4, the size, and the lent buffer afterwards
 module _ (S : Settings) (T out : List ℕ) where
   -- The refusal: questions 1 to 4 in order; 0 if all pass.
   unfoldable pub buildNumber : ℕ

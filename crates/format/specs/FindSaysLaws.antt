@@ -13,7 +13,7 @@ use Rattle.format.specs.SaidLaws.{unless-passes, then-is}
 use Rattle.format.specs.CountSays.{isCounted, numberOfByte}
 use Rattle.format.specs.FindSays.{total, selectNumber}
 
--- find and row walk exactly where the byte is counted and so many stand in the tree
+-- Find and row walk exactly if the byte is counted and its total is at least j.
 pub record Selected (t : List ℕ) (byte j : ℕ) : Type 0 where
   pub pass : readable t ≡ 0
   pub counted : isCounted t byte ≡ true

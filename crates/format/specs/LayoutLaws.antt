@@ -38,7 +38,7 @@ pub record Readable (t : List ℕ) : Type 0 where
   pub leaf-at : leafOffset t ≡ headerLength + sumBelow (settings t .levels) (levelCount t) * recordSize t
   pub size : length t ≡ leafOffset t + leafCount t
 
--- a number that is asked first passes only if its test holds
+-- A question that is checked first passes only if its test holds.
 pub ask-test : (q : ℕ) (b : Bool) (rest : ℕ) → ask (suc q) b rest ≡ 0 → b ≡ true
 ask-test q true rest h = refl
 ask-test q false rest h = absurd (let z : ⊥ = omega arith in z)
@@ -155,7 +155,7 @@ module _ (t : List ℕ) (k : Readable t) where
   pub full-small : (l : ℕ) → fullLength t l ≤ maxText
   full-small l = le-trans (full-falls 0 l (omega arith)) (k .full-high)
 
-  -- Where things stand in the tree's bytes.
+  -- Offsets in the bytes of the tree.
 
   pub size-low : fieldBytes (countedCount t) ≤ recordSize t
   unfolding recordSize

@@ -7,11 +7,11 @@ use borrow.Author.Tests.{ne-eqb}
 use lib.Dec.{eqb}
 use Rattle.format.specs.Said.{Said, refused, unless}
 
--- a refusal is handed on
+-- A refusal is passed on.
 pub unless-refused : (n k q : ℕ) (a : Said) → n ≡ suc k → q ≡ suc k → refused q ≡ unless n a
 unless-refused n k q a e f = rw (e, f)
 
--- what is no refusal was asked everything
+-- An answer that is not a refusal passed all questions.
 pub unless-passes : (n : ℕ) (a : Said) → unless n a .number ≡ 0 → (n ≡ 0) × (a .number ≡ 0)
 unless-passes zero a h = (refl, h)
 unless-passes (suc n) a h = absurd (let z : ⊥ = omega arith in z)

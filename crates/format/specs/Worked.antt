@@ -193,7 +193,7 @@ marked = record {
   blocks-too-large = (refl, refl, refl);
 }
 
--- a header with n 0 and the settings `two`: so many blocks on level 0 and on level 1, and leaf bytes from `leaf` on; what follows it
+-- A header with n 0 and the settings `two`, with given block counts of levels 0 and 1, and leaf bytes from `leaf` on; then the rest.
 laid-out : ℕ → ℕ → ℕ → ℕ → List ℕ → List ℕ
 laid-out first second leaf leaves rest =
     wordsBytes (1 ∷ 0 ∷ 2 ∷ 2 ∷ 2 ∷ 1 ∷ 65 ∷ first ∷ 100 ∷ second ∷ 100 ∷ []) ++ replicate 48 0 ++ wordsBytes (leaf ∷ leaves ∷ []) ++ rest

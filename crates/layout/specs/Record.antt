@@ -62,7 +62,7 @@ module _ (t u : List ℕ) (header : (k : ℕ) → k < headerLength → getD t k 
     unfolding field
     field-agree same = wordAt-agree t u place same ∙ rw (same-offset level (h .level-low), same-size)
 
--- what is asked where the place of edges is
+-- The precondition of computing the offset of edges.
 pub record EdgesIn (t : List ℕ) (size counted level : ℕ) : Type 0 where
   pub header : headerLength ≤ length t
   pub level-low : level < maxLevels

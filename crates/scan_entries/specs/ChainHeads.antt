@@ -13,7 +13,7 @@ linkOf w = w / 256
 unfoldable pub markOf : ℕ → ℕ → ℕ
 markOf w j = w / 2 ^ j % 2
 
--- the chain of a fingerprint, of so many
+-- The chain of a fingerprint, among `heads` chains.
 unfoldable pub bucketOf : ℕ → ℕ → ℕ
 bucketOf heads h = h * heads / 2147483648
 

@@ -25,7 +25,7 @@ placeIn W x = getD W (3 * x + 2) 0
 unfoldable pub headIn : ℕ → List ℕ → ℕ → ℕ
 headIn items W g = getD W (3 * items + g) 0
 
--- Item 2 i is block i, item 2 i + 1 the pair of blocks i and i + 1. Starts stand in the records of the buffer `out`.
+-- Item 2 i is block i, item 2 i + 1 the pair of blocks i and i + 1. The starts are in the records of the buffer `out`.
 module _ (T out : List ℕ) (it : Items) where
   unfoldable pub startAt : ℕ → ℕ
   startAt x = wordAt out (it .records + x / 2 * it .step)

@@ -22,7 +22,7 @@ notedBy l size n =
     (cond (eqb n (size + size)) (record { block = l .block; pair = n; last = l .last; ending = l .ending })
     (record { block = l .block; pair = l .pair; last = l .last; ending = n }))))
 
--- a length stands in its place
+-- A length is one of the four that are noted.
 pub record Among (size : ℕ) (l : Lengths) (n : ℕ) : Type 0 where
   pub short : n < size → l .last ≡ n
   pub full : n ≡ size → l .block ≡ n
@@ -36,7 +36,7 @@ pub record CutStanding (seed : ℕ) (T : List ℕ) (n k p : ℕ) (cut : CutWindo
   pub last-few : cut .last .places ≤ cut .places
   pub ending-few : cut .ending .places ≤ cut .places
 
--- where item x first stands, by the table of a text of n bytes: its own place, or its twin's
+-- The first occurrence of item x, by the table of a text of n bytes: its own, or that of an equal item.
 unfoldable pub placeOut : ℕ → List ℕ → ℕ → ℕ
 placeOut n W x = cond (ltb (placeIn W x) n) (placeIn W x) (placeIn W (placeIn W x - n))
 
@@ -103,7 +103,7 @@ module _ (T out : List ℕ) (it : Items) where
     pub chained : Chained T out it W (it .items)
     pub low : (x : ℕ) → x < it .items → 1 ≤ lengthAt T out it x
 
-  -- the window of n bytes was looked up at p, where it stands there
+  -- The window of n bytes was looked up at p, if it fits there.
   pub record Stepped (W Z : List ℕ) (n p : ℕ) : Type 0 where
     pub searched : Searched T out it W Z
     pub here : (x : ℕ) → x < it .items → Listed T out it W x → lengthAt T out it x ≡ n → Found T out it W x p → Found T out it Z x (p + 1)
@@ -114,12 +114,12 @@ module _ (T out : List ℕ) (it : Items) where
     pub one : Stepped W between n p
     pub other : Stepped between Z k p
 
-  -- the pass is over: every item in a chain has the place where it first stands
+  -- After the pass every item in a chain has the place of its first occurrence.
   pub record Passed (W Z : List ℕ) : Type 0 where
     pub searched : Searched T out it W Z
     pub found : (x : ℕ) → x < it .items → Listed T out it W x → placeIn Z x ≡ leftmost T (startAt T out it x) (lengthAt T out it x)
 
-  -- what the table then says of the items that are there
+  -- The results in the table for the items that exist.
   pub record Answered (W : List ℕ) : Type 0 where
     pub laid : Laid T out it (length W)
     pub place : (x : ℕ) → x < it .items → Present x → placeOut (length T) W x ≡ leftmost T (startAt T out it x) (lengthAt T out it x)

@@ -5,7 +5,7 @@ use Prim.Native.Nat.{ℕ, zero, suc, _+_, _≤_, _<_}
 use lib.ListN.{getD, set}
 use Rattle.text.specs.Text.{stretch, countIn}
 
--- the j-th such byte of the n bytes at a place stands at r, or there are fewer
+-- The j-th occurrence of the byte in the n bytes at a place is at r, or there are fewer.
 pub record Stands (t : List ℕ) (from n byte j r : ℕ) : Type 0 where
   pub high : r ≤ n
   pub here : r < n → (getD t (from + r) 0 ≡ byte) × (countIn byte (stretch t from r) + 1 ≡ j)

@@ -104,7 +104,7 @@ count-mono c T p a b h =
 
 -- Places.
 
--- the j-th c of the bytes from place s, j from 1, stands at place s + o
+-- The j-th c of the bytes from place s, j from 1, is at place s + o.
 pub record Nth (c j : ℕ) (T : List ℕ) (s o : ℕ) : Type 0 where
   pub within : s + o < length T
   pub byte-is : getD T (s + o) 0 ≡ c
@@ -128,7 +128,7 @@ nth-later c j T s a o h =
       rank = omega (arith, h .rank, count-add c T s a o);
     }
 
--- the j-th stands at or past place a exactly where fewer than j stand before a
+-- The j-th occurrence is at or after place a exactly if fewer than j occurrences are before a.
 pub nth-past : (c j : ℕ) (T : List ℕ) (s a o : ℕ) → Nth c j T s o → countIn c (stretch T s a) < j → a ≤ o
 nth-past c j T s a o h l = go (lt-or-ge o a)
   where

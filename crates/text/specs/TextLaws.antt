@@ -102,7 +102,7 @@ module _ (T : List ℕ) (s len : ℕ) where
   pub leftmost-le : leftmost T s len ≤ s
   leftmost-le = omega (arith, is-first .high)
 
-  -- the same bytes stand there
+  -- The same bytes are there.
   pub leftmost-same : stretch T (leftmost T s len) len ≡ stretch T s len
   leftmost-same = go (lt-or-ge (leftmost T s len) s)
     where

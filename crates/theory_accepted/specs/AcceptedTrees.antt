@@ -22,7 +22,7 @@ pub record StandsFor (t T : List ℕ) : Type 0 where
   pub edged : edgesTrue T t ≡ true
 
 module _ (t : List ℕ) where
-  -- An accepted tree stands for the text that its paths give.
+  -- An accepted tree represents the text that its paths give.
   pub accepted-stands : verdict t ≡ 0 → StandsFor t (textOf t)
   accepted-stands v = record {
     readable-is = verdicts.accepted-readable t v;
@@ -32,11 +32,11 @@ module _ (t : List ℕ) where
     edged = verdicts.accepted-edges t v;
   }
 
-  -- It stands for no other: exactly one text fits a tree that passes questions 5 to 8.
+  -- It represents no other text: exactly one text fits a tree that passes questions 5 to 8.
   pub one-text : readable t ≡ 0 → linksOk t ≡ true → (T : List ℕ) → fits T t ≡ true → T ≡ textOf t
   one-text = paths.only-text t
 
-  -- A tree that stands for some text is accepted.
+  -- A tree that represents some text is accepted.
   pub stands-accepted : (T : List ℕ) → StandsFor t T → verdict t ≡ 0
   stands-accepted T s =
       let e : T ≡ textOf t = one-text (s .readable-is) (s .linked) T (s .fitting) in

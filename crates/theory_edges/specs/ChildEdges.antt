@@ -20,7 +20,7 @@ use Rattle.theory_paths.specs.BlockStarts.{len-small, len-end, start-below, chi
 use Rattle.theory_edges.specs.Truth.{Edged}
 use Rattle.theory_edges.specs.EdgesLocal.{childEdges, hasFullChildren}
 
--- what the test says
+-- The fact that the test decides.
 pub record Full (t : List ℕ) (l i : ℕ) : Type 0 where
   pub above : l + 1 < H t
   pub kept : at.isKept t l i ≡ true

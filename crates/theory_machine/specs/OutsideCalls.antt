@@ -42,8 +42,8 @@ abbrev pub Each : (Function → Type 2) → List Call → Type 2
 Each P [] = Unit {2}
 Each P (c ∷ cs) = P (c .function) × Each P cs
 
--- Total correctness of each call (`Ends`): from any memory that holds what is lent and, separately, anything else, the machine's run of the call ends, in
--- a memory that holds what the contract says of the returned value, with everything else unchanged.
+-- Total correctness of each call (`Ends`): from any memory that satisfies the precondition and, separately, any other assertion, the run of the call
+-- terminates, in a memory that satisfies the postcondition for the returned value, with everything else unchanged.
 pub each-ends : (cs : List Call) → Each Ends cs
 each-ends [] = tt
 each-ends (c ∷ cs) = (c .ends, each-ends cs)

@@ -24,7 +24,7 @@ use Rattle.theory_paths.specs.Reads as reads
 
 -- Any tree that passes questions 5 to 7.
 module _ (t : List ℕ) (r : readable t ≡ 0) (p : ℕ) (q : Path) (e : pathOf t p ≡ some q) where
-  -- A path goes down a level at a time: a kept block hands on to a child, a pointing block to a kept block of its level first.
+  -- A path goes down one level at a time: from a kept block to a child, from a pointing block first to a kept block of its level.
   pub path-goes : Goes t (at.settings t .levels - 1) 0 (p / at.fullLength t 0) (p % at.fullLength t 0) (q .visits) (q .leaf)
   unfolding pathOf
   path-goes = goes t (at.settings t .levels - 1) 0 (p / at.fullLength t 0) (p % at.fullLength t 0) q e

@@ -60,7 +60,7 @@ module _ (t : List ℕ) where
   within-left [] most d w h = h
   within-left (v ∷ vs) most d w h = within-left vs (min most (b t (v .level) - v .place)) d (w .1) (omega (arith, w .0))
 
-  -- The first block entered is the one asked.
+  -- The first block entered is the given one.
   pub goes-first : {below l i o x : ℕ} {vs : List Visit} (d : ℕ) → Goes t below l i o vs x → Within d vs → o + d < b t l
   goes-first d (ends kept h) w = w .0
   goes-first d (down kept g) w = w .0

@@ -8,7 +8,7 @@ use lib.Dec.{ltb}
 use Rattle.format.specs.Layout as at
 use Rattle.format.specs.Path.{Path, Visit, entered, landBlock, landPlace, landVisits, lands, pathFrom}
 
--- the blocks entered, first to last; then a block of the last level's table, of which nothing was read, and the place in it
+-- The blocks entered, first to last; then a block of the last level, whose record has not been read, and the place in it.
 pub record Above : Type 0 where
   pub visits : List Visit
   pub block : ℕ

@@ -17,7 +17,7 @@ use Rattle.walk_path.specs.declared.Landing.the-variants as landed
 use Rattle.walk_steps.specs.Steps.{OnLevel}
 use Rattle.walk_path.specs.Above.{Above}
 
--- one more block entered, with so many bytes left in it
+-- The state after one more block with `here` bytes left in it.
 unfoldable pub onward : Trail → ℕ → Trail
 onward trail here = record { entered = trail .entered + 1; left = min (trail .left) here }
 
@@ -30,7 +30,8 @@ walked t trail (some a) = At (record {
   trail = record { entered = trail .entered + length (a .visits); left = leftOver t (a .visits) (trail .left) };
 })
 
--- what a step's word says: the block, 2^28 times the place, 2^36 times the blocks entered, 2^40 times what is left; all ones where the path breaks
+-- The result that the word of a step represents: the block + 2^28 × the place + 2^36 × the blocks entered + 2^40 × the bytes left; all ones if the path
+-- breaks.
 unfoldable pub walkedIn : ℕ → Walked
 walkedIn w =
     cond (eqb w 18446744073709551615) Broken
@@ -40,7 +41,7 @@ walkedIn w =
       trail = record { entered = w / 68719476736 % 16; left = w / 1099511627776 };
     }))
 
--- what a block above the last level hands a place on to: the block itself if it is kept, else its kept target, with one block entered
+-- The kept block for a place of a block above the last level: the block itself if it is kept, else its kept target, with one more block entered.
 unfoldable pub landingAt : List ℕ → Trail → ℕ → ℕ → ℕ → Landing
 landingAt t trail l i o =
     cond (keptBlock t l i) (landed.At (record { 0 = i }) (record { 0 = o }) trail)

@@ -14,7 +14,7 @@ use Rattle.walk_short.specs.declared.gather.Gathered.the-variants.{At, B
 use Rattle.walk_short.specs.declared.gather.Land.{Land}
 use Rattle.walk_short.specs.declared.gather.Land.the-variants as land
 
--- what was found, with so many blocks entered before
+-- The result, with the number of blocks entered before.
 unfoldable pub gathered : ℕ → Option format.Short → Gathered
 gathered entered none = Broken
 gathered entered (some q) = At (record { entered = entered + length (q .visits); from = q .from; size = q .size; next = q .next })
@@ -50,7 +50,7 @@ module _ (t : List ℕ) where
     pub short : len ≤ at.settings t .leaf
     pub few : entered ≤ 2 * level
 
--- the bytes that were found stand in the tree
+-- The bytes that were found are in the tree.
 abbrev pub Within : List ℕ → ℕ → Gathered → Type 0
 Within t len (At q) = (q .size ≤ len) × (q .from + q .size ≤ length t) × (q .next + (len - q .size) ≤ length t)
 Within t len Broken = Unit {0}

@@ -24,11 +24,11 @@ module _ (t : List ℕ) where
       cond (keptBlock t l i) (Kept (record { 0 = i }) (record { 0 = o }))
       (cond (pointingBlock t l i) (Points (record { 0 = i }) (record { 0 = o })) Off)
 
-  -- the child i of level l that a kept block hands place o to
+  -- Child i of level l, which contains place o of a kept block.
   unfoldable pub childAt : ℕ → ℕ → ℕ → Arrived
   childAt l i o = arriving (ltb i (at.levelCount t l)) i o
 
-  -- the kept block that a pointing block i of level l hands place o to
+  -- The kept block that place o of pointing block i of level l refers to.
   unfoldable pub landAt : ℕ → ℕ → ℕ → Arrived
   landAt l i o = arriving (ltb (l + 1) (at.settings t .levels) && keptBlock t l (targetBlock t l i o)) (targetBlock t l i o) (targetPlace t l i o)
 
