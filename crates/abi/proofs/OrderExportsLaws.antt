@@ -7,7 +7,7 @@ use Rattle.ask_order.specs.Order.{Ordered, orderSays}
 use Rattle.ask_order.specs.OrderAnswers.{orderSaid, OrderAnswer}
 use Rattle.abi.specs.ExportAnswers.{firstGiven}
 
--- the figures of an answer, and which tree stands first
+-- The figures of an answer, and which tree comes first.
 abbrev pub Figures : List ℕ → List ℕ → Ordered → Type 0
 Figures t u s = (s ≡ orderSays t u) × (firstGiven (s .order) ≡ firstGiven (orderSays t u .order))
 

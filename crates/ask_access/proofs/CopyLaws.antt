@@ -102,7 +102,7 @@ module _ (t : List ℕ) (h : Header) (p len : ℕ)
         let z : RunCopied t (p + i) (len - i) i e f (copied.Bytes n m) = rw is at r-is in
         (z .0, omega (arith, z .0, z .1), rw (z .3) (copy-run t p len d room i e c n (omega (arith, z .0, z .1)) (z .2)))
 
-    -- a refusal, and the part asked for is cleared
+    -- A refusal: the first len bytes are cleared.
     pub copy-broken : i < len → (q : ℕ) → r ≡ copied.Refused q → (z : List ℕ) → z ≡ replicate len 0 ++ drop len f
         → Numbered r × ByPaths t p len d (copiedSaid r) z
     copy-broken more q is z z-is =

@@ -43,7 +43,7 @@ CheckGuide κs t guide r = check-reads.Post κs (t, (guide, tt)) r (t, (guide, t
 abbrev pub GuideWords : (κs : Lfts 1) → RefT (List ℕ) → Size → Type 0
 GuideWords κs t r = words-reads.Post κs (t, tt) r (t, tt)
 
--- which answer says this
+-- The answer in each case.
 words-is : (r : Size) (n : ℕ) → Numbered r → saidSize r ≡ record { number = 0; value = n; entered = 0 } → r ≡ Words n
 words-is (Words m) n k e = ap Words (ap (λ (s : Said). s .value) e)
 words-is (Refused q) n k e = absurd (let z : ⊥ = omega (arith, ap (λ (s : Said). s .number) e) in z)

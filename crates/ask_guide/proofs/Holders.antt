@@ -63,7 +63,7 @@ module _ (t : List ℕ) (v : verdict t ≡ 0) (c : ℕ) (hc : c < at.countedCoun
     pub block-few : blockOf t c j < maxText
     block-few = rw block-is-place (omega (arith, div-le-self place (b t 0), stands .within, text-length t, k .bounds .text-high))
 
-    -- fewer than j stand before it
+    -- Fewer than j occurrences are before it.
     pub block-low : at.before t 0 (blockOf t c j) c < j
     unfolding tally
     block-low =

@@ -37,7 +37,7 @@ use Rattle.ask_patterns.proofs.places_words.Reads as words-reads
 abbrev pub Places : (κs : Lfts 3) → (t P table after : RefT (List ℕ)) → PlacesWritten → Type 0
 Places κs t P table after r = places-reads.Post κs (t, (P, (table, tt))) r (t, (P, (after, tt)))
 
--- which answer says this
+-- The answer in each case.
 number-is : (r : PlacesWritten) (n : ℕ) → Numbered r → placesSaid r ≡ record { number = 0; value = n; entered = 0 } → r ≡ written.Number n
 number-is (written.Number m) n k e = ap written.Number (ap (λ (s : Said). s .value) e)
 number-is (written.Refused q) n k e = absurd (let z : ⊥ = omega (arith, ap (λ (s : Said). s .number) e) in z)

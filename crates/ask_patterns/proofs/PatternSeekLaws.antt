@@ -28,7 +28,7 @@ use Rattle.ask_patterns.specs.Places.{standsAt, below, placesIn, placesO
 use Rattle.ask_patterns.specs.TableFilled.{Even, Stepped, filled, soFar, Seeking, SeekSays}
 use Rattle.ask_patterns.proofs.FillLaws.{filled-none, filled-length, filled-more, filled-full}
 
--- Where the pattern stands.
+-- Where the pattern occurs.
 
 module _ (P T : List ℕ) (i k : ℕ) (l : Longest P (λ p. getD T p 0) 0 i k) (in-text : i ≤ length T) where
   -- the last bytes read are the whole pattern
@@ -54,7 +54,7 @@ module _ (P T : List ℕ) (i k : ℕ) (l : Longest P (λ p. getD T p 0) 0 i k) (
         same = λ x h. sym (getD-stretch T (i - length P) (length P) x h) ∙ ap (λ (s : List ℕ). getD s x 0) e;
       }
 
--- past the last place that has room for it, it stands nowhere
+-- After the last place where the pattern fits, it does not occur.
 stands-past : (P T : List ℕ) (p : ℕ) → 1 ≤ length P → length T < p + length P → standsAt P T p ≡ false
 unfolding standsAt stretch
 stands-past P T p pos past =

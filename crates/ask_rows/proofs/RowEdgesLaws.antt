@@ -323,7 +323,7 @@ module _ (t : List ℕ) (ok : ℕ) (sound : ok ≡ 0 → verdict t ≡ 0) (q : �
                 go false f = sym (trimmed-plain (textOf t) (p .0) len some (omega (arith, in-text))
                     (λ z. bool-clash (eqb 13 before) (eq-eqb 13 before (sym (sym byte ∙ z))) f))
 
--- Whether q asks for the row after the last byte 10.
+-- Whether q is the row after the last byte 10.
 module _ (t : List ℕ) (h : Header) (k : HeaderOf t h) (q number : ℕ) (is : number ≡ numberOfByte t 10) where
   pub asks-uncounted : h .settings .counted ≤ number → false ≡ asksLast t q
   unfolding asksLast
@@ -382,7 +382,7 @@ module _ (t : List ℕ) (h : Header) (k : HeaderOf t h) (q : ℕ) (asks : asksLa
   unfolding rowMost
   most-later more = rw (asks, ne-eqb q 1 more)
 
-  -- on an accepted tree it is what stands after the last byte 10
+  -- On an accepted tree it has the bytes after the last byte 10.
   last-is : verdict t ≡ 0 → last-row ≡ stretch (textOf t) (rowFrom (textOf t) q) (length (textOf t) - rowFrom (textOf t) q)
   last-is v =
       let e : q ≡ countIn 10 (textOf t) + 1 = a .number ∙ ap (λ (n : ℕ). n + 1) (tallies.total-of-text t v 10 (a .counted)) in
@@ -410,7 +410,7 @@ module _ (t : List ℕ) (h : Header) (k : HeaderOf t h) (q : ℕ) (asks : asksLa
         passed : last-number ≡ 0
         passed = rw (here-said, is, ne-eqb 10 value (λ e. other (sym e)))
 
-        -- no byte 10 stands before it
+        -- No byte 10 is before it.
         pub last-whole : q ≡ 1 → EdgesOf t ok last-number last-row last-most (edges.At (record { 0 = 0 }) (h .«text_length»))
         unfolding rowFrom
         last-whole one = spans-at t ok last-number last-row last-most 0 (h .«text_length») (record {

@@ -173,7 +173,7 @@ module _ (t : List ℕ) (field : CountField) (j b block : ℕ) (on : OnLevel t (
         pub sought-points : x ≡ child.Points i o rest → SoughtIn t (byteOf t c) c j block (placedIn (at.textLength t) r)
         sought-points e = sought (i .0) (o .0) rest way r (picked-points t c 0 block 0 j i o rest (sym x-is ∙ e) .0) way-is f
 
--- what the word's place says, said of the answer made of it
+-- What holds of the place in the word holds of the answer made from it.
 pub sought-by : (t : List ℕ) (n byte c j block w : ℕ) (s : Said) → n ≡ at.textLength t → byte ≡ byteOf t c → s ≡ placedIn n w
     → SoughtIn t (byteOf t c) c j block (placedIn (at.textLength t) w) → SoughtIn t byte c j block s
 sought-by t n byte c j block w s n-is byte-is s-is z =

@@ -46,7 +46,7 @@ use Rattle.ask_select.specs.Seeks.{entering, restIn, KeptIn, PointsIn, S
 use Rattle.ask_select.specs.Seeks.{TargetWith, Seeking, Landed, FoundIn}
 use Rattle.ask_select.proofs.SeekLaws.{last-here}
 
--- What a pick says.
+-- The result of a pick.
 
 abbrev picked-cases : (low kept points : Bool) (i o rest : ℕ) → Child
 picked-cases low kept points i o rest =

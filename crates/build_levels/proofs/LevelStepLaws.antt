@@ -44,7 +44,7 @@ pub next-made : (level : Level) (count p : ℕ) (cs : List ℕ) → p ≡ record
     ≡ nextOf level count cs
 next-made level count p cs e = rw e
 
--- what a level's words in the header ask
+-- The preconditions of writing the words of a level in the header.
 pub pair-asks : (S : Settings) (T out : List ℕ) (level : Level) (total : ℕ)
     → Written S T out level total → (headerLength ≤ length out) × (level .number < maxLevels)
 pair-asks S T out level total r =

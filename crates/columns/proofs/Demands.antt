@@ -59,7 +59,7 @@ pub from-columns : (κs : Lfts 2) (text : Lent) (w : ℕ) (out after : Lent) (r 
 unfolding uncolumnsLeaves
 from-columns κs text w out after r a = rearranges w (now text) (now out) (uncolumns w (now text)) (now after) r (a .0) (a .1)
 
--- A call that wrote the rearranged text U, and another that is lent what it wrote, W, and turns it to T again.
+-- A call that wrote the rearranged text U, and another that gets what it wrote, W, and restores T.
 module _ (w : ℕ) (T out U after W : List ℕ) (a : Rearranges w T out U after 0) (same : length U ≡ length T) (is : W ≡ take (length T) after) where
   turned : W ≡ U
   turned = is ∙ rw (a .written (a .passed refl .0) (a .passed refl .1) .1) (take-at U (drop (length T) out) (length T) same)
@@ -70,7 +70,7 @@ module _ (w : ℕ) (T out U after W : List ℕ) (a : Rearranges w T out U after 
       let z = b .written (rw size (a .passed refl .0)) (rw size room) in
       (z .0, rw size at (z .1))
 
--- what the call wrote, lent to another
+-- The output of the call, as the input of another.
 pub to-columns-input : (κs : Lfts 2) (text : Lent) (w : ℕ) (out after : Lent) → ToColumns κs text w out after 0
     → (W : List ℕ) → W ≡ take (length (now text)) (now after) → W ≡ columns w (now text)
 to-columns-input κs text w out after a W is =

@@ -110,7 +110,7 @@ counted-part t k e h =
     let z : countedAt + k - countedAt ≡ k = omega arith in
     rw (z, ← e) (sym (take-take k maxCounted (drop countedAt t) h))
 
--- what the checking constructor tells
+-- The result of the constructor of checked settings.
 fine-sizes : (s : Settings) (a b : Bool) (r : Settings) → Fine s ≡ cond a (cond b (Fine r) (Refused 3)) (Refused 2) → a ≡ true
 fine-sizes s true b r e = refl
 fine-sizes s false b r e = absurd (let z : _≡_ {A = ℕ} 0 1 = cc in omega arith)

@@ -75,7 +75,7 @@ module _ (t prefix : List ℕ) where
   counted-of h = next-row.asked-counted t 15 (patternOk prefix) h
 
 module _ (t : List ℕ) (ok : ℕ) (sound : ok ≡ 0 → verdict t ≡ 0) (prefix : List ℕ) where
-  -- Any lent bytes.
+  -- For any bytes.
 
   module _ (mark : ℕ) (r : NextRowAnswer) (a : PrefixAnswer t ok prefix mark r) where
     -- questions 5 to 7

@@ -43,7 +43,7 @@ stands-first seed T n t h fits few e et eh = record {
   looked-is = omega arith;
 }
 
--- it stands at p
+-- The window fits at p.
 module _ (seed : ℕ) (T : List ℕ) (n p : ℕ) (w : Window) (s : Standing seed T n p w) where
   module _ (here : p < w .places) where
     some : n ≡ 0 → ⊥

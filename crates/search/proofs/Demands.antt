@@ -39,7 +39,7 @@ pub same-earlier :
     → Earlier κs text at len one r → Earlier κs text at len other s → r ≡ s
 same-earlier κs text at len one other r s p q = p ∙ sym q
 
--- what an answer says: p is the leftmost place with the len bytes at `at`
+-- The meaning of an answer: p is the leftmost place with the len bytes at `at`.
 pub record Leftmost (T : List ℕ) (at len p : ℕ) : Type 0 where
   pub within : at + len ≤ length T
   pub low : p ≤ at

@@ -55,7 +55,7 @@ DaysLeft κs last today r = left-reads.Post κs (last, (today, tt)) r (last, (to
 abbrev pub Renew : (κs : Lfts 1) → (day after : Lent) → ℕ → Type 0
 Renew κs day after r = renew-reads.Post κs (day, tt) r (after, tt)
 
--- The calls: each ends, and reads and writes only what was lent (`Ends`), and asks nothing of its caller.
+-- The calls: each terminates, accesses only the memory that it was given (`Ends`), and has no precondition.
 abbrev pub calls : List Call
 calls =
     call (record { routine = open-at.routine; signature = open-on.signature; clauses = open-on.spec }) open-met.met (λ 𝓤 H A mem run κs a. (tt, refl))

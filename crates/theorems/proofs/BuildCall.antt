@@ -43,7 +43,7 @@ pub use Rattle.theorems.specs.CallContracts.{Build}
 abbrev pub build-call : Call
 build-call = call build-function build-met.met (λ 𝓤 H A mem run κs a. (tt, refl))
 
--- Any lent bytes.
+-- For any bytes.
 
 -- the numbers that its questions can give
 build-one : (S : Settings) (T out : List ℕ) → OneOf (1 ∷ 2 ∷ 3 ∷ 4 ∷ 0 ∷ []) (buildNumber S T out)
@@ -121,7 +121,7 @@ module _ (κs : Lfts 3) (text : Lent) (leaf arity levels : ℕ) (counted out aft
         let enough : size ≤ length (now out) = omega (arith, k .2) in
         omega (arith, build-low, a .0, never-full S (now text) taken (now out) enough)
 
-  -- It wrote a tree, of so many bytes, at the start of the buffer.
+  -- It wrote a tree of this size at the start of the buffer.
   module _ (size : ℕ) (a : Build κs text leaf arity levels counted out after (built.Size size)) where
     abbrev T : List ℕ
     T = now text
@@ -130,7 +130,7 @@ module _ (κs : Lfts 3) (text : Lent) (leaf arity levels : ℕ) (counted out aft
     pub build-writes : take size (now after) ≡ treeOf S T
     build-writes = tree.build-writes κs text leaf arity levels counted out after (built.Size size) a refl
 
-    -- The tree, lent to another call.
+    -- The tree, as an argument of another call.
     module _ (t : Lent) (is : now t ≡ take size (now after)) where
       -- no question refused
       passed : buildNumber S T (now out) ≡ 0
@@ -158,7 +158,7 @@ module _ (κs : Lfts 3) (text : Lent) (leaf arity levels : ℕ) (counted out aft
       pub build-accepted : (κ : Lfts 1) (r : ℕ) → Check κ t r → r ≡ 0
       build-accepted κ r c = c ∙ accepted
 
-      -- The written tree stands for the input, and no other text fits.
+      -- The written tree represents the input, and no other text fits.
       pub build-one-text : StandsFor (now t) T × ((U : List ℕ) → fits U (now t) ≡ true → U ≡ T)
       build-one-text =
           let s = accepted-stands (now t) accepted in

@@ -155,7 +155,7 @@ module _ (κs : Lfts 4) (text : Lent) (leaf arity levels : ℕ) (counted words t
           a .1 .1 .1 .0 ∙ leaves-same S T (now out) (length (now words)) long ∙ ap (buildLeaves S T) (sym same) ∙ sym (c .1 .1),
         )
 
-  -- It wrote a tree, of so many bytes, at the start of the buffer.
+  -- It wrote a tree of this size at the start of the buffer.
   module _ (size windows : ℕ) (a : Says (scanned.Size size windows)) where
     -- An answer is the tree's size, which fits; the buffer begins with the tree, and the bytes past it are unchanged.
     pub scanned-answer : (size ≤ length (now out)) × (take size (now after) ≡ treeOf S T) × (drop size (now after) ≡ drop size (now out))
@@ -182,6 +182,6 @@ module _ (κs : Lfts 4) (text : Lent) (leaf arity levels : ℕ) (counted words t
       pub scanned-accepted : (κ : Lfts 1) (r : ℕ) → Check κ t r → r ≡ 0
       scanned-accepted = build-accepted κ text leaf arity levels counted out after size (as-size size windows a) t is
 
-      -- The written tree stands for the input, and no other text fits.
+      -- The written tree represents the input, and no other text fits.
       pub scanned-one-text : StandsFor (now t) T × ((U : List ℕ) → fits U (now t) ≡ true → U ≡ T)
       scanned-one-text = build-one-text κ text leaf arity levels counted out after size (as-size size windows a) t is

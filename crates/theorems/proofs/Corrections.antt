@@ -25,7 +25,7 @@ use Rattle.theorems.proofs.FindCall.{Find}
 use Rattle.theorems.proofs.OneByte.{OneByte, one-byte-back, count-before, count-near, place-same}
 use Rattle.theorems.proofs.OutsideCall.{Lent}
 
--- an accepted tree, of any origin, settings and layout, that stands for the text and counts the byte
+-- An accepted tree, of any origin, settings and layout, that represents the text and counts the byte.
 pub record CountingTree (T : List ℕ) (byte : ℕ) (t : Lent) : Type 0 where
   pub lifetime : Lfts 1
   pub accepted : Check lifetime t 0
@@ -59,7 +59,7 @@ module _ (T : List ℕ) (byte : ℕ) (t : Lent) (k : CountingTree T byte t) wher
       let w = check-answers (k .lifetime) t (k .accepted) T (k .fitting) .count .count-of κs byte (suc i) r c (k .counting) (omega arith) h in
       (w .0, w .2)
 
-  -- what find answers where there are so many
+  -- The answer of find if there is a j-th occurrence.
   find-of : (κs : Lfts 1) (j : ℕ) (r : Found) → Find κs t byte j r → 1 ≤ j → j ≤ countIn byte T → FoundAt r (record { 0 = placeOf byte j T })
   find-of κs j r c low high =
       let w = check-answers (k .lifetime) t (k .accepted) T (k .fitting) .find .find-of κs byte j r c (k .counting) low high in

@@ -48,7 +48,7 @@ count-call = call count-function count-met.met (λ 𝓤 H A mem run κs a. (tt, 
 abbrev pub uncounted-call : Call
 uncounted-call = call uncounted-function uncounted-met.met (λ 𝓤 H A mem run κs a. (tt, refl))
 
--- Any lent bytes.
+-- For any bytes.
 
 -- it answers nothing of no bytes, or by the path of the last one
 record Summed (t : List ℕ) (i e : ℕ) : Type 0 where
@@ -139,7 +139,7 @@ uncounted-numbers κs t i r a =
     last true = inr (inl refl)
     last false = inl refl
 
--- which answer says this
+-- The answer in each case.
 count-is : (r : Counted) (v e : ℕ) → CountNumbered r → saidCount r ≡ record { number = 0; value = v; entered = e } → r ≡ counted.Times v e
 count-is (counted.Times w m) v e k s =
     let z : w ≡ v = ap (λ (x : Said). x .value) s in

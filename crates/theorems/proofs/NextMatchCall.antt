@@ -35,7 +35,7 @@ next-match-call = call next-match-function next-match-met.met (λ 𝓤 H A mem r
 abbrev pub show-call : Call
 show-call = call show-function show-met.met (λ 𝓤 H A mem run κs a. (tt, refl))
 
--- Any lent bytes.
+-- For any bytes.
 
 -- the numbers that the questions before the walk can give
 match-one : (t ranges : List ℕ) → OneOf (5 ∷ 6 ∷ 7 ∷ 19 ∷ 11 ∷ 0 ∷ []) (matchNumber t ranges)

@@ -45,7 +45,7 @@ compare-call = call compare-function compare-met.met (λ 𝓤 H A mem run κs a.
 abbrev pub first-call : Call
 first-call = call first-function first-met.met (λ 𝓤 H A mem run κs a. (tt, refl))
 
--- the numbers that a comparison refuses with, for any lent bytes
+-- The numbers with which a comparison is refused, for any bytes.
 
 or-one : (n : ℕ) (s : Ordered) → OneOf (14 ∷ 0 ∷ []) n → OneOf (14 ∷ 0 ∷ []) (s .number) → OneOf (14 ∷ 0 ∷ []) (orElse n s .number)
 or-one zero s h k = k
@@ -153,7 +153,7 @@ module _ (t u t′ u′ : Lent) (T U : List ℕ) (a : Holds t T) (b : Holds u U)
 
 -- it is a total order on the texts
 
--- the first stands at the second or before it
+-- The first comes before the second, or both are equal.
 abbrev pub AtOrBefore : Compared → Type 0
 AtOrBefore (compared.Before n) = Unit {0}
 AtOrBefore (compared.Same n) = Unit {0}

@@ -38,7 +38,7 @@ pub use Rattle.theorems.specs.CallContracts.{Places}
 abbrev pub places-call : Call
 places-call = call places-function places-met.met (λ 𝓤 H A mem run κs a. (tt, refl))
 
--- Any lent bytes.
+-- For any bytes.
 
 -- what is known where no question refuses
 record Passed (t P : List ℕ) (room : ℕ) : Type 0 where

@@ -32,7 +32,7 @@ pub use Rattle.ask_rows.proofs.Demands.{CountOf}
 abbrev pub row-count-call : Call
 row-count-call = call row-count-function row-count-met.met (λ 𝓤 H A mem run κs a. (tt, refl))
 
--- Any lent bytes: a refusal is 5, 6, 7, 11 or 14.
+-- For any bytes: a refusal is 5, 6, 7, 11 or 14.
 last-one : (t : List ℕ) → readable t ≡ 0 → OneOf (14 ∷ 0 ∷ []) (cond (eqb (at.textLength t) 0) 0 (byteSays t (at.textLength t - 1) .number))
 last-one t pass = go (lt-or-ge 0 (at.textLength t))
   where

@@ -24,7 +24,7 @@ pub use Rattle.ask_rows.proofs.Demands.{RowGuided}
 abbrev pub row-guided-call : Call
 row-guided-call = call row-guided-function row-guided-met.met (λ 𝓤 H A mem run κs a. (tt, refl))
 
--- Any lent bytes: a row fits, and the bytes after it are unchanged.
+-- For any bytes: a row fits, and the bytes after it are unchanged.
 module _ (κs : Lfts 3) (t guide : Lent) (q : ℕ) (buffer after : Lent) where
   pub row-guided-answer : (m : ℕ) → RowGuided κs t guide q buffer after (rows.Bytes m) → (m ≤ length (now buffer)) × (drop m (now after) ≡ drop m (now buffer))
   row-guided-answer m a =

@@ -21,7 +21,7 @@ pub use Rattle.ask_rows.proofs.Demands.{LengthOf}
 abbrev pub row-length-call : Call
 row-length-call = call row-length-function row-length-met.met (λ 𝓤 H A mem run κs a. (tt, refl))
 
--- Any lent bytes: a refusal is 5, 6, 7, 11, 12 or 14.
+-- For any bytes: a refusal is 5, 6, 7, 11, 12 or 14.
 pub length-numbers : (κs : Lfts 1) (t : Lent) (q n : ℕ) → LengthOf κs t q (row-length.Refused n) → OneOf (5 ∷ 6 ∷ 7 ∷ 11 ∷ 12 ∷ 14 ∷ []) n
 length-numbers κs t q n a = go (lt-or-ge 0 (rowNumber (now t) q)) (lt-or-ge 0 (verdict (now t)))
   where

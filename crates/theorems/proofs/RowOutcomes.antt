@@ -101,7 +101,7 @@ not-13 (inr (inr (inr (inl e)))) = omega arith
 not-13 (inr (inr (inr (inr (inl e))))) = omega arith
 not-13 (inr (inr (inr (inr (inr (inl e)))))) = omega arith
 
--- at most so many zeros at the start of the buffer, and the rest unchanged
+-- At most this many zeros at the start of the buffer; the rest is unchanged.
 abbrev pub Zeros : (most : ℕ) (buffer after : List ℕ) → Type 0
 Zeros most buffer after = (k : ℕ) × (k ≤ length buffer) × (k ≤ most) × (after ≡ replicate k 0 ++ drop k buffer)
 

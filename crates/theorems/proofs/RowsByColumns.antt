@@ -44,7 +44,7 @@ pub accepted-rows : (κ : Lfts 1) (t : Lent) → Check κ t 0 → (w : ℕ) (T :
     → RowsOf t w T
 accepted-rows κ t c w T ok fit = rows-of t (at.settings (now t)) w T ok (check-answers κ t c (columns w T) fit)
 
--- A text rearranged by a call, and what it wrote, lent to a builder.
+-- A text rearranged by a call, whose output is the input of a builder.
 module _ (κ : Lfts 2) (text : Lent) (w : ℕ) (out turned : Lent) (done : ToColumns κ text w out turned 0)
     (input : Lent) (is : now input ≡ take (length (now text)) (now turned)) where
   ok : widthOk w (length (now text)) ≡ true

@@ -36,7 +36,7 @@ pub use Rattle.theorems.specs.CallContracts.{Span}
 abbrev pub span-call : Call
 span-call = call span-function span-met.met (λ 𝓤 H A mem run κs a. (tt, refl))
 
--- Any lent bytes.
+-- For any bytes.
 
 -- the numbers that its questions can give
 span-one : (t : List ℕ) (p len room : ℕ) → OneOf (5 ∷ 6 ∷ 7 ∷ 10 ∷ 13 ∷ 14 ∷ 0 ∷ []) (spanNumber t p len room)
