@@ -39,6 +39,7 @@ module _ (t : List ℕ) (w a : ℕ) where
       cond (eqb number 0) (tabulate w (λ b. byteSays t (cell b) .value) ++ drop w buffer)
       (cond (eqb number 14) (replicate w 0 ++ drop w buffer) buffer)
 
+  -- The width, or the refusal.
   unfoldable pub columnSays : ℕ → Said
   columnSays room = unless (columnNumber room) (record { number = 0; value = w; entered = 0 })
 

@@ -16,13 +16,15 @@ use Rattle.format.specs.FindSays.{total}
 abbrev pub versionNumber : ℕ
 versionNumber = 10000 * 1 + 100 * 17 + 0
 
--- The number of figures before the counted bytes, the index of the totals, and the number of all figures.
+-- The number of figures before the counted bytes.
 abbrev pub plainFigures : ℕ
 plainFigures = 7
 
+-- The index of the first total.
 abbrev pub totalsFrom : ℕ
 totalsFrom = plainFigures + maxCounted
 
+-- The number of all figures.
 abbrev pub figureCount : ℕ
 figureCount = totalsFrom + maxCounted + maxLevels
 

@@ -66,6 +66,7 @@ module _ (t : List ℕ) where
 
   -- Making a guide in the caller's table: refused by questions 5 to 9, then 25.
   module _ (table : List ℕ) where
+    -- The refusal of make_guide.
     unfoldable pub makeNumber : ℕ
     makeNumber = cond (eqb (verdict t) 0) (ask 25 (leb (length guideBytes) (length table)) 0) (verdict t)
 

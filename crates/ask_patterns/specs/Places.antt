@@ -34,6 +34,7 @@ maxPattern = 256
 abbrev pub patternLength : ℕ → Bool
 patternLength len = leb 1 len && leb len maxPattern
 
+-- Question 16 for a pattern.
 unfoldable pub patternOk : List ℕ → Bool
 patternOk P = patternLength (length P)
 

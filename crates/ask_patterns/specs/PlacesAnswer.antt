@@ -29,10 +29,12 @@ abbrev pub roomSaid : PlacesRoom → Said
 roomSaid (room.Words n) = record { number = 0; value = n; entered = 0 }
 roomSaid (room.Refused number) = refused number
 
+-- A refusal is not 0.
 abbrev pub RoomNumbered : PlacesRoom → Type 0
 RoomNumbered (room.Words n) = Unit {0}
 RoomNumbered (room.Refused number) = 1 ≤ number
 
+-- The answer of places_words.
 pub record RoomAnswer (t : List ℕ) (len : ℕ) (r : PlacesRoom) : Type 0 where
   pub says : roomSaid r ≡ roomSays t len
   pub numbered : RoomNumbered r

@@ -21,6 +21,7 @@ abbrev pub Numbered : Counted → Type 0
 Numbered (Times times entered) = Unit {0}
 Numbered (Refused number) = 1 ≤ number
 
+-- The answer of count.
 pub record CountAnswer (t : List ℕ) (byte i : ℕ) (r : Counted) : Type 0 where
   pub says : saidCount r ≡ countSays t byte i
   pub numbered : Numbered r

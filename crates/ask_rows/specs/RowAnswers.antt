@@ -20,9 +20,11 @@ Numbered (Refused number) = 1 ≤ number
 -- The answers that row may return, where `ok` is 0 for a valid tree: without a guide `ok` is the result of the check, with a guide that of checking the
 -- guide.
 module _ (t : List ℕ) (ok : ℕ) where
+  -- The answer of row, and the buffer afterwards.
   pub record RowAnswerBy (q : ℕ) (buffer : List ℕ) (r : RowCopied) (after : List ℕ) : Type 0 where
     pub says : RowBy t ok q buffer (saidRow r .number) (saidRow r .value) after
     pub numbered : Numbered r
 
+-- The answer of row without a guide.
 abbrev pub RowAnswer : (t : List ℕ) (q : ℕ) (buffer : List ℕ) → RowCopied → List ℕ → Type 0
 RowAnswer t = RowAnswerBy t (verdict t)

@@ -23,5 +23,6 @@ pub record FoundBy (t : List ℕ) (ok byte j : ℕ) (r : Found) : Type 0 where
   pub says : find.FindBy t ok byte j (saidFind r)
   pub numbered : Numbered r
 
+-- The answer of find.
 abbrev pub FindAnswer : (t : List ℕ) (byte j : ℕ) (r : Found) → Type 0
 FindAnswer t = FoundBy t (verdict t)

@@ -7,6 +7,7 @@ use Rattle.query_row_filter.specs.declared.NextRowAnswer.{NextRowAnswer}
 use Rattle.query_row_filter.specs.AllowedAnswer.{AllowedAnswer, MarkMoved}
 use Rattle.ask_worn_keys.specs.MatchSays.{matchNumber}
 
+-- The answer of next_match.
 abbrev pub MatchAnswer : List ℕ → List ℕ → ℕ → NextRowAnswer → Type 0
 MatchAnswer t ranges mark r = AllowedAnswer t (verdict t) (matchNumber t ranges) (matches ranges) mark r
 

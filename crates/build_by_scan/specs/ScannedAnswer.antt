@@ -8,11 +8,12 @@ abbrev pub numberOf : Scanned → ℕ
 numberOf (Size n w) = 0
 numberOf (Refused q) = q
 
--- The size of the tree and the number of windows looked up, 0 if refused.
+-- The size of the tree, 0 if refused.
 abbrev pub sizeOf : Scanned → ℕ
 sizeOf (Size n w) = n
 sizeOf (Refused q) = 0
 
+-- The number of windows looked up, 0 if refused.
 abbrev pub windowsSaid : Scanned → ℕ
 windowsSaid (Size n w) = w
 windowsSaid (Refused q) = 0

@@ -18,6 +18,7 @@ use Rattle.build_enough.specs.declared.Room.the-variants.{Bytes, Refused
 unfoldable pub blocksAtMost : ℕ → ℕ → ℕ → ℕ → ℕ
 blocksAtMost n m r H = sumBelow H (λ l. pieces n (m * r ^ (H - 1 - l)))
 
+-- The size: the header, a leaf byte for each byte of the text, and the records.
 abbrev pub enoughFor : ℕ → ℕ → ℕ → ℕ → ℕ → ℕ
 enoughFor n m r H k = headerLength + n + recordLength builtLayout m k * blocksAtMost n m r H
 
@@ -39,6 +40,7 @@ abbrev pub EnoughNumbered : Room → Type 0
 EnoughNumbered (Bytes n) = Unit {0}
 EnoughNumbered (Refused number) = 1 ≤ number
 
+-- The answer of enough.
 pub record EnoughAnswer (n leaf arity levels counted : ℕ) (r : Room) : Type 0 where
   pub says : enoughSaid r ≡ enoughSays n leaf arity levels counted
   pub numbered : EnoughNumbered r

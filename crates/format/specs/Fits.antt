@@ -15,6 +15,7 @@ use Rattle.format.specs.Layout as at
 use Rattle.format.specs.Path.{Path, pathOf}
 
 module _ (t : List ℕ) where
+  -- The number of the last level.
   unfoldable pub lastLevel : ℕ
   unfolding at.settings
   lastLevel = at.settings t .levels - 1

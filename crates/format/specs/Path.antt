@@ -18,6 +18,7 @@ pub record Path : Type 0 where
   pub visits : List Visit
   pub leaf : ℕ
 
+-- A visit of block i of level l at place o.
 abbrev pub visit : ℕ → ℕ → ℕ → Visit
 visit l i o = record { level = l; block = i; place = o }
 
@@ -42,27 +43,29 @@ module _ (t : List ℕ) where
   unfolding at.levelCount at.isPointing at.gap at.fullLength
   pointingBlock l i = ltb i (at.levelCount t l) && at.isPointing t l i && ltb (at.gap t l i) (at.fullLength t l)
 
-  -- The block and the place in it that place o of a pointing block refers to: place gap + o of the linked block, or, if that is b or more, place gap + o - b
-  -- of the next one.
+  -- The block that place o of a pointing block refers to: the linked one if gap + o is below b, else the next one.
   unfoldable pub targetBlock : ℕ → ℕ → ℕ → ℕ
   unfolding at.link at.gap at.fullLength
   targetBlock l i o = cond (ltb (at.gap t l i + o) (at.fullLength t l)) (at.link t l i) (at.link t l i + 1)
 
+  -- The place in that block: gap + o, or gap + o - b.
   unfoldable pub targetPlace : ℕ → ℕ → ℕ → ℕ
   unfolding at.gap at.fullLength
   targetPlace l i o = cond (ltb (at.gap t l i + o) (at.fullLength t l)) (at.gap t l i + o) (at.gap t l i + o - at.fullLength t l)
 
-  -- The kept block of level l that contains the bytes of place o of block i, the place in it, and the visits that lead to it.
+  -- The kept block of level l that contains the bytes of place o of block i: i itself, or its target.
   unfoldable pub landBlock : ℕ → ℕ → ℕ → ℕ
   landBlock l i o = cond (keptBlock l i) i (targetBlock l i o)
 
+  -- The place in that kept block.
   unfoldable pub landPlace : ℕ → ℕ → ℕ → ℕ
   landPlace l i o = cond (keptBlock l i) o (targetPlace l i o)
 
+  -- The visits that lead to that kept block.
   unfoldable pub landVisits : ℕ → ℕ → ℕ → List Visit
   landVisits l i o = cond (keptBlock l i) (visit l i o ∷ []) (visit l i o ∷ visit l (targetBlock l i o) (targetPlace l i o) ∷ [])
 
-  -- Whether that block exists: i is kept, or i points and its target is kept.
+  -- Whether that kept block exists: i is kept, or i points and its target is kept.
   unfoldable pub lands : ℕ → ℕ → ℕ → Bool
   lands l i o = keptBlock l i || (pointingBlock l i && keptBlock l (targetBlock l i o))
 

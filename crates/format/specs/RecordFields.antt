@@ -5,15 +5,19 @@ use mathlib.Core.Path.{_≡_, refl}
 use Prim.Native.Nat.{ℕ, _+_, _*_}
 use lib.ListN.{getD}
 
+-- The start of the block in the text.
 abbrev pub startField : ℕ
 startField = 0
 
+-- Its kind: 0 kept, 1 pointing.
 abbrev pub kindField : ℕ
 kindField = 1
 
+-- Its link.
 abbrev pub linkField : ℕ
 linkField = 2
 
+-- Its gap.
 abbrev pub gapField : ℕ
 gapField = 3
 
@@ -25,13 +29,15 @@ plainWords = 4
 abbrev pub countedWords : ℕ
 countedWords = 3
 
--- The fields of counted byte number c.
+-- The count before of counted byte number c.
 abbrev pub beforeField : ℕ → ℕ
 beforeField c = plainWords + countedWords * c
 
+-- The count inside of counted byte number c.
 abbrev pub insideField : ℕ → ℕ
 insideField c = plainWords + 1 + countedWords * c
 
+-- The skip of counted byte number c.
 abbrev pub skipField : ℕ → ℕ
 skipField c = plainWords + 2 + countedWords * c
 
@@ -39,20 +45,23 @@ skipField c = plainWords + 2 + countedWords * c
 abbrev pub fieldCount : ℕ → ℕ
 fieldCount k = plainWords + countedWords * k
 
--- The same sizes in bytes; a word has four bytes.
+-- The number of bytes of a record before its counts; a word has four bytes.
 abbrev pub plainBytes : ℕ
 plainBytes = 4 * plainWords
 
+-- The number of bytes of a record for each counted byte.
 abbrev pub countedBytes : ℕ
 countedBytes = 4 * countedWords
 
+-- The number of bytes of the words of a record with k counted bytes.
 abbrev pub fieldBytes : ℕ → ℕ
 fieldBytes k = plainBytes + countedBytes * k
 
--- The words of a record, in the order of their indices; `in-order` shows that the order agrees.
+-- The words before the counts, in the order of their indices; `in-order` shows that the order agrees.
 abbrev pub plainFields : ℕ → ℕ → ℕ → ℕ → List ℕ
 plainFields start kind link gap = start ∷ kind ∷ link ∷ gap ∷ []
 
+-- The three words of a counted byte.
 abbrev pub countFields : ℕ → ℕ → ℕ → List ℕ
 countFields before inside skip = before ∷ inside ∷ skip ∷ []
 

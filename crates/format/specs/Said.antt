@@ -7,6 +7,7 @@ pub record Said : Type 0 where
   pub value : ℕ
   pub entered : ℕ
 
+-- A refusal, with figures 0.
 abbrev pub refused : ℕ → Said
 refused q = record { number = q; value = 0; entered = 0 }
 

@@ -8,9 +8,11 @@ use Rattle.text.specs.Lists.{concat}
 unfoldable pub wordAt : List ℕ → ℕ → ℕ
 wordAt t i = getD t i 0 + 256 * getD t (i + 1) 0 + 65536 * getD t (i + 2) 0 + 16777216 * getD t (i + 3) 0
 
+-- The four bytes of a word.
 unfoldable pub wordBytes : ℕ → List ℕ
 wordBytes w = w % 256 ∷ w / 256 % 256 ∷ w / 65536 % 256 ∷ w / 16777216 % 256 ∷ []
 
+-- The bytes of words, one after the other.
 unfoldable pub wordsBytes : List ℕ → List ℕ
 wordsBytes ws = concat (map wordBytes ws)
 

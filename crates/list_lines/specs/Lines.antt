@@ -51,16 +51,19 @@ refusedLine q = 114 ∷ 101 ∷ 102 ∷ 117 ∷ 115 ∷ 101 ∷ 100 ∷ 32 ∷ [
 abbrev pub maxInput : ℕ
 maxInput = 65536
 
--- The largest number of bytes of a 32-bit number with the byte after it; then of a line, of the lines of all levels, and of the line of a refused tree.
+-- The largest number of bytes of a 32-bit number with the byte after it.
 abbrev pub maxFigure : ℕ
 maxFigure = 11
 
+-- The largest number of bytes of a line.
 abbrev pub maxLine : ℕ
 maxLine = 4 * maxFigure
 
+-- The largest number of bytes of the lines of all levels.
 abbrev pub maxLines : ℕ
 maxLines = maxLevels * maxLine
 
+-- The largest number of bytes of the line of a refused tree.
 abbrev pub maxRefused : ℕ
 maxRefused = 8 + maxFigure
 

@@ -30,6 +30,7 @@ abbrev pub ListNumbered : Listed → Type 0
 ListNumbered (Bytes size) = Unit {0}
 ListNumbered (Refused number) = 1 ≤ number
 
+-- The answer of list.
 pub record ListAnswer (t : List ℕ) (room : ℕ) (r : Listed) : Type 0 where
   pub says : listSaid r ≡ listSays t room
   pub numbered : ListNumbered r

@@ -26,6 +26,7 @@ Numbered (Row q) = 1 ≤ q
 Numbered (Nothing m) = Unit {0}
 Numbered (Refused refusal) = 1 ≤ refusal
 
+-- An allowed answer to a search from a mark.
 pub record AllowedAnswer (t : List ℕ) (ok refusal : ℕ) (selected : List ℕ → Bool) (mark : ℕ) (r : NextRowAnswer) : Type 0 where
   pub says : AllowedOutcome t ok refusal selected mark (outcomeOf mark r)
   pub numbered : Numbered r

@@ -11,6 +11,7 @@ usableModulus q = max 1 (min q 2147483647)
 unfoldable pub usable : ℕ → ℕ → Fingerprint
 usable b q = record { base = b % usableModulus q; modulus = usableModulus q }
 
+-- A base and a modulus that are usable.
 pub record Ready (b q : ℕ) : Type 0 where
   pub below : b < q
   pub most : q ≤ 2147483647
@@ -20,5 +21,6 @@ unfoldable pub digits : ℕ → ℕ → List ℕ → ℕ
 digits b a [] = a
 digits b a (x ∷ s) = digits b (a * b + x) s
 
+-- The fingerprint of bytes.
 unfoldable pub finger : ℕ → ℕ → List ℕ → ℕ
 finger b q s = digits b 0 s % q

@@ -35,6 +35,7 @@ module _ (t : List ℕ) where
   offsetsIn zero h = h
   offsetsIn (suc l) h = setWord (offsetsIn l h) (offsetAt l) (layout1Offset l)
 
+  -- The header in layout 1: its layout word and all offsets replaced.
   unfoldable pub layout1Header : List ℕ
   unfolding at.settings
   layout1Header =
@@ -46,16 +47,20 @@ module _ (t : List ℕ) where
   unfolding at.settings at.levelCount
   recordCount = sumBelow (at.settings t .levels) (at.levelCount t)
 
+  -- Record j without its edges.
   unfoldable pub layout1Record : ℕ → List ℕ
   unfolding at.recordSize
   layout1Record j = stretch t (headerLength + j * at.recordSize t) layout1RecordSize
 
+  -- All records without their edges.
   unfoldable pub layout1Records : List ℕ
   layout1Records = concat (tabulate recordCount layout1Record)
 
+  -- The leaf bytes, unchanged.
   unfoldable pub layout1LeafBytes : List ℕ
   unfolding at.leafOffset at.leafCount
   layout1LeafBytes = stretch t (at.leafOffset t) (at.leafCount t)
 
+  -- The tree in layout 1.
   unfoldable pub withoutEdges : List ℕ
   withoutEdges = layout1Header ++ layout1Records ++ layout1LeafBytes
