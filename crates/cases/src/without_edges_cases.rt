@@ -1,4 +1,4 @@
-// A tree without its edges: a line names the tree and gives the length of the lent buffer.
+// A tree without its edges: a line names the tree and gives the length of the buffer.
 use crate::ask;
 use crate::wrong;
 use cases_tokens::hexadecimal::Fault;
