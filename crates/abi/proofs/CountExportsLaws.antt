@@ -52,7 +52,7 @@ module _ (t : List ℕ) (q : ℕ) (buffer after : List ℕ) (r : RowCopied) (k :
   pub row-refused : (number : ℕ) → r ≡ row.Refused number → RowSays t q buffer number 0 after
   row-refused number e = subst (λ (x : RowCopied). RowSays t q buffer (saidRow x .number) (saidRow x .value) after) e k
 
--- of a number above 255
+-- For a number above 255.
 
 not-zero : (n : ℕ) → eqb (suc n) 0 ≡ false
 not-zero n = ne-eqb (suc n) 0 (λ e. omega arith)

@@ -35,11 +35,11 @@ use Rattle.ask_access.proofs.span.Reads as span-reads
 abbrev pub Asked : (κs : Lfts 1) → RefT (List ℕ) → TextPlace → Answer → Type 0
 Asked κs t p r = byte-reads.Post κs (t, (p, tt)) r (t, (p, tt))
 
--- the same of `run`
+-- The contract of `run`.
 abbrev pub Run : (κs : Lfts 1) → RefT (List ℕ) → TextPlace → RefT (List ℕ) → Type 0
 Run κs t p r = run-reads.Post κs (t, (p, tt)) r (t, (p, tt))
 
--- The same for `span`; `after` is the buffer after the call.
+-- The contract of `span`; `after` is the buffer after the call.
 abbrev pub Span : (κs : Lfts 2) → RefT (List ℕ) → TextPlace → ℕ → RefT (List ℕ) → RefT (List ℕ) → Copied → Type 0
 Span κs t p len buffer after r = span-reads.Post κs (t, (p, (len, (buffer, tt)))) r (t, (p, (len, (after, tt))))
 
@@ -90,7 +90,7 @@ module _ (t : RefT (List ℕ)) (pass : readable (t .now) ≡ 0) (links : linksOk
         short = paths.path-short (t .now) pass (p .0) (w .0) (w .1);
       }
 
-  -- That text is the one text that fits the tree.
+  -- The text that the paths give is the one text that fits the tree.
   pub one-text : (T : List ℕ) → fits T (t .now) ≡ true → T ≡ textOf (t .now)
   one-text = paths.only-text (t .now) pass links
 

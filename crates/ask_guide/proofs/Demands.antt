@@ -79,7 +79,7 @@ module _ (κs : Lfts 2) (t table after : RefT (List ℕ)) (r : Size) (a : MakeGu
         let u = laws.made-short (now t) (now table) v l in
         (refused-is r 25 (omega arith) (a .0 .0 ∙ sym (u .0)), a .1 ∙ sym (u .1))
 
-    -- Else the table gets the words, and its bytes after them are unchanged.
+    -- If the table is long enough, it gets the words, and its bytes after them are unchanged.
     pub make-writes : 4 * guideWords (now t) ≤ length (now table)
         → (r ≡ Words (guideWords (now t))) × (now after ≡ guideBytes (now t) ++ drop (4 * guideWords (now t)) (now table))
     make-writes l =

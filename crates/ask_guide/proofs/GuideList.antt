@@ -90,7 +90,7 @@ module _ (t : List ℕ) where
   unfolding guideWords
   all-words c n e f = f ∙ ap (entriesBefore t) e
 
--- of an accepted tree
+-- For an accepted tree.
 module _ (t : List ℕ) (v : verdict t ≡ 0) where
   -- each entry fits a word
   entry-few : (i : ℕ) → i < length (guideOf t) → getD (guideOf t) i 0 < maxText

@@ -22,7 +22,7 @@ abbrev pub ReadsFrom : List ℕ → ℕ → Ran → Type 0
 ReadsFrom t p (ran.At part) = ReadsOn t p (part .from) (part .length) × (1 ≤ part .length)
 ReadsFrom t p (ran.Refused q) = byteSays t p .number ≡ 14
 
--- of n bytes from a of s and from b of t the first r agree, and the next do not
+-- The n bytes of s from a and of t from b agree in their first r, and not in the next.
 pub record Agrees (s : List ℕ) (a : ℕ) (t : List ℕ) (b n r : ℕ) : Type 0 where
   pub most : r ≤ n
   pub same : (x : ℕ) → x < r → getD s (a + x) 0 ≡ getD t (b + x) 0

@@ -195,7 +195,7 @@ shared-is (x ∷ T) (y ∷ U) = go (which x y) (shared-is T U)
         at-place zero h = e
         at-place (suc z) h = r .agree z (omega arith)
 
--- it is the same with the texts exchanged
+-- The length of the longest common prefix is symmetric.
 pub shared-flip : (T U : List ℕ) → shared U T ≡ shared T U
 unfolding shared
 shared-flip [] [] = refl

@@ -127,7 +127,7 @@ module _ (κ : Lfts 1) (t P table : RefT (List ℕ))
   unfolding placesOf
   room-holds = let k = roomy (now t) (length (now P)) words (a .says) in omega (arith, k .words-are, places-few (now t) (now P) (k .low))
 
-  -- so 17 is not returned
+  -- With a table of that size the call is not refused with 17.
   pub room-enough : (κs : Lfts 3) (after : RefT (List ℕ)) → Places κs t P table after (written.Refused 17) → ⊥
   unfolding placesSays placesNumber patternOk placesOf
   room-enough κs after b = go (pathsHold (now t) 0 (at.textLength (now t))) refl

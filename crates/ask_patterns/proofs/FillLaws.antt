@@ -17,7 +17,7 @@ pub filled-all : (ps : List ℕ) (room : ℕ) (before : List ℕ) → length ps 
 unfolding filled
 filled-all ps room before h = rw (take-all room ps h)
 
--- and back
+-- The converse.
 pub filled-take : (ps : List ℕ) (room : ℕ) (before : List ℕ) → length ps ≤ room → take (length ps) (filled ps room before) ≡ ps
 filled-take ps room before h = rw (filled-all ps room before h) (take-append-seam ps (drop (length ps) before))
 

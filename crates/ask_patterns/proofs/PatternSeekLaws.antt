@@ -42,7 +42,7 @@ module _ (P T : List ℕ) (i k : ℕ) (l : Longest P (λ p. getD T p 0) 0 i k) (
       let same : getD T (i - length P + x) 0 ≡ getD P x 0 = rw e at (l .ends .same x (omega arith)) in
       getD-stretch T (i - length P) (length P) x low ∙ same))
 
-  -- or they are not
+  -- If the state is not the whole pattern, the pattern does not end here.
   stands-not : (k ≡ length P → ⊥) → length P ≤ i → standsAt P T (i - length P) ≡ false
   unfolding standsAt
   stands-not other room = ne-sameList (stretch T (i - length P) (length P)) P (λ e. other (omega (arith, l .ends .short, l .most (length P) (match e))))

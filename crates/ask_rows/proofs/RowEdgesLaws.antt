@@ -219,7 +219,7 @@ module _ (T : List ℕ) (q : ℕ) (low : 1 ≤ q) (high : q ≤ countIn 10 T) wh
       let o : p + (e - p) ≡ e = omega arith in
       nth-place 10 q T e (rw (newlines-before T q low high, o) at (nth-earlier 10 1 T 0 p (e - p) (rw z first)))
 
-  -- that newline exists
+  -- The newline exists.
   some-end : Nth 10 1 T (rowFrom T q) (placeOf 10 q T - rowFrom T q)
   some-end =
       let p = rowFrom T q in
@@ -242,7 +242,7 @@ module _ (len before : ℕ) where
     pub cr-kept : (before ≡ 13 → ⊥) → len ≡ cond (ltb 0 len && eqb 13 before) (len - 1) len
     cr-kept n = rw (lt-ltb 0 len (omega (arith, some)), ne-eqb 13 before (λ e. n (sym e)))
 
--- Its edges.
+-- The bounds of a row that ends in a newline.
 module _ (t : List ℕ) (ok : ℕ) (sound : ok ≡ 0 → verdict t ≡ 0) (q : ℕ) (x : RowStart) (starts : StartIs t ok q x) where
   -- the newline that ends it is none of its bytes
   abbrev end-most : ℕ
@@ -402,7 +402,7 @@ module _ (t : List ℕ) (h : Header) (k : HeaderOf t h) (q : ℕ) (asks : asksLa
         before-walk t ok last-number last-row last-most n (omega arith) (y ∙ rw z)
 
     module _ (value figure : ℕ) (is : x ≡ answer.Byte value figure) where
-      -- it is 10
+      -- The last byte is 10.
       pub last-ten : value ≡ 10 → EdgesOf t ok last-number last-row last-most (edges.Refused 12)
       last-ten ten = before-walk t ok last-number last-row last-most 12 (omega arith) (sym (rw (here-said, is, ten)))
 

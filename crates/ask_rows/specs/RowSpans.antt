@@ -33,14 +33,14 @@ edgesNumber (edges.Refused number) = number
 
 -- The edges of a row: `number` is that of the questions before the walk, `row` what the row is where `ok` is 0; it has at most `most` bytes.
 module _ (t : List ℕ) (ok number : ℕ) (row : List ℕ) where
-  -- it has none, with this number: that of a question before the walk, or free
+  -- No bounds: refused with n, the number of a question before the walk, or free.
   pub record Refuses (n : ℕ) : Type 0 where
     pub low : 1 ≤ n
     pub asked : 0 < number → n ≡ number
     pub accepted : number ≡ 0 → ok ≡ 0 → ⊥
     pub free : number ≡ 0 → n ≡ 14
 
-  -- it is these bytes of the text
+  -- The bounds: these bytes of the text.
   pub record Spans (most start len : ℕ) : Type 0 where
     pub asked : number ≡ 0
     pub within : start + len ≤ at.textLength t

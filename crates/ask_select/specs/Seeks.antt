@@ -82,7 +82,7 @@ module _ (t : List ℕ) where
     pub rest-is : rest ≡ j - at.before t (level + 1) x c
     pub next : x - at.link t level i + 1 < pieces (at.blockLengthAt t level i) below → j ≤ at.before t (level + 1) (x + 1) c
 
-  -- it is kept or it points; on an accepted tree there is one
+  -- The child is kept or it points; on an accepted tree there is one.
   pub record ChildWith (c level i below j : ℕ) (r : Child) : Type 0 where
     pub kept : (x : BlockNumber) (o : BlockPlace) (rest : ℕ)
         → r ≡ child.Kept x o rest → (Chosen c level i below j (x .0) (o .0) rest) × (keptBlock t (level + 1) (x .0) ≡ true)

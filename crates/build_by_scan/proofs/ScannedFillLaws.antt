@@ -154,7 +154,7 @@ module _ (seed : ℕ) (T out cs : List ℕ) (level : Level)
       × (level .count + level .count ≤ pieces (length T) (level .settings .leaf) + 1)
   items-asks = (small .counted-few, some-blocks, limits .leaf-low, limits .leaf-high, limits .text-high, items-fit)
 
--- of a level without blocks there is nothing to tell
+-- A level without blocks has no results.
 pub told-none : (S : Settings) (T W : List ℕ) (l : ℕ) → suc l < S .levels → count S T l ≡ 0 → Told S T l W
 told-none S T W l upper none = record {
   upper = upper;

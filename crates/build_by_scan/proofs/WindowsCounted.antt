@@ -340,7 +340,7 @@ module _ (seed : ℕ) (T out cs : List ℕ) (level : Level)
   pub counted : (w : ℕ) → Counted T out it w → w ≡ windowsAt S T l
   counted w c = c .sum ∙ windows-are (c .lengths) (c .noted)
 
-  -- and not too many
+  -- A window fits at no more places than the text has.
   places-most : (v : ℕ) → v ≤ length T → placesOf (length T) v ≤ length T
   places-most v a = go (ℕ-discrete v 0)
     where

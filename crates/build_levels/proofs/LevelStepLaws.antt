@@ -147,7 +147,7 @@ module _ (T cs : List ℕ) (level : Level) (out two : List ℕ) (total : ℕ) (r
       header = within-grown D two new 0 (countAt (l + 1)) more header-two;
     }
 
-    -- of the level that the code makes
+    -- For the level that the code makes.
     module _ (n : Level) (n-is : n ≡ next) where
       n-level : LevelIs S T n
       n-level = rw n-is next-is

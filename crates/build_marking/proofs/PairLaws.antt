@@ -38,7 +38,7 @@ module _ (T : List ℕ) (s len : ℕ) (fits : s + len ≤ length T) (r : Bool) (
       let l : s ≤ leftmost T s len = ltb-false _ _ (sym earlier ∙ y) in
       rw (eq-eqb (leftmost T s len) s (omega (arith, leftmost-le T s len)))
 
--- the same of the bytes of a pair, which end with the text at the latest
+-- The same for the bytes of a pair, which end with the text at the latest.
 module _ (T : List ℕ) (s b len : ℕ) (r : Bool) (low : s ≤ length T) (len-is : len ≡ min (b + b) (length T - s)) (r-is : r ≡ earlierSays T s len) where
   pub again-here : r ≡ true → Again ≡ pairSays T s (min (b + b) (length T - s))
   again-here y = rw len-is at (found-earlier T s len (omega arith) r r-is y)

@@ -14,7 +14,7 @@ use Rattle.build_records.specs.State.{On}
 use Rattle.build_marking.specs.declared.pair.Pair.{Pair}
 use Rattle.build_marking.specs.declared.pair.Pair.the-variants.{Apart, First, Again}
 
--- of the pairs before and after a block: one of them occurs here first, or there is none
+-- Whether a block is kept, by the pairs before and after it: one of them occurs here first, or there is none.
 abbrev pub keptBy : Pair → Pair → Bool
 keptBy First after = true
 keptBy Apart Apart = true

@@ -18,7 +18,7 @@ ghost use Rattle.build_records.specs.State.{settingsOf, On, StretchIs};
 
 pub struct Level {
     pub settings: Settings,
-    // Its number, from 0.
+    // The number of the level, from 0.
     pub number: u32,
     // The block lengths of the level above, of this level and of the level below.
     pub above: u32,

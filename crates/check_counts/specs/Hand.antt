@@ -18,7 +18,7 @@ module _ (t : List ℕ) where
     minus = handMinus t l i c;
   }
 
-  -- the same of kept block i's child that holds place o, with the child's before
+  -- The same for the child of kept block i that contains place o, with the child's count before.
   unfoldable pub stepOf : ℕ → ℕ → ℕ → ℕ → Hand
   stepOf l i o c =
       let j = at.link t l i + o / at.fullLength t (l + 1) in

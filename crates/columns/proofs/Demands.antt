@@ -25,7 +25,7 @@ Lent = RefT (List ℕ)
 abbrev pub ToColumns : (κs : Lfts 2) → (text : Lent) (w : ℕ) (out after : Lent) → ℕ → Type 0
 ToColumns κs text w out after r = to-reads.Post κs (text, (w, (out, tt))) r (text, (w, (after, tt)))
 
--- the same of `from_columns`
+-- The contract of `from_columns`.
 abbrev pub FromColumns : (κs : Lfts 2) → (text : Lent) (w : ℕ) (out after : Lent) → ℕ → Type 0
 FromColumns κs text w out after r = from-reads.Post κs (text, (w, (out, tt))) r (text, (w, (after, tt)))
 
@@ -35,7 +35,7 @@ pub record Rearranges (w : ℕ) (T out U after : List ℕ) (r : ℕ) : Type 0 wh
   pub width-refused : widthOk w (length T) ≡ false → (r ≡ 20) × (after ≡ out)
   -- Refused with 21 after it: an output that is too short. Both refusals leave the output unchanged.
   pub output-refused : widthOk w (length T) ≡ true → length out < length T → (r ≡ 21) × (after ≡ out)
-  -- Else the rearranged text is written, and bytes past it are unchanged.
+  -- Otherwise the rearranged text is written, and the bytes after it are unchanged.
   pub written : widthOk w (length T) ≡ true → length T ≤ length out → (r ≡ 0) × (after ≡ U ++ drop (length T) out)
   pub passed : r ≡ 0 → (widthOk w (length T) ≡ true) × (length T ≤ length out)
 

@@ -15,7 +15,7 @@ module _ (m : ℕ) (bytes : List ℕ) where
   unfolding filledOut
   length-filled = rw (length-take, length-append, length-replicate) (omega arith)
 
-  -- its own bytes, then zeros
+  -- An edge has the block's own bytes, then zeros.
   pub filled-own : (x : ℕ) → x < m → x < length bytes → getD (filledOut m bytes) x 0 ≡ getD bytes x 0
   unfolding filledOut
   filled-own x hm hx = getD-take m (bytes ++ replicate m 0) x 0 hm ∙ List·getD-append bytes (replicate m 0) 0 x hx

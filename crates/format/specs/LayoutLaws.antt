@@ -179,12 +179,12 @@ module _ (t : List ℕ) (k : Readable t) where
       let whole : (S + (i + 1)) * R ≤ sumBelow (settings t .levels) (levelCount t) * R = mul-le-mul-right R (omega (arith, part)) in
       omega (arith, k .level-at l hl, k .leaf-at, add-mul S (i + 1) R, add-mul i 1 R)
 
-  -- so does each of its words
+  -- Each word of a record is inside the tree.
   pub record-inside : (l i f : ℕ) → l < settings t .levels → i < levelCount t l → f < fieldCount (countedCount t)
       → levelOffset t l + i * recordSize t + 4 * f + 4 ≤ leafOffset t
   record-inside l i f hl hi hf = omega (arith, byte-inside l i (4 * f + 4) hl hi (omega (arith, size-low)))
 
-  -- and, in layout 2, its edges
+  -- In layout 2 the edges of a record are inside the tree.
   pub edges-inside : (l i : ℕ) → layout t ≡ 2 → l < settings t .levels → i < levelCount t l
       → edgesAt t l i + (settings t .leaf + settings t .leaf) ≤ leafOffset t
   unfolding edgesAt

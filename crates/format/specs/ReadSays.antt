@@ -63,7 +63,7 @@ module _ (t : List ℕ) where
   unfoldable pub copyNumber : ℕ → ℕ → ℕ → ℕ
   copyNumber p len room = asksSpan p len room (pathsHold p len)
 
-  -- That refusal, or the length.
+  -- The refusal of the copy, or the length.
   unfoldable pub copySays : ℕ → ℕ → ℕ → Said
   copySays p len room = unless (copyNumber p len room) (record { number = 0; value = len; entered = 0 })
 

@@ -9,15 +9,15 @@ use lib.ListN.{getD}
 abbrev pub startField : ℕ
 startField = 0
 
--- Its kind: 0 kept, 1 pointing.
+-- The kind: 0 kept, 1 pointing.
 abbrev pub kindField : ℕ
 kindField = 1
 
--- Its link.
+-- The link.
 abbrev pub linkField : ℕ
 linkField = 2
 
--- Its gap.
+-- The gap.
 abbrev pub gapField : ℕ
 gapField = 3
 

@@ -21,7 +21,7 @@ Lent = RefT (List ℕ)
 abbrev pub Read : Lfts 1 → Lent → ℕ → ℕ → Type 0
 Read κs t i r = read-reads.Post κs (t, (i, tt)) r (t, (i, tt))
 
--- the same of `record::field`
+-- The contract of `record::field`.
 abbrev pub Field : Lfts 1 → Lent → ℕ → ℕ → BlockNumber → ℕ → ℕ → Type 0
 Field κs t size level block f r = field-reads.Post κs (t, (size, (level, (block, (f, tt))))) r (t, (size, (level, (block, (f, tt)))))
 
@@ -40,7 +40,7 @@ module _ (κs κu : Lfts 1) (t u : Lent) (header : (k : ℕ) → k < headerLengt
   abbrev place : ℕ
   place = at.levelOffset (now t) level + block .0 * at.recordSize (now t) + 4 * f
 
-  -- it can be read from bytes that end with its four, in the middle of the record
+  -- A field can be read from bytes that end with its four, in the middle of the record.
   pub field-cut-off : headerLength ≤ length (now u) → place + 4 ≤ length (now u) → field-reads.Asked κu (u, (size, (level, (block, (f, tt)))))
   field-cut-off long held = field-held (now t) (now u) header size level (block .0) f h long held
 

@@ -30,7 +30,7 @@ pub enum Checked {
 }
 
 impl Settings {
-    // Of the length of a text, and of a level 0 block.
+    // The largest length of a text, and of a level 0 block.
     pub const MAX_TEXT: u32 = 8388608;
 
     pub const MIN_LEAF: u32 = 1;

@@ -35,7 +35,7 @@ use Rattle.query_prefix.proofs.next_row_with_prefix_guided.Reads as gui
 abbrev pub NextRowWithPrefix : (κs : Lfts 2) → (t prefix : RefT (List ℕ)) → ℕ → NextRowAnswer → Type 0
 NextRowWithPrefix κs t prefix mark r = next-reads.Post κs (t, (prefix, (mark, tt))) r (t, (prefix, (mark, tt)))
 
--- the same of `next_row_with_prefix_guided`
+-- The contract of `next_row_with_prefix_guided`.
 abbrev pub NextRowWithPrefixGuided : (κs : Lfts 3) → (t guide prefix : RefT (List ℕ)) → ℕ → NextRowAnswer → Type 0
 NextRowWithPrefixGuided κs t guide prefix mark r = guided-reads.Post κs (t, (guide, (prefix, (mark, tt)))) r (t, (guide, (prefix, (mark, tt))))
 

@@ -69,7 +69,7 @@ module _ (T out : List ℕ) (it : Items) where
       pub low : e ≤ k
       pub listed : (y : ℕ) → e ≡ suc y → Listed y
       pub chain : (y : ℕ) → e ≡ suc y → chainAt y ≡ g
-      -- and all of them
+      -- The chain has all items of its number.
       pub all : (y : ℕ) → y < k → Listed y → chainAt y ≡ g → y < e
 
     -- items below k are entered
@@ -80,7 +80,7 @@ module _ (T out : List ℕ) (it : Items) where
       pub heads : (g : ℕ) → g < it .heads → Link g k (linkOf (headIn (it .items) W g))
       pub marks : (x : ℕ) → x < k → Listed x → markOf (headIn (it .items) W (chainAt x)) (print (it .seed) (bytesAt x) % 8) ≡ 1
 
-    -- of the places below q, none before the one found has the bytes of item x
+    -- Among the places below q, none before the one found has the bytes of item x.
     pub record Found (x q : ℕ) : Type 0 where
       pub near : placeIn W x ≤ startAt x
       pub same : stretch T (placeIn W x) (lengthAt x) ≡ bytesAt x

@@ -21,7 +21,7 @@ module _ (T out : List ℕ) (it : Items) where
     pub searched : Searched T out it W Z
     pub here : lengthAt T out it x ≡ n → Found T out it W x p → Found T out it Z x (p + 1)
 
-  -- and with every item of chain g
+  -- The window was compared with every item of chain g.
   pub record Visited (W Z : List ℕ) (g p n : ℕ) : Type 0 where
     pub searched : Searched T out it W Z
     pub here : (x : ℕ) → x < it .items

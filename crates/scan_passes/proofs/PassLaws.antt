@@ -99,7 +99,7 @@ places-most size n l = go (lt-or-ge 0 n)
 pub looked-few : (seed : ℕ) (T : List ℕ) (n p : ℕ) (w : Window) → Standing seed T n p w → w .looked ≤ length T
 looked-few seed T n p w s = omega (arith, s .looked-is, s .places-is, places-most (length T) n (s .fits))
 
--- it was looked up everywhere
+-- The window was looked up everywhere.
 looked-of : (seed : ℕ) (T : List ℕ) (n m p : ℕ) (w : Window) → n ≡ m → Standing seed T n p w → length T ≤ p → w .looked ≡ placesOf (length T) m
 looked-of seed T n m p w e s l =
     let a : w .looked ≡ placesOf (length T) n = omega (arith, s .looked-is, s .places-is, places-most (length T) n (s .fits)) in

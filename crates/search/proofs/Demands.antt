@@ -24,7 +24,7 @@ use Rattle.search.proofs.occurs_earlier.Reads as earlier-reads
 abbrev pub Answer : (κs : Lfts 1) → RefT (List ℕ) → TextPlace → ℕ → Fingerprint → Occurrence → Type 0
 Answer κs text at len by r = leftmost-reads.Post κs (text, (at, (len, (by, tt)))) r (text, (at, (len, (by, tt))))
 
--- the same of `occurs_earlier`
+-- The contract of `occurs_earlier`.
 abbrev pub Earlier : (κs : Lfts 1) → RefT (List ℕ) → TextPlace → ℕ → Fingerprint → Bool → Type 0
 Earlier κs text at len by r = earlier-reads.Post κs (text, (at, (len, (by, tt)))) r (text, (at, (len, (by, tt))))
 

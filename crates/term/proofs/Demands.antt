@@ -47,11 +47,11 @@ Lent = RefT (List ℕ)
 abbrev pub OpenOn : (κs : Lfts 3) → (first last today : Lent) → Opened → Type 0
 OpenOn κs first last today r = open-reads.Post κs (first, (last, (today, tt))) r (first, (last, (today, tt)))
 
--- the same of `days_left`
+-- The contract of `days_left`.
 abbrev pub DaysLeft : (κs : Lfts 2) → (last today : Lent) → Left → Type 0
 DaysLeft κs last today r = left-reads.Post κs (last, (today, tt)) r (last, (today, tt))
 
--- the same of `renew`, which leaves the day as `after`
+-- The contract of `renew`; `after` is the day after the call.
 abbrev pub Renew : (κs : Lfts 1) → (day after : Lent) → ℕ → Type 0
 Renew κs day after r = renew-reads.Post κs (day, tt) r (after, tt)
 
@@ -188,7 +188,7 @@ module _ (κs : Lfts 1) (day after : Lent) where
           (rw k (day-back (renewed (dateIn (now day))) f), rw k back, rw (k, back) (renewed-later (dateIn (now day)) facts low))
       by false e n k = absurd (let x : ⊥ = omega arith in x)
 
-  -- It is not refused for a day before 2099.
+  -- Renew is not refused for a day before 2099.
   pub renew-answers : (r : ℕ) → Renew κs day after r → isDay (now day) ≡ true → dateIn (now day) .year < 2099 → r ≡ 0
   unfolding renewNumber
   renew-answers r a d low = a .0 ∙ rw (d, lt-ltb (dateIn (now day) .year) 2099 low)

@@ -112,7 +112,7 @@ module _ (T : List ℕ) (s len : ℕ) where
           let e : leftmost T s len ≡ s = omega (arith, leftmost-le) in
           ap (λ (q : ℕ). stretch T q len) e
 
-  -- and at no earlier place
+  -- The bytes do not occur at an earlier place.
   pub leftmost-least : (q : ℕ) → q < leftmost T s len → stretch T q len ≡ stretch T s len → ⊥
   leftmost-least q l e = bool-clash _ (eq-sameList _ _ e) (is-first .before q (omega arith) l)
 

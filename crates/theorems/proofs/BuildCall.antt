@@ -51,7 +51,7 @@ unfolding buildNumber
 build-one S T out =
     asks-one ((1, lengthOk (length T)) ∷ (2, sizesOk S) ∷ (3, countedOk (S .counted)) ∷ (4, leb (length (treeOf S T)) (length out)) ∷ [])
 
--- it answers only where the tree fits the buffer
+-- Build is not refused only if the tree fits the buffer.
 build-fits : (S : Settings) (T out : List ℕ) → buildNumber S T out ≡ 0 → length (treeOf S T) ≤ length out
 unfolding buildNumber
 build-fits S T out h =
@@ -142,7 +142,7 @@ module _ (κs : Lfts 3) (text : Lent) (leaf arity levels : ℕ) (counted out aft
       text-is : textOf (now t) ≡ T
       text-is = rw is (tree.build-text κs text leaf arity levels counted out after (built.Size size) a refl)
 
-      -- its header has the settings that were given
+      -- The header has the given settings.
       settings-are : at.settings (now t) ≡ S
       settings-are = rw (is ∙ build-writes) (read-settings S T (tree.taken S T (now out) passed))
 

@@ -43,7 +43,7 @@ byte-call = call byte-function byte-met.met (λ 𝓤 H A mem run κs a. (tt, ref
 
 -- For any bytes.
 
--- it answers only where the path of the place holds
+-- Byte is not refused only if the place has a path.
 pub record Reached (t : List ℕ) (p : ℕ) : Type 0 where
   pub pass : readable t ≡ 0
   pub low : p < at.textLength t

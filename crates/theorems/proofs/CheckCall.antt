@@ -23,7 +23,7 @@ pub use Rattle.theorems.specs.CallContracts.{Check}
 abbrev pub check-call : Call
 check-call = call check-function check-met.met (λ 𝓤 H A mem run κs a. (tt, refl))
 
--- It answers 0, or 5 to 9.
+-- Check returns 0, or 5 to 9.
 pub check-numbers : (κs : Lfts 1) (t : Lent) (r : ℕ) → Check κs t r → OneOf (5 ∷ 6 ∷ 7 ∷ 8 ∷ 9 ∷ 0 ∷ []) r
 check-numbers κs t r a = rw a (verdict-one (now t))
 

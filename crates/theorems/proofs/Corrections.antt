@@ -40,10 +40,10 @@ pub record CountsNear (d i : ℕ) (r s : Counted) : Type 0 where
   pub other-entered : ℕ
   pub one-is : r ≡ counted.Times one one-entered
   pub other-is : s ≡ counted.Times other other-entered
-  -- they are at most 1 apart
+  -- The counts are at most 1 apart.
   pub above : one ≤ other + 1
   pub below : other ≤ one + 1
-  -- they are equal if place d is not among the first i
+  -- The counts are equal if place d is not among the first i.
   pub same : i ≤ d → one ≡ other
 
 -- an answer of find: this place, with any figure
@@ -65,7 +65,7 @@ module _ (T : List ℕ) (byte : ℕ) (t : Lent) (k : CountingTree T byte t) wher
       let w = check-answers (k .lifetime) t (k .accepted) T (k .fitting) .find .find-of κs byte j r c (k .counting) low high in
       (w .0, w .2)
 
-  -- it answers a place only there
+  -- Find returns a place only if there is a j-th occurrence.
   find-low : (κs : Lfts 1) (j : ℕ) (r : Found) → Find κs t byte j r → (p : TextPlace) → FoundAt r p → (1 ≤ j) × (j ≤ countIn byte T)
   find-low κs j r c p is = go (lt-or-ge 0 j) (lt-or-ge (countIn byte T) j)
     where

@@ -50,7 +50,7 @@ uncounted-call = call uncounted-function uncounted-met.met (λ 𝓤 H A mem run 
 
 -- For any bytes.
 
--- it answers nothing of no bytes, or by the path of the last one
+-- Count returns 0 for no bytes, otherwise the count by the path of the last place.
 record Summed (t : List ℕ) (i e : ℕ) : Type 0 where
   pass : readable t ≡ 0
   path : Path

@@ -70,7 +70,7 @@ pub use Rattle.theorems.proofs.BuildScannedCall.{scanned-writes, scanne
 pub use Rattle.ask_worn_keys.proofs.Demands.{row-rises, none-moves}
 -- Request 107: repeated calls from mark 0 until none return the list of matching rows.
 pub use Rattle.ask_worn_keys.proofs.Demands.{all-matches}
--- That list is increasing (`selected-rise`) and has exactly the rows that match (`selected-in`, `in-selected`).
+-- The list of selected rows is increasing (`selected-rise`) and has exactly the rows that match (`selected-in`, `in-selected`).
 pub use Rattle.row_filter.specs.SelectedRowLaws.{all-shown, selected-rise, selected-in, in-selected}
 -- Request 107: wider ranges return every row that the narrower ones return.
 pub use Rattle.ask_worn_keys.proofs.Demands.{wider-loses-none}

@@ -48,7 +48,7 @@ make-guide-numbers κs t table after n a =
     (rw e (then-one (5 ∷ 6 ∷ 7 ∷ 8 ∷ 9 ∷ []) (25 ∷ 0 ∷ []) (verdict (now t)) _ (verdict-one (now t))
     (asks-one ((25, leb (length (guideBytes (now t))) (length (now table))) ∷ []))))
 
--- Its size: a refusal is 5, 6 or 7.
+-- guide_words: a refusal is 5, 6 or 7.
 pub guide-words-numbers : (κs : Lfts 1) (t : Lent) (n : ℕ) → GuideWords κs t (size.Refused n) → OneOf (5 ∷ 6 ∷ 7 ∷ []) n
 unfolding sizeSays
 guide-words-numbers κs t n a =

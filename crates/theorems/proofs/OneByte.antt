@@ -19,7 +19,7 @@ pub record OneByte (T U : List ℕ) (d : ℕ) : Type 0 where
   pub differ : getD T d 0 ≡ getD U d 0 → ⊥
   pub elsewhere : (p : ℕ) → p < length T → (p ≡ d → ⊥) → getD T p 0 ≡ getD U p 0
 
--- so does each from the other
+-- The relation is symmetric.
 pub one-byte-back : (T U : List ℕ) (d : ℕ) → OneByte T U d → OneByte U T d
 one-byte-back T U d k = record {
   same-length = sym (k .same-length);
@@ -42,7 +42,7 @@ module _ (T U : List ℕ) (d : ℕ) (k : OneByte T U d) (c : ℕ) where
       stretch-ext T U 0 0 i (omega (arith, k .within)) (omega (arith, k .within, k .same-length))
       (λ x l. k .elsewhere (0 + x) (omega (arith, k .within)) (λ e. omega arith))
 
-  -- and past it
+  -- The bytes after d are equal.
   same-past : (x : ℕ) → d + 1 + x ≤ length T → stretch T (d + 1) x ≡ stretch U (d + 1) x
   same-past x h =
       stretch-ext T U (d + 1) (d + 1) x h (omega (arith, k .same-length))

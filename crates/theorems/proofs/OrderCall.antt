@@ -136,7 +136,7 @@ module _ (t u t′ u′ : Lent) (T U : List ℕ) (a : Holds t T) (b : Holds u U)
   pub texts-alone : (κs κs′ : Lfts 2) (r r′ : Compared) → Compare κs t u r → Compare κs′ t′ u′ r′ → r ≡ r′
   texts-alone κs κs′ r r′ c c′ = compare-of t u T U a b κs r c ∙ sym (compare-of t′ u′ T U a′ b′ κs′ r′ c′)
 
-  -- the same figures, and the tree of the same side
+  -- The same figures, and the tree of the same side.
   pub first-alone : (κs κs′ : Lfts 4) (n o l n₁ o₁ l₁ n₂ o₂ l₂ n₃ o₃ l₃ : RefT ℕ) (r r′ : Lent)
       → First κs t u n o l n₁ o₁ l₁ r → First κs′ t′ u′ n₂ o₂ l₂ n₃ o₃ l₃ r′
       → (figuresIn n₁ o₁ l₁ ≡ figuresIn n₃ o₃ l₃)
@@ -151,7 +151,7 @@ module _ (t u t′ u′ : Lent) (T U : List ℕ) (a : Holds t T) (b : Holds u U)
       side same e e′ = inl (e, e′)
       side after e e′ = inr (e, e′)
 
--- it is a total order on the texts
+-- It is a total order on the texts.
 
 -- The first comes before the second, or both are equal.
 abbrev pub AtOrBefore : Compared → Type 0

@@ -108,7 +108,7 @@ module _ (κs : Lfts 3) (t P table after : Lent) where
     places-numbers =
         not-zero (5 ∷ 6 ∷ 7 ∷ 16 ∷ 14 ∷ 17 ∷ []) n (a .0 .numbered) (rw places-says (places-one (now t) (now P) (length (now table))))
 
-    -- It leaves the table unchanged.
+    -- A refusal leaves the table unchanged.
     pub places-unchanged : now after ≡ now table
     unfolding placesLeaves
     places-unchanged = a .1 ∙ rw (← places-says, ne-eqb n 0 (λ e. omega (arith, a .0 .numbered)))

@@ -56,7 +56,7 @@ module _ (κs : Lfts 2) (t : Lent) (q : ℕ) (buffer after : Lent) where
     pub row-numbers : OneOf (5 ∷ 6 ∷ 7 ∷ 11 ∷ 12 ∷ 13 ∷ 14 ∷ []) n
     row-numbers = row-outcome-numbers (now t) q (now buffer) n (now after) (a .numbered) (outcome-of n 0 (a .says))
 
-    -- It leaves the buffer unchanged; or, for a 14 in copying, zeros at its start, no more than a row can have, and the rest unchanged.
+    -- A refusal leaves the buffer unchanged; or, for a 14 in copying, zeros at its start, no more than a row can have, and the rest unchanged.
     pub row-leaves : (now after ≡ now buffer) ⊎ ((n ≡ 14) × Zeros (rowMost (now t) q) (now buffer) (now after))
     row-leaves = row-outcome-leaves (now t) q (now buffer) n (now after) (a .numbered) (outcome-of n 0 (a .says))
 

@@ -49,6 +49,6 @@ module _ (κs : Lfts 3) (t guide : Lent) (q : ℕ) (buffer after : Lent) where
     pub row-guided-numbers : OneOf (5 ∷ 6 ∷ 7 ∷ 11 ∷ 12 ∷ 13 ∷ 14 ∷ []) n
     row-guided-numbers = row-outcome-numbers (now t) q (now buffer) n (now after) (a .numbered) outcome-of
 
-    -- It leaves the buffer as row does.
+    -- A refusal leaves the buffer as that of row does.
     pub row-guided-leaves : (now after ≡ now buffer) ⊎ ((n ≡ 14) × Zeros (rowMost (now t) q) (now buffer) (now after))
     row-guided-leaves = row-outcome-leaves (now t) q (now buffer) n (now after) (a .numbered) outcome-of

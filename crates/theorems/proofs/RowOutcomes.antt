@@ -195,7 +195,7 @@ module _ (t : List ℕ) (q : ℕ) (buffer : List ℕ) where
     row-outcome-numbers (broken z left) = of-right (5 ∷ 6 ∷ 7 ∷ 11 ∷ 12 ∷ []) (13 ∷ 14 ∷ []) n (inr (inl z))
     row-outcome-numbers (copied z fits rest) = absurd (let y : ⊥ = omega arith in y)
 
-    -- it leaves the buffer unchanged; or, for a 14 in copying, zeros at its start and the rest unchanged
+    -- A refusal leaves the buffer unchanged; or, for a 14 in copying, zeros at its start and the rest unchanged.
     pub row-outcome-leaves : RowOutcome n 0 after → (after ≡ buffer) ⊎ ((n ≡ 14) × Zeros (rowMost t q) buffer after)
     row-outcome-leaves (asked low z same) = inl same
     row-outcome-leaves (short z same) = inl same

@@ -45,7 +45,7 @@ span-one t p len room =
     then-one (5 ∷ 6 ∷ 7 ∷ []) (10 ∷ 13 ∷ 14 ∷ 0 ∷ []) (readable t) _ (readable-one t)
     (asks-one ((10, leb (p + len) (at.textLength t)) ∷ (13, leb len room) ∷ (14, spanReached t p len) ∷ []))
 
--- it answers only where its bytes fit the buffer and are reached
+-- Span is not refused only if its bytes fit the buffer and are reached.
 record Spanned (t : List ℕ) (p len room : ℕ) : Type 0 where
   pass : readable t ≡ 0
   fits : len ≤ room

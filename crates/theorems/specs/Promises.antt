@@ -61,7 +61,7 @@ pub record LengthOfPath (t : List ℕ) (H p e : ℕ) : Type 0 where
   pub path : Path
   -- There is one: it does not break.
   pub path-is : pathOf t p ≡ some path
-  -- It has e blocks.
+  -- The path has e blocks.
   pub length-is : e ≡ length (path .visits)
   -- There is one block for each level, and one more for each pointer followed.
   pub each-level : e ≡ H + pointers t (path .visits)

@@ -32,7 +32,7 @@ module _ (t : List ℕ) where
     edged = verdicts.accepted-edges t v;
   }
 
-  -- It represents no other text: exactly one text fits a tree that passes questions 5 to 8.
+  -- The tree represents no other text: exactly one text fits a tree that passes questions 5 to 8.
   pub one-text : readable t ≡ 0 → linksOk t ≡ true → (T : List ℕ) → fits T t ≡ true → T ≡ textOf t
   one-text = paths.only-text t
 
@@ -42,7 +42,7 @@ module _ (t : List ℕ) where
       let e : T ≡ textOf t = one-text (s .readable-is) (s .linked) T (s .fitting) in
       verdicts.accepted t (s .readable-is) (s .linked) (rw e at (s .counted)) (rw e at (s .edged))
 
-  -- So the check accepts bytes exactly when questions 5 to 8 hold, a text fits, and the counts and the edges are true of it.
+  -- The check accepts bytes exactly if questions 5 to 8 pass, some text fits, and the counts and edges are right for it.
   pub accepts : (verdict t ≡ 0) ↔ ((T : List ℕ) × StandsFor t T)
   accepts = (λ v. (textOf t, accepted-stands v), λ s. stands-accepted (s .0) (s .1))
 
@@ -52,6 +52,6 @@ module _ (S : Settings) (T : List ℕ) (h : Taken S T) where
   pub built-text : textOf (treeOf S T) ≡ T
   built-text = let b = built S T h in sym (one-text (treeOf S T) (b .read) (b .linked) T (b .fitting))
 
-  -- and the check accepts it.
+  -- The check accepts the built tree.
   pub built-verdict : verdict (treeOf S T) ≡ 0
   built-verdict = built-accepted S T h built-text

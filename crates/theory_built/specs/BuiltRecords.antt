@@ -39,7 +39,7 @@ module _ (S : Settings) (T : List ℕ) where
   unfoldable pub gapOf : ℕ → ℕ → ℕ
   gapOf l i = cond (keptAt S T l i) 0 (placeOf S T l i - start S T l (targetOf S T l i))
 
-  -- of the byte c
+  -- The counts of byte c.
   unfoldable pub beforeOf : ℕ → ℕ → ℕ → ℕ
   beforeOf l i c = countIn c (stretch T (parentOf l (start S T l i)) (start S T l i - parentOf l (start S T l i)))
 

@@ -49,7 +49,7 @@ module _ (n H : ℕ) (b N : ℕ → ℕ) (half : (l : ℕ) → suc l < H → 2 *
       let above = halved (sumBelow (suc l) N) (b l) (b (suc l)) n (suc l) (half l e) (all-room l (omega arith)) in
       omega (arith, room (suc l) e, add-mul (sumBelow (suc l) N) (N (suc l)) (b (suc l)), suc-mul (suc l) (b (suc l)))
 
--- and counted alone, where no block is empty
+-- The bound on the number of blocks, if no block is empty.
 pub all-few : (x m y k : ℕ) → 1 ≤ m → x * m ≤ y + k * m → x ≤ y + k
 all-few x m y k low h = go (lt-or-ge k x)
   where

@@ -104,7 +104,7 @@ module _ (t : List ℕ) (v : verdict t ≡ 0) (counted : isCounted t 10 ≡ true
               high = omega (arith, all-is, e, some, added-few (endsOpen T));
             })
 
-    -- it is none of them
+    -- The refusal if there is no row q.
     pub row-twelve : (1 ≤ q → q ≤ length (rowsOf T) → ⊥) → rowNumber t q ≡ 12
     row-twelve none = go (bool-cases (asksLast t q)) (bool-cases (endsOpen T))
       where

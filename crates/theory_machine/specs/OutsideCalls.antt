@@ -30,14 +30,14 @@ pub record Call : Type 2 where
   pub ends : Ends function
   pub asks-nothing : AsksNothing function
 
--- it is made of the theorem that the function meets its contract
+-- A call is made of the theorem that the function meets its contract.
 abbrev pub call : (f : Function)
     → ((𝓤 : URA Closed.Res) (H : Heap 𝓤) (𝓜 : Model 𝓤 H) (𝓖 : GhostRules 𝓤 H) (𝓡 : Running 𝓤 H 𝓜)
     → Meets 𝓤 H (𝓖 .A) (f .signature) (𝓡 .run (f .routine)) (f .clauses 𝓤 H (𝓖 .A) (𝓜 .mem) (𝓡 .run)))
     → AsksNothing f → Call
 call f met nothing = record { function = f; ends = ends f met; asks-nothing = nothing }
 
--- it holds of each of some calls
+-- P holds for each of some calls.
 abbrev pub Each : (Function → Type 2) → List Call → Type 2
 Each P [] = Unit {2}
 Each P (c ∷ cs) = P (c .function) × Each P cs

@@ -33,7 +33,7 @@ module _ (t : List ℕ) (r : readable t ≡ 0) (p : ℕ) (q : Path) (e : pathOf 
   pub blocks-entered : length (q .visits) ≡ at.settings t .levels + pointers t (q .visits)
   blocks-entered = omega (arith, goes-length t path-goes, readable-facts t r .bounds .levels-low)
 
-  -- So it enters at most 2H - 1 blocks.
+  -- A path enters at most 2H - 1 blocks.
   pub path-short : length (q .visits) ≤ 2 * at.settings t .levels - 1
   path-short = omega (arith, goes-short t path-goes, readable-facts t r .bounds .levels-low)
 

@@ -1,4 +1,4 @@
--- That a text fits a tree, as plain facts on its bytes.
+-- A text fits a tree, as plain facts on its bytes.
 use mathlib.Core.List.{List}
 use mathlib.Core.Bool.{Bool, true, false, not, _||_}
 use mathlib.Core.Path.{_≡_, refl, sym, ap, _∙_}

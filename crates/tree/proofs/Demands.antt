@@ -97,7 +97,7 @@ module _ (κs : Lfts 3) (text : RefT (List ℕ)) (leaf arity levels : ℕ) (coun
   pub build-accepted : verdict tree ≡ 0
   build-accepted = rw build-writes (built-verdict S T (taken S T before passed))
 
-  -- Its text is the builder's input.
+  -- The text of the built tree is the input.
   pub build-text : textOf tree ≡ T
   build-text = rw build-writes (built-text S T (taken S T before passed))
 

@@ -158,7 +158,7 @@ module _ (t : List ℕ) (size level b c i o len : ℕ) (k : Pointing t size leve
       let wide : at.fullLength t level < targetPlace t level i o + len = omega (arith, e .1, k .on .b-is) in
       rw (lt-leb (targetPlace t level i o + len) (at.fullLength t level) wide, e .0, e .1, link-is)
 
-  -- it lies in the target
+  -- The span is inside the target.
   module _ (gap-low : gap < b) (inside : gap + o < b → gap + o + len ≤ b) where
     in-target : targetPlace t level i o + len ≤ at.fullLength t level
     in-target = go (lt-or-ge (gap + o) b)
