@@ -1,6 +1,6 @@
--- The contracts of the calls that build, check or read a tree, each as a relation under the call's name: `Byte κs tree place r` says that the contract of byte
--- allows the answer r to a call with these arguments. It is the `Post` that the prover generates from the contract. A buffer that the call writes is
--- given twice, as it was and as it is `after` the call; κs are the lifetimes of the borrowed arguments.
+-- The contracts of the calls that build, check or read a tree, each as a relation with the call's name: `Byte κs tree place r` means that the contract of
+-- byte allows the answer r to a call with these arguments. It is the `Post` that the prover generates from the contract. A buffer that the call writes is
+-- given twice, before the call and `after` it; κs are the lifetimes of the borrowed arguments.
 use mathlib.Core.List.{List}
 use Prim.Native.Nat.{ℕ}
 use contract.Lifetimes.{Lfts}

@@ -1,4 +1,4 @@
--- The functions of the library's public calls: of each its code on the machine (`routine`), its signature, and its contract (`clauses`), as its crate states
+-- The functions of the library's public calls. Each has its code on the machine (`routine`), its signature, and its contract (`clauses`), as its crate states
 -- them. The calls exported to C, list and the calls on a licence's days are listed in `Demands` of `abi`, `list_lines` and `term`.
 use mathlib.Core.List.{List, [], _∷_}
 use Rattle.theory_machine.specs.Ends.{Function}
