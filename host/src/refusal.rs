@@ -1,4 +1,4 @@
-//! Why the library refused, by name, number and words.
+//! The refusals of the library, by name, number and text.
 
 use std::fmt;
 
@@ -11,7 +11,7 @@ macro_rules! refusals {
         }
 
         impl Refusal {
-            /// The refusal of a number; None where there is none.
+            /// The refusal with a number; None if there is none.
             pub fn from_number(number: u32) -> Option<Self> {
                 match number {
                     $($number => Some(Refusal::$name),)*
@@ -60,7 +60,7 @@ refusals! {
 }
 
 impl Refusal {
-    /// Its number, as `include/blocktree.h` has it.
+    /// Its number, as in `include/blocktree.h`.
     pub fn number(self) -> u32 {
         self as u32
     }
@@ -74,11 +74,11 @@ impl fmt::Display for Refusal {
 
 impl std::error::Error for Refusal {}
 
-/// The answer, unless `number` is a refusal's.
+/// The answer if `number` is 0, else the refusal.
 pub(crate) fn answer<T>(number: u32, value: T) -> Result<T, Refusal> {
     match Refusal::from_number(number) {
         None if number == 0 => Ok(value),
-        None => panic!("the library answered {number}, which include/blocktree.h does not list"),
+        None => panic!("the library returned {number}, which include/blocktree.h does not list"),
         Some(refusal) => Err(refusal),
     }
 }
@@ -87,7 +87,7 @@ pub(crate) fn answer<T>(number: u32, value: T) -> Result<T, Refusal> {
 mod tests {
     use super::Refusal;
 
-    /// Is this line of the header the declaration of that number?
+    /// Whether this line of the header declares that number.
     fn declares(line: &str, number: u32) -> bool {
         line.split_once(" = ").is_some_and(|(_, value)| value.split([',', ' ']).next() == Some(&number.to_string()))
     }

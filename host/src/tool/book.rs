@@ -28,7 +28,7 @@ pub enum Warning {
 }
 
 impl Warning {
-    /// What is said where it is about one book.
+    /// The message for one book.
     pub fn words(&self) -> String {
         match self {
             Warning::NoRows => "the book has no rows yet".to_owned(),

@@ -18,7 +18,7 @@ use std::fs;
 use std::path::{Path, PathBuf};
 use std::thread;
 
-/// What was built, and what there is to say of it.
+/// What was built, and its report.
 pub struct Built {
     pub chosen: Chosen,
     /// The book, and how it was rearranged.
@@ -29,11 +29,11 @@ pub struct Built {
     pub small: Option<usize>,
 }
 
-/// What a call asks of each of its books.
+/// The options of a call for each of its books.
 pub struct Order {
     pub request: Request,
     pub width: Option<Width>,
-    /// What the call says of its books; none where no manifest is asked for.
+    /// The manifest by the options; None if no manifest is to be written.
     pub described: Option<Manifest>,
 }
 
@@ -63,7 +63,7 @@ pub fn build(given: &Given) -> Result<(), Failure> {
     }
 }
 
-/// How many threads build at a time: as many as there are processors, unless told otherwise.
+/// The number of threads that build at a time: -j, otherwise the number of processors.
 fn jobs(given: &Given) -> Result<usize, Failure> {
     match given.number(&JOBS)? {
         Some(0) => Err(given.usage("-j is how many threads build at a time, 1 or more, not 0")),
@@ -72,7 +72,7 @@ fn jobs(given: &Given) -> Result<usize, Failure> {
     }
 }
 
-/// What the call says of its books.
+/// The manifest by the options of the call.
 fn described(given: &Given) -> Result<Option<Manifest>, Failure> {
     if ![&MAKER, &EDITION, &FIRST, &LAST].into_iter().any(|option| given.has(option)) {
         return Ok(None);
@@ -106,7 +106,7 @@ fn one(given: &Given, order: &Order) -> Result<(), Failure> {
     Ok(())
 }
 
-/// Build the tree of a book. Its file and its manifest's are made ready first, so that a place that cannot be written is told before the work.
+/// Build the tree of a book. Its file and that of its manifest are opened first, so that a place that cannot be written is reported before the work.
 pub fn make(given: &Given, order: &Order, path: Option<&Path>) -> Result<Made, Failure> {
     let source = Source::open(path)?;
     let target = target(given, path, &TREES)?;

@@ -14,7 +14,7 @@ use codebook::{digest_text, Digest, Refusal, Tree};
 use std::os::unix::ffi::OsStrExt;
 use std::path::Path;
 
-/// A tree that the check accepts, unless it is not asked.
+/// A tree that the check accepts, or with --unchecked any bytes.
 pub fn open(input: &Input, unchecked: bool) -> Result<Tree<'_>, Failure> {
     let tree = Tree::unchecked(&input.bytes);
     if unchecked {
@@ -90,7 +90,7 @@ pub fn compared(input: &Input, path: Option<&Path>, tree: Tree, digests: &Digest
     Ok(Some(beside))
 }
 
-/// The guide that a manifest names must be there, as the manifest says, and be the tree's.
+/// The guide that a manifest names must exist, have the figures of the manifest, and be the tree's.
 fn compare_guide(beside: &Beside, tree: Tree) -> Result<(), Failure> {
     let manifest::Guide { name: Some(name), size, sha256 } = &beside.manifest.guide else { return Ok(()) };
     let guide = input::read(Some(&beside.path.with_file_name(name)), &GUIDE)?;
@@ -124,7 +124,7 @@ fn differs(input: &Input, what: &str, due: Option<Digest>, found: Digest) -> Res
     }
 }
 
-/// What is said where all is well.
+/// The report of a valid tree.
 pub fn report(given: &Given, object: &Object, words: &str) -> Result<(), Failure> {
     match (given.json(), given.quiet()) {
         (true, _) => say::print(object.line().as_bytes()),

@@ -42,7 +42,7 @@ pub fn code(given: &Given) -> Result<(), Failure> {
     }
 }
 
-/// The name of a tree that is asked alone; empty for several.
+/// The name of a single tree; empty for several.
 fn only(trees: &[Option<&Path>]) -> String {
     match trees {
         [Some(path)] if *path != Path::new("-") => path.to_string_lossy().into_owned(),

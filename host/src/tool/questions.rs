@@ -1,4 +1,4 @@
-//! The questions put to one tree.
+//! The questions about one tree.
 
 use crate::beside::Beside;
 use crate::check::open;
@@ -77,7 +77,7 @@ impl Page {
     }
 }
 
-/// Ask what the call asks.
+/// Answer the question of the call.
 pub fn ask(given: &Given) -> Result<(), Failure> {
     let question = Question::of(given)?;
     let unchecked = given.has(&UNCHECKED);
@@ -140,7 +140,7 @@ impl Question {
         }
     }
 
-    /// What is said where a search finds nothing; None for a question that is no search.
+    /// The message if a search finds nothing; None for a question that is not a search.
     fn nothing(&self) -> Option<String> {
         match self {
             Question::Places(pattern) => Some(format!("'{}' does not occur", pattern.escape_ascii())),
@@ -149,7 +149,7 @@ impl Question {
         }
     }
 
-    /// A failure where the tree is not as its manifest says, or its rows are not read so.
+    /// A failure if the tree does not agree with its manifest, or its rows are not read this way.
     fn fits(&self, beside: &Beside, name: &str, tree: Tree) -> Result<(), Failure> {
         beside.describes(name, &Figures::of(tree, None))?;
         let other = match self {
@@ -229,7 +229,7 @@ impl Question {
     }
 }
 
-/// The last of so many rows, where the first one asked for is among them; a book of no rows has all of them.
+/// The last row of a book with this number of rows, if the first row given is one of them; the range 1.. of a book without rows is empty.
 fn to_the_end(first: u32, rows: u64) -> Option<u32> {
     let last = u32::try_from(rows).unwrap_or(u32::MAX);
     (first <= last.max(1)).then_some(last)

@@ -1,11 +1,11 @@
-//! Why a question was refused, in the words of the question.
+//! Why a question was refused, with its values.
 
 use crate::questions::Question;
 use crate::say::{grouped, several};
 use crate::Failure;
 use codebook::{Range, Refusal, Tree};
 
-/// What was asked, and what would have been good.
+/// The question, and which values are valid.
 pub fn failure(name: &str, refusal: Refusal, question: &Question, tree: Tree) -> Failure {
     let asked = asked(question).map_or(String::new(), |words| format!("{words}: "));
     let why = match why(refusal, question, tree) {
@@ -15,7 +15,7 @@ pub fn failure(name: &str, refusal: Refusal, question: &Question, tree: Tree) ->
     Failure::library(name, refusal, format!("{asked}{why}"))
 }
 
-/// What was asked, and why the tool does not put it to the tree.
+/// The question, and why the tool does not call the library.
 pub fn refused(name: &str, question: &Question, words: &str) -> Failure {
     let asked = asked(question).map_or(String::new(), |words| format!("{words}: "));
     Failure::refused(name, format!("{asked}{words}"))

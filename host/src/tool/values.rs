@@ -1,4 +1,4 @@
-//! Words of a call as numbers, bytes and ranges; what is wrong with one is said in words.
+//! Arguments as numbers, bytes and ranges; an error is a message.
 
 use codebook::{Digest, Range};
 use std::ffi::OsStr;
@@ -16,7 +16,7 @@ pub fn number(what: &str, word: &OsStr) -> Result<u32, String> {
     let text = word.to_string_lossy();
     let negative = text.strip_prefix('-').is_some_and(|digits| !digits.is_empty() && digits.bytes().all(|byte| byte.is_ascii_digit()));
     match text.parse() {
-        // a sign before it is let pass by the library's reading of numbers alone
+        // `parse` accepts a plus sign, this does not
         Ok(number) if !text.starts_with('+') => Ok(number),
         _ if negative => Err(format!("{what} is a number from 0 to 4294967295; {text} is negative")),
         _ => Err(format!("{what} is a number from 0 to 4294967295, not '{text}'")),
@@ -72,7 +72,7 @@ pub fn byte(word: &OsStr) -> Result<u8, String> {
     })
 }
 
-/// Bytes parted by commas, or `none`.
+/// Bytes separated by commas, or `none`.
 pub fn bytes(word: &OsStr) -> Result<Vec<u8>, String> {
     if word == "none" {
         return Ok(Vec::new());
@@ -80,7 +80,7 @@ pub fn bytes(word: &OsStr) -> Result<Vec<u8>, String> {
     word.as_bytes().split(|&byte| byte == b',').map(|part| byte(OsStr::from_bytes(part))).collect()
 }
 
-/// The bytes of a word, in which `\n`, `\r`, `\t`, `\\` and `\xHH` stand for one byte.
+/// The bytes of an argument, in which `\n`, `\r`, `\t`, `\\` and `\xHH` are one byte each.
 pub fn pattern(word: &OsStr) -> Result<Vec<u8>, String> {
     let mut bytes = Vec::new();
     let mut rest = word.as_bytes();
@@ -98,7 +98,7 @@ pub fn pattern(word: &OsStr) -> Result<Vec<u8>, String> {
     Ok(bytes)
 }
 
-/// What stands after a backslash: the byte, and how many letters name it.
+/// The byte that the letters after a backslash name, and the number of these letters.
 fn escaped(letters: &[u8]) -> Option<(u8, usize)> {
     let hexadecimal = |digit: &u8| char::from(*digit).to_digit(16);
     match letters {
