@@ -24,28 +24,28 @@ keptBy Again Apart = false
 keptBy Again First = true
 keptBy Again Again = false
 
--- a pair of len bytes at s
+-- The pair of len bytes at s: whether its bytes occur earlier.
 abbrev pub pairSays : List ℕ → ℕ → ℕ → Pair
 pairSays T s len = cond (eqb (leftmost T s len) s) First Again
 
--- by the tests of docs/FORMAT.md, "Blocks"
+-- The pair by the tests of docs/FORMAT.md, "Blocks".
 abbrev pub pairBy : Bool → Bool → Pair
 pairBy first pair = cond first First (cond pair Again Apart)
 
 module _ (S : Settings) (T : List ℕ) (l : ℕ) where
-  -- block i and the next; none is looked for on the last level
+  -- The pair of block i and the next one; on the last level no pair is looked for.
   unfoldable pub pairOf : ℕ → Pair
   pairOf i =
       cond (eqb (suc l) (S .levels)) Apart
       (pairBy (firstPairAt T (blockLength S l) (startsAt S T l) i) (pairAt T (blockLength S l) (startsAt S T l) i))
 
-  -- block i and the one before it
+  -- The pair of block i and the one before it.
   unfoldable pub pairBefore : ℕ → Pair
   pairBefore zero = Apart
   pairBefore (suc i) = pairOf i
 
 module _ (S : Settings) (T : List ℕ) where
-  -- block i of a level is next in turn, with its kind and its link known
+  -- Block i of a level is next in turn; its kind and its link are known.
   pub record Next (out : List ℕ) (level : Level) (i : ℕ) (kept : Bool) (link : ℕ) : Type 0 where
     pub on : On S T out level i
     pub kept-is : kept ≡ keptAt S T (level .number) i

@@ -1,4 +1,4 @@
--- Places of records.
+-- The offsets of records.
 use Prim.Native.Nat.{ℕ, _+_, _*_}
 use Rattle.format.specs.Settings.{Settings}
 use Rattle.format.specs.Blocks.{recordBytes}

@@ -21,7 +21,7 @@ use Rattle.walk_path.specs.Above.{Above}
 unfoldable pub onward : Trail → ℕ → Trail
 onward trail here = record { entered = trail .entered + 1; left = min (trail .left) here }
 
--- a path walked to the last level: the block and the place there, the blocks entered above counted, and what is left in all of them
+-- The result of a walk: the block and the place on the last level, the number of blocks entered above it, and the bytes left in each of them, at the least.
 unfoldable pub walked : List ℕ → Trail → Option Above → Walked
 walked t trail none = Broken
 walked t trail (some a) = At (record {
@@ -48,14 +48,14 @@ landingAt t trail l i o =
     (cond (pointingBlock t l i && keptBlock t l (targetBlock t l i o))
     (landed.At (record { 0 = targetBlock t l i o }) (record { 0 = targetPlace t l i o }) (onward trail (at.fullLength t l - o))) landed.Off)
 
--- a kept block of a level, a place in it, and the blocks entered before it: two on each level above, and the one that points to it
+-- A kept block of a level, a place in it, and the number of blocks entered before it: at most two on each level above, and the one that points to it.
 pub record KeptAt (t : List ℕ) (size level b i o entered : ℕ) : Type 0 where
   pub on : OnLevel t size level b
   pub place-in : o < b
   pub kept : keptBlock t level i ≡ true
   pub few : entered ≤ 2 * level + 1
 
--- a block of a level at which a pointer may still be followed, a place in it, and the blocks entered before it
+-- A block of a level at which a pointer may still be followed, a place in it, and the number of blocks entered before it.
 pub record MayPoint (t : List ℕ) (size level b i o entered : ℕ) : Type 0 where
   pub on : OnLevel t size level b
   pub block-in : i < at.levelCount t level

@@ -9,18 +9,18 @@ use Rattle.layout.specs.declared.header.Header.{Header}
 use Rattle.layout.specs.HeaderSays.{HeaderOf}
 
 module _ (t : List ℕ) (h : Header) where
-  -- a level of a tree that passes questions 5 to 7, with its block length
+  -- A level of a tree that passes questions 5 to 7, with its block length b.
   pub record OnLevel (level b : ℕ) : Type 0 where
     pub header : HeaderOf t h
     pub level-in : level < at.settings t .levels
     pub b-is : b ≡ at.fullLength t level
 
-  -- a block of that level
+  -- A block of that level.
   pub record InTable (level b i : ℕ) : Type 0 where
     pub on : OnLevel level b
     pub block-in : i < at.levelCount t level
 
-  -- a pointing block of that level, and a place in it
+  -- A pointing block of that level, and a place in it.
   pub record Pointing (level b i o : ℕ) : Type 0 where
     pub on : OnLevel level b
     pub place-in : o < b
