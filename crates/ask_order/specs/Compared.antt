@@ -28,15 +28,15 @@ pub record Agrees (s : List ℕ) (a : ℕ) (t : List ℕ) (b n r : ℕ) : Type 0
   pub same : (x : ℕ) → x < r → getD s (a + x) 0 ≡ getD t (b + x) 0
   pub differ : r < n → getD s (a + r) 0 ≡ getD t (b + r) 0 → ⊥
 
--- by the first byte that differs, at place p
+-- The order by the first byte that differs, at place p.
 unfoldable pub byByte : ℕ → ℕ → ℕ → Ordered
 byByte x y p = cond (ltb x y) (stands before p) (stands after p)
 
--- the bytes of the shorter text
+-- The length of the shorter text.
 abbrev pub shortest : List ℕ → List ℕ → ℕ
 shortest t u = min (at.textLength t) (at.textLength u)
 
--- both are read up to a place, and the runs at it are known so far; what is left to compare gives the answer
+-- Both trees are read up to a place, and their runs from there on are known; the comparison of the rest gives the answer.
 pub record Comparing (t u : List ℕ) (m : Progress) : Type 0 where
   pub passes : readable t ≡ 0
   pub other-passes : readable u ≡ 0
@@ -45,7 +45,7 @@ pub record Comparing (t u : List ℕ) (m : Progress) : Type 0 where
   pub other-reads : ReadsOn u (m .place .0) (m .other .from) (m .other .length)
   pub left : comparedFrom t u (shortest t u - m .place .0) (m .place .0) ≡ orderSays t u
 
--- a place or more further than p, or the answer
+-- The result of a round: one or more places after p, or the answer.
 abbrev pub RoundSays : List ℕ → List ℕ → ℕ → Round → Type 0
 RoundSays t u p (round.On m) = Comparing t u m × (p < m .place .0)
 RoundSays t u p (round.Settled r) = OrderAnswer t u r

@@ -26,7 +26,7 @@ pub record CopyAnswer (t : List ℕ) (p len room : ℕ) (r : RowCopied) : Type 0
   pub says : saidRow r ≡ copySays t p len room
   pub numbered : Numbered r
 
--- the number of edges that are refused
+-- The refusal of the bounds, 0 for none.
 abbrev pub edgesNumber : Edges → ℕ
 edgesNumber (edges.At start len) = 0
 edgesNumber (edges.Refused number) = number

@@ -29,14 +29,14 @@ use Rattle.ask_select.specs.declared.seek.Target.the-variants as target
 unfoldable pub entering : ℕ → ℕ → ℕ → ℕ
 entering way forward back = way + 281474976710656 + forward - back
 
--- the rest of j in a block that was arrived at
+-- A block that was reached, with the remaining j.
 abbrev pub restIn : Next → ℕ → Child
 restIn (next.Kept i o) rest = child.Kept i o rest
 restIn (next.Points i o) rest = child.Points i o rest
 restIn next.Off rest = child.Off
 
 module _ (t : List ℕ) where
-  -- a kept block of a level, and a pointing one
+  -- A kept block of a level, and a pointing one.
   pub record KeptIn (size level b i : ℕ) : Type 0 where
     pub on : OnLevel t size level b
     pub kept : keptBlock t level i ≡ true
@@ -45,7 +45,7 @@ module _ (t : List ℕ) where
     pub on : OnLevel t size level b
     pub points : pointingBlock t level i ≡ true
 
-  -- some blocks of a level, one after the other
+  -- Some consecutive blocks of a level.
   pub record Siblings (field : CountField) (level first end : ℕ) : Type 0 where
     pub facts : Readable t
     pub size-is : field .size ≡ at.recordSize t
@@ -54,24 +54,24 @@ module _ (t : List ℕ) where
     pub some : first < end
     pub end-in : end ≤ at.levelCount t level
 
-  -- block r of them, reached from the first by blocks whose before is below j, r included
+  -- Block r of them: the blocks from the first up to r, included, have a `before` below j.
   pub record Passed (c level first end j r : ℕ) : Type 0 where
     pub low : first ≤ r
     pub high : r < end
     pub passed : (i : ℕ) → first < i → i ≤ r → at.before t level i c < j
 
-  -- the last of them before any whose before is j or more
+  -- The last sibling whose `before` is below j.
   pub record LastBefore (c level first end j r : ℕ) : Type 0 where
     pub low : first ≤ r
     pub high : r < end
     pub passed : (i : ℕ) → first < i → i ≤ r → at.before t level i c < j
     pub next : r + 1 < end → j ≤ at.before t level (r + 1) c
 
-  -- what is left of j past a block's before, with what the block is
+  -- The kind of a block and the remaining j after its `before`.
   unfoldable pub picked : ℕ → ℕ → ℕ → ℕ → ℕ → Child
   picked c level i o j = cond (ltb (at.before t level i c) j) (restIn (nextAt t level i o) (j - at.before t level i c)) child.Off
 
-  -- the child of block i that is chosen for j: its number x, where it starts in the block, and what is left of j
+  -- The child of block i that is chosen for j: its number x, its start in the block, and the remaining j.
   pub record Chosen (c level i below j : ℕ) (x o rest : ℕ) : Type 0 where
     pub link-low : at.link t level i ≤ x
     pub within : x - at.link t level i < pieces (at.blockLengthAt t level i) below
@@ -90,7 +90,7 @@ module _ (t : List ℕ) where
         → r ≡ child.Points x o rest → (Chosen c level i below j (x .0) (o .0) rest) × (pointingBlock t (level + 1) (x .0) ≡ true)
     pub off : r ≡ child.Off → verdict t ≡ 0 → ⊥
 
-  -- the target of pointing block i that has the j-th byte: the first with all of j and the skip, or the second with the rest
+  -- The target of pointing block i that contains the j-th occurrence: the first with j + skip, or the second with the rest.
   pub record Aimed (c level i b j : ℕ) (x forward rest : ℕ) : Type 0 where
     pub kept : keptBlock t level x ≡ true
     pub rest-low : 1 ≤ rest
@@ -100,7 +100,7 @@ module _ (t : List ℕ) where
         ⊎ ((x ≡ at.link t level i + 1) × (forward ≡ b) × (at.inside t level (at.link t level i) c < j + at.skip t level i c)
         × (rest ≡ j + at.skip t level i c - at.inside t level (at.link t level i) c))
 
-  -- a block pointed to, if it is kept
+  -- A linked block, if it is kept.
   unfoldable pub targetAt : ℕ → ℕ → ℕ → ℕ → Target
   targetAt level i forward rest = cond (keptBlock t level i) (target.Kept (record { 0 = i }) (record { 0 = forward }) rest) target.Off
 
@@ -108,7 +108,7 @@ module _ (t : List ℕ) where
     pub kept : (x : BlockNumber) (forward : BlockPlace) (rest : ℕ) → r ≡ target.Kept x forward rest → Aimed c level i b j (x .0) (forward .0) rest
     pub off : r ≡ target.Off → verdict t ≡ 0 → j ≤ at.inside t level i c → ⊥
 
-  -- a level, the number of a counted byte, which one of it is looked for in a block, and the way to that block, with `blocks` entered at most
+  -- A level, the number of a counted byte, the number j of the occurrence in a block, and the way to that block, with at most `blocks` blocks entered.
   pub record Seeking (field : CountField) (level b j way blocks : ℕ) : Type 0 where
     pub on : OnLevel t (field .size) level b
     pub number-in : field .number < at.countedCount t

@@ -20,7 +20,7 @@ pub record Sought (t : List ℕ) (byte j : ℕ) (s : Said) : Type 0 where
   pub accepted : verdict t ≡ 0 → s ≡ find.found t byte j
   pub free : (s ≡ refused 14) ⊎ ((s .number ≡ 0) × (s .value < at.textLength t))
 
--- block i of level 0 is where the steps for j stop
+-- Block i of level 0 is the one where the steps for j stop.
 pub record Stopped (t : List ℕ) (c j i : ℕ) : Type 0 where
   pub block-in : i < at.levelCount t 0
   pub next : i + 1 < at.levelCount t 0 → j ≤ at.before t 0 (i + 1) c

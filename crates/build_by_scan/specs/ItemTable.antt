@@ -26,7 +26,7 @@ itemsSay n step level seed = record {
 }
 
 module _ (S : Settings) (T : List ℕ) (l : ℕ) where
-  -- the bytes of the pair of blocks i and i + 1, where they are one
+  -- The number of bytes of the pair of blocks i and i + 1, if they are one.
   abbrev pub pairBytes : ℕ → ℕ
   pairBytes i = min (blockLength S l + blockLength S l) (length T - start S T l i)
 

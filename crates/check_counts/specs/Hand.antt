@@ -29,6 +29,6 @@ module _ (t : List ℕ) where
         minus = handMinus t (l + 1) j c;
       }
 
--- the block length of the level above, by the header; of the text above level 0
+-- The block length of the level above, by the header; for level 0, the length of the text.
 unfoldable pub upFrom : Header → ℕ → ℕ
 upFrom h level = cond (eqb level 0) (h .«text_length») (h .settings .leaf * h .settings .arity ^ (h .settings .levels - 1 - (level - 1)))

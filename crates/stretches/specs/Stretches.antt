@@ -11,7 +11,7 @@ pub record Stands (t : List ℕ) (from n byte j r : ℕ) : Type 0 where
   pub here : r < n → (getD t (from + r) 0 ≡ byte) × (countIn byte (stretch t from r) + 1 ≡ j)
   pub fewer : n ≤ r → countIn byte (stretch t from n) < j
 
--- n bytes of T from `from`, written from `to` on
+-- The n bytes of T from `from` on, written from `to` on.
 abbrev pub bytesWritten : List ℕ → ℕ → List ℕ → ℕ → ℕ → List ℕ
 bytesWritten t to T from zero = t
 bytesWritten t to T from (suc n) = set (bytesWritten t to T from n) (to + n) (getD T (from + n) 0)
