@@ -12,7 +12,7 @@ SHARED = target/libblocktree.so
 # the name by which programs load the shared library: the version's first number rises where a call is changed or removed
 SONAME = libblocktree.so.$(firstword $(subst ., ,$(VERSION)))
 root = $(DESTDIR)$(PREFIX)
-documents = README.md LICENSE CHANGELOG.md docs/FORMAT.md docs/JSON.md
+documents = README.md LICENSE CHANGELOG.md docs/FORMAT.md docs/JSON.md docs/TOUR.md
 installed = bin/codebook share/man/man1/codebook.1 share/bash-completion/completions/codebook share/zsh/site-functions/_codebook \
 	include/blocktree.h lib/libblocktree.a lib/libblocktree.so.$(VERSION) lib/$(SONAME) lib/libblocktree.so lib/pkgconfig/blocktree.pc share/blocktree/blocktree.py share/blocktree/blocktree.magic
 

@@ -1,4 +1,4 @@
-"""Block trees of code books: build them, check them, ask them.
+"""Block trees of code books: build, check and read them.
 
     >>> import blocktree
     >>> tree = blocktree.build(b"CH0501 1423\\nCH0502 1424\\n")
@@ -11,13 +11,13 @@
     Traceback (most recent call last):
     blocktree.RefusedError: refused (12): the text has no occurrence or row of this number; numbers start at 1
 
-Over the proved library, by ctypes, from libblocktree.so: the one that BLOCKTREE_LIBRARY names, or beside this file, in ../../lib or ../target, or where
-the loader finds it, or in the lib folder of the prefix that `codebook` is installed in, of Python's prefix or of /usr/local. `make install` installs it.
-Python 3.8 or later, Linux on x86-64.
+It calls the proved library by ctypes. libblocktree.so is the one that BLOCKTREE_LIBRARY names, else one beside this file, in ../../lib or ../target, one that
+the loader finds, or one in the lib folder of the prefix of `codebook`, of Python, or of /usr/local. `make install` installs it. Python 3.8 or later, Linux
+on x86-64.
 
-Texts, trees, rows and patterns are bytes; what is given may be any bytes-like object. Places start at 0; rows and occurrences are numbered from 1. What the
-library refuses raises RefusedError, whose `number` is the library's; docs/FORMAT.md says what each means. Which text a tree stands for, Tree.digest() says:
-compare it with the SHA-256 that the office printed of the book.
+Texts, trees, rows and patterns are bytes; arguments may be any bytes-like object. Places start at 0; rows and occurrences are numbered from 1. A refused call
+raises RefusedError with the library's `number`, which docs/FORMAT.md explains. Tree.digest() identifies the text that a tree represents: compare it with the
+SHA-256 that the office published for the book.
 """
 
 import ctypes
@@ -43,26 +43,26 @@ REASONS = {
     6: "the layout is neither 1 nor 2; this is no block tree, or one of another version",
     7: "the header is not right: its settings, unused places or offsets, or the file is longer or shorter than it says",
     8: "the blocks are not right: a start, kind, link or gap, or the number of blocks or leaf bytes",
-    9: "a count or an edge in the tree is not true",
-    10: "this lies past the text's end",
+    9: "a count or an edge in the tree is wrong",
+    10: "this is past the end of the text",
     11: "the tree does not count this byte",
     12: "the text has no occurrence or row of this number; numbers start at 1",
     13: "the answer does not fit the buffer",
-    14: "the tree is damaged: the way to a byte breaks off, or a count comes out below zero",
+    14: "the tree is damaged: the path to a byte breaks off, or a count is negative",
     15: "only trees of at most 65,536 bytes are listed",
     16: "a pattern must have 1 to 256 bytes",
     17: "the table has fewer words than the pattern has places",
-    18: "the table of words is too short: four words are needed for each leaf length of text, a begun one counting whole",
+    18: "the table of words is too short: it needs four words for each leaf length of the text, rounded up",
     19: "a worn key must have 1 to 10 cuts, each with a low and a high depth of 0 to 9, the low one not above the high one",
     20: "the width must be above 0 and divide the text's length",
     21: "the output is shorter than the text",
     22: "a day is eight digits, year, month and day, from 20000101 to 20991231, and a renewal does not pass 2099",
-    23: "the last day lies before the first",
+    23: "the last day is before the first",
     24: "this is no guide of this tree: it has too few or too many words, or an entry is wrong",
     25: "the table is too short for the guide",
 }
 
-# The settings that build tries where none are given, as leaf, arity and levels: those of `codebook build`.
+# The settings that build tries if none are given, as leaf, arity and levels: those of `codebook build`.
 SHORT_LIST = [(256, 2, 1), (32, 6, 2), (32, 5, 2), (24, 5, 3), (16, 5, 4), (16, 4, 3), (12, 4, 4), (10, 3, 6)]
 
 MAX_TEXT = 8_388_608
@@ -72,7 +72,7 @@ BEFORE, SAME, AFTER = 1, 2, 3
 
 
 class RefusedError(Exception):
-    """The library refused; `number` says why. It can be pickled, so it also comes back from another process."""
+    """The library refused the call; `number` is the reason. It can be pickled, so another process can return it."""
 
     def __init__(self, number: int) -> None:
         super().__init__(number)
@@ -86,8 +86,8 @@ class RefusedError(Exception):
 Refused = RefusedError
 
 
-# What each call is lent, in order. bytes: read; buffer: a bytearray, written; words: an array of _words, written; n32: a number; out32, out64, outi32: a
-# figure that is written; mark: one that is read and written.
+# The arguments of each call, in order. bytes: read; buffer: a bytearray, written; words: an array of _words, written; n32: a number; out32, out64, outi32:
+# a figure that is written; mark: one that is read and written.
 _CALLS = {
     "bt_build": "bytes n32 n32 n32 bytes buffer out32",
     "bt_build_scanned": "bytes n32 n32 n32 bytes words buffer out32 out32",
@@ -128,7 +128,7 @@ _FIGURES = {"out32": ctypes.c_uint32, "out64": ctypes.c_uint64, "outi32": ctypes
 
 
 def _opened() -> ctypes.CDLL:
-    """The shared library: the one that is named, or beside this file, or where the loader finds it, or installed beside the tool or below a usual prefix."""
+    """The shared library: the one that BLOCKTREE_LIBRARY names, else one beside this file, found by the loader, beside the tool, or below a usual prefix."""
     named = os.environ.get("BLOCKTREE_LIBRARY")
     if named:
         return ctypes.CDLL(named)
@@ -162,7 +162,7 @@ _LIBRARY = _library()
 
 
 def _number(value: int) -> ctypes.c_uint32:
-    """A number that the library can be lent: one below 0 or past 32 bits is the caller's mistake."""
+    """A number as an argument of the library: OverflowError if it is negative or has more than 32 bits."""
     if not 0 <= value < 1 << 32:
         raise OverflowError("%d is not a number from 0 to 4294967295" % value)
     return ctypes.c_uint32(value)
@@ -174,12 +174,12 @@ def _bytes(value: Bytes) -> bytes:
 
 
 def _words(number: int) -> Any:
-    """A table of so many words."""
+    """A table of this number of words."""
     return (ctypes.c_uint32 * number)()
 
 
 def _call(name: str, *given: Any) -> Tuple[int, ...]:
-    """The answer's number and all figures, in order. Buffers and words are written in place; no pointer is null, also where its length is 0."""
+    """The returned number and all figures, in order. Buffers and words are written in place. No pointer is null, even if its length is 0."""
     words: List[Any] = []
     figures: List[Any] = []
     rest = iter(given)
@@ -204,7 +204,7 @@ def _call(name: str, *given: Any) -> Tuple[int, ...]:
 
 
 def _ask(name: str, *given: Any) -> Any:
-    """The figures: none, one, or all of them in a tuple. RefusedError where the number is not 0."""
+    """The figures: None, one, or a tuple of all. RefusedError if the number is not 0."""
     number, *figures = _call(name, *given)
     if number:
         raise RefusedError(number)
@@ -218,18 +218,18 @@ def version() -> Tuple[int, int, int]:
 
 
 def enough(n: int, leaf: int, arity: int, levels: int, counted: Bytes = b"\n") -> int:
-    """A size that holds the tree of any text of n bytes."""
+    """A size that is enough for the tree of any text of n bytes."""
     return _ask("bt_enough", n, leaf, arity, levels, len(_bytes(counted)))
 
 
 def scan_words(n: int, leaf: int) -> int:
-    """The words of the table that build works in."""
+    """The number of words of the table that build uses."""
     return _LIBRARY.bt_scan_words(_number(n), _number(leaf))
 
 
 def build(text: Bytes, leaf: Optional[int] = None, arity: Optional[int] = None, levels: Optional[int] = None, counted: Bytes = b"\n") -> bytes:
-    """The tree of a text; `counted` are the bytes that it can count and find, rising. Without settings it is the tree of `codebook build`: each of
-    SHORT_LIST is tried, and the smallest tree is returned, of equal ones the first. That takes eight builds; give settings where time matters."""
+    """The tree of a text; `counted` are the bytes that it can count and find, ascending. Without settings it is the tree of `codebook build`: each of
+    SHORT_LIST is tried, and the smallest tree is returned, the first of equal ones. That takes eight builds; give settings if time matters."""
     if leaf is not None and arity is not None and levels is not None:
         return _build(text, leaf, arity, levels, counted)
     if (leaf, arity, levels) != (None, None, None):
@@ -242,7 +242,7 @@ def _build(text: Bytes, leaf: int, arity: int, levels: int, counted: Bytes) -> b
     room = bytearray(enough(min(len(text), 0xFFFFFFFF), leaf, arity, levels, counted))
     table = _words(scan_words(len(text), leaf))
     if len(table) > 0:
-        table[0] = int.from_bytes(os.urandom(4), "little")  # the seed: nobody can write a text that makes the builder slow
+        table[0] = int.from_bytes(os.urandom(4), "little")  # the seed of the fingerprints: unpredictable, so no text can be made to be slow
     size, _ = _ask("bt_build_scanned", text, leaf, arity, levels, counted, table, room)
     return bytes(room[:size])
 
@@ -260,7 +260,7 @@ def to_columns(text: Bytes, width: int) -> bytes:
 
 
 def from_columns(text: Bytes, width: int) -> bytes:
-    """And back."""
+    """The inverse of to_columns for the same width."""
     return _turned("bt_from_columns", text, width)
 
 
@@ -276,12 +276,12 @@ def digest_text(text: Bytes) -> bytes:
 
 
 def open_on(first: Bytes, last: Bytes, today: Bytes) -> bool:
-    """Is a book licensed from `first` to `last`, both included, open on `today`? Days are eight digits, as b"20240229"."""
+    """Whether a book licensed from `first` to `last`, both included, is open on `today`. Days are eight digits, as b"20240229"."""
     return _ask("bt_open_on", first, last, today) == 1
 
 
 def days_left(last: Bytes, today: Bytes) -> int:
-    """Days from `today` to `last`; below 0 after it."""
+    """Days from `today` to `last`; negative after it."""
     return _ask("bt_days_left", last, today)
 
 
@@ -293,7 +293,7 @@ def renew(day: Bytes) -> bytes:
 
 
 class Tree:
-    """A tree's bytes. They are checked unless told otherwise: on a tree that the check refuses answers can be wrong, though nothing outside it is read."""
+    """A tree. Its bytes are checked unless `checked` is False: on a tree that the check refuses answers can be wrong, though nothing outside it is read."""
 
     def __init__(self, tree: Bytes, checked: bool = True) -> None:
         self.bytes = _bytes(tree)
@@ -301,7 +301,7 @@ class Tree:
             _ask("bt_check", self.bytes)
 
     def __len__(self) -> int:
-        """Bytes of the text, as the header has it."""
+        """The length of the text, from the header."""
         return int.from_bytes(self.bytes[4:8], "little")
 
     @overload
@@ -311,7 +311,7 @@ class Tree:
     def __getitem__(self, index: slice) -> bytes: ...
 
     def __getitem__(self, index: Union[int, slice]) -> Union[int, bytes]:
-        """tree[14] and tree[14:20] are those of the text's bytes; a row is row(number)."""
+        """tree[14] and tree[14:20] are bytes of the text; row(number) is a row."""
         places = range(len(self))[index]
         if isinstance(places, int):
             return self.byte(places)
@@ -321,7 +321,7 @@ class Tree:
         return self.span(low, abs(places[-1] - places[0]) + 1)[places[0] - low :: places.step]
 
     def info(self) -> Dict[str, Any]:
-        """What the tree says of itself: layout, text length, settings, leaf bytes, the counted bytes with their totals, the blocks of each level."""
+        """The figures of the tree: layout, text length, settings, leaf bytes, the counted bytes with their totals, the blocks of each level."""
         figures = (ctypes.c_uint64 * 23)()
         number = _LIBRARY.bt_info(ctypes.c_char_p(self.bytes), ctypes.c_uint64(len(self.bytes)), figures)
         if number:
@@ -340,17 +340,17 @@ class Tree:
         }
 
     def byte(self, place: int) -> int:
-        """The byte at a place."""
+        """Access: the byte at a place."""
         return _ask("bt_byte", self.bytes, place)[0]
 
     def run(self, place: int) -> bytes:
-        """The bytes of the text from a place on that lie side by side in the tree."""
+        """The longest contiguous range of leaf bytes that is the text from a place on."""
         offset, length = _ask("bt_run", self.bytes, place)
         return self.bytes[offset : offset + length]
 
     def span(self, place: int, length: int) -> bytes:
         """`length` bytes from a place on."""
-        # what lies past the text's end is refused whatever the buffer
+        # a span past the end of the text is refused, whatever the buffer
         room = bytearray(length if place + length <= min(len(self), MAX_TEXT) else 0)
         _ask("bt_span", self.bytes, place, length, room)
         return bytes(room)
@@ -364,7 +364,7 @@ class Tree:
         return _ask("bt_count", self.bytes, byte, length)[0]
 
     def find(self, byte: int, number: int, guide: Optional[Bytes] = None) -> int:
-        """Select: the place of a counted byte's occurrence with this number, from 1."""
+        """Select: the place of the occurrence of a counted byte with this number, from 1."""
         if guide is None:
             return _ask("bt_find", self.bytes, byte, number)[0]
         return _ask("bt_find_guided", self.bytes, guide, byte, number)[0]
@@ -372,7 +372,7 @@ class Tree:
     def row(self, number: int, guide: Optional[Bytes] = None) -> bytes:
         """Row `number`, from 1, without its end."""
         name, lent = ("bt_row", []) if guide is None else ("bt_row_guided", [guide])
-        # a short buffer is enough mostly, and one as long as the text always
+        # a short buffer is enough for most rows, one as long as the text for every row
         room = bytearray(min(len(self), 256))
         refusal, length = _call(name, self.bytes, *lent, number, room)
         if refusal == 13:
@@ -383,20 +383,20 @@ class Tree:
         return bytes(room[:length])
 
     def iter_rows(self, first: int = 1, last: Optional[int] = None) -> Iterator[bytes]:
-        """The rows from `first` to `last`, both included, in row order; to the last one where `last` is not given."""
+        """The rows from `first` to `last`, both included, in row order; to the last row if `last` is None."""
         for number in range(first, (self.rows() if last is None else last) + 1):
             yield self.row(number)
 
     def row_length(self, number: int) -> int:
-        """Bytes of row `number`, from 1, without its end."""
+        """The length of row `number`, from 1, without its end."""
         return _ask("bt_row_length", self.bytes, number)
 
     def rows(self) -> int:
-        """How many rows there are."""
+        """The number of rows."""
         return _ask("bt_row_count", self.bytes)
 
     def places(self, pattern: Bytes) -> List[int]:
-        """All places of a pattern of 1 to 256 bytes, rising."""
+        """Locate: all places of a pattern of 1 to 256 bytes, ascending."""
         table = _words(min(4096, len(self)))
         number, places = _call("bt_places", self.bytes, pattern, table)
         if number == 17:
@@ -407,7 +407,7 @@ class Tree:
         return table[:places]
 
     def next_match(self, ranges: Iterable[Tuple[int, int]], mark: int = 0) -> Optional[int]:
-        """The first row after `mark` that matches a worn key; None where there is none. A range is a low and a high depth for each cut: [(4, 4), (3, 5)]."""
+        """The first row after `mark` that matches a worn key; None if there is none. The ranges have a low and a high depth for each cut: [(4, 4), (3, 5)]."""
         lent = bytes(depth for low_high in ranges for depth in low_high)
         return _ask("bt_next_match", self.bytes, lent, mark)[1] or None
 
@@ -445,13 +445,13 @@ class Tree:
         return _digest("bt_digest", self.bytes)
 
     def make_guide(self) -> bytes:
-        """The guide to the level 0 blocks."""
+        """The guide (sampled select directory) to the level 0 blocks."""
         room = bytearray(4 * min(_ask("bt_guide_words", self.bytes), MAX_TEXT // 16 + 4))
         words = _ask("bt_make_guide", self.bytes, room)
         return bytes(room[: 4 * words])
 
     def check_guide(self, guide: Bytes) -> None:
-        """RefusedError where it is not exactly the guide of this tree."""
+        """RefusedError if it is not exactly the guide of this tree."""
         _ask("bt_check_guide", self.bytes, guide)
 
     def without_edges(self) -> bytes:
@@ -467,6 +467,6 @@ class Tree:
         return room[:length].decode("ascii")
 
     def compare(self, other: "Tree") -> Tuple[int, int]:
-        """BEFORE, SAME or AFTER, where this tree's text stands beside the other's, and how many bytes they share from their start on."""
+        """BEFORE, SAME or AFTER: the lexicographic order of this tree's text and the other's; and the length of their longest common prefix."""
         order, shared, _ = _ask("bt_order", self.bytes, other.bytes)
         return order, shared

@@ -14,7 +14,7 @@
 //!     cargo bench -- prefixes   rows by their first bytes, on books of 1 MiB and 8 MiB
 //!     cargo bench -- hostile    texts that are made to be slow beside honest books, of 1 MiB and 8 MiB, by the second builder
 //!
-//! Prints the tables of docs/BENCHMARKS.md. Nothing is asserted about time; that both give the same answers is.
+//! Prints tables; docs/BENCHMARKS.md has those that matter. Nothing is asserted about time; that both give the same answers is.
 
 #[path = "../tests/model/mod.rs"]
 mod model;

@@ -23,7 +23,7 @@ class Library {
         return [Math.floor(number / 10000), Math.floor(number / 100) % 100, number % 100].join(".");
     }
 
-    /** Runs `work` and takes back the memory that it was lent. */
+    /** Runs `work` and frees the memory that it used. */
     lending(work) {
         const free = this.free;
         try {

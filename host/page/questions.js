@@ -1,10 +1,10 @@
-// The questions put to a tree: each form has its answer below it, and lights the path of what was asked.
+// The questions about a tree: each form has its answer below it and highlights the path of the answer.
 
 /** Lines of a list before it is cut. */
 const PAGE = 12;
 /** Bytes of a row before it is cut. */
 const LONG_ROW = 1000;
-/** Rows shown around the one that was asked for. */
+/** Rows shown around the given one. */
 const WINDOW = 9;
 
 /** A list that is cut after a page of lines, with a word that it is and a button to go on. */
@@ -24,7 +24,7 @@ class Listing {
         this.more.hidden = true;
     }
 
-    /** `next` returns a line, or null after the last; `words` says how many are shown, and whether more follow. */
+    /** `next` returns a line, or null after the last; `words` states how many are shown, and whether more follow. */
     show(next, words) {
         [this.next, this.words] = [next, words];
         this.clear();
@@ -91,7 +91,7 @@ class Questions {
         for (const field of typed) byId(field).addEventListener("input", answer);
     }
 
-    /** What is refused, or cannot be asked, is said in place of an answer. */
+    /** A refusal or a wrong value is shown in place of an answer. */
     answer(output, ask) {
         if (!this.tree) return;
         try {

@@ -5,7 +5,7 @@
 const GIVEN = JSON.parse(document.getElementById("given").textContent);
 const REFUSALS = GIVEN.refusals;
 
-/** A field holds something that cannot be asked. */
+/** A field has a wrong value. */
 class Wrong extends Error {}
 
 const byId = (id) => document.getElementById(id);

@@ -4,13 +4,13 @@ _codebook() {
     local word=${COMP_WORDS[COMP_CWORD]} command=${COMP_WORDS[1]} choices=
     COMPREPLY=()
     if [ "$COMP_CWORD" -eq 1 ]; then
-        choices='build slim import check verify digest diff list stats picture page row byte run span count find places code match worn text to-columns from-columns guide compare shelf licence sizes help version manual completion --help --version'
+        choices='build slim import check verify digest diff list stats picture page row byte run span count find places code match text to-columns from-columns guide compare sort licence sizes help version manual completion --help --version'
     else
         case $command in
         guide) command="$command ${COMP_WORDS[2]}"; [ "$COMP_CWORD" -eq 2 ] && choices='make check' ;;
         licence) command="$command ${COMP_WORDS[2]}"; [ "$COMP_CWORD" -eq 2 ] && choices='open left renew' ;;
         completion) choices='bash zsh' ;;
-        help) choices='build slim import check verify digest diff list stats picture page row byte run span count find places code match worn text to-columns from-columns guide compare shelf licence sizes help version manual completion' ;;
+        help) choices='build slim import check verify digest diff list stats picture page row byte run span count find places code match text to-columns from-columns guide compare sort licence sizes help version manual completion' ;;
         esac
         case $word in -*) case $command in
         'build') choices='-o --output -f --force --keep-time --small --best --leaf --arity --levels --count --columns --allow-larger --maker --edition --first --last -j --jobs --json -q --quiet -h --help' ;;
@@ -33,14 +33,13 @@ _codebook() {
         'places') choices='--json --unchecked --any-day --today -q --quiet -h --help' ;;
         'code') choices='--prefix --guide --json --unchecked --any-day --today -q --quiet -h --help' ;;
         'match') choices='--from --after --json --unchecked --any-day --today -q --quiet -h --help' ;;
-        'worn') choices='--from --after --json --unchecked --any-day --today -q --quiet -h --help' ;;
         'text') choices='--json --unchecked --any-day --today -q --quiet -h --help' ;;
         'to-columns') choices='-o --output -f --force --keep-time --json -q --quiet -h --help' ;;
         'from-columns') choices='-o --output -f --force --keep-time --json -q --quiet -h --help' ;;
         'guide make') choices='-o --output -f --force --keep-time --json -q --quiet -h --help' ;;
         'guide check') choices='--json -q --quiet -h --help' ;;
         'compare') choices='--json --unchecked -q --quiet -h --help' ;;
-        'shelf') choices='--json -q --quiet -h --help' ;;
+        'sort') choices='--json -q --quiet -h --help' ;;
         'licence open') choices='--json -q --quiet -h --help' ;;
         'licence left') choices='--json -q --quiet -h --help' ;;
         'licence renew') choices='--json -q --quiet -h --help' ;;

@@ -1,6 +1,6 @@
 //! The bounds that help and messages name.
 
-/// The longest text in digits, as messages write it: the one place of this number.
+/// The length of the longest text in digits, as in messages. The number is written only here.
 #[macro_export]
 macro_rules! longest {
     () => {
@@ -8,19 +8,19 @@ macro_rules! longest {
     };
 }
 
-/// The longest text, and the longest block of level 0.
+/// The length of the longest text and of the longest block of level 0.
 pub const MAX_TEXT: usize = ungrouped(longest!());
 
 /// The largest tree: of the longest text with blocks of one byte, every block kept, and four bytes counted.
 pub const MAX_TREE: u64 = 1_111_359_588;
 
-/// The longest pattern.
+/// The length of the longest pattern.
 pub const MAX_PATTERN: usize = 256;
 
-/// A buffer of so many bytes holds all lines that list writes.
+/// The size of a buffer that is enough for `list`.
 pub const LIST_LENGTH: usize = 352;
 
-/// The number that is written with its thousands parted.
+/// The number that digits with separated thousands represent.
 const fn ungrouped(digits: &str) -> usize {
     let digits = digits.as_bytes();
     let (mut number, mut at) = (0, 0);
@@ -54,7 +54,7 @@ mod tests {
         assert!(include_str!("../../docs/FORMAT.md").contains(" has 1,111,359,588 bytes: n 8,388,608, m 1, r 2, H 8, k 4,"));
     }
 
-    /// The library, its header and its format's page have the same bound.
+    /// The library, its header and the page of its format have the same bound.
     #[test]
     fn the_longest_text_everywhere() {
         let longest = MAX_TEXT as u32;

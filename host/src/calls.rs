@@ -1,6 +1,6 @@
-//! The library's C calls, declared as in include/blocktree.h, each with a safe function that lends slices and hands back the number and all figures.
+//! The library's C calls, declared as in include/blocktree.h, each with a safe function that takes slices and returns the refusal (0 for none) and all figures.
 
-/// How many figures `info` writes.
+/// The number of figures that `info` writes.
 pub const FIGURES: usize = 23;
 
 mod declared {
@@ -107,19 +107,19 @@ mod declared {
 
 #[cfg(test)]
 thread_local! {
-    /// How many buffers this thread has lent to the library, one or more for each call: tests bound the number of calls by it.
+    /// The number of slices that this thread has passed to the library, one or more for each call: tests bound the number of calls by it.
     pub(crate) static LENT: std::cell::Cell<u64> = const { std::cell::Cell::new(0) };
 }
 
-/// How many items are lent: 64 bits on every processor, as the contracts have it.
+/// The length of a slice: 64 bits on every processor, as in the contracts.
 fn len<T>(lent: &[T]) -> u64 {
     #[cfg(test)]
     LENT.set(LENT.get() + 1);
     lent.len() as u64
 }
 
-// Safety of all calls below: a slice's pointer is non-null and good for its length, a `&mut` is aligned and overlaps nothing else that is lent, and the
-// library reads and writes only what it is lent, on any bytes (proved).
+// Safety of all calls below: a slice's pointer is non-null and good for its length, a `&mut` is aligned and overlaps no other argument, and the
+// library accesses only its arguments, for any bytes (proved).
 
 /// The number and the tree's size.
 pub fn build(text: &[u8], leaf: u32, arity: u32, levels: u32, counted: &[u8], out: &mut [u8]) -> (u32, u32) {
@@ -130,7 +130,7 @@ pub fn build(text: &[u8], leaf: u32, arity: u32, levels: u32, counted: &[u8], ou
     (number, size)
 }
 
-/// The number and the bytes that are enough.
+/// The number, and a size that is enough.
 pub fn enough(n: u32, leaf: u32, arity: u32, levels: u32, counted: u32) -> (u32, u64) {
     let mut size = 0;
     let number = unsafe { declared::bt_enough(n, leaf, arity, levels, counted, &mut size) };
@@ -184,7 +184,7 @@ pub fn row(tree: &[u8], q: u32, buffer: &mut [u8]) -> (u32, u32) {
     (number, length)
 }
 
-/// The number and how many places there are.
+/// The number, and the number of places.
 pub fn places(tree: &[u8], pattern: &[u8], table: &mut [u32]) -> (u32, u32) {
     let mut places = 0;
     let number =
@@ -192,7 +192,7 @@ pub fn places(tree: &[u8], pattern: &[u8], table: &mut [u32]) -> (u32, u32) {
     (number, places)
 }
 
-/// The number and the row that is shown, 0 for none; the mark is moved.
+/// The number and the next row that matches, 0 for none; the mark is moved.
 pub fn next_match(tree: &[u8], ranges: &[u8], mark: &mut u32) -> (u32, u32) {
     let mut row = 0;
     let number = unsafe { declared::bt_next_match(tree.as_ptr(), len(tree), ranges.as_ptr(), len(ranges), mark, &mut row) };
@@ -211,7 +211,7 @@ pub fn to_columns(text: &[u8], width: u32, out: &mut [u8]) -> u32 {
     unsafe { declared::bt_to_columns(text.as_ptr(), len(text), width, out.as_mut_ptr(), len(out)) }
 }
 
-/// The number; and back.
+/// The number; the text by columns rearranged back to rows.
 pub fn from_columns(text: &[u8], width: u32, out: &mut [u8]) -> u32 {
     unsafe { declared::bt_from_columns(text.as_ptr(), len(text), width, out.as_mut_ptr(), len(out)) }
 }
@@ -274,7 +274,7 @@ pub fn next_with_prefix_guided(tree: &[u8], guide: &[u8], prefix: &[u8], mark: &
     (number, row)
 }
 
-/// The number, where the first stands (1 before, 2 same, 3 after), the length of the shared beginning, and which stands first (1 or 2).
+/// The number, the order of the first text (1 before, 2 same, 3 after), the length of the longest common prefix, and which tree comes first (1 or 2).
 pub fn order(one: &[u8], other: &[u8]) -> (u32, u32, u32, u32) {
     let (mut order, mut shared, mut first) = (0, 0, 0);
     let number = unsafe { declared::bt_order(one.as_ptr(), len(one), other.as_ptr(), len(other), &mut order, &mut shared, &mut first) };
@@ -345,7 +345,7 @@ pub fn info(tree: &[u8], figures: &mut [u64; FIGURES]) -> u32 {
     unsafe { declared::bt_info(tree.as_ptr(), len(tree), figures.as_mut_ptr()) }
 }
 
-/// The number and how many rows there are.
+/// The number, and the number of rows.
 pub fn row_count(tree: &[u8]) -> (u32, u64) {
     let mut rows = 0;
     let number = unsafe { declared::bt_row_count(tree.as_ptr(), len(tree), &mut rows) };
@@ -359,14 +359,14 @@ pub fn row_length(tree: &[u8], q: u32) -> (u32, u32) {
     (number, length)
 }
 
-/// The number and the words that hold all places of any pattern of that length.
+/// The number, and the words that are enough for all places of any pattern of that length.
 pub fn places_words(tree: &[u8], length: u32) -> (u32, u32) {
     let mut words = 0;
     let number = unsafe { declared::bt_places_words(tree.as_ptr(), len(tree), length, &mut words) };
     (number, words)
 }
 
-/// The number and the size of the tree in layout 1 that is written.
+/// The number, and the size of the tree in layout 1 that was written.
 pub fn without_edges(tree: &[u8], out: &mut [u8]) -> (u32, u64) {
     let mut size = 0;
     let number = unsafe { declared::bt_without_edges(tree.as_ptr(), len(tree), out.as_mut_ptr(), len(out), &mut size) };

@@ -1,4 +1,4 @@
-//! Columns before rows: texts of rows of one width, rearranged so that what repeats down a column stands together.
+//! Texts of rows of one width, rearranged by columns (matrix transposition), so that repeats in a column are adjacent.
 
 use crate::calls;
 use crate::refusal::{answer, Refusal};
@@ -23,7 +23,7 @@ pub fn from_columns(text: &[u8], width: u32) -> Result<Vec<u8>, Refusal> {
     answer(calls::from_columns(text, width, &mut out), ()).map(|()| out)
 }
 
-/// The width of a text's rows, end byte included, where all have one: byte 10 ends each of them, and stands nowhere else.
+/// The width of a text's rows, end byte included, if all have the same: byte 10 ends each of them and occurs nowhere else.
 pub fn row_width(text: &[u8]) -> Option<u32> {
     let width = text.iter().position(|&byte| byte == 10)? + 1;
     let even = text.chunks(width).all(|row| row.len() == width && row.iter().position(|&byte| byte == 10) == Some(width - 1));
@@ -31,7 +31,7 @@ pub fn row_width(text: &[u8]) -> Option<u32> {
 }
 
 impl Tree<'_> {
-    /// Row `a`, from 0, of rows of `width` bytes, end byte included, from the tree of a text by columns. That the text is one is the caller's to know.
+    /// Row `a`, from 0, of rows of `width` bytes, end byte included, from the tree of a text by columns. The caller must know that the text is by columns.
     pub fn row_by_columns(&self, width: u32, a: u32) -> Result<Vec<u8>, Refusal> {
         let mut row = vec![0; width.min(self.text_length()) as usize];
         answer(calls::column_row(self.bytes, width, a, &mut row), ()).map(|()| row)

@@ -1,22 +1,22 @@
-//! What a caller must know of a tree without reading its bytes.
+//! The figures of a tree that a caller needs before reading its text.
 
 use crate::refusal::answer;
 use crate::{calls, Refusal, Settings, Tree};
 
-/// A tree's figures. A counted byte's total is how often it stands in the text, in a tree that the check accepts.
+/// The figures of a tree. The total of a counted byte is how often it occurs in the text, if the check accepts the tree.
 #[derive(Clone, Debug, PartialEq, Eq)]
 pub struct Info {
-    /// 1, or 2, which has edges.
+    /// The layout: 1, or 2 with edges.
     pub layout: u32,
     /// Bytes of the text.
     pub length: u32,
-    /// How the tree is laid out, and which bytes it counts.
+    /// Leaf length, arity, levels and counted bytes.
     pub settings: Settings,
-    /// Leaf bytes that are stored.
+    /// The number of leaf bytes.
     pub leaf_bytes: u32,
-    /// For each counted byte.
+    /// The total of each counted byte.
     pub totals: Vec<u64>,
-    /// For each level, the first at the top.
+    /// The number of blocks of each level, from level 0 on.
     pub blocks: Vec<u32>,
 }
 
@@ -49,7 +49,7 @@ impl Tree<'_> {
         answer(number, length)
     }
 
-    /// So many words hold all places of any pattern of `length` bytes.
+    /// A number of words that is enough for all places of any pattern of `length` bytes.
     pub fn places_words(&self, length: u32) -> Result<u32, Refusal> {
         let (number, words) = calls::places_words(self.bytes, length);
         answer(number, words)

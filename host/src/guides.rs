@@ -1,12 +1,12 @@
-//! A guide to the level 0 blocks, kept beside a tree: finds and rows with it start near the block that they look for.
+//! Guides (sampled select directories): finds and rows with a guide start near the block that they look for.
 
 use crate::refusal::answer;
 use crate::{calls, Refusal, Tree, MAX_TEXT};
 
-/// A place, the blocks on its path, and the steps on level 0 that led to it.
+/// A place, the number of blocks on its path, and the number of steps on level 0 to it.
 #[derive(Clone, Copy, Debug, PartialEq, Eq)]
 pub struct Guided {
-    /// Where the byte stands.
+    /// The place of the byte.
     pub place: u32,
     /// Blocks on the path of that place.
     pub entered: u32,
@@ -15,7 +15,7 @@ pub struct Guided {
 }
 
 impl Tree<'_> {
-    /// The guide of a tree that the check accepts, in words of four bytes, lowest first: for each counted byte in turn the number of the block of level 0
+    /// The guide of a tree that the check accepts, in little-endian 32-bit words: for each counted byte in turn the number of the block of level 0
     /// with its occurrence 1, 65, 129, ..
     pub fn make_guide(&self) -> Result<Vec<u8>, Refusal> {
         let (number, words) = calls::guide_words(self.bytes);
@@ -27,7 +27,7 @@ impl Tree<'_> {
         answer(number, guide)
     }
 
-    /// Is this the guide of the tree?
+    /// Whether this is the guide of the tree.
     pub fn check_guide(&self, guide: &[u8]) -> Result<(), Refusal> {
         answer(calls::check_guide(self.bytes, guide), ())
     }

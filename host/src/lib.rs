@@ -1,4 +1,4 @@
-//! Block trees of code books, over the proved library.
+//! Block trees of code books: a safe interface to the proved library.
 //!
 //! ```
 //! use codebook::{build, Settings, Tree};
@@ -39,13 +39,13 @@ pub use refusal::Refusal;
 use std::collections::hash_map::RandomState;
 use std::hash::{BuildHasher, Hasher};
 
-/// Settings worth trying on a book, as leaf length, arity and levels: from few and large blocks to many and small ones. `bench/run settings` finds them.
+/// Settings to try on a book, as leaf length, arity and levels, from few large blocks to many small ones. `bench/run settings` finds them.
 pub const SHORT_LIST: [(u32, u32, u32); 8] = [(256, 2, 1), (32, 6, 2), (32, 5, 2), (24, 5, 3), (16, 5, 4), (16, 4, 3), (12, 4, 4), (10, 3, 6)];
 
 /// The same for trees without edges (layout 1), whose records cost less and whose leaves may be larger.
 pub const SMALL_LIST: [(u32, u32, u32); 8] = [(256, 2, 1), (192, 2, 2), (128, 2, 4), (96, 2, 2), (80, 2, 4), (64, 2, 2), (64, 2, 4), (64, 2, 5)];
 
-/// How a tree is laid out, and which bytes it can count and find.
+/// The settings of a tree: its shape, and the bytes that it can count and find.
 #[derive(Clone, Debug, PartialEq, Eq)]
 pub struct Settings {
     /// Bytes of a full block of the last level, 1 to 256.
@@ -54,20 +54,20 @@ pub struct Settings {
     pub arity: u32,
     /// Levels, 1 to 8.
     pub levels: u32,
-    /// The bytes that the tree counts, rising, at most four.
+    /// The bytes that the tree counts, ascending, at most four.
     pub counted: Vec<u8>,
 }
 
-/// An answer, and how many blocks were entered for it.
+/// An answer, and the number of blocks entered for it.
 #[derive(Clone, Copy, Debug, PartialEq, Eq)]
 pub struct Reached<T> {
     /// The answer.
     pub value: T,
-    /// Blocks entered on the way.
+    /// The number of blocks entered.
     pub entered: u32,
 }
 
-/// The depths that a cut of a worn key may have, 0 to 9, both included.
+/// The range of depths of a cut of a worn key, each 0 to 9, both included.
 #[derive(Clone, Copy, Debug, PartialEq, Eq)]
 pub struct Range {
     /// The lowest depth.
@@ -76,7 +76,7 @@ pub struct Range {
     pub high: u8,
 }
 
-/// A buffer of so many bytes is enough for the tree of any text of `n` bytes.
+/// A size that is enough for the tree of any text of `n` bytes.
 pub fn enough(n: usize, settings: &Settings) -> Result<u64, Refusal> {
     let n = u32::try_from(n).unwrap_or(u32::MAX);
     let counted = u32::try_from(settings.counted.len()).unwrap_or(u32::MAX);
@@ -84,7 +84,7 @@ pub fn enough(n: usize, settings: &Settings) -> Result<u64, Refusal> {
     answer(number, size)
 }
 
-/// The tree of `text`. It needs no memory besides the tree's, and searches the text once for each block and each pair: `build_scanned` is for long texts.
+/// The tree of `text`. It needs no memory besides the tree, and searches the text once for each block and each pair; for long texts use `build_scanned`.
 pub fn build(text: &[u8], settings: &Settings) -> Result<Vec<u8>, Refusal> {
     let enough = enough(text.len(), settings)?;
     let mut tree = vec![0; usize::try_from(enough).expect("a tree fits the memory")];
@@ -93,7 +93,7 @@ pub fn build(text: &[u8], settings: &Settings) -> Result<Vec<u8>, Refusal> {
     answer(number, tree)
 }
 
-/// A tree, and how many windows of the text were looked up to build it.
+/// A tree, and the number of windows of the text that were looked up to build it.
 #[derive(Clone, Debug, PartialEq, Eq)]
 pub struct Scanned {
     /// The tree's bytes.
@@ -103,8 +103,8 @@ pub struct Scanned {
 }
 
 /// The tree of `text`, the same as `build` gives, by one scan of the text for each level: on long texts in a small part of the time. It takes
-/// four words of memory besides for each leaf length of text. The seed of its fingerprints is drawn anew for each call, so that nobody can write a text
-/// that makes it slow.
+/// four words of memory besides for each leaf length of text. The seed of its fingerprints is random in each call, so no text can be made
+/// to be slow.
 pub fn build_scanned(text: &[u8], settings: &Settings) -> Result<Scanned, Refusal> {
     let enough = enough(text.len(), settings)?;
     let mut tree = vec![0; usize::try_from(enough).expect("a tree fits the memory")];
@@ -118,17 +118,17 @@ pub fn build_scanned(text: &[u8], settings: &Settings) -> Result<Scanned, Refusa
     answer(number, Scanned { tree, windows })
 }
 
-/// A word that nobody can predict: the keys of std's hash maps are drawn by the system.
+/// An unpredictable word: the system chooses the keys of std's hash maps at random.
 fn unpredictable_word() -> u32 {
     RandomState::new().build_hasher().finish() as u32
 }
 
-/// The words of the table that a scan of a text of `n` bytes works in; 0 where the leaf length is 0.
+/// The number of words of the table for a scan of a text of `n` bytes; 0 if the leaf length is 0.
 pub fn scan_words(n: u32, leaf: u32) -> u64 {
     calls::scan_words(n, leaf)
 }
 
-/// The size of the tree of any text of `n` bytes, where the settings have one level: no block points, so that the text itself plays no part. None for
+/// The size of the tree of any text of `n` bytes if the settings have one level: no block points, so the size does not depend on the text. None for
 /// settings with more levels.
 pub fn one_level_size(n: usize, settings: &Settings) -> Result<Option<usize>, Refusal> {
     enough(n, settings)?;
@@ -148,7 +148,7 @@ pub fn list(tree: &[u8]) -> (String, Result<(), Refusal>) {
     (lines, answer(number, ()))
 }
 
-/// A tree's bytes. The questions are safe on any bytes, checked or not; on a tree that the check refuses they can have wrong answers.
+/// A tree. All methods are safe on any bytes, checked or not; on a tree that the check refuses answers can be wrong.
 #[derive(Clone, Copy)]
 pub struct Tree<'a> {
     bytes: &'a [u8],
@@ -171,12 +171,12 @@ impl<'a> Tree<'a> {
         answer(number, Reached { value: value as u8, entered })
     }
 
-    /// The text's bytes from `place` on that lie side by side in the tree.
+    /// The longest contiguous range of leaf bytes that is the text from `place` on.
     pub fn run(&self, place: u32) -> Result<&'a [u8], Refusal> {
         self.run_at(place).map(|(_, run)| run)
     }
 
-    /// The same, and where in the tree they begin.
+    /// The same, with its offset in the tree.
     pub fn run_at(&self, place: u32) -> Result<(u64, &'a [u8]), Refusal> {
         let (number, offset, length) = calls::run(self.bytes, place);
         answer(number, (offset, &self.bytes[offset as usize..][..length as usize]))
@@ -189,30 +189,30 @@ impl<'a> Tree<'a> {
         answer(number, Reached { value: buffer, entered })
     }
 
-    /// How often `byte` stands in the first `i` bytes.
+    /// Rank: how often `byte` occurs in the first `i` bytes.
     pub fn count(&self, byte: u8, i: u32) -> Result<Reached<u64>, Refusal> {
         let (number, value, entered) = calls::count(self.bytes, byte.into(), i);
         answer(number, Reached { value, entered })
     }
 
-    /// The place of the j-th `byte`, j from 1.
+    /// Select: the place of the j-th occurrence of `byte`, j from 1.
     pub fn find(&self, byte: u8, j: u32) -> Result<Reached<u32>, Refusal> {
         let (number, value, entered) = calls::find(self.bytes, byte.into(), j);
         answer(number, Reached { value, entered })
     }
 
-    /// Row `q`, from 1, without its byte 10 and without one byte 13 directly before that. What stands after the last byte 10 is a row too, if the text's last byte is another one.
+    /// Row `q`, from 1, without its byte 10 and without one byte 13 directly before that. The bytes after the last byte 10, if any, are a row too.
     pub fn row(&self, q: u32) -> Result<Vec<u8>, Refusal> {
         self.read_row(None, q, &mut Vec::new()).map(<[u8]>::to_vec)
     }
 
-    /// How many rows there are: the total of byte 10, and one more if the text's last byte is another one.
+    /// The number of rows: the total of byte 10, and one more if the text's last byte is another one.
     pub fn rows(&self) -> Result<u64, Refusal> {
         let (number, rows) = calls::row_count(self.bytes);
         answer(number, rows)
     }
 
-    /// All places of `pattern`, 1 to `MAX_PATTERN` bytes, in rising order; one may overlap the next.
+    /// Locate: all places of `pattern`, 1 to `MAX_PATTERN` bytes, ascending; occurrences may overlap.
     pub fn places(&self, pattern: &[u8]) -> Result<Vec<u32>, Refusal> {
         // a few words are enough mostly, and one for each byte of the text always
         let most = MAX_TEXT.min(self.text_length() as usize);
@@ -233,7 +233,7 @@ impl<'a> Tree<'a> {
         answer(number, (row != 0).then_some(row))
     }
 
-    /// The same tree in layout 1, without its edges; a tree of layout 1 is copied. It is never larger, and every question returns the same from it, but
+    /// The same tree in layout 1, without its edges; a tree of layout 1 is copied. It is never larger, and every method returns the same, except
     /// that `run_at` returns offsets into the new bytes and `span` reports 0 blocks entered.
     pub fn without_edges(&self) -> Result<Vec<u8>, Refusal> {
         let mut out = vec![0; self.bytes.len()];
@@ -248,7 +248,7 @@ impl<'a> Tree<'a> {
     }
 }
 
-/// The rows of a text: byte 10 ends a row, with one byte 13 directly before it; what follows the last byte 10 is a row too.
+/// The rows of a text: byte 10, or bytes 13 and 10, end a row; the bytes after the last byte 10, if any, are a row too.
 pub fn text_rows(text: &[u8]) -> impl Iterator<Item = &[u8]> {
     let mut rest = text;
     std::iter::from_fn(move || {

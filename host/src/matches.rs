@@ -27,8 +27,8 @@ impl Tree<'_> {
     }
 }
 
-/// Is the row, without its end, a key (a code of 1 to 12 bytes without a space, one space, the cuts) with a cut in each range? A range is its least digit, and
-/// how many more there are.
+/// Whether the row, without its end, is a key (a code of 1 to 12 bytes without a space, one space, the cuts) with a cut in each range. A range is its least
+/// digit, and how many more there are.
 fn matches(row: &[u8], cuts: &[(u8, u8)]) -> bool {
     let Some(code) = row.len().checked_sub(cuts.len() + 1) else { return false };
     (1..=12).contains(&code)
@@ -91,7 +91,7 @@ mod tests {
         assert!(matched > 3000, "{matched}");
     }
 
-    /// The bytes of the library's calls are lent a fixed number of times, however many rows match: a call for each row would lend them for each row.
+    /// The library is called a fixed number of times, however many rows match.
     #[test]
     fn calls_for_any_number_of_rows() {
         let lent = |rows: usize| {

@@ -1,20 +1,20 @@
-//! Books in order: two trees compared by their texts.
+//! The lexicographic order of the texts of two trees.
 
 use crate::refusal::answer;
 use crate::{calls, Refusal, Tree};
 use std::cmp::Ordering;
 
-/// Where a tree's text stands beside another's, and how many bytes they share from their start on.
+/// The order of a tree's text and another's, and the length of their longest common prefix.
 #[derive(Clone, Copy, Debug, PartialEq, Eq)]
 pub struct Compared {
-    /// Where the first stands beside the other.
+    /// The order of the first and the other.
     pub ordering: Ordering,
-    /// The length of the shared beginning.
+    /// The length of the longest common prefix.
     pub shared: u32,
 }
 
 impl Tree<'_> {
-    /// The texts in lexicographic order of their bytes; a prefix of a text comes before it. Settings and layouts play no part. On trees that the check
+    /// Compares the texts in lexicographic order of their bytes; a prefix of a text comes before it. Settings and layouts do not matter. On trees that the check
     /// accepts this is a total order, and it is never refused.
     ///
     /// ```

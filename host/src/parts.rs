@@ -1,4 +1,4 @@
-//! What a tree says of itself: its header, and the records of its blocks.
+//! The header of a tree, and the records of its blocks.
 
 use crate::{Settings, Tree};
 
@@ -20,7 +20,7 @@ pub struct Block {
     pub start: u32,
     /// Its bytes; the last block of a text can be shorter than a full one.
     pub length: u32,
-    /// The place in the text where the same bytes stand, for a block that points.
+    /// The place in the text where its occurrence begins, for a block that points.
     pub points_to: Option<u32>,
 }
 
@@ -30,22 +30,22 @@ impl Tree<'_> {
         self.bytes.len()
     }
 
-    /// Bytes that the tree should have: where the leaf bytes start and how many there are, as the header has them.
+    /// The size that the tree must have by its header: the offset of the leaf bytes plus their number.
     pub fn stated_size(&self) -> u64 {
         u64::from(self.word(92)) + u64::from(self.word(96))
     }
 
-    /// The layout, as the header has it: 1, or 2, which has edges.
+    /// The layout in the header: 1, or 2 with edges.
     pub fn layout(&self) -> u32 {
         self.word(0)
     }
 
-    /// Bytes of the text, as the header has it.
+    /// The length of the text in the header.
     pub fn text_length(&self) -> u32 {
         self.word(4)
     }
 
-    /// The settings, as the header has them.
+    /// The settings in the header.
     pub fn settings(&self) -> Settings {
         let counted = self.bytes.iter().skip(24).take(4.min(self.word(20) as usize)).copied().collect();
         Settings { leaf: self.word(8), arity: self.word(12), levels: self.word(16), counted }
@@ -82,12 +82,12 @@ impl Tree<'_> {
         })
     }
 
-    /// The number of leaf bytes, as the header has it.
+    /// The number of leaf bytes in the header.
     pub fn leaf_bytes(&self) -> u32 {
         self.word(96)
     }
 
-    /// The word at `at`; 0 where the bytes are too short to have one.
+    /// The word at `at`; 0 if the bytes are too short.
     fn word(&self, at: usize) -> u32 {
         self.bytes.get(at..at + 4).and_then(|word| word.try_into().ok()).map_or(0, u32::from_le_bytes)
     }

@@ -30,7 +30,7 @@ impl Iterator for RowsWithPrefix<'_> {
 
 impl<'a> Tree<'a> {
     /// The first row after `mark` that starts with `prefix`, 1 to `MAX_PATTERN` bytes. The mark moves to that row; if there is none, to the number of rows,
-    /// unless it is there or above. A refusal leaves it.
+    /// unless it is there or above. A refusal leaves it unchanged.
     pub fn next_with_prefix(&self, prefix: &[u8], mark: &mut u32) -> Result<Option<u32>, Refusal> {
         let (number, row) = calls::next_with_prefix(self.bytes, prefix, mark);
         answer(number, (row != 0).then_some(row))

@@ -23,12 +23,12 @@ fn rows_of_a_code() {
     folder.pipe("code CH0502", &folder.read("small.tree")).succeeds().prints(&all.replace("small.tree", "standard input"));
     folder.pipe("code CH0502 -", &folder.read("small.tree")).succeeds().prints(&all.replace("small.tree", "standard input"));
     // the space after a code is a part of what is looked for
-    folder.run("code CH050 small.tree").status(1).prints("").says("codebook: small.tree: no row begins with 'CH050 '\n");
+    folder.run("code CH050 small.tree").status(1).prints("").says("codebook: small.tree: no row starts with 'CH050 '\n");
     let first = lines(&folder, "small.tree", &[1, 2, 3, 4, 5, 6, 7, 8, 9]);
     let found = folder.run("code --prefix CH050 small.tree").succeeds().printed();
     assert!(found.starts_with(&first) && found.lines().count() == 45, "{found}");
     folder.run("code --prefix CH0502\\x204 small.tree").succeeds().prints(&all);
-    folder.run("code --prefix \\n small.tree").status(1).prints("").says("codebook: small.tree: no row begins with '\\n'\n");
+    folder.run("code --prefix \\n small.tree").status(1).prints("").says("codebook: small.tree: no row starts with '\\n'\n");
 }
 
 /// With a guide, and with one that is made on the way.
@@ -61,7 +61,7 @@ fn several_books() {
     folder.run("code CH0502 small.tree other.tree").succeeds().prints(&both).says("");
     // found in one of them
     folder.run("code K01159 small.tree other.tree").succeeds().prints("other.tree: row 2: K01159 24\n").says("");
-    folder.run("code X small.tree other.tree").status(1).prints("").says("codebook: no row begins with 'X '\n");
+    folder.run("code X small.tree other.tree").status(1).prints("").says("codebook: no row starts with 'X '\n");
     // a refused tree, and a file that is not there: the others are read, and the worst status counts
     folder.write("cut.tree", &folder.read("other.tree")[..90]);
     let short = "codebook: cut.tree: refused (5): a tree has at least 100 bytes; this is no tree, or cut off; it has 90 bytes\n";
@@ -80,10 +80,10 @@ fn what_is_refused() {
     folder.run("code K\\q small.tree").status(2).prints("").says(&format!("codebook: {escapes}, not '\\q'\n{USAGE}\n"));
     let empty = folder.shell("codebook code '' small.tree");
     empty.status(2).says(&format!("codebook: CODE is empty\n{USAGE}\n"));
-    let long = |length| format!("codebook: small.tree: code: refused (16): a row's beginning must have 1 to 256 bytes; this one has {length}\n");
+    let long = |length| format!("codebook: small.tree: code: refused (16): a prefix of a row must have 1 to 256 bytes; this one has {length}\n");
     folder.shell("codebook code --prefix '' small.tree").status(1).says(&long(0));
     folder.run(&format!("code {} small.tree", "C".repeat(256))).status(1).prints("").says(&long(257));
-    let none = format!("codebook: small.tree: no row begins with '{} '\n", "C".repeat(255));
+    let none = format!("codebook: small.tree: no row starts with '{} '\n", "C".repeat(255));
     folder.run(&format!("code {} small.tree", "C".repeat(255))).status(1).prints("").says(&none);
     folder.run("build small.txt -o none.tree --leaf 16 --arity 4 --levels 2 --count none").succeeds();
     let uncounted = "codebook: none.tree: code: refused (11): the tree does not count byte 10, which ends a row; build must count it\n";
@@ -91,7 +91,7 @@ fn what_is_refused() {
     let mut tree = folder.read("small.tree");
     tree[104] = 2;
     folder.write("kind.tree", &tree);
-    let path = "codebook: kind.tree: code: refused (14): the tree is damaged: the way to a byte breaks off, or a count comes out below zero\n";
+    let path = "codebook: kind.tree: code: refused (14): the tree is damaged: the path to a byte breaks off, or a count is negative\n";
     folder.run("code CH0502 kind.tree --unchecked").status(1).prints("").says(path);
 }
 
@@ -101,7 +101,7 @@ fn objects() {
     let rows: String =
         [2, 42, 82, 122, 162].iter().map(|q| format!("{{\"tree\":\"small.tree\",\"row\":{q},\"text\":\"CH0502 444225\"}}\n")).collect();
     folder.run("code CH0502 small.tree --json").succeeds().prints(&rows).says("");
-    folder.run("code X small.tree --json").status(1).prints("").says("codebook: small.tree: no row begins with 'X '\n");
+    folder.run("code X small.tree --json").status(1).prints("").says("codebook: small.tree: no row starts with 'X '\n");
     folder.write("small.tree.json", b"{\"maker\":\"Ilko\",\"edition\":\"3\"}");
     let with = rows.replace("\"}", "\",\"maker\":\"Ilko\",\"edition\":\"3\"}");
     folder.run("code CH0502 small.tree --json").succeeds().prints(&with).says("");

@@ -225,7 +225,7 @@ fn standard_input_twice() {
         "check - small.tree -",
         "compare - -",
         "verify - -",
-        "shelf - -",
+        "sort - -",
         "guide check - -",
         "row 1 - --guide -",
         "slim - -",

@@ -90,7 +90,7 @@ fn bash_completes() {
         let output = Command::new("bash").args(["-c", &line]).output().expect("bash");
         String::from_utf8_lossy(&output.stdout).trim_end().to_owned()
     };
-    assert_eq!(offered(&["codebook", "sh"]), "shelf");
+    assert_eq!(offered(&["codebook", "so"]), "sort");
     assert_eq!(offered(&["codebook", "licence", ""]), "open left renew");
     assert_eq!(offered(&["codebook", "row", "--g"]), "--guide");
     assert_eq!(offered(&["codebook", "guide", "make", "--f"]), "--force");

@@ -81,6 +81,7 @@ fn install_and_uninstall() {
         "JSON.md",
         "LICENSE",
         "README.md",
+        "TOUR.md",
         "_codebook",
         "blocktree.h",
         "blocktree.magic",

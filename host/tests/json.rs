@@ -37,7 +37,7 @@ fn shelf(name: &str) -> Folder {
 }
 
 /// A call of each command that succeeds.
-const CALLS: [&str; 58] = [
+const CALLS: [&str; 57] = [
     "build small.txt -f -o new.tree",
     "build small.txt -f -q -o new.tree",
     "build small.txt -f -o new.tree --columns 14 --allow-larger",
@@ -77,15 +77,14 @@ const CALLS: [&str; 58] = [
     "find \\n 120 small.tree --guide small.guide",
     "places HON1012 small.tree",
     "match 5216[1-5] small.tree",
-    "worn 52161 52165 small.tree",
-    "worn 52161 52165 small.tree --after 121",
+    "match 5216[1-5] small.tree --after 121",
     "text small.tree",
     "to-columns auto small.txt -f -o new.txt",
     "from-columns 14 turned.txt -f -o new.txt",
     "guide make small.tree -f -o new.guide",
     "guide check small.guide small.tree",
     "compare small.tree columns.tree",
-    "shelf small.tree columns.tree",
+    "sort small.tree columns.tree",
     "licence open 20240101 20241231 20240301",
     "licence left 20241231 20250101",
     "licence renew 20240229",

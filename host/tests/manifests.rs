@@ -70,14 +70,14 @@ fn calls_that_are_not_right() {
     let folder = Folder::new("manifest-usage");
     let day = "is a day such as 2024-02-29, from 2000-01-01 to 2099-12-31, not";
     for (words, says) in [
-        ("build small.txt --first 2024-01-01", "--first and --last go together: a term has both".to_owned()),
-        ("build small.txt --last 2024-01-01 --maker M", "--first and --last go together: a term has both".to_owned()),
+        ("build small.txt --first 2024-01-01", "--first and --last must be given together".to_owned()),
+        ("build small.txt --last 2024-01-01 --maker M", "--first and --last must be given together".to_owned()),
         ("build small.txt --first 2024-02-30 --last 2024-12-31", format!("--first {day} '2024-02-30'")),
         ("build small.txt --first 2024-01-02 --last 2024-01-01", "--last 2024-01-01 is before --first 2024-01-02".to_owned()),
         ("build small.txt --maker M -o -", "a manifest is written beside a file, and standard output is none".to_owned()),
         ("build small.txt --maker M -o /dev/null", "a manifest is written beside a file, and /dev/null is none".to_owned()),
         ("row 1 small.tree --today 2024", format!("--today {day} '2024'")),
-        ("row 1 small.tree --today 20240101 --any-day", "--today and --any-day do not go together".to_owned()),
+        ("row 1 small.tree --today 20240101 --any-day", "--today cannot be used with --any-day".to_owned()),
     ] {
         folder.write("small.tree", b"old");
         let done = folder.run(&format!("{words}{}", if words.starts_with("build") { " -f" } else { "" }));
@@ -256,7 +256,7 @@ const QUESTIONS: [&str; 12] = [
     "places CH0502 small.tree",
     "code CH0502 small.tree",
     "match 5216[1-5] small.tree",
-    "worn 52161 52165 small.tree",
+    "match 5216[1-5] small.tree --after 121",
     "text small.tree",
 ];
 
@@ -265,7 +265,7 @@ const QUESTIONS: [&str; 12] = [
 fn closed_books() {
     let folder = licensed("manifest-closed");
     let closed = |day: &str, why: &str| {
-        format!("codebook: small.tree: closed on {day}, {why}: by small.tree.json its licence is 2024-01-01 to 2024-12-31; --any-day reads it all the same\n")
+        format!("codebook: small.tree: closed on {day}, {why}: by small.tree.json its licence is 2024-01-01 to 2024-12-31; --any-day reads it nevertheless\n")
     };
     for question in QUESTIONS {
         let answer = folder.run(&format!("{question} --any-day")).succeeds().printed();
@@ -314,7 +314,7 @@ fn widths() {
     folder.run("build odd.txt -q --columns 3 --allow-larger --leaf 4 --arity 2 --levels 1 --maker M").succeeds();
     folder.run("row 2 odd.tree --columns 3").succeeds().prints("B2\n");
     let by = "by odd.tree.json its rows of 3 bytes are by columns";
-    folder.run("row 2 odd.tree --columns 6").status(1).says(&format!("codebook: odd.tree: row 2 --columns 6: {by}, and 6 is asked for\n"));
+    folder.run("row 2 odd.tree --columns 6").status(1).says(&format!("codebook: odd.tree: row 2 --columns 6: {by}, and 6 was given\n"));
     let only = format!("{by}: only row --columns 3 reads them\n");
     folder.run("row 2 odd.tree").status(1).says(&format!("codebook: odd.tree: row 2: {only}"));
     folder.run("match 1 odd.tree").status(1).says(&format!("codebook: odd.tree: match: {only}"));

@@ -78,9 +78,9 @@ fn stats_and_lists() {
 }
 
 #[test]
-fn shelves() {
-    let folder = shelf("many-shelves");
-    folder.run("shelf late.tree small.tree").succeeds().prints("small.tree\nlate.tree\n");
-    let done = folder.run("shelf late.tree damaged.tree none.tree small.tree");
+fn sorted() {
+    let folder = shelf("many-sorted");
+    folder.run("sort late.tree small.tree").succeeds().prints("small.tree\nlate.tree\n");
+    let done = folder.run("sort late.tree damaged.tree none.tree small.tree");
     done.status(2).prints("small.tree\nlate.tree\n").says(&format!("codebook: damaged.tree: {LINKS}\ncodebook: none.tree: {NONE}\n"));
 }

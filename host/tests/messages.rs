@@ -32,6 +32,8 @@ fn what_was_meant() {
     says(&folder, "help chek", "there is no command 'chek'; did you mean 'check'?");
     says(&folder, "license left 20240101", "there is no command 'license'; did you mean 'licence'?");
     says(&folder, "print small.tree", "there is no command 'print'; see codebook --help");
+    says(&folder, "shelf small.tree", "there is no command 'shelf'; since version 2 it is 'sort'; see codebook help sort");
+    says(&folder, "worn 12 13 small.tree", "there is no command 'worn'; since version 2 it is 'match'; see codebook help match");
     says(&folder, "build small.txt --lef 4", "there is no option '--lef'; did you mean '--leaf'?");
     says(&folder, "row 1 small.tree --guid=x", "there is no option '--guid'; did you mean '--guide'?");
     says(&folder, "row 1 small.tree --xyzzy", "there is no option '--xyzzy'");

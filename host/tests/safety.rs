@@ -239,7 +239,7 @@ fn files_that_are_too_long_are_not_read() {
         "text long",
         "digest long",
         "compare small.tree long",
-        "shelf long",
+        "sort long",
         "picture long",
         "guide make long",
     ] {
@@ -369,7 +369,7 @@ fn warnings() {
     warned(b"A 1\nno key\nB 2\nA  1\n", "", &[rows, larger]);
     warned(b"\xEF\xBB\xBFA 1\n", "", &[mark, larger]);
     warned(b"", "", &["the book has no rows yet"]);
-    warned(b"A 1\n", "--count none", &["byte 10 is not counted, so that no row can be asked for", larger]);
+    warned(b"A 1\n", "--count none", &["byte 10 is not counted, so no row can be read", larger]);
     // a book that repeats itself, with nothing to warn of
     warned(&b"CH0501 444224\n".repeat(2000), "", &[]);
 }

@@ -81,7 +81,7 @@ fn refused_trees() {
     // the first edge of the first block
     tree[128] ^= 1;
     folder.write("edge.tree", &tree);
-    folder.run("slim edge.tree").status(1).prints("").says("codebook: edge.tree: refused (9): a count or an edge in the tree is not true\n");
+    folder.run("slim edge.tree").status(1).prints("").says("codebook: edge.tree: refused (9): a count or an edge in the tree is wrong\n");
     assert_eq!(folder.names(), ["cut.tree", "edge.tree", "small.tree", "small.txt"]);
     folder.run("slim no.tree").status(2).prints("");
 }

@@ -12,7 +12,7 @@ fn searches() {
     for (found, nothing, refused, wrong) in [
         ("places CH0502", "places CH9", "places ", "places \\q"),
         ("match 5216[1-5]", "match 99999", "match 4[5-3]", "match 4x"),
-        ("worn 52161 52165", "worn 99999 99999", "worn 5 3", "worn 5 x"),
+        ("match 5216[1-5] --after 121", "match 99999 --after 0", "match 5-3 --after 0", "match 4x --after 0"),
         ("code CH0502", "code CH9", "code --prefix ", "code \\q"),
     ] {
         let said = folder.run(&format!("{found} small.tree"));
@@ -53,7 +53,7 @@ fn several_files() {
     for (files, status) in
         [("small.tree small.tree", 0), ("small.tree bad.tree", 1), ("bad.tree none.tree", 2), ("none.tree bad.tree", 2), ("none.tree small.tree", 2)]
     {
-        for command in ["check", "stats", "list", "shelf", "digest", "code CH0502"] {
+        for command in ["check", "stats", "list", "sort", "digest", "code CH0502"] {
             folder.run(&format!("{command} {files}")).status(status);
         }
     }

@@ -158,7 +158,7 @@ fn places_that_are_refused() {
     let mut tree = folder.read("small.tree");
     tree[104] = 2;
     folder.write("kind.tree", &tree);
-    let path = "refused (14): the tree is damaged: the way to a byte breaks off, or a count comes out below zero";
+    let path = "refused (14): the tree is damaged: the path to a byte breaks off, or a count is negative";
     folder.run("places CH0502 kind.tree --unchecked").status(1).prints("").says(&format!("codebook: kind.tree: places: {path}\n"));
     let usage = "usage: codebook places TEXT [TREE] [--json] [--unchecked] [--any-day] [--today DAY]";
     folder.run("places").status(2).says(&format!("codebook: TEXT is missing\n{usage}\n"));
@@ -175,10 +175,9 @@ fn matches() {
     for cuts in ["5216[1-5]", "5,2,1,6,1-5", "52161-2", "5,[2-2],1,6[1-2]"] {
         folder.run(&format!("match {cuts} small.tree --from 121")).succeeds().prints(last).says("");
     }
-    folder.run("worn 52161 52165 small.tree --from 121").succeeds().prints(last);
-    folder.run("worn 52161 52165 small.tree --after 121").succeeds().prints("row 159: HON1011 52161\n");
+    folder.run("match 5216[1-5] small.tree --after 121").succeeds().prints("row 159: HON1011 52161\n");
     folder.run("match 5216[1-5] small.tree --after 159").succeeds().prints("row 160: HON1012 52162\n");
-    folder.run("worn 52161 52165 small.tree --after 200").status(1).prints("").says("codebook: small.tree: no row matches\n");
+    folder.run("match 5216[1-5] small.tree --after 200").status(1).prints("").says("codebook: small.tree: no row matches\n");
     folder.run("match ????? small.tree --from 200 --unchecked").succeeds().prints("row 200: HON1012 52162\n");
     for none in ["9", "???", "44422[6-9]", "????? --from 201", "????? --from 4294967295"] {
         folder.run(&format!("match {none} small.tree")).status(1).prints("").says("codebook: small.tree: no row matches\n");
@@ -200,13 +199,9 @@ fn matches_that_are_refused() {
     folder.run("build small.txt -o none.tree --leaf 16 --arity 4 --levels 2 --count none").succeeds();
     let uncounted = "refused (11): the tree does not count byte 10, which ends a row; build must count it";
     folder.run("match 444224 none.tree").status(1).says(&format!("codebook: none.tree: match: {uncounted}\n"));
-    folder.run("worn 53 33 small.tree").status(1).says(&format!("codebook: small.tree: match: refused (19): {above}\n"));
-    let usage = "usage: codebook worn LOWS HIGHS [TREE] [--from ROW] [--after ROW] [--json] [--unchecked] [--any-day] [--today DAY]";
-    folder.run("worn 12 123 small.tree").status(2).says(&format!("codebook: LOWS and HIGHS have a digit for each cut; they have 2 and 3\n{usage}\n"));
-    folder.run("worn 12 1x small.tree").status(2).says(&format!("codebook: HIGHS has a digit for each cut, not '1x'\n{usage}\n"));
-    folder.run("worn 1 1 --from 1 --after 1").status(2).says(&format!("codebook: --from and --after do not go together\n{usage}\n"));
     let usage = "usage: codebook match CUTS [TREE] [--from ROW] [--after ROW] [--json] [--unchecked] [--any-day] [--today DAY]";
     folder.run("match").status(2).says(&format!("codebook: CUTS is missing\n{usage}\n"));
+    folder.run("match 1 --from 1 --after 1").status(2).says(&format!("codebook: --from cannot be used with --after\n{usage}\n"));
     for (cuts, rest) in [("44x", "x"), ("4[35]", "[35]"), ("3-", "-"), ("4[1-2", "[1-2")] {
         let says = format!("codebook: a cut is a depth from 0 to 9, a range such as [3-5], or ?, not '{rest}'\n{usage}\n");
         folder.run(&format!("match {cuts} small.tree")).status(2).prints("").says(&says);
@@ -389,11 +384,11 @@ fn refused_questions() {
     let refused = |words: &str, says: &str| {
         folder.run(words).status(1).prints("").says(&format!("codebook: small.tree: {says}\n"));
     };
-    let past = "refused (10): this lies past the text's end; the text has 2,800 bytes";
+    let past = "refused (10): this is past the end of the text; the text has 2,800 bytes";
     for row in ["0", "201", "0..3", "199..201", "201.."] {
         refused(&format!("row {row} small.tree"), &format!("row {row}: refused (12): rows go from 1 to 200"));
     }
-    refused("find \\n 201 small.tree", "find 0x0a 201: refused (12): numbers of byte 10 go from 1 to 200");
+    refused("find \\n 201 small.tree", "find 0x0a 201: refused (12): byte 10 occurs 200 times");
     refused("byte 2800 small.tree", "byte 2800: refused (10): places go from 0 to 2,799");
     refused("run 2800 small.tree", "run 2800: refused (10): places go from 0 to 2,799");
     refused("span 2799 2 small.tree", &format!("span 2799 2: {past}"));
@@ -419,11 +414,11 @@ fn damaged_trees() {
         folder.run(&format!("{words} kind.tree")).status(1).prints("").says(&format!("codebook: kind.tree: {links}\n"));
     }
     folder.run("list kind.tree").status(1).prints("refused 8\n").says(&format!("codebook: kind.tree: {links}\n"));
-    let path = "refused (14): the tree is damaged: the way to a byte breaks off, or a count comes out below zero";
+    let path = "refused (14): the tree is damaged: the path to a byte breaks off, or a count is negative";
     folder.run("byte 0 kind.tree --unchecked").status(1).says(&format!("codebook: kind.tree: byte 0: {path}\n"));
     folder.run("text kind.tree --unchecked").status(1).prints("").says(&format!("codebook: kind.tree: {path}\n"));
     damaged("count.tree", 120, 7);
-    folder.run("check count.tree").status(1).says("codebook: count.tree: refused (9): a count or an edge in the tree is not true\n");
+    folder.run("check count.tree").status(1).says("codebook: count.tree: refused (9): a count or an edge in the tree is wrong\n");
     damaged("layout.tree", 0, 3);
     folder.run("row 1 layout.tree").status(1).says(
         "codebook: layout.tree: refused (6): the layout is neither 1 nor 2; this is no block tree, or one of another version; its layout is 3\n",
@@ -480,7 +475,7 @@ fn book_without_rows() {
     folder
         .run("byte 0 empty.tree")
         .status(1)
-        .says("codebook: empty.tree: byte 0: refused (10): this lies past the text's end; the text has 0 bytes\n");
+        .says("codebook: empty.tree: byte 0: refused (10): this is past the end of the text; the text has 0 bytes\n");
     // all of the short list: the header alone each time
     folder.pipe("build -o piped.tree", b"").succeeds();
     assert_eq!(folder.read("piped.tree").len(), 100);
@@ -526,14 +521,14 @@ fn calls_that_are_not_right() {
         folder.run(words).status(2).prints("").says(&format!("codebook: {says}\n"));
     };
     usage("", "no command given; see codebook --help");
-    usage("--quiet stats x", "'--quiet' stands before the command; options stand after it; see codebook --help");
+    usage("--quiet stats x", "'--quiet' is before the command; options follow it; see codebook --help");
     usage("print small.tree", "there is no command 'print'; see codebook --help");
     let row = "usage: codebook row ROWS [TREE] [--guide GUIDE] [--columns W] [--json] [--unchecked] [--any-day] [--today DAY]";
     usage("row", &format!("ROWS is missing\n{row}"));
     usage("row one small.tree", &format!("ROWS is a row's number, or a range such as 5..20, not 'one'\n{row}"));
     usage("row 4294967296 x", &format!("ROWS is a row's number, or a range such as 5..20, not '4294967296'\n{row}"));
     usage("row -1 small.tree", &format!("rows go from 1; -1 is negative\n{row}"));
-    usage("row 20..5 x", &format!("20..5: row 20 stands after row 5\n{row}"));
+    usage("row 20..5 x", &format!("20..5: row 20 is after row 5\n{row}"));
     let byte = "usage: codebook byte PLACE [TREE] [--json] [--unchecked] [--any-day] [--today DAY]";
     usage("byte -14 x", &format!("PLACE is a number from 0 to 4294967295; -14 is negative\n{byte}"));
     usage("byte 1 a.tree b.tree", &format!("unexpected argument 'b.tree'\n{byte}"));
@@ -553,7 +548,7 @@ fn calls_that_are_not_right() {
     usage("count -1 4 x", &format!("{byte}, not '-1'\n{count}"));
     let build = "usage: codebook build [BOOK]... [-o FILE] [-f] [--keep-time] [--small] [--best] [--leaf M] [--arity R] [--levels H] [--count BYTES] [--columns W] [--allow-larger] [--maker NAME] [--edition NAME] [--first DAY] [--last DAY] [-j N] [--json]";
     usage("build small.txt -o", &format!("-o needs a value\n{build}"));
-    usage("build --leaf 64", &format!("--leaf, --arity and --levels go together: give all three, or none to have a short list tried\n{build}"));
+    usage("build --leaf 64", &format!("--leaf, --arity and --levels must be given together; without them a short list is tried\n{build}"));
     usage("build -o .", &format!("-o is a file where standard input is read\n{build}"));
     usage("check none.tree", "none.tree: cannot be read: No such file or directory (os error 2)");
     usage("build none.txt -o x", "none.txt: cannot be read: No such file or directory (os error 2)");
@@ -571,21 +566,21 @@ fn orders() {
     folder.run("build late.txt -o late.tree --leaf 1 --arity 2 --levels 1").succeeds();
     folder.write("near.txt", b"CI");
     folder.run("build near.txt -o near.tree --leaf 1 --arity 2 --levels 1").succeeds();
-    folder.run("compare small.tree other.tree").succeeds().prints("small.tree holds the same book as other.tree; 2,800 bytes shared\n").says("");
-    folder.run("compare small.tree short.tree").succeeds().prints("small.tree stands after short.tree; 2,000 bytes shared\n");
-    folder.run("compare small.tree near.tree").succeeds().prints("small.tree stands before near.tree; 1 byte shared\n");
-    folder.run("compare late.tree small.tree --unchecked").succeeds().prints("late.tree stands after small.tree; 0 bytes shared\n");
-    folder.pipe("compare - short.tree", &folder.read("small.tree")).succeeds().prints("standard input stands after short.tree; 2,000 bytes shared\n");
+    folder.run("compare small.tree other.tree").succeeds().prints("small.tree has the same book as other.tree; 2,800 bytes shared\n").says("");
+    folder.run("compare small.tree short.tree").succeeds().prints("small.tree comes after short.tree; 2,000 bytes shared\n");
+    folder.run("compare small.tree near.tree").succeeds().prints("small.tree comes before near.tree; 1 byte shared\n");
+    folder.run("compare late.tree small.tree --unchecked").succeeds().prints("late.tree comes after small.tree; 0 bytes shared\n");
+    folder.pipe("compare - short.tree", &folder.read("small.tree")).succeeds().prints("standard input comes after short.tree; 2,000 bytes shared\n");
     folder
-        .run("shelf late.tree small.tree near.tree short.tree other.tree")
+        .run("sort late.tree small.tree near.tree short.tree other.tree")
         .succeeds()
         .prints("short.tree\nsmall.tree\nother.tree\nnear.tree\nlate.tree\n")
         .says("");
     folder.write("empty.txt", b"");
     folder.run("build empty.txt -o empty.tree --leaf 1 --arity 2 --levels 1").succeeds();
-    folder.run("compare empty.tree small.tree").succeeds().prints("empty.tree stands before small.tree; 0 bytes shared\n");
-    folder.run("shelf late.tree empty.tree small.tree").succeeds().prints("empty.tree\nsmall.tree\nlate.tree\n");
-    folder.run("shelf other.tree").succeeds().prints("other.tree\n");
+    folder.run("compare empty.tree small.tree").succeeds().prints("empty.tree comes before small.tree; 0 bytes shared\n");
+    folder.run("sort late.tree empty.tree small.tree").succeeds().prints("empty.tree\nsmall.tree\nlate.tree\n");
+    folder.run("sort other.tree").succeeds().prints("other.tree\n");
 }
 
 #[test]
@@ -595,18 +590,18 @@ fn orders_that_are_refused() {
     damaged[104] = 2;
     folder.write("damaged.tree", &damaged);
     let links = "refused (8): the blocks are not right: a start, kind, link or gap, or the number of blocks or leaf bytes";
-    for words in ["compare small.tree damaged.tree", "compare damaged.tree small.tree", "shelf damaged.tree"] {
+    for words in ["compare small.tree damaged.tree", "compare damaged.tree small.tree", "sort damaged.tree"] {
         folder.run(words).status(1).prints("").says(&format!("codebook: damaged.tree: {links}\n"));
     }
-    folder.run("shelf small.tree damaged.tree").status(1).prints("small.tree\n").says(&format!("codebook: damaged.tree: {links}\n"));
-    let path = "refused (14): the tree is damaged: the way to a byte breaks off, or a count comes out below zero";
+    folder.run("sort small.tree damaged.tree").status(1).prints("small.tree\n").says(&format!("codebook: damaged.tree: {links}\n"));
+    let path = "refused (14): the tree is damaged: the path to a byte breaks off, or a count is negative";
     folder.run("compare small.tree damaged.tree --unchecked").status(1).says(&format!("codebook: small.tree and damaged.tree: {path}\n"));
     let usage = "usage: codebook compare ONE OTHER [--json] [--unchecked]";
     folder.run("compare small.tree").status(2).says(&format!("codebook: OTHER is missing\n{usage}\n"));
     folder.run("compare a b c").status(2).says(&format!("codebook: unexpected argument 'c'\n{usage}\n"));
-    folder.run("shelf").status(2).says("codebook: TREE is missing\nusage: codebook shelf TREE... [--json]\n");
-    folder.run("shelf --unchecked small.tree").status(2).says("codebook: there is no option '--unchecked'\nusage: codebook shelf TREE... [--json]\n");
-    folder.run("shelf none.tree").status(2).says("codebook: none.tree: cannot be read: No such file or directory (os error 2)\n");
+    folder.run("sort").status(2).says("codebook: TREE is missing\nusage: codebook sort TREE... [--json]\n");
+    folder.run("sort --unchecked small.tree").status(2).says("codebook: there is no option '--unchecked'\nusage: codebook sort TREE... [--json]\n");
+    folder.run("sort none.tree").status(2).says("codebook: none.tree: cannot be read: No such file or directory (os error 2)\n");
 }
 
 #[test]
@@ -616,7 +611,7 @@ fn help() {
     overview.succeeds().says("");
     let text = overview.printed();
     let commands: Vec<&str> = text.lines().filter(|line| line.starts_with("  ")).map(|line| line[2..17].trim_end()).collect();
-    assert_eq!(commands.len(), 36);
+    assert_eq!(commands.len(), 35);
     for command in commands {
         let help = folder.run(&format!("{command} --help"));
         help.succeeds().says("");
@@ -661,7 +656,7 @@ fn licences() {
     refused("left 20010229 20240101", &format!("{date}'20010229'"));
     refused("open 20240102 20240101 2024010", &format!("{date}'2024010'"));
     refused("renew 20991231", &format!("{date}20991231"));
-    refused("open 20240102 20240101 20240101", "(23): the last day lies before the first; given: 20240102 20240101 20240101");
+    refused("open 20240102 20240101 20240101", "(23): the last day is before the first; given: 20240102 20240101 20240101");
     let (open, left) = ("usage: codebook licence open FIRST LAST [TODAY] [--json]", "usage: codebook licence left LAST [TODAY] [--json]");
     let renew = "usage: codebook licence renew DAY [--json]";
     for (words, says) in [

@@ -1,4 +1,4 @@
-//! README.md and docs/JSON.md: their commands are run, and what they print is compared with the page.
+//! README.md, docs/TOUR.md and docs/JSON.md: their commands are run, and what they print is compared with the page.
 
 use std::fs;
 use std::os::unix::fs::symlink;
@@ -6,9 +6,14 @@ use std::path::Path;
 use std::process::Command;
 
 #[test]
+fn the_first_tour_prints_what_it_says() {
+    assert!(compared("README.md", "first-tour") > 10);
+    in_python(&Path::new(env!("CARGO_TARGET_TMPDIR")).join("first-tour"));
+}
+
+#[test]
 fn the_tour_prints_what_it_says() {
-    assert!(compared("README.md", "tour") > 20);
-    in_python(&Path::new(env!("CARGO_TARGET_TMPDIR")).join("tour"));
+    assert!(compared("docs/TOUR.md", "tour") > 40);
 }
 
 /// The page's lines of Python, after `>>>`, in the folder of the tour.

@@ -69,7 +69,7 @@ fn no_larger_tree_by_columns() {
     assert_eq!(folder.names(), ["small.txt"]);
     // the option says nothing of a tree by rows
     let done = folder.run("build small.txt --allow-larger");
-    assert!(done.status(2).errors().starts_with("codebook: --allow-larger is of use with --columns alone\nusage: "), "{}", done.errors());
+    assert!(done.status(2).errors().starts_with("codebook: --allow-larger can only be used with --columns\nusage: "), "{}", done.errors());
     assert_eq!(folder.names(), ["small.txt"]);
     let done = folder.run("build small.txt --columns auto --allow-larger");
     assert!(done.succeeds().printed().ends_with(&format!("{compared}\n")));

@@ -1,4 +1,4 @@
--- Count, find and row: their answers by variants, and of a number above 255.
+-- Count, find and row: their answers by variants, also for a number above 255.
 use mathlib.Core.List.{List}
 use mathlib.Core.Bool.{Bool, true, false, cond}
 use mathlib.Core.Path.{_≡_, refl, sym, ap, subst, _∙_}
@@ -54,7 +54,7 @@ module _ (t : List ℕ) (q : ℕ) (buffer after : List ℕ) (r : RowCopied)
   pub row-refused : (number : ℕ) → r ≡ row.Refused number → RowSays t q buffer number 0 after
   row-refused number e = subst (λ (x : RowCopied). RowSays t q buffer (replied (rowReply x) .number) (replied (rowReply x) .value) after) e k
 
--- of a number above 255
+-- For a number above 255.
 
 not-zero : (n : ℕ) → eqb (suc n) 0 ≡ false
 not-zero n = ne-eqb (suc n) 0 (λ e. omega arith)

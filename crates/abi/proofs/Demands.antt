@@ -1,5 +1,5 @@
--- Demand 1 of the exported calls, a line for each: every one of them ends, and reads and writes only what was lent (`Ends`), and asks nothing of its
--- caller (`AsksNothing`).
+-- Demand 1 for the exported calls, a line for each: the call terminates and accesses only the memory that it was given (`Ends`), and it has no precondition
+-- (`AsksNothing`).
 -- docs/FORMAT.md: "What is promised".
 use mathlib.Core.List.{List, [], _∷_}
 use mathlib.Core.Path.{refl}

@@ -1,4 +1,4 @@
--- An answer's number and figures, by its variants.
+-- The refusal and the figures of an answer, by its variants.
 use mathlib.Core.List.{List}
 use mathlib.Core.Option.{Option, none, some}
 use mathlib.Core.Bool.{Bool, true, false, cond}

@@ -8,7 +8,7 @@ use Rattle.ask_order.specs.Order.{orderSays}
 use Rattle.ask_order.specs.OrderAnswers.{orderReply, OrderAnswer}
 use Rattle.abi.specs.ExportAnswers.{firstGiven}
 
--- the figures of an answer, and which tree stands first
+-- The figures of an answer, and which tree comes first.
 abbrev pub Figures : List ℕ → List ℕ → Said → Type 0
 Figures t u s = (s ≡ orderSays t u) × (firstGiven (s .value) ≡ firstGiven (orderSays t u .value))
 

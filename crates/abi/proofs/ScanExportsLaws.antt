@@ -1,4 +1,4 @@
--- What build_scanned answers, by its variants.
+-- The answers of build_scanned, by variants.
 use mathlib.Core.List.{List}
 use mathlib.Core.Path.{_≡_, sym, ap, _∙_, subst}
 use Prim.Native.Nat.{ℕ}

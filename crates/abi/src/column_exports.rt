@@ -1,11 +1,11 @@
-// Columns before rows: the calls exported to C.
+// The calls on columns, exported to C.
 use ask_access::Copied;
 ghost use mathlib.Core.Path.{_≡_};
 ghost use lib.ListN.{length};
 ghost use Rattle.columns.specs.Columns.{columnsNumber, columnsLeaves, uncolumnsLeaves};
 ghost use Rattle.ask_columns.specs.ColumnRows.{columnNumber, columnLeaves};
 
-// A text of rows of a width, end byte included, rearranged by columns.
+// Rearranges a text of rows of `width` bytes, end byte included, by columns.
 #[no_mangle]
 pub extern "C" fn bt_to_columns(text: &[u8], width: u32, out: &mut [u8]) -> u32
     ensures { λ r. ⌜ r ≡ columnsNumber width (now (text .entry)) (now (out .entry)) ⌝ }
@@ -14,7 +14,7 @@ pub extern "C" fn bt_to_columns(text: &[u8], width: u32, out: &mut [u8]) -> u32
     columns::to_columns(text, width, out)
 }
 
-// And back.
+// Rearranges a text by columns back to rows.
 #[no_mangle]
 pub extern "C" fn bt_from_columns(text: &[u8], width: u32, out: &mut [u8]) -> u32
     ensures { λ r. ⌜ r ≡ columnsNumber width (now (text .entry)) (now (out .entry)) ⌝ }
@@ -23,7 +23,7 @@ pub extern "C" fn bt_from_columns(text: &[u8], width: u32, out: &mut [u8]) -> u3
     columns::from_columns(text, width, out)
 }
 
-// Copies row a of the original text, counted from 0, from the tree of the text that `bt_to_columns` made.
+// Copies row a, from 0, of the original text from the tree of a text by columns.
 #[no_mangle]
 pub extern "C" fn bt_column_row(tree: &[u8], width: u32, a: u32, buffer: &mut [u8]) -> u32
     ensures { λ r. ⌜ r ≡ columnNumber (now (tree .entry)) width a (length (now (buffer .entry))) ⌝ }

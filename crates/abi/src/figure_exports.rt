@@ -1,4 +1,4 @@
-// What a caller must know of a tree without reading its bytes; and the library's version.
+// The figures of a tree that a caller needs before reading its text; and the version of the library.
 use ask_patterns::PlacesRoom;
 use ask_rows::RowCount;
 use ask_rows::RowLength;
@@ -26,7 +26,7 @@ pub extern "C" fn bt_info(tree: &[u8], figures: &mut [u64; ask_facts::FIGURES]) 
     ask_facts::info(tree, figures)
 }
 
-// How many rows the text has.
+// The number of rows.
 #[no_mangle]
 pub extern "C" fn bt_row_count(tree: &[u8], rows: &mut u64) -> u32
     ensures { λ r. ⌜ saying r (now (rows .exit)) 0 ≡ rowsSays (now (tree .entry)) ⌝ }
@@ -62,7 +62,7 @@ pub extern "C" fn bt_row_length(tree: &[u8], q: u32, len: &mut u32) -> u32
     }
 }
 
-// How many words hold all places of any pattern of so many bytes.
+// The number of words that are enough for all places of any pattern of `len` bytes.
 #[no_mangle]
 pub extern "C" fn bt_places_words(tree: &[u8], len: u32, words: &mut u32) -> u32
     ensures { λ r. ⌜ saying r (now (words .exit)) 0 ≡ roomSays (now (tree .entry)) len ⌝ }

@@ -1,4 +1,4 @@
-// A guide to the level 0 blocks: its size, making one, checking one; find, row and rows by their first bytes with one. Any bytes may be lent as a guide.
+// The calls on guides: size, make, check; find, row and rows by their first bytes with a guide. Any bytes may be given as a guide.
 use ask_guide::Size;
 use ask_guided::Guided;
 use ask_rows::RowCopied;
@@ -12,7 +12,7 @@ ghost use Rattle.query_row_filter.specs.AllowedOutcome.{AllowedOutcome, queryRe
 ghost use Rattle.ask_patterns.specs.Places.{patternOk};
 ghost use Rattle.abi.specs.ExportAnswers.{saying};
 
-// How many words the guide of a tree has.
+// The number of words of the guide of a tree.
 #[no_mangle]
 pub extern "C" fn bt_guide_words(tree: &[u8], words: &mut u64) -> u32
     ensures { λ r. ⌜ saying r (now (words .exit)) 0 ≡ sizeSays (now (tree .entry)) ⌝ }
@@ -30,7 +30,7 @@ pub extern "C" fn bt_guide_words(tree: &[u8], words: &mut u64) -> u32
     }
 }
 
-// Writes the guide of a tree to the start of a table, and answers its words.
+// Writes the guide of a tree to the start of a table and returns its number of words.
 #[no_mangle]
 pub extern "C" fn bt_make_guide(tree: &[u8], table: &mut [u8], words: &mut u64) -> u32
     ensures { λ r. ⌜ saying r (now (words .exit)) 0 ≡ makeSays (now (tree .entry)) (now (table .entry)) ⌝ }
@@ -49,7 +49,7 @@ pub extern "C" fn bt_make_guide(tree: &[u8], table: &mut [u8], words: &mut u64) 
     }
 }
 
-// Questions 5 to 9 of the tree, then 24 of the guide.
+// Questions 5 to 9 for the tree, then 24 for the guide.
 #[no_mangle]
 pub extern "C" fn bt_check_guide(tree: &[u8], guide: &[u8]) -> u32
     ensures { λ r. ⌜ r ≡ guideNumber (now (tree .entry)) (now (guide .entry)) ⌝ }
@@ -57,7 +57,7 @@ pub extern "C" fn bt_check_guide(tree: &[u8], guide: &[u8]) -> u32
     build_guide::check_guide(tree, guide)
 }
 
-// The place of the j-th such byte, the blocks on its path, and the steps on level 0.
+// The place of the j-th occurrence of a counted byte, the number of blocks on its path, and the steps on level 0.
 #[no_mangle]
 pub extern "C" fn bt_find_guided(
     tree: &[u8],
@@ -93,7 +93,7 @@ pub extern "C" fn bt_find_guided(
     }
 }
 
-// Copies row q, and answers its length.
+// Copies row q and returns its length.
 #[no_mangle]
 pub extern "C" fn bt_row_guided(
     tree: &[u8],
@@ -118,7 +118,7 @@ pub extern "C" fn bt_row_guided(
     }
 }
 
-// Moves the mark to the next row that starts with the prefix and returns that row, 0 for none. A refusal leaves the mark.
+// Moves the mark to the next row that starts with the prefix and returns that row, 0 for none. If refused, the mark is unchanged.
 #[no_mangle]
 pub extern "C" fn bt_next_with_prefix_guided(
     tree: &[u8],

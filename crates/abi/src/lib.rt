@@ -1,5 +1,4 @@
-// The calls exported to C. Each answers a number: 0, or the number of the question that refuses. Figures are written behind
-// references, 0 on a refusal. Any bytes may be lent as a tree.
+// The calls exported to C. Each returns 0 or the refusal. Figures are written behind references, 0 if refused. Any bytes may be given as a tree.
 mod column_exports;
 mod digest_exports;
 pub mod figure_exports;
@@ -67,7 +66,7 @@ pub extern "C" fn bt_build(
     }
 }
 
-// Builds the same tree by one scan of the text for each level above the last, in a lent table of words.
+// Builds the same tree by one scan of the text for each level above the last, with the caller's table of words.
 #[no_mangle]
 pub extern "C" fn bt_build_scanned(
     text: &[u8],
@@ -105,7 +104,7 @@ pub extern "C" fn bt_build_scanned(
     }
 }
 
-// How many words that table must have for a text of n bytes.
+// The number of words that this table must have for a text of n bytes.
 #[no_mangle]
 pub extern "C" fn bt_scan_words(n: u32, leaf: u32) -> u64
     ensures { λ r. ⌜ r ≡ tableWords n leaf ⌝ }
@@ -138,7 +137,7 @@ pub extern "C" fn bt_enough(
     }
 }
 
-// Questions 5 to 9.
+// Checks a tree: questions 5 to 9.
 #[no_mangle]
 pub extern "C" fn bt_check(tree: &[u8]) -> u32
     ensures { λ r. ⌜ r ≡ verdict (now (tree .entry)) ⌝ }
@@ -146,7 +145,7 @@ pub extern "C" fn bt_check(tree: &[u8]) -> u32
     tree::check(tree)
 }
 
-// The byte at a place, and the blocks entered.
+// The byte at a place, and the number of blocks entered.
 #[no_mangle]
 pub extern "C" fn bt_byte(tree: &[u8], place: u32, value: &mut u32, entered: &mut u32) -> u32
     ensures { λ r. ⌜ saying r (now (value .exit)) (now (entered .exit)) ≡ byteSays (now (tree .entry)) place ⌝ }
@@ -166,7 +165,7 @@ pub extern "C" fn bt_byte(tree: &[u8], place: u32, value: &mut u32, entered: &mu
     }
 }
 
-// Where the run of a place starts in the tree's bytes, and its length.
+// Where the run of a place starts in the bytes of the tree, and its length.
 #[no_mangle]
 pub extern "C" fn bt_run(tree: &[u8], place: u32, offset: &mut u64, len: &mut u32) -> u32
     ensures { λ r. ⌜ r ≡ byteSays (now (tree .entry)) place .number ⌝ }
@@ -188,7 +187,7 @@ pub extern "C" fn bt_run(tree: &[u8], place: u32, offset: &mut u64, len: &mut u3
     }
 }
 
-// Copies the bytes from a place on, and answers the blocks entered: those of a short span of a layout 2 tree, else 0.
+// Copies the bytes from a place on and returns the number of blocks entered: that of a short span of a layout 2 tree, else 0.
 #[no_mangle]
 pub extern "C" fn bt_span(
     tree: &[u8],
@@ -214,7 +213,7 @@ pub extern "C" fn bt_span(
     }
 }
 
-// How often a byte stands in the first i bytes, and the blocks entered.
+// How often a counted byte occurs in the first i bytes, and the number of blocks entered.
 #[no_mangle]
 pub extern "C" fn bt_count(
     tree: &[u8],
@@ -245,7 +244,7 @@ pub extern "C" fn bt_count(
     }
 }
 
-// The place of the j-th such byte, and the blocks on its path.
+// The place of the j-th occurrence of a counted byte, and the number of blocks on its path.
 #[no_mangle]
 pub extern "C" fn bt_find(tree: &[u8], byte: u32, j: u32, place: &mut u32, entered: &mut u32) -> u32
     ensures { λ r. ⌜ FindBy (now (tree .entry)) (verdict (now (tree .entry))) byte j (saying r (now (place .exit)) (now (entered .exit))) ⌝ }
@@ -270,7 +269,7 @@ pub extern "C" fn bt_find(tree: &[u8], byte: u32, j: u32, place: &mut u32, enter
     }
 }
 
-// Copies row q, and answers its length.
+// Copies row q and returns its length.
 #[no_mangle]
 pub extern "C" fn bt_row(tree: &[u8], q: u32, buffer: &mut [u8], len: &mut u32) -> u32
     ensures { λ r. ⌜ RowBy (now (tree .entry)) (verdict (now (tree .entry))) q (now (buffer .entry)) r (now (len .exit)) (now (buffer .exit)) ⌝ }
@@ -288,7 +287,7 @@ pub extern "C" fn bt_row(tree: &[u8], q: u32, buffer: &mut [u8], len: &mut u32) 
     }
 }
 
-// Writes all places of a pattern, and answers their number.
+// Writes all places of a pattern and returns their number.
 #[no_mangle]
 pub extern "C" fn bt_places(tree: &[u8], pattern: &[u8], table: &mut [u32], number: &mut u32) -> u32
     ensures { λ r. ⌜ saying r (now (number .exit)) 0 ≡ placesSays (now (tree .entry)) (now (pattern .entry)) (length (now (table .entry))) ⌝ }
@@ -307,7 +306,7 @@ pub extern "C" fn bt_places(tree: &[u8], pattern: &[u8], table: &mut [u32], numb
     }
 }
 
-// Moves the mark on to the next row that matches, and answers that row, 0 for none. A refusal leaves the mark.
+// Moves the mark to the next row that matches and returns that row, 0 for none. If refused, the mark is unchanged.
 #[no_mangle]
 pub extern "C" fn bt_next_match(tree: &[u8], ranges: &[u8], mark: &mut u32, row: &mut u32) -> u32
     ensures { λ r. ⌜ MatchSays
@@ -333,7 +332,7 @@ pub extern "C" fn bt_next_match(tree: &[u8], ranges: &[u8], mark: &mut u32, row:
     }
 }
 
-// Moves the mark to the next row that starts with the prefix and returns that row, 0 for none. A refusal leaves the mark.
+// Moves the mark to the next row that starts with the prefix and returns that row, 0 for none. If refused, the mark is unchanged.
 #[no_mangle]
 pub extern "C" fn bt_next_with_prefix(
     tree: &[u8],
@@ -364,7 +363,7 @@ pub extern "C" fn bt_next_with_prefix(
     }
 }
 
-// A line for each level of a tree.
+// Writes a line for each level of a tree.
 #[no_mangle]
 pub extern "C" fn bt_list(tree: &[u8], out: &mut [u8], len: &mut u32) -> u32
     ensures { λ r. ⌜ saying r (now (len .exit)) 0 ≡ listSays (now (tree .entry)) (length (now (out .entry))) ⌝ }

@@ -1,4 +1,4 @@
-// The term of a licence. Days are lent as eight digits.
+// The calls on the days of a licence, exported to C. A day is eight digits.
 use term::Left;
 use term::Opened;
 ghost use mathlib.Core.Bool.{cond};
@@ -28,7 +28,7 @@ pub extern "C" fn bt_open_on(first: &[u8], last: &[u8], today: &[u8], is_open: &
     }
 }
 
-// The days from today to a last day, below zero after it.
+// The days from today to a last day, negative after it.
 #[no_mangle]
 pub extern "C" fn bt_days_left(last: &[u8], today: &[u8], days: &mut i32) -> u32
     ensures { λ r. ⌜ r ≡ leftNumber (now (last .entry)) (now (today .entry)) ⌝ }

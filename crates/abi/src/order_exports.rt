@@ -4,8 +4,8 @@ ghost use mathlib.Core.Path.{_≡_};
 ghost use Rattle.ask_order.specs.Order.{orderSays};
 ghost use Rattle.abi.specs.ExportAnswers.{firstGiven};
 
-// Compares two trees: where the first stands (1 before, 2 same, 3 after), the length of the shared beginning, and which tree stands first
-// (1 or 2, 1 where they are the same).
+// Compares two trees: the order of the first text (1 before, 2 same, 3 after), the length of the longest common prefix, and which tree comes first (1 or 2; 1
+// if the texts are equal).
 #[no_mangle]
 pub extern "C" fn bt_order(
     one: &[u8],

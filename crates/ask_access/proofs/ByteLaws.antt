@@ -57,7 +57,7 @@ module _ (t : List ℕ) (p : ℕ) (x : HeaderRead) (x-is : x ≡ headerSays t) (
       let z = header-refused t x x-is q e in
       run-none t p (z .0) q (z .2) byte-unread
 
--- the part handed back
+-- The returned slice.
 module _ (t : List ℕ) (p : ℕ) (r : Ran) (k : RunAnswer t p r) where
   pub part-told : (part : Part) → r ≡ ran.At part → RunAnswer t p (ran.At part)
   part-told part e = rw e at k

@@ -1,4 +1,4 @@
--- The loop that copies runs to a buffer, span's and row's; where a byte is refused, the part asked for is cleared.
+-- The loop of span and row that copies runs to a buffer, and clears the copied part if a byte is refused.
 use mathlib.Core.List.{List, _++_}
 use mathlib.Core.Bool.{true, false, _&&_}
 use mathlib.Core.Path.{_≡_, refl, sym, ap, _∙_}
@@ -126,7 +126,7 @@ module _ (t : List ℕ) (h : Header) (p len : ℕ)
         let z : RunCopied t (p + i) (len - i) i e f (copied.Bytes n m) = rw is at r-is in
         (z .0, omega (arith, z .0, z .1), rw (z .3) (copy-run t p len d room i e c n (omega (arith, z .0, z .1)) (z .2)))
 
-    -- a refusal, and the part asked for is cleared
+    -- A refusal: the first len bytes are cleared.
     pub copy-broken : i < len → (q : ℕ) → r ≡ copied.Refused q → (z : List ℕ) → z ≡ replicate len 0 ++ drop len f
         → NeverZero (copiedReply r) × ByPaths t p len d (replied (copiedReply r)) z
     copy-broken more q is z z-is =

@@ -36,15 +36,15 @@ use Rattle.ask_access.proofs.span.Reads as span-reads
 abbrev pub Asked : (κs : Lfts 1) → RefT (List ℕ) → TextPlace → Answer → Type 0
 Asked κs t p r = byte-reads.Post κs (t, (p, tt)) r (t, (p, tt))
 
--- the same of `run`
+-- The contract of `run`.
 abbrev pub Run : (κs : Lfts 1) → RefT (List ℕ) → TextPlace → RefT (List ℕ) → Type 0
 Run κs t p r = run-reads.Post κs (t, (p, tt)) r (t, (p, tt))
 
--- the same of `span`, which leaves the buffer as it stands in `after`
+-- The contract of `span`; `after` is the buffer after the call.
 abbrev pub Span : (κs : Lfts 2) → RefT (List ℕ) → TextPlace → ℕ → RefT (List ℕ) → RefT (List ℕ) → Copied → Type 0
 Span κs t p len buffer after r = span-reads.Post κs (t, (p, (len, (buffer, tt)))) r (t, (p, (len, (after, tt))))
 
--- which answer says this
+-- The answer in each case.
 byte-is : (r : Answer) (v n : ℕ) → 1 ≤ n → replied (byteReply r) ≡ record { number = 0; value = v; entered = n } → r ≡ Byte v n
 byte-is (Byte w m) v n low e =
     let z : w ≡ v = ap (λ (s : Said). s .value) e in
@@ -64,7 +64,7 @@ pub copied-no : (r : Copied) (n : ℕ) → replied (copiedReply r) ≡ refused (
 copied-no (copied.Bytes m e) n s = absurd (let z : _≡_ {A = ℕ} 0 (suc n) = ap (λ (x : Said). x .number) s in omega arith)
 copied-no (copied.Refused m) n s = ap (λ (x : Said). copied.Refused (x .number)) s
 
--- Any lent bytes.
+-- For any bytes.
 
 -- On any tree, a byte that is not refused is the leaf byte at the end of the place's path, and the number of blocks entered is the length of that path.
 pub figure-is-length :
@@ -92,14 +92,14 @@ module _ (t : RefT (List ℕ)) (pass : readable (t .now) ≡ 0) (links : linksOk
         short = paths.path-short (t .now) pass (p .0) (w .0) (w .1);
       }
 
-  -- That text is the one text that fits the tree.
+  -- The text that the paths give is the one text that fits the tree.
   pub one-text : (T : List ℕ) → fits T (t .now) ≡ true → T ≡ textOf (t .now)
   one-text = paths.only-text (t .now) pass links
 
   pub text-fits : fits (textOf (t .now)) (t .now) ≡ true
   text-fits = paths.text-fits (t .now) pass links
 
-  -- A run is a part of the lent tree, of one byte or more, and a stretch of the text from the place on.
+  -- A run is a part of the tree, of one byte or more, and the text from the place on.
   pub record Stretches (p : ℕ) (r : RefT (List ℕ)) : Type 0 where
     pub from : ℕ
     pub size : ℕ
@@ -123,8 +123,8 @@ module _ (t : RefT (List ℕ)) (pass : readable (t .now) ≡ 0) (links : linksOk
         of-text = a .0 ∙ k .bytes;
       }
 
--- Any tree that the check accepts: a span within the text and the buffer is not refused, leaves that stretch of the text and then what stood there, and
--- reports the blocks entered, at most twice the number of levels; 0 if it is not short.
+-- For any tree that the check accepts: a span inside the text and the buffer is not refused. The buffer then has these bytes, and its old bytes after them. The
+-- number of blocks entered is at most twice the number of levels; 0 if the span is not short.
 pub span-copies :
     (t : RefT (List ℕ)) → verdict (t .now) ≡ 0 → (κs : Lfts 2) (p : TextPlace) (len : ℕ) (buffer after : RefT (List ℕ)) (r : Copied)
     → p .0 + len ≤ at.textLength (t .now) → len ≤ length (buffer .now) → Span κs t p len buffer after r

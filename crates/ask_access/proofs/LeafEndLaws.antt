@@ -166,7 +166,7 @@ module _ (t : List ℕ) (p : ℕ) (h : Header) (k : HeaderOf t h) (low : p < h .
         entered-is = omega (arith, end-walk .entered-is);
       }
 
-      -- the same, by what was read of the block
+      -- The same, with the kind as it was read from the block.
       module _ (kind : ℕ) (kind-is : kind ≡ at.kind t (h .settings .levels - 1) (r .block .0)) where
         pub end-other : (kind ≡ 0 → ⊥) → byteSays t p ≡ refused 14
         end-other z = end-unkept (last-unkept t h k (r .block .0) kind kind-is end-there z)

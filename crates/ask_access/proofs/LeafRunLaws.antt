@@ -107,7 +107,7 @@ module _ (t : List ℕ) (p : ℕ) (h : Header) (k : HeaderOf t h) (low : p < h .
         let high : min (min (r .left) (at.settings t .leaf - r .place .0)) (at.leafCount t - r .leaf) ≤ r .left = omega arith in
         omega (arith, size-is)
 
-    -- its run
+    -- The run of a place whose walk has reached the last level.
     pub leaf-run-reached : (here size : ℕ) → here ≡ min (r .left) (h .settings .leaf - r .place .0) → size ≡ min here (h .«leaf_count» - r .leaf)
         → LeafRunAt t p (record { from = from; length = size; entered = r .entered })
     leaf-run-reached here size here-is is =

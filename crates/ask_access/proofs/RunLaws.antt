@@ -79,7 +79,7 @@ module _ (t : List ℕ) (r : readable t ≡ 0) (p : ℕ) (low : p < at.textLengt
     run-holds : (d : ℕ) → d < runSays t p .1 → byteSays t (p + d) .number ≡ 0
     run-holds d h = ap (λ (s : Said). s .number) (run-says d h)
 
-    -- the same, where the run's bytes and the blocks entered are known by other figures
+    -- The same, where other figures give the bytes of the run and the blocks entered.
     pub run-answers : (from entered : ℕ) → from ≡ at.leafOffset t + q .leaf → entered ≡ length (q .visits) → (d : ℕ) → d < runSays t p .1
         → byteSays t (p + d) ≡ record { number = 0; value = getD t (from + d) 0; entered = entered }
     unfolding at.leafByte

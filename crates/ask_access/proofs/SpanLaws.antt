@@ -21,7 +21,7 @@ use Rattle.ask_access.specs.declared.Copied.{Copied}
 use Rattle.ask_access.specs.ReadAnswers.{copiedReply, SpanAnswer}
 use Rattle.ask_access.specs.ReadByRuns.{CopyAnswer}
 
--- s and what is left of buffer d are what a span says and leaves, whose bytes are reached or not and which reports so many blocks
+-- s and after are the answer of a span and the buffer afterwards, given whether its bytes are reached and the number of blocks entered.
 pub record Spanned (t : List ℕ) (p len : ℕ) (d : List ℕ) (reached : Bool) (bytes : List ℕ) (blocks : ℕ) (s : Said) (after : List ℕ) : Type 0 where
   pub says : s ≡ unless (asksSpan t p len (length d) reached) (record { number = 0; value = len; entered = blocks })
   pub leaves : after ≡ leavesSpan t (asksSpan t p len (length d) reached) len bytes d
@@ -76,7 +76,7 @@ module _ (t : List ℕ) (p len : ℕ) (d : List ℕ) (reached : Bool) (bytes : L
     unfolding asksSpan
     span-past past = number-leaves 9 (rw (passes, lt-leb (p + len) (at.textLength t) past)) (λ z. omega arith)
 
-    -- 10 is asked
+    -- Question 10.
     module _ (within : p + len ≤ at.textLength t) where
       number-within : number ≡ ask 13 (leb len (length d)) (ask 14 reached 0)
       unfolding asksSpan
@@ -88,7 +88,7 @@ module _ (t : List ℕ) (p len : ℕ) (d : List ℕ) (reached : Bool) (bytes : L
       pub span-short : length d < len → Spanned t p len d reached bytes blocks (refused 13) d
       span-short short = number-leaves 12 (no-room short) (λ z. omega arith)
 
-      -- all is asked but 14
+      -- All questions but 14.
       module _ (room : len ≤ length d) where
         pub number-in-room : number ≡ ask 14 reached 0
         number-in-room = number-within ∙ rw (le-leb len (length d) room)

@@ -25,7 +25,7 @@ module _ (t : List ℕ) where
     pub leaf-is : r .leaf ≡ at.link t lastLevel (r .block .0) + r .place .0
     pub leaf-in : r .leaf < at.leafCount t
 
-  -- the path of place p ends there
+  -- The path of place p ends at r.
   pub record LeafEndAt (p : ℕ) (r : LeafEnd) : Type 0 where
     pub ends-in : EndsIn r
     pub above : Above
@@ -35,12 +35,12 @@ module _ (t : List ℕ) where
     pub left-is : r .left ≡ leftOver t (above .visits) (at.textLength t - p)
     pub entered-is : r .entered ≡ length (above .visits) + 1
 
-  -- the answer of `end_of`
+  -- The answer of `end_of`.
   abbrev pub LeafEndOf : ℕ → LeafEndAnswer → Type 0
   LeafEndOf p (found.At r) = LeafEndAt p r
   LeafEndOf p found.Broken = byteSays t p ≡ refused 14
 
-  -- the n places from r on lie in kept blocks that follow each other, and their leaf bytes follow each other
+  -- The n places from r on are in kept blocks that follow each other, and so are their leaf bytes.
   pub record Joined (r : LeafEnd) (n : ℕ) : Type 0 where
     pub some-byte : 1 ≤ n
     pub kept : (x : ℕ) → x < n → keptBlock t lastLevel (r .block .0 + (r .place .0 + x) / at.settings t .leaf) ≡ true

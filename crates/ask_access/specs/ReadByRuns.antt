@@ -27,7 +27,7 @@ pub record ReadsOn (t : List ℕ) (p from size : ℕ) : Type 0 where
   pub holds : (x : ℕ) → x < size → byteSays t (p + x) .number ≡ 0
   pub bytes : (x : ℕ) → x < size → getD t (from + x) 0 ≡ getD (textOf t) (p + x) 0
 
--- r is the run of place p: its bytes are byte's answers at the places from p on, each with the same number of blocks entered
+-- r is the run of place p: its bytes are the answers of byte at the places from p on, each with the same number of blocks entered.
 pub record LeafRunAt (t : List ℕ) (p : ℕ) (r : LeafRun) : Type 0 where
   pub from-is : r .from ≡ runSays t p .0
   pub length-is : r .length ≡ runSays t p .1
@@ -35,12 +35,12 @@ pub record LeafRunAt (t : List ℕ) (p : ℕ) (r : LeafRun) : Type 0 where
   pub in-tree : r .from + r .length ≤ length t
   pub says : (x : ℕ) → x < r .length → byteSays t (p + x) ≡ record { number = 0; value = getD t (r .from + x) 0; entered = r .entered }
 
--- the answer of `leaf_run`
+-- The answer of `leaf_run`.
 abbrev pub LeafRunOf : List ℕ → ℕ → LeafRunAnswer → Type 0
 LeafRunOf t p (found.At r) = LeafRunAt t p r
 LeafRunOf t p found.Broken = byteSays t p ≡ refused 14
 
--- r is at most `most` bytes of the tree that are byte's answers at the places from p on, each with the same number of blocks entered
+-- r is a range of at most `most` bytes of the tree that are the answers of byte at the places from p on, each with the same number of blocks entered.
 pub record LeafRangeAt (t : List ℕ) (p most : ℕ) (r : LeafRun) : Type 0 where
   pub some-byte : 1 ≤ r .length
   pub at-most : r .length ≤ most
@@ -58,17 +58,17 @@ abbrev pub LeafRangeOf : List ℕ → ℕ → ℕ → LeafRunAnswer → Type 0
 LeafRangeOf t p most (found.At r) = LeafRangeAt t p most r
 LeafRangeOf t p most found.Broken = byteSays t p ≡ refused 14
 
--- the answer of `range_at`: some bytes of the tree, at most `most`, that are those of its text from place p; or 14, byte's number
+-- The answer of `range_at`: some bytes of the tree, at most `most`, that are those of its text from place p on; or 14, the refusal of byte.
 abbrev pub RangeAnswer : List ℕ → ℕ → ℕ → Ran → Type 0
 RangeAnswer t p most (ran.At part) = (ReadsOn t p (part .from) (part .length)) × (1 ≤ part .length) × (part .length ≤ most)
 RangeAnswer t p most (ran.Refused q) = (q ≡ 14) × (byteSays t p .number ≡ 14)
 
--- buffer d with the bytes of n places from p written from `to` on
+-- The buffer d with the bytes of n places from p written from `to` on.
 abbrev pub placesWritten : List ℕ → ℕ → List ℕ → ℕ → ℕ → List ℕ
 placesWritten d to t p zero = d
 placesWritten d to t p (suc n) = set (placesWritten d to t p n) (to + n) (byteSays t (p + n) .value)
 
--- the answer of `copy_run`, which leaves buffer e of buffer d: some bytes and no refusal among them; or 14 of the first, and nothing written
+-- The answer of `copy_run`, which turns buffer d into e: some bytes, none of them refused; or 14 for the first one, and nothing is written.
 abbrev pub RunCopied : List ℕ → ℕ → ℕ → ℕ → List ℕ → List ℕ → Copied → Type 0
 RunCopied t p most to d e (copied.Bytes n entered) =
     (1 ≤ n) × (n ≤ most) × ((x : ℕ) → x < n → byteSays t (p + x) .number ≡ 0) × (e ≡ placesWritten d to t p n)

@@ -1,4 +1,4 @@
-// The end of a path among the leaf bytes, and how far the leaf bytes of the blocks that follow it continue its own.
+// The end of a path among the leaf bytes, and how far the leaf bytes of the following blocks continue the text.
 use layout::header::Header;
 use layout::place::BlockNumber;
 use layout::place::BlockPlace;
@@ -15,8 +15,8 @@ ghost use Rattle.format.specs.Settings.{maxText};
 ghost use Rattle.layout.specs.HeaderSays.{HeaderOf};
 ghost use Rattle.ask_access.specs.LeafEnds.{EndsIn, LeafEndOf, Joined};
 
-// The block of the last level in which a path ends, the place in it, the number of its leaf byte, the bytes left in every block above the
-// last level, and the blocks entered.
+// The block of the last level in which a path ends, the place in it, the number of its leaf byte, the smallest number of bytes left in a block above the last
+// level, and the number of blocks entered.
 pub struct LeafEnd {
     pub block: BlockNumber,
     pub place: BlockPlace,
@@ -80,8 +80,8 @@ fn follows(t: &[u8], h: Header, number: u64, leaf: u64) -> bool
     link.0 as u64 == leaf
 }
 
-// How many leaf bytes from a path's end on belong to blocks that follow each other, as their leaf bytes do: `most`, rounded up to the end of
-// a block, or fewer.
+// The number of leaf bytes from the end of a path on that belong to consecutive blocks with consecutive leaf bytes: `most`, rounded up to the end of a block,
+// or fewer.
 pub fn joined(t: &[u8], h: Header, end: LeafEnd, most: u32) -> u32
     requires { ⌜ (HeaderOf (now t) h) × (EndsIn (now t) end) × (most ≤ maxText) ⌝ }
     ensures { λ r. ⌜ Joined (now (t .entry)) end r ⌝ }

@@ -1,4 +1,4 @@
-// The questions put to a tree. Each asks 5 to 7 first, of any bytes lent as a tree.
+// Byte, run and span: any bytes may be given as a tree, and each call checks questions 5 to 7 first.
 pub mod leaf_end;
 pub mod read_by_header;
 
@@ -13,20 +13,19 @@ ghost use Rattle.format.specs.Said.{replied};
 ghost use Rattle.format.specs.ReadSays.{byteSays, runSays, spanLeaves};
 ghost use Rattle.ask_access.specs.ReadAnswers.{byteReply, RunAnswer, SpanAnswer};
 
-// A byte of the text with the number of blocks entered, or the number of the question that refuses.
+// A byte of the text with the number of blocks entered, or the refusal.
 pub enum Answer {
     Byte(u8, u32),
     Refused(u32),
 }
 
-// How many bytes were copied, with the number of blocks entered of a short span, 0 of any other; or the number of the question that
-// refuses.
+// The number of bytes copied, with the number of blocks that a short span entered, 0 for any other span; or the refusal.
 pub enum Copied {
     Bytes(u32, u32),
     Refused(u32),
 }
 
-// The byte at a place of the text.
+// The byte at a place of the text (access).
 pub fn byte(t: &[u8], at: TextPlace) -> Answer
     ensures { λ r. ⌜ replied (byteReply r) ≡ byteSays (now (t .entry)) (at .0) ⌝ }
 {
@@ -51,7 +50,7 @@ pub fn run(t: &[u8], at: TextPlace) -> &[u8]
     &t[from..end]
 }
 
-// Where the run of a place is in the tree's bytes, or byte's number for that place.
+// Where the run of a place is in the bytes of the tree, or the refusal of byte for that place.
 pub fn run_part(t: &[u8], at: TextPlace) -> Ran
     ensures { λ r. ⌜ RunAnswer (now (t .entry)) (at .0) r ⌝ }
 {
@@ -62,7 +61,7 @@ pub fn run_part(t: &[u8], at: TextPlace) -> Ran
     }
 }
 
-// Copies the bytes from a place of the text, as many as asked for, to the start of the buffer.
+// Copies `len` bytes of the text from a place to the start of the buffer.
 pub fn span(t: &[u8], at: TextPlace, len: u32, buffer: &mut [u8]) -> Copied
     ensures { λ r. ⌜ SpanAnswer (now (t .entry)) (at .0) len (length (now (buffer .entry))) r ⌝ }
     ensures { λ _. ⌜ now (buffer .exit) ≡ spanLeaves (now (t .entry)) (at .0) len (now (buffer .entry)) ⌝ }

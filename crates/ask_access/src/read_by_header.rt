@@ -1,4 +1,4 @@
-// Byte, run and span of a tree that passes questions 5 to 7, by its header.
+// Byte, run and span in a tree that passes questions 5 to 7, given its header.
 use crate::Answer;
 use crate::Copied;
 use crate::leaf_end;
@@ -20,19 +20,19 @@ ghost use Rattle.stretches.specs.Stretches.{bytesWritten};
 ghost use Rattle.ask_access.specs.ReadAnswers.{byteReply, RunAnswer, SpanAnswer};
 ghost use Rattle.ask_access.specs.ReadByRuns.{CopyAnswer, LeafRunOf, LeafRangeOf, ReadsFrom, RangeAnswer, RunCopied};
 
-// A part of the tree's bytes.
+// A range of the bytes of the tree.
 pub struct Part {
     pub from: usize,
     pub length: usize,
 }
 
-// The part that a run is, or the number of the question that refuses.
+// The range of a run, or the refusal.
 pub enum Ran {
     At(Part),
     Refused(u32),
 }
 
-// The run of a place: where it is in the tree's bytes, how many bytes it has, and how many blocks the path of each of them enters.
+// The run of a place: where it is in the bytes of the tree, its length, and the number of blocks on the path of each of its places.
 pub struct LeafRun {
     pub from: usize,
     pub length: u32,
@@ -71,7 +71,7 @@ pub fn byte_at(t: &[u8], h: Header, at: TextPlace) -> Answer
     byte_on(t, run, 0)
 }
 
-// The run of a place of the text, no further than the leaf bytes go: question 14.
+// The run of a place of the text, bounded by the number of leaf bytes: question 14.
 fn leaf_run(t: &[u8], h: Header, at: TextPlace) -> LeafRunAnswer
     requires { ⌜ (HeaderOf (now t) h) × (at .0 < h .«text_length») ⌝ }
     ensures { λ r. ⌜ LeafRunOf (now (t .entry)) (at .0) r ⌝ }
@@ -88,8 +88,8 @@ fn leaf_run(t: &[u8], h: Header, at: TextPlace) -> LeafRunAnswer
     })
 }
 
-// At most so many bytes from a place of the text, as many of them as stand together in the tree by one walk: its run, and the leaf bytes of
-// the blocks that follow its last one, within every block above the last level. Question 14.
+// At most `most` bytes from a place of the text that are contiguous in the tree, found by one walk: its run, and the leaf bytes of the blocks that follow,
+// inside every block above the last level. Question 14.
 pub fn leaf_range(t: &[u8], h: Header, at: TextPlace, most: u32) -> LeafRunAnswer
     requires { ⌜ (HeaderOf (now t) h) × (at .0 < h .«text_length») × (1 ≤ most) ⌝ }
     ensures { λ r. ⌜ LeafRangeOf (now (t .entry)) (at .0) most r ⌝ }
@@ -108,7 +108,7 @@ pub fn leaf_range(t: &[u8], h: Header, at: TextPlace, most: u32) -> LeafRunAnswe
     })
 }
 
-// Byte's answer at the k-th place of a run, counted from 0.
+// The answer of byte at the k-th place of a run, from 0.
 fn byte_on(t: &[u8], run: LeafRun, k: usize) -> Answer
     requires { ⌜ run .from + k < length (now t) ⌝ }
     ensures { λ r. ⌜ r ≡ Answer.Byte (getD (now (t .entry)) (run .from + k) 0) (run .entered) ⌝ }
@@ -134,7 +134,7 @@ pub fn part_at(t: &[u8], h: Header, at: TextPlace) -> Ran
     })
 }
 
-// As part_at of a place of the text, but past the end of the run as far as the bytes stand together, and at most so many.
+// As part_at, but beyond the end of the run as far as the bytes are contiguous, and at most `most` bytes.
 pub fn range_at(t: &[u8], h: Header, at: TextPlace, most: u32) -> Ran
     requires { ⌜ (HeaderOf (now t) h) × (at .0 < h .«text_length») × (1 ≤ most) ⌝ }
     ensures { λ r. ⌜ RangeAnswer (now (t .entry)) (at .0) most r ⌝ }
@@ -149,7 +149,7 @@ pub fn range_at(t: &[u8], h: Header, at: TextPlace, most: u32) -> Ran
     })
 }
 
-// Span: questions 10 and 13; then a short span of a layout 2 tree by edges, any other by its bytes' paths.
+// Span: questions 10 and 13; then a short span of a layout 2 tree by edges, any other span by the paths of its bytes.
 pub fn span_at(t: &[u8], h: Header, at: TextPlace, len: u32, buffer: &mut [u8]) -> Copied
     requires { ⌜ HeaderOf (now t) h ⌝ }
     ensures { λ r. ⌜ SpanAnswer (now (t .entry)) (at .0) len (length (now (buffer .entry))) r ⌝ }
@@ -168,7 +168,7 @@ pub fn span_at(t: &[u8], h: Header, at: TextPlace, len: u32, buffer: &mut [u8]) 
     copy(t, h, at, len, buffer)
 }
 
-// Whether a span is short: one of 1 to m bytes of a layout 2 tree.
+// Whether a span is short: 1 to m bytes of a layout 2 tree.
 fn is_short(h: Header, len: u32) -> bool
     ensures { λ r. ⌜ r ≡ (eqb (h .layout) 2 && leb 1 len && leb len (h .settings .leaf)) ⌝ }
 {
@@ -181,7 +181,7 @@ fn is_short(h: Header, len: u32) -> bool
     len <= h.settings.leaf
 }
 
-// A short span: its bytes stand in the tree in one part or two; where its walk breaks, the part asked for is left zero.
+// A short span: its bytes are in the tree in one range or two. If its walk breaks, `len` bytes of the buffer become zero.
 fn short_span(t: &[u8], h: Header, at: TextPlace, len: u32, buffer: &mut [u8]) -> Copied
     requires { ⌜ (HeaderOf (now t) h) × (at .0 + len ≤ h .«text_length») × (len ≤ length (now buffer)) × (isShort (now t) len ≡ true) ⌝ }
     ensures { λ r. ⌜ SpanAnswer (now (t .entry)) (at .0) len (length (now (buffer .entry))) r ⌝ }
@@ -269,7 +269,7 @@ pub fn copy_on(
     Copied::Bytes(len, 0)
 }
 
-// The number of the question that refuses; 0 for an answer.
+// The refusal of an answer, 0 for none.
 pub fn number(answer: Answer) -> u32
     ensures { λ r. ⌜ r ≡ replied (byteReply answer) .number ⌝ }
 {

@@ -88,7 +88,7 @@ module _ (t : List ℕ) (h : Header) (w rows a : ℕ) (d : List ℕ) (k : RowThe
   cell-below b l =
       omega (arith, within b w rows a l (k .below), mul-comm w rows, ap (λ (x : ℕ). x * w) (k .rows-are), width-rows w (h .«text_length») (k .width))
 
-  -- it is that of the definition
+  -- The place is that of the definition.
   cell-is : (b : ℕ) → b * rows + a ≡ cell t w a b
   unfolding cell
   cell-is b = rw (k .rows-are, k .header .length-is)

@@ -34,7 +34,7 @@ use Rattle.ask_columns.proofs.row_by_columns.Reads as reads
 abbrev pub ByColumns : (κs : Lfts 2) → RefT (List ℕ) → (w a : ℕ) → (buffer after : RefT (List ℕ)) → Copied → Type 0
 ByColumns κs t w a buffer after r = reads.Post κs (t, (w, (a, (buffer, tt)))) r (t, (w, (a, (after, tt))))
 
--- Any lent bytes.
+-- For any bytes.
 module _ (κs : Lfts 2) (t : RefT (List ℕ)) (w a : ℕ) (buffer after : RefT (List ℕ)) (r : Copied) (c : ByColumns κs t w a buffer after r) where
   -- a refusal other than 14 leaves the buffer
   refuses : (n : ℕ) → columnNumber (now t) w a (length (now buffer)) ≡ suc n → (suc n ≡ 14 → ⊥) → (r ≡ copied.Refused (suc n)) × (now after ≡ now buffer)
@@ -90,7 +90,7 @@ module _ (κs : Lfts 2) (t : RefT (List ℕ)) (w a : ℕ) (buffer after : RefT (
               rw (pass, ok, lt-ltb a (at.textLength (now t) / w) low, le-leb w (length (now buffer)) room, hold) in
               (copied-is r w 0 (c .0 .numbered) (c .0 .says ∙ rw number), c .1 ∙ rw number)
 
--- Any accepted tree: row a of the text that the tree's own text is the rearrangement of, end byte included, and then what stood in the buffer.
+-- For any accepted tree whose text is a rearrangement: row a of the original text, end byte included, then the old bytes of the buffer.
 module _ (κs : Lfts 2) (t : RefT (List ℕ)) (v : verdict (now t) ≡ 0) (w a : ℕ) (buffer after : RefT (List ℕ)) (r : Copied)
     (c : ByColumns κs t w a buffer after r) where
   pub column-copies : widthOk w (length (textOf (now t))) ≡ true → a < length (textOf (now t)) / w → w ≤ length (now buffer)

@@ -1,4 +1,4 @@
--- What the reading of a row by columns answers, for any bytes lent as a tree, and what it leaves in the lent buffer.
+-- What row_by_columns returns for any bytes given as a tree, and what the caller's buffer contains afterwards.
 -- docs/FORMAT.md: "Columns before rows".
 use mathlib.Core.List.{List, [], _∷_, _++_}
 use mathlib.Core.Bool.{Bool, cond}
@@ -15,30 +15,31 @@ use Rattle.ask_access.specs.declared.Copied.{Copied}
 use Rattle.ask_access.specs.ReadAnswers.{copiedReply}
 
 module _ (t : List ℕ) (w a : ℕ) where
-  -- the place of column b of row a
+  -- The place of column b of row a.
   unfoldable pub cell : ℕ → ℕ
   cell b = b * (at.textLength t / w) + a
 
-  -- the paths of row a's places all hold
+  -- Whether every place of row a has a path.
   unfoldable pub cellsHold : Bool
   cellsHold = allBelow w (λ b. eqb (byteSays t (cell b) .number) 0)
 
-  -- the refusals in their order: 5 to 7, 20, 10 if there is no row a, 13, 14
+  -- The refusal: 5 to 7, then 20, then 10 if there is no row a, then 13 and 14.
   unfoldable pub columnNumber : ℕ → ℕ
   columnNumber room =
       let n = at.textLength t in
       orNext (readable t) (asks ((20, widthOk w n) ∷ (10, ltb a (n / w)) ∷ (13, leb w room) ∷ (14, cellsHold) ∷ []))
 
-  -- a 14 leaves the w bytes zero
+  -- The buffer afterwards: the row at its start; w zeros if refused with 14; unchanged for any other refusal.
   unfoldable pub columnLeaves : List ℕ → List ℕ
   columnLeaves buffer =
       let number = columnNumber (length buffer) in
       cond (eqb number 0) (tabulate w (λ b. byteSays t (cell b) .value) ++ drop w buffer)
       (cond (eqb number 14) (replicate w 0 ++ drop w buffer) buffer)
 
+  -- The width, or the refusal.
   unfoldable pub columnSays : ℕ → Said
   columnSays room = unless (columnNumber room) (record { number = 0; value = w; entered = 0 })
 
--- the answer, with room for so many bytes
+-- The answer of row_by_columns, with a buffer of `room` bytes.
 abbrev pub ColumnAnswer : (t : List ℕ) (w a room : ℕ) → Copied → Type 0
 ColumnAnswer t w a room = Is copiedReply (columnSays t w a room)

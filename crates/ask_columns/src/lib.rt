@@ -1,4 +1,4 @@
-// Reads a row of the original text from the tree of a rearranged one. Any bytes may be given as the tree: questions 5 to 7 come first.
+// Reads a row of the original text from the tree of a text by columns. Any bytes may be given as a tree: questions 5 to 7 come first.
 use ask_access::Answer;
 use ask_access::Copied;
 use ask_access::read_by_header;
@@ -12,7 +12,7 @@ ghost use Rattle.layout.specs.HeaderSays.{HeaderOf};
 ghost use Rattle.ask_columns.specs.ColumnRows.{ColumnAnswer, columnLeaves};
 ghost use Rattle.ask_columns.specs.RowThere.{RowThere};
 
-// Copies row a, counted from 0, of rows of a width, end byte included, to the start of the buffer. No blocks entered are reported.
+// Copies row a, from 0, of rows of `width` bytes, end byte included, to the start of the buffer. The number of blocks entered is not reported.
 pub fn row_by_columns(t: &[u8], width: u32, a: u32, buffer: &mut [u8]) -> Copied
     ensures { λ r. ⌜ ColumnAnswer (now (t .entry)) width a (length (now (buffer .entry))) r ⌝ }
     ensures { λ _. ⌜ now (buffer .exit) ≡ columnLeaves (now (t .entry)) width a (now (buffer .entry)) ⌝ }
@@ -24,7 +24,7 @@ pub fn row_by_columns(t: &[u8], width: u32, a: u32, buffer: &mut [u8]) -> Copied
     }
 }
 
-// Questions 20, 10 and 13, by the header.
+// Questions 20, 10 and 13, given the header.
 fn row_at(t: &[u8], h: Header, width: u32, a: u32, buffer: &mut [u8]) -> Copied
     requires { ⌜ HeaderOf (now t) h ⌝ }
     ensures { λ r. ⌜ ColumnAnswer (now (t .entry)) width a (length (now (buffer .entry))) r ⌝ }
@@ -43,7 +43,7 @@ fn row_at(t: &[u8], h: Header, width: u32, a: u32, buffer: &mut [u8]) -> Copied
     copy(t, h, width, rows, a, buffer)
 }
 
-// Question 14: reads the byte of each column, one a path; where one is refused, the row's part of the buffer is left zero.
+// Question 14: reads the byte of each column by its path. If one is refused, the row's part of the buffer becomes zero.
 fn copy(t: &[u8], h: Header, width: u32, rows: u32, a: u32, buffer: &mut [u8]) -> Copied
     requires { ⌜ RowThere (now t) h width rows a (length (now buffer)) ⌝ }
     ensures { λ r. ⌜ ColumnAnswer (now (t .entry)) width a (length (now (buffer .entry))) r ⌝ }

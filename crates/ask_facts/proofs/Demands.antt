@@ -57,7 +57,7 @@ counted-at : (t : List ℕ) (c : ℕ) → c < at.countedCount t → c < maxCount
 unfolding at.settings byteOf countedByte
 counted-at t c h low = rw (getD-take, getD-take, getD-drop)
 
--- a total is how often its byte stands in the text
+-- A total is how often its byte occurs in the text.
 total-right : (t : List ℕ) → verdict t ≡ 0 → (c : ℕ) → c < at.countedCount t → c < maxCounted → totalOf t c ≡ countIn (countedByte t c) (textOf t)
 unfolding totalOf
 total-right t v c h low =
@@ -75,7 +75,7 @@ module _ (κs : Lfts 2) (t figures after : RefT (List ℕ)) (r : ℕ) (a : Info 
   unfolding infoLeaves
   info-refused q e = (a .0 ∙ e, a .1 ∙ rw (e, ne-eqb (suc q) 0 (λ z. omega arith)))
 
-  -- of an accepted tree n is the text's length, and the total of each counted byte says how often it stands in the text
+  -- For an accepted tree n is the length of the text, and the total of each counted byte is how often it occurs in the text.
   module _ (v : verdict (now t) ≡ 0) where
     told : now after ≡ figuresOf (now t)
     told = info-told (accepted-readable (now t) v) .1

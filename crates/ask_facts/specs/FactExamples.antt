@@ -1,4 +1,4 @@
--- The figures of the worked book's tree, of a text of no bytes and of what is no tree, computed from the definitions.
+-- The figures of the worked book's tree, of the tree of an empty text and of bytes that are not a tree, computed from the definitions.
 use mathlib.Core.List.{List, [], _∷_}
 use mathlib.Core.Path.{_≡_, refl}
 use Prim.Native.Nat.{ℕ}

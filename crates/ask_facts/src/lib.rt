@@ -1,4 +1,5 @@
-// What a caller must know of a tree without reading its bytes: the header's figures, with the totals of the counted bytes; and the library's version.
+// The figures of a tree that a caller needs before reading its text: those of the header, and the totals of the counted bytes; and the version of the
+// library.
 use layout::header;
 use layout::header::Header;
 use layout::header::HeaderRead;
@@ -15,15 +16,15 @@ ghost use Rattle.format.specs.Verdict.{readable};
 ghost use Rattle.layout.specs.HeaderSays.{HeaderOf};
 ghost use Rattle.ask_facts.specs.Facts.{countedByte, totalOf, figuresOf, infoLeaves, versionNumber};
 
-// How many figures are told.
+// The number of figures.
 pub const FIGURES: usize = PLAIN + 2 * Settings::MAX_COUNTED + LEVELS;
 
-// The figures before the counted bytes: those of the header by itself.
+// The number of figures before the counted bytes, which are in the header.
 const PLAIN: usize = 7;
 
 const LEVELS: usize = Settings::MAX_LEVELS as usize;
 
-// The version, raised with each change of what the calls answer.
+// The version. It changes with every change of what a call returns.
 pub const MAJOR: u32 = 1;
 
 pub const MINOR: u32 = 17;
@@ -37,7 +38,7 @@ pub fn version() -> u32
     10000 * MAJOR + 100 * MINOR + PATCH
 }
 
-// Writes the figures of a tree, in order. It asks 5 to 7, of any bytes lent as a tree; refused, every figure is 0.
+// Writes the figures of a tree in order. Any bytes may be given as a tree: questions 5 to 7. If refused, every figure is 0.
 pub fn info(t: &[u8], figures: &mut [u64; FIGURES]) -> u32
     ensures { λ r. ⌜ r ≡ readable (now (t .entry)) ⌝ }
     ensures { λ _. ⌜ now (figures .exit) ≡ infoLeaves (now (t .entry)) ⌝ }
@@ -55,7 +56,7 @@ pub fn info(t: &[u8], figures: &mut [u64; FIGURES]) -> u32
     }
 }
 
-// The figures of a tree that passes questions 5 to 7, by its header.
+// The figures of a tree that passes questions 5 to 7, given its header.
 fn figures_of(t: &[u8], h: Header) -> [u64; FIGURES]
     requires { ⌜ HeaderOf (now t) h ⌝ }
     ensures { λ r. ⌜ r ≡ figuresOf (now (t .entry)) ⌝ }
@@ -99,7 +100,7 @@ const THIRD: usize = FIRST + 2;
 
 const FOURTH: usize = FIRST + 3;
 
-// The counted bytes in order, then zeros: what stands at the places for them.
+// The counted bytes in order, then zeros, as in the header.
 fn counted_bytes(t: &[u8]) -> [u64; Settings::MAX_COUNTED]
     requires { ⌜ headerLength ≤ length (now t) ⌝ }
     ensures { λ r. ⌜ r ≡ tabulate maxCounted (countedByte (now (t .entry))) ⌝ }
@@ -118,7 +119,7 @@ fn wide(byte: u8) -> u64
     byte as u64
 }
 
-// How often each counted byte stands in the text by the tree's totals, then zeros.
+// How often each counted byte occurs in the text, by the totals of the tree, then zeros.
 fn totals(t: &[u8], h: Header) -> [u64; Settings::MAX_COUNTED]
     requires { ⌜ HeaderOf (now t) h ⌝ }
     ensures { λ r. ⌜ r ≡ tabulate maxCounted (totalOf (now (t .entry))) ⌝ }
@@ -131,7 +132,7 @@ fn totals(t: &[u8], h: Header) -> [u64; Settings::MAX_COUNTED]
     ]
 }
 
-// The total of counted byte number c, 0 where there is none of that number.
+// The total of counted byte number c, 0 if there are fewer.
 fn total_of(t: &[u8], h: Header, c: u32) -> u64
     requires { ⌜ HeaderOf (now t) h ⌝ }
     ensures { λ r. ⌜ r ≡ totalOf (now (t .entry)) c ⌝ }
@@ -142,7 +143,7 @@ fn total_of(t: &[u8], h: Header, c: u32) -> u64
     ask_totals::total(t, h, c)
 }
 
-// How many blocks each level has, then zeros: the header's words.
+// The number of blocks of each level, then zeros, as in the header.
 fn level_counts(t: &[u8]) -> [u64; LEVELS]
     requires { ⌜ headerLength ≤ length (now t) ⌝ }
     ensures { λ r. ⌜ r ≡ tabulate maxLevels (at.levelCount (now (t .entry))) ⌝ }

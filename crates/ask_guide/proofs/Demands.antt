@@ -1,4 +1,4 @@
--- What docs/FORMAT.md, "Guides", says of a guide and of its size, as theorems over what the call promises, for any lent bytes.
+-- The statements of docs/FORMAT.md, "Guides", about a guide, as theorems over the contracts of the calls, for any bytes.
 use mathlib.Core.List.{List}
 use mathlib.Core.Path.{_≡_, refl, sym, ap, _∙_}
 use Prim.Native.Nat.{ℕ, suc, _+_, _*_, _/_, _≤_, _<_}
@@ -29,7 +29,7 @@ use Rattle.ask_guide.proofs.guide_words.Reads as words-reads
 abbrev pub GuideWords : (κs : Lfts 1) → RefT (List ℕ) → Size → Type 0
 GuideWords κs t r = words-reads.Post κs (t, tt) r (t, tt)
 
--- which answer says this
+-- The answer in each case.
 pub words-is : (r : Size) (n : ℕ) → NeverZero (sizeReply r) → replied (sizeReply r) ≡ record { number = 0; value = n; entered = 0 } → r ≡ Words n
 words-is (Words m) n k e = ap Words (ap (λ (s : Said). s .value) e)
 words-is (Refused q) n k e = absurd (let z : ⊥ = omega (arith, ap (λ (s : Said). s .number) e) in z)

@@ -63,7 +63,7 @@ module _ (t : List ℕ) where
     unfolding entriesBefore guideWords
     entry-below = omega (arith, guide-length, sumBelow-part (at.countedCount t) (entriesOf t) c hc)
 
-    -- the occurrence that it lists stands in the text
+    -- The occurrence that it lists is in the text.
     pub entry-stands : listedEvery * e + 1 ≤ total t c
     unfolding entriesOf
     entry-stands = omega (arith, pieces-start (total t c) listedEvery e he (omega arith))

@@ -56,14 +56,14 @@ module _ (t : List ℕ) (v : verdict t ≡ 0) (c : ℕ) (hc : c < at.countedCoun
     parts : place / b t 0 * b t 0 ≤ place
     parts = omega (arith, div-add-mod' place (b t 0))
 
-    -- it is one of level 0
+    -- The block is one of level 0.
     pub block-in : blockOf t c j < at.levelCount t 0
     block-in = rw (block-is-place, k .level0) (lt-pieces (at.textLength t) (b t 0) (place / b t 0) pos (omega (arith, parts, stands .within, text-length t)))
 
     pub block-few : blockOf t c j < maxText
     block-few = rw block-is-place (omega (arith, div-le-self place (b t 0), stands .within, text-length t, k .bounds .text-high))
 
-    -- fewer than j stand before it
+    -- Fewer than j occurrences are before it.
     pub block-low : at.before t 0 (blockOf t c j) c < j
     unfolding tally
     block-low =
@@ -71,11 +71,11 @@ module _ (t : List ℕ) (v : verdict t ≡ 0) (c : ℕ) (hc : c < at.countedCoun
         let hi : i < N t 0 = rw block-is-place at block-in in
         rw block-is-place (omega (arith, finds.top-before t k d a c hc i hi, count-mono (byteOf t c) (textOf t) 0 (i * b t 0) place parts, stands .rank))
 
-    -- and before the first block
+    -- Fewer than j occurrences are before the first block.
     pub first-low : at.before t 0 0 c < j
     first-low = omega (arith, finds.top-rises t k d a c hc 0 (blockOf t c j) (omega arith) block-in, block-low)
 
-    -- and no other block has fewer before it, and j or more before the next
+    -- No other block has fewer than j before it and j or more before the next.
     pub block-is : (i : ℕ) → i < at.levelCount t 0 → at.before t 0 i c < j → (i + 1 < at.levelCount t 0 → j ≤ at.before t 0 (i + 1) c) → i ≡ blockOf t c j
     unfolding tally
     block-is i hi under next =

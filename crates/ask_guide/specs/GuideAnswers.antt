@@ -1,4 +1,4 @@
--- The answers of the guide's calls by their numbers and figures.
+-- The answers of the calls on guides by their refusals and figures.
 use Rattle.format.specs.Said.{Reply, figures, refusal}
 use Rattle.ask_guide.specs.declared.Size.{Size}
 use Rattle.ask_guide.specs.declared.Size.the-variants.{Words, Refused}

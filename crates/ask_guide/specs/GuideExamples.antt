@@ -40,7 +40,7 @@ said : ℕ → ℕ → Said
 said q v = record { number = q; value = v; entered = 0 }
 
 pub record Marked : Type 0 where
-  -- A stands in the worked book four times: one entry, and the fourth A, at 16 in block 4, is four steps from it
+  -- A occurs four times in the worked book: one entry. The fourth A, at 16 in block 4, is four steps from it.
   worked : (guideOf W ≡ 0 ∷ []) × (guideBytes W ≡ 0 ∷ 0 ∷ 0 ∷ 0 ∷ []) × (sizeSays W ≡ said 0 1) × (blockOf W 0 4 - blockOf W 0 (lastListed 4) ≡ 4)
   -- another entry, three bytes, five bytes and two words are no guide of it
   right : (guideNumber W (0 ∷ 0 ∷ 0 ∷ 0 ∷ []) ≡ 0) × (guideNumber W (1 ∷ 0 ∷ 0 ∷ 0 ∷ []) ≡ 24) × (guideNumber W (0 ∷ 0 ∷ 0 ∷ 1 ∷ []) ≡ 24)
@@ -62,7 +62,7 @@ pub record Marked : Type 0 where
   -- none counted; none there
   none : (guideOf (blocks 2 [] book) ≡ [])
       × (guideOf (blocks 2 (90 ∷ []) book) ≡ []) × (guideNumber (blocks 2 [] book) [] ≡ 0) × (makeSays (blocks 2 [] book) [] ≡ said 0 0)
-  -- trees that the check refuses: 5, and 8 before 24 and 25; the size asks 5 to 7 alone
+  -- Trees that the check refuses: 5, and 8 before 24 and 25. The size checks only 5 to 7.
   unread : (guideNumber (take 99 W) [] ≡ 5) × (makeSays (take 99 W) [] ≡ said 5 0) × (sizeSays (take 99 W) ≡ said 5 0)
   unlinked : (guideNumber (setWord W 112 1) [] ≡ 8) × (makeSays (setWord W 112 1) [] ≡ said 8 0) × (sizeSays (setWord W 112 1) ≡ said 0 1)
 

@@ -1,5 +1,5 @@
--- Guides (sampled select directories): for each counted byte, a word for every 64 occurrences, the block of level 0 that contains the first of them; and
--- what the calls return that check a guide, make one and give its size.
+-- Guides (sampled select directories): for each counted byte one word for every 64 occurrences, the number of the level 0 block that contains the first of
+-- them. And what the calls return that check a guide, make one and give its size.
 -- docs/FORMAT.md: "Guides".
 use mathlib.Core.List.{List, [], _∷_, _++_}
 use mathlib.Core.Bool.{cond}
@@ -16,55 +16,61 @@ use Rattle.format.specs.Verdict.{asks, orNext, readable, verdict}
 use Rattle.format.specs.Said.{Said, unless}
 use Rattle.format.specs.FindSays.{total}
 
--- one occurrence in so many is listed: the 1st, the 65th, the 129th
+-- The sampling rate: the 1st, 65th, 129th occurrence, and so on, have an entry.
 abbrev pub listedEvery : ℕ
 listedEvery = 64
 
--- the entry of its byte from which the j-th is sought, and the occurrence that this entry is for: the greatest sampled one up to j
+-- The entry of its byte from which the search for the j-th occurrence starts.
 abbrev pub lastEntry : ℕ → ℕ
 lastEntry j = (j - 1) / listedEvery
 
+-- The occurrence that this entry is for: the last sampled one up to j.
 abbrev pub lastListed : ℕ → ℕ
 lastListed j = listedEvery * lastEntry j + 1
 
 module _ (t : List ℕ) where
-  -- the number of the level 0 block that holds the j-th occurrence of counted byte number c
+  -- The number of the level 0 block that contains the j-th occurrence of counted byte number c.
   unfoldable pub blockOf : ℕ → ℕ → ℕ
   blockOf c j = placeOf (getD (at.settings t .counted) c 0) j (textOf t) / at.fullLength t 0
 
-  -- how many entries counted byte number c has, a begun 64 counting whole, and how many those before it have
+  -- The number of entries of counted byte number c: its total / 64, rounded up.
   unfoldable pub entriesOf : ℕ → ℕ
   entriesOf c = pieces (total t c) listedEvery
 
+  -- The number of entries of the counted bytes before number c.
   unfoldable pub entriesBefore : ℕ → ℕ
   entriesBefore c = sumBelow c entriesOf
 
-  -- how many words the guide has
+  -- The number of words of the guide.
   unfoldable pub guideWords : ℕ
   guideWords = entriesBefore (at.countedCount t)
 
-  -- the entries of an accepted tree's guide, and its bytes
+  -- The entries of the guide of a valid tree.
   unfoldable pub guideOf : List ℕ
   guideOf = concat (tabulate (at.countedCount t) (λ c. tabulate (entriesOf c) (λ e. blockOf c (listedEvery * e + 1))))
 
+  -- The entries as bytes.
   unfoldable pub guideBytes : List ℕ
   guideBytes = wordsBytes guideOf
 
-  -- Checking a guide: questions 5 to 9 of the tree, then 24, for its length and each entry
+  -- The result of checking a guide: questions 5 to 9 for the tree, then 24 for the length and each entry of the guide.
   unfoldable pub guideNumber : List ℕ → ℕ
   guideNumber guide = orNext (verdict t) (asks ((24, sameList guide guideBytes) ∷ []))
 
-  -- The size of a guide: questions 5 to 7, then its words
+  -- The size of a guide in words, or a refusal by questions 5 to 7.
   unfoldable pub sizeSays : Said
   sizeSays = unless (readable t) (record { number = 0; value = guideWords; entered = 0 })
 
-  -- Making a guide: questions 5 to 9, then 25; its words, and the lent table afterwards
+  -- Making a guide in the caller's table: refused by questions 5 to 9, then 25.
   module _ (table : List ℕ) where
+    -- The refusal of make_guide.
     unfoldable pub makeNumber : ℕ
     makeNumber = orNext (verdict t) (asks ((25, leb (length guideBytes) (length table)) ∷ []))
 
+    -- The number of words written, or the refusal.
     unfoldable pub makeSays : Said
     makeSays = unless makeNumber (record { number = 0; value = guideWords; entered = 0 })
 
+    -- The table afterwards: the guide at its start; unchanged if refused.
     unfoldable pub makeLeaves : List ℕ
     makeLeaves = cond (eqb makeNumber 0) (guideBytes ++ drop (length guideBytes) table) table

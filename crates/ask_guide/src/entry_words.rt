@@ -1,4 +1,4 @@
-// The words of a guide: how many there are, and the block that each names.
+// The words of a guide: their number, and the block that each names.
 use ask_select::seek;
 use ask_select::seek::Along;
 use ask_select::seek::Blocks;
@@ -14,10 +14,10 @@ ghost use Rattle.layout.specs.HeaderSays.{HeaderOf};
 ghost use Rattle.ask_select.specs.Seeks.{LastBefore};
 ghost use Rattle.ask_guide.specs.Guides.{entriesOf, entriesBefore, listedEvery};
 
-// One occurrence in so many is listed.
+// The sampling rate: one of 64 occurrences has an entry.
 pub const LISTED_EVERY: u64 = 64;
 
-// How many entries a counted byte has: one for each 64 times that it stands in the text, a begun 64 counting whole.
+// The number of entries of a counted byte: its total / 64, rounded up.
 pub fn entries_of(t: &[u8], h: Header, number: u32) -> u64
     requires { ⌜ (HeaderOf (now t) h) × (number < at.countedCount (now t)) ⌝ }
     ensures { λ r. ⌜ (r ≡ entriesOf (now (t .entry)) number) × (r ≤ 2 ^ 64 / listedEvery) ⌝ }
@@ -29,7 +29,7 @@ pub fn entries_of(t: &[u8], h: Header, number: u32) -> u64
     all / LISTED_EVERY + 1
 }
 
-// How many entries the counted bytes before one have.
+// The number of entries of the counted bytes before one.
 pub fn entries_before(t: &[u8], h: Header, number: u32) -> u64
     requires { ⌜ (HeaderOf (now t) h) × (number ≤ at.countedCount (now t)) ⌝ }
     ensures { λ r. ⌜ (r ≡ entriesBefore (now (t .entry)) number) × (r ≤ maxCounted * (2 ^ 64 / listedEvery)) ⌝ }

@@ -9,13 +9,13 @@ ghost use Rattle.format.specs.Said.{NeverZero, replied};
 ghost use Rattle.ask_guide.specs.Guides.{sizeSays};
 ghost use Rattle.ask_guide.specs.GuideAnswers.{sizeReply};
 
-// How many words a guide has, or the number of the question that refuses.
+// The number of words of a guide, or the refusal.
 pub enum Size {
     Words(u64),
     Refused(u32),
 }
 
-// How many words the guide of a tree has. It asks 5 to 7, of any bytes lent as a tree.
+// The number of words of the guide of a tree. Any bytes may be given as a tree: questions 5 to 7.
 pub fn guide_words(t: &[u8]) -> Size
     ensures { λ r. ⌜ (replied (sizeReply r) ≡ sizeSays (now (t .entry))) × (NeverZero (sizeReply r)) ⌝ }
 {

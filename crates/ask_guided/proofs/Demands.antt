@@ -1,4 +1,4 @@
--- What docs/FORMAT.md, "Guides", says of find with a guide, as theorems over what the call promises.
+-- The statements of docs/FORMAT.md, "Guides", about find with a guide, as theorems over the contract of the call.
 use mathlib.Core.List.{List}
 use mathlib.Core.Path.{_≡_, sym, ap, _∙_}
 use mathlib.Core.Logic.{_⊎_, inl, inr}
@@ -67,7 +67,7 @@ module _ (κs : Lfts 2) (t guide : RefT (List ℕ)) (byte j : ℕ) (r : Guided) 
     pub guided-as-find : (κ : Lfts 1) (f : Found) → Find κ t byte j f → foundOf r ≡ f
     guided-as-find κ f b = one-answer (now t) (guide-verdict (now t) (now guide) accepted) byte j (foundOf r) f as-find b
 
-    -- Its steps on level 0, counted while it runs, are then the block of level 0 that contains the place, less the entry.
+    -- The steps on level 0, counted while find runs, are the number of the block of level 0 that contains the place, minus the entry.
     pub guided-steps : selectNumber (now t) byte j ≡ 0
         → stepsOf r ≡ blockOf (now t) (numberOfByte (now t) byte) j - blockOf (now t) (numberOfByte (now t) byte) (lastListed j)
     unfolding stepsTo

@@ -72,7 +72,7 @@ module _ (t guide : List ℕ) (byte c j : ℕ)
     listed-high : lastListed j ≤ total t c
     listed-high = omega arith
 
-    -- it is the entry of the greatest sampled occurrence up to j
+    -- The entry is that of the last sampled occurrence up to j.
     entry-is : wordAt guide (4 * place) ≡ blockOf t c (lastListed j)
     entry-is =
         ap (λ (l : List ℕ). wordAt l (4 * place)) (guide-same t guide g) ∙ entry-word t v place below
@@ -88,7 +88,7 @@ module _ (t guide : List ℕ) (byte c j : ℕ)
   pub entry-missing : length guide / 4 ≤ place → SoughtBy t guide byte c j (refused 14) 0
   entry-missing past = record { accepted = λ g. absurd (let z : ⊥ = omega (arith, there g) in z); free = inl (refl, refl) }
 
-  -- it names no block
+  -- The entry names no block.
   pub entry-astray : at.levelCount t 0 ≤ wordAt guide (4 * place) → SoughtBy t guide byte c j (refused 14) 0
   entry-astray past = record { accepted = λ g. absurd (let z : ⊥ = omega (arith, entry-in g) in z); free = inl (refl, refl) }
 

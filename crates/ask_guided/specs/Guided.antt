@@ -1,5 +1,5 @@
--- What find with a guide answers, for any bytes lent as a tree and as a guide: settled by the questions before the walk, and for an accepted tree and
--- guide; named as free for the others.
+-- What find with a guide may return for any bytes given as a tree and as a guide: one answer if a question refuses or both are valid, else any of those that
+-- the format leaves free.
 -- docs/FORMAT.md: "Guides", "What is left free".
 use mathlib.Core.List.{List}
 use mathlib.Core.Path.{_≡_}
@@ -11,12 +11,12 @@ use Rattle.ask_guide.specs.Guides.{lastListed, blockOf, guideNumber}
 use Rattle.ask_guided.specs.declared.Guided.{Guided}
 use Rattle.ask_guided.specs.declared.Guided.the-variants.{At, Refused}
 
--- the steps on level 0 to the j-th occurrence of counted byte number c: the number of the block that holds it less the entry of the last
--- listed one not after it
+-- The number of steps on level 0 to the j-th occurrence of counted byte number c: from the block of the last sampled occurrence up to j to the block of the
+-- j-th.
 unfoldable pub stepsTo : List ℕ → ℕ → ℕ → ℕ
 stepsTo t c j = blockOf t c j - blockOf t c (lastListed j)
 
--- what it may say: find's for an accepted tree and guide, else 14 or a place below n; no steps with a refusal
+-- The answers that find with a guide may return: those of find if tree and guide are valid, else 14 or some place of the text. A refusal has no steps.
 pub record GuidedSays (t guide : List ℕ) (byte j : ℕ) (s : Said) (steps : ℕ) : Type 0 where
   pub finds : FindBy t (guideNumber t guide) byte j s
   pub none : 0 < s .number → steps ≡ 0
@@ -27,6 +27,7 @@ abbrev pub guidedReply : Guided → Reply
 guidedReply (At place entered steps) = figures (place .0) entered
 guidedReply (Refused number) = refusal number
 
+-- The steps on level 0; 0 if refused.
 abbrev pub stepsOf : Guided → ℕ
 stepsOf (At place entered steps) = steps
 stepsOf (Refused number) = 0

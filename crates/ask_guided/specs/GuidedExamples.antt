@@ -28,7 +28,7 @@ long : List ℕ
 long = treeOf (record { leaf = 2; arity = 2; levels = 1; counted = 65 ∷ [] }) (replicate 200 65)
 
 pub record Marked : Type 0 where
-  -- the fourth A of the worked book stands at 16, in block 4: three blocks entered, four steps from block 0
+  -- The fourth A of the worked book is at 16, in block 4: three blocks entered, four steps from block 0.
   fourth : (found W 65 4 ≡ record { number = 0; value = 16; entered = 3 }) × (stepsTo W 0 4 ≡ 4)
   -- the 64th is 31 steps from the 1st, the 65th none from itself, the hundredth 17 from the 65th
   steps : (stepsTo long 0 1 ≡ 0) × (stepsTo long 0 64 ≡ 31) × (stepsTo long 0 65 ≡ 0) × (stepsTo long 0 100 ≡ 17)

@@ -1,4 +1,4 @@
-// Find with a guide, of a tree that passes questions 5 to 7, by its header.
+// Find with a guide in a tree that passes questions 5 to 7, given its header.
 use crate::Guided;
 use ask_guide::entry_words;
 use ask_select::Found;
@@ -38,7 +38,7 @@ pub fn find_guided_at(t: &[u8], h: Header, guide: &[u8], byte: u8, j: u32) -> Gu
     guided(t, h, guide, Wanted { byte, number }, j)
 }
 
-// Starts at entry (j - 1) / 64 of the byte. Refused with 14 if the guide has no such entry, or if the entry is no block of level 0.
+// Starts at entry (j - 1) / 64 of the byte. Refused with 14 if the guide has no such entry, or if the entry is not a block of level 0.
 pub fn guided(t: &[u8], h: Header, guide: &[u8], wanted: Wanted, j: u32) -> Guided
     requires { ⌜ (HeaderOf (now t) h) × (wanted .number < at.countedCount (now t))
         × (wanted .byte ≡ byteOf (now t) (wanted .number)) × (1 ≤ j) × (j ≤ total (now t) (wanted .number)) ⌝ }
@@ -63,7 +63,7 @@ pub fn guided(t: &[u8], h: Header, guide: &[u8], wanted: Wanted, j: u32) -> Guid
     with_steps(seek::text_place(h.text_length, word), along.steps)
 }
 
-// What was found, with the steps to its block of level 0.
+// The answer of find with the steps on level 0 added.
 fn with_steps(found: Found, steps: u32) -> Guided
     ensures { λ r. ⌜ r ≡ stepped found steps ⌝ }
 {
@@ -73,7 +73,7 @@ fn with_steps(found: Found, steps: u32) -> Guided
     }
 }
 
-// What was found, without the steps.
+// The answer without the steps.
 pub fn without_steps(guided: Guided) -> Found
     ensures { λ r. ⌜ r ≡ foundOf guided ⌝ }
 {

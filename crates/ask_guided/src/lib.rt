@@ -1,4 +1,4 @@
-// Find with a guide: its steps on level 0 start at an entry. It asks 5 to 7 first, of any bytes lent as a tree.
+// Find with a guide: its steps on level 0 start at an entry of the guide. Any bytes may be given as a tree: questions 5 to 7 come first.
 pub mod guided_find;
 
 use layout::header;
@@ -6,13 +6,13 @@ use layout::header::HeaderRead;
 use layout::place::TextPlace;
 ghost use Rattle.ask_guided.specs.Guided.{GuidedAnswer};
 
-// A place of the text, with the number of blocks on its path and the steps on level 0, or the number of the question that refuses.
+// A place of the text with the number of blocks on its path and the steps on level 0, or the refusal.
 pub enum Guided {
     At(TextPlace, u32, u32),
     Refused(u32),
 }
 
-// Where a counted byte stands for the j-th time, by a guide that may be any bytes.
+// The place of the j-th occurrence of a counted byte, with a guide, which may be any bytes.
 pub fn find_guided(t: &[u8], guide: &[u8], byte: u8, j: u32) -> Guided
     ensures { λ r. ⌜ GuidedAnswer (now (t .entry)) (now (guide .entry)) byte j r ⌝ }
 {

@@ -34,7 +34,7 @@ use Rattle.ask_order.proofs.first.Reads as first-reads
 abbrev pub Compare : (κs : Lfts 2) → RefT (List ℕ) → RefT (List ℕ) → Compared → Type 0
 Compare κs t u r = compare-reads.Post κs (t, (u, tt)) r (t, (u, tt))
 
--- One byte of each, at place p: by these bytes, or as what follows them stands.
+-- One byte of each, at place p: these bytes decide the order, or what follows them does.
 by-first : (x y : ℕ) (A B : List ℕ) (p : ℕ) (rest : Said) → rest ≡ stands (standing A B) (suc p + shared A B)
     → cond (ltb x y) (stands before p) (cond (ltb y x) (stands after p) rest) ≡ stands (standing (x ∷ A) (y ∷ B)) (p + shared (x ∷ A) (y ∷ B))
 by-first x y A B p rest r = go (which x y)
@@ -111,7 +111,7 @@ module _ (t u : List ℕ) (rt : readable t ≡ 0) (ru : readable u ≡ 0) (lt : 
   from-place zero p e = at-end p (omega arith)
   from-place (suc more) p e = at-place p (omega arith) (omega arith) (comparedFrom t u more (p + 1)) (from-place more (p + 1) (omega arith))
 
-  -- The comparison is not refused, and tells where the first text stands and the length of the shared beginning.
+  -- The comparison is not refused, and returns the order of the first text and the length of the longest common prefix.
   pub order-of-texts : orderSays t u ≡ stands (standing (textOf t) (textOf u)) (shared (textOf t) (textOf u))
   unfolding orderSays
   order-of-texts = rw (rt, ru) (from-place (shortest t u) 0 (omega arith) ∙ start)
@@ -119,7 +119,7 @@ module _ (t u : List ℕ) (rt : readable t ≡ 0) (ru : readable u ≡ 0) (lt : 
       start : stands (standing T U) (0 + shared T U) ≡ stands (standing T U) (shared T U)
       start = let z : 0 + shared T U ≡ shared T U = omega arith in rw z
 
--- which answer says this
+-- The answer in each case.
 outcome-is : (r : Compared) (s : Standing) (n : ℕ) → replied (orderReply r) ≡ stands s n → r ≡ outcome s n
 outcome-is r s n e = go r s (ap (λ (x : Said). x .value) e) (ap (λ (x : Said). x .entered) e)
   where
@@ -147,7 +147,7 @@ refusal-is r q e = go r (ap (λ (x : Said). x .value) e) (ap (λ (x : Said). x .
     go (compared.After k) o n = absurd (let z : ⊥ = omega arith in z)
     go (compared.Refused k) o n = ap compared.Refused n
 
--- Any lent bytes.
+-- For any bytes.
 module _ (κs : Lfts 2) (t u : RefT (List ℕ)) (r : Compared) (a : Compare κs t u r) where
   -- Questions 5 to 7 of the first tree come first.
   pub order-unread : (q : ℕ) → readable (now t) ≡ suc q → r ≡ compared.Refused (suc q)
@@ -193,14 +193,14 @@ module _ (κs : Lfts 2) (t u : RefT (List ℕ)) (r : Compared) (a : Compare κs 
               let e = place-differs (now t) (now u) p low there there-2 (λ z. omega arith) in
               outcome-is r after p (a .says ∙ from-there ∙ e ∙ rw (le-ltb (byteSays (now t) p .value) (byteSays (now u) p .value) (omega arith)))
 
--- r is what the contract of `first` allows to be handed back, with these figures left
+-- r is a slice that the contract of `first` allows to be returned, with these figures.
 abbrev pub First : (κs : Lfts 4) → (t u : RefT (List ℕ)) → (number order length number′ order′ length′ : RefT ℕ) → RefT (List ℕ) → Type 0
 First κs t u number order length number′ order′ length′ r =
     first-reads.Post κs (t, (u, (number, (order, (length, tt))))) r (t, (u, (number′, (order′, (length′, tt)))))
 
 -- Two trees that pass questions 5 to 8, and the texts that fit them.
 module _ (t u : RefT (List ℕ)) (rt : readable (now t) ≡ 0) (ru : readable (now u) ≡ 0) (lt : linksOk (now t) ≡ true) (lu : linksOk (now u) ≡ true) where
-  -- where the first text stands, and the length of the shared beginning
+  -- The order of the first text, and the length of the longest common prefix.
   abbrev s : Standing
   s = standing (textOf (now t)) (textOf (now u))
 

@@ -1,4 +1,4 @@
--- The tree handed back, by the comparison's outcome.
+-- The tree that `first` returns, by the outcome of the comparison.
 use mathlib.Core.List.{List, []}
 use mathlib.Core.Bool.{Bool, true, false, cond}
 use mathlib.Core.Path.{_≡_, refl, sym, ap, _∙_}
@@ -45,7 +45,7 @@ unfolding orderSays
 told t u = told-or (readable t) _ (told-or (readable u) _ (told-from t u (min (at.textLength t) (at.textLength u)) 0))
 
 module _ (t u : List ℕ) (x : Compared) (a : OrderAnswer t u x) (one other : RefT (List ℕ)) where
-  -- an answer: the tree that stands first, whole
+  -- An answer: the whole tree that comes first.
   pub hand : (s : Standing) (n : ℕ) → x ≡ outcome s n → (stands s n ≡ orderSays t u) × Handed (orderSays t u) one other (firstOf s one other)
   hand s n e =
       let y : replied (orderReply (outcome s n)) ≡ orderSays t u = rw e at (a .says) in

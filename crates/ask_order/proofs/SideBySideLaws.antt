@@ -1,4 +1,4 @@
--- Two trees read side by side: what is left to compare, place by place and run by run.
+-- Two trees read side by side: what remains to be compared, place by place and run by run.
 use mathlib.Core.List.{List}
 use mathlib.Core.Bool.{cond}
 use mathlib.Core.Path.{_≡_, refl, sym, _∙_}
@@ -94,7 +94,7 @@ module _ (t u : List ℕ) where
             go (inl h) = rw (a, b, lt-ltb x y h)
             go (inr h) = rw (a, b, le-ltb x y h, lt-ltb y x (omega arith))
 
-  -- so many places that are the same
+  -- Some places at which both texts agree.
   pub places-same : (p k : ℕ) → p + k ≤ shortest t u → ((x : ℕ) → x < k → SameAt (p + x)) → From p ≡ From (p + k)
   places-same p zero h all = let e : p + 0 ≡ p = omega arith in rw e
   places-same p (suc k) h all =
@@ -162,7 +162,7 @@ module _ (t u : List ℕ) (m : Progress) (c : Comparing t u m) where
           let z : ReadsFrom u (m .place .0) (ran.At y) = rw e at second in
           (record { passes = c .passes; other-passes = c .other-passes; low = c .low; reads = here .0; other-reads = z .0; left = c .left }, here .1, z .1)
 
--- two runs, of which n bytes are compared
+-- Two runs; n bytes of each are compared.
 module _ (t u : List ℕ) (x y : Part) (p : ℕ) (c : Comparing t u (record { place = record { 0 = p }; one = x; other = y }))
     (n : ℕ) (n-is : n ≡ min (x .length) (y .length)) where
   in-both : p + n ≤ shortest t u
@@ -229,7 +229,7 @@ module _ (t u : List ℕ) (x y : Part) (p : ℕ) (c : Comparing t u (record { pl
           omega arith,
         )
 
--- what a round says, by its outcome
+-- The result of a round, by its outcome.
 module _ (t u : List ℕ) (p : ℕ) (r : Round) (a : RoundSays t u p r) where
   pub round-on : (m : Progress) → r ≡ round.On m → Comparing t u m × (p < m .place .0)
   round-on m e = let z : RoundSays t u p (round.On m) = rw e at a in z

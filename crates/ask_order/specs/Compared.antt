@@ -23,21 +23,21 @@ abbrev pub ReadsFrom : List ℕ → ℕ → Ran → Type 0
 ReadsFrom t p (ran.At part) = ReadsOn t p (part .from) (part .length) × (1 ≤ part .length)
 ReadsFrom t p (ran.Refused q) = byteSays t p .number ≡ 14
 
--- of n bytes from a of s and from b of t the first r agree, and the next do not
+-- The n bytes of s from a and of t from b agree in their first r, and not in the next.
 pub record Agrees (s : List ℕ) (a : ℕ) (t : List ℕ) (b n r : ℕ) : Type 0 where
   pub most : r ≤ n
   pub same : (x : ℕ) → x < r → getD s (a + x) 0 ≡ getD t (b + x) 0
   pub differ : r < n → getD s (a + r) 0 ≡ getD t (b + r) 0 → ⊥
 
--- by the first byte that differs, at place p
+-- The order by the first byte that differs, at place p.
 unfoldable pub byByte : ℕ → ℕ → ℕ → Said
 byByte x y p = cond (ltb x y) (stands before p) (stands after p)
 
--- the bytes of the shorter text
+-- The length of the shorter text.
 abbrev pub shortest : List ℕ → List ℕ → ℕ
 shortest t u = min (at.textLength t) (at.textLength u)
 
--- both are read up to a place, and the runs at it are known so far; what is left to compare gives the answer
+-- Both trees are read up to a place, and their runs from there on are known; the comparison of the rest gives the answer.
 pub record Comparing (t u : List ℕ) (m : Progress) : Type 0 where
   pub passes : readable t ≡ 0
   pub other-passes : readable u ≡ 0
@@ -46,7 +46,7 @@ pub record Comparing (t u : List ℕ) (m : Progress) : Type 0 where
   pub other-reads : ReadsOn u (m .place .0) (m .other .from) (m .other .length)
   pub left : comparedFrom t u (shortest t u - m .place .0) (m .place .0) ≡ orderSays t u
 
--- a place or more further than p, or the answer
+-- The result of a round: one or more places after p, or the answer.
 abbrev pub RoundSays : List ℕ → List ℕ → ℕ → Round → Type 0
 RoundSays t u p (round.On m) = Comparing t u m × (p < m .place .0)
 RoundSays t u p (round.Settled r) = OrderAnswer t u r

@@ -1,4 +1,4 @@
--- The answers by their numbers and figures, and the tree handed back (docs/FORMAT.md, "The order of books").
+-- The answers of compare and first by their refusals and figures (docs/FORMAT.md, "The order of books").
 use mathlib.Core.List.{List, []}
 use mathlib.Core.Bool.{cond}
 use mathlib.Core.Path.{_≡_}
@@ -20,7 +20,7 @@ orderReply (compared.Refused q) = refusal q
 pub record OrderAnswer (t u : List ℕ) (r : Compared) : Type 0 where
   pub says : replied (orderReply r) ≡ orderSays t u
 
--- what is returned: one of the two given references, the one whose text comes first (the first for equal texts); an empty part if refused
+-- What first returns: the one of the two given references whose text comes first, the first one if the texts are equal; an empty slice if refused.
 pub record Handed (s : Said) (one other r : RefT (List ℕ)) : Type 0 where
   pub given : s .number ≡ 0 → r ≡ cond (eqb (s .value) 3) other one
   pub none : 1 ≤ s .number → now r ≡ []

@@ -82,7 +82,7 @@ pub record Marked : Type 0 where
   differ : (orderSays p x ≡ stands before 8) × (orderSays x p ≡ stands after 8)
       × (orderSays w x ≡ stands before 8) × (orderSays x w ≡ stands after 8)
   unsigned : (orderSays high low ≡ stands after 0) × (orderSays low high ≡ stands before 0)
-  -- the empty text stands before every other, and no place is read
+  -- The empty text comes before every other, and no place is read.
   empties : (orderSays empty w ≡ stands before 0) × (orderSays older empty ≡ stands after 0)
       × (orderSays empty empty′ ≡ stands same 0) × (orderSays early empty ≡ stands after 0)
   -- a path that breaks, and one that breaks past the first difference or the shorter end, which is not read

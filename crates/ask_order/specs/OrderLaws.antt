@@ -97,7 +97,7 @@ standing-same (x ∷ T) (y ∷ U) e = go (which x y) (standing-same T U)
     go (equal z) r = rw (z, r (sym (standing-equal x y T U z) ∙ e))
     go (above h) r = clash after same (λ z. omega arith) (sym (standing-above x y T U h) ∙ e)
 
--- What stands before one that stands before a third stands before the third.
+-- The order is transitive.
 pub standing-trans : (A B C : List ℕ) → standing A B ≡ before → standing B C ≡ before → standing A C ≡ before
 unfolding standing
 standing-trans [] [] C e f = clash same before (λ z. omega arith) e
@@ -116,7 +116,7 @@ standing-trans (x ∷ A) (y ∷ B) (z ∷ C) e f = go (which x y) (which y z) (s
     go (below h) (above k) r = clash after before (λ v. omega arith) (sym (standing-above y z B C k) ∙ f)
     go (equal h) (above k) r = clash after before (λ v. omega arith) (sym (standing-above y z B C k) ∙ f)
 
--- The empty text stands before every other.
+-- The empty text comes before every other.
 pub empty-first : (T : List ℕ) → (T ≡ [] → ⊥) → standing [] T ≡ before
 unfolding standing
 empty-first [] n = absurd (n refl)
@@ -163,7 +163,7 @@ text-order = record {
     either T U same e = inl (λ z. clash same after (λ v. omega arith) (sym e ∙ z))
     either T U after e = inr (λ z. clash before after (λ v. omega arith) (sym (standing-flip T U ∙ ap flip e) ∙ z))
 
--- The shared beginning: so many bytes are the same, and no more are.
+-- The longest common prefix: its bytes are equal, and those after it are not.
 pub record Beginning (T U : List ℕ) (n : ℕ) : Type 0 where
   pub in-one : n ≤ length T
   pub in-other : n ≤ length U
@@ -196,7 +196,7 @@ shared-is (x ∷ T) (y ∷ U) = go (which x y) (shared-is T U)
         at-place zero h = e
         at-place (suc z) h = r .agree z (omega arith)
 
--- it is the same with the texts exchanged
+-- The length of the longest common prefix is symmetric.
 pub shared-flip : (T U : List ℕ) → shared U T ≡ shared T U
 unfolding shared
 shared-flip [] [] = refl
@@ -215,7 +215,7 @@ unfolding shared
 shared-itself [] = refl
 shared-itself (x ∷ T) = shared-equal x x T T refl ∙ add-one (shared T T) ∙ ap suc (shared-itself T)
 
--- Where a text stands is told by the byte after the shared beginning, or by the end of the shorter text.
+-- The order is decided by the byte after the longest common prefix, or by the end of the shorter text.
 pub record StandsBy (T U : List ℕ) : Type 0 where
   -- at the first difference the smaller byte decides
   pub by-byte : shared T U < length T → shared T U < length U → standing T U ≡ cond (ltb (getD T (shared T U) 0) (getD U (shared T U) 0)) before after

@@ -1,4 +1,4 @@
-// Trees in the order of their texts: two are compared by reading both, up to the first difference.
+// The lexicographic order of the texts of two trees: both are read up to the first difference.
 mod side_by_side;
 
 use layout::header;
@@ -9,7 +9,7 @@ ghost use Rattle.layout.specs.HeaderSays.{HeaderOf};
 ghost use Rattle.ask_order.specs.Order.{orderSays};
 ghost use Rattle.ask_order.specs.OrderAnswers.{OrderAnswer, Handed};
 
-// Where the first tree's text stands, each with the length of the shared beginning; or the number of the question that refuses.
+// The order of the first text, with the length of the longest common prefix; or the refusal.
 pub enum Compared {
     Before(u32),
     Same(u32),
@@ -40,8 +40,8 @@ fn compare_with(one: &[u8], h: Header, other: &[u8]) -> Compared
     }
 }
 
-// Compares two trees and hands back the one that stands first, as lent, the first given where they are the same; the empty part where the
-// comparison is refused. `order` is 1, 2 or 3: before, same, after.
+// Compares two trees and returns the one whose text comes first, the first one if the texts are equal; an empty slice if refused. `order` is 1, 2 or 3:
+// before, same, after.
 pub fn first<'a>(
     one: &'a [u8],
     other: &'a [u8],

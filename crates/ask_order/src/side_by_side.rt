@@ -1,4 +1,4 @@
-// Two trees read side by side, by runs: parts of their own bytes.
+// Reads two trees side by side by runs, which are parts of their own bytes.
 use crate::Compared;
 use ask_access::read_by_header;
 use ask_access::read_by_header::Part;
@@ -16,23 +16,23 @@ ghost use Rattle.ask_order.specs.Order.{byLength};
 ghost use Rattle.ask_order.specs.OrderAnswers.{orderReply, OrderAnswer};
 ghost use Rattle.ask_order.specs.Compared.{ReadsFrom, Agrees, byByte, Comparing, RoundSays};
 
-// The most bytes of a tree that are read at once: the first difference is often near.
+// The largest number of bytes of a tree that are read at once: the first difference is often near.
 const MOST: u32 = 1024;
 
-// How far two trees were compared: the next place, and what is left of the run of each.
+// How far two trees were compared: the next place, and the rest of the run of each.
 pub struct Progress {
     pub place: TextPlace,
     pub one: Part,
     pub other: Part,
 }
 
-// Some places more are the same, or the comparison is settled.
+// Some more places are equal, or the comparison has ended.
 pub enum Round {
     On(Progress),
     Settled(Compared),
 }
 
-// Place by place, until the bytes differ or a text ends: question 14.
+// Compares place by place, until the bytes differ or a text ends: question 14.
 pub fn by_places(one: &[u8], h: Header, other: &[u8], g: Header) -> Compared
     requires { ⌜ (HeaderOf (now one) h) × (HeaderOf (now other) g) ⌝ }
     ensures { λ r. ⌜ OrderAnswer (now (one .entry)) (now (other .entry)) r ⌝ }
@@ -57,7 +57,7 @@ pub fn by_places(one: &[u8], h: Header, other: &[u8], g: Header) -> Compared
     by_length(h.text_length, g.text_length, m.place.0)
 }
 
-// Reads the next place in the first tree and then in the second, and compares on along their runs.
+// Reads the next place in the first tree, then in the second, and compares along their runs.
 fn read_on(one: &[u8], h: Header, other: &[u8], g: Header, m: Progress) -> Round
     requires { ⌜ (HeaderOf (now one) h)
         × (HeaderOf (now other) g) × (Comparing (now one) (now other) m) × (m .place .0 < min (h .«text_length») (g .«text_length»)) ⌝ }
@@ -74,7 +74,7 @@ fn read_on(one: &[u8], h: Header, other: &[u8], g: Header, m: Progress) -> Round
     compare_runs(one, x, other, y, m.place)
 }
 
-// The run of a place, or what is left of one that was read.
+// The run of a place, or the rest of one that was read.
 fn run_from(t: &[u8], h: Header, at: TextPlace, held: Part) -> Ran
     requires { ⌜ (HeaderOf (now t) h) × (at .0 < h .«text_length») × ReadsOn (now t) (at .0) (held .from) (held .length) ⌝ }
     ensures { λ r. ⌜ ReadsFrom (now (t .entry)) (at .0) r ⌝ }
@@ -104,7 +104,7 @@ fn compare_runs(one: &[u8], x: Part, other: &[u8], y: Part, place: TextPlace) ->
     })
 }
 
-// What is left of a part after some bytes.
+// The rest of a range after some bytes.
 fn rest(part: Part, n: usize) -> Part
     requires { ⌜ (n ≤ part .length) × (part .from + part .length < 18446744073709551616) ⌝ }
     ensures { λ r. ⌜ r ≡ record { from = part .from + n; length = part .length - n } ⌝ }
@@ -125,8 +125,8 @@ fn shorter(a: usize, b: usize) -> usize
     a
 }
 
-// How many bytes of two parts of n bytes agree, from their starts. Mostly all do, and a loop without a way out is compiled to vector instructions; only
-// where one differs are they gone through one by one.
+// The length of the common prefix of two ranges of n bytes. Mostly all bytes agree, and a loop without an exit is compiled to vector instructions; only if
+// one differs are they compared one by one.
 fn agree(one: &[u8], from: usize, other: &[u8], at: usize, n: usize) -> usize
     requires { ⌜ (from + n ≤ length (now one)) × (at + n ≤ length (now other)) ⌝ }
     ensures { λ r. ⌜ Agrees (now (one .entry)) from (now (other .entry)) at n r ⌝ }
@@ -137,7 +137,7 @@ fn agree(one: &[u8], from: usize, other: &[u8], at: usize, n: usize) -> usize
     first_difference(one, from, other, at, n)
 }
 
-// Whether all bytes of two parts of n bytes agree.
+// Whether all bytes of two ranges of n bytes agree.
 fn all_agree(one: &[u8], from: usize, other: &[u8], at: usize, n: usize) -> bool
     requires { ⌜ (from + n ≤ length (now one)) × (at + n ≤ length (now other)) ⌝ }
     ensures { λ r. ⌜ (r ≡ true → (x : ℕ) → x < n → getD (now (one .entry)) (from + x) 0 ≡ getD (now (other .entry)) (at + x) 0) ⌝ }
@@ -153,7 +153,7 @@ fn all_agree(one: &[u8], from: usize, other: &[u8], at: usize, n: usize) -> bool
     same
 }
 
-// The first of n bytes in which two parts differ; n where they do not.
+// The first of n bytes in which two ranges differ; n if they agree.
 fn first_difference(one: &[u8], from: usize, other: &[u8], at: usize, n: usize) -> usize
     requires { ⌜ (from + n ≤ length (now one)) × (at + n ≤ length (now other)) ⌝ }
     ensures { λ r. ⌜ Agrees (now (one .entry)) from (now (other .entry)) at n r ⌝ }
@@ -168,7 +168,7 @@ fn first_difference(one: &[u8], from: usize, other: &[u8], at: usize, n: usize) 
     i
 }
 
-// By the first byte that differs: the k-th of two parts, which stand at a place of the text.
+// The order by the first byte that differs: the k-th of two ranges, which start at a place of the text.
 fn by_byte(one: &[u8], from: usize, other: &[u8], at: usize, k: usize, place: TextPlace) -> Compared
     requires { ⌜ (from + k < length (now one)) × (at + k < length (now other)) × (place .0 + k < 4294967296) ⌝ }
     ensures { λ r. ⌜ replied (orderReply r) ≡ byByte (getD (now (one .entry)) (from + k) 0) (getD (now (other .entry)) (at + k) 0) (place .0 + k) ⌝ }
@@ -180,7 +180,7 @@ fn by_byte(one: &[u8], from: usize, other: &[u8], at: usize, k: usize, place: Te
     Compared::After(length)
 }
 
-// One is the beginning of the other: by their lengths.
+// The order if one text is a prefix of the other: by their lengths.
 fn by_length(n: u32, m: u32, at: u32) -> Compared
     ensures { λ r. ⌜ replied (orderReply r) ≡ byLength n m at ⌝ }
 {

@@ -37,7 +37,7 @@ use Rattle.ask_patterns.proofs.places_words.Reads as words-reads
 abbrev pub Places : (κs : Lfts 3) → (t P table after : RefT (List ℕ)) → PlacesWritten → Type 0
 Places κs t P table after r = places-reads.Post κs (t, (P, (table, tt))) r (t, (P, (after, tt)))
 
--- which answer says this
+-- The answer in each case.
 number-is : (r : PlacesWritten) (n : ℕ) → NeverZero (placesReply r) → replied (placesReply r) ≡ record { number = 0; value = n; entered = 0 }
     → r ≡ written.Number n
 number-is (written.Number m) n k e = ap written.Number (ap (λ (s : Said). s .value) e)
@@ -128,7 +128,7 @@ module _ (κ : Lfts 1) (t P table : RefT (List ℕ))
   unfolding placesOf
   room-holds = let k = roomy (now t) (length (now P)) words (a .says) in omega (arith, k .words-are, places-few (now t) (now P) (k .low))
 
-  -- so 17 is not returned
+  -- With a table of that size the call is not refused with 17.
   pub room-enough : (κs : Lfts 3) (after : RefT (List ℕ)) → Places κs t P table after (written.Refused 17) → ⊥
   unfolding placesSays placesNumber patternOk placesOf
   room-enough κs after b = go (pathsHold (now t) 0 (at.textLength (now t))) refl

@@ -1,4 +1,4 @@
--- The table: the first `room` of the places found stand at its start.
+-- The table: it starts with the first `room` of the places found.
 use mathlib.Core.List.{List, [], _∷_, _++_, append-assoc}
 use mathlib.Core.Path.{_≡_, sym, _∙_}
 use Prim.Native.Nat.{ℕ, suc, _+_, _≤_, _<_}
@@ -17,7 +17,7 @@ pub filled-all : (ps : List ℕ) (room : ℕ) (before : List ℕ) → length ps 
 unfolding filled
 filled-all ps room before h = rw (take-all room ps h)
 
--- and back
+-- The converse.
 pub filled-take : (ps : List ℕ) (room : ℕ) (before : List ℕ) → length ps ≤ room → take (length ps) (filled ps room before) ≡ ps
 filled-take ps room before h = rw (filled-all ps room before h) (take-append-seam ps (drop (length ps) before))
 

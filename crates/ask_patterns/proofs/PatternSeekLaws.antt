@@ -1,4 +1,4 @@
--- A pass over the text: which places are found where, and what is left at the end.
+-- A pass over the text: the places found so far, and the result at the end.
 use mathlib.Core.List.{List, [], _∷_, _++_, append-nil}
 use mathlib.Core.Bool.{Bool, true, false, cond}
 use mathlib.Core.Path.{_≡_, sym, ap, _∙_}
@@ -28,7 +28,7 @@ use Rattle.ask_patterns.specs.Places.{standsAt, below, placesIn, placesO
 use Rattle.ask_patterns.specs.TableFilled.{Even, Stepped, filled, soFar, Seeking, SeekSays}
 use Rattle.ask_patterns.proofs.FillLaws.{filled-none, filled-length, filled-more, filled-full}
 
--- Where the pattern stands.
+-- Where the pattern occurs.
 
 module _ (P T : List ℕ) (i k : ℕ) (l : Longest P (λ p. getD T p 0) 0 i k) (in-text : i ≤ length T) where
   -- the last bytes read are the whole pattern
@@ -42,7 +42,7 @@ module _ (P T : List ℕ) (i k : ℕ) (l : Longest P (λ p. getD T p 0) 0 i k) (
       let same : getD T (i - length P + x) 0 ≡ getD P x 0 = rw e at (l .ends .same x (omega arith)) in
       getD-stretch T (i - length P) (length P) x low ∙ same))
 
-  -- or they are not
+  -- If the state is not the whole pattern, the pattern does not end here.
   stands-not : (k ≡ length P → ⊥) → length P ≤ i → standsAt P T (i - length P) ≡ false
   unfolding standsAt
   stands-not other room = ne-sameList (stretch T (i - length P) (length P)) P (λ e. other (omega (arith, l .ends .short, l .most (length P) (match e))))
@@ -54,7 +54,7 @@ module _ (P T : List ℕ) (i k : ℕ) (l : Longest P (λ p. getD T p 0) 0 i k) (
         same = λ x h. sym (getD-stretch T (i - length P) (length P) x h) ∙ ap (λ (s : List ℕ). getD s x 0) e;
       }
 
--- past the last place that has room for it, it stands nowhere
+-- After the last place where the pattern fits, it does not occur.
 stands-past : (P T : List ℕ) (p : ℕ) → 1 ≤ length P → length T < p + length P → standsAt P T p ≡ false
 unfolding standsAt stretch
 stands-past P T p pos past =

@@ -1,4 +1,4 @@
--- The places of a pattern: each of the questions, and what is then left in the table.
+-- The places of a pattern: each refusal, and the table afterwards.
 use mathlib.Core.List.{List, _++_}
 use mathlib.Core.Bool.{Bool, true, false, cond}
 use mathlib.Core.Path.{_≡_, refl, sym, ap, _∙_}
@@ -27,7 +27,7 @@ use Rattle.ask_patterns.specs.PlacesAnswer.{placesReply, PlacesAnswer}
 use Rattle.ask_patterns.proofs.FillLaws.{filled-all, filled-take}
 use Rattle.ask_patterns.proofs.RoomLaws.{places-few}
 
--- s and what is left of the table are what is said and left
+-- s and after are the answer and the table afterwards.
 pub record Listed (t P table : List ℕ) (s : Said) (after : List ℕ) : Type 0 where
   pub says : s ≡ placesSays t P (length table)
   pub leaves : after ≡ placesLeaves t P table
@@ -36,7 +36,7 @@ pub answered : (t P table after : List ℕ) (r : PlacesWritten) → NeverZero (p
     → PlacesAnswer t P (length table) r × (after ≡ placesLeaves t P table)
 answered t P table after r numbered k = (record { says = k .says; numbered = numbered }, k .leaves)
 
--- what a pass says
+-- The result of a pass.
 all-cases : (b : Bool) (x n : ℕ) → All n ≡ cond b (All x) Broken → (b ≡ true) × (n ≡ x)
 all-cases true x n e = (refl, cc)
 all-cases false x n e = absurd (let z : _≡_ {A = ℕ} 0 1 = cc in omega arith)
@@ -74,7 +74,7 @@ module _ (t P table : List ℕ) where
     unfolding patternOk
     too-long low h = wrong-length (rw (le-leb 1 (length P) low, lt-leb (length P) maxPattern h))
 
-    -- 16 is asked
+    -- Question 16.
     module _ (low : 1 ≤ length P) (high : length P ≤ maxPattern) where
       number-asked : placesNumber t P (length table) ≡ ask 14 (pathsHold t 0 (at.textLength t)) (ask 17 (leb (length (placesOf t P)) (length table)) 0)
       unfolding placesNumber patternOk

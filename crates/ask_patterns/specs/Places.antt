@@ -1,4 +1,4 @@
--- What is answered where a pattern is looked for in a tree, for any bytes lent as one, and what the lent table of words holds afterwards.
+-- What places (locate) returns for any bytes given as a tree, and what the caller's table of words contains afterwards.
 -- docs/FORMAT.md: "Places", "What is told without the text".
 use mathlib.Core.List.{List, [], _∷_, _++_}
 use mathlib.Core.Bool.{Bool, cond, _&&_}
@@ -13,53 +13,54 @@ use Rattle.format.specs.Verdict.{asks, orNext, readable}
 use Rattle.format.specs.Said.{Said, unless}
 use Rattle.format.specs.ReadSays.{pathsHold}
 
--- the pattern stands in the text at place p
+-- Whether the pattern occurs in the text at place p.
 unfoldable pub standsAt : List ℕ → List ℕ → ℕ → Bool
 standsAt P T p = sameList (stretch T p (length P)) P
 
--- the numbers below n at which f holds, rising
+-- The numbers below n at which f holds, ascending.
 unfoldable pub below : ℕ → (ℕ → Bool) → List ℕ
 below zero f = []
 below (suc n) f = below n f ++ cond (f n) (n ∷ []) []
 
--- all places of the pattern in the text, rising, overlaps included
+-- All places of the pattern in the text, ascending; occurrences may overlap.
 unfoldable pub placesIn : List ℕ → List ℕ → List ℕ
 placesIn P T = below (length T) (standsAt P T)
 
--- the longest pattern that is looked for
+-- The length of the longest pattern.
 abbrev pub maxPattern : ℕ
 maxPattern = 256
 
--- question 16
+-- Question 16: a pattern has 1 to 256 bytes.
 abbrev pub patternLength : ℕ → Bool
 patternLength len = leb 1 len && leb len maxPattern
 
+-- Question 16 for a pattern.
 unfoldable pub patternOk : List ℕ → Bool
 patternOk P = patternLength (length P)
 
 module _ (t P : List ℕ) where
-  -- the places in the bytes that the tree's paths give
+  -- The places of the pattern in the bytes that the paths of the tree give.
   unfoldable pub placesOf : List ℕ
   placesOf = placesIn P (textOf t)
 
-  -- questions 5 to 7, then 16, then 14, for every place below n, then 17: the table has room for all places
+  -- The refusal: questions 5 to 7, then 16, then 14 if some place has no path, then 17 if the table is too short for all places.
   unfoldable pub placesNumber : ℕ → ℕ
   placesNumber room =
       orNext (readable t) (asks ((16, patternOk P) ∷ (14, pathsHold t 0 (at.textLength t)) ∷ (17, leb (length placesOf) room) ∷ []))
 
-  -- how many places there are
+  -- The number of places, or the refusal.
   unfoldable pub placesSays : ℕ → Said
   placesSays room = unless (placesNumber room) (record { number = 0; value = length placesOf; entered = 0 })
 
-  -- the table afterwards
+  -- The table afterwards: the places at its start; unchanged if refused.
   unfoldable pub placesLeaves : List ℕ → List ℕ
   placesLeaves table = cond (eqb (placesNumber (length table)) 0) (placesOf ++ drop (length placesOf) table) table
 
--- How many words hold all places of any pattern of len bytes: question 16, then one for each place of a text of n bytes from which so many bytes
--- are left
+-- The number of words that are enough for the places of any pattern of len bytes in a text of n bytes: one for each place with at least len bytes after it.
+-- Refused with 16.
 unfoldable pub roomOf : ℕ → ℕ → Said
 roomOf n len = unless (asks ((16, patternLength len) ∷ [])) (record { number = 0; value = n + 1 - len; entered = 0 })
 
--- questions 5 to 7 first
+-- The answer of places_words: questions 5 to 7 first.
 unfoldable pub roomSays : List ℕ → ℕ → Said
 roomSays t len = unless (readable t) (roomOf (at.textLength t) len)

@@ -1,4 +1,4 @@
--- The answer by its number and its figure (docs/FORMAT.md, "The questions, in order").
+-- The answers of places and places_words by their refusals and figures (docs/FORMAT.md, "The questions, in order").
 use mathlib.Core.List.{List}
 use Prim.Native.Nat.{ℕ}
 use Rattle.format.specs.Said.{Reply, figures, refusal, Is}

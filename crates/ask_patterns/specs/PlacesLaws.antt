@@ -70,7 +70,7 @@ below-listed (suc n) f = go (f n) refl (below-listed n f)
     go true e k = listed-more f n (below n f) k e
     go false e k = rw (append-nil (below n f)) (listed-other f n (below n f) k e)
 
--- Where the pattern stands, its bytes are there, within the text.
+-- Where the pattern occurs, its bytes are in the text.
 module _ (P T : List ℕ) (p : ℕ) where
   pub stands-there : standsAt P T p ≡ true → stretch T p (length P) ≡ P
   unfolding standsAt

@@ -21,7 +21,7 @@ pub record Even (P : List ℕ) (m : Progress) : Type 0 where
   pub state-low : m .state ≤ m .place .0
   pub found-low : m .found ≤ m .place .0
 
--- one byte more: where the state is the whole pattern, a place was found, and put down if there is room
+-- The result of one more byte: if the state is the whole pattern, a place was found, and it is written if there is room.
 pub record Stepped (P : List ℕ) (byte room : ℕ) (m : Progress) (before : List ℕ) (r : Progress) (after : List ℕ) : Type 0 where
   pub next : Next P (m .state) byte (r .state)
   pub even : Even P r
@@ -29,17 +29,17 @@ pub record Stepped (P : List ℕ) (byte room : ℕ) (m : Progress) (before : Lis
   pub found-is : r .found ≡ cond (eqb (r .state) (length P)) (m .found + 1) (m .found)
   pub table-is : after ≡ cond (eqb (r .state) (length P)) (cond (ltb (m .found) room) (set before (m .found) (m .place .0 + 1 - length P)) before) before
 
--- k bytes are passed over from state s: none unless s is 0, and none of them begins the pattern
+-- k bytes are skipped from state s: none unless s is 0, and the pattern begins with none of them.
 pub record Skips (P t : List ℕ) (from s k : ℕ) : Type 0 where
   pub idle : 0 < s → k ≡ 0
   pub others : Without t from k (getD P 0 0)
 
--- the first `room` of the numbers stand at the table's start
+-- The table starts with the first `room` of the numbers.
 unfoldable pub filled : List ℕ → ℕ → List ℕ → List ℕ
 filled ps room before = take room ps ++ drop (length (take room ps)) before
 
 module _ (t P : List ℕ) where
-  -- the places whose bytes were all read, where the first i bytes were
+  -- The places whose bytes are all among the first i bytes.
   unfoldable pub soFar : ℕ → List ℕ
   soFar i = below (i + 1 - length P) (standsAt P (textOf t))
 
@@ -50,14 +50,14 @@ module _ (t P : List ℕ) where
     pub found-is : m .found ≡ length (soFar (m .place .0))
     pub table-is : table ≡ filled (soFar (m .place .0)) room before
 
-  -- read on by at most n bytes, without completing a place
+  -- Up to n bytes were read without completing a place.
   pub record Glides (n : ℕ) (m r : Progress) : Type 0 where
     pub least : m .place .0 ≤ r .place .0
     pub most : r .place .0 ≤ m .place .0 + n
     pub even : Even P r
     pub on : (room : ℕ) (before table : List ℕ) → Seeking room before m table → Seeking room before r table
 
-  -- the whole pass
+  -- The result of the whole pass.
   pub record SeekSays (room : ℕ) (before : List ℕ) (r : Sought) (after : List ℕ) : Type 0 where
     pub says : r ≡ cond (pathsHold t 0 (at.textLength t)) (All (length (placesOf t P))) Broken
     pub table-is : pathsHold t 0 (at.textLength t) ≡ true → after ≡ filled (placesOf t P) room before

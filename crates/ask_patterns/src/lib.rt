@@ -1,4 +1,4 @@
-// Where a pattern stands: all its places in the bytes that a tree's paths give.
+// Places (locate): all places of a pattern in the bytes that the paths of a tree give.
 mod pattern_seek;
 mod room;
 
@@ -17,28 +17,28 @@ ghost use Rattle.search_kmp.specs.Borders.{Borders};
 ghost use Rattle.ask_patterns.specs.Places.{maxPattern, placesLeaves};
 ghost use Rattle.ask_patterns.specs.PlacesAnswer.{PlacesAnswer, RoomAnswer};
 
-// The longest pattern that is looked for.
+// The length of the longest pattern.
 pub const MAX_PATTERN: usize = 256;
 
-// So many places are kept while the text is read for the first time; more are written by reading it again.
+// The number of places that are stored during the first pass over the text; if there are more, a second pass writes them.
 const FEW: usize = 256;
 
-// The number of the question that refuses where a path breaks.
+// The refusal if a path breaks.
 const PATH_BREAKS: u32 = 14;
 
-// How many places there are, or the number of the question that refuses.
+// The number of places, or the refusal.
 pub enum PlacesWritten {
     Number(u32),
     Refused(u32),
 }
 
-// How many words are enough for a table, or the number of the question that refuses.
+// The number of words that are enough for a table, or the refusal.
 pub enum PlacesRoom {
     Words(u32),
     Refused(u32),
 }
 
-// How many words hold all places of any pattern of so many bytes: those of a text that is nothing but places.
+// The number of words that are enough for all places of any pattern of `len` bytes: as many as there are places where it fits.
 pub fn places_words(t: &[u8], len: u32) -> PlacesRoom
     ensures { λ r. ⌜ RoomAnswer (now (t .entry)) len r ⌝ }
 {
@@ -78,7 +78,7 @@ fn places_at(t: &[u8], h: Header, pattern: &[u8], table: &mut [u32]) -> PlacesWr
     fill(t, h, pattern, &borders, table)
 }
 
-// Questions 14 and 17. A refusal leaves the table as it was, so it is written at once only where neither can refuse.
+// Questions 14 and 17. A refusal must leave the table unchanged, so it is written in the first pass only if neither can fail.
 fn fill(t: &[u8], h: Header, pattern: &[u8], borders: &[u8], table: &mut [u32]) -> PlacesWritten
     requires { ⌜ (HeaderOf (now t) h) × (1 ≤ length (now pattern)) × (length (now pattern) ≤ maxPattern)
         × (length (now pattern) ≤ length (now borders)) × Borders (now pattern) (now borders) (length (now pattern)) ⌝ }
@@ -95,7 +95,7 @@ fn fill(t: &[u8], h: Header, pattern: &[u8], borders: &[u8], table: &mut [u32]) 
     fill_once(t, h, pattern, borders, most, table)
 }
 
-// One pass: the links are right, so no path breaks, and the table holds as many places as there can be.
+// One pass: the links are right, so no path breaks, and the table has room for every place where the pattern fits.
 fn fill_once(
     t: &[u8],
     h: Header,
@@ -117,7 +117,7 @@ fn fill_once(
     PlacesWritten::Number(number)
 }
 
-// All places are counted before the table is touched.
+// Counts all places before the table is written.
 fn fill_counted(
     t: &[u8],
     h: Header,

@@ -1,4 +1,4 @@
-// One pass over the text, read by ranges: each is a part of the tree's own bytes.
+// One pass over the text by ranges, each a part of the bytes of the tree.
 use ask_access::read_by_header;
 use ask_access::read_by_header::Part;
 use ask_access::read_by_header::Ran;
@@ -15,29 +15,29 @@ ghost use Rattle.ask_access.specs.ReadByRuns.{ReadsOn};
 ghost use Rattle.search_kmp.specs.Borders.{Borders};
 ghost use Rattle.ask_patterns.specs.TableFilled.{Stepped, Skips, Glides, Seeking, Even, SeekSays};
 
-// The most bytes that are read at once.
+// The largest number of bytes that are read at once.
 const MOST: u32 = 65536;
 
-// How far the text was read: the place to be read next, the state of the match there, and how many places were found.
+// How far the text was read: the next place, the state of the automaton there, and the number of places found.
 pub struct Progress {
     pub place: TextPlace,
     pub state: usize,
     pub found: u32,
 }
 
-// A part of the tree's bytes to be read, and how far the text was read before it.
+// A range of the bytes of the tree to be read, and how far the text was read before it.
 struct Unread {
     part: Part,
     before: Progress,
 }
 
-// How many places there are, where no path breaks.
+// The number of places, or that a path breaks.
 pub enum Sought {
     All(u32),
     Broken,
 }
 
-// Puts down a place that was found, if there is room for so many.
+// Writes a place that was found, if it is among the first `room`.
 fn note(table: &mut [u32], room: u32, found: u32, place: TextPlace)
     requires { ⌜ room ≤ length (now table) ⌝ }
     ensures { λ _. ⌜ now (table .exit) ≡ cond (ltb found room) (set (now (table .entry)) found (place .0)) (now (table .entry)) ⌝ }
@@ -47,7 +47,7 @@ fn note(table: &mut [u32], room: u32, found: u32, place: TextPlace)
     }
 }
 
-// One byte more.
+// Reads one byte.
 fn step(
     pattern: &[u8],
     borders: &[u8],
@@ -77,7 +77,7 @@ fn step(
     }
 }
 
-// How many of the n bytes at a place are passed over: in state 0 those before the pattern's first byte.
+// The number of bytes that can be skipped of the n at a place: in state 0 those before the first byte of the pattern.
 fn skip(t: &[u8], from: usize, n: usize, pattern: &[u8], state: usize) -> usize
     requires { ⌜ (from + n ≤ length (now t)) × (1 ≤ length (now pattern)) ⌝ }
     ensures { λ r. ⌜ (r ≤ n) × Skips (now (pattern .entry)) (now (t .entry)) from state r ⌝ }
@@ -88,7 +88,7 @@ fn skip(t: &[u8], from: usize, n: usize, pattern: &[u8], state: usize) -> usize
     search_byte::find(t, from, n, pattern[0])
 }
 
-// Reads on, by at most n bytes, as long as the state follows from comparing bytes alone and no place is completed.
+// Reads on by at most n bytes, as long as each byte continues the pattern and none completes it.
 fn glide(t: &[u8], from: usize, n: usize, pattern: &[u8], m: Progress) -> Progress
     requires { ⌜ (ReadsOn (now t) (m .place .0) from n) × (m .place .0 + n < 4294967296) × (Even (now pattern) m)
         × (1 ≤ length (now pattern)) × (length (now pattern) ≤ 256) ⌝ }
@@ -103,7 +103,7 @@ fn glide(t: &[u8], from: usize, n: usize, pattern: &[u8], m: Progress) -> Progre
     }
 }
 
-// The bytes of a range.
+// Reads the bytes of a range.
 fn feed(
     t: &[u8],
     run: Unread,
@@ -137,7 +137,7 @@ fn feed(
     at
 }
 
-// The whole text; the first `room` places are written to the table.
+// Reads the whole text; writes the first `room` places to the table.
 pub fn seek(
     t: &[u8],
     h: Header,

@@ -1,4 +1,4 @@
-// The size of a table that holds all places of a pattern, by the pattern's length.
+// The size of a table for all places of a pattern, by the length of the pattern.
 use crate::PlacesRoom;
 ghost use mathlib.Core.Path.{_≡_};
 ghost use Prim.Native.Nat.{_+_, _-_, _≤_};
@@ -6,7 +6,7 @@ ghost use Rattle.format.specs.Said.{NeverZero, replied};
 ghost use Rattle.ask_patterns.specs.Places.{roomOf};
 ghost use Rattle.ask_patterns.specs.PlacesAnswer.{roomReply};
 
-// Question 16; a text of n bytes has a place for each byte from which the whole pattern is left.
+// Question 16; then one word for each place where a pattern of len bytes fits in a text of n bytes.
 pub fn of_length(n: u32, len: u32) -> PlacesRoom
     ensures { λ r. ⌜ (replied (roomReply r) ≡ roomOf n len) × (NeverZero (roomReply r)) ⌝ }
 {
@@ -19,7 +19,7 @@ pub fn of_length(n: u32, len: u32) -> PlacesRoom
     PlacesRoom::Words(most(n, len))
 }
 
-// The most places of a pattern of len bytes in a text of n bytes.
+// The number of places where a pattern of len bytes fits in a text of n bytes.
 pub fn most(n: u32, len: u32) -> u32
     requires { ⌜ 1 ≤ len ⌝ }
     ensures { λ r. ⌜ r ≡ n + 1 - len ⌝ }

@@ -1,4 +1,4 @@
--- The questions that a number above 255 is asked.
+-- The refusals for a number above 255.
 use mathlib.Core.List.{List}
 use mathlib.Core.Path.{_≡_}
 use Prim.Native.Nat.{ℕ, suc}

@@ -17,6 +17,6 @@ countReply (Refused number) = refusal number
 abbrev pub CountAnswer : (t : List ℕ) (byte i : ℕ) → Counted → Type 0
 CountAnswer t byte i = Is countReply (countSays t byte i)
 
--- Count and find of a number above 255, which is no byte and so not counted: questions 5 to 7, then 10 for what ends at i, then 11
+-- The refusal of count and find for a number above 255, which is not a byte and so not counted: questions 5 to 7, then 10 for a prefix of i bytes, then 11.
 unfoldable pub uncountedNumber : List ℕ → ℕ → ℕ
 uncountedNumber t i = orNext (readable t) (ask 10 (leb i (at.textLength t)) 11)

@@ -1,4 +1,4 @@
-// Count, of a tree that passes questions 5 to 7, by its header.
+// Count in a tree that passes questions 5 to 7, given its header.
 use crate::Counted;
 use crate::sums;
 use ask_totals::Wanted;
@@ -10,7 +10,7 @@ ghost use Rattle.layout.specs.HeaderSays.{HeaderOf};
 ghost use Rattle.ask_rank.specs.Counts.{countReply, CountAnswer};
 ghost use Rattle.ask_rank.specs.Sums.{saidIn};
 
-// Questions 10, 11 and 14; the first i bytes end with place i - 1, and none of them need no path.
+// Questions 10, 11 and 14. The first i bytes end with place i - 1; for i = 0 no path is needed.
 pub fn count_at(t: &[u8], h: Header, byte: u8, i: u32) -> Counted
     requires { ⌜ HeaderOf (now t) h ⌝ }
     ensures { λ r. ⌜ CountAnswer (now (t .entry)) byte i r ⌝ }
@@ -28,7 +28,7 @@ pub fn count_at(t: &[u8], h: Header, byte: u8, i: u32) -> Counted
     settle(sums::walk(t, h, Wanted { byte, number }, TextPlace(i - 1)))
 }
 
-// What a count's word says.
+// The answer that the word of a count represents.
 fn settle(word: u64) -> Counted
     ensures { λ r. ⌜ (replied (countReply r) ≡ saidIn word) × (NeverZero (countReply r)) ⌝ }
 {

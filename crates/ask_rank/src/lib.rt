@@ -1,4 +1,4 @@
-// Count (rank): how often a counted byte stands in a prefix. It asks 5 to 7 first, of any bytes lent as a tree.
+// Count (rank): how often a counted byte occurs in a prefix of the text. Any bytes may be given as a tree: questions 5 to 7 come first.
 mod count_by_header;
 mod sums;
 pub mod uncounted;

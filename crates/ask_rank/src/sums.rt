@@ -23,7 +23,7 @@ ghost use Rattle.walk_path.specs.Walk.{KeptAt, MayPoint};
 ghost use Rattle.ask_rank.specs.Sums.{Carried, Across, onward, summed, startSum, wholeSum};
 ghost use Rattle.ask_rank.specs.Sums.{settled, saidIn};
 
-// What is carried down a path: how many blocks were entered, what is added, and what is taken off.
+// What is carried down a path: the number of blocks entered, the sum of what is added, and the sum of what is subtracted.
 pub struct Sum {
     pub entered: u32,
     pub plus: u64,
@@ -36,7 +36,7 @@ pub enum Summed {
 }
 
 impl Sum {
-    // With one more block entered, and so much more added and taken off.
+    // After one more block, with more added and subtracted.
     fn enter(self, plus: u32, minus: u32) -> Sum
         requires { ⌜ (self .entered ≤ 2 * maxLevels) × (self .plus ≤ 1099511627776) × (self .minus ≤ 1099511627776) ⌝ }
         ensures { λ r. ⌜ r ≡ onward self plus minus ⌝ }
@@ -48,7 +48,7 @@ impl Sum {
         }
     }
 
-    // The finished count in one word: how often, and 2^48 times the blocks entered; no count is below zero.
+    // The result in one word: the count + 2^48 × the blocks entered. A count is never negative.
     fn packed(self) -> u64
         requires { ⌜ (self .entered ≤ 2 * maxLevels + 1) × (self .plus ≤ 1099511627776) ⌝ }
         ensures { λ r. ⌜ saidIn r ≡ settled (Summed.At self) ⌝ }
@@ -60,10 +60,10 @@ impl Sum {
     }
 }
 
-// The word of a path that breaks, or of a count below zero.
+// The word of a path that breaks, or of a negative count.
 pub const BROKEN: u64 = 18446744073709551615;
 
-// The leaf bytes of a kept block of the last level, up to a place.
+// Adds the leaf bytes of a kept block of the last level, up to a place.
 fn leaf(t: &[u8], size: u32, wanted: Wanted, on: On, spot: Spot, sum: Sum) -> u64
     requires { ⌜ (KeptAt (now t) size (on .level) (on .b) (spot .block .0) (spot .place .0) (sum .entered)) × (Carried (now t) (wanted .number) sum) ⌝ }
     ensures { λ r. ⌜ saidIn r ≡ settled (summed (now (t .entry)) (wanted .byte) (wanted .number) sum
@@ -81,14 +81,13 @@ fn leaf(t: &[u8], size: u32, wanted: Wanted, on: On, spot: Spot, sum: Sum) -> u6
     BROKEN
 }
 
-// A pointing block, and the target that it hands a place to.
+// A pointing block, and the target that a place of it refers to.
 struct Hop {
     block: BlockNumber,
     target: BlockNumber,
 }
 
-// From a pointing block to its target: the block's skip is taken off, and the first target's inside is added if the second is
-// entered.
+// From a pointing block to its target: subtracts the block's skip, and adds the count inside of the first target if the second is entered.
 fn across(t: &[u8], size: u32, wanted: Wanted, level: u32, hop: Hop, sum: Sum) -> Sum
     requires { ⌜ (Across (now t) size level (hop .block .0) (hop .target .0)) × (sum .entered ≤ 2 * maxLevels) × (Carried (now t) (wanted .number) sum) ⌝ }
     ensures { λ r. ⌜ r ≡ onward sum
@@ -106,7 +105,7 @@ fn across(t: &[u8], size: u32, wanted: Wanted, level: u32, hop: Hop, sum: Sum) -
     sum.enter(inside, skip)
 }
 
-// To a child: its before is added.
+// To a child: adds its count before.
 fn down(t: &[u8], size: u32, wanted: Wanted, level: u32, block: BlockNumber, sum: Sum) -> Sum
     requires { ⌜ (OnLevel (now t) size level (at.fullLength (now t) level))
         × (block .0 < at.levelCount (now t) level) × (sum .entered ≤ 2 * maxLevels) × (Carried (now t) (wanted .number) sum) ⌝ }
@@ -117,7 +116,7 @@ fn down(t: &[u8], size: u32, wanted: Wanted, level: u32, block: BlockNumber, sum
     sum.enter(before, 0)
 }
 
-// From a kept block, which hands the place to a child.
+// From a kept block to the child that contains the place.
 fn kept_step(t: &[u8], size: u32, wanted: Wanted, on: On, spot: Spot, sum: Sum) -> u64
     requires { ⌜ (KeptAt (now t) size (on .level) (on .b) (spot .block .0) (spot .place .0) (sum .entered)) × (Carried (now t) (wanted .number) sum) ⌝ }
     ensures { λ r. ⌜ saidIn r ≡ settled (summed (now (t .entry)) (wanted .byte) (wanted .number) sum
@@ -148,8 +147,7 @@ fn kept_step(t: &[u8], size: u32, wanted: Wanted, on: On, spot: Spot, sum: Sum) 
     )
 }
 
-// From a block at which a pointer may still be followed: a pointing one hands the place to a kept block of its level, on the last level
-// no block points.
+// From a block at which a pointer may still be followed: from a pointing block to a kept block of its level; on the last level no block points.
 fn pointing_step(t: &[u8], size: u32, wanted: Wanted, on: On, spot: Spot, sum: Sum) -> u64
     requires { ⌜ (MayPoint (now t) size (on .level) (on .b) (spot .block .0) (spot .place .0) (sum .entered)) × (Carried (now t) (wanted .number) sum) ⌝ }
     ensures { λ r. ⌜ saidIn r ≡ settled (summed (now (t .entry)) (wanted .byte) (wanted .number) sum
@@ -176,7 +174,7 @@ fn pointing_step(t: &[u8], size: u32, wanted: Wanted, on: On, spot: Spot, sum: S
     }
 }
 
-// What the first block on a path gives before it is entered: its before.
+// The sum at the first block of a path: its count before.
 fn start(t: &[u8], h: Header, wanted: Wanted, block: BlockNumber) -> Sum
     requires { ⌜ (HeaderOf (now t) h) × (block .0 < at.levelCount (now t) 0) × (wanted .number < at.countedCount (now t)) ⌝ }
     ensures { λ r. ⌜ r ≡ startSum (now (t .entry)) (wanted .number) (block .0) ⌝ }
@@ -189,7 +187,7 @@ fn start(t: &[u8], h: Header, wanted: Wanted, block: BlockNumber) -> Sum
     }
 }
 
-// The sums down the whole path of a place of the text, settled, in one word.
+// The result along the whole path of a place of the text, in one word.
 pub fn walk(t: &[u8], h: Header, wanted: Wanted, place: TextPlace) -> u64
     requires { ⌜ (HeaderOf (now t) h) × (place .0 < h .«text_length») × (wanted .number < at.countedCount (now t)) ⌝ }
     ensures { λ r. ⌜ saidIn r ≡ settled (wholeSum (now (t .entry)) (wanted .byte) (wanted .number) (pathOf (now (t .entry)) (place .0))) ⌝ }

@@ -1,4 +1,4 @@
-// A count or find of a number above 255, which is no byte and which no tree counts.
+// Count or find of a number above 255, which is not a byte, so no tree counts it.
 use layout::header;
 use layout::header::HeaderRead;
 ghost use mathlib.Core.Path.{_≡_};
@@ -6,7 +6,7 @@ ghost use lib.Dec.{leb};
 ghost use Rattle.format.specs.Verdict.{ask};
 ghost use Rattle.ask_rank.specs.Counts.{uncountedNumber};
 
-// The question that refuses it: 5 to 7, 10 for what ends at i, 11.
+// Its refusal: 5 to 7, then 10 for a prefix of i bytes, then 11.
 pub fn uncounted(t: &[u8], i: u32) -> u32
     ensures { λ r. ⌜ r ≡ uncountedNumber (now (t .entry)) i ⌝ }
 {
@@ -17,7 +17,7 @@ pub fn uncounted(t: &[u8], i: u32) -> u32
     }
 }
 
-// Question 10 of a text of n bytes, then 11.
+// Question 10 for a text of n bytes, then 11.
 fn past_or_uncounted(n: u32, i: u32) -> u32
     ensures { λ r. ⌜ r ≡ ask 10 (leb i n) 11 ⌝ }
 {

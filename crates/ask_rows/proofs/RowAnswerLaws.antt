@@ -123,7 +123,7 @@ module _ (t : List ℕ) (p len room : ℕ) (x : Copied) (a : access.CopyAnswer t
       let z : entered ≡ 0 = ap (λ (y : Said). y .entered) s ∙ none-entered (copyNumber t p len room) len in
       record { says = rw z at s; numbered = tt }
 
-  -- its refusal, passed on
+  -- The refusal of the copy is passed on.
   pub row-passed : (n k : ℕ) → x ≡ of.Refused k → n ≡ replied (copiedReply x) .number → CopyAnswer t p len room (row.Refused n)
   row-passed n k e m =
       let z : n ≡ k = m ∙ ap (λ (y : Copied). replied (copiedReply y) .number) e in

@@ -247,7 +247,7 @@ module _ (T : List ℕ) (q : ℕ) (low : 1 ≤ q) (high : q ≤ countIn 10 T) wh
       let o : p + (e - p) ≡ e = omega arith in
       nth-place 10 q T e (rw (newlines-before T q low high, o) at (nth-earlier 10 1 T 0 p (e - p) (rw z first)))
 
-  -- that newline exists
+  -- The newline exists.
   some-end : Nth 10 1 T (rowFrom T q) (placeOf 10 q T - rowFrom T q)
   some-end =
       let p = rowFrom T q in
@@ -270,7 +270,7 @@ module _ (len before : ℕ) where
     pub cr-kept : (before ≡ 13 → ⊥) → len ≡ cond (ltb 0 len && eqb 13 before) (len - 1) len
     cr-kept n = rw (lt-ltb 0 len (omega (arith, some)), ne-eqb 13 before (λ e. n (sym e)))
 
--- Its edges.
+-- The bounds of a row that ends in a newline.
 module _ (t : List ℕ) (ok : ℕ) (sound : ok ≡ 0 → verdict t ≡ 0) (q : ℕ) (x : RowStart) (starts : StartIs t ok q x) where
   -- the newline that ends it is none of its bytes
   abbrev end-most : ℕ
@@ -352,7 +352,7 @@ module _ (t : List ℕ) (ok : ℕ) (sound : ok ≡ 0 → verdict t ≡ 0) (q : �
                 go false f = sym (trimmed-plain (textOf t) (p .0) len some (omega (arith, in-text))
                     (λ z. bool-clash (eqb 13 before) (eq-eqb 13 before (sym (sym byte ∙ z))) f))
 
--- Whether q asks for the row after the last byte 10.
+-- Whether q is the row after the last byte 10.
 module _ (t : List ℕ) (h : Header) (k : HeaderOf t h) (q number : ℕ) (is : number ≡ numberOfByte t 10) where
   pub asks-uncounted : h .settings .counted ≤ number → false ≡ asksLast t q
   unfolding asksLast
@@ -431,7 +431,7 @@ module _ (t : List ℕ) (h : Header) (k : HeaderOf t h) (q : ℕ) (asks : asksLa
   unfolding rowMost
   most-later more = rw (asks, ne-eqb q 1 more)
 
-  -- on an accepted tree it is what stands after the last byte 10
+  -- On an accepted tree it has the bytes after the last byte 10.
   last-is : verdict t ≡ 0 → last-row ≡ stretch (textOf t) (rowFrom (textOf t) q) (length (textOf t) - rowFrom (textOf t) q)
   last-is v =
       let e : q ≡ countIn 10 (textOf t) + 1 = a .number ∙ ap (λ (n : ℕ). n + 1) (tallies.total-of-text t v 10 (a .counted)) in
@@ -451,7 +451,7 @@ module _ (t : List ℕ) (h : Header) (k : HeaderOf t h) (q : ℕ) (asks : asksLa
         before-walk t ok last-number last-row last-most n (omega arith) (y ∙ rw z)
 
     module _ (value figure : ℕ) (is : x ≡ answer.Byte value figure) where
-      -- it is 10
+      -- The last byte is 10.
       pub last-ten : value ≡ 10 → EdgesOf t ok last-number last-row last-most (edges.Refused 12)
       last-ten ten = before-walk t ok last-number last-row last-most 12 (omega arith) (sym (rw (here-said, is, ten)))
 
@@ -459,7 +459,7 @@ module _ (t : List ℕ) (h : Header) (k : HeaderOf t h) (q : ℕ) (asks : asksLa
         passed : last-number ≡ 0
         passed = rw (here-said, is, ne-eqb 10 value (λ e. other (sym e)))
 
-        -- no byte 10 stands before it
+        -- No byte 10 is before it.
         pub last-whole : q ≡ 1 → (run : LeafRun) → (run .length ≡ 0) × (run .from ≡ 0)
             → EdgesOf t ok last-number last-row last-most (edges.At (record { 0 = 0 }) (h .«text_length») run)
         unfolding rowFrom

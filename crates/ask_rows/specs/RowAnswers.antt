@@ -1,4 +1,4 @@
--- What row answers, by its number and length (docs/FORMAT.md, "Row").
+-- The answer of row by its refusal and length (docs/FORMAT.md, "Row").
 use mathlib.Core.List.{List}
 use Prim.Native.Nat.{ℕ}
 use Rattle.format.specs.Verdict.{verdict}
@@ -16,5 +16,6 @@ rowReply (Refused number) = refusal number
 abbrev pub RowAnswerBy : (t : List ℕ) (ok q : ℕ) (buffer : List ℕ) → RowCopied → List ℕ → Type 0
 RowAnswerBy t ok q buffer r after = Allowed rowReply (λ s. RowBy t ok q buffer (s .number) (s .value) after) r
 
+-- The answer of row without a guide.
 abbrev pub RowAnswer : (t : List ℕ) (q : ℕ) (buffer : List ℕ) → RowCopied → List ℕ → Type 0
 RowAnswer t = RowAnswerBy t (verdict t)

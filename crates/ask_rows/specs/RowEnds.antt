@@ -28,7 +28,7 @@ pub record NewlineIs (t : List ℕ) (p : ℕ) (r : Newline) : Type 0 where
   pub found : (e : TextPlace) (before : ℕ) (run : LeafRun) → r ≡ newline.At e before run → (EndsRow t p (e .0) before) × (ReadsFrom t p run)
   pub missing : r ≡ newline.Missing → verdict t ≡ 0 → (o : ℕ) → Nth 10 1 (textOf t) p o → ⊥
 
--- the number of a start that is refused
+-- The refusal of a start, 0 for none.
 abbrev pub startNumber : RowStart → ℕ
 startNumber (start.At p) = 0
 startNumber (start.Refused number) = number

@@ -1,4 +1,4 @@
--- What is answered of a row's length, and of the number of rows, for any bytes lent as a tree.
+-- What row_length and row_count return for any bytes given as a tree.
 -- docs/FORMAT.md: "What is told without the text", "What is left free".
 use mathlib.Core.List.{List}
 use mathlib.Core.Bool.{Bool, cond, not, _&&_}
@@ -22,23 +22,23 @@ use Rattle.ask_rows.specs.declared.RowCount.{RowCount}
 use Rattle.ask_rows.specs.declared.RowCount.the-variants as count
 
 module _ (t : List ℕ) where
-  -- The length of row q: settled by row's questions before the walk and on accepted trees, free on the others
+  -- The length of row q: one answer if a question of row refuses or the tree is valid; else at most `rowMost`, or 14.
   pub record LengthSays (q number size : ℕ) : Type 0 where
     pub asked : 0 < rowNumber t q → (number ≡ rowNumber t q) × (size ≡ 0)
     pub accepted : rowNumber t q ≡ 0 → verdict t ≡ 0 → (number ≡ 0) × (size ≡ length (rowOf (textOf t) q))
     pub free : rowNumber t q ≡ 0 → (verdict t ≡ 0 → ⊥) → ((number ≡ 0) × (size ≤ rowMost t q)) ⊎ ((number ≡ 14) × (size ≡ 0))
 
-  -- The number of rows: questions 5 to 7, then 11 for byte 10, then the last byte's own, if there is one
+  -- The refusal of row_count: questions 5 to 7, then 11 for byte 10, then that of the last byte of the text, if there is one.
   unfoldable pub rowsNumber : ℕ
   rowsNumber =
       let last = cond (eqb (at.textLength t) 0) 0 (byteSays t (at.textLength t - 1) .number) in
       orNext (readable t) (ask 11 (isCounted t 10) last)
 
-  -- the last byte is not 10
+  -- Whether the last byte of the text is not 10.
   unfoldable pub lastOpen : Bool
   lastOpen = ltb 0 (at.textLength t) && not (eqb 10 (byteSays t (at.textLength t - 1) .value))
 
-  -- the total of byte 10, and one more where a row is open at the end
+  -- The number of rows: the total of byte 10, and one more if the last row has no byte 10.
   unfoldable pub rowsSays : Said
   rowsSays = unless rowsNumber (record { number = 0; value = total t (numberOfByte t 10) + cond lastOpen 1 0; entered = 0 })
 

@@ -1,4 +1,4 @@
--- What settles a row, what its copying answers, and what its edges are.
+-- The condition that determines a row, the answer of copying it, and its bounds.
 use mathlib.Core.List.{List}
 use mathlib.Core.Bool.{Bool, cond}
 use mathlib.Core.Path.{_≡_}
@@ -23,25 +23,25 @@ use Rattle.ask_rows.specs.RowAnswers.{rowReply}
 unfoldable pub settledBy : List ℕ → List ℕ → Bool → ℕ
 settledBy t guide guided = cond guided (guideNumber t guide) (verdict t)
 
--- what the copying of a row answers, with room for so many bytes: what their paths give
+-- The answer of copying a row into a buffer of `room` bytes: what the paths of its places give.
 abbrev pub CopyAnswer : (t : List ℕ) (p len room : ℕ) → RowCopied → Type 0
 CopyAnswer t p len room = Is rowReply (copySays t p len room)
 
--- the number of edges that are refused
+-- The refusal of the bounds, 0 for none.
 abbrev pub edgesNumber : Edges → ℕ
 edgesNumber (edges.At start len run) = 0
 edgesNumber (edges.Refused number) = number
 
 -- The edges of a row: `number` is that of the questions before the walk, `row` what the row is where `ok` is 0; it has at most `most` bytes.
 module _ (t : List ℕ) (ok number : ℕ) (row : List ℕ) where
-  -- it has none, with this number: that of a question before the walk, or free
+  -- No bounds: refused with n, the number of a question before the walk, or free.
   pub record Refuses (n : ℕ) : Type 0 where
     pub low : 1 ≤ n
     pub asked : 0 < number → n ≡ number
     pub accepted : number ≡ 0 → ok ≡ 0 → ⊥
     pub free : number ≡ 0 → n ≡ 14
 
-  -- it is these bytes of the text, the first of them those of a range
+  -- The bounds: these bytes of the text.
   pub record Spans (most start len : ℕ) (run : LeafRun) : Type 0 where
     pub asked : number ≡ 0
     pub within : start + len ≤ at.textLength t

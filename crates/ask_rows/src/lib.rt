@@ -1,4 +1,5 @@
-// Row: one row of the text, without a guide and with one; its length, and how many there are. Each asks 5 to 7 first, of any bytes lent as a tree.
+// Row: copies one row of the text, with or without a guide; the length of a row, and the number of rows. Any bytes may be given as a tree: questions 5 to 7
+// come first.
 mod next_newline;
 mod row_copy;
 pub mod row_edges;
@@ -10,26 +11,26 @@ ghost use Rattle.ask_guide.specs.Guides.{guideNumber};
 ghost use Rattle.ask_rows.specs.RowAnswers.{RowAnswer, RowAnswerBy};
 ghost use Rattle.ask_rows.specs.RowLengths.{LengthAnswer, CountAnswer};
 
-// How many bytes of a row were copied, or the number of the question that refuses.
+// The number of bytes of a row that were copied, or the refusal.
 pub enum RowCopied {
     Bytes(u32),
     Refused(u32),
 }
 
-// How many bytes a row has, or the number of the question that refuses.
+// The number of bytes of a row, or the refusal.
 pub enum RowLength {
     Bytes(u32),
     Refused(u32),
 }
 
-// How many rows there are, or the number of the question that refuses.
+// The number of rows, or the refusal.
 pub enum RowCount {
     Rows(u64),
     Refused(u32),
 }
 
-// Copies row q to the start of the buffer: what stands before the q-th byte 10, without one byte 13 directly before it, or after the last one where q
-// is one more.
+// Copies row q to the start of the buffer: the bytes before the q-th byte 10, without one byte 13 directly before it; or those after the last byte 10, if q
+// is the total plus one.
 pub fn row(t: &[u8], q: u32, buffer: &mut [u8]) -> RowCopied
     ensures { λ r. ⌜ RowAnswer (now (t .entry)) q (now (buffer .entry)) r (now (buffer .exit)) ⌝ }
 {
@@ -40,7 +41,7 @@ pub fn row(t: &[u8], q: u32, buffer: &mut [u8]) -> RowCopied
     }
 }
 
-// The same by finds with a guide, which may be any bytes.
+// The same, with a guide, which may be any bytes.
 pub fn row_guided(t: &[u8], guide: &[u8], q: u32, buffer: &mut [u8]) -> RowCopied
     ensures { λ r. ⌜ RowAnswerBy (now (t .entry)) (guideNumber (now (t .entry)) (now (guide .entry))) q (now (buffer .entry)) r (now (buffer .exit)) ⌝ }
 {
@@ -51,7 +52,7 @@ pub fn row_guided(t: &[u8], guide: &[u8], q: u32, buffer: &mut [u8]) -> RowCopie
     }
 }
 
-// The length of row q, without a buffer: so many bytes hold it.
+// The length of row q, and so the size of the buffer that row needs.
 pub fn row_length(t: &[u8], q: u32) -> RowLength
     ensures { λ r. ⌜ LengthAnswer (now (t .entry)) q r ⌝ }
 {
@@ -62,7 +63,7 @@ pub fn row_length(t: &[u8], q: u32) -> RowLength
     }
 }
 
-// How many rows the text has: the total of byte 10, and one more where the last byte is another.
+// The number of rows: the total of byte 10, and one more if the last byte is another one.
 pub fn row_count(t: &[u8]) -> RowCount
     ensures { λ r. ⌜ CountAnswer (now (t .entry)) r ⌝ }
 {

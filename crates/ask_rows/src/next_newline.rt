@@ -1,4 +1,4 @@
-// The newline that ends a row: read from the row's start on, range by range, in a tree that passes questions 5 to 7.
+// The newline that ends a row, read from the start of the row run by run, in a tree that passes questions 5 to 7.
 use ask_access::read_by_header;
 use ask_access::read_by_header::LeafRun;
 use ask_access::read_by_header::LeafRunAnswer;

@@ -1,4 +1,4 @@
-// Row, of a tree that passes questions 5 to 7, by its header.
+// Row in a tree that passes questions 5 to 7, given its header.
 use crate::RowCopied;
 use crate::row_edges;
 use crate::row_edges::Edges;
@@ -12,8 +12,8 @@ ghost use Rattle.ask_access.specs.ReadAnswers.{copiedReply};
 ghost use Rattle.ask_rows.specs.RowAnswers.{RowAnswerBy};
 ghost use Rattle.ask_rows.specs.RowSpans.{settledBy};
 
-// Questions 11, 12, 13 and 14, those of the edges first; the edges are found by the guide if it is used. Where a path breaks in copying, its
-// number is passed on and the row's part of the buffer is left zero.
+// Questions 11, 12, 13 and 14. The bounds of the row come first; they are found with the guide if `used` is true. If a path breaks during the copy, the call
+// is refused with 14 and the row's part of the buffer becomes zero.
 pub fn row_at(t: &[u8], h: Header, guide: &[u8], used: bool, q: u32, buffer: &mut [u8]) -> RowCopied
     requires { ⌜ HeaderOf (now t) h ⌝ }
     ensures { λ r. ⌜ RowAnswerBy (now (t .entry)) (settledBy (now (t .entry)) (now (guide .entry)) used) q (now (buffer .entry)) r (now (buffer .exit)) ⌝ }
@@ -33,7 +33,7 @@ pub fn row_at(t: &[u8], h: Header, guide: &[u8], used: bool, q: u32, buffer: &mu
     RowCopied::Bytes(n)
 }
 
-// The number of the question that refuses a copy; 0 for bytes that were copied.
+// The refusal of a copy, 0 for none.
 fn copied_number(copied: Copied) -> u32
     ensures { λ r. ⌜ r ≡ replied (copiedReply copied) .number ⌝ }
 {

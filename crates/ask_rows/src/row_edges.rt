@@ -1,4 +1,4 @@
-// The edges of a row, of a tree that passes questions 5 to 7, by its header.
+// The bounds of a row in a tree that passes questions 5 to 7, given its header.
 use crate::next_newline;
 use crate::next_newline::Newline;
 use ask_access::Answer;
@@ -28,19 +28,19 @@ ghost use Rattle.ask_select.specs.Found.{findReply, FoundBy};
 ghost use Rattle.ask_rows.specs.RowSpans.{settledBy, edgesNumber, EdgesOf};
 ghost use Rattle.ask_rows.specs.RowEnds.{startNumber, StartIs};
 
-// Where a row starts, how many bytes it has, and a range with the first of them, or with none; or the number of the question that refuses.
+// The start and the length of a row, or the refusal.
 pub enum Edges {
     At(TextPlace, u32, LeafRun),
     Refused(u32),
 }
 
-// Where a row starts that a newline ends, or the number of the question that refuses.
+// The start of a row that ends in a newline, or the refusal.
 pub enum RowStart {
     At(TextPlace),
     Refused(u32),
 }
 
-// The edges of row q, by finds with the guide if it is used. Questions 11, 12 and 14. The number of byte 10 and its total are looked for once.
+// The bounds of row q, by finds with the guide if `used` is true. Questions 11, 12 and 14.
 pub fn of_row(t: &[u8], h: Header, guide: &[u8], used: bool, q: u32) -> Edges
     requires { ⌜ HeaderOf (now t) h ⌝ }
     ensures { λ r. ⌜ EdgesOf (now (t .entry)) (settledBy (now (t .entry)) (now (guide .entry)) used)
@@ -66,8 +66,8 @@ pub fn of_row(t: &[u8], h: Header, guide: &[u8], used: bool, q: u32) -> Edges
     Edges::Refused(12)
 }
 
-// The bounds of the row that no byte 10 ends, which exists if the last byte is another one: from behind the last byte 10 (or from place 0) to
-// the text's end.
+// The bounds of the row without a byte 10 at its end, which exists if the last byte of the text is another one: from the place after the last byte 10, or
+// from place 0, to the end of the text.
 fn last(t: &[u8], h: Header, guide: &[u8], used: bool, number: u32, q: u32) -> Edges
     requires { ⌜ (HeaderOf (now t) h) × (asksLast (now t) q ≡ true) × (number ≡ numberOfByte (now t) 10) × (number < h .settings .counted) ⌝ }
     ensures { λ r. ⌜ EdgesOf (now (t .entry)) (settledBy (now (t .entry)) (now (guide .entry)) used) (lastNumber
@@ -94,7 +94,7 @@ fn last(t: &[u8], h: Header, guide: &[u8], used: bool, number: u32, q: u32) -> E
     )
 }
 
-// The edges of a row that a newline ends: one find comes to its start, and the newline is read on to.
+// The bounds of a row that ends in a newline: one find gives its start, and the newline is found by reading on.
 fn terminated_row(t: &[u8], h: Header, guide: &[u8], used: bool, number: u32, q: u32) -> Edges
     requires { ⌜ (HeaderOf (now t) h) × (number ≡ numberOfByte (now t) 10) × (number < h .settings .counted) × (1 ≤ q) × (q ≤ total (now t) number) ⌝ }
     ensures { λ r. ⌜ EdgesOf (now (t .entry)) (settledBy (now (t .entry)) (now (guide .entry)) used)
@@ -111,7 +111,7 @@ fn terminated_row(t: &[u8], h: Header, guide: &[u8], used: bool, number: u32, q:
     Edges::At(start, without_cr(place.0 - start.0, before), run)
 }
 
-// Where row q starts, which a newline ends. Question 14.
+// The start of row q, if it ends in a newline. Questions 11, 12 and 14.
 fn row_start(t: &[u8], h: Header, guide: &[u8], used: bool, number: u32, q: u32) -> RowStart
     requires { ⌜ (HeaderOf (now t) h) × (number ≡ numberOfByte (now t) 10) × (number < h .settings .counted) × (1 ≤ q) × (q ≤ total (now t) number) ⌝ }
     ensures { λ r. ⌜ StartIs (now (t .entry)) (settledBy (now (t .entry)) (now (guide .entry)) used) q r ⌝ }
@@ -126,7 +126,7 @@ fn row_start(t: &[u8], h: Header, guide: &[u8], used: bool, number: u32, q: u32)
     RowStart::At(TextPlace(before.0 + 1))
 }
 
-// A row's length without a carriage return directly before the newline that ends it.
+// The length of a row without a carriage return directly before the newline.
 fn without_cr(len: u32, before: u8) -> u32
     ensures { λ r. ⌜ r ≡ cond (ltb 0 len && eqb 13 before) (len - 1) len ⌝ }
 {
@@ -139,7 +139,7 @@ fn without_cr(len: u32, before: u8) -> u32
     len
 }
 
-// The number of the question that refuses a row's start; 0 for a place.
+// The refusal of a row's start, 0 for none.
 fn start_number(found: RowStart) -> u32
     ensures { λ r. ⌜ r ≡ startNumber found ⌝ }
 {
@@ -149,7 +149,7 @@ fn start_number(found: RowStart) -> u32
     }
 }
 
-// The place of the j-th byte 10, which has this number, by the guide if it is used.
+// The place of the j-th byte 10, with the guide if `used` is true.
 pub fn ten(t: &[u8], h: Header, guide: &[u8], used: bool, number: u32, j: u32) -> Found
     requires { ⌜ (HeaderOf (now t) h) × (number ≡ numberOfByte (now t) 10) × (number < h .settings .counted) × (1 ≤ j) × (j ≤ total (now t) number) ⌝ }
     ensures { λ r. ⌜ FoundBy (now (t .entry)) (settledBy (now (t .entry)) (now (guide .entry)) used) 10 j r ⌝ }
@@ -161,7 +161,7 @@ pub fn ten(t: &[u8], h: Header, guide: &[u8], used: bool, number: u32, j: u32) -
     seek::seek(t, h, wanted, j)
 }
 
-// The number of the question that refuses a find; 0 for a place.
+// The refusal of a find, 0 for none.
 fn found_number(found: Found) -> u32
     ensures { λ r. ⌜ r ≡ replied (findReply found) .number ⌝ }
 {
@@ -171,7 +171,7 @@ fn found_number(found: Found) -> u32
     }
 }
 
-// The number of the question that refuses the edges.
+// The refusal of the bounds, 0 for none.
 pub fn number(found: Edges) -> u32
     ensures { λ r. ⌜ r ≡ edgesNumber found ⌝ }
 {

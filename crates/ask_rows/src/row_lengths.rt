@@ -1,4 +1,4 @@
-// The length of a row and the number of rows, of a tree that passes questions 5 to 7, by its header.
+// The length of a row and the number of rows in a tree that passes questions 5 to 7, given its header.
 use crate::RowCount;
 use crate::RowLength;
 use crate::row_edges;
@@ -10,7 +10,7 @@ use layout::place::TextPlace;
 ghost use Rattle.layout.specs.HeaderSays.{HeaderOf};
 ghost use Rattle.ask_rows.specs.RowLengths.{LengthAnswer, CountAnswer};
 
-// Questions 11, 12 and 14, from the row's edges.
+// Questions 11, 12 and 14, from the bounds of the row.
 pub fn length_at(t: &[u8], h: Header, q: u32) -> RowLength
     requires { ⌜ HeaderOf (now t) h ⌝ }
     ensures { λ r. ⌜ LengthAnswer (now (t .entry)) q r ⌝ }
@@ -22,7 +22,7 @@ pub fn length_at(t: &[u8], h: Header, q: u32) -> RowLength
     }
 }
 
-// Questions 11 and 14: the total of byte 10, and one more where the last byte is another.
+// Questions 11 and 14: the total of byte 10, and one more if the last byte is another one.
 pub fn count_at(t: &[u8], h: Header) -> RowCount
     requires { ⌜ HeaderOf (now t) h ⌝ }
     ensures { λ r. ⌜ CountAnswer (now (t .entry)) r ⌝ }

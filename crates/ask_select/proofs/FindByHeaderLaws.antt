@@ -137,7 +137,7 @@ module _ (t : List ℕ) (field : CountField) (j b block : ℕ) (on : OnLevel t (
       pub sought : (r : ℕ) → way ≡ block * b → FoundIn t c 0 block rest way r → SoughtIn t (byteOf t c) c j block (placedIn (at.textLength t) r)
       sought r way-is f = record { accepted = λ v under. right r way-is f v; free = placed-free (at.textLength t) r }
 
--- what the word's place says, said of the answer made of it
+-- What holds of the place in the word holds of the answer made from it.
 pub sought-by : (t : List ℕ) (n byte c j block w : ℕ) (s : Said) → n ≡ at.textLength t → byte ≡ byteOf t c → s ≡ placedIn n w
     → SoughtIn t (byteOf t c) c j block (placedIn (at.textLength t) w) → SoughtIn t byte c j block s
 sought-by t n byte c j block w s n-is byte-is s-is z =

@@ -1,4 +1,5 @@
--- What the answer of a find says: a place of the text, which is the j-th byte's where it is settled, or a refusal, which is 14 and only where it is free.
+-- The answer of a find: a place of the text, which is that of the j-th occurrence if the answer is determined; or a refusal, which is 14 and only occurs if
+-- the answer is free.
 use mathlib.Core.List.{List}
 use mathlib.Core.Path.{_≡_, sym, ap, _∙_}
 use mathlib.Core.Logic.{_⊎_, inl, inr}
@@ -28,7 +29,7 @@ path-enters t v byte j h =
     let w = paths.no-path-breaks t (accepted-readable t v) (accepted-links t v) (placeOf byte j (textOf t)) (tallies.place-below t v byte j h) in
     rw (w .1) (path-long t (placeOf byte j (textOf t)) (w .0) (w .1))
 
--- where it is settled, find says the same
+-- If the answer is determined, find returns the same.
 pub by-find : (t : List ℕ) (byte j : ℕ) (s : Said) (ok : ℕ) → (ok ≡ 0 → verdict t ≡ 0) → ok ≡ 0 → FindBy t ok byte j s → FindSays t byte j s
 by-find t byte j s ok sound z f = record { asked = f .asked; accepted = λ n v. f .accepted n z; free = λ n v. absurd (v (sound z)) }
 

@@ -19,7 +19,7 @@ pub field-there : (t : List ℕ) (size level i c f : ℕ) → Readable t → siz
     → c < at.countedCount t → f ≤ skipField c → FieldIn t size level i f
 field-there t size level i c f k size-is hl hi hc hf = field-in t k size level i f size-is hl hi (omega arith)
 
--- a block of a level, with the block length that the tree says
+-- A block of a level, with the block length of the tree.
 pub full-there : (t : List ℕ) (size level b i : ℕ) → OnLevel t size level b → i < at.levelCount t level → InTable t size level (at.fullLength t level) i
 full-there t size level b i on hi = record {
   on = record { facts = on .facts; size-is = on .size-is; level-in = on .level-in; b-is = refl };
@@ -31,7 +31,7 @@ pub full-below : (t : List ℕ) (size level b below arity : ℕ)
     → OnLevel t size level b → OnLevel t size (level + 1) below → arity ≡ at.settings t .arity → b ≡ below * arity
 full-below t size level b below arity on lower e = on .b-is ∙ full-step t (on .facts) level (lower .level-in) ∙ rw (lower .b-is, e)
 
--- a full block has as many children as its arity says
+-- A full block has as many children as the arity.
 pub pieces-full : (bytes b below arity : ℕ) → bytes ≡ b → b ≡ below * arity → 0 < below → arity ≡ pieces bytes below
 unfolding pieces
 pieces-full bytes b below arity full b-is pos =

@@ -1,4 +1,4 @@
--- What find answers, by its number and figures, after the questions before the walk (docs/FORMAT.md, "Find", "What is left free").
+-- The answer of find by its refusal and figures (docs/FORMAT.md, "Find", "What is left free").
 use mathlib.Core.List.{List}
 use Prim.Native.Nat.{ℕ}
 use Rattle.format.specs.Verdict.{verdict}
@@ -16,5 +16,6 @@ findReply (Refused number) = refusal number
 abbrev pub FoundBy : (t : List ℕ) (ok byte j : ℕ) → Found → Type 0
 FoundBy t ok byte j = Allowed findReply (find.FindBy t ok byte j)
 
+-- The answer of find.
 abbrev pub FindAnswer : (t : List ℕ) (byte j : ℕ) (r : Found) → Type 0
 FindAnswer t = FoundBy t (verdict t)

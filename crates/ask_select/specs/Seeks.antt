@@ -1,4 +1,4 @@
--- What is asked and answered on the way to the j-th byte.
+-- The preconditions and results of the steps to the j-th occurrence.
 use mathlib.Core.List.{List}
 use mathlib.Core.Bool.{true, cond}
 use mathlib.Core.Path.{_≡_}
@@ -29,7 +29,7 @@ unfoldable pub entering : ℕ → ℕ → ℕ → ℕ
 entering way forward back = way + 281474976710656 + forward - back
 
 module _ (t : List ℕ) where
-  -- a kept block of a level, and a pointing one
+  -- A kept block of a level, and a pointing one.
   pub record KeptIn (size level b i : ℕ) : Type 0 where
     pub on : OnLevel t size level b
     pub kept : keptBlock t level i ≡ true
@@ -38,7 +38,7 @@ module _ (t : List ℕ) where
     pub on : OnLevel t size level b
     pub points : pointingBlock t level i ≡ true
 
-  -- some blocks of a level, one after the other
+  -- Some consecutive blocks of a level.
   pub record Siblings (field : CountField) (level first end : ℕ) : Type 0 where
     pub facts : Readable t
     pub size-is : field .size ≡ at.recordSize t
@@ -47,13 +47,13 @@ module _ (t : List ℕ) where
     pub some : first < end
     pub end-in : end ≤ at.levelCount t level
 
-  -- block r of them, reached from the first by blocks whose before is below j, r included
+  -- Block r of them: the blocks from the first up to r, included, have a `before` below j.
   pub record Passed (c level first end j r : ℕ) : Type 0 where
     pub low : first ≤ r
     pub high : r < end
     pub passed : (i : ℕ) → first < i → i ≤ r → at.before t level i c < j
 
-  -- the last of them before any whose before is j or more
+  -- The last sibling whose `before` is below j.
   pub record LastBefore (c level first end j r : ℕ) : Type 0 where
     pub low : first ≤ r
     pub high : r < end
@@ -71,12 +71,12 @@ module _ (t : List ℕ) where
     pub rest-is : rest ≡ j - at.before t (level + 1) x c
     pub next : x - at.link t level i + 1 < pieces (at.blockLengthAt t level i) below → j ≤ at.before t (level + 1) (x + 1) c
 
-  -- on an accepted tree there is one
+  -- The child is kept or it points; on an accepted tree there is one.
   pub record ChildWith (c level i below j : ℕ) (r : Child) : Type 0 where
     pub chosen : (x : BlockNumber) (o : BlockPlace) (rest : ℕ) → r ≡ child.At x o rest → Chosen c level i below j (x .0) (o .0) rest
     pub off : r ≡ child.Off → verdict t ≡ 0 → ⊥
 
-  -- the target of pointing block i that has the j-th byte: the first with all of j and the skip, or the second with the rest
+  -- The target of pointing block i that contains the j-th occurrence: the first with j + skip, or the second with the rest.
   pub record Aimed (c level i b j : ℕ) (x forward rest : ℕ) : Type 0 where
     pub kept : keptBlock t level x ≡ true
     pub rest-low : 1 ≤ rest
@@ -86,7 +86,7 @@ module _ (t : List ℕ) where
         ⊎ ((x ≡ at.link t level i + 1) × (forward ≡ b) × (at.inside t level (at.link t level i) c < j + at.skip t level i c)
         × (rest ≡ j + at.skip t level i c - at.inside t level (at.link t level i) c))
 
-  -- a block pointed to, if it is kept
+  -- A linked block, if it is kept.
   unfoldable pub targetAt : ℕ → ℕ → ℕ → ℕ → Target
   targetAt level i forward rest = cond (keptBlock t level i) (target.Kept (record { 0 = i }) (record { 0 = forward }) rest) target.Off
 
@@ -94,7 +94,7 @@ module _ (t : List ℕ) where
     pub kept : (x : BlockNumber) (forward : BlockPlace) (rest : ℕ) → r ≡ target.Kept x forward rest → Aimed c level i b j (x .0) (forward .0) rest
     pub off : r ≡ target.Off → verdict t ≡ 0 → j ≤ at.inside t level i c → ⊥
 
-  -- a level, the number of a counted byte, which one of it is looked for in a block, and the way to that block, with `blocks` entered at most
+  -- A level, the number of a counted byte, the number j of the occurrence in a block, and the way to that block, with at most `blocks` blocks entered.
   pub record Seeking (field : CountField) (level b j way blocks : ℕ) : Type 0 where
     pub on : OnLevel t (field .size) level b
     pub number-in : field .number < at.countedCount t
@@ -102,7 +102,8 @@ module _ (t : List ℕ) where
     pub few : j ≤ (blocks + 1) * 4294967295
     pub near : way ≤ (blocks + 64) * 562949953421312
 
-  -- on an accepted tree the j-th byte of block i is at a place of the block, and its path from there enters so many blocks: both are added to the way
+  -- On an accepted tree the j-th occurrence in block i is at a place of the block, and the path from the block to it enters some blocks: both are added to
+  -- the way.
   pub record Landed (v : verdict t ≡ 0) (c : ℕ) (hc : c < at.countedCount t) (level i j way r : ℕ) : Type 0 where
     pub place : ℕ
     pub entered : ℕ

@@ -1,4 +1,4 @@
-// Find, of a tree that passes questions 5 to 7, by its header.
+// Find in a tree that passes questions 5 to 7, given its header.
 use crate::Found;
 use crate::seek;
 use ask_totals::Wanted;

@@ -1,4 +1,4 @@
-// Find (select): where a counted byte stands for the j-th time. It asks 5 to 7 first, of any bytes lent as a tree.
+// Find (select): the place of the j-th occurrence of a counted byte. Any bytes may be given as a tree: questions 5 to 7 come first.
 pub mod find_by_header;
 pub mod seek;
 
@@ -7,13 +7,13 @@ use layout::header::HeaderRead;
 use layout::place::TextPlace;
 ghost use Rattle.ask_select.specs.Found.{FindAnswer};
 
-// A place of the text, with the number of blocks on its path, or the number of the question that refuses.
+// A place of the text with the number of blocks on its path, or the refusal.
 pub enum Found {
     At(TextPlace, u32),
     Refused(u32),
 }
 
-// Where a counted byte stands for the j-th time.
+// The place of the j-th occurrence of a counted byte.
 pub fn find(t: &[u8], byte: u8, j: u32) -> Found
     ensures { λ r. ⌜ FindAnswer (now (t .entry)) byte j r ⌝ }
 {

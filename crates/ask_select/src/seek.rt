@@ -1,6 +1,6 @@
-// The way to the j-th byte: on each level to the last block before any whose before is j or more, with what is left of j. The steps
-// of kept and pointing blocks are mutually recursive. Their measure is 2 × (levels left), plus 1 while a pointer can be followed.
-// A step carries no header, and returns one word.
+// The walk to the j-th occurrence: on each level it chooses the last block whose `before` is below j, and subtracts what it passes from j. The steps of kept
+// and pointing blocks are mutually recursive. Their measure is 2 × (levels left), plus 1 while a pointer can be followed. A step carries no header and
+// returns one word.
 use crate::Found;
 use ask_totals::Wanted;
 use layout::header;
@@ -27,19 +27,19 @@ ghost use Rattle.ask_select.specs.SoughtPlaces.{placedIn, Sought, Stoppe
 ghost use Rattle.ask_select.specs.Seeks.{entering, Siblings, Passed, LastBefore, KeptIn, PointsIn, ChildWith, targetAt, TargetWith};
 ghost use Rattle.ask_select.specs.Seeks.{Seeking, FoundIn, HandsOn};
 
-// The bytes of a record, and the number of the counted byte whose words are read in it.
+// The size of a record, and the number of the counted byte whose words are read in it.
 pub struct CountField {
     pub size: u32,
     pub number: u32,
 }
 
-// A block of a list, and how many steps lead to it.
+// A block of a list, and the number of steps to it.
 pub struct Along {
     pub block: BlockNumber,
     pub steps: u32,
 }
 
-// The blocks of a list from the first on, before the end.
+// The blocks of a list from `first` up to `end`, excluded.
 pub struct Blocks {
     pub first: BlockNumber,
     pub end: BlockNumber,
@@ -51,13 +51,13 @@ struct Parent {
     below: u32,
 }
 
-// A block, where it starts in its parent, and what is left of j in it.
+// A block, its start in its parent, and the remaining j.
 pub enum Child {
     At(BlockNumber, BlockPlace, u64),
     Off,
 }
 
-// A kept block, the place of its start counted from the first target's, and what is left of j in it.
+// A kept block, its start relative to that of the first target, and the remaining j.
 pub enum Target {
     Kept(BlockNumber, BlockPlace, u64),
     Off,
@@ -72,7 +72,7 @@ pub enum Landing {
 // The word of a step that finds no place: no text has so many bytes.
 const BROKEN: u64 = 18446744073709551615;
 
-// A block entered, in a step's word: 2^48 for each, added to the place of the text.
+// One block entered, in the word of a step: 2^48, added to the place of the text.
 const ENTERED: u64 = 281474976710656;
 
 // The larger of two numbers.
@@ -85,7 +85,7 @@ fn larger(a: u32, b: u32) -> u32
     a
 }
 
-// The largest before of the four blocks after a block.
+// The largest `before` of the four blocks after a block.
 fn largest_before(t: &[u8], field: CountField, level: u32, block: BlockNumber) -> u32
     requires { ⌜ (Siblings (now t) field level (block .0) (block .0 + 5)) × (block .0 + 4 < 4294967296) ⌝ }
     ensures { λ r. ⌜ (at.before (now (t .entry)) level (block .0 + 1) (field .number) ≤ r)
@@ -102,7 +102,7 @@ fn largest_before(t: &[u8], field: CountField, level: u32, block: BlockNumber) -
     larger(larger(a, b), larger(c, d))
 }
 
-// Steps by fours, as long as no before of the four is j or more; the steps are counted on the way.
+// Steps by fours as long as the `before` of all four is below j, and counts the steps.
 fn by_fours(t: &[u8], field: CountField, level: u32, blocks: Blocks, j: u64) -> Along
     requires { ⌜ Siblings (now t) field level (blocks .first .0) (blocks .end .0) ⌝ }
     ensures { λ r. ⌜ (Passed (now (t .entry)) (field .number) level (blocks .first .0) (blocks .end .0) j (r .block .0))
@@ -128,7 +128,7 @@ fn by_fours(t: &[u8], field: CountField, level: u32, blocks: Blocks, j: u64) -> 
     }
 }
 
-// From block first on, before end: goes on while the next block's `before` is below j, and counts its steps.
+// From block first on: goes on while the next block's `before` is below j, and counts its steps.
 pub fn step_along(t: &[u8], field: CountField, level: u32, blocks: Blocks, j: u64) -> Along
     requires { ⌜ Siblings (now t) field level (blocks .first .0) (blocks .end .0) ⌝ }
     ensures { λ r. ⌜ (LastBefore (now (t .entry)) (field .number) level (blocks .first .0) (blocks .end .0) j (r .block .0))
@@ -155,7 +155,7 @@ pub fn step_along(t: &[u8], field: CountField, level: u32, blocks: Blocks, j: u6
     }
 }
 
-// The same of a block's few children, without the steps.
+// The same for the few children of a block, without counting steps.
 fn last_child(t: &[u8], field: CountField, level: u32, blocks: Blocks, j: u64) -> BlockNumber
     requires { ⌜ Siblings (now t) field level (blocks .first .0) (blocks .end .0) ⌝ }
     ensures { λ r. ⌜ LastBefore (now (t .entry)) (field .number) level (blocks .first .0) (blocks .end .0) j (r .0) ⌝ }
@@ -184,7 +184,7 @@ fn rest_in(t: &[u8], field: CountField, level: u32, block: BlockNumber, j: u64) 
     j - before
 }
 
-// How many children a block of so many bytes has, where full blocks have b: all of them in a full block.
+// The number of children of a block of `bytes` bytes; `arity` for a full block of b bytes.
 fn children(bytes: u32, b: u32, below: u32, arity: u32) -> u32
     requires { ⌜ (bytes ≤ maxText) × (0 < below) × (below ≤ maxText) × (b ≡ below * arity) ⌝ }
     ensures { λ r. ⌜ r ≡ pieces bytes below ⌝ }
@@ -195,7 +195,7 @@ fn children(bytes: u32, b: u32, below: u32, arity: u32) -> u32
     settings::pieces(bytes, below)
 }
 
-// The child of a kept block that holds the j-th byte.
+// The child of a kept block that contains the j-th occurrence.
 fn child_with(t: &[u8], field: CountField, on: On, parent: Parent, j: u64) -> Child
     requires { ⌜ (KeptIn (now t) (field .size) (on .level) (on .b) (parent .block .0))
         × (OnLevel (now t) (field .size) (on .level + 1) (parent .below)) × (field .number < at.countedCount (now t)) × (1 ≤ j) ⌝ }
@@ -224,7 +224,7 @@ fn child_with(t: &[u8], field: CountField, on: On, parent: Parent, j: u64) -> Ch
     Child::At(i, BlockPlace((i.0 - link.0) * parent.below), rest)
 }
 
-// A block pointed to, which must be kept.
+// A linked block, which must be kept.
 fn kept_target(
     t: &[u8],
     size: u32,
@@ -243,8 +243,8 @@ fn kept_target(
     Target::Off
 }
 
-// The target of a pointing block that holds its j-th byte: that is the (j + skip)-th of the first target or, past that one's
-// inside, one of the second.
+// The target of a pointing block that contains its j-th occurrence: the (j + skip)-th of the first target, or, if that is above its count inside, one of the
+// second.
 fn target_with(t: &[u8], field: CountField, on: On, block: BlockNumber, j: u64) -> Target
     requires { ⌜ (PointsIn (now t) (field .size) (on .level) (on .b) (block .0))
         × (field .number < at.countedCount (now t)) × (1 ≤ j) × (j ≤ 1099511627776) ⌝ }
@@ -275,7 +275,7 @@ fn target_with(t: &[u8], field: CountField, on: On, block: BlockNumber, j: u64) 
     )
 }
 
-// The way on into a block: past the bytes before it and back by a gap, with one more block entered.
+// The place after entering a block: forward by the bytes before it, back by a gap, with one more block entered.
 fn enter(way: u64, forward: BlockPlace, back: BlockPlace) -> u64
     requires { ⌜ (way ≤ 72057594037927936) × (back .0 ≤ maxText) ⌝ }
     ensures { λ r. ⌜ r ≡ entering way (forward .0) (back .0) ⌝ }
@@ -283,7 +283,7 @@ fn enter(way: u64, forward: BlockPlace, back: BlockPlace) -> u64
     way + ENTERED + forward.0 as u64 - back.0 as u64
 }
 
-// The j-th byte among the leaf bytes of a block of the last level.
+// The j-th occurrence among the leaf bytes of a block of the last level.
 fn leaf_place(t: &[u8], field: CountField, on: On, block: BlockNumber, j: u64, way: u64) -> u64
     requires { ⌜ (KeptIn (now t) (field .size) (on .level) (on .b) (block .0)) × (Seeking (now t) field (on .level) (on .b) j way (2 * on .level + 1))
         × (on .level + 1 ≡ at.settings (now t) .levels) ⌝ }
@@ -364,7 +364,7 @@ fn kept_step(t: &[u8], field: CountField, on: On, block: BlockNumber, j: u64, wa
     pointing_step(tree, field, under, i, rest, further)
 }
 
-// From a block at which a pointer may still be followed. The one call of the step for a kept block lets the compiler join the two steps.
+// From a pointing block to the target that contains its j-th occurrence; on the last level no block points.
 fn pointing_step(t: &[u8], field: CountField, on: On, block: BlockNumber, j: u64, way: u64) -> u64
     requires { ⌜ (InTable (now t) (field .size) (on .level) (on .b) (block .0)) × (Seeking (now t) field (on .level) (on .b) j way (2 * on .level)) ⌝ }
     ensures { λ r. ⌜ FoundIn (now (t .entry)) (field .number) (on .level) (block .0) j way r ⌝ }
@@ -377,7 +377,7 @@ fn pointing_step(t: &[u8], field: CountField, on: On, block: BlockNumber, j: u64
     kept_step(tree, field, on, i, rest, further)
 }
 
-// The block of level 0 that holds the j-th byte of the text.
+// The block of level 0 that contains the j-th occurrence in the text.
 fn first_block(t: &[u8], field: CountField, j: u64) -> BlockNumber
     requires { ⌜ (OnLevel (now t) (field .size) 0 (at.fullLength (now t) 0)) × (field .number < at.countedCount (now t))
         × (1 ≤ total (now t) (field .number)) ⌝ }
@@ -390,7 +390,7 @@ fn first_block(t: &[u8], field: CountField, j: u64) -> BlockNumber
     step_along(t, field, 0, all, j).block
 }
 
-// The place of a text of n bytes that a step's word says, if it is one.
+// The place that the word of a step represents, if it is one of a text of n bytes.
 pub fn text_place(n: u32, word: u64) -> Found
     ensures { λ r. ⌜ (replied (findReply r) ≡ placedIn n word) × (NeverZero (findReply r)) ⌝ }
 {
@@ -401,7 +401,7 @@ pub fn text_place(n: u32, word: u64) -> Found
     Found::Refused(14)
 }
 
-// The word of the j-th byte of the text, from the block of level 0 that was stepped to.
+// The word for the j-th occurrence in the text, from its block of level 0 on.
 pub fn word_in(t: &[u8], field: CountField, b: u32, block: BlockNumber, j: u32) -> u64
     requires { ⌜ (OnLevel (now t) (field .size) 0 b) × (field .number < at.countedCount (now t)) × (1 ≤ j) × (j ≤ total (now t) (field .number))
         × (Stopped (now t) (field .number) j (block .0)) ⌝ }
@@ -416,7 +416,7 @@ pub fn word_in(t: &[u8], field: CountField, b: u32, block: BlockNumber, j: u32) 
     pointing_step(t, field, On { level: 0, b }, block, rest, way)
 }
 
-// The place of the j-th byte of the text.
+// The place of the j-th occurrence in the text.
 pub fn seek(t: &[u8], h: Header, wanted: Wanted, j: u32) -> Found
     requires { ⌜ (HeaderOf (now t) h) × (wanted .number < at.countedCount (now t))
         × (wanted .byte ≡ byteOf (now t) (wanted .number)) × (1 ≤ j) × (j ≤ total (now t) (wanted .number)) ⌝ }

@@ -27,7 +27,7 @@ index-past : (c : ℕ) (xs : List ℕ) (i : ℕ) → length xs ≤ i → indexOf
 unfolding indexOf
 index-past c xs i h = rw (drop-of-length-le xs h)
 
--- of the names from i on
+-- The index of a byte among the names from i on.
 unfoldable pub ahead : List ℕ → ℕ → ℕ → ℕ
 ahead t byte i = indexOf byte (drop i (at.settings t .counted)) + i
 

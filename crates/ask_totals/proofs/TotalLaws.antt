@@ -31,7 +31,7 @@ module _ (t : List ℕ) (h : Header) (k : HeaderOf t h) (byte number : ℕ) (is 
   unfolding isCounted numberOfByte
   is-counted low = lt-ltb (indexOf byte (at.settings t .counted)) (length (at.settings t .counted)) (omega (arith, k .facts .counted-size, k .counted-is))
 
--- where a byte stands, level 0 has a block
+-- If a byte occurs, level 0 has a block.
 pub some-block : (t : List ℕ) (c : ℕ) → 1 ≤ total t c → 0 < at.levelCount t 0
 unfolding total
 some-block t c h = go (lt-or-ge 0 (at.levelCount t 0))

@@ -1,4 +1,4 @@
--- What is asked where the number of a counted byte is looked for.
+-- The precondition of looking for the number of a counted byte.
 use mathlib.Core.List.{List}
 use mathlib.Core.Path.{_≡_}
 use Prim.Native.Nat.{ℕ, _≤_}

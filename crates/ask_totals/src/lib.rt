@@ -1,4 +1,4 @@
-// A counted byte: its number, looked for in the header, and how often it stands in the whole text. Count, find and row all ask it.
+// A counted byte: its number in the header, and how often it occurs in the whole text. Count, find and row use it.
 use layout::header;
 use layout::header::Header;
 use layout::place::BlockNumber;
@@ -17,7 +17,7 @@ pub struct Wanted {
     pub number: u32,
 }
 
-// The number of a counted byte: its place among the k counted ones, or k where it is not one of them.
+// The number of a counted byte: its index among the k counted bytes, or k if it is not one of them.
 pub fn number_of(t: &[u8], k: u32, byte: u8) -> u32
     requires { ⌜ Names (now t) k ⌝ }
     ensures { λ r. ⌜ (r ≡ numberOfByte (now (t .entry)) byte) × (r ≤ k) ⌝ }
@@ -32,7 +32,7 @@ pub fn number_of(t: &[u8], k: u32, byte: u8) -> u32
     i
 }
 
-// How often a counted byte stands in the text: before and inside of the last block of level 0, or 0 where no block is.
+// How often a counted byte occurs in the text: the sum of before and inside of the last block of level 0, or 0 if there is no block.
 pub fn total(t: &[u8], h: Header, number: u32) -> u64
     requires { ⌜ (HeaderOf (now t) h) × (number < at.countedCount (now t)) ⌝ }
     ensures { λ r. ⌜ r ≡ find.total (now (t .entry)) number ⌝ }

@@ -1,5 +1,5 @@
--- What docs/FORMAT.md, "Keys", says of a worn key, as theorems over what the calls promise: `MatchAnswer` is the contract of `next_match`, `Moved` that
--- of `show`.
+-- The statements of docs/FORMAT.md, "Keys", about a worn key, as theorems over the contracts of the calls: `MatchAnswer` is the contract of `next_match`,
+-- `Moved` that of `show`.
 use mathlib.Core.List.{List}
 use mathlib.Core.Bool.{true, false, cond}
 use mathlib.Core.Path.{_≡_}
@@ -29,7 +29,7 @@ abbrev pub NextMatch : (κs : Lfts 2) → (t ranges : RefT (List ℕ)) → ℕ �
 NextMatch κs t ranges mark r = next-match-reads.Post κs (t, (ranges, (mark, tt))) r (t, (ranges, (mark, tt)))
 
 module _ (t ranges : List ℕ) where
-  -- Any lent bytes.
+  -- For any bytes.
 
   -- A refused call leaves the mark unchanged.
   pub refusal-leaves : (mark n after : ℕ) → Moved t ranges mark (Refused n) after → after ≡ mark
@@ -67,13 +67,13 @@ module _ (t ranges : List ℕ) where
     abbrev T : List ℕ
     T = textOf t
 
-    -- where no question refuses, the next match is shown; or none, and the mark goes to where `shownFor` says
+    -- If no question refuses, the next match is returned; or none, and the mark moves to `shownFor`.
     pub match-is : (mark : ℕ) (r : NextRowAnswer) → MatchAnswer t ranges mark r → queryRefusal t 19 (rangesOk ranges) ≡ 0
         → r ≡ cond (eqb (nextMatch ranges T mark) 0) (Nothing (shownFor ranges T mark .mark)) (Row (nextMatch ranges T mark))
     unfolding nextMatch shownFor
     match-is = next-row.answer-is t (verdict t) (λ v. v) (queryRefusal t 19 (rangesOk ranges)) (matches ranges) v
 
-    -- a row that is shown stands after the mark, which goes to it: so it comes to none after as many calls as there are rows, at most
+    -- A returned row is after the mark, which moves to it: so after at most as many calls as there are rows there is none.
     pub row-rises : (mark n after : ℕ) → Moved t ranges mark (Row n) after → (mark < n) × (n ≤ length (rowsOf T)) × (after ≡ n)
     row-rises = next-row.row-rises t (verdict t) (λ v. v) (queryRefusal t 19 (rangesOk ranges)) (matches ranges) v
 
@@ -92,13 +92,13 @@ module _ (t ranges : List ℕ) where
     unfolding matchesOf
     all-matches = next-row.all-called t (verdict t) (λ v. v) (queryRefusal t 19 (rangesOk ranges)) (matches ranges) v
 
-  -- Any lent bytes again: what holds of every answer, also of one that is free.
+  -- For any bytes again: what holds of every answer, also of a free one.
 
-  -- a row that is shown stands after the mark, and is at most one more than the total of byte 10
+  -- A returned row is after the mark, and at most one more than the total of byte 10.
   pub row-after : (mark n : ℕ) → MatchAnswer t ranges mark (Row n) → (mark < n) × (n ≤ maxRows t)
   row-after = next-row.row-after t (verdict t) (λ v. v) (queryRefusal t 19 (rangesOk ranges)) (matches ranges) counted-of
 
-  -- none does not move the mark back, nor, unless it stood there, past that number
+  -- Without a row the mark does not move back, nor past that number unless it was there.
   pub none-after : (mark m : ℕ) → MatchAnswer t ranges mark (Nothing m) → (mark ≤ m) × ((m ≡ mark) ⊎ (m ≤ maxRows t))
   none-after = next-row.none-after t (verdict t) (λ v. v) (queryRefusal t 19 (rangesOk ranges)) (matches ranges) counted-of
 

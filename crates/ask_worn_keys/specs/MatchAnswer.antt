@@ -1,5 +1,4 @@
--- What the search for the next match returns, for any bytes as a tree and as a question: questions 5 to 7, 19 and 11, then the rows that match.
--- docs/FORMAT.md: "Keys", "What is left free".
+-- The answer of next_match by its refusal and row, and the mark that show moves (docs/FORMAT.md, "Keys").
 use mathlib.Core.List.{List}
 use Prim.Native.Nat.{ℕ}
 use Rattle.format.specs.Verdict.{verdict}
@@ -17,6 +16,6 @@ MatchSays t ranges mark s = AllowedOutcome t (verdict t) (queryRefusal t 19 (ran
 abbrev pub MatchAnswer : List ℕ → List ℕ → ℕ → NextRowAnswer → Type 0
 MatchAnswer t ranges mark r = AllowedAnswer t (verdict t) (queryRefusal t 19 (rangesOk ranges)) (matches ranges) mark r
 
--- with the mark before the search and after it
+-- The answer of show from the caller's mark, and the mark afterwards.
 abbrev pub Moved : List ℕ → List ℕ → ℕ → NextRowAnswer → ℕ → Type 0
 Moved t ranges before r after = MarkMoved t (verdict t) (queryRefusal t 19 (rangesOk ranges)) (matches ranges) before r after

@@ -1,4 +1,4 @@
-// A worn key: the rows of a book that match a range of depths for each cut, one at a time.
+// The search for a worn key: the next row whose cuts are each in a range of depths.
 mod search;
 
 use layout::header;
@@ -8,12 +8,12 @@ ghost use mathlib.Core.Path.{_≡_};
 ghost use Rattle.query_row_filter.specs.AllowedAnswer.{outcomeOf};
 ghost use Rattle.ask_worn_keys.specs.MatchAnswer.{MatchAnswer, Moved};
 
-// A mark: the number of the row shown last, 0 before the first row.
+// A mark: the number of the last row returned, 0 before the first row.
 pub struct Mark {
     pub row: u32,
 }
 
-// Moves a lent mark on to the next row that matches, and shows it.
+// Moves the caller's mark to the next row that matches, and returns the row.
 pub fn show(mark: &mut Mark, t: &[u8], question: &[u8]) -> NextRowAnswer
     ensures { λ r. ⌜ Moved (now (t .entry)) (now (question .entry)) (now (mark .entry) .row) r (now (mark .exit) .row) ⌝ }
 {
@@ -30,7 +30,7 @@ pub struct AdvanceAnswer {
     pub row: u32,
 }
 
-// Moves a mark of its own, on a given row, with `show`.
+// Moves a mark that starts on a given row, with `show`.
 pub fn advance(t: &[u8], question: &[u8], row: u32) -> AdvanceAnswer
     ensures { λ r. ⌜ Moved (now (t .entry)) (now (question .entry)) row (r .answer) (r .row) ⌝ }
 {
@@ -51,7 +51,7 @@ pub fn next_match(t: &[u8], question: &[u8], mark: u32) -> NextRowAnswer
     }
 }
 
-// Where a mark stands after an answer: a refusal leaves it.
+// The mark after an answer; a refusal does not move it.
 pub fn after(shown: NextRowAnswer, mark: u32) -> u32
     ensures { λ r. ⌜ r ≡ outcomeOf mark shown .mark ⌝ }
 {

@@ -37,7 +37,7 @@ pub fn match_at(t: &[u8], h: Header, question: &[u8], mark: u32) -> NextRowAnswe
     }
 }
 
-// Scans the text from a place on, where row q begins, by ranges of the tree's leaf bytes.
+// Scans the text from the place where row q begins, by ranges of leaf bytes.
 fn from(t: &[u8], h: Header, question: &[u8], place: TextPlace, q: u32) -> NextRowAnswer
     requires { ⌜ (HeaderOf (now t) h) × (rangesOk (now question) ≡ true) × (place .0 ≤ h .«text_length») × (1 ≤ q) × (q ≤ h .«text_length») ⌝ }
     ensures { λ r. ⌜ SearchFrom (now (t .entry)) (keyAutomaton (now (question .entry))) (place .0) q r ⌝ }

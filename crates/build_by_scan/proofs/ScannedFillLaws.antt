@@ -1,4 +1,4 @@
--- A level of the tree, as the items of a table: what a scan asks, and what it tells.
+-- A level of the tree as the items of a table: the preconditions of a scan, and its result.
 use mathlib.Core.List.{List}
 use mathlib.Core.Bool.{true}
 use mathlib.Core.Path.{_≡_, sym, ap, ap₂, _∙_, subst}
@@ -129,7 +129,7 @@ module _ (seed : ℕ) (T out cs : List ℕ) (level : Level)
       pub pair-bytes : lengthAt T out it (2 * i + 1) ≡ pairBytes S T l i
       pair-bytes = pair-length T out it (2 * i + 1) (omega arith) ∙ ap₂ (λ (b s : ℕ). min (b + b) (length T - s)) (h .size-is) pair-start
 
-  -- what the scan tells
+  -- The result of the scan.
   pub told : (W : List ℕ) → Answered T out it W → Told S T l W
   told W a = record {
     upper = upper;
@@ -142,7 +142,7 @@ module _ (seed : ℕ) (T out cs : List ℕ) (level : Level)
         (ap₂ (leftmost T) (pair-start i il p) (pair-bytes i il p) ∙ e ∙ sym (pair-start i il p));
   }
 
-  -- what is asked, and told, of the items that the code made
+  -- The preconditions and the result for the items that the code made.
   module _ (made : Items) (e : made ≡ it) where
     pub scan-asks : (n : ℕ) → 4 * pieces (length T) (level .settings .leaf) ≤ n → Laid T out made n × Ordered T out made
     scan-asks n room = subst (λ (i : Items). Laid T out i n × Ordered T out i) (sym e) (laid n room, ordered)
@@ -154,7 +154,7 @@ module _ (seed : ℕ) (T out cs : List ℕ) (level : Level)
       × (level .count + level .count ≤ pieces (length T) (level .settings .leaf) + 1)
   items-asks = (small .counted-few, some-blocks, limits .leaf-low, limits .leaf-high, limits .text-high, items-fit)
 
--- of a level without blocks there is nothing to tell
+-- A level without blocks has no results.
 pub told-none : (S : Settings) (T W : List ℕ) (l : ℕ) → suc l < S .levels → count S T l ≡ 0 → Told S T l W
 told-none S T W l upper none = record {
   upper = upper;

@@ -1,4 +1,4 @@
--- What the builder answers, case by case.
+-- The answers of build_scanned, case by case.
 use mathlib.Core.List.{List, _++_, append-nil}
 use mathlib.Core.Bool.{Bool, true, false}
 use mathlib.Core.Path.{_≡_, refl, sym, ap, _∙_, subst}

@@ -1,4 +1,4 @@
--- What the table says of a block and the next.
+-- The results in the table for a block and the next one.
 use mathlib.Core.List.{List}
 use mathlib.Core.Bool.{true}
 use mathlib.Core.Path.{_≡_, sym, ap, ap₂, _∙_}

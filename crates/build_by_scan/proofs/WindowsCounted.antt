@@ -69,7 +69,7 @@ module _ (v : ℕ) (f : ℕ → ℕ) where
       go r (inl k) = omega (arith, r k, ap (λ (t : Bool). cond t (f n) 0) (ne-eqb n v (λ e. omega arith)))
       go r (inr q) = omega (arith, none-below n (omega arith), ap (λ (t : Bool). cond t (f n) 0) (eq-eqb n v (sym q)), ap f q)
 
--- What one length adds: its windows, where it is the length asked for; 0 is none.
+-- What one length adds: its windows, if it is the given length; 0 is none.
 module _ (n : ℕ) where
   unfoldable pub share : ℕ → ℕ → ℕ
   share v x = cond (eqb v 0) 0 (cond (eqb x v) (suc n - x) 0)
@@ -118,7 +118,7 @@ module _ (seed : ℕ) (T out cs : List ℕ) (level : Level)
   count-is : level .count ≡ count S T l
   count-is = r .level-is .count-is
 
-  -- some item has n bytes exactly where the definition says so
+  -- Some item has n bytes exactly if the definition requires it.
   abbrev test : ℕ → ℕ → Bool
   test n i = eqb (bytesIn S T l i) n || (pairAt T (blockLength S l) (startsAt S T l) i && eqb (pairBytes S T l i) n)
 
@@ -340,7 +340,7 @@ module _ (seed : ℕ) (T out cs : List ℕ) (level : Level)
   pub counted : (w : ℕ) → Counted T out it w → w ≡ windowsAt S T l
   counted w c = c .sum ∙ windows-are (c .lengths) (c .noted)
 
-  -- and not too many
+  -- A window fits at no more places than the text has.
   places-most : (v : ℕ) → v ≤ length T → placesOf (length T) v ≤ length T
   places-most v a = go (ℕ-discrete v 0)
     where

@@ -14,7 +14,7 @@ use Rattle.scan_entries.specs.declared.Items.{Items}
 use Rattle.scan_entries.specs.Entries.{placeIn}
 use Rattle.scan_passes.specs.Passes.{placeOut}
 
--- the items of a level of a text of n bytes, with records of so many bytes, and the heads that the table has room for
+-- The items of a level of a text of n bytes, with records of `step` bytes, and the number of chains that the table has room for.
 abbrev pub itemsSay : ℕ → ℕ → Level → ℕ → Items
 itemsSay n step level seed = record {
   records = level .table;
@@ -26,11 +26,11 @@ itemsSay n step level seed = record {
 }
 
 module _ (S : Settings) (T : List ℕ) (l : ℕ) where
-  -- the bytes of the pair of blocks i and i + 1, where they are one
+  -- The number of bytes of the pair of blocks i and i + 1, if they are one.
   abbrev pub pairBytes : ℕ → ℕ
   pairBytes i = min (blockLength S l + blockLength S l) (length T - start S T l i)
 
-  -- what the table says of the blocks and pairs of level l, which is above the last
+  -- The results in the table for the blocks and pairs of level l, which is above the last.
   pub record Told (W : List ℕ) : Type 0 where
     pub upper : suc l < S .levels
     pub room : 6 * count S T l ≤ length W + 3

@@ -32,7 +32,7 @@ pub record Scans : Type 0 where
   begun : (tableWords 2 2 ≡ 4) × (windowsOf (with-levels 3 []) (65 ∷ 66 ∷ []) ≡ 2)
   -- a text of no bytes: no words, no windows
   no-text : (tableWords 0 2 ≡ 0) × (windowsOf (with-levels 3 []) [] ≡ 0) × (scanNumber (with-levels 3 []) [] (replicate 100 7) 0 ≡ 0)
-  -- 40 words are asked for; 18 comes before 4, and 3 before 18
+  -- 40 words are required; 18 comes before 4, and 3 before 18.
   table-short : scanNumber (with-levels 2 (65 ∷ [])) book (replicate 531 7) 39 ≡ 18
   buffer-short : scanNumber (with-levels 2 (65 ∷ [])) book (replicate 531 7) 40 ≡ 4
   both-fit : (scanNumber (with-levels 2 (65 ∷ [])) book (replicate 532 7) 40 ≡ 0) × (scanSize (with-levels 2 (65 ∷ [])) book (replicate 532 7) 40 ≡ 532)

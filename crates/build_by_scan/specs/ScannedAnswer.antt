@@ -1,4 +1,4 @@
--- The builder's answer by its number and figures.
+-- The answer of build_scanned by its refusal and figures.
 use Rattle.format.specs.Said.{Reply, figures, refusal}
 use Rattle.build_by_scan.specs.declared.Scanned.{Scanned}
 use Rattle.build_by_scan.specs.declared.Scanned.the-variants.{Size, Refused}

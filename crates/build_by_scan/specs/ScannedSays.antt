@@ -1,4 +1,4 @@
--- What the builder with one scan a level answers, and what the lent buffer and the lent table hold afterwards.
+-- What build_scanned returns, and what the caller's buffer and table contain afterwards.
 -- docs/FORMAT.md: "Two builders", "What is left in lent buffers".
 use mathlib.Core.List.{List, [], _∷_, _++_}
 use mathlib.Core.Bool.{Bool, false, cond, _&&_, _||_}
@@ -11,50 +11,54 @@ use Rattle.format.specs.Settings.{Settings, blockLength, pieces, lengthOk, size
 use Rattle.format.specs.Blocks.{treeOf, startsAt, startOf, lengthOf, pairAt}
 use Rattle.format.specs.Verdict.{asks}
 
--- p holds at one of 0, 1, .., n - 1
+-- Whether p holds at one of 0, 1, .., n - 1.
 unfoldable pub anyBelow : ℕ → (ℕ → Bool) → Bool
 anyBelow zero p = false
 anyBelow (suc n) p = anyBelow n p || p n
 
 module _ (S : Settings) (T : List ℕ) (l : ℕ) where
-  -- some block or pair of level l has n bytes
+  -- Whether some block or pair of level l has n bytes.
   unfoldable pub hasLength : ℕ → Bool
   hasLength n =
       let b = blockLength S l in
       let starts = startsAt S T l in
       anyBelow (length starts) (λ i. eqb (lengthOf T b starts i) n || (pairAt T b starts i && eqb (min (b + b) (length T - startOf T b starts i)) n))
 
-  -- the windows of level l: n + 1 - L for each different length L of its blocks and pairs
+  -- The windows of level l: n + 1 - L for each different length L of its blocks and pairs.
   unfoldable pub windowsAt : ℕ
   windowsAt = sumBelow (suc (length T)) (λ n. cond (hasLength n) (suc (length T) - n) 0)
 
--- the windows of all levels above the last
+-- The windows of all levels above the last.
 unfoldable pub windowsOf : Settings → List ℕ → ℕ
 windowsOf S T = sumBelow (S .levels - 1) (windowsAt S T)
 
--- the words that the table must have: 4 × (n / m rounded up)
+-- The number of words that the table must have: 4 × (n / m rounded up).
 unfoldable pub tableWords : ℕ → ℕ → ℕ
 tableWords n m = 4 * pieces n m
 
--- Questions 1 to 3, 18 and 4, for a table of `words` words; the size, the windows looked up, and the lent buffer afterwards
+-- The arguments, with a table of `words` words.
 module _ (S : Settings) (T out : List ℕ) (words : ℕ) where
+  -- The refusal: questions 1 to 3, then 18 and 4; 0 if all pass.
   unfoldable pub scanNumber : ℕ
   scanNumber =
       asks ((1, lengthOk (length T)) ∷ (2, sizesOk S) ∷ (3, countedOk (S .counted))
       ∷ (18, leb (tableWords (length T) (S .leaf)) words) ∷ (4, leb (length (treeOf S T)) (length out)) ∷ [])
 
+  -- The size of the tree; 0 if refused.
   unfoldable pub scanSize : ℕ
   scanSize = cond (eqb scanNumber 0) (length (treeOf S T)) 0
 
+  -- The number of windows looked up; 0 if refused.
   unfoldable pub scanWindows : ℕ
   scanWindows = cond (eqb scanNumber 0) (windowsOf S T) 0
 
+  -- The buffer afterwards: the tree, then its old bytes; all zeros if the tree does not fit (4); unchanged for any other refusal.
   unfoldable pub scanLeaves : List ℕ
   scanLeaves =
       cond (eqb scanNumber 0) (treeOf S T ++ drop (length (treeOf S T)) out)
       (cond (eqb scanNumber 4) (replicate (length out) 0) out)
 
--- the table afterwards: untouched by every refusal but 4; else free
+-- The table afterwards: unchanged by every refusal but 4, else any words.
 pub record TableLeft (number : ℕ) (old new : List ℕ) : Type 0 where
   pub same-length : length new ≡ length old
   pub untouched : (number ≡ 0 → ⊥) → (number ≡ 4 → ⊥) → new ≡ old

@@ -1,5 +1,5 @@
-// The builder with one scan a level: it enters the blocks and pairs of a level in a lent table of words and passes once over the text.
-// It writes what the first builder writes.
+// The builder with one scan for each level: it enters the blocks and pairs of a level in the caller's table of words and passes once over the text. It writes
+// the same tree as the builder that searches.
 mod scanned_fill;
 mod scanned_levels;
 mod table;
@@ -15,7 +15,7 @@ ghost use Rattle.build_records.specs.State.{settingsOf};
 ghost use Rattle.build_by_scan.specs.ScannedAnswer.{scannedReply};
 ghost use Rattle.build_by_scan.specs.ScannedSays.{tableWords, scanNumber, scanSize, scanWindows, scanLeaves, TableLeft};
 
-// How many words the table must have for a text of n bytes.
+// The number of words that the table must have for a text of n bytes.
 pub fn scan_words(n: u32, leaf: u32) -> u64
     ensures { λ r. ⌜ r ≡ tableWords n leaf ⌝ }
 {
@@ -25,15 +25,15 @@ pub fn scan_words(n: u32, leaf: u32) -> u64
     4 * ((n as u64 + (leaf - 1) as u64) / leaf as u64)
 }
 
-// The tree's size and the windows looked up, or the number of the question that refuses it.
+// The size of the tree and the number of windows looked up, or the refusal.
 pub enum Scanned {
     Size(u32, u32),
     Refused(u32),
 }
 
-// Writes the block tree of a text into a buffer: questions 1 to 3, then 18 (the table has fewer than four words for each leaf length
-// of text), then 4. Refused by 1, 2, 3 or 18, table and buffer are unchanged; by 4 the buffer is all zero. What the table holds afterwards is free.
-// What it holds at entry changes only the time: its first word is the seed of the fingerprints.
+// Writes the block tree of a text into a buffer: questions 1 to 3, then 18 (the table has fewer than four words for each leaf length of the text), then 4. If
+// refused with 1, 2, 3 or 18, table and buffer are unchanged; with 4 the buffer is all zero. The table may contain anything afterwards. Its contents at entry
+// affect only the time: its first word is the seed of the fingerprints.
 pub fn build_scanned(
     text: &[u8],
     leaf: u32,
@@ -63,7 +63,7 @@ pub fn build_scanned(
     }
 }
 
-// The same with settings that questions 1 to 3 take.
+// The same, for settings that pass questions 1 to 3.
 fn scan_with(text: &[u8], counted: &[u8], s: Settings, words: &mut [u32], out: &mut [u8]) -> Scanned
     requires { ⌜ Taken (settingsOf s (now counted)) (now text) ⌝ }
     ensures { λ r. ⌜ replied (scannedReply r) .number

@@ -1,4 +1,4 @@
-// The records of a level above the last, written in order from what the table says.
+// Writes the records of a level above the last in order, from the results in the table.
 use crate::table;
 use build_marking::Marked;
 use build_marking::pair;
@@ -22,13 +22,13 @@ ghost use Rattle.build_levels.specs.Trees.{Ready, Written};
 ghost use Rattle.build_by_scan.specs.ScannedSays.{windowsAt};
 ghost use Rattle.build_by_scan.specs.ItemTable.{Told};
 
-// How many blocks stand below a level, and how many windows were looked up for it.
+// The number of blocks of the next level, and the number of windows looked up for this one.
 pub struct Put {
     pub below: u32,
     pub windows: u32,
 }
 
-// How a block and the next one stand, by the table.
+// Whether a block and the next one are a pair, and where its bytes first occur, by the table.
 fn pair_in(
     words: &[u32],
     text: &[u8],
@@ -55,7 +55,7 @@ fn pair_in(
     Pair::First
 }
 
-// What the record of a block is to say, by the table.
+// The values of the record of a block, by the table.
 fn block_in(
     words: &[u32],
     text: &[u8],
@@ -77,7 +77,7 @@ fn block_in(
     target::pointing_block(text, counted, out, level, i, place)
 }
 
-// Writes the records of a level whose starts stand in place, and answers how many blocks stand below.
+// Writes the records of a level whose starts have been written. Returns the number of blocks of the next level.
 fn fill_scanned(out: &mut [u8], words: &[u32], text: &[u8], counted: &[u8], level: Level) -> u32
     requires { ⌜ Ready (settingsOf (level .settings) (now counted)) (now text) (now out) level
         × Told (settingsOf (level .settings) (now counted)) (now text) (level .number) (now words) ⌝ }
@@ -103,7 +103,7 @@ fn fill_scanned(out: &mut [u8], words: &[u32], text: &[u8], counted: &[u8], leve
     link
 }
 
-// Scans for a level above the last, and answers how many windows were looked up; the level of a text without bytes has no block, and none.
+// Scans for a level above the last and returns the number of windows looked up; 0 for a text without bytes, which has no block.
 fn scan_level(
     words: &mut [u32],
     text: &[u8],
@@ -124,7 +124,7 @@ fn scan_level(
     scan_passes::scan(words, text, out, it)
 }
 
-// Scans for a level above the last, and writes its records.
+// Scans for a level above the last and writes its records.
 pub fn put_level(
     out: &mut [u8],
     words: &mut [u32],

@@ -16,13 +16,13 @@ ghost use Rattle.build_records.specs.State.{settingsOf};
 ghost use Rattle.build_levels.specs.Trees.{Ready, Finished};
 ghost use Rattle.build_by_scan.specs.ScannedSays.{windowsOf};
 
-// The tree's size, 0 where it does not fit, and the windows looked up.
+// The size of the tree, 0 if it does not fit, and the number of windows looked up.
 pub struct Wrote {
     pub size: u32,
     pub windows: u32,
 }
 
-// Writes the levels from the first on.
+// Writes the levels from `first` on.
 fn put_levels(
     out: &mut [u8],
     words: &mut [u32],

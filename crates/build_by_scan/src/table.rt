@@ -11,7 +11,7 @@ ghost use Rattle.format.specs.Blocks.{recordBytes};
 ghost use Rattle.build_records.specs.State.{settingsOf};
 ghost use Rattle.build_by_scan.specs.ItemTable.{itemsSay};
 
-// The items of a level. More than 16 heads to an item would only spread them over more memory.
+// The items of a level. With more than 16 heads for an item they would only spread over more memory.
 pub fn items_of(text: &[u8], counted: &[u8], level: Level, seed: u32) -> Items
     requires { ⌜ (length (now counted) ≤ maxCounted)
         × (1 ≤ level .count) × (1 ≤ level .settings .leaf) × (level .settings .leaf ≤ maxLeaf) × (length (now text) ≤ maxText)
@@ -30,8 +30,8 @@ pub fn items_of(text: &[u8], counted: &[u8], level: Level, seed: u32) -> Items
     }
 }
 
-// The seed of the fingerprints: what the table's first word holds at entry, so that a caller who fills it at random makes the
-// fingerprints unpredictable. A table of zeros gives a seed with no small base.
+// The seed of the fingerprints: the first word of the table at entry. A caller who fills it at random makes the fingerprints unpredictable. A table of zeros
+// gives a seed whose base is not small.
 pub fn seed_of(words: &[u32]) -> u32 {
     if words.len() == 0 {
         return 1540483477;

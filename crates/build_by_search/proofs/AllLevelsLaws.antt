@@ -43,7 +43,7 @@ module _ (first : code.Settings) (cs T out₀ out : List ℕ) (level : Level) (r
   pub last-here : first .levels ≤ level .number + 1 → level .number + 1 ≡ level .settings .levels
   last-here k = omega (arith, ap (λ (s : code.Settings). s .levels) (r .same), r .ready .level-is .number-in)
 
-  -- what is said of the level's settings is said of the first's
+  -- What holds of the settings of the level holds of those of the first.
   module _ (new : List ℕ) where
     pub grown-here : Grown (treeOf (settingsOf (level .settings) cs) T) out new → Grown (treeOf (settingsOf first cs) T) out₀ new
     grown-here g = grown-then

@@ -1,4 +1,4 @@
--- What build answers, case by case.
+-- The answers of build, case by case.
 use mathlib.Core.List.{List, _++_, append-nil}
 use mathlib.Core.Bool.{Bool, true, false, cond}
 use mathlib.Core.Path.{_≡_, refl, sym, ap, _∙_, subst}

@@ -1,4 +1,4 @@
--- The builder's answer by its number and size (docs/FORMAT.md, "Two builders").
+-- The answer of build by its refusal and size (docs/FORMAT.md, "Two builders").
 use Rattle.format.specs.Said.{Reply, figures, refusal}
 use Rattle.build_by_search.specs.declared.Built.{Built}
 use Rattle.build_by_search.specs.declared.Built.the-variants.{Size, Refused}

@@ -11,7 +11,7 @@ ghost use Rattle.build_records.specs.Grown.{Grown};
 ghost use Rattle.build_records.specs.State.{settingsOf};
 ghost use Rattle.build_levels.specs.Trees.{Ready, Finished};
 
-// Writes the levels from the first on; the tree's size, 0 where it does not fit.
+// Writes the levels from `first` on. Returns the size of the tree, 0 if it does not fit.
 fn put_levels(out: &mut [u8], text: &[u8], counted: &[u8], first: Level) -> u32
     requires { ⌜ Ready (settingsOf (first .settings) (now counted)) (now text) (now out) first ⌝ }
     ensures { λ _. ⌜ Grown (treeOf (settingsOf (first .settings) (now (counted .entry))) (now (text .entry))) (now (out .entry)) (now (out .exit)) ⌝ }
@@ -30,7 +30,7 @@ fn put_levels(out: &mut [u8], text: &[u8], counted: &[u8], first: Level) -> u32
     level_step::finish(out, text, counted, level, count)
 }
 
-// Writes the tree; its size, 0 where it does not fit.
+// Writes the tree. Returns its size, 0 if it does not fit.
 pub fn write_tree(out: &mut [u8], text: &[u8], counted: &[u8], s: Settings) -> u32
     requires { ⌜ Taken (settingsOf s (now counted)) (now text) ⌝ }
     ensures { λ _. ⌜ Grown (treeOf (settingsOf s (now (counted .entry))) (now (text .entry))) (now (out .entry)) (now (out .exit)) ⌝ }

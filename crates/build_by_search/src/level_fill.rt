@@ -11,7 +11,7 @@ ghost use Rattle.build_records.specs.Grown.{Grown};
 ghost use Rattle.build_records.specs.State.{settingsOf};
 ghost use Rattle.build_levels.specs.Trees.{Ready, Written};
 
-// Writes the records of a level whose starts stand in place, and answers how many blocks or leaf bytes stand below.
+// Writes the records of a level whose starts have been written. Returns the number of blocks of the next level, or of leaf bytes.
 pub fn fill_level(out: &mut [u8], text: &[u8], counted: &[u8], level: Level) -> u32
     requires { ⌜ Ready (settingsOf (level .settings) (now counted)) (now text) (now out) level ⌝ }
     ensures { λ _. ⌜ Grown (treeOf (settingsOf (level .settings) (now (counted .entry))) (now (text .entry))) (now (out .entry)) (now (out .exit)) ⌝ }

@@ -1,4 +1,4 @@
-// The builder: byte for byte the block tree of its text, written into a lent buffer.
+// The builder that searches the text: writes the block tree of a text into the caller's buffer.
 mod all_levels;
 pub mod level_fill;
 
@@ -12,14 +12,14 @@ ghost use Rattle.build_by_search.specs.BuildAnswer.{builtReply};
 ghost use Rattle.format.specs.Settings.{given};
 ghost use Rattle.build_records.specs.State.{settingsOf};
 
-// The tree's size, or the number of the question that refuses it.
+// The size of the tree, or the refusal.
 pub enum Built {
     Size(u32),
     Refused(u32),
 }
 
-// Writes the block tree of a text into a buffer: questions 1 to 4 in order. Refused by 1, 2 or 3, the buffer is
-// unchanged; by 4 it is all zero. It needs no memory besides the buffer.
+// Writes the block tree of a text into a buffer: questions 1 to 4 in order. If refused with 1, 2 or 3, the buffer is unchanged; with 4 it is all zero. No
+// other memory is used.
 pub fn build(
     text: &[u8],
     leaf: u32,
@@ -43,7 +43,7 @@ pub fn build(
     }
 }
 
-// The same with settings that questions 1 to 3 take.
+// The same, for settings that pass questions 1 to 3.
 fn build_with(text: &[u8], counted: &[u8], s: Settings, out: &mut [u8]) -> Built
     requires { ⌜ Taken (settingsOf s (now counted)) (now text) ⌝ }
     ensures { λ r. ⌜ replied (builtReply r) .number ≡ buildNumber (settingsOf s (now (counted .entry))) (now (text .entry)) (now (out .entry)) ⌝ }

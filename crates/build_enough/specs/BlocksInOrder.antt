@@ -27,7 +27,7 @@ module _ (n b N : ℕ) (start : ℕ → ℕ) (lv : Level n b N start) where
   before zero h = omega arith
   before (suc i) h = omega (arith, before i (omega arith), lv .rising i (suc i) (omega arith) h)
 
-  -- no more bytes than the text has
+  -- The blocks have no more bytes than the text.
   pub bytes-few : sumBelow N (λ i. min b (n - start i)) ≤ n
   unfolding sumBelow
   bytes-few = go N refl

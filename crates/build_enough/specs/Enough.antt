@@ -13,18 +13,19 @@ use Rattle.format.specs.Said.{Said, unless, Reply, figures, refusal, Is}
 use Rattle.build_enough.specs.declared.Room.{Room}
 use Rattle.build_enough.specs.declared.Room.the-variants.{Bytes, Refused}
 
--- the blocks of all levels, where each level covers the text
+-- The number of blocks of all levels if each level covers the whole text.
 unfoldable pub blocksAtMost : ℕ → ℕ → ℕ → ℕ → ℕ
 blocksAtMost n m r H = sumBelow H (λ l. pieces n (m * r ^ (H - 1 - l)))
 
+-- The size: the header, a leaf byte for each byte of the text, and the records.
 abbrev pub enoughFor : ℕ → ℕ → ℕ → ℕ → ℕ → ℕ
 enoughFor n m r H k = headerLength + n + recordLength builtLayout m k * blocksAtMost n m r H
 
--- question 1 of the length, 2 of the sizes, 3 of the number of counted bytes
+-- The refusal: question 1 for the length, 2 for the settings, 3 for the number of counted bytes.
 unfoldable pub enoughRefusal : ℕ → ℕ → ℕ → ℕ → ℕ → ℕ
 enoughRefusal n m r H k = asks ((1, lengthOk n) ∷ (2, sizesOk (given m r H [])) ∷ (3, leb k maxCounted) ∷ [])
 
--- the size, unless a question refuses
+-- The size, or the refusal.
 unfoldable pub enoughSays : ℕ → ℕ → ℕ → ℕ → ℕ → Said
 enoughSays n m r H k = unless (enoughRefusal n m r H k) (record { number = 0; value = enoughFor n m r H k; entered = 0 })
 

@@ -35,7 +35,7 @@ use Rattle.build_enough.specs.BlocksInOrder.{sumBelow-mono, blocks-few, 
 together : (x z R y n : ℕ) → x ≤ z → y ≤ n → headerLength + x * R + y ≤ headerLength + n + R * z
 together x z R y n h k = omega (arith, mul-le-mul-right {m = x} {n = z} R h, mul-comm R z)
 
--- no layout has longer records than the one that is built
+-- No layout has longer records than the one that is built.
 record-least : (v m k : ℕ) → recordLength v m k ≤ recordLength builtLayout m k
 record-least v m k = omega (arith, record-most v m k, record-edged builtLayout m k refl)
 

@@ -1,4 +1,4 @@
-// A size that is enough for every tree of texts of a length, with given settings.
+// A size that is enough for the tree of every text of a length, with given settings.
 use layout::header;
 use layout::settings;
 use layout::settings::Checked;
@@ -11,13 +11,13 @@ ghost use Rattle.format.specs.Settings.{maxText, maxLevels};
 
 const HEADER: u64 = header::HEADER_LENGTH as u64;
 
-// The bytes that are enough, or the number of the question that refuses the length or the settings.
+// The size, or the refusal of the length or the settings.
 pub enum Room {
     Bytes(u64),
     Refused(u32),
 }
 
-// The size that is enough for every text of n bytes.
+// A size that is enough for the tree of every text of n bytes.
 pub fn enough(n: u32, leaf: u32, arity: u32, levels: u32, counted: u32) -> Room
     ensures { λ r. ⌜ EnoughAnswer n leaf arity levels counted r ⌝ }
 {
@@ -41,7 +41,7 @@ pub fn enough(n: u32, leaf: u32, arity: u32, levels: u32, counted: u32) -> Room
     Room::Bytes(HEADER + n as u64 + size * blocks(n, s))
 }
 
-// The blocks of all levels, where each level covers the text.
+// The number of blocks of all levels if each level covers the whole text.
 fn blocks(n: u32, s: Settings) -> u64
     requires { ⌜ Sized s 0 × (1 ≤ s .leaf) × (n ≤ maxText) ⌝ }
     ensures { λ r. ⌜ (r ≡ blocksAtMost n (s .leaf) (s .arity) (s .levels)) × (r ≤ maxLevels * (2 * maxText)) ⌝ }

@@ -1,4 +1,4 @@
--- What stands in a table on the way of making a guide, and what of one was compared.
+-- The contents of a table while a guide is made, and the part of a guide that has been compared.
 use mathlib.Core.List.{List, _++_}
 use mathlib.Core.Bool.{Bool, true, false}
 use mathlib.Core.Path.{_≡_}
@@ -11,12 +11,12 @@ use Rattle.ask_guide.specs.Guides.{guideOf, guideBytes}
 unfoldable pub written : List ℕ → ℕ → List ℕ → List ℕ
 written t e old = wordsBytes (take e (guideOf t)) ++ drop (4 * e) old
 
--- the entries from one number up to another are written
+-- The entries from one number up to another are written.
 pub record Puts (t before after : List ℕ) (from to : ℕ) : Type 0 where
   pub same-length : length after ≡ length before
   pub puts : (old : List ℕ) → length before ≡ length old → before ≡ written t from old → after ≡ written t to old
 
--- the entries from one number up to another were compared with a guide's
+-- The entries from one number up to another were compared with those of a guide.
 pub record Compared (t guide : List ℕ) (from to : ℕ) (r : Bool) : Type 0 where
   pub yes : r ≡ true → (i : ℕ) → from ≤ i → i < to → wordAt guide (4 * i) ≡ getD (guideOf t) i 0
   pub no : r ≡ false → guide ≡ guideBytes t → ⊥

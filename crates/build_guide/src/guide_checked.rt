@@ -1,4 +1,4 @@
-// A guide, compared with that of an accepted tree: each entry with the block that making would write, in the same pass.
+// Compares a guide with that of an accepted tree: each entry with the block that make_guide would write, in the same pass.
 use ask_guide::entry_words;
 use layout::header;
 use layout::header::Header;
@@ -15,7 +15,7 @@ ghost use Rattle.layout.specs.HeaderSays.{HeaderOf};
 ghost use Rattle.ask_guide.specs.Guides.{entriesOf, entriesBefore, guideBytes};
 ghost use Rattle.build_guide.specs.EntriesWritten.{Compared};
 
-// Whether the entries of a counted byte stand in the guide; those before it have so many words.
+// Whether the guide has the entries of a counted byte; `place` is the number of entries of the counted bytes before it.
 fn entries_right(guide: &[u8], t: &[u8], h: Header, number: u32, place: usize, count: u64) -> bool
     requires { ⌜ (HeaderOf (now t) h) × (verdict (now t) ≡ 0) × (number < at.countedCount (now t)) × (place ≡ entriesBefore (now t) number) ⌝ }
     requires { ⌜ (count ≡ entriesOf (now t) number) × (4 * (place + count) ≤ length (now guide)) ⌝ }

@@ -1,5 +1,5 @@
-// The guide of an accepted tree, written: the block of each entry is looked for from that of the one before it on, so that making the entries of
-// a counted byte passes once over level 0.
+// Writes the guide of an accepted tree. The search for the block of an entry starts at the block of the entry before, so the entries of a counted byte take
+// one pass over level 0.
 use ask_guide::Size;
 use ask_guide::entry_words;
 use layout::header;
@@ -18,7 +18,7 @@ ghost use Rattle.ask_guide.specs.Guides.{entriesOf, entriesBefore, guideWords, 
 ghost use Rattle.ask_guide.specs.GuideAnswers.{sizeReply};
 ghost use Rattle.build_guide.specs.EntriesWritten.{Puts};
 
-// Writes the entries of a counted byte; those before it have so many words.
+// Writes the entries of a counted byte; `place` is the number of entries of the counted bytes before it.
 fn put_entries(table: &mut [u8], t: &[u8], h: Header, number: u32, place: usize, count: u64)
     requires { ⌜ (HeaderOf (now t) h) × (verdict (now t) ≡ 0) × (number < at.countedCount (now t)) × (place ≡ entriesBefore (now t) number) ⌝ }
     requires { ⌜ (count ≡ entriesOf (now t) number) × (4 * (place + count) ≤ length (now table)) ⌝ }
@@ -55,7 +55,7 @@ fn put_all(table: &mut [u8], t: &[u8], h: Header)
     }
 }
 
-// Question 25, of an accepted tree, by its header.
+// Question 25, for an accepted tree, given its header.
 fn put_by(t: &[u8], h: Header, table: &mut [u8]) -> Size
     requires { ⌜ (HeaderOf (now t) h) × (verdict (now t) ≡ 0) ⌝ }
     ensures { λ r. ⌜ (replied (sizeReply r) ≡ makeSays (now (t .entry)) (now (table .entry))) × (NeverZero (sizeReply r)) ⌝ }

@@ -1,4 +1,4 @@
--- From level to level: the next level is the tree's, and what was written so far stands.
+-- From level to level: the next level is that of the tree, and what was written before is unchanged.
 use mathlib.Core.List.{List}
 use mathlib.Core.Path.{_≡_, refl, sym, ap, _∙_}
 use mathlib.Core.Logic.{inl, inr}
@@ -44,7 +44,7 @@ pub next-made : (level : Level) (count p : ℕ) (cs : List ℕ) → p ≡ record
     ≡ nextOf level count cs
 next-made level count p cs e = rw e
 
--- what a level's words in the header ask
+-- The preconditions of writing the words of a level in the header.
 pub pair-asks : (S : Settings) (T out : List ℕ) (level : Level) (total : ℕ)
     → Written S T out level total → (headerLength ≤ length out) × (level .number < maxLevels)
 pair-asks S T out level total r =
@@ -147,7 +147,7 @@ module _ (T cs : List ℕ) (level : Level) (out two : List ℕ) (total : ℕ) (r
       header = within-grown D two new 0 (countAt (l + 1)) more header-two;
     }
 
-    -- of the level that the code makes
+    -- For the level that the code makes.
     module _ (n : Level) (n-is : n ≡ next) where
       n-level : LevelIs S T n
       n-level = rw n-is next-is

@@ -1,4 +1,4 @@
--- Level 0: the tree's first level, and what is written before its records.
+-- Level 0: the first level of the tree, and the words written before its records.
 use mathlib.Core.List.{List}
 use mathlib.Core.Path.{_≡_, refl, sym, ap, _∙_, subst}
 use Prim.Native.Nat.{ℕ, _+_, _-_, _*_, _/_, _^_, _≤_, _<_}
@@ -86,7 +86,7 @@ module _ (s : code.Settings) (cs T : List ℕ) (h : Taken (settingsOf s cs) T) w
     table-is = table-zero S₀ T;
   }
 
--- what the first level asks
+-- The preconditions of the first level.
 pub sized-pos : (s : code.Settings) → Sized s 0 → 1 ≤ s .leaf → 0 < s .leaf * s .arity ^ (s .levels - 1 - 0)
 sized-pos s z one = mul-le-mul {n₁ = 1} {m₁ = 1} one (one-le-pow (s .levels - 1 - 0) (s .arity) (omega (arith, z .bounds .arity-low)))
 

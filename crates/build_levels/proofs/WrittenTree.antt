@@ -15,7 +15,7 @@ use Rattle.build_records.specs.Grown.{Grown, Within}
 use Rattle.build_records.proofs.StateLaws.{offset-low}
 use Rattle.build_levels.specs.Trees.{Finished}
 
--- a buffer that holds the whole tree, with what stood after it
+-- A buffer that contains the whole tree, then its old bytes.
 whole : (D out new : List ℕ) → Grown D out new → length D ≤ length out → Within D new 0 (length D) → new ≡ D ++ drop (length D) out
 whole D out new g fits all = ext-getD 0 new (D ++ drop (length D) out) lengths (λ k l. at k (lt-or-ge k (length D)))
   where

@@ -1,4 +1,4 @@
--- What the builder writes of the header.
+-- The words that the builder writes in the header.
 use mathlib.Core.List.{List, _++_}
 use Prim.Native.Nat.{ℕ, zero, suc, _+_, _-_}
 use lib.ListN.{length, replicate}
@@ -6,15 +6,15 @@ use Rattle.format.specs.Words.{setWord}
 use Rattle.format.specs.Settings.{maxCounted}
 use Rattle.format.specs.HeaderPlaces.{countAt, offsetAt}
 
--- the places for counted bytes
+-- The places for counted bytes.
 abbrev pub places : List ℕ → List ℕ
 places cs = cs ++ replicate (maxCounted - length cs) 0
 
--- the two words of level x
+-- The two words of level x.
 abbrev pub pairWritten : List ℕ → ℕ → ℕ → ℕ → List ℕ
 pairWritten t x count table = setWord (setWord t (countAt x) count) (offsetAt x) table
 
--- zeros for n levels from level H on
+-- Zeros for n levels from level H on.
 abbrev pub unusedWritten : List ℕ → ℕ → ℕ → List ℕ
 unusedWritten t H zero = t
 unusedWritten t H (suc n) = pairWritten (unusedWritten t H n) (H + n) 0 0

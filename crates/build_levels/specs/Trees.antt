@@ -1,4 +1,4 @@
--- A tree that is being written, level by level.
+-- A tree while it is written, level by level.
 use mathlib.Core.List.{List}
 use mathlib.Core.Path.{_≡_}
 use mathlib.Core.Logic.{_⊎_}
@@ -18,7 +18,7 @@ use Rattle.build_records.specs.Grown.{Within}
 use Rattle.build_records.specs.RecordPlaces.{recordPlace}
 use Rattle.build_records.specs.State.{settingsOf, LevelIs, Filled}
 
--- level 0 of a text of n bytes
+-- Level 0 of a text of n bytes.
 abbrev pub firstOf : code.Settings → ℕ → Level
 firstOf s n = record {
   settings = s;
@@ -30,7 +30,7 @@ firstOf s n = record {
   table = headerLength;
 }
 
--- the level below one, with its number of blocks
+-- The level below another, with its number of blocks.
 abbrev pub nextOf : Level → ℕ → List ℕ → Level
 nextOf level count cs = record {
   settings = level .settings;
@@ -43,13 +43,13 @@ nextOf level count cs = record {
 }
 
 module _ (S : Settings) (T : List ℕ) where
-  -- everything above a level is written, with the header's words for the levels above it, and its starts are in place
+  -- Everything above a level is written, with the words of the levels above it in the header, and the starts of its blocks.
   pub record Ready (out : List ℕ) (level : Level) : Type 0 where
     pub level-is : LevelIs S T level
     pub filled : Filled S T out (level .number) 0
     pub header : Within (treeOf S T) out 0 (countAt (level .number))
 
-  -- the records of a level are written too, with `total` blocks or leaf bytes below them
+  -- The records of a level are written too, with `total` blocks or leaf bytes below them.
   pub record Written (out : List ℕ) (level : Level) (total : ℕ) : Type 0 where
     pub level-is : LevelIs S T level
     pub room : offset S T (suc (level .number)) ≤ length out
@@ -57,12 +57,12 @@ module _ (S : Settings) (T : List ℕ) where
     pub header : Within (treeOf S T) out 0 (countAt (level .number))
     pub total-is : total ≡ sumBelow (level .count) (widthOf S T (level .number))
 
-  -- a step to the level with this number: it is ready, or the tree does not fit
+  -- A step to the level with this number: it is ready, or the tree does not fit.
   pub record StepIs (out : List ℕ) (s : code.Settings) (number : ℕ) (step : Step) : Type 0 where
     pub to : (next : Level) → step ≡ To next → (next .settings ≡ s) × (next .number ≡ number) × Ready out next
     pub full : step ≡ Full → length out < length (treeOf S T)
 
--- the buffer holds the whole tree, of r bytes; or the tree does not fit, and r is 0
+-- The buffer contains the whole tree, of r bytes; or the tree does not fit, and r is 0.
 abbrev pub Finished : List ℕ → List ℕ → ℕ → Type 0
 Finished D out r =
     ((r ≡ 0) × (length out < length D))

@@ -1,4 +1,4 @@
-// The header.
+// Writes the header.
 use layout::header;
 use layout::settings::Settings;
 use layout::word;
@@ -15,7 +15,7 @@ ghost use Rattle.stretches.specs.Stretches.{bytesWritten};
 ghost use Rattle.build_levels.specs.Head.{places, pairWritten, unusedWritten};
 ghost use Rattle.build_records.specs.State.{settingsOf};
 
-// The byte at one of the places for counted bytes, zero where it is not used.
+// The byte at one of the places for counted bytes; 0 if the place is unused.
 fn counted_byte(counted: &[u8], x: usize) -> u8
     requires { ⌜ (length (now counted) ≤ maxCounted) × (x < maxCounted) ⌝ }
     ensures { λ r. ⌜ r ≡ getD (places (now (counted .entry))) x 0 ⌝ }
@@ -37,7 +37,7 @@ fn put_counted(out: &mut [u8], counted: &[u8])
     }
 }
 
-// The header up to the levels' words.
+// Writes the header up to the words of the levels.
 pub fn put_head(out: &mut [u8], text: &[u8], counted: &[u8], s: Settings)
     requires { ⌜ Taken (settingsOf s (now counted)) (now text) × (headerLength ≤ length (now out)) ⌝ }
     ensures { λ _. ⌜ Grown (treeOf (settingsOf s (now (counted .entry))) (now (text .entry))) (now (out .entry)) (now (out .exit)) ⌝ }
@@ -60,7 +60,7 @@ pub fn put_head(out: &mut [u8], text: &[u8], counted: &[u8], s: Settings)
     put_counted(out, counted);
 }
 
-// A level's block count and offset.
+// Writes the block count and the offset of a level.
 pub fn put_pair(out: &mut [u8], number: u32, count: u32, table: u32)
     requires { ⌜ (headerLength ≤ length (now out)) × (number < maxLevels) ⌝ }
     ensures { λ _. ⌜ now (out .exit) ≡ pairWritten (now (out .entry)) number count table ⌝ }
@@ -77,7 +77,7 @@ pub fn put_pair(out: &mut [u8], number: u32, count: u32, table: u32)
     );
 }
 
-// Zeros for the levels that are not there.
+// Writes zeros for the unused levels.
 fn put_unused(out: &mut [u8], levels: u32)
     requires { ⌜ (headerLength ≤ length (now out)) × (levels ≤ maxLevels) ⌝ }
     ensures { λ _. ⌜ now (out .exit) ≡ unusedWritten (now (out .entry)) levels (maxLevels - levels) ⌝ }
@@ -89,7 +89,7 @@ fn put_unused(out: &mut [u8], levels: u32)
     }
 }
 
-// The header after the levels' words: zeros for the levels that are not there, then the leaf bytes' offset and count.
+// Writes the end of the header: zeros for the unused levels, then the offset and the number of the leaf bytes.
 pub fn put_end(out: &mut [u8], levels: u32, offset: u32, count: u32)
     requires { ⌜ (headerLength ≤ length (now out)) × (levels ≤ maxLevels) ⌝ }
     ensures { λ _. ⌜ now (out .exit)

@@ -1,4 +1,4 @@
-// The leaf bytes: those of the last level's blocks, one block after the other.
+// Writes the leaf bytes: those of the blocks of the last level, one block after the other.
 use build_records::level_written;
 use build_records::level_written::Level;
 use layout::place::BlockNumber;
@@ -12,7 +12,7 @@ ghost use Rattle.build_records.specs.Grown.{Grown, Within};
 ghost use Rattle.build_levels.specs.LeavesWritten.{Leafing};
 ghost use Rattle.build_records.specs.State.{settingsOf};
 
-// Puts the leaf bytes of a block in place, and answers how many they are.
+// Writes the leaf bytes of a block and returns their number.
 fn put_leaf(
     out: &mut [u8],
     text: &[u8],
@@ -37,7 +37,7 @@ fn put_leaf(
     own.length
 }
 
-// Puts all leaf bytes in place.
+// Writes all leaf bytes.
 pub fn put_leaves(out: &mut [u8], text: &[u8], counted: &[u8], level: Level, at: u32)
     requires { ⌜ Leafing (settingsOf (level .settings) (now counted)) (now text) (now out) level at 0 ⌝ }
     ensures { λ _. ⌜ Grown (treeOf (settingsOf (level .settings) (now (counted .entry))) (now (text .entry))) (now (out .entry)) (now (out .exit)) ⌝ }

@@ -47,7 +47,7 @@ fn first_level(text: &[u8], s: Settings) -> Level
     }
 }
 
-// The level below one, of whose blocks the number is known.
+// The level below another, given the number of its blocks.
 fn next_level(counted: &[u8], level: Level, count: u32) -> Level
     requires { ⌜ (length (now counted) ≤ maxCounted) × (level .table ≤ maxTable)
         × (level .count ≤ maxText) × (level .settings .leaf ≤ maxLeaf) × (level .number < maxLevels) × (0 < level .settings .arity) ⌝ }
@@ -66,7 +66,7 @@ fn next_level(counted: &[u8], level: Level, count: u32) -> Level
     }
 }
 
-// Writes the header's first words, and puts the starts of level 0 in place.
+// Writes the first words of the header and the starts of level 0.
 pub fn begin(out: &mut [u8], text: &[u8], counted: &[u8], s: Settings) -> Step
     requires { ⌜ Taken (settingsOf s (now counted)) (now text) ⌝ }
     ensures { λ _. ⌜ Grown (treeOf (settingsOf s (now (counted .entry))) (now (text .entry))) (now (out .entry)) (now (out .exit)) ⌝ }
@@ -88,7 +88,7 @@ pub fn begin(out: &mut [u8], text: &[u8], counted: &[u8], s: Settings) -> Step
     Step::To(first)
 }
 
-// After the records of a level above the last: writes its words in the header, and puts the starts of the next one in place.
+// After the records of a level above the last: writes its words in the header and the starts of the next level.
 pub fn go_down(out: &mut [u8], text: &[u8], counted: &[u8], level: Level, count: u32) -> Step
     requires { ⌜ Written (settingsOf (level .settings) (now counted)) (now text) (now out) level count ⌝ }
     requires { ⌜ level .number + 1 < level .settings .levels ⌝ }
@@ -105,7 +105,7 @@ pub fn go_down(out: &mut [u8], text: &[u8], counted: &[u8], level: Level, count:
     Step::To(next)
 }
 
-// After the records of the last level: writes the rest of the header and the leaf bytes; the tree's size, 0 where it does not fit.
+// After the records of the last level: writes the rest of the header and the leaf bytes. Returns the size of the tree, 0 if it does not fit.
 pub fn finish(out: &mut [u8], text: &[u8], counted: &[u8], level: Level, count: u32) -> u32
     requires { ⌜ Written (settingsOf (level .settings) (now counted)) (now text) (now out) level count ⌝ }
     requires { ⌜ level .number + 1 ≡ level .settings .levels ⌝ }

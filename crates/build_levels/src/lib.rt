@@ -1,4 +1,4 @@
-// From level to level: the header, level 0, the way down and the leaf bytes; everything of a tree but what its records say.
+// Writes a tree level by level: the header, level 0, each next level, the leaf bytes; all but the contents of the records.
 mod header_written;
 mod leaf;
 pub mod level_step;

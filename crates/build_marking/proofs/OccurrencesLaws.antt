@@ -1,4 +1,4 @@
--- What the search answers on the bytes of a block.
+-- The answers of the search for the bytes of a block.
 use mathlib.Core.List.{List}
 use mathlib.Core.Path.{_≡_, sym, ap, _∙_}
 use Prim.Native.Nat.{ℕ, _+_}

@@ -1,4 +1,4 @@
--- The marking rule: what the searches say is what docs/FORMAT.md, "Blocks", asks of pairs.
+-- The marking rule: the results of the searches decide the conditions of docs/FORMAT.md, "Blocks", on pairs.
 use mathlib.Core.List.{List}
 use mathlib.Core.Bool.{Bool, true, false, cond, not, _&&_, _||_}
 use mathlib.Core.Path.{_≡_, refl, sym, ap, _∙_}
@@ -38,7 +38,7 @@ module _ (T : List ℕ) (s len : ℕ) (fits : s + len ≤ length T) (r : Bool) (
       let l : s ≤ leftmost T s len = ltb-false _ _ (sym earlier ∙ y) in
       rw (eq-eqb (leftmost T s len) s (omega (arith, leftmost-le T s len)))
 
--- the same of the bytes of a pair, which end with the text at the latest
+-- The same for the bytes of a pair, which end with the text at the latest.
 module _ (T : List ℕ) (s b len : ℕ) (r : Bool) (low : s ≤ length T) (len-is : len ≡ min (b + b) (length T - s)) (r-is : r ≡ earlierSays T s len) where
   pub again-here : r ≡ true → Again ≡ pairSays T s (min (b + b) (length T - s))
   again-here y = rw len-is at (found-earlier T s len (omega arith) r r-is y)

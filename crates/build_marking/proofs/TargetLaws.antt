@@ -1,4 +1,4 @@
--- A block's record, kept and pointing: what the code finds is what the tree says.
+-- The record of a block, kept or pointing: the values that the code finds are those of the tree.
 use mathlib.Core.List.{List}
 use mathlib.Core.Bool.{true, false}
 use mathlib.Core.Path.{_≡_, refl, ap, _∙_}

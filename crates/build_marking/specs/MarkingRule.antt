@@ -1,4 +1,4 @@
--- The marking rule, as the builder asks it: how each block and the next one stand.
+-- The marking rule as the builder decides it, for each block and the next one.
 use mathlib.Core.List.{List}
 use mathlib.Core.Bool.{Bool, true, false, cond}
 use mathlib.Core.Path.{_≡_}
@@ -14,7 +14,7 @@ use Rattle.build_records.specs.State.{On}
 use Rattle.build_marking.specs.declared.pair.Pair.{Pair}
 use Rattle.build_marking.specs.declared.pair.Pair.the-variants.{Apart, First, Again}
 
--- of the pairs before and after a block: one of them occurs here first, or there is none
+-- Whether a block is kept, by the pairs before and after it: one of them occurs here first, or there is none.
 abbrev pub keptBy : Pair → Pair → Bool
 keptBy First after = true
 keptBy Apart Apart = true
@@ -24,28 +24,28 @@ keptBy Again Apart = false
 keptBy Again First = true
 keptBy Again Again = false
 
--- a pair of len bytes at s
+-- The pair of len bytes at s: whether its bytes occur earlier.
 abbrev pub pairSays : List ℕ → ℕ → ℕ → Pair
 pairSays T s len = cond (eqb (leftmost T s len) s) First Again
 
--- by the tests of docs/FORMAT.md, "Blocks"
+-- The pair by the tests of docs/FORMAT.md, "Blocks".
 abbrev pub pairBy : Bool → Bool → Pair
 pairBy first pair = cond first First (cond pair Again Apart)
 
 module _ (S : Settings) (T : List ℕ) (l : ℕ) where
-  -- block i and the next; none is looked for on the last level
+  -- The pair of block i and the next one; on the last level no pair is looked for.
   unfoldable pub pairOf : ℕ → Pair
   pairOf i =
       cond (eqb (suc l) (S .levels)) Apart
       (pairBy (firstPairAt T (blockLength S l) (startsAt S T l) i) (pairAt T (blockLength S l) (startsAt S T l) i))
 
-  -- block i and the one before it
+  -- The pair of block i and the one before it.
   unfoldable pub pairBefore : ℕ → Pair
   pairBefore zero = Apart
   pairBefore (suc i) = pairOf i
 
 module _ (S : Settings) (T : List ℕ) where
-  -- block i of a level is next in turn, with its kind and its link known
+  -- Block i of a level is next in turn; its kind and its link are known.
   pub record Next (out : List ℕ) (level : Level) (i : ℕ) (kept : Bool) (link : ℕ) : Type 0 where
     pub on : On S T out level i
     pub kept-is : kept ≡ keptAt S T (level .number) i

@@ -1,4 +1,4 @@
--- What the search for the block that holds a place asks, and what it finds, over the starts that the records hold.
+-- The precondition and the result of the search for the block that contains a place, over the starts in the records.
 use mathlib.Core.List.{List}
 use mathlib.Core.Bool.{cond}
 use Prim.Native.Nat.{ℕ, _+_, _*_, _/_, _≤_, _<_}
@@ -9,16 +9,16 @@ use Rattle.format.specs.Settings.{Settings, maxText, maxLeaf, maxCounted}
 use Rattle.format.specs.Words.{wordAt}
 use Rattle.build_records.specs.RecordPlaces.{recordPlace}
 
--- the start of the parent of a block that starts at s, on a level whose blocks above have `above` bytes
+-- The start of the parent of a block that starts at s, if the blocks of the level above have `above` bytes.
 abbrev pub parentSays : ℕ → ℕ → ℕ → ℕ
 parentSays number above s = cond (eqb number 0) 0 (s / above * above)
 
 module _ (out : List ℕ) (table count : ℕ) (S : Settings) where
-  -- the start that the record of block i holds
+  -- The start in the record of block i.
   abbrev pub startIn : ℕ → ℕ
   startIn i = wordAt out (recordPlace table i S)
 
-  -- the records of the level are there, and their starts rise
+  -- The records of the level are in the buffer, and their starts ascend.
   pub record Sorted : Type 0 where
     pub counted-few : length (S .counted) ≤ maxCounted
     pub table-few : table ≤ maxTable
@@ -27,7 +27,7 @@ module _ (out : List ℕ) (table count : ℕ) (S : Settings) where
     pub fits : (i : ℕ) → i < count → recordPlace table i S + 4 ≤ length out
     pub rises : (i j : ℕ) → i < j → j < count → startIn i < startIn j
 
-  -- block `low` starts at p or before it, block `high` and those after it start after p
+  -- Block `low` starts at or before p; block `high` and those after it start after p.
   pub record Between (p low high : ℕ) : Type 0 where
     pub some-left : low < high
     pub within : high ≤ count

@@ -1,4 +1,4 @@
-// Marking: which blocks of a level are kept, and where the others point.
+// Marking: decides which blocks of a level are kept, and where the others point.
 mod occurrences;
 pub mod pair;
 pub mod target;
@@ -10,14 +10,14 @@ use layout::place::Link;
 ghost use Rattle.build_records.specs.State.{settingsOf, BlockIs};
 ghost use Rattle.build_marking.specs.MarkingRule.{Next};
 
-// A block as it is marked: its number, whether it is kept, and the link that its record then has.
+// A marked block: its number, whether it is kept, and the link that a kept block gets.
 pub struct Marked {
     pub number: BlockNumber,
     pub kept: bool,
     pub link: Link,
 }
 
-// What the record of a block is to say.
+// The values of the record of a block.
 pub fn block_at(text: &[u8], counted: &[u8], out: &[u8], level: Level, b: Marked) -> Block
     requires { ⌜ Next (settingsOf (level .settings) (now counted)) (now text) (now out) level (b .number .0) (b .kept) (b .link .0) ⌝ }
     ensures { λ r. ⌜ BlockIs (settingsOf (level .settings) (now (counted .entry))) (now (text .entry)) (level .number) (b .number .0) r ⌝ }

@@ -1,4 +1,4 @@
-// Occurrences in the text, by the contract of the search alone.
+// Occurrences in the text; only the contract of the search is used.
 use build_records::level_written;
 use build_records::level_written::Level;
 use layout::place::BlockNumber;
@@ -10,7 +10,7 @@ ghost use Rattle.theory_built.specs.BuiltTargets.{placeOf};
 ghost use Rattle.build_records.specs.State.{settingsOf, On};
 ghost use Rattle.search.specs.Occurrences.{earlierSays};
 
-// Any base and modulus give the same tree: this function promises nothing, so that what is proved of marking is proved for all of them.
+// Any base and modulus give the same tree. This function promises nothing, so the proofs about marking hold for all of them.
 fn fingerprint() -> Fingerprint {
     Fingerprint::new(257, 2147483647)
 }

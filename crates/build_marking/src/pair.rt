@@ -11,14 +11,14 @@ ghost use Rattle.build_records.specs.State.{settingsOf, On};
 ghost use Rattle.build_marking.specs.MarkingRule.{keptBy, pairSays, pairOf};
 ghost use Rattle.format.specs.Settings.{maxText};
 
-// A block and the next: no pair; a pair whose bytes occur here first; a pair whose bytes occur earlier.
+// A block and the next one: no pair; a pair whose bytes occur first here; a pair whose bytes occur earlier.
 pub enum Pair {
     Apart,
     First,
     Again,
 }
 
-// A block is kept if it is in a pair that occurs here first, or in no pair.
+// A block is kept if it is in a pair that occurs first here, or in no pair.
 pub fn keeps(before: Pair, after: Pair) -> bool
     ensures { λ r. ⌜ r ≡ keptBy before after ⌝ }
 {
@@ -49,7 +49,7 @@ fn pair_at(text: &[u8], start: TextPlace, size: u32) -> Pair
     Pair::First
 }
 
-// How a block and the next one stand. On the last level, where all blocks are kept, no pair is looked for.
+// Whether a block and the next one are a pair, and where its bytes first occur. On the last level, where all blocks are kept, no pair is looked for.
 pub fn pair_after(text: &[u8], counted: &[u8], out: &[u8], level: Level, i: BlockNumber) -> Pair
     requires { ⌜ On (settingsOf (level .settings) (now counted)) (now text) (now out) level (i .0) ⌝ }
     ensures { λ r. ⌜ r ≡ pairOf (settingsOf (level .settings) (now (counted .entry))) (now (text .entry)) (level .number) (i .0) ⌝ }

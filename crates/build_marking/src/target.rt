@@ -15,13 +15,13 @@ ghost use Rattle.theory_built.specs.BuiltTargets.{placeOf};
 ghost use Rattle.build_records.specs.State.{settingsOf, On, BlockIs};
 ghost use Rattle.build_marking.specs.TargetSearch.{parentSays, Sorted, Between};
 
-// Blocks from `low` to just before `high`.
+// The blocks from `low` up to `high`, excluded.
 pub struct Range {
     pub low: BlockNumber,
     pub high: BlockNumber,
 }
 
-// The start of a block's parent; the text's start on level 0.
+// The start of the parent of a block; 0 on level 0.
 fn parent(level: Level, start: TextPlace) -> TextPlace
     requires { ⌜ 0 < level .above ⌝ }
     ensures { λ r. ⌜ r .0 ≡ parentSays (level .number) (level .above) (start .0) ⌝ }
@@ -32,7 +32,7 @@ fn parent(level: Level, start: TextPlace) -> TextPlace
     TextPlace(start.0 / level.above * level.above)
 }
 
-// One step of the search for the last block that starts at a place or before it.
+// One step of the binary search for the last block that starts at or before a place.
 fn narrow(counted: &[u8], out: &[u8], level: Level, place: TextPlace, range: Range) -> Range
     requires { ⌜ Sorted (now out) (level .table) (level .count) (settingsOf (level .settings) (now counted)) ⌝ }
     requires { ⌜ Between (now out) (level .table) (level .count) (settingsOf (level .settings) (now counted)) (place .0) (range .low .0) (range .high .0) ⌝ }
@@ -51,7 +51,7 @@ fn narrow(counted: &[u8], out: &[u8], level: Level, place: TextPlace, range: Ran
     Range { low: middle, high }
 }
 
-// The last block that starts at a place or before it.
+// The last block that starts at or before a place.
 fn holder(counted: &[u8], out: &[u8], level: Level, place: TextPlace) -> BlockNumber
     requires { ⌜ Sorted (now out) (level .table) (level .count) (settingsOf (level .settings) (now counted)) ⌝ }
     requires { ⌜ Between (now out) (level .table) (level .count) (settingsOf (level .settings) (now counted)) (place .0) 0 (level .count) ⌝ }
@@ -68,7 +68,7 @@ fn holder(counted: &[u8], out: &[u8], level: Level, place: TextPlace) -> BlockNu
     range.low
 }
 
-// A block that is kept, with its link.
+// The record of a kept block, with its link.
 pub fn kept_block(
     text: &[u8],
     counted: &[u8],
@@ -95,7 +95,7 @@ pub fn kept_block(
     }
 }
 
-// A block that points to the one that holds the place where its bytes first occur.
+// The record of a pointing block: it points to the block that contains the first occurrence of its bytes.
 pub fn pointing_block(
     text: &[u8],
     counted: &[u8],

@@ -1,4 +1,4 @@
--- Laws of buffers that grow into a tree, and of the words that stand in them.
+-- Laws of buffers that are filled with the bytes of a tree, and of the words in them.
 use mathlib.Core.List.{List, _++_}
 use mathlib.Core.Path.{_≡_, refl, sym, ap, _∙_}
 use mathlib.Core.Logic.{_⊎_, inl, inr}

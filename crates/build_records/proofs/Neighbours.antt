@@ -13,7 +13,7 @@ use Rattle.theory_built.specs.Structure.{size, count, start, bytesIn, widthOf, 
 use Rattle.theory_built.specs.Parents.{parent, parent-start}
 use Rattle.theory_built.specs.BuiltRecords.{parentOf, beforeOf, insideOf}
 
--- block j stands on the left of block i, in the same parent
+-- Block j is to the left of block i, in the same parent.
 pub record LeftOf (S : Settings) (T : List ℕ) (l i j : ℕ) : Type 0 where
   pub next : i ≡ suc j
   pub touch : start S T l i ≡ start S T l j + size S T l
@@ -77,7 +77,7 @@ module _ (S : Settings) (T : List ℕ) (h : Taken S T) where
       (count-add c T up (start S T l j - up) (bytesIn S T l j)
       ∙ ap (λ (x : ℕ). countIn c (stretch T up (start S T l j - up)) + countIn c (stretch T x (bytesIn S T l j))) at)
 
-  -- none stands before a block that starts with its parent
+  -- No block is to the left of one that starts with its parent.
   pub before-first : (l i c : ℕ) → start S T l i ≡ parentOf S T l (start S T l i) → beforeOf S T l i c ≡ 0
   unfolding beforeOf stretch countIn
   before-first l i c e =

@@ -168,7 +168,7 @@ module _ (S : Settings) (T out : List ℕ) (level : Level) (i : ℕ) (block : Bl
           rw new-right (three-within D out (P + plainBytes + countedBytes * c) (beforeOf S T l i x) (insideOf S T l i x) (skipOf S T l i x) count-fits in-tree
           (before-stands S T taken l i l-in i-in c cl) (inside-stands S T taken l i l-in i-in c cl) (skip-stands S T taken l i l-in i-in c cl))
 
-  -- all counts stand where those of as many bytes as are counted do
+  -- All counts are written if those of all counted bytes are.
   pub counted-all : (new : List ℕ) (c : ℕ)
       → c ≤ length (S .counted) → length (S .counted) ≤ c → Within D new (P + plainBytes) (P + plainBytes + countedBytes * c)
       → Within D new (P + plainBytes) (P + plainBytes + countedBytes * length (S .counted))

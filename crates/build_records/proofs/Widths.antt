@@ -1,4 +1,4 @@
--- What a block has one level below, by the kind that its record says.
+-- The number of children or leaf bytes of a block, by the kind in its record.
 use mathlib.Core.List.{List}
 use mathlib.Core.Bool.{true, false}
 use mathlib.Core.Path.{_≡_, sym, _∙_}
@@ -38,7 +38,7 @@ module _ (S : Settings) (T : List ℕ) (l i kind : ℕ) (kind-is : kind ≡ kind
       go (inl y) = absurd (n (kind-is ∙ kind-kept y))
       go (inr y) = y
 
--- a pointing block stands above the last level
+-- A pointing block is above the last level.
 pub points-above : (S : Settings) (T : List ℕ) (l i : ℕ) → l < S .levels → keptAt S T l i ≡ false → suc l < S .levels
 points-above S T l i l-in points = go (lt-or-ge (suc l) (S .levels))
   where

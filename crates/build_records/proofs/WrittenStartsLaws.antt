@@ -1,4 +1,4 @@
--- Starts written one after the other grow into the tree that has them.
+-- Writing starts one after the other fills a buffer with the bytes of a tree that has them.
 use mathlib.Core.List.{List}
 use mathlib.Core.Path.{_≡_, _∙_}
 use mathlib.Core.Logic.{_⊎_, inl, inr}

@@ -1,8 +1,8 @@
--- Places of records.
+-- The offsets of records.
 use Prim.Native.Nat.{ℕ, _+_, _*_}
 use Rattle.format.specs.Settings.{Settings}
 use Rattle.format.specs.Blocks.{recordBytes}
 
--- where the record of block i stands: level records begin at `table`
+-- The offset of the record of block i; the records of the level begin at `table`.
 abbrev pub recordPlace : ℕ → ℕ → Settings → ℕ
 recordPlace table i S = table + i * recordBytes S

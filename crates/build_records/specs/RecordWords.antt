@@ -1,4 +1,4 @@
--- What the builder writes of a record.
+-- The words and edges that the builder writes for a record.
 use mathlib.Core.List.{List, []}
 use mathlib.Core.Bool.{cond}
 use Prim.Native.Nat.{ℕ, _+_, _-_}
@@ -6,10 +6,10 @@ use lib.Dec.{eqb}
 use Rattle.format.specs.Words.{wordAt}
 use Rattle.stretches.specs.Stretches.{bytesWritten}
 
--- an edge of m bytes at a place: so many bytes of T, then zeros
+-- An edge of m bytes at a place: some bytes of T, then zeros.
 abbrev pub edgeWritten : List ℕ → ℕ → List ℕ → ℕ → ℕ → ℕ → List ℕ
 edgeWritten t at T from own m = bytesWritten (bytesWritten t at T from own) (at + own) [] 0 (m - own)
 
--- the count before a block: none at its parent's start, else the sum of the two words at `left`
+-- The count before a block: 0 at the start of its parent, else the sum of the two words at `left`.
 abbrev pub beforeSays : List ℕ → ℕ → ℕ → ℕ → ℕ
 beforeSays t left s parent = cond (eqb s parent) 0 (wordAt t left + wordAt t (left + 4))

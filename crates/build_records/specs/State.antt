@@ -1,4 +1,4 @@
--- What is known while a level of the tree of T is written.
+-- The invariants while a level of the tree of T is written.
 use mathlib.Core.List.{List}
 use mathlib.Core.Path.{_≡_}
 use Prim.Native.Nat.{ℕ, suc, _+_, _*_, _≤_, _<_}
@@ -18,12 +18,12 @@ use Rattle.build_records.specs.declared.level_written.Stretch.{Stretch}
 use Rattle.build_records.specs.declared.record_written.Block.{Block}
 use Rattle.build_records.specs.Grown.{Within}
 
--- the settings that the code holds, with the counted bytes that it was lent
+-- The settings in the code, with the caller's counted bytes.
 abbrev pub settingsOf : code.Settings → List ℕ → Settings
 settingsOf s cs = record { leaf = s .leaf; arity = s .arity; levels = s .levels; counted = cs }
 
 module _ (S : Settings) (T : List ℕ) where
-  -- the code's level is that of the tree
+  -- The level in the code is that of the tree.
   pub record LevelIs (level : Level) : Type 0 where
     pub taken : Taken S T
     pub number-in : level .number < S .levels
@@ -35,23 +35,23 @@ module _ (S : Settings) (T : List ℕ) where
     pub count-is : level .count ≡ count S T (level .number)
     pub table-is : level .table ≡ offset S T (level .number)
 
-  -- where the record of block i of level l stands
+  -- The offset of the record of block i of level l.
   abbrev pub placeAt : ℕ → ℕ → ℕ
   placeAt l i = offset S T l + i * recordBytes S
 
-  -- the buffer has room for the records of level l, with their starts in place, and everything before the record of block i is written
+  -- The buffer has room for the records of level l and contains their starts, and everything before the record of block i is written.
   pub record Filled (out : List ℕ) (l i : ℕ) : Type 0 where
     pub room : offset S T (suc l) ≤ length out
     pub body : Within (treeOf S T) out headerLength (placeAt l i)
     pub starts : (x : ℕ) → x < count S T l → Within (treeOf S T) out (placeAt l x) (placeAt l x + 4)
 
-  -- the bytes of block i of level l, as the code reads them
+  -- The bytes of block i of level l, as the code reads them.
   pub record StretchIs (l i : ℕ) (r : Stretch) : Type 0 where
     pub start-is : r .start .0 ≡ start S T l i
     pub length-is : r .length ≡ bytesIn S T l i
     pub fits : r .start .0 + r .length ≤ length T
 
-  -- what the code knows of block i of level l, whose record it is about to write
+  -- The values of block i of level l whose record is written next.
   pub record BlockIs (l i : ℕ) (block : Block) : Type 0 where
     pub start-is : block .start .0 ≡ start S T l i
     pub length-is : block .length ≡ bytesIn S T l i
@@ -62,24 +62,24 @@ module _ (S : Settings) (T : List ℕ) where
     pub skip-is : (c : ℕ) → countIn c (stretch T (block .from .0) (block .gap .0)) ≡ skipOf S T l i c
     pub skip-in : block .from .0 + block .gap .0 ≤ length T
 
-  -- the record of block i of a level is about to be written
+  -- The record of block i of a level is written next.
   pub record Writing (out : List ℕ) (level : Level) (i : ℕ) (block : Block) : Type 0 where
     pub level-is : LevelIs level
     pub filled : Filled out (level .number) i
     pub block-in : i < level .count
     pub block-is : BlockIs (level .number) i block
 
-  -- block i of a level is next in turn
+  -- Block i of a level is next in turn.
   pub record On (out : List ℕ) (level : Level) (i : ℕ) : Type 0 where
     pub level-is : LevelIs level
     pub filled : Filled out (level .number) i
     pub block-in : i < level .count
 
-  -- the starts of blocks a to b of level l stand in the buffer
+  -- The buffer has the starts of blocks a to b of level l.
   pub record Started (out : List ℕ) (l a b : ℕ) : Type 0 where
     pub starts : (x : ℕ) → a ≤ x → x < b → Within (treeOf S T) out (placeAt l x) (placeAt l x + 4)
 
-  -- the records of a level are written, there is room for those of the next, and the starts of the blocks below the first i are in place
+  -- The records of a level are written, there is room for those of the next, and the starts of the children of the first i blocks are written.
   pub record Below (out : List ℕ) (level next : Level) (i : ℕ) : Type 0 where
     pub level-is : LevelIs level
     pub next-is : LevelIs next

@@ -1,4 +1,4 @@
-// The starts of a level's blocks, put in place from the kept blocks above.
+// Writes the starts of the blocks of a level, from the kept blocks of the level above.
 use crate::level_written;
 use crate::level_written::Level;
 use layout::place::BlockNumber;
@@ -15,7 +15,7 @@ ghost use Rattle.build_records.specs.Grown.{Grown};
 ghost use Rattle.build_records.specs.WrittenStarts.{startsWritten, StartsAsk};
 ghost use Rattle.build_records.specs.State.{settingsOf, Below, Started, Filled};
 
-// Writes the starts of n blocks of a size, one in each record from a place on.
+// Writes the starts of n blocks of `size` bytes, one in each record from a place on.
 pub fn put_starts(out: &mut [u8], at: usize, step: usize, start: TextPlace, size: u32, n: u32)
     requires { ⌜ StartsAsk (now out) at step (start .0) size n ⌝ }
     ensures { λ _. ⌜ now (out .exit) ≡ startsWritten (now (out .entry)) at step (start .0) size n ⌝ }
@@ -27,7 +27,7 @@ pub fn put_starts(out: &mut [u8], at: usize, step: usize, start: TextPlace, size
     }
 }
 
-// Puts the starts of the children of a block in place.
+// Writes the starts of the children of a block.
 fn put_children_of(
     out: &mut [u8],
     text: &[u8],
@@ -58,7 +58,7 @@ fn put_children_of(
     );
 }
 
-// Puts the starts of all children of a level's blocks in place.
+// Writes the starts of all children of the blocks of a level.
 pub fn put_children(out: &mut [u8], text: &[u8], counted: &[u8], level: Level, next: Level)
     requires { ⌜ Below (settingsOf (level .settings) (now counted)) (now text) (now out) level next 0 ⌝ }
     ensures { λ _. ⌜ Grown (treeOf (settingsOf (level .settings) (now (counted .entry))) (now (text .entry))) (now (out .entry)) (now (out .exit)) ⌝ }

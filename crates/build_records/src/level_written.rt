@@ -1,4 +1,4 @@
-// A level of the tree that is being written.
+// A level of the tree while it is written.
 use layout::cut;
 use layout::place::BlockNumber;
 use layout::place::TextPlace;
@@ -19,24 +19,24 @@ ghost use Rattle.build_records.specs.State.{settingsOf, On, StretchIs};
 
 pub struct Level {
     pub settings: Settings,
-    // its number, from 0
+    // The number of the level, from 0.
     pub number: u32,
-    // the block lengths of the level above, of this one and of the one below
+    // The block lengths of the level above, of this level and of the level below.
     pub above: u32,
     pub size: u32,
     pub below: u32,
-    // how many blocks it has, and where their records begin
+    // The number of its blocks, and the offset of their records.
     pub count: u32,
     pub table: u32,
 }
 
-// The bytes of a block: where they start, and how many they are.
+// The bytes of a block: their place and their number.
 pub struct Stretch {
     pub start: TextPlace,
     pub length: u32,
 }
 
-// The bytes of a record: its words, and two edges.
+// The number of bytes of a record: its words and two edges.
 pub fn record_size(counted: &[u8], s: Settings) -> usize
     requires { ⌜ (length (now counted) ≤ maxCounted) × (s .leaf ≤ maxLeaf) ⌝ }
     ensures { λ r. ⌜ (r ≡ recordBytes (settingsOf s (now (counted .entry)))) × (plainBytes ≤ r) × (r ≤ maxRecord) ⌝ }
@@ -45,7 +45,7 @@ pub fn record_size(counted: &[u8], s: Settings) -> usize
     record::PLAIN_BYTES + record::COUNTED_BYTES * counted.len() + (edge + edge)
 }
 
-// Where the record of a block stands.
+// The offset of the record of a block.
 pub fn place(counted: &[u8], level: Level, block: BlockNumber) -> usize
     requires { ⌜ (length (now counted) ≤ maxCounted) × (level .table ≤ maxTable) × (block .0 ≤ maxText) × (level .settings .leaf ≤ maxLeaf) ⌝ }
     ensures { λ r. ⌜ (r ≡ recordPlace (level .table) (block .0) (settingsOf (level .settings) (now (counted .entry))))
@@ -54,7 +54,7 @@ pub fn place(counted: &[u8], level: Level, block: BlockNumber) -> usize
     level.table as usize + block.0 as usize * record_size(counted, level.settings)
 }
 
-// Where a block starts, read from its record.
+// The start of a block, read from its record.
 pub fn start(counted: &[u8], out: &[u8], level: Level, block: BlockNumber) -> TextPlace
     requires { ⌜ (length (now counted) ≤ maxCounted) × (level .table ≤ maxTable) × (block .0 ≤ maxText) × (level .settings .leaf ≤ maxLeaf)
         × (recordPlace (level .table) (block .0) (settingsOf (level .settings) (now counted)) + 4 ≤ length (now out)) ⌝ }
@@ -63,7 +63,7 @@ pub fn start(counted: &[u8], out: &[u8], level: Level, block: BlockNumber) -> Te
     TextPlace(word::read(out, place(counted, level, block)))
 }
 
-// The bytes of a block of a level whose starts stand in place.
+// The bytes of a block of a level whose starts have been written.
 pub fn stretch_of(text: &[u8], counted: &[u8], out: &[u8], level: Level, i: BlockNumber) -> Stretch
     requires { ⌜ On (settingsOf (level .settings) (now counted)) (now text) (now out) level (i .0) ⌝ }
     ensures { λ r. ⌜ StretchIs (settingsOf (level .settings) (now (counted .entry))) (now (text .entry)) (level .number) (i .0) r ⌝ }

@@ -1,4 +1,4 @@
-// What is written of a level: the starts of its blocks and their records, given what each block is.
+// Writes a level: the starts of its blocks, and their records once the marking of each block is known.
 pub mod below;
 pub mod level_written;
 pub mod record_written;

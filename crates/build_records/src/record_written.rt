@@ -1,4 +1,4 @@
-// A block's record, written.
+// Writes the record of a block.
 use crate::level_written;
 use crate::level_written::Level;
 use layout::place::BlockNumber;
@@ -23,20 +23,20 @@ ghost use Rattle.build_records.specs.Grown.{Grown, Within};
 ghost use Rattle.build_records.specs.State.{settingsOf, Writing, placeAt};
 ghost use Rattle.build_records.specs.RecordWords.{beforeSays, edgeWritten};
 
-// What a record says, and where the bytes stand that it counts.
+// The values of a record, and where the bytes are that it counts.
 pub struct Block {
     pub start: TextPlace,
     pub length: u32,
-    // its parent's start
+    // The start of its parent.
     pub parent: TextPlace,
     pub kind: u32,
     pub link: Link,
-    // the start of the block pointed to
+    // The start of the linked block.
     pub from: TextPlace,
     pub gap: BlockPlace,
 }
 
-// The counts of one byte: before the block in its parent, inside it, and in the gap of the block pointed to.
+// Writes the counts of one byte: before the block in its parent, inside it, and in the gap of the linked block.
 fn put_count(out: &mut [u8], text: &[u8], byte: u8, at: usize, block: Block, before: u32)
     requires { ⌜ (at + countedBytes ≤ length (now out)) × (length (now text) ≤ maxText)
         × (block .start .0 + block .length ≤ length (now text)) × (block .from .0 + block .gap .0 ≤ length (now text)) ⌝ }
@@ -49,8 +49,8 @@ fn put_count(out: &mut [u8], text: &[u8], byte: u8, at: usize, block: Block, bef
     word::put_three(out, at, before, inside, skip);
 }
 
-// The count before a block, at a place of its record: none at its parent's start, else what the block on the left, one record
-// before, has before it and inside.
+// The count before a block, where its record is at `at`: 0 at the start of its parent, else the counts before and inside of the block to the left, one record
+// earlier.
 fn count_before(out: &[u8], at: usize, size: usize, block: Block) -> u32
     requires { ⌜ ((block .start .0 ≡ block .parent .0 → ⊥) → (size ≤ at) × (at - size + 8 ≤ length (now out))
         × (wordAt (now out) (at - size) + wordAt (now out) (at - size + 4) < 4294967296)) ⌝ }
@@ -63,13 +63,13 @@ fn count_before(out: &[u8], at: usize, size: usize, block: Block) -> u32
     word::read(out, left) + word::read(out, left + 4)
 }
 
-// A place for counts in a record: the block's number, and that of the counted byte.
+// The numbers of a block and of a counted byte, which select three words of a record.
 struct Slot {
     block: BlockNumber,
     byte: usize,
 }
 
-// The counts of a block, of one counted byte.
+// Writes the counts of a block for one counted byte.
 fn put_count_of(out: &mut [u8], text: &[u8], counted: &[u8], level: Level, block: Block, of: Slot)
     requires { ⌜ Writing (settingsOf (level .settings) (now counted)) (now text) (now out) level (of .block .0) block × (of .byte < length (now counted)) ⌝ }
     ensures { λ _. ⌜ Grown (treeOf (settingsOf (level .settings) (now (counted .entry))) (now (text .entry))) (now (out .entry)) (now (out .exit)) ⌝ }
@@ -89,7 +89,7 @@ fn put_count_of(out: &mut [u8], text: &[u8], counted: &[u8], level: Level, block
     put_count(out, text, counted[c], at, block, b);
 }
 
-// The counts of a block, for each counted byte.
+// Writes the counts of a block for each counted byte.
 fn put_counts(
     out: &mut [u8],
     text: &[u8],
@@ -113,7 +113,7 @@ fn put_counts(
     }
 }
 
-// An edge of m bytes: `own` bytes of the text, then zeros.
+// Writes an edge of m bytes: `own` bytes of the text, then zeros.
 fn put_edge(out: &mut [u8], text: &[u8], at: usize, from: TextPlace, own: usize, m: usize)
     requires { ⌜ (at + m ≤ length (now out)) × (from .0 + own ≤ length (now text)) × (own ≤ m) ⌝ }
     ensures { λ _. ⌜ now (out .exit) ≡ edgeWritten (now (out .entry)) at (now (text .entry)) (from .0) own m ⌝ }
@@ -122,7 +122,7 @@ fn put_edge(out: &mut [u8], text: &[u8], at: usize, from: TextPlace, own: usize,
     stretches::clear_at(out, at + own, m - own);
 }
 
-// The edges of a block, after its counts: its first m bytes, and its last m bytes.
+// Writes the edges of a block after its counts: its first m bytes and its last m bytes.
 fn put_edges(
     out: &mut [u8],
     text: &[u8],
@@ -149,7 +149,7 @@ fn put_edges(
     put_edge(out, text, at + m, last, own, m);
 }
 
-// The record of a block.
+// Writes the record of a block.
 fn put_record(
     out: &mut [u8],
     text: &[u8],
@@ -175,7 +175,7 @@ fn put_record(
     put_edges(out, text, counted, level, i, block);
 }
 
-// Writes the record of a block, and answers what the block has one level below: leaf bytes on the last level, else children; nothing where it points.
+// Writes the record of a block and returns the number of its children, or of its leaf bytes on the last level; 0 if it points.
 pub fn put_block(
     out: &mut [u8],
     text: &[u8],

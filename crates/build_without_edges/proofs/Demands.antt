@@ -105,13 +105,13 @@ module _ (κs : Lfts 2) (t out after : Lent) (r : WithoutEdgesAnswer) (a : Witho
         is ∙ rw (written-tree pass room .1, same-size)
         (take-at (withoutEdges (now t)) (drop (length (withoutEdges (now t))) (now out)) (length (withoutEdges (now t))) refl)
 
-    -- It passes questions 5 to 7, its layout is 1, and all other fields are the tree's.
+    -- The written tree passes questions 5 to 7, its layout is 1, and all other fields are those of the tree.
     pub written-readable : (readable (now u) ≡ 0) × (at.layout (now u) ≡ 1) × (Agree (now t) (now u))
     written-readable =
         let b = a .1 .1 .1 in
         rw lent-on (layout1.layout1-readable (now t) b pass, layout1.layout1-layout (now t) b pass, layout1.layout1-agrees (now t) b pass)
 
-    -- It has the tree's text, `byte` returns the same, and the check returns what it returns for the tree if edges are ignored.
+    -- The written tree has the tree's text, `byte` returns the same, and the check returns what it returns for the tree if edges are ignored.
     pub written-text : textOf (now u) ≡ textOf (now t)
     written-text = rw lent-on (layout1.layout1-text (now t) (a .1 .1 .1) pass)
 
@@ -121,7 +121,7 @@ module _ (κs : Lfts 2) (t out after : Lent) (r : WithoutEdgesAnswer) (a : Witho
     pub written-verdict : verdict (now u) ≡ ask 8 (linksOk (now t)) (ask 9 (countsTrue (textOf (now t)) (now t)) 0)
     written-verdict = rw lent-on (layout1.layout1-verdict (now t) (a .1 .1 .1) pass)
 
-    -- It is never larger than the tree, and equal to a tree of layout 1.
+    -- The written tree is never larger than the tree, and equal to a tree of layout 1.
     pub written-shorter : length (now u) ≤ length (now t)
     written-shorter = rw lent-on (layout1.layout1-shorter (now t) pass)
 

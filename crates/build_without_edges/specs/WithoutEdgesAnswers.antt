@@ -12,12 +12,15 @@ use Rattle.build_without_edges.specs.declared.WithoutEdgesAnswer.{Withou
 use Rattle.build_without_edges.specs.declared.WithoutEdgesAnswer.the-variants.{Size, Refused}
 
 module _ (t out : List ℕ) where
+  -- The refusal: questions 5 to 7, then 13.
   unfoldable pub withoutEdgesRefusal : ℕ
   withoutEdgesRefusal = orNext (readable t) (asks ((13, leb (length (withoutEdges t)) (length out)) ∷ []))
 
+  -- The size of the written tree; 0 if refused.
   unfoldable pub withoutEdgesSize : ℕ
   withoutEdgesSize = cond (eqb withoutEdgesRefusal 0) (length (withoutEdges t)) 0
 
+  -- The buffer afterwards: the tree in layout 1 at its start; unchanged if refused.
   unfoldable pub withoutEdgesBuffer : List ℕ
   withoutEdgesBuffer = cond (eqb withoutEdgesRefusal 0) (withoutEdges t ++ drop (length (withoutEdges t)) out) out
 

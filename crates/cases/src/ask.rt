@@ -1,4 +1,4 @@
-// What a line asks, put to the library.
+// Calls the library with the question of a line.
 use crate::beside;
 use crate::guide_cases;
 use crate::licence_cases;
@@ -12,7 +12,7 @@ use cases_tokens::hexadecimal::Fault;
 use cases_tokens::hexadecimal::Made;
 ghost use Prim.Native.Nat.{_≤_};
 
-// Room for the table that a scan is lent.
+// Room for the table of a scan.
 const TABLE: usize = 512;
 
 // Answers a line; the script has the lines before it.
@@ -117,7 +117,7 @@ fn of_tree(script: &[u8], line: &[u8], question: Question, bytes: &mut [u8], len
     }
 }
 
-// Puts a question to a tree; the lent buffer holds 238 in every byte.
+// Calls the library with a question about a tree; the buffer has 238 in every byte.
 fn put(question: Question, tree: &[u8], line: &[u8], lent: &mut [u8]) {
     cases_script::fill(lent, 238);
     let a = cases_tokens::figure(line, 2);
@@ -144,7 +144,7 @@ fn on_byte(question: Question, tree: &[u8], byte: u32, number: u32) {
     }
 }
 
-// Which token of a line that builds is the last, the length of the lent buffer.
+// Which token of a line that builds is the last, the length of the buffer.
 fn last(question: Question) -> u32
     ensures { λ r. ⌜ r ≤ 7 ⌝ }
 {
@@ -154,8 +154,8 @@ fn last(question: Question) -> u32
     }
 }
 
-// Build: a text, three settings, the counted bytes, and the length of the lent buffer; with one scan a level, before that, how many words the
-// lent table has.
+// Build: a text, three settings, the counted bytes, and the length of the buffer; with one scan a level, before that, how many words the
+// table has.
 fn build(script: &[u8], line: &[u8], question: Question, bytes: &mut [u8], lent: &mut [u8]) {
     if !cases_tokens::figures(line, 2, 5) {
         wrong::fault(Fault::Number);
@@ -208,7 +208,7 @@ fn build_counting(text: &[u8], line: &[u8], question: Question, counted: &[u8], 
     }
 }
 
-// With one scan a level, in a table of so many words, which have 238 in every byte.
+// With one scan for each level, in a table of `words` words with 238 in every byte.
 fn scan(text: &[u8], by: Sizes, counted: &[u8], words: usize, lent: &mut [u8]) {
     if TABLE < words {
         wrong::fault(Fault::Room);

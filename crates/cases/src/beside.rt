@@ -1,11 +1,11 @@
-// Questions that lend bytes beside the tree: a tree, the bytes in hexadecimal, and a number.
+// Questions with bytes in addition to the tree: a tree, the bytes in hexadecimal, and a number.
 use crate::ask;
 use crate::wrong;
 use cases_script::Question;
 use cases_tokens::hexadecimal::Fault;
 use cases_tokens::hexadecimal::Made;
 
-// Room for the lent table.
+// Room for the table.
 const ROOM: usize = 512;
 
 pub fn ask(script: &[u8], line: &[u8], question: Question, bytes: &mut [u8]) {
@@ -39,7 +39,7 @@ fn put(question: Question, tree: &[u8], beside: &[u8], number: u32) {
     }
 }
 
-// The lent words have 238 in every byte.
+// The words have 238 in every byte.
 fn places(tree: &[u8], pattern: &[u8], size: usize) {
     if ROOM < size {
         wrong::fault(Fault::Room);

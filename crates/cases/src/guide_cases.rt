@@ -32,7 +32,7 @@ pub fn line(script: &[u8], line: &[u8], bytes: &mut [u8]) -> bool {
     false
 }
 
-// Make: a tree, and how many words the lent table has.
+// Make: a tree, and how many words the table has.
 fn make(script: &[u8], line: &[u8], bytes: &mut [u8]) {
     if !ask::numbers(line, 2, 3) {
         wrong::fault(Fault::Number);
@@ -45,7 +45,7 @@ fn make(script: &[u8], line: &[u8], bytes: &mut [u8]) {
     }
 }
 
-// The same of the tree; the lent words have 238 in every byte.
+// The same of the tree; the words have 238 in every byte.
 fn make_of(tree: &[u8], words: usize) {
     if ROOM / 4 < words {
         wrong::fault(Fault::Room);
@@ -56,7 +56,7 @@ fn make_of(tree: &[u8], words: usize) {
     cases_replies::guide_replies::make(tree, &mut table[..size]);
 }
 
-// A question with a guide, on a line of so many tokens.
+// A question with a guide, on a line with this number of tokens.
 fn beside(script: &[u8], line: &[u8], last: u32, bytes: &mut [u8]) {
     if !ask::numbers(line, 3, last) {
         wrong::fault(Fault::Number);

@@ -7,7 +7,7 @@ ghost use Prim.Native.Nat.{_≤_};
 // Room for a day, and for more bytes than a day has.
 const ROOM: usize = 64;
 
-// Answers a line that begins with one of these words, and says whether it does.
+// Answers a line that begins with one of these words, and returns whether it does.
 pub fn line(line: &[u8]) -> bool {
     let days = days_of(cases_tokens::token(line, 0));
     if days == 0 {

@@ -1,5 +1,5 @@
-// Questions that write to a lent buffer, each with the buffer's length as the last token: `columns` and `rows` take a text and a width, `column` a tree, a
-// width and a row's number, `digest` and `without_edges` a tree, `digest_text` a text.
+// Columns before rows: `columns` and `rows` take a text, a width and the length of the output; `column` takes a tree, a width, a row's number and the
+// length of the buffer.
 use crate::ask;
 use crate::wrong;
 use cases_tokens::hexadecimal::Fault;
@@ -16,7 +16,7 @@ pub fn line(script: &[u8], line: &[u8], bytes: &mut [u8], lent: &mut [u8]) -> bo
     true
 }
 
-// Which token of a line is the last; 0 where the word is none of these.
+// Which token of a line is the last, the length of the buffer; 0 where the word is none of these.
 fn last(word: &[u8]) -> u32
     ensures { λ r. ⌜ r ≤ 4 ⌝ }
 {
@@ -41,7 +41,7 @@ fn last(word: &[u8]) -> u32
     0
 }
 
-// Finds the text or tree, and the bytes to lend.
+// Finds the text or tree, and the buffer.
 fn ask(script: &[u8], line: &[u8], last: u32, bytes: &mut [u8], lent: &mut [u8])
     requires { ⌜ last ≤ 4 ⌝ }
 {
@@ -61,7 +61,7 @@ fn ask(script: &[u8], line: &[u8], last: u32, bytes: &mut [u8], lent: &mut [u8])
     }
 }
 
-// The buffer holds 238 in every byte before the call.
+// The same of the text or tree; the buffer has 238 in every byte.
 fn put(held: &[u8], line: &[u8], lent: &mut [u8]) {
     cases_script::fill(lent, 238);
     let word = cases_tokens::token(line, 0);

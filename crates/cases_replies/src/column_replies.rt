@@ -2,7 +2,7 @@
 use crate::say;
 use query::Copied;
 
-// A text rearranged by columns, and back: the number, and what the lent output holds.
+// A text rearranged by columns, and back: the number, and what the output holds.
 pub fn to_columns(text: &[u8], width: u32, out: &mut [u8]) {
     say::number(columns::to_columns(text, width, out));
     say::held(out);
@@ -13,7 +13,7 @@ pub fn from_columns(text: &[u8], width: u32, out: &mut [u8]) {
     say::held(out);
 }
 
-// A row read by columns: the number, the bytes copied, and what the lent buffer holds.
+// A row read by columns: the number, the bytes copied, and what the buffer holds.
 pub fn row(tree: &[u8], width: u32, a: u32, buffer: &mut [u8]) {
     let answer = query::row_by_columns(tree, width, a, buffer);
     match answer {

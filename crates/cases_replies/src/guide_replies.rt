@@ -4,7 +4,7 @@ use layout::word;
 use query::Guided;
 use query::Size;
 
-// How many words the guide has, and the words of the lent table.
+// How many words the guide has, and the words of the table.
 pub fn make(tree: &[u8], table: &mut [u8]) {
     let answer = query::make_guide(tree, table);
     match answer {
@@ -32,7 +32,7 @@ fn four(n: u32, a: u32, b: u32, c: u32) {
     say::figure(c as u64);
 }
 
-// A number, a figure, and the words of a lent table, `-` where it has none.
+// A number, a figure, and the words of a table, `-` where it has none.
 fn told(n: u32, a: u64, table: &[u8]) {
     say::number(n);
     say::figure(a);

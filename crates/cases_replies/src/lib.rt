@@ -1,5 +1,5 @@
 // The library's answers, printed in the format of the cases: ` => `, the number of the question that refuses or 0, the figures, and what
-// a lent buffer holds, in hexadecimal.
+// a buffer holds, in hexadecimal.
 pub mod column_replies;
 pub mod digest_replies;
 pub mod guide_replies;
@@ -20,14 +20,14 @@ use query::TextPlace;
 use tree::Built;
 use tree::Scanned;
 
-// The sizes that a line asks a tree to be built with: m, r and H.
+// The settings of a tree to be built: m, r and H.
 pub struct Sizes {
     pub leaf: u32,
     pub arity: u32,
     pub levels: u32,
 }
 
-// Build, into a lent buffer.
+// Build, into a buffer.
 pub fn build(text: &[u8], by: Sizes, counted: &[u8], out: &mut [u8]) {
     let answer = tree::build(text, by.leaf, by.arity, by.levels, counted, out);
     match answer {
@@ -36,7 +36,7 @@ pub fn build(text: &[u8], by: Sizes, counted: &[u8], out: &mut [u8]) {
     }
 }
 
-// Build with one scan a level, in a lent table; what the table then holds is free, and is not printed.
+// Build with one scan a level, in a table; what the table then holds is free, and is not printed.
 pub fn scan(text: &[u8], by: Sizes, counted: &[u8], work: &mut [u32], out: &mut [u8]) {
     let answer = tree::build_scanned(text, by.leaf, by.arity, by.levels, counted, work, out);
     match answer {
@@ -106,7 +106,7 @@ pub fn row(tree: &[u8], q: u32, buffer: &mut [u8]) {
     }
 }
 
-// How many places there are, and the words of the lent table.
+// How many places there are, and the words of the table.
 pub fn places(tree: &[u8], pattern: &[u8], table: &mut [u32]) {
     let answer = query::places(tree, pattern, table);
     match answer {

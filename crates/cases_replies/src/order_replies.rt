@@ -1,7 +1,7 @@
 // The order of two trees, printed.
 use crate::say;
 
-// The number, where the first stands in a word, the length of the shared beginning, and which tree was handed back.
+// The number, the order of the first in a word, the length of the longest common prefix, and which tree was returned.
 pub fn order<'a>(one: &'a [u8], other: &'a [u8]) {
     let mut number: u32 = 0;
     let mut standing: u32 = 0;

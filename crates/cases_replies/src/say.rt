@@ -19,20 +19,20 @@ pub fn three(n: u32, a: u64, b: u64) {
     figure(b);
 }
 
-// A number, a figure, and what a lent buffer holds.
+// A number, a figure, and what a buffer holds.
 pub fn buffer(n: u32, a: u64, bytes: &[u8]) {
     number(n);
     figure(a);
     held(bytes);
 }
 
-// A number, two figures, and what a lent buffer holds.
+// A number, two figures, and what a buffer holds.
 pub fn two_and_buffer(n: u32, a: u64, b: u64, bytes: &[u8]) {
     three(n, a, b);
     held(bytes);
 }
 
-// What a lent buffer holds, `-` where it has no bytes.
+// What a buffer holds, `-` where it has no bytes.
 pub fn held(bytes: &[u8]) {
     io::write_all(1, b" ");
     if bytes.len() == 0 {
@@ -41,7 +41,7 @@ pub fn held(bytes: &[u8]) {
     hex(bytes);
 }
 
-// A number, a figure, and what a lent table holds.
+// A number, a figure, and what a table holds.
 pub fn table(n: u32, a: u64, table: &[u32]) {
     number(n);
     figure(a);

@@ -102,7 +102,7 @@ bytes-give buffer b n g e l t =
     let h : Gives buffer (Bytes n) (bytes b) = record { answer = ap (λ (k : ℕ). Bytes k) (sym l); put = t } in
     rw e at h
 
--- The first k bytes of a buffer, so many times over.
+-- The first k bytes of a buffer, repeated.
 module _ (entry : List ℕ) (k times : ℕ) (inside : k ≤ length entry) where
   long : length (take k entry) ≡ k
   long = length-take-le k entry inside

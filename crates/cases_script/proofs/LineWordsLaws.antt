@@ -15,7 +15,7 @@ same-told : (w x : List ℕ) (b : Bool) → (b ≡ true → w ≡ x) × (w ≡ x
 same-told w x true h = eq-sameList w x (h .0 refl)
 same-told w x false h = ne-sameList w x (λ e. bool-clash false (h .1 e) refl)
 
--- b tells whether w, which is t, is the word x; and b is v
+-- b decides whether w, which is t, is the word x; and b is v.
 pub told : {w t x : List ℕ} {b v : Bool} → w ≡ t → (b ≡ true → w ≡ x) × (w ≡ x → b ≡ true) → b ≡ v → sameList t x ≡ v
 told {w} {t} {x} {b} e h z = rw e at (same-told w x b h) ∙ z
 

@@ -22,7 +22,7 @@ module _ (line l name w : List ℕ) (b : Bool) (e : l ≡ line) (t : w ≡ token
   unfolding givesName
   gives-same r z q = simp (told is-token h z) (rw e at q)
 
--- the lines from `at` on have the same answer as all, looked through in so many steps
+-- The lines from `at` on, read in this many steps, have the same answer as all lines.
 pub record Left (s name : List ℕ) (at : ℕ) : Type 0 where
   pub inside : at ≤ length s
   pub steps : ℕ

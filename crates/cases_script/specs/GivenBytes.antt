@@ -31,7 +31,7 @@ abbrev pub bytesOf : Given → List ℕ
 bytesOf (bytes b) = b
 bytesOf (none f) = []
 
--- r says how many bytes are given or the fault, and the bytes stand at the start of the buffer
+-- r is the number of bytes given, or the fault; the buffer starts with these bytes.
 pub record Gives (buffer : List ℕ) (r : Made) (g : Given) : Type 0 where
   pub answer : r ≡ madeOf g
   pub put : take (madeSize r) buffer ≡ bytesOf g
@@ -40,15 +40,15 @@ abbrev pub firstOf : Made → List ℕ → Given
 firstOf (Bytes n) b = bytes (take n b)
 firstOf (Wrong f) b = none f
 
--- bytes in hexadecimal, given to a buffer of so many bytes
+-- Bytes in hexadecimal, for a buffer of `room` bytes.
 unfoldable pub hexGiven : List ℕ → ℕ → Given
 hexGiven word room = firstOf (hexOf word room) (hexBytes word)
 
--- the number that token k of a line says
+-- The number that token k of a line represents.
 unfoldable pub figureOf : List ℕ → ℕ → ℕ
 figureOf line k = valueOf (numberOf (tokenOf line k))
 
--- the bytes, so many times over
+-- The bytes repeated `times` times.
 unfoldable pub repeated : List ℕ → ℕ → List ℕ
 repeated b times = tabulate (length b * times) (λ i. getD b (i % length b) 0)
 

@@ -11,7 +11,7 @@ use Rattle.cases_script.specs.declared.line_words.Gift.the-variants as g
 use Rattle.cases_script.specs.declared.line_words.Question.{Question}
 use Rattle.cases_script.specs.declared.line_words.Question.the-variants as question
 
--- which of so many words of a line this one is, looked for from word k on; the number after them where it is none
+-- The index of this word among the words of lines, searched from word k on; the number of words if it is none of them.
 unfoldable pub wordFrom : List ℕ → List ℕ → ℕ → ℕ → ℕ
 wordFrom words word k zero = k
 wordFrom words word k (suc more) = cond (sameList word (tokenOf words k)) k (wordFrom words word (k + 1) more)
@@ -36,7 +36,7 @@ giftNumber line = wordNumber giftWords 4 (tokenOf line 0)
 unfoldable pub giftOf : List ℕ → Gift
 giftOf line = getD (gift.Text ∷ gift.Repeat ∷ gift.Tree ∷ gift.Pad ∷ gift.Nothing ∷ []) (giftNumber line) gift.Nothing
 
--- the words of lines that ask: build, check, list, byte, count, find, span, run, row, places, scan, match
+-- The words of lines with a question: build, check, list, byte, count, find, span, run, row, places, scan, match.
 unfoldable pub questionWords : List ℕ
 questionWords =
     98 ∷ 117 ∷ 105 ∷ 108 ∷ 100 ∷ 32 ∷
@@ -53,7 +53,7 @@ questionWords =
     109 ∷ 97 ∷ 116 ∷ 99 ∷ 104 ∷ 32 ∷
     112 ∷ 114 ∷ 101 ∷ 102 ∷ 105 ∷ 120 ∷ []
 
--- what a line asks
+-- The question of a line.
 unfoldable pub questionOf : List ℕ → Question
 questionOf line =
     getD

@@ -16,7 +16,7 @@ givesBytes line = ltb (giftNumber line) 4
 unfoldable pub givesName : List ℕ → List ℕ → Bool
 givesName line name = sameList (tokenOf line 1) name && givesBytes line
 
--- the first of so many lines that gives the name; empty where none does
+-- The first of some lines that defines the name; empty if none does.
 unfoldable pub givingFrom : ℕ → List ℕ → List ℕ → List ℕ
 givingFrom zero s name = []
 givingFrom (suc n) s name = cond (givesName (front 10 s) name) (front 10 s) (givingFrom n (rest 10 s) name)

@@ -1,4 +1,4 @@
-// The bytes that lines give, put at the start of a lent buffer.
+// The bytes that lines give, written to the start of a buffer.
 use crate::line_words::Gift;
 use crate::line_words::gift_of;
 use crate::name_line::giving;
@@ -46,7 +46,7 @@ fn plain(line: &[u8], out: &mut [u8]) -> Made
     }
 }
 
-// Bytes in hexadecimal, so many times over.
+// Bytes in hexadecimal, repeated.
 fn repeat(line: &[u8], out: &mut [u8]) -> Made
     ensures { λ r. ⌜ Gives (now (out .exit)) r (repeatGiven (now (line .entry)) (length (now (out .entry)))) ⌝ }
 {
@@ -60,7 +60,7 @@ fn repeat(line: &[u8], out: &mut [u8]) -> Made
     }
 }
 
-// The first k bytes, so many times over.
+// The first k bytes, repeated.
 fn times_over(out: &mut [u8], k: usize, times: u32) -> Made
     requires { ⌜ k ≤ length (now out) ⌝ }
     ensures { λ r. ⌜ Gives (now (out .exit)) r (timesOver (bytes (take k (now (out .entry)))) times (length (now (out .entry)))) ⌝ }

@@ -12,7 +12,7 @@ pub enum Gift {
     Pad,
 }
 
-// What a line asks.
+// The question of a line.
 pub enum Question {
     Nothing,
     Build,
@@ -88,7 +88,7 @@ pub fn gift_of(line: &[u8]) -> Gift
     GIFTS[k as usize]
 }
 
-// What a line asks.
+// The question of a line.
 pub fn question_of(line: &[u8]) -> Question
     ensures { λ r. ⌜ r ≡ questionOf (now (line .entry)) ⌝ }
 {
@@ -100,7 +100,7 @@ pub fn question_of(line: &[u8]) -> Question
     QUESTIONS[k as usize]
 }
 
-// Whether a line asks nothing and gives nothing: it is empty or begins with `#`.
+// Whether a line is empty or begins with `#`.
 pub fn is_comment(line: &[u8]) -> bool
     ensures { λ r. ⌜ r ≡ isComment (now (line .entry)) ⌝ }
 {

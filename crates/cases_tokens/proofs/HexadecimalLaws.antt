@@ -99,7 +99,7 @@ module _ (word : List ℕ) (room : ℕ) (b : Bool) (f : b ≡ false) (h : word �
       unfolding hexOf
       hex-fits y l = simp (not-dash word b f h, eq-eqb (length word % 2) 0 even, ne-eqb (length word) 0 some, sym all ∙ y, le-ltb room (length word / 2) l)
 
--- A word gives no more bytes than the buffer has, and no more than it says.
+-- A word gives no more bytes than the buffer has, and no more than it represents.
 
 sizes : (a b c d e : Bool) (n m : ℕ) → (e ≡ false → n ≤ m)
     → madeSize (cond a (Made.Bytes 0) (cond b

@@ -1,4 +1,4 @@
--- The number that a token says in decimal.
+-- The number that a token represents in decimal.
 use mathlib.Core.List.{List, [], _∷_}
 use mathlib.Core.Bool.{Bool, true, false, cond}
 use Prim.Native.Nat.{ℕ, _+_, _-_, _*_}
@@ -25,7 +25,7 @@ unfoldable pub numberFrom : List ℕ → ℕ → Number
 numberFrom [] value = Is value
 numberFrom (digit ∷ word) value = then (numberFrom word) (moreOf value digit)
 
--- the number that a token says: one digit or more, nothing else
+-- The number that a token represents: one digit or more, nothing else.
 unfoldable pub numberOf : List ℕ → Number
 numberOf [] = Nothing
 numberOf (digit ∷ word) = numberFrom (digit ∷ word) 0

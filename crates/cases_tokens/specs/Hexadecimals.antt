@@ -1,4 +1,4 @@
--- The bytes that a token says in hexadecimal.
+-- The bytes that a token represents in hexadecimal.
 use mathlib.Core.List.{List, [], _∷_}
 use mathlib.Core.Bool.{Bool, cond}
 use Prim.Native.Nat.{ℕ, _+_, _-_, _*_, _/_, _%_}
@@ -29,7 +29,7 @@ allHex word = allBelow (length word / 2) (λ i. leb (byteAt word i) 255)
 unfoldable pub hexBytes : List ℕ → List ℕ
 hexBytes word = tabulate (length word / 2) (byteAt word)
 
--- how many bytes a word gives to a buffer of so many: `-` none; else two digits for each
+-- The number of bytes that a word gives to a buffer of some size: none for `-`, else one for each two digits.
 unfoldable pub hexOf : List ℕ → ℕ → Made
 hexOf word room =
     cond (sameList word (45 ∷ [])) (Bytes 0)

@@ -5,15 +5,15 @@ use Prim.Native.Nat.{ℕ, zero, suc, _+_, _≤_, _<_}
 use lib.ListN.{length, take, drop}
 use Rattle.bytes.specs.Bytes.{indexOf}
 
--- what stands before the first `stop`, or all
+-- The bytes before the first `stop`, or all bytes.
 unfoldable pub front : ℕ → List ℕ → List ℕ
 front stop s = take (indexOf stop s) s
 
--- what stands after it, or nothing
+-- The bytes after the first `stop`, or none.
 unfoldable pub rest : ℕ → List ℕ → List ℕ
 rest stop s = drop (indexOf stop s + 1) s
 
--- what stands from token k on
+-- The bytes from token k on.
 unfoldable pub after : List ℕ → ℕ → List ℕ
 after line zero = line
 after line (suc k) = rest 32 (after line k)
@@ -22,7 +22,7 @@ after line (suc k) = rest 32 (after line k)
 unfoldable pub tokenOf : List ℕ → ℕ → List ℕ
 tokenOf line k = front 32 (after line k)
 
--- r is the place where what stands after the first `stop` from `at` on begins
+-- r is the place after the first `stop` from `at` on.
 pub record Past (s : List ℕ) (at stop r : ℕ) : Type 0 where
   pub inside : r ≤ length s
   pub later : at < length s → at < r

@@ -27,7 +27,7 @@ fn more(value: u32, digit: u8) -> Number
     Number::Is(next as u32)
 }
 
-// The number that a token says: one digit or more, nothing else.
+// The number that a token represents: one digit or more, nothing else.
 pub fn read_number(word: &[u8]) -> Number
     ensures { λ r. ⌜ r ≡ numberOf (now (word .entry)) ⌝ }
 {
@@ -47,7 +47,7 @@ pub fn read_number(word: &[u8]) -> Number
     Number::Is(value)
 }
 
-// The number that token k of a line says, 0 for none.
+// The number that token k of a line represents, 0 for none.
 pub fn figure(line: &[u8], k: u32) -> u32
     ensures { λ r. ⌜ r ≡ valueOf (numberOf (tokenOf (now (line .entry)) k)) ⌝ }
 {

@@ -14,7 +14,7 @@ pub enum Fault {
     Room,
 }
 
-// How many bytes were put at the start of the lent buffer, or why none.
+// How many bytes were put at the start of the buffer, or why none.
 pub enum Made {
     Bytes(usize),
     Wrong(Fault),
@@ -80,7 +80,7 @@ fn put(word: &[u8], out: &mut [u8])
     }
 }
 
-// Puts the bytes that a token says at the start of the buffer.
+// Writes the bytes that a token represents to the start of the buffer.
 pub fn hex(word: &[u8], out: &mut [u8]) -> Made
     ensures { λ r. ⌜ r ≡ hexOf (now (word .entry)) (length (now (out .entry))) ⌝ }
     ensures { λ r. ⌜ now (out .exit) ≡ paste (now (out .entry)) 0 (hexBytes (now (word .entry))) (madeSize r) ⌝ }

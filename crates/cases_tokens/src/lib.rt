@@ -1,4 +1,4 @@
-// Lines of text cut into tokens, and what a token says: a number, or bytes in hexadecimal.
+// Lines of text cut into tokens, and the value of a token: a number, or bytes in hexadecimal.
 pub mod decimal;
 pub mod hexadecimal;
 mod parts;

@@ -1,11 +1,11 @@
-// Parts of lent bytes: a line is what stands before the next byte 10, a token what stands before the next byte 32.
+// Parts of a slice: a line has the bytes before the next byte 10, a token those before the next byte 32.
 ghost use mathlib.Core.Path.{_≡_};
 ghost use Prim.Native.Nat.{_≤_};
 ghost use lib.ListN.{length, drop};
 ghost use lib.Dec.{eqb};
 ghost use Rattle.cases_tokens.specs.Parts.{front, Past, Start, after, tokenOf};
 
-// What stands from `at` on before the next byte `stop`, or to the end.
+// The bytes from `at` on before the next byte `stop`, or to the end.
 pub fn until(s: &[u8], at: usize, stop: u8) -> &[u8]
     requires { ⌜ at ≤ length (now s) ⌝ }
     ensures { λ r. ⌜ now r ≡ front stop (drop at (now (s .entry))) ⌝ }

@@ -101,7 +101,7 @@ module _ (t : List ℕ) (size level i c : ℕ) (w : InTable t size level i c) wh
   pub length-lt : at.blockLengthAt t level i ≤ maxText
   length-lt = omega (arith, len-small t level i, full-lt)
 
--- the kind says whether the block is kept
+-- The kind decides whether the block is kept.
 module _ (t : List ℕ) (level i k : ℕ) (k-is : k ≡ at.kind t level i) where
   pub kept-of : k ≡ 0 → at.isKept t level i ≡ true
   unfolding at.isKept

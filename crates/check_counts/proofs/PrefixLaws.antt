@@ -1,4 +1,4 @@
--- The count walk, from what was read to what it answers.
+-- The count walk: from the fields read to the result.
 use mathlib.Core.List.{List}
 use mathlib.Core.Bool.{false}
 use mathlib.Core.Path.{_≡_, _∙_}

@@ -1,4 +1,4 @@
--- What the check of counts asks where it looks at a block: questions 5 to 8 are passed, and what it looks at is in its table.
+-- The preconditions of the check of counts at a block: the tree passes questions 5 to 8, and the block is in its table.
 use mathlib.Core.List.{List}
 use mathlib.Core.Bool.{true}
 use mathlib.Core.Path.{_≡_}
@@ -16,30 +16,30 @@ module _ (t : List ℕ) (h : Header) where
     pub header : HeaderOf t h
     pub links : linksOk t ≡ true
 
--- the counts of the levels below are true of the text
+-- The counts of the levels below are right for the text.
 abbrev pub TrueBelow : List ℕ → ℕ → Type 0
 TrueBelow t level = (m : ℕ) → level < m → m < at.settings t .levels → Level t m
 
 module _ (t : List ℕ) (size : ℕ) where
-  -- the tree passes questions 5 to 8, and its records have `size` bytes
+  -- The tree passes questions 5 to 8, and its records have `size` bytes.
   pub record Sound : Type 0 where
     pub facts : Readable t
     pub size-is : size ≡ at.recordSize t
     pub links : linksOk t ≡ true
 
-  -- a block of one of its levels, and the number of a counted byte
+  -- A block of one of its levels, and the number of a counted byte.
   pub record InTable (level i c : ℕ) : Type 0 where
     pub tree : Sound
     pub level-in : level < at.settings t .levels
     pub block-in : i < at.levelCount t level
     pub number-in : c < at.countedCount t
 
-  -- a place of the block
+  -- A place of the block.
   pub record InBlock (level i o c : ℕ) : Type 0 where
     pub table : InTable level i c
     pub place-in : o < at.blockLengthAt t level i
 
-  -- the block is kept, and what is below it is true
+  -- The block is kept, and the counts of the levels below are right.
   pub record InKept (level i o c : ℕ) : Type 0 where
     pub block : InBlock level i o c
     pub kept : at.isKept t level i ≡ true

@@ -1,4 +1,4 @@
--- Where a block hands a place to, and what that adds and takes off, as the code's struct.
+-- The block that a place of a block refers to, and what is added and subtracted on the way, as the struct of the code.
 use mathlib.Core.List.{List}
 use mathlib.Core.Bool.{cond}
 use Prim.Native.Nat.{ℕ, _+_, _-_, _*_, _/_, _%_, _^_}
@@ -9,7 +9,7 @@ use Rattle.layout.specs.declared.header.Header.{Header}
 use Rattle.check_counts.specs.declared.prefix.Hand.{Hand}
 
 module _ (t : List ℕ) where
-  -- what i adds and takes off as it hands on place o
+  -- What block i adds and subtracts when place o refers to another block.
   unfoldable pub handOf : ℕ → ℕ → ℕ → ℕ → Hand
   handOf l i o c = record {
     block = record { 0 = handBlock t l i o };
@@ -18,7 +18,7 @@ module _ (t : List ℕ) where
     minus = handMinus t l i c;
   }
 
-  -- the same of kept block i's child that holds place o, with the child's before
+  -- The same for the child of kept block i that contains place o, with the child's count before.
   unfoldable pub stepOf : ℕ → ℕ → ℕ → ℕ → Hand
   stepOf l i o c =
       let j = at.link t l i + o / at.fullLength t (l + 1) in
@@ -29,6 +29,6 @@ module _ (t : List ℕ) where
         minus = handMinus t (l + 1) j c;
       }
 
--- the block length of the level above, by the header; of the text above level 0
+-- The block length of the level above, by the header; for level 0, the length of the text.
 unfoldable pub upFrom : Header → ℕ → ℕ
 upFrom h level = cond (eqb level 0) (h .«text_length») (h .settings .leaf * h .settings .arity ^ (h .settings .levels - 1 - (level - 1)))

@@ -1,4 +1,4 @@
-// One block's counts of one counted byte.
+// Checks the counts of one counted byte in one block.
 use crate::prefix;
 use layout::place::BlockNumber;
 use layout::place::BlockPlace;
@@ -13,7 +13,7 @@ ghost use Rattle.format.specs.Layout as at;
 ghost use Rattle.theory_counts.specs.CountsLocal.{upLength, beforeLocal, keptInside, keptLocal, pointingSkip, pointingInside, pointingLocal, blockLocal};
 ghost use Rattle.check_counts.specs.CountsAsked.{InTable, TrueBelow};
 
-// Before is 0 at the parent's start, else that of the left neighbour with its inside; `up` is the parent's block length.
+// The count before is 0 at the start of the parent, else the sum of before and inside of the left neighbour; `up` is the block length of the parent.
 fn before_right(t: &[u8], size: u32, level: u32, up: u32, block: BlockNumber, c: u32) -> bool
     requires { ⌜ (up ≡ upLength (now t) level) × InTable (now t) size level (block .0) c ⌝ }
     ensures { λ r. ⌜ r ≡ eqb (at.before (now (t .entry)) level (block .0) c) (beforeLocal (now (t .entry)) level (block .0) c) ⌝ }
@@ -30,7 +30,7 @@ fn before_right(t: &[u8], size: u32, level: u32, up: u32, block: BlockNumber, c:
     before as u64 == to_left + in_left
 }
 
-// A kept block's inside: that of its leaf bytes, or that of its children: before and inside of the last one.
+// The count inside of a kept block: that of its leaf bytes, or before plus inside of its last child.
 fn kept_inside(t: &[u8], size: u32, level: u32, b: u32, block: BlockNumber, c: u32) -> u64
     requires { ⌜ (b ≡ at.fullLength (now t) level) × InTable (now t) size level (block .0) c × (at.isKept (now t) level (block .0) ≡ true) ⌝ }
     ensures { λ r. ⌜ r ≡ keptInside (now (t .entry)) level (block .0) c ⌝ }
@@ -48,7 +48,7 @@ fn kept_inside(t: &[u8], size: u32, level: u32, b: u32, block: BlockNumber, c: u
     to_last + in_last
 }
 
-// A kept block skips nothing.
+// A kept block has its count inside, and a skip of 0.
 fn kept_right(t: &[u8], size: u32, level: u32, b: u32, block: BlockNumber, c: u32) -> bool
     requires { ⌜ (b ≡ at.fullLength (now t) level) × InTable (now t) size level (block .0) c × (at.isKept (now t) level (block .0) ≡ true) ⌝ }
     ensures { λ r. ⌜ r ≡ keptLocal (now (t .entry)) level (block .0) c ⌝ }
@@ -61,7 +61,7 @@ fn kept_right(t: &[u8], size: u32, level: u32, b: u32, block: BlockNumber, c: u3
     inside as u64 == kept_inside(t, size, level, b, block, c)
 }
 
-// How often the byte occurs in the block pointed to, before place gap.
+// How often the byte occurs in the linked block before the gap.
 fn pointing_skip(t: &[u8], size: u32, level: u32, b: u32, block: BlockNumber, c: u32) -> u64
     requires { ⌜ (b ≡ at.fullLength (now t) level)
         × InTable (now t) size level (block .0) c × (at.isKept (now t) level (block .0) ≡ false) × TrueBelow (now t) level ⌝ }
@@ -79,7 +79,7 @@ fn pointing_skip(t: &[u8], size: u32, level: u32, b: u32, block: BlockNumber, c:
     prefix::up_to(t, size, On { level, b }, there, c)
 }
 
-// How often it stands there in the gap and the block's own length together.
+// How often the byte occurs in the linked blocks up to the end of the occurrence.
 fn pointing_inside(t: &[u8], size: u32, level: u32, b: u32, block: BlockNumber, c: u32) -> u64
     requires { ⌜ (b ≡ at.fullLength (now t) level)
         × InTable (now t) size level (block .0) c × (at.isKept (now t) level (block .0) ≡ false) × TrueBelow (now t) level ⌝ }
@@ -98,7 +98,7 @@ fn pointing_inside(t: &[u8], size: u32, level: u32, b: u32, block: BlockNumber, 
     hand.plus + rest
 }
 
-// A pointing block's skip and inside are counted in the blocks that it points to.
+// The skip and the count inside of a pointing block are those of the blocks that it points to.
 fn pointing_right(t: &[u8], size: u32, level: u32, b: u32, block: BlockNumber, c: u32) -> bool
     requires { ⌜ (b ≡ at.fullLength (now t) level)
         × InTable (now t) size level (block .0) c × (at.isKept (now t) level (block .0) ≡ false) × TrueBelow (now t) level ⌝ }
@@ -114,7 +114,7 @@ fn pointing_right(t: &[u8], size: u32, level: u32, b: u32, block: BlockNumber, c
     both == counted
 }
 
-// Before, inside and skip of one counted byte in one block; the levels below are true already.
+// The counts before, inside and skip of one counted byte in one block; the levels below have been checked.
 pub fn block_right(t: &[u8], size: u32, on: On, up: u32, block: BlockNumber, c: u32) -> bool
     requires { ⌜ (on .b ≡ at.fullLength (now t) (on .level)) × (up ≡ upLength (now t) (on .level)) × InTable (now t) size (on .level) (block .0) c
         × TrueBelow (now t) (on .level) ⌝ }

@@ -1,4 +1,4 @@
-// The counts of one level, whose levels below are true already.
+// Checks the counts of one level; the levels below have been checked.
 use crate::block_counts;
 use layout::header::Header;
 use layout::place::BlockNumber;
@@ -13,7 +13,7 @@ ghost use Rattle.layout.specs.SettingsLevel.{Sized};
 ghost use Rattle.check_counts.specs.CountsAsked.{Linking, TrueBelow};
 ghost use Rattle.check_counts.specs.Hand.{upFrom};
 
-// All counted bytes of one block.
+// The counts of all counted bytes in one block.
 fn block_counts_right(t: &[u8], h: Header, level: u32, b: u32, up: u32, block: BlockNumber) -> bool
     requires { ⌜ (b ≡ at.fullLength (now t) level) × (up ≡ upLength (now t) level) × Linking (now t) h × (level < at.settings (now t) .levels)
         × (block .0 < at.levelCount (now t) level) × TrueBelow (now t) level ⌝ }
@@ -30,7 +30,7 @@ fn block_counts_right(t: &[u8], h: Header, level: u32, b: u32, up: u32, block: B
     true
 }
 
-// The block length of the level above; above level 0 stands the text.
+// The block length of the level above; for level 0, the length of the text.
 fn up_length(h: Header, level: u32) -> u32
     requires { ⌜ Sized (h .settings) level ⌝ }
     ensures { λ r. ⌜ r ≡ upFrom h level ⌝ }

@@ -1,4 +1,4 @@
-// Question 9: are all before, inside and skip true?
+// Question 9: whether all counts before, inside and skip are right.
 use layout::header::Header;
 ghost use mathlib.Core.Path.{_≡_};
 ghost use Rattle.format.specs.Fits.{textOf, countsTrue};
@@ -8,8 +8,7 @@ mod block_counts;
 mod level_counts;
 mod prefix;
 
-// Of a tree that passes questions 5 to 8, with its header: are its counts true of the one text that fits it? The levels are looked at
-// from the last one up.
+// Whether the counts of a tree that passes questions 5 to 8 are right for the one text that fits it. The levels are checked from the last one up.
 pub fn counts_right(t: &[u8], h: Header) -> bool
     requires { ⌜ Linking (now t) h ⌝ }
     ensures { λ r. ⌜ r ≡ countsTrue (textOf (now (t .entry))) (now (t .entry)) ⌝ }

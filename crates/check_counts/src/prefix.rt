@@ -1,4 +1,4 @@
-// The count walk: how often a counted byte stands in a kept block up to a place. It goes into one child a level.
+// The count walk: how often a counted byte occurs in a kept block up to a place. It enters one child on each level.
 use layout::header;
 use layout::place::BlockNumber;
 use layout::place::BlockPlace;
@@ -13,7 +13,7 @@ ghost use Rattle.theory_counts.specs.CountsLocal.{inLeaves, upTo};
 ghost use Rattle.check_counts.specs.CountsAsked.{InTable, InBlock, InKept};
 ghost use Rattle.check_counts.specs.Hand.{handOf, stepOf};
 
-// The kept block of a level that a place is handed to, and what is added and taken off on the way.
+// The kept block of a level that contains a place, and what is added and subtracted on the way to it.
 pub struct Hand {
     pub block: BlockNumber,
     pub place: BlockPlace,
@@ -21,7 +21,7 @@ pub struct Hand {
     pub minus: u64,
 }
 
-// How often counted byte number c stands in the first n leaf bytes of a last-level block.
+// How often counted byte number c occurs in the first n leaf bytes of a block of the last level.
 pub fn in_leaves(t: &[u8], size: u32, level: u32, block: BlockNumber, n: u32, c: u32) -> u64
     requires { ⌜ (InTable (now t) size level (block .0) c) × (level + 1 ≡ at.settings (now t) .levels) × (n ≤ at.blockLengthAt (now t) level (block .0)) ⌝ }
     ensures { λ r. ⌜ (r ≡ inLeaves (now (t .entry)) level (block .0) n c) × (r ≤ n) ⌝ }
@@ -33,7 +33,7 @@ pub fn in_leaves(t: &[u8], size: u32, level: u32, block: BlockNumber, n: u32, c:
     stretches::count_in(t, from, n, byte) as u64
 }
 
-// A kept block answers for its own places; a pointing block hands a place to its first target, or past that one's end to the second.
+// The kept block for a place: a kept block itself; for a pointing block its first target, or the second if the place is past the end of the first.
 pub fn hand_on(t: &[u8], size: u32, on: On, spot: Spot, c: u32) -> Hand
     requires { ⌜ (on .b ≡ at.fullLength (now t) (on .level)) × InBlock (now t) size (on .level) (spot .block .0) (spot .place .0) c ⌝ }
     ensures { λ r. ⌜ (r ≡ handOf (now (t .entry)) (on .level) (spot .block .0) (spot .place .0) c) × (r .plus < 4294967296) ⌝ }
@@ -69,7 +69,7 @@ pub fn hand_on(t: &[u8], size: u32, on: On, spot: Spot, c: u32) -> Hand
     }
 }
 
-// From a kept block to the child that holds a place; b is the children's block length.
+// From a kept block to the child that contains a place; b is the block length of the children.
 fn step(t: &[u8], size: u32, level: u32, b: u32, spot: Spot, c: u32) -> Hand
     requires { ⌜ (b ≡ at.fullLength (now t) (level + 1)) × (level + 1 < at.settings (now t) .levels)
         × InKept (now t) size level (spot .block .0) (spot .place .0) c ⌝ }
@@ -99,7 +99,7 @@ fn step(t: &[u8], size: u32, level: u32, b: u32, spot: Spot, c: u32) -> Hand
     }
 }
 
-// How often counted byte number c stands in a kept block up to a place, it included; the levels left fall.
+// How often counted byte number c occurs in a kept block up to a place, included. The number of levels left decreases.
 pub fn up_to(t: &[u8], size: u32, on: On, spot: Spot, c: u32) -> u64
     requires { ⌜ (on .b ≡ at.fullLength (now t) (on .level)) × InKept (now t) size (on .level) (spot .block .0) (spot .place .0) c ⌝ }
     ensures { λ r. ⌜ r ≡ upTo (now (t .entry)) (at.settings (now (t .entry)) .levels - 1 - on .level) (on .level) (spot .block .0) (spot .place .0) c ⌝ }

@@ -85,7 +85,7 @@ module _ (t : List ℕ) (p q : ℕ) where
         sym (ap (λ (k : ℕ). sameList (stretch t p k) (stretch t q k)) z
         ∙ rw (stretch-add t p 8 (n - 8), stretch-add t q 8 (n - 8), front) (same-after (stretch t q 8) (stretch t (p + 8) (n - 8)) (stretch t (q + 8) (n - 8))))
 
--- what a test of two numbers says of what they are
+-- The fact that a test of two numbers decides.
 pub numbers-differ : {a b x y : ℕ} → a ≡ x → b ≡ y → (a ≡ b → ⊥) → x ≡ y → ⊥
 numbers-differ e f other same = other (e ∙ same ∙ sym f)
 

@@ -1,4 +1,4 @@
--- What is asked where edges are checked, and what the test of one edge says.
+-- The preconditions of the check of edges, and the result of testing one edge.
 use mathlib.Core.List.{List}
 use mathlib.Core.Bool.{Bool, true, false, _&&_}
 use mathlib.Core.Path.{_≡_}
@@ -19,21 +19,21 @@ pub record Linking (t : List ℕ) (h : Header) : Type 0 where
   pub header : HeaderOf t h
   pub linked : linksOk t ≡ true
 
--- a block of a layout 2 tree that passes questions 5 to 8
+-- A block of a layout 2 tree that passes questions 5 to 8.
 pub record Edged (t : List ℕ) (h : Header) (level b i : ℕ) : Type 0 where
   pub tree : Linking t h
   pub two : at.layout t ≡ 2
   pub on : OnLevel t (h .«record_size») level b
   pub block-in : i < at.levelCount t level
 
--- a block of the last level of such a tree, and its bytes
+-- A block of the last level of such a tree, and its bytes.
 pub record Leafy (t : List ℕ) (h : Header) (level i own : ℕ) : Type 0 where
   pub tree : Linking t h
   pub last : level + 1 ≡ at.settings t .levels
   pub block-in : i < at.levelCount t level
   pub own-is : own ≡ at.blockLengthAt t level i
 
--- the m bytes at a are the x bytes that were found, and then zeros
+-- The m bytes at a are the x bytes that were found, then zeros.
 abbrev pub foundIs : List ℕ → ℕ → ℕ → ℕ → Gathered → Bool
 foundIs t m a x Broken = false
 foundIs t m a x (At q) =

@@ -1,4 +1,4 @@
-// Bytes compared eight at a time, for edges. The builders compare with `stretches::same_at`, whose short loop is part of their own.
+// Compares edges eight bytes at a time. The builders use `stretches::same_at`, whose short loop is inlined into their own.
 ghost use mathlib.Core.Path.{_≡_};
 ghost use Prim.Native.Nat.{_+_, _≤_, _<_};
 ghost use lib.ListN.{length};
@@ -12,7 +12,7 @@ fn wide(b: u8) -> u64
     b as u64
 }
 
-// The eight bytes at a place as one number, lowest first.
+// The eight bytes at a place as one little-endian number.
 fn eight(t: &[u8], at: usize) -> u64
     requires { ⌜ at + 8 ≤ length (now t) ⌝ }
     ensures { λ r. ⌜ r ≡ eightAt (now (t .entry)) at ⌝ }
@@ -27,7 +27,7 @@ fn eight(t: &[u8], at: usize) -> u64
         + 72057594037927936 * wide(t[at + 7])
 }
 
-// Whether the n bytes at p and at q are the same; stops at the first eight that differ.
+// Whether the n bytes at p and at q are equal; stops at the first eight that differ.
 pub fn equal_at(t: &[u8], p: usize, q: usize, n: usize) -> bool
     requires { ⌜ (p + n ≤ length (now t)) × (q + n ≤ length (now t)) ⌝ }
     ensures { λ r. ⌜ r ≡ sameList (stretch (now (t .entry)) p n) (stretch (now (t .entry)) q n) ⌝ }

@@ -1,3 +1,3 @@
-// Question 9 of the edges.
+// Question 9 for edges.
 pub mod equal;
 pub mod truth;

@@ -1,5 +1,5 @@
-// Question 9 of the edges: a full kept block above the last level has the edges of its first and last child, a block of the last level its leaf
-// bytes, and any other block what the short span's walk gives from it.
+// Question 9 for edges: a full kept block above the last level has the edges of its first and last child, a block of the last level those of its leaf bytes,
+// and any other block those that the walk of a short span reads.
 use crate::equal;
 use layout::header::Header;
 use layout::place::Ahead;
@@ -24,7 +24,7 @@ ghost use Rattle.theory_edges.specs.EdgesLocal.{walkedEdges, childEdges, hasFul
 ghost use Rattle.walk_short.specs.Gathered.{gathered, Within};
 ghost use Rattle.check_edges.specs.Truths.{Linking, Edged, Leafy, foundIs};
 
-// An edge, the m bytes at a place: `own` bytes that were found, then zeros.
+// Whether the edge of m bytes at a place is the `own` bytes that were found, then zeros.
 fn edge_right(t: &[u8], m: u32, at: usize, own: u32, found: Gathered) -> bool
     requires { ⌜ (at + m ≤ length (now t)) × (own ≤ m) × (m ≤ maxLeaf) × Within (now t) own found ⌝ }
     ensures { λ r. ⌜ r ≡ foundIs (now (t .entry)) m at own found ⌝ }
@@ -42,7 +42,7 @@ fn edge_right(t: &[u8], m: u32, at: usize, own: u32, found: Gathered) -> bool
     stretches::zeros(t, at + own as usize, m - own)
 }
 
-// Both edges of a block by the short span's walk.
+// Both edges of a block, by the walk of a short span.
 fn walked_right(t: &[u8], h: Header, level: u32, b: u32, block: BlockNumber) -> bool
     requires { ⌜ Edged (now t) h level b (block .0) ⌝ }
     ensures { λ r. ⌜ r ≡ walkedEdges (now (t .entry)) level (block .0) ⌝ }
@@ -102,7 +102,7 @@ fn leaf_right(t: &[u8], h: Header, level: u32, b: u32, block: BlockNumber) -> bo
     edge_right(t, m, at + m as usize, own, again)
 }
 
-// The first edge is that of the first child, the last edge that of the last.
+// The first edge is that of the first child, the last edge that of the last child.
 fn child_right(t: &[u8], h: Header, level: u32, b: u32, block: BlockNumber) -> bool
     requires { ⌜ (Edged (now t) h level b (block .0)) × (hasFullChildren (now t) level (block .0) ≡ true) ⌝ }
     ensures { λ r. ⌜ r ≡ childEdges (now (t .entry)) level (block .0) ⌝ }
@@ -121,7 +121,7 @@ fn child_right(t: &[u8], h: Header, level: u32, b: u32, block: BlockNumber) -> b
     equal::equal_at(t, at + m, last + m, m)
 }
 
-// Whether a block above the last level is kept and has the bytes of a full one.
+// Whether a block above the last level is kept and full.
 fn is_full(t: &[u8], h: Header, level: u32, b: u32, block: BlockNumber) -> bool
     requires { ⌜ (Edged (now t) h level b (block .0)) × (level + 1 < h .settings .levels) ⌝ }
     ensures { λ r. ⌜ r ≡ hasFullChildren (now (t .entry)) level (block .0) ⌝ }
@@ -166,7 +166,7 @@ fn level_right(t: &[u8], h: Header, level: u32) -> bool
     true
 }
 
-// Of a tree that passes questions 5 to 8, with its header: are its edges true of the one text that fits it? Layout 1 has none.
+// Whether the edges of a tree that passes questions 5 to 8 are right for the one text that fits it. A layout 1 tree has none.
 pub fn edges_right(t: &[u8], h: Header) -> bool
     requires { ⌜ Linking (now t) h ⌝ }
     ensures { λ r. ⌜ r ≡ edgesTrue (textOf (now (t .entry))) (now (t .entry)) ⌝ }

@@ -1,4 +1,4 @@
--- What the code finds of a block, as question 8 says it.
+-- The tests of the code on a block decide the conditions of question 8.
 use mathlib.Core.List.{List}
 use mathlib.Core.Logic.{_≢_}
 use mathlib.Core.Bool.{Bool, true, false, not, _&&_, _||_}

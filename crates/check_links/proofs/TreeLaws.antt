@@ -1,4 +1,4 @@
--- What the loops over a level's blocks and over the levels find, as question 8 says it.
+-- The loops over the blocks of a level and over the levels decide question 8.
 use mathlib.Core.List.{List}
 use mathlib.Core.Bool.{Bool, true, false, _&&_}
 use mathlib.Core.Path.{_≡_, refl, sym, ap, _∙_}

@@ -1,4 +1,4 @@
--- What is asked of a level as its blocks are checked against it.
+-- The preconditions on a level whose blocks are checked.
 use mathlib.Core.List.{List}
 use mathlib.Core.Bool.{Bool, cond, _&&_}
 use mathlib.Core.Path.{_≡_}
@@ -14,11 +14,11 @@ use Rattle.check_links.specs.declared.level_read.Level.{Level}
 unfoldable pub partLength : List ℕ → ℕ → ℕ
 partLength t l = cond (eqb l (lastLevel t)) 1 (at.fullLength t (l + 1))
 
--- how many blocks the next level has, or how many leaf bytes there are
+-- The number of blocks of the next level, or of leaf bytes.
 unfoldable pub roomBelow : List ℕ → ℕ → ℕ
 roomBelow t l = cond (eqb l (lastLevel t)) (at.leafCount t) (at.levelCount t (l + 1))
 
--- a level of a tree that passes questions 5 to 7
+-- A level of a tree that passes questions 5 to 7.
 pub record LevelOf (t : List ℕ) (v : Level) : Type 0 where
   pub readable : Readable t
   pub level-in : v .number < at.settings t .levels
@@ -30,21 +30,21 @@ pub record LevelOf (t : List ℕ) (v : Level) : Type 0 where
   pub part-is : v .part ≡ partLength t (v .number)
   pub room-is : v .room ≡ roomBelow t (v .number)
 
--- Parts of question 8, as the code asks them.
+-- Parts of question 8, as the code tests them.
 module _ (t : List ℕ) where
-  -- block i of level 0 starts where the text is cut
+  -- Block i of level 0 starts where it must.
   abbrev pub startAsCut : ℕ → Bool
   startAsCut i = eqb (at.start t 0 i) (i * at.fullLength t 0)
 
-  -- child j of a block of level l does, where the block starts at start and its first child is number link
+  -- Child j of a block of level l starts where it must, if the block starts at `start` and its first child has the number `link`.
   abbrev pub childAsCut : ℕ → ℕ → ℕ → ℕ → Bool
   childAsCut l link start j = eqb (at.start t (l + 1) (link + j)) (start + j * at.fullLength t (l + 1))
 
-  -- the occurrence of len bytes at place g of block j lies before start, and begins in a kept block
+  -- The occurrence of len bytes at place g of block j is before `start`, and begins in a kept block.
   unfoldable pub targetRight : ℕ → ℕ → ℕ → ℕ → ℕ → Bool
   targetRight l j g len start = ltb j (at.levelCount t l) && at.isKept t l j && leb (at.start t l j + g + len) start
 
-  -- the block after block j is kept and follows in the text
+  -- The block after block j is kept and follows in the text.
   unfoldable pub nextRight : ℕ → ℕ → Bool
   nextRight l j = ltb (j + 1) (at.levelCount t l) && at.isKept t l (j + 1) && eqb (at.start t l (j + 1)) (at.start t l j + at.fullLength t l)
 

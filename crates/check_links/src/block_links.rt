@@ -1,4 +1,4 @@
-// One block of a level.
+// Checks one block of a level.
 use crate::level_read::Level;
 use layout::cut;
 use layout::place::BlockNumber;
@@ -12,7 +12,7 @@ ghost use Rattle.text.specs.Lists.{allBelow, sumBelow};
 ghost use Rattle.format.specs.Fits.{widthAt, keptRight, pointingRight, blockRight};
 ghost use Rattle.check_links.specs.LevelAsked.{LevelOf, childAsCut, targetRight, nextRight};
 
-// How many children, or on the last level leaf bytes, a block has by its kind.
+// The number of children of a block, or of its leaf bytes on the last level, by its kind.
 pub fn width(t: &[u8], v: Level, block: BlockNumber) -> u32
     requires { ⌜ LevelOf (now t) v × (block .0 < v .count) ⌝ }
     ensures { λ r. ⌜ r ≡ widthAt (now (t .entry)) (v .number) (block .0) ⌝ }
@@ -25,7 +25,7 @@ pub fn width(t: &[u8], v: Level, block: BlockNumber) -> u32
     settings::pieces(cut::length_from(v.length, start, v.full), v.part)
 }
 
-// Whether a block is right. The blocks before it have `before` children; this one has `width`, and the next level has them all.
+// Whether a block is linked correctly. The blocks before it have `before` children, this one has `width`, and the next level has room for them all.
 pub fn block_right(t: &[u8], v: Level, block: BlockNumber, before: u32, width: u32) -> bool
     requires { ⌜ LevelOf (now t) v × (block .0 < v .count) × (before ≡ sumBelow (block .0) (widthAt (now t) (v .number)))
         × (width ≡ widthAt (now t) (v .number) (block .0)) × (before + width ≤ v .room) ⌝ }
@@ -38,7 +38,7 @@ pub fn block_right(t: &[u8], v: Level, block: BlockNumber, before: u32, width: u
     pointing_right(t, v, block)
 }
 
-// A kept block links to what the blocks before it leave free one level below, where its children start as cut.
+// A kept block links to the first child, or leaf byte, that the blocks before it do not use, and its children start where they must.
 fn kept_right(t: &[u8], v: Level, block: BlockNumber, before: u32, width: u32) -> bool
     requires { ⌜ LevelOf (now t) v × (block .0 < v .count) × (before ≡ sumBelow (block .0) (widthAt (now t) (v .number)))
         × (width ≡ widthAt (now t) (v .number) (block .0)) × (before + width ≤ v .room) ⌝ }
@@ -59,7 +59,7 @@ fn kept_right(t: &[u8], v: Level, block: BlockNumber, before: u32, width: u32) -
     children_right(t, v, start, BlockNumber(link.0), width)
 }
 
-// The children of a block that starts at `start` start as cut; `first` is the first of them.
+// The children of a block that starts at `start` start where they must; `first` is the first of them.
 fn children_right(t: &[u8], v: Level, start: TextPlace, first: BlockNumber, width: u32) -> bool
     requires { ⌜ LevelOf (now t) v × (v .number ≡ v .last → ⊥) × (first .0 + width ≤ v .room) ⌝ }
     ensures { λ r. ⌜ r ≡ allBelow width (childAsCut (now (t .entry)) (v .number) (first .0) (start .0)) ⌝ }
@@ -75,7 +75,7 @@ fn children_right(t: &[u8], v: Level, start: TextPlace, first: BlockNumber, widt
     true
 }
 
-// A pointing block stands above the last level, its gap is that of a place in a block, and its occurrence lies right.
+// A pointing block is above the last level, its gap is below the block length, and its occurrence is right.
 fn pointing_right(t: &[u8], v: Level, block: BlockNumber) -> bool
     requires { ⌜ LevelOf (now t) v × (block .0 < v .count) ⌝ }
     ensures { λ r. ⌜ r ≡ pointingRight (now (t .entry)) (v .number) (block .0) ⌝ }
@@ -103,7 +103,7 @@ fn pointing_right(t: &[u8], v: Level, block: BlockNumber) -> bool
     next_right(t, v, target)
 }
 
-// The occurrence begins in a kept block, and ends at or before the start.
+// The occurrence begins in a kept block and ends at or before `start`.
 fn target_right(
     t: &[u8],
     v: Level,
@@ -126,7 +126,7 @@ fn target_right(
     from.0 as u64 + gap.0 as u64 + length as u64 <= start.0 as u64
 }
 
-// The block after the target is kept, and follows in the text.
+// The block after the target is kept and follows in the text.
 fn next_right(t: &[u8], v: Level, target: BlockNumber) -> bool
     requires { ⌜ LevelOf (now t) v × (target .0 < v .count) ⌝ }
     ensures { λ r. ⌜ r ≡ nextRight (now (t .entry)) (v .number) (target .0) ⌝ }

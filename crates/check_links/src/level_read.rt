@@ -1,4 +1,4 @@
-// A level of a tree.
+// The figures of a level that its blocks are checked against.
 use layout::header::Header;
 use layout::record;
 ghost use mathlib.Core.Path.{_≡_};
@@ -6,22 +6,22 @@ ghost use Prim.Native.Nat.{_<_};
 ghost use Rattle.layout.specs.HeaderSays.{HeaderOf};
 ghost use Rattle.check_links.specs.LevelAsked.{LevelOf, partLength, roomBelow};
 
-// What the blocks of a level are checked against.
+// The figures of a level.
 pub struct Level {
     pub number: u32,
-    // the number of the last level
+    // The number of the last level.
     pub last: u32,
-    // the bytes of a record
+    // The number of bytes of a record.
     pub size: u32,
-    // n, the bytes of the text
+    // n, the length of the text.
     pub length: u32,
-    // how many blocks the level has
+    // The number of blocks of the level.
     pub count: u32,
-    // the bytes of a full block
+    // The block length of the level.
     pub full: u32,
-    // the bytes of a full child, 1 on the last level, where a block is cut into leaf bytes
+    // The block length of the next level; 1 on the last level, whose blocks have leaf bytes.
     pub part: u32,
-    // how many blocks the next level has, or how many leaf bytes there are
+    // The number of blocks of the next level, or of leaf bytes.
     pub room: u32,
 }
 

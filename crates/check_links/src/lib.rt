@@ -1,4 +1,4 @@
-// Question 8: whether starts, kinds, links, gaps, the counts of levels and the leaf count of a tree are right.
+// Question 8: whether the starts, kinds, links, gaps, block counts and the leaf count of a tree are right.
 mod block_links;
 mod level_read;
 
@@ -13,7 +13,7 @@ ghost use Rattle.format.specs.Fits.{linksOk};
 ghost use Rattle.layout.specs.HeaderSays.{HeaderOf};
 ghost use Rattle.check_links.specs.LevelAsked.{LevelOf, startAsCut, levelRight};
 
-// Question 8, of a tree that passes questions 5 to 7 and has the header h.
+// Question 8, for a tree with the header h, which passes questions 5 to 7.
 pub fn links_right(t: &[u8], h: Header) -> bool
     requires { ⌜ HeaderOf (now t) h ⌝ }
     ensures { λ r. ⌜ r ≡ linksOk (now (t .entry)) ⌝ }
@@ -31,7 +31,7 @@ pub fn links_right(t: &[u8], h: Header) -> bool
     true
 }
 
-// The blocks of level 0 start where the text is cut.
+// The blocks of level 0 start where they must.
 fn starts_right(t: &[u8], v: Level) -> bool
     requires { ⌜ LevelOf (now t) v × (v .number ≡ 0) ⌝ }
     ensures { λ r. ⌜ r ≡ allBelow (v .count) (startAsCut (now (t .entry))) ⌝ }
@@ -47,8 +47,8 @@ fn starts_right(t: &[u8], v: Level) -> bool
     true
 }
 
-// The blocks of a level are right, and so is the count one level below. `passed` counts the children of the blocks passed: it is
-// the link of the next kept block, and never passes the next level's count.
+// The blocks of a level are linked correctly, and the block count of the next level is right. `passed` is the number of children of the blocks checked so
+// far: it is the link of the next kept block and never exceeds that count.
 fn level_right(t: &[u8], v: Level) -> bool
     requires { ⌜ LevelOf (now t) v ⌝ }
     ensures { λ r. ⌜ r ≡ levelRight (now (t .entry)) (v .number) ⌝ }

@@ -33,7 +33,7 @@ module _ (r c : ℕ) (T : List ℕ) (size : length T ≡ r * c) where
       let long : a < length (drop (b * r) U) = rw (length-drop (b * r) U) (omega (arith, transposed-length r c T size, column-in b hb)) in
       rw (e, v, add-one a) (paste-suc d₀ (b * r) (drop (b * r) U) a 0 (omega (arith, column-in b hb)) long)
 
-  -- so many columns written
+  -- Some columns have been written.
   abbrev pub Filled : List ℕ → ℕ → List ℕ → Type 0
   Filled d₀ b d = d ≡ take (b * r) U ++ drop (b * r) d₀
 

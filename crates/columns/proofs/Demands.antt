@@ -1,4 +1,4 @@
--- The demands on the rearrangement and its inverse, as theorems over what the two calls promise, for any arguments and any lent bytes.
+-- The demands on the rearrangement and its inverse, as theorems over the contracts of the two calls, for any arguments.
 -- docs/FORMAT.md: "Columns before rows".
 use mathlib.Core.List.{List, [], _++_}
 use mathlib.Core.Bool.{true, false, cond}
@@ -25,7 +25,7 @@ Lent = RefT (List ℕ)
 abbrev pub ToColumns : (κs : Lfts 2) → (text : Lent) (w : ℕ) (out after : Lent) → ℕ → Type 0
 ToColumns κs text w out after r = to-reads.Post κs (text, (w, (out, tt))) r (text, (w, (after, tt)))
 
--- the same of `from_columns`
+-- The contract of `from_columns`.
 abbrev pub FromColumns : (κs : Lfts 2) → (text : Lent) (w : ℕ) (out after : Lent) → ℕ → Type 0
 FromColumns κs text w out after r = from-reads.Post κs (text, (w, (out, tt))) r (text, (w, (after, tt)))
 
@@ -35,7 +35,7 @@ pub record Rearranges (w : ℕ) (T out U after : List ℕ) (r : ℕ) : Type 0 wh
   pub width-refused : widthOk w (length T) ≡ false → (r ≡ 20) × (after ≡ out)
   -- Refused with 21 after it: an output that is too short. Both refusals leave the output unchanged.
   pub output-refused : widthOk w (length T) ≡ true → length out < length T → (r ≡ 21) × (after ≡ out)
-  -- Else the rearranged text is written, and bytes past it are unchanged.
+  -- Otherwise the rearranged text is written, and the bytes after it are unchanged.
   pub written : widthOk w (length T) ≡ true → length T ≤ length out → (r ≡ 0) × (after ≡ U ++ drop (length T) out)
   pub passed : r ≡ 0 → (widthOk w (length T) ≡ true) × (length T ≤ length out)
 
@@ -59,7 +59,7 @@ pub from-columns : (κs : Lfts 2) (text : Lent) (w : ℕ) (out after : Lent) (r 
 unfolding uncolumnsLeaves
 from-columns κs text w out after r a = rearranges w (now text) (now out) (uncolumns w (now text)) (now after) r (a .0) (a .1)
 
--- A call that wrote the rearranged text U, and another that is lent what it wrote, W, and turns it to T again.
+-- A call that wrote the rearranged text U, and another that gets what it wrote, W, and restores T.
 module _ (w : ℕ) (T out U after W : List ℕ) (a : Rearranges w T out U after 0) (same : length U ≡ length T) (is : W ≡ take (length T) after) where
   turned : W ≡ U
   turned = is ∙ rw (a .written (a .passed refl .0) (a .passed refl .1) .1) (take-at U (drop (length T) out) (length T) same)

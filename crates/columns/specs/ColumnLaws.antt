@@ -30,7 +30,7 @@ in-row b r o h = mul-add-mod-self-right b r o ∙ mod-eq-of-lt h
 pub row-of : (b r o : ℕ) → o < r → (b * r + o) / r ≡ b
 row-of b r o h = mul-add-div-right {m = r} (omega arith) b o ∙ ap (λ (x : ℕ). b + x) (div-eq-of-lt h) ∙ omega arith
 
--- it is within c rows
+-- The place is within c rows.
 pub within : (b c r o : ℕ) → b < c → o < r → b * r + o < c * r
 within b c r o hb ho =
     let h : suc b ≤ c = omega arith in
@@ -127,7 +127,7 @@ module _ (w : ℕ) (T : List ℕ) (ok : widthOk w (length T) ≡ true) where
   unfolding uncolumns columns
   restored = ap (λ (n : ℕ). transposed w (n / w) (columns w T)) columns-length ∙ transposed-back (length T / w) w T rows-are
 
-  -- and a right inverse
+  -- The right inverse.
   pub rearranged : columns w (uncolumns w T) ≡ T
   unfolding uncolumns columns
   rearranged =

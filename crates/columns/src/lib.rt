@@ -1,4 +1,4 @@
-// Columns before rows: a text of rows of one width, rearranged by columns, and back.
+// Rearranges a text of rows of one width by columns (matrix transposition), and back.
 ghost use mathlib.Core.List.{_++_};
 ghost use mathlib.Core.Path.{_≡_};
 ghost use Prim.Native.Nat.{_*_, _≤_, _<_};
@@ -20,7 +20,7 @@ pub fn to_columns(text: &[u8], width: u32, out: &mut [u8]) -> u32
     0
 }
 
-// Writes such a text back row by row: questions 20 and 21.
+// Writes a text that is by columns back by rows: questions 20 and 21.
 pub fn from_columns(text: &[u8], width: u32, out: &mut [u8]) -> u32
     ensures { λ r. ⌜ r ≡ columnsNumber width (now (text .entry)) (now (out .entry)) ⌝ }
     ensures { λ _. ⌜ now (out .exit) ≡ uncolumnsLeaves width (now (text .entry)) (now (out .entry)) ⌝ }
@@ -34,7 +34,7 @@ pub fn from_columns(text: &[u8], width: u32, out: &mut [u8]) -> u32
     0
 }
 
-// Questions 20 and 21, of a text of n bytes and room for so many.
+// Questions 20 and 21, for a text of n bytes and an output of `room` bytes.
 fn refusal(n: usize, width: u32, room: usize) -> u32
     ensures { λ r. ⌜ r ≡ refusalOf width n room ⌝ }
 {
@@ -57,7 +57,7 @@ pub fn divides(width: u32, n: usize) -> bool
     n % width as usize == 0
 }
 
-// Writes the columns of a text of rows of a width, one after the other. Without rows nothing moves, however many columns the width names.
+// Writes the columns one after the other. Without rows nothing is written, whatever the width.
 fn transpose(text: &[u8], rows: usize, width: usize, out: &mut [u8])
     requires { ⌜ (length (now text) ≡ rows * width) × (length (now text) ≤ length (now out)) ⌝ }
     ensures { λ _. ⌜ now (out .exit) ≡ transposed rows width (now (text .entry)) ++ drop (length (now (text .entry))) (now (out .entry)) ⌝ }

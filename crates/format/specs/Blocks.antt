@@ -15,31 +15,32 @@ use Rattle.format.specs.Edges.{edgesOf}
 
 -- The blocks of one level above the last: b bytes each, at the places `starts`.
 module _ (T : List ℕ) (b : ℕ) (starts : List ℕ) where
+  -- The start of block i.
   unfoldable pub startOf : ℕ → ℕ
   startOf i = getD starts i 0
 
-  -- b bytes, or fewer if the text ends before
+  -- The length of block i: b bytes, or fewer if the text ends before.
   unfoldable pub lengthOf : ℕ → ℕ
   lengthOf i = min b (length T - startOf i)
 
-  -- blocks i and i + 1 are adjacent both in the list and in the text
+  -- Blocks i and i + 1 are a pair: neighbours in the list and in the text.
   unfoldable pub pairAt : ℕ → Bool
   pairAt i = ltb (suc i) (length starts) && eqb (startOf (suc i)) (startOf i + b)
 
-  -- they do, and the bytes of both occur at no earlier place
+  -- Blocks i and i + 1 are a pair whose bytes occur at no earlier place.
   unfoldable pub firstPairAt : ℕ → Bool
   firstPairAt i = pairAt i && eqb (leftmost T (startOf i) (min (b + b) (length T - startOf i))) (startOf i)
 
-  -- kept (marked, in the literature): in a pair that first occurs here, or in no pair
+  -- Block i is kept (marked, in the literature): it is in a pair that first occurs here, or in no pair.
   unfoldable pub keptByPairs : ℕ → Bool
   keptByPairs zero = firstPairAt 0 || not (pairAt 0)
   keptByPairs (suc h) = (firstPairAt h || firstPairAt (suc h)) || (not (pairAt h) && not (pairAt (suc h)))
 
--- the starts of the blocks of b bytes that len bytes from s are cut into
+-- The starts of the blocks of b bytes that the len bytes from s are divided into.
 unfoldable pub cut : ℕ → ℕ → ℕ → List ℕ
 cut s len b = tabulate (pieces len b) (λ j. s + j * b)
 
--- the starts of the blocks of level l: the text cut up, and below that the kept blocks cut up
+-- The starts of the blocks of level l. Level 0 divides the text, each further level the kept blocks of the level above.
 unfoldable pub startsAt : Settings → List ℕ → ℕ → List ℕ
 startsAt S T zero = cut 0 (length T) (blockLength S 0)
 startsAt S T (suc l) =
@@ -56,18 +57,20 @@ module _ (S : Settings) (T : List ℕ) (l : ℕ) (starts : List ℕ) where
   abbrev isLast : Bool
   isLast = eqb (suc l) (S .levels)
 
+  -- Whether block i is kept; on the last level all blocks are.
   unfoldable pub isKept : ℕ → Bool
   isKept i = isLast || keptByPairs T b starts i
 
-  -- bytes or children that block i has one level below
+  -- The number of children of block i, or of its leaf bytes on the last level; 0 for a block that points.
   unfoldable pub width : ℕ → ℕ
   width i =
       cond (isKept i) (cond isLast (lengthOf T b starts i) (pieces (lengthOf T b starts i) (blockLength S (suc l)))) 0
 
-  -- where the bytes of a pointing block first occur, and the number of the block that holds that place
+  -- The place where the bytes of a pointing block first occur.
   unfoldable pub occurrence : ℕ → ℕ
   occurrence i = leftmost T (startOf T b starts i) (lengthOf T b starts i)
 
+  -- The number of the block that contains that place: the last one that starts at or before it.
   unfoldable pub target : ℕ → ℕ
   target i = countBelow (length starts) (λ j. leb (startOf T b starts j) (occurrence i)) - 1
 
@@ -85,7 +88,7 @@ module _ (S : Settings) (T : List ℕ) (l : ℕ) (starts : List ℕ) where
       countFields (countIn c (stretch T up (s - up))) (countIn c (stretch T s (lengthOf T b starts i)))
       (cond (isKept i) 0 (countIn c (stretch T from (occurrence i - from))))
 
-  -- the words of block i's record
+  -- The words of the record of block i.
   unfoldable pub recordOf : ℕ → List ℕ
   recordOf i =
       let s = startOf T b starts i in
@@ -93,33 +96,36 @@ module _ (S : Settings) (T : List ℕ) (l : ℕ) (starts : List ℕ) where
       let points = plainFields s 1 (target i) (occurrence i - startOf T b starts (target i)) in
       cond (isKept i) kept points ++ concat (map (countsOf i) (S .counted))
 
-  -- the bytes of block i's record: its words, then its edges
+  -- The bytes of the record of block i: its words, then its edges.
   unfoldable pub recordIn : ℕ → List ℕ
   recordIn i = wordsBytes (recordOf i) ++ edgesOf (S .leaf) (stretch T (startOf T b starts i) (lengthOf T b starts i))
 
+  -- The records of the level.
   unfoldable pub levelBytes : List ℕ
   levelBytes = concat (tabulate (length starts) recordIn)
 
--- the layout that is built
+-- The layout that the builders write.
 abbrev pub builtLayout : ℕ
 builtLayout = 2
 
--- how many bytes a record has
+-- The number of bytes of a record.
 unfoldable pub recordBytes : Settings → ℕ
 recordBytes S = recordLength builtLayout (S .leaf) (length (S .counted))
 
--- the header's two words for each of a level and those below it: its block count and its offset
+-- The header's two words for each of `more` levels from l on: block count and offset.
 unfoldable pub levelPairs : Settings → List ℕ → ℕ → ℕ → ℕ → List ℕ
 levelPairs S T zero l at = []
 levelPairs S T (suc more) l at =
     let count = length (startsAt S T l) in
     count ∷ at ∷ levelPairs S T more (suc l) (at + count * recordBytes S)
 
+-- The leaf bytes: the bytes of the blocks of the last level.
 unfoldable pub leafBytes : Settings → List ℕ → List ℕ
 leafBytes S T =
     let last = startsAt S T (S .levels - 1) in
     concat (map (λ s. stretch T s (min (S .leaf) (length T - s))) last)
 
+-- The header.
 unfoldable pub header : Settings → List ℕ → List ℕ
 header S T =
     let H = S .levels in
@@ -129,7 +135,7 @@ header S T =
     ++ (S .counted ++ replicate (maxCounted - k) 0)
     ++ wordsBytes (levelPairs S T H 0 headerLength ++ replicate (2 * maxLevels - 2 * H) 0 ++ leaves ∷ length (leafBytes S T) ∷ [])
 
--- the bytes of the block tree of T
+-- The block tree of T: header, records level by level, leaf bytes.
 unfoldable pub treeOf : Settings → List ℕ → List ℕ
 treeOf S T =
     header S T ++ concat (tabulate (S .levels) (λ l. levelBytes S T l (startsAt S T l))) ++ leafBytes S T

@@ -15,7 +15,7 @@ module _ (m : ℕ) (bytes : List ℕ) where
   unfolding filledOut
   length-filled = rw (length-take, length-append, length-replicate) (omega arith)
 
-  -- its own bytes, then zeros
+  -- An edge has the block's own bytes, then zeros.
   pub filled-own : (x : ℕ) → x < m → x < length bytes → getD (filledOut m bytes) x 0 ≡ getD bytes x 0
   unfolding filledOut
   filled-own x hm hx = getD-take m (bytes ++ replicate m 0) x 0 hm ∙ List·getD-append bytes (replicate m 0) 0 x hx
@@ -44,7 +44,7 @@ module _ (m : ℕ) (bytes : List ℕ) where
       after : (a b : List ℕ) → length a ≡ m → getD (a ++ b) (m + x) 0 ≡ getD b x 0
       after a b e = rw (← e) (getD-append-add a b x 0)
 
--- of a block whose x bytes stand in a text from p: its own bytes, then zeros
+-- The edges of a block whose x bytes are in a text from p on: its own bytes, then zeros.
 module _ (T : List ℕ) (m p x : ℕ) (fits : p + x ≤ length T) where
   abbrev bytes : List ℕ
   bytes = stretch T p x

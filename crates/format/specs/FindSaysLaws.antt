@@ -17,7 +17,7 @@ module _ (t : List ℕ) where
   abbrev pub FindSays : (byte j : ℕ) → Said → Type 0
   FindSays = FindBy t (verdict t)
 
--- find and row walk exactly where the byte is counted and so many stand in the tree
+-- Find and row walk exactly if the byte is counted and its total is at least j.
 pub record Selected (t : List ℕ) (byte j : ℕ) : Type 0 where
   pub pass : readable t ≡ 0
   pub counted : isCounted t byte ≡ true

@@ -1,4 +1,5 @@
--- Questions 8 and 9: which trees are well linked, which text fits a tree, and which counts and edges are true of it.
+-- Questions 8 and 9: whether the blocks of a tree are linked correctly, whether a text fits a tree (the tree represents the text), and whether the counts and
+-- edges are right for the text.
 -- docs/FORMAT.md: "Which text a tree stands for", "Question 8", "Question 9".
 use mathlib.Core.List.{List}
 use mathlib.Core.Option.{Option, none, some}
@@ -14,22 +15,23 @@ use Rattle.format.specs.Layout as at
 use Rattle.format.specs.Path.{Path, pathOf}
 
 module _ (t : List ℕ) where
+  -- The number of the last level.
   unfoldable pub lastLevel : ℕ
   lastLevel = at.settings t .levels - 1
 
-  -- how many children, or on the last level leaf bytes, block i of level l has by the kinds in the tree
+  -- The number of children of block i of level l, or of its leaf bytes on the last level, by its kind; 0 for a block that points.
   unfoldable pub widthAt : ℕ → ℕ → ℕ
   widthAt l i =
       cond (at.isKept t l i) (cond (eqb l lastLevel) (at.blockLengthAt t l i) (pieces (at.blockLengthAt t l i) (at.fullLength t (l + 1)))) 0
 
-  -- a kept block links to what the kept blocks before it leave free one level below, where its children start as cut
+  -- A kept block links to the first child, or leaf byte, that the kept blocks before it do not use, and its children start where they must.
   unfoldable pub keptRight : ℕ → ℕ → Bool
   keptRight l i =
       eqb (at.link t l i) (sumBelow i (widthAt l)) && eqb (at.gap t l i) 0
       && (eqb l lastLevel || allBelow (widthAt l i) (λ j. eqb (at.start t (l + 1) (at.link t l i + j)) (at.start t l i + j * at.fullLength t (l + 1))))
 
-  -- a pointing block: above the last level, to a kept block, with an occurrence that ends at or before its own start; where the
-  -- occurrence passes that block, the next one is kept and follows in the text
+  -- A pointing block is above the last level and links to a kept block; its occurrence lies wholly before the block itself. Where this occurrence crosses the
+  -- end of the linked block, the block after that one is kept too and adjacent in the text.
   unfoldable pub pointingRight : ℕ → ℕ → Bool
   pointingRight l i =
       let j = at.link t l i in
@@ -40,26 +42,27 @@ module _ (t : List ℕ) where
       && (leb (g + len) (at.fullLength t l)
       || (ltb (j + 1) (at.levelCount t l) && at.isKept t l (j + 1) && eqb (at.start t l (j + 1)) (at.start t l j + at.fullLength t l)))
 
+  -- Block i of level l is linked correctly, by its kind.
   unfoldable pub blockRight : ℕ → ℕ → Bool
   blockRight l i = cond (at.isKept t l i) (keptRight l i) (pointingRight l i)
 
-  -- the count one level below (leaf bytes, below the last) is what the kinds give
+  -- The level below, or the leaf bytes below the last level, has as many items as the kinds of level l require.
   unfoldable pub countBelowRight : ℕ → Bool
   countBelowRight l =
       eqb (sumBelow (at.levelCount t l) (widthAt l)) (cond (eqb l lastLevel) (at.leafCount t) (at.levelCount t (l + 1)))
 
-  -- question 8
+  -- Question 8: the blocks of level 0 start where they must, and on each level all blocks are linked correctly.
   unfoldable pub linksOk : Bool
   linksOk =
       allBelow (at.levelCount t 0) (λ i. eqb (at.start t 0 i) (i * at.fullLength t 0))
       && allBelow (at.settings t .levels) (λ l. countBelowRight l && allBelow (at.levelCount t l) (blockRight l))
 
-  -- the byte at the end of a path; 0 for a path that breaks
+  -- The byte at the end of a path; 0 if there is no path.
   abbrev pub leafOf : Option Path → ℕ
   leafOf none = 0
   leafOf (some p) = at.leafByte t (p .leaf)
 
-  -- the text of a tree: at each place what its path gives
+  -- The text of a tree: at each place the byte at the end of its path.
   unfoldable pub textOf : List ℕ
   textOf = tabulate (at.textLength t) (λ p. leafOf (pathOf t p))
 
@@ -70,7 +73,7 @@ module _ (T t : List ℕ) where
   abbrev parentStart : ℕ → ℕ → ℕ
   parentStart l s = elim l [ zero ↦ 0 | suc above ↦ s / at.fullLength t above * at.fullLength t above ]
 
-  -- the counts of counted byte number c in block i are those of the text
+  -- The three counts of counted byte number c in block i are those of the text.
   unfoldable pub blockCountsTrue : ℕ → ℕ → ℕ → Bool
   blockCountsTrue l i c =
       let byte = getD (at.settings t .counted) c 0 in
@@ -80,18 +83,19 @@ module _ (T t : List ℕ) where
       && eqb (at.inside t l i c) (countIn byte (stretch T s (at.blockLengthAt t l i)))
       && eqb (at.skip t l i c) (cond (at.isKept t l i) 0 (countIn byte (stretch T (at.start t l (at.link t l i)) (at.gap t l i))))
 
+  -- All counts are those of the text.
   unfoldable pub countsTrue : Bool
   countsTrue =
       allBelow (at.settings t .levels) (λ l.
       allBelow (at.levelCount t l) (λ i. allBelow (at.countedCount t) (blockCountsTrue l i)))
 
-  -- the edges of block i are those of its bytes in the text
+  -- The edges of block i are those of its bytes in the text.
   unfoldable pub blockEdgesTrue : ℕ → ℕ → Bool
   blockEdgesTrue l i =
       let m = at.settings t .leaf in
       sameList (stretch t (at.edgesAt t l i) (m + m)) (edgesOf m (stretch T (at.start t l i) (at.blockLengthAt t l i)))
 
-  -- in layout 1 there are none
+  -- All edges are those of the text; a layout 1 tree has none.
   unfoldable pub edgesTrue : Bool
   edgesTrue =
       not (at.hasEdges t) || allBelow (at.settings t .levels) (λ l. allBelow (at.levelCount t l) (blockEdgesTrue l))

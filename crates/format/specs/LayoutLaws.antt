@@ -47,7 +47,7 @@ pub record Readable (t : List ℕ) : Type 0 where
   pub leaf-at : leafOffset t ≡ headerLength + sumBelow (settings t .levels) (levelCount t) * recordSize t
   pub size : length t ≡ leafOffset t + leafCount t
 
--- a number that is asked first passes only if its test holds
+-- A question that is checked first passes only if its test holds.
 pub ask-test : (q : ℕ) (b : Bool) (rest : ℕ) → ask (suc q) b rest ≡ 0 → b ≡ true
 ask-test q true rest h = refl
 ask-test q false rest h = absurd (let z : ⊥ = omega arith in z)
@@ -164,7 +164,7 @@ module _ (t : List ℕ) (k : Readable t) where
   pub full-small : (l : ℕ) → fullLength t l ≤ maxText
   full-small l = le-trans (full-falls 0 l (omega arith)) (k .full-high)
 
-  -- Where things stand in the tree's bytes.
+  -- Offsets in the bytes of the tree.
 
   pub size-low : fieldBytes (countedCount t) ≤ recordSize t
   unfolding recordSize
@@ -188,12 +188,12 @@ module _ (t : List ℕ) (k : Readable t) where
       let whole : (S + (i + 1)) * R ≤ sumBelow (settings t .levels) (levelCount t) * R = mul-le-mul-right R (omega (arith, part)) in
       omega (arith, k .level-at l hl, k .leaf-at, add-mul S (i + 1) R, add-mul i 1 R)
 
-  -- so does each of its words
+  -- Each word of a record is inside the tree.
   pub record-inside : (l i f : ℕ) → l < settings t .levels → i < levelCount t l → f < fieldCount (countedCount t)
       → levelOffset t l + i * recordSize t + 4 * f + 4 ≤ leafOffset t
   record-inside l i f hl hi hf = omega (arith, byte-inside l i (4 * f + 4) hl hi (omega (arith, size-low)))
 
-  -- and, in layout 2, its edges
+  -- In layout 2 the edges of a record are inside the tree.
   pub edges-inside : (l i : ℕ) → layout t ≡ 2 → l < settings t .levels → i < levelCount t l
       → edgesAt t l i + (settings t .leaf + settings t .leaf) ≤ leafOffset t
   unfolding edgesAt

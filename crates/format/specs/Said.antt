@@ -1,17 +1,18 @@
--- An answer by its number and its figures (docs/FORMAT.md, "The questions, in order").
+-- The answer of a call as a refusal and two figures (docs/FORMAT.md, "The questions, in order").
 use mathlib.Core.Path.{_≡_}
 use Prim.Native.Nat.{ℕ, zero, suc, _≤_}
 
--- a number and two figures; the number 0 is no refusal
+-- A refusal, 0 for none, and two figures.
 pub record Said : Type 0 where
   pub number : ℕ
   pub value : ℕ
   pub entered : ℕ
 
+-- A refusal, with figures 0.
 abbrev pub refused : ℕ → Said
 refused q = record { number = q; value = 0; entered = 0 }
 
--- a number other than 0 is the answer, else the answer is what follows
+-- The refusal if there is one, else the answer that follows.
 abbrev pub unless : ℕ → Said → Said
 unless zero answer = answer
 unless (suc q) answer = refused (suc q)

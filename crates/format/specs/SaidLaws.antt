@@ -1,4 +1,4 @@
--- Laws of answers: a number that is not 0 is the answer.
+-- Laws of answers: a refusal that is not 0 is the answer.
 use mathlib.Core.List.{List, [], _∷_}
 use mathlib.Core.Bool.{Bool, true, false, cond, _&&_}
 use mathlib.Core.Path.{_≡_, refl, sym, _∙_}
@@ -10,11 +10,11 @@ use Rattle.text.specs.ListLaws.{and-left, and-right}
 use Rattle.format.specs.Said.{Said, refused, unless}
 use Rattle.format.specs.Verdict.{ask, asks, orNext}
 
--- a refusal is handed on
+-- A refusal is passed on.
 pub unless-refused : (n k q : ℕ) (a : Said) → n ≡ suc k → q ≡ suc k → refused q ≡ unless n a
 unless-refused n k q a e f = rw (e, f)
 
--- what is no refusal was asked everything
+-- An answer that is not a refusal passed all questions.
 pub unless-passes : (n : ℕ) (a : Said) → unless n a .number ≡ 0 → (n ≡ 0) × (a .number ≡ 0)
 unless-passes zero a h = (refl, h)
 unless-passes (suc n) a h = absurd (let z : ⊥ = omega arith in z)

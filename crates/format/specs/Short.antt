@@ -9,21 +9,21 @@ use Rattle.text.specs.Text.{stretch}
 use Rattle.format.specs.Layout as at
 use Rattle.format.specs.Path.{Visit, visit, keptBlock, pointingBlock, lands, landBlock, landPlace, landVisits, provided}
 
--- the blocks entered, first to last, and where the bytes stand in the tree: `size` of them at `from`, the others at `next`
+-- The blocks entered, first to last, and where the bytes are in the tree: `size` of them from offset `from`, the others from offset `next`.
 pub record Short : Type 0 where
   pub visits : List Visit
   pub from : ℕ
   pub size : ℕ
   pub next : ℕ
 
--- with visits in front
+-- The walk with visits prepended.
 abbrev pub led : List Visit → Option Short → Option Short
 led vs none = none
 led vs (some s) = some (record { visits = vs ++ s .visits; from = s .from; size = s .size; next = s .next })
 
 module _ (t : List ℕ) where
-  -- len bytes from place o of block i of level l, over its end: so many as are left of a full block from its last edge, the others from the
-  -- first edge of the next block. Both count as entered, and their kinds are not read.
+  -- The bytes from place o of block i of level l that extend past its end: those up to the end of a full block from its last edge, the others from the first
+  -- edge of the next block. Both blocks count as entered; their kinds are not read.
   unfoldable pub byEdges : ℕ → ℕ → ℕ → Option Short
   byEdges l i o =
       let left = at.fullLength t l - o in
@@ -36,15 +36,15 @@ module _ (t : List ℕ) where
         next = at.edgesAt t l (i + 1);
       }))
 
-  -- the len bytes from place o of block i of the last level, if it holds them: leaf bytes
+  -- The len bytes from place o of block i of the last level, if all of them are leaf bytes of a kept block.
   unfoldable pub inLeaf : ℕ → ℕ → ℕ → ℕ → Option Short
   inLeaf l i o len =
       provided (keptBlock t l i && leb (at.link t l i + o + len) (at.leafCount t))
       (some (record { visits = visit l i o ∷ []; from = at.leafOffset t + (at.link t l i + o); size = len; next = 0 }))
 
-  -- the len bytes from place o of block i of level l, which has `below` levels under it. Where the block holds them all and is kept, they are
-  -- looked for in its children; where it points, in its target, and the border between the two targets is one too. None where the walk leaves
-  -- the tables, or meets a block that a path could not pass.
+  -- The walk for the len bytes from place o of block i of level l, with `below` levels under it. If they all are in the block, it continues in the children
+  -- of a kept block, or of the target of a pointing block; where they extend from one target block into the next, the edges of these two have them. There is
+  -- none if the walk leaves the tables or meets a block that a path cannot pass.
   unfoldable pub shortFrom : ℕ → ℕ → ℕ → ℕ → ℕ → Option Short
   shortFrom zero l i o len = cond (leb (o + len) (at.fullLength t l)) (inLeaf l i o len) (byEdges l i o)
   shortFrom (suc below) l i o len =
@@ -57,11 +57,11 @@ module _ (t : List ℕ) where
       let between = provided (pointingBlock t l i) (led (visit l i o ∷ []) (byEdges l j p)) in
       cond (leb (o + len) b) (cond (leb (p + len) b) inside between) (byEdges l i o)
 
-  -- from place p of the text
+  -- The walk for the len bytes from place p of the text.
   unfoldable pub shortOf : ℕ → ℕ → Option Short
   shortOf p len = shortFrom (at.settings t .levels - 1) 0 (p / at.fullLength t 0) (p % at.fullLength t 0) len
 
-  -- the bytes, how many blocks were entered, and whether the walk holds
+  -- The bytes that a walk reads; none if there is no walk.
   abbrev pub shortBytes : ℕ → Option Short → List ℕ
   shortBytes len none = []
   shortBytes len (some s) = stretch t (s .from) (s .size) ++ stretch t (s .next) (len - s .size)

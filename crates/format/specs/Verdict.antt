@@ -1,4 +1,4 @@
--- What the check answers: 0 for an accepted tree, else the number of the first question that it fails.
+-- The result of the check: 0 for a valid tree, else the number of the first question that fails.
 -- docs/FORMAT.md: "The questions, in order".
 use mathlib.Core.List.{List, [], _∷_}
 use mathlib.Core.Bool.{Bool, true, false, cond, _&&_}
@@ -7,7 +7,7 @@ use lib.Dec.{eqb}
 use Rattle.format.specs.Layout as at
 use Rattle.format.specs.Fits.{linksOk, textOf, countsTrue, edgesTrue}
 
--- the number of a question that fails, else what the next ones say
+-- The number of a question if it fails, else the result of the next ones.
 abbrev pub ask : ℕ → Bool → ℕ → ℕ
 ask number true rest = rest
 ask number false rest = number
@@ -25,5 +25,6 @@ orNext number next = cond (eqb number 0) next number
 unfoldable pub readable : List ℕ → ℕ
 readable t = asks ((5, at.longEnough t) ∷ (6, at.layoutOk t) ∷ (7, at.headerOk t) ∷ [])
 
+-- Questions 5 to 9, in order: what check returns.
 unfoldable pub verdict : List ℕ → ℕ
 verdict t = asks ((5, at.longEnough t) ∷ (6, at.layoutOk t) ∷ (7, at.headerOk t) ∷ (8, linksOk t) ∷ (9, countsTrue (textOf t) t && edgesTrue (textOf t) t) ∷ [])

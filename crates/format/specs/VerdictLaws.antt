@@ -16,7 +16,7 @@ refused-first true true false q rest h = h
 refused-first true false c q rest h = h
 refused-first false b c q rest h = h
 
--- layout 1 has no edges, and nothing is asked of them
+-- A layout 1 tree has no edges, so the question on edges passes.
 pub no-edges : (T t : List ℕ) → layout t ≡ 1 → edgesTrue T t ≡ true
 unfolding edgesTrue hasEdges
 no-edges T t e = rw e

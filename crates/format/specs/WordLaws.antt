@@ -61,7 +61,7 @@ getD-setWord-other t i w k out =
     let n3 : k ≢ i + 3 = λ e. out (omega arith) (omega arith) in
     simp getD-set-other
 
--- written in place, a word's bytes stand between what stood before and after them
+-- Writing a word puts its bytes between those before and after it, which are unchanged.
 pub setWord-eq : (t : List ℕ) (i w : ℕ) → i + 4 ≤ length t → setWord t i w ≡ take i t ++ wordBytes w ++ drop (i + 4) t
 unfolding setWord wordBytes
 setWord-eq t i w fits = rw (add-one i, add-two i, add-three i) (sets-eq (w % 256 ∷ w / 256 % 256 ∷ w / 65536 % 256 ∷ w / 16777216 % 256 ∷ []) t i fits)
@@ -101,7 +101,7 @@ word-in (w ∷ ws) B (suc j) l small =
     let e : 4 * suc j ≡ 4 + 4 * j = omega arith in
     rw (words-cons w ws B, e) (word-next w (wordsBytes ws ++ B) (4 * j) ∙ word-in ws B j (omega arith) small)
 
--- word j of the words ws that stand after A
+-- Word j of the words ws after A.
 pub word-at : (A ws B : List ℕ) (a j : ℕ) → length A ≡ a → j < length ws → getD ws j 0 < 4294967296
     → wordAt (A ++ (wordsBytes ws ++ B)) (a + 4 * j) ≡ getD ws j 0
 word-at A ws B a j e l small = rw (← e) (wordAt-append A (wordsBytes ws ++ B) (4 * j) ∙ word-in ws B j l small)

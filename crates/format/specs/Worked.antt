@@ -1,5 +1,5 @@
--- The worked book and the marked cases of docs/FORMAT.md, "Example", two more texts and the empty one, computed from the definitions; trees are of layout 2
--- where nothing else is said.
+-- The worked book and the marked cases of docs/FORMAT.md, "Example", two more texts and the empty one, computed from the definitions. Trees have layout 2
+-- unless stated otherwise.
 use mathlib.Core.Bool.{true, false}
 use mathlib.Core.List.{List, [], _∷_, _++_}
 use mathlib.Core.Option.{some}
@@ -197,7 +197,7 @@ marked = record {
   blocks-too-large = (refl, refl, refl);
 }
 
--- a header with n 0 and the settings `two`: so many blocks on level 0 and on level 1, and leaf bytes from `leaf` on; what follows it
+-- A header with n 0 and the settings `two`, with given block counts of levels 0 and 1, and leaf bytes from `leaf` on; then the rest.
 laid-out : ℕ → ℕ → ℕ → ℕ → List ℕ → List ℕ
 laid-out first second leaf leaves rest =
     wordsBytes (1 ∷ 0 ∷ 2 ∷ 2 ∷ 2 ∷ 1 ∷ 65 ∷ first ∷ 100 ∷ second ∷ 100 ∷ []) ++ replicate 48 0 ++ wordsBytes (leaf ∷ leaves ∷ []) ++ rest

@@ -1,4 +1,4 @@
--- The form that a row's bytes are read to says whether the row matches.
+-- The state after the bytes of a row decides whether the row matches.
 use mathlib.Core.List.{List, [], _∷_}
 use mathlib.Core.Bool.{Bool, true, false, cond, _&&_}
 use mathlib.Core.Path.{_≡_, refl, sym, _∙_}

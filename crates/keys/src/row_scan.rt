@@ -1,4 +1,4 @@
-// A stretch of the text, scanned for a row that matches.
+// Scans a part of the text for a row that matches.
 use crate::form;
 use crate::form::Form;
 ghost use mathlib.Core.Path.{_≡_};
@@ -9,13 +9,13 @@ ghost use Rattle.keys.specs.Forms.{keyAutomaton};
 ghost use Rattle.keys.specs.RowScanned.{asScan, BytesEnd, CutsFit, MayMatch, RowPassed, TurnedOn};
 ghost use Rattle.keys.specs.Keys.{maxCuts};
 
-// The number of the first row that ends in the stretch and matches; or how far the row is in which the stretch ends, and its number.
+// The number of the first row that ends in the part and matches; or else the state and the number of the row in which the part ends.
 pub enum Scanned {
     Found(u32),
     On(Form, u32),
 }
 
-// One byte more of a row so far read, with its number.
+// Reads one byte of the row with this number, from a state.
 fn turn(ranges: &[u8], form: Form, row: u32, byte: u8) -> Scanned
     requires { ⌜ (length (now ranges) ≤ 2 * maxCuts) × (row + 1 < 4294967296) ⌝ }
     ensures { λ r. ⌜ asScan r ≡ scanByte (keyAutomaton (now (ranges .entry))) form row byte ⌝ }

@@ -21,15 +21,15 @@ Lent = RefT (List ℕ)
 abbrev pub Read : Lfts 1 → Lent → ℕ → ℕ → Type 0
 Read κs t i r = read-reads.Post κs (t, (i, tt)) r (t, (i, tt))
 
--- the same of `record::field`
+-- The contract of `record::field`.
 abbrev pub Field : Lfts 1 → Lent → ℕ → ℕ → BlockNumber → ℕ → ℕ → Type 0
 Field κs t size level block f r = field-reads.Post κs (t, (size, (level, (block, (f, tt))))) r (t, (size, (level, (block, (f, tt)))))
 
--- Any lent bytes that hold the four are enough: nothing else is asked.
+-- A slice that has the four bytes is enough: there is no other precondition.
 pub read-asks : (κs : Lfts 1) (t : Lent) (i : ℕ) → i + 4 ≤ length (now t) → read-reads.Asked κs (t, (i, tt))
 read-asks κs t i held = held
 
--- No other byte changes the number: two lent slices that agree on the four give the same one, whatever else they hold and however long they are.
+-- No other byte affects the number: two slices that agree on the four bytes give the same one, whatever else they contain and however long they are.
 pub read-in-place : (κs κu : Lfts 1) (t u : Lent) (i r s : ℕ) → Read κs t i r → Read κu u i s
     → ((k : ℕ) → i ≤ k → k < i + 4 → getD (now t) k 0 ≡ getD (now u) k 0) → r ≡ s
 read-in-place κs κu t u i r s a b same = a ∙ wordAt-agree (now t) (now u) i same ∙ sym b
@@ -40,7 +40,7 @@ module _ (κs κu : Lfts 1) (t u : Lent) (header : (k : ℕ) → k < headerLengt
   abbrev place : ℕ
   place = at.levelOffset (now t) level + block .0 * at.recordSize (now t) + 4 * f
 
-  -- it can be read from bytes that end with its four, in the middle of the record
+  -- A field can be read from bytes that end with its four, in the middle of the record.
   pub field-cut-off : headerLength ≤ length (now u) → place + 4 ≤ length (now u) → field-reads.Asked κu (u, (size, (level, (block, (f, tt)))))
   field-cut-off long held = field-held (now t) (now u) header size level (block .0) f h long held
 

@@ -1,4 +1,4 @@
--- Questions 5 to 7, asked in order.
+-- Questions 5 to 7 in order.
 use mathlib.Core.List.{List}
 use mathlib.Core.Bool.{Bool, true, false, cond, _||_}
 use mathlib.Core.Path.{_≡_, refl, sym, _∙_}

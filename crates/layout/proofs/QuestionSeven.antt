@@ -1,4 +1,4 @@
--- How the tests of question 7, asked one by one, make the whole.
+-- The tests of the code, taken together, decide question 7.
 use mathlib.Core.List.{List}
 use mathlib.Core.Bool.{Bool, true, false, cond, _&&_}
 use mathlib.Core.Path.{_≡_, refl, sym, _∙_}
@@ -111,7 +111,7 @@ counted-part t k e h =
     let z : countedAt + k - countedAt ≡ k = omega arith in
     rw (z, ← e) (sym (take-take k maxCounted (drop countedAt t) h))
 
--- what the checking constructor tells
+-- The result of the constructor of checked settings.
 fine-sizes : (s : Settings) (a b : Bool) (r : Settings) → Fine s ≡ cond a (cond b (Fine r) (Refused 3)) (Refused 2) → a ≡ true
 fine-sizes s true b r e = refl
 fine-sizes s false b r e = absurd (let z : _≡_ {A = ℕ} 0 1 = cc in omega arith)

@@ -22,7 +22,7 @@ module _ (t : List ℕ) (size level block f table : ℕ) (h : FieldIn t size lev
   unfolding at.field
   field-is v e = e ∙ ap (wordAt t) place-is
 
--- where the edges of a block stand
+-- The offset of the edges of a block.
 pub edges-are : (t : List ℕ) (size counted level block table : ℕ) → EdgesIn t size counted level → table ≡ wordAt t (offsetAt level)
     → (z : ℕ) → z ≡ block * size → table + z + fieldBytes counted ≡ at.edgesAt t level block
 unfolding at.edgesAt at.levelOffset

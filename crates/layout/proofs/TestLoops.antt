@@ -1,4 +1,4 @@
--- A loop that tests the numbers from 0 and stops at the first that fails answers `allBelow`.
+-- A loop that tests the numbers from 0 on and stops at the first that fails computes `allBelow`.
 use mathlib.Core.Bool.{Bool, true, false}
 use mathlib.Core.Path.{_≡_, refl, sym}
 use Prim.Native.Nat.{ℕ, _+_, _≤_, _<_}

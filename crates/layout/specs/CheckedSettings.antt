@@ -1,4 +1,4 @@
--- What the checking constructor of the settings answers.
+-- What the constructor of checked settings returns.
 use mathlib.Core.List.{List, []}
 use mathlib.Core.Bool.{cond}
 use Prim.Native.Nat.{ℕ}

@@ -1,4 +1,4 @@
--- What reading a header answers, and the parts of question 7 as the code asks them.
+-- The result of reading a header, and the parts of question 7 as the code tests them.
 use mathlib.Core.List.{List}
 use mathlib.Core.Bool.{Bool, cond, _&&_}
 use mathlib.Core.Path.{_≡_}
@@ -20,15 +20,15 @@ use Rattle.layout.specs.declared.header.Header.{Header}
 use Rattle.layout.specs.declared.header.HeaderRead.{HeaderRead}
 use Rattle.layout.specs.declared.header.HeaderRead.the-variants.{Good, Refused}
 
--- the settings as the header's words have them
+-- The settings in the words of the header.
 abbrev pub settingsOf : List ℕ → Settings
 settingsOf t = record { leaf = wordAt t leafAt; arity = wordAt t arityAt; levels = wordAt t levelsAt; counted = wordAt t countedCountAt }
 
--- these, if question 7 lets the header through
+-- These settings, if question 7 passes.
 unfoldable pub settingsSay : List ℕ → Checked
 settingsSay t = cond (at.headerOk t) (Fine (settingsOf t)) (settings.Refused 7)
 
--- the header's words, and the lengths of a level 0 block and of a record
+-- The words of the header, and the lengths of a level 0 block and of a record.
 abbrev pub fieldsOf : List ℕ → Header
 fieldsOf t = record {
   layout = wordAt t layoutAt;
@@ -40,7 +40,7 @@ fieldsOf t = record {
   «record_size» = at.recordSize t;
 }
 
--- the header, unless a question refuses it
+-- The header, or the refusal.
 abbrev pub goodUnless : ℕ → Header → HeaderRead
 goodUnless zero h = Good h
 goodUnless (suc q) h = Refused (suc q)
@@ -49,21 +49,21 @@ unfoldable pub headerSays : List ℕ → HeaderRead
 headerSays t = goodUnless (readable t) (fieldsOf t)
 
 module _ (t : List ℕ) where
-  -- the places for counted bytes past the k counted ones are zero
+  -- The unused places for counted bytes are zero.
   abbrev pub zeroByte : ℕ → ℕ → Bool
   zeroByte k x = eqb (getD t (countedAt + k + x) 0) 0
 
   unfoldable pub spareCounted : ℕ → Bool
   spareCounted k = allBelow (maxCounted - k) (zeroByte k)
 
-  -- the counts and offsets past the H levels are zero
+  -- The counts and offsets of unused levels are zero.
   abbrev pub zeroLevel : ℕ → ℕ → Bool
   zeroLevel H x = eqb (at.levelCount t (H + x)) 0 && eqb (at.levelOffset t (H + x)) 0
 
   unfoldable pub spareLevels : ℕ → Bool
   spareLevels H = allBelow (maxLevels - H) (zeroLevel H)
 
-  -- each level's records start where the level above ends, and the leaf bytes after the last
+  -- The records of each level start where those of the level above end, and the leaf bytes follow the last.
   abbrev pub follows : ℕ → Bool
   follows l = eqb (at.levelOffset t l) (headerLength + sumBelow l (at.levelCount t) * at.recordSize t)
 
@@ -77,7 +77,7 @@ module _ (t : List ℕ) where
       && tablesMeet (at.settings t .levels)
       && eqb (length t) (at.leafOffset t + at.leafCount t)
 
-  -- n and the settings are those of the header, and within their bounds
+  -- n and the settings are those of the header, and within their bounds.
   pub record HasSettings (n : ℕ) (s : Settings) : Type 0 where
     pub long : headerLength ≤ length t
     pub n-is : n ≡ wordAt t textLengthAt

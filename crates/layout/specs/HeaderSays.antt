@@ -1,4 +1,4 @@
--- What reading a header gives: the header of a tree that passes questions 5 to 7, or the number that every question answers.
+-- The result of reading a header: the header of a tree that passes questions 5 to 7, or the refusal that every call returns.
 use mathlib.Core.List.{List}
 use mathlib.Core.Bool.{Bool, true, false}
 use mathlib.Core.Path.{_≡_, refl, sym, ap, _∙_}
@@ -15,7 +15,7 @@ use Rattle.layout.specs.declared.header.HeaderRead.the-variants.{Good, R
 use Rattle.layout.specs.SettingsLevel.{Sized}
 use Rattle.layout.specs.Header.{fieldsOf, goodUnless, headerSays}
 
--- t passes questions 5 to 7, and h is its header
+-- The tree t passes questions 5 to 7, and h is its header.
 pub record HeaderOf (t : List ℕ) (h : Header) : Type 0 where
   pub passes : readable t ≡ 0
   pub facts : Readable t
@@ -68,7 +68,7 @@ module _ (t : List ℕ) (x : HeaderRead) (is : x ≡ headerSays t) where
   unfolding headerSays
   header-refused q e = refused-cases (readable t) q (fieldsOf t) (sym e ∙ is)
 
--- a header's settings are within their bounds, and give the length of a level's blocks
+-- The settings of a header are within their bounds, and give the block length of each level.
 module _ (t : List ℕ) (h : Header) (k : HeaderOf t h) where
   pub sized : (level : ℕ) → level < h .settings .levels → Sized (h .settings) level
   sized level l = record {
@@ -80,7 +80,7 @@ module _ (t : List ℕ) (h : Header) (k : HeaderOf t h) where
   unfolding at.fullLength blockLength
   full-is level b e = e ∙ rw (k .leaf-is, k .arity-is, k .levels-is)
 
--- the number of a header that does not pass is at most 7
+-- The refusal of a header is at most 7.
 ask-small : (a b c : Bool) → ask 5 a (ask 6 b (ask 7 c 0)) ≤ 7
 ask-small true true true = omega arith
 ask-small true true false = omega arith

@@ -1,4 +1,4 @@
--- What is asked where a field of a record is read: that the lent bytes hold its four.
+-- The precondition of reading a field of a record: the slice has its four bytes.
 use mathlib.Core.List.{List}
 use mathlib.Core.Path.{_≡_, _∙_}
 use Prim.Native.Nat.{ℕ, _+_, _*_, _≤_, _<_}
@@ -18,7 +18,7 @@ pub record FieldIn (t : List ℕ) (size level block f : ℕ) : Type 0 where
   pub f-low : f < fieldCount maxCounted
   pub inside : levelOffset t level + block * recordSize t + 4 * f + 4 ≤ length t
 
--- in a tree that passes questions 5 to 7, every field of every record of its tables is there
+-- In a tree that passes questions 5 to 7, every field of every record of its tables is inside the tree.
 pub field-in : (t : List ℕ) → Readable t → (size level block f : ℕ) → size ≡ recordSize t → level < settings t .levels → block < levelCount t level
     → f < fieldCount (countedCount t) → FieldIn t size level block f
 field-in t k size level block f is hl hb hf = record {
@@ -29,8 +29,8 @@ field-in t k size level block f is hl hb hf = record {
   inside = word-inside t k level block f hl hb hf;
 }
 
--- A number is read in its place. Other bytes with the same header that hold the field's four, also where its record is cut off there, hold the
--- field; and if they agree on these four, it is the same number, whatever else they hold and however long they are.
+-- A field is read from its own four bytes. Bytes with the same header that contain these four, even if the record is cut off after them, contain the field;
+-- and if they agree on these four, it is the same number, whatever else they contain and however long they are.
 module _ (t u : List ℕ) (header : (k : ℕ) → k < headerLength → getD t k 0 ≡ getD u k 0) where
   same-size : recordSize t ≡ recordSize u
   unfolding recordSize layout settings countedCount
@@ -62,7 +62,7 @@ module _ (t u : List ℕ) (header : (k : ℕ) → k < headerLength → getD t k 
     unfolding field
     field-agree same = wordAt-agree t u place same ∙ rw (same-offset level (h .level-low), same-size)
 
--- what is asked where the place of edges is
+-- The precondition of computing the offset of edges.
 pub record EdgesIn (t : List ℕ) (size counted level : ℕ) : Type 0 where
   pub header : headerLength ≤ length t
   pub level-low : level < maxLevels

@@ -48,19 +48,19 @@ pub const HEADER_LENGTH: usize = LEAF_COUNT_AT + 4;
 
 const FIRST_RECORD_AT: u64 = HEADER_LENGTH as u64;
 
-// What a tree's header says. The levels' counts and offsets stay in the tree, and are read there.
+// The header of a tree. The counts and offsets of the levels remain in the tree and are read from it.
 pub struct Header {
-    // 1, or 2: then records have edges
+    // The layout: 1, or 2 for records with edges.
     pub layout: u32,
-    // n, the bytes of the text
+    // n, the length of the text.
     pub text_length: u32,
     pub settings: Settings,
-    // where the leaf bytes start, and how many there are
+    // The offset and the number of the leaf bytes.
     pub leaf_offset: u32,
     pub leaf_count: u32,
-    // the bytes of a full block of level 0
+    // The block length of level 0.
     pub top_length: u32,
-    // the bytes of a record
+    // The number of bytes of a record.
     pub record_size: u32,
 }
 
@@ -69,7 +69,7 @@ pub enum HeaderRead {
     Refused(u32),
 }
 
-// The header of any bytes, or the number of the first of the questions 5, 6 and 7 that they fail.
+// The header of any bytes, or the first of the questions 5, 6 and 7 that fails.
 pub fn read_header(t: &[u8]) -> HeaderRead
     ensures { λ r. ⌜ r ≡ headerSays (now (t .entry)) ⌝ }
 {
@@ -96,7 +96,7 @@ fn known(layout: u32) -> bool
     layout == Settings::EDGED
 }
 
-// The header's words, of which the settings were checked, and what they make the length of a level 0 block and of a record.
+// The header with the given settings, the block length of level 0 and the size of a record.
 fn fields(t: &[u8], settings: Settings) -> Header
     requires { ⌜ Readable (now t) × (settings ≡ settingsOf (now t)) ⌝ }
     ensures { λ r. ⌜ r ≡ fieldsOf (now (t .entry)) ⌝ }
@@ -113,7 +113,7 @@ fn fields(t: &[u8], settings: Settings) -> Header
     }
 }
 
-// Question 7: the settings as the checking constructor made them, if the header is right.
+// Question 7: the checked settings, if the whole header is right.
 fn header_settings(t: &[u8]) -> Checked
     requires { ⌜ headerLength ≤ length (now t) ⌝ }
     ensures { λ r. ⌜ r ≡ settingsSay (now (t .entry)) ⌝ }
@@ -142,7 +142,7 @@ fn header_settings(t: &[u8]) -> Checked
     Checked::Fine(settings)
 }
 
-// What question 7 asks besides the settings and n: unused places, level 0's count, offsets and the length.
+// The other conditions of question 7: unused places, the block count of level 0, offsets, and the length.
 fn rest_right(t: &[u8], n: u32, settings: Settings) -> bool
     requires { ⌜ HasSettings (now t) n settings ⌝ }
     ensures { λ r. ⌜ r ≡ restRight (now (t .entry)) ⌝ }
@@ -164,7 +164,7 @@ fn rest_right(t: &[u8], n: u32, settings: Settings) -> bool
     t.len() as u64 == word::read(t, LEAF_OFFSET_AT) as u64 + word::read(t, LEAF_COUNT_AT) as u64
 }
 
-// The places for counted bytes that stand for no counted byte are zero.
+// The unused places for counted bytes are zero.
 fn spare_counted_zero(t: &[u8], k: usize) -> bool
     requires { ⌜ (headerLength ≤ length (now t)) × (k ≤ maxCounted) ⌝ }
     ensures { λ r. ⌜ r ≡ spareCounted (now (t .entry)) k ⌝ }
@@ -179,7 +179,7 @@ fn spare_counted_zero(t: &[u8], k: usize) -> bool
     true
 }
 
-// The counts and offsets of levels that are not there are zero.
+// The counts and offsets of unused levels are zero.
 fn spare_levels_zero(t: &[u8], levels: usize) -> bool
     requires { ⌜ (headerLength ≤ length (now t)) × (levels ≤ maxLevels) ⌝ }
     ensures { λ r. ⌜ r ≡ spareLevels (now (t .entry)) levels ⌝ }
@@ -217,7 +217,7 @@ fn tables_meet(t: &[u8], levels: usize, size: u32) -> bool
     word::read(t, LEAF_OFFSET_AT) as u64 == end
 }
 
-// The bytes of so many records.
+// The number of bytes of `count` records.
 pub fn table_bytes(count: u32, size: u32) -> u64
     requires { ⌜ size ≤ maxRecord ⌝ }
     ensures { λ r. ⌜ (r ≡ count * size) × (r ≤ 2 ^ 32 * maxRecord) ⌝ }

@@ -1,4 +1,4 @@
-// A tree's bytes, read and written in place: words, settings, the header, a record's fields.
+// Reads and writes the bytes of a tree in place: words, settings, the header, the fields of a record.
 pub mod cut;
 pub mod header;
 pub mod place;

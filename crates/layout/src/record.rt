@@ -1,4 +1,4 @@
-// A record's fields, each read from its place in the lent tree.
+// The fields of a record, read from their places in the tree.
 use crate::header;
 use crate::place::BlockNumber;
 use crate::place::BlockPlace;
@@ -35,7 +35,7 @@ pub const SKIP: u32 = PLAIN_WORDS + 2;
 
 pub const COUNTED_WORDS: u32 = 3;
 
-// Their bytes, four to a word, and where two of them stand in a record.
+// The sizes of these words in bytes, and the offsets of two of them in a record.
 pub const PLAIN_BYTES: usize = 4 * PLAIN_WORDS as usize;
 
 pub const COUNTED_BYTES: usize = 4 * COUNTED_WORDS as usize;
@@ -44,7 +44,7 @@ pub const KIND_AT: usize = 4 * KIND as usize;
 
 pub const LINK_AT: usize = 4 * LINK as usize;
 
-// How many blocks a level has.
+// The number of blocks of a level.
 pub fn level_count(t: &[u8], level: u32) -> u32
     requires { ⌜ (level < maxLevels) × (headerLength ≤ length (now t)) ⌝ }
     ensures { λ r. ⌜ r ≡ at.levelCount (now (t .entry)) level ⌝ }
@@ -77,7 +77,7 @@ pub fn kind(t: &[u8], size: u32, level: u32, block: BlockNumber) -> u32
     field(t, size, level, block, KIND)
 }
 
-// Of a kept block: the number of its first child (last level: of its first leaf byte). Of a pointing block: the number of the block pointed to.
+// The link. A kept block: the number of its first child; on the last level, of its first leaf byte. A pointing block: the number of the linked block.
 pub fn link(t: &[u8], size: u32, level: u32, block: BlockNumber) -> Link
     requires { ⌜ FieldIn (now t) size level (block .0) linkField ⌝ }
     ensures { λ r. ⌜ r .0 ≡ at.link (now (t .entry)) level (block .0) ⌝ }
@@ -85,7 +85,7 @@ pub fn link(t: &[u8], size: u32, level: u32, block: BlockNumber) -> Link
     Link(field(t, size, level, block, LINK))
 }
 
-// Where in the block pointed to the occurrence begins.
+// The gap (offset): the place in the linked block where the occurrence begins.
 pub fn gap(t: &[u8], size: u32, level: u32, block: BlockNumber) -> BlockPlace
     requires { ⌜ FieldIn (now t) size level (block .0) gapField ⌝ }
     ensures { λ r. ⌜ r .0 ≡ at.gap (now (t .entry)) level (block .0) ⌝ }
@@ -93,7 +93,7 @@ pub fn gap(t: &[u8], size: u32, level: u32, block: BlockNumber) -> BlockPlace
     BlockPlace(field(t, size, level, block, GAP))
 }
 
-// Of the counted byte with number c: how often it stands from the parent's start to the block's.
+// How often counted byte number c occurs from the start of the parent to the start of the block.
 pub fn before(t: &[u8], size: u32, level: u32, block: BlockNumber, c: u32) -> u32
     requires { ⌜ FieldIn (now t) size level (block .0) (beforeField c) ⌝ }
     ensures { λ r. ⌜ r ≡ at.before (now (t .entry)) level (block .0) c ⌝ }
@@ -101,7 +101,7 @@ pub fn before(t: &[u8], size: u32, level: u32, block: BlockNumber, c: u32) -> u3
     field(t, size, level, block, BEFORE + COUNTED_WORDS * c)
 }
 
-// How often it stands in the block.
+// How often counted byte number c occurs in the block.
 pub fn inside(t: &[u8], size: u32, level: u32, block: BlockNumber, c: u32) -> u32
     requires { ⌜ FieldIn (now t) size level (block .0) (insideField c) ⌝ }
     ensures { λ r. ⌜ r ≡ at.inside (now (t .entry)) level (block .0) c ⌝ }
@@ -109,7 +109,7 @@ pub fn inside(t: &[u8], size: u32, level: u32, block: BlockNumber, c: u32) -> u3
     field(t, size, level, block, INSIDE + COUNTED_WORDS * c)
 }
 
-// How often the byte occurs in the block pointed to, before place gap.
+// How often counted byte number c occurs in the linked block before the gap.
 pub fn skip(t: &[u8], size: u32, level: u32, block: BlockNumber, c: u32) -> u32
     requires { ⌜ FieldIn (now t) size level (block .0) (skipField c) ⌝ }
     ensures { λ r. ⌜ r ≡ at.skip (now (t .entry)) level (block .0) c ⌝ }
@@ -117,7 +117,7 @@ pub fn skip(t: &[u8], size: u32, level: u32, block: BlockNumber, c: u32) -> u32
     field(t, size, level, block, SKIP + COUNTED_WORDS * c)
 }
 
-// Where the edges of a block stand in a layout 2 tree: after its words.
+// The offset of the edges of a block in a layout 2 tree: they follow its words.
 pub fn edges(t: &[u8], size: u32, counted: u32, level: u32, block: BlockNumber) -> usize
     requires { ⌜ EdgesIn (now t) size counted level ⌝ }
     ensures { λ r. ⌜ (r ≡ at.edgesAt (now (t .entry)) level (block .0)) × (r ≤ 2 ^ 32 * maxRecord + 2 ^ 32 + fieldBytes maxCounted) ⌝ }

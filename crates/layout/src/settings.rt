@@ -1,4 +1,4 @@
-// The settings of a tree, with their bounds, each named once.
+// The settings of a tree and their bounds.
 use crate::record;
 ghost use mathlib.Core.Path.{_≡_};
 ghost use Prim.Native.Nat.{_+_, _*_, _^_, _-_, _≤_, _<_};
@@ -8,20 +8,20 @@ ghost use Rattle.format.specs.SizeLaws.{maxRecord};
 ghost use Rattle.format.specs.Settings as format;
 ghost use Rattle.layout.specs.SettingsLevel.{Sized};
 
-// The bytes of a record's words: of every record, and for each counted byte.
+// The size of the words of a record, in bytes: of every record, and for each counted byte.
 const PLAIN: u32 = record::PLAIN_BYTES as u32;
 
 const COUNTED: u32 = record::COUNTED_BYTES as u32;
 
-// The settings that a tree is built with: of the counted bytes their number; the bytes themselves stay where they are lent.
+// The settings of a tree. It has the number of counted bytes; the bytes themselves remain with the caller.
 pub struct Settings {
-    // m, the bytes of a full block of the last level
+    // m, the leaf length: the bytes of a full block of the last level.
     pub leaf: u32,
-    // r, the children of a full block
+    // r, the arity: the children of a full block.
     pub arity: u32,
-    // H
+    // H, the number of levels.
     pub levels: u32,
-    // k, how many bytes are counted
+    // k, the number of counted bytes.
     pub counted: u32,
 }
 
@@ -31,7 +31,7 @@ pub enum Checked {
 }
 
 impl Settings {
-    // of a text's length, and of the length of a level 0 block
+    // The largest length of a text, and of a level 0 block.
     pub const MAX_TEXT: u32 = 8388608;
 
     pub const MIN_LEAF: u32 = 1;
@@ -48,12 +48,12 @@ impl Settings {
 
     pub const MAX_COUNTED: usize = 4;
 
-    // the layouts: without edges, and with them
+    // The layouts without and with edges.
     pub const PLAIN: u32 = 1;
 
     pub const EDGED: u32 = 2;
 
-    // The settings, or the number of the question that refuses them: 2 for m, r and H, 3 for the counted bytes.
+    // The settings, or the question that refuses them: 2 for m, r and H, 3 for the counted bytes.
     pub fn new(leaf: u32, arity: u32, levels: u32, counted: &[u8]) -> Checked
         ensures { λ r. ⌜ r ≡ checked leaf arity levels (now (counted .entry)) ⌝ }
     {
@@ -74,7 +74,7 @@ impl Settings {
         })
     }
 
-    // b, the bytes of a full block of a level.
+    // The block length b of a level.
     pub fn block_length(self, level: u32) -> u32
         requires { ⌜ Sized self level ⌝ }
         ensures { λ r. ⌜ r ≡ self .leaf * self .arity ^ (self .levels - 1 - level) ⌝ }
@@ -83,7 +83,7 @@ impl Settings {
         b as u32
     }
 
-    // The bytes of a record of a layout: its words, and in layout 2 two edges of m bytes.
+    // The number of bytes of a record: its words, and in layout 2 two edges of m bytes.
     pub fn record_size(self, layout: u32) -> u32
         requires { ⌜ (self .leaf ≤ maxLeaf) × (self .counted ≤ maxCounted) ⌝ }
         ensures { λ r. ⌜ (r ≡ recordLength layout (self .leaf) (self .counted)) × (r ≤ maxRecord) ⌝ }
@@ -96,7 +96,7 @@ impl Settings {
     }
 }
 
-// How many blocks of b bytes, the last cut short, x bytes are cut into.
+// The number of blocks of b bytes that x bytes are divided into; the last one may be shorter.
 pub fn pieces(x: u32, b: u32) -> u32
     requires { ⌜ (x ≤ maxText) × (0 < b) × (b ≤ maxText) ⌝ }
     ensures { λ r. ⌜ r ≡ format.pieces x b ⌝ }
@@ -144,7 +144,7 @@ fn sizes_fit(leaf: u32, arity: u32, levels: u32) -> bool
     power(leaf, arity, levels - 1) <= Settings::MAX_TEXT as u64
 }
 
-// Each byte is above the one before.
+// Whether each byte is above the one before.
 fn rises(s: &[u8]) -> bool
     ensures { λ r. ⌜ r ≡ rising (now (s .entry)) ⌝ }
 {

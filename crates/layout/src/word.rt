@@ -1,4 +1,4 @@
-// A word is four bytes, lowest first.
+// Words: little-endian 32-bit numbers.
 ghost use mathlib.Core.Path.{_≡_};
 ghost use Prim.Native.Nat.{_+_, _≤_, _<_};
 ghost use lib.ListN.{length};
@@ -11,7 +11,7 @@ fn wide(b: u8) -> u32
     b as u32
 }
 
-// The word at a place of any lent bytes that hold its four.
+// The word at an offset; the slice has its four bytes.
 pub fn read(t: &[u8], at: usize) -> u32
     requires { ⌜ at + 4 ≤ length (now t) ⌝ }
     ensures { λ r. ⌜ r ≡ wordAt (now (t .entry)) at ⌝ }
@@ -30,7 +30,7 @@ pub fn write(t: &mut [u8], at: usize, value: u32)
     t[at + 3] = (value / 16777216 % 256) as u8;
 }
 
-// Three words, one after the other.
+// Writes three words, one after the other.
 pub fn put_three(t: &mut [u8], at: usize, a: u32, b: u32, c: u32)
     requires { ⌜ at + 12 ≤ length (now t) ⌝ }
     ensures { λ _. ⌜ now (t .exit) ≡ putThree (now (t .entry)) at a b c ⌝ }

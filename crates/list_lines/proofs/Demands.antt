@@ -1,5 +1,5 @@
--- Demand 1 of list and of the list program's print: each ends, reads and writes only what was lent (`Ends`), and asks nothing of its caller; list refuses
--- with 15, 5 to 9 or 13, and then leaves the buffer.
+-- Demand 1 for list and for print: each terminates, accesses only the memory that it was given (`Ends`), and has no precondition. List is refused with 15, 5
+-- to 9 or 13, and the buffer is then unchanged.
 -- docs/FORMAT.md: "What is promised", "The list program".
 use mathlib.Core.List.{List, [], _∷_, _++_}
 use mathlib.Core.Bool.{Bool, true, false, cond}

@@ -1,4 +1,4 @@
--- Laws of `written`: what is put after what was put before.
+-- Laws of `written`: writing after what was written before.
 use mathlib.Core.List.{List, [], _∷_, _++_, append-assoc}
 use mathlib.Core.Path.{_≡_, refl, sym, ap, _∙_}
 use Prim.Native.Nat.{ℕ, suc, _+_, _≤_, _<_}

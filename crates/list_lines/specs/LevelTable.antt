@@ -1,4 +1,4 @@
--- What is asked where a level's records are read.
+-- The precondition of reading the records of a level.
 use mathlib.Core.List.{List}
 use mathlib.Core.Path.{_≡_}
 use Prim.Native.Nat.{ℕ, _<_, _+_}

@@ -10,20 +10,22 @@ use Rattle.format.specs.Settings.{maxLevels}
 use Rattle.format.specs.Layout as at
 use Rattle.format.specs.Verdict.{verdict}
 
--- the digits of n in base 10, the highest first; there are at most more + 1 of them
+-- The decimal digits of n, the highest first; at most more + 1 of them.
 unfoldable pub digitsWithin : ℕ → ℕ → List ℕ
 digitsWithin zero n = (48 + n) ∷ []
 digitsWithin (suc more) n =
     let higher = digitsWithin more (n / 10) in
     cond (ltb n 10) ((48 + n) ∷ []) (higher ++ ((48 + n % 10) ∷ []))
 
+-- The decimal digits of n.
 unfoldable pub decimal : ℕ → List ℕ
 decimal n = digitsWithin n n
 
--- a number with the byte after it: a space (32), or a line's end (10)
+-- A number and the byte after it: a space (32) or a newline (10).
 unfoldable pub figure : ℕ → ℕ → List ℕ
 figure n after = decimal n ++ (after ∷ [])
 
+-- The line of a level: its number, its blocks, the kept ones, the pointing ones.
 unfoldable pub line : ℕ → ℕ → ℕ → ℕ → List ℕ
 line level blocks kept pointing = figure level 32 ++ figure blocks 32 ++ figure kept 32 ++ figure pointing 10
 
@@ -32,26 +34,28 @@ module _ (t : List ℕ) where
   unfoldable pub levelLine : ℕ → List ℕ
   levelLine l = line l (at.levelCount t l) (countBelow (at.levelCount t l) (at.isKept t l)) (countBelow (at.levelCount t l) (at.isPointing t l))
 
-  -- the lines of levels 0, 1, .., l - 1
+  -- The lines of levels 0, 1, .., l - 1.
   unfoldable pub linesBelow : ℕ → List ℕ
   linesBelow zero = []
   linesBelow (suc l) = linesBelow l ++ levelLine l
 
--- the word `refused`, the question's number
+-- The line for a refused tree: the word `refused` and the number.
 unfoldable pub refusedLine : ℕ → List ℕ
 refusedLine q = 114 ∷ 101 ∷ 102 ∷ 117 ∷ 115 ∷ 101 ∷ 100 ∷ 32 ∷ [] ++ figure q 10
 
--- the longest tree that is listed
+-- The size of the largest tree that is listed.
 abbrev pub maxInput : ℕ
 maxInput = 65536
 
--- the most bytes of a number of 32 bits, with the byte after it; of a line; of the lines of all levels
+-- The largest number of bytes of a 32-bit number with the byte after it.
 abbrev pub maxFigure : ℕ
 maxFigure = 11
 
+-- The largest number of bytes of a line.
 abbrev pub maxLine : ℕ
 maxLine = 4 * maxFigure
 
+-- The largest number of bytes of the lines of all levels.
 abbrev pub maxLines : ℕ
 maxLines = maxLevels * maxLine
 
@@ -59,11 +63,11 @@ maxLines = maxLevels * maxLine
 unfoldable pub inputNumber : List ℕ → ℕ
 inputNumber input = cond (leb (length input) maxInput) (verdict input) 15
 
--- the lines of all levels if no question refuses, else the question's number
+-- The lines of all levels, or the line of a refused tree if the number is not 0.
 abbrev pub linesOf : ℕ → List ℕ → List ℕ
 linesOf zero t = linesBelow t (at.settings t .levels)
 linesOf (suc q) t = refusedLine (suc q)
 
--- what the list program prints of any input
+-- What the list program prints for any input.
 unfoldable pub printed : List ℕ → List ℕ
 printed input = linesOf (inputNumber input) input

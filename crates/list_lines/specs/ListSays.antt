@@ -1,4 +1,4 @@
--- What list answers, by its number and length, and what it leaves in the lent buffer.
+-- What list returns, and what the caller's buffer contains afterwards.
 -- docs/FORMAT.md: "The list program".
 use mathlib.Core.List.{List, [], _∷_, _++_}
 use mathlib.Core.Bool.{cond}
@@ -11,11 +11,11 @@ use Rattle.list_lines.specs.Lines.{inputNumber, printed}
 use Rattle.list_lines.specs.declared.Listed.{Listed}
 use Rattle.list_lines.specs.declared.Listed.the-variants.{Bytes, Refused}
 
--- questions 15 and 5 to 9, then 13 of the lines' own length
+-- The refusal: questions 15 and 5 to 9, then 13 if the buffer is too short for the lines.
 unfoldable pub listRefusal : List ℕ → ℕ → ℕ
 listRefusal t room = orNext (inputNumber t) (asks ((13, leb (length (printed t)) room) ∷ []))
 
--- the lines' length, unless a question refuses
+-- The length of the lines, or the refusal.
 unfoldable pub listSays : List ℕ → ℕ → Said
 listSays t room = unless (listRefusal t room) (record { number = 0; value = length (printed t); entered = 0 })
 
@@ -27,6 +27,6 @@ listReply (Refused number) = refusal number
 abbrev pub ListAnswer : (t : List ℕ) (room : ℕ) → Listed → Type 0
 ListAnswer t room = Is listReply (listSays t room)
 
--- the buffer: the lines at its start where they are answered, else unchanged
+-- The buffer afterwards: the lines at its start; unchanged if refused.
 unfoldable pub listLeaves : List ℕ → List ℕ → List ℕ
 listLeaves t out = cond (eqb (listRefusal t (length out)) 0) (printed t ++ drop (length (printed t)) out) out

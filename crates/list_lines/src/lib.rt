@@ -1,4 +1,4 @@
-// The list program's questions, its lines and what it prints.
+// The list program: its questions, its lines and what it prints.
 mod kinds;
 mod put;
 
@@ -17,22 +17,22 @@ ghost use Rattle.list_lines.specs.Lines.{line, levelLine, linesBelow, re
 ghost use Rattle.list_lines.specs.LevelTable.{maxRefused, Level};
 ghost use Rattle.list_lines.specs.ListSays.{ListAnswer, listLeaves};
 
-// The longest tree that is listed.
+// The size of the largest tree that is listed.
 pub const MAX_INPUT: usize = 65536;
 
-// The most bytes of a line: four numbers of at most ten digits, each with the byte after it.
+// The largest number of bytes of a line: four numbers of at most ten digits, each with the byte after it.
 const MAX_LINE: usize = 4 * (10 + 1);
 
-// The most bytes that are put or printed: a line for each level.
+// The largest number of bytes that are written or printed: a line for each level.
 pub const MAX_LINES: usize = Settings::MAX_LEVELS as usize * MAX_LINE;
 
-// How many bytes of lines were put, or the number of the question that refuses.
+// The number of bytes of the lines, or the refusal.
 pub enum Listed {
     Bytes(u32),
     Refused(u32),
 }
 
-// Puts a line for each level of a tree at the start of a buffer. Questions 15, 5 to 9 and 13.
+// Writes a line for each level of a tree to the start of a buffer. Questions 15, 5 to 9 and 13.
 pub fn list(tree: &[u8], out: &mut [u8]) -> Listed
     ensures { λ r. ⌜ ListAnswer (now (tree .entry)) (length (now (out .entry))) r ⌝ }
     ensures { λ _. ⌜ now (out .exit) ≡ listLeaves (now (tree .entry)) (now (out .entry)) ⌝ }
@@ -50,8 +50,7 @@ pub fn list(tree: &[u8], out: &mut [u8]) -> Listed
     Listed::Bytes(size as u32)
 }
 
-// Puts what the list program prints at the start of a buffer, and answers how many bytes that is: a line for each level of an accepted
-// tree, else the number of the question that refuses it.
+// Writes what the list program prints to the start of a buffer and returns its length: a line for each level of an accepted tree, else the refusal.
 pub fn print(input: &[u8], out: &mut [u8; MAX_LINES]) -> usize
     ensures { λ r. ⌜ Put (now (out .entry)) (now (out .exit)) 0 r (printed (now (input .entry))) maxLines ⌝ }
 {
@@ -62,7 +61,7 @@ pub fn print(input: &[u8], out: &mut [u8; MAX_LINES]) -> usize
     level_lines(input, out)
 }
 
-// Question 15, then the check's.
+// Question 15, then those of the check.
 fn input_number(input: &[u8]) -> u32
     ensures { λ r. ⌜ r ≡ inputNumber (now (input .entry)) ⌝ }
 {
@@ -72,7 +71,7 @@ fn input_number(input: &[u8]) -> u32
     tree::check(input)
 }
 
-// Puts the line of a refused tree.
+// Writes the line of a refused tree.
 fn refused(number: u32, out: &mut [u8]) -> usize
     requires { ⌜ maxRefused ≤ length (now out) ⌝ }
     ensures { λ r. ⌜ Put (now (out .entry)) (now (out .exit)) 0 r (refusedLine number) maxRefused ⌝ }
@@ -81,7 +80,7 @@ fn refused(number: u32, out: &mut [u8]) -> usize
     put::number_and(out, end, number, 10)
 }
 
-// Puts the lines of an accepted tree's levels.
+// Writes the lines of the levels of an accepted tree.
 fn level_lines(t: &[u8], out: &mut [u8]) -> usize
     requires { ⌜ (inputNumber (now t) ≡ 0) × (maxLines ≤ length (now out)) ⌝ }
     ensures { λ r. ⌜ Put (now (out .entry)) (now (out .exit)) 0 r (printed (now (t .entry))) maxLines ⌝ }
@@ -93,7 +92,7 @@ fn level_lines(t: &[u8], out: &mut [u8]) -> usize
     }
 }
 
-// Puts the lines of all levels.
+// Writes the lines of all levels.
 fn levels(t: &[u8], h: Header, out: &mut [u8]) -> usize
     requires { ⌜ HeaderOf (now t) h × (maxLines ≤ length (now out)) ⌝ }
     ensures { λ r. ⌜ Put (now (out .entry)) (now (out .exit)) 0 r (linesBelow (now (t .entry)) (at.settings (now (t .entry)) .levels)) maxLines ⌝ }
@@ -108,7 +107,7 @@ fn levels(t: &[u8], h: Header, out: &mut [u8]) -> usize
     end
 }
 
-// Puts the line of a level: its number, how many blocks it has, how many are kept, how many point.
+// Writes the line of a level: its number, the number of its blocks, of the kept ones and of the pointing ones.
 fn level_line(t: &[u8], size: u32, level: u32, out: &mut [u8], at: usize) -> usize
     requires { ⌜ Level (now t) size level × (at + maxLine ≤ length (now out)) ⌝ }
     ensures { λ r. ⌜ Put (now (out .entry)) (now (out .exit)) at r (levelLine (now (t .entry)) level) maxLine ⌝ }
@@ -119,7 +118,7 @@ fn level_line(t: &[u8], size: u32, level: u32, out: &mut [u8], at: usize) -> usi
     four(out, at, level, blocks, kept, pointing)
 }
 
-// Puts four numbers on a line.
+// Writes four numbers on a line.
 fn four(out: &mut [u8], at: usize, a: u32, b: u32, c: u32, d: u32) -> usize
     requires { ⌜ at + maxLine ≤ length (now out) ⌝ }
     ensures { λ r. ⌜ Put (now (out .entry)) (now (out .exit)) at r (line a b c d) maxLine ⌝ }

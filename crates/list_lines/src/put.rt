@@ -1,10 +1,10 @@
-// Bytes and numbers put into a lent buffer. Each function answers the place after what it put.
+// Writes bytes and numbers into a buffer. Each function returns the place after what it wrote.
 ghost use Prim.Native.Nat.{_+_, _≤_};
 ghost use lib.ListN.{length};
 ghost use Rattle.list_lines.specs.Written.{Put};
 ghost use Rattle.list_lines.specs.Lines.{decimal, figure, maxFigure};
 
-// Puts the bytes of s at `at`.
+// Writes the bytes of s at `at`.
 pub fn bytes(out: &mut [u8], at: usize, s: &[u8]) -> usize
     requires { ⌜ at + length (now s) ≤ length (now out) ⌝ }
     ensures { λ r. ⌜ Put (now (out .entry)) (now (out .exit)) at r (now (s .entry)) (length (now (s .entry))) ⌝ }
@@ -17,7 +17,7 @@ pub fn bytes(out: &mut [u8], at: usize, s: &[u8]) -> usize
     at + s.len()
 }
 
-// Puts a number's digits: at most 10.
+// Writes the digits of a number: at most 10.
 pub fn number(out: &mut [u8], at: usize, n: u32) -> usize
     requires { ⌜ at + 10 ≤ length (now out) ⌝ }
     ensures { λ r. ⌜ Put (now (out .entry)) (now (out .exit)) at r (decimal n) 10 ⌝ }
@@ -27,7 +27,7 @@ pub fn number(out: &mut [u8], at: usize, n: u32) -> usize
     bytes(out, at, &digits[..k])
 }
 
-// Puts a number, and a byte after it.
+// Writes a number and a byte after it.
 pub fn number_and(out: &mut [u8], at: usize, n: u32, after: u8) -> usize
     requires { ⌜ at + maxFigure ≤ length (now out) ⌝ }
     ensures { λ r. ⌜ Put (now (out .entry)) (now (out .exit)) at r (figure n after) maxFigure ⌝ }

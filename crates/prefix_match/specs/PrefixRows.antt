@@ -6,6 +6,6 @@ use Prim.Native.Nat.{ℕ}
 use lib.ListN.{length, take}
 use Rattle.text.specs.Lists.{sameList}
 
--- the row's first bytes are the prefix
+-- Whether the first bytes of a row are the prefix.
 unfoldable pub startsWith : List ℕ → List ℕ → Bool
 startsWith prefix row = sameList (take (length prefix) row) prefix

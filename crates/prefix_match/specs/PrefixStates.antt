@@ -18,35 +18,35 @@ module _ (prefix : List ℕ) where
   prefixStep Longer x = Longer
   prefixStep Mismatch x = Mismatch
 
-  -- the row starts with the prefix if the text ends here
+  -- Whether the row starts with the prefix if the text ends here.
   unfoldable pub prefixAtEnd : PrefixState → Bool
   prefixAtEnd (Matched k) = leb (length prefix) k
   prefixAtEnd Longer = true
   prefixAtEnd Mismatch = false
 
-  -- the whole prefix was read, and its last byte is not 13
+  -- Whether the whole prefix was read and its last byte is not 13.
   unfoldable pub endsWithoutCr : ℕ → Bool
   endsWithoutCr k = leb (length prefix) k && not (eqb (getD prefix (length prefix - 1) 0) 13)
 
-  -- the row starts with the prefix if a byte 10 ends it here; a byte 13 before that byte is not part of the row
+  -- Whether the row starts with the prefix if a byte 10 ends it here; a byte 13 before that byte is not part of the row.
   unfoldable pub prefixAtNewline : PrefixState → Bool
   prefixAtNewline (Matched k) = endsWithoutCr k
   prefixAtNewline Longer = true
   prefixAtNewline Mismatch = false
 
--- no byte of the row has been read
+-- Whether no byte of the row has been read.
 unfoldable pub noByteRead : PrefixState → Bool
 noByteRead (Matched k) = eqb k 0
 noByteRead Longer = false
 noByteRead Mismatch = false
 
--- a byte other than 10 may change the state
+-- Whether a byte other than 10 may change the state.
 unfoldable pub isOpen : PrefixState → Bool
 isOpen (Matched k) = true
 isOpen Longer = false
 isOpen Mismatch = false
 
--- the automaton of a prefix
+-- The automaton of a prefix.
 abbrev pub prefixAutomaton : List ℕ → Automaton PrefixState
 prefixAutomaton prefix = record {
   start = Matched 0;

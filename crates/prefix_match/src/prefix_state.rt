@@ -6,11 +6,11 @@ ghost use Rattle.prefix_match.specs.PrefixStates.{prefixStep, afterMatch
 
 // The state after some bytes of a row.
 pub enum PrefixState {
-    // this many bytes, all equal to those of the prefix
+    // This many bytes, all equal to those of the prefix.
     Matched(u32),
-    // more bytes than the prefix has, the first of them equal to it
+    // More bytes than the prefix has; the first of them are the prefix.
     Longer,
-    // some byte differs from the prefix
+    // Some byte differs from the prefix.
     Mismatch,
 }
 

@@ -1,5 +1,4 @@
-// The public calls that read a tree, any bytes lent as one, under one name each. No call has a `requires`. The theorems about them are in the
-// crate `theorems`.
+// The public calls that read a tree. Any bytes may be given as a tree; no call has a `requires`. The theorems about them are in the crate `theorems`.
 pub use ask_access::Answer;
 pub use ask_access::Copied;
 pub use ask_access::byte;

@@ -50,13 +50,13 @@ module _ (κs : Lfts 2) (t out after : RefT (List ℕ)) (r : ℕ) (a : Digest κ
   digest-unread n e = refuses n (rw (e, ne-eqb (suc n) 0 (λ z. omega arith))) (λ z. omega (arith, readable-small (now t)))
 
   module _ (pass : readable (now t) ≡ 0) where
-    -- Then a buffer of fewer than 32 bytes is refused with 13 and unchanged.
+    -- After questions 5 to 7, a buffer of fewer than 32 bytes is refused with 13 and unchanged.
     pub digest-short : length (now out) < 32 → (r ≡ 13) × (now after ≡ now out)
     unfolding digestRefusal
     digest-short l = refuses 12 (rw (pass, lt-leb 32 (length (now out)) l)) (λ z. omega arith)
 
     module _ (room : 32 ≤ length (now out)) where
-      -- Then 14 if the path of some place of the text breaks: the first 32 bytes are zero.
+      -- After 13, the call is refused with 14 if the path of some place of the text breaks: the first 32 bytes are zero.
       pub digest-broken : (p : ℕ) → p < at.textLength (now t) → pathOf (now t) p ≡ none → (r ≡ 14) × (now after ≡ replicate 32 0 ++ drop 32 (now out))
       unfolding digestRefusal digestBuffer leavesSpan
       digest-broken p low e =

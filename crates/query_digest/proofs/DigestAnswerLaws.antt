@@ -23,7 +23,7 @@ use Rattle.query_digest.specs.Digest.{digestRefusal, digestBuffer}
 use Rattle.query_digest.specs.TextHashed.{hashAnswer}
 
 module _ (t out : List ℕ) where
-  -- What the contract says of the returned number and of the buffer.
+  -- The contract for the returned number and the buffer.
   abbrev pub DigestResult : ℕ → List ℕ → Type 0
   DigestResult r after = (r ≡ digestRefusal t (length out)) × (after ≡ digestBuffer t out)
 

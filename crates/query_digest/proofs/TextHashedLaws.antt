@@ -29,7 +29,7 @@ use Rattle.sha256.specs.Sha256Laws.{state-continued, hash-by-parts}
 use Rattle.query_digest.specs.declared.HashAnswer.the-variants.{Value, BrokenPath}
 use Rattle.query_digest.specs.TextHashed.{hashAnswer, PartRead, HashedUpTo}
 
--- One part: what `copy` returns says whether its paths hold.
+-- One part: the result of `copy` decides whether its paths hold.
 
 asked-good : (b : Bool) → 0 ≡ ask 14 b 0 → b ≡ true
 asked-good true e = refl

@@ -1,4 +1,4 @@
--- digest, for any bytes given as a tree: its refusal, and what the buffer then holds.
+-- What digest returns for any bytes given as a tree, and what the caller's buffer contains afterwards.
 -- docs/FORMAT.md: "Digest".
 use mathlib.Core.List.{List, [], _∷_}
 use Prim.Native.Nat.{ℕ}
@@ -11,11 +11,12 @@ use Rattle.format.specs.ReadSays.{pathsHold, leavesSpan}
 use Rattle.sha256.specs.Sha256.{sha256}
 
 module _ (t : List ℕ) where
-  -- 5 to 7, then 13: the buffer has fewer than 32 bytes, then 14: the path of some place of the text breaks
+  -- The refusal: 5 to 7, then 13 if the buffer has fewer than 32 bytes, then 14 if some place of the text has no path.
   unfoldable pub digestRefusal : ℕ → ℕ
   digestRefusal room =
       orNext (readable t) (asks ((13, leb 32 room) ∷ (14, pathsHold t 0 (at.textLength t)) ∷ []))
 
-  -- Span's rule with 32 bytes: the SHA-256 of the bytes that the paths give is written, 14 writes zeros, any other refusal writes nothing.
+  -- The buffer afterwards, by the rule of span for 32 bytes: the SHA-256 of the bytes that the paths give; zeros if refused with 14; unchanged for any other
+  -- refusal.
   unfoldable pub digestBuffer : List ℕ → List ℕ
   digestBuffer out = leavesSpan t (digestRefusal (length out)) 32 (sha256 (textOf t)) out

@@ -23,7 +23,7 @@ module _ (t : List ℕ) where
     pub holds : r ≡ pathsHold t p len
     pub bytes : r ≡ true → (x : ℕ) → x < len → getD after x 0 ≡ getD (textOf t) (p + x) 0
 
-  -- s is the hash value of the text up to place p, a multiple of 64.
+  -- The state s is the hash value of the text up to place p, a multiple of 64.
   pub record HashedUpTo (p : ℕ) (s : HashState) : Type 0 where
     pub in-text : p ≤ at.textLength t
     pub blocks : p % 64 ≡ 0

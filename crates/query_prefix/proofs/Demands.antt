@@ -34,7 +34,7 @@ use Rattle.query_prefix.proofs.next_row_with_prefix_guided.Reads as gui
 abbrev pub NextRowWithPrefix : (κs : Lfts 2) → (t prefix : RefT (List ℕ)) → ℕ → NextRowAnswer → Type 0
 NextRowWithPrefix κs t prefix mark r = next-reads.Post κs (t, (prefix, (mark, tt))) r (t, (prefix, (mark, tt)))
 
--- the same of `next_row_with_prefix_guided`
+-- The contract of `next_row_with_prefix_guided`.
 abbrev pub NextRowWithPrefixGuided : (κs : Lfts 3) → (t guide prefix : RefT (List ℕ)) → ℕ → NextRowAnswer → Type 0
 NextRowWithPrefixGuided κs t guide prefix mark r = guided-reads.Post κs (t, (guide, (prefix, (mark, tt)))) r (t, (guide, (prefix, (mark, tt))))
 
@@ -71,7 +71,7 @@ module _ (t prefix : List ℕ) where
   counted-of h = next-row.asked-counted t 15 (patternOk prefix) h
 
 module _ (t : List ℕ) (ok : ℕ) (sound : ok ≡ 0 → verdict t ≡ 0) (prefix : List ℕ) where
-  -- Any lent bytes.
+  -- For any bytes.
 
   module _ (mark : ℕ) (r : NextRowAnswer) (a : PrefixAnswer t ok prefix mark r) where
     -- questions 5 to 7

@@ -134,7 +134,7 @@ module _ {S : Type 0} (m : Automaton S) (selected : List ℕ → Bool) (reads : 
       by (inl e) = e ∙ ap answerOf (scan-rows m selected reads (drop p (textOf t)) (mark + 1) (omega arith) ∙ ap (result selected (mark + 1)) (b .place-is v))
       by (inr e) = absurd (e .1 (sound v))
 
-  -- else: a row is found from p on
+  -- A row is found from p on.
   row-first : (q first n : ℕ) (c : Bool) → Row q ≡ answerOf (cond c (nothing n) (at-row first)) → q ≡ first
   row-first q first n true e = absurd (let z : _≡_ {A = ℕ} 0 1 = cc in omega arith)
   row-first q first n false e = cc

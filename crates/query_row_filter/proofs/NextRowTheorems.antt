@@ -124,7 +124,7 @@ asked-counted t k ok h =
 
 -- `ok` is 0 where the outcome is settled.
 module _ (t : List ℕ) (ok : ℕ) (sound : ok ≡ 0 → verdict t ≡ 0) (refusal : ℕ) (selected : List ℕ → Bool) where
-  -- Any lent bytes.
+  -- For any bytes.
 
   -- a refusal leaves the mark
   pub refusal-leaves : (mark n after : ℕ) → MarkMoved t ok refusal selected mark (Refused n) after → after ≡ mark
@@ -229,7 +229,7 @@ module _ (t : List ℕ) (ok : ℕ) (sound : ok ≡ 0 → verdict t ≡ 0) (refus
       pub comes-to-none : Calls 0 (selectedRows selected rows)
       comes-to-none = asks 0 (selectedRows selected rows) (omega arith) (all-shown selected rows)
 
-  -- Any lent bytes again: what holds of every answer, also of one that is free.
+  -- For any bytes again: what holds of every answer, also of a free one.
   module _ (counted-of : refusal ≡ 0 → isCounted t 10 ≡ true) where
     -- a returned row is after the mark and at most total + 1 of byte 10
     pub row-after : (mark n : ℕ) → AllowedAnswer t ok refusal selected mark (Row n) → (mark < n) × (n ≤ maxRows t)

@@ -8,7 +8,7 @@ use Rattle.query_row_filter.specs.declared.NextRowAnswer.{NextRowAnswer}
 use Rattle.query_row_filter.specs.declared.NextRowAnswer.the-variants.{Row, Nothing, Refused}
 use Rattle.query_row_filter.specs.AllowedOutcome.{refusedAt, AllowedOutcome}
 
--- the outcome of an answer to a search from a mark
+-- The outcome of an answer to a search from a mark.
 abbrev pub outcomeOf : ℕ → NextRowAnswer → NextRowOutcome
 outcomeOf mark (Row q) = record { refusal = 0; row = q; mark = q }
 outcomeOf mark (Nothing m) = record { refusal = 0; row = 0; mark = m }
@@ -20,11 +20,12 @@ Numbered (Row q) = 1 ≤ q
 Numbered (Nothing m) = Unit {0}
 Numbered (Refused refusal) = 1 ≤ refusal
 
+-- An allowed answer to a search from a mark.
 pub record AllowedAnswer (t : List ℕ) (ok refusal : ℕ) (selected : List ℕ → Bool) (mark : ℕ) (r : NextRowAnswer) : Type 0 where
   pub says : AllowedOutcome t ok refusal selected mark (outcomeOf mark r)
   pub numbered : Numbered r
 
--- an allowed answer to a search from the mark `before`, and the mark `after` it
+-- An allowed answer to a search from the mark `before`, and the mark `after` it.
 pub record MarkMoved (t : List ℕ) (ok refusal : ℕ) (selected : List ℕ → Bool) (before : ℕ) (r : NextRowAnswer) (after : ℕ) : Type 0 where
   pub answer : AllowedAnswer t ok refusal selected before r
   pub mark-is : after ≡ outcomeOf before r .mark

@@ -32,7 +32,7 @@ pub record StartIs (t : List ℕ) (ok mark : ℕ) (r : StartPlace) : Type 0 wher
   pub place-is : (p : TextPlace) → r ≡ start.At p → ok ≡ 0 → rowsOf (drop (p .0) (textOf t)) ≡ drop mark (rowsOf (textOf t))
   pub broken : r ≡ start.Broken → ok ≡ 0 → ⊥
 
--- the rows after the mark begin at place p of a tree with this total of byte 10
+-- The rows after the mark begin at place p of a tree with this total of byte 10.
 pub record StartFacts (t : List ℕ) (ok mark p newlines : ℕ) : Type 0 where
   pub counted : isCounted t 10 ≡ true
   pub total-is : newlines ≡ total t (numberOfByte t 10)
@@ -41,7 +41,7 @@ pub record StartFacts (t : List ℕ) (ok mark p newlines : ℕ) : Type 0 where
   pub place-in : p ≤ at.textLength t
   pub place-is : ok ≡ 0 → rowsOf (drop p (textOf t)) ≡ drop mark (rowsOf (textOf t))
 
--- the rows after the mark begin somewhere, or the answer is settled whatever the predicate
+-- The rows after the mark begin at some place, or the answer does not depend on the predicate.
 pub record BeginIs (t : List ℕ) (ok mark : ℕ) (r : RowsStart) : Type 0 where
   pub begins-at : (p : TextPlace) (newlines : ℕ) → r ≡ begins.At p newlines → StartFacts t ok mark (p .0) newlines
   pub answered : (s : NextRowAnswer) → r ≡ begins.Answered s → (selected : List ℕ → Bool) → AllowedAnswer t ok (newlineRefusal t) selected mark s
@@ -57,7 +57,7 @@ FromRow q (Row n) = q ≤ n
 FromRow q (Nothing n) = q ≤ n + 1
 FromRow q (Refused number) = number ≡ 14
 
--- the answer of a search
+-- The answer of a search.
 abbrev pub answerOf : SearchResult → NextRowAnswer
 answerOf (at-row q) = Row q
 answerOf (nothing m) = Nothing m
@@ -71,7 +71,7 @@ pub record SearchFrom {S : Type 0} (t : List ℕ) (m : Automaton S) (p q : ℕ) 
   pub settled : (r ≡ answerOf (finishScan m (scanBytes m (drop p (textOf t)) (m .start) q))) ⊎ ((r ≡ Refused 14) × (verdict t ≡ 0 → ⊥))
   pub rows : FromRow q r
 
--- a row number above total + 1 becomes 14
+-- A row number above total + 1 becomes 14.
 unfoldable pub limited : ℕ → NextRowAnswer → NextRowAnswer
 limited newlines (Row q) = cond (ltb (newlines + 1) q) (Refused 14) (Row q)
 limited newlines (Nothing m) = cond (ltb (newlines + 1) m) (Refused 14) (Nothing m)

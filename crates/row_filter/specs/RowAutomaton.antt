@@ -15,43 +15,43 @@ pub record Automaton (S : Type 0) : Type 0 where
   pub at-newline : S → Bool
   pub no-byte : S → Bool
 
--- found: the first accepted row that ends in the scanned bytes. on: none; the state and number of the row in which these bytes end
+-- `found`: the first accepted row that ends in the scanned bytes. `on`: none; the state and the number of the row in which these bytes end.
 pub data Scan (S : Type 0) : Type 0 where
   found : ℕ → Scan S
   on : S → ℕ → Scan S
 
--- the result of a search to the text's end: a row; or none, with the number of rows
+-- The result of a search to the end of the text: a row; or none, with the number of rows.
 pub data SearchResult : Type 0 where
   at-row : ℕ → SearchResult
   nothing : ℕ → SearchResult
 
 module _ {S : Type 0} where
-  -- continues a scan that has found no row
+  -- Continues a scan that has found no row.
   abbrev pub resumeScan : (S → ℕ → Scan S) → Scan S → Scan S
   resumeScan go (found q) = found q
   resumeScan go (on s q) = go s q
 
-  -- the scan is in a row from q to q + more
+  -- The scan is in a row from q to q + more.
   abbrev pub RowBetween : ℕ → ℕ → Scan S → Type 0
   RowBetween q more (found n) = (q ≤ n) × (n ≤ q + more)
   RowBetween q more (on s n) = (q ≤ n) × (n ≤ q + more)
 
 module _ {S : Type 0} (m : Automaton S) where
-  -- the state after some bytes of a row
+  -- The state after some bytes of a row.
   unfoldable pub runFrom : S → List ℕ → S
   runFrom s [] = s
   runFrom s (x ∷ xs) = runFrom (m .step s x) xs
 
-  -- scans one byte of row q
+  -- Scans one byte of row q.
   unfoldable pub scanByte : S → ℕ → ℕ → Scan S
   scanByte s q x = cond (eqb 10 x) (cond (m .at-newline s) (found q) (on (m .start) (q + 1))) (on (m .step s x) q)
 
-  -- scans bytes, from a state in row q
+  -- Scans bytes, from a state in row q.
   unfoldable pub scanBytes : List ℕ → S → ℕ → Scan S
   scanBytes [] s q = on s q
   scanBytes (x ∷ xs) s q = resumeScan (scanBytes xs) (scanByte s q x)
 
-  -- the text ends in row q; a row without a byte does not count
+  -- The text ends in row q; a row without a byte does not count.
   unfoldable pub atEndOfText : S → ℕ → SearchResult
   atEndOfText s q = cond (m .at-end s) (at-row q) (cond (m .no-byte s) (nothing (q - 1)) (nothing q))
 
@@ -59,7 +59,7 @@ module _ {S : Type 0} (m : Automaton S) where
   finishScan (found q) = at-row q
   finishScan (on s q) = atEndOfText s q
 
--- the automaton accepts exactly the rows that satisfy the predicate
+-- The automaton accepts exactly the rows that satisfy the predicate.
 pub record Recognizes {S : Type 0} (m : Automaton S) (selected : List ℕ → Bool) : Type 0 where
   pub at-end-is : (row : List ℕ) → m .at-end (runFrom m (m .start) row) ≡ selected row
   pub at-newline-is : (row : List ℕ) → m .at-newline (runFrom m (m .start) row) ≡ selected (trimmed row)

@@ -6,7 +6,7 @@ use Prim.Native.Nat.{ℕ, _+_}
 use lib.ListN.{length, drop}
 use lib.Dec.{leb, eqb}
 
--- the result of a search: the refusal, 0 for none; the row, 0 for none; the new mark
+-- The outcome of a search: the refusal (0 for none), the row (0 for none), and the new mark.
 pub record NextRowOutcome : Type 0 where
   pub refusal : ℕ
   pub row : ℕ
@@ -20,16 +20,16 @@ module _ (selected : List ℕ → Bool) where
       let rest = firstSelected (q + 1) rows in
       cond (selected row) q rest
 
-  -- the first selected row after a mark; 0 if there is none
+  -- The first selected row after a mark; 0 if there is none.
   unfoldable pub nextSelected : List (List ℕ) → ℕ → ℕ
   nextSelected rows mark = firstSelected (mark + 1) (drop mark rows)
 
--- a row q moves the mark to q; none (q = 0) moves it to the number of rows, never back
+-- Row q moves the mark to q; without a row (q = 0) the mark moves to the number of rows, never back.
 unfoldable pub outcomeAt : ℕ → ℕ → ℕ → NextRowOutcome
 outcomeAt q rows mark =
     cond (eqb q 0) (record { refusal = 0; row = 0; mark = cond (leb mark rows) rows mark })
     (record { refusal = 0; row = q; mark = q })
 
--- the result of the search for the next selected row
+-- The outcome of the search for the next selected row.
 unfoldable pub nextOutcome : (List ℕ → Bool) → List (List ℕ) → ℕ → NextRowOutcome
 nextOutcome selected rows mark = outcomeAt (nextSelected selected rows mark) (length rows) mark

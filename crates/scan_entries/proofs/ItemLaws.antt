@@ -37,7 +37,7 @@ module _ (T out : List ℕ) (it : Items) (h : Placed T out it) (x : ℕ) (l : x 
       fits = omega (arith, n-is, start-in);
     }
 
--- what `stands` says
+-- The result of `stands`.
 module _ (T out : List ℕ) (it : Items) (x p n : ℕ) where
   abbrev Says : Bool
   Says = eqb (lengthAt T out it x) n && sameList (bytesAt T out it x) (stretch T p n)

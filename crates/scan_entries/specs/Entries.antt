@@ -11,8 +11,8 @@ use Rattle.scan_entries.specs.declared.Items.{Items}
 use Rattle.scan_entries.specs.declared.Run.{Run}
 use Rattle.scan_entries.specs.ChainHeads.{maxItems, linkOf, markOf, bucketOf}
 
--- The three words of item x: the link to the next item of its chain, its fingerprint, the place where its bytes were found; and, after
--- the words of all items, the heads of the chains.
+-- The three words of item x: the link to the next item of its chain, its fingerprint, and the place where its bytes were found. The heads of the chains
+-- follow the words of all items.
 unfoldable pub nextIn : List ℕ → ℕ → ℕ
 nextIn W x = getD W (3 * x) 0
 
@@ -25,7 +25,7 @@ placeIn W x = getD W (3 * x + 2) 0
 unfoldable pub headIn : ℕ → List ℕ → ℕ → ℕ
 headIn items W g = getD W (3 * items + g) 0
 
--- Item 2 i is block i, item 2 i + 1 the pair of blocks i and i + 1. Starts stand in the records of the buffer `out`.
+-- Item 2 i is block i, item 2 i + 1 the pair of blocks i and i + 1. The starts are in the records of the buffer `out`.
 module _ (T out : List ℕ) (it : Items) where
   unfoldable pub startAt : ℕ → ℕ
   startAt x = wordAt out (it .records + x / 2 * it .step)
@@ -39,7 +39,7 @@ module _ (T out : List ℕ) (it : Items) where
   unfoldable pub chainAt : ℕ → ℕ
   chainAt x = bucketOf (it .heads) (print (it .seed) (bytesAt x))
 
-  -- the records are there, and each block starts in the text
+  -- The records are in the buffer, and each block starts in the text.
   pub record Placed : Type 0 where
     pub few : length T ≤ maxText
     pub items-few : it .items ≤ maxItems
@@ -47,32 +47,32 @@ module _ (T out : List ℕ) (it : Items) where
     pub starts : (x : ℕ) → x < it .items → it .records + x / 2 * it .step + 4 ≤ length out
     pub within : (x : ℕ) → x < it .items → startAt x < length T
 
-  -- a table of n words has room for three words of each item and for the heads of the chains
+  -- A table of n words has room for three words of each item and for the heads of the chains.
   pub record Laid (n : ℕ) : Type 0 where
     pub placed : Placed
     pub heads-low : 1 ≤ it .heads
     pub room : 3 * it .items + it .heads ≤ n
 
-  -- the bytes of an item, as the code reads them
+  -- The bytes of an item, as the code reads them.
   pub record RunIs (x : ℕ) (r : Run) : Type 0 where
     pub start-is : r .start .0 ≡ startAt x
     pub length-is : r .length ≡ lengthAt x
     pub fits : r .start .0 + r .length ≤ length T
 
   module _ (W : List ℕ) where
-    -- an item in a chain has a place of the text; any other has the text's length or more there
+    -- An item in a chain has a place of the text as its third word; any other item has the length of the text or more.
     abbrev pub Listed : ℕ → Type 0
     Listed x = placeIn W x < length T
 
-    -- the chain from link e has only items of chain g below k
+    -- The chain from link e has only items of chain g below k.
     pub record Link (g k e : ℕ) : Type 0 where
       pub low : e ≤ k
       pub listed : (y : ℕ) → e ≡ suc y → Listed y
       pub chain : (y : ℕ) → e ≡ suc y → chainAt y ≡ g
-      -- and all of them
+      -- The chain has all items of its number.
       pub all : (y : ℕ) → y < k → Listed y → chainAt y ≡ g → y < e
 
-    -- items below k are entered
+    -- The items below k have been entered.
     pub record Chained (k : ℕ) : Type 0 where
       pub within : k ≤ it .items
       pub next : (x : ℕ) → x < k → Listed x → Link (chainAt x) x (nextIn W x)
@@ -80,13 +80,13 @@ module _ (T out : List ℕ) (it : Items) where
       pub heads : (g : ℕ) → g < it .heads → Link g k (linkOf (headIn (it .items) W g))
       pub marks : (x : ℕ) → x < k → Listed x → markOf (headIn (it .items) W (chainAt x)) (print (it .seed) (bytesAt x) % 8) ≡ 1
 
-    -- of the places below q, none before the one found has the bytes of item x
+    -- Among the places below q, none before the one found has the bytes of item x.
     pub record Found (x q : ℕ) : Type 0 where
       pub near : placeIn W x ≤ startAt x
       pub same : stretch T (placeIn W x) (lengthAt x) ≡ bytesAt x
       pub none : (r : ℕ) → r < q → r < placeIn W x → stretch T r (lengthAt x) ≡ bytesAt x → ⊥
 
-  -- A window was looked up, or several: the chains are as they were, and what was found stays found.
+  -- One or several windows were looked up: the chains are unchanged, and what was found is still found.
   pub record Searched (W Z : List ℕ) : Type 0 where
     pub same-length : length Z ≡ length W
     pub nexts : (x : ℕ) → x < it .items → nextIn Z x ≡ nextIn W x
@@ -96,7 +96,7 @@ module _ (T out : List ℕ) (it : Items) where
     pub others : (x : ℕ) → x < it .items → length T ≤ placeIn W x → placeIn Z x ≡ placeIn W x
     pub found : (x q : ℕ) → x < it .items → Listed W x → Found W x q → Found Z x q
 
-  -- the window of n bytes at p was looked up
+  -- The window of n bytes at p was looked up.
   pub record Looked (W Z : List ℕ) (p n : ℕ) : Type 0 where
     pub searched : Searched W Z
     pub here : (x : ℕ) → x < it .items → Listed W x → lengthAt x ≡ n → Found W x p → Found Z x (p + 1)

@@ -9,12 +9,12 @@ use Rattle.scan_entries.specs.declared.Items.{Items}
 use Rattle.scan_entries.specs.ChainHeads.{linkOf, Pushed}
 use Rattle.scan_entries.specs.Entries.{Laid, Chained, Listed, startAt, lengthAt, bytesAt, nextIn, printIn, placeIn, headIn}
 
--- n words from a place on are zero
+-- The n words from a place on are zero.
 pub record Cleared (W Z : List ℕ) (from n : ℕ) : Type 0 where
   pub same-length : length Z ≡ length W
   pub empty : (i : ℕ) → i < n → getD Z (from + i) 0 ≡ 0
 
--- item x is put in front of chain g, and nothing else is changed
+-- Item x was prepended to chain g, and nothing else is changed.
 pub record Put (items : ℕ) (W Z : List ℕ) (x h s g : ℕ) : Type 0 where
   pub same-length : length Z ≡ length W
   pub next : nextIn Z x ≡ linkOf (headIn items W g)
@@ -27,25 +27,25 @@ pub record Put (items : ℕ) (W Z : List ℕ) (x h s g : ℕ) : Type 0 where
   pub heads : (f : ℕ) → (f ≡ g → ⊥) → headIn items Z f ≡ headIn items W f
 
 module _ (T out : List ℕ) (it : Items) where
-  -- item x is to be entered, those before it are
+  -- Item x is entered next; those before it have been entered.
   pub record Turn (W : List ℕ) (x : ℕ) : Type 0 where
     pub laid : Laid T out it (length W)
     pub item-in : x < it .items
     pub chained : Chained T out it W x
 
-  -- link e leads to an item that is entered, or nowhere
+  -- Link e leads to an item that has been entered, or nowhere.
   pub record Leads (W : List ℕ) (x e : ℕ) : Type 0 where
     pub low : e ≤ x
     pub listed : (y : ℕ) → e ≡ suc y → Listed T out it W y
 
-  -- r is one more than an item below x that has the n bytes at p, or 0
+  -- r is one more than an item below x that has the n bytes at p, or 0.
   pub record Twin (W : List ℕ) (x p n r : ℕ) : Type 0 where
     pub low : r ≤ x
     pub listed : (y : ℕ) → r ≡ suc y → Listed T out it W y
     pub same-length : (y : ℕ) → r ≡ suc y → lengthAt T out it y ≡ n
     pub same : (y : ℕ) → r ≡ suc y → bytesAt T out it y ≡ stretch T p n
 
-  -- item x is entered: in its chain, or as the twin of one that is in its
+  -- Item x has been entered: in its chain, or as equal to an item of that chain.
   pub record Entered (W Z : List ℕ) (x : ℕ) : Type 0 where
     pub same-length : length Z ≡ length W
     pub chained : Chained T out it Z (x + 1)
@@ -54,7 +54,7 @@ module _ (T out : List ℕ) (it : Items) where
     pub twin : (y : ℕ) → placeIn Z x ≡ length T + y
         → (y < x) × Listed T out it Z y × (lengthAt T out it y ≡ lengthAt T out it x) × (bytesAt T out it y ≡ bytesAt T out it x)
 
-  -- item x is left out
+  -- Item x has been left out.
   pub record Skipped (W Z : List ℕ) (x : ℕ) : Type 0 where
     pub same-length : length Z ≡ length W
     pub chained : Chained T out it Z (x + 1)

@@ -9,19 +9,19 @@ use Rattle.scan_entries.specs.declared.Items.{Items}
 use Rattle.scan_entries.specs.Entries.{Laid, Chained, Listed, Found, Searched, chainAt, lengthAt}
 
 module _ (T out : List ℕ) (it : Items) where
-  -- all items are entered, and h is the fingerprint of the n bytes at p
+  -- All items have been entered, and h is the fingerprint of the n bytes at p.
   pub record Asks (W : List ℕ) (h p n : ℕ) : Type 0 where
     pub laid : Laid T out it (length W)
     pub chained : Chained T out it W (it .items)
     pub fits : p + n ≤ length T
     pub print-is : h ≡ print (it .seed) (stretch T p n)
 
-  -- the window of n bytes at p was compared with item x
+  -- The window of n bytes at p was compared with item x.
   pub record Touched (W Z : List ℕ) (x p n : ℕ) : Type 0 where
     pub searched : Searched T out it W Z
     pub here : lengthAt T out it x ≡ n → Found T out it W x p → Found T out it Z x (p + 1)
 
-  -- and with every item of chain g
+  -- The window was compared with every item of chain g.
   pub record Visited (W Z : List ℕ) (g p n : ℕ) : Type 0 where
     pub searched : Searched T out it W Z
     pub here : (x : ℕ) → x < it .items

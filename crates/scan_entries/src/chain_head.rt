@@ -1,4 +1,4 @@
-// Heads of chains.
+// The heads of the chains of the hash table.
 ghost use mathlib.Core.Path.{_≡_};
 ghost use Prim.Native.Nat.{_+_, _%_, _<_, _≤_};
 ghost use lib.Dec.{eqb};
@@ -19,7 +19,7 @@ pub fn marked(w: u32, h: u32) -> bool
     (w >> (h % 8)) % 2 == 1
 }
 
-// A head with item x put in front of its chain.
+// The head after item x is prepended to its chain.
 pub fn pushed(w: u32, h: u32, x: u32) -> u32
     requires { ⌜ x < maxItems ⌝ }
     ensures { λ r. ⌜ Pushed w h x r ⌝ }

@@ -1,4 +1,4 @@
-// Items entered in the table.
+// Enters items into the table.
 use crate::Items;
 use crate::Probe;
 use crate::chain_head;
@@ -12,7 +12,7 @@ ghost use Rattle.scan_entries.specs.ChainHeads.{maxItems};
 ghost use Rattle.scan_entries.specs.Entries.{bytesAt};
 ghost use Rattle.scan_entries.specs.ItemsEntered.{Cleared, Put, Turn, Twin, Entered, Skipped};
 
-// Makes the heads of the chains empty.
+// Makes all chains empty.
 pub fn clear(words: &mut [u32], from: usize, n: usize)
     requires { ⌜ from + n ≤ length (now words) ⌝ }
     ensures { λ _. ⌜ Cleared (now (words .entry)) (now (words .exit)) from n ⌝ }
@@ -24,7 +24,7 @@ pub fn clear(words: &mut [u32], from: usize, n: usize)
     }
 }
 
-// One more than an item below x that has these bytes, by the chain of their fingerprint; 0 where none is found.
+// One more than an item below x with the same bytes, by the chain of their fingerprint; 0 if none is found.
 fn twin(words: &[u32], text: &[u8], out: &[u8], it: Items, x: u32, own: Probe) -> u32
     requires { ⌜ Turn (now text) (now out) it (now words) x × (own .start .0 + own .length ≤ length (now text)) × (own .print < 2147483647) ⌝ }
     ensures { λ r. ⌜ Twin (now (text .entry)) (now (out .entry)) it (now (words .entry)) x (own .start .0) (own .length) r ⌝ }
@@ -43,7 +43,7 @@ fn twin(words: &[u32], text: &[u8], out: &[u8], it: Items, x: u32, own: Probe) -
     0
 }
 
-// Puts item x in front of the chain with number g.
+// Prepends item x to chain g.
 fn put(words: &mut [u32], it: Items, x: u32, h: u32, start: TextPlace, g: u32)
     requires { ⌜ (3 * it .items + it .heads ≤ length (now words)) × (it .items ≤ maxItems) × (x < it .items) × (g < it .heads) ⌝ }
     ensures { λ _. ⌜ Put (it .items) (now (words .entry)) (now (words .exit)) x h (start .0) g ⌝ }
@@ -57,7 +57,7 @@ fn put(words: &mut [u32], it: Items, x: u32, h: u32, start: TextPlace, g: u32)
     words[head] = chain_head::pushed(w, h, x);
 }
 
-// Enters item x, whose fingerprint is h: in its chain, or as a twin of an item that is there.
+// Enters item x with fingerprint h: into its chain, or as equal to an item that is there.
 pub fn enter(words: &mut [u32], text: &[u8], out: &[u8], it: Items, x: u32, h: u32)
     requires { ⌜ Turn (now text) (now out) it (now words) x × (h ≡ print (it .seed) (bytesAt (now text) (now out) it x)) ⌝ }
     ensures { λ _. ⌜ Entered (now (text .entry)) (now (out .entry)) it (now (words .entry)) (now (words .exit)) x ⌝ }
@@ -78,7 +78,7 @@ pub fn enter(words: &mut [u32], text: &[u8], out: &[u8], it: Items, x: u32, h: u
     put(words, it, x, h, start, chain_head::bucket(h, it.heads));
 }
 
-// Leaves item x out: no pair stands there.
+// Marks item x as unused: the blocks are not a pair.
 pub fn skip(words: &mut [u32], text: &[u8], out: &[u8], it: Items, x: u32)
     requires { ⌜ Turn (now text) (now out) it (now words) x ⌝ }
     ensures { λ _. ⌜ Skipped (now (text .entry)) (now (out .entry)) it (now (words .entry)) (now (words .exit)) x ⌝ }

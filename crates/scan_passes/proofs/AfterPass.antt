@@ -1,4 +1,4 @@
--- What the table says once the pass is over.
+-- The results in the table after the pass.
 use mathlib.Core.List.{List}
 use mathlib.Core.Path.{_≡_, sym, ap, _∙_, subst}
 use mathlib.Core.Logic.{_⊎_, inl, inr}
@@ -54,7 +54,7 @@ module _ (T out : List ℕ) (it : Items) (W Z : List ℕ) (e : Entrants T out it
       unfolding y
       twin-low = omega (arith, kept, w .0)
 
-      -- a twin of the same length stands before it in the text
+      -- An equal item is before it in the text.
       block-before : y / 2 < x / 2 → startAt T out it y < startAt T out it x
       block-before l = omega (arith, o .rising y x l xl, o .size-low)
 

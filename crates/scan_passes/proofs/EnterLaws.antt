@@ -210,7 +210,7 @@ module _ (T out : List ℕ) (it : Items) where
           within = omega (arith, next-block);
         }
 
-      -- it is the last one
+      -- The block is the last one.
       module _ (end : it .items ≤ 2 * i + 1) where
         last-is : 2 * i + 1 ≡ it .items
         last-is = omega (arith, g .within)

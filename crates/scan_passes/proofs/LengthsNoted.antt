@@ -1,4 +1,4 @@
--- The lengths noted on the way.
+-- The lengths that are noted while blocks and pairs are entered.
 use mathlib.Core.List.{List}
 use mathlib.Core.Path.{_≡_, refl, sym, subst}
 use mathlib.Core.Logic.{_⊎_, inl, inr}

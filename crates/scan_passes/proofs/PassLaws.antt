@@ -21,7 +21,7 @@ use Rattle.scan_passes.specs.declared.pass.CutWindows.{CutWindows}
 use Rattle.scan_passes.specs.Passes.{Ordered, Entrants, Covers, Asked, Stepped, SteppedTwice, CutStanding, Passed}
 use Rattle.scan_passes.proofs.ItemLengths.{length-low}
 
--- a window that stands nowhere any more
+-- A window that fits at no further place.
 pub stands-still : (seed : ℕ) (T : List ℕ) (n p : ℕ) (w : Window) → Standing seed T n p w → w .places ≤ p + 1 → Standing seed T n (p + 1) w
 stands-still seed T n p w s l = record {
   len-is = s .len-is;
@@ -39,7 +39,7 @@ of-len seed T n p w s = subst (λ (k : ℕ). Standing seed T k p w) (sym (s .len
 pub of-same : (seed : ℕ) (T : List ℕ) (n p : ℕ) (w r : Window) → Standing seed T n p w → Standing seed T (w .len) (p + 1) r → Standing seed T n (p + 1) r
 of-same seed T n p w r s t = subst (λ (k : ℕ). Standing seed T k (p + 1) r) (s .len-is) t
 
--- a window that was moved on stands at as many places
+-- A window that was moved fits at as many places.
 pub still-stands : (seed : ℕ) (T : List ℕ) (n p : ℕ) (w r : Window)
     → Standing seed T n p w → Standing seed T n (p + 1) r → p + 1 < w .places → p + 1 < r .places
 still-stands seed T n p w r s t l = omega (arith, s .places-is, t .places-is)
@@ -99,7 +99,7 @@ places-most size n l = go (lt-or-ge 0 n)
 pub looked-few : (seed : ℕ) (T : List ℕ) (n p : ℕ) (w : Window) → Standing seed T n p w → w .looked ≤ length T
 looked-few seed T n p w s = omega (arith, s .looked-is, s .places-is, places-most (length T) n (s .fits))
 
--- it was looked up everywhere
+-- The window was looked up everywhere.
 looked-of : (seed : ℕ) (T : List ℕ) (n m p : ℕ) (w : Window) → n ≡ m → Standing seed T n p w → length T ≤ p → w .looked ≡ placesOf (length T) m
 looked-of seed T n m p w e s l =
     let a : w .looked ≡ placesOf (length T) n = omega (arith, s .looked-is, s .places-is, places-most (length T) n (s .fits)) in
@@ -111,7 +111,7 @@ pub looked-sum : (seed : ℕ) (T : List ℕ) (na nb nc nd ma mb mc md p : ℕ) (
 looked-sum seed T na nb nc nd ma mb mc md p a b c d ea eb ec ed sa sb sc sd l =
     rw (looked-of seed T na ma p a ea sa l, looked-of seed T nb mb p b eb sb l, looked-of seed T nc mc p c ec sc l, looked-of seed T nd md p d ed sd l)
 
--- the same bytes first stand at the same place
+-- Equal bytes have the same first occurrence.
 pub leftmost-same-bytes : (T : List ℕ) (s t n : ℕ) → stretch T s n ≡ stretch T t n → leftmost T s n ≡ leftmost T t n
 leftmost-same-bytes T s t n e = omega (
   arith,
@@ -128,7 +128,7 @@ module _ (T out : List ℕ) (it : Items) where
   }
 
   module _ (W : List ℕ) (n p : ℕ) (w : Window) (a : Asked T out it W) (s : Standing (it .seed) T n p w) where
-    -- the window does not stand at p: an item of its length was found before
+    -- The window does not fit at p: an item of its length was found before.
     pub stepped-past : w .places ≤ p → Stepped T out it W W n p
     stepped-past l = record {
       searched = searched-none T out it W;
@@ -153,7 +153,7 @@ module _ (T out : List ℕ) (it : Items) where
   pub stepped-twice : (W Y Z : List ℕ) (n k p : ℕ) → Stepped T out it W Y n p → Stepped T out it Y Z k p → SteppedTwice T out it W Z n k p
   stepped-twice W Y Z n k p one other = record { between = Y; one = one; other = other }
 
-  -- neither window of a cut length stands at p
+  -- Neither window of a cut length fits at p.
   pub twice-past : (W : List ℕ) (n k p : ℕ) (cut : CutWindows) → Asked T out it W → CutStanding (it .seed) T n k p cut → cut .places ≤ p
       → SteppedTwice T out it W W n k p
   twice-past W n k p cut a s l = stepped-twice W W W n k p (stepped-past W n p (cut .last) a (s .last-is) (omega (arith, s .last-few)))
@@ -223,7 +223,7 @@ module _ (T out : List ℕ) (it : Items) where
       found-four : Found T out it Z₄ x (q + 1)
       found-four = by-length (v .one x xl j)
 
-  -- the windows stand at p, and were looked up there and at every place before
+  -- The windows are at p, and were looked up there and at every place before.
   pub record Passing (na nb nc nd : ℕ) (W Z : List ℕ) (p : ℕ) (a b c d : Window) : Type 0 where
     pub within : p ≤ length T
     pub asked : Asked T out it Z

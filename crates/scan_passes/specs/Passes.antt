@@ -1,4 +1,4 @@
--- One pass over the text for a level: what stands in the table before, on the way and afterwards.
+-- One pass over the text for a level: the contents of the table before, during and after it.
 use mathlib.Core.List.{List}
 use mathlib.Core.Bool.{cond}
 use mathlib.Core.Path.{_≡_}
@@ -13,7 +13,7 @@ use Rattle.scan_entries.specs.Entries.{Laid, Chained, Listed, Found, Searched, 
 use Rattle.scan_passes.specs.declared.Lengths.{Lengths}
 use Rattle.scan_passes.specs.declared.pass.CutWindows.{CutWindows}
 
--- the lengths with one more, in its place by how it compares with the length of a full block; 0 is none
+-- The lengths with n added: n replaces the one of its kind, by comparison with the length of a full block; 0 adds nothing.
 abbrev pub notedBy : Lengths → ℕ → ℕ → Lengths
 notedBy l size n =
     cond (eqb n 0) l
@@ -22,37 +22,37 @@ notedBy l size n =
     (cond (eqb n (size + size)) (record { block = l .block; pair = n; last = l .last; ending = l .ending })
     (record { block = l .block; pair = l .pair; last = l .last; ending = n }))))
 
--- a length stands in its place
+-- A length is one of the four that are noted.
 pub record Among (size : ℕ) (l : Lengths) (n : ℕ) : Type 0 where
   pub short : n < size → l .last ≡ n
   pub full : n ≡ size → l .block ≡ n
   pub both : n ≡ size + size → l .pair ≡ n
   pub cut : size < n → n < size + size → l .ending ≡ n
 
--- both windows of a cut length at place p, and an upper bound of their places
+-- Both windows of cut lengths at place p, and an upper bound of their numbers of places.
 pub record CutStanding (seed : ℕ) (T : List ℕ) (n k p : ℕ) (cut : CutWindows) : Type 0 where
   pub last-is : Standing seed T n p (cut .last)
   pub ending-is : Standing seed T k p (cut .ending)
   pub last-few : cut .last .places ≤ cut .places
   pub ending-few : cut .ending .places ≤ cut .places
 
--- where item x first stands, by the table of a text of n bytes: its own place, or its twin's
+-- The first occurrence of item x, by the table of a text of n bytes: its own, or that of an equal item.
 unfoldable pub placeOut : ℕ → List ℕ → ℕ → ℕ
 placeOut n W x = cond (ltb (placeIn W x) n) (placeIn W x) (placeIn W (placeIn W x - n))
 
 module _ (T out : List ℕ) (it : Items) where
-  -- item x is there: a block, or two that follow each other in the text
+  -- Item x exists: a block, or two blocks that are adjacent in the text.
   abbrev pub Present : ℕ → Type 0
   Present x = (x % 2 ≡ 0) ⊎ (startAt T out it (x + 1) ≡ startAt T out it x + it .size)
 
-  -- the level's blocks rise, and there is a last one
+  -- The blocks of the level ascend, and there is a last one.
   pub record Ordered : Type 0 where
     pub size-low : 1 ≤ it .size
     pub last : ℕ
     pub items-are : it .items ≡ 2 * last + 1
     pub rising : (x y : ℕ) → x / 2 < y / 2 → y < it .items → startAt T out it x + it .size ≤ startAt T out it y
 
-  -- item x was taken: entered, or left out where it is not there
+  -- Item x was processed: entered, or left out if it does not exist.
   pub record Took (W Z : List ℕ) (x : ℕ) : Type 0 where
     pub same-length : length Z ≡ length W
     pub chained : Chained T out it Z (x + 1)
@@ -62,7 +62,7 @@ module _ (T out : List ℕ) (it : Items) where
     pub twin : Present x → (y : ℕ) → placeIn Z x ≡ length T + y
         → (y < x) × Listed T out it Z y × (lengthAt T out it y ≡ lengthAt T out it x) × (bytesAt T out it y ≡ bytesAt T out it x)
 
-  -- items below k were taken
+  -- The items below k were processed.
   pub record Entrants (W : List ℕ) (k : ℕ) : Type 0 where
     pub laid : Laid T out it (length W)
     pub chained : Chained T out it W k
@@ -71,16 +71,16 @@ module _ (T out : List ℕ) (it : Items) where
     pub twin : (x : ℕ) → x < k → Present x → (y : ℕ) → placeIn W x ≡ length T + y
         → (y < x) × Listed T out it W y × (lengthAt T out it y ≡ lengthAt T out it x) × (bytesAt T out it y ≡ bytesAt T out it x)
 
-  -- the length of pair x, 0 where it is not there
+  -- The length of pair x, 0 if it does not exist.
   pub record PairSays (x n : ℕ) : Type 0 where
     pub some : Present x → n ≡ lengthAt T out it x
     pub none : (Present x → ⊥) → n ≡ 0
 
-  -- some item below k that is there has n bytes
+  -- Some existing item below k has n bytes.
   abbrev pub Has : ℕ → ℕ → Type 0
   Has k n = (x : ℕ) × (x < k) × Present x × (lengthAt T out it x ≡ n)
 
-  -- the lengths of the items below k that are there, and no others
+  -- The lengths of the existing items below k, and no others.
   pub record Noted (k : ℕ) (l : Lengths) : Type 0 where
     pub covers : (x : ℕ) → x < k → Present x → Among (it .size) l (lengthAt T out it x)
     pub block-is : (l .block ≡ 0) ⊎ ((l .block ≡ it .size) × Has k (l .block))
@@ -88,7 +88,7 @@ module _ (T out : List ℕ) (it : Items) where
     pub last-is : (l .last ≡ 0) ⊎ ((l .last < it .size) × Has k (l .last))
     pub ending-is : (l .ending ≡ 0) ⊎ ((it .size < l .ending) × (l .ending < it .size + it .size) × Has k (l .ending))
 
-  -- every item in a chain has one of the lengths, and none is longer than the text
+  -- Every item in a chain has one of the lengths, and none is longer than the text.
   pub record Covers (W : List ℕ) (l : Lengths) : Type 0 where
     pub one : (x : ℕ) → x < it .items → Listed T out it W x
         → (lengthAt T out it x ≡ l .block) ⊎ ((lengthAt T out it x ≡ l .pair) ⊎ ((lengthAt T out it x ≡ l .last) ⊎ (lengthAt T out it x ≡ l .ending)))
@@ -97,29 +97,29 @@ module _ (T out : List ℕ) (it : Items) where
     pub last-in : l .last ≤ length T
     pub ending-in : l .ending ≤ length T
 
-  -- all items are entered
+  -- All items have been entered.
   pub record Asked (W : List ℕ) : Type 0 where
     pub laid : Laid T out it (length W)
     pub chained : Chained T out it W (it .items)
     pub low : (x : ℕ) → x < it .items → 1 ≤ lengthAt T out it x
 
-  -- the window of n bytes was looked up at p, where it stands there
+  -- The window of n bytes was looked up at p, if it fits there.
   pub record Stepped (W Z : List ℕ) (n p : ℕ) : Type 0 where
     pub searched : Searched T out it W Z
     pub here : (x : ℕ) → x < it .items → Listed T out it W x → lengthAt T out it x ≡ n → Found T out it W x p → Found T out it Z x (p + 1)
 
-  -- two windows, of n and of k bytes, were looked up at p, one after the other
+  -- Two windows, of n and of k bytes, were looked up at p, one after the other.
   pub record SteppedTwice (W Z : List ℕ) (n k p : ℕ) : Type 0 where
     pub between : List ℕ
     pub one : Stepped W between n p
     pub other : Stepped between Z k p
 
-  -- the pass is over: every item in a chain has the place where it first stands
+  -- After the pass every item in a chain has the place of its first occurrence.
   pub record Passed (W Z : List ℕ) : Type 0 where
     pub searched : Searched T out it W Z
     pub found : (x : ℕ) → x < it .items → Listed T out it W x → placeIn Z x ≡ leftmost T (startAt T out it x) (lengthAt T out it x)
 
-  -- what the table then says of the items that are there
+  -- The results in the table for the items that exist.
   pub record Answered (W : List ℕ) : Type 0 where
     pub laid : Laid T out it (length W)
     pub place : (x : ℕ) → x < it .items → Present x → placeOut (length T) W x ≡ leftmost T (startAt T out it x) (lengthAt T out it x)
@@ -129,7 +129,7 @@ module _ (T out : List ℕ) (it : Items) where
     pub again : (x : ℕ) → x < it .items
         → Present x → (placeIn W x ≡ startAt T out it x → ⊥) → leftmost T (startAt T out it x) (lengthAt T out it x) ≡ startAt T out it x → ⊥
 
-  -- the windows looked up: for each length, one at every place
+  -- The number of windows looked up: for each length, one at every place.
   pub record Counted (r : ℕ) : Type 0 where
     pub lengths : Lengths
     pub noted : Noted (it .items) lengths

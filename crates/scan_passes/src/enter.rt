@@ -1,4 +1,4 @@
-// The blocks and pairs of a level entered, in their order, with the lengths that they have.
+// Enters the blocks and pairs of a level in their order, and notes their lengths.
 use crate::Lengths;
 use layout::place::BlockNumber;
 use scan_entries::Items;
@@ -13,14 +13,14 @@ ghost use Rattle.scan_entries.specs.Entries.{Laid, Placed, bytesAt};
 ghost use Rattle.scan_entries.specs.ItemsEntered.{Turn};
 ghost use Rattle.scan_passes.specs.Passes.{Ordered, Entrants, Noted, notedBy, Took, PairSays};
 
-// The fingerprints of a block and of the next one, and the power of the base that a full block gives.
+// The fingerprints of a block and of the next one, and the power of the base for a full block.
 struct Prints {
     own: u32,
     next: u32,
     top: u32,
 }
 
-// The lengths with one more; 0 is none.
+// The lengths with n added; 0 adds nothing.
 fn noted(l: Lengths, size: u32, n: u32) -> Lengths
     requires { ⌜ size ≤ maxText ⌝ }
     ensures { λ r. ⌜ r ≡ notedBy l size n ⌝ }
@@ -69,7 +69,7 @@ fn block_print(text: &[u8], out: &[u8], it: Items, i: BlockNumber) -> u32
     scan_windows::fingerprint_at(it.seed, text, own.start, own.length)
 }
 
-// The power of the base that the second block of a pair of n bytes gives; `top` is that of a full block.
+// The power of the base for the second block of a pair of n bytes; `top` is that of a full block.
 fn pair_power(seed: u32, n: u32, size: u32, top: u32) -> u32
     requires { ⌜ (size ≤ n) × (size ≤ maxText) × (top ≡ baseOf seed ^ size % 2147483647) ⌝ }
     ensures { λ r. ⌜ r ≡ baseOf seed ^ (n - size) % 2147483647 ⌝ }
@@ -80,7 +80,7 @@ fn pair_power(seed: u32, n: u32, size: u32, top: u32) -> u32
     scan_windows::power(seed, n - size)
 }
 
-// Enters the pair of blocks i and i + 1, where they are one; its length, 0 where they are none.
+// Enters the pair of blocks i and i + 1, if they are one. Returns its length, 0 if they are not.
 fn enter_pair(
     words: &mut [u32],
     text: &[u8],
@@ -115,7 +115,7 @@ fn enter_pair(
     own.length
 }
 
-// Enters block i and the pair of blocks i and i + 1; the pair's length, 0 where there is none.
+// Enters block i and the pair of blocks i and i + 1. Returns the length of the pair, 0 if there is none.
 fn enter_both(
     words: &mut [u32],
     text: &[u8],

@@ -12,14 +12,14 @@ ghost use lib.ListN.{length, getD};
 ghost use Rattle.scan_windows.specs.Windows.{Standing, placesOf};
 ghost use Rattle.scan_passes.specs.Passes.{Asked, Stepped, SteppedTwice, CutStanding, Covers, Passed, Entrants, Ordered};
 
-// The windows of the lengths that the text's end cuts: of a short block, and of a pair with a short block.
+// The windows of the two lengths that the end of the text cuts: of a short block, and of a pair with a short block.
 pub struct CutWindows {
     pub last: Window,
     pub ending: Window,
     pub places: u32,
 }
 
-// The window of n bytes at the text's start, looked up there where it stands.
+// The window of n bytes at the start of the text, looked up there if it fits.
 fn first(words: &mut [u32], text: &[u8], out: &[u8], it: Items, n: u32) -> Window
     requires { ⌜ Asked (now text) (now out) it (now words) × (n ≤ length (now text)) ⌝ }
     ensures { λ r. ⌜ Standing (it .seed) (now (text .entry)) n 0 r ⌝ }
@@ -38,7 +38,7 @@ fn first(words: &mut [u32], text: &[u8], out: &[u8], it: Items, n: u32) -> Windo
     w
 }
 
-// Moves a window on, as far as it can be, and looks it up there. It moves first: the next place is then compared with the places once.
+// Moves a window by one place if it fits there, and looks it up. It moves first, so the next place is compared with the number of places only once.
 fn step(words: &mut [u32], text: &[u8], out: &[u8], it: Items, w: Window, here: ByteAt) -> Window
     requires { ⌜ Asked (now text) (now out) it (now words) × Standing (it .seed) (now text) (w .len) (here .place .0) w
         × (here .place .0 < length (now text)) × (here .byte ≡ getD (now text) (here .place .0) 0) ⌝ }
@@ -59,7 +59,7 @@ fn step(words: &mut [u32], text: &[u8], out: &[u8], it: Items, w: Window, here: 
     next
 }
 
-// Both windows of a cut length, and at how many places they stand at most: for most places of most texts nowhere, which one comparison says.
+// Both windows of cut lengths, and the larger of their numbers of places: from there on one comparison skips both.
 fn cut_windows(last: Window, ending: Window) -> CutWindows
     ensures { λ r. ⌜ (r .last ≡ last) × (r .ending ≡ ending) × (last .places ≤ r .places) × (ending .places ≤ r .places) ⌝ }
 {
@@ -77,7 +77,7 @@ fn cut_windows(last: Window, ending: Window) -> CutWindows
     }
 }
 
-// Moves both windows of a cut length on, and looks them up.
+// Moves both windows of cut lengths and looks them up.
 fn step_cut(
     words: &mut [u32],
     text: &[u8],
@@ -105,7 +105,7 @@ fn step_cut(
     }
 }
 
-// Passes once over the text, with a window of each length, and returns how many were looked up.
+// Passes once over the text with a window of each length. Returns the number of windows looked up.
 pub fn pass(words: &mut [u32], text: &[u8], out: &[u8], it: Items, l: Lengths) -> u32
     requires { ⌜ Entrants (now text) (now out) it (now words) (it .items) × Covers (now text) (now out) it (now words) l × Ordered (now text) (now out) it ⌝ }
     ensures { λ _. ⌜ Passed (now (text .entry)) (now (out .entry)) it (now (words .entry)) (now (words .exit)) ⌝ }

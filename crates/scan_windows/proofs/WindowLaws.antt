@@ -43,7 +43,7 @@ stands-first seed T n t h fits few e et eh = record {
   looked-is = omega arith;
 }
 
--- it stands at p
+-- The window fits at p.
 module _ (seed : ℕ) (T : List ℕ) (n p : ℕ) (w : Window) (s : Standing seed T n p w) where
   module _ (here : p < w .places) where
     some : n ≡ 0 → ⊥
@@ -55,7 +55,7 @@ module _ (seed : ℕ) (T : List ℕ) (n p : ℕ) (w : Window) (s : Standing seed
     pub within : p + n ≤ length T
     within = omega (arith, places-are, s .fits)
 
-  -- and at the next place
+  -- The window fits at the next place too.
   module _ (more : p + 1 < w .places) where
     pub before-end : p + n < length T
     before-end = omega (arith, places-are (omega arith), s .fits)

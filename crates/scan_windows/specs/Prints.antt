@@ -1,9 +1,9 @@
--- Fingerprints modulo the prime 2^31 - 1, in a base that a seed gives. The last byte counts by the base too: every byte then reaches every bit.
+-- Fingerprints modulo the prime 2^31 - 1, with a base from a seed. The last byte is multiplied by the base too, so every byte affects every bit.
 use mathlib.Core.List.{List}
 use Prim.Native.Nat.{ℕ, _*_, _%_}
 use Rattle.search.specs.FingerValues.{digits}
 
--- a base below 2^30: a step of a window then needs one subtraction at most to be reduced
+-- A base below 2^30: a step of a window then needs at most one subtraction to be reduced.
 abbrev pub baseOf : ℕ → ℕ
 baseOf seed = seed % 1073741824
 

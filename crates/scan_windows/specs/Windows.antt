@@ -9,11 +9,11 @@ use Rattle.text.specs.Text.{stretch}
 use Rattle.scan_windows.specs.declared.Window.{Window}
 use Rattle.scan_windows.specs.Prints.{baseOf, print}
 
--- at how many places a window of n bytes stands in a text of so many; no window has 0 bytes
+-- The number of places where a window of n bytes fits in a text of some length; a window of 0 bytes fits nowhere.
 abbrev pub placesOf : ℕ → ℕ → ℕ
 placesOf size n = cond (eqb n 0) 0 (size - n + 1)
 
--- the window of n bytes at place p: where it stands there it has the fingerprint of its bytes; it is looked up there and at every place before
+-- The window of n bytes at place p: if it fits there, it has the fingerprint of its bytes; it was looked up there and at every place before.
 pub record Standing (seed : ℕ) (T : List ℕ) (n p : ℕ) (w : Window) : Type 0 where
   pub len-is : w .len ≡ n
   pub fits : n ≤ length T

@@ -1,5 +1,5 @@
-// Windows that roll over a text. Their fingerprints are modulo the prime 2^31 - 1, in a base that a seed gives: a text that is chosen
-// without knowing the seed has equal fingerprints of different windows only by chance.
+// Windows that roll over a text. Their fingerprints are modulo the prime 2^31 - 1, with a base from a seed: a text that is chosen without knowing the seed
+// has equal fingerprints of different windows only by chance.
 use text::TextPlace;
 ghost use mathlib.Core.Path.{_≡_};
 ghost use Prim.Native.Nat.{_+_, _-_, _*_, _/_, _%_, _^_, _≤_, _<_};
@@ -8,8 +8,8 @@ ghost use Rattle.text.specs.Text.{stretch};
 ghost use Rattle.scan_windows.specs.Prints.{baseOf, print};
 ghost use Rattle.scan_windows.specs.Windows.{Standing};
 
-// A window of the text: how many bytes it has, the factor by which the byte that leaves it counts, the fingerprint of its bytes, at how
-// many places of the text it stands, and at how many it is looked up so far, the one where it is included.
+// A window of the text: its length, the factor of the byte that leaves it, the fingerprint of its bytes, the number of places of the text where it fits, and
+// the number of places where it was looked up, the current one included.
 pub struct Window {
     pub len: u32,
     pub leaving: u32,
@@ -57,7 +57,7 @@ fn reduce(x: u64) -> u32
     (y - 2147483647) as u32
 }
 
-// A number that has the remainder of the fingerprint of bytes, with one byte more at their end.
+// A number with the remainder of the fingerprint after one more byte.
 fn push(base: u32, h: u64, enters: u8) -> u64
     requires { ⌜ (h < 8589934592) × (base < 1073741824) ⌝ }
     ensures { λ r. ⌜ (r % 2147483647 ≡ (h + enters) * base % 2147483647) × (r < 8589934592) ⌝ }
@@ -65,7 +65,7 @@ fn push(base: u32, h: u64, enters: u8) -> u64
     fold((h + enters as u64) * base as u64)
 }
 
-// The same with four bytes more: a step for each byte would wait for the one before.
+// The same after four more bytes. A step for each byte would wait for the one before.
 fn push_four(by: Powers, h: u64, a: u8, b: u8, c: u8, d: u8) -> u64
     requires { ⌜ (h < 4294967296) × (by .one < 2147483647) × (by .two < 2147483647) × (by .three < 2147483647) × (by .four < 2147483647) ⌝ }
     ensures { λ r. ⌜ (r % 2147483647 ≡ (by .four * (h + a) + by .three * b + by .two * c + by .one * d) % 2147483647) × (r < 4294967296) ⌝ }
@@ -77,7 +77,7 @@ fn push_four(by: Powers, h: u64, a: u8, b: u8, c: u8, d: u8) -> u64
     fold(fold(sum))
 }
 
-// The fingerprint of a window moved on by one byte.
+// The fingerprint of a window moved by one byte.
 fn roll(base: u32, h: u32, leaving: u32, leaves: u8, enters: u8) -> u32
     requires { ⌜ (base < 1073741824) × (h < 2147483647) × (leaving ≤ 2147483647) ⌝ }
     ensures { λ r. ⌜ r ≡ ((h + enters) * base + leaves * leaving) % 2147483647 ⌝ }
@@ -85,7 +85,7 @@ fn roll(base: u32, h: u32, leaving: u32, leaves: u8, enters: u8) -> u32
     reduce((h as u64 + enters as u64) * base as u64 + leaves as u64 * leaving as u64)
 }
 
-// The fingerprint of two runs of bytes, one after the other; `top` is the power of the base that the second one's length gives.
+// The fingerprint of two byte strings, one after the other; `top` is the power of the base for the length of the second.
 pub fn join(h: u32, top: u32, next: u32) -> u32
     ensures { λ r. ⌜ r ≡ (h * top + next) % 2147483647 ⌝ }
 {
@@ -130,7 +130,7 @@ fn first_powers(seed: u32) -> Powers
     }
 }
 
-// The fingerprint of bytes; h has the remainder of that of the bytes before a place.
+// The fingerprint of bytes; h has the remainder of the fingerprint of those before a place.
 fn finish(seed: u32, h: u64, s: &[u8], from: usize) -> u32
     requires { ⌜ (h < 8589934592) × (from ≤ length (now s)) × (h % 2147483647 ≡ print seed (take from (now s))) ⌝ }
     ensures { λ r. ⌜ r ≡ print seed (now (s .entry)) ⌝ }
@@ -168,7 +168,7 @@ pub fn fingerprint_at(seed: u32, text: &[u8], p: TextPlace, n: u32) -> u32
     fingerprint(seed, &text[from..end])
 }
 
-// The window of n bytes at the text's start. No window has 0 bytes: it stands nowhere.
+// The window of n bytes at the start of the text. A window of 0 bytes fits at no place.
 pub fn opened(seed: u32, text: &[u8], n: u32) -> Window
     requires { ⌜ (n ≤ length (now text)) × (length (now text) < 4294967295) ⌝ }
     ensures { λ r. ⌜ Standing seed (now (text .entry)) n 0 r ⌝ }
@@ -191,7 +191,7 @@ pub fn opened(seed: u32, text: &[u8], n: u32) -> Window
     }
 }
 
-// A window at a place, moved on to the next.
+// A window moved from a place to the next.
 pub fn moved(seed: u32, text: &[u8], w: Window, here: ByteAt) -> Window
     requires { ⌜ Standing seed (now text) (w .len) (here .place .0) w × (here .place .0 + 1 < w .places)
         × (here .byte ≡ getD (now text) (here .place .0) 0) ⌝ }

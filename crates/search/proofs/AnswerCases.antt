@@ -1,4 +1,4 @@
--- The answers of the outside calls, by cases.
+-- The answers of the public calls, by cases.
 use mathlib.Core.List.{List}
 use mathlib.Core.Bool.{Bool, true, false, cond, _&&_}
 use mathlib.Core.Path.{_≡_, refl, sym, ap, _∙_}

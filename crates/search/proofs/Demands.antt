@@ -24,7 +24,7 @@ use Rattle.search.proofs.occurs_earlier.Reads as earlier-reads
 abbrev pub Answer : (κs : Lfts 1) → RefT (List ℕ) → TextPlace → ℕ → Fingerprint → Occurrence → Type 0
 Answer κs text at len by r = leftmost-reads.Post κs (text, (at, (len, (by, tt)))) r (text, (at, (len, (by, tt))))
 
--- the same of `occurs_earlier`
+-- The contract of `occurs_earlier`.
 abbrev pub Earlier : (κs : Lfts 1) → RefT (List ℕ) → TextPlace → ℕ → Fingerprint → Bool → Type 0
 Earlier κs text at len by r = earlier-reads.Post κs (text, (at, (len, (by, tt)))) r (text, (at, (len, (by, tt))))
 
@@ -39,7 +39,7 @@ pub same-earlier :
     → Earlier κs text at len one r → Earlier κs text at len other s → r ≡ s
 same-earlier κs text at len one other r s p q = p ∙ sym q
 
--- what an answer says: p is the leftmost place with the len bytes at `at`
+-- The meaning of an answer: p is the leftmost place with the len bytes at `at`.
 pub record Leftmost (T : List ℕ) (at len p : ℕ) : Type 0 where
   pub within : at + len ≤ length T
   pub low : p ≤ at

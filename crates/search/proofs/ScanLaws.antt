@@ -22,7 +22,7 @@ pub ahead-start : (T : List ℕ) (at n : ℕ) → ahead T at n 0 ≡ leftmost T 
 unfolding ahead leftmost
 ahead-start T at n = rw (sub-zero at)
 
--- a place at which the search from it gives what the whole gives, and whether the bytes stand there
+-- A place from which the search gives the result of the whole search, and whether the bytes occur there.
 module _ (T : List ℕ) (at n p : ℕ) (whole : ahead T at n p ≡ leftmost T at n) where
   module _ (r : Bool) (is : r ≡ sameList (stretch T p n) (stretch T at n)) where
     pub ahead-hit : r ≡ true → p < at → p ≡ leftmost T at n

@@ -1,4 +1,4 @@
--- What the outside calls say, for any lent bytes. Base and modulus stand in neither answer.
+-- What leftmost and occurs_earlier return for any bytes. The answers do not depend on base and modulus.
 -- docs/FORMAT.md: "Searching".
 use mathlib.Core.List.{List}
 use mathlib.Core.Bool.{Bool, cond, _&&_}
@@ -9,10 +9,10 @@ use Rattle.text.specs.Text.{leftmost}
 use Rattle.search.specs.declared.Occurrence.{Occurrence}
 use Rattle.search.specs.declared.Occurrence.the-variants.{At, Outside}
 
--- the leftmost occurrence of the len bytes at a place; outside, where they pass the text's end
+-- The leftmost occurrence of the len bytes at a place; `Outside` if they extend past the end of the text.
 unfoldable pub leftmostSays : List ℕ → ℕ → ℕ → Occurrence
 leftmostSays T at len = cond (leb (at + len) (length T)) (At (record { 0 = leftmost T at len })) Outside
 
--- whether the len bytes at a place lie in the text and stand at an earlier place too
+-- Whether the len bytes at a place are in the text and also occur at an earlier place.
 unfoldable pub earlierSays : List ℕ → ℕ → ℕ → Bool
 earlierSays T at len = leb (at + len) (length T) && ltb (leftmost T at len) at

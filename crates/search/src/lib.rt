@@ -14,7 +14,7 @@ pub struct Fingerprint {
     pub modulus: u32,
 }
 
-// Where the bytes asked for stand first, or that they pass the text's end.
+// The place of the leftmost occurrence, or that the bytes extend past the end of the text.
 pub enum Occurrence {
     At(TextPlace),
     Outside,
@@ -61,7 +61,7 @@ pub fn leftmost(text: &[u8], at: TextPlace, len: u32, by: Fingerprint) -> Occurr
     Occurrence::At(place)
 }
 
-// Whether the len bytes at a place of the text lie in it and stand at an earlier place too.
+// Whether the len bytes at a place are in the text and also occur at an earlier place.
 pub fn occurs_earlier(text: &[u8], at: TextPlace, len: u32, by: Fingerprint) -> bool
     ensures { λ r. ⌜ r ≡ earlierSays (now (text .entry)) (at .0) len ⌝ }
 {

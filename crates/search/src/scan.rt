@@ -1,4 +1,4 @@
-// The search itself: one pass over the text up to the place.
+// The search: one pass over the text up to the place.
 use crate::Fingerprint;
 use crate::finger;
 use text::TextPlace;
@@ -15,7 +15,7 @@ struct Printed {
     print: u64,
 }
 
-// Whether the n bytes at a place stand at another too. Equal fingerprints only propose, and the bytes decide.
+// Whether the same n bytes are at two places. Equal fingerprints only propose; a comparison of the bytes decides.
 fn stands(text: &[u8], here: Printed, wanted: Printed, n: usize, by: Fingerprint) -> bool
     requires { ⌜ (here .start .0 + n ≤ length (now text)) × (wanted .start .0 + n ≤ length (now text)) ⌝ }
     requires { ⌜ here .print ≡ finger (by .base) (by .modulus) (stretch (now text) (here .start .0) n) ⌝ }

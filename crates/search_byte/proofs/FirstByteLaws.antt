@@ -92,7 +92,7 @@ module _ (t : List ℕ) (byte : ℕ) where
     there = λ h. let e : from + (i + r) ≡ from + i + r = omega arith in rw e (f .there here);
   }
 
-  -- and of all that are left
+  -- The first occurrence among all bytes that are left.
   pub first-rest : (from n i r : ℕ) → Without t from i byte → i ≤ n → FirstByte t (from + i) (n - i) byte r → FirstByte t from n byte (i + r)
   first-rest from n i r w low f = record {
     high = omega (arith, f .high);

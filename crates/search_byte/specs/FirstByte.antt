@@ -1,4 +1,4 @@
--- The first occurrence of a byte in n bytes, and the number whose binary digits say which of the bytes are equal to it.
+-- The first occurrence of a byte in n bytes, and the number whose binary digits show which of the bytes are equal to it.
 use mathlib.Core.List.{List}
 use mathlib.Core.Bool.{cond}
 use mathlib.Core.Path.{_≡_}
@@ -10,7 +10,7 @@ use lib.Dec.{eqb}
 pub record Without (t : List ℕ) (from n byte : ℕ) : Type 0 where
   pub other : (x : ℕ) → x < n → getD t (from + x) 0 ≡ byte → ⊥
 
--- the first of the n bytes at a place is the r-th, counted from 0; r is n where none is equal
+-- The first of the n bytes at a place that is equal is the r-th, from 0; r is n if there is none.
 pub record FirstByte (t : List ℕ) (from n byte r : ℕ) : Type 0 where
   pub high : r ≤ n
   pub none : Without t from r byte
@@ -19,7 +19,7 @@ pub record FirstByte (t : List ℕ) (from n byte r : ℕ) : Type 0 where
 unfoldable pub bitOf : ℕ → ℕ → ℕ
 bitOf a b = cond (eqb a b) 1 0
 
--- digit x is 1 where the x-th of the k bytes at a place is equal
+-- The number whose binary digit x is 1 if the x-th of the k bytes at a place is equal.
 unfoldable pub maskOf : ℕ → List ℕ → ℕ → ℕ → ℕ
 unfolding bitOf
 maskOf zero t at byte = 0

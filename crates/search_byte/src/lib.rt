@@ -65,7 +65,7 @@ fn one_by_one(t: &[u8], from: usize, n: usize, byte: u8) -> usize
     i
 }
 
-// Fewer than sixteen bytes: those after them are compared too where there are so many.
+// Fewer than sixteen bytes. Sixteen are compared at once if the slice has that many.
 fn tail(t: &[u8], from: usize, n: usize, byte: u8) -> usize
     requires { ⌜ (from + n ≤ length (now t)) × (n < 16) ⌝ }
     ensures { λ r. ⌜ FirstByte (now (t .entry)) from n byte r ⌝ }
@@ -80,7 +80,7 @@ fn tail(t: &[u8], from: usize, n: usize, byte: u8) -> usize
     k
 }
 
-// The first of the n bytes at a place; n where none is the byte.
+// The place of the first occurrence of a byte in the n bytes at a place, from their start; n if there is none.
 pub fn find(t: &[u8], from: usize, n: usize, byte: u8) -> usize
     requires { ⌜ from + n ≤ length (now t) ⌝ }
     ensures { λ r. ⌜ FirstByte (now (t .entry)) from n byte r ⌝ }

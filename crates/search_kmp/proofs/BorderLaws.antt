@@ -1,4 +1,4 @@
--- The laws of borders: how the longest match goes on with one byte more.
+-- The laws of borders: how one more byte continues the longest match.
 use mathlib.Core.List.{List}
 use mathlib.Core.Bool.{true, false, _&&_}
 use mathlib.Core.Path.{_≡_, refl, sym, ap, _∙_}
@@ -27,7 +27,7 @@ module _ (P : List ℕ) where
         sym (a .same (k - j + x) (omega arith)) ∙ ap f e ∙ b .same x h;
   }
 
-  -- and a border of a match is a match
+  -- A border of a match is a match.
   border-ends : (f : ℕ → ℕ) (from i k j : ℕ) → Ends P f from i k → Ends P own 1 k j → Ends P f from i j
   border-ends f from i k j a b = record {
     short = b .short;
@@ -53,7 +53,7 @@ module _ (P : List ℕ) where
           let z : i + 1 - (k + 1) + x ≡ i = omega (arith, a .room) in
           ap f z ∙ is ∙ sym here ∙ ap own (sym e)
 
-  -- and one that did
+  -- A match that was continued.
   ends-less : (f : ℕ → ℕ) (from i j c : ℕ) → Ends P f from (i + 1) (suc j) → f i ≡ c → Ends P f from i j × (j < length P) × (getD P j 0 ≡ c)
   ends-less f from i j c a is = (
     record {

@@ -1,5 +1,5 @@
-// A pattern sought in bytes that come one at a time (Knuth, Morris, Pratt): the state is how many of the pattern's first bytes
-// are the last ones read, the longest that are. A byte is read once, and none is kept.
+// The search for a pattern in bytes that are read one at a time (Knuth, Morris, Pratt). The state is the length of the longest prefix of the pattern that is
+// a suffix of the bytes read. Each byte is read once, and none is stored.
 ghost use mathlib.Core.Path.{_≡_};
 ghost use mathlib.Core.Bool.{_&&_};
 ghost use Prim.Native.Nat.{_+_, _≤_, _<_};
@@ -41,8 +41,7 @@ pub fn advance(pattern: &[u8], borders: &[u8], state: usize, byte: u8) -> usize
     0
 }
 
-// Fills in the borders of a pattern: for its first k bytes, how many of its first bytes are also the last of these, the
-// longest that are not all of them.
+// Computes the borders of a pattern: for its first k bytes, the length of the longest proper prefix that is also a suffix of them.
 pub fn prepare(pattern: &[u8], borders: &mut [u8])
     requires { ⌜ (1 ≤ length (now pattern)) × (length (now pattern) ≤ 256) × (length (now pattern) ≤ length (now borders)) ⌝ }
     ensures { λ _. ⌜ Borders (now (pattern .entry)) (now (borders .exit)) (length (now (pattern .entry))) ⌝ }
@@ -57,7 +56,7 @@ pub fn prepare(pattern: &[u8], borders: &mut [u8])
     }
 }
 
-// How many of the n bytes at a place go on with a state, without completing the pattern.
+// How many of the n bytes at a place continue a state without completing the pattern.
 pub fn matching(t: &[u8], from: usize, n: usize, pattern: &[u8], state: usize) -> usize
     requires { ⌜ (from + n ≤ length (now t)) × (state ≤ length (now pattern)) × (length (now pattern) ≤ 256) ⌝ }
     ensures { λ r. ⌜ (r ≤ n) × GoesOn (now (pattern .entry)) (now (t .entry)) from state r ⌝ }

@@ -1,4 +1,4 @@
-// Stretches of lent bytes: a byte counted or looked for in one, bytes compared, copied or made zero, and the shorter of two lengths.
+// Functions on ranges of bytes: count or find a byte, compare, copy, clear; and the smaller of two lengths.
 ghost use mathlib.Core.Path.{_≡_};
 ghost use mathlib.Core.List.{[], _++_};
 ghost use Prim.Native.Nat.{_+_, _≤_, min};
@@ -7,7 +7,7 @@ ghost use Rattle.text.specs.Lists.{sameList};
 ghost use Rattle.text.specs.Text.{stretch, countIn};
 ghost use Rattle.stretches.specs.Stretches.{Stands, bytesWritten};
 
-// How often a byte stands in the n bytes at a place.
+// How often a byte occurs in the n bytes at a place.
 pub fn count_in(t: &[u8], from: usize, n: u32, byte: u8) -> u32
     requires { ⌜ from + n ≤ length (now t) ⌝ }
     ensures { λ r. ⌜ (r ≡ countIn byte (stretch (now (t .entry)) from n)) × (r ≤ n) ⌝ }
@@ -23,7 +23,7 @@ pub fn count_in(t: &[u8], from: usize, n: u32, byte: u8) -> u32
     times
 }
 
-// Where a byte stands for the j-th time in the n bytes at a place; n where it does not.
+// The place of the j-th occurrence of a byte in the n bytes at a place, from their start; n if there is none.
 pub fn nth(t: &[u8], from: usize, n: u32, byte: u8, j: u64) -> u32
     requires { ⌜ (from + n ≤ length (now t)) × (1 ≤ j) ⌝ }
     ensures { λ r. ⌜ Stands (now (t .entry)) from n byte j r ⌝ }
@@ -78,7 +78,7 @@ pub fn clear_at(out: &mut [u8], to: usize, n: usize)
     }
 }
 
-// Whether two runs of bytes are the same; stops at the first difference.
+// Whether two slices are equal; stops at the first difference.
 pub fn same(a: &[u8], b: &[u8]) -> bool
     ensures { λ r. ⌜ r ≡ sameList (now (a .entry)) (now (b .entry)) ⌝ }
 {
@@ -95,7 +95,7 @@ pub fn same(a: &[u8], b: &[u8]) -> bool
     true
 }
 
-// Whether the n bytes at p and at q are the same.
+// Whether the n bytes at p and at q are equal.
 pub fn same_at(text: &[u8], p: usize, q: usize, n: usize) -> bool
     requires { ⌜ (p + n ≤ length (now text)) × (q + n ≤ length (now text)) ⌝ }
     ensures { λ r. ⌜ r ≡ sameList (stretch (now (text .entry)) p n) (stretch (now (text .entry)) q n) ⌝ }
@@ -120,7 +120,7 @@ pub fn zeros(t: &[u8], a: usize, n: u32) -> bool
     true
 }
 
-// The shorter of two lengths.
+// The smaller of two lengths.
 pub fn shorter(a: u32, b: u32) -> u32
     ensures { λ r. ⌜ r ≡ min a b ⌝ }
 {

@@ -92,7 +92,7 @@ module _ (xs : List ℕ) where
       let d = date-is a b c e p q r s in
       rw (eq-eqb (length xs) 8 h, z, ← d, is)
 
-  -- and what follows from it
+  -- What follows from a day that was read.
   pub good-is : (r : DayRead) → r ≡ dayRead xs → (d : Date) → r ≡ Good d → (isDay xs ≡ true) × (d ≡ dateIn xs)
   unfolding dayRead
   good-is r e d g = by (isDay xs) (sym g ∙ e)

@@ -1,5 +1,5 @@
--- Request 112, as theorems over what the calls promise, for any lent bytes. The calendar's own laws: the day after a day has the next number
--- (`next-number`) and is a day (`next-date`), the order of dates is the order of their numbers (`in-order`), a number is one day's (`one-day`).
+-- Request 112, as theorems over the contracts of the calls, for any bytes. The laws of the calendar: the day after a day has the next number (`next-number`)
+-- and is a day (`next-date`), the order of dates is the order of their numbers (`in-order`), and no two days have one number (`one-day`).
 -- docs/FORMAT.md: "The term of a licence".
 use mathlib.Core.List.{List, [], _∷_}
 use mathlib.Core.Bool.{Bool, true, false, cond, not, _&&_}
@@ -48,15 +48,15 @@ Lent = RefT (List ℕ)
 abbrev pub OpenOn : (κs : Lfts 3) → (first last today : Lent) → Opened → Type 0
 OpenOn κs first last today r = open-reads.Post κs (first, (last, (today, tt))) r (first, (last, (today, tt)))
 
--- the same of `days_left`
+-- The contract of `days_left`.
 abbrev pub DaysLeft : (κs : Lfts 2) → (last today : Lent) → Left → Type 0
 DaysLeft κs last today r = left-reads.Post κs (last, (today, tt)) r (last, (today, tt))
 
--- the same of `renew`, which leaves the day as `after`
+-- The contract of `renew`; `after` is the day after the call.
 abbrev pub Renew : (κs : Lfts 1) → (day after : Lent) → ℕ → Type 0
 Renew κs day after r = renew-reads.Post κs (day, tt) r (after, tt)
 
--- The calls: each ends, and reads and writes only what was lent (`Ends`), and asks nothing of its caller.
+-- The calls: each terminates, accesses only the memory that it was given (`Ends`), and has no precondition.
 abbrev pub calls : List Call
 calls =
     call (record { routine = open-at.routine; signature = open-on.signature; clauses = open-on.spec }) open-met.met (λ 𝓤 H A mem run κs a. (tt, refl))
@@ -189,7 +189,7 @@ module _ (κs : Lfts 1) (day after : Lent) where
           (rw k (day-back (renewed (dateIn (now day))) f), rw k back, rw (k, back) (renewed-later (dateIn (now day)) facts low))
       by false e n k = absurd (let x : ⊥ = omega arith in x)
 
-  -- It is not refused for a day before 2099.
+  -- Renew is not refused for a day before 2099.
   pub renew-answers : (r : ℕ) → Renew κs day after r → isDay (now day) ≡ true → dateIn (now day) .year < 2099 → r ≡ 0
   unfolding renewNumber
   renew-answers r a d low = a .0 ∙ rw (d, lt-ltb (dateIn (now day) .year) 2099 low)

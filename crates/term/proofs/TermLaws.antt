@@ -1,4 +1,4 @@
--- What is answered of a term, by what its days are.
+-- The answers on a term, by its days.
 use mathlib.Core.List.{List}
 use mathlib.Core.Bool.{Bool, true, false, cond, _&&_}
 use mathlib.Core.Path.{_≡_, refl, sym, _∙_}

@@ -101,7 +101,7 @@ module _ (d : Date) (f : DateFacts d) where
     day-high = omega (arith, month-long (y + 1) 1 (omega arith) (omega arith));
   }
 
-  -- and is a day, up to the last one of 2099
+  -- The next day is a day, up to the last one of 2099.
   pub next-date : nextDay d .year ≤ 2099 → DateFacts (nextDay d)
   next-date h =
       let a = ltb (d .day) (monthLength y m) in

@@ -10,23 +10,23 @@ use Rattle.text.specs.Text.{isDigit}
 use Rattle.term.specs.declared.calendar.Date.{Date}
 use Rattle.term.specs.Calendar.{isDate}
 
--- the number that the two digits from place i write
+-- The number that the two digits from place i write.
 unfoldable pub pairAt : List ℕ → ℕ → ℕ
 pairAt xs i = 10 * (getD xs i 0 - 48) + (getD xs (i + 1) 0 - 48)
 
--- the date that eight digits write
+-- The date that eight digits write.
 unfoldable pub dateIn : List ℕ → Date
 dateIn xs = record { year = 100 * pairAt xs 0 + pairAt xs 2; month = pairAt xs 4; day = pairAt xs 6 }
 
--- they are eight digits, and write a day of the calendar
+-- Whether the bytes are eight digits that write a date of the calendar.
 unfoldable pub isDay : List ℕ → Bool
 isDay xs = eqb (length xs) 8 && allBelow 8 (λ i. isDigit (getD xs i 0)) && isDate (dateIn xs)
 
--- the last digit of a number
+-- The last digit of a number.
 abbrev pub ones : ℕ → ℕ
 ones n = 48 + n % 10
 
--- a date as eight digits
+-- A date as eight digits.
 unfoldable pub written : Date → List ℕ
 written d =
     ones (d .year / 1000) ∷ ones (d .year / 100) ∷ ones (d .year / 10) ∷ ones (d .year)

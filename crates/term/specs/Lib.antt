@@ -1,4 +1,4 @@
--- The term of a licence: the calendar, days written as eight digits, what is asked of them; and their laws.
+-- The term of a licence: the calendar, days as eight digits, the calls on them; and their laws.
 pub mod Calendar
 pub mod CalendarDays
 pub mod MonthLaws

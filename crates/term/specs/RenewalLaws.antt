@@ -23,7 +23,7 @@ module _ (d : Date) where
   abbrev onDay : ℕ → Date
   onDay day = record { year = y + 1; month = m; day = day }
 
-  -- of a 29 February, and of any other day
+  -- The renewal of a 29 February, and of any other day.
   pub renewed-leap : m ≡ 2 → d .day ≡ 29 → onDay 28 ≡ renewed d
   unfolding renewed
   renewed-leap two is = rw (two, is)
@@ -64,7 +64,7 @@ module _ (d : Date) (f : DateFacts d) (before : d .year < 2099) where
     day-high = high;
   }
 
-  -- its number
+  -- The number of the day.
   on-number : (day : ℕ)
       → dayNumber (onDay d day) + cond (late && leap (y d)) 1 0 + (d .day - 1)
       ≡ dayNumber d + 365 + cond (leap (y d)) 1 0 + cond (late && leap (y d + 1)) 1 0 + (day - 1)
@@ -78,7 +78,7 @@ module _ (d : Date) (f : DateFacts d) (before : d .year < 2099) where
         months-before (y d + 1) (m d) (f .month-low) (f .month-high),
       )
 
-  -- the same day of the month
+  -- The renewal to the same day of the month.
   same-day : d .day ≤ monthLength (y d + 1) (m d) → Renewal (onDay d (d .day))
   same-day high = (
     on-date (d .day) (f .day-low) high,
@@ -128,6 +128,6 @@ module _ (d : Date) (f : DateFacts d) (before : d .year < 2099) where
   pub renewed-date : DateFacts (renewed d)
   renewed-date = renewal (eqb (m d) 2) (eqb (d .day) 29) refl refl .0
 
-  -- and lies 365 or 366 days on
+  -- The renewed day is 365 or 366 days later.
   pub renewed-later : (dayNumber (renewed d) ≡ dayNumber d + 365) ⊎ (dayNumber (renewed d) ≡ dayNumber d + 366)
   renewed-later = renewal (eqb (m d) 2) (eqb (d .day) 29) refl refl .1

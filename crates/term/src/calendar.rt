@@ -4,7 +4,7 @@ ghost use Prim.Native.Nat.{_≤_, _<_};
 ghost use Rattle.term.specs.Calendar.{leap, monthLength, isDate, beforeMonth, dayNumber, renewed};
 ghost use Rattle.term.specs.CalendarDays.{DateFacts};
 
-// The days of each month, of a year without a 29 February, and those before each month.
+// The lengths of the months of a year without a 29 February, and the days before each month.
 const LENGTHS: [u32; 12] = [31, 28, 31, 30, 31, 30, 31, 31, 30, 31, 30, 31];
 
 const BEFORE: [u32; 12] = [0, 31, 59, 90, 120, 151, 181, 212, 243, 273, 304, 334];
@@ -43,7 +43,7 @@ fn month_length(year: u32, month: u32) -> u32
     LENGTHS[(month - 1) as usize]
 }
 
-// Whether it is a day of the calendar, of the years 2000 to 2099.
+// Whether it is a date of the years 2000 to 2099.
 pub fn is_date(d: Date) -> bool
     ensures { λ r. ⌜ r ≡ isDate d ⌝ }
 {
@@ -80,7 +80,7 @@ fn before_month(year: u32, month: u32) -> u32
     days
 }
 
-// How many days stand before it, from 1 January 2000 on.
+// The number of a date: the days from 1 January 2000 up to it.
 pub fn number(d: Date) -> u32
     requires { ⌜ DateFacts d ⌝ }
     ensures { λ r. ⌜ (r ≡ dayNumber d) × (r ≤ 36525) ⌝ }
@@ -89,7 +89,7 @@ pub fn number(d: Date) -> u32
     365 * years + (years + 3) / 4 + before_month(d.year, d.month) + (d.day - 1)
 }
 
-// The same day one year later; of a 29 February, 28 February.
+// The same day one year later; 28 February for a 29 February.
 pub fn renewal(d: Date) -> Date
     requires { ⌜ d .year < 2099 ⌝ }
     ensures { λ r. ⌜ r ≡ renewed d ⌝ }

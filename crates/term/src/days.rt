@@ -10,7 +10,7 @@ ghost use Rattle.text.specs.Text.{isDigit};
 ghost use Rattle.term.specs.Days.{pairAt, written};
 ghost use Rattle.term.specs.TermSteps.{dayRead};
 
-// The date that eight digits write.
+// The date that eight digits write, or none.
 pub enum DayRead {
     Good(Date),
     Bad,
@@ -51,7 +51,7 @@ fn pair(s: &[u8], i: usize) -> u32
     10 * digit(s[i]) + digit(s[i + 1])
 }
 
-// The date that lent bytes write.
+// The date that the caller's bytes write.
 pub fn read(s: &[u8]) -> DayRead
     ensures { λ r. ⌜ r ≡ dayRead (now (s .entry)) ⌝ }
 {

@@ -83,7 +83,7 @@ count-next c T p o h =
 one-same : (c x : ℕ) → x ≡ c → one c x ≡ 1
 one-same c x e = rw (eq-eqb c x (sym e))
 
--- and that byte is c
+-- The next byte is c.
 pub count-next-same : (c : ℕ) (T : List ℕ) (p o : ℕ) → p + o < length T → getD T (p + o) 0 ≡ c
     → countIn c (stretch T p (o + 1)) ≡ countIn c (stretch T p o) + 1
 count-next-same c T p o h e = omega (arith, count-next c T p o h, one-same c (getD T (p + o) 0) e)
@@ -91,7 +91,7 @@ count-next-same c T p o h e = omega (arith, count-next c T p o h, one-same c (ge
 one-other : (c x : ℕ) → (x ≡ c → ⊥) → one c x ≡ 0
 one-other c x e = rw (ne-eqb c x (λ f. e (sym f)))
 
--- or it is another
+-- The next byte is another one.
 pub count-next-other : (c : ℕ) (T : List ℕ) (p o : ℕ) → p + o < length T → (getD T (p + o) 0 ≡ c → ⊥)
     → countIn c (stretch T p (o + 1)) ≡ countIn c (stretch T p o)
 count-next-other c T p o h e = omega (arith, count-next c T p o h, one-other c (getD T (p + o) 0) e)
@@ -104,7 +104,7 @@ count-mono c T p a b h =
 
 -- Places.
 
--- the j-th c of the bytes from place s, j from 1, stands at place s + o
+-- The j-th c of the bytes from place s, j from 1, is at place s + o.
 pub record Nth (c j : ℕ) (T : List ℕ) (s o : ℕ) : Type 0 where
   pub within : s + o < length T
   pub byte-is : getD T (s + o) 0 ≡ c
@@ -119,7 +119,7 @@ nth-earlier c j T s a o h =
       rank = omega (arith, h .rank, count-add c T s a o);
     }
 
--- and from a later one, that is not past it
+-- The same from a later place that is not past it.
 pub nth-later : (c j : ℕ) (T : List ℕ) (s a o : ℕ) → Nth c (countIn c (stretch T s a) + j) T s (a + o) → Nth c j T (s + a) o
 nth-later c j T s a o h =
     let e : s + (a + o) ≡ s + a + o = omega arith in record {
@@ -128,7 +128,7 @@ nth-later c j T s a o h =
       rank = omega (arith, h .rank, count-add c T s a o);
     }
 
--- the j-th stands at or past place a exactly where fewer than j stand before a
+-- The j-th occurrence is at or after place a exactly if fewer than j occurrences are before a.
 pub nth-past : (c j : ℕ) (T : List ℕ) (s a o : ℕ) → Nth c j T s o → countIn c (stretch T s a) < j → a ≤ o
 nth-past c j T s a o h l = go (lt-or-ge o a)
   where
@@ -151,7 +151,7 @@ nth-unique c j T s o p h k =
     let b : p ≤ o = nth-past c j T s p o h (omega (arith, k .rank)) in
     omega arith
 
--- of a list, from its start
+-- The k-th c of a list, from its start.
 record NthIn (c k : ℕ) (xs : List ℕ) (p : ℕ) : Type 0 where
   within : p < length xs
   byte-is : getD xs p 0 ≡ c
@@ -214,7 +214,7 @@ nth-high c j T o h =
       count-whole c T (o + 1 + length T) (omega arith),
     )
 
--- and the only one
+-- The place of the j-th c is the only one.
 pub nth-place : (c j : ℕ) (T : List ℕ) (o : ℕ) → Nth c j T 0 o → placeOf c j T ≡ o
 nth-place c j T o h =
     nth-unique c j T 0 (placeOf c j T) o (place-nth c j T (omega (arith, h .rank)) (nth-high c j T o h)) h

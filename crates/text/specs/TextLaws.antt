@@ -102,7 +102,7 @@ module _ (T : List ℕ) (s len : ℕ) where
   pub leftmost-le : leftmost T s len ≤ s
   leftmost-le = omega (arith, is-first .high)
 
-  -- the same bytes stand there
+  -- The same bytes are there.
   pub leftmost-same : stretch T (leftmost T s len) len ≡ stretch T s len
   leftmost-same = go (lt-or-ge (leftmost T s len) s)
     where
@@ -112,7 +112,7 @@ module _ (T : List ℕ) (s len : ℕ) where
           let e : leftmost T s len ≡ s = omega (arith, leftmost-le) in
           ap (λ (q : ℕ). stretch T q len) e
 
-  -- and at no earlier place
+  -- The bytes do not occur at an earlier place.
   pub leftmost-least : (q : ℕ) → q < leftmost T s len → stretch T q len ≡ stretch T s len → ⊥
   leftmost-least q l e = bool-clash _ (eq-sameList _ _ e) (is-first .before q (omega arith) l)
 

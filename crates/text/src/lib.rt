@@ -1,4 +1,4 @@
-// A text is a list of bytes: what is asked of one is defined, with its laws, in specs/.
+// A text is a list of bytes. The definitions of searching, counting and rows, with their laws, are in specs/.
 
-// A place in a text, counted from 0.
+// A place (position) in a text, numbered from 0.
 pub struct TextPlace(pub u32);

@@ -23,7 +23,7 @@ use Rattle.theory_counts.specs.Ranks as ranks
 use Rattle.theorems.specs.Promises.{Among, LengthOfPath}
 use Rattle.theorems.proofs.BlocksEntered.{length-of-path}
 
--- a byte that stands among others has a number among them
+-- A byte that is one of a list has an index in it.
 among-index : (c : ℕ) (xs : List ℕ) (i : ℕ) → i < length xs → getD xs i 0 ≡ c → indexOf c xs < length xs
 unfolding indexOf
 among-index c [] i h e = absurd (let z : ⊥ = omega arith in z)

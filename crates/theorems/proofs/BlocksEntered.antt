@@ -26,7 +26,7 @@ length-of-path t r p q e = record {
   short = paths.path-short t r p q e;
 }
 
--- in a tree that passes questions 5 to 7 every span that is reached has so many
+-- In a tree that passes questions 5 to 7 every span that is reached enters this number of blocks.
 pub blocks-of-span : (t : List ℕ) → readable t ≡ 0 → (p len : ℕ) → spanReached t p len ≡ true
     → BlocksOfSpan t (at.settings t .levels) p len (spanBlocks t p len)
 blocks-of-span t r p len reached = record {

@@ -46,7 +46,7 @@ pub use Rattle.theorems.specs.CallContracts.{Build}
 abbrev pub build-call : Call
 build-call = call build-function build-met.met (λ 𝓤 H A mem run κs a. (tt, refl))
 
--- Any lent bytes.
+-- For any bytes.
 
 -- the numbers that its questions can give
 build-one : (S : Settings) (T out : List ℕ) → OneOf (1 ∷ 2 ∷ 3 ∷ 4 ∷ 0 ∷ []) (buildNumber S T out)
@@ -54,7 +54,7 @@ unfolding buildNumber
 build-one S T out =
     asks-one ((1, lengthOk (length T)) ∷ (2, sizesOk S) ∷ (3, countedOk (S .counted)) ∷ (4, leb (length (treeOf S T)) (length out)) ∷ [])
 
--- it answers only where the tree fits the buffer
+-- Build is not refused only if the tree fits the buffer.
 build-fits : (S : Settings) (T out : List ℕ) → buildNumber S T out ≡ 0 → length (treeOf S T) ≤ length out
 unfolding buildNumber
 build-fits S T out h =
@@ -122,7 +122,7 @@ module _ (κs : Lfts 3) (text : Lent) (leaf arity levels : ℕ) (counted out aft
         let enough : size ≤ length (now out) = omega (arith, k .2) in
         omega (arith, build-low, a .0, never-full S (now text) taken (now out) enough)
 
-  -- It wrote a tree, of so many bytes, at the start of the buffer.
+  -- It wrote a tree of this size at the start of the buffer.
   module _ (size : ℕ) (a : Build κs text leaf arity levels counted out after (built.Size size)) where
     abbrev T : List ℕ
     T = now text
@@ -131,7 +131,7 @@ module _ (κs : Lfts 3) (text : Lent) (leaf arity levels : ℕ) (counted out aft
     pub build-writes : take size (now after) ≡ treeOf S T
     build-writes = tree.build-writes κs text leaf arity levels counted out after (built.Size size) a refl
 
-    -- The tree, lent to another call.
+    -- The tree, as an argument of another call.
     module _ (t : Lent) (is : now t ≡ take size (now after)) where
       -- no question refused
       passed : buildNumber S T (now out) ≡ 0
@@ -143,7 +143,7 @@ module _ (κs : Lfts 3) (text : Lent) (leaf arity levels : ℕ) (counted out aft
       text-is : textOf (now t) ≡ T
       text-is = rw is (tree.build-text κs text leaf arity levels counted out after (built.Size size) a refl)
 
-      -- its header has the settings that were given
+      -- The header has the given settings.
       settings-are : at.settings (now t) ≡ S
       settings-are = rw (is ∙ build-writes) (read-settings S T (tree.taken S T (now out) passed))
 
@@ -159,7 +159,7 @@ module _ (κs : Lfts 3) (text : Lent) (leaf arity levels : ℕ) (counted out aft
       pub build-accepted : (κ : Lfts 1) (r : ℕ) → Check κ t r → r ≡ 0
       build-accepted κ r c = c ∙ accepted
 
-      -- The written tree stands for the input, and no other text fits.
+      -- The written tree represents the input, and no other text fits.
       pub build-one-text : StandsFor (now t) T × ((U : List ℕ) → fits U (now t) ≡ true → U ≡ T)
       build-one-text =
           let s = accepted-stands (now t) accepted in

@@ -1,6 +1,6 @@
--- build_scanned(text, leaf, arity, levels, counted, words, out): the block tree of a text, by one scan of it for each level, in a lent table of words;
--- scan_words(n, leaf) answers how many words that table must have. What it writes is what build writes, so that demand 2 and the end of demand 3 hold of
--- it by build's own theorems; the windows that it reports; the numbers it refuses with, the lent table and the lent buffer.
+-- build_scanned(text, leaf, arity, levels, counted, words, out): the block tree of a text by one scan for each level, with the caller's table of words;
+-- scan_words(n, leaf) returns the number of words of that table. It writes what build writes, so demand 2 and the end of demand 3 follow from the theorems on
+-- build. Besides: the number of windows that it returns, its refusals, the table and the buffer afterwards.
 use mathlib.Core.List.{List, [], _∷_}
 use mathlib.Core.Bool.{true}
 use mathlib.Core.Path.{_≡_, sym, ap, _∙_, refl}
@@ -157,7 +157,7 @@ module _ (κs : Lfts 4) (text : Lent) (leaf arity levels : ℕ) (counted words t
           a .1 .1 .1 .0 ∙ leaves-same S T (now out) (length (now words)) long ∙ ap (buildLeaves S T) (sym same) ∙ sym (c .1 .1),
         )
 
-  -- It wrote a tree, of so many bytes, at the start of the buffer.
+  -- It wrote a tree of this size at the start of the buffer.
   module _ (size windows : ℕ) (a : Says (scanned.Size size windows)) where
     -- An answer is the tree's size, which fits; the buffer begins with the tree, and the bytes past it are unchanged.
     pub scanned-answer : (size ≤ length (now out)) × (take size (now after) ≡ treeOf S T) × (drop size (now after) ≡ drop size (now out))
@@ -184,6 +184,6 @@ module _ (κs : Lfts 4) (text : Lent) (leaf arity levels : ℕ) (counted words t
       pub scanned-accepted : (κ : Lfts 1) (r : ℕ) → Check κ t r → r ≡ 0
       scanned-accepted = build-accepted κ text leaf arity levels counted out after size (as-size size windows a) t is
 
-      -- The written tree stands for the input, and no other text fits.
+      -- The written tree represents the input, and no other text fits.
       pub scanned-one-text : StandsFor (now t) T × ((U : List ℕ) → fits U (now t) ≡ true → U ≡ T)
       scanned-one-text = build-one-text κ text leaf arity levels counted out after size (as-size size windows a) t is

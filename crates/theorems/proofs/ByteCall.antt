@@ -41,9 +41,9 @@ pub use Rattle.theorems.specs.CallContracts.{Byte}
 abbrev pub byte-call : Call
 byte-call = call byte-function byte-met.met (λ 𝓤 H A mem run κs a. (tt, refl))
 
--- Any lent bytes.
+-- For any bytes.
 
--- it answers only where the path of the place holds
+-- Byte is not refused only if the place has a path.
 pub record Reached (t : List ℕ) (p : ℕ) : Type 0 where
   pub pass : readable t ≡ 0
   pub low : p < at.textLength t
@@ -101,7 +101,7 @@ pub byte-ten : (t : List ℕ) → verdict t ≡ 0 → (p : ℕ) → length (text
 unfolding byteSays
 byte-ten t v p h = rw (accepted-readable t v, le-ltb p (at.textLength t) (omega (arith, text-size t v)))
 
--- which refusal says this
+-- The refusal in each case.
 byte-no : (r : Answer) (n : ℕ) → replied (byteReply r) ≡ refused (suc n) → r ≡ answer.Refused (suc n)
 byte-no (answer.Byte v e) n s = absurd (let z : _≡_ {A = ℕ} 0 (suc n) = ap (λ (x : Said). x .number) s in omega arith)
 byte-no (answer.Refused m) n s = ap (λ (x : Said). answer.Refused (x .number)) s

@@ -1,4 +1,4 @@
--- check(tree): 0 for a tree that stands for exactly one text and whose counts and edges are true of it. Demand 3, but for its last part, on what the
+-- check(tree): 0 for a tree that represents exactly one text and whose counts and edges are right for it. Demand 3, except for its last part, on what the
 -- builders write, which is in `BuildCall` and `BuildScannedCall`.
 use mathlib.Core.List.{List, [], _∷_}
 use mathlib.Core.Bool.{true}
@@ -24,11 +24,11 @@ pub use Rattle.theorems.specs.CallContracts.{Check}
 abbrev pub check-call : Call
 check-call = call check-function check-met.met (λ 𝓤 H A mem run κs a. (tt, refl))
 
--- It answers 0, or 5 to 9.
+-- Check returns 0, or 5 to 9.
 pub check-numbers : (κs : Lfts 1) (t : Lent) (r : ℕ) → Check κs t r → OneOf (5 ∷ 6 ∷ 7 ∷ 8 ∷ 9 ∷ 0 ∷ []) r
 check-numbers κs t r a = rw a (verdict-one (now t))
 
--- The check returns 0 if and only if questions 5 to 8 pass and a text fits of which the counts, and in layout 2 the edges, are true.
+-- The check returns 0 if and only if questions 5 to 8 pass and some text fits whose counts, and in layout 2 edges, are those of the tree.
 pub check-accepts : ExactCheck
 check-accepts = tree.check-accepts
 
@@ -43,7 +43,7 @@ module _ (κs : Lfts 1) (t : Lent) where
     text-is : (T : List ℕ) → fits T (now t) ≡ true → T ≡ textOf (now t)
     text-is = one-text (now t) (accepted-readable (now t) (sym c)) (accepted-links (now t) (sym c))
 
-    -- The tree stands for one text, and no other text fits.
+    -- The tree represents one text, and no other text fits.
     pub check-one-text : (T : List ℕ) × StandsFor (now t) T × ((U : List ℕ) → fits U (now t) ≡ true → U ≡ T)
     check-one-text = tree.check-one-text κs t 0 c refl
 

@@ -34,7 +34,7 @@ pub use Rattle.theorems.specs.CallContracts.{ByColumns}
 abbrev pub row-by-columns-call : Call
 row-by-columns-call = call row-by-columns-function row-by-columns-met.met (λ 𝓤 H A mem run κs a. (tt, refl))
 
--- Any lent bytes.
+-- For any bytes.
 
 -- the numbers that its questions can give
 column-one : (t : List ℕ) (w a room : ℕ) → OneOf (5 ∷ 6 ∷ 7 ∷ 20 ∷ 10 ∷ 13 ∷ 14 ∷ 0 ∷ []) (columnNumber t w a room)

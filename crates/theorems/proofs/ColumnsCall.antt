@@ -23,7 +23,7 @@ to-columns-call = call to-columns-function to-columns-met.met (λ 𝓤 H A mem r
 abbrev pub from-columns-call : Call
 from-columns-call = call from-columns-function from-columns-met.met (λ 𝓤 H A mem run κs a. (tt, refl))
 
--- Any lent bytes: each answers 0, 20 or 21.
+-- For any bytes: each returns 0, 20 or 21.
 refusal-one : (w n room : ℕ) → OneOf (20 ∷ 21 ∷ 0 ∷ []) (refusalOf w n room)
 unfolding refusalOf
 refusal-one w n room = go (widthOk w n) (leb n room)

@@ -1,5 +1,5 @@
--- Request 111, of answers: how far the correction of one byte reaches into what count and find answer, from any two accepted trees that the two texts
--- fit, whoever built them.
+-- Request 111, for answers: how far the correction of one byte changes what count and find return, for any two accepted trees that the two texts fit, whoever
+-- built them.
 use mathlib.Core.List.{List}
 use mathlib.Core.Bool.{true}
 use mathlib.Core.Path.{_≡_, sym, ap, _∙_}
@@ -25,7 +25,7 @@ use Rattle.theorems.proofs.FindCall.{Find}
 use Rattle.theorems.proofs.OneByte.{OneByte, one-byte-back, count-before, count-near, place-same}
 use Rattle.theorems.proofs.OutsideCall.{Lent}
 
--- an accepted tree, of any origin, settings and layout, that stands for the text and counts the byte
+-- An accepted tree, of any origin, settings and layout, that represents the text and counts the byte.
 pub record CountingTree (T : List ℕ) (byte : ℕ) (t : Lent) : Type 0 where
   pub lifetime : Lfts 1
   pub accepted : Check lifetime t 0
@@ -40,10 +40,10 @@ pub record CountsNear (d i : ℕ) (r s : Counted) : Type 0 where
   pub other-entered : ℕ
   pub one-is : r ≡ counted.Times one one-entered
   pub other-is : s ≡ counted.Times other other-entered
-  -- they are at most 1 apart
+  -- The counts are at most 1 apart.
   pub above : one ≤ other + 1
   pub below : other ≤ one + 1
-  -- they are equal if place d is not among the first i
+  -- The counts are equal if place d is not among the first i.
   pub same : i ≤ d → one ≡ other
 
 -- an answer of find: this place, with any figure
@@ -59,13 +59,13 @@ module _ (T : List ℕ) (byte : ℕ) (t : Lent) (k : CountingTree T byte t) wher
       let w = check-answers (k .lifetime) t (k .accepted) T (k .fitting) .count .count-of κs byte (suc i) r c (k .counting) (omega arith) h in
       (w .0, w .2)
 
-  -- what find answers where there are so many
+  -- The answer of find if there is a j-th occurrence.
   find-of : (κs : Lfts 1) (j : ℕ) (r : Found) → Find κs t byte j r → 1 ≤ j → j ≤ countIn byte T → FoundAt r (record { 0 = placeOf byte j T })
   find-of κs j r c low high =
       let w = check-answers (k .lifetime) t (k .accepted) T (k .fitting) .find .find-of κs byte j r c (k .counting) low high in
       (w .0, w .2)
 
-  -- it answers a place only there
+  -- Find returns a place only if there is a j-th occurrence.
   find-low : (κs : Lfts 1) (j : ℕ) (r : Found) → Find κs t byte j r → (p : TextPlace) → FoundAt r p → (1 ≤ j) × (j ≤ countIn byte T)
   find-low κs j r c p is = go (lt-or-ge 0 j) (lt-or-ge (countIn byte T) j)
     where

@@ -48,9 +48,9 @@ count-call = call count-function count-met.met (λ 𝓤 H A mem run κs a. (tt, 
 abbrev pub uncounted-call : Call
 uncounted-call = call uncounted-function uncounted-met.met (λ 𝓤 H A mem run κs a. (tt, refl))
 
--- Any lent bytes.
+-- For any bytes.
 
--- it answers nothing of no bytes, or by the path of the last one
+-- Count returns 0 for no bytes, otherwise the count by the path of the last place.
 record Summed (t : List ℕ) (i e : ℕ) : Type 0 where
   pass : readable t ≡ 0
   path : Path
@@ -139,7 +139,7 @@ uncounted-numbers κs t i r a =
     last true = inr (inl refl)
     last false = inl refl
 
--- which answer says this
+-- The answer in each case.
 count-is : (r : Counted) (v e : ℕ) → NeverZero (countReply r) → replied (countReply r) ≡ record { number = 0; value = v; entered = e } → r ≡ counted.Times v e
 count-is (counted.Times w m) v e k s =
     let z : w ≡ v = ap (λ (x : Said). x .value) s in

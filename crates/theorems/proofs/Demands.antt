@@ -1,9 +1,8 @@
--- The demands, as theorems over what the calls promise: of any lent bytes, of every tree that the check accepts, whoever made it, and of what
--- build writes. Each theorem is named here under the sentence that it shows, and is in the file of its call. The statements about trees are on one page,
--- specs/Promises.antt. The sentences are quoted from docs/FORMAT.md, which calls itself this page.
+-- The demands, as theorems over the contracts of the calls: for any bytes, for every tree that the check accepts, whoever made it, and for what build writes.
+-- Each theorem is named here under a comment that states it, and is in the file of its call. The statements about trees are on one page, specs/Promises.antt.
 use mathlib.Core.Path.{_∙_}
 use Rattle.theorems.specs.Promises.{AnyTree, BuiltTree, ScannedTree}
--- Demand 1: every call terminates and touches only the memory it was lent.
+-- Demand 1: every call terminates and accesses only the memory that it was given.
 pub use Rattle.theorems.proofs.EveryCall.{every-call-ends}
 -- Demand 1: a call returns a result or one of its refusals.
 pub use Rattle.theorems.proofs.CheckCall.{check-numbers}
@@ -27,8 +26,8 @@ pub use Rattle.theorems.proofs.BuildCall.{build-has-room}
 pub use Rattle.theorems.proofs.BuildCall.{build-writes}
 -- Demand 2: all calls on the written tree return what the text has.
 pub use Rattle.theorems.proofs.BuildCall.{build-answers, build-refuses}
--- Demand 3: the check accepts bytes, of any origin, if and only if questions 5 to 8 pass and a text fits of which the counts, and in layout 2 the edges,
--- are true. In layout 1 the condition on edges is void.
+-- Demand 3: the check accepts bytes, of any origin, if and only if questions 5 to 8 pass and some text fits whose counts, and in layout 2
+-- edges, are those of the tree. In layout 1 the condition on edges is void.
 pub use Rattle.theorems.proofs.CheckCall.{check-accepts, older-edges}
 -- Demand 3: no other text fits.
 pub use Rattle.theorems.proofs.CheckCall.{check-one-text}
@@ -71,7 +70,7 @@ pub use Rattle.theorems.proofs.BuildScannedCall.{scanned-writes, scanne
 pub use Rattle.ask_worn_keys.proofs.Demands.{row-rises, none-moves}
 -- Request 107: repeated calls from mark 0 until none return the list of matching rows.
 pub use Rattle.ask_worn_keys.proofs.Demands.{all-matches}
--- That list is increasing (`selected-rise`) and has exactly the rows that match (`selected-in`, `in-selected`).
+-- The list of selected rows is increasing (`selected-rise`) and has exactly the rows that match (`selected-in`, `in-selected`).
 pub use Rattle.row_filter.specs.SelectedRowLaws.{all-shown, selected-rise, selected-in, in-selected}
 -- Request 107: wider ranges return every row that the narrower ones return.
 pub use Rattle.ask_worn_keys.proofs.Demands.{wider-loses-none}
@@ -123,7 +122,7 @@ pub use Rattle.theorems.proofs.DigestCall.{digest-numbers, digest-zeros
 pub use Rattle.theorems.proofs.EmptyText.{empty-counts, empty-offsets, empty-header, empty-text, empty-answers}
 -- Request 110: what each call returns for the empty text.
 pub use Rattle.theorems.proofs.EmptyText.{empty-byte, empty-run, empty-span, empty-span-past, empty-count, empty-count-past, empty-find, empty-row}
--- Request 111, one byte corrected, about texts: `OneByte` says that they differ at place d only. Then counts are at most 1 apart, equal up to d, and
+-- Request 111, one byte corrected, about texts: `OneByte` means that they differ only at place d. Then counts are at most 1 apart, equal up to d, and
 -- occurrences before d are the same.
 pub use Rattle.theorems.proofs.OneByte.{OneByte, one-byte-back, count-near, count-before, count-past, place-same}
 -- Request 111: the same of what count and find return for two accepted trees of these texts that count the byte.

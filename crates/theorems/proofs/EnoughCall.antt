@@ -1,4 +1,4 @@
--- enough(n, leaf, arity, levels, counted): a size that holds the tree of every text of n bytes, of so many counted bytes.
+-- enough(n, leaf, arity, levels, counted): a size that is enough for the tree of every text of n bytes, with this number of counted bytes.
 use mathlib.Core.List.{[], _∷_}
 use mathlib.Core.Bool.{true}
 use mathlib.Core.Path.{_≡_, refl}

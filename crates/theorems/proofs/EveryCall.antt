@@ -1,5 +1,5 @@
--- The calls of the library, in the order of `PublicFunctions`, and what demand 1 says of every one of them. For the exported calls, for list and for the calls
--- on a licence's days it is proved in `Demands` of their crates.
+-- The calls of the library, in the order of `PublicFunctions`, and demand 1 for every one of them. For the exported calls, for list and for the calls on a
+-- licence's days it is proved in `Demands` of their crates.
 use mathlib.Core.List.{List, [], _∷_}
 use Rattle.abi.proofs.Demands as exports
 use Rattle.list_lines.proofs.Demands as lists

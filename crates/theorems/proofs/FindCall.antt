@@ -1,4 +1,4 @@
--- find(tree, byte, j): where a counted byte stands the j-th time, with the blocks entered.
+-- find(tree, byte, j): the place of the j-th occurrence of a counted byte, with the number of blocks entered.
 use mathlib.Core.List.{List, [], _∷_}
 use mathlib.Core.Bool.{true, false, _&&_}
 use mathlib.Core.Path.{_≡_, ap, refl}
@@ -40,7 +40,7 @@ use Rattle.ask_select.proofs.find.Met as find-met
 abbrev pub find-call : Call
 find-call = call find-function find-met.met (λ 𝓤 H A mem run κs a. (tt, refl))
 
--- Any lent bytes.
+-- For any bytes.
 module _ (κs : Lfts 1) (t : Lent) (byte j : ℕ) where
   outcome-of : (s : Said) → FindSays (now t) byte j s → FindOutcome (now t) byte j s
   outcome-of s f = find-outcome (now t) byte j (verdict (now t)) (λ v. v) s f
@@ -53,7 +53,7 @@ module _ (κs : Lfts 1) (t : Lent) (byte j : ℕ) where
   pub find-numbers : (n : ℕ) → Find κs t byte j (found.Refused n) → OneOf (5 ∷ 6 ∷ 7 ∷ 11 ∷ 12 ∷ 14 ∷ []) n
   find-numbers n a = outcome-numbers (now t) byte j n (a .numbered) (outcome-of _ (a .says))
 
--- which answer says this
+-- The answer in each case.
 find-is : (r : Found) (v e : ℕ) → NeverZero (findReply r) → replied (findReply r) ≡ record { number = 0; value = v; entered = e }
     → r ≡ found.At (record { 0 = v }) e
 find-is (found.At p m) v e k s =

@@ -1,5 +1,4 @@
--- find_guided(tree, guide, byte, j): find, from an entry of a guide on; it also answers its steps on level 0. What else holds of it stands in
--- the `Demands` of its crate.
+-- find_guided(tree, guide, byte, j): find from an entry of a guide on; it also returns its steps on level 0. `Demands` of its crate has the other theorems.
 use mathlib.Core.List.{[], _∷_}
 use mathlib.Core.Path.{_≡_, sym, ap, refl}
 use Prim.Native.Nat.{ℕ, _≤_, _<_}
@@ -36,7 +35,7 @@ pub use Rattle.ask_guided.proofs.Demands.{FindGuided}
 abbrev pub find-guided-call : Call
 find-guided-call = call find-guided-function find-guided-met.met (λ 𝓤 H A mem run κs a. (tt, refl))
 
--- Any lent bytes: a place is one of the text, whatever the guide, and a refusal is 5, 6, 7, 11, 12 or 14.
+-- For any bytes: a place is one of the text, whatever the guide, and a refusal is 5, 6, 7, 11, 12 or 14.
 module _ (κs : Lfts 2) (t guide : Lent) (byte j : ℕ) where
   outcome-of : (r : Guided) → FindGuided κs t guide byte j r → FindOutcome (now t) byte j (replied (guidedReply r))
   outcome-of r a = find-outcome (now t) byte j (guideNumber (now t) (now guide)) (guide-verdict (now t) (now guide)) (replied (guidedReply r)) (a .says .finds)

@@ -1,4 +1,4 @@
--- How find ends, with a guide or without, for any bytes lent as a tree and as a guide.
+-- The outcomes of find, with or without a guide, for any bytes given as a tree and as a guide.
 use mathlib.Core.List.{List, [], _∷_, _++_}
 use mathlib.Core.Bool.{_&&_}
 use mathlib.Core.Path.{_≡_, ap}
@@ -69,7 +69,7 @@ module _ (t : List ℕ) (byte j : ℕ) where
   outcome-numbers n l (broken is) = of-right (5 ∷ 6 ∷ 7 ∷ 11 ∷ 12 ∷ []) (14 ∷ []) n (inl (ap (λ (s : Said). s .number) is))
   outcome-numbers n l (placed z low) = absurd (let y : ⊥ = omega arith in y)
 
--- questions 11 and 12 let it through on an accepted tree where there are so many such bytes
+-- On an accepted tree questions 11 and 12 pass if there is a j-th occurrence.
 pub select-through : (t : List ℕ) → verdict t ≡ 0 → (byte j : ℕ) → Among byte (at.settings t .counted) → 1 ≤ j → j ≤ countIn byte (textOf t)
     → selectNumber t byte j ≡ 0
 select-through t v byte j k low high =

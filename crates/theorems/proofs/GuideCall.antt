@@ -1,5 +1,5 @@
--- guide_words(tree), make_guide(tree, table) and check_guide(tree, guide): a guide to the level 0 blocks, kept beside the tree: how many words it has; made;
--- checked. What else holds of them stands in the `Demands` of their crates.
+-- guide_words(tree), make_guide(tree, table) and check_guide(tree, guide): the size of a guide to the level 0 blocks; make one; check one. `Demands` of their
+-- crate has the other theorems.
 use mathlib.Core.List.{[], _∷_}
 use mathlib.Core.Path.{_≡_, ap, _∙_, refl}
 use Prim.Native.Nat.{ℕ}
@@ -49,7 +49,7 @@ make-guide-numbers κs t table after n a =
     (rw e (then-one (5 ∷ 6 ∷ 7 ∷ 8 ∷ 9 ∷ []) (25 ∷ 0 ∷ []) (verdict (now t)) _ (verdict-one (now t))
     (asks-one ((25, leb (length (guideBytes (now t))) (length (now table))) ∷ []))))
 
--- Its size: a refusal is 5, 6 or 7.
+-- guide_words: a refusal is 5, 6 or 7.
 pub guide-words-numbers : (κs : Lfts 1) (t : Lent) (n : ℕ) → GuideWords κs t (size.Refused n) → OneOf (5 ∷ 6 ∷ 7 ∷ []) n
 unfolding sizeSays
 guide-words-numbers κs t n a =

@@ -1,4 +1,4 @@
--- info(tree, figures): the figures of a tree, and version(): the library's version. What they answer stands in the `Demands` of their crate.
+-- info(tree, figures): the figures of a tree, and version(): the version of the library. `Demands` of their crate has the theorems on what they return.
 use mathlib.Core.List.{[], _∷_}
 use mathlib.Core.Path.{refl}
 use Prim.Native.Nat.{ℕ}
@@ -18,6 +18,6 @@ info-call = call info-function info-met.met (λ 𝓤 H A mem run κs a. (tt, ref
 abbrev pub version-call : Call
 version-call = call version-function version-met.met (λ 𝓤 H A mem run κs a. (tt, refl))
 
--- Any lent bytes: info answers 0, or 5, 6 or 7.
+-- For any bytes: info returns 0, or 5, 6 or 7.
 pub info-numbers : (κs : Lfts 2) (t figures after : Lent) (r : ℕ) → Info κs t figures after r → OneOf (5 ∷ 6 ∷ 7 ∷ 0 ∷ []) r
 info-numbers κs t figures after r a = rw (a .0) (readable-one (now t))

@@ -1,5 +1,5 @@
--- leftmost(text, place, length, by) and occurs_earlier(..): where the same bytes stand first; Fingerprint::new(base, modulus) makes `by` of any two numbers.
--- What they return stands in the `Demands` of their crate.
+-- leftmost(text, place, length, by) and occurs_earlier(..): the leftmost occurrence of the same bytes; Fingerprint::new(base, modulus) makes `by` of any two
+-- numbers. `Demands` of their crate has the theorems on what they return.
 use mathlib.Core.Path.{refl}
 use Rattle.theorems.specs.PublicFunctions.{fingerprint-new-function, leftmost-function, occurs-earlier-function}
 use Rattle.theorems.proofs.OutsideCall.{Call, call}

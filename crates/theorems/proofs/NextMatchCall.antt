@@ -1,5 +1,5 @@
--- next_match(tree, ranges, mark): the next row after a mark whose cuts are each in their range; show(mark, tree, ranges) moves a lent mark by it. What
--- holds of the mark stands in the `Demands` of their crate.
+-- next_match(tree, ranges, mark): the next row after a mark whose cuts are each in their range; show(mark, tree, ranges) moves the caller's mark. `Demands`
+-- of their crate has the theorems on the mark.
 use mathlib.Core.List.{List, [], _∷_}
 use mathlib.Core.Bool.{true}
 use mathlib.Core.Path.{_≡_, refl}
@@ -34,7 +34,7 @@ next-match-call = call next-match-function next-match-met.met (λ 𝓤 H A mem r
 abbrev pub show-call : Call
 show-call = call show-function show-met.met (λ 𝓤 H A mem run κs a. (tt, refl))
 
--- Any lent bytes.
+-- For any bytes.
 
 -- the numbers that the questions before the walk can give
 match-one : (t ranges : List ℕ) → OneOf (5 ∷ 6 ∷ 7 ∷ 19 ∷ 11 ∷ 0 ∷ []) (queryRefusal t 19 (rangesOk ranges))

@@ -19,7 +19,7 @@ pub record OneByte (T U : List ℕ) (d : ℕ) : Type 0 where
   pub differ : getD T d 0 ≡ getD U d 0 → ⊥
   pub elsewhere : (p : ℕ) → p < length T → (p ≡ d → ⊥) → getD T p 0 ≡ getD U p 0
 
--- so does each from the other
+-- The relation is symmetric.
 pub one-byte-back : (T U : List ℕ) (d : ℕ) → OneByte T U d → OneByte U T d
 one-byte-back T U d k = record {
   same-length = sym (k .same-length);
@@ -42,7 +42,7 @@ module _ (T U : List ℕ) (d : ℕ) (k : OneByte T U d) (c : ℕ) where
       stretch-ext T U 0 0 i (omega (arith, k .within)) (omega (arith, k .within, k .same-length))
       (λ x l. k .elsewhere (0 + x) (omega (arith, k .within)) (λ e. omega arith))
 
-  -- and past it
+  -- The bytes after d are equal.
   same-past : (x : ℕ) → d + 1 + x ≤ length T → stretch T (d + 1) x ≡ stretch U (d + 1) x
   same-past x h =
       stretch-ext T U (d + 1) (d + 1) x h (omega (arith, k .same-length))
@@ -52,7 +52,7 @@ module _ (T U : List ℕ) (d : ℕ) (k : OneByte T U d) (c : ℕ) where
   pub count-before : (i : ℕ) → i ≤ d → countIn c (take i T) ≡ countIn c (take i U)
   count-before i h = sym (count-start c T i) ∙ ap (countIn c) (same-before i h) ∙ count-start c U i
 
-  -- where it does, the byte taken out stands once less and the byte put in once more
+  -- If the prefix has the place, the removed byte occurs once less in it and the new byte once more.
   pub count-past : (i : ℕ) → d < i → i ≤ length T → countIn c (take i T) + one c (getD U d 0) ≡ countIn c (take i U) + one c (getD T d 0)
   count-past i past h =
       let x = i - (d + 1) in
@@ -65,7 +65,7 @@ module _ (T U : List ℕ) (d : ℕ) (k : OneByte T U d) (c : ℕ) where
         ap (countIn c) (same-before d (omega arith)),
       ))
     where
-      -- what stands before the place, at it, and past it
+      -- The bytes before the place, at it, and after it.
       parts : (X : List ℕ) (x : ℕ) → d < length X
           → countIn c (take (d + 1 + x) X) ≡ countIn c (stretch X 0 d) + one c (getD X d 0) + countIn c (stretch X (d + 1) x)
       parts X x l =

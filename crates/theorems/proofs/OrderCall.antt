@@ -1,5 +1,6 @@
--- compare(one, other) and first(one, other, number, order, shared): the order of two trees' texts and the length of their shared beginning; `first` hands
--- back the tree that stands first. Of any lent bytes, and of two trees that the check accepts, whoever made them, with the texts that fit them.
+-- compare(one, other) and first(one, other, number, order, shared): the lexicographic order of two trees' texts and the length of their longest common
+-- prefix; `first` returns the tree that comes first. For any bytes, and for two trees that the check accepts, whoever made them, with the texts that fit
+-- them.
 use mathlib.Core.List.{List, [], _∷_}
 use mathlib.Core.Bool.{Bool, true, false, cond}
 use mathlib.Core.Path.{_≡_, sym, ap, _∙_, refl}
@@ -46,7 +47,7 @@ compare-call = call compare-function compare-met.met (λ 𝓤 H A mem run κs a.
 abbrev pub first-call : Call
 first-call = call first-function first-met.met (λ 𝓤 H A mem run κs a. (tt, refl))
 
--- the numbers that a comparison refuses with, for any lent bytes
+-- The numbers with which a comparison is refused, for any bytes.
 
 or-one : (n : ℕ) (s : Said) → OneOf (14 ∷ 0 ∷ []) n → OneOf (14 ∷ 0 ∷ []) (s .number) → OneOf (14 ∷ 0 ∷ []) (unless n s .number)
 or-one zero s h k = k
@@ -137,7 +138,7 @@ module _ (t u t′ u′ : Lent) (T U : List ℕ) (a : Holds t T) (b : Holds u U)
   pub texts-alone : (κs κs′ : Lfts 2) (r r′ : Compared) → Compare κs t u r → Compare κs′ t′ u′ r′ → r ≡ r′
   texts-alone κs κs′ r r′ c c′ = compare-of t u T U a b κs r c ∙ sym (compare-of t′ u′ T U a′ b′ κs′ r′ c′)
 
-  -- the same figures, and the tree of the same side
+  -- The same figures, and the tree of the same side.
   pub first-alone : (κs κs′ : Lfts 4) (n o l n₁ o₁ l₁ n₂ o₂ l₂ n₃ o₃ l₃ : RefT ℕ) (r r′ : Lent)
       → First κs t u n o l n₁ o₁ l₁ r → First κs′ t′ u′ n₂ o₂ l₂ n₃ o₃ l₃ r′
       → (figuresIn n₁ o₁ l₁ ≡ figuresIn n₃ o₃ l₃)
@@ -152,9 +153,9 @@ module _ (t u t′ u′ : Lent) (T U : List ℕ) (a : Holds t T) (b : Holds u U)
       side same e e′ = inl (e, e′)
       side after e e′ = inr (e, e′)
 
--- it is a total order on the texts
+-- It is a total order on the texts.
 
--- the first stands at the second or before it
+-- The first comes before the second, or both are equal.
 abbrev pub AtOrBefore : Compared → Type 0
 AtOrBefore (compared.Before n) = Unit {0}
 AtOrBefore (compared.Same n) = Unit {0}

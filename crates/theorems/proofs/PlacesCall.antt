@@ -1,4 +1,4 @@
--- places(tree, pattern, table): all places of a pattern, written to a lent table of words.
+-- places(tree, pattern, table): all places of a pattern, written to the caller's table of words.
 use mathlib.Core.List.{List, [], _∷_, _++_}
 use mathlib.Core.Option.{some}
 use mathlib.Core.Bool.{true, _&&_, Bool}
@@ -38,7 +38,7 @@ pub use Rattle.theorems.specs.CallContracts.{Places}
 abbrev pub places-call : Call
 places-call = call places-function places-met.met (λ 𝓤 H A mem run κs a. (tt, refl))
 
--- Any lent bytes.
+-- For any bytes.
 
 -- what is known where no question refuses
 record Passed (t P : List ℕ) (room : ℕ) : Type 0 where
@@ -105,7 +105,7 @@ module _ (κs : Lfts 3) (t P table after : Lent) where
     places-numbers =
         not-zero (5 ∷ 6 ∷ 7 ∷ 16 ∷ 14 ∷ 17 ∷ []) n (a .0 .numbered) (rw places-says (places-one (now t) (now P) (length (now table))))
 
-    -- It leaves the table unchanged.
+    -- A refusal leaves the table unchanged.
     pub places-unchanged : now after ≡ now table
     unfolding placesLeaves
     places-unchanged = a .1 ∙ rw (← places-says, ne-eqb n 0 (λ e. omega (arith, a .0 .numbered)))

@@ -22,7 +22,7 @@ pub use Rattle.ask_patterns.proofs.Demands.{PlacesWords}
 abbrev pub places-words-call : Call
 places-words-call = call places-words-function places-words-met.met (λ 𝓤 H A mem run κs a. (tt, refl))
 
--- Any lent bytes: a refusal is 5, 6, 7 or 16.
+-- For any bytes: a refusal is 5, 6, 7 or 16.
 pub room-numbers : (κs : Lfts 1) (t : Lent) (len n : ℕ) → PlacesWords κs t len (places-room.Refused n) → OneOf (5 ∷ 6 ∷ 7 ∷ 16 ∷ []) n
 unfolding roomSays roomOf
 room-numbers κs t len n a =

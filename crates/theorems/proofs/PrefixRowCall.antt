@@ -35,7 +35,7 @@ next-row-with-prefix-call = call next-row-with-prefix-function next-met.met (λ 
 abbrev pub next-row-with-prefix-guided-call : Call
 next-row-with-prefix-guided-call = call next-row-with-prefix-guided-function guided-met.met (λ 𝓤 H A mem run κs a. (tt, refl))
 
--- Any lent bytes.
+-- For any bytes.
 
 -- the numbers that the questions before the walk can give
 prefix-one : (t prefix : List ℕ) → OneOf (5 ∷ 6 ∷ 7 ∷ 16 ∷ 11 ∷ 0 ∷ []) (queryRefusal t 16 (patternOk prefix))

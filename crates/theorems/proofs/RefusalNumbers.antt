@@ -1,3 +1,3 @@
--- Which numbers questions that are asked in order can refuse with: the laws of `theory_accepted`, for the files of the calls.
+-- The numbers with which questions in order can refuse: the laws of `theory_accepted`, for the files of the calls.
 pub use Rattle.theory_accepted.specs.QuestionNumbers.{OneOf, of-left, of-right, of-more, not-zero, numbers, asks-one, unless-one, then-one}
 pub use Rattle.theory_accepted.specs.QuestionNumbers.{readable-one, verdict-one, says-refused, says-answer}

@@ -34,7 +34,7 @@ use Rattle.ask_rows.proofs.row.Met as row-met
 abbrev pub row-call : Call
 row-call = call row-function row-met.met (λ 𝓤 H A mem run κs a. (tt, refl))
 
--- Any lent bytes.
+-- For any bytes.
 module _ (κs : Lfts 2) (t : Lent) (q : ℕ) (buffer after : Lent) where
   outcome-of : (n m : ℕ) → RowSays (now t) q (now buffer) n m (now after) → RowOutcome (now t) q (now buffer) n m (now after)
   outcome-of n m s = row-outcome (now t) q (now buffer) (verdict (now t)) n m (now after) s
@@ -58,11 +58,11 @@ module _ (κs : Lfts 2) (t : Lent) (q : ℕ) (buffer after : Lent) where
     pub row-numbers : OneOf (5 ∷ 6 ∷ 7 ∷ 11 ∷ 12 ∷ 13 ∷ 14 ∷ []) n
     row-numbers = row-outcome-numbers (now t) q (now buffer) n (now after) (a .numbered) (outcome-of n 0 (a .says))
 
-    -- It leaves the buffer unchanged; or, for a 14 in copying, zeros at its start, no more than a row can have, and the rest unchanged.
+    -- A refusal leaves the buffer unchanged; or, for a 14 in copying, zeros at its start, no more than a row can have, and the rest unchanged.
     pub row-leaves : (now after ≡ now buffer) ⊎ ((n ≡ 14) × Zeros (rowMost (now t) q) (now buffer) (now after))
     row-leaves = row-outcome-leaves (now t) q (now buffer) n (now after) (a .numbered) (outcome-of n 0 (a .says))
 
--- which answer says this
+-- The answer in each case.
 row-is : (r : RowCopied) (v : ℕ) → NeverZero (rowReply r) → replied (rowReply r) .number ≡ 0 → replied (rowReply r) .value ≡ v → r ≡ rows.Bytes v
 row-is (rows.Bytes m) v k z e = ap rows.Bytes e
 row-is (rows.Refused q) v k z e = absurd (let y : ⊥ = omega arith in y)

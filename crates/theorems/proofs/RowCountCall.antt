@@ -1,4 +1,4 @@
--- row_count(tree): how many rows there are. What it answers stands in the `Demands` of its crate.
+-- row_count(tree): the number of rows. `Demands` of its crate has the theorems on what it returns.
 use mathlib.Core.List.{List, [], _∷_}
 use mathlib.Core.Bool.{Bool, true, false, cond}
 use mathlib.Core.Path.{_≡_, ap, _∙_, refl}
@@ -32,7 +32,7 @@ pub use Rattle.ask_rows.proofs.Demands.{CountOf}
 abbrev pub row-count-call : Call
 row-count-call = call row-count-function row-count-met.met (λ 𝓤 H A mem run κs a. (tt, refl))
 
--- Any lent bytes: a refusal is 5, 6, 7, 11 or 14.
+-- For any bytes: a refusal is 5, 6, 7, 11 or 14.
 last-one : (t : List ℕ) → readable t ≡ 0 → OneOf (14 ∷ 0 ∷ []) (cond (eqb (at.textLength t) 0) 0 (byteSays t (at.textLength t - 1) .number))
 last-one t pass = go (lt-or-ge 0 (at.textLength t))
   where

@@ -1,4 +1,4 @@
--- row_guided(tree, guide, q, buffer): row, by finds that start at an entry of a guide. What else holds of it stands in the `Demands` of its crate.
+-- row_guided(tree, guide, q, buffer): row by finds that start at an entry of a guide. `Demands` of its crate has the other theorems.
 use mathlib.Core.List.{[], _∷_, _++_}
 use mathlib.Core.Path.{_≡_, refl}
 use mathlib.Core.Logic.{_⊎_}
@@ -24,7 +24,7 @@ pub use Rattle.ask_rows.proofs.Demands.{RowGuided}
 abbrev pub row-guided-call : Call
 row-guided-call = call row-guided-function row-guided-met.met (λ 𝓤 H A mem run κs a. (tt, refl))
 
--- Any lent bytes: a row fits, and the bytes after it are unchanged.
+-- For any bytes: a row fits, and the bytes after it are unchanged.
 module _ (κs : Lfts 3) (t guide : Lent) (q : ℕ) (buffer after : Lent) where
   pub row-guided-answer : (m : ℕ) → RowGuided κs t guide q buffer after (rows.Bytes m) → (m ≤ length (now buffer)) × (drop m (now after) ≡ drop m (now buffer))
   row-guided-answer m a =
@@ -49,6 +49,6 @@ module _ (κs : Lfts 3) (t guide : Lent) (q : ℕ) (buffer after : Lent) where
     pub row-guided-numbers : OneOf (5 ∷ 6 ∷ 7 ∷ 11 ∷ 12 ∷ 13 ∷ 14 ∷ []) n
     row-guided-numbers = row-outcome-numbers (now t) q (now buffer) n (now after) (a .numbered) outcome-of
 
-    -- It leaves the buffer as row does.
+    -- A refusal leaves the buffer as that of row does.
     pub row-guided-leaves : (now after ≡ now buffer) ⊎ ((n ≡ 14) × Zeros (rowMost (now t) q) (now buffer) (now after))
     row-guided-leaves = row-outcome-leaves (now t) q (now buffer) n (now after) (a .numbered) outcome-of

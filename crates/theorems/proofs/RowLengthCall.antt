@@ -1,4 +1,4 @@
--- row_length(tree, q): how many bytes a row has. What it answers stands in the `Demands` of its crate.
+-- row_length(tree, q): the number of bytes of a row. `Demands` of its crate has the theorems on what it returns.
 use mathlib.Core.List.{[], _∷_}
 use mathlib.Core.Path.{_≡_, refl}
 use mathlib.Core.Logic.{_⊎_, inl, inr}
@@ -21,7 +21,7 @@ pub use Rattle.ask_rows.proofs.Demands.{LengthOf}
 abbrev pub row-length-call : Call
 row-length-call = call row-length-function row-length-met.met (λ 𝓤 H A mem run κs a. (tt, refl))
 
--- Any lent bytes: a refusal is 5, 6, 7, 11, 12 or 14.
+-- For any bytes: a refusal is 5, 6, 7, 11, 12 or 14.
 pub length-numbers : (κs : Lfts 1) (t : Lent) (q n : ℕ) → LengthOf κs t q (row-length.Refused n) → OneOf (5 ∷ 6 ∷ 7 ∷ 11 ∷ 12 ∷ 14 ∷ []) n
 length-numbers κs t q n a = go (lt-or-ge 0 (rowNumber (now t) q)) (lt-or-ge 0 (verdict (now t)))
   where

@@ -1,4 +1,4 @@
--- How row ends, with a guide or without, for any bytes lent as a tree and as a guide, and what it leaves in the buffer.
+-- The outcomes of row, with or without a guide, for any bytes given as a tree and as a guide, and the buffer afterwards.
 use mathlib.Core.List.{List, [], _∷_, _++_}
 use mathlib.Core.Option.{Option, some, none}
 use mathlib.Core.Bool.{Bool, true, false, not}
@@ -101,7 +101,7 @@ not-13 (inr (inr (inr (inl e)))) = omega arith
 not-13 (inr (inr (inr (inr (inl e))))) = omega arith
 not-13 (inr (inr (inr (inr (inr (inl e)))))) = omega arith
 
--- at most so many zeros at the start of the buffer, and the rest unchanged
+-- At most this many zeros at the start of the buffer; the rest is unchanged.
 abbrev pub Zeros : (most : ℕ) (buffer after : List ℕ) → Type 0
 Zeros most buffer after = (k : ℕ) × (k ≤ length buffer) × (k ≤ most) × (after ≡ replicate k 0 ++ drop k buffer)
 
@@ -195,7 +195,7 @@ module _ (t : List ℕ) (q : ℕ) (buffer : List ℕ) where
     row-outcome-numbers (broken z left) = of-right (5 ∷ 6 ∷ 7 ∷ 11 ∷ 12 ∷ []) (13 ∷ 14 ∷ []) n (inr (inl z))
     row-outcome-numbers (copied z fits rest) = absurd (let y : ⊥ = omega arith in y)
 
-    -- it leaves the buffer unchanged; or, for a 14 in copying, zeros at its start and the rest unchanged
+    -- A refusal leaves the buffer unchanged; or, for a 14 in copying, zeros at its start and the rest unchanged.
     pub row-outcome-leaves : RowOutcome n 0 after → (after ≡ buffer) ⊎ ((n ≡ 14) × Zeros (rowMost t q) buffer after)
     row-outcome-leaves (asked low z same) = inl same
     row-outcome-leaves (short z same) = inl same

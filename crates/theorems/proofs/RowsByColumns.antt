@@ -38,12 +38,12 @@ module _ (t : Lent) (S : Settings) (w : ℕ) (T : List ℕ) (ok : widthOk w (len
       let size = columns-length w T ok in
       rw (restored w T ok) at (answers .column-row .column-of κs w a buffer after r c (rw size ok) (rw size low) room)
 
--- Of any tree that the check accepts and that the rearranged text fits.
+-- For any tree that the check accepts and that the rearranged text fits.
 pub accepted-rows : (κ : Lfts 1) (t : Lent) → Check κ t 0 → (w : ℕ) (T : List ℕ) → widthOk w (length T) ≡ true → fits (columns w T) (now t) ≡ true
     → RowsOf t w T
 accepted-rows κ t c w T ok fit = rows-of t (at.settings (now t)) w T ok (check-answers κ t c (columns w T) fit)
 
--- A text rearranged by a call, and what it wrote, lent to a builder.
+-- A text rearranged by a call, whose output is the input of a builder.
 module _ (κ : Lfts 2) (text : Lent) (w : ℕ) (out turned : Lent) (done : ToColumns κ text w out turned 0)
     (input : Lent) (is : now input ≡ take (length (now text)) (now turned)) where
   ok : widthOk w (length (now text)) ≡ true
@@ -52,14 +52,14 @@ module _ (κ : Lfts 2) (text : Lent) (w : ℕ) (out turned : Lent) (done : ToCol
   input-is : now input ≡ columns w (now text)
   input-is = rearranging.to-columns-input κ text w out turned done (now input) is
 
-  -- Of the tree that build wrote.
+  -- For the tree that build wrote.
   pub built-rows : (κs : Lfts 3) (leaf arity levels : ℕ) (counted room after : Lent) (size : ℕ)
       → Build κs input leaf arity levels counted room after (built.Size size) → (t : Lent) → now t ≡ take size (now after) → RowsOf t w (now text)
   built-rows κs leaf arity levels counted room after size a t e =
       rows-of t (given leaf arity levels (now counted)) w (now text) ok
       (rw input-is at (build-answers κs input leaf arity levels counted room after size a t e))
 
-  -- Of the tree that build_scanned wrote.
+  -- For the tree that build_scanned wrote.
   pub scanned-rows : (κs : Lfts 4) (leaf arity levels : ℕ) (counted words table room after : Lent) (size windows : ℕ)
       → BuildScanned κs input leaf arity levels counted words table room after (scanned.Size size windows)
       → (t : Lent) → now t ≡ take size (now after) → RowsOf t w (now text)

@@ -1,4 +1,4 @@
--- run(tree, place): a part of the lent tree that stands in the text from a place on; run_part answers where it lies.
+-- run(tree, place): a part of the tree that is the text from a place on; run_part returns where it is.
 use mathlib.Core.List.{[], _∷_}
 use mathlib.Core.Path.{_≡_, sym, ap, refl}
 use Prim.Native.Nat.{ℕ, _+_, _≤_}
@@ -41,9 +41,9 @@ run-call = call run-function run-met.met (λ 𝓤 H A mem run κs a. (tt, refl))
 abbrev pub run-part-call : Call
 run-part-call = call run-part-function run-part-met.met (λ 𝓤 H A mem run κs a. (tt, refl))
 
--- Any lent bytes; κ is byte's lifetime, κs run's.
+-- For any bytes; κ is the lifetime of byte, κs that of run.
 module _ (κ κs : Lfts 1) (t : Lent) (p : TextPlace) (r : Lent) where
-  -- If byte is not refused, run returns a part of the lent tree, of one byte or more.
+  -- If byte is not refused, run returns a part of the tree, of one byte or more.
   pub run-answer : (v e : ℕ) → Byte κ t p (answer.Byte v e) → Run κs t p r
       → (from : ℕ) × (size : ℕ) × (1 ≤ size) × (from + size ≤ length (now t))
       × (r .ptr ≡ (t .ptr .0, t .ptr .1 + from)) × (now r ≡ take size (drop from (now t)))

@@ -34,7 +34,7 @@ pub use Rattle.theorems.specs.CallContracts.{Span}
 abbrev pub span-call : Call
 span-call = call span-function span-met.met (λ 𝓤 H A mem run κs a. (tt, refl))
 
--- Any lent bytes.
+-- For any bytes.
 
 -- the numbers that its questions can give
 span-one : (t : List ℕ) (p len room : ℕ) → OneOf (5 ∷ 6 ∷ 7 ∷ 10 ∷ 13 ∷ 14 ∷ 0 ∷ []) (spanNumber t p len room)
@@ -43,7 +43,7 @@ span-one t p len room =
     then-one (5 ∷ 6 ∷ 7 ∷ []) (10 ∷ 13 ∷ 14 ∷ 0 ∷ []) (readable t) _ (readable-one t)
     (asks-one ((10, leb (p + len) (at.textLength t)) ∷ (13, leb len room) ∷ (14, spanReached t p len) ∷ []))
 
--- it answers only where its bytes fit the buffer and are reached
+-- Span is not refused only if its bytes fit the buffer and are reached.
 record Spanned (t : List ℕ) (p len room : ℕ) : Type 0 where
   pass : readable t ≡ 0
   fits : len ≤ room

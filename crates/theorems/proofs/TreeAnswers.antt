@@ -1,5 +1,5 @@
--- Every question to a tree that the check accepts is answered, and refused, from the one text that fits: `Answers` and `Refuses` of `Promises`, made of what
--- the files of the calls prove.
+-- Every question about a tree that the check accepts is answered, or refused, by the one text that fits: `Answers` and `Refuses` of `Promises`, from the
+-- theorems in the files of the calls.
 use mathlib.Core.Path.{_≡_}
 use denote.Ref.{now}
 use Rattle.format.specs.Layout as at

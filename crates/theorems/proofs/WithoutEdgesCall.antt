@@ -1,5 +1,5 @@
--- without_edges(tree, out) writes the tree in layout 1. The `Demands` of its crate say what it writes and refuses; here: the written tree gives the same
--- answers.
+-- without_edges(tree, out) writes the tree in layout 1. `Demands` of its crate has the theorems on what it writes and refuses; here: every call returns the
+-- same for the written tree.
 use mathlib.Core.List.{List, [], _∷_}
 use mathlib.Core.Bool.{true, false, cond}
 use mathlib.Core.Path.{_≡_, refl}

@@ -1,6 +1,6 @@
--- The contracts of the calls that build, check or read a tree, each as a relation under the call's name: `Byte κs tree place r` says that the contract of byte
--- allows the answer r to a call with these arguments. It is the `Post` that the prover generates from the contract. A buffer that the call writes is
--- given twice, as it was and as it is `after` the call; κs are the lifetimes of the borrowed arguments.
+-- The contracts of the calls that build, check or read a tree, each as a relation with the call's name: `Byte κs tree place r` means that the contract of
+-- byte allows the answer r to a call with these arguments. It is the `Post` that the prover generates from the contract. A buffer that the call writes is
+-- given twice, before the call and `after` it; κs are the lifetimes of the borrowed arguments.
 use mathlib.Core.List.{List}
 use Prim.Native.Nat.{ℕ}
 use contract.Lifetimes.{Lfts}
@@ -9,7 +9,7 @@ use Rattle.ask_rank.proofs.count.Reads as count-reads
 use Rattle.ask_select.proofs.find.Reads as find-reads
 use Rattle.ask_rows.proofs.row.Reads as row-reads
 use Rattle.build_by_scan.proofs.build_scanned.Reads as scanned-reads
--- the types of the answers
+-- The types of the answers.
 pub use Rattle.text.specs.declared.TextPlace.{TextPlace}
 pub use Rattle.ask_access.specs.declared.Answer.{Answer}
 pub use Rattle.ask_access.specs.declared.Copied.{Copied}
@@ -35,7 +35,7 @@ pub use Rattle.ask_columns.proofs.Demands.{ByColumns}
 -- `Digest κs tree out after r`
 pub use Rattle.query_digest.proofs.Demands.{Digest}
 
--- borrowed bytes
+-- Borrowed bytes.
 abbrev pub Lent : Type 0
 Lent = RefT (List ℕ)
 
@@ -48,7 +48,7 @@ Find κs t byte j r = find-reads.Post κs (t, (byte, (j, tt))) r (t, (byte, (j, 
 abbrev pub Row : (κs : Lfts 2) → Lent → (q : ℕ) → (buffer after : Lent) → RowCopied → Type 0
 Row κs t q buffer after r = row-reads.Post κs (t, (q, (buffer, tt))) r (t, (q, (after, tt)))
 
--- the table `words` is left as `table`, the buffer `out` as `after`
+-- `table` is the table `words` after the call, `after` is the buffer `out` after the call.
 abbrev pub BuildScanned : (κs : Lfts 4) (text : Lent) (leaf arity levels : ℕ) (counted words table out after : Lent) → Scanned → Type 0
 BuildScanned κs text leaf arity levels counted words table out after r =
     scanned-reads.Post κs (text, (leaf, (arity, (levels, (counted, (words, (out, tt))))))) r (text, (leaf, (arity, (levels, (counted, (table, (after, tt)))))))

@@ -1,6 +1,6 @@
--- What is promised of trees: statements in the order of docs/FORMAT.md, without proofs. The theorems of these types are `any-tree`, `built-tree` and
--- `scanned-tree` of proofs/Demands.antt, and each is named below beside its type. A call is a relation (`CallContracts`): `Byte κs t p r` says that the
--- contract of byte allows the answer r to the tree t and the place p. `now x` are the bytes that x holds.
+-- What is promised about trees: statements without proofs, in the order of docs/FORMAT.md. The theorems of these types are `any-tree`, `built-tree` and
+-- `scanned-tree` of proofs/Demands.antt; each is named below beside its type. A call is a relation (`CallContracts`): `Byte κs t p r` means that the contract
+-- of byte allows the answer r for the tree t and the place p. `now x` are the bytes of x.
 use mathlib.Core.List.{List, [], _++_}
 use mathlib.Core.Option.{some}
 use mathlib.Core.Bool.{true, false, cond}
@@ -56,15 +56,15 @@ Among byte counted = (i : ℕ) × (i < length counted) × (getD counted i 0 ≡ 
 
 -- docs/FORMAT.md, "The path of a place": e is the length of the path of place p, in a tree of H levels.
 pub record LengthOfPath (t : List ℕ) (H p e : ℕ) : Type 0 where
-  -- The path of p,
+  -- The path of p.
   pub path : Path
-  -- which does not break,
+  -- There is one: it does not break.
   pub path-is : pathOf t p ≡ some path
-  -- names e blocks:
+  -- The path has e blocks.
   pub length-is : e ≡ length (path .visits)
-  -- a block for each level, and one more for each pointer followed,
+  -- There is one block for each level, and one more for each pointer followed.
   pub each-level : e ≡ H + pointers t (path .visits)
-  -- at most 2H - 1.
+  -- There are at most 2H - 1 blocks.
   pub short : e ≤ 2 * H - 1
 
 -- docs/FORMAT.md, "The walk of a short span": e is the number of blocks that the span of len bytes from p enters, in a tree of H levels.
@@ -76,7 +76,7 @@ pub record BlocksOfSpan (t : List ℕ) (H p len e : ℕ) : Type 0 where
   -- At most 2H.
   pub most : e ≤ 2 * H
 
--- docs/FORMAT.md, "What can be asked": the questions to a tree t with the settings S, answered from a text T.
+-- docs/FORMAT.md, "What can be asked": the answers to questions about a tree t with the settings S, given by a text T.
 module _ (t : Lent) (S : Settings) (T : List ℕ) where
   -- docs/FORMAT.md, "Byte"
   pub record ByteAnswers : Type 0 where
@@ -85,29 +85,29 @@ module _ (t : Lent) (S : Settings) (T : List ℕ) where
         → (e : ℕ) × LengthOfPath (now t) (S .levels) (p .0) e × (r ≡ answer.Byte (getD T (p .0) 0) e)
 
   pub record ByteRefuses : Type 0 where
-    -- A place past the text: 10.
+    -- A place past the end of the text: 10.
     pub byte-past : (κs : Lfts 1) (p : TextPlace) (r : Answer) → Byte κs t p r → length T ≤ p .0 → r ≡ answer.Refused 10
 
   -- docs/FORMAT.md, "Run"
   pub record RunAnswers : Type 0 where
-    -- A place of the text: a part of the tree's own bytes, at least one byte, equal to the text's bytes from the place on.
+    -- A place of the text: a part of the tree's own bytes, at least one, which are the bytes of the text from the place on.
     pub run-of : (κs : Lfts 1) (p : TextPlace) (r : Lent) → Run κs t p r → p .0 < length T
         → (from : ℕ) × (size : ℕ) × (1 ≤ size) × (from + size ≤ length (now t)) × (r .ptr ≡ (t .ptr .0, t .ptr .1 + from))
         × (now r ≡ take size (drop from (now t))) × (p .0 + size ≤ length T) × (now r ≡ stretch T (p .0) size)
 
   pub record RunRefuses : Type 0 where
-    -- A place past the text: no bytes.
+    -- A place past the end of the text: no bytes.
     pub run-past : (κs : Lfts 1) (p : TextPlace) (r : Lent) → Run κs t p r → length T ≤ p .0 → now r ≡ []
 
   -- docs/FORMAT.md, "Span"
   pub record SpanAnswers : Type 0 where
-    -- A span inside the text, which fits the buffer: its bytes at the buffer's start, the rest of the buffer unchanged, with the blocks entered.
+    -- A span inside the text that fits the buffer: its bytes at the start of the buffer, the rest unchanged; with the number of blocks entered.
     pub span-of : (κs : Lfts 2) (p : TextPlace) (len : ℕ) (buffer after : Lent) (r : Copied) → Span κs t p len buffer after r
         → p .0 + len ≤ length T → len ≤ length (now buffer)
         → (e : ℕ) × BlocksOfSpan (now t) (S .levels) (p .0) len e × (r ≡ copied.Bytes len e) × (now after ≡ stretch T (p .0) len ++ drop len (now buffer))
 
   pub record SpanRefuses : Type 0 where
-    -- Past the text: 10, and the buffer is unchanged.
+    -- A span past the end of the text: 10, and the buffer is unchanged.
     pub span-past : (κs : Lfts 2) (p : TextPlace) (len : ℕ) (buffer after : Lent) (r : Copied) → Span κs t p len buffer after r
         → length T < p .0 + len → (r ≡ copied.Refused 10) × (now after ≡ now buffer)
     -- A buffer that is too short: 13, and it is unchanged.
@@ -235,7 +235,7 @@ module _ (t : Lent) (S : Settings) (T : List ℕ) where
     pub column-short : (κs : Lfts 2) (w a : ℕ) (buffer after : Lent) (r : Copied) → ByColumns κs t w a buffer after r
         → widthOk w (length T) ≡ true → a < length T / w → length (now buffer) < w → (r ≡ copied.Refused 13) × (now after ≡ now buffer)
 
-  -- All questions together: T answers each,
+  -- All questions together: T gives the answer to each.
   pub record Answers : Type 0 where
     pub byte : ByteAnswers
     pub run : RunAnswers
@@ -249,7 +249,7 @@ module _ (t : Lent) (S : Settings) (T : List ℕ) where
     pub prefix-row : PrefixAnswers
     pub column-row : ColumnAnswers
 
-  -- docs/FORMAT.md, "The questions, in order": and where T has no answer, it is refused with its number.
+  -- docs/FORMAT.md, "The questions, in order": where T has no answer, the call is refused with the number of the question.
   pub record Refuses : Type 0 where
     pub byte : ByteRefuses
     pub run : RunRefuses
@@ -263,38 +263,38 @@ module _ (t : Lent) (S : Settings) (T : List ℕ) where
     pub prefix-row : PrefixRefuses
     pub column-row : ColumnRefuses
 
-  -- docs/FORMAT.md, "What is promised": the tree stands for T alone, and T settles every question.
+  -- docs/FORMAT.md, "What is promised": the tree represents T and no other text, and T determines the answer to every question.
   pub record OnlyText : Type 0 where
-    -- T fits the tree, and the tree's counts and edges are true of T.
+    -- T fits the tree, and the counts and edges of the tree are right for T.
     pub stands : StandsFor (now t) T
-    -- No other text fits.
+    -- No other text fits the tree.
     pub only : (U : List ℕ) → fits U (now t) ≡ true → U ≡ T
-    -- Every question is answered from T,
+    -- A question that T answers has that answer.
     pub answers : Answers
-    -- or refused.
+    -- Every other question is refused with its number.
     pub refuses : Refuses
 
--- P holds of every call: of the library, of those exported to C, of list, and of those on a licence's days.
+-- P holds for every call: those of the library, those exported to C, list, and those on the days of a licence.
 abbrev pub OfEveryCall : (Function → Type 2) → Type 2
 OfEveryCall P = Every P functions × Each P exported × Each P listing × Each P licence
 
--- Demand 1, `every-call-ends`: every call ends, and reads and writes only what it was lent.
+-- Demand 1, `every-call-ends`: every call terminates, and accesses only the memory that it was given.
 abbrev pub EveryCallEnds : Type 2
 EveryCallEnds = OfEveryCall Ends
 
--- Demand 1, `trusts-no-caller`: no call requires anything of its caller.
+-- Demand 1, `trusts-no-caller`: no call has a precondition.
 abbrev pub NoPreconditions : Type 2
 NoPreconditions = OfEveryCall AsksNothing
 
--- Demand 3, `check-accepts`: the check accepts a tree exactly if it stands for a text.
+-- Demand 3, `check-accepts`: check accepts a tree exactly if it represents a text.
 abbrev pub ExactCheck : Type 0
 ExactCheck = (κs : Lfts 1) (t : Lent) (r : ℕ) → Check κs t r → (r ≡ 0) ↔ ((T : List ℕ) × StandsFor (now t) T)
 
--- Demand 3, `any-tree`: a tree that check accepted, whoever made it, stands for one text, which settles every question.
+-- Demand 3, `any-tree`: a tree that check accepted, whoever made it, represents exactly one text, which determines the answer to every question.
 abbrev pub AnyTree : Type 0
 AnyTree = (κs : Lfts 1) (t : Lent) → Check κs t 0 → (T : List ℕ) × OnlyText t (at.settings (now t)) T
 
--- Demand 3, `build-lets-through`: build refuses no text, settings and buffer that questions 1 to 4 let through.
+-- Demand 3, `build-lets-through`: build refuses no text, settings and buffer that pass questions 1 to 4.
 abbrev pub CompleteBuilder : Type 0
 CompleteBuilder =
     (κs : Lfts 3) (text : Lent) (leaf arity levels : ℕ) (counted out after : Lent) (r : Built) → Build κs text leaf arity levels counted out after r
@@ -302,8 +302,8 @@ CompleteBuilder =
     → length (treeOf (given leaf arity levels (now counted)) (now text)) ≤ length (now out)
     → r ≡ built.Size (length (treeOf (given leaf arity levels (now counted)) (now text)))
 
--- Demands 2 and 3, `built-tree`: what build wrote is the block tree of its text, check accepts it, and it stands for that text alone, which settles every
--- question.
+-- Demands 2 and 3, `built-tree`: what build wrote is the block tree of its text; check accepts it; it represents that text alone, which determines the answer
+-- to every question.
 abbrev pub BuiltTree : Type 0
 BuiltTree =
     (κs : Lfts 3) (text : Lent) (leaf arity levels : ℕ) (counted out after : Lent) (size : ℕ)
@@ -311,7 +311,7 @@ BuiltTree =
     → (now t ≡ treeOf (given leaf arity levels (now counted)) (now text)) × ((κ : Lfts 1) (r : ℕ) → Check κ t r → r ≡ 0)
     × OnlyText t (given leaf arity levels (now counted)) (now text)
 
--- Demands 2 and 3, `scanned-tree`: the same of build_scanned, and the windows that it reports are those of the text.
+-- Demands 2 and 3, `scanned-tree`: the same for build_scanned, and the number of windows that it returns is that of the text.
 abbrev pub ScannedTree : Type 0
 ScannedTree =
     (κs : Lfts 4) (text : Lent) (leaf arity levels : ℕ) (counted words table out after : Lent) (size windows : ℕ)

@@ -1,4 +1,4 @@
--- The functions of the library's public calls: of each its code on the machine (`routine`), its signature, and its contract (`clauses`), as its crate states
+-- The functions of the library's public calls. Each has its code on the machine (`routine`), its signature, and its contract (`clauses`), as its crate states
 -- them. The calls exported to C, list and the calls on a licence's days are listed in `Demands` of `abi`, `list_lines` and `term`.
 use mathlib.Core.List.{List, [], _∷_}
 use Rattle.theory_machine.specs.Ends.{Function}
@@ -202,7 +202,7 @@ functions =
     ∷ without-edges-function
     ∷ []
 
--- P holds of each of these functions
+-- P holds for each of these functions.
 abbrev pub Every : (Function → Type 2) → List Function → Type 2
 Every P [] = Unit {2}
 Every P (f ∷ fs) = P f × Every P fs

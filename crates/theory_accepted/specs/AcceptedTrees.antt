@@ -1,4 +1,4 @@
--- Which trees the check accepts, which text they stand for, and that the built tree is one of them.
+-- The trees that the check accepts, the text that each represents, and that the built tree is one of them.
 use mathlib.Core.List.{List}
 use mathlib.Core.Bool.{true}
 use mathlib.Core.Path.{_≡_, sym}
@@ -23,7 +23,7 @@ pub record StandsFor (t T : List ℕ) : Type 0 where
   pub edged : edgesTrue T t ≡ true
 
 module _ (t : List ℕ) where
-  -- An accepted tree stands for the text that its paths give.
+  -- An accepted tree represents the text that its paths give.
   pub accepted-stands : verdict t ≡ 0 → StandsFor t (textOf t)
   accepted-stands v = record {
     readable-is = verdicts.accepted-readable t v;
@@ -33,17 +33,17 @@ module _ (t : List ℕ) where
     edged = verdicts.accepted-edges t v;
   }
 
-  -- It stands for no other: exactly one text fits a tree that passes questions 5 to 8.
+  -- The tree represents no other text: exactly one text fits a tree that passes questions 5 to 8.
   pub one-text : readable t ≡ 0 → linksOk t ≡ true → (T : List ℕ) → fits T t ≡ true → T ≡ textOf t
   one-text = paths.only-text t
 
-  -- A tree that stands for some text is accepted.
+  -- A tree that represents some text is accepted.
   pub stands-accepted : (T : List ℕ) → StandsFor t T → verdict t ≡ 0
   stands-accepted T s =
       let e : T ≡ textOf t = one-text (s .readable-is) (s .linked) T (s .fitting) in
       verdicts.accepted t (s .readable-is) (s .linked) (rw e at (s .counted)) (rw e at (s .edged))
 
-  -- So the check accepts bytes exactly when questions 5 to 8 hold, a text fits, and the counts and the edges are true of it.
+  -- The check accepts bytes exactly if questions 5 to 8 pass, some text fits, and the counts and edges are right for it.
   pub accepts : (verdict t ≡ 0) ↔ ((T : List ℕ) × StandsFor t T)
   accepts = (λ v. (textOf t, accepted-stands v), λ s. stands-accepted (s .0) (s .1))
 
@@ -53,6 +53,6 @@ module _ (S : Settings) (T : List ℕ) (h : Taken S T) where
   pub built-text : textOf (treeOf S T) ≡ T
   built-text = let b = built S T h in sym (one-text (treeOf S T) (b .read) (b .linked) T (b .fitting))
 
-  -- and the check accepts it.
+  -- The check accepts the built tree.
   pub built-verdict : verdict (treeOf S T) ≡ 0
   built-verdict = built-accepted S T h built-text

@@ -1,4 +1,4 @@
--- Which numbers questions that are asked in order can refuse with, for any bytes lent as a tree.
+-- The numbers with which questions in order can refuse, for any bytes given as a tree.
 use mathlib.Core.List.{List, [], _∷_, _++_}
 use mathlib.Core.Bool.{Bool, true, false, cond, _&&_}
 use mathlib.Core.Path.{_≡_, ap, refl}

@@ -1,4 +1,4 @@
--- The block tree of a text passes questions 5 to 8, the text fits it, and its counts and edges are true of the text.
+-- The block tree of a text passes questions 5 to 8, the text fits it, and its counts and edges are right for the text.
 use mathlib.Core.List.{List}
 use mathlib.Core.Bool.{true}
 use mathlib.Core.Path.{_≡_}

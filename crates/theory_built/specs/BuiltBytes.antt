@@ -1,4 +1,4 @@
--- The bytes of the built tree, one by one: which word's bytes stand where.
+-- The bytes of the built tree, one by one: which word each belongs to.
 use mathlib.Core.List.{List, [], _∷_, _++_}
 use mathlib.Core.Path.{_≡_, refl, ap, _∙_}
 use Prim.Native.Nat.{ℕ, zero, suc, _+_, _*_, _<_}
@@ -21,11 +21,11 @@ use Rattle.theory_built.specs.BuiltRecords.{recordAt, bytesAt, edgesIn, 
 use Rattle.theory_built.specs.BuiltRecords.{length-records}
 use Rattle.theory_built.specs.Shape.{sixWords, countedPlaces, tree-is, tree-levels, head, length-head, length-places, counted-place, record-byte-at}
 
--- the four bytes of the word v stand at i
+-- The four bytes of the word v are at i.
 abbrev pub Stands : List ℕ → ℕ → ℕ → Type 0
 Stands t i v = (r : ℕ) → r < 4 → getD t (i + r) 0 ≡ getD (wordBytes v) r 0
 
--- the word that stands there is read there
+-- The word at i is read there.
 pub stands-word : (t : List ℕ) (i v : ℕ) → Stands t i v → v < 4294967296 → wordAt t i ≡ v
 unfolding wordAt wordBytes
 stands-word t i v s small = rw (first, s 1 (omega arith), s 2 (omega arith), s 3 (omega arith)) (digits v small)
@@ -50,7 +50,7 @@ byte-in (w ∷ ws) B (suc j) r l k =
     let e : 4 * suc j + r ≡ 4 + (4 * j + r) = omega arith in
     rw (words-cons w ws B, e) (next-byte w (wordsBytes ws ++ B) (4 * j + r) ∙ byte-in ws B j r (omega arith) k)
 
--- word j of the words ws that stand after A
+-- Word j of the words ws after A.
 stands-at : (A ws B : List ℕ) (a j : ℕ) → length A ≡ a → j < length ws → Stands (A ++ (wordsBytes ws ++ B)) (a + 4 * j) (getD ws j 0)
 stands-at A ws B a j e l r k =
     rw (← e, add-assoc (length A) (4 * j) r) (getD-append-add A (wordsBytes ws ++ B) (4 * j + r) 0 ∙ byte-in ws B j r l k)

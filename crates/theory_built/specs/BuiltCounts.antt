@@ -1,4 +1,4 @@
--- The counts of the built tree are true of the text.
+-- The counts of the built tree are right for the text.
 use mathlib.Core.List.{List}
 use mathlib.Core.Bool.{Bool, true, false, cond}
 use mathlib.Core.Path.{_≡_, refl, sym, ap, _∙_}

@@ -1,4 +1,4 @@
--- The edges of the built tree are true of the text.
+-- The edges of the built tree are right for the text.
 use mathlib.Core.List.{List}
 use mathlib.Core.Bool.{true, not}
 use mathlib.Core.Path.{_≡_, sym, ap, _∙_}

@@ -1,4 +1,4 @@
--- The words and the edges of a record of the built tree, one by one, and where each byte of it stands among the bytes of all records.
+-- The words and the edges of a record of the built tree, one by one, and the place of each of its bytes among those of all records.
 use mathlib.Core.List.{List, _++_, map}
 use mathlib.Core.Bool.{Bool, true, false, cond}
 use mathlib.Core.Path.{_≡_, refl, sym, ap, _∙_}
@@ -40,7 +40,7 @@ module _ (S : Settings) (T : List ℕ) where
   unfoldable pub gapOf : ℕ → ℕ → ℕ
   gapOf l i = cond (keptAt S T l i) 0 (placeOf S T l i - start S T l (targetOf S T l i))
 
-  -- of the byte c
+  -- The counts of byte c.
   unfoldable pub beforeOf : ℕ → ℕ → ℕ → ℕ
   beforeOf l i c = countIn c (stretch T (parentOf l (start S T l i)) (start S T l i - parentOf l (start S T l i)))
 

@@ -1,5 +1,5 @@
--- The blocks of a level, and of the level below it: they rise, stand at multiples of the block length, and hold what the kept
--- blocks above them hold. Over plain functions: block i starts at `start i`.
+-- The blocks of a level and of the level below it: they ascend, start at multiples of the block length, and cover what the kept blocks above them cover. They
+-- are given by plain functions: block i starts at `start i`.
 use mathlib.Core.Bool.{Bool, true, false}
 use mathlib.Core.Path.{_≡_, refl, sym, ap, _∙_}
 use mathlib.Core.Logic.{_⊎_, inl, inr}

@@ -1,4 +1,4 @@
--- Where a first occurrence stands on one level: inside kept blocks, if the blocks of the level hold it.
+-- Where a first occurrence is on one level: inside kept blocks, if the blocks of the level cover it.
 use Prim.Native.Nat.{ℕ, zero, suc, _+_, _-_, _≤_, _<_, min}
 use mathlib.Core.Path.{_≡_, refl, sym, ap, _∙_, subst}
 use mathlib.Core.Logic.{_⊎_, inl, inr}
@@ -10,7 +10,7 @@ module _ (at : ℕ → ℕ) (n : ℕ) where
   abbrev pub Same : ℕ → ℕ → ℕ → Type 0
   Same p s len = (k : ℕ) → k < len → at (p + k) ≡ at (s + k)
 
-  -- the len bytes at p stand at no earlier place
+  -- The len bytes at p occur at no earlier place.
   pub record First (p len : ℕ) : Type 0 where
     pub within : p + len ≤ n
     pub none : (q : ℕ) → q < p → Same q p len → ⊥

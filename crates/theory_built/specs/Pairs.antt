@@ -1,4 +1,4 @@
--- The words of the header that stand for the levels: each level's block count and offset, then zeros, then the leaf bytes' offset and count.
+-- The words of the header for the levels: the block count and offset of each level, then zeros, then the offset and count of the leaf bytes.
 use mathlib.Core.List.{List, [], _∷_, _++_}
 use mathlib.Core.Path.{_≡_, refl, ap, _∙_}
 use Prim.Native.Nat.{ℕ, zero, suc, _+_, _-_, _*_, _≤_, _<_}

@@ -71,7 +71,7 @@ module _ (S : Settings) (T : List ℕ) where
     length-before-leaves : length ((head ++ wordsBytes (levelWordsOf S T)) ++ records S T) ≡ headerLength + length (records S T)
     length-before-leaves = rw (length-append (head ++ wordsBytes (levelWordsOf S T)), length-header)
 
-    -- What stands where.
+    -- The offset of each part.
 
     pub six-word : (j : ℕ) → j < 6 → getD sixWords j 0 < 4294967296 → wordAt (treeOf S T) (4 * j) ≡ getD sixWords j 0
     unfolding sixWords

@@ -10,7 +10,7 @@ use Rattle.format.specs.RecordFields.{fieldBytes}
 use Rattle.format.specs.Settings.{maxLeaf, maxLevels, maxCounted}
 use Rattle.theory_built.specs.LevelBlocks.{Level}
 
--- the blocks of one level stand one after the other before the text's end, the last of them begun there
+-- The blocks of one level follow each other, and each starts before the end of the text.
 module _ (n b N : ℕ) (start : ℕ → ℕ) (lv : Level n b N start) where
   -- block i begins i whole blocks or more after the first
   pub start-multiples : (i : ℕ) → i < N → i * b ≤ start i
@@ -24,7 +24,7 @@ module _ (n b N : ℕ) (start : ℕ → ℕ) (lv : Level n b N start) where
       go zero e = rw (← e) (omega arith)
       go (suc m) e = rw (← e) (omega (arith, suc-mul m b, start-multiples m (omega arith), lv .within m (omega arith)))
 
--- x parts of B bytes are at most 2 y bytes and k parts: x parts of c bytes, of which two go into B, are at most y bytes and k parts
+-- If x parts of B bytes are at most 2 y bytes and k parts, and two parts of c bytes fit into B, then x parts of c bytes are at most y bytes and k parts.
 halved : (x B c y k : ℕ) → 2 * c ≤ B → x * B ≤ 2 * y + k * B → x * c ≤ y + k * c
 halved x B c y k half h = go (lt-or-ge k x)
   where
@@ -49,7 +49,7 @@ module _ (n H : ℕ) (b N : ℕ → ℕ) (half : (l : ℕ) → suc l < H → 2 *
       let above = halved (sumBelow (suc l) N) (b l) (b (suc l)) n (suc l) (half l e) (all-room l (omega arith)) in
       omega (arith, room (suc l) e, add-mul (sumBelow (suc l) N) (N (suc l)) (b (suc l)), suc-mul (suc l) (b (suc l)))
 
--- and counted alone, where no block is empty
+-- The bound on the number of blocks, if no block is empty.
 pub all-few : (x m y k : ℕ) → 1 ≤ m → x * m ≤ y + k * m → x ≤ y + k
 all-few x m y k low h = go (lt-or-ge k x)
   where

@@ -1,4 +1,4 @@
--- The check of counts is exact: the local equations of every level hold exactly where the counts are true of the tree's text.
+-- The check of counts is exact: the local equations of every level hold exactly if the counts are right for the tree's text.
 use mathlib.Core.List.{List}
 use mathlib.Core.Bool.{Bool, true, false, cond}
 use mathlib.Core.Path.{_≡_, refl, sym, _∙_}
@@ -95,7 +95,7 @@ module _ (t : List ℕ) (k : Readable t) (d : Linked t) where
         let u = up-to (H t - 1 - l) l (targetBlock t l i o) (targetPlace t l i o) c (omega arith) (w .below) (w .kept) (w .inside) hc h in
         rw un (rw u (rw one at (points-hand t k d l i o c hi un p (omega arith) ins)))
 
-    -- of a block's left neighbour
+    -- The counts of the left neighbour are right.
     abbrev LeftTrue : Type 0
     LeftTrue =
         (at.before t l (i - 1) c ≡ tally t c (parentPlace t l (s t l (i - 1))) (s t l (i - 1) - parentPlace t l (s t l (i - 1))))
@@ -203,7 +203,7 @@ module _ (t : List ℕ) (k : Readable t) (d : Linked t) where
         (allBelow-at (N t l) (λ z. allBelow (at.countedCount t) (blockLocal t l z)) e x hx) y hy) in
         record { before-is = before-true a i c hi hc; inside-is = inside-true a i c hi hc; skip-is = skip-true a i c hi hc }
 
-    -- and back
+    -- The converse.
 
     block-local : Level t l → (i c : ℕ) → i < N t l → c < at.countedCount t → blockLocal t l i c ≡ true
     block-local a i c hi hc = go (bool-cases (at.isKept t l i))

@@ -16,7 +16,7 @@ module _ (t : List ℕ) where
   unfoldable pub byteOf : ℕ → ℕ
   byteOf c = getD (at.settings t .counted) c 0
 
-  -- how often it stands in the first x leaf bytes of last-level block i
+  -- How often counted byte number c occurs in the first x leaf bytes of block i of the last level.
   unfoldable pub inLeaves : ℕ → ℕ → ℕ → ℕ → ℕ
   inLeaves l i x c = countIn (byteOf c) (stretch t (at.leafOffset t + at.link t l i) x)
 
@@ -25,8 +25,8 @@ module _ (t : List ℕ) where
   upLength zero = at.textLength t
   upLength (suc l) = at.fullLength t l
 
-  -- The count walk: place o of block i is handed to a kept block of its level, i itself or the target of i. For a target the first
-  -- one's inside is added if the second is entered, and the skip is taken off.
+  -- The count walk: place o of block i refers to a kept block of its level, which is i itself or a target of i. For a target the skip is subtracted, and the
+  -- count inside of the first target is added if the second is entered.
   unfoldable pub handBlock : ℕ → ℕ → ℕ → ℕ
   handBlock l i o = cond (at.isKept t l i) i (targetBlock t l i o)
 
@@ -39,7 +39,7 @@ module _ (t : List ℕ) where
   unfoldable pub handMinus : ℕ → ℕ → ℕ → ℕ
   handMinus l i c = cond (at.isKept t l i) 0 (at.skip t l i c)
 
-  -- how often byte number c stands in kept block i of level l up to place o, it included; the block has `below` levels under it
+  -- How often byte number c occurs in kept block i of level l up to place o, included; the block has `below` levels under it.
   unfoldable pub upTo : ℕ → ℕ → ℕ → ℕ → ℕ → ℕ
   upTo zero l i o c = inLeaves l i (o + 1) c
   upTo (suc below) l i o c =

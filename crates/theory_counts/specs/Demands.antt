@@ -52,7 +52,7 @@ module _ (t : List ℕ) (v : verdict t ≡ 0) where
     abbrev n : ranks.Counted t byte
     n = ranks.counted t (readable-facts t r) byte h
 
-    -- The total is how often the byte stands in the text.
+    -- The total is how often the byte occurs in the text.
     pub total-of-text : total t (numberOfByte t byte) ≡ countIn byte (textOf t)
     total-of-text = rw (n .byte-is) at (finds.total-is t (readable-facts t r) d levels (numberOfByte t byte) (n .number-below))
 
@@ -64,7 +64,7 @@ module _ (t : List ℕ) (v : verdict t ≡ 0) where
     found-in-text i j o e hi low w =
         rw (n .byte-is) at (finds.lands-top t (readable-facts t r) d levels (numberOfByte t byte) (n .number-below) i j o e hi low w)
 
-  -- Where questions 11 and 12 let find and row through, the j-th byte stands in the text.
+  -- If questions 11 and 12 pass for find or row, the text has a j-th occurrence.
   module _ (byte j : ℕ) (s : Selected t byte j) where
     pub stands : Nth byte j (textOf t) 0 (placeOf byte j (textOf t))
     stands = place-nth byte j (textOf t) (s .low) (rw (total-of-text byte (s .counted)) at (s .high))

@@ -42,7 +42,7 @@ module _ (t : List ℕ) where
     pub parent-place : (l i a j : ℕ) → l + 1 < H t → Parent t l i a j → parentPlace t (l + 1) (s t (l + 1) i) ≡ s t l a
     parent-place l i a j hl p = place-under l (s t (l + 1) i) ∙ parent-start t k d l i a j hl p
 
-    -- what stands before a child and what stands in it up to a place
+    -- The bytes before a child, and those in it up to a place.
     pub child-tally : (l a j c x : ℕ) → l + 1 < H t → Parent t l (at.link t l a + j) a j → Block t (l + 1) (at.link t l a + j) c
         → tally t c (s t l a) (j * b t (l + 1) + x) ≡ at.before t (l + 1) (at.link t l a + j) c + tally t c (s t (l + 1) (at.link t l a + j)) x
     child-tally l a j c x hl p h =

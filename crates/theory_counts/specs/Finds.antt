@@ -173,7 +173,7 @@ module _ (t : List ℕ) (k : Readable t) (d : Linked t) (a : (m : ℕ) → m < H
 
   -- Places.
 
-  -- the n-th byte of block i of level l stands at its place o, whose path from there enters e blocks
+  -- The n-th occurrence in block i of level l is at its place o, and the path from the block to it enters e blocks.
   pub record Lands (l i n o e : ℕ) : Type 0 where
     pub inside : o < len t l i
     pub nth : Nth (byteOf t c) n (textOf t) (s t l i) o
@@ -292,7 +292,7 @@ module _ (t : List ℕ) (k : Readable t) (d : Linked t) (a : (m : ℕ) → m < H
         own-at : (y z : ℕ) → y ≡ z → {m₁ m₂ : ℕ} → m₁ ≡ m₂ → Nth (byteOf t c) m₁ (textOf t) (s t l j) y → Nth (byteOf t c) m₂ (textOf t) (s t l j) z
         own-at y z e f h = rw (← e, ← f) h
 
-    -- the place of a block that is handed to a target
+    -- The place of a block that refers to a target.
     entered-target : (o : ℕ) → o < len t l i
         → pathLength t (pathFrom t (H t - 1 - l) l i o) ≡ pathLength t (pathFrom t (H t - 1 - l) l (targetBlock t l i o) (targetPlace t l i o)) + 1
     entered-target o ho =

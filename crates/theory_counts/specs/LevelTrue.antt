@@ -1,4 +1,4 @@
--- That a level's counts are true of the tree's text, as plain facts.
+-- The counts of a level are right for the tree's text, as plain facts.
 use mathlib.Core.List.{List, [], _∷_}
 use mathlib.Core.Bool.{Bool, true, cond, _&&_}
 use mathlib.Core.Path.{_≡_}
@@ -15,7 +15,7 @@ use Rattle.theory_paths.specs.Links.{H, N, s, len}
 use Rattle.theory_counts.specs.CountsLocal.{byteOf}
 
 module _ (t : List ℕ) where
-  -- how often counted byte number c stands in the x bytes of the text from place p
+  -- How often counted byte number c occurs in the x bytes of the text from place p.
   unfoldable pub tally : ℕ → ℕ → ℕ → ℕ
   tally c p x = countIn (byteOf t c) (stretch (textOf t) p x)
 
@@ -33,7 +33,7 @@ module _ (t : List ℕ) where
   abbrev pub Level : ℕ → Type 0
   Level l = (i c : ℕ) → i < N t l → c < at.countedCount t → Block l i c
 
-  -- one block's test, and the facts that it stands for
+  -- The test of one block, and the facts that it decides.
 
   three : (a a₁ b b₁ c c₁ : ℕ) → (eqb a a₁ && eqb b b₁ && eqb c c₁) ≡ true → (a ≡ a₁) × (b ≡ b₁) × (c ≡ c₁)
   three a a₁ b b₁ c c₁ h =

@@ -1,4 +1,4 @@
--- Counts in a pointing block, and in the kept blocks that it hands its places to.
+-- Counts in a pointing block, and in the kept blocks that it points to.
 use mathlib.Core.List.{List}
 use mathlib.Core.Bool.{true, false, cond}
 use mathlib.Core.Path.{_≡_, refl, ap, _∙_}
@@ -55,7 +55,7 @@ module _ (t : List ℕ) where
             let two = tally-parts t c (s t l j) (s t l (j + 1)) (b t l) (g + o - b t l + 1) (g + o + 1) (f .start-is) (omega arith) in
             rw (le-ltb _ _ h, e .0, e .1) (omega (arith, whole, in₁, two))
 
-    -- a place of a block is handed to a kept block of its level
+    -- A place of a block refers to a kept block of its level.
     pub record Handed (l i o c : ℕ) : Type 0 where
       pub below : handBlock t l i o < N t l
       pub kept : at.isKept t l (handBlock t l i o) ≡ true

@@ -1,4 +1,4 @@
--- Count (rank) on an accepted tree: what is added down the path, less what is taken off, is the text's count.
+-- Count (rank) on an accepted tree: the sum of what is added along the path, minus what is subtracted, is the count of the text.
 use mathlib.Core.List.{List, [], _∷_}
 use mathlib.Core.Option.{some}
 use mathlib.Core.Bool.{Bool, true, false, cond}
@@ -224,7 +224,7 @@ counted t k byte h =
 -- Count on an accepted tree.
 
 module _ (t : List ℕ) (r : readable t ≡ 0) (d : Linked t) (a : (m : ℕ) → m < H t → Level t m) where
-  -- what count says of the sums
+  -- The answer of count, by the sums.
   count-of : (byte c : ℕ) (q : Path) (v : ℕ) → added t c (q .visits) + countIn byte (leavesReached t q) ≡ taken t c (q .visits) + v
       → countOf t byte c (some q) ≡ record { number = 0; value = v; entered = length (q .visits) }
   count-of byte c q v e =

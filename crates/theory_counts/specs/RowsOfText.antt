@@ -1,4 +1,4 @@
--- The rows of an accepted tree are those of its text: which numbers row answers before it walks.
+-- The rows of an accepted tree are those of its text: the refusals of row before its walk.
 use mathlib.Core.List.{List}
 use mathlib.Core.Bool.{Bool, true, false, cond, _&&_}
 use mathlib.Core.Path.{_≡_, sym, ap, _∙_}
@@ -26,7 +26,7 @@ use Rattle.theory_paths.specs.OneText.{text-length}
 use Rattle.theory_paths.specs.Demands as paths
 use Rattle.theory_counts.specs.Demands as tallies
 
--- find's number for a byte that is counted, where so many do not stand in the tree
+-- The refusal of find for a counted byte if its total is below j.
 twelve : (t : List ℕ) (byte j : ℕ) → readable t ≡ 0 → isCounted t byte ≡ true → (1 ≤ j → j ≤ total t (numberOfByte t byte) → ⊥) → selectNumber t byte j ≡ 12
 unfolding selectNumber
 twelve t byte j pass counted none = rw (pass, counted, go (bool-cases (leb 1 j && leb j (total t (numberOfByte t byte)))))
@@ -51,7 +51,7 @@ module _ (t : List ℕ) (v : verdict t ≡ 0) (counted : isCounted t 10 ≡ true
   added-few true = omega arith
   added-few false = omega arith
 
-  -- there are as many rows as the total says, or one more
+  -- The number of rows is the total, or one more.
   pub rows-total : (total t (numberOfByte t 10) ≤ length (rowsOf T)) × (length (rowsOf T) ≤ total t (numberOfByte t 10) + 1)
   rows-total =
       let e = rows-count T in
@@ -71,7 +71,7 @@ module _ (t : List ℕ) (v : verdict t ≡ 0) (counted : isCounted t 10 ≡ true
         let a = asks-last t q h in
         (a .number ∙ ap (λ (n : ℕ). n + 1) all-is, row-number-last t q h ∙ last-is (a .some-byte))
 
-    -- where it is not, the row after the last byte 10 is not asked for, or there is no byte
+    -- If q is not the total plus one, the row after the last byte 10 is not meant, or the text is empty.
     not-last : asksLast t q ≡ false → q ≡ countIn 10 T + 1 → at.textLength t ≡ 0
     not-last h e = go (lt-or-ge 0 (at.textLength t))
       where
@@ -104,7 +104,7 @@ module _ (t : List ℕ) (v : verdict t ≡ 0) (counted : isCounted t 10 ≡ true
               high = omega (arith, all-is, e, some, added-few (endsOpen T));
             })
 
-    -- it is none of them
+    -- The refusal if there is no row q.
     pub row-twelve : (1 ≤ q → q ≤ length (rowsOf T) → ⊥) → rowNumber t q ≡ 12
     row-twelve none = go (bool-cases (asksLast t q)) (bool-cases (endsOpen T))
       where

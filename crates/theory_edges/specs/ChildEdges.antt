@@ -20,7 +20,7 @@ use Rattle.theory_paths.specs.BlockStarts.{len-small, len-end, start-below, chi
 use Rattle.theory_edges.specs.Truth.{Edged}
 use Rattle.theory_edges.specs.EdgesLocal.{childEdges, hasFullChildren}
 
--- what the test says
+-- The fact that the test decides.
 pub record Full (t : List ℕ) (l i : ℕ) : Type 0 where
   pub above : l + 1 < H t
   pub kept : at.isKept t l i ≡ true
@@ -98,7 +98,7 @@ module _ (t : List ℕ) (k : Readable t) (d : Linked t) (l i : ℕ) (hi : i < N 
   pub last-in : first + (r - 1) < N t (l + 1)
   last-in = part (r - 1) last-low .block-in
 
-  -- Their edges, where the level below has true ones.
+  -- The edges of the first and last child, if those of the level below are right.
   module _ (T : List ℕ) (two : at.layout t ≡ 2) (deep : (j : ℕ) → j < N t (l + 1) → Edged T t (l + 1) j) where
     abbrev first-edge : ℕ
     first-edge = at.edgesAt t (l + 1) (first + 0)

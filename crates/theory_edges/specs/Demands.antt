@@ -69,7 +69,7 @@ module _ (t : List ℕ) (r : readable t ≡ 0) (p len : ℕ) where
       go none e h = absurd (let z : _≡_ {A = ℕ} 0 1 = cc in omega arith)
       go (some q) e h = (q, e, rw (is, e), short-entered t p len q low e .0)
 
-  -- Where a span's bytes are reached, they are as many as it asks for.
+  -- If the bytes of a span are reached, there are as many as its length.
   pub span-length : spanReached t p len ≡ true → length (spanBytes t p len) ≡ len
   unfolding spanBytes
   span-length reached = go (bool-cases (isShort t len))

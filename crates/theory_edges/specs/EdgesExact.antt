@@ -1,4 +1,4 @@
--- The local equations that the check looks at hold exactly where the edges are true of the one text that fits.
+-- The local equations that the check tests hold exactly if the edges are right for the one text that fits.
 use mathlib.Core.List.{List, [], _∷_}
 use mathlib.Core.Option.{Option}
 use mathlib.Core.Bool.{Bool, true, false, cond, not, _&&_}

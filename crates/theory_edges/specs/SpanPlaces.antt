@@ -19,7 +19,7 @@ use Rattle.format.specs.ReadSaysLaws.{ShortSpan}
 use Rattle.theory_paths.specs.Links.{H, N, b}
 use Rattle.theory_paths.specs.PlacesLand.{target-first, target-second}
 
--- the len bytes stand in the tree, in two parts
+-- The len bytes are in the tree in two parts.
 pub record Inside (t : List ℕ) (len : ℕ) (q : Short) : Type 0 where
   pub few : q .size ≤ len
   pub first-in : q .from + q .size ≤ length t

@@ -27,7 +27,7 @@ module _ (t : List ℕ) where
   unfolding byEdges
   edges-give l i o h = rw (lt-ltb _ _ h)
 
-  -- over the border of the first block asked
+  -- Across the end of the first block.
   pub over : (below l i o len : ℕ) → b t l < o + len → shortFrom t below l i o len ≡ byEdges t l i o
   unfolding shortFrom
   over zero l i o len h = rw (lt-leb (o + len) (b t l) h)

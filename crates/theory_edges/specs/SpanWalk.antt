@@ -1,5 +1,5 @@
--- In a layout 2 tree that passes questions 5 to 8, a short span's walk gives the bytes of the text that fits, where the edges that it reads are
--- true: those of the levels below the block asked, and where that one points those of the kept blocks of its level.
+-- In a layout 2 tree that passes questions 5 to 8, the walk of a short span reads the bytes of the text that fits, if the edges that it reads are right:
+-- those of the levels below the first block, and, if that block points, those of the kept blocks of its level.
 use mathlib.Core.List.{List, [], _∷_, _++_}
 use mathlib.Core.Option.{Option, some}
 use mathlib.Core.Bool.{true, false}
@@ -78,7 +78,7 @@ module _ (T t : List ℕ) (k : Readable t) (d : Linked t) (two : at.layout t ≡
   block-end : (l i : ℕ) → l < H t → i < N t l → s t l i + len t l i ≤ at.textLength t
   block-end l i hl hi = len-end t l i (omega (arith, start-below t k d l i hl hi))
 
-  -- so many bytes are in a block if a full one has them and the text does
+  -- A block has this many bytes if a full block and the text do.
   len-has : (l i y : ℕ) → y ≤ b t l → s t l i + y ≤ at.textLength t → y ≤ len t l i
   unfolding at.blockLengthAt
   len-has l i y h g = omega arith
@@ -199,7 +199,7 @@ module _ (T t : List ℕ) (k : Readable t) (d : Linked t) (two : at.layout t ≡
       reads-led (visit l i o ∷ [])
       _ _ (s t l i + o) (kept-step t l i o x (inside-block l i o ho) below (kept-block t l i hi kept)) (down below l i o hl hi kept ho edged rest)
 
-  -- the bytes of a pointing block stand in its occurrence too
+  -- The bytes of a pointing block are also those of its occurrence.
   occurrence : (l i o : ℕ) → l < H t → i < N t l → at.isKept t l i ≡ false → Pointing t l i → o + x ≤ len t l i
       → stretch T (s t l (at.link t l i) + at.gap t l i + o) x ≡ stretch T (s t l i + o) x
   occurrence l i o hl hi un p ho =

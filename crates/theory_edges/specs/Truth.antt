@@ -1,4 +1,4 @@
--- That the edges of a layout 2 tree are true of a text that fits it, as plain facts on bytes.
+-- The edges of a layout 2 tree are right for a text that fits it, as plain facts on bytes.
 use mathlib.Core.List.{List}
 use mathlib.Core.Bool.{Bool, true, not}
 use mathlib.Core.Path.{_≡_, sym, ap, _∙_}
@@ -28,7 +28,7 @@ module _ (T t : List ℕ) where
     pub last : (y : ℕ) → y < m → y < len t l i → getD t (at.edgesAt t l i + (m + y)) 0 ≡ getD T (s t l i + (len t l i - m) + y) 0
     pub last-zero : (y : ℕ) → y < m → len t l i ≤ y → getD t (at.edgesAt t l i + (m + y)) 0 ≡ 0
 
-  -- one block's test, and the facts that it stands for
+  -- The test of one block, and the facts that it decides.
 
   same : (l i : ℕ) → blockEdgesTrue T t l i ≡ true → stretch t (at.edgesAt t l i) (m + m) ≡ edgesOf m (stretch T (s t l i) (len t l i))
   unfolding blockEdgesTrue

@@ -1,5 +1,5 @@
--- What a proved contract says of the machine: that a call ends, from which memories, and what becomes of the rest of the memory. It is the logic's
--- adequacy theorem at its closed model, so that nothing is left to be assumed: the machine is the one that gives the code its meaning.
+-- What a proved contract means on the machine: a call terminates from which memories, and what happens to the rest of the memory. It is the adequacy theorem
+-- of the logic for its closed model, so there are no assumptions left: the machine is the one that gives the code its meaning.
 use mathlib.Core.Path.{_≡_}
 use mathlib.Core.Option.{some}
 use mathlib.Core.Logic.{∥∥₁-prop, ∥∥₁-elim, ∥∥₁-map}
@@ -36,7 +36,7 @@ abbrev pub _∗_ : Assertion → Assertion → Assertion
 P ∗ Q = sep Closed.𝓤 P Q
 
 infixr 35 _∗_
--- the cell at place o of block b holds w, of which the share q is owned
+-- The cell at place o of block b contains w; the share q of it is owned.
 abbrev pub Cell : Share → Ty → (b o : ℕ) → Val → Assertion
 Cell q ty b o w = Closed.H .at q ty b o w
 
@@ -53,8 +53,8 @@ loads σ P q ty b o w s =
     (guardE Closed.𝓤 there (mem ∗ cell) (λ e. factI Closed.𝓤 there (mem ∗ cell) e)))))
     (sat-weaken Closed.𝓤 Closed.H Closed.model σ (comm∗ Closed.𝓤 P cell) s)
 
--- A function of a crate: its routine, which says what each of the machine's steps does on a call of it, and its signature and contract, as its module states
--- them for every model.
+-- A function of a crate: its routine, which gives each step of the machine on a call, and its signature and contract, as its module states them for every
+-- model.
 pub record Function : Type 2 where
   pub routine : Routine
   pub signature : Signature
@@ -69,9 +69,9 @@ module _ (f : Function) where
   abbrev pub call : Contract Closed.𝓤
   call = tripleOf Closed.𝓤 Closed.H (ghost₀ .A) (f .signature) (f .clauses Closed.𝓤 Closed.H (ghost₀ .A) (Closed.model .mem) (running .run))
 
-  -- Total correctness with a frame, for demand 1 (docs/FORMAT.md, "What is promised"). Let a memory hold what the call is lent (`call .pre x`: what the
-  -- parameters' types own and what the contract requires) and separately anything else, F. Then the run ends after some number n of steps, with a value v,
-  -- in a memory that holds what the contract says of v and the same F. x has the lifetimes, the arguments and their machine values.
+  -- Total correctness with a frame, for demand 1 (docs/FORMAT.md, "What is promised"). Let a memory satisfy the precondition of the call (`call .pre x`: what
+  -- the types of the parameters own and what the contract requires) and, separately, any assertion F. Then the run terminates after some number n of steps
+  -- with a value v, in a memory that satisfies the postcondition for v and the same F. x has the lifetimes, the arguments and their machine values.
   abbrev pub Ends : Type 2
   Ends = (x : call .Ghost) (σ : Memory) (F : Assertion) → Holds σ (call .pre x ∗ F)
       → ∥ ((n : ℕ) × (v : Val) × (σ′ : Memory) × (f .routine .step n (call .args x) σ ≡ done (v, σ′)) × Holds σ′ (call .post x v ∗ F)) ∥₁
@@ -83,7 +83,7 @@ module _ (f : Function) where
       adequate Closed.𝓤 Closed.H Closed.model (tables Closed.𝓤 Closed.H Closed.model running (λ _. f .routine)) anyName call
       (met Closed.𝓤 Closed.H Closed.model ghost₀ running)
 
-  -- So any other memory is as it was: a cell that is held beside what is lent holds the same after the call, and the machine loads it from there.
+  -- So all other memory is unchanged: a cell outside the memory of the call has the same contents after it, and the machine loads them from there.
   pub others-kept : Ends → (x : call .Ghost) (σ : Memory) (q : Share) (ty : Ty) (b o : ℕ) (w : Val) → Holds σ (call .pre x ∗ Cell q ty b o w)
       → ∥ ((n : ℕ) × (v : Val) × (σ′ : Memory) × (f .routine .step n (call .args x) σ ≡ done (v, σ′)) × (loadM σ′ ty b o ≡ some w)) ∥₁
   others-kept e x σ q ty b o w s =

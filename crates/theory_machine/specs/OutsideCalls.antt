@@ -1,4 +1,4 @@
--- What is shown of every outside call, whatever it returns: it terminates, it touches only the memory it was lent, and it has no precondition.
+-- What is proved of every public call, whatever it returns: it terminates, it accesses only the memory that it was given, and it has no precondition.
 -- docs/FORMAT.md: "What is promised".
 use mathlib.Core.List.{List, [], _∷_}
 use mathlib.Core.Path.{_≡_}
@@ -31,7 +31,7 @@ pub record Call : Type 2 where
   pub ends : Ends function
   pub asks-nothing : AsksNothing function
 
--- it is made of the theorem that the function meets its contract
+-- A call is made of the theorem that the function meets its contract.
 abbrev pub call : (f : Function)
     → ((𝓤 : URA Closed.Res) (H : Heap 𝓤) (𝓜 : Model 𝓤 H) (𝓖 : GhostRules 𝓤 H) (𝓡 : Running 𝓤 H 𝓜)
     → Meets 𝓤 H (𝓖 .A) (f .signature) (𝓡 .run (f .routine)) (f .clauses 𝓤 H (𝓖 .A) (𝓜 .mem) (𝓡 .run)))
@@ -51,8 +51,8 @@ abbrev pub Each : (Function → Type 2) → List Call → Type 2
 Each P [] = Unit {2}
 Each P (c ∷ cs) = P (c .function) × Each P cs
 
--- Total correctness of each call (`Ends`): from any memory that holds what is lent and, separately, anything else, the machine's run of the call ends, in
--- a memory that holds what the contract says of the returned value, with everything else unchanged.
+-- Total correctness of each call (`Ends`): from any memory that satisfies the precondition and, separately, any other assertion, the run of the call
+-- terminates, in a memory that satisfies the postcondition for the returned value, with everything else unchanged.
 pub each-ends : (cs : List Call) → Each Ends cs
 each-ends [] = tt
 each-ends (c ∷ cs) = (c .ends, each-ends cs)

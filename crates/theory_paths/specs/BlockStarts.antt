@@ -1,4 +1,4 @@
--- Where the blocks of a tree that passes questions 5 to 8 stand in the text: parents, children, starts and lengths.
+-- Where the blocks of a tree that passes questions 5 to 8 are in the text: parents, children, starts and lengths.
 use mathlib.Core.List.{List}
 use mathlib.Core.Bool.{true, false}
 use mathlib.Core.Path.{_≡_, _∙_}
@@ -93,7 +93,7 @@ module _ (t : List ℕ) where
     pub len-pos : (l i : ℕ) → l < H t → i < N t l → 0 < len t l i
     len-pos l i hl hi = len-reach l i 0 (full-pos t k l) (omega (arith, start-below l i hl hi))
 
-    -- and at a multiple of its level's b
+    -- A block starts at a multiple of its block length.
     pub start-multiple : (l i : ℕ) → l < H t → i < N t l → (q : ℕ) × (s t l i ≡ q * b t l)
     start-multiple zero i hl hi = (i, d .start0 i hi)
     start-multiple (suc l) i hl hi =

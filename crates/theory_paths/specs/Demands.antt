@@ -25,7 +25,7 @@ use Rattle.theory_paths.specs.Reads as reads
 
 -- Any tree that passes questions 5 to 7.
 module _ (t : List ℕ) (r : readable t ≡ 0) (p : ℕ) (q : Path) (e : pathOf t p ≡ some q) where
-  -- A path goes down a level at a time: a kept block hands on to a child, a pointing block to a kept block of its level first.
+  -- A path goes down one level at a time: from a kept block to a child, from a pointing block first to a kept block of its level.
   pub path-goes : Goes t (at.settings t .levels - 1) 0 (p / at.fullLength t 0) (p % at.fullLength t 0) (q .visits) (q .leaf)
   unfolding pathOf
   path-goes = goes t (at.settings t .levels - 1) 0 (p / at.fullLength t 0) (p % at.fullLength t 0) q e
@@ -34,7 +34,7 @@ module _ (t : List ℕ) (r : readable t ≡ 0) (p : ℕ) (q : Path) (e : pathOf 
   pub blocks-entered : length (q .visits) ≡ at.settings t .levels + pointers t (q .visits)
   blocks-entered = omega (arith, goes-length t path-goes, readable-facts t r .bounds .levels-low)
 
-  -- So it enters at most 2H - 1 blocks.
+  -- A path enters at most 2H - 1 blocks.
   pub path-short : length (q .visits) ≤ 2 * at.settings t .levels - 1
   path-short = omega (arith, goes-short t path-goes, readable-facts t r .bounds .levels-low)
 

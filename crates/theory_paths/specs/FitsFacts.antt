@@ -1,4 +1,4 @@
--- That a text fits a tree, as plain facts on its bytes.
+-- A text fits a tree, as plain facts on its bytes.
 use mathlib.Core.List.{List}
 use mathlib.Core.Bool.{Bool, true, false, not, _||_}
 use mathlib.Core.Path.{_≡_, refl, sym, ap, _∙_}
@@ -30,7 +30,7 @@ stretch-tabulate T p x f h same =
 module _ (T t : List ℕ) where
   pub record Fitting : Type 0 where
     pub size : length T ≡ at.textLength t
-    -- each last-level block's leaf bytes stand at its start
+    -- The leaf bytes of each block of the last level are the bytes of the text at its start.
     pub leaves : (i o : ℕ) → i < N t (H t - 1) → o < len t (H t - 1) i
         → getD T (s t (H t - 1) i + o) 0 ≡ at.leafByte t (at.link t (H t - 1) i + o)
     -- each pointing block's bytes are those of its occurrence

@@ -57,7 +57,7 @@ module _ (t : List ℕ) where
     pub kept : at.isKept t l (j + 1) ≡ true
     pub start-is : s l (j + 1) ≡ s l j + b l
 
-  -- a pointing block stands above the last level; its occurrence lies in kept blocks and ends at or before its own start
+  -- A pointing block is above the last level; its occurrence is in kept blocks and ends before the block starts, or where it starts.
   pub record Pointing (l i : ℕ) : Type 0 where
     pub kind-is : at.kind t l i ≡ 1
     pub above : l + 1 < H
@@ -141,7 +141,7 @@ module _ (t : List ℕ) where
       go (inl h) off = omega arith
       go (inr e) off = absurd (off e)
 
-  -- what is asked of one level
+  -- The conditions on one level.
   record Level (l : ℕ) : Type 0 where
     count : countBelowRight t l ≡ true
     blocks : (i : ℕ) → i < N l → blockRight t l i ≡ true

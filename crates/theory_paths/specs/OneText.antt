@@ -61,7 +61,7 @@ module _ (t : List ℕ) (k : Readable t) (d : Linked t) where
     points = λ l i o hl hi points ho. text-points l i o hl hi (points-not-kept t l i points) ho;
   }
 
-  -- and any text that fits is this one
+  -- Any text that fits is the text of the tree.
   pub fits-same : (T : List ℕ) → fits T t ≡ true → T ≡ textOf t
   fits-same T h =
       let low : 0 < H t = omega (arith, k .bounds .levels-low) in

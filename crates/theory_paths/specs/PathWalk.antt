@@ -21,7 +21,7 @@ module _ (t : List ℕ) (k : Readable t) (d : Linked t) where
     pub leaf : (i o : ℕ) → i < N t (H t - 1) → o < len t (H t - 1) i → P (at.link t (H t - 1) i + o) (s t (H t - 1) i + o)
     pub points : (l i o x : ℕ) → i < N t l → Pointing t l i → o < len t l i → P x (s t l (at.link t l i) + at.gap t l i + o) → P x (s t l i + o)
 
-  -- it then holds between the end of each path and its place
+  -- A relation that each step preserves holds between the end of each path and its place.
   module _ (P : ℕ → ℕ → Type 0) (c : Carries P) where
     abbrev pub Ends : Option Path → ℕ → Type 0
     Ends r x = (q : Path) × (r ≡ some q) × P (q .leaf) x
@@ -71,7 +71,7 @@ module _ (t : List ℕ) (k : Readable t) (d : Linked t) where
         go (inl kept) rest = walk-kept below l i o (omega arith) hi kept ho rest
         go (inr un) rest = walk-pointing below l i o hi un (d .points l i (omega arith) hi un) ho rest
 
-    -- of a place of the text
+    -- The path of a place of the text.
     pub walk-text : (p : ℕ) → p < at.textLength t → Ends (pathOf t p) p
     unfolding pathOf
     walk-text p hp =

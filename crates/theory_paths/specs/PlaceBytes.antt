@@ -56,7 +56,7 @@ module _ (t : List ℕ) (r : readable t ≡ 0) (p : ℕ) (low : p < at.textLengt
   unfolding byteSays
   byte-path = rw (r, lt-ltb p (at.textLength t) low)
 
-  -- it is answered only where the path holds
+  -- Byte is not refused only if there is a path.
   pub path-there : byteSays t p .number ≡ 0 → (q : Path) × (pathOf t p ≡ some q)
   path-there z = go (pathOf t p) refl (ap (λ (s : Said). s .number) (sym byte-path) ∙ z)
     where

@@ -59,7 +59,7 @@ module _ (t : List ℕ) where
         rw e (reach-next l i o a j
         hl₁ ho₁ (p .2) (reach l a (j * b t (l + 1) + o) (omega arith) (p .2 .below) (in-parent t k d l i a j o hl₁ (p .2) ho₁ .inside)))
 
-    -- so the byte at the path's end is the one that the block gives
+    -- The byte at the end of the path is the one that the block gives.
     pub reach-leaf : (l i o : ℕ) → l < H t → i < N t l → o < len t l i → leafOf t (pathOf t (s t l i + o)) ≡ leafOf t (pathFrom t (H t - 1 - l) l i o)
     reach-leaf l i o hl hi ho =
         let r = reach l i o hl hi ho in

@@ -1,4 +1,4 @@
--- Byte and run answer with, and copying by paths leaves, the bytes of the tree's text.
+-- Byte and run return bytes of the tree's text, and copying by paths writes them.
 use mathlib.Core.List.{List, _++_}
 use mathlib.Core.Option.{some}
 use mathlib.Core.Bool.{true}

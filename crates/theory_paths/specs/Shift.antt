@@ -26,7 +26,7 @@ step-div o d c h = let e : o + d ≡ o / c * c + (o % c + d) = omega (arith, div
 pub step-mod : (o d c : ℕ) → o % c + d < c → (o + d) % c ≡ o % c + d
 step-mod o d c h = let e : o + d ≡ o / c * c + (o % c + d) = omega (arith, div-add-mod' o c) in rw e (digits-mod (o / c) h)
 
--- the same blocks, each place in them d further on
+-- The same blocks, with each place d further to the right.
 abbrev pub further : ℕ → List Visit → List Visit
 further d [] = []
 further d (v ∷ vs) = visit (v .level) (v .block) (v .place + d) ∷ further d vs
@@ -60,7 +60,7 @@ module _ (t : List ℕ) where
   within-left [] most d w h = h
   within-left (v ∷ vs) most d w h = within-left vs (min most (b t (v .level) - v .place)) d (w .1) (omega (arith, w .0))
 
-  -- The first block entered is the one asked.
+  -- The first block entered is the given one.
   pub goes-first : {below l i o x : ℕ} {vs : List Visit} (d : ℕ) → Goes t below l i o vs x → Within d vs → o + d < b t l
   goes-first d (ends kept h) w = w .0
   goes-first d (down kept g) w = w .0
@@ -82,7 +82,7 @@ module _ (t : List ℕ) where
           let f = target-second t l i (o + d) (omega arith) in
           (f .0 ∙ sym (e .0), omega (arith, e .1, f .1))
 
-  -- the same blocks are entered, and the path's end moves with the place
+  -- The same blocks are entered, and the end of the path moves with the place.
   pub shift : {below l i o x : ℕ} {vs : List Visit} (d : ℕ) → Goes t below l i o vs x → Within d vs → x + d < at.leafCount t
       → Goes t below l i (o + d) (further d vs) (x + d)
   shift {l = l} {i = i} {o = o} d (ends kept h) w fits = rw (add-assoc (at.link t l i) o d) (ends {o = o + d} kept (omega arith))

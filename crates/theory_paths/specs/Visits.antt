@@ -118,7 +118,7 @@ module _ (t : List ℕ) where
   pub goes-long : {below l i o x : ℕ} {vs : List Visit} → Goes below l i o vs x → below + 1 ≤ length vs
   goes-long g = omega (arith, goes-length g)
 
-  -- so a path has entered a block
+  -- A path enters at least one block.
   pub path-long : (p : ℕ) (q : Path) → pathOf t p ≡ some q → 1 ≤ length (q .visits)
   unfolding pathOf
   path-long p q e = omega (arith, goes-long (goes (at.settings t .levels - 1) 0 (p / at.fullLength t 0) (p % at.fullLength t 0) q e))

@@ -1,4 +1,4 @@
--- The block tree of a text in layout v, 1 or 2. `Blocks` defines it for the layout that is built; `same-built` says that both agree there.
+-- The block tree of a text in layout v, 1 or 2. `Blocks` defines it for the layout that is built; `same-built` shows that both agree for it.
 -- docs/FORMAT.md: "Blocks", "Layout".
 use mathlib.Core.List.{List, [], _∷_, _++_}
 use mathlib.Core.Bool.{cond}

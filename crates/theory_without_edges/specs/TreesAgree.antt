@@ -1,5 +1,5 @@
--- Two trees agree if they differ at most in layout, offsets and edges. If the check accepts one, the other passes question 8, the same text fits it, and
--- its counts are true of that text.
+-- Two trees agree if they differ at most in layout, offsets and edges. If the check accepts one, the other passes question 8, the same text fits it, and its
+-- counts are right for that text.
 use mathlib.Core.List.{List}
 use mathlib.Core.Bool.{true, false, cond}
 use mathlib.Core.Logic.{_⊎_, inl, inr}

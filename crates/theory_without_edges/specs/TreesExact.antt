@@ -1,4 +1,4 @@
--- Of two trees that agree (`TreesAgree`), both or neither pass question 8, and likewise question 9 of the counts.
+-- If two trees agree (`TreesAgree`), both or neither pass question 8, and question 9 for counts.
 use mathlib.Core.List.{List}
 use mathlib.Core.Bool.{Bool, true, false, _&&_}
 use mathlib.Core.Path.{_≡_, refl, sym, _∙_}

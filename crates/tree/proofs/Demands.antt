@@ -37,7 +37,8 @@ abbrev pub Checked : (κs : Lfts 1) → RefT (List ℕ) → ℕ → Type 0
 Checked κs t r = check-reads.Post κs (t, tt) r (t, tt)
 
 module _ (κs : Lfts 1) (t : RefT (List ℕ)) (r : ℕ) (c : Checked κs t r) where
-  -- Demand 3, first part: the check returns 0 if and only if questions 5 to 8 pass and a text fits of which the counts, and in layout 2 the edges, are true.
+  -- Demand 3, first part: the check returns 0 if and only if questions 5 to 8 pass and some text fits whose counts, and in layout 2 edges, are those of the
+  -- tree.
   pub check-accepts : (r ≡ 0) ↔ ((T : List ℕ) × StandsFor (now t) T)
   check-accepts = (λ e. accepts (now t) .0 (sym c ∙ e), λ s. c ∙ accepts (now t) .1 s)
 
@@ -94,7 +95,7 @@ module _ (κs : Lfts 3) (text : RefT (List ℕ)) (leaf arity levels : ℕ) (coun
   pub build-accepted : verdict tree ≡ 0
   build-accepted = rw build-writes (built-verdict S T (taken S T before passed))
 
-  -- Its text is the builder's input.
+  -- The text of the built tree is the input.
   pub build-text : textOf tree ≡ T
   build-text = rw build-writes (built-text S T (taken S T before passed))
 

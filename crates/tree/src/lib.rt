@@ -1,4 +1,4 @@
-// The tree layer's outside calls: build and build_scanned write the block tree of a text, check asks any bytes lent as a tree.
+// The public calls on whole trees: build and build_scanned write the block tree of a text, check accepts or refuses any bytes as a tree.
 pub use build_by_scan::Scanned;
 pub use build_by_scan::build_scanned;
 pub use build_by_scan::scan_words;
@@ -13,10 +13,10 @@ ghost use mathlib.Core.Path.{_≡_};
 ghost use Rattle.format.specs.Verdict.{verdict};
 ghost use Rattle.layout.specs.HeaderSays.{HeaderOf};
 
-// The check's answer for a tree that no question refuses.
+// The result of the check for a valid tree.
 pub const ACCEPTED: u32 = 0;
 
-// Questions 5 to 9, asked of any bytes in that order: 0 where all hold, else the number of the first that fails.
+// Checks any bytes as a tree: 0 if questions 5 to 9 all pass, else the number of the first that fails.
 pub fn check(t: &[u8]) -> u32
     ensures { λ r. ⌜ r ≡ verdict (now (t .entry)) ⌝ }
 {

@@ -177,7 +177,7 @@ module _ (t : List ℕ) where
           rw (y .3) (rest (at.link t l j + p / b t (l + 1)) (p % b t (l + 1)) (y .0) (y .1))
       go rest (inr x) = absurd (let z : none ≡ some a = sym (above-off t n l i o (x .0) (x .1)) ∙ e in let y : _≡_ {A = ℕ} 0 1 = cc in omega arith)
 
-  -- the same of a place of the text
+  -- The same for a place of the text.
   module _ (k : Readable t) where
     pub path-of-above : (p : ℕ) → pathOf t p ≡ throughLast t (aboveOf t p)
     unfolding pathOf aboveOf
@@ -196,7 +196,7 @@ module _ (t : List ℕ) where
     unfolding aboveOf
     above-place p a e = above-small (full-pos t k) (H t - 1) 0 (H t - 1) (p / b t 0) (p % b t 0) (omega arith) (mod-lt p (full-pos t k 0)) a e
 
-    -- its block is in the table
+    -- The block at the end is in the table.
     pub above-block : (p : ℕ) (a : Above) → aboveOf t p ≡ some a → a .block < N t (H t - 1)
     unfolding aboveOf
     above-block p a e = above-table (H t - 1) 0 (H t - 1) (p / b t 0) (p % b t 0) (omega arith) a e

@@ -192,7 +192,7 @@ module _ (t : List ℕ) (size level b i o entered : ℕ) (k : MayPoint t size le
     pub may-point : x ≡ Points j p → Pointing t size level b i o
     may-point e = record { on = k .on; place-in = k .place-in; points = next-points t level i o x x-is j p e .1 }
 
--- where a block above the last level hands a place
+-- The kept block for a place of a block above the last level.
 same-landing : (j : BlockNumber) (p : BlockPlace) (on : Trail) (i o : ℕ) (trail : Trail) → j .0 ≡ i → p .0 ≡ o → on ≡ trail
     → landed.At j p on ≡ landed.At (record { 0 = i }) (record { 0 = o }) trail
 same-landing j p on i o trail e f g = rw (← e, ← f, g)

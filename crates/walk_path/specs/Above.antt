@@ -1,4 +1,4 @@
--- A path without its last step: the blocks entered above the last level, and where on the last level it arrives.
+-- A path without its last step: the blocks entered above the last level, and where it reaches the last level.
 -- docs/FORMAT.md: "The path of a place".
 use mathlib.Core.List.{List, [], _++_}
 use mathlib.Core.Option.{Option, none, some}
@@ -8,24 +8,24 @@ use lib.Dec.{ltb}
 use Rattle.format.specs.Layout as at
 use Rattle.format.specs.Path.{Path, Visit, entered, landBlock, landPlace, landVisits, lands, pathFrom}
 
--- the blocks entered, first to last; then a block of the last level's table, of which nothing was read, and the place in it
+-- The blocks entered, first to last; then a block of the last level, whose record has not been read, and the place in it.
 pub record Above : Type 0 where
   pub visits : List Visit
   pub block : ℕ
   pub place : ℕ
 
--- with visits in front
+-- The path with visits prepended.
 abbrev pub enteredAbove : List Visit → Option Above → Option Above
 enteredAbove vs none = none
 enteredAbove vs (some a) = some (record { visits = vs ++ a .visits; block = a .block; place = a .place })
 
--- what a test lets through
+-- The path if a test holds, else none.
 abbrev pub providedAbove : Bool → Option Above → Option Above
 providedAbove true a = a
 providedAbove false a = none
 
 module _ (t : List ℕ) where
-  -- from place o of block i of level l, which has `below` levels under it
+  -- The path from place o of block i of level l, with `below` levels under it.
   unfoldable pub aboveFrom : ℕ → ℕ → ℕ → ℕ → Option Above
   aboveFrom zero l i o = providedAbove (ltb i (at.levelCount t l)) (some (record { visits = []; block = i; place = o }))
   aboveFrom (suc below) l i o =
@@ -34,11 +34,11 @@ module _ (t : List ℕ) where
       let child = at.fullLength t (l + 1) in
       providedAbove (lands t l i o) (enteredAbove (landVisits t l i o) (aboveFrom below (l + 1) (at.link t l j + p / child) (p % child)))
 
-  -- from a place of the text
+  -- The path of a place of the text.
   unfoldable pub aboveOf : ℕ → Option Above
   aboveOf p = aboveFrom (at.settings t .levels - 1) 0 (p / at.fullLength t 0) (p % at.fullLength t 0)
 
-  -- the last step
+  -- The path with its last step.
   unfoldable pub throughLast : Option Above → Option Path
   throughLast none = none
   throughLast (some a) = entered (a .visits) (pathFrom t 0 (at.settings t .levels - 1) (a .block) (a .place))

@@ -1,4 +1,4 @@
--- What a walk down a path gives, and what is asked where it stands.
+-- The result of a walk down a path, and the preconditions of its steps.
 use mathlib.Core.List.{List}
 use mathlib.Core.Option.{Option, none, some}
 use mathlib.Core.Bool.{true, cond, _&&_}
@@ -17,11 +17,11 @@ use Rattle.walk_path.specs.declared.Landing.the-variants as landed
 use Rattle.walk_steps.specs.Steps.{OnLevel}
 use Rattle.walk_path.specs.Above.{Above}
 
--- one more block entered, with so many bytes left in it
+-- The state after one more block with `here` bytes left in it.
 unfoldable pub onward : Trail → ℕ → Trail
 onward trail here = record { entered = trail .entered + 1; left = min (trail .left) here }
 
--- a path walked to the last level: the block and the place there, the blocks entered above counted, and what is left in all of them
+-- The result of a walk: the block and the place on the last level, the number of blocks entered above it, and the bytes left in each of them, at the least.
 unfoldable pub walked : List ℕ → Trail → Option Above → Walked
 walked t trail none = Broken
 walked t trail (some a) = At (record {
@@ -30,7 +30,8 @@ walked t trail (some a) = At (record {
   trail = record { entered = trail .entered + length (a .visits); left = leftOver t (a .visits) (trail .left) };
 })
 
--- what a step's word says: the block, 2^28 times the place, 2^36 times the blocks entered, 2^40 times what is left; all ones where the path breaks
+-- The result that the word of a step represents: the block + 2^28 × the place + 2^36 × the blocks entered + 2^40 × the bytes left; all ones if the path
+-- breaks.
 unfoldable pub walkedIn : ℕ → Walked
 walkedIn w =
     cond (eqb w 18446744073709551615) Broken
@@ -40,21 +41,21 @@ walkedIn w =
       trail = record { entered = w / 68719476736 % 16; left = w / 1099511627776 };
     }))
 
--- what a block above the last level hands a place on to: the block itself if it is kept, else its kept target, with one block entered
+-- The kept block for a place of a block above the last level: the block itself if it is kept, else its kept target, with one more block entered.
 unfoldable pub landingAt : List ℕ → Trail → ℕ → ℕ → ℕ → Landing
 landingAt t trail l i o =
     cond (keptBlock t l i) (landed.At (record { 0 = i }) (record { 0 = o }) trail)
     (cond (pointingBlock t l i && keptBlock t l (targetBlock t l i o))
     (landed.At (record { 0 = targetBlock t l i o }) (record { 0 = targetPlace t l i o }) (onward trail (at.fullLength t l - o))) landed.Off)
 
--- a kept block of a level, a place in it, and the blocks entered before it: two on each level above, and the one that points to it
+-- A kept block of a level, a place in it, and the number of blocks entered before it: at most two on each level above, and the one that points to it.
 pub record KeptAt (t : List ℕ) (size level b i o entered : ℕ) : Type 0 where
   pub on : OnLevel t size level b
   pub place-in : o < b
   pub kept : keptBlock t level i ≡ true
   pub few : entered ≤ 2 * level + 1
 
--- a block of a level at which a pointer may still be followed, a place in it, and the blocks entered before it
+-- A block of a level at which a pointer may still be followed, a place in it, and the number of blocks entered before it.
 pub record MayPoint (t : List ℕ) (size level b i o entered : ℕ) : Type 0 where
   pub on : OnLevel t size level b
   pub block-in : i < at.levelCount t level

@@ -16,13 +16,13 @@ ghost use Rattle.format.specs.Settings.{maxText, maxLevels};
 ghost use Rattle.walk_path.specs.Above.{aboveFrom, aboveOf};
 ghost use Rattle.walk_path.specs.Walk.{KeptAt, MayPoint, walked, walkedIn, onward, landingAt};
 
-// What is carried down a path: how many blocks were entered, and the bytes left from the place on in every one of them.
+// What is carried down a path: the number of blocks entered, and the bytes left after the place in each of them, at the least.
 pub struct Trail {
     pub entered: u32,
     pub left: u32,
 }
 
-// Where a path arrives on the last level, and what was carried there. Nothing of this block is read yet.
+// Where a path ends on the last level, with what was carried there. The record of this block has not been read.
 pub struct Reached {
     pub block: BlockNumber,
     pub place: BlockPlace,
@@ -34,14 +34,14 @@ pub enum Walked {
     Broken,
 }
 
-// The kept block that holds a place, the place in it, and what is carried there.
+// The kept block that contains a place, the place in it, and what is carried there.
 pub enum Landing {
     At(BlockNumber, BlockPlace, Trail),
     Off,
 }
 
 impl Trail {
-    // With one more block entered, at a place in it; b is its level's block length.
+    // After one more block is entered at a place; b is the block length of its level.
     pub fn enter(self, b: u32, place: BlockPlace) -> Trail
         requires { ⌜ (self .entered ≤ 2 * maxLevels) × (place .0 < b) ⌝ }
         ensures { λ r. ⌜ r ≡ onward self (b - place .0) ⌝ }
@@ -56,7 +56,7 @@ impl Trail {
 // The word of a path that breaks.
 const BROKEN: u64 = 18446744073709551615;
 
-// A walk in one word: the block, 2^28 times the place, 2^36 times the blocks entered, and 2^40 times what is left.
+// The result of a walk in one word: the block + 2^28 × the place + 2^36 × the blocks entered + 2^40 × the bytes left.
 fn packed(block: BlockNumber, place: BlockPlace, trail: Trail) -> u64
     requires { ⌜ (block .0 < 268435456) × (place .0 < 256) × (trail .entered < 16) × (trail .left ≤ maxText) ⌝ }
     ensures { λ r. ⌜ walkedIn r ≡ Walked.At (record { block = block; place = place; trail = trail }) ⌝ }
@@ -65,7 +65,7 @@ fn packed(block: BlockNumber, place: BlockPlace, trail: Trail) -> u64
     block.0 as u64 + 268435456 * (place.0 as u64 + 256 * carried)
 }
 
-// What such a word says.
+// The walk that such a word represents.
 fn unpacked(word: u64) -> Walked
     ensures { λ r. ⌜ r ≡ walkedIn word ⌝ }
 {
@@ -82,7 +82,7 @@ fn unpacked(word: u64) -> Walked
     })
 }
 
-// Where a block above the last level hands a place: itself if it is kept, else the kept block that it points to.
+// The kept block for a place of a block above the last level: the block itself if it is kept, else the one that it points to.
 fn to_kept(
     t: &[u8],
     size: u32,
@@ -109,7 +109,7 @@ fn to_kept(
     }
 }
 
-// From a kept block above the last level, which hands the place to a child. On the last level, where no block points, the walk ends.
+// From a kept block above the last level to the child that contains the place. The walk ends on the last level, where no block points.
 fn kept_step(
     t: &[u8],
     size: u32,
@@ -163,7 +163,7 @@ fn pointing_step(
     kept_step(tree, size, on, i, p, further)
 }
 
-// The path of a place of the text down to the last level; what is left of the text is left at the start.
+// The path of a place of the text down to the last level. The bytes left at its start are those of the text.
 pub fn walk(t: &[u8], h: Header, at: TextPlace) -> Walked
     requires { ⌜ (HeaderOf (now t) h) × (at .0 < h .«text_length») ⌝ }
     ensures { λ r. ⌜ r ≡ walked (now (t .entry)) (record { entered = 0; left = h .«text_length» - at .0 }) (aboveOf (now (t .entry)) (at .0)) ⌝ }

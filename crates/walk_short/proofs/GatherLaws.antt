@@ -143,7 +143,7 @@ pub split : (b p len : ℕ) (r : Bool) → r ≡ (ltb p b && ltb b (p + len)) �
 split b p len r e f =
     (ltb-true p b (and-left (ltb p b) (ltb b (p + len)) (sym e ∙ f)), ltb-true b (p + len) (and-right (ltb p b) (ltb b (p + len)) (sym e ∙ f)))
 
--- Where a pointing block hands a span.
+-- The next step of a span from a pointing block.
 module _ (t : List ℕ) (size level b c i o len : ℕ) (k : Pointing t size level b i o) (fits : o + len ≤ b) (c-is : c ≡ at.fullLength t (level + 1))
     (link gap : ℕ) (link-is : link ≡ at.link t level i) (gap-is : gap ≡ at.gap t level i) where
   here : gap + o < b → (targetBlock t level i o ≡ at.link t level i) × (targetPlace t level i o ≡ gap + o)
@@ -158,7 +158,7 @@ module _ (t : List ℕ) (size level b c i o len : ℕ) (k : Pointing t size leve
       let wide : at.fullLength t level < targetPlace t level i o + len = omega (arith, e .1, k .on .b-is) in
       rw (lt-leb (targetPlace t level i o + len) (at.fullLength t level) wide, e .0, e .1, link-is)
 
-  -- it lies in the target
+  -- The span is inside the target.
   module _ (gap-low : gap < b) (inside : gap + o < b → gap + o + len ≤ b) where
     in-target : targetPlace t level i o + len ≤ at.fullLength t level
     in-target = go (lt-or-ge (gap + o) b)

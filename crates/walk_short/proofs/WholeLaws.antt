@@ -277,7 +277,7 @@ module _ (t : List ℕ) (h : Header) (k : HeaderOf t h) where
     few = omega arith;
   }
 
-  -- what was found stands in the tree
+  -- The bytes that were found are in the tree.
   pub within-tree : at.layout t ≡ 2
       → (len : ℕ) → 0 < len → len ≤ h .settings .leaf → (below l i o : ℕ) → l + below + 1 ≡ at.settings t .levels → o < at.fullLength t l
       → (r : Gathered) (n : ℕ) → r ≡ gathered n (shortFrom t below l i o len) → Within t len r

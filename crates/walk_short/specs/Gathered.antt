@@ -1,4 +1,4 @@
--- What the walk of a short span answers, and what is asked where it stands.
+-- The result of the walk of a short span, and the preconditions of its steps.
 use mathlib.Core.List.{List}
 use mathlib.Core.Option.{Option, none, some}
 use mathlib.Core.Bool.{cond}
@@ -14,17 +14,17 @@ use Rattle.walk_short.specs.declared.gather.Gathered.the-variants.{At, B
 use Rattle.walk_short.specs.declared.gather.Land.{Land}
 use Rattle.walk_short.specs.declared.gather.Land.the-variants as land
 
--- what was found, with so many blocks entered before
+-- The result, with the number of blocks entered before.
 unfoldable pub gathered : ℕ → Option format.Short → Gathered
 gathered entered none = Broken
 gathered entered (some q) = At (record { entered = entered + length (q .visits); from = q .from; size = q .size; next = q .next })
 
 module _ (t : List ℕ) where
-  -- to the children, of c bytes, of kept block i
+  -- The step from kept block i to its children, of c bytes each.
   unfoldable pub downTo : ℕ → ℕ → ℕ → ℕ → ℕ → Land
   downTo l c i o n = land.Down (record { 0 = at.link t l i }) (o / c) (record { 0 = o % c }) n
 
-  -- from pointing block i
+  -- The step from pointing block i.
   unfoldable pub pointedTo : ℕ → ℕ → ℕ → ℕ → Land
   pointedTo l i o len =
       let j = targetBlock t l i o in
@@ -36,21 +36,21 @@ module _ (t : List ℕ) where
   landing l i o len =
       cond (keptBlock t l i) (downTo l (at.fullLength t (l + 1)) i o 1) (cond (pointingBlock t l i) (pointedTo l i o len) land.Off)
 
-  -- a block of a layout 2 tree whose end a short span crosses, fewer than m bytes before it
+  -- A short span crosses the end of a block of a layout 2 tree and starts fewer than m bytes before it.
   pub record Crossing (size level b o entered : ℕ) : Type 0 where
     pub on : OnLevel t size level b
     pub place-in : o < b
     pub near : b ≤ o + at.settings t .leaf
     pub few : entered ≤ 2 * level + 1
 
-  -- a place in a block of a layout 2 tree, and the blocks entered before it
+  -- A place in a block of a layout 2 tree, and the number of blocks entered before it.
   pub record Walking (size level b o len entered : ℕ) : Type 0 where
     pub on : OnLevel t size level b
     pub place-in : o < b
     pub short : len ≤ at.settings t .leaf
     pub few : entered ≤ 2 * level
 
--- the bytes that were found stand in the tree
+-- The bytes that were found are in the tree.
 abbrev pub Within : List ℕ → ℕ → Gathered → Type 0
 Within t len (At q) = (q .size ≤ len) × (q .from + q .size ≤ length t) × (q .next + (len - q .size) ≤ length t)
 Within t len Broken = Unit {0}

@@ -24,7 +24,7 @@ ghost use Rattle.format.specs.LayoutLaws.{Readable};
 ghost use Rattle.walk_steps.specs.Steps.{OnLevel, Pointing};
 ghost use Rattle.walk_short.specs.Gathered.{gathered, downTo, pointedTo, landing, Crossing, Walking, Within};
 
-// Where the bytes of a span stand in the tree: `size` of them at `from`, the others at `next`; and how many blocks were entered.
+// Where the bytes of a span are in the tree: `size` of them from `from` on, the others from `next` on; and the number of blocks entered.
 pub struct Parts {
     pub entered: u32,
     pub from: usize,
@@ -37,22 +37,22 @@ pub enum Gathered {
     Broken,
 }
 
-// Where a span lands on a level: a kept block holds it, which hands it to the block some steps after its first child, with so
-// many blocks entered on the way; or it goes over the end of a block.
+// The next step of a span on a level: a kept block contains it, and the span continues in the block some steps after its first child, with a number of blocks
+// entered; or the span crosses the end of a block.
 pub enum Land {
     Down(BlockNumber, u32, BlockPlace, u32),
     Over(BlockNumber, BlockPlace),
     Off,
 }
 
-// A span's bytes: the place of the first in a block, and how many they are.
+// A span: the place of its first byte in a block, and its length.
 pub struct Stretch {
     pub place: BlockPlace,
     pub len: u32,
 }
 
-// A span over the end of a block: the end of its last edge, and the beginning of the next block's first one. The block is
-// taken as full, and no kind is read.
+// A span that crosses the end of a block: the end of the block's last edge, and the beginning of the next block's first edge. The block counts as full, and
+// no kind is read.
 fn over(t: &[u8], size: u32, on: On, ahead: Ahead, place: BlockPlace, entered: u32) -> Gathered
     requires { ⌜ Crossing (now t) size (on .level) (on .b) (place .0) entered ⌝ }
     ensures { λ r. ⌜ r ≡ gathered entered (byEdges (now (t .entry)) (on .level) (ahead .first .0 + ahead .steps) (place .0)) ⌝ }
@@ -74,7 +74,7 @@ fn over(t: &[u8], size: u32, on: On, ahead: Ahead, place: BlockPlace, entered: u
     })
 }
 
-// A span in a kept block of the last level: leaf bytes.
+// A span in a kept block of the last level: its leaf bytes.
 fn leaf_part(
     t: &[u8],
     size: u32,
@@ -120,7 +120,7 @@ fn last(t: &[u8], size: u32, on: On, ahead: Ahead, span: Stretch, entered: u32) 
     }
 }
 
-// From a kept block that holds a span to its children, of c bytes.
+// From a kept block that contains a span to its children, of c bytes each.
 fn into(t: &[u8], size: u32, level: u32, c: u32, spot: Spot, entered: u32) -> Land
     requires { ⌜ (Readable (now t)) × (size ≡ at.recordSize (now t)) × (level < at.settings (now t) .levels)
         × (spot .block .0 < at.levelCount (now t) level) × (0 < c) ⌝ }
@@ -132,7 +132,7 @@ fn into(t: &[u8], size: u32, level: u32, c: u32, spot: Spot, entered: u32) -> La
     Land::Down(BlockNumber(link.0), part.blocks, rest, entered)
 }
 
-// Whether the end of a block of b bytes falls between the first and the last of some bytes.
+// Whether the end of a block of b bytes is between the first and the last byte of a span.
 fn splits(b: u32, place: BlockPlace, len: u32) -> bool
     requires { ⌜ (b ≤ maxText) × (len ≤ maxText) ⌝ }
     ensures { λ r. ⌜ r ≡ (ltb (place .0) b && ltb b (place .0 + len)) ⌝ }
@@ -143,7 +143,7 @@ fn splits(b: u32, place: BlockPlace, len: u32) -> bool
     b < place.0 + len
 }
 
-// Where a pointing block hands a span: to a kept block that holds it, or over the border of its two targets.
+// The next step from a pointing block: to a kept block that contains the span, or across the border of its two targets.
 fn pointed(t: &[u8], size: u32, on: On, c: u32, block: BlockNumber, span: Stretch) -> Land
     requires { ⌜ (Pointing (now t) size (on .level) (on .b) (block .0) (span .place .0)) × (span .place .0 + span .len ≤ on .b)
         × (c ≡ at.fullLength (now t) (on .level + 1)) ⌝ }
@@ -163,7 +163,7 @@ fn pointed(t: &[u8], size: u32, on: On, c: u32, block: BlockNumber, span: Stretc
     }
 }
 
-// Where a span that lies in a block above the last level lands; c is the length of the block's children.
+// The next step of a span inside a block above the last level; c is the block length of the children.
 fn settle(t: &[u8], size: u32, on: On, c: u32, ahead: Ahead, span: Stretch) -> Land
     requires { ⌜ (OnLevel (now t) size (on .level) (on .b)) × (span .place .0 < on .b) × (span .place .0 + span .len ≤ on .b)
         × (c ≡ at.fullLength (now t) (on .level + 1)) ⌝ }

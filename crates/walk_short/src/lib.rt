@@ -1,2 +1,2 @@
-// The walk of a short span, which edges give where it crosses a border.
+// The walk of a short span; edges give the bytes where it crosses a border.
 pub mod gather;

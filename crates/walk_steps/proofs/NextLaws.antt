@@ -1,4 +1,4 @@
--- What a step arrives at, and the levels that it goes between.
+-- The block that a step reaches, and the levels between which it goes.
 use mathlib.Core.List.{List}
 use mathlib.Core.Bool.{Bool, true, false, cond, _&&_}
 use mathlib.Core.Path.{_≡_, refl, sym, ap, _∙_}

@@ -68,7 +68,7 @@ module _ (t : List ℕ) (size level b i o k : ℕ) (there : InTable t size level
 pub first-there : (t : List ℕ) (size b p : ℕ) → OnLevel t size 0 b → p < at.textLength t → p / b < at.levelCount t 0
 first-there t size b p on small = rw (on .b-is) (level0-holds t (on .facts) p small)
 
--- what it says of a block that it is kept, or that it points
+-- What it means that a block is kept, or that it points.
 module _ (t : List ℕ) (level i : ℕ) where
   pub kept-in : keptBlock t level i ≡ true → i < at.levelCount t level
   unfolding keptBlock
@@ -136,7 +136,7 @@ rest-is x b q e =
     let f : q * b ≡ x / b * b = ap (λ (y : ℕ). y * b) e in
     (omega arith, omega arith)
 
--- the child that a place is handed to
+-- The child that contains a place.
 module _ (t : List ℕ) (l k link count o b : ℕ)
     (x : Part) (link-is : link ≡ k) (count-is : count ≡ at.levelCount t l) (x-is : x ≡ record { blocks = o / b; place = record { 0 = o % b } }) where
   blocks-are : x .blocks ≡ o / b
@@ -154,7 +154,7 @@ module _ (t : List ℕ) (l k link count o b : ℕ)
       let z : k + o / b < at.levelCount t l = omega (arith, link-is, blocks-are, count-is) in
       rw (lt-ltb (k + o / b) (at.levelCount t l) z, f, link-is, blocks-are)
 
--- the kept block that a place is handed to
+-- The kept block that a place refers to.
 module _ (t : List ℕ) (l i o : ℕ) where
   pub land-last : at.settings t .levels ≤ l + 1 → arrived.Off ≡ landAt t l i o
   unfolding landAt
@@ -199,7 +199,7 @@ shapes t x e = record {
   count-is = ap (λ (y : Shape). y .«leaf_count») e;
 }
 
--- read from the same bytes, lent on
+-- The same bytes, reborrowed.
 pub shapes-on : (t u : List ℕ) (x : Shape) → u ≡ t → x ≡ shapeOf u → Shapes t x
 shapes-on t u x e f = shapes t x (f ∙ ap shapeOf e)
 

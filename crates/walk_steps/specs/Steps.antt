@@ -1,4 +1,4 @@
--- What a step of a path gives, and what is asked where it is made.
+-- The result of a step of a path, and its preconditions.
 use mathlib.Core.List.{List}
 use mathlib.Core.Bool.{Bool, true, cond, _&&_}
 use mathlib.Core.Path.{_≡_}
@@ -13,26 +13,26 @@ use Rattle.walk_steps.specs.declared.Next.the-variants.{Kept, Points, Of
 use Rattle.walk_steps.specs.declared.Arrived.{Arrived}
 use Rattle.walk_steps.specs.declared.Arrived.the-variants as arrived
 
--- a block, if a test lets it through
+-- The block if a test holds, else none.
 abbrev pub arriving : Bool → ℕ → ℕ → Arrived
 arriving x i o = cond x (arrived.At (record { 0 = i }) (record { 0 = o })) arrived.Off
 
 module _ (t : List ℕ) where
-  -- block i of level l, arrived at with place o
+  -- The kind of block i of level l, reached at place o.
   unfoldable pub nextAt : ℕ → ℕ → ℕ → Next
   nextAt l i o =
       cond (keptBlock t l i) (Kept (record { 0 = i }) (record { 0 = o }))
       (cond (pointingBlock t l i) (Points (record { 0 = i }) (record { 0 = o })) Off)
 
-  -- the child i of level l that a kept block hands place o to
+  -- Child i of level l, which contains place o of a kept block.
   unfoldable pub childAt : ℕ → ℕ → ℕ → Arrived
   childAt l i o = arriving (ltb i (at.levelCount t l)) i o
 
-  -- the kept block that a pointing block i of level l hands place o to
+  -- The kept block that place o of pointing block i of level l refers to.
   unfoldable pub landAt : ℕ → ℕ → ℕ → Arrived
   landAt l i o = arriving (ltb (l + 1) (at.settings t .levels) && keptBlock t l (targetBlock t l i o)) (targetBlock t l i o) (targetPlace t l i o)
 
-  -- what a step needs of the header
+  -- The fields of the header that a step needs.
   unfoldable pub shapeOf : Shape
   unfolding at.textLength at.settings at.leafOffset at.leafCount
   shapeOf = record {
@@ -43,19 +43,19 @@ module _ (t : List ℕ) where
     «leaf_count» = at.leafCount t;
   }
 
-  -- a level of a tree that passes questions 5 to 7, with the bytes of its records and its block length
+  -- A level of a tree that passes questions 5 to 7, with the size of its records and its block length b.
   pub record OnLevel (size level b : ℕ) : Type 0 where
     pub facts : Readable t
     pub size-is : size ≡ at.recordSize t
     pub level-in : level < at.settings t .levels
     pub b-is : b ≡ at.fullLength t level
 
-  -- a block of that level
+  -- A block of that level.
   pub record InTable (size level b i : ℕ) : Type 0 where
     pub on : OnLevel size level b
     pub block-in : i < at.levelCount t level
 
-  -- a pointing block of that level, and a place in it
+  -- A pointing block of that level, and a place in it.
   pub record Pointing (size level b i o : ℕ) : Type 0 where
     pub on : OnLevel size level b
     pub place-in : o < b

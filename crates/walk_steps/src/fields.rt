@@ -1,4 +1,4 @@
-// What a step needs of the header, read from the tree itself, so that a step carries none of it.
+// The fields of the header that a step needs. A step reads them from the tree, so its arguments fit in registers.
 use layout::header;
 use layout::word;
 ghost use mathlib.Core.Path.{_≡_};
@@ -8,13 +8,13 @@ ghost use Rattle.format.specs.HeaderPlaces.{headerLength};
 ghost use Rattle.walk_steps.specs.Steps.{shapeOf};
 
 pub struct Shape {
-    // n, the bytes of the text
+    // n, the length of the text.
     pub length: u32,
-    // r, the children of a full block
+    // r, the arity.
     pub arity: u32,
-    // H
+    // H, the number of levels.
     pub levels: u32,
-    // where the leaf bytes start, and how many there are
+    // The offset and the number of the leaf bytes.
     pub leaf_offset: u32,
     pub leaf_count: u32,
 }
@@ -33,7 +33,7 @@ pub fn shape_of(t: &[u8]) -> Shape
     }
 }
 
-// The same bytes, lent on: a step hands on what it was lent without keeping it.
+// Reborrows the tree, so that a step passes on its borrow without keeping it.
 pub fn whole(t: &[u8]) -> &[u8]
     ensures { λ r. ⌜ now r ≡ now (t .entry) ⌝ }
 {

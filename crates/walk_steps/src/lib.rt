@@ -1,5 +1,5 @@
-// The steps of a path: what the block arrived at is, and the block that it hands a place to. A number past the
-// table, also one past 32 bits, is no block; the path itself reads no starts. `size` is the bytes of a record.
+// The steps of a path: the kind of the block that is reached, and the block that a place refers to. A number past the table, even past 32 bits, is no block.
+// The starts of blocks are not read. `size` is the number of bytes of a record.
 pub mod fields;
 
 use layout::cut;
@@ -18,22 +18,22 @@ ghost use Rattle.format.specs.Layout as at;
 ghost use Rattle.format.specs.Path.{targetBlock, targetPlace};
 ghost use Rattle.walk_steps.specs.Steps.{OnLevel, InTable, Pointing, nextAt, childAt, landAt};
 
-// The block that a path arrives at, and the place in it.
+// The kind of the block that a path reaches, and the place in it.
 pub enum Next {
     Kept(BlockNumber, BlockPlace),
     Points(BlockNumber, BlockPlace),
-    // past the table, of a kind above 1, or pointing with a gap that is not below the block length
+    // Outside the table, of a kind above 1, or pointing with a gap that is not below the block length.
     Off,
 }
 
-// The block that a place is handed to, and the place in it.
+// The block that a place refers to, and the place in it.
 pub enum Arrived {
     At(BlockNumber, BlockPlace),
-    // past the table, or where a kept block is due no such one
+    // Outside the table, or not a kept block where one is required.
     Off,
 }
 
-// How many children of a block end before a place in it, and the place in the next one.
+// The number of children of a block that end before a place in it, and the place in the next child.
 pub struct Part {
     pub blocks: u32,
     pub place: BlockPlace,
@@ -52,7 +52,7 @@ pub fn quotient(x: u32, b: u32) -> u32
     x / b
 }
 
-// The part of a place in a block among its children of b bytes.
+// The child of b bytes that contains a place of the block.
 pub fn part_of(place: BlockPlace, b: u32) -> Part
     requires { ⌜ 0 < b ⌝ }
     ensures { λ r. ⌜ r ≡ record { blocks = place .0 / b; place = record { 0 = place .0 % b } } ⌝ }
@@ -64,7 +64,7 @@ pub fn part_of(place: BlockPlace, b: u32) -> Part
     }
 }
 
-// The block of level 0 that holds a place of the text, and the place in that block; b is the block length of level 0.
+// The block of level 0 that contains a place of the text, and the place in it; b is the block length of level 0.
 pub fn top_spot(place: TextPlace, b: u32) -> Spot
     requires { ⌜ 0 < b ⌝ }
     ensures { λ r. ⌜ r ≡ record { block = record { 0 = place .0 / b }; place = record { 0 = place .0 % b } } ⌝ }
@@ -76,7 +76,7 @@ pub fn top_spot(place: TextPlace, b: u32) -> Spot
     }
 }
 
-// What a block of the table is.
+// The kind of a block.
 pub fn look(t: &[u8], size: u32, level: u32, b: u32, block: BlockNumber, place: BlockPlace) -> Next
     requires { ⌜ InTable (now t) size level b (block .0) ⌝ }
     ensures { λ r. ⌜ r ≡ nextAt (now (t .entry)) level (block .0) (place .0) ⌝ }
@@ -95,7 +95,7 @@ pub fn look(t: &[u8], size: u32, level: u32, b: u32, block: BlockNumber, place: 
     Next::Off
 }
 
-// What the block some steps after another is.
+// The kind of the block some steps after another.
 pub fn look_after(t: &[u8], size: u32, on: On, ahead: Ahead, place: BlockPlace) -> Next
     requires { ⌜ OnLevel (now t) size (on .level) (on .b) ⌝ }
     ensures { λ r. ⌜ r ≡ nextAt (now (t .entry)) (on .level) (ahead .first .0 + ahead .steps) (place .0) ⌝ }
@@ -108,7 +108,7 @@ pub fn look_after(t: &[u8], size: u32, on: On, ahead: Ahead, place: BlockPlace) 
     look(t, size, on.level, on.b, BlockNumber(number as u32), place)
 }
 
-// The child that a kept block hands a place to; b is the block length of the children's level.
+// The child of a kept block that contains a place; b is the block length of the children.
 pub fn child(
     t: &[u8],
     size: u32,
@@ -131,7 +131,7 @@ pub fn child(
     Arrived::At(BlockNumber(number as u32), rest)
 }
 
-// 1 where a place, counted from a block's start, is past the block's b bytes, else 0.
+// 1 if a place, from the start of a block, is past its b bytes, else 0.
 fn past(place: BlockPlace, b: u32) -> u32
     ensures { λ r. ⌜ (r ≡ cond (ltb (place .0) b) 0 1) × (r ≤ 1) × (r * b ≤ place .0) ⌝ }
 {
@@ -170,7 +170,7 @@ pub fn target(
     )
 }
 
-// The kept block that a pointing block above the last level hands a place to.
+// The kept block that a place of a pointing block above the last level refers to.
 pub fn land(
     t: &[u8],
     size: u32,

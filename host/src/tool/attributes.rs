@@ -1,4 +1,4 @@
-//! What a written file takes from the file that it is made of: its permissions, and its times where they are asked for.
+//! The attributes that a written file takes from its source: permissions, and with --keep-time the times.
 
 use std::fs::{File, Metadata, Permissions};
 use std::io;

@@ -66,7 +66,7 @@ pub fn build(given: &Given, order: Order, jobs: usize) -> Result<(), Failure> {
 }
 
 impl Batch<'_> {
-    /// A book is written, or has failed: say so.
+    /// Report that a book is written, or has failed.
     fn enter(&mut self, book: &Path, report: Result<Report, Failure>) {
         let done = report.and_then(|report| {
             let text = if self.given.json() { report.object().line() } else { report.line() };

@@ -1,4 +1,4 @@
-//! The manifest beside a tree, `TREE.json`: found, compared with the tree, and asked whether the book is open.
+//! The manifest beside a tree, `TREE.json`: finds it, compares it with the tree, and decides whether the book is open.
 
 use crate::day::Day;
 use crate::given::Given;
@@ -15,7 +15,7 @@ use std::path::{Path, PathBuf};
 
 /// A manifest has at most this many bytes.
 const MAX_MANIFEST: u64 = 65_536;
-/// What a call says of a book has at most this many bytes in its manifest; what is found of the tree takes less than the rest.
+/// The largest number of bytes of a manifest for the values of the options; the figures of the tree take less than the rest.
 pub const MOST_DESCRIBED: usize = 60_000;
 /// A pipe of that name is not waited for. Linux on x86-64.
 const O_NONBLOCK: c_int = 0o4000;
@@ -80,7 +80,7 @@ impl Beside {
         self.path.to_string_lossy().into_owned()
     }
 
-    /// The manifest of a tree that is asked: the book must be open today, unless any day will do. Then a manifest that cannot be used is a warning.
+    /// The manifest of a tree for a question: the book must be open today, unless --any-day is given. Then a manifest that cannot be used is a warning.
     pub fn admit(given: &Given, tree: Option<&Path>, name: &str) -> Result<Option<Self>, Failure> {
         let any_day = given.has(&ANY_DAY);
         let today = today(given)?;
@@ -112,10 +112,10 @@ impl Beside {
             _ => "not open yet".to_owned(),
         };
         let by = self.name();
-        Err(Failure::refused(name, format!("closed on {today}, {why}: by {by} its licence is {term}; --any-day reads it all the same")))
+        Err(Failure::refused(name, format!("closed on {today}, {why}: by {by} its licence is {term}; --any-day reads it nevertheless")))
     }
 
-    /// A failure where a tree is not as the manifest says.
+    /// A failure if a tree does not agree with the manifest.
     pub fn describes(&self, name: &str, found: &Figures) -> Result<(), Failure> {
         match self.manifest.figures.difference(found) {
             None => Ok(()),
@@ -137,12 +137,12 @@ impl Beside {
         }
     }
 
-    /// Why rows are not read so: by columns of this width, or by rows. A manifest that says nothing of the tree says nothing of its columns.
+    /// Why rows are not read this way: by columns of this width, or by rows. A manifest without figures of the tree does not decide about columns.
     pub fn other_width(&self, asked: Option<u32>) -> Option<String> {
         let Manifest { columns, figures, .. } = &self.manifest;
         match (columns, asked) {
             (Some(due), Some(asked)) if *due != u64::from(asked) => {
-                Some(format!("by {} its rows of {} are by columns, and {asked} is asked for", self.name(), several(*due, "byte")))
+                Some(format!("by {} its rows of {} are by columns, and {asked} was given", self.name(), several(*due, "byte")))
             }
             (Some(due), None) => {
                 Some(format!("by {} its rows of {} are by columns: only row --columns {due} reads them", self.name(), several(*due, "byte")))
@@ -164,7 +164,7 @@ fn first_bytes(file: File) -> io::Result<Vec<u8>> {
 fn today(given: &Given) -> Result<Option<Day>, Failure> {
     let Some(word) = given.value(&TODAY) else { return Ok(None) };
     if given.has(&ANY_DAY) {
-        return Err(given.usage("--today and --any-day do not go together"));
+        return Err(given.usage("--today cannot be used with --any-day"));
     }
     given.day(&TODAY, word).map(Some)
 }

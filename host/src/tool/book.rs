@@ -28,12 +28,12 @@ pub enum Warning {
 }
 
 impl Warning {
-    /// What is said where it is about one book.
+    /// The message for one book.
     pub fn words(&self) -> String {
         match self {
             Warning::NoRows => "the book has no rows yet".to_owned(),
             Warning::ByteOrderMark => "the book begins with a byte order mark, which is a part of its first code".to_owned(),
-            Warning::Uncounted => "byte 10 is not counted, so that no row can be asked for".to_owned(),
+            Warning::Uncounted => "byte 10 is not counted, so no row can be read".to_owned(),
             Warning::OtherRows(rows, first, shown) => {
                 let are = if *rows == 1 { "is" } else { "are" };
                 format!("{} {are} not code, space, cuts, and no worn key matches there; the first is row {first}: {shown}", several(*rows, "row"))
@@ -48,7 +48,7 @@ impl Warning {
         match self {
             Warning::NoRows => format!("{books} have no rows yet; the first is {first}"),
             Warning::ByteOrderMark => format!("{books} begin with a byte order mark, which is a part of their first code; the first is {first}"),
-            Warning::Uncounted => format!("byte 10 is not counted in {books}, so that no row of them can be asked for; the first is {first}"),
+            Warning::Uncounted => format!("byte 10 is not counted in {books}, so no row of them can be read; the first is {first}"),
             Warning::OtherRows(rows, row, shown) => format!(
                 "{} in {books} are not code, space, cuts, and no worn key matches there; the first is row {row} of {first}: {shown}",
                 several(*rows, "row")
@@ -125,7 +125,7 @@ mod tests {
         let warnings = |text: &[u8], counted: &[u8]| warnings(text, counted).iter().map(Warning::words).collect::<Vec<_>>();
         assert!(warnings(b"CH0501 1423\nCH0502 1424\r\nX 1", b"\n").is_empty());
         assert_eq!(warnings(b"", b"\n"), ["the book has no rows yet"]);
-        assert_eq!(warnings(b"A 1\n", b""), ["byte 10 is not counted, so that no row can be asked for"]);
+        assert_eq!(warnings(b"A 1\n", b""), ["byte 10 is not counted, so no row can be read"]);
         assert_eq!(warnings(b"\xEF\xBB\xBFA 1\n", b"\n"), ["the book begins with a byte order mark, which is a part of its first code"]);
         for row in ["A", "A ", " 1", "A  1", "A 1 ", "A 1x", "THIRTEENBYTES 1", "A 12345678901", ""] {
             let text = format!("B 2\n{row}\nC 3\n{row}\n");

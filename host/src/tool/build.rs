@@ -18,7 +18,7 @@ use std::fs;
 use std::path::{Path, PathBuf};
 use std::thread;
 
-/// What was built, and what there is to say of it.
+/// What was built, and its report.
 pub struct Built {
     pub chosen: Chosen,
     /// The book, and how it was rearranged.
@@ -29,11 +29,11 @@ pub struct Built {
     pub small: Option<usize>,
 }
 
-/// What a call asks of each of its books.
+/// The options of a call for each of its books.
 pub struct Order {
     pub request: Request,
     pub width: Option<Width>,
-    /// What the call says of its books; none where no manifest is asked for.
+    /// The manifest by the options; None if no manifest is to be written.
     pub described: Option<Manifest>,
 }
 
@@ -49,7 +49,7 @@ pub fn build(given: &Given) -> Result<(), Failure> {
     let settings = settings(given, &counted)?;
     let width = given.value(&COLUMNS).map(|width| given.reading(values::width("--columns", width))).transpose()?;
     if width.is_none() && given.has(&ALLOW_LARGER) {
-        return Err(given.usage("--allow-larger is of use with --columns alone"));
+        return Err(given.usage("--allow-larger can only be used with --columns"));
     }
     if settings.is_some() && given.has(&BEST) {
         return Err(given.usage("--best searches for settings: give it, or --leaf, --arity and --levels"));
@@ -63,7 +63,7 @@ pub fn build(given: &Given) -> Result<(), Failure> {
     }
 }
 
-/// How many threads build at a time: as many as there are processors, unless told otherwise.
+/// The number of threads that build at a time: -j, otherwise the number of processors.
 fn jobs(given: &Given) -> Result<usize, Failure> {
     match given.number(&JOBS)? {
         Some(0) => Err(given.usage("-j is how many threads build at a time, 1 or more, not 0")),
@@ -72,7 +72,7 @@ fn jobs(given: &Given) -> Result<usize, Failure> {
     }
 }
 
-/// What the call says of its books.
+/// The manifest by the options of the call.
 fn described(given: &Given) -> Result<Option<Manifest>, Failure> {
     if ![&MAKER, &EDITION, &FIRST, &LAST].into_iter().any(|option| given.has(option)) {
         return Ok(None);
@@ -84,7 +84,7 @@ fn described(given: &Given) -> Result<Option<Manifest>, Failure> {
     let day = |option: &Opt| given.value(option).map(|word| given.day(option, word)).transpose();
     let manifest = Manifest { maker: text(&MAKER)?, edition: text(&EDITION)?, first: day(&FIRST)?, last: day(&LAST)?, ..Manifest::default() };
     match (manifest.first.is_some() == manifest.last.is_some(), manifest.term()) {
-        (false, _) => Err(given.usage("--first and --last go together: a term has both")),
+        (false, _) => Err(given.usage("--first and --last must be given together")),
         (_, Some(term @ Term { first, last })) if term.is_open(first).is_err() => {
             Err(given.usage(format!("--last {last} is before --first {first}")))
         }
@@ -106,7 +106,7 @@ fn one(given: &Given, order: &Order) -> Result<(), Failure> {
     Ok(())
 }
 
-/// Build the tree of a book. Its file and its manifest's are made ready first, so that a place that cannot be written is told before the work.
+/// Build the tree of a book. Its file and that of its manifest are opened first, so that a place that cannot be written is reported before the work.
 pub fn make(given: &Given, order: &Order, path: Option<&Path>) -> Result<Made, Failure> {
     let source = Source::open(path)?;
     let target = target(given, path, &TREES)?;
@@ -226,7 +226,7 @@ pub fn settings(given: &Given, counted: &[u8]) -> Result<Option<Settings>, Failu
     match (given.number(&LEAF)?, given.number(&ARITY)?, given.number(&LEVELS)?) {
         (None, None, None) => Ok(None),
         (Some(leaf), Some(arity), Some(levels)) => Ok(Some(Settings { leaf, arity, levels, counted: counted.to_vec() })),
-        _ => Err(given.usage("--leaf, --arity and --levels go together: give all three, or none to have a short list tried")),
+        _ => Err(given.usage("--leaf, --arity and --levels must be given together; without them a short list is tried")),
     }
 }
 

@@ -11,7 +11,7 @@ use crate::values::{self, Width};
 use crate::Failure;
 use codebook::{row_width, Refusal, Settings, Tree};
 
-/// The tree of the book as it stands, beside the one by columns.
+/// The tree of the book by rows, to be compared with the one by columns.
 pub struct Compared {
     pub width: u32,
     settings: Settings,
@@ -40,7 +40,7 @@ impl Compared {
     }
 }
 
-/// Build the tree of a book by columns, and that of the book as it stands, to say which is smaller.
+/// Build the tree of a book by columns, and the one by rows, to report which is smaller.
 pub fn build(text: &Input, request: &Request, width: Width) -> Result<Built, Failure> {
     let (turned, width) = turned(text, width)?;
     let plain = build::chosen(&text.name, &text.bytes, request)?;
@@ -135,7 +135,7 @@ pub fn mismatch(tree: Tree, width: u32) -> Result<Option<String>, Refusal> {
     Ok((!fits).then(|| wrong_width(width, length.into(), all)))
 }
 
-/// With the width of rows that so many bytes 10 would end.
+/// With the width of the rows if each byte 10 ends one.
 fn wrong_width(width: u32, length: u64, ends: u64) -> String {
     let other = match length.checked_rem(ends) {
         Some(0) => format!("; its {} would end rows of {}", several(ends, "occurrence"), several(length / ends, "byte")),

@@ -14,7 +14,7 @@ use codebook::{digest_text, Digest, Refusal, Tree};
 use std::os::unix::ffi::OsStrExt;
 use std::path::Path;
 
-/// A tree that the check accepts, unless it is not asked.
+/// A tree that the check accepts, or with --unchecked any bytes.
 pub fn open(input: &Input, unchecked: bool) -> Result<Tree<'_>, Failure> {
     let tree = Tree::unchecked(&input.bytes);
     if unchecked {
@@ -46,7 +46,7 @@ pub fn check(given: &Given) -> Result<(), Failure> {
 /// The trees of a list, each with its digest.
 fn check_listed(given: &Given, list: &Path) -> Result<(), Failure> {
     if !given.words.is_empty() || [&SHA256, &TEXT_SHA256, &SUMS].into_iter().any(|option| given.has(option)) {
-        return Err(given.usage("-c LIST names the trees and their digests: neither TREE, --sha256, --text-sha256 nor --sums goes with it"));
+        return Err(given.usage("-c LIST names the trees and their digests: it cannot be used with TREE, --sha256, --text-sha256 or --sums"));
     }
     let list = input::read(Some(list), &input::LIST)?;
     let sums = sums::read(&list.bytes).map_err(|(line, words)| Failure::file(&format!("{}:{line}", list.name), words))?;
@@ -90,7 +90,7 @@ pub fn compared(input: &Input, path: Option<&Path>, tree: Tree, digests: &Digest
     Ok(Some(beside))
 }
 
-/// The guide that a manifest names must be there, as the manifest says, and be the tree's.
+/// The guide that a manifest names must exist, have the figures of the manifest, and be the tree's.
 fn compare_guide(beside: &Beside, tree: Tree) -> Result<(), Failure> {
     let manifest::Guide { name: Some(name), size, sha256 } = &beside.manifest.guide else { return Ok(()) };
     let guide = input::read(Some(&beside.path.with_file_name(name)), &GUIDE)?;
@@ -124,7 +124,7 @@ fn differs(input: &Input, what: &str, due: Option<Digest>, found: Digest) -> Res
     }
 }
 
-/// What is said where all is well.
+/// The report of a valid tree.
 pub fn report(given: &Given, object: &Object, words: &str) -> Result<(), Failure> {
     match (given.json(), given.quiet()) {
         (true, _) => say::print(object.line().as_bytes()),

@@ -37,12 +37,12 @@ pub fn code(given: &Given) -> Result<(), Failure> {
     match (worst, found) {
         (0, true) => Ok(()),
         (0, false) if given.quiet() => Err(Failure::told(1)),
-        (0, false) => Err(Failure::nothing(&only(&trees), format!("no row begins with '{}'", prefix.escape_ascii()))),
+        (0, false) => Err(Failure::nothing(&only(&trees), format!("no row starts with '{}'", prefix.escape_ascii()))),
         (worst, _) => Err(Failure::told(worst)),
     }
 }
 
-/// The name of a tree that is asked alone; empty for several.
+/// The name of a single tree; empty for several.
 fn only(trees: &[Option<&Path>]) -> String {
     match trees {
         [Some(path)] if *path != Path::new("-") => path.to_string_lossy().into_owned(),
@@ -124,7 +124,7 @@ impl Book<'_> {
 fn failure(input: &Input, refusal: Refusal, prefix: &[u8]) -> Failure {
     let why = match refusal {
         Refusal::NotCounted => Some("the tree does not count byte 10, which ends a row; build must count it".to_owned()),
-        Refusal::Pattern => Some(format!("a row's beginning must have 1 to 256 bytes; this one has {}", say::grouped(prefix.len() as u64))),
+        Refusal::Pattern => Some(format!("a prefix of a row must have 1 to 256 bytes; this one has {}", say::grouped(prefix.len() as u64))),
         _ => None,
     };
     let words = why.map_or_else(|| refusal.to_string(), |why| format!("refused ({}): {why}", refusal.number()));

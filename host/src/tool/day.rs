@@ -22,7 +22,7 @@ impl Day {
         Day::dashed(word).or_else(|| Day::new(word.as_bytes().try_into().ok()?))
     }
 
-    /// The library says which digits are a day.
+    /// The library decides which digits are a day.
     fn new(digits: [u8; 8]) -> Option<Self> {
         days_left(&digits, &digits).is_ok().then_some(Day(digits))
     }
@@ -71,7 +71,7 @@ pub fn today() -> String {
     date_of(seconds / 86_400)
 }
 
-/// The date so many days after 1 January 1970.
+/// The date this number of days after 1 January 1970.
 fn date_of(days: u64) -> String {
     let leap = |year: u64| year % 4 == 0 && (year % 100 != 0 || year % 400 == 0);
     let (mut rest, mut year, mut month) = (days, 1970, 1);

@@ -4,25 +4,25 @@ use crate::json::Object;
 use crate::say;
 use codebook::Refusal;
 
-/// What is said, and the status that the tool ends with.
+/// The message, and the exit status.
 #[derive(Debug)]
 pub struct Failure {
-    /// 1 where nothing is found or the library refused, 2 for a call or a file that is not right.
+    /// 1 if nothing is found or the library refused, 2 for a wrong call or a file that cannot be read or written.
     status: u8,
     /// The library's number.
     number: Option<u32>,
-    /// The file that it is about; empty for none.
+    /// The file that the message is about; empty for none.
     name: String,
-    /// Empty where all has been said.
+    /// Empty if everything has been reported.
     words: String,
-    /// How the command is called, where the call is wrong.
+    /// The usage line, for a wrong call.
     usage: Option<String>,
-    /// Standard output takes an object that says it.
+    /// Whether --json prints it as an object on standard output.
     object: bool,
 }
 
 impl Failure {
-    /// The call, or a file that it names, is not right.
+    /// The call, or a file that it names, is wrong.
     pub fn usage(words: impl Into<String>) -> Self {
         Failure { status: 2, number: None, name: String::new(), words: words.into(), usage: None, object: true }
     }
@@ -41,22 +41,22 @@ impl Failure {
         Failure { object: false, ..Failure::file(name, "standard output goes to this file too; it is left as it is") }
     }
 
-    /// The tool refuses what the library was not asked.
+    /// The tool refuses, without a call of the library.
     pub fn refused(name: &str, words: impl Into<String>) -> Self {
         Failure { status: 1, ..Failure::file(name, words) }
     }
 
-    /// The library refused; `words` say what was asked, and why it could not be answered.
+    /// The library refused; `words` name the question and the reason.
     pub fn library(name: &str, refusal: Refusal, words: impl Into<String>) -> Self {
         Failure { number: Some(refusal.number()), ..Failure::refused(name, words) }
     }
 
-    /// Nothing is found: no object says so.
+    /// Nothing is found: no object is printed.
     pub fn nothing(name: &str, words: impl Into<String>) -> Self {
         Failure { object: false, ..Failure::refused(name, words) }
     }
 
-    /// All has been said; only the status is left.
+    /// Everything has been reported; only the status is left.
     pub fn told(status: u8) -> Self {
         Failure { status, ..Failure::usage("") }
     }
@@ -70,12 +70,12 @@ impl Failure {
         self.status
     }
 
-    /// Say it on standard error, and as an object on standard output where objects are asked for.
+    /// Print it on standard error, and with --json as an object on standard output.
     pub fn tell(&self, json: bool) {
         self.tell_to(json, false);
     }
 
-    /// The same; the object too goes to standard error where a tree goes to standard output.
+    /// The same; the object goes to standard error too if a tree goes to standard output.
     pub fn tell_to(&self, json: bool, standard_error: bool) {
         if self.words.is_empty() {
             return;
@@ -84,7 +84,7 @@ impl Failure {
         let usage = self.usage.as_ref().map_or(String::new(), |usage| format!("usage: {usage}\n"));
         say::tell(&format!("codebook: {name}{}\n{usage}", self.words));
         if json && self.object {
-            // where nobody reads it there is no more to say: the call has failed already
+            // nobody may read it; the call has failed already
             let _ = say::to(standard_error, &self.as_object().line());
         }
     }

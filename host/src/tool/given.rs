@@ -18,7 +18,7 @@ pub struct Given {
 }
 
 impl Given {
-    /// What the words after the tool's name call for.
+    /// Reads the arguments after the tool's name.
     pub fn read(words: Vec<OsString>) -> Result<Self, Failure> {
         let (command, rest) = command(&words)?;
         let mut given = Given { command, words: Vec::new(), options: Vec::new() };
@@ -29,7 +29,7 @@ impl Given {
         Ok(given)
     }
 
-    /// Part the options from the other words.
+    /// Separate the options from the other words.
     fn sort(&mut self, words: &[OsString]) -> Result<(), Failure> {
         let mut words = words.iter();
         while let Some(word) = words.next() {
@@ -96,7 +96,7 @@ impl Given {
         Ok(())
     }
 
-    /// Are the words that are due there, and no more?
+    /// Check that the required words are there, and no more.
     fn enough(&self) -> Result<(), Failure> {
         let due = self.command.words;
         let least = due.iter().filter(|word| matches!(word.due, Due::Once | Due::AtLeastOnce)).count();
@@ -164,7 +164,7 @@ impl Given {
         self.words.get(at).map(Path::new)
     }
 
-    /// The call is not right.
+    /// The call is wrong.
     pub fn usage(&self, words: impl Into<String>) -> Failure {
         Failure::usage(words).with_usage(self.command.usage())
     }
@@ -177,7 +177,7 @@ impl Given {
         self.has(&table::QUIET)
     }
 
-    /// Do `work` with each file, or with standard input where there is none. Of several all are done and each failure is told.
+    /// Do `work` with each file, or with standard input if there is none. With several files all are done and each failure is reported.
     pub fn each(&self, mut work: impl FnMut(Option<&Path>) -> Result<(), Failure>) -> Result<(), Failure> {
         if self.words.len() < 2 {
             return work(self.file(0));
@@ -185,7 +185,7 @@ impl Given {
         self.all(self.words.iter().map(|word| work(Some(Path::new(word)))))
     }
 
-    /// Tell each failure; the status is the highest.
+    /// Report each failure; the status is the highest.
     pub fn all(&self, done: impl Iterator<Item = Result<(), Failure>>) -> Result<(), Failure> {
         let mut status = 0;
         for failure in done.filter_map(Result::err) {
@@ -199,7 +199,7 @@ impl Given {
     }
 }
 
-/// Does a call ask for objects, be it right or wrong?
+/// Whether the call, right or wrong, has --json.
 pub fn asks_for_json(words: &[OsString]) -> bool {
     words.iter().take_while(|word| *word != "--").any(|word| word == table::JSON.long)
 }
@@ -219,7 +219,7 @@ fn command(words: &[OsString]) -> Result<(&'static Command, &[OsString]), Failur
     }
     let seconds = Command::group(&name);
     if name.starts_with('-') {
-        return Err(Failure::usage(format!("'{name}' stands before the command; options stand after it; see codebook --help")));
+        return Err(Failure::usage(format!("'{name}' is before the command; options follow it; see codebook --help")));
     }
     if seconds.is_empty() {
         return Err(unknown(&name));
@@ -245,8 +245,14 @@ fn command(words: &[OsString]) -> Result<(&'static Command, &[OsString]), Failur
     }
 }
 
+/// Commands of version 1 that have another name now.
+const RENAMED: [(&str, &str); 2] = [("shelf", "sort"), ("worn", "match")];
+
 /// There is no such command.
 pub fn unknown(name: &str) -> Failure {
+    if let Some((_, now)) = RENAMED.iter().find(|(before, _)| *before == name) {
+        return Failure::usage(format!("there is no command '{name}'; since version 2 it is '{now}'; see codebook help {now}"));
+    }
     let first_words = COMMANDS.iter().filter_map(|command| command.name.split(' ').next());
     let meant = suggestion(name, first_words).unwrap_or("; see codebook --help".to_owned());
     Failure::usage(format!("there is no command '{name}'{meant}"))

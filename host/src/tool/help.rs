@@ -16,7 +16,7 @@ pub const LAYOUTS: &str = "block trees: builds layout 2, and layout 1 with --sma
 
 /// The last words of every help.
 pub const ENDING: &str =
-    "No file, or -, is standard input. Status: 0 done or found, 1 refused or nothing found, 2 a wrong call, or a file that cannot be read or written; of several files the highest.";
+    "Without a file, or with -, standard input is read. Status: 0 done or found, 1 refused or nothing found, 2 a wrong call or a file that cannot be read or written; of several files the highest.";
 
 /// The tool, or a command.
 pub fn show(given: &Given) -> Result<(), Failure> {
@@ -45,7 +45,7 @@ fn overview() -> String {
     for command in &COMMANDS {
         text += &format!("  {:<15}{}\n", command.name, command.summary);
     }
-    text + "\ncodebook COMMAND --help says more.\n\n" + &folded(ENDING, "")
+    text + "\ncodebook COMMAND --help has the details.\n\n" + &folded(ENDING, "")
 }
 
 /// The text of `codebook COMMAND --help`.

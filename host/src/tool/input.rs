@@ -27,7 +27,7 @@ pub static TEXT: Limit = Limit { most: MAX_TEXT as u64, what: "a text", refusal:
 pub static TREE: Limit = Limit { most: MAX_TREE, what: "a tree", refusal: None };
 /// What `import` reads: besides code and cuts it has other columns, and two bytes for a character.
 pub static TABLE: Limit = Limit { most: 16 * MAX_TEXT as u64, what: "a table", refusal: None };
-/// An entry for each 64 bytes of text, and one begun for each counted byte.
+/// An entry for each 64 bytes of text, rounded up for each counted byte.
 pub static GUIDE: Limit = Limit { most: 4 * (MAX_TEXT as u64 / 64 + 4), what: "a guide", refusal: None };
 
 /// A list of digests: some 100,000 names.

@@ -20,7 +20,7 @@ impl Digests {
     }
 }
 
-/// What a manifest says of a tree, as far as it says it.
+/// The figures of a tree in a manifest; each may be missing.
 #[derive(Clone, Debug, Default, PartialEq, Eq)]
 pub struct Figures {
     pub size: Option<u64>,
@@ -35,7 +35,7 @@ pub struct Figures {
 }
 
 impl Figures {
-    /// What a tree's length and its header say; digests, which take a pass over the tree and one over its text, only where they are given.
+    /// The figures by a tree's length and header; digests, which take a pass over the tree and one over its text, only if they are given.
     pub fn of(tree: Tree, digests: Option<&Digests>) -> Self {
         let settings = tree.settings();
         Figures {
@@ -93,7 +93,7 @@ pub struct Guide {
     pub sha256: Option<Digest>,
 }
 
-/// What a manifest says.
+/// A manifest.
 #[derive(Clone, Debug, Default, PartialEq, Eq)]
 pub struct Manifest {
     pub maker: Option<String>,

@@ -12,9 +12,9 @@ codebook \\- build, check and read block trees of code books
 .RI [ word ]...
 .RI [ option ]...
 .SH DESCRIPTION
-A block tree stores once what repeats in a text and answers questions without unpacking it.
+A block tree stores long repeats of a text once and is read without unpacking it.
 .B codebook
-builds the trees of code books, checks trees from anyone, and answers from them, over a library whose every function is proved.
+builds the trees of code books, checks trees from anyone, and reads from them, with a library in which every function is proved.
 ";
 
 const TAIL: &str = "\
@@ -23,7 +23,7 @@ const TAIL: &str = "\
 codebook build book.txt                     # book.tree, its SHA\\-256 and that of its text
 codebook check \\-\\-text\\-sha256 HEX book.tree # is it a valid tree, and of that text?
 codebook row 5..20 book.tree
-codebook worn 43221 45223 book.tree         # rows with cuts 4, 3 to 5, 2, 2, 1 to 3
+codebook match '4[3\\-5]22[1\\-3]' book.tree    # rows with cuts 4, 3 to 5, 2, 2, 1 to 3
 codebook picture book.tree \\-o book.svg
 .fi
 .SH FILES
@@ -31,11 +31,11 @@ A tree's file ends in
 .BR .tree ,
 a guide's in
 .BR .guide .
-A file that is written is made under no name, or under a hidden one, in the same folder, and takes its name when it is whole and stored; so an interrupt or a full disk leaves an older file as it was. It has the permissions of the file that it is made of, never wider ones.
+A new file is written without a name, or with a hidden one, in the same folder, and gets its name when it is complete and stored. So an interrupt or a full disk leaves an older file as it was. It has the permissions of the file that it is made from, never wider ones.
 .SH ENVIRONMENT
 .TP
 .B CODEBOOK_NAMED
-If set, files are made under a hidden name, as on file systems that have no nameless files.
+If set, files are written with a hidden name, as on file systems that have no files without a name.
 .SH NOTES
 A tree with one leaf byte changed, and its edges with it, is a valid tree of another text, and gives a wrong key. Keep the SHA-256 of the text that
 .B build
@@ -51,7 +51,7 @@ pub fn page() -> String {
     let common: String = COMMON.iter().copied().map(option).collect();
     let mut page = format!(".TH CODEBOOK 1 \"\" \"codebook {}\" \"User Commands\"\n{HEAD}", env!("CARGO_PKG_VERSION"));
     page += &format!(
-        ".SH OPTIONS\nOf every command:\n{common}.PP\nThose of one command stand with it. A word after \\-\\- is no option.\n.SH COMMANDS\n"
+        ".SH OPTIONS\nOf every command:\n{common}.PP\nThe options of one command are listed with it. A word after \\-\\- is not an option.\n.SH COMMANDS\n"
     );
     for command in &COMMANDS {
         page += &section(command);

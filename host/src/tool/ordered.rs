@@ -24,7 +24,7 @@ struct State<T> {
 /// Results that may wait for their turn.
 const WAITING: usize = 32;
 
-/// Do `work` for each number below `items`, `jobs` at a time, and hand each result to `take` in its turn, on this thread. Few results wait, each of which may
+/// Do `work` for each number below `items`, `jobs` at a time, and pass each result to `take` in its turn, on this thread. Few results wait, each of which may
 /// have files open.
 pub fn in_order<T: Send>(items: usize, jobs: usize, work: impl Fn(usize) -> T + Sync, mut take: impl FnMut(usize, T)) {
     let state = State { next: 0, taken: 0, done: BTreeMap::new() };
@@ -65,7 +65,7 @@ impl<T> Queue<T> {
         }
     }
 
-    /// The result of an item, in its turn. Where its work panicked, so does this, and no other item is begun.
+    /// The result of an item, in its turn. If its work panicked, this panics too, and no other item is started.
     fn wait_for(&self, at: usize) -> T {
         let mut state = self.lock();
         loop {

@@ -1,4 +1,4 @@
-//! Where a command writes: made ready before the work begins, so that a place that cannot be written is told at once, and filled at its end.
+//! The file that a command writes: opened before the work, so that a place that cannot be written is reported at once, and written at its end.
 
 use crate::attributes::{Access, Times};
 use crate::given::Given;
@@ -160,7 +160,7 @@ fn unwritten(name: &str, error: &io::Error) -> Failure {
     }
 }
 
-/// Say what was written: on standard error where the bytes themselves are on standard output. Empty words are not said.
+/// Report what was written: on standard error if the bytes themselves go to standard output. An empty report is not printed.
 pub fn report(given: &Given, standard: bool, object: &Object, words: &str) -> Result<(), Failure> {
     let line = match (given.json(), given.quiet()) {
         (true, _) => object.line(),

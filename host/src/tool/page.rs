@@ -69,7 +69,7 @@ fn module(given: &Given) -> Result<Vec<u8>, Failure> {
     }
 }
 
-/// A tree that the check accepts, with what its manifest says; its name is that of the file, without folders.
+/// A tree that the check accepts, with its manifest; its name is that of the file, without folders.
 fn book(path: Option<&Path>, source: Source, size: &mut usize) -> Result<(String, Object), Failure> {
     let input = source.read(&TREE)?;
     let tree = open(&input, false)?;
@@ -87,7 +87,7 @@ fn book(path: Option<&Path>, source: Source, size: &mut usize) -> Result<(String
     Ok((name, object.text("tree", &base64(&input.bytes))))
 }
 
-/// What the manifest beside a tree says, which must be of this tree. A closed book is no failure: the page shows its licence.
+/// The manifest beside a tree, which must describe this tree. A closed book is not a failure: the page shows its licence.
 fn described(path: Option<&Path>, name: &str, tree: Tree) -> Result<Manifest, Failure> {
     let Some(beside) = Beside::read(path).map_err(|unusable| unusable.failure())? else {
         return Ok(Manifest::default());

@@ -171,7 +171,7 @@ fn drawn(from: usize, width: usize, y: usize, target: Option<f64>) -> String {
     }
 }
 
-/// From a pointing block to the place where its bytes stand.
+/// From a pointing block to the place where its occurrence begins.
 fn arrow(from: usize, to: usize, y: usize) -> String {
     let (from, to, start) = (from + LEFT, to + LEFT, y + TALL - LOW);
     let high = y - 10 - (from.abs_diff(to) * (ARROWS - 14) / WIDTH).min(ARROWS - 14);

@@ -63,7 +63,7 @@ fn clear(shown: &mut bool) {
     *shown = false;
 }
 
-/// Do `work`, which says when a part is done, and show meanwhile on standard error how far it is. `costs` are the parts' shares of it.
+/// Do `work`, which reports when a part is done, and show the progress on standard error. `costs` are the shares of the parts.
 pub fn show(what: &'static str, costs: &[u64], quiet: bool, work: impl FnOnce(&Progress)) {
     let progress = Progress {
         what,

@@ -1,4 +1,4 @@
-//! The questions put to one tree.
+//! The questions about one tree.
 
 use crate::beside::Beside;
 use crate::check::open;
@@ -77,7 +77,7 @@ impl Page {
     }
 }
 
-/// Ask what the call asks.
+/// Answer the question of the call.
 pub fn ask(given: &Given) -> Result<(), Failure> {
     let question = Question::of(given)?;
     let unchecked = given.has(&UNCHECKED);
@@ -117,8 +117,7 @@ impl Question {
             "count" => Question::Count(given.reading(values::byte(word(0)))?, given.figure(1)?),
             "find" => Question::Find(given.reading(values::byte(word(0)))?, given.figure(1)?),
             "places" => Question::Places(given.reading(values::pattern(word(0)))?),
-            "match" => Question::matching(given, given.reading(values::cuts(word(0)))?)?,
-            "worn" => Question::matching(given, given.reading(values::depths(word(0), word(1)))?)?,
+            "match" => Question::matching(given)?,
             _ => Question::Text,
         })
     }
@@ -126,21 +125,22 @@ impl Question {
     fn rows(given: &Given) -> Result<Self, Failure> {
         let (first, last) = given.reading(values::rows(&given.words[0]))?;
         match given.number(&ROW_COLUMNS)? {
-            Some(_) if given.has(&table::GUIDE) => Err(given.usage("--guide is of no use with --columns")),
+            Some(_) if given.has(&table::GUIDE) => Err(given.usage("--guide cannot be used with --columns")),
             Some(width) => Ok(Question::ColumnRows(first, last, width)),
             None => Ok(Question::Rows(first, last)),
         }
     }
 
-    fn matching(given: &Given, ranges: Vec<Range>) -> Result<Self, Failure> {
+    fn matching(given: &Given) -> Result<Self, Failure> {
+        let ranges = given.reading(values::cuts(&given.words[0]))?;
         match (given.number(&FROM)?, given.number(&AFTER)?) {
-            (Some(_), Some(_)) => Err(given.usage("--from and --after do not go together")),
+            (Some(_), Some(_)) => Err(given.usage("--from cannot be used with --after")),
             (_, Some(mark)) => Ok(Question::Next(ranges, mark)),
             (from, None) => Ok(Question::Match(ranges, from.unwrap_or(1).saturating_sub(1))),
         }
     }
 
-    /// What is said where a search finds nothing; None for a question that is no search.
+    /// The message if a search finds nothing; None for a question that is not a search.
     fn nothing(&self) -> Option<String> {
         match self {
             Question::Places(pattern) => Some(format!("'{}' does not occur", pattern.escape_ascii())),
@@ -149,7 +149,7 @@ impl Question {
         }
     }
 
-    /// A failure where the tree is not as its manifest says, or its rows are not read so.
+    /// A failure if the tree does not agree with its manifest, or its rows are not read this way.
     fn fits(&self, beside: &Beside, name: &str, tree: Tree) -> Result<(), Failure> {
         beside.describes(name, &Figures::of(tree, None))?;
         let other = match self {
@@ -229,7 +229,7 @@ impl Question {
     }
 }
 
-/// The last of so many rows, where the first one asked for is among them; a book of no rows has all of them.
+/// The last row of a book with this number of rows, if the first row given is one of them; the range 1.. of a book without rows is empty.
 fn to_the_end(first: u32, rows: u64) -> Option<u32> {
     let last = u32::try_from(rows).unwrap_or(u32::MAX);
     (first <= last.max(1)).then_some(last)

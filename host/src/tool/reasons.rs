@@ -1,11 +1,11 @@
-//! Why a question was refused, in the words of the question.
+//! Why a question was refused, with its values.
 
 use crate::questions::Question;
 use crate::say::{grouped, several};
 use crate::Failure;
 use codebook::{Range, Refusal, Tree};
 
-/// What was asked, and what would have been good.
+/// The question, and which values are valid.
 pub fn failure(name: &str, refusal: Refusal, question: &Question, tree: Tree) -> Failure {
     let asked = asked(question).map_or(String::new(), |words| format!("{words}: "));
     let why = match why(refusal, question, tree) {
@@ -15,7 +15,7 @@ pub fn failure(name: &str, refusal: Refusal, question: &Question, tree: Tree) ->
     Failure::library(name, refusal, format!("{asked}{why}"))
 }
 
-/// What was asked, and why the tool does not put it to the tree.
+/// The question, and why the tool does not call the library.
 pub fn refused(name: &str, question: &Question, words: &str) -> Failure {
     let asked = asked(question).map_or(String::new(), |words| format!("{words}: "));
     Failure::refused(name, format!("{asked}{words}"))
@@ -67,7 +67,7 @@ fn why(refusal: Refusal, question: &Question, tree: Tree) -> Option<String> {
         }
         (Refusal::NoSuch, Question::Find(byte, _)) => Some(total(tree, *byte)),
         (Refusal::Place, Question::Byte(_) | Question::Run(_)) if length > 0 => Some(format!("places go from 0 to {}", grouped(length - 1))),
-        (Refusal::Place, _) => Some(format!("this lies past the text's end; the text has {}", several(length, "byte"))),
+        (Refusal::Place, _) => Some(format!("this is past the end of the text; the text has {}", several(length, "byte"))),
         (Refusal::Width, _) => Some(format!("the width must be above 0 and divide the text's length, {}", grouped(length))),
         (Refusal::NotCounted, Question::Rows(..) | Question::Match(..) | Question::Next(..)) => {
             Some("the tree does not count byte 10, which ends a row; build must count it".to_owned())
@@ -91,7 +91,10 @@ fn numbers(what: &str, last: u64, none: &str) -> String {
 
 fn total(tree: Tree, byte: u8) -> String {
     let total = tree.count(byte, tree.text_length()).map_or(0, |count| count.value);
-    numbers(&format!("numbers of byte {byte}"), total, &format!("byte {byte} does not stand in the text"))
+    match total {
+        0 => format!("byte {byte} does not occur in the text"),
+        total => format!("byte {byte} occurs {}", several(total, "time")),
+    }
 }
 
 /// What is wrong with the ranges of a worn key.

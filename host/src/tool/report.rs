@@ -10,7 +10,7 @@ use crate::stats;
 use crate::trials::{Chosen, Trial};
 use codebook::{text_rows, Settings, Tree};
 
-/// A tree that was built, and what there is to say of it.
+/// A tree that was built, and its report.
 pub struct Report {
     /// The names of the book, of the tree, and of the manifest where one is written.
     pub book: String,
@@ -31,7 +31,7 @@ pub struct Report {
 }
 
 impl Report {
-    /// What there is to say of a tree, which is no longer needed.
+    /// The report of a tree, which is no longer needed.
     pub fn of(text: &Input, mut built: Built, digests: Option<Digests>, tree: &str, manifest: Option<String>) -> Self {
         let warnings = warnings(&text.bytes, &built);
         let bytes = std::mem::take(&mut built.chosen.tree);

@@ -26,7 +26,7 @@ fn unwritten(error: &io::Error) -> Failure {
     Failure::file("standard output", format!("cannot be written: {error}"))
 }
 
-/// Write to standard error. Where that is full or closed there is nobody to tell.
+/// Write to standard error. If that fails, there is nobody to report to.
 pub fn tell(words: &str) {
     let _ = io::stderr().write_all(words.as_bytes());
 }
@@ -40,7 +40,7 @@ pub fn to(standard_error: bool, text: &str) -> Result<(), Failure> {
     print(text.as_bytes())
 }
 
-/// A number with its thousands parted.
+/// A number with separated thousands.
 pub fn grouped(number: impl Into<u64>) -> String {
     let digits = number.into().to_string();
     let mut text = String::new();
@@ -53,7 +53,7 @@ pub fn grouped(number: impl Into<u64>) -> String {
     text
 }
 
-/// So many of them.
+/// A number and a noun, plural if needed.
 pub fn several(number: impl Into<u64>, one: &str) -> String {
     match (number.into(), one.strip_suffix('y')) {
         (1, _) => format!("1 {one}"),

@@ -55,7 +55,7 @@ fn slim_one(given: &Given, path: Option<&Path>) -> Result<(), Failure> {
     Ok(())
 }
 
-/// The manifest of the tree that is written: what the old one says of the book, and the figures of the new tree.
+/// The manifest of the new tree: the old one's values for the book, and the figures of the new tree.
 fn carried(beside: &Beside, small: Tree, digests: &Digests) -> Manifest {
     Manifest { figures: Figures::of(small, Some(digests)), guide: Guide::default(), others: Vec::new(), ..beside.manifest.clone() }
 }
@@ -72,7 +72,7 @@ fn not_carried(beside: &Beside, written: bool) -> Option<String> {
     Some(format!("codebook: {}: warning: {words}\n", beside.name()))
 }
 
-/// Write the tree; then say what it has, where the tree does not go.
+/// Write the tree, then the report, to the stream that the tree does not go to.
 fn write(given: &Given, input: &Input, small: &[u8], digests: &Digests, mut output: Output, manifest: Option<Output>) -> Result<(), Failure> {
     let (name, standard) = (output.name.clone(), output.is_standard());
     let beside = manifest.as_ref().map(|output| output.name.clone());

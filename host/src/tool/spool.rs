@@ -69,7 +69,7 @@ impl Spool {
     /// Write what the file has, and have the system begin to store it.
     pub fn fill(&mut self, bytes: &[u8]) -> io::Result<()> {
         self.file.write_all(bytes)?;
-        // Safety: the file is open. What cannot be begun now is done by `store`.
+        // Safety: the file is open. If this fails, `store` does it.
         unsafe { sync_file_range(self.file.as_raw_fd(), 0, 0, SYNC_FILE_RANGE_WRITE) };
         Ok(())
     }
@@ -82,7 +82,7 @@ impl Spool {
     }
 
     /// The same of two files that belong together: the first takes its name before the second, and loses it again where the second cannot take its own and
-    /// no older file was replaced. A failure says whether it was the second file's.
+    /// no older file was replaced. A failure tells whether the second file caused it.
     pub fn finish_both(mut self, mut second: Spool) -> Result<(), (bool, io::Error)> {
         self.store().map_err(|error| (false, error))?;
         second.store().map_err(|error| (true, error))?;

@@ -26,7 +26,7 @@ pub fn stats(given: &Given) -> Result<(), Failure> {
     })
 }
 
-/// The manifest beside a tree. What is wrong with it is told, and the tree is described all the same.
+/// The manifest beside a tree. An error in it is reported, and the tree is still described.
 fn beside(given: &Given, path: Option<&Path>, name: &str, tree: Tree) -> Option<Beside> {
     let beside = Beside::read(path).map_err(|unusable| unusable.warn(given)).ok()??;
     let difference = beside.manifest.figures.difference(&Figures::of(tree, None));
@@ -45,7 +45,7 @@ fn described(object: Object, beside: Option<&Beside>) -> Object {
     guide.name.as_ref().map_or(object.clone(), |guide| object.text("guide", guide))
 }
 
-/// The manifest, a line for each thing that it says.
+/// The manifest, a line for each member.
 fn from_manifest(beside: &Beside) -> String {
     let Manifest { maker, edition, columns, guide, .. } = &beside.manifest;
     let escaped = |value: &Option<String>| value.as_ref().map(|value| value.escape_debug().to_string());
@@ -82,7 +82,7 @@ pub fn saving(object: Object, tree: Tree) -> Object {
     }
 }
 
-/// How often each counted byte stands.
+/// How often each counted byte occurs.
 fn totals(tree: Tree) -> Vec<(u8, u64)> {
     let total = |&byte: &u8| (byte, tree.count(byte, tree.text_length()).map_or(0, |count| count.value));
     tree.settings().counted.iter().map(total).collect()
@@ -175,7 +175,7 @@ fn listing(name: &str, lines: &str) -> Object {
     Object::new().text("tree", name).objects("by_level", lines.lines().map(level))
 }
 
-/// The sizes of what a caller of the library lends.
+/// The sizes of the buffers that a caller of the library needs.
 pub fn sizes(given: &Given) -> Result<(), Failure> {
     let length = given.figure(0)?;
     let counted = build::counted(given)?;

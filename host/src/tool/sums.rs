@@ -26,7 +26,7 @@ pub fn line(digest: &Digest, name: &[u8]) -> Vec<u8> {
     [mark, digest.to_string().as_bytes(), b"  ", &escaped, b"\n"].concat()
 }
 
-/// The lines of a list, blank ones and those that begin with # aside. What is wrong with a line is said after its number.
+/// The lines of a list, except blank ones and those that begin with #. An error has the number of its line.
 pub fn read(list: &[u8]) -> Result<Vec<Sum>, (usize, &'static str)> {
     let mut sums = Vec::new();
     for (at, line) in list.split(|&byte| byte == b'\n').enumerate() {

@@ -1,7 +1,7 @@
 //! The one table of commands and options: calls are read by it, and help, the manual page and the completions are printed from it.
 
 use crate::{
-    build, by_columns, check, code, diff, digest, given::Given, guide, help, import, licence, page, picture, questions, shelf, slim, stats, Failure,
+    build, by_columns, check, code, diff, digest, given::Given, guide, help, import, licence, page, picture, questions, slim, sort, stats, Failure,
 };
 
 /// What the commands on licences share.
@@ -9,7 +9,7 @@ macro_rules! licence_days {
     ($words:literal) => {
         concat!(
             $words,
-            " A day is eight digits, year, month and day, as 20240229, from 20000101 to 20991231. Without TODAY it is the clock's day in universal time. No tree is read."
+            " A day is eight digits, year, month and day, as 20240229, from 20000101 to 20991231. Without TODAY the clock's day in universal time is used. No tree is read."
         )
     };
 }
@@ -26,7 +26,7 @@ pub struct Opt {
     pub help: &'static str,
 }
 
-/// How often a word is due.
+/// How often a word may be given.
 #[derive(Clone, Copy, Debug, PartialEq, Eq)]
 pub enum Due {
     Once,
@@ -61,8 +61,8 @@ const fn valued(long: &'static str, value: &'static str, help: &'static str) -> 
 }
 
 pub static HELP: Opt = flag("--help", Some('h'), "print help");
-pub static QUIET: Opt = flag("--quiet", Some('q'), "no report, warning or progress; answers and failures are still told");
-pub static JSON: Opt = flag("--json", None, "one JSON object a line; docs/JSON.md describes them");
+pub static QUIET: Opt = flag("--quiet", Some('q'), "print no report, warning or progress; answers and errors are still printed");
+pub static JSON: Opt = flag("--json", None, "print one JSON object a line; docs/JSON.md describes them");
 pub static OUTPUT: Opt = Opt { long: "--output", short: Some('o'), value: Some("FILE"), file: true, help: "the file to write; - is standard output" };
 pub static FORCE: Opt = flag("--force", Some('f'), "overwrite a file that exists");
 pub static KEEP_TIME: Opt = flag("--keep-time", None, "give the file the times of the one that is read");
@@ -72,14 +72,14 @@ pub static LEVELS: Opt = valued("--levels", "H", concat!("levels, 1 to 8; M x R^
 pub static COUNT: Opt = valued(
     "--count",
     "BYTES",
-    "the bytes to count and find, at most 4, rising, separated by commas, as \\n,A or 0x0a,0x41; or none. Otherwise \\n, which ends a row",
+    "the bytes to count and find: at most 4, in rising order, separated by commas, as \\n,A or 0x0a,0x41; or none. Otherwise \\n, which ends a row",
 );
 pub static COLUMNS: Opt =
-    valued("--columns", "W", "the rows of W bytes, end byte included, stand by columns; auto finds the width of rows that all have one");
-pub static ALLOW_LARGER: Opt = flag("--allow-larger", None, "write the tree by columns though the one by rows is smaller");
-pub static ROW_COLUMNS: Opt = valued("--columns", "W", "the tree is of a book by columns, of rows of W bytes, end byte included");
-pub static SMALL: Opt = flag("--small", None, "a tree without edges (layout 1): smaller; spans of nearly a leaf length take longer");
-pub static BEST: Opt = flag("--best", None, "search on from the best settings of the list: a smaller tree for some ten times the time");
+    valued("--columns", "W", "store rows of W bytes, end byte included, by columns; auto finds the width if all rows have the same one");
+pub static ALLOW_LARGER: Opt = flag("--allow-larger", None, "write the tree by columns even if the tree by rows is smaller");
+pub static ROW_COLUMNS: Opt = valued("--columns", "W", "the tree's text is a book by columns, with rows of W bytes, end byte included");
+pub static SMALL: Opt = flag("--small", None, "build a tree without edges (layout 1): smaller; spans of nearly a leaf length take longer");
+pub static BEST: Opt = flag("--best", None, "search further from the best settings of the list: a smaller tree in about ten times the time");
 pub static JOBS: Opt = Opt {
     long: "--jobs",
     short: Some('j'),
@@ -91,8 +91,8 @@ pub static MAKER: Opt = valued("--maker", "NAME", "write a manifest: who made th
 pub static EDITION: Opt = valued("--edition", "NAME", "write a manifest: the book's edition");
 pub static FIRST: Opt = valued("--first", "DAY", "write a manifest: the first day of the licence, as 2024-02-29; with --last");
 pub static LAST: Opt = valued("--last", "DAY", "write a manifest: the last day of the licence, on which the book is still open");
-pub static ANY_DAY: Opt = flag("--any-day", None, "answer although the book's licence is not open today, or its manifest is malformed");
-pub static TODAY: Opt = valued("--today", "DAY", "the day that is taken for today, as 2024-02-29; otherwise the clock's in universal time");
+pub static ANY_DAY: Opt = flag("--any-day", None, "answer even if the book's licence is not open today or its manifest is malformed");
+pub static TODAY: Opt = valued("--today", "DAY", "use this day as today, as 2024-02-29; otherwise the clock's day in universal time");
 pub static SUMS: Opt = flag("--sums", None, "print for each tree a line in the form of sha256sum, which sha256sum -c reads");
 pub static LIST: Opt = Opt {
     long: "--list",
@@ -108,7 +108,7 @@ pub static GUIDE: Opt = Opt {
     short: None,
     value: Some("GUIDE"),
     file: true,
-    help: "the tree's guide, made by guide make: start there, not at the first block",
+    help: "the tree's guide, made by guide make: start at its entry, not at the first block",
 };
 pub static MODULE: Opt = Opt {
     long: "--module",
@@ -117,14 +117,14 @@ pub static MODULE: Opt = Opt {
     file: true,
     help: "the library's WebAssembly module, made by targets/make wasm32; otherwise the one that the tool was built with",
 };
-pub static FROM: Opt = valued("--from", "ROW", "start at this row, from 1");
-pub static AFTER: Opt = valued("--after", "ROW", "the next match after this row, and no other; 0 is before the first row");
-pub static PREFIX: Opt = flag("--prefix", None, "CODE is the beginning of a row, not a whole code");
+pub static FROM: Opt = valued("--from", "ROW", "start at this row; rows are numbered from 1");
+pub static AFTER: Opt = valued("--after", "ROW", "print only the next match after this row; 0 is before the first row");
+pub static PREFIX: Opt = flag("--prefix", None, "CODE is a prefix of a row, not a whole code");
 pub static UNCHECKED: Opt = flag("--unchecked", None, "do not check the tree first; on a tree that the check refuses the answer can be wrong");
-pub static CODE: Opt = valued("--code", "COLUMN", "the column of the codes, by its number from 1 or by its name in the header line; otherwise code");
-pub static CUTS: Opt = valued("--cuts", "COLUMN", "the column of the cuts, likewise; otherwise cuts");
+pub static CODE: Opt = valued("--code", "COLUMN", "the column of the codes: its number, from 1, or its name in the header line; otherwise code");
+pub static CUTS: Opt = valued("--cuts", "COLUMN", "the column of the cuts, in the same way; otherwise cuts");
 pub static SEPARATOR: Opt =
-    valued("--separator", "BYTE", "what separates the columns, as ';' or '\\t'; otherwise the first tab, semicolon or comma is taken");
+    valued("--separator", "BYTE", "the byte that separates columns, as ';' or '\\t'; otherwise the first tab, semicolon or comma");
 pub static LENIENT: Opt = flag("--lenient", None, "status 0 even if lines are dropped");
 
 /// Options of every command.
@@ -145,7 +145,7 @@ const fn any(name: &'static str) -> Word {
 static TREE: [Word; 1] = [maybe("TREE")];
 static TREES: [Word; 1] = [any("TREE")];
 
-pub static COMMANDS: [Command; 36] = [
+pub static COMMANDS: [Command; 35] = [
     Command {
         name: "build",
         words: &[any("BOOK")],
@@ -154,16 +154,16 @@ pub static COMMANDS: [Command; 36] = [
         details: concat!(
             "A BOOK is any text of up to ",
             codebook::longest!(),
-            " bytes. Its tree goes to a file with the book's name and the ending .tree, in place of .txt or .csv or after any other ending, or to FILE; where FILE is a folder, into that one. The tree of standard input goes to standard output. \
-             An existing file is left alone unless --force is given, and is replaced whole or not at all. The tree gets the permissions of its book, never wider ones.\n\
-             Where no settings are given, a short list is tried (256/2/1, 32/6/2, 32/5/2, 24/5/3, 16/5/4, 16/4/3, 12/4/4 and 10/3/6 as leaf/arity/levels), the smallest tree is kept, and what each gave is printed. \
-             With --small the tree has no edges, and the list is that of such trees (256/2/1, 192/2/2, 128/2/4, 96/2/2, 80/2/4, 64/2/2, 64/2/4 and 64/2/5). With --best the search goes on from the smallest tree: settings that differ a little in one figure are tried, as long as one of them makes the tree smaller. \
-             The SHA-256 of the tree and that of its text are printed, to be printed with the book or kept apart from the tree: check compares them.\n\
-             Warnings tell what a reader would miss: rows that are not code, space, cuts; a byte order mark; no row at all; a tree that is no smaller than its text, and what --small would give where that is smaller.\n\
-             With --columns the tree is that of the book by columns, whose rows all have W bytes, byte 10 at the end and nowhere else. It is not written where the tree by rows is smaller, unless --allow-larger is given. Such a tree is read by row --columns; it does not say itself that its text is rearranged, but its manifest does.\n\
-             Several books are built N at a time (-j N), and written and reported in the order in which they are given; a table and the sums of all follow, and each kind of warning once. A book that fails does not stop the others.\n\
-             With --maker, --edition, or --first and --last, a manifest is written beside each tree, TREE.json: what these options say, the tree's settings, and the lengths and SHA-256 of the tree and of its text. check compares it; questions refuse a book whose licence is not open today. \
-             The manifest takes its name just before the tree, so that no tree is left without it. A manifest that is there and does not describe the tree is never left beside it: the tree is not written."
+            " bytes. Its tree goes to FILE, or into it if FILE is a folder; without -o to a file with the book's name, in which .tree replaces .txt or .csv or follows any other ending. The tree of standard input goes to standard output. \
+             An existing file is replaced only with --force, and then whole or not at all. The tree gets the permissions of its book, never wider ones.\n\
+             Without settings a short list is tried (256/2/1, 32/6/2, 32/5/2, 24/5/3, 16/5/4, 16/4/3, 12/4/4 and 10/3/6 as leaf/arity/levels), the smallest tree is kept, and what each gave is printed. \
+             With --small the tree has no edges, and the list is that of such trees (256/2/1, 192/2/2, 128/2/4, 96/2/2, 80/2/4, 64/2/2, 64/2/4 and 64/2/5). With --best the search continues from the smallest tree: settings that differ a little in one number are tried, as long as one of them makes the tree smaller. \
+             The SHA-256 of the tree and of its text are printed: publish them with the book, or keep them apart from the tree, for check to compare.\n\
+             Warnings report rows that are not code, space, cuts; a byte order mark; a book without rows; a tree that is no smaller than its text, and the size with --small if that is smaller.\n\
+             With --columns the tree is that of the book by columns: all rows have W bytes, and byte 10 is the last byte of each and occurs nowhere else. If the tree by rows is smaller, nothing is written, unless --allow-larger is given. row --columns reads such a tree. The tree does not contain the information that its text is rearranged; its manifest does.\n\
+             Several books are built N at a time (-j N), and written and reported in the order given. A table with the sums follows, and each kind of warning once. A book that fails does not stop the others.\n\
+             With --maker, --edition, or --first and --last, a manifest is written beside each tree, TREE.json: the values of these options, the tree's settings, and the lengths and SHA-256 of the tree and of its text. check compares the tree with it; questions refuse a book whose licence is not open today. \
+             The manifest gets its name just before the tree does, so that no tree is without it. If an existing manifest does not describe the new tree, the tree is not written."
         ),
         run: build::build,
     },
@@ -172,9 +172,9 @@ pub static COMMANDS: [Command; 36] = [
         words: &TREES,
         options: &[&OUTPUT, &FORCE, &KEEP_TIME, &JSON],
         summary: "write trees without their edges",
-        details: "Checks each TREE and writes it in layout 1, without its edges: the same tree of the same text, never larger. It goes to a file with the tree's name and the ending .small.tree, in place of .tree or after any other ending, or to FILE; where FILE is a folder, into that one. The TREE that is read is never overwritten. The tree that is written gets its permissions, never wider ones. The tree of standard input goes to standard output. \
-                  Every question has the same answer; spans of nearly a leaf length take longer. A TREE that has no edges is copied. \
-                  Where a manifest TREE.json describes the tree, the new tree gets one with the same maker, edition, licence and columns, and its own figures; a guide or other members are not carried over.",
+        details: "Checks each TREE and writes it in layout 1, without its edges: the same tree of the same text, never larger. It goes to FILE, or into it if FILE is a folder; without -o to a file with the tree's name, in which .small.tree replaces .tree or follows any other ending. TREE is never overwritten, and the new file gets its permissions, never wider ones. The tree of standard input goes to standard output. \
+                  Every question has the same answer; spans of nearly a leaf length take longer. A TREE without edges is copied. \
+                  If a manifest TREE.json describes the tree, the new tree gets one with the same maker, edition, licence and columns, and its own figures; a guide and other members are not copied.",
         run: slim::slim,
     },
     Command {
@@ -182,8 +182,8 @@ pub static COMMANDS: [Command; 36] = [
         words: &[maybe("FILE")],
         options: &[&OUTPUT, &FORCE, &KEEP_TIME, &CODE, &CUTS, &SEPARATOR, &LENIENT, &JSON],
         summary: "make a book from a CSV or TAB file",
-        details: "Each line of FILE becomes a row of code, space, cuts. Columns are separated by tabs, semicolons or commas, and may be quoted; in a file without any of these, the spaces after the code separate the cuts. \
-                  Byte order marks, UTF-16, line ends of any kind, blank lines and header lines are understood. The columns are those that a header line names code and cuts, or that the options name; a file of two columns needs neither.\n\
+        details: "Each line of FILE becomes a row of code, space, cuts. Columns are separated by tabs, semicolons or commas, and may be quoted; in a file without any of these, spaces separate the cuts from the code. \
+                  Byte order marks, UTF-16, line ends of any kind, blank lines and header lines are recognised. A header line names the columns code and cuts, or the options do; a file of two columns needs neither.\n\
                   Cuts are written 442231, 4-4-2-2-3-1 or 4 4 2 2 3 1. Nothing is guessed: a line whose code is not 1 to 12 bytes other than space, or whose cuts are not 1 to 10 digits, is dropped and listed with its number and the reason, and the status is 1. \
                   Without -o the book goes to standard output; a file gets the permissions of FILE, never wider ones.",
         run: import::import,
@@ -192,12 +192,12 @@ pub static COMMANDS: [Command; 36] = [
         name: "check",
         words: &TREES,
         options: &[&SHA256, &TEXT_SHA256, &SUMS, &LIST, &JSON],
-        summary: "check trees, from anyone",
-        details: "Says whether a tree is valid: right in all its parts, with true counts and edges. Prints the SHA-256 of the tree and of its text. \
-                  A tree with one leaf byte changed, and its edges with it, is a valid tree of another book, and gives a wrong key. So compare the text with the digest that the maker of the book printed (--text-sha256), or the tree's file with that of the tree (--sha256). \
+        summary: "check whether files are valid trees",
+        details: "A valid tree represents exactly one text, and its counts and edges are right. Prints the SHA-256 of the tree and of its text. \
+                  A tree with one leaf byte changed, and its edges with it, is a valid tree of another book, and gives a wrong key. So compare the text with the digest that the maker of the book published (--text-sha256), or the file with the digest of the tree (--sha256). \
                   A digest is as good as the way it came: one that came with the tree shows nothing.\n\
-                  Where a manifest TREE.json is beside the tree, all that it says of the tree, and of a guide that it names, must be true. \
-                  With --sums a line is printed for each tree, as sha256sum prints it of the tree's file; -c LIST checks the trees of such a list, from codebook or from sha256sum. Names are those of the current folder, as with sha256sum -c; a line of another form is refused.",
+                  If there is a manifest TREE.json, the tree must have all its figures, and a guide that it names must be the tree's. \
+                  With --sums a line is printed for each tree, as sha256sum prints it for the file; -c LIST checks the trees of such a list, from codebook or from sha256sum. Names are relative to the current folder, as with sha256sum -c; a line of another form is refused.",
         run: check::check,
     },
     Command {
@@ -205,7 +205,7 @@ pub static COMMANDS: [Command; 36] = [
         words: &[one("BOOK"), one("TREE"), any("BOOK TREE")],
         options: &[&COLUMNS, &JSON],
         summary: "compare trees with their books",
-        details: "Says whether TREE is a valid tree of the text BOOK, and whether it is the one that build makes, byte for byte; where it is not of that text, which byte differs first.",
+        details: "Checks that TREE is a valid tree of the text BOOK, and prints whether it is the tree that build makes, byte for byte. If TREE has another text, prints the first byte that differs.",
         run: check::verify,
     },
     Command {
@@ -213,7 +213,7 @@ pub static COMMANDS: [Command; 36] = [
         words: &TREES,
         options: &[&JSON, &UNCHECKED],
         summary: "print the SHA-256 of trees' texts",
-        details: "One line for each tree, as sha256sum prints it: the SHA-256 of the tree's text, two spaces, the tree's name. It is the digest that sha256sum prints of the book.",
+        details: "One line for each tree, as sha256sum prints it: the SHA-256 of the tree's text, two spaces, the tree's name. It is the digest that sha256sum prints for the book.",
         run: digest::digest,
     },
     Command {
@@ -221,8 +221,8 @@ pub static COMMANDS: [Command; 36] = [
         words: &[one("ONE"), one("OTHER")],
         options: &[&JSON, &ANY_DAY, &TODAY],
         summary: "print the rows that differ between two books or trees",
-        details: "Rows are compared by code, the bytes before the first space: a row is removed, added, or changed, if the same code has other cuts. Their order does not matter, and a code may have several rows. ONE and OTHER are trees, which are checked first, or books. \
-                  The text of a tree by columns is turned back first, by text and from-columns.\n\
+        details: "Rows are compared by code, the bytes before the first space: a row is removed, added, or changed (the same code with other cuts). The order of rows does not matter, and a code may have several rows. ONE and OTHER are books, or trees, which are checked first. \
+                  For a tree by columns, restore the book first with text and from-columns.\n\
                   The status is that of diff(1): 0 the rows are the same, 1 they differ, 2 trouble, a refused tree included.",
         run: diff::diff,
     },
@@ -231,7 +231,7 @@ pub static COMMANDS: [Command; 36] = [
         words: &TREES,
         options: &[&JSON],
         summary: "list a tree's levels",
-        details: "One line for each level: level, blocks, kept, pointing. A refused tree gives the line 'refused N'. With several trees, one line for each, the levels parted by /. For trees of at most 65,536 bytes; stats is for all.",
+        details: "One line for each level: level, blocks, kept, pointing. For a refused tree the line is 'refused N'. With several trees, one line for each, with / between the levels. For trees of at most 65,536 bytes; stats is for all trees.",
         run: stats::list,
     },
     Command {
@@ -239,7 +239,7 @@ pub static COMMANDS: [Command; 36] = [
         words: &TREES,
         options: &[&JSON],
         summary: "describe trees",
-        details: "Sizes, settings, rows, what is counted, what its manifest TREE.json says, where the tree's bytes go, and the blocks of each level. With several trees, one line for each.",
+        details: "Prints sizes, settings, rows, counted bytes, the manifest TREE.json, how the tree's bytes are used, and the blocks of each level. With several trees, one line for each.",
         run: stats::stats,
     },
     Command {
@@ -247,17 +247,17 @@ pub static COMMANDS: [Command; 36] = [
         words: &TREE,
         options: &[&OUTPUT, &FORCE, &KEEP_TIME, &JSON],
         summary: "draw a tree's levels as an SVG file",
-        details: "Each level is a bar of its blocks in the text's order. Kept blocks are tall and dark; pointing blocks are low, in the colour of the place that they point to, which the strip at the top shows. Few pointing blocks have an arrow besides. Where blocks are too narrow to be drawn, the height in each pixel is the share of its text that is kept, and that points.",
+        details: "Each level is a bar of its blocks in the text's order. Kept blocks are tall and dark; pointing blocks are low, in the colour of the place that they point to, which the strip at the top shows. If there are few, each also has an arrow. Where blocks are too narrow to be drawn, the heights in each pixel are the shares of its text that are kept and that point.",
         run: picture::picture,
     },
     Command {
         name: "page",
         words: &[Word { name: "TREE", due: Due::AtLeastOnce }],
         options: &[&OUTPUT, &FORCE, &MODULE, &JSON],
-        summary: "write trees as one HTML file that answers by itself",
-        details: "The file holds the trees and the library, compiled to WebAssembly from the proved code. A browser opens it without a network: it checks the trees, shows their facts and digests, answers rows, codes, counts, places and worn keys, and draws the path of each answer. \
+        summary: "write trees as one HTML file that needs no server",
+        details: "The file contains the trees and the library, compiled to WebAssembly from the proved code. A browser opens it without a network: it checks the trees, shows their facts and digests, answers rows, codes, counts, places and worn keys, and draws the path of each answer. \
                   Other trees can be dropped on it, and books, whose trees it builds. Each TREE is checked first, and a refused one is not written. \
-                  Where a file TREE.json lies beside a tree, its members maker, edition, first and last are shown too; from first to last, days such as 2024-02-29, the book is open. \
+                  If there is a manifest TREE.json, maker, edition, and the first and last day of the licence are shown too. \
                   The file gets the permissions that all trees have, never wider ones. A tree by columns is shown as it is.",
         run: page::page,
     },
@@ -266,8 +266,8 @@ pub static COMMANDS: [Command; 36] = [
         words: &[one("ROWS"), maybe("TREE")],
         options: &[&GUIDE, &ROW_COLUMNS, &JSON, &UNCHECKED, &ANY_DAY, &TODAY],
         summary: "print a row of the book, or several",
-        details: "ROWS is a number from 1 to the number of rows, or a range such as 5..20, both included, 5.. or ..20. A row ends in byte 10, or in bytes 13 and 10; the tree must count byte 10 (it does unless build was told otherwise). \
-                  It is printed with a plain line end, without the 13. If the book's last byte is another one, what follows the last byte 10 is a row too. With --columns a width at which the rows do not all end in byte 10 is refused, and one that is not the manifest's.",
+        details: "ROWS is a number from 1 to the number of rows, or a range such as 5..20, both included, 5.. or ..20. A row ends in byte 10, or in bytes 13 and 10; the tree must count byte 10, as it does unless build --count excludes it. \
+                  A row is printed with byte 10 alone at its end. If the book does not end in byte 10, the bytes after the last byte 10 are a row too. With --columns a width is refused if not all rows then end in byte 10, or if it differs from the manifest's.",
         run: questions::ask,
     },
     Command {
@@ -282,8 +282,8 @@ pub static COMMANDS: [Command; 36] = [
         name: "run",
         words: &[one("PLACE"), maybe("TREE")],
         options: &[&JSON, &UNCHECKED, &ANY_DAY, &TODAY],
-        summary: "print where a place's bytes lie in the tree",
-        details: "Prints the offset in the tree and the length of the longest part of its leaf bytes that is the text from this place on without a break, and these bytes.",
+        summary: "print the leaf bytes of the tree from a place on",
+        details: "Prints the longest contiguous range of the tree's leaf bytes that is the text from this place on: its offset in the tree, its length, and the bytes.",
         run: questions::ask,
     },
     Command {
@@ -291,7 +291,7 @@ pub static COMMANDS: [Command; 36] = [
         words: &[one("PLACE"), one("LENGTH"), maybe("TREE")],
         options: &[&JSON, &UNCHECKED, &ANY_DAY, &TODAY],
         summary: "print LENGTH bytes from a place",
-        details: "Places start at 0. The bytes as they are, and nothing else.",
+        details: "Places start at 0. Prints the bytes as they are, and nothing else.",
         run: questions::ask,
     },
     Command {
@@ -307,7 +307,7 @@ pub static COMMANDS: [Command; 36] = [
         words: &[one("BYTE"), one("NUMBER"), maybe("TREE")],
         options: &[&GUIDE, &JSON, &UNCHECKED, &ANY_DAY, &TODAY],
         summary: "print the place of the NUMBER-th occurrence of a byte",
-        details: "NUMBER goes from 1 to how often the byte occurs in the book. BYTE is one character, its number as 0x0a, or \\n, \\r, \\t, \\\\ or \\xHH; the tree must count it. Prints the place, and how many blocks lead to it.",
+        details: "NUMBER goes from 1 to how often the byte occurs in the book. BYTE is one character, its number as 0x0a, or \\n, \\r, \\t, \\\\ or \\xHH; the tree must count it. Prints the place, and how many blocks were entered.",
         run: questions::ask,
     },
     Command {
@@ -315,8 +315,8 @@ pub static COMMANDS: [Command; 36] = [
         words: &[one("TEXT"), maybe("TREE")],
         options: &[&JSON, &UNCHECKED, &ANY_DAY, &TODAY],
         summary: "print all places of a code fragment, one to a line",
-        details: "TEXT is 1 to 256 bytes, as they stand in the book; \\n is byte 10, \\r byte 13, \\t byte 9, \\xHH the byte of that hexadecimal number, \\\\ a backslash. Places start at 0 and may overlap. Where there is none the status is 1. \
-                  A TEXT that begins with - goes after --.",
+        details: "TEXT is 1 to 256 bytes, as they are in the book; \\n is byte 10, \\r byte 13, \\t byte 9, \\xHH the byte of that hexadecimal number, \\\\ a backslash. Places start at 0; occurrences may overlap. If there is none, the status is 1. \
+                  Write -- before a TEXT that begins with -.",
         run: questions::ask,
     },
     Command {
@@ -324,26 +324,18 @@ pub static COMMANDS: [Command; 36] = [
         words: &[one("CODE"), any("TREE")],
         options: &[&PREFIX, &GUIDE, &JSON, &UNCHECKED, &ANY_DAY, &TODAY],
         summary: "print the rows of a code, in one or several books",
-        details: "The rows that begin with CODE and one space; with --prefix those that begin with CODE. CODE has 1 to 255 bytes, with --prefix 1 to 256; \\n, \\r, \\t, \\\\ and \\xHH are one byte each, as in places. The tree must count byte 10. \
-                  Each row is printed after the tree's name and the row's number, and after maker and edition where its manifest TREE.json has them.\n\
-                  The status is 0 where a row was printed and no tree failed, 1 where no row begins so or a tree is refused, 2 where the call or a file is not right.",
+        details: "Prints the rows that start with CODE and one space; with --prefix those that start with CODE. CODE has 1 to 255 bytes, with --prefix 1 to 256; \\n, \\r, \\t, \\\\ and \\xHH are one byte each, as in places. The tree must count byte 10. \
+                  Before each row are the tree's name, maker and edition if the manifest TREE.json has them, and the row's number.\n\
+                  The status is 0 if a row was printed and no tree failed, 1 if no row starts with CODE or a tree is refused, 2 if the call is wrong or a file cannot be read.",
         run: code::code,
     },
     Command {
         name: "match",
         words: &[one("CUTS"), maybe("TREE")],
         options: &[&FROM, &AFTER, &JSON, &UNCHECKED, &ANY_DAY, &TODAY],
-        summary: "print the rows that match a worn key",
-        details: "CUTS is, for each of 1 to 10 cuts, a depth from 0 to 9, a range of depths such as [3-5], or ? for any: 44[3-5]22? or 4,4,3-5,2,2,0-9. A key is a row of a code, one space and 1 to 10 digits; the code has 1 to 12 bytes and no space. \
-                  It matches with as many cuts as are asked for, each in its range. The tree must count byte 10. Prints each row that matches with its number. Where none does the status is 1.",
-        run: questions::ask,
-    },
-    Command {
-        name: "worn",
-        words: &[one("LOWS"), one("HIGHS"), maybe("TREE")],
-        options: &[&FROM, &AFTER, &JSON, &UNCHECKED, &ANY_DAY, &TODAY],
-        summary: "match, by the lowest and the highest depth of each cut",
-        details: "LOWS and HIGHS have a digit for each of 1 to 10 cuts: the lowest and the highest depth that it may have. The rows are those of match.",
+        summary: "print the rows whose cuts are in given ranges (a worn key)",
+        details: "CUTS has, for each of 1 to 10 cuts, a depth from 0 to 9, a range of depths such as [3-5], or ? for any depth: 44[3-5]22? or 4,4,3-5,2,2,0-9. A key is a row with a code of 1 to 12 bytes without a space, one space, and 1 to 10 digits, its cuts. \
+                  It matches if it has as many cuts as CUTS, each in its range. The tree must count byte 10. Prints each row that matches, with its number. If there is none, the status is 1.",
         run: questions::ask,
     },
     Command {
@@ -351,7 +343,7 @@ pub static COMMANDS: [Command; 36] = [
         words: &TREE,
         options: &[&JSON, &UNCHECKED, &ANY_DAY, &TODAY],
         summary: "print the whole book",
-        details: "The bytes as they are, and nothing else.",
+        details: "Prints the bytes as they are, and nothing else.",
         run: questions::ask,
     },
     Command {
@@ -359,7 +351,7 @@ pub static COMMANDS: [Command; 36] = [
         words: &[one("WIDTH"), maybe("BOOK")],
         options: &[&OUTPUT, &FORCE, &KEEP_TIME, &JSON],
         summary: "rearrange a book's rows of one width by columns",
-        details: "WIDTH counts the byte that ends a row; auto finds it. All rows must have this width. With rows and columns counted from 0, the byte of row a and column b moves to place b x rows + a. Without -o the bytes go to standard output.",
+        details: "WIDTH includes the byte that ends a row; auto finds it. All rows must have this width. The text is transposed as a matrix: with rows and columns numbered from 0, the byte of row a and column b moves to place b x rows + a. Without -o the bytes go to standard output.",
         run: by_columns::to_columns,
     },
     Command {
@@ -367,7 +359,7 @@ pub static COMMANDS: [Command; 36] = [
         words: &[one("WIDTH"), maybe("FILE")],
         options: &[&OUTPUT, &FORCE, &KEEP_TIME, &JSON],
         summary: "rearrange a book by columns back to rows",
-        details: "The inverse of to-columns for the same width; a width at which the rows do not all end in byte 10 is refused. Without -o the bytes go to standard output.",
+        details: "The inverse of to-columns for the same width; a width is refused if not all rows then end in byte 10. Without -o the bytes go to standard output.",
         run: by_columns::from_columns,
     },
     Command {
@@ -375,7 +367,7 @@ pub static COMMANDS: [Command; 36] = [
         words: &TREE,
         options: &[&OUTPUT, &FORCE, &KEEP_TIME, &JSON],
         summary: "make the guide of a tree",
-        details: "A guide has the number of the level 0 block that holds the 1st, 65th, 129th occurrence and so on of each byte that the tree counts. find, row and code with --guide start there and not at the first block. Without -o the guide goes to standard output. A guide in the folder of TREE is entered into TREE's manifest, if there is one.",
+        details: "A guide (sampled select directory) lists the level 0 blocks that contain the 1st, 65th, 129th occurrence and so on of each byte that the tree counts. find, row and code with --guide start there, not at the first block. Without -o the guide goes to standard output. A guide in the folder of TREE is added to TREE's manifest, if there is one.",
         run: guide::make,
     },
     Command {
@@ -383,31 +375,31 @@ pub static COMMANDS: [Command; 36] = [
         words: &[one("GUIDE"), maybe("TREE")],
         options: &[&JSON],
         summary: "check a tree and its guide",
-        details: "Says whether GUIDE is exactly the guide of TREE, and TREE is a valid one. find, row and code do this first unless they are told --unchecked.",
+        details: "Checks that TREE is valid and GUIDE is exactly its guide. find, row and code check this first, unless --unchecked is given.",
         run: guide::check,
     },
     Command {
         name: "compare",
         words: &[one("ONE"), one("OTHER")],
         options: &[&JSON, &UNCHECKED],
-        summary: "say which of two trees' books stands first",
-        details: "Books are in lexicographic order of their bytes; a book that is the beginning of another comes before it. The trees may have any settings and layouts. Prints where ONE stands, and how many bytes both books share from their start on.",
-        run: shelf::compare,
+        summary: "print which of two trees' books comes first",
+        details: "Books are in lexicographic order of their bytes; a book that is the beginning of another comes before it. The trees may have any settings and layouts. Prints whether ONE comes before or after OTHER, and the length of their longest common prefix.",
+        run: sort::compare,
     },
     Command {
-        name: "shelf",
+        name: "sort",
         words: &[Word { name: "TREE", due: Due::AtLeastOnce }],
         options: &[&JSON],
-        summary: "print trees' names in the order of their books",
-        details: "One name to a line, ordered as compare says; trees of the same book stay as given. A tree that the check refuses is told and left out, and the status is 1.",
-        run: shelf::sort,
+        summary: "sort trees by their books and print their names",
+        details: "One name a line, in the order of compare; trees of the same book keep the order given. A tree that the check refuses is reported and left out, and the status is 1.",
+        run: sort::sort,
     },
     Command {
         name: "licence open",
         words: &[one("FIRST"), one("LAST"), maybe("TODAY")],
         options: &[&JSON],
-        summary: "say whether a book is open, with the days left",
-        details: licence_days!("Open from the first day to the last, both included; or closed, and why, with status 1."),
+        summary: "print whether a book is open, and the days left",
+        details: licence_days!("A book is open from the first day to the last, both included. Otherwise prints why it is closed; the status is 1."),
         run: licence::open,
     },
     Command {
@@ -415,7 +407,7 @@ pub static COMMANDS: [Command; 36] = [
         words: &[one("LAST"), maybe("TODAY")],
         options: &[&JSON],
         summary: "print the days left",
-        details: licence_days!("The days from today to the last: 0 on the last day, below zero after it."),
+        details: licence_days!("The days from today to the last day: 0 on the last day, negative after it."),
         run: licence::left,
     },
     Command {
@@ -430,8 +422,8 @@ pub static COMMANDS: [Command; 36] = [
         name: "sizes",
         words: &[one("LENGTH")],
         options: &[&LEAF, &ARITY, &LEVELS, &COUNT, &JSON],
-        summary: "print the sizes of what a caller lends",
-        details: "For a text of LENGTH bytes: bytes that are enough for its tree, and words of the table that the builder with one scan a level works in. --leaf, --arity and --levels are due.",
+        summary: "print the sizes of the buffers that a caller needs",
+        details: "For a text of LENGTH bytes: a size that is enough for its tree, and the words of the table for bt_build_scanned. --leaf, --arity and --levels are required.",
         run: stats::sizes,
     },
     Command {

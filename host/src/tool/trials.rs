@@ -24,7 +24,7 @@ pub struct Chosen {
     pub tried: Vec<Trial>,
 }
 
-/// What the caller asks for.
+/// The caller's request.
 pub struct Request {
     /// None to have a list tried.
     pub settings: Option<Settings>,
@@ -61,7 +61,7 @@ pub fn best(text: &[u8], request: &Request) -> Result<Chosen, Refusal> {
     }
 }
 
-/// What is said before a search that can take minutes: what the list took, and the time that the search is likely to take.
+/// The message before a search that can take minutes: the time of the list, and the likely time of the search.
 fn announcement(list: Duration) -> String {
     let seconds = list.as_secs_f64();
     format!("codebook: the list of settings took {seconds:.1} s; --best searches on, some {:.0} s more\n", (10.0 * seconds).max(1.0))
@@ -125,7 +125,7 @@ fn choose(text: &[u8], list: &[Settings], request: &Request) -> Result<Chosen, R
     Ok(Chosen { settings, tree, tried })
 }
 
-/// Try each settings, as many at a time as the request says. Of trees that are built only the smallest is kept.
+/// Try each of the settings, with the number of threads of the request. Of the trees that are built only the smallest is kept.
 fn all(text: &[u8], list: &[Settings], request: &Request) -> Vec<Tried> {
     let next = AtomicUsize::new(0);
     let results: Mutex<Vec<Option<Tried>>> = Mutex::new(list.iter().map(|_| None).collect());

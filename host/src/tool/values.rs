@@ -1,4 +1,4 @@
-//! Words of a call as numbers, bytes and ranges; what is wrong with one is said in words.
+//! Arguments as numbers, bytes and ranges; an error is a message.
 
 use codebook::{Digest, Range};
 use std::ffi::OsStr;
@@ -16,7 +16,7 @@ pub fn number(what: &str, word: &OsStr) -> Result<u32, String> {
     let text = word.to_string_lossy();
     let negative = text.strip_prefix('-').is_some_and(|digits| !digits.is_empty() && digits.bytes().all(|byte| byte.is_ascii_digit()));
     match text.parse() {
-        // a sign before it is let pass by the library's reading of numbers alone
+        // `parse` accepts a plus sign, this does not
         Ok(number) if !text.starts_with('+') => Ok(number),
         _ if negative => Err(format!("{what} is a number from 0 to 4294967295; {text} is negative")),
         _ => Err(format!("{what} is a number from 0 to 4294967295, not '{text}'")),
@@ -52,7 +52,7 @@ pub fn rows(word: &OsStr) -> Result<(u32, Option<u32>), String> {
     let first = if first.is_empty() { 1 } else { read(first)? };
     let last = if last.is_empty() { None } else { Some(read(last)?) };
     match last {
-        Some(last) if first > last => Err(format!("{text}: row {first} stands after row {last}")),
+        Some(last) if first > last => Err(format!("{text}: row {first} is after row {last}")),
         _ => Ok((first, last)),
     }
 }
@@ -72,7 +72,7 @@ pub fn byte(word: &OsStr) -> Result<u8, String> {
     })
 }
 
-/// Bytes parted by commas, or `none`.
+/// Bytes separated by commas, or `none`.
 pub fn bytes(word: &OsStr) -> Result<Vec<u8>, String> {
     if word == "none" {
         return Ok(Vec::new());
@@ -80,7 +80,7 @@ pub fn bytes(word: &OsStr) -> Result<Vec<u8>, String> {
     word.as_bytes().split(|&byte| byte == b',').map(|part| byte(OsStr::from_bytes(part))).collect()
 }
 
-/// The bytes of a word, in which `\n`, `\r`, `\t`, `\\` and `\xHH` stand for one byte.
+/// The bytes of an argument, in which `\n`, `\r`, `\t`, `\\` and `\xHH` are one byte each.
 pub fn pattern(word: &OsStr) -> Result<Vec<u8>, String> {
     let mut bytes = Vec::new();
     let mut rest = word.as_bytes();
@@ -98,7 +98,7 @@ pub fn pattern(word: &OsStr) -> Result<Vec<u8>, String> {
     Ok(bytes)
 }
 
-/// What stands after a backslash: the byte, and how many letters name it.
+/// The byte that the letters after a backslash name, and the number of these letters.
 fn escaped(letters: &[u8]) -> Option<(u8, usize)> {
     let hexadecimal = |digit: &u8| char::from(*digit).to_digit(16);
     match letters {
@@ -137,19 +137,6 @@ pub fn cuts(word: &OsStr) -> Result<Vec<Range>, String> {
     Ok(ranges)
 }
 
-/// A low and a high depth for each cut.
-pub fn depths(lows: &OsStr, highs: &OsStr) -> Result<Vec<Range>, String> {
-    let digits = |what: &str, word: &OsStr| match word.as_bytes().iter().all(u8::is_ascii_digit) {
-        true => Ok(word.as_bytes().to_vec()),
-        false => Err(format!("{what} has a digit for each cut, not '{}'", word.to_string_lossy())),
-    };
-    let (lows, highs) = (digits("LOWS", lows)?, digits("HIGHS", highs)?);
-    if lows.len() != highs.len() {
-        return Err(format!("LOWS and HIGHS have a digit for each cut; they have {} and {}", lows.len(), highs.len()));
-    }
-    Ok(lows.iter().zip(&highs).map(|(low, high)| Range { low: low - b'0', high: high - b'0' }).collect())
-}
-
 #[cfg(test)]
 mod tests {
     use super::{byte, number, pattern, rows};
@@ -170,7 +157,7 @@ mod tests {
         let read = |word: &str| rows(OsStr::new(word));
         assert_eq!((read("7"), read("5..20"), read("5..5")), (Ok((7, Some(7))), Ok((5, Some(20))), Ok((5, Some(5)))));
         assert_eq!((read("5.."), read("..20"), read("..")), (Ok((5, None)), Ok((1, Some(20))), Ok((1, None))));
-        assert_eq!(read("5..4"), Err("5..4: row 5 stands after row 4".to_owned()));
+        assert_eq!(read("5..4"), Err("5..4: row 5 is after row 4".to_owned()));
         for word in ["x", "1..x", "-1..2", "1..2..3", "1...2"] {
             assert!(read(word).is_err(), "{word}");
         }

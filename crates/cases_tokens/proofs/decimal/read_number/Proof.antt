@@ -1,4 +1,4 @@
--- `read_number` meets its contract. The loop's invariant: the digits left, after the number read, say what the whole word says.
+-- `read_number` meets its contract. The loop's invariant: the number read so far and the digits left together represent what the whole word represents.
 use Prim.Native.Nat.{_-_, _≤_}
 use mathlib.Core.Path.{_≡_, _∙_}
 use native.Mathlib.Omega.{arith}

@@ -1,4 +1,4 @@
--- `fingerprint_at` meets its contract: the part that is lent is the stretch.
+-- `fingerprint_at` meets its contract: the slice is the substring.
 use mathlib.Core.Path.{ap, _∙_}
 use Prim.Native.Nat.{ℕ}
 use native.Mathlib.Nat.{add-sub-cancel-left}

@@ -1,4 +1,4 @@
--- `stands` meets its contract: where the fingerprints differ the bytes differ, and else the bytes are compared.
+-- `stands` meets its contract: if the fingerprints differ, the bytes differ; otherwise the bytes are compared.
 use mathlib.Core.Path.{sym}
 use borrow.Author.Needs.{needs}
 use Rattle.search.proofs.ScanLaws.{differ}

@@ -1,4 +1,4 @@
-//! Books in order: two trees compared, and a shelf of them sorted.
+//! Two trees compared by their books, and several sorted, in lexicographic order.
 
 use crate::check::{open, refused};
 use crate::given::Given;
@@ -13,7 +13,7 @@ use std::ffi::OsString;
 use std::os::unix::ffi::OsStrExt;
 use std::path::Path;
 
-/// Say where one tree's book stands beside the other's.
+/// Print whether one tree's book comes before the other's.
 pub fn compare(given: &Given) -> Result<(), Failure> {
     let inputs = (input::read(given.file(0), &TREE)?, input::read(given.file(1), &TREE)?);
     let unchecked = given.has(&UNCHECKED);
@@ -21,20 +21,20 @@ pub fn compare(given: &Given) -> Result<(), Failure> {
     let (one, other) = (&inputs.0.name, &inputs.1.name);
     let both = Input { name: format!("{one} and {other}"), bytes: Vec::new() };
     let compared = trees.0.compare(&trees.1).map_err(|refusal| refused(&both, refusal))?;
-    let (stands, order) = match compared.ordering {
-        Ordering::Less => ("stands before", "before"),
-        Ordering::Equal => ("holds the same book as", "same"),
-        Ordering::Greater => ("stands after", "after"),
+    let (comes, order) = match compared.ordering {
+        Ordering::Less => ("comes before", "before"),
+        Ordering::Equal => ("has the same book as", "same"),
+        Ordering::Greater => ("comes after", "after"),
     };
     if given.json() {
         let object = Object::new().text("one", one).text("other", other).text("order", order).number("shared", compared.shared);
         return say::print(object.line().as_bytes());
     }
-    say::print(format!("{one} {stands} {other}; {} shared\n", several(compared.shared, "byte")).as_bytes())
+    say::print(format!("{one} {comes} {other}; {} shared\n", several(compared.shared, "byte")).as_bytes())
 }
 
-/// Print the names of trees in the order of their books, one to a line, as they were given. Trees of the same book stay as given; those that are refused
-/// are told.
+/// Print the names of trees, as they were given, in the order of their books, one a line. Trees of the same book keep the order given. Refused trees are
+/// reported.
 pub fn sort(given: &Given) -> Result<(), Failure> {
     let mut inputs = Vec::new();
     let read = given.words.iter().map(|path| {
