@@ -2,7 +2,7 @@
 use mathlib.Core.List.{List}
 use mathlib.Core.Path.{_≡_, refl, sym, ap, _∙_}
 use Prim.Native.Nat.{ℕ}
-use Rattle.format.specs.Said.{Said, replied}
+use Rattle.format.specs.Answers.{Said, replied}
 use Rattle.format.specs.SaidLaws.{unless-number}
 use Rattle.ask_access.specs.declared.Copied.{Copied}
 use Rattle.ask_access.specs.declared.Copied.the-variants as copied

@@ -8,14 +8,11 @@ use borrow.Author.Tests.{le-leb, ne-eqb}
 use lib.ListN.{getD, take, drop}
 use lib.Seq.{getD-take, getD-drop}
 use lib.Dec.{leb, eqb}
-use Rattle.format.specs.Settings.{maxCounted}
-use Rattle.format.specs.HeaderPlaces.{countedAt}
-use Rattle.format.specs.Said.{Said, refused, unless, replied}
+use Rattle.format.specs.Layout.{maxCounted, countedAt}
+use Rattle.format.specs.Answers.{Said, refused, unless, replied, saying, isCounted, numberOfByte, countSays, selectNumber}
 use Rattle.format.specs.Layout as at
-use Rattle.format.specs.Verdict.{ask, readable}
+use Rattle.format.specs.TreeReading.{ask, readable}
 use Rattle.format.specs.LayoutLaws.{readable-facts}
-use Rattle.format.specs.CountSays.{isCounted, numberOfByte, countSays}
-use Rattle.format.specs.FindSays.{selectNumber}
 use Rattle.format.specs.FindSaysLaws.{FindSays}
 use Rattle.format.specs.RowSaysLaws.{RowSays}
 use Rattle.theory_counts.specs.CountsLocal.{byteOf}
@@ -30,7 +27,6 @@ use Rattle.ask_rank.specs.Counts.{countReply, uncountedNumber}
 use Rattle.ask_select.specs.Found.{findReply}
 use Rattle.ask_rows.specs.RowAnswers.{rowReply}
 use Rattle.text.specs.declared.TextPlace.{TextPlace}
-use Rattle.abi.specs.ExportAnswers.{saying}
 
 module _ (r : Counted) (s : Said) (is : replied (countReply r) ≡ s) where
   pub count-told : (times entered : ℕ) → r ≡ count.Times times entered → saying 0 times entered ≡ s
@@ -73,7 +69,7 @@ above-refused zero true = omega arith
 above-refused zero false = omega arith
 above-refused (suc n) b = rw (not-zero n) (let z : 0 < suc n = omega arith in z)
 
--- no byte of a tree is above 255
+-- No byte of a tree is above 255.
 module _ (t : List ℕ) (bytes : (k : ℕ) → getD t k 0 < 256) (byte : ℕ) (high : 255 < byte) where
   counted-byte : (x : ℕ) → x < at.countedCount t → at.countedCount t ≤ maxCounted → byteOf t x ≡ getD t (countedAt + x) 0
   unfolding byteOf at.settings

@@ -7,14 +7,12 @@ use Prim.Native.Nat.{ℕ, _-_, _≤_, min}
 use native.Mathlib.Omega.{arith}
 use borrow.Author.Tests.{eqb-true}
 use lib.Dec.{eqb}
-use Rattle.format.specs.Settings.{maxText}
-use Rattle.format.specs.Said.{Said, replied}
+use Rattle.format.specs.Layout.{maxText}
+use Rattle.format.specs.Answers.{Said, replied, saying, byteSays, runOf, runSays, spanSays}
 use Rattle.format.specs.SaidLaws.{unless-passes}
 use Rattle.format.specs.Layout as at
-use Rattle.format.specs.Path.{Path, pathOf}
-use Rattle.format.specs.Verdict.{readable}
+use Rattle.format.specs.TreeReading.{Path, pathOf, readable}
 use Rattle.format.specs.LayoutLaws.{readable-facts}
-use Rattle.format.specs.ReadSays.{byteSays, runOf, runSays, spanSays}
 use Rattle.theory_paths.specs.Shift.{left-most}
 use Rattle.ask_access.specs.declared.Answer.{Answer}
 use Rattle.ask_access.specs.declared.Answer.the-variants as answer
@@ -29,8 +27,7 @@ use Rattle.build_enough.specs.declared.Room.the-variants as room
 use Rattle.build_enough.specs.Enough.{enoughReply}
 use Rattle.list_lines.specs.declared.Listed.{Listed}
 use Rattle.list_lines.specs.declared.Listed.the-variants as listed
-use Rattle.list_lines.specs.ListSays.{listReply}
-use Rattle.abi.specs.ExportAnswers.{saying}
+use Rattle.list_lines.specs.ListedLines.{listReply}
 
 -- build and enough
 
@@ -48,7 +45,7 @@ module _ (r : Room) (s : Said) (is : replied (enoughReply r) ≡ s) where
   pub enough-refused : (q : ℕ) → r ≡ room.Refused q → saying q 0 0 ≡ s
   enough-refused q e = sym (ap (λ (x : Room). replied (enoughReply x)) e) ∙ is
 
--- list
+-- List.
 
 module _ (r : Listed) (s : Said) (is : replied (listReply r) ≡ s) where
   pub list-told : (n : ℕ) → r ≡ listed.Bytes n → saying 0 n 0 ≡ s
@@ -57,7 +54,7 @@ module _ (r : Listed) (s : Said) (is : replied (listReply r) ≡ s) where
   pub list-refused : (q : ℕ) → r ≡ listed.Refused q → saying q 0 0 ≡ s
   list-refused q e = sym (ap (λ (x : Listed). replied (listReply x)) e) ∙ is
 
--- byte
+-- Byte.
 
 module _ (r : Answer) (s : Said) (is : replied (byteReply r) ≡ s) where
   pub byte-told : (value entered : ℕ) → r ≡ answer.Byte value entered → saying 0 value entered ≡ s

@@ -2,16 +2,15 @@
 use mathlib.Core.List.{List}
 use mathlib.Core.Path.{_≡_, sym, ap, subst, _∙_}
 use Prim.Native.Nat.{ℕ}
-use Rattle.format.specs.Said.{Said, replied}
+use Rattle.format.specs.Answers.{Said, replied, saying}
 use Rattle.ask_rows.specs.declared.RowLength.{RowLength}
 use Rattle.ask_rows.specs.declared.RowLength.the-variants as size
 use Rattle.ask_rows.specs.declared.RowCount.{RowCount}
 use Rattle.ask_rows.specs.declared.RowCount.the-variants as count
-use Rattle.ask_rows.specs.RowLengths.{LengthSays, lengthReply, rowCountReply}
+use Rattle.ask_rows.specs.RowAnswers.{LengthSays, lengthReply, rowCountReply}
 use Rattle.ask_patterns.specs.declared.PlacesRoom.{PlacesRoom}
 use Rattle.ask_patterns.specs.declared.PlacesRoom.the-variants as room
-use Rattle.ask_patterns.specs.PlacesAnswer.{roomReply}
-use Rattle.abi.specs.ExportAnswers.{saying}
+use Rattle.ask_patterns.specs.Places.{roomReply}
 
 module _ (r : RowCount) (s : Said) (is : replied (rowCountReply r) ≡ s) where
   pub count-told : (n : ℕ) → r ≡ count.Rows n → saying 0 n 0 ≡ s

@@ -4,20 +4,18 @@ use mathlib.Core.Path.{_≡_, refl, sym, ap, subst, _∙_}
 use Prim.Native.Nat.{ℕ, _<_}
 use native.Mathlib.Omega.{arith}
 use lib.ListN.{getD}
-use Rattle.format.specs.Said.{Said, refused, replied}
+use Rattle.format.specs.Answers.{Said, refused, replied, saying, RowBy}
 use Rattle.text.specs.declared.TextPlace.{TextPlace}
 use Rattle.ask_guide.specs.declared.Size.{Size}
 use Rattle.ask_guide.specs.declared.Size.the-variants as size
-use Rattle.ask_guide.specs.GuideAnswers.{sizeReply}
+use Rattle.ask_guide.specs.Guides.{sizeReply}
 use Rattle.ask_guided.specs.declared.Guided.{Guided}
 use Rattle.ask_guided.specs.declared.Guided.the-variants as guided
 use Rattle.ask_guided.specs.Guided.{GuidedSays, guidedReply, stepsOf}
 use Rattle.ask_rows.specs.declared.RowCopied.{RowCopied}
 use Rattle.ask_rows.specs.declared.RowCopied.the-variants as row
-use Rattle.format.specs.RowSays.{RowBy}
 use Rattle.ask_rows.specs.RowAnswers.{rowReply}
 use Rattle.ask_rank.specs.Counts.{uncountedNumber}
-use Rattle.abi.specs.ExportAnswers.{saying}
 use Rattle.abi.proofs.CountExportsLaws.{select-above, refuses-above}
 
 module _ (r : Size) (s : Said) (is : replied (sizeReply r) ≡ s) where
@@ -42,7 +40,7 @@ module _ (t : List ℕ) (ok q : ℕ) (buffer after : List ℕ) (r : RowCopied)
   pub row-refused : (number : ℕ) → r ≡ row.Refused number → RowBy t ok q buffer number 0 after
   row-refused number e = subst (λ (x : RowCopied). RowBy t ok q buffer (replied (rowReply x) .number) (replied (rowReply x) .value) after) e k
 
--- a number above 255
+-- A number above 255.
 pub guided-above : (t : List ℕ) → ((k : ℕ) → getD t k 0 < 256)
     → (byte : ℕ) → 255 < byte → (guide : List ℕ) (j r : ℕ) → r ≡ uncountedNumber t 0 → GuidedSays t guide byte j (saying r 0 0) 0
 guided-above t bytes byte high guide j r e = record {

@@ -7,10 +7,9 @@ use lib.IntN.{ℤ, pos}
 use Rattle.term.specs.declared.Left.{Left}
 use Rattle.term.specs.declared.Left.the-variants as left
 use Rattle.term.specs.declared.Opened.{Opened}
-use Rattle.term.specs.Term.{openNumber, openOn, leftNumber, daysLeft}
-use Rattle.term.specs.TermAnswers.{openedNumber, saysOpen, OpenAnswer, saysNumber, saysDays, LeftAnswer}
+use Rattle.term.specs.Term.{openNumber, openOn, leftNumber, daysLeft, openedNumber, saysOpen, OpenAnswer, saysNumber, saysDays, LeftAnswer}
 
--- days left
+-- Days left.
 module _ (last today : List ℕ) (r : Left) (k : LeftAnswer last today r) where
   pub left-told : (z : ℤ) → r ≡ left.Days z → (0 ≡ leftNumber last today) × (z ≡ daysLeft last today)
   left-told z e = (sym (ap saysNumber e) ∙ k .number-is, sym (ap saysDays e) ∙ k .days-is)

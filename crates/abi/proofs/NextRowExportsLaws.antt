@@ -5,8 +5,7 @@ use mathlib.Core.Path.{_≡_}
 use Prim.Native.Nat.{ℕ}
 use Rattle.query_row_filter.specs.declared.NextRowAnswer.{NextRowAnswer}
 use Rattle.query_row_filter.specs.declared.NextRowAnswer.the-variants as answer
-use Rattle.query_row_filter.specs.AllowedOutcome.{refusedAt, AllowedOutcome}
-use Rattle.query_row_filter.specs.AllowedAnswer.{AllowedAnswer}
+use Rattle.query_row_filter.specs.AllowedRows.{refusedAt, AllowedOutcome, AllowedAnswer}
 
 module _ (t : List ℕ) (ok refusal : ℕ) (selected : List ℕ → Bool) (mark : ℕ) (r : NextRowAnswer) (a : AllowedAnswer t ok refusal selected mark r) where
   pub next-row-shown : (q : ℕ) → r ≡ answer.Row q → AllowedOutcome t ok refusal selected mark (record { refusal = 0; row = q; mark = q })

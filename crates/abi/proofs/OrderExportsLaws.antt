@@ -2,11 +2,9 @@
 use mathlib.Core.List.{List}
 use mathlib.Core.Path.{_≡_, ap}
 use Prim.Native.Nat.{ℕ}
-use Rattle.format.specs.Said.{Said, replied}
+use Rattle.format.specs.Answers.{Said, replied}
 use Rattle.ask_order.specs.declared.Compared.{Compared}
-use Rattle.ask_order.specs.Order.{orderSays}
-use Rattle.ask_order.specs.OrderAnswers.{orderReply, OrderAnswer}
-use Rattle.abi.specs.ExportAnswers.{firstGiven}
+use Rattle.ask_order.specs.OrderAnswers.{orderSays, orderReply, OrderAnswer, firstGiven}
 
 -- The figures of an answer, and which tree comes first.
 abbrev pub Figures : List ℕ → List ℕ → Said → Type 0

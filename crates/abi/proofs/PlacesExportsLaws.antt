@@ -4,9 +4,8 @@ use mathlib.Core.Path.{_≡_}
 use Prim.Native.Nat.{ℕ}
 use Rattle.ask_patterns.specs.declared.PlacesWritten.{PlacesWritten}
 use Rattle.ask_patterns.specs.declared.PlacesWritten.the-variants as written
-use Rattle.ask_patterns.specs.Places.{placesSays}
-use Rattle.ask_patterns.specs.PlacesAnswer.{PlacesAnswer}
-use Rattle.abi.specs.ExportAnswers.{saying}
+use Rattle.ask_patterns.specs.Places.{placesSays, PlacesAnswer}
+use Rattle.format.specs.Answers.{saying}
 
 module _ (t P : List ℕ) (room : ℕ) (r : PlacesWritten) (a : PlacesAnswer t P room r) where
   pub places-told : (n : ℕ) → r ≡ written.Number n → saying 0 n 0 ≡ placesSays t P room

@@ -2,11 +2,10 @@
 use mathlib.Core.List.{List}
 use mathlib.Core.Path.{_≡_, sym, ap, _∙_, subst}
 use Prim.Native.Nat.{ℕ}
-use Rattle.format.specs.Said.{replied}
+use Rattle.format.specs.Answers.{replied}
 use Rattle.build_by_scan.specs.declared.Scanned.{Scanned}
 use Rattle.build_by_scan.specs.declared.Scanned.the-variants as scanned
-use Rattle.build_by_scan.specs.ScannedAnswer.{scannedReply}
-use Rattle.build_by_scan.specs.ScannedSays.{TableLeft}
+use Rattle.build_by_scan.specs.ScanAnswers.{scannedReply, TableLeft}
 
 module _ (r : Scanned) (number size windows : ℕ) (n-is : replied (scannedReply r) .number ≡ number)
     (s-is : replied (scannedReply r) .value ≡ size) (w-is : replied (scannedReply r) .entered ≡ windows) (old new : List ℕ)

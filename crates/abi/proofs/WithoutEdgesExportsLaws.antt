@@ -1,7 +1,7 @@
 -- The answer of `without_edges` as two numbers.
 use mathlib.Core.Path.{_≡_, sym, ap, _∙_}
 use Prim.Native.Nat.{ℕ}
-use Rattle.format.specs.Said.{replied}
+use Rattle.format.specs.Answers.{replied}
 use Rattle.build_without_edges.specs.declared.WithoutEdgesAnswer.{WithoutEdgesAnswer}
 use Rattle.build_without_edges.specs.declared.WithoutEdgesAnswer.the-variants as answer
 use Rattle.build_without_edges.specs.WithoutEdgesAnswers.{withoutEdgesReply}

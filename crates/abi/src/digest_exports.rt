@@ -1,7 +1,7 @@
 // digest and digest_text, exported to C.
 ghost use mathlib.Core.Path.{_≡_};
 ghost use lib.ListN.{length};
-ghost use Rattle.sha256.specs.DigestText.{digestTextRefusal, digestTextBuffer};
+ghost use Rattle.sha256.specs.Sha256.{digestTextRefusal, digestTextBuffer};
 ghost use Rattle.query_digest.specs.Digest.{digestRefusal, digestBuffer};
 
 // Writes the SHA-256 of a tree's text to the first 32 bytes of `out`.

@@ -3,11 +3,11 @@ use ask_patterns::PlacesRoom;
 use ask_rows::RowCount;
 use ask_rows::RowLength;
 ghost use mathlib.Core.Path.{_≡_};
-ghost use Rattle.format.specs.Verdict.{readable};
-ghost use Rattle.ask_rows.specs.RowLengths.{LengthSays, rowsSays};
+ghost use Rattle.format.specs.TreeReading.{readable};
+ghost use Rattle.ask_rows.specs.RowAnswers.{LengthSays, rowsSays};
 ghost use Rattle.ask_patterns.specs.Places.{roomSays};
 ghost use Rattle.ask_facts.specs.Facts.{infoLeaves, versionNumber};
-ghost use Rattle.abi.specs.ExportAnswers.{saying};
+ghost use Rattle.format.specs.Answers.{saying};
 
 // The version as one number.
 #[no_mangle]

@@ -6,11 +6,10 @@ use query_row_filter::NextRowAnswer;
 ghost use mathlib.Core.Path.{_≡_};
 ghost use Rattle.ask_guide.specs.Guides.{guideNumber, sizeSays, makeSays, makeLeaves};
 ghost use Rattle.ask_guided.specs.Guided.{GuidedSays};
-ghost use Rattle.format.specs.RowSays.{RowBy};
-ghost use Rattle.prefix_match.specs.PrefixRows.{startsWith};
-ghost use Rattle.query_row_filter.specs.AllowedOutcome.{AllowedOutcome, queryRefusal};
+ghost use Rattle.format.specs.Answers.{RowBy, saying};
+ghost use Rattle.row_filter.specs.SelectedRows.{startsWith};
+ghost use Rattle.query_row_filter.specs.AllowedRows.{AllowedOutcome, queryRefusal};
 ghost use Rattle.ask_patterns.specs.Places.{patternOk};
-ghost use Rattle.abi.specs.ExportAnswers.{saying};
 
 // The number of words of the guide of a tree.
 #[no_mangle]

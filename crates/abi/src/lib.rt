@@ -22,21 +22,16 @@ use tree::Room;
 use tree::Scanned;
 ghost use mathlib.Core.Path.{_≡_};
 ghost use lib.ListN.{length};
-ghost use Rattle.format.specs.BuildSays.{buildNumber, buildSize, buildLeaves};
-ghost use Rattle.format.specs.ReadSays.{byteSays, runSays, spanSays, spanLeaves};
-ghost use Rattle.format.specs.CountSays.{countSays};
-ghost use Rattle.format.specs.FindSays.{FindBy};
-ghost use Rattle.format.specs.RowSays.{RowBy};
-ghost use Rattle.format.specs.Verdict.{verdict};
-ghost use Rattle.format.specs.Settings.{given};
+ghost use Rattle.format.specs.Answers.{buildNumber, buildSize, buildLeaves, byteSays, runSays, spanSays, spanLeaves, countSays, FindBy, RowBy, saying};
+ghost use Rattle.format.specs.TreeReading.{verdict};
+ghost use Rattle.format.specs.Layout.{given};
 ghost use Rattle.build_enough.specs.Enough.{enoughSays};
-ghost use Rattle.list_lines.specs.ListSays.{listSays, listLeaves};
+ghost use Rattle.list_lines.specs.ListedLines.{listSays, listLeaves};
 ghost use Rattle.ask_patterns.specs.Places.{placesSays, placesLeaves, patternOk};
-ghost use Rattle.build_by_scan.specs.ScannedSays.{tableWords, scanNumber, scanSize, scanWindows, scanLeaves, TableLeft};
-ghost use Rattle.prefix_match.specs.PrefixRows.{startsWith};
-ghost use Rattle.query_row_filter.specs.AllowedOutcome.{AllowedOutcome, queryRefusal};
+ghost use Rattle.build_by_scan.specs.ScanAnswers.{tableWords, scanNumber, scanSize, scanWindows, scanLeaves, TableLeft};
+ghost use Rattle.row_filter.specs.SelectedRows.{startsWith};
+ghost use Rattle.query_row_filter.specs.AllowedRows.{AllowedOutcome, queryRefusal};
 ghost use Rattle.ask_worn_keys.specs.MatchAnswer.{MatchSays};
-ghost use Rattle.abi.specs.ExportAnswers.{saying};
 
 // Builds the tree of a text.
 #[no_mangle]

@@ -1,8 +1,7 @@
 // The order of two trees' texts, exported to C.
 use ask_order::Compared;
 ghost use mathlib.Core.Path.{_≡_};
-ghost use Rattle.ask_order.specs.Order.{orderSays};
-ghost use Rattle.abi.specs.ExportAnswers.{firstGiven};
+ghost use Rattle.ask_order.specs.OrderAnswers.{orderSays, firstGiven};
 
 // Compares two trees: the order of the first text (1 before, 2 same, 3 after), the length of the longest common prefix, and which tree comes first (1 or 2; 1
 // if the texts are equal).

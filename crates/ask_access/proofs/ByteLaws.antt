@@ -7,10 +7,9 @@ use native.Mathlib.Nat.{add-sub-cancel-left}
 use borrow.Author.Tests.{le-ltb, ne-eqb}
 use lib.ListN.{take, drop}
 use Rattle.format.specs.Layout as at
-use Rattle.format.specs.Verdict.{readable}
-use Rattle.format.specs.Said.{Said, refused}
+use Rattle.format.specs.TreeReading.{readable}
+use Rattle.format.specs.Answers.{Said, refused, byteSays, runSays}
 use Rattle.format.specs.SaidLaws.{unless-refused}
-use Rattle.format.specs.ReadSays.{byteSays, runSays}
 use Rattle.layout.specs.declared.header.Header.{Header}
 use Rattle.layout.specs.declared.header.HeaderRead.{HeaderRead}
 use Rattle.layout.specs.declared.header.HeaderRead.the-variants.{Refused}
@@ -18,11 +17,10 @@ use Rattle.layout.specs.Header.{headerSays}
 use Rattle.ask_access.specs.declared.read_by_header.Part.{Part}
 use Rattle.ask_access.specs.declared.read_by_header.Ran.{Ran}
 use Rattle.ask_access.specs.declared.read_by_header.Ran.the-variants as ran
-use Rattle.layout.specs.HeaderSays.{HeaderOf}
+use Rattle.layout.specs.HeaderSays.{HeaderOf, header-refused}
 use Rattle.ask_access.specs.ReadAnswers.{RunAnswer}
-use Rattle.layout.specs.HeaderSays.{header-refused}
 
--- a number other than 0 has no run
+-- A number other than 0 has no run.
 pub run-none : (t : List ℕ) (p k q : ℕ) → q ≡ suc k → refused q ≡ byteSays t p → RunAnswer t p (ran.Refused q)
 unfolding runSays
 run-none t p k q q-is e =
@@ -44,7 +42,7 @@ module _ (t : List ℕ) (p : ℕ) where
     pub run-past : h .«text_length» ≤ p → RunAnswer t p (ran.Refused 10)
     run-past past = run-none t p 9 10 refl (byte-past past)
 
--- a tree that does not pass questions 5 to 7
+-- A tree that does not pass questions 5 to 7.
 module _ (t : List ℕ) (p : ℕ) (x : HeaderRead) (x-is : x ≡ headerSays t) (q : ℕ) (e : x ≡ Refused q) where
   pub byte-unread : refused q ≡ byteSays t p
   unfolding byteSays

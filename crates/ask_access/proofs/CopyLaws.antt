@@ -8,11 +8,10 @@ use native.Mathlib.Nat.{add-assoc}
 use lib.Dec.{eqb}
 use lib.ListN.{length, set, drop, replicate, length-set}
 use lib.Seq.{drop-set-lt}
-use Rattle.text.specs.Lists.{tabulate}
+use Rattle.text.specs.Text.{tabulate}
 use Rattle.text.specs.ListLaws.{tab-none, tab-more}
 use Rattle.format.specs.Layout as at
-use Rattle.format.specs.Said.{Said, NeverZero, replied}
-use Rattle.format.specs.ReadSays.{byteSays, pathsHold}
+use Rattle.format.specs.Answers.{Said, NeverZero, replied, byteSays, pathsHold}
 use Rattle.layout.specs.declared.header.Header.{Header}
 use Rattle.layout.specs.HeaderSays.{HeaderOf}
 use Rattle.ask_access.specs.declared.Answer.{Answer}
@@ -27,7 +26,7 @@ use Rattle.ask_access.specs.declared.read_by_header.LeafRun.{LeafRun}
 use Rattle.ask_access.proofs.LeafRunLaws.{run-written, run-answered}
 use Rattle.ask_access.proofs.SpanLaws.{ByPaths, values, span-copied, span-broken}
 
--- the paths of what is left of a span, and of the whole
+-- The paths of what is left of a span, and of the whole.
 module _ (t : List ℕ) (p len : ℕ) where
   rest-start : pathsHold t (p + 0) (len - 0) ≡ pathsHold t p len
   rest-start =
@@ -54,7 +53,7 @@ module _ (t : List ℕ) (p len : ℕ) where
     rest-broken : byteSays t (p + i) .number ≡ 14 → false ≡ pathsHold t (p + i) (len - i)
     rest-broken z = rw (open-rest, z)
 
--- a byte's answer: the byte of its place, or a refusal by 14
+-- A byte's answer: the byte of its place, or a refusal by 14.
 module _ (t : List ℕ) (h : Header) (k : HeaderOf t h) (p : ℕ) (low : p < h .«text_length») (a : Answer) (a-is : replied (byteReply a) ≡ byteSays t p) where
   pub byte-good : (v n : ℕ) → a ≡ Byte v n → (byteSays t p .number ≡ 0) × (v ≡ byteSays t p .value)
   byte-good v n e =
@@ -75,7 +74,7 @@ pub copy-start : (t : List ℕ) (p len : ℕ) (d : List ℕ) → Copying t p len
 copy-start t p len d = record { same-length = refl; bytes = tab-none (values t p) d; past = refl; hold = rest-start t p len }
 
 module _ (t : List ℕ) (p len : ℕ) (d : List ℕ) (room : len ≤ length d) where
-  -- the byte at i is answered, and stored
+  -- The byte at i is answered, and stored.
   copy-more : (i : ℕ) (e : List ℕ) → Copying t p len d e i → i < len → (v : ℕ) → byteSays t (p + i) .number ≡ 0 → v ≡ byteSays t (p + i) .value
       → Copying t p len d (set e i v) (i + 1)
   copy-more i e c more v good v-is = record {
@@ -95,18 +94,18 @@ module _ (t : List ℕ) (p len : ℕ) (d : List ℕ) (room : len ≤ length d) w
       let s : p + (i + n) ≡ p + i + n = omega arith in
       rw z (copy-more (i + n) (placesWritten e i t (p + i) n) w (omega arith) (byteSays t (p + i + n) .value) (rw s (good n (omega arith))) (rw s))
 
-  -- the first n bytes are known
+  -- The first n bytes are known.
   pub copy-known : (n : ℕ) → n ≤ len → ((x : ℕ) → x < n → byteSays t (p + x) .number ≡ 0) → (e : List ℕ) → e ≡ placesWritten d 0 t p n → Copying t p len d e n
   copy-known n fits good e is =
       let z : p + 0 ≡ p = omega arith in
       let s : 0 + n ≡ n = omega arith in
       rw is (rw (z, s) at (copy-run 0 d (copy-start t p len d) n (omega arith) (λ x l. rw z (good x l))))
 
--- what `copy_range` returns
+-- What `copy_range` returns.
 pub not-refused : (x : Copied) (n m q : ℕ) → x ≡ copied.Bytes n m → x ≡ copied.Refused q → ⊥
 not-refused x n m q e f = let z : _≡_ {A = ℕ} 0 1 = cc in omega arith
 
--- the bytes of a range that is known, written first
+-- The bytes of a range that is known, written first.
 pub copy-first : (t : List ℕ) (p len : ℕ) (d : List ℕ) → len ≤ length d → (r : LeafRun) → ReadsFrom t p r
     → (known : ℕ) → known ≡ min len (r .length) → (x : Copied) → x ≡ copied.Bytes known 0 → (n m : ℕ) → x ≡ copied.Bytes n m
     → (e : List ℕ) → e ≡ bytesWritten d 0 t (r .from) known → (n ≤ len) × Copying t p len d e n
@@ -116,11 +115,11 @@ copy-first t p len d room r k known known-is x x-is n m taken e e-is =
     let within : known ≤ r .length = omega arith in
     rw same (short, copy-known t p len d room known short (λ y l. run-answered t p r k y (omega arith)) e (e-is ∙ run-written t p r k d 0 known within))
 
--- what `copy_run` returns
+-- What `copy_run` returns.
 module _ (t : List ℕ) (h : Header) (p len : ℕ)
     (k : HeaderOf t h) (low : p + len ≤ h .«text_length») (d : List ℕ) (room : len ≤ length d) (i : ℕ) (e : List ℕ) (c : Copying t p len d e i) where
   module _ (f : List ℕ) (r : Copied) (r-is : RunCopied t (p + i) (len - i) i e f r) where
-    -- bytes
+    -- Bytes.
     pub copy-on : (n m : ℕ) → r ≡ copied.Bytes n m → (1 ≤ n) × (i + n ≤ len) × Copying t p len d f (i + n)
     copy-on n m is =
         let z : RunCopied t (p + i) (len - i) i e f (copied.Bytes n m) = rw is at r-is in
@@ -138,7 +137,7 @@ module _ (t : List ℕ) (h : Header) (p len : ℕ)
               0 (k .passes) (omega (arith, k .length-is)) room z q (y .0) (rest-broken t p len i more (y .1) ∙ c .hold) (rw past at z-is),
         )
 
-  -- all are copied
+  -- All are copied.
   pub copy-end : i ≡ len → ByPaths t p len d (record { number = 0; value = len; entered = 0 }) e
   copy-end all = span-copied t p len d (pathsHold t p len)
       (tabulate len (values t p)) 0 (k .passes) (omega (arith, k .length-is)) room e (rest-end t p len i all ∙ c .hold) (rw all at (c .bytes))

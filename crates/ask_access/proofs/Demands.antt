@@ -13,14 +13,11 @@ use lib.ListN.{length, getD, take, drop}
 use Rattle.text.specs.Text.{stretch}
 use Rattle.text.specs.declared.TextPlace.{TextPlace}
 use Rattle.format.specs.Layout as at
-use Rattle.format.specs.Path.{Path, pathOf}
-use Rattle.format.specs.Fits.{linksOk, textOf}
+use Rattle.format.specs.TreeReading.{Path, pathOf, linksOk, textOf, readable, verdict}
 use Rattle.format.specs.FittingText.{fits}
-use Rattle.format.specs.Verdict.{readable, verdict}
 use Rattle.format.specs.VerdictLaws.{accepted-readable}
 use Rattle.theory_edges.specs.Demands as margins
-use Rattle.format.specs.Said.{Said, refused, NeverZero, replied}
-use Rattle.format.specs.ReadSays.{runSays, spanBlocks, spanSays}
+use Rattle.format.specs.Answers.{Said, refused, NeverZero, replied, runSays, spanBlocks, spanSays}
 use Rattle.theory_paths.specs.Demands as paths
 use Rattle.ask_access.specs.declared.Answer.{Answer}
 use Rattle.ask_access.specs.declared.Answer.the-variants.{Byte, Refused}
@@ -75,7 +72,7 @@ figure-is-length κs t p r a pass low q e =
 
 -- Any tree that passes questions 5 to 8.
 module _ (t : RefT (List ℕ)) (pass : readable (t .now) ≡ 0) (links : linksOk (t .now) ≡ true) where
-  -- what byte answers at a place: the byte of the text, with the length of the place's path, at most 2H - 1
+  -- What byte answers at a place: the byte of the text, with the length of the place's path, at most 2H - 1.
   pub record Answered (p : ℕ) (r : Answer) : Type 0 where
     pub path : Path
     pub path-is : pathOf (t .now) p ≡ some path

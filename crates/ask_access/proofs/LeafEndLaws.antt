@@ -12,12 +12,11 @@ use lib.Arith.{digits-div, digits-mod}
 use lib.Dec.{eqb}
 use lib.ListN.{length, getD}
 use Rattle.text.specs.ListLaws.{lt-or-ge, and-left, and-right}
-use Rattle.format.specs.Settings.{maxText}
+use Rattle.format.specs.Layout.{maxText, plainWords}
 use Rattle.format.specs.Layout as at
 use Rattle.format.specs.LayoutLaws.{full-last}
-use Rattle.format.specs.Path.{Path, Visit, visit, entered, keptBlock, pathFrom, pathOf}
-use Rattle.format.specs.Said.{Said, refused}
-use Rattle.format.specs.ReadSays.{byteSays, byteOf, leftOver}
+use Rattle.format.specs.TreeReading.{Path, Visit, visit, entered, keptBlock, pathFrom, pathOf}
+use Rattle.format.specs.Answers.{Said, refused, byteSays, byteOf, leftOver}
 use Rattle.theory_paths.specs.PlaceBytes.{byte-path}
 use Rattle.theory_paths.specs.Visits.{goes, goes-short}
 use Rattle.theory_paths.specs.PlacesLand.{from-last}
@@ -25,7 +24,6 @@ use Rattle.theory_paths.specs.Shift.{further, length-further, left-most, left-w
 use Rattle.theory_paths.specs.Reads.{byte-of-path}
 use Rattle.walk_steps.proofs.StepLaws.{kept-in}
 use Rattle.layout.specs.declared.header.Header.{Header}
-use Rattle.format.specs.RecordFields.{plainWords}
 use Rattle.layout.specs.HeaderSays.{HeaderOf}
 use Rattle.layout.specs.Record.{FieldIn, field-in}
 use Rattle.walk_path.specs.declared.Reached.{Reached}
@@ -39,7 +37,7 @@ use Rattle.walk_path.proofs.AlongLaws.{path-of-above, above-place, above-block,
 use Rattle.ask_access.specs.declared.leaf_end.LeafEnd.{LeafEnd}
 use Rattle.ask_access.specs.LeafEnds.{lastLevel, EndsIn, LeafEndAt, Joined}
 
--- a block of the last level
+-- A block of the last level.
 module _ (t : List ℕ) (l i : ℕ) where
   pub kept-by : (k : ℕ) → k ≡ at.kind t l i → k ≡ 0 → i < at.levelCount t l → keptBlock t l i ≡ true
   unfolding keptBlock at.isKept
@@ -53,7 +51,7 @@ module _ (t : List ℕ) (l i : ℕ) where
   unfolding keptBlock
   unkept-past past = rw (le-ltb _ _ past)
 
--- the last level, by the header
+-- The last level, by the header.
 module _ (t : List ℕ) (h : Header) (k : HeaderOf t h) where
   pub last-is : h .settings .levels - 1 ≡ lastLevel t
   last-is = ap (λ (n : ℕ). n - 1) (k .levels-is)
@@ -72,7 +70,7 @@ module _ (t : List ℕ) (h : Header) (k : HeaderOf t h) where
   pub last-link : (i link : ℕ) → link ≡ at.link t (h .settings .levels - 1) i → link ≡ at.link t (lastLevel t) i
   last-link i link e = e ∙ ap (λ (l : ℕ). at.link t l i) last-is
 
-  -- the answer of `follows`
+  -- The answer of `follows`.
   module _ (i leaf count : ℕ) (count-is : count ≡ at.levelCount t (h .settings .levels - 1)) where
     pub in-table : i < count → i < at.levelCount t (lastLevel t)
     in-table less = omega (arith, ap (at.levelCount t) last-is)
@@ -91,7 +89,7 @@ length-append-one : (vs : List Visit) (v : Visit) → length (vs ++ (v ∷ [])) 
 length-append-one [] v = omega arith
 length-append-one (u ∷ vs) v = omega (arith, length-append-one vs v)
 
--- the last step from a block and a place that are known by other figures
+-- The last step from a block and a place that are known by other figures.
 module _ (t : List ℕ) (a : Above) (i o : ℕ) (i-is : a .block ≡ i) (o-is : a .place ≡ o) where
   through-some : throughLast t (some a) ≡ entered (a .visits) (pathFrom t 0 (lastLevel t) i o)
   unfolding throughLast
@@ -101,7 +99,7 @@ module _ (t : List ℕ) (a : Above) (i o : ℕ) (i-is : a .block ≡ i) (o-is : 
       → throughLast t (some a) ≡ some (record { visits = a .visits ++ (visit (lastLevel t) i o ∷ []); leaf = x })
   through-kept kept x x-is small = through-some ∙ rw (from-last t (lastLevel t) i o kept (omega arith), x-is)
 
--- the walk to the last level, and the last step
+-- The walk to the last level, and the last step.
 module _ (t : List ℕ) (p : ℕ) (h : Header) (k : HeaderOf t h) (low : p < h .«text_length») where
   low-text : p < at.textLength t
   low-text = omega (arith, k .length-is)
@@ -188,13 +186,13 @@ module _ (t : List ℕ) (p : ℕ) (h : Header) (k : HeaderOf t h) (low : p < h .
               → LeafEndAt t p (record { block = r .block; place = r .place; leaf = leaf; left = r .trail .left; entered = r .trail .entered + 1 })
           end-found low-leaf = end-reached is-kept leaf is-leaf (omega (arith, k .count-is))
 
--- block after block
+-- Block after block.
 
 module _ (t : List ℕ) (h : Header) (k : HeaderOf t h) (r : LeafEnd) (e : EndsIn t r) where
   abbrev m : ℕ
   m = at.settings t .leaf
 
-  -- the first block
+  -- The first block.
   pub join-first : (n : ℕ) → n ≡ h .settings .leaf - r .place .0 → Joined t r n
   join-first n n-is =
       let l = lastLevel t in record {
@@ -206,7 +204,7 @@ module _ (t : List ℕ) (h : Header) (k : HeaderOf t h) (r : LeafEnd) (e : EndsI
             let y : r .block .0 + 0 ≡ r .block .0 = omega arith in rw (z, y, o) (omega (arith, e .leaf-is)));
       }
 
-  -- one more
+  -- One more.
   pub join-next : (n i : ℕ) → r .block .0 < i → Joined t r n → n + r .place .0 ≡ (i - r .block .0) * m
       → (f : Bool) → f ≡ (keptBlock t (lastLevel t) i && eqb (at.link t (lastLevel t) i) (r .leaf + n)) → f ≡ true → Joined t r (n + m)
   join-next n i after j whole f f-is true-is = record {
@@ -242,7 +240,7 @@ module _ (t : List ℕ) (h : Header) (k : HeaderOf t h) (r : LeafEnd) (e : EndsI
           eqb-true _ _ (and-right (keptBlock t (lastLevel t) i) (eqb (at.link t (lastLevel t) i) (r .leaf + n)) next) in
           rw (z, o, is-next) (omega arith)
 
--- the number of the next block is not far from the first one
+-- The number of the next block is not far from the first one.
 pub next-near : (c w n : ℕ) → 1 ≤ w → n ≡ c * w → c ≤ n
 next-near c w n low e = omega (arith, mul-le-mul-left c low, mul-one c)
 
@@ -264,7 +262,7 @@ unfolding leftOver
 left-append t [] v most = refl
 left-append t (u ∷ vs) v most = left-append t vs v (min most (at.fullLength t (u .level) - u .place))
 
--- a bound that is put in at the start may as well be put in at the end
+-- A bound that is put in at the start may as well be put in at the end.
 pub left-min : (t : List ℕ) (vs : List Visit) (a c : ℕ) → leftOver t vs (min a c) ≡ min (leftOver t vs a) c
 unfolding leftOver
 left-min t [] a c = refl
@@ -280,7 +278,7 @@ same-place : (o p d c m : ℕ) → p ≡ o → c ≡ m → (o + d) % c ≡ (p + 
 same-place o p d c m a e = rw (a, e)
 
 module _ (t : List ℕ) (p : ℕ) (h : Header) (k : HeaderOf t h) (r : LeafEnd) (e : LeafEndAt t p r) where
-  -- the path itself
+  -- The path itself.
   pub end-is : pathOf t p ≡ some (record { visits = e .above .visits ++ (visit (lastLevel t) (r .block .0) (r .place .0) ∷ []); leaf = r .leaf })
   end-is =
       path-of-above t (k .facts) p ∙ ap (throughLast t) (e .is)
@@ -299,7 +297,7 @@ module _ (t : List ℕ) (p : ℕ) (h : Header) (k : HeaderOf t h) (r : LeafEnd) 
   pub end-entered : length (e .above .visits ++ (visit (lastLevel t) (r .block .0) (r .place .0) ∷ [])) ≡ r .entered
   end-entered = length-append-one (e .above .visits) (visit (lastLevel t) (r .block .0) (r .place .0)) ∙ sym (e .entered-is)
 
-  -- a place further on, within the blocks above and within the blocks that continue the last one
+  -- A place further on, within the blocks above and within the blocks that continue the last one.
   module _ (n : ℕ) (j : Joined t r n) (d : ℕ) (less : d < n) (within : d < r .left) (in-tree : r .leaf + d < at.leafCount t) where
     abbrev joined-block : ℕ
     joined-block = r .block .0 + (r .place .0 + d) / at.settings t .leaf

@@ -6,9 +6,8 @@ use native.Mathlib.Omega.{arith}
 use native.Mathlib.Nat.{le-trans}
 use lib.ListN.{length, getD, set}
 use Rattle.format.specs.Layout as at
-use Rattle.format.specs.Said.{Said, refused, replied}
-use Rattle.format.specs.Verdict.{readable}
-use Rattle.format.specs.ReadSays.{byteSays, runSays}
+use Rattle.format.specs.Answers.{Said, refused, replied, byteSays, runSays}
+use Rattle.format.specs.TreeReading.{readable}
 use Rattle.theory_paths.specs.Shift.{left-most}
 use Rattle.theory_paths.specs.Reads.{byte-of-path}
 use Rattle.theory_paths.specs.PlaceBytes.{byte-text}
@@ -36,7 +35,7 @@ use Rattle.ask_access.proofs.ByteLaws as bytes
 use Rattle.ask_access.proofs.RunLaws.{run-answers, run-from, run-size, run-some}
 use Rattle.ask_access.proofs.LeafEndLaws.{end-is, end-left, end-entered, left-min, joined-says}
 
--- the answer of `end_of`
+-- The answer of `end_of`.
 module _ (t : List ℕ) (p : ℕ) (x : LeafEndAnswer) (x-is : LeafEndOf t p x) where
   pub end-found : (r : LeafEnd) → x ≡ end.At r → LeafEndAt t p r
   end-found r e = rw e at x-is
@@ -44,7 +43,7 @@ module _ (t : List ℕ) (p : ℕ) (x : LeafEndAnswer) (x-is : LeafEndOf t p x) w
   pub end-refused : x ≡ end.Broken → byteSays t p ≡ refused 14
   end-refused e = rw e at x-is
 
--- a range has a byte
+-- A range has a byte.
 range-some : (left most within n size leaves length : ℕ) → 1 ≤ left → 1 ≤ most → within ≡ min left most → 1 ≤ n → size ≡ min within n → 1 ≤ leaves
     → length ≡ min size leaves → 1 ≤ length
 range-some left most within n size leaves length a b within-is c size-is d length-is =
@@ -52,7 +51,7 @@ range-some left most within n size leaves length a b within-is c size-is d lengt
     let s : 1 ≤ size = omega arith in
     omega arith
 
--- no more than each of its bounds
+-- No more than each of its bounds.
 record Bounds (left most n leaves long : ℕ) : Type 0 where
   in-left : long ≤ left
   at-most : long ≤ most
@@ -76,7 +75,7 @@ in-room left long n p a b c = omega arith
 in-count : (x long n leaf : ℕ) → x < long → long ≤ n - leaf → leaf + x < n
 in-count x long n leaf a b = omega arith
 
--- from the end of a path
+-- From the end of a path.
 module _ (t : List ℕ) (p : ℕ) (h : Header) (k : HeaderOf t h) (low : p < h .«text_length») (r : LeafEnd) (e : LeafEndAt t p r) where
   low-text : p < at.textLength t
   low-text = omega (arith, k .length-is)
@@ -119,7 +118,7 @@ module _ (t : List ℕ) (p : ℕ) (h : Header) (k : HeaderOf t h) (low : p < h .
           says = λ x l. run-answers t (k .passes) p low-text _ (end-is t p h k r e) from (r .entered) start (sym (end-entered t p h k r e)) x (omega arith);
         }
 
-    -- with the blocks that continue it
+    -- With the blocks that continue it.
     pub leaf-range-reached : (most within n size long : ℕ) → 1 ≤ most → within ≡ min (r .left) most → Joined t r n → size ≡ min within n
         → long ≡ min size (h .«leaf_count» - r .leaf) → LeafRangeAt t p most (record { from = from; length = long; entered = r .entered })
     leaf-range-reached most within n size long some within-is j size-is′ length-is =
@@ -135,7 +134,7 @@ module _ (t : List ℕ) (p : ℕ) (h : Header) (k : HeaderOf t h) (low : p < h .
               (in-count x long (at.leafCount t) (r .leaf) l (f .in-leaves)) low-text from start;
         }
 
--- the answer of `leaf_run`
+-- The answer of `leaf_run`.
 module _ (t : List ℕ) (p : ℕ) (x : LeafRunAnswer) (x-is : LeafRunOf t p x) where
   pub run-found : (r : LeafRun) → x ≡ found.At r → LeafRunAt t p r
   run-found r e = rw e at x-is
@@ -157,7 +156,7 @@ module _ (t : List ℕ) (p : ℕ) (x : LeafRunAnswer) (x-is : LeafRunOf t p x) w
         inside = k .in-tree;
       }
 
--- the answer of `leaf_range`
+-- The answer of `leaf_range`.
 module _ (t : List ℕ) (p most : ℕ) (x : LeafRunAnswer) (x-is : LeafRangeOf t p most x) where
   pub range-found : (r : LeafRun) → x ≡ found.At r → LeafRangeAt t p most r
   range-found r e = rw e at x-is
@@ -181,7 +180,7 @@ module _ (t : List ℕ) (p most : ℕ) (x : LeafRunAnswer) (x-is : LeafRangeOf t
         k .at-most,
       )
 
--- the answer of `range_at`
+-- The answer of `range_at`.
 module _ (t : List ℕ) (p most : ℕ) (x : Ran) (x-is : RangeAnswer t p most x) where
   pub range-reads : (part : Part) → x ≡ ran.At part → (ReadsOn t p (part .from) (part .length)) × (1 ≤ part .length) × (part .length ≤ most)
   range-reads part e = rw e at x-is
@@ -189,18 +188,18 @@ module _ (t : List ℕ) (p most : ℕ) (x : Ran) (x-is : RangeAnswer t p most x)
   pub range-broken : (q : ℕ) → x ≡ ran.Refused q → (q ≡ 14) × (byteSays t p .number ≡ 14)
   range-broken q e = rw e at x-is
 
--- the first byte of a run is that of its place
+-- The first byte of a run is that of its place.
 pub run-first-byte : (t : List ℕ) (p : ℕ) (r : LeafRun) → LeafRunAt t p r
     → (a : Answer) → a ≡ Byte (getD t (r .from + 0) 0) (r .entered) → replied (byteReply a) ≡ byteSays t p
 run-first-byte t p r k a e =
     let z : p + 0 ≡ p = omega arith in
     ap (λ (x : Answer). replied (byteReply x)) e ∙ sym (rw z at (k .says 0 (k .some-byte)))
 
--- no byte of a run is refused
+-- No byte of a run is refused.
 pub run-not-refused : (a : Answer) (v n q : ℕ) → a ≡ Byte v n → a ≡ Refused q → ⊥
 run-not-refused a v n q e f = let z : _≡_ {A = ℕ} 0 1 = cc in omega arith
 
--- a byte's answer is taken apart, and its byte written
+-- A byte's answer is taken apart, and its byte written.
 value-is : (a : Answer) (v n u m : ℕ) → a ≡ Byte v n → a ≡ Byte u m → u ≡ v
 value-is a v n u m e f = cc
 
@@ -209,14 +208,14 @@ pub byte-written : (d e t : List ℕ) (to from j : ℕ) → e ≡ bytesWritten d
 byte-written d e t to from j is a n u m given taken =
     bytes-more d e _ t to from j is (ap (set e (to + j)) (value-is a (getD t (from + j) 0) n u m given taken))
 
--- no bytes, and those of a range
+-- No bytes, and those of a range.
 pub none-read : (t : List ℕ) (p : ℕ) (r : LeafRun) → r .length ≡ 0 → r .from ≡ 0 → ReadsFrom t p r
 none-read t p r e f = record { in-tree = omega arith; says = λ x l. absurd (let y : ⊥ = omega arith in y) }
 
 pub range-read : (t : List ℕ) (p most : ℕ) (r : LeafRun) → LeafRangeAt t p most r → ReadsFrom t p r
 range-read t p most r k = record { in-tree = k .in-tree; says = k .says }
 
--- these bytes are those of their places
+-- These bytes are those of their places.
 module _ (t : List ℕ) (p : ℕ) (r : LeafRun) (k : ReadsFrom t p r) where
   pub run-written : (d : List ℕ) (to n : ℕ) → n ≤ r .length → bytesWritten d to t (r .from) n ≡ placesWritten d to t p n
   run-written d to zero fits = refl
@@ -227,7 +226,7 @@ module _ (t : List ℕ) (p : ℕ) (r : LeafRun) (k : ReadsFrom t p r) where
   pub run-answered : (x : ℕ) → x < r .length → byteSays t (p + x) .number ≡ 0
   run-answered x l = ap (λ (s : Said). s .number) (k .says x l)
 
--- a range, all copied
+-- A range, all copied.
 pub run-copied : (t : List ℕ) (p most : ℕ) (r : LeafRun) → LeafRangeAt t p most r
     → (to : ℕ) (d e : List ℕ) (c : Copied) → c ≡ copied.Bytes (r .length) 0 → e ≡ bytesWritten d to t (r .from) (r .length) → RunCopied t p most to d e c
 run-copied t p most r k to d e c c-is is =

@@ -10,12 +10,9 @@ use lib.ListN.{length, getD}
 use Rattle.text.specs.Text.{stretch}
 use Rattle.text.specs.TextLaws.{stretch-ext, stretch-at}
 use Rattle.format.specs.Layout as at
-use Rattle.format.specs.Path.{Path, pathOf}
-use Rattle.format.specs.Fits.{textOf}
-use Rattle.format.specs.Verdict.{readable}
+use Rattle.format.specs.TreeReading.{Path, pathOf, textOf, readable}
 use Rattle.format.specs.LayoutLaws.{Readable, readable-facts}
-use Rattle.format.specs.Said.{Said}
-use Rattle.format.specs.ReadSays.{byteSays, leftOver, runSays}
+use Rattle.format.specs.Answers.{Said, byteSays, leftOver, runSays}
 use Rattle.theory_paths.specs.OneText.{text-length}
 use Rattle.theory_paths.specs.Shift.{length-further, left-most, left-within, path-further}
 use Rattle.theory_paths.specs.Reads as reads
@@ -28,7 +25,7 @@ use Rattle.ask_access.specs.declared.read_by_header.Ran.the-variants as 
 use Rattle.ask_access.specs.ReadAnswers.{RunAnswer}
 use Rattle.ask_access.specs.ReadByRuns.{ReadsOn}
 
--- nothing read
+-- Nothing read.
 pub reads-none : (t : List ℕ) (p from : ℕ) → p ≤ at.textLength t → from ≤ length t → ReadsOn t p from 0
 reads-none t p from h k = record {
   in-text = omega arith;
@@ -37,12 +34,12 @@ reads-none t p from h k = record {
   bytes = λ x l. absurd (let z : ⊥ = omega arith in z);
 }
 
--- the bytes in one stretch
+-- The bytes in one stretch.
 pub reads-stretch : (t : List ℕ) (p from size : ℕ) → ReadsOn t p from size → stretch t from size ≡ stretch (textOf t) p size
 reads-stretch t p from size a =
     stretch-ext t (textOf t) from p size (a .in-tree) (omega (arith, a .in-text, text-length t)) (a .bytes)
 
--- what is left of it after some bytes
+-- What is left of it after some bytes.
 pub reads-rest : (t : List ℕ) (p from size k : ℕ) → ReadsOn t p from size → k ≤ size → ReadsOn t (p + k) (from + k) (size - k)
 reads-rest t p from size k a h = record {
   in-text = omega (arith, a .in-text);
@@ -52,7 +49,7 @@ reads-rest t p from size k a h = record {
 }
 
 module _ (t : List ℕ) (r : readable t ≡ 0) (p : ℕ) (low : p < at.textLength t) where
-  -- the paths of a run's places hold
+  -- The paths of a run's places hold.
   module _ (q : Path) (e : pathOf t p ≡ some q) where
     k : Readable t
     k = readable-facts t r
@@ -85,7 +82,7 @@ module _ (t : List ℕ) (r : readable t ≡ 0) (p : ℕ) (low : p < at.textLengt
     unfolding at.leafByte
     run-answers from entered from-is entered-is d h = run-says d h ∙ rw (from-is, entered-is, add-assoc (at.leafOffset t) (q .leaf) d)
 
-  -- a run reads on
+  -- A run reads on.
   pub run-reads : byteSays t p .number ≡ 0 → ReadsOn t p (runSays t p .0) (runSays t p .1)
   unfolding stretch
   run-reads z =
@@ -102,7 +99,7 @@ module _ (t : List ℕ) (r : readable t ≡ 0) (p : ℕ) (low : p < at.textLengt
       let w = path-there t r p low z in
       reads.run-part t (readable-facts t r) r p low (w .0) (w .1) .some-byte
 
--- the answer of `part_at`
+-- The answer of `part_at`.
 module _ (t : List ℕ) (h : Header) (k : HeaderOf t h) (p : ℕ) (low : p < h .«text_length») (r : Ran) (a : RunAnswer t p r) where
   low-text : p < at.textLength t
   low-text = omega (arith, k .length-is)

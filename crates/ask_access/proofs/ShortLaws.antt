@@ -1,20 +1,18 @@
 -- A short span: which span is one, and its bytes in the buffer.
-use mathlib.Core.List.{List}
+use mathlib.Core.List.{List, _++_}
 use mathlib.Core.Option.{Option, none, some}
 use mathlib.Core.Bool.{Bool, true, false, _&&_}
 use mathlib.Core.Path.{_≡_, refl, sym, ap, _∙_}
 use Prim.Native.Nat.{ℕ, zero, suc, _+_, _-_, _≤_}
 use native.Mathlib.Omega.{arith}
-use mathlib.Core.List.{_++_}
 use lib.Dec.{eqb, leb}
 use lib.ListN.{length, take, drop, replicate, length-drop}
 use lib.Seq.{drop-drop, paste, paste-zero, paste-suc, length-paste, drop-paste, take-at, length-take-le, getD-drop}
 use Rattle.text.specs.Text.{stretch}
 use Rattle.format.specs.Layout as at
-use Rattle.format.specs.Said.{Said, refused}
-use Rattle.format.specs.Short.{Short, shortOf, shortBytes}
+use Rattle.format.specs.Answers.{Said, refused, isShort, blocksOf, spanReached, spanBytes, spanBlocks}
+use Rattle.format.specs.TreeReading.{Short, shortOf, shortBytes}
 use Rattle.format.specs.ReadSaysLaws.{short-span}
-use Rattle.format.specs.ReadSays.{isShort, blocksOf, spanReached, spanBytes, spanBlocks}
 use Rattle.stretches.specs.Stretches.{bytesWritten}
 use Rattle.layout.specs.declared.header.Header.{Header}
 use Rattle.layout.specs.HeaderSays.{HeaderOf}
@@ -24,7 +22,7 @@ use Rattle.walk_short.specs.declared.gather.Gathered.the-variants.{At, Broken}
 use Rattle.walk_short.specs.Gathered.{gathered, Within}
 use Rattle.ask_access.proofs.SpanLaws.{Whole, span-copied, span-broken}
 
--- by the header
+-- By the header.
 pub short-is : (t : List ℕ) (h : Header)
     → HeaderOf t h → (len : ℕ) (r : Bool) → r ≡ (eqb (h .layout) 2 && leb 1 len && leb len (h .settings .leaf)) → r ≡ isShort t len
 unfolding isShort at.hasEdges
@@ -33,14 +31,14 @@ short-is t h k len r e = e ∙ rw (k .layout-is, k .leaf-is)
 pub short-asks : (t : List ℕ) (h : Header) → HeaderOf t h → (len : ℕ) → isShort t len ≡ true → (at.layout t ≡ 2) × (1 ≤ len) × (len ≤ h .settings .leaf)
 short-asks t h k len is = let s = short-span t len is in (s .two, s .low, rw (k .leaf-is) (s .high))
 
--- bytes copied one after the other are pasted
+-- Bytes copied one after the other are pasted.
 written : (d T : List ℕ) (to from n : ℕ) → to + n ≤ length d → from + n ≤ length T → bytesWritten d to T from n ≡ paste d to (drop from T) n
 written d T to from zero h g = paste-zero d to (drop from T)
 written d T to from (suc n) h g =
     rw (written d T to from n (omega arith) (omega arith), ← getD-drop from T n 0)
     (paste-suc d to (drop from T) n 0 (omega arith) (rw (length-drop from T) (omega arith)))
 
--- two parts, one after the other
+-- Two parts, one after the other.
 two-parts : (d t : List ℕ) (from size next rest : ℕ) → size + rest ≤ length d → from + size ≤ length t → next + rest ≤ length t
     → bytesWritten (bytesWritten d 0 t from size) size t next rest ≡ (stretch t from size ++ stretch t next rest) ++ drop (size + rest) d
 unfolding stretch

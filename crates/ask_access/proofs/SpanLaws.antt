@@ -7,12 +7,12 @@ use native.Mathlib.Omega.{arith}
 use borrow.Author.Tests.{le-leb, lt-leb, ne-eqb}
 use lib.Dec.{leb}
 use lib.ListN.{length, drop, replicate}
-use Rattle.text.specs.Lists.{tabulate}
+use Rattle.text.specs.Text.{tabulate}
 use Rattle.format.specs.Layout as at
-use Rattle.format.specs.Verdict.{ask, readable}
-use Rattle.format.specs.Said.{Said, refused, unless, NeverZero, replied}
-use Rattle.format.specs.ReadSays.{byteSays, pathsHold, asksSpan, leavesSpan, isShort, spanReached, spanBytes, spanBlocks, spanNumber, spanSays}
-use Rattle.format.specs.ReadSays.{spanLeaves, copyNumber, copySays, copyLeaves}
+use Rattle.format.specs.TreeReading.{ask, readable}
+use Rattle.format.specs.Answers.{Said, refused, unless, NeverZero, replied}
+use Rattle.format.specs.Answers.{byteSays, pathsHold, asksSpan, leavesSpan, isShort, spanReached, spanBytes, spanBlocks, spanNumber, spanSays}
+use Rattle.format.specs.Answers.{spanLeaves, copyNumber, copySays, copyLeaves}
 use Rattle.layout.specs.declared.header.HeaderRead.{HeaderRead}
 use Rattle.layout.specs.declared.header.HeaderRead.the-variants as read
 use Rattle.layout.specs.Header.{headerSays}
@@ -26,14 +26,14 @@ pub record Spanned (t : List ℕ) (p len : ℕ) (d : List ℕ) (reached : Bool) 
   pub says : s ≡ unless (asksSpan t p len (length d) reached) (record { number = 0; value = len; entered = blocks })
   pub leaves : after ≡ leavesSpan t (asksSpan t p len (length d) reached) len bytes d
 
--- the bytes of places, each by its path
+-- The bytes of places, each by its path.
 abbrev pub values : List ℕ → ℕ → ℕ → ℕ
 values t p j = byteSays t (p + j) .value
 
 abbrev pub ByPaths : List ℕ → ℕ → ℕ → List ℕ → Said → List ℕ → Type 0
 ByPaths t p len d = Spanned t p len d (pathsHold t p len) (tabulate len (values t p)) 0
 
--- a span, read either way
+-- A span, read either way.
 abbrev pub Whole : List ℕ → ℕ → ℕ → List ℕ → Said → List ℕ → Type 0
 Whole t p len d = Spanned t p len d (spanReached t p len) (spanBytes t p len) (spanBlocks t p len)
 
@@ -47,7 +47,7 @@ pub copy-answered : (t : List ℕ) (p len : ℕ) (d after : List ℕ) (r : Copie
 unfolding copySays copyNumber copyLeaves
 copy-answered t p len d after r numbered k = (record { says = k .says; numbered = numbered }, k .leaves)
 
--- a span that is not short is read by its bytes' paths
+-- A span that is not short is read by its bytes' paths.
 pub by-paths : (t : List ℕ) (p len : ℕ) (d after : List ℕ) (r : Copied) → isShort t len ≡ false → CopyAnswer t p len (length d) r → after ≡ copyLeaves t p len d
     → SpanAnswer t p len (length d) r × (after ≡ spanLeaves t p len d)
 unfolding spanSays spanNumber spanLeaves spanReached spanBytes spanBlocks copySays copyNumber copyLeaves
@@ -57,12 +57,12 @@ module _ (t : List ℕ) (p len : ℕ) (d : List ℕ) (reached : Bool) (bytes : L
   abbrev number : ℕ
   number = asksSpan t p len (length d) reached
 
-  -- refused before any byte is read: the buffer stays
+  -- Refused before any byte is read: the buffer stays.
   number-leaves : (q : ℕ) → number ≡ suc q → (suc q ≡ 14 → ⊥) → Spanned t p len d reached bytes blocks (refused (suc q)) d
   unfolding leavesSpan
   number-leaves q e other = record { says = rw e; leaves = rw (e, ne-eqb (suc q) 0 (λ z. omega arith), ne-eqb (suc q) 14 other) }
 
-  -- a tree that does not pass questions 5 to 7
+  -- A tree that does not pass questions 5 to 7.
   pub span-unread : (x : HeaderRead) → x ≡ headerSays t → (q : ℕ) → x ≡ read.Refused q → (1 ≤ q) × Spanned t p len d reached bytes blocks (refused q) d
   unfolding asksSpan
   span-unread x x-is q e =
@@ -70,7 +70,7 @@ module _ (t : List ℕ) (p len : ℕ) (d : List ℕ) (reached : Bool) (bytes : L
       let n : number ≡ suc (z .0) = rw (ne-eqb (readable t) 0 (λ y. omega arith)) (z .1) in
       (omega arith, rw (z .2) (number-leaves (z .0) n (λ y. omega (arith, readable-small t))))
 
-  -- one that does
+  -- One that does.
   module _ (passes : readable t ≡ 0) where
     pub span-past : at.textLength t < p + len → Spanned t p len d reached bytes blocks (refused 10) d
     unfolding asksSpan

@@ -6,9 +6,8 @@ use mathlib.Core.Path.{_≡_}
 use Prim.Native.Nat.{ℕ, _+_, _-_, _/_, _%_, _≤_, _<_}
 use lib.ListN.{length}
 use Rattle.format.specs.Layout as at
-use Rattle.format.specs.Path.{keptBlock}
-use Rattle.format.specs.Said.{refused}
-use Rattle.format.specs.ReadSays.{byteSays, leftOver}
+use Rattle.format.specs.TreeReading.{keptBlock}
+use Rattle.format.specs.Answers.{refused, byteSays, leftOver}
 use Rattle.walk_path.specs.Above.{Above, aboveOf}
 use Rattle.ask_access.specs.declared.leaf_end.LeafEnd.{LeafEnd}
 use Rattle.ask_access.specs.declared.leaf_end.LeafEndAnswer.{LeafEndAnswer}

@@ -3,8 +3,7 @@ use mathlib.Core.List.{List}
 use mathlib.Core.Path.{_≡_}
 use Prim.Native.Nat.{ℕ, _+_, _≤_}
 use lib.ListN.{length}
-use Rattle.format.specs.Said.{Reply, figures, refusal, replied, NeverZero, Is}
-use Rattle.format.specs.ReadSays.{byteSays, runSays, spanSays}
+use Rattle.format.specs.Answers.{Reply, figures, refusal, replied, NeverZero, Is, byteSays, runSays, spanSays}
 use Rattle.ask_access.specs.declared.Answer.{Answer}
 use Rattle.ask_access.specs.declared.Answer.the-variants as answer
 use Rattle.ask_access.specs.declared.Copied.{Copied}
@@ -12,12 +11,12 @@ use Rattle.ask_access.specs.declared.Copied.the-variants as copied
 use Rattle.ask_access.specs.declared.read_by_header.Ran.{Ran}
 use Rattle.ask_access.specs.declared.read_by_header.Ran.the-variants as ran
 
--- a byte with the blocks entered
+-- A byte with the blocks entered.
 abbrev pub byteReply : Answer → Reply
 byteReply (answer.Byte value entered) = figures value entered
 byteReply (answer.Refused number) = refusal number
 
--- the bytes that were copied, with the blocks entered
+-- The bytes that were copied, with the blocks entered.
 abbrev pub copiedReply : Copied → Reply
 copiedReply (copied.Bytes len entered) = figures len entered
 copiedReply (copied.Refused number) = refusal number
@@ -25,12 +24,12 @@ copiedReply (copied.Refused number) = refusal number
 abbrev pub SpanAnswer : (t : List ℕ) (p len room : ℕ) → Copied → Type 0
 SpanAnswer t p len room = Is copiedReply (spanSays t p len room)
 
--- where a run starts in the tree, and its length
+-- Where a run starts in the tree, and its length.
 abbrev pub runReply : Ran → Reply
 runReply (ran.At part) = figures (part .from) (part .length)
 runReply (ran.Refused number) = refusal number
 
--- the run of place p, which is in the tree, or byte's number for p
+-- The run of place p, which is in the tree, or byte's number for p.
 pub record RunAnswer (t : List ℕ) (p : ℕ) (r : Ran) : Type 0 where
   pub number-is : replied (runReply r) .number ≡ byteSays t p .number
   pub numbered : NeverZero (runReply r)

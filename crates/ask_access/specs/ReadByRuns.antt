@@ -4,9 +4,8 @@ use mathlib.Core.Path.{_≡_}
 use Prim.Native.Nat.{ℕ, zero, suc, _+_, _≤_, _<_}
 use lib.ListN.{length, getD, set}
 use Rattle.format.specs.Layout as at
-use Rattle.format.specs.Fits.{textOf}
-use Rattle.format.specs.Said.{refused, Is}
-use Rattle.format.specs.ReadSays.{byteSays, runSays, copySays}
+use Rattle.format.specs.TreeReading.{textOf}
+use Rattle.format.specs.Answers.{refused, Is, byteSays, runSays, copySays}
 use Rattle.ask_access.specs.declared.Copied.{Copied}
 use Rattle.ask_access.specs.declared.Copied.the-variants as copied
 use Rattle.ask_access.specs.declared.read_by_header.Ran.{Ran}
@@ -16,7 +15,7 @@ use Rattle.ask_access.specs.declared.read_by_header.LeafRunAnswer.{LeafR
 use Rattle.ask_access.specs.declared.read_by_header.LeafRunAnswer.the-variants as found
 use Rattle.ask_access.specs.ReadAnswers.{copiedReply}
 
--- the same of bytes that are copied by their paths
+-- The same of bytes that are copied by their paths.
 abbrev pub CopyAnswer : (t : List ℕ) (p len room : ℕ) → Copied → Type 0
 CopyAnswer t p len room = Is copiedReply (copySays t p len room)
 
@@ -48,12 +47,12 @@ pub record LeafRangeAt (t : List ℕ) (p most : ℕ) (r : LeafRun) : Type 0 wher
   pub in-tree : r .from + r .length ≤ length t
   pub says : (x : ℕ) → x < r .length → byteSays t (p + x) ≡ record { number = 0; value = getD t (r .from + x) 0; entered = r .entered }
 
--- the bytes of r, which may be none, are byte's answers at the places from p on, each with the same number of blocks entered
+-- The bytes of r, which may be none, are byte's answers at the places from p on, each with the same number of blocks entered.
 pub record ReadsFrom (t : List ℕ) (p : ℕ) (r : LeafRun) : Type 0 where
   pub in-tree : r .from + r .length ≤ length t
   pub says : (x : ℕ) → x < r .length → byteSays t (p + x) ≡ record { number = 0; value = getD t (r .from + x) 0; entered = r .entered }
 
--- the answer of `leaf_range`
+-- The answer of `leaf_range`.
 abbrev pub LeafRangeOf : List ℕ → ℕ → ℕ → LeafRunAnswer → Type 0
 LeafRangeOf t p most (found.At r) = LeafRangeAt t p most r
 LeafRangeOf t p most found.Broken = byteSays t p ≡ refused 14

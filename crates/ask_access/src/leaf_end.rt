@@ -10,8 +10,8 @@ ghost use mathlib.Core.Path.{_≡_};
 ghost use Prim.Native.Nat.{_+_, _-_, _≤_, _<_};
 ghost use lib.Dec.{eqb};
 ghost use Rattle.format.specs.Layout as at;
-ghost use Rattle.format.specs.Path.{keptBlock};
-ghost use Rattle.format.specs.Settings.{maxText};
+ghost use Rattle.format.specs.TreeReading.{keptBlock};
+ghost use Rattle.format.specs.Layout.{maxText};
 ghost use Rattle.layout.specs.HeaderSays.{HeaderOf};
 ghost use Rattle.ask_access.specs.LeafEnds.{EndsIn, LeafEndOf, Joined};
 

@@ -9,8 +9,7 @@ use layout::place::TextPlace;
 ghost use mathlib.Core.Path.{_≡_};
 ghost use Prim.Native.Nat.{_+_};
 ghost use lib.ListN.{length, take, drop};
-ghost use Rattle.format.specs.Said.{replied};
-ghost use Rattle.format.specs.ReadSays.{byteSays, runSays, spanLeaves};
+ghost use Rattle.format.specs.Answers.{replied, byteSays, runSays, spanLeaves};
 ghost use Rattle.ask_access.specs.ReadAnswers.{byteReply, RunAnswer, SpanAnswer};
 
 // A byte of the text with the number of blocks entered, or the refusal.

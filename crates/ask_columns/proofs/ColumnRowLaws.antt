@@ -10,14 +10,13 @@ use lib.Seq.{drop-set-lt}
 use lib.Dec.{eqb}
 use borrow.Author.Count.{below-more}
 use borrow.Author.Tests.{lt-ltb, le-ltb, le-leb, lt-leb, eq-eqb, ne-eqb}
-use Rattle.text.specs.Lists.{tabulate}
+use Rattle.text.specs.Text.{tabulate}
 use Rattle.text.specs.ListLaws.{allBelow-not, allBelow-make, tab-none, tab-more}
-use Rattle.format.specs.Said.{replied}
+use Rattle.format.specs.Answers.{replied, byteSays}
 use Rattle.columns.specs.Columns.{widthOk}
 use Rattle.columns.specs.ColumnLaws.{within, width-rows}
 use Rattle.format.specs.Layout as at
-use Rattle.format.specs.Verdict.{ask, readable}
-use Rattle.format.specs.ReadSays.{byteSays}
+use Rattle.format.specs.TreeReading.{ask, readable}
 use Rattle.layout.specs.declared.header.Header.{Header}
 use Rattle.layout.specs.declared.header.HeaderRead.{HeaderRead}
 use Rattle.layout.specs.declared.header.HeaderRead.the-variants as read
@@ -33,11 +32,11 @@ use Rattle.ask_columns.specs.ColumnRows.{cell, cellsHold, columnNumber, 
 use Rattle.ask_columns.specs.RowThere.{RowThere}
 
 module _ (t : List ℕ) (w a : ℕ) (d : List ℕ) where
-  -- an answer and what is left of the buffer
+  -- An answer and what is left of the buffer.
   abbrev pub Read : Copied → List ℕ → Type 0
   Read r e = ColumnAnswer t w a (length d) r × (e ≡ columnLeaves t w a d)
 
-  -- refused before any byte is read: the buffer stays
+  -- Refused before any byte is read: the buffer stays.
   stays : (n : ℕ) → columnNumber t w a (length d) ≡ suc n → (suc n ≡ 14 → ⊥) → Read (copied.Refused (suc n)) d
   unfolding columnSays columnLeaves
   stays n e other = (record { says = rw e; numbered = omega arith }, rw (e, ne-eqb (suc n) 0 (λ z. omega arith), ne-eqb (suc n) 14 other))
@@ -83,7 +82,7 @@ read-start t w a d = record {
 }
 
 module _ (t : List ℕ) (h : Header) (w rows a : ℕ) (d : List ℕ) (k : RowThere t h w rows a (length d)) where
-  -- a column's place is below n
+  -- A column's place is below n.
   pub cell-below : (b : ℕ) → b < w → b * rows + a < h .«text_length»
   cell-below b l =
       omega (arith, within b w rows a l (k .below), mul-comm w rows, ap (λ (x : ℕ). x * w) (k .rows-are), width-rows w (h .«text_length») (k .width))
@@ -102,7 +101,7 @@ module _ (t : List ℕ) (h : Header) (w rows a : ℕ) (d : List ℕ) (k : RowThe
 
   module _ (e : List ℕ) (b : ℕ) (c : Reading t w a d e b) where
     module _ (more : b < w) (x : Answer) (x-is : replied (byteReply x) ≡ byteSays t (b * rows + a)) where
-      -- one column more
+      -- One column more.
       pub read-more : (v n : ℕ) → x ≡ answer.Byte v n → Reading t w a d (set e b v) (b + 1)
       read-more v n is =
           let f : ℕ → ℕ = λ i. byteSays t (cell t w a i) .value in
@@ -113,7 +112,7 @@ module _ (t : List ℕ) (h : Header) (w rows a : ℕ) (d : List ℕ) (k : RowThe
             hold = below-more (λ i. byteSays t (cell t w a i) .number ≡ 0) b (c .hold) (z .0);
           }
 
-      -- one is refused, and the row's part is cleared
+      -- One is refused, and the row's part is cleared.
       pub read-broken : (q : ℕ) → x ≡ answer.Refused q → (n : ℕ) → n ≡ replied (byteReply x) .number → (z : List ℕ) → z ≡ replicate w 0 ++ drop w e
           → Read t w a d (copied.Refused n) z
       unfolding columnSays columnLeaves cellsHold
@@ -125,7 +124,7 @@ module _ (t : List ℕ) (h : Header) (w rows a : ℕ) (d : List ℕ) (k : RowThe
           let number : columnNumber t w a (length d) ≡ 14 = number-is ∙ rw some-broken in
           (record { says = rw (number, n-14); numbered = omega arith }, z-is ∙ rw (number, c .past))
 
-    -- all are read
+    -- All are read.
     pub read-all : b ≡ w → Read t w a d (copied.Bytes w 0) e
     unfolding columnSays columnLeaves cellsHold
     read-all all =

@@ -12,17 +12,14 @@ use denote.Ref.{RefT, now}
 use lib.ListN.{length, drop, getD, replicate}
 use lib.Dec.{eqb}
 use borrow.Author.Tests.{lt-ltb, le-ltb, le-leb, lt-leb, eq-eqb, ne-eqb}
-use Rattle.text.specs.Lists.{tabulate}
+use Rattle.text.specs.Text.{tabulate, stretch}
 use Rattle.text.specs.ListLaws.{allBelow-make, allBelow-not, tabulate-ext}
-use Rattle.text.specs.Text.{stretch}
 use Rattle.columns.specs.Columns.{columns, uncolumns, widthOk}
 use Rattle.columns.specs.ColumnLaws.{within, width-rows, columns-length, restored, row-read}
 use Rattle.format.specs.Layout as at
-use Rattle.format.specs.Fits.{textOf}
-use Rattle.format.specs.Verdict.{readable, verdict}
+use Rattle.format.specs.TreeReading.{textOf, readable, verdict}
 use Rattle.format.specs.VerdictLaws.{accepted-readable, accepted-links}
-use Rattle.format.specs.Said.{Said}
-use Rattle.format.specs.ReadSays.{byteSays}
+use Rattle.format.specs.Answers.{Said, byteSays}
 use Rattle.theory_paths.specs.Demands as paths
 use Rattle.ask_access.specs.declared.Copied.{Copied}
 use Rattle.ask_access.specs.declared.Copied.the-variants as copied
@@ -36,7 +33,7 @@ ByColumns κs t w a buffer after r = reads.Post κs (t, (w, (a, (buffer, tt)))) 
 
 -- For any bytes.
 module _ (κs : Lfts 2) (t : RefT (List ℕ)) (w a : ℕ) (buffer after : RefT (List ℕ)) (r : Copied) (c : ByColumns κs t w a buffer after r) where
-  -- a refusal other than 14 leaves the buffer
+  -- A refusal other than 14 leaves the buffer.
   refuses : (n : ℕ) → columnNumber (now t) w a (length (now buffer)) ≡ suc n → (suc n ≡ 14 → ⊥) → (r ≡ copied.Refused (suc n)) × (now after ≡ now buffer)
   unfolding columnSays columnLeaves
   refuses n e other =
@@ -78,7 +75,7 @@ module _ (κs : Lfts 2) (t : RefT (List ℕ)) (w a : ℕ) (buffer after : RefT (
               rw (pass, ok, lt-ltb a (at.textLength (now t) / w) low, le-leb w (length (now buffer)) room, broken) in
               (copied-no r 13 (c .0 .says ∙ rw number), c .1 ∙ rw number)
 
-          -- where each holds, the row is what the paths give
+          -- Where each holds, the row is what the paths give.
           pub column-read : ((b : ℕ) → b < w → byteSays (now t) (b * (at.textLength (now t) / w) + a) .number ≡ 0)
               → (r ≡ copied.Bytes w 0)
               × (now after ≡ tabulate w (λ b. byteSays (now t) (b * (at.textLength (now t) / w) + a) .value) ++ drop w (now buffer))
@@ -105,7 +102,7 @@ module _ (κs : Lfts 2) (t : RefT (List ℕ)) (v : verdict (now t) ≡ 0) (w a :
       size : length (textOf (now t)) ≡ at.textLength (now t)
       size = paths.text-size (now t) pass (accepted-links (now t) v)
 
-      -- each of the row's bytes is answered, and is the text's
+      -- Each of the row's bytes is answered, and is the text's.
       byte-is : (b : ℕ) → b < w → (byteSays (now t) (b * (at.textLength (now t) / w) + a) .number ≡ 0)
           × (byteSays (now t) (b * (at.textLength (now t) / w) + a) .value ≡ getD (textOf (now t)) (b * (at.textLength (now t) / w) + a) 0)
       byte-is b l =

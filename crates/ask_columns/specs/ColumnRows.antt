@@ -5,12 +5,11 @@ use mathlib.Core.Bool.{Bool, cond}
 use Prim.Native.Nat.{ℕ, _+_, _*_, _/_}
 use lib.ListN.{length, drop, replicate}
 use lib.Dec.{ltb, leb, eqb}
-use Rattle.text.specs.Lists.{tabulate, allBelow}
+use Rattle.text.specs.Text.{tabulate, allBelow}
 use Rattle.columns.specs.Columns.{widthOk}
 use Rattle.format.specs.Layout as at
-use Rattle.format.specs.Verdict.{asks, orNext, readable}
-use Rattle.format.specs.Said.{Said, unless, Is}
-use Rattle.format.specs.ReadSays.{byteSays}
+use Rattle.format.specs.TreeReading.{asks, orNext, readable}
+use Rattle.format.specs.Answers.{Said, unless, Is, byteSays}
 use Rattle.ask_access.specs.declared.Copied.{Copied}
 use Rattle.ask_access.specs.ReadAnswers.{copiedReply}
 

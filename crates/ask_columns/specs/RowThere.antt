@@ -7,7 +7,7 @@ use Rattle.columns.specs.Columns.{widthOk}
 use Rattle.layout.specs.declared.header.Header.{Header}
 use Rattle.layout.specs.HeaderSays.{HeaderOf}
 
--- what the reading of the row's bytes rests on: the header's figures, and that questions 20, 10 and 13 let it through
+-- What the reading of the row's bytes rests on: the header's figures, and that questions 20, 10 and 13 let it through.
 pub record RowThere (t : List ℕ) (h : Header) (w rows a room : ℕ) : Type 0 where
   pub header : HeaderOf t h
   pub width : widthOk w (h .«text_length») ≡ true

@@ -9,12 +9,10 @@ use denote.Ref.{RefT, now}
 use borrow.Author.Tests.{ne-eqb, lt-ltb}
 use lib.ListN.{length, getD, replicate}
 use lib.Seq.{getD-take, getD-drop}
-use Rattle.text.specs.Text.{countIn}
-use Rattle.text.specs.Lists.{tabulate}
-use Rattle.format.specs.Settings.{maxCounted}
+use Rattle.text.specs.Text.{countIn, tabulate}
+use Rattle.format.specs.Layout.{maxCounted}
 use Rattle.format.specs.Layout as at
-use Rattle.format.specs.Fits.{textOf}
-use Rattle.format.specs.Verdict.{readable, verdict}
+use Rattle.format.specs.TreeReading.{textOf, readable, verdict}
 use Rattle.format.specs.VerdictLaws.{accepted-readable, accepted-links}
 use Rattle.format.specs.LayoutLaws.{readable-facts}
 use Rattle.theory_paths.specs.Links.{linked-facts}
@@ -35,7 +33,7 @@ Version r = version-reads.Post tt tt r tt
 pub version-is : (r : ℕ) → Version r → r ≡ 11700
 version-is r a = a
 
--- each counted byte of a tree, by its index
+-- Each counted byte of a tree, by its index.
 each-counted : (P : ℕ → Type 0) → P 0 → P 1 → P 2 → P 3 → (c : ℕ) → c < maxCounted → P c
 each-counted P a b d e zero h = a
 each-counted P a b d e (suc zero) h = b
@@ -43,7 +41,7 @@ each-counted P a b d e (suc (suc zero)) h = d
 each-counted P a b d e (suc (suc (suc zero))) h = e
 each-counted P a b d e (suc (suc (suc (suc c)))) h = absurd (let z : ⊥ = omega arith in z)
 
--- where a counted byte and its total are among the figures
+-- Where a counted byte and its total are among the figures.
 byte-figure : (t : List ℕ) (c : ℕ) → c < maxCounted → getD (figuresOf t) (plainFigures + c) 0 ≡ countedByte t c
 unfolding figuresOf tabulate
 byte-figure t = each-counted (λ c. getD (figuresOf t) (plainFigures + c) 0 ≡ countedByte t c) refl refl refl refl
@@ -52,7 +50,7 @@ total-figure : (t : List ℕ) (c : ℕ) → c < maxCounted → getD (figuresOf t
 unfolding figuresOf tabulate
 total-figure t = each-counted (λ c. getD (figuresOf t) (totalsFrom + c) 0 ≡ totalOf t c) refl refl refl refl
 
--- the counted bytes of the settings
+-- The counted bytes of the settings.
 counted-at : (t : List ℕ) (c : ℕ) → c < at.countedCount t → c < maxCounted → byteOf t c ≡ countedByte t c
 unfolding at.settings byteOf countedByte
 counted-at t c h low = rw (getD-take, getD-take, getD-drop)
@@ -65,12 +63,12 @@ total-right t v c h low =
     rw (lt-ltb c (at.countedCount t) h, ← counted-at t c h low) e
 
 module _ (κs : Lfts 2) (t figures after : RefT (List ℕ)) (r : ℕ) (a : Info κs t figures after r) where
-  -- questions 5 to 7 pass: the figures are the definition's
+  -- Questions 5 to 7 pass: the figures are the definition's.
   pub info-told : readable (now t) ≡ 0 → (r ≡ 0) × (now after ≡ figuresOf (now t))
   unfolding infoLeaves
   info-told pass = (a .0 ∙ pass, a .1 ∙ rw pass)
 
-  -- refused by one of them: its number, and every figure is 0
+  -- Refused by one of them: its number, and every figure is 0.
   pub info-refused : (q : ℕ) → readable (now t) ≡ suc q → (r ≡ suc q) × (now after ≡ replicate figureCount 0)
   unfolding infoLeaves
   info-refused q e = (a .0 ∙ e, a .1 ∙ rw (e, ne-eqb (suc q) 0 (λ z. omega arith)))

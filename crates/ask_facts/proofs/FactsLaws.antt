@@ -5,11 +5,11 @@ use Prim.Native.Nat.{ℕ, _≤_, _<_}
 use native.Mathlib.Omega.{arith}
 use borrow.Author.Tests.{lt-ltb, le-ltb, ne-eqb}
 use lib.ListN.{getD, replicate}
-use Rattle.text.specs.Lists.{tabulate}
-use Rattle.format.specs.Settings.{maxLevels, maxCounted}
+use Rattle.text.specs.Text.{tabulate}
+use Rattle.format.specs.Layout.{maxLevels, maxCounted}
 use Rattle.format.specs.Layout as at
-use Rattle.format.specs.Verdict.{readable}
-use Rattle.format.specs.FindSays.{total}
+use Rattle.format.specs.TreeReading.{readable}
+use Rattle.format.specs.Answers.{total}
 use Rattle.layout.specs.declared.header.Header.{Header}
 use Rattle.layout.specs.declared.header.HeaderRead.{HeaderRead}
 use Rattle.layout.specs.declared.header.HeaderRead.the-variants as header
@@ -17,7 +17,7 @@ use Rattle.layout.specs.Header.{headerSays}
 use Rattle.layout.specs.HeaderSays.{HeaderOf, header-refused}
 use Rattle.ask_facts.specs.Facts.{figureCount, countedByte, totalOf, figuresOf, infoLeaves}
 
--- four of a kind, and eight
+-- Four of a kind, and eight.
 pub four : (f : ℕ → ℕ) (a b c d : ℕ) → a ≡ f 0 → b ≡ f 1 → c ≡ f 2 → d ≡ f 3 → a ∷ b ∷ c ∷ d ∷ [] ≡ tabulate maxCounted f
 unfolding tabulate
 four f a b c d e0 e1 e2 e3 = rw (e0, e1, e2, e3)
@@ -28,7 +28,7 @@ unfolding tabulate
 eight f a b c d u v w x e0 e1 e2 e3 e4 e5 e6 e7 = rw (e0, e1, e2, e3, e4, e5, e6, e7)
 
 module _ (t : List ℕ) (h : Header) (k : HeaderOf t h) where
-  -- a total
+  -- A total.
   pub no-total : (c : ℕ) → h .settings .counted ≤ c → 0 ≡ totalOf t c
   unfolding totalOf
   no-total c l = rw (le-ltb c (at.countedCount t) (omega (arith, k .counted-is)))
@@ -37,7 +37,7 @@ module _ (t : List ℕ) (h : Header) (k : HeaderOf t h) where
   unfolding totalOf
   total-told c r l e = rw (lt-ltb c (at.countedCount t) (omega (arith, k .counted-is)), e)
 
-  -- all of them
+  -- All of them.
   pub figures-are : (bytes totals blocks : List ℕ)
       → bytes ≡ tabulate maxCounted (countedByte t) → totals ≡ tabulate maxCounted (totalOf t) → blocks ≡ tabulate maxLevels (at.levelCount t)
       → h .layout ∷ h .«text_length» ∷ h .settings .leaf ∷ h .settings .arity ∷ h .settings .levels ∷ h .«leaf_count» ∷ h .settings .counted
@@ -52,7 +52,7 @@ module _ (t : List ℕ) (h : Header) (k : HeaderOf t h) where
   unfolding infoLeaves
   told figures e = (sym (k .passes), rw (k .passes) e)
 
--- a tree that does not pass questions 5 to 7
+-- A tree that does not pass questions 5 to 7.
 pub untold : (t : List ℕ) (x : HeaderRead) → x ≡ headerSays t → (q : ℕ) → x ≡ header.Refused q → (q ≡ readable t) × (replicate figureCount 0 ≡ infoLeaves t)
 unfolding infoLeaves
 untold t x x-is q e =

@@ -5,12 +5,11 @@ use mathlib.Core.Bool.{cond}
 use Prim.Native.Nat.{ℕ, _+_, _*_}
 use lib.ListN.{getD, replicate}
 use lib.Dec.{ltb, eqb}
-use Rattle.text.specs.Lists.{tabulate}
-use Rattle.format.specs.Settings.{maxCounted, maxLevels}
-use Rattle.format.specs.HeaderPlaces.{countedAt}
+use Rattle.text.specs.Text.{tabulate}
+use Rattle.format.specs.Layout.{maxCounted, maxLevels, countedAt}
 use Rattle.format.specs.Layout as at
-use Rattle.format.specs.Verdict.{readable}
-use Rattle.format.specs.FindSays.{total}
+use Rattle.format.specs.TreeReading.{readable}
+use Rattle.format.specs.Answers.{total}
 
 -- The version: major × 10000 + minor × 100 + patch.
 abbrev pub versionNumber : ℕ

@@ -8,11 +8,10 @@ use layout::settings::Settings;
 ghost use mathlib.Core.Path.{_≡_};
 ghost use Prim.Native.Nat.{_≤_, _<_};
 ghost use lib.ListN.{length};
-ghost use Rattle.text.specs.Lists.{tabulate};
-ghost use Rattle.format.specs.Settings.{maxLevels, maxCounted};
-ghost use Rattle.format.specs.HeaderPlaces.{headerLength};
+ghost use Rattle.text.specs.Text.{tabulate};
+ghost use Rattle.format.specs.Layout.{maxLevels, maxCounted, headerLength};
 ghost use Rattle.format.specs.Layout as at;
-ghost use Rattle.format.specs.Verdict.{readable};
+ghost use Rattle.format.specs.TreeReading.{readable};
 ghost use Rattle.layout.specs.HeaderSays.{HeaderOf};
 ghost use Rattle.ask_facts.specs.Facts.{countedByte, totalOf, figuresOf, infoLeaves, versionNumber};
 

@@ -6,12 +6,10 @@ use native.Mathlib.Omega.{arith}
 use contract.Lifetimes.{Lfts}
 use denote.Ref.{RefT, now}
 use Rattle.text.specs.Text.{countIn, placeOf}
-use Rattle.format.specs.Words.{wordAt}
-use Rattle.format.specs.Settings.{pieces}
+use Rattle.format.specs.Layout.{wordAt, pieces}
 use Rattle.format.specs.Layout as at
-use Rattle.format.specs.Fits.{textOf}
-use Rattle.format.specs.Verdict.{readable, verdict}
-use Rattle.format.specs.Said.{Said, refused, NeverZero, replied}
+use Rattle.format.specs.TreeReading.{textOf, readable, verdict}
+use Rattle.format.specs.Answers.{Said, refused, NeverZero, replied}
 use Rattle.format.specs.LayoutLaws.{readable-facts}
 use Rattle.format.specs.VerdictLaws.{accepted-readable, accepted-links}
 use Rattle.theory_paths.specs.Links.{linked-facts}
@@ -20,8 +18,7 @@ use Rattle.theory_counts.specs.CountsLocal.{byteOf}
 use Rattle.theory_counts.specs.Demands as tallies
 use Rattle.ask_guide.specs.declared.Size.{Size}
 use Rattle.ask_guide.specs.declared.Size.the-variants.{Words, Refused}
-use Rattle.ask_guide.specs.Guides.{listedEvery, blockOf, entriesOf, entriesBefore, guideWords, guideBytes}
-use Rattle.ask_guide.specs.GuideAnswers.{sizeReply}
+use Rattle.ask_guide.specs.Guides.{listedEvery, blockOf, entriesOf, entriesBefore, guideWords, guideBytes, sizeReply}
 use Rattle.ask_guide.proofs.GuideList.{guide-entry, entry-below, entry-word, size-is, size-unread}
 use Rattle.ask_guide.proofs.guide_words.Reads as words-reads
 

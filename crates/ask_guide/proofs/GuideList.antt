@@ -7,22 +7,20 @@ use native.Mathlib.Omega.{arith}
 use lib.ListN.{length, getD}
 use lib.Dec.{eqb}
 use borrow.Author.Tests.{eq-eqb, eqb-true}
-use Rattle.text.specs.Lists.{tabulate, concat, sumBelow, sameList}
+use Rattle.text.specs.Text.{tabulate, concat, sumBelow, sameList}
 use Rattle.text.specs.ListLaws.{length-tabulate, getD-tabulate, sumBelow-ext, sumBelow-suc, sumBelow-part, sameList-true}
-use Rattle.format.specs.Words.{wordAt, wordsBytes}
+use Rattle.format.specs.Layout.{wordAt, wordsBytes, pieces, maxText}
 use Rattle.format.specs.WordLaws.{length-words, word-at}
-use Rattle.format.specs.Settings.{pieces, maxText}
 use Rattle.format.specs.PieceLaws.{pieces-start, lt-pieces}
 use Rattle.format.specs.Layout as at
-use Rattle.format.specs.Verdict.{ask, readable, verdict}
-use Rattle.format.specs.Said.{refused}
+use Rattle.format.specs.TreeReading.{ask, readable, verdict}
+use Rattle.format.specs.Answers.{refused, total}
 use Rattle.format.specs.SaidLaws.{unless-refused}
-use Rattle.format.specs.FindSays.{total}
 use Rattle.theory_built.specs.Gather.{placed, length-concat, getD-concat}
 use Rattle.ask_guide.specs.Guides.{lastEntry, blockOf, entriesOf, entriesBefore, guideWords, guideOf, guideBytes, guideNumber, listedEvery, sizeSays}
 use Rattle.ask_guide.proofs.Holders.{block-few}
 
--- entries, of a total
+-- Entries, of a total.
 pub whole-entries : (x : ℕ) → x % listedEvery ≡ 0 → x / listedEvery ≡ pieces x listedEvery
 unfolding pieces
 whole-entries x e = omega arith
@@ -68,12 +66,12 @@ module _ (t : List ℕ) where
     unfolding entriesOf
     entry-stands = omega (arith, pieces-start (total t c) listedEvery e he (omega arith))
 
-  -- the words of a counted byte end within the guide
+  -- The words of a counted byte end within the guide.
   pub part-ends : (c place count : ℕ) → c < at.countedCount t → place ≡ entriesBefore t c → count ≡ entriesOf t c → place + count ≤ guideWords t
   unfolding entriesBefore guideWords
   part-ends c place count l ep ec = omega (arith, sumBelow-part (at.countedCount t) (entriesOf t) c l)
 
-  -- the entry from which the j-th is sought exists
+  -- The entry from which the j-th is sought exists.
   pub listed : (c j : ℕ) → 1 ≤ j → j ≤ total t c → lastEntry j < entriesOf t c
   unfolding entriesOf
   listed c j low high = lt-pieces (total t c) listedEvery (lastEntry j) (omega arith) (omega arith)
@@ -91,7 +89,7 @@ module _ (t : List ℕ) where
   unfolding guideWords
   all-words c n e f = f ∙ ap (entriesBefore t) e
 
--- the size
+-- The size.
 pub size-unread : (t : List ℕ) (k n : ℕ) → readable t ≡ suc k → n ≡ suc k → refused n ≡ sizeSays t
 unfolding sizeSays
 size-unread t k n e f = unless-refused (readable t) k n (record { number = 0; value = guideWords t; entered = 0 }) e f
@@ -100,15 +98,15 @@ pub size-is : (t : List ℕ) (n : ℕ) → readable t ≡ 0 → n ≡ guideWords
 unfolding sizeSays
 size-is t n e f = rw (e, f)
 
--- word i of the words ws
+-- Word i of the words ws.
 pub word-of : (ws : List ℕ) (i : ℕ) → i < length ws → getD ws i 0 < 4294967296 → wordAt (wordsBytes ws) (4 * i) ≡ getD ws i 0
 word-of ws i l small =
     let e : 0 + 4 * i ≡ 4 * i = omega arith in
     ap (λ (x : List ℕ). wordAt x (4 * i)) (sym (append-nil (wordsBytes ws))) ∙ rw e at (word-at [] ws [] 0 i refl l small)
 
--- of an accepted tree
+-- Of an accepted tree.
 module _ (t : List ℕ) (v : verdict t ≡ 0) where
-  -- each entry fits a word
+  -- Each entry fits a word.
   entry-few : (i : ℕ) → i < length (guideOf t) → getD (guideOf t) i 0 < maxText
   unfolding entriesBefore guideWords
   entry-few i l =
@@ -121,7 +119,7 @@ module _ (t : List ℕ) (v : verdict t ≡ 0) where
   unfolding guideBytes
   entry-word i l = word-of (guideOf t) i l (omega (arith, entry-few i l))
 
--- an accepted guide
+-- An accepted guide.
 module _ (t guide : List ℕ) (e : guideNumber t guide ≡ 0) where
   pub guide-verdict : verdict t ≡ 0
   unfolding guideNumber

@@ -9,14 +9,13 @@ use lib.Arith.{digits-div}
 use Rattle.text.specs.ListLaws.{lt-or-ge}
 use Rattle.text.specs.Text.{placeOf}
 use Rattle.text.specs.CountLaws.{Nth, nth-past, nth-before, place-nth, count-le, count-mono}
-use Rattle.format.specs.Settings.{maxText}
+use Rattle.format.specs.Layout.{maxText}
 use Rattle.format.specs.PieceLaws.{pieces-cover, lt-pieces}
 use Rattle.format.specs.LayoutLaws.{Readable, readable-facts, full-pos}
 use Rattle.format.specs.VerdictLaws.{accepted-readable, accepted-links}
 use Rattle.format.specs.Layout as at
-use Rattle.format.specs.Fits.{textOf}
-use Rattle.format.specs.Verdict.{verdict}
-use Rattle.format.specs.FindSays.{total}
+use Rattle.format.specs.TreeReading.{textOf, verdict}
+use Rattle.format.specs.Answers.{total}
 use Rattle.theory_paths.specs.Links.{H, N, b, Linked, linked-facts}
 use Rattle.theory_paths.specs.OneText.{text-length}
 use Rattle.theory_counts.specs.CountsLocal.{byteOf}

@@ -3,36 +3,32 @@ use mathlib.Core.List.{List, [], _∷_}
 use mathlib.Core.Path.{_≡_, refl}
 use Prim.Native.Nat.{ℕ, _-_}
 use lib.ListN.{replicate, take}
-use Rattle.text.specs.Lists.{tabulate, concat, sumBelow, countBelow, allBelow, sameList}
-use Rattle.text.specs.Text.{stretch, leftmost, firstFrom, countIn, placeOf, placeIn}
-use Rattle.format.specs.Words.{wordAt, wordsBytes, wordBytes, setWord}
-use Rattle.format.specs.Settings.{blockLength, pieces, recordLength, lengthOk, sizesOk, countedOk, rising, risingAfter}
-use Rattle.format.specs.Edges.{edgesOf, filledOut}
+use Rattle.text.specs.Text.{tabulate, concat, sumBelow, countBelow, allBelow, sameList, stretch, leftmost, firstFrom, countIn, placeOf, placeIn}
+use Rattle.format.specs.Layout.{wordAt, wordsBytes, wordBytes, setWord, blockLength, pieces, recordLength, lengthOk, sizesOk, countedOk, rising, risingAfter}
+use Rattle.format.specs.Layout.{edgesOf, filledOut}
 use Rattle.format.specs.Blocks.{treeOf, header, leafBytes, levelPairs, recordBytes, levelBytes, recordIn, recordOf, target, occurrence, width, isKept}
 use Rattle.format.specs.Blocks.{startsAt, cut, keptByPairs, firstPairAt, pairAt, lengthOf, startOf}
 use Rattle.format.specs.Layout as at
-use Rattle.format.specs.Path.{pathOf, pathFrom, targetPlace, targetBlock, pointingBlock, keptBlock, lands, landBlock, landPlace, landVisits}
-use Rattle.format.specs.Short.{shortOf, shortFrom, byEdges, inLeaf}
-use Rattle.format.specs.Fits.{linksOk, textOf, countsTrue, edgesTrue, blockEdgesTrue, lastLevel, widthAt, keptRight, pointingRight, blockRight}
+use Rattle.format.specs.TreeReading.{pathOf, pathFrom, targetPlace, targetBlock, pointingBlock, keptBlock, lands, landBlock, landPlace, landVisits}
+use Rattle.format.specs.TreeReading.{shortOf, shortFrom, byEdges, inLeaf}
+use Rattle.format.specs.TreeReading.{linksOk, textOf, countsTrue, edgesTrue, blockEdgesTrue, lastLevel, widthAt, keptRight, pointingRight, blockRight}
 use Rattle.format.specs.FittingText.{fits, blockFits}
-use Rattle.format.specs.Fits.{countBelowRight, blockCountsTrue}
-use Rattle.format.specs.Verdict.{verdict, readable}
-use Rattle.format.specs.Said.{Said}
-use Rattle.format.specs.FindSays.{total}
+use Rattle.format.specs.TreeReading.{countBelowRight, blockCountsTrue, verdict, readable}
+use Rattle.format.specs.Answers.{Said, total}
 use Rattle.ask_guide.specs.Guides.{lastListed, blockOf, entriesOf, entriesBefore, guideWords, guideOf, guideBytes, guideNumber, sizeSays}
 use Rattle.ask_guide.specs.Guides.{makeNumber, makeSays, makeLeaves}
 
 book : List ℕ
 book = 81 ∷ 65 ∷ 66 ∷ 67 ∷ 68 ∷ 65 ∷ 66 ∷ 67 ∷ 68 ∷ 69 ∷ 70 ∷ 71 ∷ 65 ∷ 66 ∷ 67 ∷ 68 ∷ 65 ∷ 66 ∷ 67 ∷ 68 ∷ []
 
--- the tree of one level: its blocks have b bytes
+-- The tree of one level: its blocks have b bytes.
 blocks : ℕ → List ℕ → List ℕ → List ℕ
 blocks b cs T = treeOf (record { leaf = b; arity = 2; levels = 1; counted = cs }) T
 
 W : List ℕ
 W = treeOf (record { leaf = 2; arity = 2; levels = 2; counted = 65 ∷ [] }) book
 
--- A and B by turns
+-- A and B by turns.
 both : ℕ → List ℕ
 both n = concat (tabulate n (λ i. 65 ∷ 66 ∷ []))
 
@@ -42,24 +38,24 @@ said q v = record { number = q; value = v; entered = 0 }
 pub record Marked : Type 0 where
   -- A occurs four times in the worked book: one entry. The fourth A, at 16 in block 4, is four steps from it.
   worked : (guideOf W ≡ 0 ∷ []) × (guideBytes W ≡ 0 ∷ 0 ∷ 0 ∷ 0 ∷ []) × (sizeSays W ≡ said 0 1) × (blockOf W 0 4 - blockOf W 0 (lastListed 4) ≡ 4)
-  -- another entry, three bytes, five bytes and two words are no guide of it
+  -- Another entry, three bytes, five bytes and two words are no guide of it.
   right : (guideNumber W (0 ∷ 0 ∷ 0 ∷ 0 ∷ []) ≡ 0) × (guideNumber W (1 ∷ 0 ∷ 0 ∷ 0 ∷ []) ≡ 24) × (guideNumber W (0 ∷ 0 ∷ 0 ∷ 1 ∷ []) ≡ 24)
       × (guideNumber W [] ≡ 24) × (guideNumber W (replicate 3 0) ≡ 24) × (guideNumber W (replicate 5 0) ≡ 24) × (guideNumber W (replicate 8 0) ≡ 24)
-  -- what lies past the words stays; three bytes are too short
+  -- What lies past the words stays; three bytes are too short.
   made : (makeSays W (replicate 6 7) ≡ said 0 1) × (makeLeaves W (replicate 6 7) ≡ 0 ∷ 0 ∷ 0 ∷ 0 ∷ 7 ∷ 7 ∷ [])
       × (makeSays W (replicate 3 7) ≡ said 25 0) × (makeLeaves W (replicate 3 7) ≡ replicate 3 7)
   -- 200 letters A: the 1st, 65th, 129th and 193rd
   long : (guideOf (blocks 4 (65 ∷ []) (replicate 200 65)) ≡ 0 ∷ 16 ∷ 32 ∷ 48 ∷ []) × (guideOf (blocks 2 (65 ∷ []) (replicate 200 65)) ≡ 0 ∷ 32 ∷ 64 ∷ 96 ∷ [])
   -- 64 of them have one entry, 65 two
   begun : (guideOf (blocks 4 (65 ∷ []) (replicate 64 65)) ≡ 0 ∷ []) × (guideOf (blocks 4 (65 ∷ []) (replicate 65 65)) ≡ 0 ∷ 16 ∷ [])
-  -- the hundredth A, in block 49, is 17 steps from the 65th, in block 32
+  -- The hundredth A, in block 49, is 17 steps from the 65th, in block 32.
   seventeen : (lastListed 100 ≡ 65) × (blockOf (blocks 2 (65 ∷ []) (replicate 200 65)) 0 100 ≡ 49) × (lastListed 64 ≡ 1) × (lastListed 65 ≡ 65)
-  -- two counted bytes, one after the other
+  -- Two counted bytes, one after the other.
   pairs : (guideOf (blocks 2 (65 ∷ 66 ∷ []) (both 100)) ≡ 0 ∷ 64 ∷ 0 ∷ 64 ∷ []) × (entriesBefore (blocks 2 (65 ∷ 66 ∷ []) (both 100)) 1 ≡ 2)
-  -- a text of no bytes
+  -- A text of no bytes.
   empty : (guideOf (blocks 2 (65 ∷ []) []) ≡ []) × (guideNumber (blocks 2 (65 ∷ []) []) [] ≡ 0)
       × (guideNumber (blocks 2 (65 ∷ []) []) (replicate 4 0) ≡ 24) × (makeSays (blocks 2 (65 ∷ []) []) [] ≡ said 0 0)
-  -- none counted; none there
+  -- None counted; none there.
   none : (guideOf (blocks 2 [] book) ≡ [])
       × (guideOf (blocks 2 (90 ∷ []) book) ≡ []) × (guideNumber (blocks 2 [] book) [] ≡ 0) × (makeSays (blocks 2 [] book) [] ≡ said 0 0)
   -- Trees that the check refuses: 5, and 8 before 24 and 25. The size checks only 5 to 7.

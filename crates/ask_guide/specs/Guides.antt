@@ -1,20 +1,21 @@
--- Guides (sampled select directories): for each counted byte one word for every 64 occurrences, the number of the level 0 block that contains the first of
--- them. And what the calls return that check a guide, make one and give its size.
+-- Guides, and what their calls return.
 -- docs/FORMAT.md: "Guides".
 use mathlib.Core.List.{List, [], _∷_, _++_}
 use mathlib.Core.Bool.{cond}
 use Prim.Native.Nat.{ℕ, _+_, _-_, _*_, _/_}
 use lib.ListN.{length, getD, drop}
 use lib.Dec.{leb, eqb}
-use Rattle.text.specs.Lists.{tabulate, concat, sumBelow, sameList}
-use Rattle.text.specs.Text.{placeOf}
-use Rattle.format.specs.Words.{wordsBytes}
-use Rattle.format.specs.Settings.{pieces}
+use Rattle.text.specs.Text.{tabulate, concat, sumBelow, sameList, placeOf}
+use Rattle.format.specs.Layout.{wordsBytes, pieces}
 use Rattle.format.specs.Layout as at
-use Rattle.format.specs.Fits.{textOf}
-use Rattle.format.specs.Verdict.{asks, orNext, readable, verdict}
-use Rattle.format.specs.Said.{Said, unless}
-use Rattle.format.specs.FindSays.{total}
+use Rattle.format.specs.TreeReading.{textOf, asks, orNext, readable, verdict}
+use Rattle.format.specs.Answers.{Said, unless, Reply, figures, refusal, total}
+use Rattle.ask_guide.specs.declared.Size.{Size}
+use Rattle.ask_guide.specs.declared.Size.the-variants.{Words, Refused}
+
+-- Guides (sampled select directories): for each counted byte one word for every 64 occurrences, the number of the level 0 block that contains the first of
+-- them. And what the calls return that check a guide, make one and give its size.
+-- docs/FORMAT.md: "Guides".
 
 -- The sampling rate: the 1st, 65th, 129th occurrence, and so on, have an entry.
 abbrev pub listedEvery : ℕ
@@ -74,3 +75,10 @@ module _ (t : List ℕ) where
     -- The table afterwards: the guide at its start; unchanged if refused.
     unfoldable pub makeLeaves : List ℕ
     makeLeaves = cond (eqb makeNumber 0) (guideBytes ++ drop (length guideBytes) table) table
+
+-- The answers of the calls on guides by their refusals and figures.
+
+-- How many words, or the number of the question that refuses.
+abbrev pub sizeReply : Size → Reply
+sizeReply (Words n) = figures n 0
+sizeReply (Refused number) = refusal number

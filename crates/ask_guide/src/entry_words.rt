@@ -8,7 +8,7 @@ use layout::place::BlockNumber;
 use layout::record;
 ghost use mathlib.Core.Path.{_≡_};
 ghost use Prim.Native.Nat.{_+_, _*_, _/_, _^_, _≤_, _<_};
-ghost use Rattle.format.specs.Settings.{maxCounted};
+ghost use Rattle.format.specs.Layout.{maxCounted};
 ghost use Rattle.format.specs.Layout as at;
 ghost use Rattle.layout.specs.HeaderSays.{HeaderOf};
 ghost use Rattle.ask_select.specs.Seeks.{LastBefore};

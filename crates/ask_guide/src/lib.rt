@@ -5,9 +5,8 @@ pub mod entry_words;
 use layout::header;
 use layout::header::HeaderRead;
 ghost use mathlib.Core.Path.{_≡_};
-ghost use Rattle.format.specs.Said.{NeverZero, replied};
-ghost use Rattle.ask_guide.specs.Guides.{sizeSays};
-ghost use Rattle.ask_guide.specs.GuideAnswers.{sizeReply};
+ghost use Rattle.format.specs.Answers.{NeverZero, replied};
+ghost use Rattle.ask_guide.specs.Guides.{sizeSays, sizeReply};
 
 // The number of words of a guide, or the refusal.
 pub enum Size {

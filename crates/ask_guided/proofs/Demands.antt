@@ -8,10 +8,8 @@ use contract.Lifetimes.{Lfts}
 use denote.Ref.{RefT, now}
 use Rattle.text.specs.ListLaws.{lt-or-ge}
 use Rattle.format.specs.Layout as at
-use Rattle.format.specs.Verdict.{verdict}
-use Rattle.format.specs.Said.{Said, refused, NeverZero, replied}
-use Rattle.format.specs.CountSays.{numberOfByte}
-use Rattle.format.specs.FindSays.{selectNumber}
+use Rattle.format.specs.TreeReading.{verdict}
+use Rattle.format.specs.Answers.{Said, refused, NeverZero, replied, numberOfByte, selectNumber}
 use Rattle.ask_select.specs.declared.Found.{Found}
 use Rattle.ask_select.specs.declared.Found.the-variants as find
 use Rattle.ask_select.specs.Found.{findReply, FindAnswer}
@@ -34,7 +32,7 @@ FindGuided κs t guide byte j r = guided-reads.Post κs (t, (guide, (byte, (j, t
 abbrev Find : (κs : Lfts 1) → RefT (List ℕ) → (byte j : ℕ) → Found → Type 0
 Find κs t byte j r = find-reads.Post κs (t, (byte, (j, tt))) r (t, (byte, (j, tt)))
 
--- two answers that say the same are the same
+-- Two answers that say the same are the same.
 same-found : (x y : Found) → NeverZero (select.findReply x) → NeverZero (select.findReply y) → replied (findReply x) ≡ replied (findReply y) → x ≡ y
 same-found (find.At p e) (find.At q f) k l s =
     let z : p ≡ q = ap (λ (n : ℕ). record { 0 = n }) (ap (λ (x : Said). x .value) s) in
@@ -44,7 +42,7 @@ same-found (find.At p e) (find.Refused n) k l s = absurd (let z : ⊥ = omega (a
 same-found (find.Refused n) (find.At p e) k l s = absurd (let z : ⊥ = omega (arith, ap (λ (x : Said). x .number) s) in z)
 same-found (find.Refused n) (find.Refused m) k l s = ap find.Refused (ap (λ (x : Said). x .number) s)
 
--- on an accepted tree find has one answer
+-- On an accepted tree find has one answer.
 one-answer : (t : List ℕ) → verdict t ≡ 0 → (byte j : ℕ) (x y : Found) → FindAnswer t byte j x → FindAnswer t byte j y → x ≡ y
 one-answer t v byte j x y a b = same-found x y (a .numbered) (b .numbered) (go (lt-or-ge 0 (selectNumber t byte j)))
   where

@@ -5,12 +5,10 @@ use mathlib.Core.Logic.{_⊎_, inl, inr}
 use Prim.Native.Nat.{ℕ, _+_, _*_, _/_, _≤_, _<_}
 use native.Mathlib.Omega.{arith}
 use lib.ListN.{length, getD}
-use Rattle.format.specs.Words.{wordAt}
+use Rattle.format.specs.Layout.{wordAt}
 use Rattle.format.specs.Layout as at
-use Rattle.format.specs.Verdict.{verdict}
-use Rattle.format.specs.Said.{Said, refused, NeverZero, replied}
-use Rattle.format.specs.CountSays.{numberOfByte}
-use Rattle.format.specs.FindSays.{total, selectNumber, found}
+use Rattle.format.specs.TreeReading.{verdict}
+use Rattle.format.specs.Answers.{Said, refused, NeverZero, replied, numberOfByte, total, selectNumber, found}
 use Rattle.ask_select.specs.declared.Found.{Found}
 use Rattle.ask_select.specs.declared.Found.the-variants as find
 use Rattle.ask_select.specs.Found as select
@@ -25,7 +23,7 @@ use Rattle.ask_guided.specs.declared.Guided.the-variants as guided
 use Rattle.ask_guided.specs.Guided.{stepsTo, guidedReply, stepsOf, GuidedAnswer}
 use Rattle.ask_guided.specs.GuidedWalk.{stepped, foundOf, SoughtBy}
 
--- steps put beside what was found, and taken away
+-- Steps put beside what was found, and taken away.
 pub with-at : (f : Found) (steps : ℕ) → (p : _) (e : ℕ) → f ≡ find.At p e → stepped (find.At p e) steps ≡ stepped f steps
 with-at f steps p e q = rw q
 
@@ -46,7 +44,7 @@ pub numbered-same : (f : Found) (steps : ℕ) → NeverZero (select.findReply f)
 numbered-same (find.At p e) steps h = tt
 numbered-same (find.Refused n) steps h = h
 
--- without its steps it is settled by the guide's number
+-- Without its steps it is settled by the guide's number.
 pub found-by : (t guide : List ℕ) (byte j : ℕ) (g : Guided) → GuidedAnswer t guide byte j g → select.FoundBy t (guideNumber t guide) byte j (foundOf g)
 found-by t guide byte j (guided.At p e steps) a = record { says = a .says .finds; numbered = tt }
 found-by t guide byte j (guided.Refused n) a = record { says = a .says .finds; numbered = a .numbered }
@@ -84,7 +82,7 @@ module _ (t guide : List ℕ) (byte c j : ℕ)
     entry-low : at.before t 0 (wordAt guide (4 * place)) c < j
     entry-low = rw entry-is (omega (arith, block-low t v c hc (lastListed j) listed-low listed-high))
 
-  -- no such entry
+  -- No such entry.
   pub entry-missing : length guide / 4 ≤ place → SoughtBy t guide byte c j (refused 14) 0
   entry-missing past = record { accepted = λ g. absurd (let z : ⊥ = omega (arith, there g) in z); free = inl (refl, refl) }
 
@@ -97,7 +95,7 @@ module _ (t guide : List ℕ) (byte c j : ℕ)
     pub stops : sought.Stopped t c j block
     stops = record { block-in = last .high; next = last .next }
 
-    -- the steps lead to the block that holds the place
+    -- The steps lead to the block that holds the place.
     counted : (g : guideNumber t guide ≡ 0) → (at.before t 0 block c < j) × (steps ≡ stepsTo t c j)
     unfolding stepsTo
     counted g =
@@ -133,7 +131,7 @@ module _ (t guide : List ℕ) (byte c j : ℕ)
         free-of (find.Refused n) nb (inr r) = absurd (let y : ⊥ = omega (arith, r .0) in y)
 
 module _ (t guide : List ℕ) (byte j : ℕ) where
-  -- a question before the walk refuses
+  -- A question before the walk refuses.
   pub guided-refused : (q : ℕ) → selectNumber t byte j ≡ q → 1 ≤ q → GuidedAnswer t guide byte j (guided.Refused q)
   guided-refused q e l = record {
     says = record {

@@ -4,9 +4,7 @@
 use mathlib.Core.List.{List}
 use mathlib.Core.Path.{_≡_}
 use Prim.Native.Nat.{ℕ, _-_, _<_}
-use Rattle.format.specs.Said.{Said, Reply, figures, refusal, Allowed}
-use Rattle.format.specs.CountSays.{numberOfByte}
-use Rattle.format.specs.FindSays.{selectNumber, FindBy}
+use Rattle.format.specs.Answers.{Said, Reply, figures, refusal, Allowed, numberOfByte, selectNumber, FindBy}
 use Rattle.ask_guide.specs.Guides.{lastListed, blockOf, guideNumber}
 use Rattle.ask_guided.specs.declared.Guided.{Guided}
 use Rattle.ask_guided.specs.declared.Guided.the-variants.{At, Refused}
@@ -22,7 +20,7 @@ pub record GuidedSays (t guide : List ℕ) (byte j : ℕ) (s : Said) (steps : �
   pub none : 0 < s .number → steps ≡ 0
   pub counted : selectNumber t byte j ≡ 0 → guideNumber t guide ≡ 0 → steps ≡ stepsTo t (numberOfByte t byte) j
 
--- a place with the blocks on its path, and the steps on level 0
+-- A place with the blocks on its path, and the steps on level 0.
 abbrev pub guidedReply : Guided → Reply
 guidedReply (At place entered steps) = figures (place .0) entered
 guidedReply (Refused number) = refusal number

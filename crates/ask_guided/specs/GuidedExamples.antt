@@ -3,17 +3,13 @@ use mathlib.Core.List.{List, [], _∷_}
 use mathlib.Core.Path.{_≡_, refl}
 use Prim.Native.Nat.{ℕ}
 use lib.ListN.{replicate}
-use Rattle.text.specs.Lists.{tabulate, concat, sumBelow, countBelow, allBelow, sameList}
-use Rattle.text.specs.Text.{stretch, leftmost, firstFrom, countIn, placeOf, placeIn}
-use Rattle.format.specs.Words.{wordAt, wordsBytes, wordBytes}
-use Rattle.format.specs.Settings.{blockLength, pieces, recordLength}
-use Rattle.format.specs.Edges.{edgesOf, filledOut}
+use Rattle.text.specs.Text.{tabulate, concat, sumBelow, countBelow, allBelow, sameList, stretch, leftmost, firstFrom, countIn, placeOf, placeIn}
+use Rattle.format.specs.Layout.{wordAt, wordsBytes, wordBytes, blockLength, pieces, recordLength, edgesOf, filledOut}
 use Rattle.format.specs.Blocks.{treeOf, header, leafBytes, levelPairs, recordBytes, levelBytes, recordIn, recordOf, target, occurrence, width, isKept}
 use Rattle.format.specs.Blocks.{startsAt, cut, keptByPairs, firstPairAt, pairAt, lengthOf, startOf}
 use Rattle.format.specs.Layout as at
-use Rattle.format.specs.Path.{pathOf, pathFrom, targetPlace, targetBlock, pointingBlock, keptBlock, lands, landBlock, landPlace, landVisits}
-use Rattle.format.specs.Fits.{textOf}
-use Rattle.format.specs.FindSays.{found}
+use Rattle.format.specs.TreeReading.{pathOf, pathFrom, targetPlace, targetBlock, pointingBlock, keptBlock, lands, landBlock, landPlace, landVisits, textOf}
+use Rattle.format.specs.Answers.{found}
 use Rattle.ask_guide.specs.Guides.{blockOf}
 use Rattle.ask_guided.specs.Guided.{stepsTo}
 
@@ -30,7 +26,7 @@ long = treeOf (record { leaf = 2; arity = 2; levels = 1; counted = 65 ∷ [] }) 
 pub record Marked : Type 0 where
   -- The fourth A of the worked book is at 16, in block 4: three blocks entered, four steps from block 0.
   fourth : (found W 65 4 ≡ record { number = 0; value = 16; entered = 3 }) × (stepsTo W 0 4 ≡ 4)
-  -- the 64th is 31 steps from the 1st, the 65th none from itself, the hundredth 17 from the 65th
+  -- The 64th is 31 steps from the 1st, the 65th none from itself, the hundredth 17 from the 65th.
   steps : (stepsTo long 0 1 ≡ 0) × (stepsTo long 0 64 ≡ 31) × (stepsTo long 0 65 ≡ 0) × (stepsTo long 0 100 ≡ 17)
 
 pub marked : Marked

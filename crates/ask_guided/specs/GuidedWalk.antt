@@ -4,8 +4,7 @@ use mathlib.Core.Path.{_≡_}
 use mathlib.Core.Logic.{_⊎_}
 use Prim.Native.Nat.{ℕ, _<_}
 use Rattle.format.specs.Layout as at
-use Rattle.format.specs.Said.{Said, refused}
-use Rattle.format.specs.FindSays.{found}
+use Rattle.format.specs.Answers.{Said, refused, found}
 use Rattle.ask_select.specs.declared.Found.{Found}
 use Rattle.ask_select.specs.declared.Found.the-variants as find
 use Rattle.ask_guide.specs.Guides.{guideNumber}
@@ -13,7 +12,7 @@ use Rattle.ask_guided.specs.declared.Guided.{Guided}
 use Rattle.ask_guided.specs.declared.Guided.the-variants.{At, Refused}
 use Rattle.ask_guided.specs.Guided.{stepsTo}
 
--- what was found, with the steps to its block and without
+-- What was found, with the steps to its block and without.
 abbrev pub stepped : Found → ℕ → Guided
 stepped (find.At place entered) steps = At place entered steps
 stepped (find.Refused number) steps = Refused number
@@ -22,7 +21,7 @@ abbrev pub foundOf : Guided → Found
 foundOf (At place entered steps) = find.At place entered
 foundOf (Refused number) = find.Refused number
 
--- the walk with a guide, after the questions before it, for counted byte number c
+-- The walk with a guide, after the questions before it, for counted byte number c.
 pub record SoughtBy (t guide : List ℕ) (byte c j : ℕ) (s : Said) (steps : ℕ) : Type 0 where
   pub accepted : guideNumber t guide ≡ 0 → (s ≡ found t byte j) × (steps ≡ stepsTo t c j)
   pub free : ((s ≡ refused 14) × (steps ≡ 0)) ⊎ ((s .number ≡ 0) × (s .value < at.textLength t))

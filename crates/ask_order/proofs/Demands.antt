@@ -14,17 +14,14 @@ use lib.ListN.{length, getD, drop, drop-of-length-le}
 use lib.Seq.{drop-cons}
 use lib.Dec.{ltb}
 use Rattle.format.specs.Layout as at
-use Rattle.format.specs.Fits.{linksOk, textOf}
-use Rattle.format.specs.Verdict.{readable}
-use Rattle.format.specs.Said.{Said, refused, replied, unless}
-use Rattle.format.specs.ReadSays.{byteSays}
+use Rattle.format.specs.TreeReading.{linksOk, textOf, readable}
+use Rattle.format.specs.Answers.{Said, refused, replied, unless, byteSays}
 use Rattle.theory_paths.specs.Demands as paths
 use Rattle.ask_order.specs.declared.Compared.{Compared}
 use Rattle.ask_order.specs.declared.Compared.the-variants as compared
-use Rattle.ask_order.specs.Order.{Standing, before, same, after, code, stands, byLength, comparedFrom, orderSays}
+use Rattle.ask_order.specs.OrderAnswers.{Standing, before, same, after, code, stands, byLength, comparedFrom, orderSays, orderReply, Handed}
 use Rattle.ask_order.specs.TextOrder.{standing, shared, outcome, firstOf}
 use Rattle.ask_order.specs.OrderLaws.{Which, below, equal, above, which, standing-below, standing-equal, standing-above, shared-equal, shared-other}
-use Rattle.ask_order.specs.OrderAnswers.{orderReply, Handed}
 use Rattle.ask_order.specs.Compared.{shortest, byByte}
 use Rattle.ask_order.proofs.SideBySideLaws.{SameAt, From, first-broken, second-broken, place-differs, places-same}
 use Rattle.ask_order.proofs.compare.Reads as compare-reads
@@ -61,11 +58,11 @@ module _ (t u : List ℕ) (rt : readable t ≡ 0) (ru : readable u ≡ 0) (lt : 
   m-is : length U ≡ at.textLength u
   m-is = paths.text-size u ru lu
 
-  -- what is left of both from place p on
+  -- What is left of both from place p on.
   abbrev Left : ℕ → Said
   Left p = stands (standing (drop p T) (drop p U)) (p + shared (drop p T) (drop p U))
 
-  -- at the shorter end
+  -- At the shorter end.
   module _ (p : ℕ) (end : p ≡ shortest t u) where
     none-left : at.textLength t ≤ at.textLength u → drop p T ≡ []
     none-left h = drop-of-length-le T {i = p} (omega (arith, n-is))
@@ -87,7 +84,7 @@ module _ (t u : List ℕ) (rt : readable t ≡ 0) (ru : readable u ≡ 0) (lt : 
             let more = le-ltb (at.textLength t) (at.textLength u) (omega arith) in
             rw (more, lt-ltb (at.textLength u) (at.textLength t) h, drop-cons T p 0 (omega (arith, n-is)), none-left-2 (omega arith), add-zero p)
 
-  -- at a place of both
+  -- At a place of both.
   module _ (p : ℕ) (low : p < at.textLength t) (low′ : p < at.textLength u) where
     one : (byteSays t p .number ≡ 0) × (byteSays t p .value ≡ getD T p 0)
     one = let e = paths.byte-of-text t rt lt p low .2 in (ap (λ (s : Said). s .number) e, ap (λ (s : Said). s .value) e)
@@ -137,7 +134,7 @@ outcome-is r s n e = go r s (ap (λ (x : Said). x .value) e) (ap (λ (x : Said).
     go (compared.Refused q) same o l = absurd (let z : ⊥ = omega arith in z)
     go (compared.Refused q) after o l = absurd (let z : ⊥ = omega arith in z)
 
--- a refusal has no order
+-- A refusal has no order.
 refusal-is : (r : Compared) (q : ℕ) → replied (orderReply r) ≡ refused q → r ≡ compared.Refused q
 refusal-is r q e = go r (ap (λ (x : Said). x .value) e) (ap (λ (x : Said). x .number) e)
   where
@@ -179,7 +176,7 @@ module _ (κs : Lfts 2) (t u : RefT (List ℕ)) (r : Compared) (a : Compare κs 
         pub order-broken-2 : byteSays (now u) p .number ≡ 14 → r ≡ compared.Refused 14
         order-broken-2 e = refusal-is r 14 (a .says ∙ from-there ∙ second-broken (now t) (now u) p low there e)
 
-        -- a difference is the answer, whatever comes after it
+        -- A difference is the answer, whatever comes after it.
         module _ (there-2 : byteSays (now u) p .number ≡ 0) where
           pub order-below : byteSays (now t) p .value < byteSays (now u) p .value → r ≡ compared.Before p
           unfolding byByte

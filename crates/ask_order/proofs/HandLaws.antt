@@ -6,13 +6,12 @@ use Prim.Native.Nat.{ℕ, zero, suc, _+_, _≤_, min}
 use native.Mathlib.Omega.{arith}
 use denote.Ref.{RefT, now}
 use lib.Dec.{ltb, eqb}
-use Rattle.format.specs.Said.{Said, refused, replied, unless}
+use Rattle.format.specs.Answers.{Said, refused, replied, unless, byteSays}
 use Rattle.format.specs.Layout as at
-use Rattle.format.specs.Verdict.{readable}
-use Rattle.format.specs.ReadSays.{byteSays}
+use Rattle.format.specs.TreeReading.{readable}
 use Rattle.ask_order.specs.declared.Compared.{Compared}
 use Rattle.ask_order.specs.declared.Compared.the-variants as compared
-use Rattle.ask_order.specs.Order.{Standing, before, same, after, code, stands, byLength, comparedFrom, orderSays}
+use Rattle.ask_order.specs.OrderAnswers.{Standing, before, same, after, code, stands, byLength, comparedFrom, orderSays}
 use Rattle.ask_order.specs.OrderAnswers.{orderReply, OrderAnswer, Handed}
 use Rattle.ask_order.specs.TextOrder.{outcome, firstOf}
 
@@ -62,7 +61,7 @@ module _ (t u : List ℕ) (x : Compared) (a : OrderAnswer t u x) (one other : Re
       whole same = refl
       whole after = refl
 
-  -- a refusal: its number is not 0, and the part is empty
+  -- A refusal: its number is not 0, and the part is empty.
   pub refused-low : (q : ℕ) → x ≡ compared.Refused q → 1 ≤ q
   refused-low zero e =
       let z : refused 0 ≡ orderSays t u = rw e at (a .says) in

@@ -10,11 +10,10 @@ use borrow.Author.Tests.{lt-ltb, le-ltb}
 use lib.ListN.{length, getD}
 use lib.Dec.{ltb}
 use Rattle.text.specs.ListLaws.{lt-or-ge, below-suc}
-use Rattle.format.specs.Said.{Said, refused, replied, unless}
+use Rattle.format.specs.Answers.{Said, refused, replied, unless, byteSays}
 use Rattle.format.specs.Layout as at
-use Rattle.format.specs.Verdict.{readable}
+use Rattle.format.specs.TreeReading.{readable}
 use Rattle.format.specs.LayoutLaws.{readable-facts}
-use Rattle.format.specs.ReadSays.{byteSays}
 use Rattle.theory_paths.specs.PlaceBytes.{byte-text}
 use Rattle.layout.specs.declared.header.Header.{Header}
 use Rattle.layout.specs.declared.header.HeaderRead.{HeaderRead}
@@ -31,30 +30,29 @@ use Rattle.ask_order.specs.declared.Compared.the-variants as compared
 use Rattle.ask_order.specs.declared.side_by_side.Progress.{Progress}
 use Rattle.ask_order.specs.declared.side_by_side.Round.{Round}
 use Rattle.ask_order.specs.declared.side_by_side.Round.the-variants as round
-use Rattle.ask_order.specs.Order.{before, after, stands, byLength, comparedFrom, orderSays}
-use Rattle.ask_order.specs.OrderAnswers.{orderReply, OrderAnswer}
+use Rattle.ask_order.specs.OrderAnswers.{before, after, stands, byLength, comparedFrom, orderSays, orderReply, OrderAnswer}
 use Rattle.ask_order.specs.Compared.{ReadsFrom, Agrees, byByte, shortest, Comparing, RoundSays}
 
--- a byte of a part that is read is the one that byte answers
+-- A byte of a part that is read is the one that byte answers.
 reads-value : (t : List ℕ) (p from size x : ℕ) → readable t ≡ 0 → ReadsOn t p from size → x < size
     → byteSays t (p + x) .value ≡ getD t (from + x) 0
 reads-value t p from size x r a h = byte-text t r (p + x) (omega (arith, a .in-text)) (a .holds x h) ∙ sym (a .bytes x h)
 
--- the path of a part's first place holds
+-- The path of a part's first place holds.
 first-holds : (t : List ℕ) (p from size : ℕ) → ReadsOn t p from size → 1 ≤ size → byteSays t p .number ≡ 0
 first-holds t p from size a h = let e : p + 0 ≡ p = omega arith in rw e at (a .holds 0 (omega arith))
 
 -- Place by place.
 module _ (t u : List ℕ) where
-  -- the number and the byte of a place are the same in both
+  -- The number and the byte of a place are the same in both.
   abbrev pub SameAt : ℕ → Type 0
   SameAt p = (byteSays t p .number ≡ 0) × (byteSays u p .number ≡ 0) × (byteSays t p .value ≡ byteSays u p .value)
 
-  -- what is left to compare from place p on
+  -- What is left to compare from place p on.
   abbrev pub From : ℕ → Said
   From p = comparedFrom t u (shortest t u - p) p
 
-  -- a place that is not the shorter end
+  -- A place that is not the shorter end.
   module _ (p : ℕ) (low : p < shortest t u) where
     open-place : From p ≡ unless (byteSays t p .number) (unless (byteSays u p .number)
         (cond (ltb (byteSays t p .value) (byteSays u p .value)) (stands before p)
@@ -119,7 +117,7 @@ comparing-start t u r s = record {
     asked : orderSays t u ≡ comparedFrom t u (shortest t u) 0
     asked = rw (r, s)
 
--- a place below both lengths that the headers have
+-- A place below both lengths that the headers have.
 module _ (t u : List ℕ) (h g : Header) (k : HeaderOf t h) (l : HeaderOf u g) (p : ℕ) (low : p < min (h .«text_length») (g .«text_length»)) where
   pub below-both : (p < h .«text_length») × (p < g .«text_length»)
   below-both = (omega arith, omega arith)
@@ -128,7 +126,7 @@ module _ (t u : List ℕ) (h g : Header) (k : HeaderOf t h) (l : HeaderOf u g) (
   below-shortest = omega (arith, k .length-is, l .length-is)
 
 module _ (t u : List ℕ) (m : Progress) (c : Comparing t u m) where
-  -- at the shorter end
+  -- At the shorter end.
   pub compare-end : shortest t u ≤ m .place .0 → (n k : ℕ) → n ≡ at.textLength t → k ≡ at.textLength u
       → (x : Compared) → replied (orderReply x) ≡ byLength n k (m .place .0) → OrderAnswer t u x
   unfolding comparedFrom
@@ -138,7 +136,7 @@ module _ (t u : List ℕ) (m : Progress) (c : Comparing t u m) where
       record { says = x-is ∙ rw (n-is, k-is) e }
 
   module _ (low : m .place .0 < shortest t u) (v : Ran) (first : ReadsFrom t (m .place .0) v) where
-    -- the first tree's path breaks
+    -- The first tree's path breaks.
     pub compare-broken : (q : ℕ) → v ≡ ran.Refused q → OrderAnswer t u (compared.Refused 14)
     compare-broken q e =
         let z : ReadsFrom t (m .place .0) (ran.Refused q) = rw e at first in
@@ -148,14 +146,14 @@ module _ (t u : List ℕ) (m : Progress) (c : Comparing t u m) where
       here : ReadsFrom t (m .place .0) (ran.At x)
       here = rw x-is at first
 
-      -- the first tree's path holds and the second's breaks
+      -- The first tree's path holds and the second's breaks.
       pub compare-broken-2 : (q : ℕ) → w ≡ ran.Refused q → OrderAnswer t u (compared.Refused 14)
       compare-broken-2 q e =
           let z : ReadsFrom u (m .place .0) (ran.Refused q) = rw e at second in
           let holds = first-holds t (m .place .0) (x .from) (x .length) (here .0) (here .1) in
           record { says = sym (second-broken t u (m .place .0) low holds z) ∙ c .left }
 
-      -- both hold: there is a byte of each
+      -- Both hold: there is a byte of each.
       pub compare-runs : (y : Part) → w ≡ ran.At y
           → Comparing t u (record { place = m .place; one = x; other = y }) × (1 ≤ x .length) × (1 ≤ y .length)
       compare-runs y e =
@@ -168,7 +166,7 @@ module _ (t u : List ℕ) (x y : Part) (p : ℕ) (c : Comparing t u (record { pl
   in-both : p + n ≤ shortest t u
   in-both = omega (arith, c .reads .in-text, c .other-reads .in-text)
 
-  -- the parts lie in their trees, and the places far from where words end
+  -- The parts lie in their trees, and the places far from where words end.
   pub runs-inside : (x .from + n ≤ length t) × (y .from + n ≤ length u)
   runs-inside = (omega (arith, c .reads .in-tree), omega (arith, c .other-reads .in-tree))
 
@@ -185,14 +183,14 @@ module _ (t u : List ℕ) (x y : Part) (p : ℕ) (c : Comparing t u (record { pl
   rest-inside-2 h = (omega arith, omega (arith, c .other-reads .in-tree))
 
   module _ (k : ℕ) (g : Agrees t (x .from) u (y .from) n k) where
-    -- the byte at each of these places, in the first tree and in the second
+    -- The byte at each of these places, in the first tree and in the second.
     one-is : (z : ℕ) → z < n → byteSays t (p + z) .value ≡ getD t (x .from + z) 0
     one-is z h = reads-value t p (x .from) (x .length) z (c .passes) (c .reads) (omega arith)
 
     other-is : (z : ℕ) → z < n → byteSays u (p + z) .value ≡ getD u (y .from + z) 0
     other-is z h = reads-value u p (y .from) (y .length) z (c .other-passes) (c .other-reads) (omega arith)
 
-    -- the places that agree
+    -- The places that agree.
     agreed : (z : ℕ) → z < k → SameAt t u (p + z)
     agreed z h =
         let l : z < n = omega (arith, g .most) in
@@ -201,7 +199,7 @@ module _ (t u : List ℕ) (x y : Part) (p : ℕ) (c : Comparing t u (record { pl
     on : From t u (p + k) ≡ orderSays t u
     on = sym (places-same t u p k (omega (arith, g .most, in-both)) agreed) ∙ c .left
 
-    -- the next do not
+    -- The next do not.
     pub compare-differs : k < n → (z : Compared) → replied (orderReply z) ≡ byByte (getD t (x .from + k) 0) (getD u (y .from + k) 0) (p + k) → OrderAnswer t u z
     compare-differs less z z-is =
         let a = one-is k less in
@@ -211,7 +209,7 @@ module _ (t u : List ℕ) (x y : Part) (p : ℕ) (c : Comparing t u (record { pl
         let e = place-differs t u (p + k) (omega (arith, in-both)) there there-2 (λ same. g .differ less (sym a ∙ same ∙ b)) in
         record { says = z-is ∙ sym (rw (a, b) at e) ∙ on }
 
-    -- all do
+    -- All do.
     pub compare-on : 1 ≤ x .length → 1 ≤ y .length → n ≤ k
         → (a b : Part) → a ≡ record { from = x .from + n; length = x .length - n } → b ≡ record { from = y .from + n; length = y .length - n }
         → RoundSays t u p (round.On (record { place = record { 0 = p + n }; one = a; other = b }))
@@ -237,12 +235,12 @@ module _ (t u : List ℕ) (p : ℕ) (r : Round) (a : RoundSays t u p r) where
   pub round-settled : (x : Compared) → r ≡ round.Settled x → OrderAnswer t u x
   round-settled x e = let z : RoundSays t u p (round.Settled x) = rw e at a in z
 
--- a range from a place
+-- A range from a place.
 pub read-anew : (t : List ℕ) (p most : ℕ) (r : Ran) → RangeAnswer t p most r → ReadsFrom t p r
 read-anew t p most (ran.At part) a = (a .0, a .1)
 read-anew t p most (ran.Refused q) a = a .1
 
--- a tree that does not pass questions 5 to 7, the first or the second
+-- A tree that does not pass questions 5 to 7, the first or the second.
 handed-on : (n k q : ℕ) (rest : Said) → n ≡ suc k → q ≡ suc k → refused q ≡ unless n rest
 handed-on n k q rest e f = rw (e, f)
 
@@ -259,7 +257,7 @@ module _ (t u : List ℕ) (x : HeaderRead) (q : ℕ) (e : x ≡ read.Refused q) 
       let z = header-refused u x x-is q e in
       record { says = rw r (handed-on (readable u) (z .0) q _ (z .1) (z .2)) }
 
--- one place more agrees
+-- One place more agrees.
 pub agree-more : (s : List ℕ) (a : ℕ) (t : List ℕ) (b i : ℕ)
     → ((x : ℕ) → x < i → getD s (a + x) 0 ≡ getD t (b + x) 0) → getD s (a + i) 0 ≡ getD t (b + i) 0
     → (x : ℕ) → x < i + 1 → getD s (a + x) 0 ≡ getD t (b + x) 0

@@ -5,20 +5,18 @@ use mathlib.Core.Path.{_≡_}
 use Prim.Native.Nat.{ℕ, _+_, _-_, _≤_, _<_, min}
 use lib.ListN.{getD}
 use lib.Dec.{ltb}
-use Rattle.format.specs.Said.{Said}
+use Rattle.format.specs.Answers.{Said, byteSays}
 use Rattle.format.specs.Layout as at
-use Rattle.format.specs.Verdict.{readable}
-use Rattle.format.specs.ReadSays.{byteSays}
+use Rattle.format.specs.TreeReading.{readable}
 use Rattle.ask_access.specs.declared.read_by_header.Ran.{Ran}
 use Rattle.ask_access.specs.declared.read_by_header.Ran.the-variants as ran
 use Rattle.ask_access.specs.ReadByRuns.{ReadsOn}
 use Rattle.ask_order.specs.declared.side_by_side.Progress.{Progress}
 use Rattle.ask_order.specs.declared.side_by_side.Round.{Round}
 use Rattle.ask_order.specs.declared.side_by_side.Round.the-variants as round
-use Rattle.ask_order.specs.Order.{before, after, stands, comparedFrom, orderSays}
-use Rattle.ask_order.specs.OrderAnswers.{OrderAnswer}
+use Rattle.ask_order.specs.OrderAnswers.{before, after, stands, comparedFrom, orderSays, OrderAnswer}
 
--- bytes of the text from place p, at least one, or none because the path of p breaks
+-- Bytes of the text from place p, at least one, or none because the path of p breaks.
 abbrev pub ReadsFrom : List ℕ → ℕ → Ran → Type 0
 ReadsFrom t p (ran.At part) = ReadsOn t p (part .from) (part .length) × (1 ≤ part .length)
 ReadsFrom t p (ran.Refused q) = byteSays t p .number ≡ 14

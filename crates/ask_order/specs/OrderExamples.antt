@@ -3,19 +3,15 @@ use mathlib.Core.List.{List, [], _∷_, _++_}
 use mathlib.Core.Path.{_≡_, refl}
 use Prim.Native.Nat.{ℕ, _+_}
 use lib.ListN.{replicate, length, take, drop}
-use Rattle.text.specs.Lists.{tabulate, concat, sumBelow, countBelow, allBelow, sameList}
-use Rattle.text.specs.Text.{stretch, leftmost, firstFrom, countIn}
-use Rattle.format.specs.Said.{refused}
-use Rattle.format.specs.Words.{wordAt, wordsBytes, wordBytes}
-use Rattle.format.specs.Settings.{Settings, blockLength, pieces, recordLength, lengthOk, sizesOk, countedOk, rising, risingAfter}
+use Rattle.text.specs.Text.{tabulate, concat, sumBelow, countBelow, allBelow, sameList, stretch, leftmost, firstFrom, countIn}
+use Rattle.format.specs.Answers.{refused, byteSays}
+use Rattle.format.specs.Layout.{wordAt, wordsBytes, wordBytes, Settings, blockLength, pieces, recordLength, lengthOk, sizesOk, countedOk, rising, risingAfter}
 use Rattle.format.specs.Blocks.{treeOf, header, leafBytes, levelPairs, recordBytes, levelBytes, recordIn, recordOf, target, occurrence, width, isKept}
 use Rattle.format.specs.Blocks.{startsAt, cut, keptByPairs, firstPairAt, pairAt, lengthOf, startOf}
-use Rattle.format.specs.Edges.{edgesOf, filledOut}
+use Rattle.format.specs.Layout.{edgesOf, filledOut}
 use Rattle.format.specs.Layout as at
-use Rattle.format.specs.Path.{pathOf, pathFrom, targetPlace, targetBlock, pointingBlock, keptBlock, lands, landBlock, landPlace, landVisits}
-use Rattle.format.specs.Verdict.{readable}
-use Rattle.format.specs.ReadSays.{byteSays}
-use Rattle.ask_order.specs.Order.{before, same, after, stands, byLength, comparedFrom, orderSays}
+use Rattle.format.specs.TreeReading.{pathOf, pathFrom, targetPlace, targetBlock, pointingBlock, keptBlock, lands, landBlock, landPlace, landVisits, readable}
+use Rattle.ask_order.specs.OrderAnswers.{before, same, after, stands, byLength, comparedFrom, orderSays}
 use Rattle.ask_order.specs.TextOrder.{standing, shared}
 
 nine : List ℕ
@@ -27,7 +23,7 @@ book = nine ++ 69 ∷ 70 ∷ 71 ∷ 65 ∷ 66 ∷ 67 ∷ 68 ∷ 65 ∷ 66 ∷ 67
 two : List ℕ → List ℕ
 two = treeOf (record { leaf = 2; arity = 2; levels = 2; counted = 65 ∷ [] })
 
--- the worked book, by two settings; its first nine bytes; the same with E for the ninth
+-- The worked book, by two settings; its first nine bytes; the same with E for the ninth.
 w : List ℕ
 w = two book
 
@@ -46,14 +42,14 @@ high = treeOf (record { leaf = 1; arity = 2; levels = 1; counted = [] }) (200 �
 low : List ℕ
 low = treeOf (record { leaf = 1; arity = 2; levels = 2; counted = [] }) (100 ∷ 255 ∷ [])
 
--- the empty text, by two settings
+-- The empty text, by two settings.
 empty : List ℕ
 empty = two []
 
 empty′ : List ℕ
 empty′ = treeOf (record { leaf = 1; arity = 2; levels = 1; counted = [] }) []
 
--- the book's tree in layout 1: the header's words, the records without edges, the leaf bytes
+-- The book's tree in layout 1: the header's words, the records without edges, the leaf bytes.
 words : ℕ → List ℕ
 words l =
     let S : Settings = record { leaf = 2; arity = 2; levels = 2; counted = 65 ∷ [] } in
@@ -63,11 +59,11 @@ older : List ℕ
 older =
     wordsBytes (1 ∷ 20 ∷ 2 ∷ 2 ∷ 2 ∷ 1 ∷ 65 ∷ 5 ∷ 100 ∷ 8 ∷ 240 ∷ []) ++ replicate 48 0 ++ wordsBytes (464 ∷ 16 ∷ words 0 ++ words 1) ++ take 16 book
 
--- the tree with another word at i
+-- The tree with another word at i.
 with : List ℕ → ℕ → ℕ → List ℕ
 with t i v = take i t ++ wordBytes v ++ drop (i + 4) t
 
--- the kind of the worked book's last block, and of its first, is 2
+-- The kind of the worked book's last block, and of its first, is 2.
 late : List ℕ
 late = with w 232 2
 
@@ -85,7 +81,7 @@ pub record Marked : Type 0 where
   -- The empty text comes before every other, and no place is read.
   empties : (orderSays empty w ≡ stands before 0) × (orderSays older empty ≡ stands after 0)
       × (orderSays empty empty′ ≡ stands same 0) × (orderSays early empty ≡ stands after 0)
-  -- a path that breaks, and one that breaks past the first difference or the shorter end, which is not read
+  -- A path that breaks, and one that breaks past the first difference or the shorter end, which is not read.
   broken : (orderSays late w ≡ refused 14) × (orderSays w late ≡ refused 14) × (orderSays late late ≡ refused 14)
       × (orderSays early high ≡ refused 14)
   unseen : (orderSays late x ≡ stands before 8) × (orderSays x late ≡ stands after 8) × (orderSays late p ≡ stands after 9)

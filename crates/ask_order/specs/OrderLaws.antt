@@ -10,12 +10,12 @@ use borrow.Author.Tests.{lt-ltb, le-ltb, eq-eqb, ne-eqb}
 use lib.ListN.{length, getD}
 use lib.Dec.{ltb}
 use Rattle.text.specs.ListLaws.{lt-or-ge}
-use Rattle.ask_order.specs.Order.{Standing, before, same, after}
+use Rattle.ask_order.specs.OrderAnswers.{Standing, before, same, after}
 use Rattle.ask_order.specs.TextOrder.{standing, shared}
 
 -- One byte of each.
 
--- below, the same, or above
+-- Below, the same, or above.
 pub data Which (x y : ℕ) : Type 0 where
   below : x < y → Which x y
   equal : x ≡ y → Which x y
@@ -78,13 +78,13 @@ standing-flip (x ∷ T) (y ∷ U) = go (which x y) (standing-flip T U)
     go (equal e) r = standing-equal y x U T (sym e) ∙ r ∙ ap flip (sym (standing-equal x y T U e))
     go (above h) r = standing-below y x U T h ∙ ap flip (sym (standing-above x y T U h))
 
--- a text compares as same with itself
+-- A text compares as same with itself.
 pub standing-refl : (T : List ℕ) → standing T T ≡ same
 unfolding standing
 standing-refl [] = refl
 standing-refl (x ∷ T) = standing-equal x x T T refl ∙ standing-refl T
 
--- only equal texts compare as same
+-- Only equal texts compare as same.
 pub standing-same : (T U : List ℕ) → standing T U ≡ same → T ≡ U
 unfolding standing
 standing-same [] [] e = refl
@@ -122,7 +122,7 @@ unfolding standing
 empty-first [] n = absurd (n refl)
 empty-first (y ∷ T) n = refl
 
--- the total order: before or same
+-- The total order: before or same.
 
 abbrev pub Upto : List ℕ → List ℕ → Type 0
 Upto T U = standing T U ≡ after → ⊥
@@ -134,7 +134,7 @@ pub record TotalOrder (R : List ℕ → List ℕ → Type 0) : Type 0 where
   pub total : (T U : List ℕ) → R T U ⊎ R U T
 
 module _ (T U : List ℕ) where
-  -- at or before is before or the same
+  -- At or before is before or the same.
   upto : (s : Standing) → standing T U ≡ s → Upto T U → (standing T U ≡ before) ⊎ (T ≡ U)
   upto before e n = inl e
   upto same e n = inr (standing-same T U e)
@@ -209,7 +209,7 @@ shared-flip (x ∷ T) (y ∷ U) = go (which x y) (shared-flip T U)
     go (above h) r = shared-other y x U T (λ e. omega arith) ∙ sym (shared-other x y T U (λ e. omega arith))
     go (equal e) r = shared-equal y x U T (sym e) ∙ ap (λ (n : ℕ). n + 1) r ∙ sym (shared-equal x y T U e)
 
--- a text shares all its bytes with itself
+-- A text shares all its bytes with itself.
 pub shared-itself : (T : List ℕ) → shared T T ≡ length T
 unfolding shared
 shared-itself [] = refl
@@ -217,9 +217,9 @@ shared-itself (x ∷ T) = shared-equal x x T T refl ∙ add-one (shared T T) ∙
 
 -- The order is decided by the byte after the longest common prefix, or by the end of the shorter text.
 pub record StandsBy (T U : List ℕ) : Type 0 where
-  -- at the first difference the smaller byte decides
+  -- At the first difference the smaller byte decides.
   pub by-byte : shared T U < length T → shared T U < length U → standing T U ≡ cond (ltb (getD T (shared T U) 0) (getD U (shared T U) 0)) before after
-  -- a proper prefix comes first
+  -- A proper prefix comes first.
   pub by-end : length T ≤ shared T U → shared T U < length U → standing T U ≡ before
   pub by-other-end : shared T U < length T → length U ≤ shared T U → standing T U ≡ after
   pub by-both : length T ≤ shared T U → length U ≤ shared T U → standing T U ≡ same

@@ -4,17 +4,17 @@ use mathlib.Core.List.{List, [], _∷_}
 use mathlib.Core.Bool.{cond}
 use Prim.Native.Nat.{ℕ, _+_}
 use lib.Dec.{ltb, eqb}
-use Rattle.ask_order.specs.Order.{Standing, before, same, after}
+use Rattle.ask_order.specs.OrderAnswers.{Standing, before, same, after}
 use Rattle.ask_order.specs.declared.Compared.{Compared}
 use Rattle.ask_order.specs.declared.Compared.the-variants as compared
 
--- the answer for each outcome, with the length of the shared beginning
+-- The answer for each outcome, with the length of the shared beginning.
 abbrev pub outcome : Standing → ℕ → Compared
 outcome before n = compared.Before n
 outcome same n = compared.Same n
 outcome after n = compared.After n
 
--- of two values that of the text that comes first; the first value for equal texts
+-- Of two values that of the text that comes first; the first value for equal texts.
 abbrev pub firstOf {ℓ} : {A : Type ℓ} → Standing → A → A → A
 firstOf before x y = x
 firstOf same x y = x
@@ -29,7 +29,7 @@ standing (x ∷ T) (y ∷ U) =
     let rest = standing T U in
     cond (ltb x y) before (cond (ltb y x) after rest)
 
--- the length of the shared beginning
+-- The length of the shared beginning.
 unfoldable pub shared : List ℕ → List ℕ → ℕ
 shared [] U = 0
 shared (x ∷ T) [] = 0

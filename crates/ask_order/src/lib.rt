@@ -6,8 +6,7 @@ use layout::header::Header;
 use layout::header::HeaderRead;
 ghost use mathlib.Core.Path.{_≡_};
 ghost use Rattle.layout.specs.HeaderSays.{HeaderOf};
-ghost use Rattle.ask_order.specs.Order.{orderSays};
-ghost use Rattle.ask_order.specs.OrderAnswers.{OrderAnswer, Handed};
+ghost use Rattle.ask_order.specs.OrderAnswers.{orderSays, OrderAnswer, Handed};
 
 // The order of the first text, with the length of the longest common prefix; or the refusal.
 pub enum Compared {

@@ -9,11 +9,10 @@ ghost use mathlib.Core.Bool.{true};
 ghost use mathlib.Core.Path.{_≡_};
 ghost use Prim.Native.Nat.{ℕ, _+_, _-_, _≤_, _<_, min};
 ghost use lib.ListN.{length, getD};
-ghost use Rattle.format.specs.Said.{replied};
+ghost use Rattle.format.specs.Answers.{replied};
 ghost use Rattle.layout.specs.HeaderSays.{HeaderOf};
 ghost use Rattle.ask_access.specs.ReadByRuns.{ReadsOn};
-ghost use Rattle.ask_order.specs.Order.{byLength};
-ghost use Rattle.ask_order.specs.OrderAnswers.{orderReply, OrderAnswer};
+ghost use Rattle.ask_order.specs.OrderAnswers.{byLength, orderReply, OrderAnswer};
 ghost use Rattle.ask_order.specs.Compared.{ReadsFrom, Agrees, byByte, Comparing, RoundSays};
 
 // The largest number of bytes of a tree that are read at once: the first difference is often near.

@@ -14,19 +14,15 @@ use lib.ListN.{length, drop}
 use lib.Dec.{leb, eqb}
 use Rattle.text.specs.ListLaws.{bool-cases, and-left, and-right, and-false}
 use Rattle.format.specs.Layout as at
-use Rattle.format.specs.Path.{Path, pathOf}
-use Rattle.format.specs.Fits.{textOf}
-use Rattle.format.specs.Verdict.{ask, readable}
+use Rattle.format.specs.TreeReading.{Path, pathOf, textOf, ask, readable}
 use Rattle.format.specs.LayoutLaws.{readable-facts}
-use Rattle.format.specs.Said.{Said, refused, NeverZero, replied}
+use Rattle.format.specs.Answers.{Said, refused, NeverZero, replied, byteOf, byteSays, pathsHold}
 use Rattle.format.specs.SaidLaws.{unless-number}
-use Rattle.format.specs.ReadSays.{byteOf, byteSays, pathsHold}
 use Rattle.theory_paths.specs.Reads.{paths-hold}
 use Rattle.theory_paths.specs.PlaceBytes.{byte-path}
 use Rattle.ask_patterns.specs.declared.PlacesWritten.{PlacesWritten}
 use Rattle.ask_patterns.specs.declared.PlacesWritten.the-variants as written
-use Rattle.ask_patterns.specs.Places.{maxPattern, patternOk, placesIn, placesOf, placesNumber, placesSays, placesLeaves}
-use Rattle.ask_patterns.specs.PlacesAnswer.{placesReply}
+use Rattle.ask_patterns.specs.Places.{maxPattern, patternOk, placesIn, placesOf, placesNumber, placesSays, placesLeaves, placesReply}
 use Rattle.ask_patterns.specs.declared.PlacesRoom.{PlacesRoom}
 use Rattle.ask_patterns.specs.declared.PlacesRoom.the-variants as room
 use Rattle.ask_patterns.proofs.RoomLaws.{places-few, roomy}
@@ -47,7 +43,7 @@ refused-is : (r : PlacesWritten) (q : ℕ) → replied (placesReply r) ≡ refus
 refused-is (written.Number m) q e = absurd (let z : ⊥ = omega (arith, ap (λ (s : Said). s .number) e) in z)
 refused-is (written.Refused p) q e = ap written.Refused (ap (λ (s : Said). s .number) e)
 
--- one path of some places breaks
+-- One path of some places breaks.
 one-breaks : (t : List ℕ) (len p x : ℕ) → x < len → byteSays t (p + x) .number ≡ 14 → pathsHold t p len ≡ false
 unfolding pathsHold
 one-breaks t zero p x h e = absurd (let z : ⊥ = omega arith in z)
@@ -58,7 +54,7 @@ one-breaks t (suc len) p (suc x) h e =
     let y : p + 1 + x ≡ p + suc x = omega arith in
     rw (one-breaks t len (p + 1) x (omega arith) (rw y e)) (and-false (eqb (byteSays t p .number) 0))
 
--- a pattern of other length
+-- A pattern of other length.
 other-length : (P : List ℕ) → (1 ≤ length P → length P ≤ maxPattern → ⊥) → patternOk P ≡ false
 unfolding patternOk
 other-length P wrong = go (bool-cases (leb 1 (length P) && leb (length P) maxPattern))
@@ -69,12 +65,12 @@ other-length P wrong = go (bool-cases (leb 1 (length P) && leb (length P) maxPat
     go (inr h) = h
 
 module _ (κs : Lfts 3) (t P table after : RefT (List ℕ)) (r : PlacesWritten) (a : Places κs t P table after r) where
-  -- a refusal: its number, and the table as it was
+  -- A refusal: its number, and the table as it was.
   refuses : (q : ℕ) → placesNumber (now t) (now P) (length (now table)) ≡ suc q → (r ≡ written.Refused (suc q)) × (now after ≡ now table)
   unfolding placesSays placesLeaves
   refuses q e = (refused-is r q (a .0 .says ∙ rw e), a .1 ∙ rw (e, ne-eqb (suc q) 0 (λ z. omega arith)))
 
-  -- questions 5 to 7
+  -- Questions 5 to 7.
   pub places-unread : (q : ℕ) → readable (now t) ≡ suc q → (r ≡ written.Refused (suc q)) × (now after ≡ now table)
   unfolding placesNumber
   places-unread q e = refuses q (rw (e, ne-eqb (suc q) 0 (λ z. omega arith)))

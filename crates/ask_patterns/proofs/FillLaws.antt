@@ -12,7 +12,7 @@ pub filled-none : (room : ℕ) (before : List ℕ) → before ≡ filled [] room
 unfolding filled
 filled-none room before = rw (take-nil {A = ℕ} room)
 
--- room for all of them
+-- Room for all of them.
 pub filled-all : (ps : List ℕ) (room : ℕ) (before : List ℕ) → length ps ≤ room → filled ps room before ≡ ps ++ drop (length ps) before
 unfolding filled
 filled-all ps room before h = rw (take-all room ps h)
@@ -21,7 +21,7 @@ filled-all ps room before h = rw (take-all room ps h)
 pub filled-take : (ps : List ℕ) (room : ℕ) (before : List ℕ) → length ps ≤ room → take (length ps) (filled ps room before) ≡ ps
 filled-take ps room before h = rw (filled-all ps room before h) (take-append-seam ps (drop (length ps) before))
 
--- a copy of the first words, by one more
+-- A copy of the first words, by one more.
 pub copied-more : (few table now : List ℕ) (i : ℕ) → i < length few → i < length table → now ≡ take i few ++ drop i table
     → set now i (getD few i 0) ≡ take (i + 1) few ++ drop (i + 1) table
 copied-more few table now i h k e =
@@ -36,7 +36,7 @@ module _ (ps : List ℕ) (room : ℕ) (before : List ℕ) (fits : room ≤ lengt
       let a = take room ps in
       omega (arith, length-append a (drop (length a) before), length-drop (length a) before, length-take room ps)
 
-  -- one more, with room for it
+  -- One more, with room for it.
   pub filled-more : (p : ℕ) → length ps < room → set (filled ps room before) (length ps) p ≡ filled (ps ++ p ∷ []) room before
   unfolding filled
   filled-more p low =
@@ -48,7 +48,7 @@ module _ (ps : List ℕ) (room : ℕ) (before : List ℕ) (fits : room ≤ lengt
       rw (drop-cons before n 0 (omega arith)) (set-append-seam ps (getD before n 0) (drop (suc n) before) p) in
       rw (a, b, one, append-assoc ps (p ∷ []) (drop (suc n) before)) c
 
-  -- one more, with none
+  -- One more, with none.
   pub filled-full : (p : ℕ) → room ≤ length ps → filled (ps ++ p ∷ []) room before ≡ filled ps room before
   unfolding filled
   filled-full p high = rw (take-append-le room ps (p ∷ []) high)

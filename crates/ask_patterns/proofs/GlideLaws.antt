@@ -10,7 +10,7 @@ use lib.ListN.{length, getD}
 use lib.Dec.{ltb, eqb}
 use Rattle.text.specs.ListLaws.{and-both, and-false, lt-or-ge}
 use Rattle.format.specs.Layout as at
-use Rattle.format.specs.Fits.{textOf}
+use Rattle.format.specs.TreeReading.{textOf}
 use Rattle.theory_paths.specs.OneText.{text-length}
 use Rattle.ask_access.specs.ReadByRuns.{ReadsOn}
 use Rattle.ask_access.proofs.RunLaws.{reads-rest}
@@ -25,19 +25,19 @@ use Rattle.ask_patterns.proofs.PatternSeekLaws.{seeking-even, seeking-b
 abbrev progress : ℕ → ℕ → ℕ → Progress
 progress p s f = record { place = record { 0 = p }; state = s; found = f }
 
--- a byte that does not begin the pattern, in state 0
+-- A byte that does not begin the pattern, in state 0.
 next-other : (P : List ℕ) (c : ℕ) → (c ≡ getD P 0 0 → ⊥) → Next P 0 c 0
 next-other P c differs =
     let miss : (ltb 0 (length P) && eqb (getD P 0 0) c) ≡ false =
     ap (λ b. ltb 0 (length P) && b) (ne-eqb (getD P 0 0) c (λ e. differs (sym e))) ∙ and-false (ltb 0 (length P)) in
     first-none P 0 c 0 (back-start P 0 c) (omega arith) miss
 
--- a byte that goes on with a state
+-- A byte that goes on with a state.
 next-same : (P : List ℕ) (s c : ℕ) → s < length P → c ≡ getD P s 0 → Next P s c (s + 1)
 next-same P s c low e = next-more P s c s (back-start P s c) (and-both (lt-ltb s (length P) low) (eq-eqb (getD P s 0) c (sym e))) .1
 
 module _ (t P : List ℕ) (room : ℕ) (before table : List ℕ) (some-byte : 1 ≤ length P) (p from size : ℕ) (reads : ReadsOn t p from size) where
-  -- one byte more
+  -- One byte more.
   glide-one : (j s f r : ℕ) → j < size → Seeking t P room before (progress (p + j) s f) table → r ≤ s + 1 → r < length P
       → Next P s (getD t (from + j) 0) r → Seeking t P room before (progress (p + (j + 1)) r f) table
   glide-one j s f r low k high short next =

@@ -14,8 +14,8 @@ use Rattle.text.specs.ListLaws.{lt-or-ge, bool-cases, bool-clash, ne-sameList, 
 use Rattle.text.specs.Text.{stretch}
 use Rattle.text.specs.TextLaws.{length-stretch, getD-stretch}
 use Rattle.format.specs.Layout as at
-use Rattle.format.specs.Fits.{textOf}
-use Rattle.format.specs.ReadSays.{byteSays, pathsHold}
+use Rattle.format.specs.TreeReading.{textOf}
+use Rattle.format.specs.Answers.{byteSays, pathsHold}
 use Rattle.theory_paths.specs.OneText.{text-length}
 use Rattle.layout.specs.declared.header.Header.{Header}
 use Rattle.layout.specs.HeaderSays.{HeaderOf}
@@ -31,7 +31,7 @@ use Rattle.ask_patterns.proofs.FillLaws.{filled-none, filled-length, fi
 -- Where the pattern occurs.
 
 module _ (P T : List ℕ) (i k : ℕ) (l : Longest P (λ p. getD T p 0) 0 i k) (in-text : i ≤ length T) where
-  -- the last bytes read are the whole pattern
+  -- The last bytes read are the whole pattern.
   stands-full : k ≡ length P → standsAt P T (i - length P) ≡ true
   unfolding standsAt
   stands-full e =
@@ -60,7 +60,7 @@ unfolding standsAt stretch
 stands-past P T p pos past =
     ne-sameList (stretch T p (length P)) P (λ e. omega (arith, ap length e, length-take (length P) (drop p T), length-drop p T))
 
--- numbers below others
+-- Numbers below others.
 
 below-true : (x : ℕ) (f : ℕ → Bool) → f x ≡ true → below (suc x) f ≡ below x f ++ x ∷ []
 unfolding below
@@ -91,7 +91,7 @@ module _ (t P : List ℕ) where
   abbrev T : List ℕ
   T = textOf t
 
-  -- nothing was read
+  -- Nothing was read.
   so-far-start : 1 ≤ length P → soFar t P 0 ≡ []
   unfolding soFar below
   so-far-start some-byte = let e : 0 + 1 - length P ≡ 0 = omega arith in rw e
@@ -100,7 +100,7 @@ module _ (t P : List ℕ) where
   unfolding soFar
   so-far-few some-byte i = omega (arith, below-few (i + 1 - length P) (standsAt P T))
 
-  -- one byte more
+  -- One byte more.
   module _ (i k : ℕ) (l : Longest P (λ p. getD T p 0) 0 (i + 1) k) (in-text : i + 1 ≤ length T) where
     so-far-full : k ≡ length P → soFar t P (i + 1) ≡ soFar t P i ++ (i + 1 - length P) ∷ []
     unfolding soFar
@@ -121,7 +121,7 @@ module _ (t P : List ℕ) where
             let s : i + 1 + 1 - length P ≡ suc (i + 1 - length P) = omega arith in
             rw s (below-false (i + 1 - length P) (standsAt P T) (stands-not P T (i + 1) k l in-text other h))
 
-  -- all was read
+  -- All was read.
   pub so-far-end : 1 ≤ length P → (i : ℕ) → i ≡ length T → soFar t P i ≡ placesOf t P
   unfolding soFar placesOf placesIn
   so-far-end some-byte i e =
@@ -143,7 +143,7 @@ module _ (t P : List ℕ) where
     }
 
     module _ (m : Progress) (table : List ℕ) (s : Seeking t P room before m table) where
-      -- the figures stay within what was read
+      -- The figures stay within what was read.
       pub seeking-even : 1 ≤ length P → Even P m
       seeking-even some-byte = record {
         short = s .longest .ends .short;
@@ -154,7 +154,7 @@ module _ (t P : List ℕ) where
       pub seeking-length : length table ≡ length before
       seeking-length = ap length (s .table-is) ∙ filled-length (soFar t P (m .place .0)) room before (s .fits)
 
-      -- one byte more
+      -- One byte more.
       seeking-step : (r : Progress) (after : List ℕ) (byte : ℕ) → Stepped P byte room m table r after
           → byte ≡ getD T (m .place .0) 0 → m .place .0 < length T → Seeking t P room before r after
       seeking-step r after byte e is low = go (bool-cases (eqb (r .state) (length P)))
@@ -196,14 +196,14 @@ module _ (t P : List ℕ) where
                 table-is = e .table-is ∙ rw (y, e .place-is, same) (s .table-is);
               }
 
-      -- the next byte of a part that is read
+      -- The next byte of a part that is read.
       pub seeking-byte : (m₀ : Progress) (from size j byte : ℕ) (r : Progress) (after : List ℕ)
           → ReadsOn t (m₀ .place .0) from size → j < size → m .place .0 ≡ m₀ .place .0 + j
           → byte ≡ getD t (from + j) 0 → Stepped P byte room m table r after → Seeking t P room before r after
       seeking-byte m₀ from size j byte r after a low at-is byte-is e =
           seeking-step r after byte e (byte-is ∙ a .bytes j low ∙ ap (λ (p : ℕ). getD T p 0) (sym at-is)) (omega (arith, a .in-text, text-length t))
 
--- a text's length is far from where words end
+-- A text's length is far from where words end.
 pub text-small : (t : List ℕ) (h : Header) → HeaderOf t h → at.textLength t < 4294967296
 text-small t h k = omega (arith, k .facts .bounds .text-high)
 
@@ -230,14 +230,14 @@ holds-run t p (suc x) rest h = step (holds-run t (p + 1) x rest (λ d l. rw (add
 
 module _ (t P : List ℕ) (room : ℕ) (before : List ℕ) (m : Progress) (table : List ℕ) (s : Seeking t P room before m table)
     (hold : pathsHold t (m .place .0) (at.textLength t - m .place .0) ≡ pathsHold t 0 (at.textLength t)) where
-  -- a run was read
+  -- A run was read.
   pub seek-on : (from size next : ℕ) → ReadsOn t (m .place .0) from size → next ≡ m .place .0 + size
       → pathsHold t next (at.textLength t - next) ≡ pathsHold t 0 (at.textLength t)
   seek-on from size next a e =
       let z : at.textLength t - m .place .0 ≡ size + (at.textLength t - (m .place .0 + size)) = omega (arith, a .in-text) in
       rw e (sym (holds-run t (m .place .0) size (at.textLength t - (m .place .0 + size)) (a .holds)) ∙ rw z at hold)
 
-  -- a path breaks
+  -- A path breaks.
   pub seek-broken : m .place .0 < at.textLength t → byteSays t (m .place .0) .number ≡ 14 → SeekSays t P room before Broken table
   unfolding pathsHold
   seek-broken low b =
@@ -248,7 +248,7 @@ module _ (t P : List ℕ) (room : ℕ) (before : List ℕ) (m : Progress) (table
         table-is = λ y. bool-clash _ y not-all;
       }
 
-  -- all was read
+  -- All was read.
   pub seek-end : 1 ≤ length P → at.textLength t ≤ m .place .0 → SeekSays t P room before (All (m .found)) table
   unfolding pathsHold
   seek-end some-byte past =
@@ -259,6 +259,6 @@ module _ (t P : List ℕ) (room : ℕ) (before : List ℕ) (m : Progress) (table
         table-is = λ y. s .table-is ∙ ap (λ (ps : List ℕ). filled ps room before) e;
       }
 
--- the bytes of a part that are left
+-- The bytes of a part that are left.
 pub reads-from : (t : List ℕ) (p at from size i : ℕ) → ReadsOn t p from size → i ≤ size → at ≡ p + i → ReadsOn t at (from + i) (size - i)
 reads-from t p at from size i reads h e = rw e (reads-rest t p from size i reads h)

@@ -9,10 +9,8 @@ use lib.ListN.{length, take, drop}
 use lib.Dec.{leb}
 use Rattle.text.specs.ListLaws.{bool-clash}
 use Rattle.format.specs.Layout as at
-use Rattle.format.specs.Fits.{linksOk}
-use Rattle.format.specs.Verdict.{ask, readable}
-use Rattle.format.specs.Said.{Said, refused, NeverZero, replied}
-use Rattle.format.specs.ReadSays.{pathsHold}
+use Rattle.format.specs.TreeReading.{linksOk, ask, readable}
+use Rattle.format.specs.Answers.{Said, refused, NeverZero, replied, pathsHold}
 use Rattle.theory_paths.specs.Demands.{paths-all}
 use Rattle.layout.specs.declared.header.HeaderRead.{HeaderRead}
 use Rattle.layout.specs.declared.header.HeaderRead.the-variants as read
@@ -21,9 +19,8 @@ use Rattle.layout.specs.HeaderSays.{header-refused}
 use Rattle.ask_patterns.specs.declared.PlacesWritten.{PlacesWritten}
 use Rattle.ask_patterns.specs.declared.pattern_seek.Sought.{Sought}
 use Rattle.ask_patterns.specs.declared.pattern_seek.Sought.the-variants.{All, Broken}
-use Rattle.ask_patterns.specs.Places.{maxPattern, patternOk, placesOf, placesNumber, placesSays, placesLeaves}
+use Rattle.ask_patterns.specs.Places.{maxPattern, patternOk, placesOf, placesNumber, placesSays, placesLeaves, placesReply, PlacesAnswer}
 use Rattle.ask_patterns.specs.TableFilled.{SeekSays}
-use Rattle.ask_patterns.specs.PlacesAnswer.{placesReply, PlacesAnswer}
 use Rattle.ask_patterns.proofs.FillLaws.{filled-all, filled-take}
 use Rattle.ask_patterns.proofs.RoomLaws.{places-few}
 
@@ -46,12 +43,12 @@ broken-cases true x e = absurd (let z : _≡_ {A = ℕ} 0 1 = cc in omega arith)
 broken-cases false x e = refl
 
 module _ (t P table : List ℕ) where
-  -- refused: the table stays
+  -- Refused: the table stays.
   number-leaves : (q : ℕ) → placesNumber t P (length table) ≡ suc q → Listed t P table (refused (suc q)) table
   unfolding placesSays placesLeaves
   number-leaves q e = record { says = rw e; leaves = rw (e, ne-eqb (suc q) 0 (λ z. omega arith)) }
 
-  -- a tree that does not pass questions 5 to 7
+  -- A tree that does not pass questions 5 to 7.
   pub unread : (x : HeaderRead) → x ≡ headerSays t → (q : ℕ) → x ≡ read.Refused q → (1 ≤ q) × Listed t P table (refused q) table
   unfolding placesNumber
   unread x x-is q e =
@@ -59,9 +56,9 @@ module _ (t P table : List ℕ) where
       let n : placesNumber t P (length table) ≡ suc (z .0) = rw (ne-eqb (readable t) 0 (λ y. omega arith)) (z .1) in
       (omega arith, rw (z .2) (number-leaves (z .0) n))
 
-  -- one that does
+  -- One that does.
   module _ (passes : readable t ≡ 0) where
-    -- a pattern of no length
+    -- A pattern of no length.
     wrong-length : patternOk P ≡ false → Listed t P table (refused 16) table
     unfolding placesNumber
     wrong-length e = number-leaves 15 (rw (passes, e))
@@ -80,7 +77,7 @@ module _ (t P table : List ℕ) where
       unfolding placesNumber patternOk
       number-asked = rw (passes, le-leb 1 (length P) low, le-leb (length P) maxPattern high)
 
-      -- the first pass, which leaves the table alone
+      -- The first pass, which leaves the table alone.
       module _ (room : ℕ) (zeros few : List ℕ) (x : Sought) (k : SeekSays t P room zeros x few) where
         pub path-breaks : x ≡ Broken → Listed t P table (refused 14) table
         path-breaks e =
@@ -115,7 +112,7 @@ module _ (t P table : List ℕ) where
                 written last (w .table-is (all .0)
                 ∙ filled-all (placesOf t P) n table (omega (arith, all .1)) ∙ ap (λ (m : ℕ). placesOf t P ++ drop m table) (sym (all .1)))
 
-      -- one pass, with room for all places that there can be
+      -- One pass, with room for all places that there can be.
       pub no-break : (room : ℕ) (before last : List ℕ) (x : Sought) → SeekSays t P room before x last → linksOk t ≡ true → x ≡ Broken → ⊥
       no-break room before last x k linked e =
           bool-clash _ (paths-all t passes linked 0 (at.textLength t) (omega arith))

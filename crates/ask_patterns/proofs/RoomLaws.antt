@@ -9,10 +9,9 @@ use lib.Dec.{leb}
 use mathlib.Core.Bool.{_&&_}
 use Rattle.text.specs.ListLaws.{and-left, and-right}
 use Rattle.format.specs.Layout as at
-use Rattle.format.specs.Fits.{textOf}
-use Rattle.format.specs.Said.{Said, refused, unless, NeverZero, replied}
+use Rattle.format.specs.TreeReading.{textOf, ask, readable}
+use Rattle.format.specs.Answers.{Said, refused, unless, NeverZero, replied}
 use Rattle.format.specs.SaidLaws.{unless-refused, unless-passes}
-use Rattle.format.specs.Verdict.{ask, readable}
 use Rattle.format.specs.LayoutLaws.{ask-test}
 use Rattle.theory_paths.specs.OneText.{text-length}
 use Rattle.layout.specs.declared.header.Header.{Header}
@@ -22,9 +21,8 @@ use Rattle.layout.specs.Header.{headerSays}
 use Rattle.layout.specs.HeaderSays.{HeaderOf, header-refused}
 use Rattle.ask_patterns.specs.declared.PlacesRoom.{PlacesRoom}
 use Rattle.ask_patterns.specs.declared.PlacesRoom.the-variants as room
-use Rattle.ask_patterns.specs.Places.{maxPattern, standsAt, placesOf, roomOf, roomSays}
+use Rattle.ask_patterns.specs.Places.{maxPattern, standsAt, placesOf, roomOf, roomSays, roomReply, RoomAnswer}
 use Rattle.ask_patterns.specs.TableFilled.{soFar}
-use Rattle.ask_patterns.specs.PlacesAnswer.{roomReply, RoomAnswer}
 use Rattle.ask_patterns.proofs.PatternSeekLaws.{below-few, so-far-end}
 
 module _ (n len : ℕ) where
@@ -42,7 +40,7 @@ module _ (n len : ℕ) where
     words-are high w e = rw (le-leb 1 len low, le-leb len maxPattern high, e)
 
 module _ (t : List ℕ) (len : ℕ) where
-  -- a tree that passes questions 5 to 7, and one that does not
+  -- A tree that passes questions 5 to 7, and one that does not.
   pub answered : (h : Header) → HeaderOf t h → (r : PlacesRoom) → (replied (roomReply r) ≡ roomOf (h .«text_length») len) × NeverZero (roomReply r)
       → RoomAnswer t len r
   unfolding roomSays
@@ -54,14 +52,14 @@ module _ (t : List ℕ) (len : ℕ) where
       let z = header-refused t x x-is q e in
       record { says = unless-refused (readable t) (z .0) q (roomOf (at.textLength t) len) (z .1) (z .2); numbered = omega (arith, z .2) }
 
--- a pattern has no more places than that
+-- A pattern has no more places than that.
 pub places-few : (t P : List ℕ) → 1 ≤ length P → length (placesOf t P) ≤ at.textLength t + 1 - length P
 unfolding soFar
 places-few t P some-byte =
     let n = at.textLength t in
     rw (← so-far-end t P some-byte n (sym (text-length t))) (below-few (n + 1 - length P) (standsAt P (textOf t)))
 
--- what is known where a size is answered
+-- What is known where a size is answered.
 pub record Roomy (t : List ℕ) (len words : ℕ) : Type 0 where
   pub pass : readable t ≡ 0
   pub low : 1 ≤ len

@@ -3,32 +3,28 @@ use mathlib.Core.List.{List, [], _∷_, _++_}
 use mathlib.Core.Path.{_≡_, refl}
 use Prim.Native.Nat.{ℕ, _+_}
 use lib.ListN.{replicate, take, drop}
-use Rattle.text.specs.Lists.{tabulate, concat, sumBelow, countBelow, allBelow, sameList}
-use Rattle.text.specs.Text.{stretch, leftmost, firstFrom, countIn}
-use Rattle.format.specs.Words.{wordAt, wordsBytes, wordBytes}
-use Rattle.format.specs.Settings.{blockLength, pieces, recordLength, lengthOk, sizesOk, countedOk, rising, risingAfter}
+use Rattle.text.specs.Text.{tabulate, concat, sumBelow, countBelow, allBelow, sameList, stretch, leftmost, firstFrom, countIn}
+use Rattle.format.specs.Layout.{wordAt, wordsBytes, wordBytes, blockLength, pieces, recordLength, lengthOk, sizesOk, countedOk, rising, risingAfter}
 use Rattle.format.specs.Blocks.{treeOf, header, leafBytes, levelPairs, recordBytes, levelBytes, recordIn, recordOf, target, occurrence, width, isKept}
 use Rattle.format.specs.Blocks.{startsAt, cut, keptByPairs, firstPairAt, pairAt, lengthOf, startOf}
-use Rattle.format.specs.Edges.{edgesOf, filledOut}
+use Rattle.format.specs.Layout.{edgesOf, filledOut}
 use Rattle.format.specs.Layout as at
-use Rattle.format.specs.Path.{pathOf, pathFrom, targetPlace, targetBlock, pointingBlock, keptBlock, lands, landBlock, landPlace, landVisits}
-use Rattle.format.specs.Fits.{textOf}
-use Rattle.format.specs.Verdict.{readable}
-use Rattle.format.specs.Said.{Said}
-use Rattle.format.specs.ReadSays.{byteSays, pathsHold}
+use Rattle.format.specs.TreeReading.{pathOf, pathFrom, targetPlace, targetBlock, pointingBlock, keptBlock, lands, landBlock, landPlace, landVisits, textOf}
+use Rattle.format.specs.TreeReading.{readable}
+use Rattle.format.specs.Answers.{Said, byteSays, pathsHold}
 use Rattle.ask_patterns.specs.Places.{standsAt, below, placesIn, patternOk, placesOf, placesNumber, placesSays, placesLeaves, roomOf, roomSays}
 
 book : List ℕ
 book = 81 ∷ 65 ∷ 66 ∷ 67 ∷ 68 ∷ 65 ∷ 66 ∷ 67 ∷ 68 ∷ 69 ∷ 70 ∷ 71 ∷ 65 ∷ 66 ∷ 67 ∷ 68 ∷ 65 ∷ 66 ∷ 67 ∷ 68 ∷ []
 
--- the worked book's tree, and that of twelve letters A
+-- The worked book's tree, and that of twelve letters A.
 tree : List ℕ
 tree = treeOf (record { leaf = 2; arity = 2; levels = 2; counted = 65 ∷ [] }) book
 
 twelve : List ℕ
 twelve = treeOf (record { leaf = 2; arity = 2; levels = 2; counted = [] }) (replicate 12 65)
 
--- the tree with another word at i
+-- The tree with another word at i.
 with : List ℕ → ℕ → ℕ → List ℕ
 with t i w = take i t ++ wordBytes w ++ drop (i + 4) t
 
@@ -38,25 +34,25 @@ abcd = 65 ∷ 66 ∷ 67 ∷ 68 ∷ []
 said : ℕ → ℕ → Said
 said q v = record { number = q; value = v; entered = 0 }
 
--- a table of words that holds 9
+-- A table of words that holds 9.
 nines : ℕ → List ℕ
 nines n = replicate n 9
 
 pub record Marked : Type 0 where
   fragment : (placesSays tree abcd 8 ≡ said 0 4) × (placesLeaves tree abcd (nines 6) ≡ 1 ∷ 5 ∷ 12 ∷ 16 ∷ 9 ∷ 9 ∷ [])
-  -- room for all places, and for one less
+  -- Room for all places, and for one less.
   room : (placesLeaves tree abcd (nines 4) ≡ 1 ∷ 5 ∷ 12 ∷ 16 ∷ []) × (placesSays tree abcd 3 ≡ said 17 0) × (placesLeaves tree abcd (nines 3) ≡ nines 3)
   absent : (placesSays tree (88 ∷ []) 0 ≡ said 0 0) × (placesLeaves tree (88 ∷ []) (nines 2) ≡ nines 2)
-  -- the whole text, and one byte more
+  -- The whole text, and one byte more.
   whole : (placesLeaves tree book (nines 1) ≡ 0 ∷ []) × (placesSays tree (book ++ 65 ∷ []) 0 ≡ said 0 0)
-  -- no byte, 256 and 257 bytes
+  -- No byte, 256 and 257 bytes.
   lengths : (placesSays tree [] 2 ≡ said 16 0) × (placesSays tree (replicate 256 81) 2 ≡ said 0 0) × (placesSays tree (replicate 257 81) 2 ≡ said 16 0)
   overlaps : (placesLeaves twelve (replicate 2 65) (nines 11) ≡ 0 ∷ 1 ∷ 2 ∷ 3 ∷ 4 ∷ 5 ∷ 6 ∷ 7 ∷ 8 ∷ 9 ∷ 10 ∷ [])
       × (placesSays twelve (replicate 2 65) 10 ≡ said 17 0)
-  -- a path that breaks: after 16, before 17, and with the table unchanged
+  -- A path that breaks: after 16, before 17, and with the table unchanged.
   broken : (placesSays (with tree 104 2) [] 8 ≡ said 16 0)
       × (placesSays (with tree 104 2) (68 ∷ []) 0 ≡ said 14 0) × (placesLeaves (with tree 104 2) (68 ∷ []) (nines 4) ≡ nines 4)
-  -- tables: AA has 11 places in twelve letters A; the whole text has one, and a longer pattern none
+  -- Tables: AA has 11 places in twelve letters A; the whole text has one, and a longer pattern none.
   tables : (roomSays twelve 2 ≡ said 0 11)
       × (roomSays tree 20 ≡ said 0 1) × (roomSays tree 21 ≡ said 0 0) × (roomSays tree 0 ≡ said 16 0) × (roomSays tree 257 ≡ said 16 0)
   unread : (placesSays (take 99 tree) [] 0 ≡ said 5 0) × (placesSays (with tree 0 9) [] 0 ≡ said 6 0) × (placesSays (with tree 4 21) [] 0 ≡ said 7 0)

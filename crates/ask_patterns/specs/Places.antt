@@ -1,17 +1,21 @@
--- What places (locate) returns for any bytes given as a tree, and what the caller's table of words contains afterwards.
--- docs/FORMAT.md: "Places", "What is told without the text".
+-- The places of a pattern, and what the calls return.
+-- docs/FORMAT.md: "Places".
 use mathlib.Core.List.{List, [], _∷_, _++_}
 use mathlib.Core.Bool.{Bool, cond, _&&_}
 use Prim.Native.Nat.{ℕ, zero, suc, _+_, _-_}
 use lib.ListN.{length, drop}
 use lib.Dec.{leb, eqb}
-use Rattle.text.specs.Lists.{sameList}
-use Rattle.text.specs.Text.{stretch}
+use Rattle.text.specs.Text.{sameList, stretch}
 use Rattle.format.specs.Layout as at
-use Rattle.format.specs.Fits.{textOf}
-use Rattle.format.specs.Verdict.{asks, orNext, readable}
-use Rattle.format.specs.Said.{Said, unless}
-use Rattle.format.specs.ReadSays.{pathsHold}
+use Rattle.format.specs.TreeReading.{textOf, asks, orNext, readable}
+use Rattle.format.specs.Answers.{Said, unless, Reply, figures, refusal, Is, pathsHold}
+use Rattle.ask_patterns.specs.declared.PlacesWritten.{PlacesWritten}
+use Rattle.ask_patterns.specs.declared.PlacesWritten.the-variants as places
+use Rattle.ask_patterns.specs.declared.PlacesRoom.{PlacesRoom}
+use Rattle.ask_patterns.specs.declared.PlacesRoom.the-variants as room
+
+-- What places (locate) returns for any bytes given as a tree, and what the caller's table of words contains afterwards.
+-- docs/FORMAT.md: "Places", "What is told without the text".
 
 -- Whether the pattern occurs in the text at place p.
 unfoldable pub standsAt : List ℕ → List ℕ → ℕ → Bool
@@ -64,3 +68,22 @@ roomOf n len = unless (asks ((16, patternLength len) ∷ [])) (record { number =
 -- The answer of places_words: questions 5 to 7 first.
 unfoldable pub roomSays : List ℕ → ℕ → Said
 roomSays t len = unless (readable t) (roomOf (at.textLength t) len)
+
+-- The answers of places and places_words by their refusals and figures (docs/FORMAT.md, "The questions, in order").
+
+-- How many places there are.
+abbrev pub placesReply : PlacesWritten → Reply
+placesReply (places.Number n) = figures n 0
+placesReply (places.Refused number) = refusal number
+
+-- What is answered with room for so many words.
+abbrev pub PlacesAnswer : (t P : List ℕ) (room : ℕ) → PlacesWritten → Type 0
+PlacesAnswer t P room = Is placesReply (placesSays t P room)
+
+-- How many words a table must have.
+abbrev pub roomReply : PlacesRoom → Reply
+roomReply (room.Words n) = figures n 0
+roomReply (room.Refused number) = refusal number
+
+abbrev pub RoomAnswer : (t : List ℕ) (len : ℕ) → PlacesRoom → Type 0
+RoomAnswer t len = Is roomReply (roomSays t len)

@@ -11,7 +11,7 @@ use Rattle.text.specs.ListLaws.{below-suc, bool-clash, sameList-true, eq-sameLi
 use Rattle.text.specs.Text.{stretch}
 use Rattle.ask_patterns.specs.Places.{standsAt, below, placesIn}
 
--- the numbers below n with f, each once, rising
+-- The numbers below n with f, each once, rising.
 pub record Listed (n : ℕ) (f : ℕ → Bool) (ps : List ℕ) : Type 0 where
   pub entry : (x : ℕ) → x < length ps → (getD ps x 0 < n) × (f (getD ps x 0) ≡ true)
   pub all : (p : ℕ) → p < n → f p ≡ true → (x : ℕ) × (x < length ps) × (getD ps x 0 ≡ p)

@@ -6,8 +6,8 @@ use Prim.Native.Nat.{ℕ, _+_, _-_, _≤_, _<_}
 use lib.ListN.{length, getD, take, drop, set}
 use lib.Dec.{ltb, eqb}
 use Rattle.format.specs.Layout as at
-use Rattle.format.specs.Fits.{textOf}
-use Rattle.format.specs.ReadSays.{pathsHold}
+use Rattle.format.specs.TreeReading.{textOf}
+use Rattle.format.specs.Answers.{pathsHold}
 use Rattle.search_byte.specs.FirstByte.{Without}
 use Rattle.search_kmp.specs.Borders.{Longest, Next}
 use Rattle.ask_patterns.specs.declared.pattern_seek.Progress.{Progress}
@@ -15,7 +15,7 @@ use Rattle.ask_patterns.specs.declared.pattern_seek.Sought.{Sought}
 use Rattle.ask_patterns.specs.declared.pattern_seek.Sought.the-variants.{All, Broken}
 use Rattle.ask_patterns.specs.Places.{standsAt, below, placesOf}
 
--- the figures stay within what was read
+-- The figures stay within what was read.
 pub record Even (P : List ℕ) (m : Progress) : Type 0 where
   pub short : m .state ≤ length P
   pub state-low : m .state ≤ m .place .0

@@ -11,11 +11,10 @@ ghost use mathlib.Core.Bool.{true};
 ghost use Prim.Native.Nat.{_+_, _-_, _≤_};
 ghost use lib.ListN.{length, take, drop};
 ghost use mathlib.Core.List.{_++_};
-ghost use Rattle.format.specs.Fits.{linksOk};
+ghost use Rattle.format.specs.TreeReading.{linksOk};
 ghost use Rattle.layout.specs.HeaderSays.{HeaderOf};
 ghost use Rattle.search_kmp.specs.Borders.{Borders};
-ghost use Rattle.ask_patterns.specs.Places.{maxPattern, placesLeaves};
-ghost use Rattle.ask_patterns.specs.PlacesAnswer.{PlacesAnswer, RoomAnswer};
+ghost use Rattle.ask_patterns.specs.Places.{maxPattern, placesLeaves, PlacesAnswer, RoomAnswer};
 
 // The length of the longest pattern.
 pub const MAX_PATTERN: usize = 256;

@@ -2,9 +2,8 @@
 use crate::PlacesRoom;
 ghost use mathlib.Core.Path.{_≡_};
 ghost use Prim.Native.Nat.{_+_, _-_, _≤_};
-ghost use Rattle.format.specs.Said.{NeverZero, replied};
-ghost use Rattle.ask_patterns.specs.Places.{roomOf};
-ghost use Rattle.ask_patterns.specs.PlacesAnswer.{roomReply};
+ghost use Rattle.format.specs.Answers.{NeverZero, replied};
+ghost use Rattle.ask_patterns.specs.Places.{roomOf, roomReply};
 
 // Question 16; then one word for each place where a pattern of len bytes fits in a text of n bytes.
 pub fn of_length(n: u32, len: u32) -> PlacesRoom

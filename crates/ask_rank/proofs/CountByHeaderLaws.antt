@@ -6,22 +6,19 @@ use Prim.Native.Nat.{ℕ, _-_, _/_, _%_, _≤_, _<_}
 use native.Mathlib.Omega.{arith}
 use borrow.Author.Tests.{lt-leb, le-leb, ne-eqb}
 use Rattle.format.specs.Layout as at
-use Rattle.format.specs.Path.{Path, pathOf}
-use Rattle.format.specs.Verdict.{readable}
-use Rattle.format.specs.Said.{Said, refused}
+use Rattle.format.specs.TreeReading.{Path, pathOf, readable}
+use Rattle.format.specs.Answers.{Said, refused, countOf, numberOfByte, countSays}
 use Rattle.format.specs.SaidLaws.{unless-refused}
-use Rattle.format.specs.CountSays.{countOf, numberOfByte, countSays}
 use Rattle.layout.specs.declared.header.Header.{Header}
 use Rattle.layout.specs.declared.header.HeaderRead.{HeaderRead}
 use Rattle.layout.specs.declared.header.HeaderRead.the-variants.{Refused}
 use Rattle.layout.specs.Header.{headerSays}
 use Rattle.layout.specs.HeaderSays.{HeaderOf, header-refused}
-use Rattle.ask_rank.specs.Sums.{wholeSum}
-use Rattle.ask_rank.specs.Sums.{settled, saidIn}
+use Rattle.ask_rank.specs.Sums.{wholeSum, settled, saidIn}
 use Rattle.ask_totals.proofs.TotalLaws.{not-counted, is-counted}
 use Rattle.ask_rank.proofs.SumsLaws.{broken-word}
 
--- the finished count
+-- The finished count.
 
 pub said-broken : (w : ℕ) → w ≡ 18446744073709551615 → refused 14 ≡ saidIn w
 said-broken w e = broken-word ∙ ap saidIn (sym e)
@@ -35,7 +32,7 @@ unfolding settled wholeSum
 settled-whole t byte c none = refl
 settled-whole t byte c (some q) = refl
 
--- each way out of count
+-- Each way out of count.
 module _ (t : List ℕ) (h : Header) (k : HeaderOf t h) (byte i : ℕ) where
   pub count-past : h .«text_length» < i → refused 10 ≡ countSays t byte i
   unfolding countSays
@@ -57,7 +54,7 @@ module _ (t : List ℕ) (h : Header) (k : HeaderOf t h) (byte i : ℕ) where
           rw (k .passes, le-leb i (at.textLength t) (omega (arith, k .length-is)), is-counted t h k byte number is counted, ne-eqb i 0 n)
           (e ∙ settled-whole t byte number (pathOf t (i - 1)) ∙ rw is)
 
--- a tree that does not pass questions 5 to 7
+-- A tree that does not pass questions 5 to 7.
 pub count-unread : (t : List ℕ) (byte i : ℕ) (x : HeaderRead) → x ≡ headerSays t → (q : ℕ) → x ≡ Refused q → refused q ≡ countSays t byte i
 unfolding countSays
 count-unread t byte i x x-is q e =

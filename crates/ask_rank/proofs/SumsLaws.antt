@@ -12,10 +12,9 @@ use lib.Dec.{eqb}
 use Rattle.text.specs.ListLaws.{lt-or-ge}
 use Rattle.text.specs.Text.{stretch, countIn}
 use Rattle.format.specs.Layout as at
-use Rattle.format.specs.RecordFields.{skipField}
-use Rattle.format.specs.Settings.{maxLevels}
-use Rattle.format.specs.Path.{Path, Visit, visit, entered, keptBlock, pointingBlock, targetBlock, pathFrom, pathOf}
-use Rattle.format.specs.CountSays.{addedAfter, added, takenAfter, taken, lastPlace, leavesReached}
+use Rattle.format.specs.Layout.{skipField, maxLevels}
+use Rattle.format.specs.TreeReading.{Path, Visit, visit, entered, keptBlock, pointingBlock, targetBlock, pathFrom, pathOf}
+use Rattle.format.specs.Answers.{addedAfter, added, takenAfter, taken, lastPlace, leavesReached, Said, refused}
 use Rattle.theory_paths.specs.PlacesLand.{from-last, from-kept, from-pointing, target-first, target-second}
 use Rattle.theory_paths.specs.Visits.{goes}
 use Rattle.layout.specs.declared.place.BlockNumber.{BlockNumber}
@@ -27,9 +26,8 @@ use Rattle.layout.specs.declared.place.Spot.{Spot}
 use Rattle.walk_steps.specs.declared.Arrived.{Arrived}
 use Rattle.walk_steps.specs.declared.Arrived.the-variants as arrived
 use Rattle.walk_steps.specs.Steps.{OnLevel, nextAt, childAt, landAt}
-use Rattle.walk_path.specs.Walk.{KeptAt, MayPoint}
+use Rattle.walk_path.specs.Walk.{KeptAt, MayPoint, onward as trailed}
 use Rattle.walk_path.specs.declared.Trail.{Trail}
-use Rattle.walk_path.specs.Walk.{onward as trailed}
 use Rattle.walk_steps.proofs.NextLaws.{next-points, next-off, child-at, child-off, land-at}
 use Rattle.walk_steps.proofs.StepLaws.{kept-in}
 use Rattle.walk_path.proofs.WalkLaws as walk
@@ -37,16 +35,14 @@ use Rattle.walk_path.proofs.WalkLaws.{from-off, from-past, from-no-leaf}
 use Rattle.theory_counts.specs.Ranks.{goes-head, added-target, taken-target}
 use Rattle.ask_rank.specs.declared.sums.Sum.{Sum}
 use Rattle.ask_rank.specs.declared.sums.Summed.the-variants.{At}
-use Rattle.format.specs.Said.{Said, refused}
-use Rattle.ask_rank.specs.Sums.{settled, saidIn}
-use Rattle.ask_rank.specs.Sums.{onward, addedRest, summed, startSum, wholeSum, Carried, Across}
+use Rattle.ask_rank.specs.Sums.{settled, saidIn, onward, addedRest, summed, startSum, wholeSum, Carried, Across}
 
--- a field of a block of a level can be read
+-- A field of a block of a level can be read.
 pub field-on : (t : List ℕ) (size level b i c f : ℕ)
     → OnLevel t size level b → i < at.levelCount t level → c < at.countedCount t → f ≤ skipField c → FieldIn t size level i f
 field-on t size level b i c f k hi hc hf = field-in t (k .facts) size level i f (k .size-is) (k .level-in) hi (omega arith)
 
--- what is carried
+-- What is carried.
 
 pub onward-is : (s : Sum) (plus minus : ℕ) → record { entered = s .entered + 1; plus = s .plus + plus; minus = s .minus + minus } ≡ onward s plus minus
 unfolding onward
@@ -69,7 +65,7 @@ pub carried-word : (t : List ℕ) (c : ℕ) (s r : Sum) (plus : ℕ)
 unfolding onward
 carried-word t c s r plus k few e small = rw e (omega arith, omega (arith, k .plus-few))
 
--- a block entered first is carried on
+-- A block entered first is carried on.
 
 same : (e₁ e₂ p₁ p₂ m₁ m₂ : ℕ)
     → e₁ ≡ e₂ → p₁ ≡ p₂ → m₁ ≡ m₂ → At (record { entered = e₁; plus = p₁; minus = m₁ }) ≡ At (record { entered = e₂; plus = p₂; minus = m₂ })
@@ -92,7 +88,7 @@ module _ (t : List ℕ) (byte c : ℕ) (s : Sum) where
       let g = goes-head t (goes t n l i o q e) in
       sum-path u (visit l i o) (g .0) (q .visits) (q .leaf) plus minus (g .1) (a (g .0)) (m (g .0))
 
-  -- to a child
+  -- To a child.
   added-child : (l i o j p : ℕ) (ws : List Visit)
       → addedAfter t c (visit l i o) (visit (l + 1) j p ∷ ws) ≡ at.before t (l + 1) j c + addedAfter t c (visit (l + 1) j p) ws
   unfolding addedAfter
@@ -107,7 +103,7 @@ module _ (t : List ℕ) (byte c : ℕ) (s : Sum) where
   sum-child n l i o j p = sum-enter
       n (l + 1) j p (visit l i o) (at.before t (l + 1) j c) 0 (added-child l i o j p) (taken-child l i o j p) (pathFrom t n (l + 1) j p) refl
 
-  -- to a target
+  -- To a target.
   pub sum-target : (n l i o j p : ℕ)
       → summed t byte c (onward s (cond (eqb j (at.link t l i)) 0 (at.inside t l (at.link t l i) c)) (at.skip t l i c)) (pathFrom t n l j p)
       ≡ summed t byte c s (entered (visit l i o ∷ []) (pathFrom t n l j p))
@@ -115,7 +111,7 @@ module _ (t : List ℕ) (byte c : ℕ) (s : Sum) where
       sum-enter n l j p (visit l i o) (cond (eqb j (at.link t l i)) 0 (at.inside t l (at.link t l i) c))
       (at.skip t l i c) (added-target t c l i o j p) (taken-target t c l i o j p) (pathFrom t n l j p) refl
 
-  -- on the last level
+  -- On the last level.
   pub sum-leaf : (l i o n : ℕ) (r : Sum)
       → keptBlock t l i ≡ true → at.link t l i + o < at.leafCount t → n ≡ countIn byte (stretch t (at.leafOffset t + at.link t l i) (o + 1))
       → r ≡ onward s n 0 → At r ≡ summed t byte c s (pathFrom t 0 l i o)
@@ -124,7 +120,7 @@ module _ (t : List ℕ) (byte c : ℕ) (s : Sum) where
       let z : at.link t l i + o - o ≡ at.link t l i = omega arith in
       rw (from-last t l i o kept h, z, f, e) (same _ _ _ _ _ _ (omega arith) (omega arith) (omega arith))
 
--- what a target adds
+-- What a target adds.
 
 pub across-first : (s r : Sum) (j link at-link inside skip at-skip : ℕ) → j ≡ link → link ≡ at-link → skip ≡ at-skip → r ≡ onward s 0 skip
     → r ≡ onward s (cond (eqb j at-link) 0 inside) at-skip
@@ -135,7 +131,7 @@ pub across-second : (s r : Sum) (j link at-link inside at-inside skip at-skip : 
     → r ≡ onward s (cond (eqb j at-link) 0 at-inside) at-skip
 across-second s r j link at-link inside at-inside skip at-skip e l i k f = rw (ne-eqb j at-link (λ x. e (x ∙ sym l)), ← k, ← i) f
 
--- a count's word
+-- A count's word.
 
 pub broken-word : refused 14 ≡ saidIn 18446744073709551615
 unfolding saidIn
@@ -160,7 +156,7 @@ pub settled-none : (t : List ℕ) (byte c : ℕ) (s : Sum) (r : Option Path) →
 unfolding summed settled
 settled-none t byte c s r e = sym broken-word ∙ rw e
 
--- on the last level, as the code reads it
+-- On the last level, as the code reads it.
 
 pub entered-small : (t : List ℕ) (size level b i o e : ℕ) → KeptAt t size level b i o e → e ≤ 2 * maxLevels
 entered-small t size level b i o e k = walk.entered-fits t size level b i o e k
@@ -191,7 +187,7 @@ by-last t size byte c level b i o s r k last e =
     let z : at.settings t .levels - 1 - level ≡ 0 = omega arith in
     rw z e
 
--- from a kept block to a child
+-- From a kept block to a child.
 module _ (t : List ℕ) (size level b i o : ℕ) (s : Sum) (k : KeptAt t size level b i o (s .entered)) (more : level + 1 ≡ at.settings t .levels → ⊥)
     (below : ℕ) (b-is : below ≡ b / at.settings t .arity) (x : Arrived) (x-is : x ≡ childAt t (level + 1) (at.link t level i + o / below) (o % below)) where
   lower : OnLevel t size (level + 1) below
@@ -238,7 +234,7 @@ module _ (t : List ℕ) (size level b i o : ℕ) (s : Sum) (k : KeptAt t size le
           rw (z .1, z .2) way-child in
           rw way (rw on-is at f ∙ ap settled (sum-child t byte c s n level i o (j .0) (p .0)))
 
--- a target is the block linked to, or the next
+-- A target is the block linked to, or the next.
 link-low : (t : List ℕ) (level i o : ℕ) → at.link t level i ≤ targetBlock t level i o
 link-low t level i o = go (lt-or-ge (at.gap t level i + o) (at.fullLength t level))
   where
@@ -246,7 +242,7 @@ link-low t level i o = go (lt-or-ge (at.gap t level i + o) (at.fullLength t leve
     go (inl a) = omega (arith, target-first t level i o a .0)
     go (inr a) = omega (arith, target-second t level i o a .0)
 
--- from a block at which a pointer may be followed
+-- From a block at which a pointer may be followed.
 module _ (t : List ℕ) (size level b i o : ℕ) (s : Sum) (k : MayPoint t size level b i o (s .entered)) (x : Next) (x-is : x ≡ nextAt t level i o) where
   pub by-none : (byte c : ℕ) → x ≡ Off → saidIn 18446744073709551615 ≡ settled (summed t byte c s (pathFrom t (at.settings t .levels - 1 - level) level i o))
   by-none byte c e =

@@ -3,13 +3,12 @@ use mathlib.Core.List.{List}
 use Prim.Native.Nat.{ℕ}
 use lib.Dec.{leb}
 use Rattle.format.specs.Layout as at
-use Rattle.format.specs.Verdict.{ask, orNext, readable}
-use Rattle.format.specs.Said.{Reply, figures, refusal, Is}
-use Rattle.format.specs.CountSays.{countSays}
+use Rattle.format.specs.TreeReading.{ask, orNext, readable}
+use Rattle.format.specs.Answers.{Reply, figures, refusal, Is, countSays}
 use Rattle.ask_rank.specs.declared.Counted.{Counted}
 use Rattle.ask_rank.specs.declared.Counted.the-variants.{Times, Refused}
 
--- how often the byte stands, with the blocks entered
+-- How often the byte stands, with the blocks entered.
 abbrev pub countReply : Counted → Reply
 countReply (Times times entered) = figures times entered
 countReply (Refused number) = refusal number

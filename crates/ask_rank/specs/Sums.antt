@@ -1,21 +1,18 @@
 -- The state of a count on its path, and the preconditions of its steps.
 use mathlib.Core.List.{List, [], _∷_}
 use mathlib.Core.Option.{Option, none, some}
-use Prim.Native.Nat.{ℕ, _+_, _*_, _≤_, _<_}
+use Prim.Native.Nat.{ℕ, _+_, _*_, _≤_, _<_, _-_, _/_, _%_}
 use lib.ListN.{length}
 use Rattle.text.specs.Text.{countIn}
 use Rattle.format.specs.Layout as at
-use Rattle.format.specs.Path.{Path, Visit}
-use Rattle.format.specs.CountSays.{addedAfter, added, taken, leavesReached}
+use Rattle.format.specs.TreeReading.{Path, Visit}
+use Rattle.format.specs.Answers.{addedAfter, added, taken, leavesReached, Said, refused}
 use Rattle.walk_steps.specs.Steps.{OnLevel}
 use Rattle.ask_rank.specs.declared.sums.Sum.{Sum}
 use Rattle.ask_rank.specs.declared.sums.Summed.{Summed}
 use Rattle.ask_rank.specs.declared.sums.Summed.the-variants.{At, Broken}
 use mathlib.Core.Bool.{cond}
-use mathlib.Core.List.{List}
-use Prim.Native.Nat.{ℕ, _-_, _/_, _%_, _≤_}
 use lib.Dec.{eqb, leb}
-use Rattle.format.specs.Said.{Said, refused}
 
 -- The state after one more block, with more added and subtracted.
 unfoldable pub onward : Sum → ℕ → ℕ → Sum

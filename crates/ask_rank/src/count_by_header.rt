@@ -5,7 +5,7 @@ use ask_totals::Wanted;
 use layout::header::Header;
 use layout::place::TextPlace;
 ghost use mathlib.Core.Path.{_≡_};
-ghost use Rattle.format.specs.Said.{NeverZero, replied};
+ghost use Rattle.format.specs.Answers.{NeverZero, replied};
 ghost use Rattle.layout.specs.HeaderSays.{HeaderOf};
 ghost use Rattle.ask_rank.specs.Counts.{countReply, CountAnswer};
 ghost use Rattle.ask_rank.specs.Sums.{saidIn};

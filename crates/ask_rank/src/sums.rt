@@ -15,13 +15,12 @@ ghost use mathlib.Core.Bool.{cond};
 ghost use Prim.Native.Nat.{_+_, _-_, _*_, _≤_, _<_};
 ghost use lib.Dec.{eqb};
 ghost use Rattle.format.specs.Layout as at;
-ghost use Rattle.format.specs.Settings.{maxLevels};
-ghost use Rattle.format.specs.Path.{pathFrom, pathOf};
+ghost use Rattle.format.specs.Layout.{maxLevels};
+ghost use Rattle.format.specs.TreeReading.{pathFrom, pathOf};
 ghost use Rattle.layout.specs.HeaderSays.{HeaderOf};
 ghost use Rattle.walk_steps.specs.Steps.{OnLevel};
 ghost use Rattle.walk_path.specs.Walk.{KeptAt, MayPoint};
-ghost use Rattle.ask_rank.specs.Sums.{Carried, Across, onward, summed, startSum, wholeSum};
-ghost use Rattle.ask_rank.specs.Sums.{settled, saidIn};
+ghost use Rattle.ask_rank.specs.Sums.{Carried, Across, onward, summed, startSum, wholeSum, settled, saidIn};
 
 // What is carried down a path: the number of blocks entered, the sum of what is added, and the sum of what is subtracted.
 pub struct Sum {

@@ -3,7 +3,7 @@ use layout::header;
 use layout::header::HeaderRead;
 ghost use mathlib.Core.Path.{_≡_};
 ghost use lib.Dec.{leb};
-ghost use Rattle.format.specs.Verdict.{ask};
+ghost use Rattle.format.specs.TreeReading.{ask};
 ghost use Rattle.ask_rank.specs.Counts.{uncountedNumber};
 
 // Its refusal: 5 to 7, then 10 for a prefix of i bytes, then 11.

@@ -11,15 +11,12 @@ use denote.Ref.{RefT, now}
 use lib.ListN.{length, drop}
 use borrow.Author.Tests.{eq-eqb, ne-eqb, lt-ltb, le-ltb}
 use Rattle.text.specs.ListLaws.{lt-or-ge}
-use Rattle.text.specs.Rows.{rowsOf, rowOf}
+use Rattle.text.specs.Text.{rowsOf, rowOf}
 use Rattle.text.specs.RowLaws.{endsOpen, rows-count}
 use Rattle.format.specs.Layout as at
-use Rattle.format.specs.Fits.{textOf}
-use Rattle.format.specs.Verdict.{verdict}
+use Rattle.format.specs.TreeReading.{textOf, verdict}
 use Rattle.format.specs.VerdictLaws.{accepted-readable, accepted-links}
-use Rattle.format.specs.Said.{Said, NeverZero, replied}
-use Rattle.format.specs.CountSays.{isCounted}
-use Rattle.format.specs.RowSays.{rowNumber}
+use Rattle.format.specs.Answers.{Said, NeverZero, replied, isCounted, rowNumber}
 use Rattle.theory_paths.specs.OneText.{text-length}
 use Rattle.theory_paths.specs.Demands as paths
 use Rattle.theory_counts.specs.Demands as tallies
@@ -28,12 +25,11 @@ use Rattle.ask_guide.specs.Guides.{guideNumber}
 use Rattle.ask_guide.proofs.GuideList.{guide-verdict}
 use Rattle.ask_rows.specs.declared.RowCopied.{RowCopied}
 use Rattle.ask_rows.specs.declared.RowCopied.the-variants as row
-use Rattle.ask_rows.specs.RowAnswers.{rowReply, RowAnswer}
+use Rattle.ask_rows.specs.RowAnswers.{rowReply, RowAnswer, rowsNumber, lastOpen, rowsSays, lengthReply, rowCountReply}
 use Rattle.ask_rows.specs.declared.RowLength.{RowLength}
 use Rattle.ask_rows.specs.declared.RowLength.the-variants as size
 use Rattle.ask_rows.specs.declared.RowCount.{RowCount}
 use Rattle.ask_rows.specs.declared.RowCount.the-variants as count
-use Rattle.ask_rows.specs.RowLengths.{rowsNumber, lastOpen, rowsSays, lengthReply, rowCountReply}
 use Rattle.ask_rows.proofs.row_length.Reads as length-reads
 use Rattle.ask_rows.proofs.row_count.Reads as count-reads
 use Rattle.ask_rows.proofs.row.Reads as row-reads
@@ -46,7 +42,7 @@ RowGuided κs t guide q buffer after r = guided-reads.Post κs (t, (guide, (q, (
 abbrev Row : (κs : Lfts 2) → RefT (List ℕ) → (q : ℕ) → (buffer after : RefT (List ℕ)) → RowCopied → Type 0
 Row κs t q buffer after r = row-reads.Post κs (t, (q, (buffer, tt))) r (t, (q, (after, tt)))
 
--- two answers with the same number and length are the same
+-- Two answers with the same number and length are the same.
 same-copied : (x y : RowCopied) → NeverZero (rowReply x) → NeverZero (rowReply y) → replied (rowReply x) .number ≡ replied (rowReply y) .number
     → replied (rowReply x) .value ≡ replied (rowReply y) .value → x ≡ y
 same-copied (row.Bytes m) (row.Bytes n) k l s z = ap row.Bytes z
@@ -54,7 +50,7 @@ same-copied (row.Bytes m) (row.Refused n) k l s z = absurd (let y : ⊥ = omega 
 same-copied (row.Refused m) (row.Bytes n) k l s z = absurd (let y : ⊥ = omega arith in y)
 same-copied (row.Refused m) (row.Refused n) k l s z = ap row.Refused s
 
--- on an accepted tree row has one answer
+-- On an accepted tree row has one answer.
 module _ (t : List ℕ) (v : verdict t ≡ 0)
     (q : ℕ) (buffer : List ℕ) (x y : RowCopied) (after other : List ℕ) (a : RowAnswer t q buffer x after) (b : RowAnswer t q buffer y other) where
   one-row : (x ≡ y) × (after ≡ other)
@@ -77,7 +73,7 @@ module _ (t : List ℕ) (v : verdict t ≡ 0)
           both 0 n (rowOf (textOf t) q ++ drop n buffer) (c .0, c .1, c .2 ∙ ap (λ (i : ℕ). rowOf (textOf t) q ++ drop i buffer) (c .1))
           (d .0, d .1, d .2 ∙ ap (λ (i : ℕ). rowOf (textOf t) q ++ drop i buffer) (d .1))
 
--- if the tree and the guide are accepted, row with a guide returns what row returns
+-- If the tree and the guide are accepted, row with a guide returns what row returns.
 pub guided-as-row : (κs : Lfts 3) (t guide : RefT (List ℕ)) (q : ℕ) (buffer after : RefT (List ℕ)) (r : RowCopied) → RowGuided κs t guide q buffer after r
     → guideNumber (now t) (now guide) ≡ 0 → (κ : Lfts 2) (left : RefT (List ℕ)) (s : RowCopied) → Row κ t q buffer left s → (r ≡ s) × (now after ≡ now left)
 guided-as-row κs t guide q buffer after r a g κ left s b =
@@ -135,19 +131,19 @@ rows-say t v counted = go (lt-or-ge 0 (at.textLength t))
         )
 
 module _ (κs : Lfts 1) (t : RefT (List ℕ)) (v : verdict (now t) ≡ 0) where
-  -- the number of rows is that of the text's rows
+  -- The number of rows is that of the text's rows.
   pub rows-of-text : isCounted (now t) 10 ≡ true → (r : RowCount) → CountOf κs t r → r ≡ count.Rows (length (rowsOf (textOf (now t))))
   rows-of-text counted r a = rows-are r (length (rowsOf (textOf (now t)))) (a .numbered) (a .says ∙ rows-say (now t) v counted)
 
   module _ (q : ℕ) where
-    -- each row has a length
+    -- Each row has a length.
     pub length-of-text : isCounted (now t) 10 ≡ true → 1 ≤ q → q ≤ length (rowsOf (textOf (now t))) → (r : RowLength) → LengthOf κs t q r
         → r ≡ size.Bytes (length (rowOf (textOf (now t)) q))
     length-of-text counted low high r a =
         let z = a .says .accepted (row-lets (now t) v counted q low high) v in
         bytes-are r (length (rowOf (textOf (now t)) q)) (a .numbered) (z .0) (z .1)
 
-    -- a buffer of that length is enough for row, which is then not refused with 13
+    -- A buffer of that length is enough for row, which is then not refused with 13.
     pub length-enough : (n : ℕ) → LengthOf κs t q (size.Bytes n) → (κ : Lfts 2) (buffer after : RefT (List ℕ)) (r : RowCopied) → Row κ t q buffer after r
         → n ≤ length (now buffer) → (r ≡ row.Bytes n) × (now after ≡ rowOf (textOf (now t)) q ++ drop n (now buffer))
     length-enough n a κ buffer after r b room = go (lt-or-ge 0 (rowNumber (now t) q))

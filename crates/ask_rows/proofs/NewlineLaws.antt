@@ -13,10 +13,9 @@ use Rattle.text.specs.TextLaws.{stretch-ext}
 use Rattle.text.specs.CountLaws.{count-none, count-add, Nth, nth-past}
 use Rattle.text.specs.declared.TextPlace.{TextPlace}
 use Rattle.format.specs.Layout as at
-use Rattle.format.specs.Fits.{textOf}
-use Rattle.format.specs.Verdict.{verdict}
+use Rattle.format.specs.TreeReading.{textOf, verdict}
 use Rattle.format.specs.VerdictLaws.{accepted-links}
-use Rattle.format.specs.ReadSays.{byteSays}
+use Rattle.format.specs.Answers.{byteSays}
 use Rattle.theory_paths.specs.OneText.{text-length}
 use Rattle.theory_paths.specs.PlaceBytes.{never-14}
 use Rattle.layout.specs.declared.header.Header.{Header}
@@ -65,12 +64,12 @@ module _ (t : List ℕ) (p : ℕ) where
   missing-is never = record { found = λ q b u is. absurd (let z : _≡_ {A = ℕ} 0 1 = cc in omega arith); missing = λ is. never }
 
   module _ (place earlier : ℕ) (i : NoneYet t p place earlier) where
-    -- the text ends before a newline
+    -- The text ends before a newline.
     pub text-ends : at.textLength t ≤ place → NewlineIs t p newline.Missing
     text-ends end = missing-is (λ v o n.
         omega (arith, i .past, i .within, i .none, n .within, text-length t, nth-past 10 1 (textOf t) p (place - p) o n (omega (arith, i .none))))
 
-    -- a path breaks: not in an accepted tree
+    -- A path breaks: not in an accepted tree.
     pub run-breaks : (h : Header) → HeaderOf t h → place < h .«text_length» → byteSays t place .number ≡ 14 → NewlineIs t p newline.Missing
     run-breaks h k low broken =
         missing-is (λ v. absurd (never-14 t (k .passes) place (omega (arith, k .length-is)) (accepted-links t v) broken))
@@ -88,7 +87,7 @@ module _ (t : List ℕ) (p : ℕ) where
           let z = rw e at (count-add 10 (textOf t) p (place - p) y) in
           omega (arith, z, i .none)
 
-      -- the byte before place x of the run
+      -- The byte before place x of the run.
       before-x : p < place + x → before ≡ getD (textOf t) (place + x - 1) 0
       before-x l = before-is ∙ go x (s .high) l
         where
@@ -151,12 +150,12 @@ first-kept t p place most first next r f k r-is = go (eqb (first .length) 0) ref
         let some : first .length ≡ 0 → ⊥ = eqb-false (first .length) 0 e in
         rw z (f .reads, omega (arith, some))
 
--- the range at a place, as the text's bytes
+-- The range at a place, as the text's bytes.
 pub range-there : (t : List ℕ) (h : Header) (k : HeaderOf t h) (place most : ℕ) (x : LeafRunAnswer) → LeafRangeOf t place most x
     → (r : LeafRun) → x ≡ answer.At r → (ReadsOn t place (r .from) (r .length)) × (LeafRangeAt t place most r)
 range-there t h k place most x x-is r e = (found-range t place most x x-is (k .passes) r e .0, range-found t place most x x-is r e)
 
--- the byte before a place of a run
+-- The byte before a place of a run.
 module _ (i earlier byte : ℕ) where
   pub before-first : i ≡ 0 → earlier ≡ cond (eqb i 0) earlier byte
   before-first z = rw (eq-eqb i 0 z)

@@ -8,18 +8,13 @@ use native.Mathlib.Omega.{arith}
 use borrow.Author.Tests.{ne-eqb}
 use lib.ListN.{length, drop, replicate}
 use lib.Dec.{eqb}
-use Rattle.text.specs.Lists.{tabulate}
-use Rattle.text.specs.Text.{stretch}
+use Rattle.text.specs.Text.{tabulate, stretch, rowOf}
 use Rattle.text.specs.TextLaws.{length-stretch}
-use Rattle.text.specs.Rows.{rowOf}
 use Rattle.format.specs.VerdictLaws.{accepted-links}
-use Rattle.format.specs.Fits.{textOf}
-use Rattle.format.specs.Verdict.{readable, verdict}
-use Rattle.format.specs.Said.{Said, refused, unless, NeverZero, replied}
+use Rattle.format.specs.TreeReading.{textOf, readable, verdict}
+use Rattle.format.specs.Answers.{Said, refused, unless, NeverZero, replied, pathsHold, leavesSpan, copyNumber, copySays, copyLeaves, selectNumber}
 use Rattle.format.specs.SaidLaws.{unless-number}
-use Rattle.format.specs.ReadSays.{pathsHold, leavesSpan, copyNumber, copySays, copyLeaves}
-use Rattle.format.specs.FindSays.{selectNumber}
-use Rattle.format.specs.RowSays.{asksLast, rowNumber, rowMost, RowBy}
+use Rattle.format.specs.Answers.{asksLast, rowNumber, rowMost, RowBy}
 use Rattle.theory_paths.specs.Demands as paths
 use Rattle.theory_paths.specs.OneText.{text-length}
 use Rattle.layout.specs.declared.header.HeaderRead.{HeaderRead}
@@ -47,7 +42,7 @@ row-refused t ok q n buffer r = record {
   free = λ z v. inl (r .free z, refl, refl);
 }
 
--- what a copy's number leaves in the buffer
+-- What a copy's number leaves in the buffer.
 module _ (t : List ℕ) (p len : ℕ) (buffer : List ℕ) where
   pub leaves-is : (n : ℕ) → copyNumber t p len (length buffer) ≡ n
       → copyLeaves t p len buffer ≡ cond (eqb n 0) (tabulate len (values t p) ++ drop len buffer) (cond (eqb n 14) (replicate len 0 ++ drop len buffer) buffer)
@@ -79,7 +74,7 @@ module _ (t : List ℕ) (ok : ℕ) (sound : ok ≡ 0 → verdict t ≡ 0) (q p l
   s-some : copyNumber t p len (length buffer) ≡ 0 → s .value ≡ len
   s-some e = ap (λ (y : Said). y .value) (unless-none (copyNumber t p len (length buffer)) s bytes-said said-is e)
 
-  -- the row is as long
+  -- The row is as long.
   row-long : ok ≡ 0 → length (rowOf (textOf t) q) ≡ len
   row-long v = ap length (sym (sp .accepted v)) ∙ length-stretch (textOf t) p len (omega (arith, sp .within, text-length t))
 
@@ -109,13 +104,13 @@ module _ (t : List ℕ) (ok : ℕ) (sound : ok ≡ 0 → verdict t ≡ 0) (q p l
     });
   }
 
--- what is copied by paths reports no block
+-- What is copied by paths reports no block.
 none-entered : (k len : ℕ) → unless k (record { number = 0; value = len; entered = 0 }) .entered ≡ 0
 none-entered zero len = refl
 none-entered (suc k) len = refl
 
 module _ (t : List ℕ) (p len room : ℕ) (x : Copied) (a : access.CopyAnswer t p len room x) where
-  -- bytes that access copied, as the row's
+  -- Bytes that access copied, as the row's.
   pub row-bytes : (n entered : ℕ) → x ≡ of.Bytes n entered → CopyAnswer t p len room (row.Bytes n)
   unfolding copySays
   row-bytes n entered e =
@@ -129,7 +124,7 @@ module _ (t : List ℕ) (p len room : ℕ) (x : Copied) (a : access.CopyAnswer t
       let z : n ≡ k = m ∙ ap (λ (y : Copied). replied (copiedReply y) .number) e in
       record { says = rw z (rw e at (a .says)); numbered = rw z (rw e at (a .numbered)) }
 
--- as the code returns it
+-- As the code returns it.
 
 pub copied : (t : List ℕ) (p len : ℕ) (d after : List ℕ) (r : RowCopied) → NeverZero (rowReply r) → ByPaths t p len d (replied (rowReply r)) after
     → CopyAnswer t p len (length d) r × (after ≡ copyLeaves t p len d)
@@ -142,7 +137,7 @@ row-edges t ok q x n k buffer h e n-is =
     let z : n ≡ k = n-is ∙ rw e in
     rw z (record { says = row-refused t ok q k buffer (h .refused k e); numbered = h .refused k e .low })
 
--- a tree that does not pass questions 5 to 7
+-- A tree that does not pass questions 5 to 7.
 pub row-unread : (t : List ℕ) (ok q : ℕ) (buffer : List ℕ) (x : HeaderRead)
     → x ≡ headerSays t → (n : ℕ) → x ≡ header.Refused n → RowAnswerBy t ok q buffer (row.Refused n) buffer
 unfolding selectNumber asksLast rowNumber

@@ -9,20 +9,15 @@ use borrow.Author.Tests.{eqb-true, eq-eqb, ne-eqb, lt-ltb, le-ltb, lt-leb}
 use lib.ListN.{length, getD}
 use lib.Dec.{eqb, ltb, leb}
 use Rattle.text.specs.ListLaws.{bool-clash, and-false, lt-or-ge}
-use Rattle.text.specs.Text.{stretch, countIn, placeOf}
+use Rattle.text.specs.Text.{stretch, countIn, placeOf, rowOf}
 use Rattle.text.specs.CountLaws.{count-none, count-next-same, Nth, nth-earlier, nth-later, nth-past, place-nth, nth-place}
-use Rattle.text.specs.Rows.{rowOf}
 use Rattle.text.specs.RowLaws.{trimmed, trimmed-none, trimmed-mark, trimmed-plain, rowFrom, between, row-between, row-last}
 use Rattle.text.specs.declared.TextPlace.{TextPlace}
 use Rattle.format.specs.Layout as at
-use Rattle.format.specs.Fits.{textOf}
-use Rattle.format.specs.Verdict.{verdict}
-use Rattle.format.specs.Said.{Said, refused, NeverZero, replied}
-use Rattle.format.specs.ReadSays.{byteSays}
-use Rattle.format.specs.CountSays.{numberOfByte}
-use Rattle.format.specs.FindSays.{total, selectNumber, FindBy}
+use Rattle.format.specs.TreeReading.{textOf, verdict}
+use Rattle.format.specs.Answers.{Said, refused, NeverZero, replied, byteSays, numberOfByte, total, selectNumber, FindBy}
 use Rattle.format.specs.FindSaysLaws.{Selected, select-passes, select-lets}
-use Rattle.format.specs.RowSays.{lastNumber, asksLast, rowNumber, rowMost}
+use Rattle.format.specs.Answers.{lastNumber, asksLast, rowNumber, rowMost}
 use Rattle.format.specs.RowSaysLaws.{AsksLast, asks-last, row-number-last, row-number-plain}
 use Rattle.theory_paths.specs.PlaceBytes.{only-14}
 use Rattle.theory_paths.specs.OneText.{text-length}
@@ -56,13 +51,13 @@ use Rattle.ask_rows.specs.declared.row_edges.RowStart.the-variants as st
 use Rattle.ask_rows.specs.RowSpans.{settledBy, Refuses, Spans, EdgesOf}
 use Rattle.ask_rows.specs.RowEnds.{EndsRow, NewlineIs, startNumber, StartIs}
 
--- the number that settles a row is 0 for accepted trees alone
+-- The number that settles a row is 0 for accepted trees alone.
 pub settled-sound : (t guide : List ℕ) (used : Bool) → settledBy t guide used ≡ 0 → verdict t ≡ 0
 unfolding settledBy
 settled-sound t guide true e = guide-verdict t guide e
 settled-sound t guide false e = e
 
--- a find, by the guide and without it
+-- A find, by the guide and without it.
 pub ten-guided : (t guide : List ℕ) (used : Bool) (j : ℕ) (g : Guided) (r : Found)
     → used ≡ true → GuidedAnswer t guide 10 j g → r ≡ foundOf g → FoundBy t (settledBy t guide used) 10 j r
 unfolding settledBy
@@ -72,7 +67,7 @@ pub ten-plain : (t guide : List ℕ) (used : Bool) (j : ℕ) (r : Found) → use
 unfolding settledBy
 ten-plain t guide used j r e a = rw e a
 
--- both, after the questions before the walk
+-- Both, after the questions before the walk.
 module _ (t guide : List ℕ) (h : Header) (k : HeaderOf t h) (number j : ℕ) (is : number ≡ numberOfByte t 10)
     (counted : number < h .settings .counted) (low : 1 ≤ j) (high : j ≤ total t number) where
   pub ten-ready : (HeaderOf t h) × (number < at.countedCount t) × (10 ≡ byteOf t number) × (1 ≤ j) × (j ≤ total t number)
@@ -90,7 +85,7 @@ module _ (t guide : List ℕ) (h : Header) (k : HeaderOf t h) (number j : ℕ) (
     numbered = nb;
   })
 
--- the edges
+-- The edges.
 
 module _ (t : List ℕ) (ok number : ℕ) (row : List ℕ) (most : ℕ) where
   not-spans : (n : ℕ) → Refuses t ok number row n → EdgesOf t ok number row most (edges.Refused n)
@@ -109,7 +104,7 @@ module _ (t : List ℕ) (ok number : ℕ) (row : List ℕ) (most : ℕ) where
         rw (← x, ← y, ← v) r);
   }
 
-  -- refused by a question before the walk
+  -- Refused by a question before the walk.
   before-walk : (n : ℕ) → 1 ≤ n → n ≡ number → EdgesOf t ok number row most (edges.Refused n)
   before-walk n low is = not-spans n (record {
     low = low;
@@ -118,7 +113,7 @@ module _ (t : List ℕ) (ok number : ℕ) (row : List ℕ) (most : ℕ) where
     free = λ z. absurd (let y : ⊥ = omega arith in y);
   })
 
-  -- refused in the walk
+  -- Refused in the walk.
   in-walk : number ≡ 0 → (n : ℕ) → (ok ≡ 0 → ⊥) → n ≡ 14 → EdgesOf t ok number row most (edges.Refused n)
   in-walk passed n never is = not-spans n (record {
     low = omega arith;
@@ -154,7 +149,7 @@ module _ (t : List ℕ) (ok : ℕ) (q : ℕ) where
       same : (p : TextPlace) → start.At (record { 0 = s }) ≡ start.At p → p .0 ≡ s
       same p e = let z : record { 0 = s } ≡ p = cc in sym (ap (λ (w : TextPlace). w .0) z)
 
-  -- a question before the walk refuses
+  -- A question before the walk refuses.
   start-asked : (n : ℕ) → number ≡ suc n → StartIs t ok q (start.Refused (suc n))
   start-asked n is = no-start (suc n) (record {
     low = omega arith;
@@ -239,7 +234,7 @@ newlines-before T q low high = go (lt-or-ge 1 q)
         rw (ne-eqb q 1 (λ e. omega arith)) (omega (arith, h .rank, count-next-same 10 T 0 (placeOf 10 (q - 1) T) (h .within) (h .byte-is)))
 
 module _ (T : List ℕ) (q : ℕ) (low : 1 ≤ q) (high : q ≤ countIn 10 T) where
-  -- the first newline from there on is the q-th of the text
+  -- The first newline from there on is the q-th of the text.
   row-end : (e : ℕ) → rowFrom T q ≤ e → Nth 10 1 T (rowFrom T q) (e - rowFrom T q) → placeOf 10 q T ≡ e
   row-end e past first =
       let p = rowFrom T q in
@@ -272,7 +267,7 @@ module _ (len before : ℕ) where
 
 -- The bounds of a row that ends in a newline.
 module _ (t : List ℕ) (ok : ℕ) (sound : ok ≡ 0 → verdict t ≡ 0) (q : ℕ) (x : RowStart) (starts : StartIs t ok q x) where
-  -- the newline that ends it is none of its bytes
+  -- The newline that ends it is none of its bytes.
   abbrev end-most : ℕ
   end-most = at.textLength t - 1
 
@@ -309,7 +304,7 @@ module _ (t : List ℕ) (ok : ℕ) (sound : ok ≡ 0 → verdict t ≡ 0) (q : �
         pub end-past : p .0 ≤ e .0
         end-past = end .past
 
-        -- the bytes up to it
+        -- The bytes up to it.
         abbrev len : ℕ
         len = e .0 - p .0
 
@@ -381,7 +376,7 @@ module _ (t : List ℕ) (h : Header) (k : HeaderOf t h) (q number : ℕ) (is : n
           go true f = f ∙ here true (rw (← sum) (eq-eqb q (all + 1) (omega (arith, n, eqb-true (q - 1) all f))))
           go false f = f ∙ here false (rw (← sum) (ne-eqb q (all + 1) (λ z. bool-clash (eqb (q - 1) all) (eq-eqb (q - 1) all (omega arith)) f)))
 
-    -- another row, in any text
+    -- Another row, in any text.
     asks-plain : (q ≡ total t (numberOfByte t 10) + 1 → ⊥) → false ≡ asksLast t q
     asks-plain n = go (lt-or-ge 0 (h .«text_length»))
       where
@@ -400,14 +395,14 @@ module _ (t : List ℕ) (h : Header) (k : HeaderOf t h) (q : ℕ) (asks : asksLa
   a : AsksLast t q
   a = asks-last t q asks
 
-  -- the text has a byte, and q is not 0
+  -- The text has a byte, and q is not 0.
   pub last-some : 1 ≤ h .«text_length»
   last-some = omega (arith, a .some-byte, k .length-is)
 
   pub last-low : 1 ≤ q
   last-low = omega (arith, a .number)
 
-  -- the last byte 10 is the one before
+  -- The last byte 10 is the one before.
   pub last-find : (number : ℕ) → number ≡ numberOfByte t 10 → (q ≡ 1 → ⊥) → (1 ≤ q - 1) × (q - 1 ≤ total t number)
   last-find number is more =
       let e : total t number ≡ total t (numberOfByte t 10) = rw is in
@@ -422,7 +417,7 @@ module _ (t : List ℕ) (h : Header) (k : HeaderOf t h) (q : ℕ) (asks : asksLa
   abbrev last-most : ℕ
   last-most = rowMost t q
 
-  -- all of the text, if it is the first row, else less
+  -- All of the text, if it is the first row, else less.
   most-first : q ≡ 1 → last-most ≡ at.textLength t
   unfolding rowMost
   most-first one = rw (asks, eq-eqb q 1 one)
@@ -441,7 +436,7 @@ module _ (t : List ℕ) (h : Header) (k : HeaderOf t h) (q : ℕ) (asks : asksLa
     here-said : byteSays t (at.textLength t - 1) ≡ replied (byteReply x)
     here-said = rw (← k .length-is) (sym x-is)
 
-    -- the last byte is refused
+    -- The last byte is refused.
     pub last-broken : (m n : ℕ) → x ≡ answer.Refused m → n ≡ replied (byteReply x) .number → EdgesOf t ok last-number last-row last-most (edges.Refused n)
     last-broken m n e n-is =
         let p = at.textLength t - 1 in
@@ -477,7 +472,7 @@ module _ (t : List ℕ) (h : Header) (k : HeaderOf t h) (q : ℕ) (asks : asksLa
           last-asked : Selected t 10 (q - 1)
           last-asked = record { pass = a .pass; counted = a .counted; low = omega (arith, a .number, more); high = omega (arith, a .number) }
 
-          -- the last byte 10 is refused
+          -- The last byte 10 is refused.
           pub last-no-start : (j n : ℕ)
               → found ≡ found-is.Refused j → n ≡ replied (findReply found) .number → NeverZero (findReply found)
               → EdgesOf t ok last-number last-row last-most (edges.Refused n)
@@ -527,7 +522,7 @@ module _ (t : List ℕ) (ok : ℕ) (sound : ok ≡ 0 → verdict t ≡ 0) (q : �
     });
   })
 
-  -- refused before the walk
+  -- Refused before the walk.
   pub edges-refused : (n : ℕ) → false ≡ asksLast t q → StartIs t ok q (start.Refused n)
       → EdgesOf t ok (rowNumber t q) (rowOf (textOf t) q) (rowMost t q) (edges.Refused n)
   edges-refused n asks s = edges-ended (edges.Refused n) asks (edges-no-start t ok sound q (start.Refused n) s n n refl refl)

@@ -9,18 +9,14 @@ use borrow.Author.Tests.{eq-eqb, ne-eqb, lt-ltb, le-ltb}
 use lib.ListN.{length, getD}
 use lib.Dec.{eqb}
 use Rattle.text.specs.TextLaws.{length-stretch}
-use Rattle.text.specs.Rows.{rowOf}
+use Rattle.text.specs.Text.{rowOf}
 use Rattle.text.specs.declared.TextPlace.{TextPlace}
 use Rattle.format.specs.WordLaws.{wordAt-lt}
-use Rattle.format.specs.RecordFields.{beforeField, insideField}
+use Rattle.format.specs.Layout.{beforeField, insideField}
 use Rattle.format.specs.Layout as at
-use Rattle.format.specs.Fits.{textOf}
-use Rattle.format.specs.Said.{Said, refused, replied}
+use Rattle.format.specs.TreeReading.{textOf}
+use Rattle.format.specs.Answers.{Said, refused, replied, byteSays, isCounted, numberOfByte, total, selectNumber, asksLast, rowNumber, rowMost}
 use Rattle.format.specs.SaidLaws.{unless-refused}
-use Rattle.format.specs.ReadSays.{byteSays}
-use Rattle.format.specs.CountSays.{isCounted, numberOfByte}
-use Rattle.format.specs.FindSays.{total, selectNumber}
-use Rattle.format.specs.RowSays.{asksLast, rowNumber, rowMost}
 use Rattle.theory_paths.specs.PlaceBytes.{only-14}
 use Rattle.theory_paths.specs.OneText.{text-length}
 use Rattle.layout.specs.declared.header.Header.{Header}
@@ -38,7 +34,7 @@ use Rattle.ask_rows.specs.declared.RowLength.the-variants as size
 use Rattle.ask_rows.specs.declared.RowCount.the-variants as count
 use Rattle.ask_access.specs.declared.read_by_header.LeafRun.{LeafRun}
 use Rattle.ask_rows.specs.RowSpans.{settledBy, EdgesOf}
-use Rattle.ask_rows.specs.RowLengths.{rowsNumber, lastOpen, rowsSays, LengthAnswer, CountAnswer}
+use Rattle.ask_rows.specs.RowAnswers.{rowsNumber, lastOpen, rowsSays, LengthAnswer, CountAnswer}
 
 -- The length of a row.
 module _ (t : List ℕ) (q : ℕ) where
@@ -67,7 +63,7 @@ module _ (t : List ℕ) (q : ℕ) where
           numbered = s .low;
         }
 
-  -- a tree that does not pass questions 5 to 7
+  -- A tree that does not pass questions 5 to 7.
   pub length-unread : (x : HeaderRead) → x ≡ headerSays t → (n : ℕ) → x ≡ header.Refused n → LengthAnswer t q (size.Refused n)
   unfolding selectNumber asksLast rowNumber
   length-unread x x-is n e =
@@ -90,7 +86,7 @@ count-unread t x x-is n e =
     let m : rowsNumber t ≡ suc (z .0) = rw (z .1, ne-eqb (suc (z .0)) 0 (λ y. omega arith)) in
     record { says = unless-refused (rowsNumber t) (z .0) n _ m (z .2); numbered = omega (arith, z .2) }
 
--- a total is a sum of two words
+-- A total is a sum of two words.
 total-small : (t : List ℕ) → ((k : ℕ) → getD t k 0 < 256) → (c : ℕ) → total t c < 8589934592
 unfolding total at.before at.inside at.field
 total-small t bytes c = go (eqb (at.levelCount t 0) 0)

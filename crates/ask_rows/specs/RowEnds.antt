@@ -7,9 +7,8 @@ use Rattle.text.specs.CountLaws.{Nth}
 use Rattle.text.specs.RowLaws.{rowFrom, between, trimmed}
 use Rattle.text.specs.declared.TextPlace.{TextPlace}
 use Rattle.format.specs.Layout as at
-use Rattle.format.specs.Fits.{textOf}
-use Rattle.format.specs.Verdict.{verdict}
-use Rattle.format.specs.FindSays.{selectNumber}
+use Rattle.format.specs.TreeReading.{textOf, verdict}
+use Rattle.format.specs.Answers.{selectNumber}
 use Rattle.ask_access.specs.declared.read_by_header.LeafRun.{LeafRun}
 use Rattle.ask_access.specs.ReadByRuns.{ReadsFrom}
 use Rattle.ask_rows.specs.declared.next_newline.Newline.{Newline}
@@ -18,7 +17,7 @@ use Rattle.ask_rows.specs.declared.row_edges.RowStart.{RowStart}
 use Rattle.ask_rows.specs.declared.row_edges.RowStart.the-variants as start
 use Rattle.ask_rows.specs.RowSpans.{Refuses}
 
--- the first newline of the text from place p on is at e, after the byte `before`
+-- The first newline of the text from place p on is at e, after the byte `before`.
 pub record EndsRow (t : List ℕ) (p e before : ℕ) : Type 0 where
   pub past : p ≤ e
   pub first : Nth 10 1 (textOf t) p (e - p)

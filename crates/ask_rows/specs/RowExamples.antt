@@ -3,21 +3,15 @@ use mathlib.Core.List.{List, [], _∷_}
 use mathlib.Core.Path.{_≡_, refl}
 use Prim.Native.Nat.{ℕ}
 use lib.ListN.{take}
-use Rattle.text.specs.Lists.{tabulate, concat, sumBelow, countBelow, allBelow, sameList}
-use Rattle.text.specs.Text.{stretch, leftmost, firstFrom, countIn}
-use Rattle.format.specs.Words.{setWord, wordAt, wordsBytes, wordBytes}
-use Rattle.format.specs.Settings.{blockLength, pieces, recordLength, lengthOk, sizesOk, countedOk, rising, risingAfter}
-use Rattle.format.specs.Edges.{edgesOf, filledOut}
+use Rattle.text.specs.Text.{tabulate, concat, sumBelow, countBelow, allBelow, sameList, stretch, leftmost, firstFrom, countIn}
+use Rattle.format.specs.Layout.{setWord, wordAt, wordsBytes, wordBytes, blockLength, pieces, recordLength, lengthOk, sizesOk, countedOk, rising, risingAfter}
+use Rattle.format.specs.Layout.{edgesOf, filledOut}
 use Rattle.format.specs.Blocks.{treeOf, header, leafBytes, levelPairs, recordBytes, levelBytes, recordIn, recordOf, target, occurrence, width, isKept}
 use Rattle.format.specs.Blocks.{startsAt, cut, keptByPairs, firstPairAt, pairAt, lengthOf, startOf}
 use Rattle.format.specs.Layout as at
-use Rattle.format.specs.Path.{pathOf, pathFrom, targetPlace, targetBlock, pointingBlock, keptBlock, lands, landBlock, landPlace, landVisits}
-use Rattle.format.specs.Verdict.{readable}
-use Rattle.format.specs.Said.{Said}
-use Rattle.format.specs.ReadSays.{byteSays}
-use Rattle.format.specs.CountSays.{indexOf, isCounted, numberOfByte}
-use Rattle.format.specs.FindSays.{total}
-use Rattle.ask_rows.specs.RowLengths.{rowsNumber, lastOpen, rowsSays}
+use Rattle.format.specs.TreeReading.{pathOf, pathFrom, targetPlace, targetBlock, pointingBlock, keptBlock, lands, landBlock, landPlace, landVisits, readable}
+use Rattle.format.specs.Answers.{Said, byteSays, indexOf, isCounted, numberOfByte, total}
+use Rattle.ask_rows.specs.RowAnswers.{rowsNumber, lastOpen, rowsSays}
 
 tree : List ℕ → List ℕ → List ℕ
 tree cs T = treeOf (record { leaf = 2; arity = 2; levels = 2; counted = cs }) T
@@ -34,9 +28,9 @@ pub record Marked : Type 0 where
   ended : rowsSays (tree (10 ∷ []) (65 ∷ 10 ∷ 10 ∷ [])) ≡ said 0 2
   one : rowsSays (tree (10 ∷ []) (65 ∷ 66 ∷ [])) ≡ said 0 1
   empty : rowsSays (tree (10 ∷ []) []) ≡ said 0 0
-  -- byte 10 is not counted, also where there is no last byte
+  -- Byte 10 is not counted, also where there is no last byte.
   uncounted : (rowsSays (tree (65 ∷ []) open-book) ≡ said 11 0) × (rowsSays (tree [] []) ≡ said 11 0)
-  -- kind 2 in the block that holds the last byte
+  -- Kind 2 in the block that holds the last byte.
   broken : rowsSays (setWord (tree (10 ∷ []) open-book) 264 2) ≡ said 14 0
   short : rowsSays (take 99 (tree (10 ∷ []) open-book)) ≡ said 5 0
 

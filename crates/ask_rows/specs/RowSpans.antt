@@ -5,11 +5,9 @@ use mathlib.Core.Path.{_≡_}
 use Prim.Native.Nat.{ℕ, _+_, _≤_, _<_}
 use Rattle.text.specs.Text.{stretch}
 use Rattle.format.specs.Layout as at
-use Rattle.format.specs.Fits.{textOf}
-use Rattle.format.specs.Verdict.{verdict}
-use Rattle.format.specs.Said.{refused, Is}
+use Rattle.format.specs.TreeReading.{textOf, verdict}
+use Rattle.format.specs.Answers.{refused, Is, copySays}
 use Rattle.text.specs.declared.TextPlace.{TextPlace}
-use Rattle.format.specs.ReadSays.{copySays}
 use Rattle.ask_access.specs.declared.read_by_header.LeafRun.{LeafRun}
 use Rattle.ask_access.specs.ReadByRuns.{ReadsFrom}
 use Rattle.ask_guide.specs.Guides.{guideNumber}
@@ -19,7 +17,7 @@ use Rattle.ask_rows.specs.declared.row_edges.Edges.{Edges}
 use Rattle.ask_rows.specs.declared.row_edges.Edges.the-variants as edges
 use Rattle.ask_rows.specs.RowAnswers.{rowReply}
 
--- the number that settles a row: the guide's, or the check's where there is none
+-- The number that settles a row: the guide's, or the check's where there is none.
 unfoldable pub settledBy : List ℕ → List ℕ → Bool → ℕ
 settledBy t guide guided = cond guided (guideNumber t guide) (verdict t)
 

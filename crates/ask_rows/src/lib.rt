@@ -8,8 +8,7 @@ mod row_lengths;
 use layout::header;
 use layout::header::HeaderRead;
 ghost use Rattle.ask_guide.specs.Guides.{guideNumber};
-ghost use Rattle.ask_rows.specs.RowAnswers.{RowAnswer, RowAnswerBy};
-ghost use Rattle.ask_rows.specs.RowLengths.{LengthAnswer, CountAnswer};
+ghost use Rattle.ask_rows.specs.RowAnswers.{RowAnswer, RowAnswerBy, LengthAnswer, CountAnswer};
 
 // The number of bytes of a row that were copied, or the refusal.
 pub enum RowCopied {

@@ -6,7 +6,7 @@ use ask_access::Copied;
 use ask_access::read_by_header;
 use layout::header::Header;
 ghost use mathlib.Core.Path.{_≡_};
-ghost use Rattle.format.specs.Said.{replied};
+ghost use Rattle.format.specs.Answers.{replied};
 ghost use Rattle.layout.specs.HeaderSays.{HeaderOf};
 ghost use Rattle.ask_access.specs.ReadAnswers.{copiedReply};
 ghost use Rattle.ask_rows.specs.RowAnswers.{RowAnswerBy};

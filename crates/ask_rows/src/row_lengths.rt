@@ -8,7 +8,7 @@ use ask_access::read_by_header;
 use layout::header::Header;
 use layout::place::TextPlace;
 ghost use Rattle.layout.specs.HeaderSays.{HeaderOf};
-ghost use Rattle.ask_rows.specs.RowLengths.{LengthAnswer, CountAnswer};
+ghost use Rattle.ask_rows.specs.RowAnswers.{LengthAnswer, CountAnswer};
 
 // Questions 11, 12 and 14, from the bounds of the row.
 pub fn length_at(t: &[u8], h: Header, q: u32) -> RowLength

@@ -10,14 +10,10 @@ use borrow.Author.Tests.{lt-ltb, le-ltb, lt-leb, ne-eqb}
 use lib.Dec.{leb}
 use Rattle.text.specs.ListLaws.{lt-or-ge}
 use Rattle.text.specs.Text.{placeOf}
-use Rattle.format.specs.Settings.{maxText}
+use Rattle.format.specs.Layout.{maxText}
 use Rattle.format.specs.Layout as at
-use Rattle.format.specs.Path.{pathOf}
-use Rattle.format.specs.Fits.{textOf}
-use Rattle.format.specs.Verdict.{ask, readable, verdict}
-use Rattle.format.specs.Said.{Said, refused}
-use Rattle.format.specs.CountSays.{numberOfByte}
-use Rattle.format.specs.FindSays.{total, selectNumber, pathLength, found}
+use Rattle.format.specs.TreeReading.{pathOf, textOf, ask, readable, verdict}
+use Rattle.format.specs.Answers.{Said, refused, numberOfByte, total, selectNumber, pathLength, found}
 use Rattle.format.specs.FindSaysLaws.{FindSays, select-lets}
 use Rattle.theory_paths.specs.BlockStarts.{len-inside}
 use Rattle.layout.specs.declared.header.Header.{Header}
@@ -53,7 +49,7 @@ top-siblings t field b n on hc some e = record {
 pub full-level : (t : List ℕ) (h : Header) → HeaderOf t h → OnLevel t (h .«record_size») 0 (at.fullLength t 0)
 full-level t h r = rw (r .block-is) at (on-top t h r)
 
--- a place of the text
+-- A place of the text.
 
 product : (n s : ℕ) → n < 4294967296 → s ≤ maxText → n * s ≤ 36028797018963968
 product n s a b = let c : n ≤ 4294967296 = omega arith in let m : s ≤ 8388608 = omega arith in mul-le-mul c m
@@ -75,14 +71,14 @@ module _ (n w : ℕ) where
       go (inl h) = let e = sym (place-in h) in inr (ap (λ (y : Said). y .number) e, rw (ap (λ (y : Said). y .value) e) h)
       go (inr h) = inl (sym (place-past h))
 
--- the place and the blocks of a word
+-- The place and the blocks of a word.
 word-place : (n w p e : ℕ) → w ≡ p + e * 281474976710656 → p < n → n ≤ maxText → placedIn n w ≡ record { number = 0; value = p; entered = e }
 word-place n w p e w-is small short =
     let a : w % 281474976710656 ≡ p = omega arith in
     let b : w / 281474976710656 ≡ e = omega arith in
     sym (place-in n w (omega arith)) ∙ rw (a, b)
 
--- from level 0 on
+-- From level 0 on.
 module _ (t : List ℕ) (field : CountField) (j b block : ℕ) (on : OnLevel t (field .size) 0 b) (hc : field .number < at.countedCount t) (low : 1 ≤ j)
     (high : j ≤ total t (field .number)) (last : Stopped t (field .number) j block) where
   abbrev c : ℕ
@@ -144,7 +140,7 @@ sought-by t n byte c j block w s n-is byte-is s-is z =
     let e : s ≡ placedIn (at.textLength t) w = rw n-is at s-is in
     rw (e, byte-is) z
 
--- the first block's before is 0, so the steps from there stop at a block with fewer than j before it
+-- The first block's before is 0, so the steps from there stop at a block with fewer than j before it.
 module _ (t : List ℕ) (c j block : ℕ) (hc : c < at.countedCount t) (low : 1 ≤ j) (last : LastBefore t c 0 0 (at.levelCount t 0) j block) where
   pub stopped : Stopped t c j block
   stopped = record { block-in = last .high; next = last .next }
@@ -158,7 +154,7 @@ module _ (t : List ℕ) (c j block : ℕ) (hc : c < at.countedCount t) (low : 1 
           let e : at.before t 0 0 c ≡ 0 = f ∙ rw (zero-mul (at.fullLength t 0)) (tally-none t c 0) in
           last-here t c 0 0 (at.levelCount t 0) j block last (omega arith)
 
--- the questions before the walk
+-- The questions before the walk.
 
 find-refused : (t : List ℕ) (byte j q : ℕ) → selectNumber t byte j ≡ suc q → FindSays t byte j (refused (suc q))
 find-refused t byte j q e = record {

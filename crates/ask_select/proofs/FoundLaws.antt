@@ -9,12 +9,9 @@ use Rattle.text.specs.ListLaws.{lt-or-ge}
 use Rattle.text.specs.Text.{placeOf}
 use Rattle.text.specs.declared.TextPlace.{TextPlace}
 use Rattle.format.specs.Layout as at
-use Rattle.format.specs.Path.{pathOf}
-use Rattle.format.specs.Fits.{textOf}
-use Rattle.format.specs.Verdict.{verdict}
+use Rattle.format.specs.TreeReading.{pathOf, textOf, verdict}
 use Rattle.format.specs.VerdictLaws.{accepted-readable, accepted-links}
-use Rattle.format.specs.Said.{Said, refused, replied}
-use Rattle.format.specs.FindSays.{selectNumber, pathLength, found, FindBy}
+use Rattle.format.specs.Answers.{Said, refused, replied, selectNumber, pathLength, found, FindBy}
 use Rattle.format.specs.FindSaysLaws.{FindSays, Selected, select-passes}
 use Rattle.theory_paths.specs.Visits.{path-long}
 use Rattle.theory_paths.specs.Demands as paths
@@ -23,7 +20,7 @@ use Rattle.ask_select.specs.declared.Found.{Found}
 use Rattle.ask_select.specs.declared.Found.the-variants.{At, Refused}
 use Rattle.ask_select.specs.Found.{findReply}
 
--- on an accepted tree the path of the j-th byte enters a block
+-- On an accepted tree the path of the j-th byte enters a block.
 path-enters : (t : List ℕ) → verdict t ≡ 0 → (byte j : ℕ) → Selected t byte j → 1 ≤ pathLength t (pathOf t (placeOf byte j (textOf t)))
 path-enters t v byte j h =
     let w = paths.no-path-breaks t (accepted-readable t v) (accepted-links t v) (placeOf byte j (textOf t)) (tallies.place-below t v byte j h) in

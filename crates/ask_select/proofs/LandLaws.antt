@@ -11,15 +11,13 @@ use lib.ListN.{length, getD}
 use lib.Dec.{ltb, leb}
 use Rattle.text.specs.ListLaws.{bool-cases, bool-clash, and-right}
 use Rattle.text.specs.Text.{stretch, countIn}
-use Rattle.format.specs.Settings.{pieces, maxText}
+use Rattle.format.specs.Layout.{pieces, maxText, countedAt}
 use Rattle.format.specs.PieceLaws.{pieces-start, lt-pieces}
-use Rattle.format.specs.HeaderPlaces.{countedAt}
 use Rattle.format.specs.LayoutLaws.{Readable, readable-facts, full-pos}
 use Rattle.ask_totals.proofs.NamedLaws.{name-at}
 use Rattle.format.specs.VerdictLaws.{accepted-readable, accepted-links}
 use Rattle.format.specs.Layout as at
-use Rattle.format.specs.Path.{keptBlock, pointingBlock}
-use Rattle.format.specs.Verdict.{verdict}
+use Rattle.format.specs.TreeReading.{keptBlock, pointingBlock, verdict}
 use Rattle.theory_paths.specs.Links.{H, N, s, len, Linked, linked-facts}
 use Rattle.theory_paths.specs.Links as links
 use Rattle.theory_paths.specs.BlockStarts.{len-small, len-pos}
@@ -61,7 +59,7 @@ module _ (t : List ℕ) (v : verdict t ≡ 0) where
   abbrev pub a : (m : ℕ) → m < H t → Level t m
   a = demands.levels t v
 
-  -- every block is kept or points
+  -- Every block is kept or points.
   pub one-of : (l i : ℕ) → l < H t → i < N t l → (keptBlock t l i ≡ true) ⊎ (pointingBlock t l i ≡ true)
   one-of l i hl hi = go (bool-cases (at.isKept t l i))
     where
@@ -70,7 +68,7 @@ module _ (t : List ℕ) (v : verdict t ≡ 0) where
       go (inr un) = inr (pointing-block t l i hi (d .points l i hl hi un))
 
   module _ (c : ℕ) (hc : c < at.countedCount t) where
-    -- the children of a kept block are there
+    -- The children of a kept block are there.
     module _ (l i : ℕ) (hl : l + 1 < H t) (hi : i < N t l) (kept : at.isKept t l i ≡ true) where
       pub some-child : 0 < pieces (len t l i) (at.fullLength t (l + 1))
       some-child =
@@ -99,7 +97,7 @@ case-child n y o p r q e =
     let g : p ≡ o = cc in
     (ap (λ (z : BlockNumber). z .0) f, ap (λ (z : BlockPlace). z .0) g, cc)
 
--- a kept block, with the number of its first child and how many children it has
+-- A kept block, with the number of its first child and how many children it has.
 pub record Family (t : List ℕ) (field : CountField) (level b i below j link count : ℕ) : Type 0 where
   pub kept : KeptIn t (field .size) level b i
   pub lower : OnLevel t (field .size) (level + 1) below
@@ -281,7 +279,7 @@ module _ (t : List ℕ) (size c level b i j link : ℕ)
 
 -- The leaf bytes.
 
--- the counted byte that is read in the header
+-- The counted byte that is read in the header.
 pub named-byte : (t : List ℕ) (c : ℕ) → Readable t → c < at.countedCount t → getD t (countedAt + c) 0 ≡ byteOf t c
 unfolding byteOf
 named-byte t c k hc = sym (name-at t (at.countedCount t) 0 c (record { long = k .long; k-is = refl; k-low = k .bounds .counted-high }) hc)
@@ -338,7 +336,7 @@ lands-same : (t : List ℕ) (v : verdict t ≡ 0) (c : ℕ) (hc : c < at.counted
     → finds.Lands t (k t v) (d t v) (a t v) c hc l x n o e → finds.Lands t (k t v) (d t v) (a t v) c hc l y m o e
 lands-same t v c hc l x y n m o e p q z = rw (← p, ← q) z
 
--- the level of a block's children
+-- The level of a block's children.
 pub lower-level : (t : List ℕ) (size level b below : ℕ) (x : Shape) → OnLevel t size level b → Shapes t x
     → (level + 1 ≡ x .levels → ⊥) → below ≡ b / x .arity → OnLevel t size (level + 1) below
 lower-level t size level b below x on s more e =

@@ -6,15 +6,14 @@ use Prim.Native.Nat.{ℕ, _+_, _-_, _*_, _/_, _≤_, _<_}
 use native.Mathlib.Omega.{arith}
 use native.Mathlib.Nat.{add-zero, mul-add-div, div-eq-of-lt}
 use Rattle.text.specs.ListLaws.{lt-or-ge}
-use Rattle.format.specs.Settings.{pieces}
-use Rattle.format.specs.RecordFields.{skipField}
+use Rattle.format.specs.Layout.{pieces, skipField}
 use Rattle.format.specs.Layout as at
 use Rattle.format.specs.LayoutLaws.{Readable, full-step}
 use Rattle.layout.specs.Record.{FieldIn, field-in}
 use Rattle.walk_steps.specs.Steps.{OnLevel, InTable}
 use Rattle.ask_select.specs.Seeks.{LastBefore}
 
--- every field of every record can be read
+-- Every field of every record can be read.
 pub field-there : (t : List ℕ) (size level i c f : ℕ) → Readable t → size ≡ at.recordSize t → level < at.settings t .levels → i < at.levelCount t level
     → c < at.countedCount t → f ≤ skipField c → FieldIn t size level i f
 field-there t size level i c f k size-is hl hi hc hf = field-in t k size level i f size-is hl hi (omega arith)
@@ -26,7 +25,7 @@ full-there t size level b i on hi = record {
   block-in = hi;
 }
 
--- the block lengths of a level and of the next one
+-- The block lengths of a level and of the next one.
 pub full-below : (t : List ℕ) (size level b below arity : ℕ)
     → OnLevel t size level b → OnLevel t size (level + 1) below → arity ≡ at.settings t .arity → b ≡ below * arity
 full-below t size level b below arity on lower e = on .b-is ∙ full-step t (on .facts) level (lower .level-in) ∙ rw (lower .b-is, e)
@@ -41,7 +40,7 @@ pieces-full bytes b below arity full b-is pos =
 
 -- siblings
 
--- what is below j on the way to block i and at the next one, is so on the way to the next one
+-- What is below j on the way to block i and at the next one, is so on the way to the next one.
 module _ (f : ℕ → ℕ) (first j : ℕ) where
   pub one-passed : (i : ℕ) → ((k : ℕ) → first < k → k ≤ i → f k < j) → f (i + 1) < j → (k : ℕ) → first < k → k ≤ i + 1 → f k < j
   one-passed i way next k low high = go (lt-or-ge i k)
@@ -50,7 +49,7 @@ module _ (f : ℕ → ℕ) (first j : ℕ) where
       go (inl past) = let e : k ≡ i + 1 = omega arith in rw e next
       go (inr before) = way k low before
 
-  -- the same for four blocks whose largest is below j
+  -- The same for four blocks whose largest is below j.
   pub four-passed : (i most : ℕ) → ((k : ℕ) → first < k → k ≤ i → f k < j)
       → (f (i + 1) ≤ most) × (f (i + 2) ≤ most) × (f (i + 3) ≤ most) × (f (i + 4) ≤ most) → most < j → (k : ℕ) → first < k → k ≤ i + 4 → f k < j
   four-passed i most way four small =
@@ -62,7 +61,7 @@ module _ (f : ℕ → ℕ) (first j : ℕ) where
       let c = rw three at (one-passed (i + 2) b (rw three (omega (arith, four .2)))) in
       rw all at (one-passed (i + 3) c (rw all (omega (arith, four .3))))
 
-  -- one way after another
+  -- One way after another.
   pub passed-both : (i r : ℕ) → ((k : ℕ) → first < k → k ≤ i → f k < j) → ((k : ℕ) → i < k → k ≤ r → f k < j) → (k : ℕ) → first < k → k ≤ r → f k < j
   passed-both i r way further k low high = go (lt-or-ge i k)
     where
@@ -71,7 +70,7 @@ module _ (f : ℕ → ℕ) (first j : ℕ) where
       go (inr before) = way k low before
 
 module _ (t : List ℕ) (c level first end j : ℕ) where
-  -- from a first block with before below j the steps lead to such a block
+  -- From a first block with before below j the steps lead to such a block.
   pub last-here : (r : ℕ) → LastBefore t c level first end j r → at.before t level first c < j → at.before t level r c < j
   last-here r last low = go (lt-or-ge first r)
     where

@@ -4,10 +4,9 @@ use mathlib.Core.Bool.{true, cond}
 use mathlib.Core.Path.{_≡_}
 use mathlib.Core.Logic.{_⊎_}
 use Prim.Native.Nat.{ℕ, _+_, _-_, _*_, _≤_, _<_}
-use Rattle.format.specs.Settings.{pieces, maxText}
+use Rattle.format.specs.Layout.{pieces, maxText}
 use Rattle.format.specs.Layout as at
-use Rattle.format.specs.Path.{keptBlock, pointingBlock}
-use Rattle.format.specs.Verdict.{verdict}
+use Rattle.format.specs.TreeReading.{keptBlock, pointingBlock, verdict}
 use Rattle.layout.specs.declared.place.BlockNumber.{BlockNumber}
 use Rattle.layout.specs.declared.place.BlockPlace.{BlockPlace}
 use Rattle.walk_steps.specs.Steps.{OnLevel}
@@ -24,7 +23,7 @@ use Rattle.ask_select.specs.declared.seek.Target.the-variants as target
 use Rattle.ask_select.specs.declared.seek.Landing.{Landing}
 use Rattle.ask_select.specs.declared.seek.Landing.the-variants as landing
 
--- the way on into a block: past the bytes before it and back by a gap, with one more block entered
+-- The way on into a block: past the bytes before it and back by a gap, with one more block entered.
 unfoldable pub entering : ℕ → ℕ → ℕ → ℕ
 entering way forward back = way + 281474976710656 + forward - back
 
@@ -60,7 +59,7 @@ module _ (t : List ℕ) where
     pub passed : (i : ℕ) → first < i → i ≤ r → at.before t level i c < j
     pub next : r + 1 < end → j ≤ at.before t level (r + 1) c
 
-  -- the child of block i that is chosen for j: its number x, where it starts in the block, and what is left of j
+  -- The child of block i that is chosen for j: its number x, where it starts in the block, and what is left of j.
   pub record Chosen (c level i below j : ℕ) (x o rest : ℕ) : Type 0 where
     pub link-low : at.link t level i ≤ x
     pub within : x - at.link t level i < pieces (at.blockLengthAt t level i) below
@@ -113,7 +112,7 @@ module _ (t : List ℕ) where
   pub record FoundIn (c level i j way r : ℕ) : Type 0 where
     pub right : (v : verdict t ≡ 0) (hc : c < at.countedCount t) → j ≤ at.inside t level i c → Landed v c hc level i j way r
 
-  -- a kept block that block i hands its j-th byte to, what is left of j there, and the way to it: what is found from there on is found in block i
+  -- A kept block that block i hands its j-th byte to, what is left of j there, and the way to it: what is found from there on is found in block i.
   pub record HandedTo (field : CountField) (level b i j way : ℕ) (x rest further : ℕ) : Type 0 where
     pub kept : KeptIn (field .size) level b x
     pub seeks : Seeking field level b rest further (2 * level + 1)

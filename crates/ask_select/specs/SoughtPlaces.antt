@@ -6,9 +6,9 @@ use mathlib.Core.Logic.{_⊎_}
 use Prim.Native.Nat.{ℕ, _+_, _/_, _%_, _≤_, _<_}
 use lib.Dec.{ltb}
 use Rattle.format.specs.Layout as at
-use Rattle.format.specs.Verdict.{verdict}
-use Rattle.format.specs.Said.{Said, refused}
-use Rattle.format.specs.FindSays as find
+use Rattle.format.specs.TreeReading.{verdict}
+use Rattle.format.specs.Answers.{Said, refused}
+use Rattle.format.specs.Answers as find
 
 -- The place of a text of n bytes that the word of a step represents: 2^48 for each block entered, plus the place.
 unfoldable pub placedIn : ℕ → ℕ → Said

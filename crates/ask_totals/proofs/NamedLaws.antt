@@ -7,13 +7,12 @@ use native.Mathlib.Numerals.{add-one}
 use lib.ListN.{length, drop, getD, length-take, length-drop, drop-of-length-le}
 use lib.Seq.{drop-cons, getD-take, getD-drop}
 use borrow.Author.Tests.{eq-eqb, ne-eqb}
-use Rattle.format.specs.Settings.{maxCounted}
-use Rattle.format.specs.HeaderPlaces.{countedAt}
+use Rattle.format.specs.Layout.{maxCounted, countedAt}
 use Rattle.format.specs.Layout as at
-use Rattle.format.specs.CountSays.{indexOf, numberOfByte}
+use Rattle.format.specs.Answers.{indexOf, numberOfByte}
 use Rattle.ask_totals.specs.Named.{Names}
 
--- the number of a byte in a list
+-- The number of a byte in a list.
 
 index-here : (c : ℕ) (xs : List ℕ) (i : ℕ) → i < length xs → getD xs i 0 ≡ c → indexOf c (drop i xs) ≡ 0
 unfolding indexOf

@@ -8,20 +8,19 @@ use native.Mathlib.Omega.{arith}
 use borrow.Author.Tests.{lt-ltb, le-ltb, ne-eqb}
 use lib.ListN.{length}
 use Rattle.text.specs.ListLaws.{lt-or-ge}
-use Rattle.format.specs.RecordFields.{skipField}
+use Rattle.format.specs.Layout.{skipField}
 use Rattle.format.specs.Layout as at
-use Rattle.format.specs.CountSays.{indexOf, isCounted, numberOfByte}
-use Rattle.format.specs.FindSays.{total}
+use Rattle.format.specs.Answers.{indexOf, isCounted, numberOfByte, total}
 use Rattle.layout.specs.declared.header.Header.{Header}
 use Rattle.layout.specs.HeaderSays.{HeaderOf}
 use Rattle.layout.specs.Record.{FieldIn, field-in}
 
--- every field of every record can be read
+-- Every field of every record can be read.
 pub field-there : (t : List ℕ) (h : Header) (level i c f : ℕ) → HeaderOf t h → level < at.settings t .levels → i < at.levelCount t level → c < at.countedCount t
     → f ≤ skipField c → FieldIn t (h .«record_size») level i f
 field-there t h level i c f k hl hi hc hf = field-in t (k .facts) (h .«record_size») level i f (k .size-is) hl hi (omega arith)
 
--- the number of a byte, and whether it is counted
+-- The number of a byte, and whether it is counted.
 module _ (t : List ℕ) (h : Header) (k : HeaderOf t h) (byte number : ℕ) (is : number ≡ numberOfByte t byte) where
   pub not-counted : h .settings .counted ≤ number → isCounted t byte ≡ false
   unfolding isCounted numberOfByte
@@ -40,7 +39,7 @@ some-block t c h = go (lt-or-ge 0 (at.levelCount t 0))
     go (inl l) = l
     go (inr l) = absurd (let e : at.levelCount t 0 ≡ 0 = omega arith in let z : 1 ≤ 0 = rw e at h in let y : ⊥ = omega arith in y)
 
--- the total
+-- The total.
 pub total-none : (t : List ℕ) (c n : ℕ) → n ≡ at.levelCount t 0 → n ≡ 0 → 0 ≡ total t c
 unfolding total
 total-none t c n e z = rw (← e, z)

@@ -6,8 +6,8 @@ use layout::record;
 ghost use mathlib.Core.Path.{_≡_};
 ghost use Prim.Native.Nat.{_≤_, _<_};
 ghost use Rattle.format.specs.Layout as at;
-ghost use Rattle.format.specs.CountSays.{numberOfByte};
-ghost use Rattle.format.specs.FindSays as find;
+ghost use Rattle.format.specs.Answers.{numberOfByte};
+ghost use Rattle.format.specs.Answers as find;
 ghost use Rattle.layout.specs.HeaderSays.{HeaderOf};
 ghost use Rattle.ask_totals.specs.Named.{Names};
 

@@ -9,17 +9,16 @@ use contract.Lifetimes.{Lfts}
 use denote.Ref.{RefT}
 use lib.ListN.{length}
 use lib.Dec.{eqb}
-use Rattle.text.specs.Rows.{rowsOf}
-use Rattle.format.specs.Fits.{textOf}
-use Rattle.format.specs.Verdict.{readable, verdict}
-use Rattle.format.specs.CountSays.{isCounted}
+use Rattle.text.specs.Text.{rowsOf}
+use Rattle.format.specs.TreeReading.{textOf, readable, verdict}
+use Rattle.format.specs.Answers.{isCounted}
 use Rattle.row_filter.specs.SelectedRowLaws.{In}
 use Rattle.keys.specs.Keys.{rangesOk, matches}
 use Rattle.keys.specs.Matches.{matchesOf, nextMatch, shownFor}
 use Rattle.keys.specs.MatchLaws.{Wider, wider-shown}
 use Rattle.query_row_filter.specs.declared.NextRowAnswer.{NextRowAnswer}
 use Rattle.query_row_filter.specs.declared.NextRowAnswer.the-variants.{Row, Nothing, Refused}
-use Rattle.query_row_filter.specs.AllowedOutcome.{maxRows, queryRefusal}
+use Rattle.query_row_filter.specs.AllowedRows.{maxRows, queryRefusal}
 use Rattle.query_row_filter.proofs.NextRowTheorems as next-row
 use Rattle.ask_worn_keys.specs.MatchAnswer.{MatchAnswer, Moved}
 use Rattle.ask_worn_keys.proofs.next_match.Reads as next-match-reads
@@ -36,7 +35,7 @@ module _ (t ranges : List ℕ) where
   refusal-leaves = next-row.refusal-leaves t (verdict t) (λ v. v) (queryRefusal t 19 (rangesOk ranges)) (matches ranges)
 
   module _ (mark : ℕ) (r : NextRowAnswer) (a : MatchAnswer t ranges mark r) where
-    -- questions 5 to 7
+    -- Questions 5 to 7.
     pub match-unread : (q : ℕ) → readable t ≡ suc q → r ≡ Refused (suc q)
     match-unread q e =
         next-row.refused-first t (verdict t) (λ v. v) (queryRefusal t 19 (rangesOk ranges)) (matches ranges) mark r a q
@@ -55,7 +54,7 @@ module _ (t ranges : List ℕ) where
           next-row.refused-first t (verdict t) (λ v. v) (queryRefusal t 19 (rangesOk ranges)) (matches ranges) mark r a 10
           (next-row.asked-uncounted t 19 (rangesOk ranges) pass ok e)
 
-  -- questions 19 and 11 let a search through
+  -- Questions 19 and 11 let a search through.
   pub match-through : readable t ≡ 0 → rangesOk ranges ≡ true → isCounted t 10 ≡ true → queryRefusal t 19 (rangesOk ranges) ≡ 0
   match-through = next-row.asked-all t 19 (rangesOk ranges)
 
@@ -102,7 +101,7 @@ module _ (t ranges : List ℕ) where
   pub none-after : (mark m : ℕ) → MatchAnswer t ranges mark (Nothing m) → (mark ≤ m) × ((m ≡ mark) ⊎ (m ≤ maxRows t))
   none-after = next-row.none-after t (verdict t) (λ v. v) (queryRefusal t 19 (rangesOk ranges)) (matches ranges) counted-of
 
-  -- a refusal is a question's before the walk, or 14, on a tree that the check refuses
+  -- A refusal is a question's before the walk, or 14, on a tree that the check refuses.
   pub refusal-is : (mark n : ℕ) → MatchAnswer t ranges mark (Refused n) → (n ≡ queryRefusal t 19 (rangesOk ranges)) ⊎ ((n ≡ 14) × (verdict t ≡ 0 → ⊥))
   refusal-is = next-row.refusal-is t (verdict t) (λ v. v) (queryRefusal t 19 (rangesOk ranges)) (matches ranges)
 

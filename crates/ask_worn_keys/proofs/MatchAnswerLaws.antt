@@ -4,15 +4,14 @@ use mathlib.Core.Bool.{true, false}
 use mathlib.Core.Path.{_≡_}
 use Prim.Native.Nat.{ℕ}
 use native.Mathlib.Omega.{arith}
-use Rattle.format.specs.Verdict.{readable, verdict}
+use Rattle.format.specs.TreeReading.{readable, verdict}
 use Rattle.layout.specs.declared.header.HeaderRead.{HeaderRead}
 use Rattle.layout.specs.declared.header.HeaderRead.the-variants as read
 use Rattle.layout.specs.Header.{headerSays}
 use Rattle.keys.specs.Keys.{rangesOk, matches}
 use Rattle.query_row_filter.specs.declared.NextRowAnswer.{NextRowAnswer}
 use Rattle.query_row_filter.specs.declared.NextRowAnswer.the-variants.{Refused}
-use Rattle.query_row_filter.specs.AllowedOutcome.{newlineRefusal}
-use Rattle.query_row_filter.specs.AllowedAnswer.{AllowedAnswer}
+use Rattle.query_row_filter.specs.AllowedRows.{newlineRefusal, AllowedAnswer}
 use Rattle.query_row_filter.proofs.AllowedAnswerLaws.{ask-unread, ask-bad, ask-good}
 use Rattle.ask_worn_keys.specs.MatchAnswer.{MatchAnswer}
 

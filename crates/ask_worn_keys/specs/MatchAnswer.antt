@@ -1,18 +1,17 @@
 -- The answer of next_match by its refusal and row, and the mark that show moves (docs/FORMAT.md, "Keys").
 use mathlib.Core.List.{List}
 use Prim.Native.Nat.{ℕ}
-use Rattle.format.specs.Verdict.{verdict}
+use Rattle.format.specs.TreeReading.{verdict}
 use Rattle.row_filter.specs.SelectedRows.{NextRowOutcome}
 use Rattle.keys.specs.Keys.{rangesOk, matches}
 use Rattle.query_row_filter.specs.declared.NextRowAnswer.{NextRowAnswer}
-use Rattle.query_row_filter.specs.AllowedOutcome.{queryRefusal, AllowedOutcome}
-use Rattle.query_row_filter.specs.AllowedAnswer.{AllowedAnswer, MarkMoved}
+use Rattle.query_row_filter.specs.AllowedRows.{queryRefusal, AllowedOutcome, AllowedAnswer, MarkMoved}
 
--- as numbers
+-- As numbers.
 abbrev pub MatchSays : List ℕ → List ℕ → ℕ → NextRowOutcome → Type 0
 MatchSays t ranges mark s = AllowedOutcome t (verdict t) (queryRefusal t 19 (rangesOk ranges)) (matches ranges) mark s
 
--- as the call's enum
+-- As the call's enum.
 abbrev pub MatchAnswer : List ℕ → List ℕ → ℕ → NextRowAnswer → Type 0
 MatchAnswer t ranges mark r = AllowedAnswer t (verdict t) (queryRefusal t 19 (rangesOk ranges)) (matches ranges) mark r
 

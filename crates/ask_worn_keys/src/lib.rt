@@ -5,7 +5,7 @@ use layout::header;
 use layout::header::HeaderRead;
 use query_row_filter::NextRowAnswer;
 ghost use mathlib.Core.Path.{_≡_};
-ghost use Rattle.query_row_filter.specs.AllowedAnswer.{outcomeOf};
+ghost use Rattle.query_row_filter.specs.AllowedRows.{outcomeOf};
 ghost use Rattle.ask_worn_keys.specs.MatchAnswer.{MatchAnswer, Moved};
 
 // A mark: the number of the last row returned, 0 before the first row.

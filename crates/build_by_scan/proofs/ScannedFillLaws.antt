@@ -10,7 +10,7 @@ use lib.Dec.{eqb, ltb}
 use borrow.Author.Tests.{ltb-true, eqb-true}
 use Rattle.text.specs.ListLaws.{and-left, and-right}
 use Rattle.text.specs.Text.{leftmost}
-use Rattle.format.specs.Settings.{Settings, blockLength, pieces, maxText, maxLeaf, maxCounted}
+use Rattle.format.specs.Layout.{Settings, blockLength, pieces, maxText, maxLeaf, maxCounted}
 use Rattle.format.specs.Blocks.{recordBytes, startsAt, pairAt}
 use Rattle.theory_built.specs.BlockSizes.{Bounds, bounds, size-pos}
 use Rattle.theory_built.specs.Structure.{count, start, bytesIn, bytesIn-is}
@@ -56,7 +56,7 @@ module _ (seed : ℕ) (T out cs : List ℕ) (level : Level)
   on : On S T out level 0
   on = record { level-is = h; filled = r .filled; block-in = omega (arith, some-blocks) }
 
-  -- block x / 2 of item x
+  -- Block x / 2 of item x.
   pub half-in : (x : ℕ) → x < it .items → x / 2 < level .count
   half-in x xl = omega (arith, some-blocks)
 
@@ -94,7 +94,7 @@ module _ (seed : ℕ) (T out cs : List ℕ) (level : Level)
     );
   }
 
-  -- block i is item 2 i, the pair after it item 2 i + 1
+  -- Block i is item 2 i, the pair after it item 2 i + 1.
   module _ (i : ℕ) (il : i < count S T l) where
     block-item : 2 * i < it .items
     block-item = omega (arith, h .count-is)

@@ -4,18 +4,18 @@ use mathlib.Core.Path.{_≡_, refl, sym, ap, _∙_, subst}
 use Prim.Native.Nat.{ℕ, _+_, _-_, _*_, _≤_, _<_}
 use native.Mathlib.Omega.{arith}
 use lib.ListN.{length}
-use Rattle.text.specs.Lists.{sumBelow}
+use Rattle.text.specs.Text.{sumBelow}
 use Rattle.text.specs.ListLaws.{sumBelow-suc}
-use Rattle.format.specs.Settings.{maxText, pieces, maxLevels}
+use Rattle.format.specs.Layout.{maxText, pieces, maxLevels}
 use Rattle.layout.specs.declared.settings.Settings as code
 use Rattle.build_records.specs.declared.level_written.Level.{Level}
 use Rattle.build_records.specs.State.{settingsOf}
 use Rattle.build_records.proofs.Growth.{grown-none}
 use Rattle.build_levels.specs.Trees.{Ready}
 use Rattle.build_by_search.proofs.AllLevelsLaws.{Reached}
-use Rattle.build_by_scan.specs.ScannedSays.{windowsAt, windowsOf}
+use Rattle.build_by_scan.specs.ScanAnswers.{windowsAt, windowsOf}
 
--- before a level
+-- Before a level.
 pub record Along (first : code.Settings) (cs T out₀ words₀ out words : List ℕ) (level : Level) (windows : ℕ) : Type 0 where
   pub reached : Reached first cs T out₀ out level
   pub same-length : length words ≡ length words₀
@@ -56,7 +56,7 @@ module _ (first : code.Settings) (cs T out₀ words₀ : List ℕ) where
     windows-all e = a .windows-are
         ∙ ap (λ (k : ℕ). sumBelow k (windowsAt (settingsOf first cs) T)) (let q : level .number ≡ first .levels - 1 = omega arith in q)
 
--- the first level has the settings that were given
+-- The first level has the settings that were given.
 module _ (first : code.Settings) (cs T out₀ out : List ℕ) (level : Level) (r : Reached first cs T out₀ out level) where
   pub room-of : (n : ℕ) → 4 * pieces (length T) (first .leaf) ≤ n → 4 * pieces (length T) (level .settings .leaf) ≤ n
   room-of n room = subst (λ (s : code.Settings). 4 * pieces (length T) (s .leaf) ≤ n) (sym (r .same)) room

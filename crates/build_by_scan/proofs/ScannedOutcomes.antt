@@ -8,11 +8,10 @@ use lib.ListN.{length, drop, replicate}
 use lib.Seq.{drop-length}
 use lib.Dec.{leb, eqb}
 use borrow.Author.Tests.{le-leb, lt-leb}
-use Rattle.format.specs.Said.{replied}
-use Rattle.format.specs.Settings.{Settings, lengthOk, sizesOk, countedOk, given}
+use Rattle.format.specs.Answers.{replied, buildNumber, buildSize, buildLeaves}
+use Rattle.format.specs.Layout.{Settings, lengthOk, sizesOk, countedOk, given}
 use Rattle.format.specs.Blocks.{treeOf}
-use Rattle.format.specs.BuildSays.{buildNumber, buildSize, buildLeaves}
-use Rattle.format.specs.Verdict.{ask}
+use Rattle.format.specs.TreeReading.{ask}
 use Rattle.layout.specs.declared.settings.Settings as code
 use Rattle.layout.specs.declared.settings.Checked.{Checked}
 use Rattle.layout.specs.declared.settings.Checked.the-variants.{Fine, Refused}
@@ -25,10 +24,9 @@ use Rattle.build_levels.specs.Trees.{Finished}
 use Rattle.build_levels.proofs.WrittenTree.{finished-full, finished-whole}
 use Rattle.build_by_scan.specs.declared.Scanned.{Scanned}
 use Rattle.build_by_scan.specs.declared.Scanned.the-variants.{Size, Refused as Not}
-use Rattle.build_by_scan.specs.ScannedAnswer.{scannedReply}
-use Rattle.build_by_scan.specs.ScannedSays.{scanNumber, scanSize, scanWindows, scanLeaves, windowsOf, tableWords, TableLeft}
+use Rattle.build_by_scan.specs.ScanAnswers.{scannedReply, scanNumber, scanSize, scanWindows, scanLeaves, windowsOf, tableWords, TableLeft}
 
--- an answer, with what the buffer and the table hold afterwards
+-- An answer, with what the buffer and the table hold afterwards.
 pub record Said (S : Settings) (T out W : List ℕ) (r : Scanned) (new Z : List ℕ) : Type 0 where
   pub number : replied (scannedReply r) .number ≡ scanNumber S T out (length W)
   pub size : replied (scannedReply r) .value ≡ scanSize S T out (length W)
@@ -37,7 +35,7 @@ pub record Said (S : Settings) (T out W : List ℕ) (r : Scanned) (new Z : List 
   pub table : TableLeft (replied (scannedReply r) .number) W Z
 
 module _ (S : Settings) (T out W : List ℕ) where
-  -- refused before anything is written
+  -- Refused before anything is written.
   refused-by : (q : ℕ) → scanNumber S T out (length W) ≡ q → eqb q 0 ≡ false → eqb q 4 ≡ false → Said S T out W (Not q) out W
   unfolding scanSize scanWindows scanLeaves
   refused-by q e a b = record {
@@ -68,7 +66,7 @@ module _ (S : Settings) (T out W : List ℕ) where
     unfolding scanNumber
     refused-table l = refused-by 18 (rw (h .length-ok, h .sizes-ok, h .counted-ok, lt-leb (tableWords (length T) (S .leaf)) (length W) l)) refl refl
 
-    -- the table is long enough
+    -- The table is long enough.
     module _ (room : tableWords (length T) (S .leaf) ≤ length W) (Z : List ℕ) (same : length Z ≡ length W) where
       full : length out < length D → (new : List ℕ) → new ≡ replicate (length out) 0 → Said S T out W (Not 4) new Z
       unfolding scanNumber scanSize scanWindows scanLeaves
@@ -84,7 +82,7 @@ module _ (S : Settings) (T out W : List ℕ) where
           rw (h .length-ok, h .sizes-ok, h .counted-ok, le-leb (tableWords (length T) (S .leaf)) (length W) room, le-leb (length D) (length out) l) in
           record { number = sym n; size = rw n; windows = rw n ew; buffer = rw n e; table = record { same-length = same; untouched = λ f _. absurd (f refl) } }
 
-      -- what the writing of the tree came to
+      -- What the writing of the tree came to.
       module _ (new : List ℕ) (g : Grown D out new) (r : ℕ) (f : Finished D new r) where
         pub said-full : r ≡ 0 → (last : List ℕ) → last ≡ replicate (length new) 0 ++ drop (length new) new → Said S T out W (Not 4) last Z
         said-full z last e = full (finished-full S T h out new g r f z)
@@ -106,7 +104,7 @@ module _ (m r H : ℕ) (cs T out W : List ℕ) (ok : lengthOk (length T) ≡ tru
       go (inl (z, f)) = subst (λ (k : ℕ). Said S T out W (Not k) out W) (sym z) (refused-two S T out W ok f)
       go (inr (z, f, g)) = subst (λ (k : ℕ). Said S T out W (Not k) out W) (sym z) (refused-three S T out W ok f g)
 
-  -- the settings that the code holds are those given
+  -- The settings that the code holds are those given.
   module _ (s : code.Settings) (e : x ≡ Fine s) where
     same : settingsOf s cs ≡ S
     same = first.fine-is m r H cs T out ok x is s e .2

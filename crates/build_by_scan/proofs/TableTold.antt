@@ -9,8 +9,7 @@ use lib.ListN.{length}
 use borrow.Author.Tests.{lt-ltb, eq-eqb, ne-eqb}
 use Rattle.text.specs.ListLaws.{and-both}
 use Rattle.text.specs.Text.{leftmost}
-use Rattle.format.specs.Words.{wordAt}
-use Rattle.format.specs.Settings.{Settings, blockLength, pieces}
+use Rattle.format.specs.Layout.{wordAt, Settings, blockLength, pieces}
 use Rattle.format.specs.Blocks.{startsAt, pairAt}
 use Rattle.theory_built.specs.Structure.{count, start}
 use Rattle.build_records.specs.declared.level_written.Level.{Level}

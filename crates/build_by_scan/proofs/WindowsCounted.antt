@@ -9,10 +9,10 @@ use native.Mathlib.Decide.{ℕ-discrete}
 use lib.ListN.{length}
 use lib.Dec.{eqb}
 use borrow.Author.Tests.{lt-ltb, eq-eqb, ne-eqb, eqb-true}
-use Rattle.text.specs.Lists.{sumBelow}
+use Rattle.text.specs.Text.{sumBelow}
 use Rattle.text.specs.ListLaws.{bool-cases, bool-clash, and-left, and-right, and-both, or-cases, or-left, or-right, lt-or-ge, below-suc, sumBelow-ext}
 use Rattle.text.specs.ListLaws.{sumBelow-none}
-use Rattle.format.specs.Settings.{Settings, blockLength, maxText}
+use Rattle.format.specs.Layout.{Settings, blockLength, maxText}
 use Rattle.format.specs.Blocks.{recordBytes, startsAt, pairAt}
 use Rattle.theory_built.specs.Structure.{count, start, bytesIn}
 use Rattle.build_records.specs.declared.level_written.Level.{Level}
@@ -25,7 +25,7 @@ use Rattle.scan_entries.specs.Entries.{startAt, lengthAt}
 use Rattle.scan_passes.specs.declared.Lengths.{Lengths}
 use Rattle.scan_passes.specs.Passes.{Present, Ordered, Among, Has, Noted, Counted}
 use Rattle.scan_passes.proofs.ItemLengths.{length-low, length-high, length-most, next-in}
-use Rattle.build_by_scan.specs.ScannedSays.{anyBelow, hasLength, windowsAt}
+use Rattle.build_by_scan.specs.ScanAnswers.{anyBelow, hasLength, windowsAt}
 use Rattle.build_by_scan.specs.ItemTable.{itemsSay, pairBytes}
 use Rattle.build_by_scan.proofs.ScannedFillLaws as lev
 
@@ -182,7 +182,7 @@ module _ (seed : ℕ) (T out cs : List ℕ) (level : Level)
       go : (i : ℕ) × (i < count S T l) × (test n i ≡ true) → Has T out it (it .items) n
       go (i, il, t) = by i il (or-cases (eqb (bytesIn S T l i) n) (pairAt T (blockLength S l) (startsAt S T l) i && eqb (pairBytes S T l i) n) t)
 
-  -- the lengths noted
+  -- The lengths noted.
   module _ (g : Lengths) (s : Noted T out it (it .items) g) where
     abbrev n : ℕ
     n = length T

@@ -5,7 +5,7 @@ use mathlib.Core.Path.{_≡_}
 use Prim.Native.Nat.{ℕ, suc, _+_, _-_, _*_, _≤_, _<_, min}
 use lib.ListN.{length}
 use Rattle.text.specs.Text.{leftmost}
-use Rattle.format.specs.Settings.{Settings, blockLength, pieces}
+use Rattle.format.specs.Layout.{Settings, blockLength, pieces}
 use Rattle.format.specs.Blocks.{startsAt, pairAt}
 use Rattle.theory_built.specs.Structure.{count, start}
 use Rattle.theory_built.specs.BuiltTargets.{placeOf}

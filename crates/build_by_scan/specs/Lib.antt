@@ -1,4 +1,3 @@
-pub mod ScannedSays
-pub mod ScannedAnswer
+pub mod ScanAnswers
 pub mod ItemTable
 pub mod ScanExamples

@@ -3,14 +3,12 @@ use mathlib.Core.List.{List, [], _∷_}
 use mathlib.Core.Path.{_≡_, refl}
 use Prim.Native.Nat.{ℕ}
 use lib.ListN.{replicate}
-use Rattle.text.specs.Lists.{tabulate, concat, sumBelow, countBelow, sameList}
-use Rattle.text.specs.Text.{stretch, leftmost, firstFrom, countIn}
-use Rattle.format.specs.Words.{wordsBytes, wordBytes}
-use Rattle.format.specs.Settings.{Settings, blockLength, pieces, recordLength, lengthOk, sizesOk, countedOk, rising, risingAfter}
-use Rattle.format.specs.Edges.{edgesOf, filledOut}
+use Rattle.text.specs.Text.{tabulate, concat, sumBelow, countBelow, sameList, stretch, leftmost, firstFrom, countIn}
+use Rattle.format.specs.Layout.{wordsBytes, wordBytes, Settings, blockLength, pieces, recordLength, lengthOk, sizesOk, countedOk, rising, risingAfter}
+use Rattle.format.specs.Layout.{edgesOf, filledOut}
 use Rattle.format.specs.Blocks.{treeOf, header, leafBytes, levelPairs, recordBytes, levelBytes, recordIn, recordOf, target, occurrence, width, isKept}
 use Rattle.format.specs.Blocks.{startsAt, cut, keptByPairs, firstPairAt, pairAt, lengthOf, startOf}
-use Rattle.build_by_scan.specs.ScannedSays.{anyBelow, hasLength, windowsAt, windowsOf, tableWords, scanNumber, scanSize, scanWindows}
+use Rattle.build_by_scan.specs.ScanAnswers.{anyBelow, hasLength, windowsAt, windowsOf, tableWords, scanNumber, scanSize, scanWindows}
 
 book : List ℕ
 book = 81 ∷ 65 ∷ 66 ∷ 67 ∷ 68 ∷ 65 ∷ 66 ∷ 67 ∷ 68 ∷ 69 ∷ 70 ∷ 71 ∷ 65 ∷ 66 ∷ 67 ∷ 68 ∷ 65 ∷ 66 ∷ 67 ∷ 68 ∷ []
@@ -22,15 +20,15 @@ with-levels : ℕ → List ℕ → Settings
 with-levels H cs = record { leaf = 2; arity = 2; levels = H; counted = cs }
 
 pub record Scans : Type 0 where
-  -- lengths 4 and 8; lengths 4, 1, 8 and 5; one level; three levels, the first with lengths 8, 4, 16 and 12
+  -- Lengths 4 and 8; lengths 4, 1, 8 and 5; one level; three levels, the first with lengths 8, 4, 16 and 12.
   worked : windowsOf (with-levels 2 (65 ∷ [])) book ≡ 30
   short : windowsOf (with-levels 2 []) abcd ≡ 22
   alike : windowsOf (with-levels 2 []) (replicate 12 65) ≡ 14
   one-level : windowsOf (with-levels 1 []) book ≡ 0
   three-levels : windowsOf (with-levels 3 []) book ≡ 74
-  -- a text shorter than a leaf: four words
+  -- A text shorter than a leaf: four words.
   begun : (tableWords 2 2 ≡ 4) × (windowsOf (with-levels 3 []) (65 ∷ 66 ∷ []) ≡ 2)
-  -- a text of no bytes: no words, no windows
+  -- A text of no bytes: no words, no windows.
   no-text : (tableWords 0 2 ≡ 0) × (windowsOf (with-levels 3 []) [] ≡ 0) × (scanNumber (with-levels 3 []) [] (replicate 100 7) 0 ≡ 0)
   -- 40 words are required; 18 comes before 4, and 3 before 18.
   table-short : scanNumber (with-levels 2 (65 ∷ [])) book (replicate 531 7) 39 ≡ 18

@@ -8,12 +8,11 @@ use layout::settings::Checked;
 use layout::settings::Settings;
 ghost use mathlib.Core.Path.{_≡_};
 ghost use lib.ListN.{length};
-ghost use Rattle.format.specs.Said.{replied};
+ghost use Rattle.format.specs.Answers.{replied};
 ghost use Rattle.theory_built.specs.BlockSizes.{Taken};
-ghost use Rattle.format.specs.Settings.{given};
+ghost use Rattle.format.specs.Layout.{given};
 ghost use Rattle.build_records.specs.State.{settingsOf};
-ghost use Rattle.build_by_scan.specs.ScannedAnswer.{scannedReply};
-ghost use Rattle.build_by_scan.specs.ScannedSays.{tableWords, scanNumber, scanSize, scanWindows, scanLeaves, TableLeft};
+ghost use Rattle.build_by_scan.specs.ScanAnswers.{scannedReply, tableWords, scanNumber, scanSize, scanWindows, scanLeaves, TableLeft};
 
 // The number of words that the table must have for a text of n bytes.
 pub fn scan_words(n: u32, leaf: u32) -> u64

@@ -14,12 +14,12 @@ ghost use mathlib.Core.Path.{_≡_};
 ghost use Prim.Native.Nat.{_+_, _*_, _≤_, _<_};
 ghost use lib.ListN.{length};
 ghost use Rattle.format.specs.Blocks.{treeOf};
-ghost use Rattle.format.specs.Settings.{maxText, pieces};
+ghost use Rattle.format.specs.Layout.{maxText, pieces};
 ghost use Rattle.build_marking.specs.MarkingRule.{Next, pairOf};
 ghost use Rattle.build_records.specs.Grown.{Grown};
 ghost use Rattle.build_records.specs.State.{settingsOf, On, BlockIs};
 ghost use Rattle.build_levels.specs.Trees.{Ready, Written};
-ghost use Rattle.build_by_scan.specs.ScannedSays.{windowsAt};
+ghost use Rattle.build_by_scan.specs.ScanAnswers.{windowsAt};
 ghost use Rattle.build_by_scan.specs.ItemTable.{Told};
 
 // The number of blocks of the next level, and the number of windows looked up for this one.

@@ -9,12 +9,12 @@ ghost use mathlib.Core.Path.{_≡_};
 ghost use Prim.Native.Nat.{_+_, _*_, _≤_, _<_};
 ghost use lib.ListN.{length};
 ghost use Rattle.format.specs.Blocks.{treeOf};
-ghost use Rattle.format.specs.Settings.{pieces};
+ghost use Rattle.format.specs.Layout.{pieces};
 ghost use Rattle.theory_built.specs.BlockSizes.{Taken};
 ghost use Rattle.build_records.specs.Grown.{Grown};
 ghost use Rattle.build_records.specs.State.{settingsOf};
 ghost use Rattle.build_levels.specs.Trees.{Ready, Finished};
-ghost use Rattle.build_by_scan.specs.ScannedSays.{windowsOf};
+ghost use Rattle.build_by_scan.specs.ScanAnswers.{windowsOf};
 
 // The size of the tree, 0 if it does not fit, and the number of windows looked up.
 pub struct Wrote {

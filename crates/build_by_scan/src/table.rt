@@ -6,7 +6,7 @@ use scan_entries::Items;
 ghost use mathlib.Core.Path.{_≡_};
 ghost use Prim.Native.Nat.{_+_, _*_, _≤_};
 ghost use lib.ListN.{length};
-ghost use Rattle.format.specs.Settings.{maxText, pieces, maxLeaf, maxCounted};
+ghost use Rattle.format.specs.Layout.{maxText, pieces, maxLeaf, maxCounted};
 ghost use Rattle.format.specs.Blocks.{recordBytes};
 ghost use Rattle.build_records.specs.State.{settingsOf};
 ghost use Rattle.build_by_scan.specs.ItemTable.{itemsSay};

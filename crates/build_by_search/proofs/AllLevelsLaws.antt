@@ -14,13 +14,13 @@ use Rattle.build_levels.specs.declared.level_step.Step.{Step}
 use Rattle.build_levels.specs.declared.level_step.Step.the-variants.{To, Full}
 use Rattle.build_levels.specs.Trees.{Ready, StepIs, Finished}
 
--- before a level: it has the settings of the first, and the tree is written up to it
+-- Before a level: it has the settings of the first, and the tree is written up to it.
 pub record Reached (first : code.Settings) (cs T out₀ out : List ℕ) (level : Level) : Type 0 where
   pub same : level .settings ≡ first
   pub ready : Ready (settingsOf first cs) T out level
   pub grown : Grown (treeOf (settingsOf first cs) T) out₀ out
 
--- a step came to a level, or found no room for it
+-- A step came to a level, or found no room for it.
 module _ (first : code.Settings) (cs T out₀ new : List ℕ) (g : Grown (treeOf (settingsOf first cs) T) out₀ new) (number : ℕ) (x : Step)
     (is : StepIs (settingsOf first cs) T new first number x) where
   pub step-full : x ≡ Full → Finished (treeOf (settingsOf first cs) T) new 0

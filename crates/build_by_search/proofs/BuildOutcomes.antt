@@ -9,11 +9,10 @@ use lib.ListN.{length, drop, replicate}
 use lib.Seq.{drop-length}
 use lib.Dec.{eqb}
 use borrow.Author.Tests.{le-leb, lt-leb}
-use Rattle.format.specs.Said.{replied}
-use Rattle.format.specs.Settings.{Settings, lengthOk, sizesOk, countedOk, maxText, given}
+use Rattle.format.specs.Answers.{replied, buildNumber, buildSize, buildLeaves}
+use Rattle.format.specs.Layout.{Settings, lengthOk, sizesOk, countedOk, maxText, given}
 use Rattle.layout.specs.CheckedSettings.{sizes, checked}
 use Rattle.format.specs.Blocks.{treeOf}
-use Rattle.format.specs.BuildSays.{buildNumber, buildSize, buildLeaves}
 use Rattle.layout.specs.declared.settings.Settings as code
 use Rattle.layout.specs.declared.settings.Checked.{Checked}
 use Rattle.layout.specs.declared.settings.Checked.the-variants.{Fine, Refused}
@@ -26,14 +25,14 @@ use Rattle.build_records.specs.State.{settingsOf}
 use Rattle.build_levels.specs.Trees.{Finished}
 use Rattle.build_levels.proofs.WrittenTree.{finished-full, finished-whole}
 
--- an answer, with what the buffer holds afterwards
+-- An answer, with what the buffer holds afterwards.
 pub record Told (S : Settings) (T out : List ℕ) (r : Built) (new : List ℕ) : Type 0 where
   pub number : replied (builtReply r) .number ≡ buildNumber S T out
   pub size : replied (builtReply r) .value ≡ buildSize S T out
   pub buffer : new ≡ buildLeaves S T out
 
 module _ (S : Settings) (T out : List ℕ) where
-  -- refused before anything is written
+  -- Refused before anything is written.
   refused-by : (q : ℕ) → buildNumber S T out ≡ q → eqb q 0 ≡ false → eqb q 4 ≡ false → Told S T out (Not q) out
   unfolding buildSize buildLeaves
   refused-by q e a b = record { number = sym e; size = rw (e, a); buffer = rw (e, a, b) }
@@ -66,7 +65,7 @@ module _ (S : Settings) (T out : List ℕ) where
         let n : buildNumber S T out ≡ 0 = rw (h .length-ok, h .sizes-ok, h .counted-ok, le-leb (length D) (length out) l) in
         record { number = sym n; size = rw n; buffer = rw n e }
 
-    -- what the writing of the tree came to
+    -- What the writing of the tree came to.
     module _ (new : List ℕ) (g : Grown D out new) (r : ℕ) (f : Finished D new r) where
       pub told-full : r ≡ 0 → (last : List ℕ) → last ≡ replicate (length new) 0 ++ drop (length new) new → Told S T out (Not 4) last
       told-full z last e = full (finished-full S T h out new g r f z)
@@ -100,7 +99,7 @@ module _ (m r H : ℕ) (cs T out : List ℕ) (ok : lengthOk (length T) ≡ true)
     unfolding checked
     by-cases = is ∙ rw (a-is, b-is)
 
-  -- which question refuses the settings
+  -- Which question refuses the settings.
   pub refused-is : (q : ℕ) → x ≡ Refused q → ((q ≡ 2) × (sizesOk S ≡ false)) ⊎ ((q ≡ 3) × (sizesOk S ≡ true) × (countedOk cs ≡ false))
   refused-is q e = go (sizesOk (sizes m r H)) (countedOk cs) refl refl
     where

@@ -5,10 +5,9 @@ use mathlib.Core.Path.{_≡_, refl, sym, ap, _∙_}
 use Prim.Native.Nat.{ℕ, suc, _+_, _≤_, _<_}
 use native.Mathlib.Omega.{arith}
 use native.Mathlib.Numerals.{add-one}
-use Rattle.text.specs.Lists.{sumBelow}
+use Rattle.text.specs.Text.{sumBelow}
 use Rattle.text.specs.ListLaws.{sumBelow-suc}
-use Rattle.format.specs.Settings.{Settings, maxText}
-use Rattle.format.specs.HeaderPlaces.{countAt, headerLength}
+use Rattle.format.specs.Layout.{Settings, maxText, countAt, headerLength}
 use Rattle.format.specs.Blocks.{treeOf}
 use Rattle.theory_built.specs.Structure.{widthOf}
 use Rattle.theory_built.specs.BlockSizes.{Bounds, bounds}
@@ -26,7 +25,7 @@ use Rattle.build_marking.specs.declared.pair.Pair.the-variants.{Apart}
 use Rattle.build_marking.specs.MarkingRule.{keptBy, pairOf, pairBefore, Next}
 use Rattle.build_marking.proofs.PairLaws.{kept-rule}
 
--- the loop over the blocks of a level, before block i
+-- The loop over the blocks of a level, before block i.
 pub record Going (S : Settings) (T : List ℕ) (level : Level) (out₀ out : List ℕ) (left : Pair) (link i : ℕ) : Type 0 where
   pub within : i ≤ level .count
   pub grown : Grown (treeOf S T) out₀ out
@@ -82,7 +81,7 @@ module _ (S : Settings) (T : List ℕ) (level : Level) (h : LevelIs S T level) w
               link-is = link-next;
             }
 
-  -- all records of the level are written
+  -- All records of the level are written.
   module _ (out₀ out : List ℕ) (left : Pair) (link i : ℕ) (g : Going S T level out₀ out left link i) (end : level .count ≤ i) where
     last : i ≡ level .count
     last = omega (arith, g .within)

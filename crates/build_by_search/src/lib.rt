@@ -5,11 +5,10 @@ pub mod level_fill;
 use layout::settings::Checked;
 use layout::settings::Settings;
 ghost use mathlib.Core.Path.{_≡_};
-ghost use Rattle.format.specs.Said.{replied};
-ghost use Rattle.format.specs.BuildSays.{buildNumber, buildSize, buildLeaves};
+ghost use Rattle.format.specs.Answers.{replied, buildNumber, buildSize, buildLeaves};
 ghost use Rattle.theory_built.specs.BlockSizes.{Taken};
 ghost use Rattle.build_by_search.specs.BuildAnswer.{builtReply};
-ghost use Rattle.format.specs.Settings.{given};
+ghost use Rattle.format.specs.Layout.{given};
 ghost use Rattle.build_records.specs.State.{settingsOf};
 
 // The size of the tree, or the refusal.

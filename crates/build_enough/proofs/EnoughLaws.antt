@@ -7,15 +7,14 @@ use native.Mathlib.Omega.{arith}
 use native.Mathlib.Nat.{one-le-pow, mul-le-mul, mul-le-mul-left, pow-le-pow-right, le-trans, div-le-self}
 use lib.Dec.{leb}
 use borrow.Author.Tests.{le-leb, lt-leb}
-use Rattle.text.specs.Lists.{sumBelow}
+use Rattle.text.specs.Text.{sumBelow}
 use Rattle.text.specs.ListLaws.{sumBelow-suc}
-use Rattle.format.specs.Settings.{pieces, lengthOk, sizesOk, countedOk, rising, recordLength, maxText, maxLevels, maxCounted}
+use Rattle.format.specs.Layout.{pieces, lengthOk, sizesOk, countedOk, rising, recordLength, maxText, maxLevels, maxCounted, headerLength}
 use Rattle.layout.specs.CheckedSettings.{sizes, checked}
 use Rattle.format.specs.SizeLaws.{maxRecord, Sizes, within-bounds}
-use Rattle.format.specs.HeaderPlaces.{headerLength}
 use Rattle.format.specs.Blocks.{builtLayout}
-use Rattle.format.specs.Verdict.{ask}
-use Rattle.format.specs.Said.{unless}
+use Rattle.format.specs.TreeReading.{ask}
+use Rattle.format.specs.Answers.{unless}
 use Rattle.layout.specs.declared.settings.Settings as code
 use Rattle.layout.specs.declared.settings.Checked.{Checked}
 use Rattle.layout.specs.declared.settings.Checked.the-variants as checked-is
@@ -37,7 +36,7 @@ module _ (s : code.Settings) (z : Sized s 0) (low : 1 ≤ s .leaf) where
   block-few l = le-trans (mul-le-mul-left (s .leaf) (pow-le-pow-right {n = s .arity}
       (omega (arith, z .bounds .arity-low)) (let e : s .levels - 1 - l ≤ s .levels - 1 = omega arith in e))) (z .bounds .top-high)
 
-  -- the blocks of the first levels
+  -- The blocks of the first levels.
   abbrev pub upTo : ℕ → ℕ → ℕ
   upTo n l = sumBelow l (λ l. pieces n (s .leaf * s .arity ^ (s .levels - 1 - l)))
 
@@ -56,7 +55,7 @@ pub none-first : (f : ℕ → ℕ) → 0 ≡ sumBelow 0 f
 unfolding sumBelow
 none-first f = refl
 
--- the answers
+-- The answers.
 module _ (n m r H k : ℕ) where
   pub long : maxText < n → EnoughAnswer n m r H k (Refused 1)
   unfolding enoughSays enoughRefusal lengthOk
@@ -120,6 +119,6 @@ module _ (n m r H k : ℕ) where
           → (z : ℕ) → z ≡ recordLength builtLayout (s .leaf) k → EnoughAnswer n m r H k (Bytes (headerLength + n + z * sum))
       enough-is h sum e′ z ez = record { says = sym (said true (fine-is .0) ∙ rw (le-leb k maxCounted h, e′, ez, fine-is .1)); numbered = tt }
 
--- the records of all levels are few
+-- The records of all levels are few.
 pub bytes-few : (z sum : ℕ) → z ≤ maxRecord → sum ≤ maxLevels * (2 * maxText) → z * sum ≤ maxRecord * (maxLevels * (2 * maxText))
 bytes-few z sum h l = mul-le-mul h l

@@ -2,8 +2,8 @@
 use mathlib.Core.Path.{_≡_, refl}
 use Prim.Native.Nat.{ℕ, zero, suc, _-_, _≤_, _<_, min}
 use native.Mathlib.Omega.{arith}
-use Rattle.text.specs.Lists.{sumBelow}
-use Rattle.format.specs.Settings.{pieces}
+use Rattle.text.specs.Text.{sumBelow}
+use Rattle.format.specs.Layout.{pieces}
 use Rattle.theory_built.specs.LevelBlocks.{Level}
 use Rattle.theory_built.specs.Totals.{start-multiples}
 use Rattle.format.specs.PieceLaws.{lt-pieces}
@@ -14,7 +14,7 @@ sumBelow-mono zero f g h = omega arith
 sumBelow-mono (suc n) f g h = omega (arith, sumBelow-mono n f g (λ i l. h i (omega arith)), h n (omega arith))
 
 module _ (n b N : ℕ) (start : ℕ → ℕ) (lv : Level n b N start) where
-  -- no more blocks than cover the text
+  -- No more blocks than cover the text.
   pub blocks-few : N ≤ pieces n b
   blocks-few = go N refl
     where

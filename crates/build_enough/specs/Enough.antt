@@ -4,12 +4,11 @@
 use mathlib.Core.List.{[], _∷_}
 use Prim.Native.Nat.{ℕ, _+_, _-_, _*_, _^_}
 use lib.Dec.{leb}
-use Rattle.text.specs.Lists.{sumBelow}
-use Rattle.format.specs.Settings.{pieces, recordLength, lengthOk, sizesOk, maxCounted, given}
-use Rattle.format.specs.HeaderPlaces.{headerLength}
+use Rattle.text.specs.Text.{sumBelow}
+use Rattle.format.specs.Layout.{pieces, recordLength, lengthOk, sizesOk, maxCounted, given, headerLength}
 use Rattle.format.specs.Blocks.{builtLayout}
-use Rattle.format.specs.Verdict.{asks}
-use Rattle.format.specs.Said.{Said, unless, Reply, figures, refusal, Is}
+use Rattle.format.specs.TreeReading.{asks}
+use Rattle.format.specs.Answers.{Said, unless, Reply, figures, refusal, Is}
 use Rattle.build_enough.specs.declared.Room.{Room}
 use Rattle.build_enough.specs.declared.Room.the-variants.{Bytes, Refused}
 
@@ -29,7 +28,7 @@ enoughRefusal n m r H k = asks ((1, lengthOk n) ∷ (2, sizesOk (given m r H [])
 unfoldable pub enoughSays : ℕ → ℕ → ℕ → ℕ → ℕ → Said
 enoughSays n m r H k = unless (enoughRefusal n m r H k) (record { number = 0; value = enoughFor n m r H k; entered = 0 })
 
--- the answer by its number and size
+-- The answer by its number and size.
 abbrev pub enoughReply : Room → Reply
 enoughReply (Bytes n) = figures n 0
 enoughReply (Refused number) = refusal number

@@ -9,16 +9,14 @@ use native.Mathlib.Numerals.{add-one}
 use native.Mathlib.Nat.{mul-comm, mul-le-mul-right, le-trans}
 use lib.ListN.{length}
 use borrow.Author.Tests.{le-leb}
-use Rattle.text.specs.Lists.{sumBelow}
+use Rattle.text.specs.Text.{sumBelow}
 use Rattle.text.specs.ListLaws.{bool-cases, sumBelow-ext}
-use Rattle.format.specs.Settings.{Settings, blockLength, pieces, recordLength}
-use Rattle.format.specs.HeaderPlaces.{headerLength}
+use Rattle.format.specs.Layout.{Settings, blockLength, pieces, recordLength, headerLength}
 use Rattle.format.specs.Blocks.{treeOf, recordBytes, leafBytes, builtLayout}
 use Rattle.format.specs.SizeLaws.{record-most, record-edged}
-use Rattle.format.specs.BuildSays.{buildNumber}
+use Rattle.format.specs.Answers.{buildNumber}
 use Rattle.format.specs.Layout as at
-use Rattle.format.specs.Fits.{widthAt, linksOk}
-use Rattle.format.specs.Verdict.{readable}
+use Rattle.format.specs.TreeReading.{widthAt, linksOk, readable}
 use Rattle.format.specs.LayoutLaws.{Readable, readable-facts, full-step, full-pos}
 use Rattle.theory_built.specs.BlockSizes as built
 use Rattle.theory_built.specs.LevelBlocks.{Level, Cut, level-top, level-below}
@@ -31,7 +29,7 @@ use Rattle.theory_paths.specs.BlockStarts.{last-kept}
 use Rattle.build_enough.specs.Enough.{blocksAtMost, enoughFor}
 use Rattle.build_enough.specs.BlocksInOrder.{sumBelow-mono, blocks-few, bytes-few}
 
--- a table of x records and y leaf bytes
+-- A table of x records and y leaf bytes.
 together : (x z R y n : ℕ) → x ≤ z → y ≤ n → headerLength + x * R + y ≤ headerLength + n + R * z
 together x z R y n h k = omega (arith, mul-le-mul-right {m = x} {n = z} R h, mul-comm R z)
 

@@ -7,7 +7,7 @@ ghost use mathlib.Core.Path.{_≡_};
 ghost use Prim.Native.Nat.{_*_, _≤_};
 ghost use Rattle.layout.specs.SettingsLevel.{Sized};
 ghost use Rattle.build_enough.specs.Enough.{blocksAtMost, EnoughAnswer};
-ghost use Rattle.format.specs.Settings.{maxText, maxLevels};
+ghost use Rattle.format.specs.Layout.{maxText, maxLevels};
 
 const HEADER: u64 = header::HEADER_LENGTH as u64;
 

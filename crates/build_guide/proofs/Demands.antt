@@ -10,12 +10,11 @@ use denote.Ref.{RefT, now}
 use lib.ListN.{length, take, drop}
 use lib.Seq.{take-at}
 use Rattle.text.specs.ListLaws.{lt-or-ge, eq-sameList, ne-sameList}
-use Rattle.format.specs.Verdict.{verdict}
-use Rattle.format.specs.Said.{replied}
+use Rattle.format.specs.TreeReading.{verdict}
+use Rattle.format.specs.Answers.{replied}
 use Rattle.ask_guide.specs.declared.Size.{Size}
 use Rattle.ask_guide.specs.declared.Size.the-variants.{Words, Refused}
-use Rattle.ask_guide.specs.Guides.{guideWords, guideBytes}
-use Rattle.ask_guide.specs.GuideAnswers.{sizeReply}
+use Rattle.ask_guide.specs.Guides.{guideWords, guideBytes, sizeReply}
 use Rattle.ask_guide.proofs.GuideList.{guide-size, guide-verdict, guide-same}
 use Rattle.ask_guide.proofs.Demands.{words-is, refused-is}
 use Rattle.build_guide.proofs.GuideWrittenLaws as laws

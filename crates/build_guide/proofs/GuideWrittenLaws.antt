@@ -9,21 +9,18 @@ use lib.ListN.{length, getD, drop}
 use lib.Seq.{take-all}
 use lib.Dec.{leb}
 use borrow.Author.Tests.{eq-eqb, ne-eqb, le-leb, lt-leb}
-use Rattle.text.specs.Lists.{sameList, concat}
+use Rattle.text.specs.Text.{sameList, concat}
 use Rattle.text.specs.ListLaws.{bool-clash, lt-or-ge, eq-sameList, ne-sameList}
-use Rattle.format.specs.Words.{wordAt, wordsBytes, setWord}
+use Rattle.format.specs.Layout.{wordAt, wordsBytes, setWord, maxText}
 use Rattle.format.specs.WordLaws.{length-setWord}
-use Rattle.format.specs.Settings.{maxText}
 use Rattle.format.specs.Layout as at
-use Rattle.format.specs.Verdict.{ask, readable, verdict}
+use Rattle.format.specs.TreeReading.{ask, readable, verdict}
 use Rattle.format.specs.VerdictLaws.{accepted-readable}
-use Rattle.format.specs.Said.{refused}
+use Rattle.format.specs.Answers.{refused, total}
 use Rattle.format.specs.SaidLaws.{unless-refused}
-use Rattle.format.specs.FindSays.{total}
 use Rattle.ask_select.specs.Seeks.{LastBefore}
 use Rattle.ask_select.proofs.SeekLaws.{last-here}
-use Rattle.ask_guide.specs.Guides.{entriesOf, entriesBefore, guideWords, guideOf, guideBytes, guideNumber, makeNumber}
-use Rattle.ask_guide.specs.Guides.{makeSays, makeLeaves, listedEvery}
+use Rattle.ask_guide.specs.Guides.{entriesOf, entriesBefore, guideWords, guideOf, guideBytes, guideNumber, makeNumber, makeSays, makeLeaves, listedEvery}
 use Rattle.build_guide.specs.EntriesWritten.{written, Puts, Compared}
 use Rattle.build_guide.proofs.WordLists.{words-are, put-word}
 use Rattle.ask_guide.proofs.Holders.{total-few, block-in, first-low, block-is}
@@ -56,7 +53,7 @@ module _ (t : List ℕ) (c e : ℕ) (v : verdict t ≡ 0) (hc : c < at.countedCo
         block-is t v c hc (listedEvery * e + 1) (omega arith) rank block (last .high) here (last .next)
         ∙ sym (guide-entry t c e hc he) ∙ ap (λ (k : ℕ). getD (guideOf t) (k + e) 0) (sym p)
 
-    -- the next is looked for from there
+    -- The next is looked for from there.
     pub entry-next : (block < at.levelCount t 0) × (at.before t 0 block c < listedEvery * (e + 1) + 1)
     entry-next = (last .high, omega (arith, here))
 
@@ -97,7 +94,7 @@ module _ (t : List ℕ) where
     puts = λ old n e. q .puts old (p .same-length ∙ n) (p .puts old n e);
   }
 
-  -- all of them
+  -- All of them.
   written-none : (old : List ℕ) → old ≡ written t 0 old
   unfolding written wordsBytes concat
   written-none old = refl
@@ -106,7 +103,7 @@ module _ (t : List ℕ) where
   unfolding written guideBytes
   written-all old = rw (take-all (guideWords t) (guideOf t) (omega (arith, guide-length t)))
 
--- the ways out of making
+-- The ways out of making.
 module _ (t old : List ℕ) where
   module _ (v : verdict t ≡ 0) where
     number-by-room : (y : Bool) → leb (length (guideBytes t)) (length old) ≡ y → makeNumber t old ≡ ask 25 y 0
@@ -154,7 +151,7 @@ module _ (t guide : List ℕ) where
   pub wrong-entry : (from to : ℕ) (r : Bool) → Compared t guide from to r → r ≡ false → false ≡ sameList guide (guideBytes t)
   wrong-entry from to r c e = sym (ne-sameList guide (guideBytes t) (c .no e))
 
-  -- an entry other than the guide's
+  -- An entry other than the guide's.
   pub entry-wrong : verdict t ≡ 0 → (i w : ℕ) → i < length (guideOf t) → w ≡ getD (guideOf t) i 0 → (wordAt guide (4 * i) ≡ w → ⊥) → guide ≡ guideBytes t → ⊥
   entry-wrong v i w l is n e = n (ap (λ (g : List ℕ). wordAt g (4 * i)) e ∙ entry-word t v i l ∙ sym is)
 
@@ -165,7 +162,7 @@ module _ (t guide : List ℕ) where
       sym (eq-sameList guide (wordsBytes (guideOf t))
       (words-are (guideOf t) guide (size ∙ ap (λ (k : ℕ). 4 * k) (sym (guide-length t))) byte (λ i l. is i (omega (arith, guide-length t)))))
 
-  -- what is compared from one number on joins what was before it
+  -- What is compared from one number on joins what was before it.
   pub right-more : (from to : ℕ) (r : Bool) → ((i : ℕ) → i < from → wordAt guide (4 * i) ≡ getD (guideOf t) i 0) → Compared t guide from to r → r ≡ true
       → (i : ℕ) → i < to → wordAt guide (4 * i) ≡ getD (guideOf t) i 0
   right-more from to r before c e i l = go (lt-or-ge i from)
@@ -174,7 +171,7 @@ module _ (t guide : List ℕ) where
       go (inl m) = before i m
       go (inr m) = c .yes e i m l
 
-  -- a guide compared
+  -- A guide compared.
   pub compared : verdict t ≡ 0 → (r : Bool) → r ≡ sameList guide (guideBytes t) → ask 24 r 0 ≡ guideNumber t guide
   unfolding guideNumber
   compared v r e = rw (eq-eqb (verdict t) 0 v, e)
@@ -183,7 +180,7 @@ module _ (t guide : List ℕ) where
   unfolding guideNumber
   unchecked n e low = rw (← e, ne-eqb n 0 low)
 
--- the next entry compared
+-- The next entry compared.
 pub next-right : (t guide : List ℕ) (from e w : ℕ) → ((i : ℕ) → from ≤ i → i < from + e → wordAt guide (4 * i) ≡ getD (guideOf t) i 0)
     → wordAt guide (4 * (from + e)) ≡ w
     → w ≡ getD (guideOf t) (from + e) 0 → (i : ℕ) → from ≤ i → i < from + (e + 1) → wordAt guide (4 * i) ≡ getD (guideOf t) i 0
@@ -193,6 +190,6 @@ next-right t guide from e w before read is i low high = go (lt-or-ge i (from + e
     go (inl m) = before i low m
     go (inr m) = let q : from + e ≡ i = omega arith in rw q at (read ∙ is)
 
--- an accepted tree's header is not refused
+-- An accepted tree's header is not refused.
 pub not-refused : (t : List ℕ) (k : ℕ) → verdict t ≡ 0 → readable t ≡ suc k → ⊥
 not-refused t k v e = let q : readable t ≡ 0 = accepted-readable t v in omega (arith, e, q)

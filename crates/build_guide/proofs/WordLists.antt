@@ -6,11 +6,11 @@ use native.Mathlib.Omega.{arith}
 use native.Mathlib.Numerals.{add-one}
 use lib.ListN.{length, getD, take, drop, length-append, length-drop}
 use lib.Seq.{length-take-le, take-suc, take-at, drop-append-add, drop-drop, getD-append-add}
-use Rattle.text.specs.Lists.{concat}
-use Rattle.format.specs.Words.{wordAt, wordBytes, wordsBytes, setWord}
+use Rattle.text.specs.Text.{concat}
+use Rattle.format.specs.Layout.{wordAt, wordBytes, wordsBytes, setWord}
 use Rattle.format.specs.WordLaws.{length-words, setWord-eq, wordAt-append}
 
--- bytes that read as the words ws are their bytes
+-- Bytes that read as the words ws are their bytes.
 pub words-are : (ws g : List ℕ)
     → length g ≡ 4 * length ws → ((k : ℕ) → getD g k 0 < 256) → ((i : ℕ) → i < length ws → wordAt g (4 * i) ≡ getD ws i 0) → g ≡ wordsBytes ws
 unfolding wordsBytes wordBytes concat wordAt
@@ -47,7 +47,7 @@ unfolding wordsBytes concat
 words-snoc [] w = append-nil (wordBytes w)
 words-snoc (x ∷ xs) w = ap (λ (l : List ℕ). wordBytes x ++ l) (words-snoc xs w) ∙ sym (append-assoc (wordBytes x) (wordsBytes xs) (wordBytes w))
 
--- the next word written after the first e of them
+-- The next word written after the first e of them.
 pub put-word : (ws old : List ℕ) (e : ℕ) → e < length ws → 4 * e + 4 ≤ length old
     → setWord (wordsBytes (take e ws) ++ drop (4 * e) old) (4 * e) (getD ws e 0) ≡ wordsBytes (take (e + 1) ws) ++ drop (4 * (e + 1)) old
 put-word ws old e l fits =

@@ -4,10 +4,10 @@ use mathlib.Core.Bool.{Bool, true, false}
 use mathlib.Core.Path.{_≡_}
 use Prim.Native.Nat.{ℕ, _*_, _≤_, _<_}
 use lib.ListN.{length, getD, take, drop}
-use Rattle.format.specs.Words.{wordAt, wordsBytes}
+use Rattle.format.specs.Layout.{wordAt, wordsBytes}
 use Rattle.ask_guide.specs.Guides.{guideOf, guideBytes}
 
--- a table with the first e entries written
+-- A table with the first e entries written.
 unfoldable pub written : List ℕ → ℕ → List ℕ → List ℕ
 written t e old = wordsBytes (take e (guideOf t)) ++ drop (4 * e) old
 

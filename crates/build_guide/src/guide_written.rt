@@ -10,12 +10,11 @@ use layout::word;
 ghost use mathlib.Core.Path.{_≡_};
 ghost use Prim.Native.Nat.{_+_, _*_, _≤_, _<_};
 ghost use lib.ListN.{length};
-ghost use Rattle.format.specs.Said.{NeverZero, replied};
+ghost use Rattle.format.specs.Answers.{NeverZero, replied};
 ghost use Rattle.format.specs.Layout as at;
-ghost use Rattle.format.specs.Verdict.{verdict};
+ghost use Rattle.format.specs.TreeReading.{verdict};
 ghost use Rattle.layout.specs.HeaderSays.{HeaderOf};
-ghost use Rattle.ask_guide.specs.Guides.{entriesOf, entriesBefore, guideWords, makeSays, makeLeaves};
-ghost use Rattle.ask_guide.specs.GuideAnswers.{sizeReply};
+ghost use Rattle.ask_guide.specs.Guides.{entriesOf, entriesBefore, guideWords, makeSays, makeLeaves, sizeReply};
 ghost use Rattle.build_guide.specs.EntriesWritten.{Puts};
 
 // Writes the entries of a counted byte; `place` is the number of entries of the counted bytes before it.

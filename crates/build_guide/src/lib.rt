@@ -4,9 +4,8 @@ mod guide_written;
 
 use ask_guide::Size;
 ghost use mathlib.Core.Path.{_≡_};
-ghost use Rattle.format.specs.Said.{NeverZero, replied};
-ghost use Rattle.ask_guide.specs.Guides.{guideNumber, makeSays, makeLeaves};
-ghost use Rattle.ask_guide.specs.GuideAnswers.{sizeReply};
+ghost use Rattle.format.specs.Answers.{NeverZero, replied};
+ghost use Rattle.ask_guide.specs.Guides.{guideNumber, makeSays, makeLeaves, sizeReply};
 
 // Writes the guide of a tree to the start of a table: questions 5 to 9 of the tree, then 25. Refused, the table is unchanged.
 pub fn make_guide(t: &[u8], table: &mut [u8]) -> Size

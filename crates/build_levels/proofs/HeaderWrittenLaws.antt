@@ -6,10 +6,9 @@ use native.Mathlib.Omega.{arith}
 use native.Mathlib.Numerals.{add-one}
 use lib.ListN.{length, getD, set, replicate, getD-replicate, List·getD-append}
 use lib.Seq.{getD-append-add}
-use Rattle.format.specs.Words.{setWord}
+use Rattle.format.specs.Layout.{setWord, Settings, maxLevels, maxCounted}
 use Rattle.format.specs.WordLaws.{putThree}
-use Rattle.format.specs.Settings.{Settings, maxLevels, maxCounted}
-use Rattle.format.specs.HeaderPlaces.{layoutAt, arityAt, countedAt, pairsAt, countAt, offsetAt, leafOffsetAt, leafCountAt, headerLength}
+use Rattle.format.specs.Layout.{layoutAt, arityAt, countedAt, pairsAt, countAt, offsetAt, leafOffsetAt, leafCountAt, headerLength}
 use Rattle.format.specs.Blocks.{treeOf, leafBytes, builtLayout}
 use Rattle.theory_built.specs.BuiltBytes.{Stands, six-stands, counted-stands, level-stands}
 use Rattle.theory_built.specs.BlockSizes.{Taken, Bounds, bounds}
@@ -59,7 +58,7 @@ module _ (D t : List ℕ) (x a b : ℕ)
       (within-part D (pairWritten t x a b) (offsetAt x) (offsetAt x + 4) (offsetAt x) (countAt (x + 1))
       (word-within D (setWord t (countAt x) a) (offsetAt x) b (omega (arith, first .same-length)) s′) (omega arith) (omega arith))
 
--- one unused level more
+-- One unused level more.
 pub unused-more : (t u v : List ℕ) (H n : ℕ) → u ≡ unusedWritten t H n → v ≡ pairWritten u (H + n) 0 0 → v ≡ unusedWritten t H (n + 1)
 unused-more t u v H n e f = f ∙ rw (e, add-one n)
 
@@ -73,7 +72,7 @@ module _ (S : Settings) (T : List ℕ) (h : Taken S T) where
   long : headerLength ≤ length D
   long = omega (arith, tree-length S T h, offset-low S T (S .levels))
 
-  -- the header up to the levels' words
+  -- The header up to the levels' words.
   module _ (t u v w : List ℕ) (fits : headerLength ≤ length t) (u-is : u ≡ putThree t layoutAt builtLayout (length T) (S .leaf))
       (v-is : v ≡ putThree u arityAt (S .arity) (S .levels) (length (S .counted)))
       (w-is : w ≡ bytesWritten v countedAt (places (S .counted)) 0 maxCounted) where
@@ -121,7 +120,7 @@ module _ (S : Settings) (T : List ℕ) (h : Taken S T) where
         within-join D w 0 arityAt pairsAt (within-grown D u w 0 arityAt (grown-then D u v w g2 g3) w1)
         (within-join D w arityAt countedAt pairsAt (within-grown D v w arityAt countedAt g3 w2) w3)
 
-  -- the words of a level, and of one that is not there
+  -- The words of a level, and of one that is not there.
   count-stands : (l : ℕ) → l < S .levels → Stands D (countAt l) (count S T l)
   count-stands l e =
       let place : pairsAt + 4 * (2 * l) ≡ countAt l = omega arith in
@@ -229,7 +228,7 @@ module _ (S : Settings) (T : List ℕ) (h : Taken S T) where
           (within-join D u (countAt (S .levels)) leafOffsetAt headerLength (within-grown D a u (countAt (S .levels)) leafOffsetAt (grown-then D a b u gb gu) wa)
           (within-join D u leafOffsetAt leafCountAt headerLength (within-grown D b u leafOffsetAt leafCountAt gu wb) wu))
 
--- one place for a counted byte more
+-- One place for a counted byte more.
 pub places-more : (t u P : List ℕ) (x b : ℕ)
     → u ≡ bytesWritten t countedAt P 0 x → b ≡ getD P x 0 → set u (countedAt + x) b ≡ bytesWritten t countedAt P 0 (x + 1)
 places-more t u P x b e f =

@@ -4,10 +4,9 @@ use mathlib.Core.Path.{_≡_, sym, ap, _∙_}
 use Prim.Native.Nat.{ℕ, suc, _+_, _≤_, _<_}
 use native.Mathlib.Omega.{arith}
 use lib.ListN.{length, getD}
-use Rattle.text.specs.Lists.{sumBelow}
+use Rattle.text.specs.Text.{sumBelow}
 use Rattle.text.specs.ListLaws.{sumBelow-suc, sumBelow-part}
-use Rattle.format.specs.Settings.{Settings}
-use Rattle.format.specs.HeaderPlaces.{headerLength}
+use Rattle.format.specs.Layout.{Settings, headerLength}
 use Rattle.format.specs.Blocks.{treeOf}
 use Rattle.theory_built.specs.BlockSizes.{Taken, maxTree}
 use Rattle.theory_built.specs.Structure.{count, widthOf}
@@ -38,7 +37,7 @@ module _ (S : Settings) (T out : List ℕ) (level : Level) (to i : ℕ) (w : Lea
   l-in : l < S .levels
   l-in = w .level-is .number-in
 
-  -- the records end where the leaf bytes begin
+  -- The records end where the leaf bytes begin.
   end : offset S T (suc l) ≤ to
   end = omega (arith, w .to-is, ap (offset S T) (w .last))
 
@@ -79,7 +78,7 @@ module _ (S : Settings) (T out : List ℕ) (level : Level) (to i : ℕ) (w : Lea
         pub leaf-within : Within D new to (to + len)
         leaf-within = rw new-is (bytes-within D out T to s len leaf-fits in-tree bytes-are)
 
-    -- the next block
+    -- The next block.
     module _ (new : List ℕ) (len : ℕ) (len-is : len ≡ widthOf S T l i) (g : Grown D out new) (here : Within D new to (to + len)) where
       pub leafing-more : Leafing S T new level (to + len) (i + 1)
       leafing-more = record {
@@ -101,7 +100,7 @@ module _ (S : Settings) (T out : List ℕ) (level : Level) (to i : ℕ) (w : Lea
         tree-small S T taken,
       )
 
-  -- all leaf bytes are written
+  -- All leaf bytes are written.
   pub leafing-all : i ≡ level .count → Within D out headerLength (length D)
   leafing-all e =
       let all : to ≡ length D = w .to-is ∙ sym (tree-length S T taken ∙ ap (λ (x : ℕ). offset S T (S .levels) + x)

@@ -6,10 +6,8 @@ use Prim.Native.Nat.{ℕ, suc, _+_, _-_, _/_, _≤_, _<_}
 use native.Mathlib.Omega.{arith}
 use native.Mathlib.Numerals.{add-one}
 use lib.ListN.{length}
-use Rattle.text.specs.Lists.{sumBelow}
-use Rattle.format.specs.Words.{setWord}
-use Rattle.format.specs.Settings.{Settings, blockLength, maxLevels}
-use Rattle.format.specs.HeaderPlaces.{countAt, leafOffsetAt, leafCountAt, headerLength}
+use Rattle.text.specs.Text.{sumBelow}
+use Rattle.format.specs.Layout.{setWord, Settings, blockLength, maxLevels, countAt, leafOffsetAt, leafCountAt, headerLength}
 use Rattle.format.specs.Blocks.{treeOf, leafBytes}
 use Rattle.theory_built.specs.BlockSizes.{Taken, Bounds, bounds, size-pos, size-falls, maxTable, maxTree}
 use Rattle.theory_built.specs.Structure.{count, widthOf, count-below}
@@ -50,7 +48,7 @@ pub pair-asks : (S : Settings) (T out : List ℕ) (level : Level) (total : ℕ)
 pair-asks S T out level total r =
     (omega (arith, r .room, offset-low S T (suc (level .number))), omega (arith, r .level-is .number-in, bounds S T (r .level-is .taken) .levels-high))
 
--- the records of a level are written, and its words in the header
+-- The records of a level are written, and its words in the header.
 module _ (T cs : List ℕ) (level : Level) (out two : List ℕ) (total : ℕ) (r : Written (settingsOf (level .settings) cs) T out level total)
     (two-is : two ≡ pairWritten out (level .number) (level .count) (level .table)) where
   abbrev S : Settings
@@ -74,7 +72,7 @@ module _ (T cs : List ℕ) (level : Level) (out two : List ℕ) (total : ℕ) (r
   table-end : recordPlace (level .table) (level .count) (settingsOf (level .settings) cs) ≡ offset S T (suc l)
   table-end = place-is S T level h (level .count) ∙ ap (placeAt S T l) (h .count-is) ∙ place-end S T l
 
-  -- the level's records end where the leaf bytes or the next level begin, which is a word
+  -- The level's records end where the leaf bytes or the next level begin, which is a word.
   pub table-small : recordPlace (level .table) (level .count) (settingsOf (level .settings) cs) ≤ maxTable
   table-small = rw table-end (offset-le S T taken (suc l) (omega (arith, h .number-in)))
 
@@ -96,7 +94,7 @@ module _ (T cs : List ℕ) (level : Level) (out two : List ℕ) (total : ℕ) (r
   pub room-two : headerLength ≤ length two
   room-two = omega (arith, room-out, pair-grown .same-length)
 
-  -- above the last level
+  -- Above the last level.
   module _ (up : l + 1 < S .levels) where
     up′ : suc l < S .levels
     up′ = omega arith
@@ -165,7 +163,7 @@ module _ (T cs : List ℕ) (level : Level) (out two : List ℕ) (total : ℕ) (r
       pub step-to : (new : List ℕ) → Grown D two new → Filled S T new (suc l) 0 → StepIs S T new (level .settings) (l + 1) (To n)
       step-to new more filled = rw n-is (step-ready S T new (level .settings) (l + 1) next (refl, refl, ready-next new more filled))
 
-  -- on the last level
+  -- On the last level.
   module _ (last : l + 1 ≡ S .levels) where
     last′ : suc l ≡ S .levels
     last′ = sym (add-one l) ∙ last

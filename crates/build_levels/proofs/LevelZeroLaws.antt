@@ -5,10 +5,9 @@ use Prim.Native.Nat.{ℕ, _+_, _-_, _*_, _/_, _^_, _≤_, _<_}
 use native.Mathlib.Omega.{arith}
 use native.Mathlib.Nat.{mul-div-right, one-le-pow, mul-le-mul}
 use lib.ListN.{length}
-use Rattle.text.specs.Lists.{sumBelow}
-use Rattle.format.specs.Settings.{Settings, blockLength, pieces, maxText}
+use Rattle.text.specs.Text.{sumBelow}
+use Rattle.format.specs.Layout.{Settings, blockLength, pieces, maxText, pairsAt, countAt, headerLength}
 use Rattle.format.specs.SizeLaws.{sizes-alone}
-use Rattle.format.specs.HeaderPlaces.{pairsAt, countAt, headerLength}
 use Rattle.format.specs.Blocks.{treeOf, recordBytes}
 use Rattle.layout.specs.declared.settings.Settings as code
 use Rattle.layout.specs.SettingsLevel.{Sized}
@@ -28,7 +27,7 @@ use Rattle.build_records.proofs.BelowLaws.{pieces-most}
 use Rattle.build_records.proofs.WrittenStartsLaws.{starts-grown, starts-within}
 use Rattle.build_records.proofs.StateLaws.{record-size, place-is, place-end, record-inside-table, table-inside, offset-low, size-high, start-stands, Few, few}
 
--- a step that came to a level, and one that found no room for it
+-- A step that came to a level, and one that found no room for it.
 module _ (S : Settings) (T out : List ℕ) (s : code.Settings) (number : ℕ) where
   pub step-ready : (n : Level) → (n .settings ≡ s) × (n .number ≡ number) × Ready S T out n → StepIs S T out s number (To n)
   step-ready n p = record {
@@ -97,7 +96,7 @@ pub first-made : (s : code.Settings) (n b p : ℕ) → b ≡ s .leaf * s .arity 
     → record { settings = s; number = 0; above = 1; size = b; below = b / s .arity; count = p; table = headerLength } ≡ firstOf s n
 first-made s n b p e f = rw (f, e)
 
--- the level that the code makes, and what is written
+-- The level that the code makes, and what is written.
 module _ (s : code.Settings) (cs T : List ℕ) (h : Taken (settingsOf s cs) T) (first : Level) (first-eq : first ≡ firstOf s (length T)) where
   abbrev S : Settings
   S = settingsOf s cs

@@ -2,9 +2,7 @@
 use mathlib.Core.List.{List, _++_}
 use Prim.Native.Nat.{ℕ, zero, suc, _+_, _-_}
 use lib.ListN.{length, replicate}
-use Rattle.format.specs.Words.{setWord}
-use Rattle.format.specs.Settings.{maxCounted}
-use Rattle.format.specs.HeaderPlaces.{countAt, offsetAt}
+use Rattle.format.specs.Layout.{setWord, maxCounted, countAt, offsetAt}
 
 -- The places for counted bytes.
 abbrev pub places : List ℕ → List ℕ

@@ -3,9 +3,8 @@ use mathlib.Core.List.{List}
 use mathlib.Core.Path.{_≡_}
 use Prim.Native.Nat.{ℕ, suc, _+_, _≤_}
 use lib.ListN.{length}
-use Rattle.text.specs.Lists.{sumBelow}
-use Rattle.format.specs.Settings.{Settings}
-use Rattle.format.specs.HeaderPlaces.{headerLength}
+use Rattle.text.specs.Text.{sumBelow}
+use Rattle.format.specs.Layout.{Settings, headerLength}
 use Rattle.format.specs.Blocks.{treeOf}
 use Rattle.theory_built.specs.Structure.{widthOf}
 use Rattle.theory_built.specs.Pairs.{offset}

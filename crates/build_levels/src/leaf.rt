@@ -5,7 +5,7 @@ use layout::place::BlockNumber;
 ghost use mathlib.Core.Path.{_≡_};
 ghost use Prim.Native.Nat.{_+_, _<_};
 ghost use lib.ListN.{length};
-ghost use Rattle.format.specs.HeaderPlaces.{headerLength};
+ghost use Rattle.format.specs.Layout.{headerLength};
 ghost use Rattle.format.specs.Blocks.{treeOf};
 ghost use Rattle.theory_built.specs.Structure.{widthOf};
 ghost use Rattle.build_records.specs.Grown.{Grown, Within};

@@ -12,7 +12,7 @@ use layout::settings::Settings;
 ghost use mathlib.Core.Path.{_≡_};
 ghost use Prim.Native.Nat.{_+_, _≤_, _<_};
 ghost use lib.ListN.{length};
-ghost use Rattle.format.specs.Settings.{maxText, maxLeaf, maxLevels, maxCounted};
+ghost use Rattle.format.specs.Layout.{maxText, maxLeaf, maxLevels, maxCounted};
 ghost use Rattle.format.specs.Blocks.{treeOf};
 ghost use Rattle.theory_built.specs.BlockSizes.{Taken, maxTable};
 ghost use Rattle.layout.specs.SettingsLevel.{Sized};

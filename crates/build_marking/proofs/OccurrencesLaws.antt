@@ -7,7 +7,7 @@ use lib.ListN.{length}
 use borrow.Author.Tests.{le-leb}
 use Rattle.text.specs.Text.{leftmost}
 use Rattle.text.specs.declared.TextPlace.{TextPlace}
-use Rattle.format.specs.Settings.{Settings}
+use Rattle.format.specs.Layout.{Settings}
 use Rattle.search.specs.declared.Occurrence.{Occurrence}
 use Rattle.search.specs.declared.Occurrence.the-variants.{At, Outside}
 use Rattle.search.specs.Occurrences.{leftmostSays}

@@ -10,8 +10,7 @@ use lib.Dec.{eqb, ltb}
 use borrow.Author.Tests.{ltb-true, ltb-false, eq-eqb, ne-eqb, le-leb, lt-ltb, le-ltb}
 use Rattle.text.specs.Text.{leftmost}
 use Rattle.text.specs.TextLaws.{leftmost-le}
-use Rattle.format.specs.Words.{wordAt}
-use Rattle.format.specs.Settings.{Settings, blockLength}
+use Rattle.format.specs.Layout.{wordAt, Settings, blockLength}
 use Rattle.format.specs.Blocks.{startsAt, pairAt, firstPairAt, keptByPairs, isKept}
 use Rattle.search.specs.Occurrences.{earlierSays}
 use Rattle.theory_built.specs.Structure.{count, start, keptAt}
@@ -97,7 +96,7 @@ module _ (S : Settings) (T out : List ℕ) (level : Level) (i : ℕ) (w : On S T
         go : (y : Bool) → cond y First Again ≡ cond y First Again
         go y = refl
 
--- the rule, over its tests
+-- The rule, over its tests.
 kept-by : (f p f′ p′ : Bool) → ((f || f′) || (not p && not p′)) ≡ keptBy (pairBy f p) (pairBy f′ p′)
 kept-by true p f′ p′ = refl
 kept-by false true true p′ = refl

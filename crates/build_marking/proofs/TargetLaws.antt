@@ -7,10 +7,9 @@ use native.Mathlib.Omega.{arith}
 use lib.ListN.{length}
 use lib.Dec.{leb}
 use borrow.Author.Tests.{le-leb, lt-leb, ne-eqb}
-use Rattle.text.specs.Lists.{sumBelow}
+use Rattle.text.specs.Text.{sumBelow}
 use Rattle.text.specs.CountLaws.{count-none}
-use Rattle.format.specs.Words.{wordAt}
-use Rattle.format.specs.Settings.{Settings, blockLength}
+use Rattle.format.specs.Layout.{wordAt, Settings, blockLength}
 use Rattle.format.specs.Blocks.{target}
 use Rattle.theory_built.specs.Descent.{countBelow-upto}
 use Rattle.theory_built.specs.LevelBlocks.{Level as InOrder, start-le}
@@ -62,7 +61,7 @@ module _ (S : Settings) (T out : List ℕ) (level : Level) (i : ℕ) (w : On S T
   parent-by zero s above = refl
   parent-by (suc n) s above = rw (ne-eqb (suc n) 0 (λ e. omega arith), above n refl)
 
-  -- the block as the code reads it
+  -- The block as the code reads it.
   module _ (own : Stretch) (own-is : StretchIs S T l i own) (up : ℕ) (up-is : up ≡ parentSays (level .number) (level .above) (own .start .0)) where
     up-right : up ≡ parentOf S T l (start S T l i)
     up-right = up-is ∙ parent-by l (own .start .0) (lev .above-is) ∙ ap (parentOf S T l) (own-is .start-is)
@@ -89,7 +88,7 @@ module _ (S : Settings) (T out : List ℕ) (level : Level) (i : ℕ) (w : On S T
       skip-in = omega arith;
     }
 
-  -- the block points
+  -- The block points.
   module _ (points : keptAt S T l i ≡ false) (p : ℕ) (p-right : p ≡ placeOf S T l i) where
     to : PointsTo S T l i (targetOf S T l i)
     to = points-to S T (lev .taken) l i (points-above S T l i (lev .number-in) points) i-in points

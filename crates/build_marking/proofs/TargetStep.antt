@@ -5,7 +5,7 @@ use mathlib.Core.Logic.{_⊎_, inl, inr}
 use Prim.Native.Nat.{ℕ, _+_, _-_, _/_, _≤_, _<_}
 use native.Mathlib.Omega.{arith}
 use Rattle.text.specs.ListLaws.{lt-or-ge}
-use Rattle.format.specs.Settings.{Settings}
+use Rattle.format.specs.Layout.{Settings}
 use Rattle.build_marking.specs.TargetSearch.{Sorted, Between, startIn}
 
 module _ (out : List ℕ) (table count : ℕ) (S : Settings) (sorted : Sorted out table count S) (p low high middle s : ℕ)
@@ -20,11 +20,11 @@ module _ (out : List ℕ) (table count : ℕ) (S : Settings) (sorted : Sorted ou
   pub upper-half : s ≤ p → Between out table count S p middle high
   upper-half q = record { some-left = h; within = b .within; from = omega (arith, is); after = b .after }
 
--- the middle lies between
+-- The middle lies between.
 pub middle-in : (low high : ℕ) → low + 1 < high → (low < low + (high - low) / 2) × (low + (high - low) / 2 < high)
 middle-in low high k = (omega arith, omega arith)
 
--- a range of one block
+-- A range of one block.
 pub one-left : (out : List ℕ) (table count : ℕ) (S : Settings) (p low high : ℕ) → Between out table count S p low high → high ≤ low + 1
     → Between out table count S p low (low + 1)
 one-left out table count S p low high b k = let e : high ≡ low + 1 = omega (arith, b .some-left) in rw e at b

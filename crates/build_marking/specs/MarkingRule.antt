@@ -4,9 +4,8 @@ use mathlib.Core.Bool.{Bool, true, false, cond}
 use mathlib.Core.Path.{_≡_}
 use Prim.Native.Nat.{ℕ, zero, suc}
 use lib.Dec.{eqb}
-use Rattle.text.specs.Lists.{sumBelow}
-use Rattle.text.specs.Text.{leftmost}
-use Rattle.format.specs.Settings.{Settings, blockLength}
+use Rattle.text.specs.Text.{sumBelow, leftmost}
+use Rattle.format.specs.Layout.{Settings, blockLength}
 use Rattle.format.specs.Blocks.{startsAt, pairAt, firstPairAt}
 use Rattle.theory_built.specs.Structure.{keptAt, widthOf}
 use Rattle.build_records.specs.declared.level_written.Level.{Level}

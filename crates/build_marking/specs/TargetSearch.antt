@@ -5,8 +5,7 @@ use Prim.Native.Nat.{ℕ, _+_, _*_, _/_, _≤_, _<_}
 use lib.Dec.{eqb}
 use lib.ListN.{length}
 use Rattle.theory_built.specs.BlockSizes.{maxTable}
-use Rattle.format.specs.Settings.{Settings, maxText, maxLeaf, maxCounted}
-use Rattle.format.specs.Words.{wordAt}
+use Rattle.format.specs.Layout.{Settings, maxText, maxLeaf, maxCounted, wordAt}
 use Rattle.build_records.specs.RecordPlaces.{recordPlace}
 
 -- The start of the parent of a block that starts at s, if the blocks of the level above have `above` bytes.

@@ -9,7 +9,7 @@ ghost use Prim.Native.Nat.{_+_, _-_, _≤_, min};
 ghost use lib.ListN.{length};
 ghost use Rattle.build_records.specs.State.{settingsOf, On};
 ghost use Rattle.build_marking.specs.MarkingRule.{keptBy, pairSays, pairOf};
-ghost use Rattle.format.specs.Settings.{maxText};
+ghost use Rattle.format.specs.Layout.{maxText};
 
 // A block and the next one: no pair; a pair whose bytes occur first here; a pair whose bytes occur earlier.
 pub enum Pair {

@@ -9,7 +9,7 @@ use layout::place::TextPlace;
 ghost use mathlib.Core.Bool.{true, false};
 ghost use mathlib.Core.Path.{_≡_};
 ghost use Prim.Native.Nat.{_+_, _-_, _<_};
-ghost use Rattle.text.specs.Lists.{sumBelow};
+ghost use Rattle.text.specs.Text.{sumBelow};
 ghost use Rattle.theory_built.specs.Structure.{keptAt, widthOf};
 ghost use Rattle.theory_built.specs.BuiltTargets.{placeOf};
 ghost use Rattle.build_records.specs.State.{settingsOf, On, BlockIs};

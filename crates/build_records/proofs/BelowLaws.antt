@@ -7,13 +7,10 @@ use Prim.Native.Nat.{ℕ, suc, _+_, _-_, _*_, _≤_, _<_}
 use native.Mathlib.Omega.{arith}
 use native.Mathlib.Nat.{add-mul, div-mul-le-self}
 use lib.ListN.{length}
-use Rattle.text.specs.Lists.{sumBelow}
+use Rattle.text.specs.Text.{sumBelow}
 use Rattle.text.specs.ListLaws.{lt-or-ge, sumBelow-suc, sumBelow-part}
-use Rattle.format.specs.Words.{wordAt}
-use Rattle.format.specs.RecordFields.{kindField, linkField, plainBytes}
-use Rattle.format.specs.Settings.{Settings, blockLength, pieces, maxText}
+use Rattle.format.specs.Layout.{wordAt, kindField, linkField, plainBytes, Settings, blockLength, pieces, maxText, headerLength}
 use Rattle.format.specs.SizeLaws.{maxRecord}
-use Rattle.format.specs.HeaderPlaces.{headerLength}
 use Rattle.format.specs.Blocks.{treeOf, recordBytes}
 use Rattle.theory_built.specs.BuiltBytes.{Stands}
 use Rattle.theory_built.specs.BuiltLinks.{link-kept}
@@ -36,7 +33,7 @@ use Rattle.build_records.proofs.StateLaws.{record-size, place-is, place
 use Rattle.build_records.proofs.StateLaws.{offset-rises, size-high, start-stands, kind-stands, link-stands}
 use Rattle.build_records.proofs.Widths.{kept-by-kind, points-by-kind}
 
--- no more blocks than bytes, and one more block's
+-- No more blocks than bytes, and one more block's.
 pub pieces-most : (x b : ℕ) → pieces x b * b ≤ x + (b - 1)
 unfolding pieces
 pieces-most x b = div-mul-le-self (x + (b - 1)) b
@@ -70,7 +67,7 @@ module _ (S : Settings) (T out : List ℕ) (level next : Level) (i : ℕ) (w : B
   ends : P + recordBytes S ≤ offset S T (suc l)
   ends = record-inside-table S T l i i-in
 
-  -- the records of the level are written
+  -- The records of the level are written.
   pub children-on : On S T out level i
   children-on = on-written S T out level i lev (omega (arith, offset-rises S T (suc l) (suc (suc l)) (omega arith), w .room)) (w .body) il
 
@@ -98,7 +95,7 @@ module _ (S : Settings) (T out : List ℕ) (level next : Level) (i : ℕ) (w : B
         (omega (arith, link-le S T (lev .taken) l (lev .number-in) i i-in, limits .text-high))
 
     module _ (kind : ℕ) (kind-is : kind ≡ wordAt out (at + 4 * kindField)) where
-      -- a pointing block has no children
+      -- A pointing block has no children.
       pub no-children : (kind ≡ 0 → ⊥) → Started S T out (suc l) 0 (sumBelow (i + 1) (widthOf S T l))
       no-children n =
           let e : sumBelow (i + 1) (widthOf S T l) ≡ sum =

@@ -6,8 +6,7 @@ use native.Mathlib.Omega.{arith}
 use native.Mathlib.Nat.{add-assoc}
 use native.Mathlib.Numerals.{add-one}
 use lib.ListN.{length, getD}
-use Rattle.format.specs.RecordFields.{plainBytes, countedBytes, fieldBytes}
-use Rattle.format.specs.Settings.{Settings}
+use Rattle.format.specs.Layout.{plainBytes, countedBytes, fieldBytes, Settings}
 use Rattle.format.specs.Blocks.{treeOf}
 use Rattle.format.specs.EdgeLaws.{first-own, first-none, last-own, last-none}
 use Rattle.theory_built.specs.Structure.{count, start, bytesIn}
@@ -28,7 +27,7 @@ pub edge-then : (t u v T : List ℕ) (at from own m : ℕ) → u ≡ bytesWritte
     → v ≡ edgeWritten t at T from own m
 edge-then t u v T at from own m e f = f ∙ ap (λ (x : List ℕ). bytesWritten x (at + own) [] 0 (m - own)) e
 
--- an edge that D has at that place
+-- An edge that D has at that place.
 module _ (D t T : List ℕ) (at from own m : ℕ) (few : own ≤ m) (fits : at + m ≤ length t) (inside : at + m ≤ length D)
     (bytes : (j : ℕ) → j < own → getD D (at + j) 0 ≡ getD T (from + j) 0) (zeros : (j : ℕ) → own ≤ j → j < m → getD D (at + j) 0 ≡ 0) where
   half : List ℕ
@@ -69,7 +68,7 @@ module _ (S : Settings) (T out : List ℕ) (level : Level) (i : ℕ) (block : Bl
   abbrev m : ℕ
   m = S .leaf
 
-  -- where the edges begin
+  -- Where the edges begin.
   abbrev A : ℕ
   A = placeAt S T l i + plainBytes + countedBytes * length (S .counted)
 

@@ -8,7 +8,7 @@ use lib.ListN.{length, getD, set, take, drop, length-append, length-set, List·g
 use lib.Seq.{getD-append-add, length-take-le, getD-set-same, getD-set-other}
 use native.Mathlib.Decide.{ℕ-discrete}
 use Rattle.text.specs.ListLaws.{lt-or-ge, below-suc}
-use Rattle.format.specs.Words.{wordAt, wordBytes, setWord}
+use Rattle.format.specs.Layout.{wordAt, wordBytes, setWord}
 use Rattle.format.specs.WordLaws.{putThree, length-setWord, getD-setWord-other, setWord-eq}
 use Rattle.theory_built.specs.BuiltBytes.{Stands, stands-word}
 use Rattle.stretches.specs.Stretches.{bytesWritten}
@@ -18,7 +18,7 @@ length-wordBytes : (v : ℕ) → length (wordBytes v) ≡ 4
 unfolding wordBytes
 length-wordBytes v = refl
 
--- the bytes of a word that was written
+-- The bytes of a word that was written.
 written-stands : (t : List ℕ) (i v : ℕ) → i + 4 ≤ length t → Stands (setWord t i v) i v
 written-stands t i v fits r l =
     let head : length (take i t) ≡ i = length-take-le i t (omega arith) in
@@ -31,7 +31,7 @@ written-stands t i v fits r l =
 within-word : (D t : List ℕ) (i v : ℕ) → Within D t i (i + 4) → Stands D i v → Stands t i v
 within-word D t i v w s r l = w .right (i + r) (omega arith) (omega arith) ∙ s r l
 
--- a word of the tree, read from a buffer that has it
+-- A word of the tree, read from a buffer that has it.
 pub read-right : (D t : List ℕ) (i v : ℕ) → Within D t i (i + 4) → Stands D i v → v < 4294967296 → wordAt t i ≡ v
 read-right D t i v w s small = stands-word t i v (within-word D t i v w s) small
 

@@ -5,8 +5,7 @@ use Prim.Native.Nat.{ℕ, _+_, _*_, _≤_}
 use native.Mathlib.Omega.{arith}
 use native.Mathlib.Nat.{mul-le-mul}
 use lib.ListN.{length}
-use Rattle.format.specs.RecordFields.{plainBytes, fieldBytes}
-use Rattle.format.specs.Settings.{maxText, maxLeaf, maxCounted}
+use Rattle.format.specs.Layout.{plainBytes, fieldBytes, maxText, maxLeaf, maxCounted}
 use Rattle.format.specs.SizeLaws.{maxRecord, record-edged}
 use Rattle.format.specs.Blocks.{recordBytes, builtLayout}
 use Rattle.layout.specs.declared.settings.Settings as code
@@ -15,7 +14,7 @@ use Rattle.build_records.specs.State.{settingsOf}
 pub records-end : (block size : ℕ) → block ≤ maxText → size ≤ maxRecord → block * size ≤ maxRecord * maxText
 records-end block size b few = mul-le-mul b few
 
--- the length of a record
+-- The length of a record.
 pub size-is : (s : code.Settings) (cs : List ℕ) → length cs ≤ maxCounted → s .leaf ≤ maxLeaf
     → (fieldBytes (length cs) + (s .leaf + s .leaf) ≡ recordBytes (settingsOf s cs)) × (plainBytes ≤ fieldBytes (length cs) + (s .leaf + s .leaf))
     × (fieldBytes (length cs) + (s .leaf + s .leaf) ≤ maxRecord)

@@ -4,10 +4,9 @@ use mathlib.Core.Path.{_≡_, refl, sym, ap, _∙_}
 use Prim.Native.Nat.{ℕ, zero, suc, _+_, _-_, _*_, _≤_, _<_}
 use native.Mathlib.Omega.{arith}
 use native.Mathlib.Nat.{suc-mul, div-mul-le-self}
-use Rattle.text.specs.Lists.{sumBelow}
-use Rattle.text.specs.Text.{stretch, countIn}
+use Rattle.text.specs.Text.{sumBelow, stretch, countIn}
 use Rattle.text.specs.CountLaws.{count-add}
-use Rattle.format.specs.Settings.{Settings}
+use Rattle.format.specs.Layout.{Settings}
 use Rattle.theory_built.specs.BlockSizes.{Taken}
 use Rattle.theory_built.specs.Structure.{size, count, start, bytesIn, widthOf, bytesIn-is, level-at, start-top, start-below}
 use Rattle.theory_built.specs.Parents.{parent, parent-start}
@@ -64,7 +63,7 @@ module _ (S : Settings) (T : List ℕ) (h : Taken S T) where
       let p = parent S T h l e i il in
       below-left l i e il other (p .part) (p .place) (p .part-lt) (p .place-lt) (p .is)
 
-  -- the count before a block is that before its left neighbour and in it
+  -- The count before a block is that before its left neighbour and in it.
   pub before-left : (l i j c : ℕ) → l < S .levels → i < count S T l → LeftOf S T l i j → beforeOf S T l i c ≡ beforeOf S T l j c + insideOf S T l j c
   unfolding beforeOf insideOf
   before-left l i j c e il left =

@@ -10,11 +10,8 @@ use lib.Dec.{eqb}
 use borrow.Author.Tests.{eqb-true, eqb-false}
 use Rattle.text.specs.ListLaws.{bool-cases}
 use Rattle.text.specs.Text.{stretch, countIn}
-use Rattle.format.specs.Words.{wordAt}
+use Rattle.format.specs.Layout.{wordAt, kindField, plainBytes, countedBytes, Settings, headerLength}
 use Rattle.format.specs.WordLaws.{putThree}
-use Rattle.format.specs.RecordFields.{kindField, plainBytes, countedBytes}
-use Rattle.format.specs.Settings.{Settings}
-use Rattle.format.specs.HeaderPlaces.{headerLength}
 use Rattle.format.specs.Blocks.{treeOf, recordBytes}
 use Rattle.theory_built.specs.BlockSizes.{Taken, Bounds, bounds}
 use Rattle.theory_built.specs.Structure.{count}
@@ -32,7 +29,7 @@ use Rattle.build_records.proofs.Neighbours.{LeftOf, left-of, before-lef
 use Rattle.build_records.proofs.StateLaws.{record-size, place-is, place-next, record-inside-table, offset-low, table-inside, kind-stands}
 use Rattle.build_records.proofs.StateLaws.{link-stands, gap-stands, before-stands, inside-stands, skip-stands}
 
--- the places written so far, and those of one more counted byte
+-- The places written so far, and those of one more counted byte.
 pub one-more : (D t u : List ℕ) (p c : ℕ) → Within D t p (p + countedBytes * c)
     → Grown D t u → Within D u (p + countedBytes * c) (p + countedBytes * c + countedBytes) → Within D u p (p + countedBytes * (c + 1))
 one-more D t u p c h g new =
@@ -73,7 +70,7 @@ module _ (S : Settings) (T out : List ℕ) (level : Level) (i : ℕ) (block : Bl
   pub inside-text : block .start .0 + block .length ≤ length T
   inside-text = rw (w .block-is .start-is, w .block-is .length-is) (bytes-fit S T taken l i l-in i-in)
 
-  -- the counts of counted byte number c
+  -- The counts of counted byte number c.
   module _ (at c size : ℕ) (at-is : at ≡ recordPlace (level .table) i (settingsOf (level .settings) (S .counted)))
       (size-is : size ≡ recordBytes S) (cl : c < length (S .counted)) where
     abbrev x : ℕ
@@ -148,7 +145,7 @@ module _ (S : Settings) (T out : List ℕ) (level : Level) (i : ℕ) (block : Bl
     pub count-fits : P + plainBytes + countedBytes * c + countedBytes ≤ length out
     count-fits = omega (arith, record-size S T, record-fits)
 
-    -- the three counts are written
+    -- The three counts are written.
     module _ (new : List ℕ) (b : ℕ) (b-is : b ≡ beforeSays out left (block .start .0) (block .parent .0))
         (new-is : new ≡ putThree out (at + plainBytes + countedBytes * c)
         b (countIn x (stretch T (block .start .0) (block .length))) (countIn x (stretch T (block .from .0) (block .gap .0)))) where
@@ -175,7 +172,7 @@ module _ (S : Settings) (T out : List ℕ) (level : Level) (i : ℕ) (block : Bl
   counted-all new c a b h = within-part D new (P + plainBytes)
       (P + plainBytes + countedBytes * c) (P + plainBytes) (P + plainBytes + countedBytes * length (S .counted)) h (omega arith) (omega arith)
 
-  -- kind, link and gap are written
+  -- Kind, link and gap are written.
   module _ (new : List ℕ) (at : ℕ) (at-is : at ≡ recordPlace (level .table) i (settingsOf (level .settings) (S .counted)))
       (new-is : new ≡ putThree out (at + 4 * kindField) (block .kind) (block .link .0) (block .gap .0)) where
     fields-are : new ≡ putThree out (P + 4 * kindField) (kindOf S T l i) (linkOf S T l i) (gapOf S T l i)
@@ -198,7 +195,7 @@ module _ (S : Settings) (T out : List ℕ) (level : Level) (i : ℕ) (block : Bl
         (rw fields-are (three-within D out (P + 4 * kindField) (kindOf S T l i) (linkOf S T l i) (gapOf S T l i) fits inside
         (kind-stands S T taken l i l-in i-in) (link-stands S T taken l i l-in i-in) (gap-stands S T taken l i l-in i-in))) (omega arith) (omega arith)
 
-    -- with the counts and the edges the record is complete
+    -- With the counts and the edges the record is complete.
     pub record-done : (third last : List ℕ)
         → Grown D new third → Within D third (P + plainBytes) (P + plainBytes + countedBytes * length (S .counted)) → Grown D third last
         → Within D last (P + plainBytes + countedBytes * length (S .counted)) (placeAt S T l (i + 1)) → Within D last headerLength (placeAt S T l (i + 1))

@@ -2,7 +2,7 @@
 use mathlib.Core.List.{List}
 use mathlib.Core.Path.{_≡_}
 use Prim.Native.Nat.{ℕ, _+_}
-use Rattle.format.specs.Words.{wordAt}
+use Rattle.format.specs.Layout.{wordAt}
 use Rattle.format.specs.WordLaws.{putThree}
 
 pub count-written : (t u : List ℕ) (at a b c x y : ℕ) → b ≡ x → c ≡ y → u ≡ putThree t at a b c → u ≡ putThree t at a x y

@@ -4,9 +4,7 @@ use mathlib.Core.Path.{_≡_, sym, _∙_}
 use Prim.Native.Nat.{ℕ, suc, _+_, _-_, _≤_, _<_, min}
 use native.Mathlib.Omega.{arith}
 use lib.ListN.{length}
-use Rattle.format.specs.Words.{wordAt}
-use Rattle.format.specs.Settings.{Settings}
-use Rattle.format.specs.HeaderPlaces.{headerLength}
+use Rattle.format.specs.Layout.{wordAt, Settings, headerLength}
 use Rattle.format.specs.Blocks.{treeOf}
 use Rattle.text.specs.declared.TextPlace.{TextPlace}
 use Rattle.theory_built.specs.BuiltLeaves.{bytes-fit}
@@ -27,7 +25,7 @@ module _ (S : Settings) (T out : List ℕ) (level : Level) (i : ℕ) (w : On S T
   abbrev lev : LevelIs S T level
   lev = w .level-is
 
-  -- the start of any block of the level
+  -- The start of any block of the level.
   module _ (x : ℕ) (xl : x < level .count) where
     x-in : x < count S T l
     x-in = omega (arith, lev .count-is)
@@ -46,7 +44,7 @@ module _ (S : Settings) (T out : List ℕ) (level : Level) (i : ℕ) (w : On S T
     pub start-in : start S T l x < length T
     start-in = level-at S T (lev .taken) l (lev .number-in) .within x x-in
 
-  -- the bytes of block i
+  -- The bytes of block i.
   module _ (s : TextPlace) (s-is : s .0 ≡ wordAt out (recordPlace (level .table) i (settingsOf (level .settings) (S .counted)))) where
     s-right : s .0 ≡ start S T l i
     s-right = s-is ∙ start-read i (w .block-in)
@@ -60,7 +58,7 @@ module _ (S : Settings) (T out : List ℕ) (level : Level) (i : ℕ) (w : On S T
           fits = omega (arith, s-right, e, bytes-fit S T (lev .taken) l i (lev .number-in) (omega (arith, w .block-in, lev .count-is)));
         }
 
--- a block of a level whose records are all written
+-- A block of a level whose records are all written.
 pub on-written : (S : Settings) (T out : List ℕ) (level : Level) (i : ℕ) → LevelIs S T level → offset S T (suc (level .number)) ≤ length out
     → Within (treeOf S T) out headerLength (offset S T (suc (level .number))) → i < level .count → On S T out level i
 on-written S T out level i h room body il = record {

@@ -5,11 +5,9 @@ use Prim.Native.Nat.{ℕ, suc, _+_, _-_, _*_, _^_, _≤_, _<_}
 use native.Mathlib.Omega.{arith}
 use native.Mathlib.Nat.{suc-mul, add-mul, mul-le-mul-right}
 use lib.ListN.{length, getD}
-use Rattle.text.specs.Lists.{sumBelow}
-use Rattle.format.specs.RecordFields.{startField, kindField, linkField, gapField, plainWords, plainBytes, fieldBytes}
-use Rattle.format.specs.RecordFields.{beforeField, insideField, skipField, countedBytes}
-use Rattle.format.specs.Settings.{Settings, blockLength, maxText, maxLeaf, maxCounted}
-use Rattle.format.specs.HeaderPlaces.{headerLength}
+use Rattle.text.specs.Text.{sumBelow}
+use Rattle.format.specs.Layout.{startField, kindField, linkField, gapField, plainWords, plainBytes, fieldBytes}
+use Rattle.format.specs.Layout.{beforeField, insideField, skipField, countedBytes, Settings, blockLength, maxText, maxLeaf, maxCounted, headerLength}
 use Rattle.format.specs.SizeLaws.{length-top, length-falls, record-edged}
 use Rattle.format.specs.Blocks.{treeOf, recordBytes, builtLayout}
 use Rattle.theory_built.specs.BuiltBytes.{Stands, record-stands}
@@ -91,7 +89,7 @@ module _ (S : Settings) (T : List ℕ) where
           let p : placeAt S T l i + 4 * gapField ≡ placeAt S T l i + 4 * kindField + 8 = omega arith in
           rw (record-gap S T l i, p) at (record-stands S T h l i gapField e il (omega (arith, four)))
 
-      -- the counts of counted byte number c
+      -- The counts of counted byte number c.
       module _ (c : ℕ) (cl : c < length (S .counted)) where
         six : skipField c < recordWords S T
         unfolding recordWords
@@ -112,7 +110,7 @@ module _ (S : Settings) (T : List ℕ) where
             let p : placeAt S T l i + 4 * skipField c ≡ placeAt S T l i + plainBytes + countedBytes * c + 8 = omega arith in
             rw (record-skip S T l i c cl, p) at (record-stands S T h l i (skipField c) e il six)
 
--- block lengths are at most the longest text
+-- Block lengths are at most the longest text.
 module _ (S : Settings) (T : List ℕ) (h : Taken S T) where
   pub block-high : S .leaf * S .arity ^ (S .levels - 1) ≤ maxText
   block-high = bounds S T h .top-high
@@ -120,7 +118,7 @@ module _ (S : Settings) (T : List ℕ) (h : Taken S T) where
   pub size-high : (l : ℕ) → blockLength S l ≤ maxText
   size-high l = omega (arith, length-falls S (bounds S T h) 0 l (omega arith), length-top S, block-high)
 
--- the numbers of a level are small
+-- The numbers of a level are small.
 pub record Few (S : Settings) (T : List ℕ) (level : Level) : Type 0 where
   pub counted-few : length (S .counted) ≤ maxCounted
   pub text-few : length T ≤ maxText
@@ -139,13 +137,13 @@ few S T level h = record {
   size-few = rw (h .size-is) (size-high S T (h .taken) (level .number));
 }
 
--- where the code finds the record of a block
+-- Where the code finds the record of a block.
 pub place-is : (S : Settings) (T : List ℕ) (level : Level)
     → LevelIs S T level → (i : ℕ) → recordPlace (level .table) i (settingsOf (level .settings) (S .counted)) ≡ placeAt S T (level .number) i
 unfolding recordBytes
 place-is S T level h i = rw (h .table-is, h .leaf-is)
 
--- a state goes on as the buffer grows
+-- A state goes on as the buffer grows.
 pub filled-grown : (S : Settings) (T t u : List ℕ) (l i : ℕ) → Filled S T t l i → Grown (treeOf S T) t u → Filled S T u l i
 filled-grown S T t u l i f g = record {
   room = omega (arith, f .room, g .same-length);

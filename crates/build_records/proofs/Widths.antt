@@ -7,7 +7,7 @@ use Prim.Native.Nat.{ℕ, suc, _+_, _≤_, _<_}
 use native.Mathlib.Omega.{arith}
 use native.Mathlib.Numerals.{add-one}
 use Rattle.text.specs.ListLaws.{lt-or-ge, bool-cases, bool-clash}
-use Rattle.format.specs.Settings.{Settings, pieces, maxText, maxLevels}
+use Rattle.format.specs.Layout.{Settings, pieces, maxText, maxLevels}
 use Rattle.theory_built.specs.BuiltLeaves.{bytes-fit, kept-last, width-last}
 use Rattle.theory_built.specs.BuiltLinks.{kind-points}
 use Rattle.theory_built.specs.BuiltRecords.{kindOf}
@@ -18,7 +18,7 @@ use Rattle.build_records.specs.declared.record_written.Block.{Block}
 use Rattle.build_records.specs.State.{LevelIs, Writing}
 use Rattle.build_records.proofs.StateLaws.{size-high}
 
--- a block is kept if its kind is 0, and points if not
+-- A block is kept if its kind is 0, and points if not.
 module _ (S : Settings) (T : List ℕ) (l i kind : ℕ) (kind-is : kind ≡ kindOf S T l i) where
   pub kept-by-kind : kind ≡ 0 → keptAt S T l i ≡ true
   kept-by-kind e = go (bool-cases (keptAt S T l i))
@@ -67,7 +67,7 @@ module _ (S : Settings) (T out : List ℕ) (level : Level) (i : ℕ) (block : Bl
   pub leaves-below : l + 1 ≡ S .levels → block .length ≡ widthOf S T l i
   leaves-below e = w .block-is .length-is ∙ sym (width-last S T l i (sym (add-one l) ∙ e))
 
-  -- above the last level
+  -- Above the last level.
   module _ (n : l + 1 ≡ S .levels → ⊥) where
     up : suc l < S .levels
     up = go (lt-or-ge (suc l) (S .levels))

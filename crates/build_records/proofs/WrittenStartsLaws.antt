@@ -8,20 +8,19 @@ use native.Mathlib.Numerals.{add-one}
 use native.Mathlib.Nat.{suc-mul, mul-le-mul-right, mul-le-mul}
 use lib.ListN.{length}
 use Rattle.text.specs.ListLaws.{below-suc}
-use Rattle.format.specs.Settings.{maxText}
+use Rattle.format.specs.Layout.{maxText, setWord}
 use Rattle.format.specs.SizeLaws.{maxRecord}
-use Rattle.format.specs.Words.{setWord}
 use Rattle.theory_built.specs.BuiltBytes.{Stands}
 use Rattle.build_records.specs.Grown.{Grown, Within}
 use Rattle.build_records.specs.WrittenStarts.{startsWritten}
 use Rattle.build_records.proofs.Growth.{grown-none, grown-then, within-grown, word-grown, word-within}
 
--- one start more
+-- One start more.
 pub starts-more : (t u v : List ℕ) (at step s b j : ℕ) → u ≡ startsWritten t at step s b j → v ≡ setWord u (at + j * step) (s + j * b)
     → v ≡ startsWritten t at step s b (j + 1)
 starts-more t u v at step s b j e f = f ∙ rw (e, add-one j)
 
--- a place of the list, and a start, before the end
+-- A place of the list, and a start, before the end.
 pub part-below : (j n x : ℕ) → j < n → j * x + x ≤ n * x
 part-below j n x l = omega (arith, suc-mul j x, mul-le-mul-right {m = suc j} {n = n} x l)
 

@@ -3,7 +3,7 @@ use mathlib.Core.List.{List, []}
 use mathlib.Core.Bool.{cond}
 use Prim.Native.Nat.{ℕ, _+_, _-_}
 use lib.Dec.{eqb}
-use Rattle.format.specs.Words.{wordAt}
+use Rattle.format.specs.Layout.{wordAt}
 use Rattle.stretches.specs.Stretches.{bytesWritten}
 
 -- An edge of m bytes at a place: some bytes of T, then zeros.

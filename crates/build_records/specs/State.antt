@@ -3,10 +3,8 @@ use mathlib.Core.List.{List}
 use mathlib.Core.Path.{_≡_}
 use Prim.Native.Nat.{ℕ, suc, _+_, _*_, _≤_, _<_}
 use lib.ListN.{length}
-use Rattle.text.specs.Lists.{sumBelow}
-use Rattle.text.specs.Text.{stretch, countIn}
-use Rattle.format.specs.Settings.{Settings, blockLength}
-use Rattle.format.specs.HeaderPlaces.{headerLength}
+use Rattle.text.specs.Text.{sumBelow, stretch, countIn}
+use Rattle.format.specs.Layout.{Settings, blockLength, headerLength}
 use Rattle.format.specs.Blocks.{treeOf, recordBytes}
 use Rattle.layout.specs.declared.settings.Settings as code
 use Rattle.theory_built.specs.BlockSizes.{Taken}

@@ -2,9 +2,8 @@
 use mathlib.Core.List.{List}
 use Prim.Native.Nat.{ℕ, zero, suc, _+_, _*_, _≤_}
 use lib.ListN.{length}
-use Rattle.format.specs.Settings.{maxText}
+use Rattle.format.specs.Layout.{maxText, setWord}
 use Rattle.format.specs.SizeLaws.{maxRecord}
-use Rattle.format.specs.Words.{setWord}
 use Rattle.theory_built.specs.BlockSizes.{maxTable}
 
 abbrev pub startsWritten : List ℕ → ℕ → ℕ → ℕ → ℕ → ℕ → List ℕ

@@ -8,7 +8,7 @@ use layout::settings;
 use layout::word;
 ghost use mathlib.Core.Path.{_≡_};
 ghost use Prim.Native.Nat.{suc, _+_, _<_};
-ghost use Rattle.text.specs.Lists.{sumBelow};
+ghost use Rattle.text.specs.Text.{sumBelow};
 ghost use Rattle.format.specs.Blocks.{treeOf};
 ghost use Rattle.theory_built.specs.Structure.{widthOf};
 ghost use Rattle.build_records.specs.Grown.{Grown};

@@ -12,14 +12,12 @@ use denote.Ref.{RefT, now}
 use lib.ListN.{length, take, drop}
 use lib.Seq.{take-at}
 use borrow.Author.Tests.{le-leb, lt-leb, ne-eqb}
-use Rattle.format.specs.Said.{replied}
-use Rattle.format.specs.Settings.{Settings}
+use Rattle.format.specs.Answers.{replied, byteSays}
+use Rattle.format.specs.Layout.{Settings}
 use Rattle.format.specs.Blocks.{treeOf}
 use Rattle.format.specs.Layout as at
-use Rattle.format.specs.Fits.{linksOk, textOf, countsTrue}
+use Rattle.format.specs.TreeReading.{linksOk, textOf, countsTrue, ask, readable, verdict}
 use Rattle.format.specs.FittingText.{fits}
-use Rattle.format.specs.ReadSays.{byteSays}
-use Rattle.format.specs.Verdict.{ask, readable, verdict}
 use Rattle.theory_built.specs.BlockSizes.{Taken}
 use Rattle.theory_without_edges.specs.WithoutEdges.{edgelessLayout, withoutEdges}
 use Rattle.build_without_edges.specs.WithoutEdgesAnswers.{withoutEdgesRefusal, withoutEdgesSize, withoutEdgesBuffer, withoutEdgesReply}
@@ -33,11 +31,11 @@ use Rattle.build_without_edges.proofs.without_edges.Reads as reads
 abbrev pub Lent : Type 0
 Lent = RefT (List ℕ)
 
--- the contract of `without_edges` allows a call with these arguments to return r and leave the buffer as `after`
+-- The contract of `without_edges` allows a call with these arguments to return r and leave the buffer as `after`.
 abbrev pub WithoutEdges : Lfts 2 → (t out after : Lent) → WithoutEdgesAnswer → Type 0
 WithoutEdges κs t out after r = reads.Post κs (t, (out, tt)) r (t, (after, tt))
 
--- refusal and size determine the answer
+-- Refusal and size determine the answer.
 refused-is : (r : WithoutEdgesAnswer) (q : ℕ) → replied (withoutEdgesReply r) .number ≡ suc q → r ≡ Refused (suc q)
 refused-is (Size n) q e = absurd (let z : ⊥ = omega arith in z)
 refused-is (Refused n) q e = rw e

@@ -7,14 +7,11 @@ use native.Mathlib.Numerals.{add-one}
 use native.Mathlib.Nat.{add-mul, mul-le-mul-right, mul-div-cancel}
 use lib.ListN.{length, set, take, drop, length-append, length-drop, length-set, take-append-drop}
 use lib.Seq.{paste-zero, paste-suc, getD-drop, take-at, drop-append-add, drop-drop, length-take-le, set-append-left}
-use Rattle.text.specs.Lists.{tabulate, concat, sumBelow}
+use Rattle.text.specs.Text.{tabulate, concat, sumBelow, stretch}
 use Rattle.text.specs.ListLaws.{sumBelow-suc}
-use Rattle.text.specs.Text.{stretch}
-use Rattle.format.specs.Said.{replied}
-use Rattle.format.specs.Words.{setWord}
+use Rattle.format.specs.Answers.{replied}
+use Rattle.format.specs.Layout.{setWord, maxLevels, layoutAt, offsetAt, leafOffsetAt, headerLength, recordLength}
 use Rattle.format.specs.WordLaws.{length-setWord}
-use Rattle.format.specs.Settings.{maxLevels}
-use Rattle.format.specs.HeaderPlaces.{layoutAt, offsetAt, leafOffsetAt, headerLength}
 use Rattle.format.specs.LayoutLaws.{Readable, size-low}
 use Rattle.format.specs.Layout as at
 use Rattle.stretches.specs.Stretches.{bytesWritten}
@@ -22,9 +19,8 @@ use Rattle.theory_built.specs.Gather.{concat-suc, length-concat}
 use Rattle.theory_without_edges.specs.WithoutEdges.{edgelessLayout, layout1RecordSize, layout1Offset, offsetsIn, layout1Header, recordCount}
 use Rattle.theory_without_edges.specs.WithoutEdges.{layout1Record, layout1Records, layout1LeafBytes, withoutEdges}
 use Rattle.theory_without_edges.specs.Layout1Sizes as sizes
-use Rattle.format.specs.Settings.{recordLength}
 use Rattle.format.specs.SizeLaws.{record-plain}
-use Rattle.format.specs.Verdict.{readable}
+use Rattle.format.specs.TreeReading.{readable}
 use Rattle.layout.specs.declared.header.Header.{Header}
 use Rattle.layout.specs.declared.header.HeaderRead.{HeaderRead}
 use Rattle.layout.specs.declared.header.HeaderRead.the-variants as read
@@ -45,7 +41,7 @@ copied d T to from (suc n) a b =
     rw (copied d T to from n (omega arith) (omega arith), ← getD-drop from T n 0)
     (paste-suc d to (drop from T) n 0 (omega arith) (simp length-drop (omega arith)))
 
--- the bytes after a written part
+-- The bytes after a written part.
 past : (P d : List ℕ) (to n : ℕ) → length P ≡ to → drop (to + n) (P ++ drop to d) ≡ drop (to + n) d
 past P d to n is = rw (← is) (drop-append-add P (drop (length P) d) n ∙ drop-drop n (length P) d)
 
@@ -134,7 +130,7 @@ module _ (t : List ℕ) where
     length-up-to j d few room =
         rw (length-append (take headerLength d), length-take-le headerLength d room, length-concat j (layout1Record t), sizes.records-before t k j few)
 
-    -- the step of the loop over the records
+    -- The step of the loop over the records.
     pub records-more : (j to from n : ℕ) (d e : List ℕ) → j < recordCount t → headerLength + recordCount t * layout1RecordSize t ≤ length d
         → to ≡ headerLength + j * layout1RecordSize t → from ≡ headerLength + j * at.recordSize t → n ≡ layout1RecordSize t
         → e ≡ upTo j d → bytesWritten e to t from n ≡ upTo (j + 1) d
@@ -219,7 +215,7 @@ module _ (t : List ℕ) (h : Header) (stride count : ℕ) (out : List ℕ) (w : 
   pub leaf-held : h .«leaf_offset» + h .«leaf_count» ≤ length t
   leaf-held = omega (arith, w .header .offset-is, w .header .count-is, k .size)
 
-  -- the header, then the records, then the leaf bytes
+  -- The header, then the records, then the leaf bytes.
   module _ (a b c : List ℕ) (a-is : a ≡ layout1Header t ++ drop headerLength out) (b-is : b ≡ upTo t count a)
       (c-is : c ≡ bytesWritten b (headerLength + count * stride) t (h .«leaf_offset») (h .«leaf_count»)) where
     head : length (layout1Header t) ≡ headerLength

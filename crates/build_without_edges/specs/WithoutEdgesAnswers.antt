@@ -5,8 +5,8 @@ use mathlib.Core.Bool.{cond}
 use Prim.Native.Nat.{ℕ}
 use lib.ListN.{length, drop}
 use lib.Dec.{leb, eqb}
-use Rattle.format.specs.Verdict.{asks, orNext, readable}
-use Rattle.format.specs.Said.{Reply, figures, refusal}
+use Rattle.format.specs.TreeReading.{asks, orNext, readable}
+use Rattle.format.specs.Answers.{Reply, figures, refusal}
 use Rattle.theory_without_edges.specs.WithoutEdges.{withoutEdges}
 use Rattle.build_without_edges.specs.declared.WithoutEdgesAnswer.{WithoutEdgesAnswer}
 use Rattle.build_without_edges.specs.declared.WithoutEdgesAnswer.the-variants.{Size, Refused}
@@ -24,7 +24,7 @@ module _ (t out : List ℕ) where
   unfoldable pub withoutEdgesBuffer : List ℕ
   withoutEdgesBuffer = cond (eqb withoutEdgesRefusal 0) (withoutEdges t ++ drop (length (withoutEdges t)) out) out
 
--- the size of what is written
+-- The size of what is written.
 abbrev pub withoutEdgesReply : WithoutEdgesAnswer → Reply
 withoutEdgesReply (Size n) = figures n 0
 withoutEdgesReply (Refused q) = refusal q

@@ -3,7 +3,7 @@ use mathlib.Core.List.{List}
 use mathlib.Core.Path.{_≡_}
 use Prim.Native.Nat.{ℕ, _+_, _*_, _≤_, _<_}
 use lib.ListN.{length}
-use Rattle.format.specs.HeaderPlaces.{headerLength}
+use Rattle.format.specs.Layout.{headerLength}
 use Rattle.format.specs.LayoutLaws.{Readable}
 use Rattle.format.specs.Layout as at
 use Rattle.layout.specs.declared.header.Header.{Header}
@@ -11,7 +11,7 @@ use Rattle.layout.specs.HeaderSays.{HeaderOf}
 use Rattle.theory_without_edges.specs.WithoutEdges.{layout1RecordSize, layout1Offset, recordCount, withoutEdges}
 
 module _ (t : List ℕ) where
-  -- the tree passes questions 5 to 7; its levels; `stride` is the size of a record without edges; its offsets fit a word
+  -- The tree passes questions 5 to 7; its levels; `stride` is the size of a record without edges; its offsets fit a word.
   pub record ReadableSizes (levels stride : ℕ) : Type 0 where
     pub facts : Readable t
     pub levels-is : levels ≡ at.settings t .levels

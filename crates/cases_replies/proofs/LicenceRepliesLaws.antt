@@ -12,14 +12,14 @@ use mir.Val.{Fits, SFits, toZ, ofZ}
 use mir.ValLaws.{toZ-ofZ}
 use Rattle.text.specs.ListLaws.{bool-clash}
 
--- read back from its bits
+-- Read back from its bits.
 abbrev back : ℤ → ℤ
 back z = toZ w32 (ofZ w32 z)
 
 abbrev wide : ℤ → ℤ
 wide z = toZ w64 (ofZ w64 z)
 
--- a number that is not negative and fits
+-- A number that is not negative and fits.
 abbrev Unsigned : ℤ → Type 0
 Unsigned z = T (nonNeg z) × Fits w64 (natAbs z)
 
@@ -49,7 +49,7 @@ module _ (z : ℤ) (f : SFits w32 z) where
   pub negated : SFits w64 (pos 0 -ℤ wide (back z))
   negated = subst (λ (y : ℤ). SFits w64 (pos 0 -ℤ y)) (sym back-wide) (neg-fits z f)
 
-  -- of a number below zero, and of another
+  -- Of a number below zero, and of another.
   pub magnitude : ltZ (back z) (pos 0) ≡ true → Unsigned (wide (pos 0 -ℤ wide (back z)))
   magnitude l =
       let e : pos 0 -ℤ z ≡ wide (pos 0 -ℤ wide (back z)) = sym (toZ-ofZ w64 _ negated ∙ ap (λ (y : ℤ). pos 0 -ℤ y) back-wide) in

@@ -10,7 +10,7 @@ use native.Mathlib.Omega.{arith}
 use lib.ListN.{length, getD, set, take, drop, replicate, length-set, length-take, length-drop, length-append, length-replicate}
 use lib.Seq.{paste, take-paste, length-take-le, getD-set-same, getD-set-other, getD-take, take-at, ext-getD}
 use borrow.Author.Tests.{lt-ltb, le-ltb}
-use Rattle.text.specs.Lists.{tabulate}
+use Rattle.text.specs.Text.{tabulate}
 use Rattle.text.specs.ListLaws.{below-suc, length-tabulate, getD-tabulate, tabulate-ext}
 use Rattle.cases_tokens.specs.Parts.{tokenOf}
 use Rattle.cases_tokens.specs.Decimals.{numberOf, valueOf, figuresRight}
@@ -27,7 +27,7 @@ use Rattle.cases_script.specs.declared.line_words.Gift.{Gift}
 use Rattle.cases_script.specs.NameLine.{givingLine}
 use Rattle.cases_script.specs.GivenBytes.Given.{bytes, none}
 
--- bytes repeated up to i
+-- Bytes repeated up to i.
 pub record Again (entry out : List ℕ) (k i : ℕ) : Type 0 where
   pub from : k ≤ i
   pub long : length out ≡ length entry
@@ -58,7 +58,7 @@ empty (x ∷ l) e = absurd (let z : suc (length l) ≡ 0 = e in omega arith)
 
 -- The bytes of a word in hexadecimal.
 
--- a buffer that starts with the first n bytes of b
+-- A buffer that starts with the first n bytes of b.
 first-gives : (x : Made) (b buffer : List ℕ) → madeSize x ≤ length b → take (madeSize x) buffer ≡ take (madeSize x) b → Gives buffer x (firstOf x b)
 first-gives (Bytes n) b buffer h e = record { answer = ap (λ (k : ℕ). Bytes k) (sym (length-take-le n b h)); put = e }
 first-gives (Wrong f) b buffer h e = record { answer = refl; put = e }

@@ -6,7 +6,7 @@ use Prim.Native.Nat.{ℕ, suc, _+_, _-_, _≤_, _<_}
 use native.Mathlib.Omega.{arith}
 use lib.ListN.{length, getD}
 use lib.Dec.{eqb}
-use Rattle.text.specs.Lists.{sameList}
+use Rattle.text.specs.Text.{sameList}
 use Rattle.text.specs.ListLaws.{bool-clash, eq-sameList, ne-sameList}
 use Rattle.cases_tokens.specs.Parts.{tokenOf}
 use Rattle.cases_script.specs.LineWords.{wordFrom, wordNumber, isComment}
@@ -19,7 +19,7 @@ same-told w x false h = ne-sameList w x (λ e. bool-clash false (h .1 e) refl)
 pub told : {w t x : List ℕ} {b v : Bool} → w ≡ t → (b ≡ true → w ≡ x) × (w ≡ x → b ≡ true) → b ≡ v → sameList t x ≡ v
 told {w} {t} {x} {b} e h z = rw e at (same-told w x b h) ∙ z
 
--- the words from k on have the same answer as all
+-- The words from k on have the same answer as all.
 pub record WordsLeft (words word : List ℕ) (n k : ℕ) : Type 0 where
   pub inside : k ≤ n
   pub same : wordFrom words word k (n - k) ≡ wordNumber words n word

@@ -5,7 +5,7 @@ use mathlib.Core.Path.{_≡_}
 use Prim.Native.Nat.{ℕ, _-_, _*_, _%_}
 use lib.ListN.{length, getD, take, replicate}
 use lib.Dec.{ltb}
-use Rattle.text.specs.Lists.{tabulate}
+use Rattle.text.specs.Text.{tabulate}
 use Rattle.cases_tokens.specs.Parts.{tokenOf}
 use Rattle.cases_tokens.specs.Decimals.{numberOf, valueOf, figuresRight}
 use Rattle.cases_tokens.specs.Hexadecimals.{hexBytes, hexOf, madeSize}
@@ -18,7 +18,7 @@ use Rattle.cases_script.specs.NameLine.{givingLine}
 use Rattle.cases_script.specs.declared.line_words.Gift.{Gift}
 use Rattle.cases_script.specs.declared.line_words.Gift.the-variants as gift
 
--- what a line gives: bytes, or a fault
+-- What a line gives: bytes, or a fault.
 pub data Given : Type 0 where
   bytes : List ℕ → Given
   none : Fault → Given
@@ -67,7 +67,7 @@ plainBy gift.Tree line room = hexGiven (tokenOf line 2) room
 plainBy gift.Pad line room = none fault.Name
 plainBy gift.Nothing line room = none fault.Name
 
--- text NAME HEX, tree NAME HEX, or repeat
+-- Text NAME HEX, tree NAME HEX, or repeat.
 unfoldable pub plainGiven : List ℕ → ℕ → Given
 plainGiven line room = plainBy (giftOf line) line room
 
@@ -87,10 +87,10 @@ makeBy gift.Tree script line room = plainGiven line room
 makeBy gift.Pad script line room = padGiven script line room
 makeBy gift.Nothing script line room = plainGiven line room
 
--- what a line gives, given the lines of a script
+-- What a line gives, given the lines of a script.
 unfoldable pub makeGiven : List ℕ → List ℕ → ℕ → Given
 makeGiven script line room = makeBy (giftOf line) script line room
 
--- what has this name in the lines of a script
+-- What has this name in the lines of a script.
 unfoldable pub namedGiven : List ℕ → List ℕ → ℕ → Given
 namedGiven script name room = makeGiven script (givingLine script name) room

@@ -4,7 +4,7 @@ use mathlib.Core.Bool.{Bool, true, cond}
 use Prim.Native.Nat.{ℕ, zero, suc, _+_}
 use lib.ListN.{getD}
 use lib.Dec.{eqb}
-use Rattle.text.specs.Lists.{sameList}
+use Rattle.text.specs.Text.{sameList}
 use Rattle.cases_tokens.specs.Parts.{tokenOf}
 use Rattle.cases_script.specs.declared.line_words.Gift.{Gift}
 use Rattle.cases_script.specs.declared.line_words.Gift.the-variants as gift
@@ -16,11 +16,11 @@ unfoldable pub wordFrom : List ℕ → List ℕ → ℕ → ℕ → ℕ
 wordFrom words word k zero = k
 wordFrom words word k (suc more) = cond (sameList word (tokenOf words k)) k (wordFrom words word (k + 1) more)
 
--- which of the first n words of a line this one is, counted from 0; n where it is none of them
+-- Which of the first n words of a line this one is, counted from 0; n where it is none of them.
 unfoldable pub wordNumber : List ℕ → ℕ → List ℕ → ℕ
 wordNumber words n word = wordFrom words word 0 n
 
--- the words of lines that give bytes a name: text, repeat, tree, pad
+-- The words of lines that give bytes a name: text, repeat, tree, pad.
 unfoldable pub giftWords : List ℕ
 giftWords =
     116 ∷ 101 ∷ 120 ∷ 116 ∷ 32 ∷
@@ -28,11 +28,11 @@ giftWords =
     116 ∷ 114 ∷ 101 ∷ 101 ∷ 32 ∷
     112 ∷ 97 ∷ 100 ∷ []
 
--- the number of the word by which a line gives bytes a name; 4 where it gives none
+-- The number of the word by which a line gives bytes a name; 4 where it gives none.
 unfoldable pub giftNumber : List ℕ → ℕ
 giftNumber line = wordNumber giftWords 4 (tokenOf line 0)
 
--- how a line gives bytes a name
+-- How a line gives bytes a name.
 unfoldable pub giftOf : List ℕ → Gift
 giftOf line = getD (gift.Text ∷ gift.Repeat ∷ gift.Tree ∷ gift.Pad ∷ gift.Nothing ∷ []) (giftNumber line) gift.Nothing
 
@@ -61,7 +61,7 @@ questionOf line =
     question.Row ∷ question.Places ∷ question.Scan ∷ question.Match ∷ question.Prefix ∷ question.Nothing ∷ [])
     (wordNumber questionWords 13 (tokenOf line 0)) question.Nothing
 
--- an empty line, or one that begins with byte 35, `#`
+-- An empty line, or one that begins with byte 35, `#`.
 unfoldable pub isComment : List ℕ → Bool
 isComment [] = true
 isComment (b ∷ line) = eqb b 35

@@ -7,7 +7,7 @@ use cases_tokens::hexadecimal::Made;
 ghost use mathlib.Core.Path.{_≡_};
 ghost use Prim.Native.Nat.{_≤_, _<_, _%_};
 ghost use lib.ListN.{length, getD, take, replicate};
-ghost use Rattle.text.specs.Lists.{tabulate};
+ghost use Rattle.text.specs.Text.{tabulate};
 ghost use Rattle.cases_script.specs.GivenBytes.{Gives, timesOver, repeatGiven, plainGiven, padTo, padGiven, makeGiven, namedGiven};
 ghost use Rattle.cases_script.specs.GivenBytes.Given.{bytes};
 

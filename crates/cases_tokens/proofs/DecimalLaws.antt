@@ -7,7 +7,7 @@ use native.Mathlib.Numerals.{add-one}
 use native.Mathlib.Omega.{arith}
 use lib.ListN.{length, getD, drop, drop-of-length-le}
 use lib.Seq.{drop-cons}
-use Rattle.text.specs.Lists.{allBelow}
+use Rattle.text.specs.Text.{allBelow}
 use Rattle.text.specs.ListLaws.{allBelow-not, and-both}
 use Rattle.cases_tokens.specs.Parts.{tokenOf}
 use Rattle.cases_tokens.specs.Decimals.{moreOf, then, numberFrom, numberOf, said, isNumber, figuresRight}
@@ -42,7 +42,7 @@ pub number-ends : (w : List ℕ) (i v : ℕ) → length w ≤ i → Is v ≡ num
 unfolding numberFrom
 number-ends w i v h = rw (drop-of-length-le w h)
 
--- what is made of the number read is made of the token's
+-- What is made of the number read is made of the token's.
 pub read-as {ℓ} : {A : Type ℓ} (f : Number → A) (x y : Number) (w t : List ℕ) → x ≡ numberOf w → w ≡ t → x ≡ y → f y ≡ f (numberOf t)
 read-as f x y w t a b e = ap f (sym e ∙ a ∙ ap (λ (l : List ℕ). numberOf l) b)
 
@@ -50,7 +50,7 @@ pub is-number : (line w : List ℕ) (k : ℕ) (x y : Number) → x ≡ numberOf 
 unfolding isNumber
 is-number line w k x y a b e = read-as said x y w (tokenOf line k) a b e
 
--- the tokens from `from` up to k are numbers
+-- The tokens from `from` up to k are numbers.
 pub record Numbers (line : List ℕ) (from k : ℕ) : Type 0 where
   pub are : allBelow (k - from) (λ i. isNumber line (from + i)) ≡ true
 

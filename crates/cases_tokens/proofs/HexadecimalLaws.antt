@@ -10,7 +10,7 @@ use lib.ListN.{length, getD, set}
 use lib.Seq.{paste, paste-suc}
 use lib.Dec.{ltb, leb, eqb}
 use borrow.Author.Tests.{lt-ltb, le-ltb, le-leb, lt-leb, leb-true, ltb-false, eq-eqb, ne-eqb}
-use Rattle.text.specs.Lists.{allBelow, sameList}
+use Rattle.text.specs.Text.{allBelow, sameList}
 use Rattle.text.specs.ListLaws.{bool-clash, allBelow-at, allBelow-not, and-both, eq-sameList, ne-sameList, length-tabulate, getD-tabulate}
 use Rattle.cases_tokens.specs.Hexadecimals.{digitOf, byteOf, byteAt, allHex, hexBytes, hexOf, madeSize}
 use Rattle.cases_tokens.specs.declared.hexadecimal.Fault.the-variants as Fault
@@ -26,7 +26,7 @@ module _ (word : List ℕ) (i high low : ℕ) (h : high ≡ digitOf (getD word (
   unfolding byteAt byteOf
   byte-some z = simp (le-ltb 15 (digitOf (getD word (2 * i + 1) 0)) (rw l at z)) (rw (h, l))
 
--- the first i bytes are bytes
+-- The first i bytes are bytes.
 pub record Bytes (word : List ℕ) (i : ℕ) : Type 0 where
   pub are : allBelow i (λ k. leb (byteAt word k) 255) ≡ true
 

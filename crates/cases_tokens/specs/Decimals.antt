@@ -3,12 +3,12 @@ use mathlib.Core.List.{List, [], _∷_}
 use mathlib.Core.Bool.{Bool, true, false, cond}
 use Prim.Native.Nat.{ℕ, _+_, _-_, _*_}
 use lib.Dec.{ltb}
-use Rattle.text.specs.Lists.{allBelow}
+use Rattle.text.specs.Text.{allBelow}
 use Rattle.cases_tokens.specs.Parts.{tokenOf}
 use Rattle.cases_tokens.specs.declared.decimal.Number.{Number}
 use Rattle.cases_tokens.specs.declared.decimal.Number.the-variants.{Is, Nothing}
 
--- the number with one digit more: none where it is no digit, 48 to 57, or the number passes 2^32 - 1
+-- The number with one digit more: none where it is no digit, 48 to 57, or the number passes 2^32 - 1.
 unfoldable pub moreOf : ℕ → ℕ → Number
 moreOf value digit =
     cond (ltb digit 48) Nothing
@@ -20,7 +20,7 @@ abbrev pub then : (ℕ → Number) → Number → Number
 then go (Is v) = go v
 then go Nothing = Nothing
 
--- the number of value's digits and those of the word
+-- The number of value's digits and those of the word.
 unfoldable pub numberFrom : List ℕ → ℕ → Number
 numberFrom [] value = Is value
 numberFrom (digit ∷ word) value = then (numberFrom word) (moreOf value digit)
@@ -30,7 +30,7 @@ unfoldable pub numberOf : List ℕ → Number
 numberOf [] = Nothing
 numberOf (digit ∷ word) = numberFrom (digit ∷ word) 0
 
--- a number, 0 for none
+-- A number, 0 for none.
 abbrev pub valueOf : Number → ℕ
 valueOf (Is v) = v
 valueOf Nothing = 0
@@ -43,6 +43,6 @@ said Nothing = false
 unfoldable pub isNumber : List ℕ → ℕ → Bool
 isNumber line k = said (numberOf (tokenOf line k))
 
--- the tokens from `from` up to, not including, `to` are numbers
+-- The tokens from `from` up to, not including, `to` are numbers.
 unfoldable pub figuresRight : List ℕ → ℕ → ℕ → Bool
 figuresRight line from to = allBelow (to - from) (λ i. isNumber line (from + i))

@@ -4,28 +4,28 @@ use mathlib.Core.Bool.{Bool, cond}
 use Prim.Native.Nat.{ℕ, _+_, _-_, _*_, _/_, _%_}
 use lib.ListN.{length, getD}
 use lib.Dec.{eqb, ltb, leb}
-use Rattle.text.specs.Lists.{allBelow, tabulate, sameList}
+use Rattle.text.specs.Text.{allBelow, tabulate, sameList}
 use Rattle.cases_tokens.specs.declared.hexadecimal.Fault.the-variants as fault
 use Rattle.cases_tokens.specs.declared.hexadecimal.Made.{Made}
 use Rattle.cases_tokens.specs.declared.hexadecimal.Made.the-variants.{Bytes, Wrong}
 
--- the value of a digit, 0 to 9 or a to f; 16 for any other byte
+-- The value of a digit, 0 to 9 or a to f; 16 for any other byte.
 unfoldable pub digitOf : ℕ → ℕ
 digitOf b = cond (ltb b 48) 16 (cond (leb b 57) (b - 48) (cond (ltb b 97) 16 (cond (leb b 102) (b - 87) 16)))
 
--- the byte that two digits say, 256 or more where one is no digit
+-- The byte that two digits say, 256 or more where one is no digit.
 unfoldable pub byteOf : ℕ → ℕ → ℕ
 byteOf high low = cond (ltb 15 (digitOf low)) 256 (16 * digitOf high + digitOf low)
 
--- the byte that digits 2 i and 2 i + 1 of a word say
+-- The byte that digits 2 i and 2 i + 1 of a word say.
 unfoldable pub byteAt : List ℕ → ℕ → ℕ
 byteAt word i = byteOf (getD word (2 * i) 0) (getD word (2 * i + 1) 0)
 
--- each two digits say a byte
+-- Each two digits say a byte.
 unfoldable pub allHex : List ℕ → Bool
 allHex word = allBelow (length word / 2) (λ i. leb (byteAt word i) 255)
 
--- the bytes that they say
+-- The bytes that they say.
 unfoldable pub hexBytes : List ℕ → List ℕ
 hexBytes word = tabulate (length word / 2) (byteAt word)
 

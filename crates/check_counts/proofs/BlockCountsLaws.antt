@@ -7,8 +7,7 @@ use native.Mathlib.Omega.{arith}
 use borrow.Author.Tests.{eq-eqb, ne-eqb}
 use lib.Dec.{eqb}
 use Rattle.format.specs.Layout as at
-use Rattle.format.specs.Path.{targetBlock}
-use Rattle.format.specs.Fits.{lastLevel}
+use Rattle.format.specs.TreeReading.{targetBlock, lastLevel}
 use Rattle.format.specs.LayoutLaws.{Readable, full-pos}
 use Rattle.theory_paths.specs.Links.{Linked, Pointing}
 use Rattle.theory_paths.specs.BlockStarts.{start-below, len-pos, child, target-full}
@@ -33,7 +32,7 @@ module _ (t : List ℕ) (size level i c : ℕ) (w : InTable t size level i c) wh
   d : Linked t
   d = facts.linked t size (w .tree)
 
-  -- the same counted byte in another block of the level
+  -- The same counted byte in another block of the level.
   other : (j : ℕ) → j < at.levelCount t level → InTable t size level j c
   other j hj = record { tree = w .tree; level-in = w .level-in; block-in = hj; number-in = w .number-in }
 

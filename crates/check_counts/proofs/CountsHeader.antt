@@ -10,12 +10,10 @@ use borrow.Author.Tests.{eq-eqb, ne-eqb}
 use lib.ListN.{getD}
 use lib.Seq.{getD-take, getD-drop}
 use Rattle.text.specs.ListLaws.{below-suc}
-use Rattle.format.specs.Settings.{maxText, maxCounted}
+use Rattle.format.specs.Layout.{maxText, maxCounted, plainWords, beforeField, insideField, skipField, countedAt, countAt}
 use Rattle.format.specs.Layout as at
 use Rattle.format.specs.WordLaws.{wordAt-lt}
-use Rattle.format.specs.RecordFields.{plainWords, beforeField, insideField, skipField}
 use Rattle.format.specs.LayoutLaws.{fieldCount, full-small, full-step}
-use Rattle.format.specs.HeaderPlaces.{countedAt, countAt}
 use Rattle.theory_paths.specs.Links.{Linked, linked-facts}
 use Rattle.theory_paths.specs.BlockStarts.{len-small}
 use Rattle.theory_counts.specs.CountsLocal.{byteOf}
@@ -54,19 +52,19 @@ module _ (t : List ℕ) (size : ℕ) (w : Sound t size) where
       go (inl l) = omega arith
       go (inr e) = absurd (n (omega (arith, w .facts .bounds .levels-low)))
 
-  -- one level down, by one division
+  -- One level down, by one division.
   pub below-is : (level b r : ℕ)
       → b ≡ at.fullLength t level → r ≡ at.settings t .arity → level + 1 < at.settings t .levels → b / r ≡ at.fullLength t (level + 1)
   below-is level b r b-is r-is above =
       let pos : 0 < at.settings t .arity = omega (arith, w .facts .bounds .arity-low) in
       rw (r-is, b-is, full-step t (w .facts) level above) (mul-div-cancel (at.fullLength t (level + 1)) pos)
 
--- a level's count is a word
+-- A level's count is a word.
 pub count-lt : (t : List ℕ) (l : ℕ) → ((k : ℕ) → getD t k 0 < 256) → at.levelCount t l < 4294967296
 unfolding at.levelCount
 count-lt t l h = wordAt-lt t (countAt l) h
 
--- a counted byte, in the header
+-- A counted byte, in the header.
 pub byte-is : (t : List ℕ) (c : ℕ) → c < at.countedCount t → at.countedCount t ≤ maxCounted → getD t (countedAt + c) 0 ≡ byteOf t c
 unfolding byteOf at.settings
 byte-is t c h few =
@@ -74,7 +72,7 @@ byte-is t c h few =
     sym (rw (getD-take, getD-take, getD-drop))
 
 module _ (t : List ℕ) (size level i c : ℕ) (w : InTable t size level i c) where
-  -- the words of the block's record
+  -- The words of the block's record.
   pub there : (f : ℕ) → f < fieldCount (at.countedCount t) → FieldIn t size level i f
   there f hf = field-in t (w .tree .facts) size level i f (w .tree .size-is) (w .level-in) (w .block-in) hf
 
@@ -90,11 +88,11 @@ module _ (t : List ℕ) (size level i c : ℕ) (w : InTable t size level i c) wh
   pub skip-there : FieldIn t size level i (skipField c)
   skip-there = there (skipField c) (omega (arith, w .number-in))
 
-  -- the block, by its level's block length
+  -- The block, by its level's block length.
   pub stands : (b : ℕ) → b ≡ at.fullLength t level → steps.InTable t size level b i
   stands b b-is = record { on = record { facts = w .tree .facts; size-is = w .tree .size-is; level-in = w .level-in; b-is = b-is }; block-in = w .block-in }
 
-  -- no block is longer than the longest text
+  -- No block is longer than the longest text.
   pub full-lt : at.fullLength t level ≤ maxText
   full-lt = full-small t (w .tree .facts) level
 

@@ -7,11 +7,11 @@ use Prim.Native.Nat.{ℕ, zero, suc, _-_, _≤_, _<_}
 use native.Mathlib.Omega.{arith}
 use native.Mathlib.Nat.{pos-of-ne-zero}
 use borrow.Author.Tests.{ne-eqb}
-use Rattle.text.specs.Lists.{allBelow}
+use Rattle.text.specs.Text.{allBelow}
 use Rattle.text.specs.ListLaws.{bool-cases, bool-clash, lt-or-ge, allBelow-make, allBelow-not}
-use Rattle.format.specs.Settings.{blockLength}
+use Rattle.format.specs.Layout.{blockLength}
 use Rattle.format.specs.Layout as at
-use Rattle.format.specs.Fits.{textOf, countsTrue}
+use Rattle.format.specs.TreeReading.{textOf, countsTrue}
 use Rattle.layout.specs.declared.header.Header.{Header}
 use Rattle.theory_counts.specs.CountsLocal.{upLength, blockLocal, levelLocal}
 use Rattle.theory_counts.specs.LevelTrue.{Level, counts-facts, counts-make}

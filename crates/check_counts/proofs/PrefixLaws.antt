@@ -7,8 +7,7 @@ use native.Mathlib.Omega.{arith}
 use borrow.Author.Tests.{lt-ltb, le-ltb}
 use lib.ListN.{length, getD}
 use Rattle.text.specs.Text.{stretch, countIn}
-use Rattle.format.specs.Settings.{maxText}
-use Rattle.format.specs.HeaderPlaces.{countedAt}
+use Rattle.format.specs.Layout.{maxText, countedAt}
 use Rattle.format.specs.Layout as at
 use Rattle.format.specs.LayoutLaws.{Readable, full-pos, full-small}
 use Rattle.theory_paths.specs.Links.{Linked, Pointing}
@@ -52,7 +51,7 @@ module _ (t : List ℕ) (size level b c : ℕ) (block : BlockNumber) (place : Bl
     sum-small g e = omega (arith, p .gap-small, w .place-in, facts.full-lt t size level i c (w .table), facts.length-lt t size level i c (w .table))
 
     module _ (j g sk : ℕ) (j-is : j ≡ at.link t level i) (g-is : g ≡ at.gap t level i) (sk-is : sk ≡ at.skip t level i c) where
-      -- the block pointed to is in its table
+      -- The block pointed to is in its table.
       pub target-there : InTable t size level j c
       target-there = record { tree = w .table .tree; level-in = w .table .level-in; block-in = rw j-is (p .target-below); number-in = w .table .number-in }
 

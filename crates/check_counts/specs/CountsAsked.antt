@@ -4,14 +4,14 @@ use mathlib.Core.Bool.{true}
 use mathlib.Core.Path.{_≡_}
 use Prim.Native.Nat.{ℕ, _<_}
 use Rattle.format.specs.Layout as at
-use Rattle.format.specs.Fits.{linksOk}
+use Rattle.format.specs.TreeReading.{linksOk}
 use Rattle.format.specs.LayoutLaws.{Readable}
 use Rattle.theory_counts.specs.LevelTrue.{Level}
 use Rattle.layout.specs.declared.header.Header.{Header}
 use Rattle.layout.specs.HeaderSays.{HeaderOf}
 
 module _ (t : List ℕ) (h : Header) where
-  -- the tree passes questions 5 to 8, and this is its header
+  -- The tree passes questions 5 to 8, and this is its header.
   pub record Linking : Type 0 where
     pub header : HeaderOf t h
     pub links : linksOk t ≡ true

@@ -6,7 +6,7 @@ use layout::place::On;
 use layout::record;
 ghost use mathlib.Core.Path.{_≡_};
 ghost use Prim.Native.Nat.{_+_, _-_, _<_};
-ghost use Rattle.text.specs.Lists.{allBelow};
+ghost use Rattle.text.specs.Text.{allBelow};
 ghost use Rattle.format.specs.Layout as at;
 ghost use Rattle.theory_counts.specs.CountsLocal.{upLength, blockLocal, levelLocal};
 ghost use Rattle.layout.specs.SettingsLevel.{Sized};

@@ -1,7 +1,7 @@
 // Question 9: whether all counts before, inside and skip are right.
 use layout::header::Header;
 ghost use mathlib.Core.Path.{_≡_};
-ghost use Rattle.format.specs.Fits.{textOf, countsTrue};
+ghost use Rattle.format.specs.TreeReading.{textOf, countsTrue};
 ghost use Rattle.check_counts.specs.CountsAsked.{Linking};
 
 mod block_counts;

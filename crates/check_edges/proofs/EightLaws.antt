@@ -6,13 +6,12 @@ use Prim.Native.Nat.{ℕ, zero, suc, _+_, _-_, _*_, _≤_, _<_}
 use native.Mathlib.Omega.{arith}
 use borrow.Author.Tests.{eq-eqb}
 use lib.ListN.{length, getD}
-use Rattle.text.specs.Lists.{sameList}
+use Rattle.text.specs.Text.{sameList, stretch}
 use Rattle.text.specs.ListLaws.{ne-sameList}
-use Rattle.text.specs.Text.{stretch}
 use Rattle.text.specs.TextLaws.{stretch-ext, stretch-at, stretch-add}
 use Rattle.check_edges.specs.Eights.{eightAt}
 
--- the lowest digit, and the others
+-- The lowest digit, and the others.
 low-digit : (a b rest more : ℕ) → a < 256 → b < 256 → a + 256 * rest ≡ b + 256 * more → (a ≡ b) × (rest ≡ more)
 low-digit a b rest more ha hb e = (omega arith, omega arith)
 
@@ -42,14 +41,14 @@ eight-digits f g low below e =
     let d6 = low-digit (f 6) (g 6) _ _ (low 6) (below 6) (d5 .1) in
     each-of-eight f g (d0 .0) (d1 .0) (d2 .0) (d3 .0) (d4 .0) (d5 .0) (d6 .0) (d6 .1)
 
--- lists with one beginning
+-- Lists with one beginning.
 same-after : (u v w : List ℕ) → sameList (u ++ v) (u ++ w) ≡ sameList v w
 unfolding sameList
 same-after [] v w = refl
 same-after (x ∷ u) v w = rw (eq-eqb x x refl) (same-after u v w)
 
 module _ (t : List ℕ) (p q : ℕ) where
-  -- the number by the place of each byte
+  -- The number by the place of each byte.
   first-place : (p : ℕ) → getD t (p + 0) 0 ≡ getD t p 0
   first-place p = let z : p + 0 ≡ p = omega arith in rw z
 
@@ -93,7 +92,7 @@ pub numbers-same : {a b x y : ℕ} → a ≡ x → b ≡ y → a ≡ b → x ≡
 numbers-same e f same = sym e ∙ same ∙ f
 
 module _ (t : List ℕ) (p q n : ℕ) where
-  -- nothing compared yet
+  -- Nothing compared yet.
   pub none-compared : sameList (stretch t (p + 0) (n - 0)) (stretch t (q + 0) (n - 0)) ≡ sameList (stretch t p n) (stretch t q n)
   none-compared =
       let x : p + 0 ≡ p = omega arith in

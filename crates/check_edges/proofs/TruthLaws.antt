@@ -9,17 +9,12 @@ use native.Mathlib.Nat.{add-zero}
 use borrow.Author.Tests.{ne-eqb, eq-eqb, lt-ltb, le-ltb}
 use lib.Dec.{ltb, eqb}
 use lib.ListN.{length, getD, replicate}
-use Rattle.text.specs.Lists.{allBelow, sameList}
+use Rattle.text.specs.Text.{allBelow, sameList, stretch}
 use Rattle.text.specs.ListLaws.{and-false, allBelow-make, allBelow-not}
-use Rattle.text.specs.Text.{stretch}
-use Rattle.format.specs.Settings.{maxLeaf}
+use Rattle.format.specs.Layout.{maxLeaf, plainWords, countAt}
 use Rattle.format.specs.Layout as at
-use Rattle.format.specs.Fits.{textOf, edgesTrue}
-use Rattle.format.specs.Short.{Short, shortFrom}
-use Rattle.format.specs.RecordFields.{plainWords}
-use Rattle.format.specs.HeaderPlaces.{countAt}
+use Rattle.format.specs.TreeReading.{textOf, edgesTrue, Short, shortFrom, visit}
 use Rattle.format.specs.WordLaws.{wordAt-lt}
-use Rattle.format.specs.Path.{visit}
 use Rattle.format.specs.LayoutLaws.{Readable, full-last, size-high, edges-inside, leaf-start-inside}
 use Rattle.theory_paths.specs.Links.{Linked, linked-facts}
 use Rattle.theory_paths.specs.BlockStarts.{len-pos, len-small, last-kept, leaf-below}
@@ -116,7 +111,7 @@ module _ (t : List ℕ) (h : Header) (level b i : ℕ) (k : Edged t h level b i)
     pub back-in : long - own + own ≤ long
     back-in = omega (arith, own-is)
 
-    -- what a walk from the block gives
+    -- What a walk from the block gives.
     module _ (o : ℕ) (ho : o + own ≤ long) (r : Gathered) (r-is : r ≡ gathered 0 (shortFrom t (at.settings t .levels - 1 - level) level (i + 0) o own)) where
       r-right : r ≡ gathered 0 (shortFrom t (at.settings t .levels - 1 - level) level i o own)
       r-right = r-is ∙ rw (add-zero i)

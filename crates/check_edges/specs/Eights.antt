@@ -3,7 +3,7 @@ use mathlib.Core.List.{List}
 use Prim.Native.Nat.{ℕ, _+_, _*_}
 use lib.ListN.{getD}
 
--- the eight bytes of t at `at`, lowest first
+-- The eight bytes of t at `at`, lowest first.
 abbrev pub eightAt : List ℕ → ℕ → ℕ
 eightAt t at =
     getD t at 0

@@ -4,17 +4,16 @@ use mathlib.Core.Bool.{Bool, true, false, _&&_}
 use mathlib.Core.Path.{_≡_}
 use Prim.Native.Nat.{ℕ, _+_, _-_, _<_}
 use lib.ListN.{replicate}
-use Rattle.text.specs.Lists.{sameList}
-use Rattle.text.specs.Text.{stretch}
+use Rattle.text.specs.Text.{sameList, stretch}
 use Rattle.format.specs.Layout as at
-use Rattle.format.specs.Fits.{linksOk}
+use Rattle.format.specs.TreeReading.{linksOk}
 use Rattle.layout.specs.declared.header.Header.{Header}
 use Rattle.layout.specs.HeaderSays.{HeaderOf}
 use Rattle.walk_steps.specs.Steps.{OnLevel}
 use Rattle.walk_short.specs.declared.gather.Gathered.{Gathered}
 use Rattle.walk_short.specs.declared.gather.Gathered.the-variants.{At, Broken}
 
--- a tree that passes questions 5 to 8, with its header
+-- A tree that passes questions 5 to 8, with its header.
 pub record Linking (t : List ℕ) (h : Header) : Type 0 where
   pub header : HeaderOf t h
   pub linked : linksOk t ≡ true

@@ -2,8 +2,7 @@
 ghost use mathlib.Core.Path.{_≡_};
 ghost use Prim.Native.Nat.{_+_, _≤_, _<_};
 ghost use lib.ListN.{length};
-ghost use Rattle.text.specs.Lists.{sameList};
-ghost use Rattle.text.specs.Text.{stretch};
+ghost use Rattle.text.specs.Text.{sameList, stretch};
 ghost use Rattle.check_edges.specs.Eights.{eightAt};
 
 fn wide(b: u8) -> u64

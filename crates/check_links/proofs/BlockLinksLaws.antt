@@ -8,12 +8,11 @@ use native.Mathlib.Omega.{arith}
 use native.Mathlib.Nat.{div-one}
 use borrow.Author.Tests.{eq-eqb, ne-eqb, lt-ltb, le-ltb, le-leb, lt-leb, ltb-true}
 use lib.Dec.{eqb, leb, ltb}
-use Rattle.text.specs.Lists.{allBelow, sumBelow}
+use Rattle.text.specs.Text.{allBelow, sumBelow}
 use Rattle.text.specs.ListLaws.{and-left}
-use Rattle.format.specs.RecordFields.{plainWords, startField}
-use Rattle.format.specs.Settings.{pieces, maxText}
+use Rattle.format.specs.Layout.{plainWords, startField, pieces, maxText}
 use Rattle.format.specs.Layout as at
-use Rattle.format.specs.Fits.{lastLevel, widthAt, keptRight, pointingRight, blockRight}
+use Rattle.format.specs.TreeReading.{lastLevel, widthAt, keptRight, pointingRight, blockRight}
 use Rattle.format.specs.LayoutLaws.{full-pos, full-small}
 use Rattle.layout.specs.Record.{FieldIn, field-in}
 use Rattle.check_links.specs.declared.level_read.Level.{Level}
@@ -24,11 +23,11 @@ unfolding pieces
 pieces-one x = let e : x + (1 - 1) ≡ x = omega arith in rw e (div-one x)
 
 module _ (t : List ℕ) (v : Level) (k : LevelOf t v) where
-  -- a field of a record of the level
+  -- A field of a record of the level.
   pub there : (i f : ℕ) → i < v .count → f < plainWords → FieldIn t (v .size) (v .number) i f
   there i f h g = field-in t (k .readable) (v .size) (v .number) i f (k .size-is) (k .level-in) (omega (arith, k .count-is)) (omega arith)
 
-  -- above the last level
+  -- Above the last level.
   module _ (n : v .number ≡ v .last → ⊥) where
     pub not-last : eqb (v .number) (lastLevel t) ≡ false
     not-last = ne-eqb _ _ (λ e. n (e ∙ sym (k .last-is)))
@@ -48,7 +47,7 @@ module _ (t : List ℕ) (v : Level) (k : LevelOf t v) where
     pub child-there : (i : ℕ) → i < v .room → FieldIn t (v .size) (v .number + 1) i startField
     child-there i h = field-in t (k .readable) (v .size) (v .number + 1) i startField (k .size-is) above (omega (arith, room-above)) (omega arith)
 
-  -- the sizes that a block is cut by
+  -- The sizes that a block is cut by.
   pub full-high : v .full ≤ maxText
   full-high = omega (arith, k .full-is, full-small t (k .readable) (v .number))
 
@@ -75,7 +74,7 @@ module _ (t : List ℕ) (v : Level) (k : LevelOf t v) where
   unfolding at.blockLengthAt
   length-is i start len s e = rw (e, k .full-is, k .length-is, s)
 
-  -- the width of a block
+  -- The width of a block.
   pub width-none : (i : ℕ) → at.isKept t (v .number) i ≡ false → 0 ≡ widthAt t (v .number) i
   unfolding widthAt
   width-none i e = rw e
@@ -91,7 +90,7 @@ module _ (t : List ℕ) (v : Level) (k : LevelOf t v) where
   width-kept i start len w kept s e q =
       q ∙ ap (λ (x : ℕ). pieces x (v .part)) (length-is i start len s e) ∙ width-cases i _ refl kept
 
-  -- the children
+  -- The children.
   module _ (start link j child : ℕ) (n : v .number ≡ v .last → ⊥) (c : child ≡ at.start t (v .number + 1) (link + j)) where
     pub child-off : (child ≡ start + j * v .part → ⊥) → childAsCut t (v .number) link start j ≡ false
     child-off f = ne-eqb _ _ (λ e. f (rw (c, part-above n) e))
@@ -99,7 +98,7 @@ module _ (t : List ℕ) (v : Level) (k : LevelOf t v) where
     pub child-on : child ≡ start + j * v .part → childAsCut t (v .number) link start j ≡ true
     child-on e = eq-eqb _ _ (rw (c, part-above n) at e)
 
-  -- a target
+  -- A target.
   module _ (j gap len start : ℕ) where
     pub target-none : v .count ≤ j → false ≡ targetRight t (v .number) j gap len start
     unfolding targetRight
@@ -125,7 +124,7 @@ module _ (t : List ℕ) (v : Level) (k : LevelOf t v) where
       let ends = leb (at.start t (v .number) j + gap + len) start in
       omega (arith, ltb-true j (at.levelCount t (v .number)) (and-left below kept (and-left (below && kept) ends h)), k .count-is)
 
-  -- the block after it
+  -- The block after it.
   module _ (j : ℕ) where
     pub next-none : v .count ≤ j + 1 → false ≡ nextRight t (v .number) j
     unfolding nextRight
@@ -144,7 +143,7 @@ module _ (t : List ℕ) (v : Level) (k : LevelOf t v) where
       unfolding nextRight
       next-follows from to z e q = rw (next-table, kept-kind (j + 1) kind kind-is z, e, q, k .full-is)
 
-  -- a kept block
+  -- A kept block.
   module _ (i before width link : ℕ) (before-is : before ≡ sumBelow i (widthAt t (v .number))) (link-is : link ≡ at.link t (v .number) i) where
     pub kept-link : (link ≡ before → ⊥) → false ≡ keptRight t (v .number) i
     unfolding keptRight
@@ -171,7 +170,7 @@ module _ (t : List ℕ) (v : Level) (k : LevelOf t v) where
         unfolding keptRight
         kept-children n start r w s e = rw (linked, no-gap, not-last n, ← w, ← s, ← link-is) e
 
-  -- a pointing block, with its parts named
+  -- A pointing block, with its parts named.
   pointing-is : (i : ℕ) → pointingRight t (v .number) i
       ≡ (eqb (at.kind t (v .number) i) 1 && not (eqb (v .number) (lastLevel t)) && ltb (at.gap t (v .number) i) (at.fullLength t (v .number))
       && targetRight t (v .number) (at.link t (v .number) i) (at.gap t (v .number) i) (at.blockLengthAt t (v .number) i) (at.start t (v .number) i)
@@ -207,7 +206,7 @@ module _ (t : List ℕ) (v : Level) (k : LevelOf t v) where
           pointing-target f = rw (pointing-is i, points, not-last n, gap-fits, target-is false f)
 
           module _ (r : targetRight t (v .number) link gap len start ≡ true) where
-            -- what is left to be decided
+            -- What is left to be decided.
             rest-is : (x : Bool) → leb (gap + len) (v .full) ≡ x → pointingRight t (v .number) i ≡ (x || nextRight t (v .number) link)
             rest-is x e =
                 rw (
@@ -229,7 +228,7 @@ module _ (t : List ℕ) (v : Level) (k : LevelOf t v) where
             pub pointing-next : v .full < gap + len → (x : Bool) → x ≡ nextRight t (v .number) link → x ≡ pointingRight t (v .number) i
             pointing-next w x e = e ∙ sym (rest-is false (lt-leb (gap + len) (v .full) w))
 
-  -- either kind
+  -- Either kind.
   module _ (i kind : ℕ) (kind-is : kind ≡ at.kind t (v .number) i) (r : Bool) where
     pub block-kept : kind ≡ 0 → r ≡ keptRight t (v .number) i → r ≡ blockRight t (v .number) i
     unfolding blockRight

@@ -6,10 +6,9 @@ use Prim.Native.Nat.{ℕ, _+_, _-_, _*_, _^_, _≤_, _<_}
 use native.Mathlib.Omega.{arith}
 use borrow.Author.Tests.{eq-eqb, ne-eqb}
 use lib.ListN.{length}
-use Rattle.format.specs.Settings.{maxLevels}
-use Rattle.format.specs.HeaderPlaces.{headerLength}
+use Rattle.format.specs.Layout.{maxLevels, headerLength}
 use Rattle.format.specs.Layout as at
-use Rattle.format.specs.Fits.{lastLevel}
+use Rattle.format.specs.TreeReading.{lastLevel}
 use Rattle.layout.specs.declared.header.Header.{Header}
 use Rattle.layout.specs.HeaderSays.{HeaderOf, full-is}
 use Rattle.check_links.specs.LevelAsked.{partLength, roomBelow}

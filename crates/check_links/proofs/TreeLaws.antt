@@ -6,10 +6,10 @@ use Prim.Native.Nat.{ℕ, _+_, _-_, _*_, _≤_, _<_}
 use native.Mathlib.Omega.{arith}
 use borrow.Author.Tests.{eq-eqb, ne-eqb}
 use lib.Dec.{eqb}
-use Rattle.text.specs.Lists.{allBelow, sumBelow}
+use Rattle.text.specs.Text.{allBelow, sumBelow}
 use Rattle.text.specs.ListLaws.{sumBelow-part, sumBelow-suc, allBelow-not}
 use Rattle.format.specs.Layout as at
-use Rattle.format.specs.Fits.{widthAt, blockRight, countBelowRight, linksOk}
+use Rattle.format.specs.TreeReading.{widthAt, blockRight, countBelowRight, linksOk}
 use Rattle.layout.specs.declared.header.Header.{Header}
 use Rattle.check_links.specs.declared.level_read.Level.{Level}
 use Rattle.layout.specs.HeaderSays.{HeaderOf}
@@ -35,7 +35,7 @@ second-held : (b : Bool) {a : Bool} → a ≡ true → (r : Bool) → r ≡ b �
 second-held b p r e = rw p e
 
 module _ (t : List ℕ) (v : Level) (k : LevelOf t v) where
-  -- a block of level 0
+  -- A block of level 0.
   module _ (i start : ℕ) (is : start ≡ at.start t 0 i) (zeroth : v .number ≡ 0) where
     full-0 : v .full ≡ at.fullLength t 0
     full-0 = k .full-is ∙ ap (at.fullLength t) zeroth
@@ -49,7 +49,7 @@ module _ (t : List ℕ) (v : Level) (k : LevelOf t v) where
   pub count-0 : v .number ≡ 0 → v .count ≡ at.levelCount t 0
   count-0 zeroth = k .count-is ∙ ap (at.levelCount t) zeroth
 
-  -- the sum of the widths is the count one level below
+  -- The sum of the widths is the count one level below.
   sum-right : countBelowRight t (v .number) ≡ eqb (sumBelow (v .count) (widthAt t (v .number))) (v .room)
   unfolding countBelowRight roomBelow
   sum-right = rw (k .count-is, k .room-is)
@@ -75,7 +75,7 @@ module _ (t : List ℕ) (v : Level) (k : LevelOf t v) where
       let q : i ≡ v .count = omega arith in
       first-held (countBelowRight t (v .number)) (rw (← k .count-is, ← q) all) _ (sym (rw (sum-right, ← q, e)))
 
--- the whole of question 8
+-- The whole of question 8.
 module _ (t : List ℕ) where
   pub some-level : (h : Header) → HeaderOf t h → 0 < h .settings .levels
   some-level h k = omega (arith, levels-is t h k, k .facts .bounds .levels-low)

@@ -4,13 +4,13 @@ use mathlib.Core.Bool.{Bool, cond, _&&_}
 use mathlib.Core.Path.{_≡_}
 use Prim.Native.Nat.{ℕ, _+_, _*_, _<_}
 use lib.Dec.{eqb, leb, ltb}
-use Rattle.text.specs.Lists.{allBelow}
+use Rattle.text.specs.Text.{allBelow}
 use Rattle.format.specs.Layout as at
-use Rattle.format.specs.Fits.{lastLevel, countBelowRight, blockRight}
+use Rattle.format.specs.TreeReading.{lastLevel, countBelowRight, blockRight}
 use Rattle.format.specs.LayoutLaws.{Readable}
 use Rattle.check_links.specs.declared.level_read.Level.{Level}
 
--- the bytes of a full child; a last level block is cut into its leaf bytes
+-- The bytes of a full child; a last level block is cut into its leaf bytes.
 unfoldable pub partLength : List ℕ → ℕ → ℕ
 partLength t l = cond (eqb l (lastLevel t)) 1 (at.fullLength t (l + 1))
 

@@ -8,8 +8,8 @@ use layout::record;
 use layout::settings;
 ghost use mathlib.Core.Path.{_≡_};
 ghost use Prim.Native.Nat.{_+_, _≤_, _<_};
-ghost use Rattle.text.specs.Lists.{allBelow, sumBelow};
-ghost use Rattle.format.specs.Fits.{widthAt, keptRight, pointingRight, blockRight};
+ghost use Rattle.text.specs.Text.{allBelow, sumBelow};
+ghost use Rattle.format.specs.TreeReading.{widthAt, keptRight, pointingRight, blockRight};
 ghost use Rattle.check_links.specs.LevelAsked.{LevelOf, childAsCut, targetRight, nextRight};
 
 // The number of children of a block, or of its leaf bytes on the last level, by its kind.

@@ -8,8 +8,8 @@ use layout::place::BlockNumber;
 use layout::record;
 ghost use mathlib.Core.Path.{_≡_};
 ghost use Prim.Native.Nat.{_<_};
-ghost use Rattle.text.specs.Lists.{allBelow};
-ghost use Rattle.format.specs.Fits.{linksOk};
+ghost use Rattle.text.specs.Text.{allBelow};
+ghost use Rattle.format.specs.TreeReading.{linksOk};
 ghost use Rattle.layout.specs.HeaderSays.{HeaderOf};
 ghost use Rattle.check_links.specs.LevelAsked.{LevelOf, startAsCut, levelRight};
 

@@ -13,19 +13,19 @@ use borrow.Author.Tests.{le-leb, lt-leb, ne-eqb, leb-true}
 use Rattle.columns.specs.Columns.{transposed, columns, uncolumns, widthOk, refusalOf, columnsNumber, columnsLeaves, uncolumnsLeaves}
 use Rattle.columns.specs.ColumnLaws.{within, transposed-length, transposed-at, rows-are}
 
--- a text of r rows of c bytes
+-- A text of r rows of c bytes.
 module _ (r c : ℕ) (T : List ℕ) (size : length T ≡ r * c) where
   abbrev U : List ℕ
   U = transposed r c T
 
-  -- column b lies within
+  -- Column b lies within.
   pub column-in : (b : ℕ) → b < c → b * r + r ≤ length T
   column-in b h = let k : suc b ≤ c = omega arith in omega (arith, size, mul-comm r c, mul-le-mul-right r k, suc-mul b r)
 
   pub cell-in : (a b : ℕ) → a < r → b < c → a * c + b < length T
   cell-in a b ha hb = omega (arith, size, within a r c b ha hb)
 
-  -- one byte more of column b
+  -- One byte more of column b.
   pub cell-more : (d₀ d : List ℕ) (a b : ℕ) → length T ≤ length d₀ → a < r → b < c → d ≡ paste d₀ (b * r) (drop (b * r) U) a
       → set d (b * r + a) (getD T (a * c + b) 0) ≡ paste d₀ (b * r) (drop (b * r) U) (a + 1)
   cell-more d₀ d a b room ha hb e =
@@ -58,13 +58,13 @@ module _ (r c : ℕ) (T : List ℕ) (size : length T ≡ r * c) where
       let e : b * r ≡ length T = (let z : b ≡ c = omega arith in ap (λ (x : ℕ). x * r) z) ∙ mul-comm c r ∙ sym size in
       f ∙ rw (e, take-all (length T) U (omega (arith, transposed-length r c T size)))
 
-  -- no rows: the output stays
+  -- No rows: the output stays.
   pub filled-by-none : (d₀ : List ℕ) → r ≡ 0 → d₀ ≡ U ++ drop (length T) d₀
   filled-by-none d₀ none =
       let z : c * r ≡ 0 = ap (λ (x : ℕ). c * x) none ∙ mul-zero c in
       filled-all d₀ d₀ c (omega arith) (omega arith) (rw z)
 
--- questions 20 and 21
+-- Questions 20 and 21.
 module _ (w n room : ℕ) where
   pub refused-width : widthOk w n ≡ false → 20 ≡ refusalOf w n room
   unfolding refusalOf
@@ -78,7 +78,7 @@ module _ (w n room : ℕ) where
   unfolding refusalOf
   not-refused e h = rw (e, le-leb n room h)
 
--- what is not refused
+-- What is not refused.
 module _ (w : ℕ) (T out : List ℕ) where
   pub let-through : refusalOf w (length T) (length out) ≡ 0 → (widthOk w (length T) ≡ true) × (length T ≤ length out)
   unfolding refusalOf
@@ -98,7 +98,7 @@ module _ (w : ℕ) (T out : List ℕ) where
     ok : widthOk w (length T) ≡ true
     ok = let-through z .0
 
-    -- rows and width, either way
+    -- Rows and width, either way.
     pub by-rows : (length T ≡ length T / w * w) × (length T ≤ length out)
     by-rows = (rows-are w T ok, let-through z .1)
 

@@ -70,12 +70,12 @@ module _ (w : ℕ) (T out U after W : List ℕ) (a : Rearranges w T out U after 
       let z = b .written (rw size (a .passed refl .0)) (rw size room) in
       (z .0, rw size at (z .1))
 
-  -- by a rearrangement that takes U to T
+  -- By a rearrangement that takes U to T.
   back-by : (f : List ℕ → List ℕ) → f U ≡ T → (back left : List ℕ) (r : ℕ) → Rearranges w W back (f W) left r → length T ≤ length back
       → (r ≡ 0) × (left ≡ T ++ drop (length T) back)
   back-by f e back left r b room = again back left r (rw (ap f turned ∙ e) at b) room
 
--- what the call wrote, lent to another
+-- What the call wrote, lent to another.
 pub to-columns-input : (κs : Lfts 2) (text : Lent) (w : ℕ) (out after : Lent) → ToColumns κs text w out after 0
     → (W : List ℕ) → W ≡ take (length (now text)) (now after) → W ≡ columns w (now text)
 to-columns-input κs text w out after a W is =

@@ -10,9 +10,8 @@ use lib.ListN.{length, getD}
 use lib.Seq.{ext-getD}
 use lib.Dec.{ltb, eqb}
 use borrow.Author.Tests.{ltb-true, eqb-true, lt-ltb}
-use Rattle.text.specs.Lists.{tabulate}
+use Rattle.text.specs.Text.{tabulate, stretch}
 use Rattle.text.specs.ListLaws.{and-left, and-right, pos-of-ne, length-tabulate, getD-tabulate}
-use Rattle.text.specs.Text.{stretch}
 use Rattle.text.specs.TextLaws.{length-stretch, getD-stretch}
 use Rattle.columns.specs.Columns.{transposed, columns, uncolumns, widthOk}
 
@@ -23,7 +22,7 @@ goesTo w n p = p % w * (n / w) + p / w
 unfoldable pub comesFrom : ℕ → ℕ → ℕ → ℕ
 comesFrom w n p = p % (n / w) * w + p / (n / w)
 
--- place o of row b, of rows of r
+-- Place o of row b, of rows of r.
 pub in-row : (b r o : ℕ) → o < r → (b * r + o) % r ≡ o
 in-row b r o h = mul-add-mod-self-right b r o ∙ mod-eq-of-lt h
 
@@ -36,7 +35,7 @@ within b c r o hb ho =
     let h : suc b ≤ c = omega arith in
     omega (arith, mul-le-mul-right r h, suc-mul b r)
 
--- a place of c rows of r
+-- A place of c rows of r.
 row-below : (p c r : ℕ) → p < c * r → (p / r < c) × (p % r < r)
 row-below p c r h = (div-lt-iff-lt-mul (some r h) .1 h, mod-lt p (some r h))
   where
@@ -103,12 +102,12 @@ module _ (w : ℕ) (T : List ℕ) (ok : widthOk w (length T) ≡ true) where
   unfolding uncolumns
   uncolumns-length = transposed-length w (length T / w) T (rows-are ∙ mul-comm (length T / w) w)
 
-  -- which byte goes where
+  -- Which byte goes where.
   pub columns-at : (a b : ℕ) → a < length T / w → b < w → getD (columns w T) (b * (length T / w) + a) 0 ≡ getD T (a * w + b) 0
   unfolding columns
   columns-at a b ha hb = transposed-at (length T / w) w T rows-are a b ha hb
 
-  -- what moves: the byte of place p goes to goesTo p, and back from there
+  -- What moves: the byte of place p goes to goesTo p, and back from there.
   pub columns-moves : (p : ℕ) → p < length T → getD (columns w T) (goesTo w (length T) p) 0 ≡ getD T p 0
   unfolding goesTo
   columns-moves p h =
@@ -133,7 +132,7 @@ module _ (w : ℕ) (T : List ℕ) (ok : widthOk w (length T) ≡ true) where
   rearranged =
       ap (λ (n : ℕ). transposed (n / w) w (uncolumns w T)) uncolumns-length ∙ transposed-back w (length T / w) T (rows-are ∙ mul-comm (length T / w) w)
 
-  -- row a of the text, read by columns
+  -- Row a of the text, read by columns.
   pub row-by-columns : (a : ℕ) → a < length T / w → stretch T (a * w) w ≡ tabulate w (λ b. getD (columns w T) (b * (length T / w) + a) 0)
   row-by-columns a ha =
       let end : a * w + w ≤ length T = omega (arith, rows-are, mul-le-mul-right w (let h : suc a ≤ length T / w = omega arith in h), suc-mul a w) in
@@ -142,14 +141,14 @@ module _ (w : ℕ) (T : List ℕ) (ok : widthOk w (length T) ≡ true) where
       (λ b l. let hb : b < w = rw (length-stretch T (a * w) w end) at l in
       getD-stretch T (a * w) w b hb ∙ sym (columns-at a b ha hb) ∙ sym (getD-tabulate w (λ k. getD (columns w T) (k * (length T / w) + a) 0) b 0 hb))
 
--- the other way round: row a of the text that T is the rearrangement of, read from T
+-- The other way round: row a of the text that T is the rearrangement of, read from T.
 pub row-read : (w : ℕ) (T : List ℕ) → widthOk w (length T) ≡ true → (a : ℕ) → a < length T / w
     → stretch (uncolumns w T) (a * w) w ≡ tabulate w (λ b. getD T (b * (length T / w) + a) 0)
 row-read w T ok a ha =
     let same = uncolumns-length w T ok in
     rw (same, rearranged w T ok) at (row-by-columns w (uncolumns w T) (rw same ok) a (rw same ha))
 
--- the empty text is rearranged to itself
+-- The empty text is rearranged to itself.
 pub empty-columns : (w : ℕ) → columns w [] ≡ []
 unfolding columns transposed tabulate
 empty-columns w = refl
@@ -158,7 +157,7 @@ pub empty-uncolumns : (w : ℕ) → uncolumns w [] ≡ []
 unfolding uncolumns transposed tabulate
 empty-uncolumns w = refl
 
--- both directions are permutations: each maps places below n to places below n and undoes the other
+-- Both directions are permutations: each maps places below n to places below n and undoes the other.
 module _ (w n : ℕ) (ok : widthOk w n ≡ true) (p : ℕ) (h : p < n) where
   size : n ≡ n / w * w
   size = width-rows w n ok

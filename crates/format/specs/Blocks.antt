@@ -5,13 +5,9 @@ use mathlib.Core.Bool.{Bool, cond, not, _&&_, _||_}
 use Prim.Native.Nat.{ℕ, zero, suc, _+_, _-_, _*_, _/_, min}
 use lib.ListN.{length, getD, replicate}
 use lib.Dec.{ltb, leb, eqb}
-use Rattle.text.specs.Lists.{tabulate, concat, sumBelow, countBelow}
-use Rattle.format.specs.Words.{wordsBytes}
-use Rattle.format.specs.RecordFields.{plainFields, countFields}
-use Rattle.text.specs.Text.{stretch, leftmost, countIn}
-use Rattle.format.specs.Settings.{Settings, maxCounted, maxLevels, blockLength, pieces, recordLength}
-use Rattle.format.specs.HeaderPlaces.{headerLength}
-use Rattle.format.specs.Edges.{edgesOf}
+use Rattle.text.specs.Text.{tabulate, concat, sumBelow, countBelow, stretch, leftmost, countIn}
+use Rattle.format.specs.Layout.{wordsBytes, plainFields, countFields, Settings, maxCounted, maxLevels, blockLength, pieces, recordLength, headerLength}
+use Rattle.format.specs.Layout.{edgesOf}
 
 -- The blocks of one level above the last: b bytes each, at the places `starts`.
 module _ (T : List ℕ) (b : ℕ) (starts : List ℕ) where
@@ -74,9 +70,9 @@ module _ (S : Settings) (T : List ℕ) (l : ℕ) (starts : List ℕ) where
   unfoldable pub target : ℕ → ℕ
   target i = countBelow (length starts) (λ j. leb (startOf T b starts j) (occurrence i)) - 1
 
-  -- the start of the parent of a block that starts at s; the text's on level 0. That this is the parent's start is proved: `parent-start` of crate
+  -- The start of the parent of a block that starts at s; the text's on level 0. That this is the parent's start is proved: `parent-start` of crate
   -- `theory_built`
-  -- (specs/Parents.antt)
+  -- (specs/Parents.antt).
   abbrev parentStart : ℕ → ℕ
   parentStart s = elim l [ zero ↦ 0 | suc above ↦ s / blockLength S above * blockLength S above ]
 

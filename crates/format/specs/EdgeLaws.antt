@@ -8,7 +8,7 @@ use lib.ListN.{length, getD, drop, replicate, length-append, length-take, length
 use lib.Seq.{getD-take, getD-drop, getD-append-add}
 use Rattle.text.specs.Text.{stretch}
 use Rattle.text.specs.TextLaws.{length-stretch, getD-stretch}
-use Rattle.format.specs.Edges.{filledOut, edgesOf}
+use Rattle.format.specs.Layout.{filledOut, edgesOf}
 
 module _ (m : ℕ) (bytes : List ℕ) where
   pub length-filled : length (filledOut m bytes) ≡ m
@@ -32,7 +32,7 @@ module _ (m : ℕ) (bytes : List ℕ) where
   unfolding edgesOf
   length-edges = rw (length-append, length-filled m bytes, length-filled m (drop (length bytes - m) bytes))
 
-  -- the first edge, and the last
+  -- The first edge, and the last.
   pub edges-first : (x : ℕ) → x < m → getD (edgesOf m bytes) x 0 ≡ getD (filledOut m bytes) x 0
   unfolding edgesOf
   edges-first x h = List·getD-append (filledOut m bytes) (filledOut m (drop (length bytes - m) bytes)) 0 x (rw (length-filled m bytes) h)

@@ -6,11 +6,9 @@ use Prim.Native.Nat.{ℕ, _≤_, _-_}
 use borrow.Author.Tests.{leb-true, le-leb}
 use lib.Dec.{leb}
 use Rattle.text.specs.ListLaws.{and-left, and-right}
-use Rattle.format.specs.Verdict.{readable, verdict}
+use Rattle.format.specs.TreeReading.{readable, verdict}
 use Rattle.format.specs.SaidLaws.{next-passes, asks-pass}
-use Rattle.format.specs.CountSays.{isCounted, numberOfByte}
-use Rattle.format.specs.FindSays.{total, selectNumber, FindBy}
-use Rattle.format.specs.Said.{Said}
+use Rattle.format.specs.Answers.{isCounted, numberOfByte, total, selectNumber, FindBy, Said}
 
 module _ (t : List ℕ) where
   -- find's own: settled on accepted trees (with a guide, where the guide is accepted too)

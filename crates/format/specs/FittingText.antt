@@ -5,13 +5,12 @@ use mathlib.Core.Bool.{Bool, not, _&&_, _||_}
 use Prim.Native.Nat.{ℕ, _+_}
 use lib.ListN.{length}
 use lib.Dec.{eqb}
-use Rattle.text.specs.Lists.{tabulate, allBelow, sameList}
-use Rattle.text.specs.Text.{stretch}
+use Rattle.text.specs.Text.{tabulate, allBelow, sameList, stretch}
 use Rattle.format.specs.Layout as at
-use Rattle.format.specs.Fits.{lastLevel}
+use Rattle.format.specs.TreeReading.{lastLevel}
 
 module _ (T t : List ℕ) where
-  -- block i's bytes in the text are its leaf bytes if it is on the last level, and those of its occurrence if it points (kind 1)
+  -- Block i's bytes in the text are its leaf bytes if it is on the last level, and those of its occurrence if it points (kind 1).
   unfoldable pub blockFits : ℕ → ℕ → Bool
   unfolding lastLevel at.blockLengthAt at.start at.link at.gap at.isPointing
   blockFits l i =

@@ -9,21 +9,20 @@ use native.Mathlib.Nat.{mul-le-mul-right, le-trans, add-mul}
 use borrow.Author.Tests.{eqb-true, leb-true}
 use lib.ListN.{length, getD, length-take, length-drop}
 use lib.Dec.{eqb, leb}
-use Rattle.text.specs.Lists.{allBelow, sumBelow}
+use Rattle.text.specs.Text.{allBelow, sumBelow}
 use Rattle.text.specs.ListLaws.{and-left, and-right, or-cases, allBelow-at, sumBelow-part}
 use Rattle.text.specs.Conjunctions.{parts}
-use Rattle.format.specs.RecordFields.{fieldBytes, startField, kindField, linkField, gapField, plainWords, countedWords, plainFields}
-use Rattle.format.specs.Settings.{maxText, maxLevels, maxCounted, pieces, lengthOk, sizesOk, countedOk, rising}
+use Rattle.format.specs.Layout.{fieldBytes, startField, kindField, linkField, gapField, plainWords, countedWords, plainFields}
+use Rattle.format.specs.Layout.{maxText, maxLevels, maxCounted, pieces, lengthOk, sizesOk, countedOk, rising, countedAt, headerLength}
 use Rattle.format.specs.SizeLaws.{maxRecord}
-use Rattle.format.specs.HeaderPlaces.{countedAt, headerLength}
 use Rattle.format.specs.SizeLaws.{Bounds, within-bounds, length-step, length-pos, length-last, length-falls, length-top, record-low, record-high}
 use Rattle.format.specs.SizeLaws.{record-edged}
 use Rattle.format.specs.PieceLaws.{pieces-hold}
 use Rattle.format.specs.Layout.{layout, textLength, countedCount, settings, levelCount, levelOffset, leafOffset, leafCount, recordSize, edgesAt}
 use Rattle.format.specs.Layout.{fullLength, longEnough, layoutOk, headerOk}
-use Rattle.format.specs.Verdict.{ask, readable}
+use Rattle.format.specs.TreeReading.{ask, readable}
 
--- the words of a record with k counted bytes
+-- The words of a record with k counted bytes.
 abbrev pub fieldCount : ℕ → ℕ
 fieldCount k = plainWords + countedWords * k
 
@@ -56,7 +55,7 @@ pub ask-rest : (q : ℕ) (b : Bool) (rest : ℕ) → ask (suc q) b rest ≡ 0 �
 ask-rest q true rest h = h
 ask-rest q false rest h = absurd (let z : ⊥ = omega arith in z)
 
--- the tests of question 7, in order
+-- The tests of question 7, in order.
 record Header (t : List ℕ) : Type 0 where
   text : lengthOk (textLength t) ≡ true
   sizes : sizesOk (settings t) ≡ true
@@ -178,7 +177,7 @@ module _ (t : List ℕ) (k : Readable t) where
   unfolding recordSize
   size-edged = record-edged (layout t) (settings t .leaf) (countedCount t)
 
-  -- each byte of each record lies before the leaf bytes
+  -- Each byte of each record lies before the leaf bytes.
   pub byte-inside : (l i x : ℕ) → l < settings t .levels → i < levelCount t l → x ≤ recordSize t
       → levelOffset t l + i * recordSize t + x ≤ leafOffset t
   byte-inside l i x hl hi hx =
@@ -209,6 +208,6 @@ module _ (t : List ℕ) (k : Readable t) where
   pub leaf-inside : (x : ℕ) → x < leafCount t → leafOffset t + x < length t
   leaf-inside x h = omega (arith, k .size)
 
-  -- the block of level 0 that holds a place of the text is in the table
+  -- The block of level 0 that holds a place of the text is in the table.
   pub level0-holds : (p : ℕ) → p < textLength t → p / fullLength t 0 < levelCount t 0
   level0-holds p h = rw (k .level0) (pieces-hold (textLength t) (fullLength t 0) p (full-pos 0) h)

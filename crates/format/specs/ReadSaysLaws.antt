@@ -7,7 +7,7 @@ use lib.Dec.{eqb, leb}
 use borrow.Author.Tests.{eqb-true, eq-eqb, leb-true, le-leb}
 use Rattle.text.specs.ListLaws.{and-left, and-right}
 use Rattle.format.specs.Layout as at
-use Rattle.format.specs.ReadSays.{isShort}
+use Rattle.format.specs.Answers.{isShort}
 
 -- 1 to m bytes of a layout 2 tree
 pub record ShortSpan (t : List ℕ) (len : ℕ) : Type 0 where

@@ -7,8 +7,8 @@ use native.Mathlib.Omega.{arith}
 use borrow.Author.Tests.{ne-eqb, leb-true}
 use lib.Dec.{leb, eqb}
 use Rattle.text.specs.ListLaws.{and-left, and-right}
-use Rattle.format.specs.Said.{Said, refused, unless}
-use Rattle.format.specs.Verdict.{ask, asks, orNext}
+use Rattle.format.specs.Answers.{Said, refused, unless}
+use Rattle.format.specs.TreeReading.{ask, asks, orNext}
 
 -- A refusal is passed on.
 pub unless-refused : (n k q : ℕ) (a : Said) → n ≡ suc k → q ≡ suc k → refused q ≡ unless n a
@@ -19,35 +19,35 @@ pub unless-passes : (n : ℕ) (a : Said) → unless n a .number ≡ 0 → (n ≡
 unless-passes zero a h = (refl, h)
 unless-passes (suc n) a h = absurd (let z : ⊥ = omega arith in z)
 
--- before an answer that is no refusal, the number is the questions'
+-- Before an answer that is no refusal, the number is the questions'.
 pub unless-number : (n : ℕ) (a : Said) → a .number ≡ 0 → unless n a .number ≡ n
 unless-number zero a z = z
 unless-number (suc n) a z = refl
 
--- the same of numbers alone
+-- The same of numbers alone.
 pub then-is : (n rest : ℕ) → cond (eqb n 0) rest n ≡ unless n (refused rest) .number
 then-is zero rest = refl
 then-is (suc n) rest = rw (ne-eqb (suc n) 0 (λ e. omega arith))
 
--- no question refuses: the first ones do not, and the next ones do not
+-- No question refuses: the first ones do not, and the next ones do not.
 pub next-passes : (n rest : ℕ) → orNext n rest ≡ 0 → (n ≡ 0) × (rest ≡ 0)
 next-passes n rest h = unless-passes n (refused rest) (sym (then-is n rest) ∙ h)
 
--- the refusal of the first questions is the refusal
+-- The refusal of the first questions is the refusal.
 pub next-refused : (n rest q : ℕ) → n ≡ suc q → orNext n rest ≡ suc q
 next-refused n rest q e = rw (e, ne-eqb (suc q) 0 (λ z. omega arith))
 
--- every test of the table holds
+-- Every test of the table holds.
 abbrev pub AllPass : List (ℕ × Bool) → Type 0
 AllPass [] = Unit {0}
 AllPass (q ∷ qs) = (q .1 ≡ true) × AllPass qs
 
--- no question of the table has the number 0
+-- No question of the table has the number 0.
 abbrev pub noZero : List (ℕ × Bool) → Bool
 noZero [] = true
 noZero (q ∷ qs) = leb 1 (q .0) && noZero qs
 
--- where a table does not refuse, each of its tests holds
+-- Where a table does not refuse, each of its tests holds.
 pub asks-pass : (qs : List (ℕ × Bool)) → noZero qs ≡ true → asks qs ≡ 0 → AllPass qs
 asks-pass [] k h = tt
 asks-pass (q ∷ qs) k h = go (q .1) refl h (asks-pass qs (and-right (leb 1 (q .0)) (noZero qs) k))

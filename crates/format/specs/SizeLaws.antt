@@ -9,10 +9,9 @@ use borrow.Author.Tests.{leb-true, ne-eqb}
 use lib.Dec.{leb, eqb}
 use Rattle.text.specs.ListLaws.{and-left, and-right}
 use Rattle.text.specs.Conjunctions.{parts}
-use Rattle.format.specs.RecordFields.{fieldBytes}
-use Rattle.format.specs.Settings.{Settings, sizesOk, blockLength, recordLength, maxText, maxLeaf, minArity, maxArity, maxLevels, maxCounted}
+use Rattle.format.specs.Layout.{fieldBytes, Settings, sizesOk, blockLength, recordLength, maxText, maxLeaf, minArity, maxArity, maxLevels, maxCounted}
 
--- the most bytes of a record
+-- The most bytes of a record.
 abbrev pub maxRecord : ℕ
 maxRecord = fieldBytes maxCounted + (maxLeaf + maxLeaf)
 
@@ -28,7 +27,7 @@ pub record Bounds (n m r H k : ℕ) : Type 0 where
   pub top-high : m * r ^ (H - 1) ≤ maxText
   pub counted-high : k ≤ maxCounted
 
--- settings that pass question 2 are within them, beside a text and counted bytes that are
+-- Settings that pass question 2 are within them, beside a text and counted bytes that are.
 pub within-bounds : (n k : ℕ) (S : Settings) → n ≤ maxText → sizesOk S ≡ true → k ≤ maxCounted → Bounds n (S .leaf) (S .arity) (S .levels) k
 unfolding sizesOk
 within-bounds n k S short h few =
@@ -47,7 +46,7 @@ within-bounds n k S short h few =
       counted-high = few;
     }
 
--- the bounds of m, r and H alone: with the empty text, and no counted bytes
+-- The bounds of m, r and H alone: with the empty text, and no counted bytes.
 abbrev pub Sizes : ℕ → ℕ → ℕ → Type 0
 Sizes m r H = Bounds 0 m r H 0
 
@@ -69,7 +68,7 @@ unfolding blockLength
 length-top S = let e : S .levels - 1 - 0 ≡ S .levels - 1 = omega arith in rw e
 
 module _ (S : Settings) {n k : ℕ} (z : Bounds n (S .leaf) (S .arity) (S .levels) k) where
-  -- a full block is as long as r full blocks of the next level
+  -- A full block is as long as r full blocks of the next level.
   pub length-step : (l : ℕ) → l + 1 < S .levels → blockLength S l ≡ blockLength S (l + 1) * S .arity
   unfolding blockLength
   length-step l h =
@@ -86,12 +85,12 @@ module _ (S : Settings) {n k : ℕ} (z : Bounds n (S .leaf) (S .arity) (S .level
       let e : S .levels - 1 - (S .levels - 1) ≡ 0 = omega arith in
       rw (e, pow-zero, mul-one)
 
-  -- no block is longer than one of a level above
+  -- No block is longer than one of a level above.
   pub length-falls : (l j : ℕ) → l ≤ j → blockLength S j ≤ blockLength S l
   unfolding blockLength
   length-falls l j h = mul-le-mul-left (S .leaf) (pow-le-pow-right (omega (arith, z .arity-low)) (omega arith))
 
--- a record has its words, and at most two edges after them
+-- A record has its words, and at most two edges after them.
 cond-low : (y : Bool) (m : ℕ) → cond y (m + m) 0 ≤ m + m
 cond-low true m = omega arith
 cond-low false m = omega arith

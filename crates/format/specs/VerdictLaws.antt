@@ -6,8 +6,7 @@ use Prim.Native.Nat.{ℕ, suc}
 use native.Mathlib.Omega.{arith}
 use Rattle.text.specs.ListLaws.{and-left, and-right}
 use Rattle.format.specs.Layout.{layout, hasEdges, longEnough, layoutOk, headerOk}
-use Rattle.format.specs.Fits.{linksOk, textOf, countsTrue, edgesTrue}
-use Rattle.format.specs.Verdict.{ask, readable, verdict}
+use Rattle.format.specs.TreeReading.{linksOk, textOf, countsTrue, edgesTrue, ask, readable, verdict}
 use Rattle.format.specs.SaidLaws.{AllPass, asks-pass}
 
 refused-first : (a b c : Bool) (q rest : ℕ) → ask 5 a (ask 6 b (ask 7 c 0)) ≡ suc q → ask 5 a (ask 6 b (ask 7 c rest)) ≡ suc q
@@ -22,18 +21,18 @@ unfolding edgesTrue hasEdges
 no-edges T t e = rw e
 
 module _ (t : List ℕ) where
-  -- question 9
+  -- Question 9.
   abbrev nine : Bool
   nine = countsTrue (textOf t) t && edgesTrue (textOf t) t
 
-  -- the verdict of a tree that passes questions 5 to 7 is that of 8 and 9
+  -- The verdict of a tree that passes questions 5 to 7 is that of 8 and 9.
   pub verdict-readable : readable t ≡ 0 → verdict t ≡ ask 8 (linksOk t) (ask 9 (countsTrue (textOf t) t && edgesTrue (textOf t) t) 0)
   unfolding readable verdict
   verdict-readable h =
       let p = asks-pass ((5, longEnough t) ∷ (6, layoutOk t) ∷ (7, headerOk t) ∷ []) refl h in
       rw (p .0, p .1 .0, p .1 .1 .0)
 
-  -- the verdict of a tree that fails one of them is its number
+  -- The verdict of a tree that fails one of them is its number.
   pub verdict-refused : (q : ℕ) → readable t ≡ suc q → verdict t ≡ suc q
   unfolding readable verdict
   verdict-refused q h = refused-first (longEnough t) (layoutOk t) (headerOk t) q _ h

@@ -8,14 +8,14 @@ use native.Mathlib.Numerals.{add-one, add-two, add-three}
 use native.Mathlib.Nat.{div-add-mod, div-div-eq-div-mul, mod-eq-of-lt, add-assoc, mul-suc}
 use lib.ListN.{length, getD, take, drop, length-set}
 use lib.Seq.{getD-set-other, sets-eq, getD-append-add}
-use Rattle.text.specs.Lists.{concat}
-use Rattle.format.specs.Words.{wordAt, wordBytes, wordsBytes, setWord}
+use Rattle.text.specs.Text.{concat}
+use Rattle.format.specs.Layout.{wordAt, wordBytes, wordsBytes, setWord}
 
--- three words, one after the other
+-- Three words, one after the other.
 abbrev pub putThree : List ℕ → ℕ → ℕ → ℕ → ℕ → List ℕ
 putThree t i a b c = setWord (setWord (setWord t i a) (i + 4) b) (i + 8) c
 
--- a number below 2^32 is the sum of its four digits to base 256
+-- A number below 2^32 is the sum of its four digits to base 256.
 pub digits : (w : ℕ) → w < 4294967296 → w % 256 + 256 * (w / 256 % 256) + 65536 * (w / 65536 % 256) + 16777216 * (w / 16777216 % 256) ≡ w
 digits w small =
     let top : w / 16777216 < 256 = omega arith in
@@ -27,12 +27,12 @@ digits w small =
       mod-eq-of-lt top,
     )
 
--- a word's own bytes, with anything after them, read as that word
+-- A word's own bytes, with anything after them, read as that word.
 pub wordAt-wordBytes : (w : ℕ) (rest : List ℕ) → w < 4294967296 → wordAt (wordBytes w ++ rest) 0 ≡ w
 unfolding wordAt wordBytes
 wordAt-wordBytes w rest small = digits w small
 
--- a word is its four bytes alone: lists that agree on them have the same word there, whatever else they hold and however long they are
+-- A word is its four bytes alone: lists that agree on them have the same word there, whatever else they hold and however long they are.
 pub wordAt-agree : (t u : List ℕ) (i : ℕ) → ((k : ℕ) → i ≤ k → k < i + 4 → getD t k 0 ≡ getD u k 0) → wordAt t i ≡ wordAt u i
 unfolding wordAt
 wordAt-agree t u i same =
@@ -43,7 +43,7 @@ wordAt-agree t u i same =
       same (i + 3) (omega arith) (omega arith),
     )
 
--- four bytes make a word below 2^32
+-- Four bytes make a word below 2^32.
 pub wordAt-lt : (t : List ℕ) (i : ℕ) → ((k : ℕ) → getD t k 0 < 256) → wordAt t i < 4294967296
 unfolding wordAt
 wordAt-lt t i byte = omega (arith, byte i, byte (i + 1), byte (i + 2), byte (i + 3))

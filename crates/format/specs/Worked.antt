@@ -7,25 +7,22 @@ use mathlib.Core.Path.{_≡_, refl}
 use Prim.Native.Nat.{ℕ}
 use native.Mathlib.Omega.{arith}
 use lib.ListN.{length, replicate, take, drop}
-use Rattle.text.specs.Lists.{tabulate, concat, sumBelow, countBelow, allBelow, sameList}
-use Rattle.format.specs.Words.{setWord, wordAt, wordsBytes, wordBytes}
-use Rattle.text.specs.Text.{stretch, leftmost, firstFrom, countIn, placeOf, placeIn}
-use Rattle.format.specs.Settings.{Settings, blockLength, pieces, recordLength, lengthOk, sizesOk, countedOk, rising, risingAfter}
-use Rattle.format.specs.Edges.{edgesOf, filledOut}
+use Rattle.text.specs.Text.{tabulate, concat, sumBelow, countBelow, allBelow, sameList, stretch, leftmost, firstFrom, countIn, placeOf, placeIn}
+use Rattle.format.specs.Layout.{setWord, wordAt, wordsBytes, wordBytes}
+use Rattle.format.specs.Layout.{Settings, blockLength, pieces, recordLength, lengthOk, sizesOk, countedOk, rising, risingAfter, edgesOf, filledOut}
 use Rattle.format.specs.Blocks.{treeOf, header, leafBytes, levelPairs, recordBytes, levelBytes, recordIn, recordOf, target, occurrence, width}
 use Rattle.format.specs.Blocks.{isKept, startsAt, cut, keptByPairs, firstPairAt, pairAt, lengthOf, startOf}
 use Rattle.format.specs.Layout as at
-use Rattle.format.specs.Path.{pathOf, pathFrom, visit, targetPlace, targetBlock, pointingBlock, keptBlock, lands, landBlock, landPlace, landVisits}
-use Rattle.format.specs.Short.{shortOf, shortFrom, byEdges, inLeaf}
-use Rattle.format.specs.Fits.{linksOk, textOf, countsTrue, edgesTrue, blockEdgesTrue, lastLevel, widthAt, keptRight, pointingRight}
+use Rattle.format.specs.TreeReading.{pathOf, pathFrom, visit, targetPlace, targetBlock, pointingBlock, keptBlock, lands, landBlock, landPlace}
+use Rattle.format.specs.TreeReading.{landVisits}
+use Rattle.format.specs.TreeReading.{shortOf, shortFrom, byEdges, inLeaf}
+use Rattle.format.specs.TreeReading.{linksOk, textOf, countsTrue, edgesTrue, blockEdgesTrue, lastLevel, widthAt, keptRight, pointingRight}
 use Rattle.format.specs.FittingText.{fits, blockFits}
-use Rattle.format.specs.Fits.{blockRight, countBelowRight, blockCountsTrue}
-use Rattle.format.specs.Verdict.{verdict, readable}
-use Rattle.format.specs.Said.{Said}
-use Rattle.format.specs.ReadSays.{byteSays, runSays, asksSpan, leavesSpan, isShort, spanReached, spanBytes, spanBlocks, spanNumber, spanSays}
-use Rattle.format.specs.ReadSays.{spanLeaves, leftOver, pathsHold}
-use Rattle.format.specs.CountSays.{countSays, indexOf, added, addedAfter, taken, takenAfter, lastPlace, leavesReached, isCounted, numberOfByte}
-use Rattle.format.specs.FindSays.{selectNumber, total, found}
+use Rattle.format.specs.TreeReading.{blockRight, countBelowRight, blockCountsTrue, verdict, readable}
+use Rattle.format.specs.Answers.{Said, byteSays, runSays, asksSpan, leavesSpan, isShort, spanReached, spanBytes, spanBlocks, spanNumber, spanSays}
+use Rattle.format.specs.Answers.{spanLeaves, leftOver, pathsHold}
+use Rattle.format.specs.Answers.{countSays, indexOf, added, addedAfter, taken, takenAfter, lastPlace, leavesReached, isCounted, numberOfByte}
+use Rattle.format.specs.Answers.{selectNumber, total, found}
 use Rattle.format.specs.FindSaysLaws.{FindSays}
 
 book : List ℕ
@@ -37,7 +34,7 @@ two = record { leaf = 2; arity = 2; levels = 2; counted = 65 ∷ [] }
 plain : Settings
 plain = record { leaf = 2; arity = 2; levels = 2; counted = [] }
 
--- settings without counted bytes
+-- Settings without counted bytes.
 shape : ℕ → ℕ → ℕ → Settings
 shape m r levels = record { leaf = m; arity = r; levels = levels; counted = [] }
 
@@ -47,36 +44,36 @@ abcd = 65 ∷ 66 ∷ 67 ∷ 68 ∷ 65 ∷ 66 ∷ 67 ∷ 68 ∷ 65 ∷ []
 said : ℕ → ℕ → ℕ → Said
 said q v e = record { number = q; value = v; entered = e }
 
--- a span: its number, its length, the blocks entered, and what it leaves of three bytes 1
+-- A span: its number, its length, the blocks entered, and what it leaves of three bytes 1.
 spanned : List ℕ → ℕ → ℕ → Said × List ℕ
 spanned t p len = (spanSays t p len 3, spanLeaves t p len (1 ∷ 1 ∷ 1 ∷ []))
 
--- the book's tree with kind 2 in blocks 0 and 1 of level 0, and with another start in block 0
+-- The book's tree with kind 2 in blocks 0 and 1 of level 0, and with another start in block 0.
 other-kinds : List ℕ
 other-kinds = setWord (setWord (treeOf two book) 104 2) 136 2
 
 other-start : List ℕ
 other-start = setWord (treeOf two book) 100 18
 
--- the book's tree with kind 2 in its pointing block, block 4 of level 0, and in block 0 of the last level
+-- The book's tree with kind 2 in its pointing block, block 4 of level 0, and in block 0 of the last level.
 pointing-two : List ℕ
 pointing-two = setWord (treeOf two book) 232 2
 
 leaf-two : List ℕ
 leaf-two = setWord (treeOf two book) 264 2
 
--- the book with other bytes in the pointing block, and with another first byte
+-- The book with other bytes in the pointing block, and with another first byte.
 other-end : List ℕ
 other-end = take 16 book ++ 87 ∷ 88 ∷ 89 ∷ 90 ∷ []
 
 other-first : List ℕ
 other-first = 90 ∷ drop 1 book
 
--- the words of the records of level l
+-- The words of the records of level l.
 words : Settings → List ℕ → ℕ → List ℕ
 words S T l = concat (tabulate (length (startsAt S T l)) (recordOf S T l (startsAt S T l)))
 
--- the trees of the book and of twelve letters A in layout 1: the header's words, the records without edges, the leaf bytes
+-- The trees of the book and of twelve letters A in layout 1: the header's words, the records without edges, the leaf bytes.
 older : List ℕ
 older =
     wordsBytes (1 ∷ 20 ∷ 2 ∷ 2 ∷ 2 ∷ 1 ∷ 65 ∷ 5 ∷ 100 ∷ 8 ∷ 240 ∷ []) ++ replicate
@@ -113,19 +110,19 @@ pub record Marked : Type 0 where
   path : pathOf (treeOf two book) 18 ≡ some (record { visits = visit 0 4 2 ∷ visit 0 0 3 ∷ visit 1 1 1 ∷ []; leaf = 3 })
   text : textOf (treeOf two book) ≡ book
   accepted : verdict (treeOf two book) ≡ 0
-  -- the edges of block 0, QABC, and of M10's last block, of one byte
+  -- The edges of block 0, QABC, and of M10's last block, of one byte.
   edges : (stretch (treeOf two book) 128 4 ≡ 81 ∷ 65 ∷ 66 ∷ 67 ∷ []) × (stretch (treeOf two abcd) 192 4 ≡ 65 ∷ 0 ∷ 65 ∷ 0 ∷ [])
-  -- over a level 0 border; over a border of level 1; in a leaf; through a pointing block, and over the border of its two targets
+  -- Over a level 0 border; over a border of level 1; in a leaf; through a pointing block, and over the border of its two targets.
   over-top : spanned (treeOf two book) 3 2 ≡ (said 0 2 2, 67 ∷ 68 ∷ 1 ∷ [])
   over-child : spanned (treeOf two book) 1 2 ≡ (said 0 2 3, 65 ∷ 66 ∷ 1 ∷ [])
   in-leaf : spanned (treeOf two book) 2 2 ≡ (said 0 2 2, 66 ∷ 67 ∷ 1 ∷ [])
   pointed : spanned (treeOf two book) 16 2 ≡ (said 0 2 4, 65 ∷ 66 ∷ 1 ∷ [])
   over-targets : spanned (treeOf two book) 18 2 ≡ (said 0 2 3, 67 ∷ 68 ∷ 1 ∷ [])
-  -- no kind is read over a border, where bytes and a span in one block are refused; nor is a start, the left block being full
+  -- No kind is read over a border, where bytes and a span in one block are refused; nor is a start, the left block being full.
   kinds-unread : (spanned other-kinds 3 2 ≡ (said 0 2 2, 67 ∷ 68 ∷ 1 ∷ [])) × (byteSays other-kinds 3 ≡ said 14 0 0) × (byteSays other-kinds 4 ≡ said 14 0 0)
   kind-read : spanned other-kinds 0 2 ≡ (said 14 0 0, 0 ∷ 0 ∷ 1 ∷ [])
   start-unread : spanned other-start 3 2 ≡ (said 0 2 2, 67 ∷ 68 ∷ 1 ∷ [])
-  -- which texts fit: a block of kind 2 above the last level is not compared with its target's bytes, one of the last level is with its leaf bytes
+  -- Which texts fit: a block of kind 2 above the last level is not compared with its target's bytes, one of the last level is with its leaf bytes.
   kind-two : (blockFits other-end pointing-two 0 4 ≡ true) × (fits other-end pointing-two ≡ true) × (fits other-end (treeOf two book) ≡ false)
   kind-two-last : (fits book leaf-two ≡ true) × (blockFits other-first leaf-two 1 0 ≡ false) × (fits other-first leaf-two ≡ false)
   -- longer than m; of no bytes; past the end; without room
@@ -139,7 +136,7 @@ pub record Marked : Type 0 where
   older-counts : (countSays older 65 17 ≡ said 0 4 3) × (countSays older 65 0 ≡ said 0 0 0) × (found older 65 4 ≡ said 0 16 3) × (selectNumber older 65 5 ≡ 12)
   older-span : spanned older 3 2 ≡ (said 0 2 0, 67 ∷ 68 ∷ 1 ∷ [])
   older-m9 : (length older-twelve ≡ 220) × (textOf older-twelve ≡ replicate 12 65) × (verdict older-twelve ≡ 0)
-  -- the longest text, and the longest block of level 0: 256 × 8^5, 128 × 16^4
+  -- The longest text, and the longest block of level 0: 256 × 8^5, 128 × 16^4.
   longest : (lengthOk 8388608 ≡ true) × (lengthOk 8388609 ≡ false)
   largest-blocks : (sizesOk (shape 256 8 6) ≡ true) × (sizesOk (shape 128 16 5) ≡ true) × (sizesOk (shape 256 16 4) ≡ true)
   blocks-too-large : (sizesOk (shape 256 8 7) ≡ false) × (sizesOk (shape 129 16 5) ≡ false) × (sizesOk (shape 256 16 5) ≡ false)
@@ -217,7 +214,7 @@ pub record Empty : Type 0 where
       × (spanned no-bytes-tree 1 0 ≡ (said 10 0 0, 1 ∷ 1 ∷ 1 ∷ []))
   counts : (countSays no-bytes-tree 65 0 ≡ said 0 0 0) × (countSays no-bytes-tree 65 1 ≡ said 10 0 0) × (countSays no-bytes-tree 66 0 ≡ said 11 0 0)
   totals : (total no-bytes-tree 0 ≡ 0) × (selectNumber no-bytes-tree 65 0 ≡ 12) × (selectNumber no-bytes-tree 65 1 ≡ 12)
-  -- in layout 1; a leaf byte; a block on level 1, whose before and inside are no total; a block on level 0
+  -- In layout 1; a leaf byte; a block on level 1, whose before and inside are no total; a block on level 0.
   older-empty : verdict (laid-out 0 0 100 0 []) ≡ 0
   leaf-byte : verdict (laid-out 0 0 100 1 (65 ∷ [])) ≡ 8
   child : (verdict (laid-out 0 1 128 0 (wordsBytes (0 ∷ 0 ∷ 0 ∷ 0 ∷ 3 ∷ 5 ∷ 0 ∷ []))) ≡ 8)

@@ -12,7 +12,7 @@ use Rattle.keys.specs.declared.form.Form.the-variants.{Code, Cuts, Ended
 use Rattle.keys.specs.Keys.{cutCount, low, high, maxCode}
 use Rattle.keys.specs.Forms.{inCode, cutFits, inCuts, isNone}
 
--- in the code
+-- In the code.
 module _ (k x : ℕ) where
   pub code-early : x ≡ 32 → k ≡ 0 → Wrong ≡ inCode k x
   unfolding inCode
@@ -30,7 +30,7 @@ module _ (k x : ℕ) where
   unfolding inCode
   code-more e f = rw (ne-eqb 32 x (λ z. e (sym z)), lt-leb maxCode k f)
 
--- in the cuts
+-- In the cuts.
 module _ (ranges : List ℕ) (i x : ℕ) where
   pub cuts-end : length ranges / 2 ≤ i → x ≡ 13 → Ended ≡ inCuts ranges i x
   unfolding inCuts cutCount
@@ -40,7 +40,7 @@ module _ (ranges : List ℕ) (i x : ℕ) where
   unfolding inCuts cutCount
   cuts-past h e = rw (le-ltb i (length ranges / 2) h, ne-eqb 13 x (λ z. e (sym z)))
 
-  -- a byte and the range of a cut
+  -- A byte and the range of a cut.
   pub fits-low : (a w : ℕ) → a ≡ getD ranges (2 * i) 0 → w ≡ x → w < 48 + a → false ≡ cutFits ranges i x
   unfolding cutFits low
   fits-low a w e f h =
@@ -72,7 +72,7 @@ module _ (ranges : List ℕ) (i x : ℕ) where
     unfolding inCuts cutCount
     cuts-wrong e = rw (lt-ltb i (length ranges / 2) within, e)
 
--- a row of which no byte was read
+-- A row of which no byte was read.
 pub none-read : (f : Form) → isNone f ≡ true → f ≡ Code 0
 unfolding isNone
 none-read (Code k) e = rw (eqb-true k 0 e)

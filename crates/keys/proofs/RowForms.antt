@@ -9,8 +9,7 @@ use lib.ListN.{length, getD, length-drop}
 use lib.Seq.{getD-drop}
 use lib.Dec.{ltb, leb, eqb, leb·suc-suc}
 use borrow.Author.Tests.{ltb-true, leb-true, le-leb, lt-leb, lt-ltb, le-ltb, eqb-true, eqb-false, eq-eqb, ne-eqb, leb-false}
-use Rattle.text.specs.Lists.{allBelow}
-use Rattle.text.specs.Text.{isDigit}
+use Rattle.text.specs.Text.{allBelow, isDigit}
 use Rattle.text.specs.RowLaws.{trimmed}
 use Rattle.text.specs.ListLaws.{and-left, and-right, and-both, and-false, bool-clash, lt-or-ge, allBelow-at, allBelow-make}
 use Rattle.text.specs.Conjunctions.{parts}
@@ -26,7 +25,7 @@ bool-same true b f g = sym (f refl)
 bool-same false true f g = g refl
 bool-same false false f g = refl
 
--- the cuts from number i on are in their ranges
+-- The cuts from number i on are in their ranges.
 unfoldable allFit : List ℕ → ℕ → List ℕ → Bool
 allFit ranges i [] = true
 allFit ranges i (x ∷ xs) = cutFits ranges i x && allFit ranges (i + 1) xs
@@ -77,7 +76,7 @@ module _ (ranges : List ℕ) where
   unfolding inCode
   in-other k x b e f = rw (e, f)
 
-  -- after i cuts
+  -- After i cuts.
   cuts-run : (i : ℕ) (xs : List ℕ) → isWhole ranges (runFrom (keyAutomaton ranges) (Cuts i) xs) ≡ (eqb (i + length xs) n && allFit ranges i xs)
   unfolding runFrom stepOf isWhole allFit
   cuts-run i [] = let z : i + 0 ≡ i = omega arith in rw z (and-true (eqb i n))
@@ -109,11 +108,11 @@ module _ (ranges : List ℕ) where
       go (inl l) rest = fits l rest (cutFits ranges i x) refl
       go (inr g) rest = past g (eqb 13 x) refl
 
-  -- all cuts of a row, each in its range
+  -- All cuts of a row, each in its range.
   abbrev cutsGood : List ℕ → Bool
   cutsGood ys = eqb (length ys) n && allFit ranges 0 ys
 
-  -- a key, by k bytes of its code that were read, m more, and the bytes of the row from there on
+  -- A key, by k bytes of its code that were read, m more, and the bytes of the row from there on.
   abbrev keyGood : ℕ → ℕ → ℕ → List ℕ → Bool
   keyGood k m len cuts = leb 1 (k + m) && leb (k + m) maxCode && ltb m len && cutsGood cuts
 
@@ -133,7 +132,7 @@ module _ (ranges : List ℕ) where
   unfolding cutsOf
   cuts-other x xs e = let z : suc (length (codeOf xs)) + 1 ≡ suc (length (codeOf xs) + 1) = omega arith in rw (code-other x xs e, z)
 
-  -- after k bytes of the code
+  -- After k bytes of the code.
   code-run : (k : ℕ) (xs : List ℕ) → k ≤ maxCode
       → isWhole ranges (runFrom (keyAutomaton ranges) (Code k) xs) ≡ keyGood k (length (codeOf xs)) (length xs) (cutsOf xs)
   unfolding runFrom stepOf isWhole
@@ -202,14 +201,14 @@ module _ (ranges : List ℕ) (ok : rangesOk ranges ≡ true) where
     abbrev good : Bool
     good = keyGood ranges 0 m (length row) cuts
 
-    -- the tests of a key, and of the ranges
+    -- The tests of a key, and of the ranges.
     abbrev rangeAt : ℕ → Bool
     rangeAt i = leb (low ranges i) (depth row i) && leb (depth row i) (high ranges i)
 
     abbrev digitAt : ℕ → Bool
     digitAt i = isDigit (getD cuts i 0)
 
-    -- a cut in its range is a digit with a depth in the range, and the other way round
+    -- A cut in its range is a digit with a depth in the range, and the other way round.
     fits-digit : (i : ℕ) → i < cutCount ranges → cutFits ranges i (getD cuts i 0) ≡ true → (digitAt i ≡ true) × (rangeAt i ≡ true)
     unfolding cutFits isDigit depth
     fits-digit i l f =
@@ -258,13 +257,13 @@ module _ (ranges : List ℕ) (ok : rangesOk ranges ≡ true) where
         (le-leb 1 (length cuts) (omega (arith, some-cuts .0)))) (le-leb (length cuts) maxCuts (omega (arith, some-cuts .1))))
         (allBelow-make (length cuts) digitAt (λ j l. each j (omega arith) .0))) size) (allBelow-make (cutCount ranges) rangeAt (λ j l. each j l .1))
 
-    -- a row that no byte 10 ends matches exactly where its bytes are read to a whole key
+    -- A row that no byte 10 ends matches exactly where its bytes are read to a whole key.
     at-end-is : isWhole ranges (runFrom (keyAutomaton ranges) (Code 0) row) ≡ matches ranges row
     at-end-is = code-run ranges 0 row (omega arith) ∙ bool-same good (matches ranges row) good-to good-from
 
 -- One byte 13 before the byte 10 that ends a row.
 module _ (ranges : List ℕ) where
-  -- no more cuts than there are ranges
+  -- No more cuts than there are ranges.
   abbrev Few : Form → Type 0
   Few (Code k) = Unit {0}
   Few (Cuts i) = i ≤ cutCount ranges
@@ -303,7 +302,7 @@ module _ (ranges : List ℕ) where
   few-run f [] h = h
   few-run f (x ∷ xs) h = few-run (stepOf ranges f x) xs (few-step f x)
 
-  -- a row that a byte 10 ends is read to the same, but for one byte 13 after all cuts
+  -- A row that a byte 10 ends is read to the same, but for one byte 13 after all cuts.
   same-code : (k x : ℕ) → isDone ranges (inCode k x) ≡ isWhole ranges (inCode k x)
   unfolding inCode isDone isWhole
   same-code k x = by (eqb 32 x) (eqb k 0) (leb maxCode k)
@@ -364,7 +363,7 @@ module _ (ranges : List ℕ) where
 
 -- The automaton accepts exactly the rows that match.
 module _ (ranges : List ℕ) where
-  -- a row with a byte is not read to none
+  -- A row with a byte is not read to none.
   abbrev Started : Form → Type 0
   Started (Code k) = 1 ≤ k
   Started (Cuts i) = Unit {0}
@@ -433,7 +432,7 @@ module _ (ranges : List ℕ) where
     abbrev whole : Bool
     whole = isWhole ranges (runFrom (keyAutomaton ranges) (Code 0) xs)
 
-    -- its last bytes are the cuts, after a code and a space
+    -- Its last bytes are the cuts, after a code and a space.
     whole-tests : whole ≡ true → (cutCount ranges + 2 ≤ length xs)
         × ((j : ℕ) → j < cutCount ranges → cutFits ranges j (getD xs (length xs - cutCount ranges + j) 0) ≡ true)
     unfolding cutsOf

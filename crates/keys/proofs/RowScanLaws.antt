@@ -149,7 +149,7 @@ module _ (ranges part : List ℕ) (form : Form) (row i : ℕ) (h : i < length pa
         let b = on-next (keyAutomaton ranges) form row (getD part i 0) f n g in
         (omega arith, omega arith, b .0, b .1, scan-on (keyAutomaton ranges) part i h form row f n g)
 
--- what was returned
+-- What was returned.
 module _ (ranges part : List ℕ) (form : Form) (row i : ℕ) (x : Turned) (x-is : TurnedOn ranges part form row i x) where
   pub found-there : (n : ℕ) → x ≡ turned.Found n → (row ≤ n) × (n ≤ row + 1) × (found n ≡ scanBytes (keyAutomaton ranges) (drop i part) form row)
   found-there n e = rw e at x-is

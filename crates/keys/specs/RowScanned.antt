@@ -20,13 +20,13 @@ abbrev pub asScan : Scanned → Scan Form
 asScan (Found q) = found q
 asScan (On form q) = on form q
 
--- the row's bytes before the newline at `end` go up to r
+-- The row's bytes before the newline at `end` go up to r.
 pub record BytesEnd (part : List ℕ) (from end r : ℕ) : Type 0 where
   pub low : from ≤ r
   pub high : r ≤ end
   pub bytes : trimmed (stretch part from (end - from)) ≡ stretch part from (r - from)
 
--- the byte of some cut is not in its range, if the cuts are at a place
+-- The byte of some cut is not in its range, if the cuts are at a place.
 pub record Misfit (ranges part : List ℕ) (at : ℕ) : Type 0 where
   pub cut : ℕ
   pub below : cut < cutCount ranges
@@ -35,17 +35,17 @@ pub record Misfit (ranges part : List ℕ) (at : ℕ) : Type 0 where
 pub record CutsFit (ranges part : List ℕ) (at : ℕ) (r : Bool) : Type 0 where
   pub misfit : r ≡ false → Misfit ranges part at
 
--- a row that is refused does not match where a newline ends it
+-- A row that is refused does not match where a newline ends it.
 pub record MayMatch (ranges part : List ℕ) (from end : ℕ) (r : Bool) : Type 0 where
   pub fails : r ≡ false → isDone ranges (runFrom (keyAutomaton ranges) (Code 0) (stretch part from (end - from))) ≡ false
 
--- the bytes up to r are a row that does not match, or none
+-- The bytes up to r are a row that does not match, or none.
 pub record RowPassed (ranges part : List ℕ) (from r : ℕ) : Type 0 where
   pub low : from ≤ r
   pub high : r ≤ length part
   pub scans : from < r → (q : ℕ) → scanBytes (keyAutomaton ranges) (drop r part) (Code 0) (q + 1) ≡ scanBytes (keyAutomaton ranges) (drop from part) (Code 0) q
 
--- the scan from place i goes on as the one that is returned
+-- The scan from place i goes on as the one that is returned.
 abbrev pub TurnedOn : List ℕ → List ℕ → Form → ℕ → ℕ → Turned → Type 0
 TurnedOn ranges part form row i (turned.Found n) =
     (row ≤ n) × (n ≤ row + 1) × (found n ≡ scanBytes (keyAutomaton ranges) (drop i part) form row)

@@ -8,7 +8,7 @@ use denote.Ref.{RefT, now}
 use lib.ListN.{length, getD}
 use Rattle.format.specs.Layout as at
 use Rattle.format.specs.WordLaws.{wordAt-agree}
-use Rattle.format.specs.HeaderPlaces.{headerLength}
+use Rattle.format.specs.Layout.{headerLength}
 use Rattle.layout.specs.declared.place.BlockNumber.{BlockNumber}
 use Rattle.layout.specs.Record.{field-held, field-agree}
 use Rattle.layout.proofs.word.read.Reads as read-reads
@@ -44,7 +44,7 @@ module _ (κs κu : Lfts 1) (t u : Lent) (header : (k : ℕ) → k < headerLengt
   pub field-cut-off : headerLength ≤ length (now u) → place + 4 ≤ length (now u) → field-reads.Asked κu (u, (size, (level, (block, (f, tt)))))
   field-cut-off long held = field-held (now t) (now u) header size level (block .0) f h long held
 
-  -- the number is then the same
+  -- The number is then the same.
   pub field-in-place : (r s : ℕ) → Field κs t size level block f r → Field κu u size level block f s
       → ((k : ℕ) → place ≤ k → k < place + 4 → getD (now t) k 0 ≡ getD (now u) k 0) → r ≡ s
   field-in-place r s a b same = a ∙ field-agree (now t) (now u) header size level (block .0) f h same ∙ sym b

@@ -8,18 +8,15 @@ use native.Mathlib.Nat.{one-le-pow, mul-le-mul}
 use lib.ListN.{length}
 use lib.Dec.{eqb}
 use borrow.Author.Tests.{eq-eqb, ne-eqb}
-use Rattle.text.specs.Lists.{allBelow, sumBelow}
+use Rattle.text.specs.Text.{allBelow, sumBelow}
 use Rattle.text.specs.ListLaws.{and-both, sumBelow-suc}
-use Rattle.format.specs.Settings.{maxText}
-use Rattle.format.specs.Words.{wordAt}
+use Rattle.format.specs.Layout.{maxText, wordAt, layoutAt, pairsAt, countAt, offsetAt, leafOffsetAt, leafCountAt, headerLength}
 use Rattle.format.specs.Layout as at
-use Rattle.format.specs.Settings as format
-use Rattle.format.specs.HeaderPlaces.{layoutAt, pairsAt, countAt, offsetAt, leafOffsetAt, leafCountAt, headerLength}
 use Rattle.layout.specs.declared.settings.Settings.{Settings}
 use Rattle.layout.specs.Header.{zeroLevel, follows, tablesMeet, restRight, spareCounted, spareLevels, HasSettings}
 
 module _ (t : List ℕ) where
-  -- a level that is not there
+  -- A level that is not there.
   module _ (H x count offset : ℕ) (c-is : count ≡ wordAt t (countAt (H + x))) where
     pub count-fails : (count ≡ 0 → ⊥) → zeroLevel t H x ≡ false
     unfolding at.levelCount
@@ -35,7 +32,7 @@ module _ (t : List ℕ) where
       unfolding at.levelCount at.levelOffset
       both-zero z = and-both (eq-eqb _ 0 (sym c-is ∙ c-zero)) (eq-eqb _ 0 (sym o-is ∙ z))
 
-  -- a level's records, after the levels above it
+  -- A level's records, after the levels above it.
   module _ (l end offset : ℕ) (e-is : end ≡ headerLength + sumBelow l (at.levelCount t) * at.recordSize t) (o-is : offset ≡ wordAt t (offsetAt l)) where
     pub apart : (offset ≡ end → ⊥) → follows t l ≡ false
     unfolding at.levelOffset
@@ -55,7 +52,7 @@ module _ (t : List ℕ) where
   end-more l end count size more e c s m =
       rw (sumBelow-suc l (at.levelCount t), e, m, c, s) (omega arith)
 
-  -- the tables meet: all levels do, and the leaf bytes follow
+  -- The tables meet: all levels do, and the leaf bytes follow.
   module _ (H end leaf : ℕ) (e-is : end ≡ headerLength + sumBelow H (at.levelCount t) * at.recordSize t)
       (leaf-is : leaf ≡ wordAt t leafOffsetAt) (all : allBelow H (follows t) ≡ true) where
     pub leaves-meet : eqb leaf end ≡ tablesMeet t H
@@ -69,7 +66,7 @@ module _ (t : List ℕ) where
   -- The rest of question 7, of the header's own settings.
   module _ (n : ℕ) (s : Settings) (h : HasSettings t n s) where
     pub block-is : (b : ℕ) → b ≡ s .leaf * s .arity ^ (s .levels - 1 - 0) → b ≡ at.fullLength t 0
-    unfolding at.fullLength at.settings format.blockLength
+    unfolding at.fullLength at.settings at.blockLength
     block-is b e = rw (e, h .leaf-is, h .arity-is, h .levels-is)
 
     pub block-bounds : (b : ℕ) → b ≡ s .leaf * s .arity ^ (s .levels - 1 - 0) → (0 < b) × (b ≤ maxText)
@@ -79,7 +76,7 @@ module _ (t : List ℕ) where
         mul-le-mul {n₁ = 1} {m₁ = 1} (h .bounds .leaf-low) (one-le-pow (s .levels - 1) (s .arity) (omega (arith, h .bounds .arity-low))) in
         rw (e, e′) (low, h .bounds .top-high)
 
-    pub size-is : (v size : ℕ) → v ≡ wordAt t layoutAt → size ≡ format.recordLength v (s .leaf) (s .counted) → size ≡ at.recordSize t
+    pub size-is : (v size : ℕ) → v ≡ wordAt t layoutAt → size ≡ at.recordLength v (s .leaf) (s .counted) → size ≡ at.recordSize t
     unfolding at.recordSize at.layout at.settings at.countedCount
     size-is v size v-is e = rw (e, v-is, h .leaf-is, h .counted-is)
 
@@ -102,16 +99,16 @@ module _ (t : List ℕ) where
 
       module _ (e : spareLevels t (s .levels) ≡ true)
           (count b : ℕ) (count-is : count ≡ wordAt t pairsAt) (b-is : b ≡ s .leaf * s .arity ^ (s .levels - 1 - 0)) where
-        level0-is : (r : Bool) → eqb count (format.pieces n b) ≡ r → eqb (at.levelCount t 0) (format.pieces (at.textLength t) (at.fullLength t 0)) ≡ r
+        level0-is : (r : Bool) → eqb count (at.pieces n b) ≡ r → eqb (at.levelCount t 0) (at.pieces (at.textLength t) (at.fullLength t 0)) ≡ r
         unfolding at.levelCount at.textLength
         level0-is r q = rw (← count-is, ← h .n-is, ← block-is b b-is) q
 
-        pub rest-level0 : (count ≡ format.pieces n b → ⊥) → false ≡ restRight t
+        pub rest-level0 : (count ≡ at.pieces n b → ⊥) → false ≡ restRight t
         unfolding restRight
         rest-level0 f =
             rw (sym (counted-here _ (sym d)), sym (levels-here _ (spareLevels t) (sym e)), level0-is false (ne-eqb _ _ f))
 
-        module _ (f : count ≡ format.pieces n b) where
+        module _ (f : count ≡ at.pieces n b) where
           pub rest-tables : tablesMeet t (s .levels) ≡ false → false ≡ restRight t
           unfolding restRight
           rest-tables g =

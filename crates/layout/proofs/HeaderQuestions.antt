@@ -7,10 +7,8 @@ use native.Mathlib.Omega.{arith}
 use lib.ListN.{length}
 use borrow.Author.Tests.{le-leb, lt-leb}
 use lib.Dec.{eqb}
-use Rattle.format.specs.Words.{wordAt}
-use Rattle.format.specs.HeaderPlaces.{layoutAt, headerLength}
-use Rattle.format.specs.Layout.{layout, longEnough, layoutOk, headerOk}
-use Rattle.format.specs.Verdict.{readable}
+use Rattle.format.specs.Layout.{wordAt, layoutAt, headerLength, layout, longEnough, layoutOk, headerOk}
+use Rattle.format.specs.TreeReading.{readable}
 use Rattle.format.specs.LayoutLaws.{Readable, readable-facts}
 use Rattle.layout.specs.declared.header.Header.{Header}
 use Rattle.layout.specs.declared.header.HeaderRead.the-variants.{Good, Refused}
@@ -19,7 +17,7 @@ use Rattle.layout.specs.declared.settings.Checked.{Checked}
 use Rattle.layout.specs.declared.settings.Checked.the-variants as settings
 use Rattle.layout.specs.Header.{headerSays, settingsOf, settingsSay, fieldsOf}
 
--- what the settings of a header tell of question 7
+-- What the settings of a header tell of question 7.
 fine-cases : (b : Bool) (s r : Settings) → settings.Fine s ≡ cond b (settings.Fine r) (settings.Refused 7) → (b ≡ true) × (s ≡ r)
 fine-cases true s r e = (refl, cc)
 fine-cases false s r e = absurd (let z : _≡_ {A = ℕ} 0 1 = cc in omega arith)

@@ -4,9 +4,7 @@ use mathlib.Core.Path.{_≡_, ap, _∙_}
 use Prim.Native.Nat.{ℕ, _+_, _*_, _≤_}
 use native.Mathlib.Omega.{arith}
 use lib.ListN.{length}
-use Rattle.format.specs.Words.{wordAt}
-use Rattle.format.specs.RecordFields.{fieldBytes}
-use Rattle.format.specs.HeaderPlaces.{offsetAt}
+use Rattle.format.specs.Layout.{wordAt, fieldBytes, offsetAt}
 use Rattle.format.specs.Layout as at
 use Rattle.layout.specs.Record.{FieldIn, EdgesIn}
 

@@ -8,9 +8,9 @@ use lib.ListN.{length, drop, getD, length-drop}
 use lib.Seq.{drop-cons}
 use lib.Dec.{ltb}
 use borrow.Author.Tests.{lt-ltb, le-ltb}
-use Rattle.format.specs.Settings.{rising, risingAfter}
+use Rattle.format.specs.Layout.{rising, risingAfter}
 
--- a list of at most one element rises
+-- A list of at most one element rises.
 few : (l : List ℕ) → length l ≤ 1 → true ≡ rising l
 unfolding rising risingAfter
 few [] h = refl
@@ -18,7 +18,7 @@ few (x ∷ []) h = refl
 few (x ∷ y ∷ l) h = absurd (let z : ⊥ = omega arith in z)
 
 module _ (s : List ℕ) (i : ℕ) (low : 1 ≤ i) where
-  -- the two elements at i - 1 and i, and what follows
+  -- The two elements at i - 1 and i, and what follows.
   module _ (h : i < length s) where
     opened : rising (drop (i - 1) s) ≡ (ltb (getD s (i - 1) 0) (getD s i 0) && rising (drop i s))
     unfolding rising risingAfter

@@ -4,7 +4,7 @@ use mathlib.Core.Path.{_≡_, refl, sym}
 use Prim.Native.Nat.{ℕ, _+_, _≤_, _<_}
 use native.Mathlib.Omega.{arith}
 use native.Mathlib.Numerals.{add-one}
-use Rattle.text.specs.Lists.{allBelow}
+use Rattle.text.specs.Text.{allBelow}
 use Rattle.text.specs.ListLaws.{and-both, allBelow-not}
 
 pub scan-none : (p : ℕ → Bool) → allBelow 0 p ≡ true

@@ -3,7 +3,7 @@ use mathlib.Core.List.{List, []}
 use mathlib.Core.Bool.{cond}
 use Prim.Native.Nat.{ℕ}
 use lib.ListN.{length}
-use Rattle.format.specs.Settings as format
+use Rattle.format.specs.Layout as format
 use Rattle.layout.specs.declared.settings.Settings.{Settings}
 use Rattle.layout.specs.declared.settings.Checked.{Checked}
 use Rattle.layout.specs.declared.settings.Checked.the-variants.{Fine, Refused}
@@ -12,7 +12,7 @@ use Rattle.layout.specs.declared.settings.Checked.the-variants.{Fine, Re
 abbrev pub sizes : ℕ → ℕ → ℕ → format.Settings
 sizes m r H = format.given m r H []
 
--- the settings, or the number of the first question that refuses them
+-- The settings, or the number of the first question that refuses them.
 unfoldable pub checked : ℕ → ℕ → ℕ → List ℕ → Checked
 checked m r H cs =
     cond (format.sizesOk (sizes m r H))

@@ -5,13 +5,12 @@ use mathlib.Core.Path.{_≡_}
 use Prim.Native.Nat.{ℕ, zero, suc, _+_, _-_, _*_, _≤_}
 use lib.ListN.{length, getD}
 use lib.Dec.{eqb}
-use Rattle.text.specs.Lists.{allBelow, sumBelow}
-use Rattle.format.specs.Words.{wordAt}
-use Rattle.format.specs.Settings.{pieces, maxLevels, maxCounted}
-use Rattle.format.specs.HeaderPlaces.{layoutAt, textLengthAt, leafAt, arityAt, levelsAt, countedCountAt, countedAt, leafOffsetAt, leafCountAt, headerLength}
+use Rattle.text.specs.Text.{allBelow, sumBelow}
+use Rattle.format.specs.Layout.{wordAt, pieces, maxLevels, maxCounted}
+use Rattle.format.specs.Layout.{layoutAt, textLengthAt, leafAt, arityAt, levelsAt, countedCountAt, countedAt, leafOffsetAt, leafCountAt, headerLength}
 use Rattle.format.specs.SizeLaws.{Bounds}
 use Rattle.format.specs.Layout as at
-use Rattle.format.specs.Verdict.{readable}
+use Rattle.format.specs.TreeReading.{readable}
 use Rattle.layout.specs.declared.settings.Settings.{Settings}
 use Rattle.layout.specs.declared.settings.Checked.{Checked}
 use Rattle.layout.specs.declared.settings.Checked.the-variants as settings

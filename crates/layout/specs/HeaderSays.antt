@@ -4,10 +4,10 @@ use mathlib.Core.Bool.{Bool, true, false}
 use mathlib.Core.Path.{_≡_, refl, sym, ap, _∙_}
 use Prim.Native.Nat.{ℕ, zero, suc, _-_, _*_, _^_, _≤_, _<_}
 use native.Mathlib.Omega.{arith}
-use Rattle.format.specs.Settings.{blockLength}
+use Rattle.format.specs.Layout.{blockLength}
 use Rattle.format.specs.SizeLaws.{sizes-alone}
 use Rattle.format.specs.Layout as at
-use Rattle.format.specs.Verdict.{ask, readable}
+use Rattle.format.specs.TreeReading.{ask, readable}
 use Rattle.format.specs.LayoutLaws.{Readable, readable-facts}
 use Rattle.layout.specs.declared.header.Header.{Header}
 use Rattle.layout.specs.declared.header.HeaderRead.{HeaderRead}

@@ -4,12 +4,11 @@ use mathlib.Core.Path.{_≡_, _∙_}
 use Prim.Native.Nat.{ℕ, _+_, _*_, _≤_, _<_}
 use lib.ListN.{length, getD}
 use native.Mathlib.Omega.{arith}
-use Rattle.format.specs.Layout.{settings, layout, levelCount, levelOffset, countedCount, recordSize, field}
+use Rattle.format.specs.Layout.{settings, layout, levelCount, levelOffset, countedCount, recordSize, field, maxLevels, maxCounted}
 use Rattle.format.specs.WordLaws.{wordAt-agree}
 use Rattle.format.specs.LayoutLaws.{fieldCount, Readable, word-inside}
-use Rattle.format.specs.Settings.{maxLevels, maxCounted}
 use Rattle.format.specs.SizeLaws.{maxRecord}
-use Rattle.format.specs.HeaderPlaces.{layoutAt, leafAt, countedCountAt, offsetAt, headerLength}
+use Rattle.format.specs.Layout.{layoutAt, leafAt, countedCountAt, offsetAt, headerLength}
 
 pub record FieldIn (t : List ℕ) (size level block f : ℕ) : Type 0 where
   pub header : headerLength ≤ length t

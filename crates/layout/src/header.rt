@@ -8,10 +8,8 @@ ghost use mathlib.Core.Bool.{_||_};
 ghost use Prim.Native.Nat.{_+_, _-_, _*_, _^_, _≤_, _<_};
 ghost use lib.ListN.{length};
 ghost use lib.Dec.{eqb};
-ghost use Rattle.format.specs.Settings.{maxLevels, maxCounted};
+ghost use Rattle.format.specs.Layout.{maxLevels, maxCounted, headerLength, recordSize};
 ghost use Rattle.format.specs.SizeLaws.{maxRecord};
-ghost use Rattle.format.specs.HeaderPlaces.{headerLength};
-ghost use Rattle.format.specs.Layout.{recordSize};
 ghost use Rattle.format.specs.LayoutLaws.{Readable};
 ghost use Rattle.layout.specs.Header.{headerSays, restRight, spareCounted, spareLevels, tablesMeet, HasSettings, settingsOf, settingsSay, fieldsOf};
 

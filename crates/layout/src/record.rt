@@ -8,10 +8,9 @@ use crate::word;
 ghost use mathlib.Core.Path.{_≡_};
 ghost use Prim.Native.Nat.{_+_, _*_, _^_, _≤_, _<_};
 ghost use lib.ListN.{length};
-ghost use Rattle.format.specs.RecordFields.{startField, kindField, linkField, gapField, beforeField, insideField, skipField, fieldBytes};
-ghost use Rattle.format.specs.Settings.{maxLevels, maxCounted};
+ghost use Rattle.format.specs.Layout.{startField, kindField, linkField, gapField, beforeField, insideField, skipField, fieldBytes, maxLevels, maxCounted};
 ghost use Rattle.format.specs.SizeLaws.{maxRecord};
-ghost use Rattle.format.specs.HeaderPlaces.{headerLength};
+ghost use Rattle.format.specs.Layout.{headerLength};
 ghost use Rattle.format.specs.Layout as at;
 ghost use Rattle.layout.specs.Record.{FieldIn, EdgesIn};
 

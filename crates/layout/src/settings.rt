@@ -2,10 +2,10 @@
 use crate::record;
 ghost use mathlib.Core.Path.{_≡_};
 ghost use Prim.Native.Nat.{_+_, _*_, _^_, _-_, _≤_, _<_};
-ghost use Rattle.format.specs.Settings.{sizesOk, rising, recordLength, maxText, maxLeaf, maxArity, maxLevels, maxCounted};
+ghost use Rattle.format.specs.Layout.{sizesOk, rising, recordLength, maxText, maxLeaf, maxArity, maxLevels, maxCounted};
 ghost use Rattle.layout.specs.CheckedSettings.{sizes, checked};
 ghost use Rattle.format.specs.SizeLaws.{maxRecord};
-ghost use Rattle.format.specs.Settings as format;
+ghost use Rattle.format.specs.Layout as format;
 ghost use Rattle.layout.specs.SettingsLevel.{Sized};
 
 // The size of the words of a record, in bytes: of every record, and for each counted byte.
@@ -104,7 +104,7 @@ pub fn pieces(x: u32, b: u32) -> u32
     (x + (b - 1)) / b
 }
 
-// leaf × arity^exponent, of bounded settings: no product wraps.
+// Leaf × arity^exponent, of bounded settings: no product wraps.
 fn power(leaf: u32, arity: u32, exponent: u32) -> u64
     requires { ⌜ (leaf ≤ maxLeaf) × (arity ≤ maxArity) × (exponent < maxLevels) ⌝ }
     ensures { λ r. ⌜ r ≡ leaf * arity ^ exponent ⌝ }

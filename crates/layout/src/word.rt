@@ -2,7 +2,7 @@
 ghost use mathlib.Core.Path.{_≡_};
 ghost use Prim.Native.Nat.{_+_, _≤_, _<_};
 ghost use lib.ListN.{length};
-ghost use Rattle.format.specs.Words.{wordAt, setWord};
+ghost use Rattle.format.specs.Layout.{wordAt, setWord};
 ghost use Rattle.format.specs.WordLaws.{putThree};
 
 fn wide(b: u8) -> u32

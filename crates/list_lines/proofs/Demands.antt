@@ -12,12 +12,11 @@ use denote.Ref.{RefT, now}
 use lib.ListN.{length, drop}
 use lib.Dec.{leb}
 use borrow.Author.Tests.{ne-eqb}
-use Rattle.format.specs.Verdict.{verdict}
+use Rattle.format.specs.TreeReading.{verdict}
 use Rattle.theory_accepted.specs.QuestionNumbers.{OneOf, asks-one, then-one, not-zero, verdict-one, says-refused, says-answer}
 use Rattle.theory_machine.specs.Ends.{Ends}
 use Rattle.theory_machine.specs.OutsideCalls.{AsksNothing, Call, callOf, Each, each-ends, each-asks-nothing}
-use Rattle.list_lines.specs.Lines.{inputNumber, printed, maxInput}
-use Rattle.list_lines.specs.ListSays.{listRefusal, listSays, listLeaves}
+use Rattle.list_lines.specs.ListedLines.{inputNumber, printed, maxInput, listRefusal, listSays, listLeaves}
 use Rattle.list_lines.specs.declared.Listed.{Listed}
 use Rattle.list_lines.specs.declared.Listed.the-variants.{Bytes, Refused}
 use Rattle.list_lines.proofs.list as list-of
@@ -44,7 +43,7 @@ trusts-no-caller = each-asks-nothing calls
 abbrev pub Lists : (κs : Lfts 2) (t out after : RefT (List ℕ)) → Listed → Type 0
 Lists κs t out after r = list-reads.Post κs (t, (out, tt)) r (t, (after, tt))
 
--- the numbers that its questions can give
+-- The numbers that its questions can give.
 list-one : (t : List ℕ) (room : ℕ) → OneOf (15 ∷ 5 ∷ 6 ∷ 7 ∷ 8 ∷ 9 ∷ 13 ∷ 0 ∷ []) (listRefusal t room)
 unfolding listRefusal inputNumber
 list-one t room =

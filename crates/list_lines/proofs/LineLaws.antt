@@ -8,11 +8,10 @@ use native.Mathlib.Numerals.{add-one}
 use borrow.Author.Tests.{eq-eqb, ne-eqb, le-leb, lt-leb}
 use lib.ListN.{length}
 use lib.Dec.{eqb, leb}
-use Rattle.text.specs.Lists.{countBelow}
-use Rattle.format.specs.Settings.{maxLevels}
-use Rattle.format.specs.HeaderPlaces.{headerLength}
+use Rattle.text.specs.Text.{countBelow}
+use Rattle.format.specs.Layout.{maxLevels, headerLength}
 use Rattle.format.specs.Layout as at
-use Rattle.format.specs.Verdict.{verdict}
+use Rattle.format.specs.TreeReading.{verdict}
 use Rattle.format.specs.VerdictLaws.{accepted-readable}
 use Rattle.layout.specs.Record.{FieldIn, field-in}
 use Rattle.layout.specs.Header.{headerSays}
@@ -20,10 +19,9 @@ use Rattle.layout.specs.HeaderSays.{HeaderOf, header-refused}
 use Rattle.layout.specs.declared.header.Header.{Header}
 use Rattle.layout.specs.declared.header.HeaderRead.{HeaderRead}
 use Rattle.layout.specs.declared.header.HeaderRead.the-variants as header
-use Rattle.list_lines.specs.Written.{Put}
-use Rattle.list_lines.specs.Lines.{figure, line, levelLine, linesBelow, refusedLine, linesOf, maxInput, inputNumber, printed, maxFigure}
+use Rattle.list_lines.specs.ListedLines.{Put, figure, line, levelLine, linesBelow, refusedLine, linesOf, maxInput, inputNumber, printed, maxFigure}
 use Rattle.list_lines.specs.LevelTable.{hasKind, maxRefused, Level}
-use Rattle.list_lines.specs.Lines.{maxLine, maxLines}
+use Rattle.list_lines.specs.ListedLines.{maxLine, maxLines}
 use Rattle.list_lines.proofs.WrittenLaws.{then-put, put-nothing, put-within}
 
 -- Counting.
@@ -76,7 +74,7 @@ module _ (t : List ℕ) where
   unfolding levelLine at.isKept at.isPointing
   level-put l blocks kept pointing b k p w = rw (b, k, p) at w
 
-  -- the levels' lines, one more with each turn
+  -- The levels' lines, one more with each turn.
   pub no-lines : (d : List ℕ) → Put d d 0 0 (linesBelow t 0) (maxLine * 0)
   unfolding linesBelow
   no-lines d = put-nothing d
@@ -110,7 +108,7 @@ module _ (t : List ℕ) where
   unfolding inputNumber
   input-short h = rw (le-leb (length t) maxInput h)
 
-  -- the number decides what is printed
+  -- The number decides what is printed.
   pub print-refused : {d e : List ℕ} {end : ℕ} (n : ℕ)
       → n ≡ inputNumber t → (n ≡ 0 → ⊥) → Put d e 0 end (refusedLine n) maxRefused → Put d e 0 end (printed t) maxLines
   unfolding printed
@@ -133,7 +131,7 @@ module _ (t : List ℕ) where
     unfolding inputNumber
     accepted = passes (leb (length t) maxInput) (verdict t) passed
 
-    -- the header of an accepted tree is not refused
+    -- The header of an accepted tree is not refused.
     pub never-refused : (x : HeaderRead) → x ≡ headerSays t → (q : ℕ) → x ≡ header.Refused q → ⊥
     never-refused x is q e = let z = header-refused t x is q e in omega (arith, z .1, accepted-readable t accepted)
 

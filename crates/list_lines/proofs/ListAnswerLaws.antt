@@ -9,12 +9,10 @@ use lib.ListN.{length, take, drop}
 use lib.Seq.{take-at}
 use Rattle.list_lines.specs.declared.Listed.{Listed}
 use Rattle.list_lines.specs.declared.Listed.the-variants.{Bytes, Refused}
-use Rattle.list_lines.specs.Lines.{inputNumber, printed, maxLines}
-use Rattle.list_lines.specs.Written.{written, Put}
-use Rattle.list_lines.specs.ListSays.{listRefusal, listSays, ListAnswer, listLeaves}
+use Rattle.list_lines.specs.ListedLines.{inputNumber, printed, maxLines, written, Put, listRefusal, listSays, ListAnswer, listLeaves}
 
 module _ (t out : List ℕ) where
-  -- a refusal, which leaves the buffer
+  -- A refusal, which leaves the buffer.
   left : (q : ℕ) → listRefusal t (length out) ≡ q → 1 ≤ q → ListAnswer t (length out) (Refused q) × (out ≡ listLeaves t out)
   unfolding listSays listLeaves
   left zero is low = absurd (let z : ⊥ = omega arith in z)
@@ -32,7 +30,7 @@ module _ (t out : List ℕ) where
     unfolding listRefusal
     list-tight h = left 13 (rw (passed, ← size-is, lt-leb size (length out) h)) (omega arith)
 
-    -- the lines are the buffer's first bytes
+    -- The lines are the buffer's first bytes.
     lines-are : take size e ≡ printed t
     unfolding written
     lines-are = rw (put .bytes) (take-at (printed t) (drop (0 + length (printed t)) d) size (sym size-is))

@@ -9,11 +9,10 @@ use borrow.Author.Tests.{lt-ltb, le-ltb}
 use lib.ListN.{length, set, length-append}
 use Rattle.text.specs.ListLaws.{lt-or-ge}
 use Rattle.io.specs.Digits.{digits, glyph, Fewest}
-use Rattle.list_lines.specs.Lines.{digitsWithin, decimal, figure, maxFigure}
-use Rattle.list_lines.specs.Written.{Put}
+use Rattle.list_lines.specs.ListedLines.{digitsWithin, decimal, figure, maxFigure, Put}
 use Rattle.list_lines.proofs.WrittenLaws.{then-put, length-put, put-byte}
 
--- more than ten digits make 10 ^ 10 or more
+-- More than ten digits make 10 ^ 10 or more.
 pub few-digits : (n k : ℕ) → n < 4294967296 → Fewest 10 1 n k → k ≤ 10
 few-digits n k h f = go (lt-or-ge 10 k)
   where
@@ -63,7 +62,7 @@ pub length-digits : (n k : ℕ) → length (digits 10 k n) ≡ k
 length-digits n zero = refl
 length-digits n (suc k) = length-append (digits 10 k (n / 10)) (glyph (n % 10) ∷ []) ∙ rw (length-digits (n / 10) k) (omega arith)
 
--- the digits in a list s, put into a buffer
+-- The digits in a list s, put into a buffer.
 module _ (n k : ℕ) (s : List ℕ) (small : n < 4294967296) (f : Fewest 10 1 n k) (e : s ≡ digits 10 k n) where
   pub digits-fit : length s ≤ 10
   digits-fit = omega (arith, ap length e, length-digits n k, few-digits n k small f)
@@ -73,7 +72,7 @@ module _ (n k : ℕ) (s : List ℕ) (small : n < 4294967296) (f : Fewest 10 1 n 
       let same : s ≡ decimal n = e ∙ digits-are n k f in
       record { bytes = rw same at (w .bytes); after = rw same at (w .after); short = omega (arith, w .short, digits-fit) }
 
--- a number with the byte after it
+-- A number with the byte after it.
 pub figure-put : {d o : List ℕ} {at r : ℕ} (n after : ℕ)
     → at + maxFigure ≤ length d → Put d o at r (decimal n) 10 → Put d (set o r after) at (r + 1) (figure n after) maxFigure
 unfolding figure

@@ -6,10 +6,10 @@ use native.Mathlib.Omega.{arith}
 use native.Mathlib.Numerals.{add-one}
 use lib.ListN.{length, getD, set, take, drop, length-append, length-drop}
 use lib.Seq.{paste, paste-suc, paste-zero, take-length, take-at, drop-drop, drop-append-add, length-take-le, set-split, append-snoc}
-use Rattle.list_lines.specs.Written.{written, Put}
+use Rattle.list_lines.specs.ListedLines.{written, Put}
 
 module _ (d : List ℕ) (at : ℕ) where
-  -- bytes put one by one
+  -- Bytes put one by one.
   pub put-none : (s : List ℕ) → d ≡ paste d at s 0
   put-none s = paste-zero d at s
 
@@ -32,7 +32,7 @@ module _ (d : List ℕ) (at : ℕ) where
   length-written s h =
       length-append (take at d ++ s) (drop (at + length s) d) ∙ rw (head s (omega arith), length-drop (at + length s) d) (omega arith)
 
-  -- what is put right after is put together
+  -- What is put right after is put together.
   written-more : (e f s u : List ℕ) (end : ℕ)
       → at + length s ≤ length d → e ≡ written d at s → end ≡ at + length s → f ≡ written e end u → f ≡ written d at (s ++ u)
   unfolding written
@@ -57,7 +57,7 @@ then-put {d} {e} {f} {at} {mid} {end} {s} {u} h a b = record {
   short = omega (arith, a .short, b .short);
 }
 
--- a buffer keeps its length
+-- A buffer keeps its length.
 pub length-put : {d e : List ℕ} {at end : ℕ} {s : List ℕ} {p : ℕ} → at + p ≤ length d → Put d e at end s p → length e ≡ length d
 length-put {d} {e} {at} {end} {s} h a = ap length (a .bytes) ∙ length-written d at s (omega (arith, a .after, a .short))
 
@@ -67,6 +67,6 @@ put-byte d at b h = record { bytes = written-byte d at b h; after = refl; short 
 pub put-nothing : (d : List ℕ) → Put d d 0 0 [] 0
 put-nothing d = record { bytes = written-none d 0; after = refl; short = omega arith }
 
--- no more is put than fits in more
+-- No more is put than fits in more.
 pub put-within : {d e : List ℕ} {at end : ℕ} {s : List ℕ} {p : ℕ} (q : ℕ) → p ≤ q → Put d e at end s p → Put d e at end s q
 put-within q h a = record { bytes = a .bytes; after = a .after; short = omega (arith, a .short) }

@@ -7,18 +7,18 @@ use Rattle.format.specs.LayoutLaws.{Readable}
 use mathlib.Core.Bool.{Bool}
 use lib.Dec.{eqb}
 use Rattle.format.specs.Layout as at
-use Rattle.list_lines.specs.Lines.{maxFigure}
+use Rattle.list_lines.specs.ListedLines.{maxFigure}
 
 module _ (t : List ℕ) where
-  -- block i of level l has kind k
+  -- Block i of level l has kind k.
   abbrev pub hasKind : ℕ → ℕ → ℕ → Bool
   hasKind l k i = eqb (at.kind t l i) k
 
--- the most bytes of the line of a refused tree
+-- The most bytes of the line of a refused tree.
 abbrev pub maxRefused : ℕ
 maxRefused = 8 + maxFigure
 
--- a level of a tree that passes questions 5 to 7
+-- A level of a tree that passes questions 5 to 7.
 pub record Level (t : List ℕ) (size level : ℕ) : Type 0 where
   pub readable : Readable t
   pub size-is : size ≡ recordSize t

@@ -1,5 +1,3 @@
-pub mod Written
-pub mod Lines
 pub mod LevelTable
 pub mod ListExamples
-pub mod ListSays
+pub mod ListedLines

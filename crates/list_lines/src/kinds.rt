@@ -5,7 +5,7 @@ ghost use mathlib.Core.Path.{_≡_};
 ghost use mathlib.Core.Bool.{cond};
 ghost use Prim.Native.Nat.{_≤_, _<_};
 ghost use lib.Dec.{eqb};
-ghost use Rattle.text.specs.Lists.{countBelow};
+ghost use Rattle.text.specs.Text.{countBelow};
 ghost use Rattle.format.specs.Layout as at;
 ghost use Rattle.list_lines.specs.LevelTable.{hasKind, Level};
 

@@ -12,10 +12,9 @@ ghost use Prim.Native.Nat.{_+_, _≤_};
 ghost use lib.ListN.{length};
 ghost use Rattle.format.specs.Layout as at;
 ghost use Rattle.layout.specs.HeaderSays.{HeaderOf};
-ghost use Rattle.list_lines.specs.Written.{Put};
-ghost use Rattle.list_lines.specs.Lines.{line, levelLine, linesBelow, refusedLine, inputNumber, printed, maxLine, maxLines};
+ghost use Rattle.list_lines.specs.ListedLines.{Put, line, levelLine, linesBelow, refusedLine, inputNumber, printed, maxLine, maxLines};
 ghost use Rattle.list_lines.specs.LevelTable.{maxRefused, Level};
-ghost use Rattle.list_lines.specs.ListSays.{ListAnswer, listLeaves};
+ghost use Rattle.list_lines.specs.ListedLines.{ListAnswer, listLeaves};
 
 // The size of the largest tree that is listed.
 pub const MAX_INPUT: usize = 65536;

@@ -1,8 +1,7 @@
 // Writes bytes and numbers into a buffer. Each function returns the place after what it wrote.
 ghost use Prim.Native.Nat.{_+_, _≤_};
 ghost use lib.ListN.{length};
-ghost use Rattle.list_lines.specs.Written.{Put};
-ghost use Rattle.list_lines.specs.Lines.{decimal, figure, maxFigure};
+ghost use Rattle.list_lines.specs.ListedLines.{Put, decimal, figure, maxFigure};
 
 // Writes the bytes of s at `at`.
 pub fn bytes(out: &mut [u8], at: usize, s: &[u8]) -> usize

@@ -10,13 +10,13 @@ use lib.ListN.{length, getD, take, drop, drop-of-length-le}
 use lib.Seq.{drop-cons}
 use lib.Dec.{leb, eqb}
 use borrow.Author.Tests.{le-leb, lt-leb, eqb-true, eqb-false, eq-eqb, ne-eqb}
-use Rattle.text.specs.Lists.{sameList}
+use Rattle.text.specs.Text.{sameList}
 use Rattle.text.specs.ListLaws.{lt-or-ge}
 use Rattle.row_filter.specs.RowAutomaton.{runFrom, Recognizes}
 use Rattle.row_filter.specs.RowAutomatonLaws.{newline-trimmed}
 use Rattle.prefix_match.specs.declared.prefix_state.PrefixState.{PrefixState}
 use Rattle.prefix_match.specs.declared.prefix_state.PrefixState.the-variants.{Matched, Longer, Mismatch}
-use Rattle.prefix_match.specs.PrefixRows.{startsWith}
+use Rattle.row_filter.specs.SelectedRows.{startsWith}
 use Rattle.prefix_match.specs.PrefixStates.{afterMatched, prefixStep, prefixAtEnd, endsWithoutCr, prefixAtNewline, noByteRead, prefixAutomaton}
 
 same-swap : (x y : ℕ) (b : Bool) → eqb y x ≡ b → eqb x y ≡ b
@@ -40,7 +40,7 @@ module _ (prefix : List ℕ) where
   mismatch-run [] = refl
   mismatch-run (x ∷ xs) = mismatch-run xs
 
-  -- one byte after k equal bytes
+  -- One byte after k equal bytes.
   after-longer : (k x : ℕ) → n ≤ k → afterMatched prefix k x ≡ Longer
   unfolding afterMatched
   after-longer k x h = rw (le-leb n k h)
@@ -49,7 +49,7 @@ module _ (prefix : List ℕ) where
   unfolding afterMatched
   after-in k x b h e = rw (lt-leb n k h, e)
 
-  -- after k equal bytes the rest of the prefix must follow
+  -- After k equal bytes the rest of the prefix must follow.
   matched-run : (k : ℕ) (xs : List ℕ) → prefixAtEnd prefix (run (Matched k) xs) ≡ sameList (take (n - k) xs) (drop k prefix)
   unfolding runFrom prefixStep prefixAtEnd sameList
   matched-run k [] = by (lt-or-ge k n)
@@ -83,7 +83,7 @@ module _ (prefix : List ℕ) where
   unfolding startsWith
   at-end-is row = let z : n - 0 ≡ n = omega arith in rw z at (matched-run 0 row)
 
-  -- a last byte 13, and any other last byte
+  -- A last byte 13, and any other last byte.
   after-13 : (state : PrefixState) (z : ℕ) (b : Bool)
       → eqb 13 z ≡ b → prefixAtNewline prefix (prefixStep prefix state z) ≡ cond b (prefixAtEnd prefix state) (prefixAtEnd prefix (prefixStep prefix state z))
   unfolding prefixStep prefixAtNewline prefixAtEnd endsWithoutCr
@@ -93,7 +93,7 @@ module _ (prefix : List ℕ) where
   after-13 Mismatch z false e = refl
   after-13 (Matched k) z b e = by (lt-or-ge k n) b e
     where
-      -- the byte just read is the prefix's last
+      -- The byte just read is the prefix's last.
       last : k + 1 ≡ n → getD prefix k 0 ≡ z → getD prefix (n - 1) 0 ≡ z
       last l f = let s : n - 1 ≡ k = omega arith in rw s f
 
@@ -119,7 +119,7 @@ module _ (prefix : List ℕ) where
       by (inr g) true d = rw (after-longer k z g, le-leb n k g)
       by (inr g) false d = rw (after-longer k z g)
 
-  -- after a byte the state is not that of an unread row
+  -- After a byte the state is not that of an unread row.
   abbrev Started : PrefixState → Type 0
   Started state = noByteRead state ≡ false
 

@@ -15,7 +15,7 @@ use Rattle.prefix_match.specs.declared.prefix_state.PrefixState.the-vari
 use Rattle.prefix_match.specs.PrefixStates.{isOpen, prefixStep, prefixAutomaton}
 use Rattle.prefix_match.specs.PrefixScanned.{Passed}
 
--- a state that no byte but 10 changes
+-- A state that no byte but 10 changes.
 stays : (prefix : List ℕ) (s : PrefixState) → isOpen s ≡ false → (x : ℕ) → s ≡ prefixStep prefix s x
 unfolding isOpen prefixStep
 stays prefix (Matched k) e x = bool-clash true refl e
@@ -43,7 +43,7 @@ module _ (prefix part : List ℕ) (i : ℕ) (s : PrefixState) (q : ℕ) where
           rw z (passed-on (r - i) (omega arith) (p .idle h) (p .others))
       go (inr h) = let z : r ≡ i = omega arith in rw z
 
--- no byte is passed over, and those before the next byte 10
+-- No byte is passed over, and those before the next byte 10.
 pub passed-none : (part : List ℕ) (from : ℕ) (s : PrefixState) → Passed part from s from
 passed-none part from s = record {
   idle = λ h. absurd (let y : ⊥ = omega arith in y);

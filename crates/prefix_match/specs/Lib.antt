@@ -1,5 +1,4 @@
 -- Rows that start with a prefix, and the automaton that recognizes them.
-pub mod PrefixRows
 pub mod PrefixRowNumbers
 pub mod PrefixRowLaws
 pub mod PrefixStates

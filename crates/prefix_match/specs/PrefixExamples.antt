@@ -2,11 +2,9 @@
 use mathlib.Core.List.{List, [], _∷_}
 use mathlib.Core.Path.{_≡_, refl}
 use Prim.Native.Nat.{ℕ}
-use Rattle.text.specs.Rows.{rowsOf}
-use Rattle.text.specs.Lists.{sameList}
-use Rattle.row_filter.specs.SelectedRows.{firstSelected, nextSelected, outcomeAt, nextOutcome}
+use Rattle.text.specs.Text.{rowsOf, sameList}
+use Rattle.row_filter.specs.SelectedRows.{firstSelected, nextSelected, outcomeAt, nextOutcome, startsWith}
 use Rattle.row_filter.specs.SelectedRowNumbers.{selectedFrom, selectedRows}
-use Rattle.prefix_match.specs.PrefixRows.{startsWith}
 use Rattle.prefix_match.specs.PrefixRowNumbers.{rowsWithPrefix, nextWithPrefix}
 
 -- AB1, 10, B, 10, AB, 13 10, CAB, 10, AB2
@@ -16,14 +14,14 @@ book = 65 ∷ 66 ∷ 49 ∷ 10 ∷ 66 ∷ 10 ∷ 65 ∷ 66 ∷ 13 ∷ 10 ∷ 67 
 pub record Examples : Type 0 where
   -- AB starts rows 1, 3 and 5; row 4 contains AB without starting with it
   all : rowsWithPrefix (65 ∷ 66 ∷ []) (rowsOf book) ≡ 1 ∷ 3 ∷ 5 ∷ []
-  -- the last row, which has no ending byte 10
+  -- The last row, which has no ending byte 10.
   longer : rowsWithPrefix (65 ∷ 66 ∷ 50 ∷ []) (rowsOf book) ≡ 5 ∷ []
-  -- a byte 13 directly before a byte 10 is not part of the row; at the text's end it is
+  -- A byte 13 directly before a byte 10 is not part of the row; at the text's end it is.
   thirteen : rowsWithPrefix (65 ∷ 66 ∷ 13 ∷ []) (rowsOf book) ≡ []
   thirteen-last : rowsWithPrefix (65 ∷ 13 ∷ []) (rowsOf (65 ∷ 13 ∷ [])) ≡ 1 ∷ []
-  -- a prefix with a byte 10
+  -- A prefix with a byte 10.
   ten : rowsWithPrefix (66 ∷ 10 ∷ []) (rowsOf book) ≡ []
-  -- the search begins after the mark; none moves the mark to the number of rows, never back
+  -- The search begins after the mark; none moves the mark to the number of rows, never back.
   after-1 : nextWithPrefix (65 ∷ 66 ∷ []) (rowsOf book) 1 ≡ 3
   from-3 : nextOutcome (startsWith (65 ∷ 66 ∷ [])) (rowsOf book) 3 ≡ record { refusal = 0; row = 5; mark = 5 }
   none : nextOutcome (startsWith (66 ∷ [])) (rowsOf book) 2 ≡ record { refusal = 0; row = 0; mark = 5 }

@@ -7,14 +7,12 @@ use Prim.Native.Nat.{ℕ, _+_, _≤_}
 use native.Mathlib.Omega.{arith}
 use lib.ListN.{length, getD, take, drop, take-append-drop}
 use lib.Dec.{eqb}
-use Rattle.text.specs.Lists.{sameList}
+use Rattle.text.specs.Text.{sameList, countIn, inFirst, rowsOf}
 use Rattle.text.specs.ListLaws.{bool-clash, bool-cases, and-left, and-right, and-both, sameList-true}
-use Rattle.text.specs.Text.{countIn}
 use Rattle.text.specs.CountLaws.{one, count-cons, count-nil, count-append}
-use Rattle.text.specs.Rows.{inFirst, rowsOf}
 use Rattle.row_filter.specs.SelectedRowNumbers.{selectedFrom, selectedRows}
 use Rattle.row_filter.specs.SelectedRowLaws.{In, more-selected, Sublist, selected-sublist}
-use Rattle.prefix_match.specs.PrefixRows.{startsWith}
+use Rattle.row_filter.specs.SelectedRows.{startsWith}
 use Rattle.prefix_match.specs.PrefixRowNumbers.{rowsWithPrefix}
 
 starts-less : (p q row : List ℕ) → startsWith (p ++ q) row ≡ true → startsWith p row ≡ true
@@ -25,7 +23,7 @@ starts-less (x ∷ p) q (y ∷ row) h =
     and-both (and-left (eqb y x) (sameList (take (length (p ++ q)) row) (p ++ q)) h)
     (starts-less p q row (and-right (eqb y x) (sameList (take (length (p ++ q)) row) (p ++ q)) h))
 
--- the rows of an extended prefix are a subsequence of those of the prefix
+-- The rows of an extended prefix are a subsequence of those of the prefix.
 pub longer-sublist : (p q : List ℕ) (rows : List (List ℕ)) → Sublist (rowsWithPrefix (p ++ q) rows) (rowsWithPrefix p rows)
 unfolding rowsWithPrefix
 longer-sublist p q rows = selected-sublist (startsWith (p ++ q)) (startsWith p) (starts-less p q) rows
@@ -34,7 +32,7 @@ pub longer-in : (p q : List ℕ) (rows : List (List ℕ)) (n : ℕ) → In n (ro
 unfolding rowsWithPrefix
 longer-in p q rows n i = more-selected (startsWith (p ++ q)) (startsWith p) (starts-less p q) rows n i
 
--- no row has a byte 10
+-- No row has a byte 10.
 abbrev Plain : List (List ℕ) → Type 0
 Plain [] = Unit {0}
 Plain (row ∷ rows) = (countIn 10 row ≡ 0) × Plain rows
@@ -53,7 +51,7 @@ rows-plain (x ∷ xs) = go (eqb 10 x) (eqb 13 x && eqb 10 (getD xs 0 0)) refl (r
     go false true e r = r
     go false false e r = first-plain x (rowsOf xs) (rw e) r
 
--- a prefix with a byte 10 starts no row
+-- A prefix with a byte 10 starts no row.
 module _ (prefix : List ℕ) (ten : 1 ≤ countIn 10 prefix) where
   not-plain : (row : List ℕ) → countIn 10 row ≡ 0 → startsWith prefix row ≡ false
   unfolding startsWith

@@ -2,14 +2,13 @@
 -- docs/FORMAT.md: "Rows by their first bytes".
 use mathlib.Core.List.{List}
 use Prim.Native.Nat.{ℕ}
-use Rattle.row_filter.specs.SelectedRows.{nextSelected}
+use Rattle.row_filter.specs.SelectedRows.{nextSelected, startsWith}
 use Rattle.row_filter.specs.SelectedRowNumbers.{selectedRows}
-use Rattle.prefix_match.specs.PrefixRows.{startsWith}
 
--- the numbers of all rows that start with the prefix, ascending
+-- The numbers of all rows that start with the prefix, ascending.
 unfoldable pub rowsWithPrefix : List ℕ → List (List ℕ) → List ℕ
 rowsWithPrefix prefix rows = selectedRows (startsWith prefix) rows
 
--- the first row after a mark that starts with the prefix; 0 if there is none
+-- The first row after a mark that starts with the prefix; 0 if there is none.
 unfoldable pub nextWithPrefix : List ℕ → List (List ℕ) → ℕ → ℕ
 nextWithPrefix prefix rows mark = nextSelected (startsWith prefix) rows mark

@@ -14,7 +14,7 @@ abbrev pub asPrefixScan : PrefixScan → Scan PrefixState
 asPrefixScan (Found q) = found q
 asPrefixScan (On state q) = on state q
 
--- the bytes from a place up to r are passed over: none unless no byte but 10 changes the state, and none of them is 10
+-- The bytes from a place up to r are passed over: none unless no byte but 10 changes the state, and none of them is 10.
 pub record Passed (part : List ℕ) (from : ℕ) (state : PrefixState) (r : ℕ) : Type 0 where
   pub idle : from < r → isOpen state ≡ false
   pub others : Without part from (r - from) 10

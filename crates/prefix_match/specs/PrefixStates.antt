@@ -9,7 +9,7 @@ use Rattle.prefix_match.specs.declared.prefix_state.PrefixState.{PrefixS
 use Rattle.prefix_match.specs.declared.prefix_state.PrefixState.the-variants.{Matched, Longer, Mismatch}
 
 module _ (prefix : List ℕ) where
-  -- the state after k equal bytes and the byte x
+  -- The state after k equal bytes and the byte x.
   unfoldable pub afterMatched : ℕ → ℕ → PrefixState
   afterMatched k x = cond (leb (length prefix) k) Longer (cond (eqb (getD prefix k 0) x) (Matched (k + 1)) Mismatch)
 

@@ -13,16 +13,13 @@ use borrow.Author.Tests.{le-leb, lt-leb, ne-eqb}
 use lib.ListN.{length, take, drop, replicate}
 use lib.Seq.{take-at}
 use Rattle.text.specs.ListLaws.{bool-cases}
-use Rattle.format.specs.Settings.{Settings}
+use Rattle.format.specs.Layout.{Settings}
 use Rattle.format.specs.Blocks.{treeOf}
 use Rattle.format.specs.Layout as at
-use Rattle.format.specs.Path.{pathOf}
-use Rattle.format.specs.Fits.{textOf}
+use Rattle.format.specs.TreeReading.{pathOf, textOf, readable, verdict}
 use Rattle.format.specs.FittingText.{fits}
-use Rattle.format.specs.Verdict.{readable, verdict}
 use Rattle.format.specs.VerdictLaws.{accepted-readable, accepted-links}
-use Rattle.format.specs.Said.{Said}
-use Rattle.format.specs.ReadSays.{byteOf, byteSays, pathsHold, leavesSpan}
+use Rattle.format.specs.Answers.{Said, byteOf, byteSays, pathsHold, leavesSpan}
 use Rattle.theory_paths.specs.Demands as paths
 use Rattle.theory_paths.specs.PlaceBytes.{hold-at, byte-path}
 use Rattle.theory_built.specs.BlockSizes.{Taken}

@@ -8,9 +8,8 @@ use native.Mathlib.Nat.{sub-zero}
 use borrow.Author.Tests.{le-leb, lt-leb, ne-eqb}
 use lib.ListN.{length, drop, replicate}
 use Rattle.format.specs.Layout as at
-use Rattle.format.specs.Fits.{textOf}
-use Rattle.format.specs.Verdict.{ask, readable}
-use Rattle.format.specs.ReadSays.{pathsHold, leavesSpan}
+use Rattle.format.specs.TreeReading.{textOf, ask, readable}
+use Rattle.format.specs.Answers.{pathsHold, leavesSpan}
 use Rattle.layout.specs.declared.header.HeaderRead.{HeaderRead}
 use Rattle.layout.specs.declared.header.HeaderRead.the-variants as read
 use Rattle.layout.specs.Header.{headerSays}

@@ -7,14 +7,12 @@ use native.Mathlib.Omega.{arith}
 use borrow.Author.Tests.{le-leb}
 use lib.ListN.{length, getD, take, drop, length-drop, List·getD-append}
 use lib.Seq.{ext-getD, length-take-le, getD-take, getD-drop}
-use Rattle.text.specs.Lists.{tabulate}
+use Rattle.text.specs.Text.{tabulate}
 use Rattle.text.specs.ListLaws.{bool-clash, length-tabulate, getD-tabulate}
 use Rattle.format.specs.Layout as at
-use Rattle.format.specs.Fits.{textOf}
-use Rattle.format.specs.Verdict.{ask}
-use Rattle.format.specs.Said.{Said, replied}
+use Rattle.format.specs.TreeReading.{textOf, ask}
+use Rattle.format.specs.Answers.{Said, replied, byteSays, pathsHold, asksSpan, leavesSpan, copyNumber, copySays, copyLeaves}
 use Rattle.format.specs.SaidLaws.{unless-number}
-use Rattle.format.specs.ReadSays.{byteSays, pathsHold, asksSpan, leavesSpan, copyNumber, copySays, copyLeaves}
 use Rattle.theory_paths.specs.OneText.{text-length}
 use Rattle.theory_paths.specs.PlaceBytes.{hold-at, holds-split, byte-text}
 use Rattle.layout.specs.declared.header.Header.{Header}

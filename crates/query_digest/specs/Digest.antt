@@ -5,9 +5,8 @@ use Prim.Native.Nat.{ℕ}
 use lib.ListN.{length}
 use lib.Dec.{leb}
 use Rattle.format.specs.Layout as at
-use Rattle.format.specs.Fits.{textOf}
-use Rattle.format.specs.Verdict.{asks, orNext, readable}
-use Rattle.format.specs.ReadSays.{pathsHold, leavesSpan}
+use Rattle.format.specs.TreeReading.{textOf, asks, orNext, readable}
+use Rattle.format.specs.Answers.{pathsHold, leavesSpan}
 use Rattle.sha256.specs.Sha256.{sha256}
 
 module _ (t : List ℕ) where

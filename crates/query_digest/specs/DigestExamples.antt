@@ -3,18 +3,15 @@ use mathlib.Core.List.{List, [], _∷_, _++_}
 use mathlib.Core.Path.{_≡_, refl}
 use Prim.Native.Nat.{ℕ, _+_}
 use lib.ListN.{replicate, take, drop}
-use Rattle.text.specs.Lists.{tabulate, concat, sumBelow, countBelow, allBelow, sameList}
-use Rattle.text.specs.Text.{stretch, leftmost, firstFrom, countIn}
-use Rattle.format.specs.Words.{wordAt, wordsBytes, wordBytes}
-use Rattle.format.specs.Settings.{blockLength, pieces, recordLength, lengthOk, sizesOk, countedOk, rising, risingAfter}
+use Rattle.text.specs.Text.{tabulate, concat, sumBelow, countBelow, allBelow, sameList, stretch, leftmost, firstFrom, countIn}
+use Rattle.format.specs.Layout.{wordAt, wordsBytes, wordBytes, blockLength, pieces, recordLength, lengthOk, sizesOk, countedOk, rising, risingAfter}
 use Rattle.format.specs.Blocks.{treeOf, header, leafBytes, levelPairs, recordBytes, levelBytes, recordIn, recordOf, target, occurrence, width, isKept}
 use Rattle.format.specs.Blocks.{startsAt, cut, keptByPairs, firstPairAt, pairAt, lengthOf, startOf}
-use Rattle.format.specs.Edges.{edgesOf, filledOut}
+use Rattle.format.specs.Layout.{edgesOf, filledOut}
 use Rattle.format.specs.Layout as at
-use Rattle.format.specs.Path.{pathOf, pathFrom, targetPlace, targetBlock, pointingBlock, keptBlock, lands, landBlock, landPlace, landVisits}
-use Rattle.format.specs.Fits.{textOf}
-use Rattle.format.specs.Verdict.{readable}
-use Rattle.format.specs.ReadSays.{byteSays, pathsHold, leavesSpan}
+use Rattle.format.specs.TreeReading.{pathOf, pathFrom, targetPlace, targetBlock, pointingBlock, keptBlock, lands, landBlock, landPlace, landVisits, textOf}
+use Rattle.format.specs.TreeReading.{readable}
+use Rattle.format.specs.Answers.{byteSays, pathsHold, leavesSpan}
 use Rattle.sha256.specs.Sha256.{rotr, ch, maj, bigSigma0, bigSigma1, sigma0, sigma1, constants, initialState, lengthBytes, padding, padded, wordBE}
 use Rattle.sha256.specs.Sha256.{blockAt, schedule, round, rounds, addStates, compressed, stateAfter, bytesBE, stateBytes, hashOf, sha256}
 use Rattle.query_digest.specs.Digest.{digestRefusal, digestBuffer}
@@ -26,7 +23,7 @@ book = 65 ∷ 66 ∷ 49 ∷ 10 ∷ 65 ∷ 66 ∷ 50 ∷ 10 ∷ 65 ∷ 67 ∷ 51 
 tree : List ℕ
 tree = treeOf (record { leaf = 2; arity = 2; levels = 2; counted = [] }) book
 
--- a tree with another word at byte i
+-- A tree with another word at byte i.
 with : List ℕ → ℕ → ℕ → List ℕ
 with t i w = take i t ++ wordBytes w ++ drop (i + 4) t
 
@@ -34,12 +31,12 @@ with t i w = take i t ++ wordBytes w ++ drop (i + 4) t
 broken : List ℕ
 broken = with tree 144 2
 
--- a buffer of n bytes 238
+-- A buffer of n bytes 238.
 lent : ℕ → List ℕ
 lent n = replicate n 238
 
 pub record Marked : Type 0 where
-  -- the digest of the book; the byte after it is unchanged
+  -- The digest of the book; the byte after it is unchanged.
   whole : (digestRefusal tree 33 ≡ 0) × (digestBuffer tree (lent 33) ≡
       247 ∷ 109 ∷ 230 ∷ 96 ∷ 206 ∷ 91 ∷ 184 ∷ 54 ∷ 158 ∷ 68 ∷ 202 ∷ 171 ∷ 95 ∷ 217 ∷ 171 ∷ 177
       ∷ 15 ∷ 26 ∷ 32 ∷ 15 ∷ 193 ∷ 205 ∷ 27 ∷ 162 ∷ 136 ∷ 202 ∷ 24 ∷ 99 ∷ 20 ∷ 44 ∷ 150 ∷ 77 ∷ 238 ∷ [])

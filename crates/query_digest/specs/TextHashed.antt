@@ -5,8 +5,8 @@ use mathlib.Core.Path.{_≡_}
 use Prim.Native.Nat.{ℕ, _+_, _-_, _/_, _%_, _≤_, _<_}
 use lib.ListN.{getD}
 use Rattle.format.specs.Layout as at
-use Rattle.format.specs.Fits.{textOf}
-use Rattle.format.specs.ReadSays.{pathsHold}
+use Rattle.format.specs.TreeReading.{textOf}
+use Rattle.format.specs.Answers.{pathsHold}
 use Rattle.sha256.specs.declared.HashState.{HashState}
 use Rattle.sha256.specs.Sha256.{initialState, stateAfter, hashOf}
 use Rattle.query_digest.specs.declared.HashAnswer.{HashAnswer}

@@ -8,15 +8,12 @@ use contract.Lifetimes.{Lfts}
 use denote.Ref.{RefT, now}
 use lib.ListN.{length}
 use lib.Dec.{eqb}
-use Rattle.text.specs.Text.{countIn}
-use Rattle.text.specs.Rows.{rowsOf, rowOf}
+use Rattle.text.specs.Text.{countIn, rowsOf, rowOf}
 use Rattle.text.specs.RowLaws.{row-at}
-use Rattle.format.specs.Fits.{textOf}
-use Rattle.format.specs.Verdict.{readable, verdict}
-use Rattle.format.specs.CountSays.{isCounted}
-use Rattle.row_filter.specs.SelectedRows.{outcomeAt, nextOutcome}
+use Rattle.format.specs.TreeReading.{textOf, readable, verdict}
+use Rattle.format.specs.Answers.{isCounted}
+use Rattle.row_filter.specs.SelectedRows.{outcomeAt, nextOutcome, startsWith}
 use Rattle.row_filter.specs.SelectedRowLaws.{In, Rising, Sublist, selected-rise, selected-in, in-selected}
-use Rattle.prefix_match.specs.PrefixRows.{startsWith}
 use Rattle.prefix_match.specs.PrefixRowNumbers.{rowsWithPrefix, nextWithPrefix}
 use Rattle.prefix_match.specs.PrefixRowLaws.{longer-sublist, longer-in, newline-starts-none}
 use Rattle.ask_patterns.specs.Places.{patternOk}
@@ -24,13 +21,12 @@ use Rattle.ask_guide.specs.Guides.{guideNumber}
 use Rattle.ask_guide.proofs.GuideList.{guide-verdict}
 use Rattle.query_row_filter.specs.declared.NextRowAnswer.{NextRowAnswer}
 use Rattle.query_row_filter.specs.declared.NextRowAnswer.the-variants.{Row, Nothing, Refused}
-use Rattle.query_row_filter.specs.AllowedOutcome.{maxRows, queryRefusal}
-use Rattle.query_row_filter.specs.AllowedAnswer.{AllowedAnswer, MarkMoved}
+use Rattle.query_row_filter.specs.AllowedRows.{maxRows, queryRefusal, AllowedAnswer, MarkMoved}
 use Rattle.query_row_filter.proofs.NextRowTheorems as next-row
 use Rattle.query_prefix.proofs.next_row_with_prefix.Reads as next-reads
 use Rattle.query_prefix.proofs.next_row_with_prefix_guided.Reads as guided-reads
 
--- the contract of `next_row_with_prefix` allows the answer r to these arguments
+-- The contract of `next_row_with_prefix` allows the answer r to these arguments.
 abbrev pub NextRowWithPrefix : (κs : Lfts 2) → (t prefix : RefT (List ℕ)) → ℕ → NextRowAnswer → Type 0
 NextRowWithPrefix κs t prefix mark r = next-reads.Post κs (t, (prefix, (mark, tt))) r (t, (prefix, (mark, tt)))
 
@@ -42,11 +38,11 @@ NextRowWithPrefixGuided κs t guide prefix mark r = guided-reads.Post κs (t, (g
 abbrev pub PrefixAnswer : List ℕ → ℕ → List ℕ → ℕ → NextRowAnswer → Type 0
 PrefixAnswer t ok prefix mark r = AllowedAnswer t ok (queryRefusal t 16 (patternOk prefix)) (startsWith prefix) mark r
 
--- an allowed answer, and the mark before and after it
+-- An allowed answer, and the mark before and after it.
 abbrev pub PrefixMoved : List ℕ → ℕ → List ℕ → ℕ → NextRowAnswer → ℕ → Type 0
 PrefixMoved t ok prefix before r after = MarkMoved t ok (queryRefusal t 16 (patternOk prefix)) (startsWith prefix) before r after
 
--- the contracts are `PrefixAnswer`
+-- The contracts are `PrefixAnswer`.
 pub next-answers : (κs : Lfts 2) (t prefix : RefT (List ℕ)) (mark : ℕ) (r : NextRowAnswer) → NextRowWithPrefix κs t prefix mark r
     → PrefixAnswer (t .now) (verdict (t .now)) (prefix .now) mark r
 next-answers κs t prefix mark r p = p
@@ -55,7 +51,7 @@ pub guided-answers : (κs : Lfts 3) (t guide prefix : RefT (List ℕ)) (mark : �
     → PrefixAnswer (t .now) (guideNumber (t .now) (guide .now)) (prefix .now) mark r
 guided-answers κs t guide prefix mark r p = p
 
--- for an accepted tree and guide the answer is that without the guide
+-- For an accepted tree and guide the answer is that without the guide.
 pub guided-as-prefix : (κs : Lfts 3) (t guide prefix : RefT (List ℕ)) (mark : ℕ) (r : NextRowAnswer) → NextRowWithPrefixGuided κs t guide prefix mark r
     → guideNumber (now t) (now guide) ≡ 0 → (κ : Lfts 2) (s : NextRowAnswer) → NextRowWithPrefix κ t prefix mark s → r ≡ s
 guided-as-prefix κs t guide prefix mark r a g κ s b =
@@ -63,7 +59,7 @@ guided-as-prefix κs t guide prefix mark r a g κ s b =
     (guideNumber (now t) (now guide)) (verdict (now t)) g (guide-verdict (now t) (now guide) g) r s a b
 
 module _ (t prefix : List ℕ) where
-  -- the search starts if questions 5 to 7, 16 and 11 pass
+  -- The search starts if questions 5 to 7, 16 and 11 pass.
   pub prefix-through : readable t ≡ 0 → patternOk prefix ≡ true → isCounted t 10 ≡ true → queryRefusal t 16 (patternOk prefix) ≡ 0
   prefix-through = next-row.asked-all t 16 (patternOk prefix)
 
@@ -74,7 +70,7 @@ module _ (t : List ℕ) (ok : ℕ) (sound : ok ≡ 0 → verdict t ≡ 0) (prefi
   -- For any bytes.
 
   module _ (mark : ℕ) (r : NextRowAnswer) (a : PrefixAnswer t ok prefix mark r) where
-    -- questions 5 to 7
+    -- Questions 5 to 7.
     pub prefix-unread : (q : ℕ) → readable t ≡ suc q → r ≡ Refused (suc q)
     prefix-unread q e =
         next-row.refused-first t ok sound (queryRefusal t 16 (patternOk prefix)) (startsWith prefix) mark r a q
@@ -93,19 +89,19 @@ module _ (t : List ℕ) (ok : ℕ) (sound : ok ≡ 0 → verdict t ≡ 0) (prefi
           next-row.refused-first t ok sound (queryRefusal t 16 (patternOk prefix)) (startsWith prefix) mark r a 10
           (next-row.asked-uncounted t 16 (patternOk prefix) pass good e)
 
-  -- a refusal leaves the mark
+  -- A refusal leaves the mark.
   pub prefix-keeps-mark : (mark n after : ℕ) → PrefixMoved t ok prefix mark (Refused n) after → after ≡ mark
   prefix-keeps-mark = next-row.refusal-leaves t ok sound (queryRefusal t 16 (patternOk prefix)) (startsWith prefix)
 
-  -- a refusal is that of the questions before the walk; or 14, where the answer is not settled
+  -- A refusal is that of the questions before the walk; or 14, where the answer is not settled.
   pub prefix-refusal : (mark n : ℕ) → PrefixAnswer t ok prefix mark (Refused n) → (n ≡ queryRefusal t 16 (patternOk prefix)) ⊎ ((n ≡ 14) × (ok ≡ 0 → ⊥))
   prefix-refusal = next-row.refusal-is t ok sound (queryRefusal t 16 (patternOk prefix)) (startsWith prefix)
 
-  -- a returned row, free or not, is after the mark and at most total + 1 of byte 10
+  -- A returned row, free or not, is after the mark and at most total + 1 of byte 10.
   pub prefix-row-after : (mark n : ℕ) → PrefixAnswer t ok prefix mark (Row n) → (mark < n) × (n ≤ maxRows t)
   prefix-row-after = next-row.row-after t ok sound (queryRefusal t 16 (patternOk prefix)) (startsWith prefix) (counted-of t prefix)
 
-  -- none leaves the mark, or moves it forward up to that number
+  -- None leaves the mark, or moves it forward up to that number.
   pub prefix-none-after : (mark m : ℕ) → PrefixAnswer t ok prefix mark (Nothing m) → (mark ≤ m) × ((m ≡ mark) ⊎ (m ≤ maxRows t))
   prefix-none-after = next-row.none-after t ok sound (queryRefusal t 16 (patternOk prefix)) (startsWith prefix) (counted-of t prefix)
 
@@ -114,14 +110,14 @@ module _ (t : List ℕ) (ok : ℕ) (sound : ok ≡ 0 → verdict t ≡ 0) (prefi
     abbrev rows : List (List ℕ)
     rows = rowsOf (textOf t)
 
-    -- where no question refuses: the row `nextWithPrefix`; or none, with the mark moved to the number of rows, never back
+    -- Where no question refuses: the row `nextWithPrefix`; or none, with the mark moved to the number of rows, never back.
     pub prefix-is : (mark : ℕ) (r : NextRowAnswer) → PrefixAnswer t ok prefix mark r → queryRefusal t 16 (patternOk prefix) ≡ 0
         → r ≡ cond (eqb (nextWithPrefix prefix rows mark) 0)
         (Nothing (outcomeAt (nextWithPrefix prefix rows mark) (length rows) mark .mark)) (Row (nextWithPrefix prefix rows mark))
     unfolding nextWithPrefix nextOutcome
     prefix-is = next-row.answer-is t ok sound (queryRefusal t 16 (patternOk prefix)) (startsWith prefix) v
 
-    -- a returned row is after the mark and becomes the mark
+    -- A returned row is after the mark and becomes the mark.
     pub prefix-rises : (mark n after : ℕ) → PrefixMoved t ok prefix mark (Row n) after → (mark < n) × (n ≤ length rows) × (after ≡ n)
     prefix-rises = next-row.row-rises t ok sound (queryRefusal t 16 (patternOk prefix)) (startsWith prefix) v
 
@@ -129,35 +125,35 @@ module _ (t : List ℕ) (ok : ℕ) (sound : ok ≡ 0 → verdict t ≡ 0) (prefi
     abbrev pub PrefixCalls : ℕ → List ℕ → Type 0
     PrefixCalls = next-row.Calls t ok sound (queryRefusal t 16 (patternOk prefix)) (startsWith prefix) v
 
-    -- from mark 0 to none, the rows returned are exactly those that start with the prefix
+    -- From mark 0 to none, the rows returned are exactly those that start with the prefix.
     pub all-with-prefix : (ns : List ℕ) → PrefixCalls 0 ns → ns ≡ rowsWithPrefix prefix rows
     unfolding rowsWithPrefix
     all-with-prefix = next-row.all-called t ok sound (queryRefusal t 16 (patternOk prefix)) (startsWith prefix) v
 
-    -- each row once, in row order
+    -- Each row once, in row order.
     pub in-order : (ns : List ℕ) → PrefixCalls 0 ns → Rising 1 ns
     unfolding rowsWithPrefix
     in-order ns a = rw (all-with-prefix ns a) (selected-rise (startsWith prefix) rows)
 
-    -- every row that starts with the prefix is returned
+    -- Every row that starts with the prefix is returned.
     pub each-shown : (ns : List ℕ) → PrefixCalls 0 ns → (n : ℕ) → 1 ≤ n → n ≤ length rows → startsWith prefix (rowOf (textOf t) n) ≡ true → In n ns
     unfolding rowsWithPrefix
     each-shown ns a n low high s = rw (all-with-prefix ns a) (selected-in (startsWith prefix) rows n low high (rw (row-at (textOf t) n low) at s))
 
-    -- no other row is returned
+    -- No other row is returned.
     pub only-shown : (ns : List ℕ) → PrefixCalls 0 ns → (n : ℕ) → In n ns → (1 ≤ n) × (n ≤ length rows) × (startsWith prefix (rowOf (textOf t) n) ≡ true)
     unfolding rowsWithPrefix
     only-shown ns a n i =
         let f = in-selected (startsWith prefix) rows n (rw (all-with-prefix ns a) at i) in
         (f .0, f .1, rw (row-at (textOf t) n (f .0)) (f .2))
 
-    -- calls that keep the contract do return them all, then none
+    -- Calls that keep the contract do return them all, then none.
     pub comes-to-none : queryRefusal t 16 (patternOk prefix) ≡ 0
         → ((mark : ℕ) → mark ≤ length rows → (r : NextRowAnswer) × PrefixAnswer t ok prefix mark r) → PrefixCalls 0 (rowsWithPrefix prefix rows)
     unfolding rowsWithPrefix
     comes-to-none = next-row.comes-to-none t ok sound (queryRefusal t 16 (patternOk prefix)) (startsWith prefix) v
 
-    -- a prefix with a byte 10 starts no row
+    -- A prefix with a byte 10 starts no row.
     pub newline-shows-none : 1 ≤ countIn 10 prefix → (ns : List ℕ) → PrefixCalls 0 ns → ns ≡ []
     newline-shows-none ten ns a = all-with-prefix ns a ∙ newline-starts-none prefix ten (textOf t)
 

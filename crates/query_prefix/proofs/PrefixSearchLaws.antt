@@ -5,17 +5,16 @@ use Prim.Native.Nat.{ℕ, _≤_, _<_}
 use native.Mathlib.Omega.{arith}
 use lib.ListN.{length}
 use borrow.Author.Tests.{le-leb, lt-leb}
-use Rattle.format.specs.Verdict.{readable}
+use Rattle.format.specs.TreeReading.{readable}
 use Rattle.layout.specs.declared.header.HeaderRead.{HeaderRead}
 use Rattle.layout.specs.declared.header.HeaderRead.the-variants as read
 use Rattle.layout.specs.Header.{headerSays}
 use Rattle.ask_patterns.specs.Places.{maxPattern, patternOk}
 use Rattle.query_row_filter.specs.declared.NextRowAnswer.{NextRowAnswer}
 use Rattle.query_row_filter.specs.declared.NextRowAnswer.the-variants.{Refused}
-use Rattle.query_row_filter.specs.AllowedOutcome.{newlineRefusal, queryRefusal}
-use Rattle.query_row_filter.specs.AllowedAnswer.{AllowedAnswer}
+use Rattle.query_row_filter.specs.AllowedRows.{newlineRefusal, queryRefusal, AllowedAnswer}
 use Rattle.query_row_filter.proofs.AllowedAnswerLaws.{ask-unread, ask-bad, ask-good}
-use Rattle.prefix_match.specs.PrefixRows.{startsWith}
+use Rattle.row_filter.specs.SelectedRows.{startsWith}
 
 module _ (t : List ℕ) (ok : ℕ) (prefix : List ℕ) (mark : ℕ) where
   pub prefix-unread : (x : HeaderRead) → x ≡ headerSays t → (q : ℕ) → x ≡ read.Refused q

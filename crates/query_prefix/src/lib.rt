@@ -4,12 +4,11 @@ mod prefix_search;
 use layout::header;
 use layout::header::HeaderRead;
 use query_row_filter::NextRowAnswer;
-ghost use Rattle.format.specs.Verdict.{verdict};
-ghost use Rattle.prefix_match.specs.PrefixRows.{startsWith};
+ghost use Rattle.format.specs.TreeReading.{verdict};
+ghost use Rattle.row_filter.specs.SelectedRows.{startsWith};
 ghost use Rattle.ask_guide.specs.Guides.{guideNumber};
-ghost use Rattle.query_row_filter.specs.AllowedAnswer.{AllowedAnswer};
+ghost use Rattle.query_row_filter.specs.AllowedRows.{AllowedAnswer, queryRefusal};
 ghost use Rattle.ask_patterns.specs.Places.{patternOk};
-ghost use Rattle.query_row_filter.specs.AllowedOutcome.{queryRefusal};
 
 // The first row after a mark that starts with a prefix.
 pub fn next_row_with_prefix(t: &[u8], prefix: &[u8], mark: u32) -> NextRowAnswer

@@ -9,17 +9,15 @@ use prefix_match::prefix_state::PrefixState;
 use query_row_filter::NextRowAnswer;
 use query_row_filter::rows_after;
 use query_row_filter::rows_after::RowsStart;
-ghost use mathlib.Core.Path.{_≡_};
 ghost use Prim.Native.Nat.{_≤_};
 ghost use lib.ListN.{length};
 ghost use Rattle.layout.specs.HeaderSays.{HeaderOf};
-ghost use Rattle.prefix_match.specs.PrefixRows.{startsWith};
+ghost use Rattle.row_filter.specs.SelectedRows.{startsWith};
 ghost use Rattle.prefix_match.specs.PrefixStates.{prefixAutomaton};
 ghost use Rattle.ask_patterns.specs.Places.{maxPattern, patternOk};
 ghost use Rattle.ask_rows.specs.RowSpans.{settledBy};
-ghost use Rattle.query_row_filter.specs.AllowedAnswer.{AllowedAnswer};
+ghost use Rattle.query_row_filter.specs.AllowedRows.{AllowedAnswer, queryRefusal};
 ghost use Rattle.query_row_filter.specs.RowsAfter.{SearchFrom};
-ghost use Rattle.query_row_filter.specs.AllowedOutcome.{queryRefusal};
 
 // Questions 16, 11 and 14. The guide is used if `used` is true.
 pub fn next_at(

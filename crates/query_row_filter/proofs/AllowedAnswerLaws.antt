@@ -9,13 +9,11 @@ use lib.ListN.{length, drop, length-drop, drop-of-length-le}
 use lib.Dec.{ltb, leb, eqb}
 use borrow.Author.Tests.{ltb-false, le-ltb, le-leb, leb-true, eqb-false, ne-eqb}
 use Rattle.text.specs.declared.TextPlace.{TextPlace}
-use Rattle.text.specs.Rows.{rowsOf}
+use Rattle.text.specs.Text.{rowsOf}
 use Rattle.text.specs.RowLaws.{rows-few}
 use Rattle.format.specs.Layout as at
-use Rattle.format.specs.Fits.{textOf}
-use Rattle.format.specs.Verdict.{readable, verdict}
-use Rattle.format.specs.CountSays.{isCounted, numberOfByte}
-use Rattle.format.specs.FindSays.{total}
+use Rattle.format.specs.TreeReading.{textOf, readable, verdict}
+use Rattle.format.specs.Answers.{isCounted, numberOfByte, total}
 use Rattle.theory_paths.specs.OneText.{text-length}
 use Rattle.theory_counts.specs.RowsOfText.{rows-total}
 use Rattle.layout.specs.declared.header.HeaderRead.{HeaderRead}
@@ -29,11 +27,10 @@ use Rattle.row_filter.specs.RowAutomatonLaws.{result, scan-rows}
 use Rattle.query_row_filter.specs.declared.NextRowAnswer.{NextRowAnswer}
 use Rattle.query_row_filter.specs.declared.NextRowAnswer.the-variants.{Row, Nothing, Refused}
 use Rattle.query_row_filter.specs.declared.rows_after.RowsStart.the-variants as begins
-use Rattle.query_row_filter.specs.AllowedOutcome.{newlineRefusal, queryRefusal, FoundFrom, FreeOutcome}
-use Rattle.query_row_filter.specs.AllowedAnswer.{outcomeOf, Numbered, AllowedAnswer}
+use Rattle.query_row_filter.specs.AllowedRows.{newlineRefusal, queryRefusal, FoundFrom, FreeOutcome, outcomeOf, Numbered, AllowedAnswer}
 use Rattle.query_row_filter.specs.RowsAfter.{FromRow, answerOf, SearchFrom, StartFacts, BeginIs, limited}
 
--- a refusal before the walk
+-- A refusal before the walk.
 pub refuses : (t : List ℕ) (ok : ℕ) (selected : List ℕ → Bool) (mark refusal n : ℕ) → refusal ≡ n → 1 ≤ n → AllowedAnswer t ok refusal selected mark (Refused n)
 refuses t ok selected mark refusal n e low = record {
   says = record {
@@ -44,7 +41,7 @@ refuses t ok selected mark refusal n e low = record {
   numbered = low;
 }
 
--- questions 5 to 7, the query's own, and 11
+-- Questions 5 to 7, the query's own, and 11.
 module _ (t : List ℕ) (settled : ℕ) (selected : List ℕ → Bool) (mark k : ℕ) (ok : Bool) where
   pub ask-unread : (x : HeaderRead) → x ≡ headerSays t → (q : ℕ) → x ≡ read.Refused q → AllowedAnswer t settled (queryRefusal t k ok) selected mark (Refused q)
   unfolding queryRefusal
@@ -80,11 +77,11 @@ module _ (t : List ℕ) (ok mark : ℕ) where
       numbered = n;
     }
 
-    -- a broken path
+    -- A broken path.
     pub newline-14 : (ok ≡ 0 → ⊥) → AllowedAnswer t ok (newlineRefusal t) selected mark (Refused 14)
     newline-14 never = settles (Refused 14) (λ v. absurd (never v)) (inl refl) (omega arith)
 
-    -- a mark at or above the number of rows stays
+    -- A mark at or above the number of rows stays.
     stays : (rows : ℕ) → rows ≤ mark → cond (leb mark rows) rows mark ≡ mark
     stays rows h = by (leb mark rows) refl
       where
@@ -104,7 +101,7 @@ module _ (t : List ℕ) (ok mark : ℕ) where
     pub few-bytes : at.textLength t ≤ mark → AllowedAnswer t ok (newlineRefusal t) selected mark (Nothing mark)
     few-bytes h = newline-stays (λ v. omega (arith, rows-few (textOf t), text-length t))
 
-  -- the contract of `begin`
+  -- The contract of `begin`.
   pub begin-answered : (s : NextRowAnswer) → ((selected : List ℕ → Bool) → AllowedAnswer t ok (newlineRefusal t) selected mark s)
       → BeginIs t ok mark (begins.Answered s)
   begin-answered s a = record {
@@ -118,14 +115,14 @@ module _ (t : List ℕ) (ok mark : ℕ) where
     answered = λ r e selected. absurd (let z : _≡_ {A = ℕ} 0 1 = cc in omega arith);
   }
 
--- the rows after the mark, scanned from where they begin
+-- The rows after the mark, scanned from where they begin.
 module _ {S : Type 0} (m : Automaton S) (selected : List ℕ → Bool) (reads : Recognizes m selected)
     (t : List ℕ) (ok mark p newlines : ℕ) (sound : ok ≡ 0 → verdict t ≡ 0)
     (b : StartFacts t ok mark p newlines) (r : NextRowAnswer) (s : SearchFrom t m p (mark + 1) r) where
   abbrev rows : List (List ℕ)
   rows = drop mark (rowsOf (textOf t))
 
-  -- where it is settled the scan ends at a selected row or at the text's end
+  -- Where it is settled the scan ends at a selected row or at the text's end.
   right : ok ≡ 0 → r ≡ answerOf (result selected (mark + 1) rows)
   right v = by (s .settled)
     where
@@ -177,7 +174,7 @@ module _ {S : Type 0} (m : Automaton S) (selected : List ℕ → Bool) (reads : 
       by false = tt
   numbers (Refused n) h = omega arith
 
-  -- where it is settled
+  -- Where it is settled.
   small : eqb (firstSelected selected (mark + 1) (drop mark (rowsOf (textOf t)))) 0 ≡ false
       → ok ≡ 0 → Next selected (rowsOf (textOf t)) mark → firstSelected selected (mark + 1) (drop mark (rowsOf (textOf t))) ≤ newlines + 1
   unfolding nextOutcome outcomeAt nextSelected

@@ -9,28 +9,27 @@ use lib.ListN.{length}
 use lib.Dec.{leb, eqb}
 use borrow.Author.Tests.{leb-true, eqb-false, ne-eqb}
 use Rattle.text.specs.ListLaws.{lt-or-ge}
-use Rattle.text.specs.Rows.{rowsOf}
-use Rattle.format.specs.Fits.{textOf}
-use Rattle.format.specs.Verdict.{ask, readable, verdict}
+use Rattle.text.specs.Text.{rowsOf}
+use Rattle.format.specs.TreeReading.{textOf, ask, readable, verdict}
 use Rattle.format.specs.LayoutLaws.{ask-test, ask-rest}
 use Rattle.format.specs.SaidLaws.{next-passes}
-use Rattle.format.specs.CountSays.{isCounted}
+use Rattle.format.specs.Answers.{isCounted}
 use Rattle.theory_counts.specs.RowsOfText.{rows-total}
 use Rattle.row_filter.specs.SelectedRows.{NextRowOutcome, nextSelected, outcomeAt, nextOutcome}
 use Rattle.row_filter.specs.SelectedRowNumbers.{selectedRows}
 use Rattle.row_filter.specs.SelectedRowLaws.{Next, no-more, next, next-of, Shows, shown-all, all-shown}
 use Rattle.query_row_filter.specs.declared.NextRowAnswer.{NextRowAnswer}
 use Rattle.query_row_filter.specs.declared.NextRowAnswer.the-variants.{Row, Nothing, Refused}
-use Rattle.query_row_filter.specs.AllowedOutcome.{refusedAt, newlineRefusal, queryRefusal, maxRows, FreeOutcome}
-use Rattle.query_row_filter.specs.AllowedAnswer.{outcomeOf, Numbered, AllowedAnswer, MarkMoved}
+use Rattle.query_row_filter.specs.AllowedRows.{refusedAt, newlineRefusal, queryRefusal, maxRows, FreeOutcome}
+use Rattle.query_row_filter.specs.AllowedRows.{outcomeOf, Numbered, AllowedAnswer, MarkMoved}
 
--- the outcome of a refusal determines the answer
+-- The outcome of a refusal determines the answer.
 refused-is : (mark : ℕ) (r : NextRowAnswer) (q : ℕ) → outcomeOf mark r ≡ refusedAt (suc q) mark → r ≡ Refused (suc q)
 refused-is mark (Row n) q e = absurd (let z : ⊥ = omega (arith, ap (λ (s : NextRowOutcome). s .refusal) e) in z)
 refused-is mark (Nothing m) q e = absurd (let z : ⊥ = omega (arith, ap (λ (s : NextRowOutcome). s .refusal) e) in z)
 refused-is mark (Refused p) q e = ap Refused (ap (λ (s : NextRowOutcome). s .refusal) e)
 
--- two answers with the same outcome are the same
+-- Two answers with the same outcome are the same.
 same-next-row : (mark : ℕ) (x y : NextRowAnswer) → Numbered x → Numbered y → outcomeOf mark x ≡ outcomeOf mark y → x ≡ y
 same-next-row mark (Row a) (Row b) k l e = ap Row (ap (λ (s : NextRowOutcome). s .row) e)
 same-next-row mark (Row a) (Nothing m) k l e = absurd (let z : ⊥ = omega (arith, ap (λ (s : NextRowOutcome). s .row) e) in z)
@@ -51,7 +50,7 @@ one-next-row t refusal selected mark ok other v w x y a b = same-next-row mark x
     go (inl l) = a .says .asked l ∙ sym (b .says .asked l)
     go (inr l) = let z : refusal ≡ 0 = omega arith in a .says .accepted z v ∙ sym (b .says .accepted z w)
 
--- on an accepted tree none leaves the mark or moves it to the number of rows, and nothing is refused
+-- On an accepted tree none leaves the mark or moves it to the number of rows, and nothing is refused.
 module _ (q R mark : ℕ) where
   next-marks : outcomeAt q R mark .row ≡ 0 → (mark ≤ outcomeAt q R mark .mark) × ((outcomeAt q R mark .mark ≡ mark) ⊎ (outcomeAt q R mark .mark ≡ R))
   unfolding outcomeAt
@@ -77,7 +76,7 @@ module _ (q R mark : ℕ) where
       go true f = let z : outcomeAt q R mark .refusal ≡ 0 = rw f in omega (arith, ap (λ (s : NextRowOutcome). s .refusal) e)
       go false f = let z : outcomeAt q R mark .refusal ≡ 0 = rw f in omega (arith, ap (λ (s : NextRowOutcome). s .refusal) e)
 
-  -- the outcome determines the answer
+  -- The outcome determines the answer.
   next-answer : (r : NextRowAnswer) → Numbered r → outcomeOf mark r ≡ outcomeAt q R mark
       → r ≡ cond (eqb q 0) (Nothing (outcomeAt q R mark .mark)) (Row q)
   unfolding outcomeAt
@@ -126,16 +125,16 @@ asked-counted t k ok h =
 module _ (t : List ℕ) (ok : ℕ) (sound : ok ≡ 0 → verdict t ≡ 0) (refusal : ℕ) (selected : List ℕ → Bool) where
   -- For any bytes.
 
-  -- a refusal leaves the mark
+  -- A refusal leaves the mark.
   pub refusal-leaves : (mark n after : ℕ) → MarkMoved t ok refusal selected mark (Refused n) after → after ≡ mark
   refusal-leaves mark n after m = m .mark-is
 
   module _ (mark : ℕ) (r : NextRowAnswer) (a : AllowedAnswer t ok refusal selected mark r) where
-    -- a question that refuses before the walk determines the answer
+    -- A question that refuses before the walk determines the answer.
     pub refused-first : (q : ℕ) → refusal ≡ suc q → r ≡ Refused (suc q)
     refused-first q e = refused-is mark r q (a .says .asked (rw e (omega arith)) ∙ rw e)
 
-    -- an answer that is no refusal passed every question before the walk
+    -- An answer that is no refusal passed every question before the walk.
     let-through : outcomeOf mark r .refusal ≡ 0 → refusal ≡ 0
     let-through z = go (lt-or-ge 0 refusal)
       where
@@ -153,13 +152,13 @@ module _ (t : List ℕ) (ok : ℕ) (sound : ok ≡ 0 → verdict t ≡ 0) (refus
         → outcomeOf mark r ≡ nextOutcome selected rows mark
     settled mark r a z = a .says .accepted (let-through mark r a z) v
 
-    -- where no question refuses: the next selected row; or none, with the mark of `nextOutcome`
+    -- Where no question refuses: the next selected row; or none, with the mark of `nextOutcome`.
     pub answer-is : (mark : ℕ) (r : NextRowAnswer) → AllowedAnswer t ok refusal selected mark r → refusal ≡ 0
         → r ≡ cond (eqb (nextSelected selected rows mark) 0) (Nothing (nextOutcome selected rows mark .mark)) (Row (nextSelected selected rows mark))
     unfolding nextOutcome
     answer-is mark r a z = next-answer (nextSelected selected rows mark) (length rows) mark r (a .numbered) (a .says .accepted z v)
 
-    -- a returned row is after the mark and becomes the mark: so there are at most as many calls before none as rows
+    -- A returned row is after the mark and becomes the mark: so there are at most as many calls before none as rows.
     pub row-rises : (mark n after : ℕ) → MarkMoved t ok refusal selected mark (Row n) after → (mark < n) × (n ≤ length rows) × (after ≡ n)
     row-rises mark n after m = go (next-of selected rows mark)
       where
@@ -172,7 +171,7 @@ module _ (t : List ℕ) (ok : ℕ) (sound : ok ≡ 0 → verdict t ≡ 0) (refus
             let z : n ≡ k = ap (λ (s : NextRowOutcome). s .row) (is ∙ e) in
             (omega arith, omega arith, m .mark-is)
 
-    -- none is returned only if no selected row is left, and the mark is then that of `nextOutcome`
+    -- None is returned only if no selected row is left, and the mark is then that of `nextOutcome`.
     pub none-moves : (mark m after : ℕ) → MarkMoved t ok refusal selected mark (Nothing m) after
         → (nextOutcome selected rows mark .row ≡ 0) × (after ≡ nextOutcome selected rows mark .mark)
     none-moves mark m after k =
@@ -194,7 +193,7 @@ module _ (t : List ℕ) (ok : ℕ) (sound : ok ≡ 0 → verdict t ≡ 0) (refus
     pub all-called : (ns : List ℕ) → Calls 0 ns → ns ≡ selectedRows selected rows
     all-called ns a = shown-all selected rows ns (shows 0 ns a)
 
-    -- where no question refuses, calls that keep the contract do return all selected rows, then none
+    -- Where no question refuses, calls that keep the contract do return all selected rows, then none.
     module _ (through : refusal ≡ 0) (call : (mark : ℕ) → mark ≤ length rows → (r : NextRowAnswer) × AllowedAnswer t ok refusal selected mark r) where
       answer-row : (mark n : ℕ) (r : NextRowAnswer) → AllowedAnswer t ok refusal selected mark r → 1 ≤ n
           → nextOutcome selected rows mark ≡ record { refusal = 0; row = n; mark = n } → r ≡ Row n
@@ -231,7 +230,7 @@ module _ (t : List ℕ) (ok : ℕ) (sound : ok ≡ 0 → verdict t ≡ 0) (refus
 
   -- For any bytes again: what holds of every answer, also of a free one.
   module _ (counted-of : refusal ≡ 0 → isCounted t 10 ≡ true) where
-    -- a returned row is after the mark and at most total + 1 of byte 10
+    -- A returned row is after the mark and at most total + 1 of byte 10.
     pub row-after : (mark n : ℕ) → AllowedAnswer t ok refusal selected mark (Row n) → (mark < n) × (n ≤ maxRows t)
     row-after mark n a = go (lt-or-ge 0 ok)
       where
@@ -250,7 +249,7 @@ module _ (t : List ℕ) (ok : ℕ) (sound : ok ≡ 0 → verdict t ≡ 0) (refus
             let w = row-rises v mark n n (record { answer = a; mark-is = refl }) in
             (w .0, omega (arith, w .1, rows-total t (sound v) (counted-of through) .1))
 
-    -- none leaves the mark, or moves it forward up to that number
+    -- None leaves the mark, or moves it forward up to that number.
     pub none-after : (mark m : ℕ) → AllowedAnswer t ok refusal selected mark (Nothing m) → (mark ≤ m) × ((m ≡ mark) ⊎ (m ≤ maxRows t))
     unfolding nextOutcome
     none-after mark m a = go (lt-or-ge 0 ok)
@@ -281,7 +280,7 @@ module _ (t : List ℕ) (ok : ℕ) (sound : ok ≡ 0 → verdict t ≡ 0) (refus
             let w = none-moves v mark m m (record { answer = a; mark-is = refl }) in
             moved v (w .1) (next-marks (nextSelected selected (rowsOf (textOf t)) mark) R mark (w .0))
 
-  -- a refusal is that of the questions before the walk; or 14, where the outcome is not settled
+  -- A refusal is that of the questions before the walk; or 14, where the outcome is not settled.
   pub refusal-is : (mark n : ℕ) → AllowedAnswer t ok refusal selected mark (Refused n) → (n ≡ refusal) ⊎ ((n ≡ 14) × (ok ≡ 0 → ⊥))
   unfolding nextOutcome
   refusal-is mark n a = go (lt-or-ge 0 refusal) (lt-or-ge 0 ok)

@@ -8,17 +8,14 @@ use native.Mathlib.Omega.{arith}
 use lib.ListN.{length, take, drop, length-take, take-append-drop, drop-of-length-le}
 use lib.Seq.{drop-drop}
 use lib.Dec.{ltb}
-use Rattle.text.specs.Text.{stretch, placeOf}
+use Rattle.text.specs.Text.{stretch, placeOf, rowsOf}
 use Rattle.text.specs.declared.TextPlace.{TextPlace}
-use Rattle.text.specs.Rows.{rowsOf}
 use Rattle.text.specs.RowLaws.{rows-past}
 use Rattle.format.specs.Layout as at
 use Rattle.format.specs.LayoutLaws.{Readable}
 use Rattle.format.specs.VerdictLaws.{accepted-links}
-use Rattle.format.specs.Fits.{textOf}
-use Rattle.format.specs.Verdict.{verdict}
-use Rattle.format.specs.CountSays.{isCounted, numberOfByte}
-use Rattle.format.specs.FindSays.{total}
+use Rattle.format.specs.TreeReading.{textOf, verdict}
+use Rattle.format.specs.Answers.{isCounted, numberOfByte, total}
 use Rattle.format.specs.FindSaysLaws.{Selected}
 use Rattle.layout.specs.declared.header.Header.{Header}
 use Rattle.layout.specs.HeaderSays.{HeaderOf}
@@ -37,12 +34,12 @@ use Rattle.query_row_filter.specs.declared.NextRowAnswer.the-variants.{R
 use Rattle.query_row_filter.specs.declared.rows_after.StartPlace.the-variants as start
 use Rattle.query_row_filter.specs.RowsAfter.{StartIs, PartFrom, FromRow, answerOf, endResult, SearchFrom, limited}
 
--- the rest of a text, cut after x bytes
+-- The rest of a text, cut after x bytes.
 rest-parts : (T : List ℕ) (p x : ℕ) → drop p T ≡ stretch T p x ++ drop (p + x) T
 unfolding stretch
 rest-parts T p x = sym (take-append-drop x (drop p T)) ∙ ap (λ (r : List ℕ). take x (drop p T) ++ r) (drop-drop x p T)
 
--- a row number above total + 1 becomes 14
+-- A row number above total + 1 becomes 14.
 module _ (newlines : ℕ) (x : NextRowAnswer) where
   pub limit-row : (q : ℕ) (b : Bool) → x ≡ Row q → ltb (newlines + 1) q ≡ b → cond b (Refused 14) (Row q) ≡ limited newlines x
   unfolding limited
@@ -56,7 +53,7 @@ module _ (newlines : ℕ) (x : NextRowAnswer) where
   unfolding limited
   limit-refused n e = rw e
 
--- where the rows after a mark begin
+-- Where the rows after a mark begin.
 start-at : (t : List ℕ) (ok mark p : ℕ)
     → p ≤ at.textLength t → (ok ≡ 0 → rowsOf (drop p (textOf t)) ≡ drop mark (rowsOf (textOf t))) → StartIs t ok mark (start.At (record { 0 = p }))
 start-at t ok mark p low is = record {
@@ -75,18 +72,18 @@ start-broken t ok mark never = record {
   broken = λ e v. never v;
 }
 
--- after a byte 10
+-- After a byte 10.
 pub start-past : (t : List ℕ) (ok mark p : ℕ) → (ok ≡ 0 → verdict t ≡ 0)
     → Selected t 10 mark → p < at.textLength t → (ok ≡ 0 → p ≡ placeOf 10 mark (textOf t)) → StartIs t ok mark (start.At (record { 0 = p + 1 }))
 start-past t ok mark p sound s low is =
     start-at t ok mark (p + 1) (omega arith) (λ v. rows-past (textOf t) mark p (rw (is v) (tallies.stands t (sound v) 10 mark s)))
 
--- questions 11 and 12 pass for the byte 10 that ends the mark's row
+-- Questions 11 and 12 pass for the byte 10 that ends the mark's row.
 pub start-asked : (t : List ℕ) (h : Header) (mark : ℕ)
     → HeaderOf t h → isCounted t 10 ≡ true → (mark ≡ 0 → ⊥) → mark ≤ total t (numberOfByte t 10) → Selected t 10 mark
 start-asked t h mark k c some high = record { pass = k .passes; counted = c; low = omega (arith, some); high = high }
 
--- the bytes that are scanned next
+-- The bytes that are scanned next.
 module _ (t : List ℕ) (p : ℕ) (x : Ran) where
   pub part-from : (h : Header) → HeaderOf t h → p < h .«text_length» → (most : ℕ) → RangeAnswer t p most x → PartFrom t p x
   part-from h k low most e = by x refl e
@@ -123,7 +120,7 @@ module _ {S : Type 0} (t : List ℕ) (m : Automaton S) (p₀ q : ℕ) where
   search-broken never = record { settled = inr (refl, never); rows = refl }
 
   module _ (p row : ℕ) (f : S) (k : Searching p row f) where
-    -- one more part: the slice of the tree's bytes that the code takes
+    -- One more part: the slice of the tree's bytes that the code takes.
     module _ (a x : ℕ) (run : ReadsOn t p a x) where
       abbrev part : List ℕ
       part = take (a + x - a) (drop a t)
@@ -162,7 +159,7 @@ module _ {S : Type 0} (t : List ℕ) (m : Automaton S) (p₀ q : ℕ) where
             let w : found n ≡ whole = rw e at scanned in
             record { settled = inl (rw (← w)); rows = omega (arith, b .0, k .above) }
 
-    -- the text's end
+    -- The text's end.
     end-low : 1 ≤ row → FromRow q (answerOf (atEndOfText m f row))
     unfolding atEndOfText
     end-low some = by (m .at-end f) (m .no-byte f)
@@ -181,7 +178,7 @@ module _ {S : Type 0} (t : List ℕ) (m : Automaton S) (p₀ q : ℕ) where
         let w : on f row ≡ whole = rw e at (k .far) in
         rw (s-is, a-is, b-is) (record { settled = inl (rw (← w)); rows = end-low (omega (arith, k .above)) })
 
--- the text's end, test by test
+-- The text's end, test by test.
 module _ (selected empty : Bool) (q : ℕ) where
   pub end-selected : selected ≡ true → Row q ≡ answerOf (endResult selected empty q)
   end-selected e = rw e

@@ -1,3 +1,2 @@
-pub mod AllowedOutcome
-pub mod AllowedAnswer
+pub mod AllowedRows
 pub mod RowsAfter

@@ -7,12 +7,10 @@ use Prim.Native.Nat.{ℕ, _+_, _-_, _≤_, _<_}
 use lib.ListN.{drop}
 use lib.Dec.{ltb}
 use Rattle.text.specs.declared.TextPlace.{TextPlace}
-use Rattle.text.specs.Rows.{rowsOf}
+use Rattle.text.specs.Text.{rowsOf}
 use Rattle.format.specs.Layout as at
-use Rattle.format.specs.Fits.{textOf}
-use Rattle.format.specs.Verdict.{verdict}
-use Rattle.format.specs.CountSays.{isCounted, numberOfByte}
-use Rattle.format.specs.FindSays.{total}
+use Rattle.format.specs.TreeReading.{textOf, verdict}
+use Rattle.format.specs.Answers.{isCounted, numberOfByte, total}
 use Rattle.ask_access.specs.declared.read_by_header.Ran.{Ran}
 use Rattle.ask_access.specs.declared.read_by_header.Ran.the-variants as ran
 use Rattle.ask_access.specs.ReadByRuns.{ReadsOn}
@@ -23,10 +21,9 @@ use Rattle.query_row_filter.specs.declared.rows_after.RowsStart.{RowsSta
 use Rattle.query_row_filter.specs.declared.rows_after.RowsStart.the-variants as begins
 use Rattle.query_row_filter.specs.declared.rows_after.StartPlace.{StartPlace}
 use Rattle.query_row_filter.specs.declared.rows_after.StartPlace.the-variants as start
-use Rattle.query_row_filter.specs.AllowedOutcome.{newlineRefusal}
-use Rattle.query_row_filter.specs.AllowedAnswer.{AllowedAnswer}
+use Rattle.query_row_filter.specs.AllowedRows.{newlineRefusal, AllowedAnswer}
 
--- the place is in the text, and where `ok` is 0 the rows after the mark begin there and the walk does not fail
+-- The place is in the text, and where `ok` is 0 the rows after the mark begin there and the walk does not fail.
 pub record StartIs (t : List ℕ) (ok mark : ℕ) (r : StartPlace) : Type 0 where
   pub place-in : (p : TextPlace) → r ≡ start.At p → p .0 ≤ at.textLength t
   pub place-is : (p : TextPlace) → r ≡ start.At p → ok ≡ 0 → rowsOf (drop (p .0) (textOf t)) ≡ drop mark (rowsOf (textOf t))
@@ -46,12 +43,12 @@ pub record BeginIs (t : List ℕ) (ok mark : ℕ) (r : RowsStart) : Type 0 where
   pub begins-at : (p : TextPlace) (newlines : ℕ) → r ≡ begins.At p newlines → StartFacts t ok mark (p .0) newlines
   pub answered : (s : NextRowAnswer) → r ≡ begins.Answered s → (selected : List ℕ → Bool) → AllowedAnswer t ok (newlineRefusal t) selected mark s
 
--- a range of the tree's bytes that has the next bytes of the text from place p on; there is none only in a tree that the check refuses
+-- A range of the tree's bytes that has the next bytes of the text from place p on; there is none only in a tree that the check refuses.
 abbrev pub PartFrom : List ℕ → ℕ → Ran → Type 0
 PartFrom t p (ran.At part) = (ReadsOn t p (part .from) (part .length)) × (1 ≤ part .length)
 PartFrom t p (ran.Refused number) = verdict t ≡ 0 → ⊥
 
--- the answer names no row below q
+-- The answer names no row below q.
 abbrev pub FromRow : ℕ → NextRowAnswer → Type 0
 FromRow q (Row n) = q ≤ n
 FromRow q (Nothing n) = q ≤ n + 1
@@ -62,11 +59,11 @@ abbrev pub answerOf : SearchResult → NextRowAnswer
 answerOf (at-row q) = Row q
 answerOf (nothing m) = Nothing m
 
--- the result where the text ends in row q
+-- The result where the text ends in row q.
 abbrev pub endResult : Bool → Bool → ℕ → SearchResult
 endResult selected empty q = cond selected (at-row q) (cond empty (nothing (q - 1)) (nothing q))
 
--- the answer of a search from place p, where row q begins: that of the text's scan from there; or 14, on a tree that the check refuses
+-- The answer of a search from place p, where row q begins: that of the text's scan from there; or 14, on a tree that the check refuses.
 pub record SearchFrom {S : Type 0} (t : List ℕ) (m : Automaton S) (p q : ℕ) (r : NextRowAnswer) : Type 0 where
   pub settled : (r ≡ answerOf (finishScan m (scanBytes m (drop p (textOf t)) (m .start) q))) ⊎ ((r ≡ Refused 14) × (verdict t ≡ 0 → ⊥))
   pub rows : FromRow q r

@@ -6,7 +6,7 @@ use Prim.Native.Nat.{ℕ, _+_, _-_, _≤_}
 use lib.Dec.{eqb}
 use Rattle.text.specs.RowLaws.{trimmed}
 
--- start: the state before a row's first byte. step: one more byte. at-end: the row is accepted if the text ends here. at-newline: the row is accepted if a
+-- Start: the state before a row's first byte. step: one more byte. at-end: the row is accepted if the text ends here. at-newline: the row is accepted if a
 -- byte 10 ends it here, and a byte 13 before that byte is not part of the row. no-byte: no byte of the row has been read.
 pub record Automaton (S : Type 0) : Type 0 where
   pub start : S

@@ -9,13 +9,13 @@ use lib.ListN.{length, getD, take, drop, length-append}
 use lib.Seq.{drop-cons, drop-length, take-suc, take-all, take-append-seam, getD-append-seam}
 use lib.Dec.{eqb}
 use borrow.Author.Tests.{eqb-true, eq-eqb, ne-eqb}
-use Rattle.text.specs.Text.{countIn}
+use Rattle.text.specs.Text.{countIn, rowsOf}
 use Rattle.text.specs.CountLaws.{one, count-cons, count-nil, count-append}
-use Rattle.text.specs.Rows.{rowsOf}
 use Rattle.text.specs.RowLaws.{trimmed, rows-split, rows-one, rows-open}
 use Rattle.row_filter.specs.SelectedRows.{firstSelected}
 use Rattle.row_filter.specs.SelectedRowLaws.{first-cons}
-use Rattle.row_filter.specs.RowAutomaton.{Automaton, Scan, found, on, SearchResult, at-row, nothing, resumeScan, RowBetween, runFrom, scanByte, scanBytes}
+use Rattle.row_filter.specs.RowAutomaton.{Automaton, Scan, found, on, SearchResult, at-row, nothing, resumeScan, RowBetween, runFrom, scanByte}
+use Rattle.row_filter.specs.RowAutomaton.{scanBytes}
 use Rattle.row_filter.specs.RowAutomaton.{atEndOfText, finishScan, Recognizes}
 
 module _ {S : Type 0} (m : Automaton S) where
@@ -33,7 +33,7 @@ module _ {S : Type 0} (m : Automaton S) where
     unfolding scanByte
     byte-step e f h = rw (ne-eqb 10 x (λ z. e (sym z)), h)
 
-    -- a byte ends at most one row
+    -- A byte ends at most one row.
     byte-bounds : RowBetween q 1 (scanByte m s q x)
     unfolding scanByte
     byte-bounds = go (eqb 10 x) (m .at-newline s)
@@ -49,7 +49,7 @@ module _ {S : Type 0} (m : Automaton S) where
     pub found-next : (n : ℕ) → found n ≡ scanByte m s q x → (q ≤ n) × (n ≤ q + 1)
     found-next n e = rw (← e) at byte-bounds
 
-  -- byte i of the scanned bytes, and the rest
+  -- Byte i of the scanned bytes, and the rest.
   module _ (part : List ℕ) (i : ℕ) (h : i < length part) (s : S) (q : ℕ) where
     open-scan : scanBytes m (drop i part) s q ≡ resumeScan (scanBytes m (drop (i + 1) part)) (scanByte m s q (getD part i 0))
     unfolding scanBytes
@@ -78,14 +78,14 @@ module _ {S : Type 0} (m : Automaton S) where
 
     module _ (i : ℕ) (s : S) (q : ℕ) (k : Scanning part first row i s q) where
       module _ (h : i < length part) (r : Scan S) (n : ℕ) (r-is : r ≡ scanByte m s q (getD part i 0)) where
-        -- byte i ends an accepted row
+        -- Byte i ends an accepted row.
         pub scanning-found : r ≡ found n → (r ≡ scanBytes m part first row) × RowBetween row (length part) r
         scanning-found e =
             let f : found n ≡ scanByte m s q (getD part i 0) = sym e ∙ r-is in
             let b = found-next s q (getD part i 0) n f in
             rw e (scan-found part i h s q n f ∙ k .same, (omega (arith, b .0, k .low), omega (arith, b .1, k .high)))
 
-        -- byte i leads to a state
+        -- Byte i leads to a state.
         pub scanning-on : (g : S) → r ≡ on g n → Scanning part first row (i + 1) g n
         scanning-on g e =
             let f : on g n ≡ scanByte m s q (getD part i 0) = sym e ∙ r-is in
@@ -97,7 +97,7 @@ module _ {S : Type 0} (m : Automaton S) where
               same = scan-on part i h s q g n f ∙ k .same;
             }
 
-      -- bytes that change nothing are passed over
+      -- Bytes that change nothing are passed over.
       pub scanning-passed : (j : ℕ) → i ≤ j → j ≤ length part → scanBytes m (drop j part) s q ≡ scanBytes m (drop i part) s q → Scanning part first row j s q
       scanning-passed j a b e = record { within = b; low = k .low; high = omega (arith, k .high); same = e ∙ k .same }
 
@@ -123,7 +123,7 @@ module _ {S : Type 0} (m : Automaton S) where
 
 -- Rows ended by a byte 10: one byte 13 before it is not part of the row.
 
--- a list as its front and its last element
+-- A list as its front and its last element.
 snoc-last : (j : ℕ) (row : List ℕ) → length row ≡ suc j → row ≡ take j row ++ getD row j 0 ∷ []
 snoc-last j row e = sym (take-all (suc j) row (omega arith)) ∙ take-suc row j 0 (omega arith)
 
@@ -156,7 +156,7 @@ module _ {S : Type 0} (m : Automaton S) (selected : List ℕ → Bool) (at-end-i
       ap (λ (r : List ℕ). m .at-newline (runFrom m (m .start) r)) e
       ∙ done-snoc ys z (eqb 13 z) refl ∙ sym (ap (λ (r : List ℕ). selected (trimmed r)) e ∙ ap selected (trim-snoc ys z))
 
--- the first selected row of a list that begins with row q, or the number of rows
+-- The first selected row of a list that begins with row q, or the number of rows.
 abbrev pub result : (List ℕ → Bool) → ℕ → List (List ℕ) → SearchResult
 result selected q rows = cond (eqb (firstSelected selected q rows) 0) (nothing (q - 1 + length rows)) (at-row (firstSelected selected q rows))
 
@@ -172,7 +172,7 @@ module _ (selected : List ℕ → Bool) where
   unfolding firstSelected
   result-none q = let z : q - 1 + 0 ≡ q - 1 = omega arith in rw z
 
--- a byte 10 ends a row; no other byte does
+-- A byte 10 ends a row; no other byte does.
 rows-next : (p : List ℕ) (x : ℕ) (xs : List ℕ) → countIn 10 p ≡ 0 → eqb 10 x ≡ true → rowsOf (p ++ x ∷ xs) ≡ trimmed p ∷ rowsOf xs
 rows-next p x xs h e =
     ap (λ (y : ℕ). rowsOf (p ++ y ∷ xs)) (sym (eqb-true 10 x e)) ∙ rows-split p xs ∙ ap (λ (r : List (List ℕ)). r ++ rowsOf xs) (rows-one p h)
@@ -186,7 +186,7 @@ module _ {S : Type 0} (m : Automaton S) (selected : List ℕ → Bool) (r : Reco
   abbrev read : List ℕ → S
   read = runFrom m (m .start)
 
-  -- the text ends in a row of which the bytes p have been read
+  -- The text ends in a row of which the bytes p have been read.
   end-rows : (p : List ℕ) (q : ℕ) → 1 ≤ q → countIn 10 p ≡ 0 → atEndOfText m (read p) q ≡ result selected q (rowsOf (p ++ []))
   unfolding atEndOfText rowsOf runFrom
   end-rows [] q low h = rw (r .at-end-is [] ∙ r .empty-rejected, r .no-byte-first) (sym (result-none selected q))
@@ -231,7 +231,7 @@ module _ {S : Type 0} (m : Automaton S) (selected : List ℕ → Bool) (r : Reco
           byte-other (read p) q x e ∙ ap (λ (f : S). on f q) (sym (run-snoc m (m .start) p x)) in
           rw s (rest (p ++ x ∷ []) q low (none-more p x h e) ∙ ap (λ (t : List ℕ). result selected q (rowsOf t)) (append-assoc p (x ∷ []) xs))
 
-  -- from a row's first byte on
+  -- From a row's first byte on.
   pub scan-rows : (xs : List ℕ) (q : ℕ) → 1 ≤ q → finishScan m (scanBytes m xs (m .start) q) ≡ result selected q (rowsOf xs)
   unfolding runFrom
   scan-rows xs q low = scan-from xs [] q low (count-nil 10)

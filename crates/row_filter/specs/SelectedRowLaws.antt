@@ -15,7 +15,7 @@ use Rattle.row_filter.specs.SelectedRowNumbers.{selectedFrom, selectedRo
 
 -- The first selected row of a list that begins with row q, and the selected rows after it.
 
--- no row is selected; or row q + k is the first, and the others are the selected rows after it
+-- No row is selected; or row q + k is the first, and the others are the selected rows after it.
 data First (selected : List ℕ → Bool) (q : ℕ) (rows : List (List ℕ)) : Type 0 where
   none : firstSelected selected q rows ≡ 0 → selectedFrom selected q rows ≡ [] → First selected q rows
   first : (k : ℕ) → firstSelected selected q rows ≡ q + k → k < length rows
@@ -51,7 +51,7 @@ module _ (selected : List ℕ → Bool) (rows : List (List ℕ)) where
   abbrev pub after : ℕ → List ℕ
   after mark = selectedFrom selected (mark + 1) (drop mark rows)
 
-  -- no row after the mark is selected; or n is the next, and the others are the selected rows after n
+  -- No row after the mark is selected; or n is the next, and the others are the selected rows after n.
   pub data Next (mark : ℕ) : Type 0 where
     no-more : nextOutcome selected rows mark .row ≡ 0 → after mark ≡ [] → Next mark
     next : (n : ℕ) → mark < n → n ≤ length rows → nextOutcome selected rows mark ≡ record { refusal = 0; row = n; mark = n }
@@ -74,7 +74,7 @@ module _ (selected : List ℕ → Bool) (rows : List (List ℕ)) where
   Shows mark [] = nextOutcome selected rows mark .row ≡ 0
   Shows mark (n ∷ ns) = (nextOutcome selected rows mark ≡ record { refusal = 0; row = n; mark = n }) × (1 ≤ n) × Shows n ns
 
-  -- the rows returned from a mark are the selected rows after it
+  -- The rows returned from a mark are the selected rows after it.
   shown-are : (mark : ℕ) (ns : List ℕ) → Shows mark ns → ns ≡ after mark
   shown-are mark [] h = go (next-of mark)
     where
@@ -89,7 +89,7 @@ module _ (selected : List ℕ → Bool) (rows : List (List ℕ)) where
           let z : n ≡ k = ap (λ (x : NextRowOutcome). x .row) (sym (h .0) ∙ e) in
           rw (rest, z) (sym m)
 
-  -- from every mark the searches return the selected rows after it, then none
+  -- From every mark the searches return the selected rows after it, then none.
   comes-to : (mark : ℕ) (ns : List ℕ) → after mark ≡ ns → Shows mark ns
   comes-to mark [] e = go (next-of mark)
     where
@@ -105,7 +105,7 @@ module _ (selected : List ℕ → Bool) (rows : List (List ℕ)) where
           let w : after n ≡ ns = ap after (sym z) ∙ ap (drop 1) (sym m ∙ e) in
           (s ∙ rw z, omega arith, rest n w)
 
-  -- from mark 0: exactly the selected rows, then none
+  -- From mark 0: exactly the selected rows, then none.
   pub shown-all : (ns : List ℕ) → Shows 0 ns → ns ≡ selectedRows selected rows
   unfolding selectedRows
   shown-all ns h = shown-are 0 ns h
@@ -172,12 +172,12 @@ module _ (selected : List ℕ → Bool) where
       go false e j rest = later (rest j)
 
 module _ (selected : List ℕ → Bool) (rows : List (List ℕ)) where
-  -- ascending: each row once, in row order
+  -- Ascending: each row once, in row order.
   pub selected-rise : Rising 1 (selectedRows selected rows)
   unfolding selectedRows
   selected-rise = from-rise selected 1 rows
 
-  -- a selected row is in the list, and each number of the list is that of a selected row
+  -- A selected row is in the list, and each number of the list is that of a selected row.
   pub selected-in : (n : ℕ) → 1 ≤ n → n ≤ length rows → selected (getD rows (n - 1) []) ≡ true → In n (selectedRows selected rows)
   unfolding selectedRows
   selected-in n low high m =
@@ -191,14 +191,14 @@ module _ (selected : List ℕ → Bool) (rows : List (List ℕ)) where
       let e : f .0 ≡ n - 1 = omega (arith, f .1) in
       (omega (arith, f .1), omega (arith, f .1, f .2), rw e at (f .3))
 
--- a weaker predicate selects every row that the stronger one selects
+-- A weaker predicate selects every row that the stronger one selects.
 pub more-selected : (less more : List ℕ → Bool) → ((row : List ℕ) → less row ≡ true → more row ≡ true)
     → (rows : List (List ℕ)) (n : ℕ) → In n (selectedRows less rows) → In n (selectedRows more rows)
 more-selected less more wider rows n i =
     let f = in-selected less rows n i in
     selected-in more rows n (f .0) (f .1) (wider (getD rows (n - 1) []) (f .2))
 
--- the first list is a subsequence of the second
+-- The first list is a subsequence of the second.
 pub data Sublist : List ℕ → List ℕ → Type 0 where
   nil : Sublist [] []
   skip : (y : ℕ) (xs ys : List ℕ) → Sublist xs ys → Sublist xs (y ∷ ys)

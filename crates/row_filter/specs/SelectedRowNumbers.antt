@@ -5,13 +5,13 @@ use mathlib.Core.Bool.{Bool, cond}
 use Prim.Native.Nat.{ℕ, _+_}
 
 module _ (selected : List ℕ → Bool) where
-  -- the numbers of the selected rows, where the list begins with row q
+  -- The numbers of the selected rows, where the list begins with row q.
   unfoldable pub selectedFrom : ℕ → List (List ℕ) → List ℕ
   selectedFrom q [] = []
   selectedFrom q (row ∷ rows) =
       let rest = selectedFrom (q + 1) rows in
       cond (selected row) (q ∷ rest) rest
 
-  -- the numbers of all selected rows of a text, ascending
+  -- The numbers of all selected rows of a text, ascending.
   unfoldable pub selectedRows : List (List ℕ) → List ℕ
   selectedRows rows = selectedFrom 1 rows

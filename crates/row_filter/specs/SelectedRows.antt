@@ -3,8 +3,9 @@
 use mathlib.Core.List.{List, [], _∷_}
 use mathlib.Core.Bool.{Bool, cond}
 use Prim.Native.Nat.{ℕ, _+_}
-use lib.ListN.{length, drop}
+use lib.ListN.{length, drop, take}
 use lib.Dec.{leb, eqb}
+use Rattle.text.specs.Text.{sameList}
 
 -- The outcome of a search: the refusal (0 for none), the row (0 for none), and the new mark.
 pub record NextRowOutcome : Type 0 where
@@ -13,7 +14,7 @@ pub record NextRowOutcome : Type 0 where
   pub mark : ℕ
 
 module _ (selected : List ℕ → Bool) where
-  -- the first selected row, where the list begins with row q; 0 if there is none
+  -- The first selected row, where the list begins with row q; 0 if there is none.
   unfoldable pub firstSelected : ℕ → List (List ℕ) → ℕ
   firstSelected q [] = 0
   firstSelected q (row ∷ rows) =
@@ -33,3 +34,7 @@ outcomeAt q rows mark =
 -- The outcome of the search for the next selected row.
 unfoldable pub nextOutcome : (List ℕ → Bool) → List (List ℕ) → ℕ → NextRowOutcome
 nextOutcome selected rows mark = outcomeAt (nextSelected selected rows mark) (length rows) mark
+
+-- Whether the first bytes of a row are the prefix.
+unfoldable pub startsWith : List ℕ → List ℕ → Bool
+startsWith prefix row = sameList (take (length prefix) row) prefix

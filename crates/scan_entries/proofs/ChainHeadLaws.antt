@@ -44,7 +44,7 @@ or-digit (suc j) a b =
     ∙ or-digit j (a / 2) (b / 2)
     ∙ ap₂ max (ap (λ (x : ℕ). x % 2) (sym (half a j))) (ap (λ (x : ℕ). x % 2) (sym (half b j)))
 
--- the low eight digits of a number
+-- The low eight digits of a number.
 low-digit : (a m j : ℕ) → j < 8 → (a * 256 + m) / 2 ^ j % 2 ≡ m / 2 ^ j % 2
 low-digit a m zero l = omega arith
 low-digit a m (suc zero) l = omega arith
@@ -56,7 +56,7 @@ low-digit a m (suc (suc (suc (suc (suc (suc zero)))))) l = omega arith
 low-digit a m (suc (suc (suc (suc (suc (suc (suc zero))))))) l = omega arith
 low-digit a m (suc (suc (suc (suc (suc (suc (suc (suc j)))))))) l = absurd (let z : ⊥ = omega arith in z)
 
--- the marks of a head, and the new one
+-- The marks of a head, and the new one.
 module _ (w h x : ℕ) (few : x < maxItems) where
   abbrev k : ℕ
   k = h % 8

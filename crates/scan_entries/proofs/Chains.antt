@@ -25,7 +25,7 @@ module _ (T out : List ℕ) (it : Items) where
   unfolding chainAt bucketOf
   chain-lt low x = bucket-lt (print (it .seed) (bytesAt T out it x)) (it .heads) (print-below (it .seed) (bytesAt T out it x)) low
 
-  -- the same bytes are in the same chain
+  -- The same bytes are in the same chain.
   pub same-chain : (x p n : ℕ) → bytesAt T out it x ≡ stretch T p n → chainAt T out it x ≡ bucketOf (it .heads) (print (it .seed) (stretch T p n))
   unfolding chainAt
   same-chain x p n e = ap (λ (s : List ℕ). bucketOf (it .heads) (print (it .seed) s)) e
@@ -53,7 +53,7 @@ module _ (T out : List ℕ) (it : Items) where
   }
 
   module _ (W Z : List ℕ) (s : Searched T out it W Z) where
-    -- an item that is in a chain now was in one before
+    -- An item that is in a chain now was in one before.
     pub listed-before : (x : ℕ) → x < it .items → Is Z x → Is W x
     listed-before x l i = go (lt-or-ge (placeIn W x) (length T))
       where
@@ -82,7 +82,7 @@ module _ (T out : List ℕ) (it : Items) where
 
   -- A window compared with item x.
   module _ (W : List ℕ) (x p n : ℕ) where
-    -- the window has other bytes
+    -- The window has other bytes.
     pub passed-by : lengthAt T out it x ≡ n → (bytesAt T out it x ≡ stretch T p n → ⊥) → Found T out it W x p → Found T out it W x (p + 1)
     passed-by en un f = record {
       near = f .near;
@@ -96,7 +96,7 @@ module _ (T out : List ℕ) (it : Items) where
             let q : r ≡ p = omega arith in
             un (sym e ∙ rw (q, en))
 
-    -- the item was found before
+    -- The item was found before.
     pub passed-after : placeIn W x ≤ p → Found T out it W x p → Found T out it W x (p + 1)
     passed-after a f = record { near = f .near; same = f .same; none = λ r l m e. f .none r (omega arith) m e }
 
@@ -113,7 +113,7 @@ module _ (T out : List ℕ) (it : Items) where
     pub other-bytes : (lengthAt T out it x ≡ n → bytesAt T out it x ≡ stretch T p n → ⊥) → Touched T out it W W x p n
     other-bytes un = touched-none (λ en. passed-by W x p n en (un en))
 
-    -- the window has the item's bytes, at a place before the one found so far
+    -- The window has the item's bytes, at a place before the one found so far.
     module _ (before : p < placeIn W x) (en : lengthAt T out it x ≡ n) (es : bytesAt T out it x ≡ stretch T p n) where
       abbrev Z : List ℕ
       Z = set W (3 * x + 2) p

@@ -21,7 +21,7 @@ module _ (T out : List ℕ) (it : Items) where
   abbrev Is : List ℕ → ℕ → Type 0
   Is W x = Listed T out it W x
 
-  -- no item is entered yet
+  -- No item is entered yet.
   pub chained-none : (W Z : List ℕ) → Cleared W Z (3 * it .items) (it .heads) → Chained T out it Z 0
   unfolding headIn linkOf
   chained-none W Z c = record {
@@ -52,7 +52,7 @@ module _ (T out : List ℕ) (it : Items) where
       all = λ y l i c. n .all y l (was-listed y (omega arith) i) c;
     }
 
-    -- with no item more in its chain
+    -- With no item more in its chain.
     link-more : (g e : ℕ) → (Is Z x → chainAt T out it x ≡ g → ⊥) → Link T out it W g x e → Link T out it Z g (x + 1) e
     link-more g e un n =
         let m = link-same g x e (omega arith) n in
@@ -69,7 +69,7 @@ module _ (T out : List ℕ) (it : Items) where
             let q : y ≡ x = omega arith in
             absurd (un (subst (λ (k : ℕ). Is Z k) q i) (subst (λ (k : ℕ). chainAt T out it k ≡ g) q c))
 
-    -- item x is in no chain
+    -- Item x is in no chain.
     module _ (t : Turn T out it W x) (nexts : (y : ℕ) → y < x → nextIn Z y ≡ nextIn W y) (prints : (y : ℕ) → y < x → printIn Z y ≡ printIn W y)
         (heads : (g : ℕ) → headIn (it .items) Z g ≡ headIn (it .items) W g) (out-of : length T ≤ placeIn Z x) where
       h : Chained T out it W x
@@ -97,7 +97,7 @@ module _ (T out : List ℕ) (it : Items) where
         marks = λ y l i. let m = below y l i in rw (heads (chainAt T out it y)) (h .marks y m (was-listed y m i));
       }
 
-  -- item x left out, or the twin of another: one word is written
+  -- Item x left out, or the twin of another: one word is written.
   module _ (W : List ℕ) (x v : ℕ) (t : Turn T out it W x) (high : length T ≤ v) where
     abbrev Y : List ℕ
     Y = set W (3 * x + 2) v
@@ -132,7 +132,7 @@ module _ (T out : List ℕ) (it : Items) where
           (l, omega (arith, place-before y l, w .listed y s), w .same-length y s, w .same y s);
     }
 
-  -- item x in front of its chain
+  -- Item x in front of its chain.
   module _ (W Z : List ℕ) (x h s g : ℕ) (t : Turn T out it W x) (p : Put (it .items) W Z x h s g) (h-is : h ≡ print (it .seed) (bytesAt T out it x))
       (s-is : s ≡ startAt T out it x) (g-is : g ≡ chainAt T out it x) where
     old : Chained T out it W x
@@ -253,7 +253,7 @@ module _ (T out : List ℕ) (it : Items) where
       same = λ y q. absurd (let z : ⊥ = omega arith in z);
     }
 
-    -- the chain of a fingerprint
+    -- The chain of a fingerprint.
     pub chain-of : (h r : ℕ) → h ≡ print (it .seed) (bytesAt T out it x) → r ≡ bucketOf (it .heads) h → r ≡ chainAt T out it x
     unfolding chainAt
     chain-of h r eh er = er ∙ ap (bucketOf (it .heads)) eh

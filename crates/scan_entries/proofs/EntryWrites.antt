@@ -11,7 +11,7 @@ use Rattle.scan_entries.specs.ChainHeads.{linkOf, Pushed}
 use Rattle.scan_entries.specs.Entries.{nextIn, printIn, placeIn, headIn}
 use Rattle.scan_entries.specs.ItemsEntered.{Put}
 
--- four words, one after the other
+-- Four words, one after the other.
 module _ (W : List ℕ) (items heads x g e h s w : ℕ) (room : 3 * items + heads ≤ length W) (xl : x < items) (gl : g < heads) where
   abbrev Z : List ℕ
   Z = set (set (set (set W (3 * x) e) (3 * x + 1) h) (3 * x + 2) s) (3 * items + g) w
@@ -19,7 +19,7 @@ module _ (W : List ℕ) (items heads x g e h s w : ℕ) (room : 3 * items + head
   length-is : length Z ≡ length W
   length-is = simp length-set
 
-  -- at another place
+  -- At another place.
   other : (i : ℕ) → (i ≡ 3 * x → ⊥) → (i ≡ 3 * x + 1 → ⊥) → (i ≡ 3 * x + 2 → ⊥) → (i ≡ 3 * items + g → ⊥) → getD Z i 0 ≡ getD W i 0
   other i a b c d = simp getD-set-other
 

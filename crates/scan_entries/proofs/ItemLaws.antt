@@ -8,11 +8,9 @@ use native.Mathlib.Nat.{mod-lt, mul-le-mul}
 use lib.ListN.{length}
 use lib.Dec.{eqb}
 use borrow.Author.Tests.{eq-eqb, ne-eqb, eqb-true}
-use Rattle.text.specs.Lists.{sameList}
+use Rattle.text.specs.Text.{sameList, stretch}
 use Rattle.text.specs.ListLaws.{eq-sameList, sameList-true, and-left, and-right, bool-clash}
-use Rattle.text.specs.Text.{stretch}
-use Rattle.format.specs.Words.{wordAt}
-use Rattle.format.specs.Settings.{maxText}
+use Rattle.format.specs.Layout.{wordAt, maxText}
 use Rattle.scan_entries.specs.declared.Items.{Items}
 use Rattle.scan_entries.specs.Entries.{Placed, RunIs, startAt, lengthAt, bytesAt}
 

@@ -21,7 +21,7 @@ module _ (T out : List ℕ) (it : Items) (W : List ℕ) (h p n : ℕ) where
   abbrev g : ℕ
   g = bucketOf (it .heads) h
 
-  -- on the way down the chain, before link e
+  -- On the way down the chain, before link e.
   pub record Visiting (Z : List ℕ) (e : ℕ) : Type 0 where
     pub asks : Asks T out it Z h p n
     pub searched : Searched T out it W Z
@@ -101,9 +101,9 @@ module _ (T out : List ℕ) (it : Items) (W : List ℕ) (h p n : ℕ) where
   pub visited-all : (Z : List ℕ) (e : ℕ) → Visiting Z e → e ≡ 0 → Visited T out it W Z g p n
   visited-all Z e v z = record { searched = v .searched; here = λ x l i c en f. v .done x l (omega arith) i c en f }
 
-  -- a window looked up
+  -- A window looked up.
   module _ (a : Asks T out it W h p n) where
-    -- the mark of its fingerprint is not set: no item has its bytes
+    -- The mark of its fingerprint is not set: no item has its bytes.
     pub looked-unmarked : (r : Bool) → r ≡ eqb (markOf (headIn (it .items) W g) (h % 8)) 1 → r ≡ false → Looked T out it W W p n
     looked-unmarked r e f = record {
       searched = searched-none T out it W;
@@ -129,7 +129,7 @@ module _ (T out : List ℕ) (it : Items) (W : List ℕ) (h p n : ℕ) where
         go x l i en f (no d) = v .searched .found x (p + 1) l i
             (passed-by T out it W x p n en (λ es. d (same-chain T out it x p n es ∙ ap (bucketOf (it .heads)) (sym (a .print-is)))) f)
 
-    -- the head that the code reads
+    -- The head that the code reads.
     module _ (r : ℕ) (r-is : r ≡ bucketOf (it .heads) h) (r-in : r < it .heads) where
       pub head-link : Link T out it W (bucketOf (it .heads) h) (it .items) (linkOf (headIn (it .items) W r))
       head-link = subst (λ (k : ℕ). Link T out it W k (it .items) (linkOf (headIn (it .items) W r))) r-is (a .chained .heads r r-in)

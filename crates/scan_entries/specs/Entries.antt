@@ -4,8 +4,7 @@ use mathlib.Core.Path.{_≡_}
 use Prim.Native.Nat.{ℕ, suc, _+_, _-_, _*_, _/_, _%_, _≤_, _<_, min}
 use lib.ListN.{length, getD}
 use Rattle.text.specs.Text.{stretch}
-use Rattle.format.specs.Words.{wordAt}
-use Rattle.format.specs.Settings.{maxText}
+use Rattle.format.specs.Layout.{wordAt, maxText}
 use Rattle.scan_windows.specs.Prints.{print}
 use Rattle.scan_entries.specs.declared.Items.{Items}
 use Rattle.scan_entries.specs.declared.Run.{Run}

@@ -8,8 +8,7 @@ ghost use mathlib.Core.Path.{_≡_};
 ghost use Prim.Native.Nat.{_+_, _≤_, _<_};
 ghost use lib.ListN.{length};
 ghost use lib.Dec.{eqb};
-ghost use Rattle.text.specs.Lists.{sameList};
-ghost use Rattle.text.specs.Text.{stretch};
+ghost use Rattle.text.specs.Text.{sameList, stretch};
 ghost use Rattle.scan_entries.specs.Entries.{Placed, RunIs, lengthAt, bytesAt};
 
 // The bytes of item x.

@@ -9,12 +9,12 @@ use text::TextPlace;
 // The items of a level, its blocks and pairs, and how the table is divided. Item 2 i is block i, item 2 i + 1 the pair of blocks
 // i and i + 1.
 pub struct Items {
-    // where the records of the level begin in the buffer that is written, and how many bytes each has
+    // Where the records of the level begin in the buffer that is written, and how many bytes each has.
     pub records: u32,
     pub step: u32,
-    // the bytes of a full block
+    // The bytes of a full block.
     pub size: u32,
-    // how many items there are: the table has three words for each, then the heads of the chains
+    // How many items there are: the table has three words for each, then the heads of the chains.
     pub items: u32,
     pub heads: u32,
     // gives the base of the fingerprints

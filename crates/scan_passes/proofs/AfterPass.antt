@@ -17,7 +17,7 @@ use Rattle.scan_passes.proofs.PassLaws.{leftmost-same-bytes}
 
 module _ (T out : List ℕ) (it : Items) (W Z : List ℕ) (e : Entrants T out it W (it .items)) (o : Ordered T out it) (q : Passed T out it W Z) where
   module _ (x : ℕ) (xl : x < it .items) (p : Present T out it x) where
-    -- an item in a chain
+    -- An item in a chain.
     module _ (i : Listed T out it W x) where
       place-listed : placeIn Z x < length T
       place-listed = q .searched .listed x xl i
@@ -26,7 +26,7 @@ module _ (T out : List ℕ) (it : Items) (W Z : List ℕ) (e : Entrants T out it
       unfolding placeOut
       out-listed = rw (lt-ltb (placeIn Z x) (length T) place-listed) (q .found x xl i)
 
-    -- a twin
+    -- A twin.
     module _ (u : length T ≤ placeIn W x) where
       y : ℕ
       y = placeIn W x - length T

@@ -96,7 +96,7 @@ module _ (T out : List ℕ) (it : Items) where
   pub entrants-two : (Z : List ℕ) (k : ℕ) → Entrants T out it Z (k + 1 + 1) → Entrants T out it Z (k + 2)
   entrants-two Z k e = subst (Entrants T out it Z) (let q : k + 1 + 1 ≡ k + 2 = omega arith in q) e
 
-  -- block i and the pair after it
+  -- Block i and the pair after it.
   module _ (o : Ordered T out it) (h : Placed T out it) (i : ℕ) (more : 2 * i + 2 < it .items) where
     abbrev x : ℕ
     x = 2 * i + 1
@@ -117,7 +117,7 @@ module _ (T out : List ℕ) (it : Items) where
       pub no-pair : (t ≡ s + it .size → ⊥) → Present T out it x → ⊥
       no-pair un p = un (omega (arith, pair-there T out it o h x odd p))
 
-    -- the pair's fingerprint, of those of its blocks
+    -- The pair's fingerprint, of those of its blocks.
     module _ (p : startAt T out it (x + 1) ≡ startAt T out it x + it .size) where
       parts : lengthAt T out it x ≡ it .size + lengthAt T out it (x + 1)
       parts = pair-parts T out it o h x odd (omega arith) p
@@ -141,7 +141,7 @@ module _ (T out : List ℕ) (it : Items) where
           ∙ ap (λ (k : ℕ). print (it .seed) (stretch T k (lengthAt T out it (x + 1)))) p)
           ∙ ap (λ (k : ℕ). print (it .seed) (stretch T (startAt T out it x) k)) (sym parts)
 
-    -- the lengths of both
+    -- The lengths of both.
     pub noted-both : (l : Lengths) (n : ℕ)
         → Noted T out it (2 * i) l → PairSays T out it x n → Noted T out it (2 * (i + 1)) (notedBy (notedBy l (it .size) (it .size)) (it .size) n)
     noted-both l n s w = go (lt-or-ge n 1)
@@ -170,7 +170,7 @@ module _ (T out : List ℕ) (it : Items) where
                 let p : Present T out it x = inr (omega arith) in
                 noted-more T out it o h x (notedBy l (it .size) (it .size)) one (omega arith) p n (sym (w .some p))
 
-  -- the loop over the blocks, before block i
+  -- The loop over the blocks, before block i.
   pub record Going (W₀ W : List ℕ) (l : Lengths) (h i : ℕ) : Type 0 where
     pub same-length : length W ≡ length W₀
     pub entrants : Entrants T out it W (2 * i)
@@ -190,7 +190,7 @@ module _ (T out : List ℕ) (it : Items) where
     }
 
     module _ (W₀ W : List ℕ) (l : Lengths) (h i : ℕ) (g : Going W₀ W l h i) where
-      -- another block follows
+      -- Another block follows.
       module _ (more : 2 * i + 1 < it .items) where
         pub next-block : 2 * i + 2 < it .items
         next-block = omega (arith, o .items-are)

@@ -7,7 +7,7 @@ use native.Mathlib.Omega.{arith}
 use native.Mathlib.Nat.{mul-one}
 use lib.ListN.{length}
 use Rattle.text.specs.ListLaws.{lt-or-ge}
-use Rattle.format.specs.Words.{wordAt}
+use Rattle.format.specs.Layout.{wordAt}
 use Rattle.scan_entries.specs.declared.Items.{Items}
 use Rattle.scan_entries.specs.Entries.{Placed, startAt, lengthAt}
 use Rattle.scan_passes.specs.Passes.{Present, Ordered}
@@ -49,7 +49,7 @@ module _ (T out : List ℕ) (it : Items) where
         go (inl a) = omega (arith, block-length x (omega arith))
         go (inr a) = omega (arith, pair-length x (omega arith))
 
-    -- a block that is not the last is full
+    -- A block that is not the last is full.
     pub full-block : (x : ℕ) → x % 2 ≡ 0 → x + 1 < it .items → lengthAt T out it x ≡ it .size
     full-block x e l = omega (
       arith,
@@ -59,7 +59,7 @@ module _ (T out : List ℕ) (it : Items) where
       h .within (x + 2) (omega (arith, o .items-are)),
     )
 
-    -- a pair: its first block is full, and the second follows
+    -- A pair: its first block is full, and the second follows.
     module _ (x : ℕ) (odd : x % 2 ≡ 1) (l : x < it .items) (p : startAt T out it (x + 1) ≡ startAt T out it x + it .size) where
       pub next-in : x + 1 < it .items
       next-in = omega (arith, o .items-are)
@@ -81,7 +81,7 @@ module _ (T out : List ℕ) (it : Items) where
     pair-there x e (inl a) = absurd (let z : ⊥ = omega arith in z)
     pair-there x e (inr a) = a
 
-    -- only the last block is short, and only the pair that ends with it is cut
+    -- Only the last block is short, and only the pair that ends with it is cut.
     pub short-is-last : (x : ℕ) → x < it .items → Present T out it x → lengthAt T out it x < it .size → x ≡ 2 * o .last
     short-is-last x l p s = go (even-or-odd x) (lt-or-ge (x + 1) (it .items))
       where

@@ -14,7 +14,7 @@ use Rattle.scan_passes.specs.declared.Lengths.{Lengths}
 use Rattle.scan_passes.specs.Passes.{Present, Ordered, Among, Has, Noted, Covers, Entrants, notedBy}
 use Rattle.scan_passes.proofs.ItemLengths.{length-low, length-high, length-most, short-is-last, cut-is-last}
 
--- what `notedBy` comes to
+-- What `notedBy` comes to.
 module _ (l : Lengths) (size n : ℕ) where
   pub noted-none : n ≡ 0 → l ≡ notedBy l size n
   noted-none e = rw (eq-eqb n 0 e)
@@ -69,7 +69,7 @@ module _ (T out : List ℕ) (it : Items) (o : Ordered T out it) (h : Placed T ou
     ending-more (inl e) = inl e
     ending-more (inr (e, f, g)) = inr (e, f, has-more k (l .ending) g)
 
-    -- item k is not there
+    -- Item k is not there.
     pub noted-past : (Present T out it k → ⊥) → Noted T out it (k + 1) l
     noted-past un = record {
       covers = λ x xl p. go x p (lt-or-ge x k) (omega arith);
@@ -83,7 +83,7 @@ module _ (T out : List ℕ) (it : Items) (o : Ordered T out it) (h : Placed T ou
         go x p (inl a) b = s .covers x a p
         go x p (inr a) b = let q : x ≡ k = omega arith in absurd (un (subst (Present T out it) q p))
 
-    -- item k is there and has n bytes
+    -- Item k is there and has n bytes.
     module _ (kl : k < it .items) (p : Present T out it k) (n : ℕ) (n-is : lengthAt T out it k ≡ n) where
       own : Has T out it (k + 1) n
       own = (k, omega arith, p, n-is)
@@ -91,7 +91,7 @@ module _ (T out : List ℕ) (it : Items) (o : Ordered T out it) (h : Placed T ou
       some : n ≡ 0 → ⊥
       some e = omega (arith, length-low T out it o h k kl)
 
-      -- new lengths that have n in its place, and all that the items before it have
+      -- New lengths that have n in its place, and all that the items before it have.
       covering : (new : Lengths) → Among (it .size) new n → ((x : ℕ) → x < k → Present T out it x → Among (it .size) new (lengthAt T out it x))
           → (x : ℕ) → x < k + 1 → Present T out it x → Among (it .size) new (lengthAt T out it x)
       covering new mine before x xl q = go (lt-or-ge x k)
@@ -187,7 +187,7 @@ module _ (T out : List ℕ) (it : Items) (o : Ordered T out it) (h : Placed T ou
           go (inr a) (no d) (no e) = subst (Noted T out it (k + 1)) (noted-cut l (it .size) n some a d e)
               (with-cut (let z : it .size < n = omega (arith, d) in z) (let z : n < it .size + it .size = omega (arith, e, length-most T out it o h k) in z))
 
-  -- every item in a chain has one of the lengths
+  -- Every item in a chain has one of the lengths.
   module _ (W : List ℕ) (l : Lengths) (e : Entrants T out it W (it .items)) (s : Noted T out it (it .items) l) where
     among : (n : ℕ) → n ≤ it .size + it .size → Among (it .size) l n → (n ≡ l .block) ⊎ ((n ≡ l .pair) ⊎ ((n ≡ l .last) ⊎ (n ≡ l .ending)))
     among n most m = go (lt-or-ge n (it .size)) (ℕ-discrete n (it .size)) (ℕ-discrete n (it .size + it .size))

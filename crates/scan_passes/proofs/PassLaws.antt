@@ -44,7 +44,7 @@ pub still-stands : (seed : ℕ) (T : List ℕ) (n p : ℕ) (w r : Window)
     → Standing seed T n p w → Standing seed T n (p + 1) r → p + 1 < w .places → p + 1 < r .places
 still-stands seed T n p w r s t l = omega (arith, s .places-is, t .places-is)
 
--- both windows of a cut length, opened or moved together
+-- Both windows of a cut length, opened or moved together.
 module _ (seed : ℕ) (T : List ℕ) (n k p : ℕ) (cut : CutWindows) where
   pub cut-opened : (last ending : Window) → cut .last ≡ last → cut .ending ≡ ending → last .places ≤ cut .places → ending .places ≤ cut .places
       → Standing seed T n p last → Standing seed T k p ending → CutStanding seed T n k p cut
@@ -162,7 +162,7 @@ module _ (T out : List ℕ) (it : Items) where
   pub stepped-look : (W Z : List ℕ) (n p : ℕ) → Looked T out it W Z p n → Stepped T out it W Z n p
   stepped-look W Z n p k = record { searched = k .searched; here = k .here }
 
-  -- items that are in no chain stay in none
+  -- Items that are in no chain stay in none.
   listed-back : (W Z : List ℕ) → Searched T out it W Z → (x : ℕ) → x < it .items → Listed T out it Z x → Listed T out it W x
   listed-back W Z s x xl i = go (lt-or-ge (placeIn W x) (length T))
     where
@@ -179,7 +179,7 @@ module _ (T out : List ℕ) (it : Items) where
     ending-in = v .ending-in;
   }
 
-  -- four windows, one of each length, were looked up at q
+  -- Four windows, one of each length, were looked up at q.
   module _ (l : Lengths) (q na nb nc nd : ℕ) (Z Z₁ Z₂ Z₃ Z₄ : List ℕ) (s₁ : Stepped T out it Z Z₁ na q) (s₂ : Stepped T out it Z₁ Z₂ nb q)
       (s₃ : Stepped T out it Z₂ Z₃ nc q) (s₄ : Stepped T out it Z₃ Z₄ nd q) where
     t₂ : Searched T out it Z Z₂
@@ -292,7 +292,7 @@ module _ (T out : List ℕ) (it : Items) where
             d-is = of-same (it .seed) T nd p d d′ (q .d-is) sd;
           }
 
-        -- the pass is over
+        -- The pass is over.
         pub passing-over : (Z : List ℕ) (p : ℕ) (a b c d : Window) → Passing na nb nc nd W Z p a b c d → length T ≤ p → Passed T out it U Z
         unfolding bytesAt
         passing-over Z p a b c d q over = record {

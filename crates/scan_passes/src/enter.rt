@@ -7,7 +7,7 @@ use scan_entries::item;
 ghost use mathlib.Core.Path.{_≡_};
 ghost use Prim.Native.Nat.{_+_, _-_, _*_, _%_, _^_, _≤_, _<_};
 ghost use lib.ListN.{length};
-ghost use Rattle.format.specs.Settings.{maxText};
+ghost use Rattle.format.specs.Layout.{maxText};
 ghost use Rattle.scan_windows.specs.Prints.{baseOf, print};
 ghost use Rattle.scan_entries.specs.Entries.{Laid, Placed, bytesAt};
 ghost use Rattle.scan_entries.specs.ItemsEntered.{Turn};

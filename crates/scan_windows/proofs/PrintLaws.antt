@@ -23,7 +23,7 @@ base-below seed = mod-lt seed (omega arith)
 pub remainder-below : (x r : ℕ) → r ≡ x % modulus → r < modulus
 remainder-below x r e = omega (arith, e, mod-lt x {m = modulus} (omega arith))
 
--- remainders of sums and products
+-- Remainders of sums and products.
 same-product : (a c b q : ℕ) → a % q ≡ c % q → a * b % q ≡ c * b % q
 same-product a c b q e = sym (mul-mod a b q) ∙ ap (λ (y : ℕ). y * b % q) e ∙ mul-mod c b q
 
@@ -39,7 +39,7 @@ fold-same x =
     let e : x % 2147483648 + x / 2147483648 + 2147483647 * (x / 2147483648) ≡ x = omega (arith, mod-add-div x 2147483648) in
     sym (add-mul-mod-self-left (x % 2147483648 + x / 2147483648) 2147483647 (x / 2147483648)) ∙ ap (λ (y : ℕ). y % 2147483647) e
 
--- digits of two lists, one after the other
+-- Digits of two lists, one after the other.
 digits-append : (b a : ℕ) (s t : List ℕ) → digits b a (s ++ t) ≡ digits b (digits b a s) t
 unfolding digits
 digits-append b a [] t = refl
@@ -80,7 +80,7 @@ module _ (seed : ℕ) where
   pub is-print-below : (s : List ℕ) (h : ℕ) → h ≡ print seed s → h < modulus
   is-print-below s h e = omega (arith, e, print-below s)
 
-  -- one byte more
+  -- One byte more.
   pub print-push : (s : List ℕ) (i j h x : ℕ) → i < length s → j ≡ i + 1 → x ≡ getD s i 0 → h % modulus ≡ print seed (take i s)
       → (h + x) * β % modulus ≡ print seed (take j s)
   unfolding print
@@ -90,7 +90,7 @@ module _ (seed : ℕ) where
       ∙ ap (λ (y : ℕ). y * β % modulus) (sym (digits-last β 0 (take i s) (getD s i 0)))
       ∙ ap (λ (l : List ℕ). digits β 0 l * β % modulus) (sym (ap (λ (k : ℕ). take k s) (ej ∙ add-one i) ∙ take-suc s i 0 l))
 
-  -- four bytes more
+  -- Four bytes more.
   module _ (h a₁ a₂ a₃ a₄ : ℕ) where
     abbrev h₁ : ℕ
     h₁ = (h + a₁) * β
@@ -126,7 +126,7 @@ module _ (seed : ℕ) where
         ∙ ap (λ (z : ℕ). z + a₃ * β * β) (add-mul (u * β * β * β) (a₂ * β * β) β)) in
         ap₂ _+_ (ap₂ _+_ (ap₂ _+_ (four-factors u) (three-factors a₂)) (two-factors a₃)) (mul-comm β a₄) ∙ sym e₄
 
-    -- with powers of the base modulo the modulus
+    -- With powers of the base modulo the modulus.
     pub four-steps : (t₁ t₂ t₃ t₄ : ℕ) → t₁ ≡ β → t₂ ≡ β * β % modulus → t₃ ≡ β * β * β % modulus → t₄ ≡ β * β * β * β % modulus
         → (t₄ * (h + a₁) + t₃ * a₂ + t₂ * a₃ + t₁ * a₄) % modulus ≡ h₄ % modulus
     four-steps t₁ t₂ t₃ t₄ e₁ e₂ e₃ e₄ =
@@ -147,7 +147,7 @@ module _ (seed : ℕ) where
       let p₃ = print-push s (i + 2) (i + 3) (h₂ h a₁ a₂ a₃ a₄) a₃ (omega arith) (omega arith) x₃ p₂ in
       er ∙ print-push s (i + 3) (i + 4) (h₃ h a₁ a₂ a₃ a₄) a₄ (omega arith) (omega arith) x₄ p₃
 
-  -- a window moved on
+  -- A window moved on.
   module _ (T : List ℕ) (p n : ℕ) (l : p + n < length T) where
     abbrev here : ℕ
     here = digits β 0 (stretch T p n)
@@ -195,7 +195,7 @@ module _ (seed : ℕ) where
         ∙ ap (λ (z : ℕ). z % modulus) (one-step ∙ ap (λ (z : ℕ). next * β + β ^ (n + 1) * z) (sym eo))
         ∙ sym (added (next * β) t (β ^ (n + 1)) out modulus et))
 
-  -- the fingerprint of two stretches, one after the other
+  -- The fingerprint of two stretches, one after the other.
   pub print-join : (T : List ℕ) (p a n h t g : ℕ) → p + a + n ≤ length T → h ≡ print seed (stretch T p a) → t ≡ β ^ n % modulus
       → g ≡ print seed (stretch T (p + a) n) → (h * t + g) % modulus ≡ print seed (stretch T p (a + n))
   unfolding print
@@ -228,7 +228,7 @@ module _ (seed : ℕ) where
   next-power w o x r ew eo er =
       er ∙ ap (λ (y : ℕ). y % modulus) (add-zero (w * o)) ∙ ap₂ (λ (y k : ℕ). y * k % modulus) ew eo ∙ mul-mod x β modulus
 
--- sums and products fit
+-- Sums and products fit.
 pub product-fits : (x y : ℕ) → x < 4294967296 → y < 4294967296 → x * y ≤ 18446744065119617025
 product-fits x y l m = mul-le-mul {n₂ = 4294967295} {m₂ = 4294967295} (omega arith) (omega arith)
 

@@ -20,7 +20,7 @@ pub says-at : (T : List ℕ) (at len : ℕ) (r : TextPlace) → at + len ≤ len
 unfolding leftmostSays
 says-at T at len r l e = ap (λ (k : ℕ). At (record { 0 = k })) e ∙ rw (le-leb (at + len) (length T) l)
 
--- the test of an answer
+-- The test of an answer.
 abbrev isEarlier : Occurrence → ℕ → Bool
 isEarlier (At p) at = ltb (p .0) at
 isEarlier Outside at = false

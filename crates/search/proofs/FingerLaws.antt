@@ -29,7 +29,7 @@ pub finger-nil : (b q : ℕ) → 0 < q → 0 ≡ finger b q []
 unfolding finger digits
 finger-nil b q h = sym (zero-mod q)
 
--- the numbers of a window's digits at a place and at the next
+-- The numbers of a window's digits at a place and at the next.
 window-step :
     (b : ℕ) (T : List ℕ) (p n : ℕ) → p + n < length T
     → digits b 0 (stretch T p n) * b + getD T (p + n) 0 ≡ digits b 0 (stretch T (p + 1) n) + b ^ n * getD T p 0
@@ -52,7 +52,7 @@ window-step b T p n h =
     let s : p + 1 ≡ suc p = add-one p in
     rw s (omega arith)
 
--- the fingerprint of the window moved on
+-- The fingerprint of the window moved on.
 pub finger-roll :
     (b q : ℕ) (T : List ℕ) (p n h t x out : ℕ) → p + n < length T → t < q → out < 256 → h ≡ finger b q (stretch T p n) → t ≡ b ^ n % q
     → out ≡ getD T p 0 → x ≡ getD T (p + n) 0 → (h * b + x + (255 * q - t * out)) % q ≡ finger b q (stretch T (p + 1) n)
@@ -60,7 +60,7 @@ unfolding finger
 finger-roll b q T p n h t x out l lt lo eh et eo ex =
     rolled b q h t (digits b 0 (stretch T p n)) (digits b 0 (stretch T (p + 1) n)) (b ^ n) x out lt lo eh et (rw (eo, ex) (window-step b T p n l))
 
--- the fingerprint of one byte more
+-- The fingerprint of one byte more.
 pub finger-push :
     (b q : ℕ) (s : List ℕ) (i h : ℕ) → i < length s → h ≡ finger b q (take i s)
     → (h * b + getD s i 0) % q ≡ finger b q (take (i + 1) s)

@@ -21,7 +21,7 @@ from-sum a c q h =
 pub cancel : (a b c q : ℕ) → 0 < q → (a + c) % q ≡ (b + c) % q → a % q ≡ b % q
 cancel a b c q h e = sym (from-sum a c q h) ∙ ap (λ (x : ℕ). (x + (q - 1) * c) % q) e ∙ from-sum b c q h
 
--- one digit more at the end
+-- One digit more at the end.
 pub pushed : (h v b x q : ℕ) → h ≡ v % q → (h * b + x) % q ≡ (v * b + x) % q
 pushed h v b x q e =
     sym (mod-add-mod (h * b) q x)
@@ -39,7 +39,7 @@ top-fits t out q l m =
     let p : t * out ≤ q * 255 = mul-le-mul (omega arith) (omega arith) in
     omega arith
 
--- the window moved on: v and v′ are the numbers of its digits before and after
+-- The window moved on: v and v′ are the numbers of its digits before and after.
 pub rolled :
     (b q h t v v′ w x out : ℕ) → t < q → out < 256 → h ≡ v % q → t ≡ w % q → v * b + x ≡ v′ + w * out
     → (h * b + x + (255 * q - t * out)) % q ≡ v′ % q

@@ -5,16 +5,15 @@ use mathlib.Core.Path.{_≡_, sym, ap, _∙_}
 use Prim.Native.Nat.{ℕ, suc, _+_, _-_, _≤_, _<_}
 use native.Mathlib.Omega.{arith}
 use native.Mathlib.Nat.{sub-zero}
-use Rattle.text.specs.Lists.{sameList}
+use Rattle.text.specs.Text.{sameList, stretch, firstFrom, leftmost}
 use Rattle.text.specs.ListLaws.{ne-sameList}
-use Rattle.text.specs.Text.{stretch, firstFrom, leftmost}
 use Rattle.search.specs.FingerValues.{finger}
 
--- bytes with different fingerprints differ
+-- Bytes with different fingerprints differ.
 pub differ : (b q : ℕ) (s t : List ℕ) (h k : ℕ) → h ≡ finger b q s → k ≡ finger b q t → (h ≡ k → ⊥) → sameList s t ≡ false
 differ b q s t h k eh ek n = ne-sameList s t (λ e. n (eh ∙ ap (finger b q) e ∙ sym ek))
 
--- the search from place p on
+-- The search from place p on.
 unfoldable pub ahead : List ℕ → ℕ → ℕ → ℕ → ℕ
 ahead T at n p = firstFrom T at n (at - p) p
 

@@ -4,7 +4,7 @@ use Prim.Native.Nat.{ℕ, _%_, _≤_, _<_}
 use native.Mathlib.Omega.{arith}
 use native.Mathlib.Nat.{mod-lt}
 use Rattle.search.specs.declared.Fingerprint.{Fingerprint}
-use Rattle.search.specs.Fingers.{usableModulus, usable}
+use Rattle.search.specs.Occurrences.{usableModulus, usable}
 use Rattle.search.specs.FingerValues.{Ready}
 
 pub modulus-low : (q : ℕ) → q < 1 → 1 ≡ usableModulus q

@@ -6,7 +6,7 @@ pub record Ready (b q : ℕ) : Type 0 where
   pub below : b < q
   pub most : q ≤ 2147483647
 
--- the bytes as digits in base b, after the number a
+-- The bytes as digits in base b, after the number a.
 unfoldable pub digits : ℕ → ℕ → List ℕ → ℕ
 digits b a [] = a
 digits b a (x ∷ s) = digits b (a * b + x) s

@@ -1,3 +1,2 @@
 pub mod Occurrences
-pub mod Fingers
 pub mod FingerValues

@@ -5,8 +5,7 @@ mod scan;
 
 use text::TextPlace;
 ghost use mathlib.Core.Path.{_≡_};
-ghost use Rattle.search.specs.Occurrences.{leftmostSays, earlierSays};
-ghost use Rattle.search.specs.Fingers.{usable, usableModulus};
+ghost use Rattle.search.specs.Occurrences.{leftmostSays, earlierSays, usable, usableModulus};
 
 // The base and the modulus of the fingerprints.
 pub struct Fingerprint {

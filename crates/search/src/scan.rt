@@ -5,8 +5,7 @@ use text::TextPlace;
 ghost use mathlib.Core.Path.{_≡_};
 ghost use Prim.Native.Nat.{_+_, _≤_, _<_};
 ghost use lib.ListN.{length};
-ghost use Rattle.text.specs.Lists.{sameList};
-ghost use Rattle.text.specs.Text.{stretch, leftmost};
+ghost use Rattle.text.specs.Text.{sameList, stretch, leftmost};
 ghost use Rattle.search.specs.FingerValues.{Ready, finger};
 
 // A place of the text, and the fingerprint of the bytes there.

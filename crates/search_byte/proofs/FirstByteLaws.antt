@@ -39,7 +39,7 @@ module _ (t : List ℕ) (byte : ℕ) where
   unfolding maskOf
   mask-two at x y e f = rw (e, f) (omega arith)
 
-  -- two parts
+  -- Two parts.
   mask-join : (a b at : ℕ) → maskOf (a + b) t at byte ≡ maskOf a t at byte + 2 ^ a * maskOf b t (at + a) byte
   unfolding maskOf
   mask-join zero b at =
@@ -53,14 +53,14 @@ module _ (t : List ℕ) (byte : ℕ) where
       let p : 2 ^ suc a * x ≡ 2 * (2 ^ a * x) = rw (pow-suc 2 a, mul-comm (2 ^ a) 2) (mul-assoc 2 (2 ^ a) x) in
       rw (e, s, p, maskOf, mask-join a b (at + 1)) (omega arith)
 
-  -- two halves, with the second one's weight as written
+  -- Two halves, with the second one's weight as written.
   pub mask-halves : (k w at x y : ℕ) → w ≡ 2 ^ k → x ≡ maskOf k t at byte → y ≡ maskOf k t (at + k) byte → x + w * y ≡ maskOf (k + k) t at byte
   mask-halves k w at x y e f g = rw (e, f, g) (sym (mask-join k k at))
 
   pub without-none : (from : ℕ) → Without t from 0 byte
   without-none from = record { other = λ x h. absurd (let z : ⊥ = omega arith in z) }
 
-  -- one byte more
+  -- One byte more.
   pub without-more : (from i : ℕ) → Without t from i byte → (getD t (from + i) 0 ≡ byte → ⊥) → Without t from (i + 1) byte
   without-more from i w differs = record { other = λ x h. go x (below-suc x i (omega arith)) }
     where
@@ -68,7 +68,7 @@ module _ (t : List ℕ) (byte : ℕ) where
       go x (inl l) = w .other x l
       go x (inr e) = rw e differs
 
-  -- two stretches, one after the other
+  -- Two stretches, one after the other.
   pub without-join : (from i k : ℕ) → Without t from i byte → Without t (from + i) k byte → Without t from (i + k) byte
   without-join from i k v w = record { other = λ x h. go x h (lt-or-ge x i) }
     where
@@ -79,7 +79,7 @@ module _ (t : List ℕ) (byte : ℕ) where
   without-fewer : (from i k : ℕ) → i ≤ k → Without t from k byte → Without t from i byte
   without-fewer from i k h w = record { other = λ x l. w .other x (omega arith) }
 
-  -- a stretch in which none is found
+  -- A stretch in which none is found.
   pub first-none : (from k r : ℕ) → FirstByte t from k byte r → k ≤ r → Without t from k byte
   first-none from k r f past = without-fewer from k r past (f .none)
 
@@ -100,7 +100,7 @@ module _ (t : List ℕ) (byte : ℕ) where
     there = λ h. let e : from + (i + r) ≡ from + i + r = omega arith in rw e (f .there (omega arith));
   }
 
-  -- more bytes than those that are looked at were compared
+  -- More bytes than those that are looked at were compared.
   pub first-within : (from n k r : ℕ) → FirstByte t from k byte r → n < k → r ≤ n → FirstByte t from n byte r
   first-within from n k r f less low = record { high = low; none = f .none; there = λ h. f .there (omega arith) }
 
@@ -135,7 +135,7 @@ module _ (t : List ℕ) (byte : ℕ) where
         there = λ h. let y : at + suc r ≡ at + 1 + r = omega arith in rw y (f .there (omega arith));
       }
 
-  -- the zeros below the lowest digit; a digit above all of them ends the count
+  -- The zeros below the lowest digit; a digit above all of them ends the count.
   first-digit : (k d at : ℕ) → k < d → FirstByte t at k byte (trailingZeros d (2 ^ k + maskOf k t at byte))
   first-digit k zero at h = absurd (let z : ⊥ = omega arith in z)
   first-digit zero (suc d) at h =

@@ -6,7 +6,7 @@ use Prim.Native.Nat.{ℕ, zero, suc, _+_, _*_, _≤_, _<_}
 use lib.ListN.{getD}
 use lib.Dec.{eqb}
 
--- none of the n bytes at a place is equal
+-- None of the n bytes at a place is equal.
 pub record Without (t : List ℕ) (from n byte : ℕ) : Type 0 where
   pub other : (x : ℕ) → x < n → getD t (from + x) 0 ≡ byte → ⊥
 

@@ -13,11 +13,11 @@ use Rattle.text.specs.ListLaws.{and-left, and-right, and-both, bool-clash, belo
 use Rattle.search_kmp.specs.Borders.{Ends, Longest, Borders, Next, GoesOn}
 
 module _ (P : List ℕ) where
-  -- the pattern's own bytes
+  -- The pattern's own bytes.
   abbrev own : ℕ → ℕ
   own x = getD P x 0
 
-  -- a match and a shorter one: the shorter is a border of the longer
+  -- A match and a shorter one: the shorter is a border of the longer.
   ends-border : (f : ℕ → ℕ) (from i k j : ℕ) → Ends P f from i k → Ends P f from i j → j < k → Ends P own 1 k j
   ends-border f from i k j a b less = record {
     short = b .short;
@@ -37,7 +37,7 @@ module _ (P : List ℕ) where
         ap f e ∙ a .same (k - j + x) (omega (arith, b .room)) ∙ b .same x h;
   }
 
-  -- a match that goes on with byte c
+  -- A match that goes on with byte c.
   ends-more : (f : ℕ → ℕ) (from i k c : ℕ) → Ends P f from i k → f i ≡ c → k < length P → getD P k 0 ≡ c → Ends P f from (i + 1) (k + 1)
   ends-more f from i k c a is low here = record {
     short = omega arith;
@@ -77,7 +77,7 @@ module _ (P : List ℕ) where
   back-start s c = record { low = omega arith; ends = λ f from i l. l .ends; most = λ f from i l j e h is. l .most j e }
 
   module _ (s c k : ℕ) (b : Back s c k) where
-    -- the byte goes on with k
+    -- The byte goes on with k.
     pub next-more : (ltb k (length P) && eqb (getD P k 0) c) ≡ true → (k + 1 ≤ length P) × Next P s c (k + 1)
     next-more fits =
         let low : k < length P = ltb-true _ _ (and-left (ltb k (length P)) (eqb (getD P k 0) c) fits) in
@@ -97,7 +97,7 @@ module _ (P : List ℕ) where
             let z = ends-less f from i j c e is in
             omega (arith, b .most f from i l j (z .0) (z .1) (z .2))
 
-    -- a match that goes on with c is shorter than k
+    -- A match that goes on with c is shorter than k.
     shorter : (ltb k (length P) && eqb (getD P k 0) c) ≡ false → (f : ℕ → ℕ) (from i : ℕ) → Longest P f from i s
         → (j : ℕ) → Ends P f from i j → j < length P → getD P j 0 ≡ c → j < k
     shorter miss f from i l j e h is = go (lt-or-ge j k)
@@ -108,7 +108,7 @@ module _ (P : List ℕ) where
             let z : k ≡ j = omega (arith, b .most f from i l j e h is) in
             bool-clash _ (and-both (lt-ltb k (length P) (omega arith)) (eq-eqb (getD P k 0) c (ap own z ∙ is))) miss
 
-    -- nothing goes on with it
+    -- Nothing goes on with it.
     next-none : k ≡ 0 → (ltb k (length P) && eqb (getD P k 0) c) ≡ false → Next P s c 0
     next-none none miss = record {
       next = λ f from i l is. record {
@@ -154,7 +154,7 @@ module _ (P : List ℕ) where
 pub borders-fewer : (P table : List ℕ) (n k : ℕ) → Borders P table n → k ≤ n → Borders P table k
 borders-fewer P table n k b h = record { border = λ x l. b .border x (omega arith) }
 
--- one byte has no border
+-- One byte has no border.
 first-border : (P : List ℕ) → Longest P (λ x. getD P x 0) 1 1 0
 first-border P = record {
   ends = record { short = omega arith; room = omega arith; same = λ x h. absurd (let y : ⊥ = omega arith in y) };
@@ -193,7 +193,7 @@ filling-more P table n k a in-table c r c-is next =
     go x (inl l) = let other : x ≢ n = λ e. omega arith in rw (getD-set-other table n x r 0 other) (a .borders .border x l)
     go x (inr e) = rw (e, getD-set-same table n r 0 in-table) (new P table n k a c r c-is next)
 
--- bytes that go on with a state
+-- Bytes that go on with a state.
 pub goes-none : (P t : List ℕ) (from s : ℕ) → GoesOn P t from s 0
 goes-none P t from s = record { same = λ x h. absurd (let y : ⊥ = omega arith in y); short = λ x h. absurd (let y : ⊥ = omega arith in y) }
 

@@ -7,10 +7,10 @@ use native.Mathlib.Numerals.{add-one}
 use lib.ListN.{length, drop, getD, drop-of-length-le}
 use lib.Seq.{drop-cons}
 use borrow.Author.Tests.{eq-eqb, ne-eqb}
-use Rattle.text.specs.Lists.{sameList}
+use Rattle.text.specs.Text.{sameList}
 use Rattle.text.specs.ListLaws.{ne-sameList}
 
--- lists of different lengths differ
+-- Lists of different lengths differ.
 pub lengths-differ : (a b : List ℕ) → (length a ≡ length b → ⊥) → false ≡ sameList a b
 lengths-differ a b n = sym (ne-sameList a b (λ e. n (ap length e)))
 

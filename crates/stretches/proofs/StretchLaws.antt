@@ -7,10 +7,9 @@ use native.Mathlib.Omega.{arith}
 use native.Mathlib.Numerals.{add-one}
 use lib.ListN.{length, getD, set, replicate, length-replicate, getD-replicate}
 use lib.Seq.{ext-getD}
-use Rattle.text.specs.Lists.{sameList}
+use Rattle.text.specs.Text.{sameList, stretch, countIn}
 use Rattle.text.specs.ListLaws.{ne-sameList, eq-sameList}
 use Rattle.text.specs.TextLaws.{length-stretch, getD-stretch}
-use Rattle.text.specs.Text.{stretch, countIn}
 use Rattle.stretches.specs.Stretches.{Stands, bytesWritten}
 
 module _ (t : List ℕ) (from n byte j : ℕ) where
@@ -22,12 +21,12 @@ module _ (t : List ℕ) (from n byte j : ℕ) where
       let e : r ≡ n = omega arith in
       record { high = h; here = λ x. absurd (let z : ⊥ = omega arith in z); fewer = λ x. rw e at c }
 
--- one byte more
+-- One byte more.
 pub bytes-more : (t u v T : List ℕ) (to from j : ℕ) → u ≡ bytesWritten t to T from j → v ≡ set u (to + j) (getD T (from + j) 0)
     → v ≡ bytesWritten t to T from (j + 1)
 bytes-more t u v T to from j e f = f ∙ rw (e, add-one j)
 
--- bytes that are all zero
+-- Bytes that are all zero.
 module _ (t : List ℕ) (a n : ℕ) where
   pub zeros-not : (i : ℕ) → i < n → (getD t (a + i) 0 ≡ 0 → ⊥) → false ≡ sameList (stretch t a n) (replicate n 0)
   zeros-not i h other =

@@ -3,8 +3,7 @@ ghost use mathlib.Core.Path.{_≡_};
 ghost use mathlib.Core.List.{[], _++_};
 ghost use Prim.Native.Nat.{_+_, _≤_, min};
 ghost use lib.ListN.{length, drop, replicate};
-ghost use Rattle.text.specs.Lists.{sameList};
-ghost use Rattle.text.specs.Text.{stretch, countIn};
+ghost use Rattle.text.specs.Text.{sameList, stretch, countIn};
 ghost use Rattle.stretches.specs.Stretches.{Stands, bytesWritten};
 
 // How often a byte occurs in the n bytes at a place.

@@ -6,14 +6,14 @@ use native.Mathlib.Omega.{arith}
 use lib.ListN.{getD}
 use lib.Dec.{leb, eqb}
 use borrow.Author.Tests.{eqb-true, leb-true, le-leb, lt-ltb, le-ltb}
-use Rattle.text.specs.Lists.{sumBelow, allBelow}
+use Rattle.text.specs.Text.{sumBelow, allBelow}
 use Rattle.text.specs.ListLaws.{allBelow-at}
 use Rattle.term.specs.declared.calendar.Date.{Date}
-use Rattle.term.specs.Calendar.{leap, lengths, monthLength, yearLength, isDate, beforeYear, beforeMonth, dayNumber}
+use Rattle.term.specs.Term.{leap, lengths, monthLength, yearLength, isDate, beforeYear, beforeMonth, dayNumber}
 use Rattle.term.specs.CalendarDays.{DateFacts}
 use Rattle.term.specs.MonthLaws.{same-but, befores, months-before}
 
--- the days before a year
+-- The days before a year.
 abbrev yearsRight : ℕ → Bool
 yearsRight k = eqb (sumBelow k (λ i. yearLength (2000 + i))) (365 * k + (k + 3) / 4)
 
@@ -26,7 +26,7 @@ years-before year low high =
     eqb-true (beforeYear year) (365 * (year - 2000) + (year - 2000 + 3) / 4)
     (allBelow-at 100 yearsRight years-test (year - 2000) (omega arith))
 
--- none is above 335 with the 29 February
+-- None is above 335 with the 29 February.
 most-test : allBelow 12 (λ k. leb (getD befores k 0) 334) ≡ true
 unfolding allBelow
 most-test = refl
@@ -46,7 +46,7 @@ module _ (y m : ℕ) (low : 1 ≤ m) (high : m ≤ 12) where
   pub late-plain : 2 < m → leap y ≡ false → getD befores (m - 1) 0 ≡ beforeMonth y m
   late-plain late is = sym (months-before y m low high ∙ rw (lt-ltb 1 (m - 1) (omega arith), is) (omega arith))
 
--- the days of a month
+-- The days of a month.
 module _ (y m : ℕ) where
   pub february-leap : m ≡ 2 → leap y ≡ true → 29 ≡ monthLength y m
   unfolding monthLength
@@ -60,13 +60,13 @@ module _ (y m : ℕ) where
   unfolding monthLength
   other-month low other = same-but 28 (cond (leap y) 29 28) (m - 1) (λ e. other (omega arith))
 
--- a day's number, as it is added up
+-- A day's number, as it is added up.
 pub number-is : (d : Date) → DateFacts d → (months : ℕ) → months ≡ beforeMonth (d .year) (d .month)
     → 365 * (d .year - 2000) + (d .year - 2000 + 3) / 4 + months + (d .day - 1) ≡ dayNumber d
 unfolding dayNumber
 number-is d f months e = rw (e, ← years-before (d .year) (f .year-low) (f .year-high))
 
--- the last test of a date
+-- The last test of a date.
 pub last-test : (d : Date) (r : ℕ) → 2000 ≤ d .year → d .year ≤ 2099 → 1 ≤ d .month → d .month ≤ 12 → 1 ≤ d .day
     → r ≡ monthLength (d .year) (d .month) → leb (d .day) r ≡ isDate d
 unfolding isDate

@@ -8,19 +8,17 @@ use lib.ListN.{length, getD, set}
 use lib.Dec.{leb, eqb}
 use borrow.Author.Tests.{leb-true, le-leb, lt-leb, eqb-true, ne-eqb, eq-eqb}
 use lib.Seq.{ext-getD}
-use Rattle.text.specs.Lists.{tabulate, allBelow}
+use Rattle.text.specs.Text.{tabulate, allBelow, isDigit}
 use Rattle.text.specs.ListLaws.{and-left, and-right, length-tabulate, getD-tabulate}
-use Rattle.text.specs.Text.{isDigit}
 use Rattle.term.specs.declared.calendar.Date.{Date}
 use Rattle.term.specs.declared.days.DayRead.{DayRead}
 use Rattle.term.specs.declared.days.DayRead.the-variants.{Good, Bad}
-use Rattle.term.specs.Calendar.{isDate}
+use Rattle.term.specs.Term.{isDate, pairAt, dateIn, isDay, ones, written}
 use Rattle.term.specs.CalendarDays.{DateFacts}
 use Rattle.term.specs.CalendarLaws.{date-facts}
-use Rattle.term.specs.Days.{pairAt, dateIn, isDay, ones, written}
 use Rattle.term.specs.TermSteps.{dayRead}
 
--- a digit is 48 to 57
+-- A digit is 48 to 57.
 pub digit-low : (x : ℕ) → isDigit x ≡ true → 48 ≤ x
 unfolding isDigit
 digit-low x h = leb-true 48 x (and-left (leb 48 x) (leb x 57) h)
@@ -41,7 +39,7 @@ pub digit-is : (x : ℕ) → 48 ≤ x → x ≤ 57 → isDigit x ≡ true
 unfolding isDigit
 digit-is x low h = rw (le-leb 48 x low, le-leb x 57 h)
 
--- a list is that of its entries, so eight bytes written one after the other are all of a list of eight
+-- A list is that of its entries, so eight bytes written one after the other are all of a list of eight.
 entries : (n : ℕ) (l : List ℕ) → length l ≡ n → l ≡ tabulate n (λ i. getD l i 0)
 entries n l e =
     ext-getD 0 l (tabulate n (λ i. getD l i 0)) (e ∙ sym (length-tabulate n (λ i. getD l i 0)))
@@ -59,7 +57,7 @@ pub eight-written : (l : List ℕ) → length l ≡ 8 → (d : Date) (a b c e f 
 unfolding written
 eight-written l z d a b c e f g h i p q r s t u v w = rw (p, q, r, s, t, u, v, w) (eight l z _ _ _ _ _ _ _ _)
 
--- what a written day is read as
+-- What a written day is read as.
 module _ (xs : List ℕ) where
   abbrev all : Bool
   all = allBelow 8 (λ i. isDigit (getD xs i 0))
@@ -72,7 +70,7 @@ module _ (xs : List ℕ) where
   unfolding dayRead isDay
   read-other h a = rw (eq-eqb (length xs) 8 h, a)
 
-  -- the date, as it was put together
+  -- The date, as it was put together.
   date-is : (a b c e : ℕ) → a ≡ pairAt xs 0 → b ≡ pairAt xs 2 → c ≡ pairAt xs 4 → e ≡ pairAt xs 6
       → _≡_ {A = Date} (record { year = 100 * a + b; month = c; day = e }) (dateIn xs)
   unfolding dateIn

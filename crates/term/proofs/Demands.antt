@@ -19,12 +19,10 @@ use Rattle.term.specs.declared.Opened.{Opened}
 use Rattle.term.specs.declared.Opened.the-variants as opened
 use Rattle.term.specs.declared.Left.{Left}
 use Rattle.term.specs.declared.Left.the-variants as left
-use Rattle.term.specs.Calendar.{dayNumber, renewed}
+use Rattle.term.specs.Term.{dayNumber, renewed, isDay, dateIn, written, numberIn, openNumber, openOn, leftNumber, daysLeft, renewNumber, renewLeaves}
 use Rattle.term.specs.CalendarDays.{earlier}
-use Rattle.term.specs.Days.{isDay, dateIn, written}
 use Rattle.term.specs.DateWrittenLaws.{date-back, day-back}
-use Rattle.term.specs.Term.{numberIn, openNumber, openOn, leftNumber, daysLeft, renewNumber, renewLeaves}
-use Rattle.term.specs.TermAnswers.{openedNumber, saysOpen, OpenedNumbered, saysNumber, saysDays, LeftNumbered}
+use Rattle.term.specs.Term.{openedNumber, saysOpen, OpenedNumbered, saysNumber, saysDays, LeftNumbered}
 use Rattle.term.proofs.DaysLaws.{day-date}
 use Rattle.term.proofs.open_on.Reads as open-reads
 use Rattle.term.proofs.open_on as open-on
@@ -44,7 +42,7 @@ pub use Rattle.term.specs.RenewalLaws.{renewed-date, renewed-later}
 abbrev pub Lent : Type 0
 Lent = RefT (List ℕ)
 
--- an answer that the contract of `open_on` allows
+-- An answer that the contract of `open_on` allows.
 abbrev pub OpenOn : (κs : Lfts 3) → (first last today : Lent) → Opened → Type 0
 OpenOn κs first last today r = open-reads.Post κs (first, (last, (today, tt))) r (first, (last, (today, tt)))
 
@@ -87,7 +85,7 @@ module _ (xs ys : List ℕ) (a : isDay xs ≡ true) (b : isDay ys ≡ true) wher
       × (leb (numberIn xs) (numberIn ys) ≡ not (earlier (dateIn ys) (dateIn xs)))
   order-is = order-by (earlier (dateIn ys) (dateIn xs)) refl
 
--- an answer of `open_on` by its number and figure
+-- An answer of `open_on` by its number and figure.
 refused-open : (r : Opened) (n : ℕ) → openedNumber r ≡ suc n → r ≡ opened.Refused (suc n)
 refused-open opened.Open n e = absurd (let x : ⊥ = omega arith in x)
 refused-open opened.Closed n e = absurd (let x : ⊥ = omega arith in x)
@@ -128,7 +126,7 @@ module _ (κs : Lfts 3) (first last today : Lent) (r : Opened) (a : OpenOn κs f
         rw (n, order-is (now first) (now today) f t .1, order-is (now today) (now last) t l .1) in
         told-open r fromTo (a .numbered) (a .number-is ∙ n) (a .open-is ∙ e)
 
--- an answer of `days_left` by its number and figure
+-- An answer of `days_left` by its number and figure.
 refused-left : (r : Left) (n : ℕ) → saysNumber r ≡ suc n → r ≡ left.Refused (suc n)
 refused-left (left.Days z) n e = absurd (let x : ⊥ = omega arith in x)
 refused-left (left.Refused number) n e = ap left.Refused e

@@ -11,10 +11,8 @@ use Rattle.term.specs.declared.calendar.Date.{Date}
 use Rattle.term.specs.declared.Opened.{Opened}
 use Rattle.term.specs.declared.Opened.the-variants as opened
 use Rattle.term.specs.declared.Left.the-variants as left
-use Rattle.term.specs.Calendar.{renewed}
-use Rattle.term.specs.Days.{isDay, dateIn, written}
-use Rattle.term.specs.Term.{numberIn, openNumber, openOn, leftNumber, daysLeft, renewNumber, renewLeaves}
-use Rattle.term.specs.TermAnswers.{OpenAnswer, LeftAnswer}
+use Rattle.term.specs.Term.{renewed, isDay, dateIn, written, numberIn, openNumber, openOn, leftNumber, daysLeft, renewNumber, renewLeaves}
+use Rattle.term.specs.Term.{OpenAnswer, LeftAnswer}
 use Rattle.term.specs.TermSteps.{between}
 
 -- Open.

@@ -7,11 +7,11 @@ use Prim.Native.Nat.{ℕ, _+_, _-_, _≤_, _<_}
 use native.Mathlib.Omega.{arith}
 use lib.Dec.{ltb, leb, eqb}
 use borrow.Author.Tests.{leb-true, le-leb, lt-ltb, ltb-true, ltb-false, eqb-true, eq-eqb}
-use Rattle.text.specs.Lists.{sumBelow}
+use Rattle.text.specs.Text.{sumBelow}
 use Rattle.text.specs.ListLaws.{and-left, and-right, or-cases, or-right, lt-or-ge, sumBelow-part}
 use Rattle.text.specs.Conjunctions.{parts}
 use Rattle.term.specs.declared.calendar.Date.{Date}
-use Rattle.term.specs.Calendar.{monthLength, yearLength, isDate, beforeYear, beforeMonth, dayNumber}
+use Rattle.term.specs.Term.{monthLength, yearLength, isDate, beforeYear, beforeMonth, dayNumber}
 use Rattle.term.specs.CalendarDays.{DateFacts, nextDay, earlier}
 use Rattle.term.specs.MonthLaws.{month-long, year-after, month-after, year-months}
 
@@ -68,7 +68,7 @@ module _ (d : Date) (f : DateFacts d) where
       let z : monthLength y m ≡ monthLength y 12 = ap (monthLength y) twelve in
       omega (arith, year-after y (f .year-low), year-months y, x, z, f .day-low, f .day-high, ltb-false (d .day) (monthLength y m) e)
 
-  -- the day after has the next number
+  -- The day after has the next number.
   pub next-number : dayNumber (nextDay d) ≡ dayNumber d + 1
   next-number =
       let a = ltb (d .day) (monthLength y m) in
@@ -109,7 +109,7 @@ module _ (d : Date) (f : DateFacts d) where
       let e = next-is a b refl refl in
       rw e (facts-by a b refl refl (rw e at h))
 
-  -- the number is before that of the next year's first day, and of the next month's
+  -- The number is before that of the next year's first day, and of the next month's.
   within-month : beforeMonth y m + (d .day - 1) < beforeMonth y (m + 1)
   within-month = omega (arith, month-after y m (f .month-low), f .day-low, f .day-high)
 
@@ -121,7 +121,7 @@ module _ (d : Date) (f : DateFacts d) where
       let z : monthLength y (m - 1 + 1) ≡ monthLength y m = ap (monthLength y) e in
       omega (arith, p, z, f .day-low, f .day-high)
 
--- sums grow
+-- Sums grow.
 sum-mono : (f : ℕ → ℕ) (a b : ℕ) → a ≤ b → sumBelow a f ≤ sumBelow b f
 sum-mono f a b h = go (lt-or-ge a b)
   where
@@ -176,7 +176,7 @@ three a b = go (lt-or-ge a b) (lt-or-ge b a)
     go (inr g) (inl l) = inr (inr l)
     go (inr g) (inr h) = inr (inl (omega arith))
 
--- one of two days is earlier and has the lower number, or they are the same day
+-- One of two days is earlier and has the lower number, or they are the same day.
 abbrev Before : Date → Date → Type 0
 Before d e = (earlier d e ≡ true) × (dayNumber d < dayNumber e)
 
@@ -201,7 +201,7 @@ compared d e f g = years (three (d .year) (e .year))
     years (inr (inl s)) = months s (three (d .month) (e .month))
     years (inr (inr l)) = inr (inr (earlier-year e d g f l, by-year e d g f l))
 
--- the order of dates is the order of their numbers
+-- The order of dates is the order of their numbers.
 module _ (d e : Date) (f : DateFacts d) (g : DateFacts e) where
   abbrev byDay : Bool
   byDay = eqb (d .month) (e .month) && ltb (d .day) (e .day)
@@ -233,7 +233,7 @@ module _ (d e : Date) (f : DateFacts d) (g : DateFacts e) where
   pub in-order : (earlier d e ≡ true) ↔ (dayNumber d < dayNumber e)
   in-order = (lower, raised)
 
-  -- a number is one day's
+  -- A number is one day's.
   pub one-day : dayNumber d ≡ dayNumber e → d ≡ e
   one-day n = by (compared d e f g)
     where

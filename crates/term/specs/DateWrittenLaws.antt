@@ -7,16 +7,15 @@ use native.Mathlib.Nat.{mod-lt}
 use lib.ListN.{length, getD}
 use lib.Dec.{eqb}
 use borrow.Author.Tests.{eqb-true}
-use Rattle.text.specs.Lists.{allBelow}
-use Rattle.text.specs.Text.{isDigit}
+use Rattle.text.specs.Text.{allBelow, isDigit}
 use Rattle.text.specs.ListLaws.{allBelow-at, and-both}
 use Rattle.term.specs.declared.calendar.Date.{Date}
 use Rattle.term.specs.CalendarDays.{DateFacts}
 use Rattle.term.specs.MonthLaws.{month-short}
 use Rattle.term.specs.CalendarLaws.{facts-date}
-use Rattle.term.specs.Days.{pairAt, dateIn, isDay, ones, written}
+use Rattle.term.specs.Term.{pairAt, dateIn, isDay, ones, written}
 
--- two digits, and the four of a year
+-- Two digits, and the four of a year.
 abbrev twoRight : ℕ → Bool
 twoRight k = eqb (10 * (ones (k / 10) - 48) + (ones k - 48)) k
 
@@ -43,7 +42,7 @@ year-is y low high =
     let k = allBelow-at 100 yearRight year-test (y - 2000) (omega arith) in
     ap yearBack (sym e) ∙ eqb-true (yearBack (2000 + (y - 2000))) (2000 + (y - 2000)) k ∙ e
 
--- a last digit is a digit
+-- A last digit is a digit.
 digit-test : allBelow 10 (λ k. isDigit (48 + k)) ≡ true
 unfolding allBelow isDigit
 digit-test = refl

@@ -1,12 +1,9 @@
 -- The term of a licence: the calendar, days as eight digits, the calls on them; and their laws.
-pub mod Calendar
 pub mod CalendarDays
 pub mod MonthLaws
 pub mod CalendarLaws
 pub mod RenewalLaws
-pub mod Days
 pub mod DateWrittenLaws
 pub mod Term
-pub mod TermAnswers
 pub mod TermSteps
 pub mod TermExamples

@@ -7,11 +7,11 @@ use native.Mathlib.Omega.{arith}
 use lib.ListN.{getD}
 use lib.Dec.{ltb, leb, eqb}
 use borrow.Author.Tests.{leb-true, eqb-true}
-use Rattle.text.specs.Lists.{sumBelow, allBelow}
+use Rattle.text.specs.Text.{sumBelow, allBelow}
 use Rattle.text.specs.ListLaws.{and-left, and-right, allBelow-at, sumBelow-suc}
-use Rattle.term.specs.Calendar.{leap, lengths, monthLength, yearLength, beforeYear, beforeMonth}
+use Rattle.term.specs.Term.{leap, lengths, monthLength, yearLength, beforeYear, beforeMonth}
 
--- months other than February have the same length whatever that one has
+-- Months other than February have the same length whatever that one has.
 pub same-but : (x z k : ℕ) → (k ≡ 1 → ⊥) → getD (lengths x) k 0 ≡ getD (lengths z) k 0
 same-but x z zero h = refl
 same-but x z (suc zero) h = absurd (h refl)
@@ -26,7 +26,7 @@ pub february : (y : ℕ) → monthLength y 2 ≡ cond (leap y) 29 28
 unfolding monthLength
 february y = refl
 
--- a month has 28 to 31 days
+-- A month has 28 to 31 days.
 abbrev withinBounds : Bool → ℕ → Bool
 withinBounds b k = leb 28 (getD (lengths (cond b 29 28)) k 0) && leb (getD (lengths (cond b 29 28)) k 0) 31
 
@@ -47,7 +47,7 @@ module _ (y m : ℕ) (low : 1 ≤ m) (high : m ≤ 12) where
   unfolding monthLength
   month-short = leb-true _ 31 (and-right (leb 28 (getD (lengths (cond (leap y) 29 28)) (m - 1) 0)) _ within-bounds)
 
--- a year has 365 days, with a 29 February 366
+-- A year has 365 days, with a 29 February 366.
 year-days-by : (b : Bool) → sumBelow 12 (λ i. getD (lengths (cond b 29 28)) (i + 1 - 1) 0) ≡ 365 + cond b 1 0
 unfolding sumBelow
 year-days-by true = refl
@@ -57,7 +57,7 @@ pub year-days : (y : ℕ) → yearLength y ≡ 365 + cond (leap y) 1 0
 unfolding yearLength monthLength
 year-days y = year-days-by (leap y)
 
--- the days before a month: those of a year without a 29 February, and one more past February of a year that has one
+-- The days before a month: those of a year without a 29 February, and one more past February of a year that has one.
 abbrev pub befores : List ℕ
 befores = 0 ∷ 31 ∷ 59 ∷ 90 ∷ 120 ∷ 151 ∷ 181 ∷ 212 ∷ 243 ∷ 273 ∷ 304 ∷ 334 ∷ []
 
@@ -79,7 +79,7 @@ pub months-before : (y m : ℕ) → 1 ≤ m → m ≤ 12 → beforeMonth y m ≡
 unfolding monthLength
 months-before y m low high = befores-are (leap y) (m - 1) (omega arith)
 
--- from a year to the next, and from a month
+-- From a year to the next, and from a month.
 pub year-after : (year : ℕ) → 2000 ≤ year → beforeYear (year + 1) ≡ beforeYear year + yearLength year
 year-after year low =
     let e : year + 1 - 2000 ≡ year - 2000 + 1 = omega arith in
@@ -92,7 +92,7 @@ month-after year month low =
     let f : month - 1 + 1 ≡ month = omega arith in
     rw (e, sumBelow-suc (month - 1) (λ i. monthLength year (i + 1)), f)
 
--- the months of a year
+-- The months of a year.
 pub year-months : (year : ℕ) → yearLength year ≡ beforeMonth year 12 + monthLength year 12
 unfolding yearLength
 year-months year = sumBelow-suc 11 (λ i. monthLength year (i + 1))

@@ -8,7 +8,7 @@ use lib.Dec.{ltb, eqb}
 use borrow.Author.Tests.{eqb-true, eqb-false, ne-eqb, le-ltb}
 use Rattle.text.specs.ListLaws.{and-false}
 use Rattle.term.specs.declared.calendar.Date.{Date}
-use Rattle.term.specs.Calendar.{leap, monthLength, dayNumber, renewed}
+use Rattle.term.specs.Term.{leap, monthLength, dayNumber, renewed}
 use Rattle.term.specs.CalendarDays.{DateFacts}
 use Rattle.term.specs.MonthLaws.{same-month, february, month-long, year-days, months-before, year-after}
 
@@ -19,7 +19,7 @@ module _ (d : Date) where
   abbrev m : ℕ
   m = d .month
 
-  -- the day of the month, a year later
+  -- The day of the month, a year later.
   abbrev onDay : ℕ → Date
   onDay day = record { year = y + 1; month = m; day = day }
 
@@ -36,7 +36,7 @@ module _ (d : Date) where
   unfolding renewed
   renewed-month other = rw (ne-eqb m 2 other)
 
--- the days from one to the other, by whether the two years have a 29 February and the month is past it
+-- The days from one to the other, by whether the two years have a 29 February and the month is past it.
 later : (late a b : Bool) (n x : ℕ) → x + cond (late && a) 1 0 ≡ n + 365 + cond a 1 0 + cond (late && b) 1 0 → (x ≡ n + 365) ⊎ (x ≡ n + 366)
 later false true b n x e = inr (omega arith)
 later false false b n x e = inl (omega arith)
@@ -53,7 +53,7 @@ module _ (d : Date) (f : DateFacts d) (before : d .year < 2099) where
   abbrev Renewal : Date → Type 0
   Renewal e = DateFacts e × ((dayNumber e ≡ dayNumber d + 365) ⊎ (dayNumber e ≡ dayNumber d + 366))
 
-  -- on a day that the month has, it is a date
+  -- On a day that the month has, it is a date.
   on-date : (day : ℕ) → 1 ≤ day → day ≤ monthLength (y d + 1) (m d) → DateFacts (onDay d day)
   on-date day low high = record {
     year-low = omega (arith, f .year-low);
@@ -85,7 +85,7 @@ module _ (d : Date) (f : DateFacts d) (before : d .year < 2099) where
     later late (leap (y d)) (leap (y d + 1)) (dayNumber d) (dayNumber (onDay d (d .day))) (omega (arith, on-number (d .day))),
   )
 
-  -- in February of either year
+  -- In February of either year.
   module _ (two : m d ≡ 2) where
     this : monthLength (y d) (m d) ≡ cond (leap (y d)) 29 28
     this = ap (monthLength (y d)) two ∙ february (y d)
@@ -124,7 +124,7 @@ module _ (d : Date) (f : DateFacts d) (before : d .year < 2099) where
       let other = eqb-false (m d) 2 e in
       rw (← renewed-month d other) (same-day (omega (arith, same-month (y d + 1) (y d) (m d) (f .month-low) other, f .day-high)))
 
-  -- a renewed date is a date
+  -- A renewed date is a date.
   pub renewed-date : DateFacts (renewed d)
   renewed-date = renewal (eqb (m d) 2) (eqb (d .day) 29) refl refl .0
 

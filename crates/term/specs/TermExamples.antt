@@ -4,11 +4,9 @@ use mathlib.Core.Bool.{true, false}
 use mathlib.Core.Path.{_≡_, refl}
 use Prim.Native.Nat.{ℕ, _+_}
 use lib.IntN.{pos, negsuc}
-use Rattle.text.specs.Lists.{sumBelow, allBelow}
-use Rattle.text.specs.Text.{isDigit}
-use Rattle.term.specs.Calendar.{leap, monthLength, yearLength, isDate, dayNumber, renewed}
+use Rattle.text.specs.Text.{sumBelow, allBelow, isDigit}
+use Rattle.term.specs.Term.{leap, monthLength, yearLength, isDate, dayNumber, renewed, pairAt, dateIn, isDay, written}
 use Rattle.term.specs.CalendarDays.{nextDay}
-use Rattle.term.specs.Days.{pairAt, dateIn, isDay, written}
 use Rattle.term.specs.Term.{openNumber, openOn, leftNumber, daysLeft, renewNumber, renewLeaves}
 
 -- eight digits as bytes
@@ -23,22 +21,22 @@ pub record Examples : Type 0 where
   leap-day : isDay (day 2 0 2 4 0 2 2 9) ≡ true
   leap-hundred : isDay (day 2 0 0 0 0 2 2 9) ≡ true
   no-leap-day : isDay (day 2 0 0 1 0 2 2 9) ≡ false
-  -- the day after a 28 February, and after a 31 December
+  -- The day after a 28 February, and after a 31 December.
   after-leap : written (nextDay (dateIn (day 2 0 2 4 0 2 2 8))) ≡ day 2 0 2 4 0 2 2 9
   after-plain : written (nextDay (dateIn (day 2 0 2 3 0 2 2 8))) ≡ day 2 0 2 3 0 3 0 1
   after-year : written (nextDay (dateIn (day 2 0 2 3 1 2 3 1))) ≡ day 2 0 2 4 0 1 0 1
-  -- no month 13, no day 0, no year 1999 or 2100, no letter, no seven bytes
+  -- No month 13, no day 0, no year 1999 or 2100, no letter, no seven bytes.
   no-month : isDay (day 2 0 2 4 1 3 0 1) ≡ false
   no-zero : isDay (day 2 0 2 4 0 1 0 0) ≡ false
   too-early : isDay (day 1 9 9 9 1 2 3 1) ≡ false
   too-late : isDay (day 2 1 0 0 0 1 0 1) ≡ false
   no-digit : isDay (day 2 0 2 4 0 1 0 49) ≡ false
   too-short : isDay (50 ∷ 48 ∷ 50 ∷ 52 ∷ 48 ∷ 49 ∷ 48 ∷ []) ≡ false
-  -- days left
+  -- Days left.
   over-leap-day : daysLeft (day 2 0 2 4 0 3 0 1) (day 2 0 2 4 0 2 2 8) ≡ pos 2
   over-february : daysLeft (day 2 0 2 3 0 3 0 1) (day 2 0 2 3 0 2 2 8) ≡ pos 1
   last-day : daysLeft (day 2 0 2 4 0 2 2 9) (day 2 0 2 4 0 2 2 9) ≡ pos 0
-  -- from the first day of all to the last; one day past: -1, which ℤ writes `negsuc 0`
+  -- From the first day of all to the last; one day past: -1, which ℤ writes `negsuc 0`.
   whole-range : daysLeft (day 2 0 9 9 1 2 3 1) (day 2 0 0 0 0 1 0 1) ≡ pos 36524
   day-past : daysLeft (day 2 0 2 3 1 2 3 1) (day 2 0 2 4 0 1 0 1) ≡ negsuc 0
   -- open: both ends included; 23 after every 22

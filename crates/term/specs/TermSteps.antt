@@ -7,13 +7,13 @@ use Rattle.term.specs.declared.days.DayRead.{DayRead}
 use Rattle.term.specs.declared.days.DayRead.the-variants as read
 use Rattle.term.specs.declared.Opened.{Opened}
 use Rattle.term.specs.declared.Opened.the-variants as opened
-use Rattle.term.specs.Days.{isDay, dateIn}
+use Rattle.term.specs.Term.{isDay, dateIn}
 
--- the date that is written, where one is
+-- The date that is written, where one is.
 unfoldable pub dayRead : List ℕ → DayRead
 dayRead xs = cond (isDay xs) (read.Good (dateIn xs)) read.Bad
 
--- a day by its number, between those of the first and the last
+-- A day by its number, between those of the first and the last.
 unfoldable pub between : ℕ → ℕ → ℕ → Opened
 between first last day =
     cond (ltb last first) (opened.Refused 23)

@@ -1,7 +1,7 @@
 // The Gregorian calendar, years 2000 to 2099.
 ghost use mathlib.Core.Path.{_≡_};
 ghost use Prim.Native.Nat.{_≤_, _<_};
-ghost use Rattle.term.specs.Calendar.{leap, monthLength, isDate, beforeMonth, dayNumber, renewed};
+ghost use Rattle.term.specs.Term.{leap, monthLength, isDate, beforeMonth, dayNumber, renewed};
 ghost use Rattle.term.specs.CalendarDays.{DateFacts};
 
 // The lengths of the months of a year without a 29 February, and the days before each month.

@@ -5,9 +5,8 @@ ghost use mathlib.Core.Path.{_≡_};
 ghost use mathlib.Core.Bool.{true};
 ghost use Prim.Native.Nat.{_+_, _-_, _%_, _≤_, _<_};
 ghost use lib.ListN.{length, getD};
-ghost use Rattle.text.specs.Lists.{allBelow};
-ghost use Rattle.text.specs.Text.{isDigit};
-ghost use Rattle.term.specs.Days.{pairAt, written};
+ghost use Rattle.text.specs.Text.{allBelow, isDigit};
+ghost use Rattle.term.specs.Term.{pairAt, written};
 ghost use Rattle.term.specs.TermSteps.{dayRead};
 
 // The date that eight digits write, or none.

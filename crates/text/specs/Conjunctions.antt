@@ -9,12 +9,12 @@ abbrev pub joined : Bool → List Bool → Bool
 joined a [] = a
 joined a (b ∷ bs) = joined (a && b) bs
 
--- each of the list is true
+-- Each of the list is true.
 abbrev pub Hold : List Bool → Type 0
 Hold [] = Unit {0}
 Hold (b ∷ bs) = (b ≡ true) × Hold bs
 
--- the first test, then the others in order
+-- The first test, then the others in order.
 pub joined-first : (a : Bool) (bs : List Bool) → joined a bs ≡ true → a ≡ true
 joined-first a [] h = h
 joined-first a (b ∷ bs) h = and-left a b (joined-first (a && b) bs h)

@@ -17,7 +17,7 @@ use Rattle.text.specs.TextLaws.{stretch-add}
 
 -- Counts.
 
--- one byte: how often it is c
+-- One byte: how often it is c.
 abbrev pub one : ℕ → ℕ → ℕ
 one c x = cond (eqb c x) 1 0
 
@@ -53,7 +53,7 @@ pub count-none : (c : ℕ) (T : List ℕ) (p : ℕ) → countIn c (stretch T p 0
 unfolding stretch countIn
 count-none c T p = refl
 
--- a stretch in two parts
+-- A stretch in two parts.
 pub count-add : (c : ℕ) (T : List ℕ) (p a b : ℕ) → countIn c (stretch T p (a + b)) ≡ countIn c (stretch T p a) + countIn c (stretch T (p + a) b)
 count-add c T p a b = ap (countIn c) (stretch-add T p a b) ∙ count-append c (stretch T p a) (stretch T (p + a) b)
 
@@ -61,7 +61,7 @@ pub count-stretch-le : (c : ℕ) (T : List ℕ) (p x : ℕ) → countIn c (stret
 unfolding stretch
 count-stretch-le c T p x = le-trans (count-le c (take x (drop p T))) (simp length-take (omega arith))
 
--- from the text's start
+-- From the text's start.
 pub count-start : (c : ℕ) (T : List ℕ) (x : ℕ) → countIn c (stretch T 0 x) ≡ countIn c (take x T)
 unfolding stretch
 count-start c T x = refl
@@ -74,7 +74,7 @@ stretch-one : (T : List ℕ) (p : ℕ) → p < length T → stretch T p 1 ≡ ge
 unfolding stretch
 stretch-one T p h = ap (take 1) (drop-cons T p 0 h)
 
--- one byte more
+-- One byte more.
 pub count-next : (c : ℕ) (T : List ℕ) (p o : ℕ) → p + o < length T
     → countIn c (stretch T p (o + 1)) ≡ countIn c (stretch T p o) + one c (getD T (p + o) 0)
 count-next c T p o h =
@@ -96,7 +96,7 @@ pub count-next-other : (c : ℕ) (T : List ℕ) (p o : ℕ) → p + o < length T
     → countIn c (stretch T p (o + 1)) ≡ countIn c (stretch T p o)
 count-next-other c T p o h e = omega (arith, count-next c T p o h, one-other c (getD T (p + o) 0) e)
 
--- a longer stretch has as many or more
+-- A longer stretch has as many or more.
 pub count-mono : (c : ℕ) (T : List ℕ) (p a b : ℕ) → a ≤ b → countIn c (stretch T p a) ≤ countIn c (stretch T p b)
 count-mono c T p a b h =
     let e : b ≡ a + (b - a) = omega arith in
@@ -144,7 +144,7 @@ nth-before c j T s a o h l = go (lt-or-ge o a)
     go (inl k) = k
     go (inr k) = absurd (let z : ⊥ = omega (arith, h .rank, count-mono c T s a o k) in z)
 
--- there is one such place
+-- There is one such place.
 pub nth-unique : (c j : ℕ) (T : List ℕ) (s o p : ℕ) → Nth c j T s o → Nth c j T s p → o ≡ p
 nth-unique c j T s o p h k =
     let a : o ≤ p = nth-past c j T s o p k (omega (arith, h .rank)) in
@@ -168,7 +168,7 @@ nth-head : (c x : ℕ) (xs : List ℕ) → c ≡ x → NthIn c 0 (x ∷ xs) 0
 unfolding countIn
 nth-head c x xs e = record { within = omega arith; byte-is = sym e; rank = refl }
 
--- the list's first byte is c or not
+-- The list's first byte is c or not.
 module _ (c x : ℕ) (xs : List ℕ) where
   place-first : (y : Bool) → eqb c x ≡ y
       → 0 < countIn c (x ∷ xs) → (0 < countIn c xs → NthIn c 0 xs (placeIn c 0 xs)) → NthIn c 0 (x ∷ xs) (cond y 0 (placeIn c 0 xs + 1))
@@ -192,7 +192,7 @@ place-in c k [] h = absurd (let z : ⊥ = omega (arith, count-nil c) in z)
 place-in c zero (x ∷ xs) h = place-first c x xs (eqb c x) refl h (place-in c 0 xs)
 place-in c (suc k) (x ∷ xs) h = place-further c x xs k (eqb c x) refl h (λ m. place-in c m xs)
 
--- the place of the j-th c is such a place
+-- The place of the j-th c is such a place.
 pub place-nth : (c j : ℕ) (T : List ℕ) → 1 ≤ j → j ≤ countIn c T → Nth c j T 0 (placeOf c j T)
 unfolding placeOf
 place-nth c j T low high =

@@ -11,7 +11,7 @@ use native.Mathlib.Decide.{decLt}
 use lib.ListN.{length, getD, set, drop}
 use lib.Dec.{eqb}
 use borrow.Author.Tests.{eqb-true, eq-eqb}
-use Rattle.text.specs.Lists.{tabulate, sumBelow, allBelow, sameList}
+use Rattle.text.specs.Text.{tabulate, sumBelow, allBelow, sameList}
 
 -- Tests.
 
@@ -19,7 +19,7 @@ pub bool-clash {ℓ} : {A : Type ℓ} → (b : Bool) → b ≡ true → b ≡ fa
 bool-clash true p q = absurd (let z : _≡_ {A = ℕ} 0 1 = cc in omega arith)
 bool-clash false p q = absurd (let z : _≡_ {A = ℕ} 0 1 = cc in omega arith)
 
--- a test is one of its two values
+-- A test is one of its two values.
 pub bool-cases : (b : Bool) → (b ≡ true) ⊎ (b ≡ false)
 bool-cases true = inl refl
 bool-cases false = inr refl
@@ -62,7 +62,7 @@ lt-or-ge a c = go (decLt a c)
     go (yes h) = inl h
     go (no h) = inr (omega arith)
 
--- one more than a number that has n below it: the last one, or one before it
+-- One more than a number that has n below it: the last one, or one before it.
 pub below-suc : (i n : ℕ) → i < suc n → (i < n) ⊎ (i ≡ n)
 below-suc i n h = go (lt-or-ge i n)
   where
@@ -90,7 +90,7 @@ unfolding allBelow
 allBelow-make zero p h = refl
 allBelow-make (suc n) p h = and-both (allBelow-make n p (λ i l. h i (omega arith))) (h n (omega arith))
 
--- a test that fails below n makes it fail
+-- A test that fails below n makes it fail.
 pub allBelow-not : (n : ℕ) (p : ℕ → Bool) (i : ℕ) → i < n → p i ≡ false → allBelow n p ≡ false
 allBelow-not n p i l f = go (bool-cases (allBelow n p))
   where
@@ -110,7 +110,7 @@ unfolding sumBelow
 sumBelow-none zero f h = refl
 sumBelow-none (suc n) f h = omega (arith, sumBelow-none n f (λ i l. h i (omega arith)), h n (omega arith))
 
--- a part of a sum, with one more, is within the whole
+-- A part of a sum, with one more, is within the whole.
 pub sumBelow-part : (n : ℕ) (f : ℕ → ℕ) (i : ℕ) → i < n → sumBelow i f + f i ≤ sumBelow n f
 unfolding sumBelow
 sumBelow-part zero f i l = absurd (let z : ⊥ = omega arith in z)
@@ -124,7 +124,7 @@ pub sumBelow-suc : (n : ℕ) (f : ℕ → ℕ) → sumBelow (n + 1) f ≡ sumBel
 unfolding sumBelow
 sumBelow-suc n f = rw (let e : n + 1 ≡ suc n = omega arith in e)
 
--- a number below a sum lies in one of its parts
+-- A number below a sum lies in one of its parts.
 pub sumBelow-find : (n : ℕ) (f : ℕ → ℕ) (i : ℕ) → i < sumBelow n f → (a : ℕ) × (j : ℕ) × (a < n) × (j < f a) × (i ≡ sumBelow a f + j)
 unfolding sumBelow
 sumBelow-find zero f i h = absurd (let z : ⊥ = omega arith in z)

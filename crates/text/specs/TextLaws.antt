@@ -8,9 +8,8 @@ use native.Mathlib.Omega.{arith}
 use native.Mathlib.Nat.{add-assoc}
 use lib.ListN.{length, take, drop, getD, length-drop}
 use lib.Seq.{getD-take, getD-drop, ext-getD, length-take-le, take-add, drop-drop}
-use Rattle.text.specs.Lists.{sameList}
+use Rattle.text.specs.Text.{sameList, stretch, firstFrom, leftmost}
 use Rattle.text.specs.ListLaws.{bool-clash, lt-or-ge, sameList-true, eq-sameList}
-use Rattle.text.specs.Text.{stretch, firstFrom, leftmost}
 
 -- Stretches.
 
@@ -22,7 +21,7 @@ pub getD-stretch : (T : List ℕ) (p len i : ℕ) → i < len → getD (stretch 
 unfolding stretch
 getD-stretch T p len i h = getD-take len (drop p T) i 0 h ∙ getD-drop p T i 0
 
--- two stretches are equal exactly where their bytes are
+-- Two stretches are equal exactly where their bytes are.
 pub stretch-ext :
     (T U : List ℕ) (p q len : ℕ) → p + len ≤ length T → q + len ≤ length U
     → ((i : ℕ) → i < len → getD T (p + i) 0 ≡ getD U (q + i) 0) → stretch T p len ≡ stretch U q len
@@ -38,7 +37,7 @@ pub stretch-at :
 stretch-at T U p q len e i l =
     sym (getD-stretch T p len i l) ∙ ap (λ (s : List ℕ). getD s i 0) e ∙ getD-stretch U q len i l
 
--- a part of equal stretches
+-- A part of equal stretches.
 pub stretch-part :
     (T U : List ℕ) (p q len o k : ℕ) → p + len ≤ length T → q + len ≤ length U → o + k ≤ len → stretch T p len ≡ stretch U q len
     → stretch T (p + o) k ≡ stretch U (q + o) k
@@ -47,7 +46,7 @@ stretch-part T U p q len o k h j within e =
     T U (p + o) (q + o) k (omega arith) (omega arith)
     (λ i l. rw (add-assoc p o i, add-assoc q o i) (stretch-at T U p q len e (o + i) (omega arith)))
 
--- a stretch in two parts
+-- A stretch in two parts.
 pub stretch-add : (T : List ℕ) (p a b : ℕ) → stretch T p (a + b) ≡ stretch T p a ++ stretch T (p + a) b
 unfolding stretch
 stretch-add T p a b = take-add a b (drop p T) ∙ ap (λ (s : List ℕ). take a (drop p T) ++ take b s) (drop-drop a p T)
@@ -98,7 +97,7 @@ module _ (T : List ℕ) (s len : ℕ) where
   unfolding leftmost
   is-first = first-from T s len s 0
 
-  -- the leftmost occurrence is the place or an earlier one
+  -- The leftmost occurrence is the place or an earlier one.
   pub leftmost-le : leftmost T s len ≤ s
   leftmost-le = omega (arith, is-first .high)
 
@@ -116,7 +115,7 @@ module _ (T : List ℕ) (s len : ℕ) where
   pub leftmost-least : (q : ℕ) → q < leftmost T s len → stretch T q len ≡ stretch T s len → ⊥
   leftmost-least q l e = bool-clash _ (eq-sameList _ _ e) (is-first .before q (omega arith) l)
 
-  -- a place with the same bytes is at the leftmost one or after it
+  -- A place with the same bytes is at the leftmost one or after it.
   pub leftmost-first : (q : ℕ) → stretch T q len ≡ stretch T s len → leftmost T s len ≤ q
   leftmost-first q e = go (lt-or-ge q (leftmost T s len))
     where

@@ -10,12 +10,9 @@ use lib.Dec.{eqb}
 use borrow.Author.Tests.{lt-ltb, eq-eqb}
 use Rattle.text.specs.ListLaws.{bool-cases}
 use Rattle.format.specs.Layout as at
-use Rattle.format.specs.Path.{pathOf}
-use Rattle.format.specs.Fits.{textOf}
-use Rattle.format.specs.Verdict.{verdict}
+use Rattle.format.specs.TreeReading.{pathOf, textOf, verdict}
 use Rattle.format.specs.VerdictLaws.{accepted-readable, accepted-links}
-use Rattle.format.specs.CountSays.{indexOf, isCounted, numberOfByte}
-use Rattle.format.specs.FindSays.{pathLength}
+use Rattle.format.specs.Answers.{indexOf, isCounted, numberOfByte, pathLength}
 use Rattle.format.specs.LayoutLaws.{readable-facts}
 use Rattle.theory_paths.specs.Demands as paths
 use Rattle.theory_counts.specs.CountsLocal.{byteOf}
@@ -42,18 +39,18 @@ module _ (t : List ℕ) (v : verdict t ≡ 0) where
   pub text-size : length (textOf t) ≡ at.textLength t
   text-size = paths.text-size t (accepted-readable t v) (accepted-links t v)
 
-  -- below n, in the header's terms
+  -- Below n, in the header's terms.
   pub below : {p : ℕ} → p < length (textOf t) → p < at.textLength t
   below h = omega (arith, text-size)
 
-  -- every place of the text has a path of that length
+  -- Every place of the text has a path of that length.
   pub path-length : (p : ℕ) → p < length (textOf t) → LengthOfPath t (at.settings t .levels) p (pathLength t (pathOf t p))
   path-length p h =
       let pass = accepted-readable t v in
       let w = paths.no-path-breaks t pass (accepted-links t v) p (below h) in
       rw (w .1) (length-of-path t pass p (w .0) (w .1))
 
-  -- a byte that is not among the counted ones
+  -- A byte that is not among the counted ones.
   pub not-counted : (byte : ℕ) → (Among byte (at.settings t .counted) → ⊥) → isCounted t byte ≡ false
   unfolding byteOf
   not-counted byte other = go (bool-cases (isCounted t byte))

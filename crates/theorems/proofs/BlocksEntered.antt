@@ -8,15 +8,14 @@ use Prim.Native.Nat.{ℕ, _-_}
 use lib.ListN.{length}
 use Rattle.text.specs.ListLaws.{bool-cases}
 use Rattle.format.specs.Layout as at
-use Rattle.format.specs.Path.{Path, pathOf}
-use Rattle.format.specs.Verdict.{readable}
-use Rattle.format.specs.ReadSays.{spanBlocks, isShort, spanReached}
+use Rattle.format.specs.TreeReading.{Path, pathOf, readable}
+use Rattle.format.specs.Answers.{spanBlocks, isShort, spanReached}
 use Rattle.format.specs.ReadSaysLaws.{ShortSpan, short-span, short-lets}
 use Rattle.theory_paths.specs.Demands as paths
 use Rattle.theory_edges.specs.Demands as margins
 use Rattle.theorems.specs.Promises.{LengthOfPath, BlocksOfSpan}
 
--- in a tree that passes questions 5 to 7 every path that holds has such a length
+-- In a tree that passes questions 5 to 7 every path that holds has such a length.
 pub length-of-path : (t : List ℕ) → readable t ≡ 0 → (p : ℕ) (q : Path) → pathOf t p ≡ some q → LengthOfPath t (at.settings t .levels) p (length (q .visits))
 length-of-path t r p q e = record {
   path = q;

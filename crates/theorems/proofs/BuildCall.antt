@@ -11,15 +11,13 @@ use lib.ListN.{length, take, drop, replicate}
 use lib.Dec.{eqb, leb}
 use lib.Seq.{take-append-seam, drop-append-seam}
 use borrow.Author.Tests.{eq-eqb, ne-eqb, leb-true, le-leb}
-use Rattle.format.specs.Said.{replied}
-use Rattle.format.specs.Settings.{Settings, lengthOk, sizesOk, countedOk, given}
+use Rattle.format.specs.Answers.{replied, buildNumber, buildSize, buildLeaves}
+use Rattle.format.specs.Layout.{Settings, lengthOk, sizesOk, countedOk, given}
 use Rattle.format.specs.Layout as at
-use Rattle.format.specs.Fits.{textOf}
+use Rattle.format.specs.TreeReading.{textOf, verdict}
 use Rattle.format.specs.FittingText.{fits}
-use Rattle.format.specs.Verdict.{verdict}
 use Rattle.format.specs.Blocks.{treeOf}
 use Rattle.format.specs.LayoutLaws.{readable-facts}
-use Rattle.format.specs.BuildSays.{buildNumber, buildSize, buildLeaves}
 use Rattle.format.specs.SaidLaws.{asks-pass}
 use Rattle.theory_built.specs.BlockSizes.{Taken}
 use Rattle.theory_built.specs.Readable.{built-readable}
@@ -40,7 +38,7 @@ use Rattle.theorems.proofs.OutsideCall.{Call, Lent, call}
 use Rattle.theorems.proofs.RefusalNumbers.{OneOf, asks-one, not-zero}
 use Rattle.build_by_search.proofs.build.Met as build-met
 use Rattle.theorems.proofs.TreeAnswers.{accepted-answers, accepted-refuses}
--- what the contract allows, where the buffer is left as `after`: `Build κs text leaf arity levels counted out after r`
+-- What the contract allows, where the buffer is left as `after`: `Build κs text leaf arity levels counted out after r`.
 pub use Rattle.theorems.specs.CallContracts.{Build}
 
 abbrev pub build-call : Call
@@ -48,7 +46,7 @@ build-call = call build-function build-met.met (λ 𝓤 H A mem run κs a. (tt, 
 
 -- For any bytes.
 
--- the numbers that its questions can give
+-- The numbers that its questions can give.
 build-one : (S : Settings) (T out : List ℕ) → OneOf (1 ∷ 2 ∷ 3 ∷ 4 ∷ 0 ∷ []) (buildNumber S T out)
 unfolding buildNumber
 build-one S T out =
@@ -82,7 +80,7 @@ module _ (κs : Lfts 3) (text : Lent) (leaf arity levels : ℕ) (counted out aft
       )
 
   module _ (n : ℕ) (a : Build κs text leaf arity levels counted out after (built.Refused n)) where
-    -- a tree has bytes, so that a size of 0 is a refusal's
+    -- A tree has bytes, so that a size of 0 is a refusal's.
     build-not-zero : (m : ℕ) → buildNumber S (now text) (now out) ≡ m → 1 ≤ m
     unfolding buildSize
     build-not-zero zero e =
@@ -98,7 +96,7 @@ module _ (κs : Lfts 3) (text : Lent) (leaf arity levels : ℕ) (counted out aft
     pub build-numbers : OneOf (1 ∷ 2 ∷ 3 ∷ 4 ∷ []) n
     build-numbers = not-zero (1 ∷ 2 ∷ 3 ∷ 4 ∷ []) n build-low (rw (a .0) (build-one S (now text) (now out)))
 
-    -- what is left in the buffer, by the number
+    -- What is left in the buffer, by the number.
     build-left : now after ≡ cond (eqb n 4) (replicate (length (now out)) 0) (now out)
     unfolding buildLeaves
     build-left = a .1 .1 ∙ rw (← a .0, ne-eqb n 0 (λ e. omega (arith, build-low)))
@@ -133,7 +131,7 @@ module _ (κs : Lfts 3) (text : Lent) (leaf arity levels : ℕ) (counted out aft
 
     -- The tree, as an argument of another call.
     module _ (t : Lent) (is : now t ≡ take size (now after)) where
-      -- no question refused
+      -- No question refused.
       passed : buildNumber S T (now out) ≡ 0
       passed = sym (a .0)
 
@@ -165,7 +163,7 @@ module _ (κs : Lfts 3) (text : Lent) (leaf arity levels : ℕ) (counted out aft
           let s = accepted-stands (now t) accepted in
           (rw text-is at s, λ U f. one-text (now t) (s .readable-is) (s .linked) U f ∙ text-is)
 
--- which answer has a size
+-- Which answer has a size.
 size-is : (r : Built) (n : ℕ) → 1 ≤ n → replied (builtReply r) .value ≡ n → r ≡ built.Size n
 size-is (built.Size m) n low e = ap built.Size e
 size-is (built.Refused q) n low e = absurd (let z : ⊥ = omega arith in z)

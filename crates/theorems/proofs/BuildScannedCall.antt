@@ -13,20 +13,18 @@ use denote.Ref.{now}
 use lib.ListN.{length, take, drop, replicate}
 use lib.Dec.{leb}
 use borrow.Author.Tests.{ne-eqb, le-leb, lt-leb}
-use Rattle.format.specs.Said.{replied}
-use Rattle.format.specs.Settings.{Settings, lengthOk, sizesOk, countedOk, given}
+use Rattle.format.specs.Answers.{replied, buildNumber, buildSize, buildLeaves}
+use Rattle.format.specs.Layout.{Settings, lengthOk, sizesOk, countedOk, given}
 use Rattle.format.specs.FittingText.{fits}
-use Rattle.format.specs.Verdict.{ask}
+use Rattle.format.specs.TreeReading.{ask}
 use Rattle.format.specs.Blocks.{treeOf}
-use Rattle.format.specs.BuildSays.{buildNumber, buildSize, buildLeaves}
 use Rattle.theory_accepted.specs.AcceptedTrees.{StandsFor}
 use Rattle.build_by_search.specs.BuildAnswer.{builtReply}
 use Rattle.build_by_search.specs.declared.Built.{Built}
 use Rattle.build_by_search.specs.declared.Built.the-variants as built
 use Rattle.build_by_scan.specs.declared.Scanned.{Scanned}
 use Rattle.build_by_scan.specs.declared.Scanned.the-variants as scanned
-use Rattle.build_by_scan.specs.ScannedSays.{windowsOf, tableWords, scanNumber, scanWindows, scanLeaves}
-use Rattle.build_by_scan.specs.ScannedAnswer.{scannedReply}
+use Rattle.build_by_scan.specs.ScanAnswers.{windowsOf, tableWords, scanNumber, scanWindows, scanLeaves, scannedReply}
 use Rattle.build_by_scan.proofs.ScannedOutcomes.{number-same, size-same, leaves-same}
 pub use Rattle.theorems.specs.CallContracts.{BuildScanned}
 use Rattle.theorems.specs.Promises.{Answers, Refuses}
@@ -40,7 +38,7 @@ use Rattle.build_by_scan.proofs.build_scanned.Met as build-scanned-met
 use Rattle.build_by_scan.proofs.scan_words.Met as scan-words-met
 use Rattle.build_by_scan.proofs.scan_words.Reads as scan-words-reads
 
--- what the contract of `scan_words` allows
+-- What the contract of `scan_words` allows.
 abbrev pub ScanWords : (n leaf : ℕ) → ℕ → Type 0
 ScanWords n leaf r = scan-words-reads.Post tt (n, (leaf, tt)) r (n, (leaf, tt))
 

@@ -12,13 +12,9 @@ use lib.Dec.{ltb}
 use borrow.Author.Tests.{ltb-true, le-ltb}
 use Rattle.text.specs.declared.TextPlace.{TextPlace}
 use Rattle.format.specs.Layout as at
-use Rattle.format.specs.Path.{Path, pathOf}
-use Rattle.format.specs.Fits.{textOf}
-use Rattle.format.specs.Verdict.{readable, verdict, ask}
+use Rattle.format.specs.TreeReading.{Path, pathOf, textOf, readable, verdict, ask}
 use Rattle.format.specs.VerdictLaws.{accepted-readable, accepted-links}
-use Rattle.format.specs.Said.{Said, refused, unless, replied}
-use Rattle.format.specs.ReadSays.{byteSays, byteOf}
-use Rattle.format.specs.FindSays.{pathLength}
+use Rattle.format.specs.Answers.{Said, refused, unless, replied, byteSays, byteOf, pathLength}
 use Rattle.format.specs.LayoutLaws.{ask-test}
 use Rattle.format.specs.SaidLaws.{unless-passes}
 use Rattle.theory_paths.specs.Demands as paths
@@ -60,7 +56,7 @@ byte-reached t p h =
     let w = path-there t (a .0) p low h in
     record { pass = a .0; low = low; path = w .0; path-is = w .1 }
 
--- the numbers that its questions can give
+-- The numbers that its questions can give.
 pub byteOf-one : (t : List ℕ) (o : Option Path) → OneOf (14 ∷ 0 ∷ []) (byteOf t o .number)
 byteOf-one t none = inl refl
 byteOf-one t (some q) = inr (inl refl)
@@ -82,7 +78,7 @@ module _ (κs : Lfts 1) (t : Lent) (p : TextPlace) where
       let entered : e ≡ length (w .path .visits) = ap (λ (s : Said). s .entered) z in
       (w .path, w .path-is, ap (λ (s : Said). s .value) z, rw entered (length-of-path (now t) (w .pass) (p .0) (w .path) (w .path-is)))
 
-  -- a path enters a block, so that a figure of 0 is a refusal's
+  -- A path enters a block, so that a figure of 0 is a refusal's.
   pub byte-not-zero : (n : ℕ) → Byte κs t p (answer.Refused n) → 1 ≤ n
   byte-not-zero zero a =
       let w = byte-reached (now t) (p .0) (sym (ap (λ (s : Said). s .number) a)) in
@@ -96,7 +92,7 @@ module _ (κs : Lfts 1) (t : Lent) (p : TextPlace) where
       let e : n ≡ byteSays (now t) (p .0) .number = ap (λ (s : Said). s .number) a in
       not-zero (5 ∷ 6 ∷ 7 ∷ 10 ∷ 14 ∷ []) n (byte-not-zero n a) (rw e (byte-one (now t) (p .0)))
 
--- past the text
+-- Past the text.
 pub byte-ten : (t : List ℕ) → verdict t ≡ 0 → (p : ℕ) → length (textOf t) ≤ p → byteSays t p ≡ refused 10
 unfolding byteSays
 byte-ten t v p h = rw (accepted-readable t v, le-ltb p (at.textLength t) (omega (arith, text-size t v)))

@@ -7,7 +7,7 @@ use Prim.Native.Nat.{ℕ}
 use contract.Lifetimes.{Lfts}
 use denote.Ref.{now}
 use Rattle.format.specs.Layout as at
-use Rattle.format.specs.Fits.{textOf, edgesTrue}
+use Rattle.format.specs.TreeReading.{textOf, edgesTrue}
 use Rattle.format.specs.FittingText.{fits}
 use Rattle.format.specs.VerdictLaws.{accepted-readable, accepted-links, no-edges}
 use Rattle.theory_accepted.specs.AcceptedTrees.{StandsFor, one-text}
@@ -18,7 +18,7 @@ use Rattle.theorems.proofs.OutsideCall.{Call, Lent, call}
 use Rattle.theorems.proofs.RefusalNumbers.{OneOf, verdict-one}
 use Rattle.tree.proofs.check.Met as check-met
 use Rattle.theorems.proofs.TreeAnswers.{accepted-answers, accepted-refuses}
--- what the contract allows: `Check κs tree r`
+-- What the contract allows: `Check κs tree r`.
 pub use Rattle.theorems.specs.CallContracts.{Check}
 
 abbrev pub check-call : Call
@@ -39,7 +39,7 @@ module _ (κs : Lfts 1) (t : Lent) where
   older-edges one T = no-edges T (now t) one
 
   module _ (c : Check κs t 0) where
-    -- a text that fits is the one that the paths give
+    -- A text that fits is the one that the paths give.
     text-is : (T : List ℕ) → fits T (now t) ≡ true → T ≡ textOf (now t)
     text-is = one-text (now t) (accepted-readable (now t) (sym c)) (accepted-links (now t) (sym c))
 

@@ -11,12 +11,11 @@ use lib.Dec.{eqb, leb, ltb}
 use lib.Seq.{drop-at}
 use borrow.Author.Tests.{eq-eqb, ne-eqb, leb-true}
 use Rattle.text.specs.ListLaws.{length-tabulate}
-use Rattle.text.specs.Lists.{tabulate}
+use Rattle.text.specs.Text.{tabulate}
 use Rattle.format.specs.Layout as at
-use Rattle.format.specs.Fits.{textOf}
-use Rattle.format.specs.Verdict.{readable, verdict, asks}
+use Rattle.format.specs.TreeReading.{textOf, readable, verdict, asks}
 use Rattle.format.specs.VerdictLaws.{accepted-readable}
-use Rattle.format.specs.ReadSays.{byteSays}
+use Rattle.format.specs.Answers.{byteSays}
 use Rattle.format.specs.SaidLaws.{next-passes, asks-pass}
 use Rattle.ask_access.specs.declared.Copied.the-variants as copied
 use Rattle.columns.specs.Columns.{widthOk}
@@ -28,7 +27,7 @@ use Rattle.theorems.proofs.AcceptedTree.{text-size}
 use Rattle.theorems.proofs.OutsideCall.{Call, Lent, call}
 use Rattle.theorems.proofs.RefusalNumbers.{OneOf, asks-one, not-zero, readable-one, says-answer, says-refused, then-one}
 use Rattle.ask_columns.proofs.row_by_columns.Met as row-by-columns-met
--- what the contract allows, where the buffer is left as `after`: `ByColumns κs tree width a buffer after r`
+-- What the contract allows, where the buffer is left as `after`: `ByColumns κs tree width a buffer after r`.
 pub use Rattle.theorems.specs.CallContracts.{ByColumns}
 
 abbrev pub row-by-columns-call : Call
@@ -36,14 +35,14 @@ row-by-columns-call = call row-by-columns-function row-by-columns-met.met (λ �
 
 -- For any bytes.
 
--- the numbers that its questions can give
+-- The numbers that its questions can give.
 column-one : (t : List ℕ) (w a room : ℕ) → OneOf (5 ∷ 6 ∷ 7 ∷ 20 ∷ 10 ∷ 13 ∷ 14 ∷ 0 ∷ []) (columnNumber t w a room)
 unfolding columnNumber
 column-one t w a room =
     then-one (5 ∷ 6 ∷ 7 ∷ []) (20 ∷ 10 ∷ 13 ∷ 14 ∷ 0 ∷ []) (readable t) _ (readable-one t)
     (asks-one ((20, widthOk w (at.textLength t)) ∷ (10, ltb a (at.textLength t / w)) ∷ (13, leb w room) ∷ (14, cellsHold t w a) ∷ []))
 
--- where no question refuses, the row fits
+-- Where no question refuses, the row fits.
 column-fits : (t : List ℕ) (w a room : ℕ) → columnNumber t w a room ≡ 0 → w ≤ room
 unfolding columnNumber
 column-fits t w a room h =
@@ -67,7 +66,7 @@ module _ (κs : Lfts 2) (t : Lent) (w a : ℕ) (buffer after : Lent) where
       )
 
   module _ (n : ℕ) (c : ByColumns κs t w a buffer after (copied.Refused n)) where
-    -- the number is the definition's
+    -- The number is the definition's.
     column-says : n ≡ columnNumber (now t) w a (length (now buffer))
     unfolding columnSays
     column-says = says-refused n _ w 0 (c .0 .numbered) (c .0 .says)
@@ -77,7 +76,7 @@ module _ (κs : Lfts 2) (t : Lent) (w a : ℕ) (buffer after : Lent) where
     column-numbers =
         not-zero (5 ∷ 6 ∷ 7 ∷ 20 ∷ 10 ∷ 13 ∷ 14 ∷ []) n (c .0 .numbered) (rw column-says (column-one (now t) w a (length (now buffer))))
 
-    -- what is left in the buffer, by the number
+    -- What is left in the buffer, by the number.
     column-left : now after ≡ cond (eqb n 14) (replicate w 0 ++ drop w (now buffer)) (now buffer)
     unfolding columnLeaves
     column-left = c .1 ∙ rw (← column-says, ne-eqb n 0 (λ e. omega (arith, c .0 .numbered)))

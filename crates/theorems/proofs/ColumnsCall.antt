@@ -14,7 +14,7 @@ use Rattle.theorems.proofs.OutsideCall.{Call, Lent, call}
 use Rattle.theorems.proofs.RefusalNumbers.{OneOf}
 use Rattle.columns.proofs.to_columns.Met as to-columns-met
 use Rattle.columns.proofs.from_columns.Met as from-columns-met
--- what the contracts allow, where the output is left as `after`: `ToColumns κs text width out after r`, and `FromColumns` alike
+-- What the contracts allow, where the output is left as `after`: `ToColumns κs text width out after r`, and `FromColumns` alike.
 pub use Rattle.columns.proofs.Demands.{ToColumns, FromColumns}
 
 abbrev pub to-columns-call : Call

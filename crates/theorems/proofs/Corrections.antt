@@ -32,7 +32,7 @@ pub record CountingTree (T : List ℕ) (byte : ℕ) (t : Lent) : Type 0 where
   pub fitting : fits T (now t) ≡ true
   pub counting : Among byte (at.settings (now t) .counted)
 
--- two results of count, where the texts differ at place d: neither is refused
+-- Two results of count, where the texts differ at place d: neither is refused.
 pub record CountsNear (d i : ℕ) (r s : Counted) : Type 0 where
   pub one : ℕ
   pub other : ℕ
@@ -46,12 +46,12 @@ pub record CountsNear (d i : ℕ) (r s : Counted) : Type 0 where
   -- The counts are equal if place d is not among the first i.
   pub same : i ≤ d → one ≡ other
 
--- an answer of find: this place, with any figure
+-- An answer of find: this place, with any figure.
 abbrev pub FoundAt : Found → TextPlace → Type 0
 FoundAt r p = (e : ℕ) × (r ≡ found.At p e)
 
 module _ (T : List ℕ) (byte : ℕ) (t : Lent) (k : CountingTree T byte t) where
-  -- what count answers for any number of bytes of the text
+  -- What count answers for any number of bytes of the text.
   count-of : (κs : Lfts 1) (i : ℕ) (r : Counted) → Count κs t byte i r → i ≤ length T → (e : ℕ) × (r ≡ counted.Times (countIn byte (take i T)) e)
   unfolding countIn
   count-of κs zero r c h = (0, check-answers (k .lifetime) t (k .accepted) T (k .fitting) .count .count-none κs byte r c (k .counting))
@@ -80,7 +80,7 @@ module _ (T : List ℕ) (byte : ℕ) (t : Lent) (k : CountingTree T byte t) wher
       go (inl low) (inl past) = none (λ x y. omega arith)
       go (inr least) h = none (λ x y. omega arith)
 
--- the place that the first tree answers, before the difference, is the second tree's too
+-- The place that the first tree answers, before the difference, is the second tree's too.
 place-kept :
     (T U : List ℕ) (d : ℕ) → OneByte T U d → (byte : ℕ) (t u : Lent) → CountingTree T byte t → CountingTree U byte u
     → (κs κ : Lfts 1) (j : ℕ) (r s : Found) → Find κs t byte j r → Find κ u byte j s → (p : TextPlace) → p .0 < d → FoundAt r p → FoundAt s p
@@ -100,7 +100,7 @@ place-kept T U d k byte t u kt ku κs κ j r s a b p before is =
 
 -- Request 111: T and U differ at place d only; t and u are accepted trees of these texts, and both count the byte.
 module _ (T U : List ℕ) (d : ℕ) (k : OneByte T U d) (byte : ℕ) (t u : Lent) (kt : CountingTree T byte t) (ku : CountingTree U byte u) where
-  -- the counts in the first i bytes are at most 1 apart, and equal for i up to d
+  -- The counts in the first i bytes are at most 1 apart, and equal for i up to d.
   pub counts-near : (κs κ : Lfts 1) (i : ℕ) (r s : Counted) → Count κs t byte i r → Count κ u byte i s → i ≤ length T → CountsNear d i r s
   counts-near κs κ i r s a b h =
       let x = count-of T byte t kt κs i r a h in
@@ -117,7 +117,7 @@ module _ (T U : List ℕ) (d : ℕ) (k : OneByte T U d) (byte : ℕ) (t u : Lent
         same = count-before T U d k byte i;
       }
 
-  -- if find returns a place before d for one of the trees, it returns the same for the other
+  -- If find returns a place before d for one of the trees, it returns the same for the other.
   pub place-before : (κs κ : Lfts 1) (j : ℕ) (r s : Found) → Find κs t byte j r → Find κ u byte j s
       → (p : TextPlace) → p .0 < d → FoundAt r p ↔ FoundAt s p
   place-before κs κ j r s a b p before = (

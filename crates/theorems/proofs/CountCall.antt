@@ -13,15 +13,12 @@ use lib.ListN.{length, take}
 use lib.Dec.{eqb, leb}
 use borrow.Author.Tests.{ne-eqb, le-leb, eqb-true, lt-leb}
 use Rattle.text.specs.Text.{countIn}
-use Rattle.format.specs.Settings.{Settings}
+use Rattle.format.specs.Layout.{Settings}
 use Rattle.format.specs.Layout as at
-use Rattle.format.specs.Path.{Path, pathOf}
-use Rattle.format.specs.Fits.{textOf}
-use Rattle.format.specs.Verdict.{readable, verdict, ask}
+use Rattle.format.specs.TreeReading.{Path, pathOf, textOf, readable, verdict, ask}
 use Rattle.format.specs.VerdictLaws.{accepted-readable}
-use Rattle.format.specs.Said.{Said, refused, unless, NeverZero, replied}
-use Rattle.format.specs.CountSays.{isCounted, countSays, numberOfByte, added, taken, leavesReached, countOf}
-use Rattle.format.specs.FindSays.{pathLength}
+use Rattle.format.specs.Answers.{Said, refused, unless, NeverZero, replied, isCounted, countSays, numberOfByte, added, taken, leavesReached, countOf}
+use Rattle.format.specs.Answers.{pathLength}
 use Rattle.format.specs.SaidLaws.{unless-passes}
 use Rattle.theory_counts.specs.Demands as tallies
 use Rattle.ask_rank.specs.declared.Counted.{Counted}
@@ -38,7 +35,7 @@ use Rattle.ask_rank.proofs.count.Met as count-met
 use Rattle.ask_rank.proofs.uncounted.uncounted.Met as uncounted-met
 use Rattle.ask_rank.proofs.uncounted.uncounted.Reads as uncounted-reads
 
--- what the contract of `uncounted` allows
+-- What the contract of `uncounted` allows.
 abbrev pub Uncounted : (κs : Lfts 1) → Lent → (i : ℕ) → ℕ → Type 0
 Uncounted κs t i r = uncounted-reads.Post κs (t, (i, tt)) r (t, (i, tt))
 
@@ -90,7 +87,7 @@ pub count-answer : (κs : Lfts 1) (t : Lent) (byte i c e : ℕ) → Count κs t 
     → ((i ≡ 0) × (c ≡ 0) × (e ≡ 0)) ⊎ LengthOfPath (now t) (at.settings (now t) .levels) (i - 1) e
 count-answer κs t byte i c e a = go (count-summed (now t) byte i (sym (ap (λ (s : Said). s .number) (a .says))))
   where
-    -- the figure is the definition's
+    -- The figure is the definition's.
     entered : e ≡ countSays (now t) byte i .entered
     entered = ap (λ (s : Said). s .entered) (a .says)
 
@@ -99,7 +96,7 @@ count-answer κs t byte i c e a = go (count-summed (now t) byte i (sym (ap (λ (
     go (inl h) = let z = a .says ∙ h .1 in inl (h .0, ap (λ (s : Said). s .value) z, ap (λ (s : Said). s .entered) z)
     go (inr w) = inr (rw (entered ∙ w .entered-is) (length-of-path (now t) (w .pass) (i - 1) (w .path) (w .path-is)))
 
--- the numbers that its questions can give
+-- The numbers that its questions can give.
 module _ (t : List ℕ) where
   less-one : (b : Bool) (s : Said) → s .number ≡ 0 → OneOf (14 ∷ 0 ∷ []) (cond b s (refused 14) .number)
   less-one true s e = inr (inl e)
@@ -165,7 +162,7 @@ module _ (t : Lent) (v : verdict (now t) ≡ 0) where
   size : length T ≡ at.textLength (now t)
   size = text-size (now t) v
 
-  -- what it answers, for any number of bytes
+  -- What it answers, for any number of bytes.
   count-says : (κs : Lfts 1) (byte i : ℕ) (r : Counted) → Count κs t byte i r → Among byte (S .counted) → i ≤ length T
       → r ≡ counted.Times (countIn byte (take i T)) (cond (eqb i 0) 0 (pathLength (now t) (pathOf (now t) (i - 1))))
   count-says κs byte i r a k h =

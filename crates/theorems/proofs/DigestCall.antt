@@ -11,12 +11,11 @@ use lib.ListN.{length, drop, replicate}
 use lib.Dec.{leb}
 use borrow.Author.Tests.{ne-eqb}
 use Rattle.format.specs.Layout as at
-use Rattle.format.specs.Fits.{textOf}
-use Rattle.format.specs.Verdict.{readable, verdict}
+use Rattle.format.specs.TreeReading.{textOf, readable, verdict}
 use Rattle.format.specs.VerdictLaws.{accepted-readable}
-use Rattle.format.specs.ReadSays.{pathsHold, leavesSpan}
+use Rattle.format.specs.Answers.{pathsHold, leavesSpan}
 use Rattle.theory_accepted.specs.AcceptedTrees.{accepted-stands}
-use Rattle.sha256.specs.DigestText.{digestTextRefusal}
+use Rattle.sha256.specs.Sha256.{digestTextRefusal}
 use Rattle.query_digest.specs.Digest.{digestRefusal, digestBuffer}
 use Rattle.query_digest.proofs.Demands as digests
 use Rattle.theorems.specs.Promises.{DigestAnswers, DigestRefuses}

@@ -11,15 +11,12 @@ use native.Mathlib.Numerals.{add-one}
 use contract.Lifetimes.{Lfts}
 use denote.Ref.{now}
 use lib.ListN.{length}
-use Rattle.text.specs.Text.{countIn, stretch}
-use Rattle.text.specs.Rows.{rowsOf}
+use Rattle.text.specs.Text.{countIn, stretch, rowsOf, tabulate, sumBelow}
 use Rattle.text.specs.ListLaws.{lt-or-ge, sumBelow-none}
 use Rattle.text.specs.declared.TextPlace.{TextPlace}
-use Rattle.text.specs.Lists.{tabulate, sumBelow}
-use Rattle.format.specs.Settings.{Settings, maxLevels}
-use Rattle.format.specs.HeaderPlaces.{headerLength}
+use Rattle.format.specs.Layout.{Settings, maxLevels, headerLength}
 use Rattle.format.specs.Layout as at
-use Rattle.format.specs.Fits.{textOf}
+use Rattle.format.specs.TreeReading.{textOf}
 use Rattle.format.specs.FittingText.{fits}
 use Rattle.format.specs.VerdictLaws.{accepted-readable, accepted-links}
 use Rattle.format.specs.LayoutLaws.{Readable, readable-facts}
@@ -48,14 +45,14 @@ use Rattle.theorems.proofs.SpanCall.{Span}
 
 -- The answers of a tree of the empty text, whichever road led to it.
 module _ (t : Lent) (S : Settings) (answers : Answers t S []) (refuses : Refuses t S []) where
-  -- byte is refused with 10, and a run is empty
+  -- Byte is refused with 10, and a run is empty.
   pub empty-byte : (κ : Lfts 1) (p : TextPlace) (r : Answer) → Byte κ t p r → r ≡ answer.Refused 10
   empty-byte κ p r b = refuses .byte .byte-past κ p r b (omega arith)
 
   pub empty-run : (κ : Lfts 1) (p : TextPlace) (r : Lent) → Run κ t p r → now r ≡ []
   empty-run κ p r b = refuses .run .run-past κ p r b (omega arith)
 
-  -- a span of 0 bytes at place 0 is empty; any other span is refused with 10
+  -- A span of 0 bytes at place 0 is empty; any other span is refused with 10.
   pub empty-span : (κ : Lfts 2) (p : TextPlace) (buffer after : Lent) (r : Copied) → Span κ t p 0 buffer after r → p .0 ≡ 0
       → (r ≡ copied.Bytes 0 0) × (now after ≡ now buffer)
   unfolding stretch
@@ -67,19 +64,19 @@ module _ (t : Lent) (S : Settings) (answers : Answers t S []) (refuses : Refuses
       → (r ≡ copied.Refused 10) × (now after ≡ now buffer)
   empty-span-past κ p len buffer after r s some = refuses .span .span-past κ p len buffer after r s (omega arith)
 
-  -- a count in 0 bytes is 0, with no blocks entered; a count in more bytes is refused with 10
+  -- A count in 0 bytes is 0, with no blocks entered; a count in more bytes is refused with 10.
   pub empty-count : (κ : Lfts 1) (byte : ℕ) (r : Counted) → Count κ t byte 0 r → Among byte (S .counted) → r ≡ counted.Times 0 0
   empty-count = answers .count .count-none
 
   pub empty-count-past : (κ : Lfts 1) (byte i : ℕ) (r : Counted) → Count κ t byte i r → 1 ≤ i → r ≡ counted.Refused 10
   empty-count-past κ byte i r c some = refuses .count .count-past κ byte i r c (omega arith)
 
-  -- no byte occurs, so find is refused with 12
+  -- No byte occurs, so find is refused with 12.
   pub empty-find : (κ : Lfts 1) (byte j : ℕ) (r : Found) → Find κ t byte j r → Among byte (S .counted) → r ≡ found.Refused 12
   unfolding countIn
   empty-find κ byte j r f k = refuses .find .find-none κ byte j r f k (λ low high. omega arith)
 
-  -- there is no row
+  -- There is no row.
   pub empty-row : (κ : Lfts 2) (q : ℕ) (buffer after : Lent) (r : RowCopied) → Row κ t q buffer after r → Among 10 (S .counted)
       → (r ≡ rows.Refused 12) × (now after ≡ now buffer)
   unfolding rowsOf
@@ -93,7 +90,7 @@ module _ (κs : Lfts 1) (t : Lent) (c : Check κs t 0) (none : at.textLength (no
   d : Linked (now t)
   d = linked-facts (now t) (accepted-links (now t) (sym c))
 
-  -- level 0 has no block, and a level below a level of no blocks has none
+  -- Level 0 has no block, and a level below a level of no blocks has none.
   no-blocks : (l : ℕ) → l < at.settings (now t) .levels → at.levelCount (now t) l ≡ 0
   unfolding sumBelow
   no-blocks zero h = k .level0 ∙ rw none (pieces-none (at.fullLength (now t) 0))
@@ -104,7 +101,7 @@ module _ (κs : Lfts 1) (t : Lent) (c : Check κs t 0) (none : at.textLength (no
   no-sum : (l : ℕ) → l ≤ at.settings (now t) .levels → sumBelow l (at.levelCount (now t)) ≡ 0
   no-sum l h = sumBelow-none l (at.levelCount (now t)) (λ i il. no-blocks i (omega arith))
 
-  -- every count is 0: of the used levels, of the unused ones, and of the leaf bytes
+  -- Every count is 0: of the used levels, of the unused ones, and of the leaf bytes.
   pub empty-counts : ((l : ℕ) → l < maxLevels → at.levelCount (now t) l ≡ 0) × (at.leafCount (now t) ≡ 0)
   unfolding sumBelow
   empty-counts = ((λ l h. level l h (lt-or-ge l (at.settings (now t) .levels))), leaves)
@@ -118,7 +115,7 @@ module _ (κs : Lfts 1) (t : Lent) (c : Check κs t 0) (none : at.textLength (no
           let H = at.settings (now t) .levels in
           sym (rw (no-blocks (H - 1) (omega (arith, k .bounds .levels-low))) at (d .leaf-count (omega (arith, k .bounds .levels-low))))
 
-  -- the offsets of the used levels and of the leaf bytes are 100, those of the unused levels 0
+  -- The offsets of the used levels and of the leaf bytes are 100, those of the unused levels 0.
   pub empty-offsets : ((l : ℕ) → l < at.settings (now t) .levels → at.levelOffset (now t) l ≡ headerLength)
       × ((l : ℕ) → at.settings (now t) .levels ≤ l → l < maxLevels → at.levelOffset (now t) l ≡ 0) × (at.leafOffset (now t) ≡ headerLength)
   empty-offsets = (
@@ -130,11 +127,11 @@ module _ (κs : Lfts 1) (t : Lent) (c : Check κs t 0) (none : at.textLength (no
       after-none : (size : ℕ) → headerLength + 0 * size ≡ headerLength
       after-none size = rw (zero-mul size) (omega arith)
 
-  -- the tree has no bytes after the header
+  -- The tree has no bytes after the header.
   pub empty-header : length (now t) ≡ headerLength
   empty-header = omega (arith, k .size, empty-offsets .2, empty-counts .1)
 
-  -- the empty text fits the tree, and no other
+  -- The empty text fits the tree, and no other.
   text-none : textOf (now t) ≡ []
   unfolding textOf tabulate
   text-none = rw none
@@ -145,6 +142,6 @@ module _ (κs : Lfts 1) (t : Lent) (c : Check κs t 0) (none : at.textLength (no
       let e : one .0 ≡ [] = one-text (now t) (one .1 .readable-is) (one .1 .linked) (one .0) (one .1 .fitting) ∙ text-none in
       (rw e at (one .1 .fitting), λ U f. one .2 U f ∙ e)
 
-  -- what the calls return is that of the empty text
+  -- What the calls return is that of the empty text.
   pub empty-answers : Answers t (at.settings (now t)) [] × Refuses t (at.settings (now t)) []
   empty-answers = (check-answers κs t c [] (empty-text .0), check-refuses κs t c [] (empty-text .0))

@@ -4,9 +4,9 @@ use mathlib.Core.Bool.{true}
 use mathlib.Core.Path.{_≡_, refl}
 use Prim.Native.Nat.{ℕ}
 use lib.Dec.{leb}
-use Rattle.format.specs.Settings.{lengthOk, sizesOk, maxCounted}
+use Rattle.format.specs.Layout.{lengthOk, sizesOk, maxCounted}
 use Rattle.layout.specs.CheckedSettings.{sizes}
-use Rattle.format.specs.Verdict.{ask}
+use Rattle.format.specs.TreeReading.{ask}
 use Rattle.format.specs.LayoutLaws.{ask-test, ask-rest}
 use Rattle.build_enough.specs.Enough.{enoughFor, enoughRefusal, enoughSays}
 use Rattle.build_enough.specs.declared.Room.{Room}
@@ -17,7 +17,7 @@ use Rattle.theorems.proofs.RefusalNumbers.{OneOf, asks-one, not-zero, s
 use Rattle.build_enough.proofs.enough.Met as enough-met
 use Rattle.build_enough.proofs.enough.Reads as enough-reads
 
--- what the contract allows
+-- What the contract allows.
 abbrev pub Enough : (n leaf arity levels counted : ℕ) → Room → Type 0
 Enough n leaf arity levels counted r =
     enough-reads.Post tt (n, (leaf, (arity, (levels, (counted, tt))))) r (n, (leaf, (arity, (levels, (counted, tt)))))

@@ -14,15 +14,11 @@ use Rattle.text.specs.Text.{countIn, placeOf}
 use Rattle.text.specs.CountLaws.{place-nth}
 use Rattle.text.specs.ListLaws.{bool-cases, and-left, and-right}
 use Rattle.text.specs.declared.TextPlace.{TextPlace}
-use Rattle.format.specs.Settings.{Settings}
+use Rattle.format.specs.Layout.{Settings}
 use Rattle.format.specs.Layout as at
-use Rattle.format.specs.Path.{pathOf}
-use Rattle.format.specs.Fits.{textOf}
-use Rattle.format.specs.Verdict.{verdict}
+use Rattle.format.specs.TreeReading.{pathOf, textOf, verdict}
 use Rattle.format.specs.VerdictLaws.{accepted-readable}
-use Rattle.format.specs.Said.{Said, refused, NeverZero, replied}
-use Rattle.format.specs.CountSays.{numberOfByte}
-use Rattle.format.specs.FindSays.{selectNumber, pathLength, total, found as foundFor}
+use Rattle.format.specs.Answers.{Said, refused, NeverZero, replied, numberOfByte, selectNumber, pathLength, total, found as foundFor}
 use Rattle.format.specs.FindSaysLaws.{FindSays}
 use Rattle.theory_counts.specs.Demands as tallies
 use Rattle.ask_select.specs.declared.Found.{Found}
@@ -84,7 +80,7 @@ module _ (t : Lent) (v : verdict (now t) ≡ 0) where
         (pathLength (now t) (pathOf (now t) p), path-length (now t) v p in-text, is);
   }
 
-  -- questions 11 and 12
+  -- Questions 11 and 12.
   eleven : (byte j : ℕ) → (Among byte (S .counted) → ⊥) → selectNumber (now t) byte j ≡ 11
   unfolding selectNumber
   eleven byte j other = rw (accepted-readable (now t) v, not-counted (now t) v byte other)
@@ -100,7 +96,7 @@ module _ (t : Lent) (v : verdict (now t) ≡ 0) where
       go all e (inl h) = absurd (none (leb-true 1 j (and-left (leb 1 j) (leb j all) h)) (rw e at (leb-true j all (and-right (leb 1 j) (leb j all) h))))
       go all e (inr h) = h
 
-  -- refused before the walk
+  -- Refused before the walk.
   find-asked : (κs : Lfts 1) (byte j : ℕ) (r : Found) (n : ℕ) → Find κs t byte j r → selectNumber (now t) byte j ≡ suc n → r ≡ found.Refused (suc n)
   find-asked κs byte j r n a e = find-no r n (rw e at (a .says .asked (rw e (omega arith))))
 

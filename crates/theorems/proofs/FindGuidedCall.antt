@@ -10,12 +10,8 @@ use Rattle.text.specs.Text.{countIn, placeOf}
 use Rattle.text.specs.CountLaws.{place-nth}
 use Rattle.text.specs.declared.TextPlace.{TextPlace}
 use Rattle.format.specs.Layout as at
-use Rattle.format.specs.Path.{pathOf}
-use Rattle.format.specs.Fits.{textOf}
-use Rattle.format.specs.Verdict.{verdict}
-use Rattle.format.specs.Said.{Said, NeverZero, replied}
-use Rattle.format.specs.CountSays.{numberOfByte}
-use Rattle.format.specs.FindSays.{found, pathLength}
+use Rattle.format.specs.TreeReading.{pathOf, textOf, verdict}
+use Rattle.format.specs.Answers.{Said, NeverZero, replied, numberOfByte, found, pathLength}
 use Rattle.ask_guide.specs.Guides.{guideNumber}
 use Rattle.ask_guide.proofs.GuideList.{guide-verdict}
 use Rattle.ask_guided.specs.declared.Guided.{Guided}
@@ -29,7 +25,7 @@ use Rattle.theorems.proofs.GuideCall.{CheckGuide}
 use Rattle.theorems.proofs.OutsideCall.{Call, Lent, call}
 use Rattle.theorems.proofs.RefusalNumbers.{OneOf}
 use Rattle.ask_guided.proofs.find_guided.Met as find-guided-met
--- what the contract allows: `FindGuided κs tree guide byte j r`
+-- What the contract allows: `FindGuided κs tree guide byte j r`.
 pub use Rattle.ask_guided.proofs.Demands.{FindGuided}
 
 abbrev pub find-guided-call : Call

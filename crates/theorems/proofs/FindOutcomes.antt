@@ -9,32 +9,29 @@ use lib.Dec.{leb}
 use Rattle.text.specs.Text.{countIn}
 use Rattle.text.specs.ListLaws.{lt-or-ge}
 use Rattle.format.specs.Layout as at
-use Rattle.format.specs.Fits.{textOf}
-use Rattle.format.specs.Verdict.{readable, verdict}
+use Rattle.format.specs.TreeReading.{textOf, readable, verdict}
 use Rattle.format.specs.VerdictLaws.{accepted-readable}
-use Rattle.format.specs.Said.{Said, refused}
-use Rattle.format.specs.CountSays.{isCounted, numberOfByte}
-use Rattle.format.specs.FindSays.{selectNumber, found, total, FindBy}
+use Rattle.format.specs.Answers.{Said, refused, isCounted, numberOfByte, selectNumber, found, total, FindBy}
 use Rattle.format.specs.FindSaysLaws.{select-lets, select-passes}
 use Rattle.theory_counts.specs.Demands as tallies
 use Rattle.theorems.specs.Promises.{Among}
 use Rattle.theorems.proofs.AcceptedTree.{among-counted}
 use Rattle.theorems.proofs.RefusalNumbers.{OneOf, asks-one, not-zero, of-left, of-right, readable-one, then-one}
 
--- the numbers that the questions before the walk can give
+-- The numbers that the questions before the walk can give.
 select-one : (t : List ℕ) (byte j : ℕ) → OneOf (5 ∷ 6 ∷ 7 ∷ 11 ∷ 12 ∷ 0 ∷ []) (selectNumber t byte j)
 unfolding selectNumber
 select-one t byte j =
     then-one (5 ∷ 6 ∷ 7 ∷ []) (11 ∷ 12 ∷ 0 ∷ []) (readable t) _ (readable-one t)
     (asks-one ((11, isCounted t byte) ∷ (12, leb 1 j && leb j (total t (numberOfByte t byte))) ∷ []))
 
--- a refusal of the questions before the walk is also one of a longer list
+-- A refusal of the questions before the walk is also one of a longer list.
 pub select-first : (t : List ℕ) (byte j n : ℕ) (xs : List ℕ) → 1 ≤ n → n ≡ selectNumber t byte j → OneOf ((5 ∷ 6 ∷ 7 ∷ 11 ∷ 12 ∷ []) ++ xs) n
 select-first t byte j n xs low e =
     of-left (5 ∷ 6 ∷ 7 ∷ 11 ∷ 12 ∷ []) xs n (not-zero (5 ∷ 6 ∷ 7 ∷ 11 ∷ 12 ∷ []) n low (rw e (select-one t byte j)))
 
 module _ (t : List ℕ) (byte j : ℕ) where
-  -- refused before the walk or in it, or a place of the text
+  -- Refused before the walk or in it, or a place of the text.
   pub data FindOutcome (s : Said) : Type 0 where
     asked : 0 < selectNumber t byte j → s ≡ refused (selectNumber t byte j) → FindOutcome s
     broken : s ≡ refused 14 → FindOutcome s
@@ -57,13 +54,13 @@ module _ (t : List ℕ) (byte j : ℕ) where
           let below = tallies.place-below t (sound v) byte j (select-passes t byte j (omega arith)) in
           placed (ap (λ (x : Said). x .number) e) (rw (ap (λ (x : Said). x .value) e) below)
 
-  -- a returned place is a place of the text
+  -- A returned place is a place of the text.
   pub outcome-below : (s : Said) → s .number ≡ 0 → FindOutcome s → s .value < at.textLength t
   outcome-below s z (asked low is) = absurd (let y : s .number ≡ selectNumber t byte j = ap (λ (x : Said). x .number) is in omega arith)
   outcome-below s z (broken is) = absurd (let y : s .number ≡ 14 = ap (λ (x : Said). x .number) is in omega arith)
   outcome-below s z (placed y low) = low
 
-  -- a refusal is 5, 6, 7, 11, 12 or 14
+  -- A refusal is 5, 6, 7, 11, 12 or 14.
   pub outcome-numbers : (n : ℕ) → 1 ≤ n → FindOutcome (refused n) → OneOf (5 ∷ 6 ∷ 7 ∷ 11 ∷ 12 ∷ 14 ∷ []) n
   outcome-numbers n l (asked low is) = select-first t byte j n (14 ∷ []) l (ap (λ (s : Said). s .number) is)
   outcome-numbers n l (broken is) = of-right (5 ∷ 6 ∷ 7 ∷ 11 ∷ 12 ∷ []) (14 ∷ []) n (inl (ap (λ (s : Said). s .number) is))

@@ -7,9 +7,9 @@ use contract.Lifetimes.{Lfts}
 use denote.Ref.{now}
 use lib.ListN.{length}
 use lib.Dec.{leb}
-use Rattle.text.specs.Lists.{sameList}
-use Rattle.format.specs.Verdict.{readable, verdict}
-use Rattle.format.specs.Said.{Said}
+use Rattle.text.specs.Text.{sameList}
+use Rattle.format.specs.TreeReading.{readable, verdict}
+use Rattle.format.specs.Answers.{Said}
 use Rattle.format.specs.SaidLaws.{unless-number}
 use Rattle.ask_guide.specs.declared.Size.the-variants as size
 use Rattle.ask_guide.specs.Guides.{guideBytes, guideWords, guideNumber, sizeSays, makeNumber, makeSays}
@@ -19,7 +19,7 @@ use Rattle.theorems.proofs.RefusalNumbers.{OneOf, asks-one, not-zero, r
 use Rattle.ask_guide.proofs.guide_words.Met as guide-words-met
 use Rattle.build_guide.proofs.make_guide.Met as make-guide-met
 use Rattle.build_guide.proofs.check_guide.Met as check-guide-met
--- what the contracts allow: `GuideWords κs tree r`, `MakeGuide κs tree table after r`, which leaves the table as `after`, `CheckGuide κs tree guide r`
+-- What the contracts allow: `GuideWords κs tree r`, `MakeGuide κs tree table after r`, which leaves the table as `after`, `CheckGuide κs tree guide r`.
 pub use Rattle.ask_guide.proofs.Demands.{GuideWords}
 pub use Rattle.build_guide.proofs.Demands.{MakeGuide, CheckGuide}
 

@@ -9,7 +9,7 @@ use Rattle.theorems.proofs.OutsideCall.{Call, Lent, call}
 use Rattle.theorems.proofs.RefusalNumbers.{OneOf, readable-one}
 use Rattle.ask_facts.proofs.info.Met as info-met
 use Rattle.ask_facts.proofs.version.Met as version-met
--- what the contracts allow: `Info κs tree figures after r`, which leaves the figures as `after`, and `Version`
+-- What the contracts allow: `Info κs tree figures after r`, which leaves the figures as `after`, and `Version`.
 pub use Rattle.ask_facts.proofs.Demands.{Info, Version}
 
 abbrev pub info-call : Call

@@ -8,12 +8,11 @@ use Prim.Native.Nat.{ℕ}
 use contract.Lifetimes.{Lfts}
 use denote.Ref.{now}
 use Rattle.format.specs.Layout as at
-use Rattle.format.specs.Fits.{textOf}
-use Rattle.format.specs.Verdict.{readable, verdict}
+use Rattle.format.specs.TreeReading.{textOf, readable, verdict}
 use Rattle.format.specs.VerdictLaws.{accepted-readable}
-use Rattle.format.specs.CountSays.{isCounted}
+use Rattle.format.specs.Answers.{isCounted}
 use Rattle.keys.specs.Keys.{rangesOk}
-use Rattle.query_row_filter.specs.AllowedOutcome.{queryRefusal, newlineRefusal}
+use Rattle.query_row_filter.specs.AllowedRows.{queryRefusal, newlineRefusal}
 use Rattle.ask_worn_keys.proofs.Demands.{refusal-is}
 use Rattle.ask_worn_keys.proofs.Demands as worn-keys
 use Rattle.query_row_filter.specs.declared.NextRowAnswer.the-variants as shown
@@ -24,7 +23,7 @@ use Rattle.theorems.proofs.OutsideCall.{Call, Lent, call}
 use Rattle.theorems.proofs.RefusalNumbers.{OneOf, asks-one, not-zero, of-left, of-right, readable-one, then-one}
 use Rattle.ask_worn_keys.proofs.next_match.Met as next-match-met
 use Rattle.ask_worn_keys.proofs.show.Met as show-met
--- what the contract of `next_match` allows: `NextMatch κs tree ranges mark r`; the contract of `show` is `Moved`
+-- What the contract of `next_match` allows: `NextMatch κs tree ranges mark r`; the contract of `show` is `Moved`.
 pub use Rattle.theorems.specs.CallContracts.{NextMatch}
 pub use Rattle.ask_worn_keys.specs.MatchAnswer.{Moved}
 
@@ -36,7 +35,7 @@ show-call = call show-function show-met.met (λ 𝓤 H A mem run κs a. (tt, ref
 
 -- For any bytes.
 
--- the numbers that the questions before the walk can give
+-- The numbers that the questions before the walk can give.
 match-one : (t ranges : List ℕ) → OneOf (5 ∷ 6 ∷ 7 ∷ 19 ∷ 11 ∷ 0 ∷ []) (queryRefusal t 19 (rangesOk ranges))
 unfolding queryRefusal newlineRefusal
 match-one t ranges =
@@ -56,7 +55,7 @@ module _ (t : Lent) (v : verdict (now t) ≡ 0) where
   pass : readable (now t) ≡ 0
   pass = accepted-readable (now t) v
 
-  -- questions 19 and 11 let the search for a match through
+  -- Questions 19 and 11 let the search for a match through.
   match-through : (ranges : List ℕ) → rangesOk ranges ≡ true → Among 10 (at.settings (now t) .counted) → queryRefusal (now t) 19 (rangesOk ranges) ≡ 0
   match-through ranges ok k = worn-keys.match-through (now t) ranges pass ok (among-counted (now t) 10 k)
 

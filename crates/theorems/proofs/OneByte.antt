@@ -12,7 +12,7 @@ use Rattle.text.specs.CountLaws.{place-nth, one, count-start, count-add, count-
 use Rattle.text.specs.ListLaws.{lt-or-ge}
 use Rattle.text.specs.TextLaws.{stretch-ext}
 
--- the texts have the same length and differ at place d, and nowhere else
+-- The texts have the same length and differ at place d, and nowhere else.
 pub record OneByte (T U : List ℕ) (d : ℕ) : Type 0 where
   pub same-length : length T ≡ length U
   pub within : d < length T
@@ -36,7 +36,7 @@ one-small c x = go (eqb c x)
     go false = omega arith
 
 module _ (T U : List ℕ) (d : ℕ) (k : OneByte T U d) (c : ℕ) where
-  -- up to the place the texts are the same
+  -- Up to the place the texts are the same.
   same-before : (i : ℕ) → i ≤ d → stretch T 0 i ≡ stretch U 0 i
   same-before i h =
       stretch-ext T U 0 0 i (omega (arith, k .within)) (omega (arith, k .within, k .same-length))
@@ -48,7 +48,7 @@ module _ (T U : List ℕ) (d : ℕ) (k : OneByte T U d) (c : ℕ) where
       stretch-ext T U (d + 1) (d + 1) x h (omega (arith, k .same-length))
       (λ y l. k .elsewhere (d + 1 + y) (omega arith) (λ e. omega arith))
 
-  -- the counts in the first i bytes, the places below i, are equal for i up to d
+  -- The counts in the first i bytes, the places below i, are equal for i up to d.
   pub count-before : (i : ℕ) → i ≤ d → countIn c (take i T) ≡ countIn c (take i U)
   count-before i h = sym (count-start c T i) ∙ ap (countIn c) (same-before i h) ∙ count-start c U i
 
@@ -73,7 +73,7 @@ module _ (T U : List ℕ) (d : ℕ) (k : OneByte T U d) (c : ℕ) where
           let f : 0 + (d + 1) ≡ d + 1 = omega arith in
           omega (arith, count-start c X (d + 1 + x), rw f at (count-add c X 0 (d + 1) x), rw e at (count-next c X 0 d (omega arith)))
 
-  -- the counts in the first i bytes are at most 1 apart
+  -- The counts in the first i bytes are at most 1 apart.
   pub count-near : (i : ℕ) → i ≤ length T → (countIn c (take i T) ≤ countIn c (take i U) + 1) × (countIn c (take i U) ≤ countIn c (take i T) + 1)
   count-near i h = go (lt-or-ge d i)
     where
@@ -92,7 +92,7 @@ module _ (T U : List ℕ) (d : ℕ) (k : OneByte T U d) (c : ℕ) where
     rank = omega (arith, h .rank, ap (countIn c) (same-before o (omega arith)));
   }
 
-  -- if the j-th occurrence in T is before d, U has a j-th occurrence, and at the same place
+  -- If the j-th occurrence in T is before d, U has a j-th occurrence, and at the same place.
   pub place-same : (j : ℕ) → 1 ≤ j → j ≤ countIn c T → placeOf c j T < d → (j ≤ countIn c U) × (placeOf c j U ≡ placeOf c j T)
   place-same j low high before =
       let h = nth-same j (placeOf c j T) before (place-nth c j T low high) in

@@ -12,19 +12,17 @@ use denote.Ref.{now, RefT}
 use lib.ListN.{length}
 use lib.Dec.{ltb}
 use Rattle.text.specs.ListLaws.{lt-or-ge}
-use Rattle.format.specs.Said.{Said, unless}
+use Rattle.format.specs.Answers.{Said, unless, byteSays}
 use Rattle.format.specs.Layout as at
-use Rattle.format.specs.Fits.{linksOk, textOf}
+use Rattle.format.specs.TreeReading.{linksOk, textOf, readable}
 use Rattle.format.specs.FittingText.{fits}
-use Rattle.format.specs.Verdict.{readable}
 use Rattle.format.specs.VerdictLaws.{accepted-readable, accepted-links}
-use Rattle.format.specs.ReadSays.{byteSays}
 use Rattle.theory_paths.specs.PlaceBytes.{byte-broken}
 use Rattle.theory_accepted.specs.AcceptedTrees.{one-text}
 use Rattle.ask_order.specs.declared.Compared.{Compared}
 use Rattle.ask_order.specs.declared.Compared.the-variants as compared
 use Rattle.ask_order.proofs.Demands as orders
-use Rattle.ask_order.specs.Order.{Standing, before, same, after, stands, byLength, comparedFrom, orderSays}
+use Rattle.ask_order.specs.OrderAnswers.{Standing, before, same, after, stands, byLength, comparedFrom, orderSays}
 use Rattle.ask_order.specs.TextOrder.{standing, shared, outcome, firstOf}
 use Rattle.ask_order.specs.OrderLaws.{clash, flip, Upto, shared-itself}
 use Rattle.ask_order.proofs.HandLaws.{refused-low}
@@ -34,10 +32,10 @@ use Rattle.theorems.proofs.OutsideCall.{Call, Lent, call}
 use Rattle.theorems.proofs.RefusalNumbers.{OneOf, not-zero, of-left, of-right, readable-one}
 use Rattle.ask_order.proofs.compare.Met as compare-met
 use Rattle.ask_order.proofs.first.Met as first-met
--- what the contracts allow: `Compare κs one other r`, and `First`
+-- What the contracts allow: `Compare κs one other r`, and `First`.
 pub use Rattle.ask_order.proofs.Demands.{Compare, First}
--- the laws of the order of texts: at or before is a total order, the same only of equal texts; it goes by the first byte that differs, or by the
--- shorter end
+-- The laws of the order of texts: at or before is a total order, the same only of equal texts; it goes by the first byte that differs, or by the
+-- shorter end.
 pub use Rattle.ask_order.specs.OrderLaws.{text-order, standing-flip, standing-refl, standing-same, standing-trans}
 pub use Rattle.ask_order.specs.OrderLaws.{shared-is, shared-flip, stands-by, empty-first}
 
@@ -100,7 +98,7 @@ order-numbers κs t u n a =
 
 -- Trees that the check accepts.
 
--- the check accepts the tree t, and T is the text that fits it
+-- The check accepts the tree t, and T is the text that fits it.
 pub record Holds (t : Lent) (T : List ℕ) : Type 0 where
   pub lifetime : Lfts 1
   pub check : Check lifetime t 0
@@ -116,12 +114,12 @@ module _ (t : Lent) (T : List ℕ) (a : Holds t T) where
   text-is : textOf (now t) ≡ T
   text-is = sym (one-text (now t) passes links T (a .fitting))
 
--- the figures that `first` leaves behind its references
+-- The figures that `first` leaves behind its references.
 abbrev pub figuresIn : RefT ℕ → RefT ℕ → RefT ℕ → Said
 figuresIn number order length = record { number = now number; value = now order; entered = now length }
 
 module _ (t u : Lent) (T U : List ℕ) (a : Holds t T) (b : Holds u U) where
-  -- the lexicographic order of the texts, and the length of their longest common prefix
+  -- The lexicographic order of the texts, and the length of their longest common prefix.
   pub compare-of : (κs : Lfts 2) (r : Compared) → Compare κs t u r → r ≡ outcome (standing T U) (shared T U)
   compare-of κs r c = rw (text-is t T a, text-is u U b) at (orders.compare-texts t u (passes t T a) (passes u U b) (links t T a) (links u U b) κs r c)
 
@@ -179,9 +177,9 @@ module _ (t u : Lent) (T U : List ℕ) (a : Holds t T) (b : Holds u U) (κs : Lf
   of-upto : Upto T U → AtOrBefore r
   of-upto h = rw (compare-of t u T U a b κs r c) (not-after (standing T U) (shared T U) h)
 
--- what compare answers of any accepted trees t, u and v with the texts T, U and W
+-- What compare answers of any accepted trees t, u and v with the texts T, U and W.
 pub record TotalOrderOfTrees : Type 0 where
-  -- trees of one text are the same, and only these
+  -- Trees of one text are the same, and only these.
   pub reflexive : (t u : Lent) (T : List ℕ) → Holds t T → Holds u T → (κs : Lfts 2) (r : Compared) → Compare κs t u r → r ≡ compared.Same (length T)
   pub antisymmetric : (t u : Lent) (T U : List ℕ) → Holds t T → Holds u U → (κs κs′ : Lfts 2) (r r′ : Compared) → Compare κs t u r → Compare κs′ u t r′
       → AtOrBefore r → AtOrBefore r′ → T ≡ U
@@ -207,7 +205,7 @@ tree-order = record {
     either t u T U a b κs κs′ r r′ c c′ (inl h) = inl (of-upto t u T U a b κs r c h)
     either t u T U a b κs κs′ r r′ c c′ (inr h) = inr (of-upto u t U T b a κs′ r′ c′ h)
 
--- the other way round before becomes after, and the shared beginning stays
+-- The other way round before becomes after, and the shared beginning stays.
 pub compare-flip : (t u : Lent) (T U : List ℕ) → Holds t T → Holds u U → (κs κs′ : Lfts 2) (r r′ : Compared) → Compare κs t u r → Compare κs′ u t r′
     → (r ≡ outcome (standing T U) (shared T U)) × (r′ ≡ outcome (flip (standing T U)) (shared T U))
 compare-flip t u T U a b κs κs′ r r′ c c′ =

@@ -12,12 +12,9 @@ use lib.Dec.{leb}
 use borrow.Author.Tests.{ne-eqb, leb-true}
 use Rattle.text.specs.ListLaws.{and-left, and-right}
 use Rattle.format.specs.Layout as at
-use Rattle.format.specs.Path.{Path, pathOf}
-use Rattle.format.specs.Fits.{linksOk, textOf}
-use Rattle.format.specs.Verdict.{readable, verdict, asks}
+use Rattle.format.specs.TreeReading.{Path, pathOf, linksOk, textOf, readable, verdict, asks}
 use Rattle.format.specs.VerdictLaws.{accepted-readable, accepted-links}
-use Rattle.format.specs.Said.{Said}
-use Rattle.format.specs.ReadSays.{pathsHold}
+use Rattle.format.specs.Answers.{Said, pathsHold}
 use Rattle.format.specs.LayoutLaws.{readable-facts}
 use Rattle.format.specs.SaidLaws.{unless-passes, unless-number, next-passes, asks-pass}
 use Rattle.theory_paths.specs.Demands as paths
@@ -32,7 +29,7 @@ use Rattle.theorems.specs.PublicFunctions.{places-function}
 use Rattle.theorems.proofs.OutsideCall.{Call, Lent, call}
 use Rattle.theorems.proofs.RefusalNumbers.{OneOf, asks-one, not-zero, readable-one, then-one}
 use Rattle.ask_patterns.proofs.places.Met as places-met
--- what the contract allows, where the table is left as `after`: `Places κs tree pattern table after r`
+-- What the contract allows, where the table is left as `after`: `Places κs tree pattern table after r`.
 pub use Rattle.theorems.specs.CallContracts.{Places}
 
 abbrev pub places-call : Call
@@ -40,7 +37,7 @@ places-call = call places-function places-met.met (λ 𝓤 H A mem run κs a. (t
 
 -- For any bytes.
 
--- what is known where no question refuses
+-- What is known where no question refuses.
 record Passed (t P : List ℕ) (room : ℕ) : Type 0 where
   pass : readable t ≡ 0
   low : 1 ≤ length P
@@ -63,7 +60,7 @@ passed t P room h =
       fits = leb-true (length (placesOf t P)) room (b .1 .1 .0);
     }
 
--- the numbers that the questions can give
+-- The numbers that the questions can give.
 places-one : (t P : List ℕ) (room : ℕ) → OneOf (5 ∷ 6 ∷ 7 ∷ 16 ∷ 14 ∷ 17 ∷ 0 ∷ []) (placesNumber t P room)
 unfolding placesNumber
 places-one t P room =
@@ -95,7 +92,7 @@ module _ (κs : Lfts 3) (t P table after : Lent) where
       )
 
   module _ (n : ℕ) (a : Places κs t P table after (places.Refused n)) where
-    -- the number is the definition's
+    -- The number is the definition's.
     places-says : n ≡ placesNumber (now t) (now P) (length (now table))
     unfolding placesSays
     places-says = ap (λ (s : Said). s .number) (a .0 .says) ∙ unless-number (placesNumber (now t) (now P) (length (now table))) _ refl

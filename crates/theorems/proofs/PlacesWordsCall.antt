@@ -8,15 +8,15 @@ use contract.Lifetimes.{Lfts}
 use denote.Ref.{now}
 use lib.Dec.{leb}
 use Rattle.format.specs.Layout as at
-use Rattle.format.specs.Verdict.{readable}
-use Rattle.format.specs.Said.{Said}
+use Rattle.format.specs.TreeReading.{readable}
+use Rattle.format.specs.Answers.{Said}
 use Rattle.ask_patterns.specs.Places.{maxPattern, roomOf, roomSays}
 use Rattle.ask_patterns.specs.declared.PlacesRoom.the-variants as places-room
 use Rattle.theorems.specs.PublicFunctions.{places-words-function}
 use Rattle.theorems.proofs.OutsideCall.{Call, Lent, call}
 use Rattle.theorems.proofs.RefusalNumbers.{OneOf, asks-one, not-zero, readable-one, unless-one}
 use Rattle.ask_patterns.proofs.places_words.Met as places-words-met
--- what the contract allows: `PlacesWords κs tree length r`
+-- What the contract allows: `PlacesWords κs tree length r`.
 pub use Rattle.ask_patterns.proofs.Demands.{PlacesWords}
 
 abbrev pub places-words-call : Call

@@ -7,13 +7,12 @@ use Prim.Native.Nat.{ℕ}
 use contract.Lifetimes.{Lfts}
 use denote.Ref.{now}
 use Rattle.format.specs.Layout as at
-use Rattle.format.specs.Fits.{textOf}
-use Rattle.format.specs.Verdict.{readable, verdict}
+use Rattle.format.specs.TreeReading.{textOf, readable, verdict}
 use Rattle.format.specs.VerdictLaws.{accepted-readable}
-use Rattle.format.specs.CountSays.{isCounted}
+use Rattle.format.specs.Answers.{isCounted}
 use Rattle.ask_patterns.specs.Places.{patternOk}
 use Rattle.query_row_filter.specs.declared.NextRowAnswer.the-variants as answer
-use Rattle.query_row_filter.specs.AllowedOutcome.{newlineRefusal, queryRefusal}
+use Rattle.query_row_filter.specs.AllowedRows.{newlineRefusal, queryRefusal}
 use Rattle.ask_guide.specs.Guides.{guideNumber}
 use Rattle.ask_guide.proofs.GuideList.{guide-verdict}
 use Rattle.query_prefix.proofs.Demands.{PrefixAnswer}
@@ -25,7 +24,7 @@ use Rattle.theorems.proofs.OutsideCall.{Call, Lent, call}
 use Rattle.theorems.proofs.RefusalNumbers.{OneOf, asks-one, not-zero, of-left, of-right, readable-one, then-one}
 use Rattle.query_prefix.proofs.next_row_with_prefix.Met as next-met
 use Rattle.query_prefix.proofs.next_row_with_prefix_guided.Met as guided-met
--- what the contracts allow: `NextRowWithPrefix κs tree prefix mark r`, `NextRowWithPrefixGuided κs tree guide prefix mark r`
+-- What the contracts allow: `NextRowWithPrefix κs tree prefix mark r`, `NextRowWithPrefixGuided κs tree guide prefix mark r`.
 pub use Rattle.theorems.specs.CallContracts.{NextRowWithPrefix}
 pub use Rattle.query_prefix.proofs.Demands.{NextRowWithPrefixGuided}
 
@@ -37,14 +36,14 @@ next-row-with-prefix-guided-call = call next-row-with-prefix-guided-function gui
 
 -- For any bytes.
 
--- the numbers that the questions before the walk can give
+-- The numbers that the questions before the walk can give.
 prefix-one : (t prefix : List ℕ) → OneOf (5 ∷ 6 ∷ 7 ∷ 16 ∷ 11 ∷ 0 ∷ []) (queryRefusal t 16 (patternOk prefix))
 unfolding queryRefusal newlineRefusal
 prefix-one t prefix =
     then-one (5 ∷ 6 ∷ 7 ∷ []) (16 ∷ 11 ∷ 0 ∷ []) (readable t) _ (readable-one t)
     (asks-one ((16, patternOk prefix) ∷ (11, isCounted t 10) ∷ []))
 
--- a refusal is one of these, or 14
+-- A refusal is one of these, or 14.
 refusal-one : (t : List ℕ) (ok : ℕ) (sound : ok ≡ 0 → verdict t ≡ 0) (prefix : List ℕ) (mark n : ℕ)
     → PrefixAnswer t ok prefix mark (answer.Refused n) → OneOf (5 ∷ 6 ∷ 7 ∷ 16 ∷ 11 ∷ 14 ∷ []) n
 refusal-one t ok sound prefix mark n a = go (query-prefix.prefix-refusal t ok sound prefix mark n a)

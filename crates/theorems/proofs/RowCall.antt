@@ -7,15 +7,12 @@ use native.Mathlib.Omega.{arith}
 use contract.Lifetimes.{Lfts}
 use denote.Ref.{now}
 use lib.ListN.{length, drop}
-use Rattle.text.specs.Text.{stretch}
-use Rattle.text.specs.Rows.{rowOf}
-use Rattle.format.specs.Said.{NeverZero, replied}
-use Rattle.format.specs.Settings.{Settings}
+use Rattle.text.specs.Text.{stretch, rowOf}
+use Rattle.format.specs.Answers.{NeverZero, replied, rowMost, rowNumber}
+use Rattle.format.specs.Layout.{Settings}
 use Rattle.format.specs.Layout as at
-use Rattle.format.specs.Fits.{textOf}
-use Rattle.format.specs.Verdict.{verdict}
+use Rattle.format.specs.TreeReading.{textOf, verdict}
 use Rattle.format.specs.VerdictLaws.{accepted-readable}
-use Rattle.format.specs.RowSays.{rowMost, rowNumber}
 use Rattle.format.specs.RowSaysLaws.{RowSays}
 use Rattle.theory_counts.specs.RowsOfText.{row-lets, row-twelve, row-eleven}
 use Rattle.ask_rows.specs.declared.RowCopied.{RowCopied}
@@ -86,7 +83,7 @@ module _ (t : Lent) (v : verdict (now t) ≡ 0) where
         (row-is r (length (rowOf T q)) (a .numbered) (h .0) (h .1), rw (h .1) at (h .2));
   }
 
-  -- refused before the walk
+  -- Refused before the walk.
   row-asked : (κs : Lfts 2) (q : ℕ) (buffer after : Lent) (r : RowCopied) (n : ℕ) → Row κs t q buffer after r
       → rowNumber (now t) q ≡ suc n → (r ≡ rows.Refused (suc n)) × (now after ≡ now buffer)
   row-asked κs q buffer after r n a e = let h = a .says .asked (rw e (omega arith)) in (row-no r n (h .0 ∙ e), h .2)

@@ -11,22 +11,18 @@ use lib.Dec.{eqb}
 use borrow.Author.Tests.{eq-eqb, ne-eqb}
 use Rattle.text.specs.ListLaws.{lt-or-ge}
 use Rattle.format.specs.Layout as at
-use Rattle.format.specs.Path.{pathOf}
-use Rattle.format.specs.Verdict.{readable, ask}
-use Rattle.format.specs.Said.{Said}
-use Rattle.format.specs.ReadSays.{byteSays}
-use Rattle.format.specs.CountSays.{isCounted, numberOfByte}
-use Rattle.format.specs.FindSays.{total}
+use Rattle.format.specs.TreeReading.{pathOf, readable, ask}
+use Rattle.format.specs.Answers.{Said, byteSays, isCounted, numberOfByte, total}
 use Rattle.format.specs.SaidLaws.{unless-number}
 use Rattle.theory_paths.specs.PlaceBytes.{byte-path}
 use Rattle.ask_rows.specs.declared.RowCount.the-variants as row-count
-use Rattle.ask_rows.specs.RowLengths.{rowsNumber, lastOpen, rowsSays}
+use Rattle.ask_rows.specs.RowAnswers.{rowsNumber, lastOpen, rowsSays}
 use Rattle.theorems.specs.PublicFunctions.{row-count-function}
 use Rattle.theorems.proofs.ByteCall.{byteOf-one}
 use Rattle.theorems.proofs.OutsideCall.{Call, Lent, call}
 use Rattle.theorems.proofs.RefusalNumbers.{OneOf, not-zero, of-left, of-right, readable-one}
 use Rattle.ask_rows.proofs.row_count.Met as row-count-met
--- what the contract allows: `CountOf κs tree r`
+-- What the contract allows: `CountOf κs tree r`.
 pub use Rattle.ask_rows.proofs.Demands.{CountOf}
 
 abbrev pub row-count-call : Call

@@ -8,8 +8,8 @@ use denote.Ref.{now}
 use lib.ListN.{length, drop}
 use Rattle.text.specs.Text.{stretch}
 use Rattle.format.specs.Layout as at
-use Rattle.format.specs.Fits.{textOf}
-use Rattle.format.specs.RowSays.{rowMost}
+use Rattle.format.specs.TreeReading.{textOf}
+use Rattle.format.specs.Answers.{rowMost}
 use Rattle.ask_guide.specs.Guides.{guideNumber}
 use Rattle.ask_rows.specs.declared.RowCopied.the-variants as rows
 use Rattle.theorems.specs.PublicFunctions.{row-guided-function}
@@ -18,7 +18,7 @@ use Rattle.theorems.proofs.RefusalNumbers.{OneOf}
 use Rattle.theorems.proofs.RowOutcomes.{RowOutcome, Zeros, outcome-copied, row-outcome, row-outcome-leaves, row-outcome-numbers}
 use Rattle.theorems.proofs.RowOutcomes.{free-copied, free-short}
 use Rattle.ask_rows.proofs.row_guided.Met as row-guided-met
--- what the contract allows, where the buffer is left as `after`: `RowGuided κs tree guide q buffer after r`
+-- What the contract allows, where the buffer is left as `after`: `RowGuided κs tree guide q buffer after r`.
 pub use Rattle.ask_rows.proofs.Demands.{RowGuided}
 
 abbrev pub row-guided-call : Call

@@ -7,15 +7,15 @@ use native.Mathlib.Omega.{arith}
 use contract.Lifetimes.{Lfts}
 use denote.Ref.{now}
 use Rattle.text.specs.ListLaws.{lt-or-ge}
-use Rattle.format.specs.Verdict.{verdict}
-use Rattle.format.specs.RowSays.{rowMost, rowNumber}
+use Rattle.format.specs.TreeReading.{verdict}
+use Rattle.format.specs.Answers.{rowMost, rowNumber}
 use Rattle.ask_rows.specs.declared.RowLength.the-variants as row-length
 use Rattle.theorems.specs.PublicFunctions.{row-length-function}
 use Rattle.theorems.proofs.OutsideCall.{Call, Lent, call}
 use Rattle.theorems.proofs.RefusalNumbers.{OneOf, of-right}
 use Rattle.theorems.proofs.RowOutcomes.{row-before}
 use Rattle.ask_rows.proofs.row_length.Met as row-length-met
--- what the contract allows: `LengthOf κs tree q r`
+-- What the contract allows: `LengthOf κs tree q r`.
 pub use Rattle.ask_rows.proofs.Demands.{LengthOf}
 
 abbrev pub row-length-call : Call

@@ -10,18 +10,13 @@ use lib.ListN.{length, drop, replicate}
 use lib.Dec.{eqb}
 use lib.Seq.{drop-at}
 use borrow.Author.Tests.{lt-ltb}
-use Rattle.text.specs.Lists.{tabulate}
-use Rattle.text.specs.Text.{stretch}
+use Rattle.text.specs.Text.{tabulate, stretch, rowOf}
 use Rattle.text.specs.TextLaws.{length-stretch}
-use Rattle.text.specs.Rows.{rowOf}
 use Rattle.text.specs.ListLaws.{bool-cases, lt-or-ge}
 use Rattle.format.specs.Layout as at
-use Rattle.format.specs.Path.{Path, pathOf}
-use Rattle.format.specs.Fits.{textOf}
-use Rattle.format.specs.Verdict.{ask, readable}
-use Rattle.format.specs.Said.{Said, unless}
-use Rattle.format.specs.ReadSays.{byteSays, byteOf, pathsHold, copyNumber, copySays, copyLeaves}
-use Rattle.format.specs.RowSays.{rowMost, rowNumber, lastNumber, asksLast, RowStretch, RowBy}
+use Rattle.format.specs.TreeReading.{Path, pathOf, textOf, ask, readable}
+use Rattle.format.specs.Answers.{Said, unless, byteSays, byteOf, pathsHold, copyNumber, copySays, copyLeaves}
+use Rattle.format.specs.Answers.{rowMost, rowNumber, lastNumber, asksLast, RowStretch, RowBy}
 use Rattle.format.specs.RowSaysLaws.{asks-last, row-number-last, row-number-plain, row-readable}
 use Rattle.theory_paths.specs.OneText.{text-length}
 use Rattle.theory_paths.specs.PlaceBytes.{held-bytes}
@@ -30,7 +25,7 @@ use Rattle.ask_rows.proofs.RowAnswerLaws.{leaves-is}
 use Rattle.theorems.proofs.FindOutcomes.{select-first}
 use Rattle.theorems.proofs.RefusalNumbers.{OneOf, not-zero, of-more, of-right}
 
--- the numbers that its questions can give before it walks: find's, or where it reads the last byte 12 and 14
+-- The numbers that its questions can give before it walks: find's, or where it reads the last byte 12 and 14.
 module _ (t : List ℕ) where
   last-one : (q : ℕ) → asksLast t q ≡ true → OneOf (12 ∷ 14 ∷ 0 ∷ []) (lastNumber (byteSays t (at.textLength t - 1)))
   unfolding byteSays
@@ -106,7 +101,7 @@ abbrev pub Zeros : (most : ℕ) (buffer after : List ℕ) → Type 0
 Zeros most buffer after = (k : ℕ) × (k ≤ length buffer) × (k ≤ most) × (after ≡ replicate k 0 ++ drop k buffer)
 
 module _ (t : List ℕ) (q : ℕ) (buffer : List ℕ) where
-  -- refused before the walk, for want of room, or in the walk or the copy, or copied
+  -- Refused before the walk, for want of room, or in the walk or the copy, or copied.
   pub data RowOutcome (n size : ℕ) (after : List ℕ) : Type 0 where
     asked : 1 ≤ n → n ≡ rowNumber t q → after ≡ buffer → RowOutcome n size after
     short : n ≡ 13 → after ≡ buffer → RowOutcome n size after
@@ -117,7 +112,7 @@ module _ (t : List ℕ) (q : ℕ) (buffer : List ℕ) where
     stretch-copied : rowNumber t q ≡ 0 → (s : RowStretch t q buffer n size after) → CopyOutcome t (s .start) (s .len) buffer n size after
     stretch-copied z s = copy-outcome t (s .start) (s .len) buffer (row-readable t q z) (s .within) n size after (s .number-is) (s .size-is) (s .after-is)
 
-    -- if `ok` is not 0, every outcome other than 14 and a refusal before the walk is the copy of some part of the text
+    -- If `ok` is not 0, every outcome other than 14 and a refusal before the walk is the copy of some part of the text.
     free-stretch : (ok ≡ 0 → ⊥) → (n ≡ rowNumber t q → 0 < rowNumber t q → ⊥) → (n ≡ 14 → ⊥)
         → (s : RowStretch t q buffer n size after) × CopyOutcome t (s .start) (s .len) buffer n size after
     free-stretch refuses not-asked not-14 = go (lt-or-ge 0 (rowNumber t q))
@@ -131,7 +126,7 @@ module _ (t : List ℕ) (q : ℕ) (buffer : List ℕ) where
         go (inl low) = absurd (not-asked (a .asked low .0) low)
         go (inr passed) = either (omega arith) (a .free (omega arith) refuses)
 
-    -- the bytes copied are those that the paths give from some place on
+    -- The bytes copied are those that the paths give from some place on.
     pub free-copied : (ok ≡ 0 → ⊥) → n ≡ 0 → (p : ℕ) × (p + size ≤ at.textLength t) × (after ≡ stretch (textOf t) p size ++ drop size buffer)
     free-copied refuses z = let f = free-stretch refuses (λ e low. omega arith) (λ e. omega arith) in from (f .0) (f .1)
       where
@@ -180,7 +175,7 @@ module _ (t : List ℕ) (q : ℕ) (buffer : List ℕ) where
         go (inr z) (inr w) (inl r) = let h = a .short (omega arith) (omega arith) r in short (h .0) (h .2)
         go (inr z) (inr w) (inr r) = row-copied (omega arith) (omega arith) r
 
-  -- a row fits, and the bytes after it are unchanged
+  -- A row fits, and the bytes after it are unchanged.
   pub outcome-copied : (m : ℕ) (after : List ℕ) → RowOutcome 0 m after → (m ≤ length buffer) × (drop m after ≡ drop m buffer)
   outcome-copied m after (copied z fits rest) = (fits, rest)
   outcome-copied m after (short z same) = absurd (let y : ⊥ = omega arith in y)
@@ -188,7 +183,7 @@ module _ (t : List ℕ) (q : ℕ) (buffer : List ℕ) where
   outcome-copied m after (asked low z same) = absurd (let y : ⊥ = omega arith in y)
 
   module _ (n : ℕ) (after : List ℕ) (l : 1 ≤ n) where
-    -- a refusal is 5, 6, 7, 11, 12, 13 or 14
+    -- A refusal is 5, 6, 7, 11, 12, 13 or 14.
     pub row-outcome-numbers : RowOutcome n 0 after → OneOf (5 ∷ 6 ∷ 7 ∷ 11 ∷ 12 ∷ 13 ∷ 14 ∷ []) n
     row-outcome-numbers (asked low z same) = row-first t q n low z
     row-outcome-numbers (short z same) = of-right (5 ∷ 6 ∷ 7 ∷ 11 ∷ 12 ∷ []) (13 ∷ 14 ∷ []) n (inl z)

@@ -7,7 +7,7 @@ use contract.Lifetimes.{Lfts}
 use denote.Ref.{now}
 use lib.ListN.{length, take, drop}
 use Rattle.text.specs.Text.{stretch}
-use Rattle.format.specs.Settings.{Settings, given}
+use Rattle.format.specs.Layout.{Settings, given}
 use Rattle.format.specs.Layout as at
 use Rattle.format.specs.FittingText.{fits}
 use Rattle.build_by_search.specs.declared.Built.the-variants as built
@@ -31,7 +31,7 @@ RowsOf t w T =
     (κs : Lfts 2) (a : ℕ) (buffer after : Lent) (r : Copied) → ByColumns κs t w a buffer after r → a < length T / w → w ≤ length (now buffer)
     → (r ≡ copied.Bytes w 0) × (now after ≡ stretch T (a * w) w ++ drop w (now buffer))
 
--- every question is answered from the rearranged text
+-- Every question is answered from the rearranged text.
 module _ (t : Lent) (S : Settings) (w : ℕ) (T : List ℕ) (ok : widthOk w (length T) ≡ true) where
   rows-of : Answers t S (columns w T) → RowsOf t w T
   rows-of answers κs a buffer after r c low room =

@@ -9,11 +9,9 @@ use lib.ListN.{length, take, drop}
 use borrow.Author.Tests.{ne-eqb}
 use Rattle.text.specs.declared.TextPlace.{TextPlace}
 use Rattle.format.specs.Layout as at
-use Rattle.format.specs.Fits.{textOf}
-use Rattle.format.specs.Verdict.{verdict}
+use Rattle.format.specs.TreeReading.{textOf, verdict}
 use Rattle.format.specs.VerdictLaws.{accepted-readable, accepted-links}
-use Rattle.format.specs.Said.{Said}
-use Rattle.format.specs.ReadSays.{byteSays, runSays}
+use Rattle.format.specs.Answers.{Said, byteSays, runSays}
 use Rattle.theory_paths.specs.Demands as paths
 use Rattle.ask_access.proofs.Demands as access
 use Rattle.ask_access.specs.declared.Answer.the-variants as answer
@@ -28,10 +26,10 @@ use Rattle.theorems.proofs.RefusalNumbers.{OneOf, not-zero}
 use Rattle.ask_access.proofs.run.Met as run-met
 use Rattle.ask_access.proofs.run_part.Met as run-part-met
 use Rattle.ask_access.proofs.run_part.Reads as run-part-reads
--- what the contract of `run` allows: `Run κs tree place part`
+-- What the contract of `run` allows: `Run κs tree place part`.
 pub use Rattle.theorems.specs.CallContracts.{Run}
 
--- what the contract of `run_part` allows
+-- What the contract of `run_part` allows.
 abbrev pub RunPart : (κs : Lfts 1) → Lent → TextPlace → Ran → Type 0
 RunPart κs t p r = run-part-reads.Post κs (t, (p, tt)) r (t, (p, tt))
 

@@ -12,10 +12,9 @@ use lib.Seq.{drop-at}
 use borrow.Author.Tests.{eq-eqb, ne-eqb, leb-true, le-leb, lt-leb}
 use Rattle.text.specs.declared.TextPlace.{TextPlace}
 use Rattle.format.specs.Layout as at
-use Rattle.format.specs.Fits.{textOf}
-use Rattle.format.specs.Verdict.{readable, verdict, asks}
+use Rattle.format.specs.TreeReading.{textOf, readable, verdict, asks}
 use Rattle.format.specs.VerdictLaws.{accepted-readable}
-use Rattle.format.specs.ReadSays.{spanBlocks, spanReached, leavesSpan, spanBytes, spanNumber, spanSays, spanLeaves, asksSpan}
+use Rattle.format.specs.Answers.{spanBlocks, spanReached, leavesSpan, spanBytes, spanNumber, spanSays, spanLeaves, asksSpan}
 use Rattle.format.specs.SaidLaws.{next-passes, asks-pass}
 use Rattle.theory_edges.specs.Demands as margins
 use Rattle.ask_access.proofs.Demands as access
@@ -28,7 +27,7 @@ use Rattle.theorems.proofs.BlocksEntered.{blocks-of-span}
 use Rattle.theorems.proofs.OutsideCall.{Call, Lent, call}
 use Rattle.theorems.proofs.RefusalNumbers.{OneOf, asks-one, not-zero, readable-one, says-answer, says-refused, then-one}
 use Rattle.ask_access.proofs.span.Met as span-met
--- what the contract allows, where the buffer is left as `after`: `Span κs tree place length buffer after r`
+-- What the contract allows, where the buffer is left as `after`: `Span κs tree place length buffer after r`.
 pub use Rattle.theorems.specs.CallContracts.{Span}
 
 abbrev pub span-call : Call
@@ -36,7 +35,7 @@ span-call = call span-function span-met.met (λ 𝓤 H A mem run κs a. (tt, ref
 
 -- For any bytes.
 
--- the numbers that its questions can give
+-- The numbers that its questions can give.
 span-one : (t : List ℕ) (p len room : ℕ) → OneOf (5 ∷ 6 ∷ 7 ∷ 10 ∷ 13 ∷ 14 ∷ 0 ∷ []) (spanNumber t p len room)
 unfolding spanNumber asksSpan
 span-one t p len room =
@@ -76,7 +75,7 @@ module _ (κs : Lfts 2) (t : Lent) (p : TextPlace) (len : ℕ) (buffer after : L
       )
 
   module _ (n : ℕ) (a : Span κs t p len buffer after (copied.Refused n)) where
-    -- the number is the definition's
+    -- The number is the definition's.
     span-says : n ≡ spanNumber (now t) (p .0) len (length (now buffer))
     unfolding spanSays
     span-says = says-refused n _ len _ (a .0 .numbered) (a .0 .says)
@@ -86,7 +85,7 @@ module _ (κs : Lfts 2) (t : Lent) (p : TextPlace) (len : ℕ) (buffer after : L
     span-numbers =
         not-zero (5 ∷ 6 ∷ 7 ∷ 10 ∷ 13 ∷ 14 ∷ []) n (a .0 .numbered) (rw span-says (span-one (now t) (p .0) len (length (now buffer))))
 
-    -- what is left in the buffer, by the number
+    -- What is left in the buffer, by the number.
     span-left : now after ≡ cond (eqb n 14) (replicate len 0 ++ drop len (now buffer)) (now buffer)
     unfolding spanLeaves leavesSpan
     span-left = a .1 ∙ rw (← span-says, ne-eqb n 0 (λ e. omega (arith, a .0 .numbered)))
@@ -118,7 +117,7 @@ module _ (t : Lent) (v : verdict (now t) ≡ 0) where
         (spanBlocks (now t) (p .0) len, blocks-of-span (now t) pass (p .0) len (margins.span-reached (now t) v (p .0) len in-text), w .0, w .2);
   }
 
-  -- a refused span answers its number, and leaves the buffer
+  -- A refused span answers its number, and leaves the buffer.
   refuses : (κs : Lfts 2) (p : TextPlace) (len : ℕ) (buffer after : Lent) (r : Copied) (n : ℕ) → Span κs t p len buffer after r
       → spanNumber (now t) (p .0) len (length (now buffer)) ≡ suc n → (suc n ≡ 14 → ⊥) → (r ≡ copied.Refused (suc n)) × (now after ≡ now buffer)
   unfolding spanSays spanLeaves leavesSpan

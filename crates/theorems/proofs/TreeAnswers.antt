@@ -3,8 +3,7 @@
 use mathlib.Core.Path.{_≡_}
 use denote.Ref.{now}
 use Rattle.format.specs.Layout as at
-use Rattle.format.specs.Fits.{textOf}
-use Rattle.format.specs.Verdict.{verdict}
+use Rattle.format.specs.TreeReading.{textOf, verdict}
 use Rattle.theorems.specs.Promises.{Answers, Refuses}
 use Rattle.theorems.proofs.OutsideCall.{Lent}
 use Rattle.theorems.proofs.ByteCall

@@ -10,10 +10,9 @@ use denote.Ref.{now}
 use lib.ListN.{length, take}
 use lib.Dec.{leb, eqb}
 use Rattle.text.specs.ListLaws.{bool-cases}
-use Rattle.format.specs.Said.{replied}
+use Rattle.format.specs.Answers.{replied}
 use Rattle.format.specs.Layout as at
-use Rattle.format.specs.Fits.{textOf}
-use Rattle.format.specs.Verdict.{ask, readable, verdict}
+use Rattle.format.specs.TreeReading.{textOf, ask, readable, verdict}
 use Rattle.theory_without_edges.specs.WithoutEdges.{withoutEdges}
 use Rattle.build_without_edges.specs.declared.WithoutEdgesAnswer.{WithoutEdgesAnswer}
 use Rattle.build_without_edges.specs.declared.WithoutEdgesAnswer.the-variants.{Size}

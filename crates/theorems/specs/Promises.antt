@@ -11,14 +11,12 @@ use contract.Lifetimes.{Lfts}
 use denote.Ref.{now}
 use lib.ListN.{length, getD, take, drop}
 use lib.Dec.{eqb}
-use Rattle.text.specs.Text.{stretch, countIn, placeOf}
-use Rattle.text.specs.Rows.{rowOf, rowsOf}
-use Rattle.format.specs.Settings.{Settings, lengthOk, sizesOk, countedOk, given}
+use Rattle.text.specs.Text.{stretch, countIn, placeOf, rowOf, rowsOf}
+use Rattle.format.specs.Layout.{Settings, lengthOk, sizesOk, countedOk, given}
 use Rattle.format.specs.Layout as at
-use Rattle.format.specs.Path.{Path, pathOf}
+use Rattle.format.specs.TreeReading.{Path, pathOf, Short, shortOf}
 use Rattle.format.specs.FittingText.{fits}
 use Rattle.format.specs.Blocks.{treeOf}
-use Rattle.format.specs.Short.{Short, shortOf}
 use Rattle.format.specs.ReadSaysLaws.{ShortSpan}
 use Rattle.theory_paths.specs.Visits.{pointers}
 use Rattle.theory_accepted.specs.AcceptedTrees.{StandsFor}
@@ -30,7 +28,7 @@ use Rattle.keys.specs.Matches.{nextMatch, shownFor}
 use Rattle.prefix_match.specs.PrefixRowNumbers.{nextWithPrefix}
 use Rattle.columns.specs.Columns.{widthOk, uncolumns}
 use Rattle.sha256.specs.Sha256.{sha256}
-use Rattle.build_by_scan.specs.ScannedSays.{windowsOf}
+use Rattle.build_by_scan.specs.ScanAnswers.{windowsOf}
 use Rattle.ask_patterns.specs.Places.{maxPattern, placesIn, patternOk}
 use Rattle.ask_patterns.specs.PlacesLaws.{AllPlaces}
 use Rattle.ask_access.specs.declared.Answer.the-variants as answer

@@ -4,11 +4,10 @@ use mathlib.Core.Bool.{true}
 use mathlib.Core.Path.{_≡_, sym}
 use mathlib.Core.Logic.{_↔_}
 use Prim.Native.Nat.{ℕ}
-use Rattle.format.specs.Settings.{Settings}
+use Rattle.format.specs.Layout.{Settings}
 use Rattle.format.specs.Blocks.{treeOf}
-use Rattle.format.specs.Fits.{linksOk, textOf, countsTrue, edgesTrue}
+use Rattle.format.specs.TreeReading.{linksOk, textOf, countsTrue, edgesTrue, readable, verdict}
 use Rattle.format.specs.FittingText.{fits}
-use Rattle.format.specs.Verdict.{readable, verdict}
 use Rattle.format.specs.VerdictLaws as verdicts
 use Rattle.theory_paths.specs.Demands as paths
 use Rattle.theory_built.specs.BlockSizes.{Taken}
@@ -49,7 +48,7 @@ module _ (t : List ℕ) where
 
 -- For every text and all settings that questions 1 to 3 let through:
 module _ (S : Settings) (T : List ℕ) (h : Taken S T) where
-  -- the one text that fits the built tree is the input,
+  -- The one text that fits the built tree is the input,
   pub built-text : textOf (treeOf S T) ≡ T
   built-text = let b = built S T h in sym (one-text (treeOf S T) (b .read) (b .linked) T (b .fitting))
 

@@ -7,9 +7,8 @@ use Prim.Native.Nat.{ℕ, zero, suc, _≤_}
 use native.Mathlib.Omega.{arith}
 use lib.Dec.{eqb}
 use Rattle.format.specs.Layout as at
-use Rattle.format.specs.Fits.{linksOk, textOf, edgesTrue, countsTrue}
-use Rattle.format.specs.Verdict.{readable, verdict, ask, asks}
-use Rattle.format.specs.Said.{Said, refused, unless}
+use Rattle.format.specs.TreeReading.{linksOk, textOf, edgesTrue, countsTrue, readable, verdict, ask, asks}
+use Rattle.format.specs.Answers.{Said, refused, unless}
 use Rattle.format.specs.SaidLaws.{then-is}
 
 -- n is one of the list
@@ -31,7 +30,7 @@ of-more [] ys x n h = inr h
 of-more (y ∷ xs) ys x n (inl e) = inl e
 of-more (y ∷ xs) ys x n (inr h) = inr (of-more xs ys x n h)
 
--- one that is not 0
+-- One that is not 0.
 pub not-zero : (xs : List ℕ) (n : ℕ) → 1 ≤ n → OneOf (xs ++ 0 ∷ []) n → OneOf xs n
 not-zero [] n low (inl e) = omega arith
 not-zero [] n low (inr h) = h
@@ -50,27 +49,27 @@ asks-one (q ∷ qs) = go (q .1) (asks-one qs)
     go true h = inr h
     go false h = inl refl
 
--- questions, then what follows where they let it through
+-- Questions, then what follows where they let it through.
 pub unless-one : (xs ys : List ℕ) (n : ℕ) (s : Said) → OneOf (xs ++ 0 ∷ []) n → OneOf ys (s .number) → OneOf (xs ++ ys) (unless n s .number)
 unless-one xs ys zero s h k = of-right xs ys (s .number) k
 unless-one xs ys (suc n) s h k = of-left xs ys (suc n) (not-zero xs (suc n) (omega arith) h)
 
--- the same of numbers alone
+-- The same of numbers alone.
 pub then-one : (xs ys : List ℕ) (n rest : ℕ) → OneOf (xs ++ 0 ∷ []) n → OneOf ys rest → OneOf (xs ++ ys) (cond (eqb n 0) rest n)
 then-one xs ys n rest h k = rw (then-is n rest) (unless-one xs ys n (refused rest) h k)
 
--- questions 5 to 7
+-- Questions 5 to 7.
 pub readable-one : (t : List ℕ) → OneOf (5 ∷ 6 ∷ 7 ∷ 0 ∷ []) (readable t)
 unfolding readable
 readable-one t = asks-one ((5, at.longEnough t) ∷ (6, at.layoutOk t) ∷ (7, at.headerOk t) ∷ [])
 
--- questions 5 to 9
+-- Questions 5 to 9.
 pub verdict-one : (t : List ℕ) → OneOf (5 ∷ 6 ∷ 7 ∷ 8 ∷ 9 ∷ 0 ∷ []) (verdict t)
 unfolding verdict
 verdict-one t =
     asks-one ((5, at.longEnough t) ∷ (6, at.layoutOk t) ∷ (7, at.headerOk t) ∷ (8, linksOk t) ∷ (9, countsTrue (textOf t) t && edgesTrue (textOf t) t) ∷ [])
 
--- the number of what follows questions, where it is a refusal and where it is none
+-- The number of what follows questions, where it is a refusal and where it is none.
 pub says-refused : (n m v w : ℕ) → 1 ≤ n → refused n ≡ unless m (record { number = 0; value = v; entered = w }) → n ≡ m
 says-refused n zero v w low e = absurd (let z : n ≡ 0 = ap (λ (s : Said). s .number) e in omega arith)
 says-refused n (suc m) v w low e = ap (λ (s : Said). s .number) e

@@ -5,11 +5,10 @@ use mathlib.Core.Path.{_≡_}
 use Prim.Native.Nat.{ℕ, _≤_}
 use native.Mathlib.Omega.{arith}
 use lib.ListN.{length}
-use Rattle.format.specs.Settings.{Settings}
+use Rattle.format.specs.Layout.{Settings}
 use Rattle.format.specs.Blocks.{treeOf}
-use Rattle.format.specs.Fits.{linksOk, textOf, countsTrue, edgesTrue}
+use Rattle.format.specs.TreeReading.{linksOk, textOf, countsTrue, edgesTrue, readable, verdict}
 use Rattle.format.specs.FittingText.{fits}
-use Rattle.format.specs.Verdict.{readable, verdict}
 use Rattle.theory_built.specs.BlockSizes.{Taken, bounds, maxTree}
 use Rattle.theory_built.specs.BuiltLeaves.{leaves-le}
 use Rattle.theory_built.specs.Shape.{tree-length}
@@ -28,7 +27,7 @@ pub record Built (S : Settings) (T : List ℕ) : Type 0 where
   pub edged : edgesTrue T (treeOf S T) ≡ true
 
 module _ (S : Settings) (T : List ℕ) (h : Taken S T) where
-  -- for every text and all settings that the builder takes
+  -- For every text and all settings that the builder takes.
   pub built : Built S T
   built = record {
     read = built-readable S T h;
@@ -43,6 +42,6 @@ module _ (S : Settings) (T : List ℕ) (h : Taken S T) where
   unfolding verdict
   built-accepted e = rw (long-enough S T h, layout-ok S T h, header-ok S T h, built-linked S T h, e, built-counts S T h, built-edges S T h)
 
-  -- how large a tree can be
+  -- How large a tree can be.
   pub tree-small : length (treeOf S T) ≤ maxTree
   tree-small = rw (tree-length S T h) (omega (arith, offset-le S T h (S .levels) (omega arith), leaves-le S T h, bounds S T h .text-high))

@@ -6,13 +6,11 @@ use native.Mathlib.Omega.{arith}
 use native.Mathlib.Nat.{add-assoc}
 use lib.ListN.{length, getD, List·getD-append}
 use lib.Seq.{getD-append-add}
-use Rattle.text.specs.Lists.{sumBelow}
+use Rattle.text.specs.Text.{sumBelow}
 use Rattle.text.specs.ListLaws.{sumBelow-part}
-use Rattle.format.specs.Words.{wordAt, wordBytes, wordsBytes}
-use Rattle.format.specs.Settings.{Settings, maxLevels, maxCounted}
+use Rattle.format.specs.Layout.{wordAt, wordBytes, wordsBytes, Settings, maxLevels, maxCounted, countedAt, pairsAt, headerLength}
 use Rattle.format.specs.Blocks.{treeOf, recordBytes}
 use Rattle.format.specs.WordLaws.{words-cons, length-words, digits}
-use Rattle.format.specs.HeaderPlaces.{countedAt, pairsAt, headerLength}
 use Rattle.theory_built.specs.BlockSizes.{Taken, Bounds, bounds}
 use Rattle.theory_built.specs.Structure.{count}
 use Rattle.theory_built.specs.Pairs.{offset, levelWordsOf, length-levelWordsOf}
@@ -73,7 +71,7 @@ module _ (S : Settings) (T : List ℕ) (h : Taken S T) where
       rw (tree-levels S T h) (stands-at (head S T h)
       (levelWordsOf S T) _ pairsAt j (length-head S T h) (rw (length-levelWordsOf S T (limits .levels-high)) l) r k)
 
-  -- byte x of the record of block i of level l
+  -- Byte x of the record of block i of level l.
   record-at : (l i x : ℕ) → l < S .levels → i < count S T l → x < recordBytes S
       → getD (treeOf S T) (offset S T l + i * recordBytes S + x) 0 ≡ getD (bytesAt S T l i) x 0
   unfolding offset
@@ -85,7 +83,7 @@ module _ (S : Settings) (T : List ℕ) (h : Taken S T) where
       rw (length-records S T) (in-part (sumBelow l (count S T)) i (count S T l) x R _ il (sumBelow-part (S .levels) (count S T) l e) xl) in
       rw place (record-byte-at S T h j below ∙ record-byte S T l i x e il xl)
 
-  -- word f of it
+  -- Word f of it.
   pub record-stands : (l i f : ℕ) → l < S .levels → i < count S T l → f < recordWords S T
       → Stands (treeOf S T) (offset S T l + i * recordBytes S + 4 * f) (getD (recordAt S T l i) f 0)
   record-stands l i f e il fl r k =
@@ -93,7 +91,7 @@ module _ (S : Settings) (T : List ℕ) (h : Taken S T) where
       (record-at l i (4 * f + r) e il (omega (arith, record-bytes S T))
       ∙ rw (bytes-are S T l i) (byte-in (recordAt S T l i) (edgesIn S T l i) f r (rw (length-record S T l i) fl) k))
 
-  -- byte x of its edges
+  -- Byte x of its edges.
   pub edge-stands : (l i x : ℕ) → l < S .levels → i < count S T l → x < S .leaf + S .leaf
       → getD (treeOf S T) (offset S T l + i * recordBytes S + 4 * recordWords S T + x) 0 ≡ getD (edgesIn S T l i) x 0
   edge-stands l i x e il xl =

@@ -8,10 +8,10 @@ use borrow.Author.Tests.{eq-eqb}
 use Rattle.text.specs.ListLaws.{and-both, bool-clash, allBelow-make}
 use mathlib.Core.Logic.{_⊎_, inl, inr}
 use Rattle.text.specs.Text.{stretch, countIn}
-use Rattle.format.specs.Settings.{Settings}
+use Rattle.format.specs.Layout.{Settings}
 use Rattle.format.specs.Blocks.{treeOf}
 use Rattle.format.specs.Layout as at
-use Rattle.format.specs.Fits.{blockCountsTrue, countsTrue}
+use Rattle.format.specs.TreeReading.{blockCountsTrue, countsTrue}
 use Rattle.theory_built.specs.BlockSizes.{Taken}
 use Rattle.theory_built.specs.Structure.{count, start, keptAt}
 use Rattle.theory_built.specs.BuiltLeaves.{kept-last}

@@ -6,17 +6,15 @@ use Prim.Native.Nat.{ℕ, _+_, _≤_, _<_}
 use native.Mathlib.Omega.{arith}
 use lib.ListN.{length}
 use lib.Seq.{ext-getD}
-use Rattle.text.specs.Lists.{allBelow}
+use Rattle.text.specs.Text.{allBelow, stretch}
 use Rattle.text.specs.ListLaws.{allBelow-make, eq-sameList, or-right}
-use Rattle.text.specs.Text.{stretch}
 use Rattle.text.specs.TextLaws.{length-stretch, getD-stretch}
-use Rattle.format.specs.Settings.{Settings}
-use Rattle.format.specs.Edges.{edgesOf}
+use Rattle.format.specs.Layout.{Settings, edgesOf}
 use Rattle.format.specs.EdgeLaws.{length-edges}
 use Rattle.format.specs.Blocks.{treeOf}
 use Rattle.format.specs.Layout as at
 use Rattle.format.specs.LayoutLaws.{readable-facts, edges-inside, leaf-start-inside}
-use Rattle.format.specs.Fits.{blockEdgesTrue, edgesTrue}
+use Rattle.format.specs.TreeReading.{blockEdgesTrue, edgesTrue}
 use Rattle.theory_built.specs.BlockSizes.{Taken}
 use Rattle.theory_built.specs.Structure.{count, start, bytesIn}
 use Rattle.theory_built.specs.BuiltRecords.{edgesIn}

@@ -9,13 +9,12 @@ use lib.ListN.{length}
 use lib.Seq.{ext-getD}
 use lib.Dec.{eqb}
 use borrow.Author.Tests.{eq-eqb}
-use Rattle.text.specs.Lists.{allBelow, sumBelow, tabulate, sameList}
+use Rattle.text.specs.Text.{allBelow, sumBelow, tabulate, sameList, stretch}
 use Rattle.text.specs.ListLaws.{and-both, or-left, or-right, not-eq-true, bool-clash, allBelow-make, eq-sameList, length-tabulate, getD-tabulate}
-use Rattle.text.specs.Text.{stretch}
-use Rattle.format.specs.Settings.{Settings}
+use Rattle.format.specs.Layout.{Settings}
 use Rattle.format.specs.Blocks.{treeOf}
 use Rattle.format.specs.Layout as at
-use Rattle.format.specs.Fits.{lastLevel}
+use Rattle.format.specs.TreeReading.{lastLevel}
 use Rattle.format.specs.FittingText.{blockFits, fits}
 use Rattle.theory_built.specs.BlockSizes.{Taken}
 use Rattle.text.specs.TextLaws.{length-stretch, getD-stretch}
@@ -31,7 +30,7 @@ module _ (S : Settings) (T : List ℕ) (h : Taken S T) where
   t = treeOf S T
 
   module _ (l i : ℕ) (e : l < S .levels) (il : i < count S T l) where
-    -- a last-level block's leaf bytes are the text's
+    -- A last-level block's leaf bytes are the text's.
     leaves-fit : suc l ≡ S .levels
         → stretch T (at.start t l i) (at.blockLengthAt t l i) ≡ tabulate (at.blockLengthAt t l i) (λ o. at.leafByte t (at.link t l i + o))
     leaves-fit last =
@@ -49,7 +48,7 @@ module _ (S : Settings) (T : List ℕ) (h : Taken S T) where
         wide : length (stretch T (start S T l i) len) ≡ len
         wide = length-stretch T (start S T l i) len (bytes-fit S T h l i e il)
 
-    -- a pointing block's bytes are those at its occurrence
+    -- A pointing block's bytes are those at its occurrence.
     target-fits : suc l < S .levels → keptAt S T l i ≡ false
         → stretch T (at.start t l i) (at.blockLengthAt t l i) ≡ stretch T (at.start t l (at.link t l i) + at.gap t l i) (at.blockLengthAt t l i)
     target-fits up points =

@@ -7,10 +7,9 @@ use Prim.Native.Nat.{ℕ, zero, suc, _+_, _-_, _≤_, _<_, min}
 use native.Mathlib.Omega.{arith}
 use lib.ListN.{length, getD}
 use borrow.Author.Tests.{eq-eqb}
-use Rattle.text.specs.Lists.{tabulate, concat, sumBelow}
+use Rattle.text.specs.Text.{tabulate, concat, sumBelow, stretch}
 use Rattle.text.specs.ListLaws.{sumBelow-ext, lt-or-ge}
-use Rattle.text.specs.Text.{stretch}
-use Rattle.format.specs.Settings.{Settings}
+use Rattle.format.specs.Layout.{Settings}
 use Rattle.format.specs.Blocks.{startsAt, isKept, width, leafBytes, startOf, lengthOf}
 use Rattle.theory_built.specs.Gather.{length-concat, getD-concat, map-tabulate, sumBelow-le}
 use Rattle.text.specs.TextLaws.{length-stretch, getD-stretch}
@@ -19,7 +18,7 @@ use Rattle.theory_built.specs.LevelBlocks.{count-le}
 use Rattle.theory_built.specs.Structure.{size, count, start, bytesIn, keptAt, widthOf, bytesIn-is, level-at, count-below}
 
 module _ (S : Settings) (T : List ℕ) where
-  -- on the last level all blocks are kept, and as wide as they are long
+  -- On the last level all blocks are kept, and as wide as they are long.
   pub kept-last : (l i : ℕ) → suc l ≡ S .levels → keptAt S T l i ≡ true
   unfolding isKept
   kept-last l i e = rw (eq-eqb (suc l) (S .levels) e)
@@ -40,7 +39,7 @@ module _ (S : Settings) (T : List ℕ) where
     pub bytes-fit : (l i : ℕ) → l < S .levels → i < count S T l → start S T l i + bytesIn S T l i ≤ length T
     bytes-fit l i k il = rw (bytesIn-is S T l i) (omega (arith, level-at S T h l k .within i il))
 
-    -- the blocks before block i end before it, all of them in the text
+    -- The blocks before block i end before it, all of them in the text.
     sum-before : (l i : ℕ) → l < S .levels → i < count S T l → sumBelow i (bytesIn S T l) ≤ start S T l i
     unfolding sumBelow
     sum-before l zero k il = omega arith
@@ -72,7 +71,7 @@ module _ (S : Settings) (T : List ℕ) where
     pub leaf-count : (l : ℕ) → suc l ≡ S .levels → length (leafBytes S T) ≡ sumBelow (count S T l) (widthOf S T l)
     leaf-count l e = ap (λ (s : List ℕ). length s) (leafBytes-is l e) ∙ length-concat (count S T l) (leaves l) ∙ widths l (count S T l) e (omega arith)
 
-    -- leaf byte o of block i is the text's
+    -- Leaf byte o of block i is the text's.
     pub leaf-at : (l i o : ℕ) → suc l ≡ S .levels → i < count S T l → o < bytesIn S T l i
         → getD (leafBytes S T) (sumBelow i (widthOf S T l) + o) 0 ≡ getD T (start S T l i + o) 0
     unfolding leaves
@@ -88,7 +87,7 @@ module _ (S : Settings) (T : List ℕ) where
         go zero e = absurd (let z : ⊥ = omega (arith, bounds S T h .levels-low) in z)
         go (suc l) e = rw (leaf-count l e, sumBelow-ext (count S T l) (widthOf S T l) (bytesIn S T l) (λ i _. width-last l i e)) (sum-within l (omega arith))
 
-    -- what is below the blocks of a level is no more than the text has bytes
+    -- What is below the blocks of a level is no more than the text has bytes.
     pub widths-le : (l i : ℕ) → l < S .levels → i ≤ count S T l → sumBelow i (widthOf S T l) ≤ length T
     widths-le l i k il = go (lt-or-ge (suc l) (S .levels))
       where

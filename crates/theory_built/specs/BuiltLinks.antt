@@ -9,12 +9,12 @@ use native.Mathlib.Numerals.{add-one}
 use lib.ListN.{length}
 use lib.Dec.{leb, ltb, eqb}
 use borrow.Author.Tests.{le-leb, lt-ltb, eq-eqb, ne-eqb}
-use Rattle.text.specs.Lists.{allBelow, sumBelow}
+use Rattle.text.specs.Text.{allBelow, sumBelow}
 use Rattle.text.specs.ListLaws.{and-both, or-left, or-right, not-eq-true, bool-clash, lt-or-ge, allBelow-make, sumBelow-ext}
-use Rattle.format.specs.Settings.{Settings}
+use Rattle.format.specs.Layout.{Settings}
 use Rattle.format.specs.Blocks.{treeOf, width}
 use Rattle.format.specs.Layout as at
-use Rattle.format.specs.Fits.{lastLevel, widthAt, keptRight, pointingRight, blockRight, countBelowRight, linksOk}
+use Rattle.format.specs.TreeReading.{lastLevel, widthAt, keptRight, pointingRight, blockRight, countBelowRight, linksOk}
 use Rattle.theory_built.specs.BlockSizes.{Taken, bounds}
 use Rattle.theory_built.specs.LevelBlocks.{child-below}
 use Rattle.theory_built.specs.Structure.{size, count, start, bytesIn, keptAt, widthOf, level-at, cut-at, count-below, start-below, start-top}

@@ -8,16 +8,12 @@ use native.Mathlib.Nat.{mul-comm}
 use lib.ListN.{length, getD, length-append}
 use lib.Seq.{getD-append-add}
 use lib.Arith.{digits-lt}
-use Rattle.text.specs.Lists.{tabulate, concat, sumBelow}
+use Rattle.text.specs.Text.{tabulate, concat, sumBelow, stretch, countIn}
 use Rattle.text.specs.ListLaws.{sumBelow-ext}
-use Rattle.text.specs.Text.{stretch, countIn}
-use Rattle.format.specs.Settings.{Settings}
-use Rattle.format.specs.Words.{wordsBytes}
+use Rattle.format.specs.Layout.{Settings, wordsBytes, startField, kindField, linkField, gapField, plainFields, plainWords, countedWords}
 use Rattle.format.specs.WordLaws.{length-words}
-use Rattle.format.specs.RecordFields.{startField, kindField, linkField, gapField, plainFields, plainWords, countedWords}
-use Rattle.format.specs.RecordFields.{beforeField, insideField, skipField, countFields}
+use Rattle.format.specs.Layout.{beforeField, insideField, skipField, countFields, edgesOf}
 use Rattle.format.specs.LayoutLaws.{fieldCount}
-use Rattle.format.specs.Edges.{edgesOf}
 use Rattle.format.specs.EdgeLaws.{length-edges}
 use Rattle.format.specs.SizeLaws.{record-edged}
 use Rattle.format.specs.Blocks.{startsAt, recordOf, recordIn, recordBytes, levelBytes, builtLayout}
@@ -26,7 +22,7 @@ use Rattle.theory_built.specs.Structure.{size, count, start, bytesIn, ke
 use Rattle.theory_built.specs.BuiltTargets.{placeOf, targetOf}
 
 module _ (S : Settings) (T : List ℕ) where
-  -- the start of the parent of a block of level l that starts at s; the text's on level 0
+  -- The start of the parent of a block of level l that starts at s; the text's on level 0.
   unfoldable pub parentOf : ℕ → ℕ → ℕ
   parentOf zero s = 0
   parentOf (suc l) s = s / size S T l * size S T l
@@ -56,7 +52,7 @@ module _ (S : Settings) (T : List ℕ) where
   counts : ℕ → ℕ → ℕ → List ℕ
   counts l i c = countFields (beforeOf l i c) (insideOf l i c) (skipOf l i c)
 
-  -- the record of block i of level l
+  -- The record of block i of level l.
   abbrev pub recordAt : ℕ → ℕ → List ℕ
   recordAt l i = recordOf S T l (startsAt S T l) i
 
@@ -72,7 +68,7 @@ module _ (S : Settings) (T : List ℕ) where
   record-is zero i = ap (λ (x : List ℕ). x ++ concat (map (counts zero i) (S .counted))) (fields-are zero i (keptAt S T zero i) refl)
   record-is (suc l) i = ap (λ (x : List ℕ). x ++ concat (map (counts (suc l) i) (S .counted))) (fields-are (suc l) i (keptAt S T (suc l) i) refl)
 
-  -- how many words a record has
+  -- How many words a record has.
   unfoldable pub recordWords : ℕ
   recordWords = fieldCount (length (S .counted))
 
@@ -138,7 +134,7 @@ module _ (S : Settings) (T : List ℕ) where
           let e : skipField c ≡ plainWords + (c * countedWords + 2) = omega (arith, mul-comm countedWords c) in
           rw e (record-count c 2 h (omega arith))
 
-  -- a record's bytes: its words', then its edges
+  -- A record's bytes: its words', then its edges.
   abbrev pub edgesIn : ℕ → ℕ → List ℕ
   edgesIn l i = edgesOf (S .leaf) (stretch T (start S T l i) (bytesIn S T l i))
 

@@ -7,7 +7,7 @@ use Prim.Native.Nat.{ℕ, suc, _+_, _≤_, _<_}
 use native.Mathlib.Omega.{arith}
 use lib.ListN.{length}
 use Rattle.text.specs.Text.{stretch, leftmost}
-use Rattle.format.specs.Settings.{Settings}
+use Rattle.format.specs.Layout.{Settings}
 use Rattle.format.specs.Blocks.{startsAt, occurrence, target}
 use Rattle.theory_built.specs.BlockSizes.{Taken}
 use Rattle.text.specs.TextLaws.{leftmost-le, leftmost-same}
@@ -17,7 +17,7 @@ use Rattle.theory_built.specs.KeptRule.{byteAt, first-leftmost}
 use Rattle.theory_built.specs.Structure.{size, count, start, bytesIn, keptAt, HoldsAt, bytesIn-is, level-at, landing, landed-kept, landed-next}
 
 module _ (S : Settings) (T : List ℕ) where
-  -- where the bytes of block i first occur, and the block that holds that place
+  -- Where the bytes of block i first occur, and the block that holds that place.
   abbrev pub placeOf : ℕ → ℕ → ℕ
   placeOf l i = occurrence S T l (startsAt S T l) i
 
@@ -31,7 +31,7 @@ module _ (S : Settings) (T : List ℕ) where
   pub placeOf-same : (l i : ℕ) → stretch T (placeOf l i) (bytesIn S T l i) ≡ stretch T (start S T l i) (bytesIn S T l i)
   placeOf-same l i = rw (placeOf-is l i) (leftmost-same T (start S T l i) (bytesIn S T l i))
 
-  -- block j and, where they are needed, the next one hold the bytes of block i at an earlier place, and are kept
+  -- Block j and, where they are needed, the next one hold the bytes of block i at an earlier place, and are kept.
   pub record PointsTo (l i j : ℕ) : Type 0 where
     pub below : j < count S T l
     pub kept : keptAt S T l j ≡ true
@@ -90,6 +90,6 @@ module _ (S : Settings) (T : List ℕ) where
           go (inl z) = inl z
           go (inr pr) = inr (pr .0, pr .1, j-next pr)
 
-    -- the pointing block's occurrence lies in kept blocks and ends at or before the block's own start
+    -- The pointing block's occurrence lies in kept blocks and ends at or before the block's own start.
     pub points-to : keptAt S T l i ≡ false → PointsTo l i (targetOf l i)
     points-to points = rw target-is (to-landed points (landed .0) (landed .1))

@@ -7,7 +7,7 @@ use native.Mathlib.Omega.{arith}
 use native.Mathlib.Nat.{suc-mul, div-add-mod', mod-lt}
 use lib.Dec.{leb}
 use borrow.Author.Tests.{le-leb, lt-leb}
-use Rattle.text.specs.Lists.{sumBelow, countBelow}
+use Rattle.text.specs.Text.{sumBelow, countBelow}
 use Rattle.text.specs.ListLaws.{lt-or-ge, bool-clash}
 use Rattle.format.specs.PieceLaws.{lt-pieces, pieces-cover}
 use Rattle.theory_built.specs.LevelBlocks.{Level, Cut, child-below, child-ends, start-le, le-of-start}
@@ -16,7 +16,7 @@ use Rattle.theory_built.specs.OccurrencesLand.{Holds, Pair}
 module _ (at : ℕ → ℕ) (n b N : ℕ) (start : ℕ → ℕ) (kept : ℕ → Bool) (width : ℕ → ℕ) (c M : ℕ) (lower : ℕ → ℕ)
     (up : Level n b N start) (cut : Cut n b N start kept width c M lower) (p len i : ℕ) (some-bytes : 0 < len) (fits : p + len ≤ n)
     (h : Holds at n b N start i p len) (k : kept i ≡ true) (k′ : Pair at n b N start i → kept (suc i) ≡ true) where
-  -- the child that holds p
+  -- The child that holds p.
   j : ℕ
   j = (p - start i) / c
 
@@ -38,7 +38,7 @@ module _ (at : ℕ → ℕ) (n b N : ℕ) (start : ℕ → ℕ) (kept : ℕ → 
   unfolding x
   x-start = cut .child i j (h .below) j-lt
 
-  -- the next child of the same block
+  -- The next child of the same block.
   next-here : suc j < width i → Pair at n c M lower x
   unfolding x
   next-here l =
@@ -47,7 +47,7 @@ module _ (at : ℕ → ℕ) (n b N : ℕ) (start : ℕ → ℕ) (kept : ℕ → 
         ap lower e ∙ cut .child i (suc j) (h .below) l ∙ omega (arith, suc-mul j c, x-start),
       )
 
-  -- the first child of the next block
+  -- The first child of the next block.
   next-there : width i ≤ suc j → lower x + c < p + len → Pair at n c M lower x
   unfolding x sumBelow
   next-there w over = go (h .ends)
@@ -87,7 +87,7 @@ module _ (at : ℕ → ℕ) (n b N : ℕ) (start : ℕ → ℕ) (kept : ℕ → 
       go (inl l) (inl w) = inr (next-here w)
       go (inl l) (inr w) = inr (next-there w l)
 
--- how many numbers below N have a test that holds up to m and not from there on
+-- How many numbers below N have a test that holds up to m and not from there on.
 pub countBelow-upto : (N m : ℕ) (test : ℕ → Bool) → ((i : ℕ) → i < N → i < m → test i ≡ true) → ((i : ℕ) → i < N → m ≤ i → test i ≡ false)
     → countBelow N test ≡ min m N
 unfolding countBelow
@@ -99,7 +99,7 @@ countBelow-upto (suc N) m test low high = go (lt-or-ge N m) (countBelow-upto N m
     go (inr l) e = rw (high N (omega arith) l, e) (omega arith)
 
 module _ (at : ℕ → ℕ) (n b N : ℕ) (start : ℕ → ℕ) (lv : Level n b N start) (p len j : ℕ) (h : Holds at n b N start j p len) where
-  -- the number of the block that holds p
+  -- The number of the block that holds p.
   pub holder : countBelow N (λ i. leb (start i) p) - 1 ≡ j
   holder = omega (
     arith,
@@ -109,7 +109,7 @@ module _ (at : ℕ → ℕ) (n b N : ℕ) (start : ℕ → ℕ) (lv : Level n b 
         (λ i l m. lt-leb (start i) p (omega (arith, h .before, lv .rising j i (omega arith) l))),
   )
 
-  -- an occurrence that lies in kept blocks, at or before a block that is not kept, ends at or before that block's start
+  -- An occurrence that lies in kept blocks, at or before a block that is not kept, ends at or before that block's start.
   pub ends-before : (kept : ℕ → Bool) (i : ℕ) → i < N → kept i ≡ false → p ≤ start i → len ≤ b → kept j ≡ true
       → (Pair at n b N start j → kept (suc j) ≡ true) → p + len ≤ start i
   ends-before kept i l points lo small k k′ = go (h .ends)

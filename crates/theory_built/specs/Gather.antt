@@ -8,12 +8,12 @@ use native.Mathlib.Nat.{suc-mul, add-mul, mul-le-mul-right}
 use lib.Arith.{digits-lt}
 use lib.ListN.{length, getD, length-append, List·getD-append}
 use lib.Seq.{getD-append-add}
-use Rattle.text.specs.Lists.{tabulate, concat, sumBelow}
+use Rattle.text.specs.Text.{tabulate, concat, sumBelow}
 use Rattle.text.specs.ListLaws.{lt-or-ge, below-suc, sumBelow-part}
 
 -- Sums.
 
--- a place in a sum: the part that it falls in, and the place there
+-- A place in a sum: the part that it falls in, and the place there.
 pub record Placed (n : ℕ) (width : ℕ → ℕ) (x : ℕ) : Type 0 where
   pub part : ℕ
   pub place : ℕ
@@ -50,7 +50,7 @@ unfolding sumBelow
 sumBelow-scale zero c f = omega arith
 sumBelow-scale (suc n) c f = rw (sumBelow-scale n c f) (sym (add-mul (sumBelow n f) (f n) c))
 
--- a place in one of the parts of a whole, all of W numbers
+-- A place in one of the parts of a whole, all of W numbers.
 pub in-part : (a i c f W N : ℕ) → i < c → a + c ≤ N → f < W → a * W + (i * W + f) < N * W
 in-part a i c f W N il le fl = omega (arith, digits-lt il fl, add-mul a c W, mul-le-mul-right W le)
 
@@ -81,7 +81,7 @@ getD-concat (suc n) f i j d h k = rw (concat-suc n f) (go (below-suc i n h) (get
         List·getD-append (concat (tabulate n f)) (f n) d _ (omega (arith, length-concat n f, sumBelow-part n (λ i. length (f i)) i l)) ∙ r l k
     go (inr e) r = rw (e, ← length-concat n f) (getD-append-add (concat (tabulate n f)) (f n) j d)
 
--- a list is the table of its elements
+-- A list is the table of its elements.
 pub map-tabulate : (f : ℕ → List ℕ) (xs : List ℕ) → map f xs ≡ tabulate (length xs) (λ i. f (getD xs i 0))
 unfolding tabulate
 map-tabulate f [] = refl

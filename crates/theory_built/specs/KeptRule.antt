@@ -14,11 +14,11 @@ use Rattle.format.specs.Blocks.{startOf, pairAt, firstPairAt, keptByPairs}
 use Rattle.text.specs.TextLaws.{leftmost-le, leftmost-same, leftmost-least, stretch-at, stretch-ext}
 use Rattle.theory_built.specs.OccurrencesLand.{First, Pair, FirstPair, Marks}
 
--- the byte at each place of a text
+-- The byte at each place of a text.
 abbrev pub byteAt : List ℕ → ℕ → ℕ
 byteAt T p = getD T p 0
 
--- a leftmost occurrence is a first one
+-- A leftmost occurrence is a first one.
 pub first-leftmost : (T : List ℕ) (s len : ℕ) → s + len ≤ length T → First (byteAt T) (length T) (leftmost T s len) len
 first-leftmost T s len fits = record {
   within = omega (arith, leftmost-le T s len);

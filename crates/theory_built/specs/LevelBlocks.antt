@@ -6,13 +6,13 @@ use mathlib.Core.Logic.{_⊎_, inl, inr}
 use Prim.Native.Nat.{ℕ, zero, suc, _+_, _-_, _*_, _≤_, _<_, min}
 use native.Mathlib.Omega.{arith}
 use native.Mathlib.Nat.{suc-mul, add-mul, mul-assoc, mul-le-mul-right}
-use Rattle.text.specs.Lists.{sumBelow}
+use Rattle.text.specs.Text.{sumBelow}
 use Rattle.text.specs.ListLaws.{lt-or-ge, sumBelow-part, bool-cases}
-use Rattle.format.specs.Settings.{pieces}
+use Rattle.format.specs.Layout.{pieces}
 use Rattle.theory_built.specs.Gather.{Placed, placed}
 use Rattle.format.specs.PieceLaws.{pieces-start, whole-left}
 
--- a text of n bytes
+-- A text of n bytes.
 module _ (n : ℕ) where
   -- N blocks of b bytes, in the order of the text, none over another
   pub record Level (b N : ℕ) (start : ℕ → ℕ) : Type 0 where
@@ -21,7 +21,7 @@ module _ (n : ℕ) where
     pub within : (i : ℕ) → i < N → start i < n
     pub whole : (i : ℕ) → i < N → (k : ℕ) × (start i ≡ k * b)
 
-  -- level 0
+  -- Level 0.
   pub level-top : (b N : ℕ) (start : ℕ → ℕ) → 0 < b → N ≡ pieces n b → ((i : ℕ) → i < N → start i ≡ i * b) → Level b N start
   level-top b N start pos count at = record {
     size = pos;
@@ -38,7 +38,7 @@ module _ (n : ℕ) where
         go (inl k) = omega (arith, lv .rising i j k h)
         go (inr k) = let e : i ≡ j = omega arith in rw e (omega arith)
 
-    -- a block whose start is not after that of another is not after it
+    -- A block whose start is not after that of another is not after it.
     pub le-of-start : Level b N start → (i j : ℕ) → i < N → start i ≤ start j → i ≤ j
     le-of-start lv i j h l = go (lt-or-ge j i)
       where
@@ -50,7 +50,7 @@ module _ (n : ℕ) where
     start-ge lv zero h = omega arith
     start-ge lv (suc i) h = omega (arith, start-ge lv i (omega arith), lv .rising i (suc i) (omega arith) h, lv .size)
 
-    -- no more blocks than bytes
+    -- No more blocks than bytes.
     pub count-le : Level b N start → N ≤ n
     count-le lv = go N refl
       where

@@ -5,7 +5,7 @@ use mathlib.Core.Logic.{_⊎_, inl, inr}
 use native.Mathlib.Omega.{arith}
 use native.Mathlib.Decide.{decLt, ℕ-discrete}
 
--- a text: the byte at each place, and how many there are
+-- A text: the byte at each place, and how many there are.
 module _ (at : ℕ → ℕ) (n : ℕ) where
   abbrev pub Same : ℕ → ℕ → ℕ → Type 0
   Same p s len = (k : ℕ) → k < len → at (p + k) ≡ at (s + k)
@@ -15,7 +15,7 @@ module _ (at : ℕ → ℕ) (n : ℕ) where
     pub within : p + len ≤ n
     pub none : (q : ℕ) → q < p → Same q p len → ⊥
 
-  -- a stretch around a first occurrence is one too
+  -- A stretch around a first occurrence is one too.
   pub around : (s L p len : ℕ) → First p len → s ≤ p → p + len ≤ s + L → s + L ≤ n → First s L
   around s L p len f lo hi fits = record {
     within = fits;
@@ -28,7 +28,7 @@ module _ (at : ℕ → ℕ) (n : ℕ) where
       there : (k : ℕ) → s + (p - s + k) ≡ p + k
       there k = omega arith
 
-  -- one level
+  -- One level.
   module _ (b N : ℕ) (start : ℕ → ℕ) where
     abbrev pub Pair : ℕ → Type 0
     Pair i = (suc i < N) × (start (suc i) ≡ start i + b)
@@ -36,7 +36,7 @@ module _ (at : ℕ → ℕ) (n : ℕ) where
     abbrev pub FirstPair : ℕ → Type 0
     FirstPair i = Pair i × First (start i) (min (b + b) (n - start i))
 
-    -- block i holds p, and with the next one, where that is needed, the len bytes from there
+    -- Block i holds p, and with the next one, where that is needed, the len bytes from there.
     pub record Holds (i p len : ℕ) : Type 0 where
       pub below : i < N
       pub from : start i ≤ p
@@ -62,7 +62,7 @@ module _ (at : ℕ → ℕ) (n : ℕ) where
       firstPair i pr lo hi end =
           (pr, around (start i) (min (b + b) (n - start i)) p len f lo (omega (arith, f .within)) (omega (arith, f .within)))
 
-      -- a block that holds a first occurrence is kept, and so is the next where the occurrence goes on there
+      -- A block that holds a first occurrence is kept, and so is the next where the occurrence goes on there.
       module _ (kept : ℕ → Type 0) (marks : Marks kept) where
         pub holds-kept : (i : ℕ) → Holds i p len → kept i
         holds-kept i h = go (decPair i)

@@ -6,9 +6,8 @@ use native.Mathlib.Omega.{arith}
 use native.Mathlib.Nat.{add-mul}
 use lib.ListN.{length, getD, replicate, length-append, length-replicate, getD-replicate, List·getD-append}
 use lib.Seq.{getD-append-add}
-use Rattle.text.specs.Lists.{sumBelow}
-use Rattle.format.specs.Settings.{Settings, maxLevels}
-use Rattle.format.specs.HeaderPlaces.{headerLength}
+use Rattle.text.specs.Text.{sumBelow}
+use Rattle.format.specs.Layout.{Settings, maxLevels, headerLength}
 use Rattle.format.specs.Blocks.{levelPairs, recordBytes, leafBytes}
 use Rattle.theory_built.specs.Structure.{count}
 
@@ -27,7 +26,7 @@ module _ (S : Settings) (T : List ℕ) where
       let m : suc l + x ≡ l + suc x = omega arith in
       rw e (pairs-count more (suc l) (at + count S T l * recordBytes S) x (omega arith) ∙ ap (count S T) m)
 
-  -- where the records of level l begin
+  -- Where the records of level l begin.
   unfoldable pub offset : ℕ → ℕ
   offset l = headerLength + sumBelow l (count S T) * recordBytes S
 
@@ -48,7 +47,7 @@ module _ (S : Settings) (T : List ℕ) where
       let m : suc l + x ≡ l + suc x = omega arith in
       rw d (pairs-offset more (suc l) (at + count S T l * recordBytes S) x (rw e (offset-next l)) (omega arith) ∙ ap offset m)
 
-  -- the header's words for the levels, and the last two
+  -- The header's words for the levels, and the last two.
   unfoldable pub levelWordsOf : List ℕ
   levelWordsOf =
       levelPairs S T (S .levels) 0 headerLength ++ (replicate (2 * maxLevels - 2 * S .levels) 0 ++ (offset (S .levels) ∷ length (leafBytes S T) ∷ []))

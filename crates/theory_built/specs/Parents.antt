@@ -6,8 +6,8 @@ use Prim.Native.Nat.{ℕ, suc, _+_, _*_, _<_}
 use native.Mathlib.Omega.{arith}
 use lib.Arith.{digits-div}
 use lib.ListN.{length}
-use Rattle.text.specs.Lists.{sumBelow}
-use Rattle.format.specs.Settings.{Settings}
+use Rattle.text.specs.Text.{sumBelow}
+use Rattle.format.specs.Layout.{Settings}
 use Rattle.theory_built.specs.Gather.{Placed, placed}
 use Rattle.theory_built.specs.LevelBlocks.{child-inside}
 use Rattle.theory_built.specs.BlockSizes.{Taken}
@@ -15,7 +15,7 @@ use Rattle.theory_built.specs.Structure.{size, count, start, keptAt, wid
 use Rattle.theory_built.specs.BuiltRecords.{parentOf}
 
 module _ (S : Settings) (T : List ℕ) (h : Taken S T) (l : ℕ) (up : suc l < S .levels) where
-  -- block x of the level below is child `place` of block `part`
+  -- Block x of the level below is child `place` of block `part`.
   pub parent : (x : ℕ) → x < count S T (suc l) → Placed (count S T l) (widthOf S T l) x
   parent x xl = placed (count S T l) (widthOf S T l) x (rw (count-below S T h l up) at xl)
 

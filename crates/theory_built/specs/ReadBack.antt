@@ -7,10 +7,8 @@ use native.Mathlib.Omega.{arith}
 use lib.ListN.{length, getD, take, drop}
 use lib.Seq.{take-at}
 use lib.Dec.{eqb}
-use Rattle.format.specs.Words.{wordAt}
-use Rattle.format.specs.RecordFields.{startField, kindField, linkField, gapField, plainWords, beforeField, insideField, skipField}
-use Rattle.format.specs.Settings.{Settings, maxLevels, maxCounted}
-use Rattle.format.specs.HeaderPlaces.{leafAt, arityAt, levelsAt, countedAt, pairsAt, countAt, offsetAt}
+use Rattle.format.specs.Layout.{wordAt, startField, kindField, linkField, gapField, plainWords, beforeField, insideField, skipField}
+use Rattle.format.specs.Layout.{Settings, maxLevels, maxCounted, leafAt, arityAt, levelsAt, countedAt, pairsAt, countAt, offsetAt}
 use Rattle.format.specs.Blocks.{treeOf, leafBytes, recordBytes, builtLayout}
 use Rattle.format.specs.Layout as at
 use Rattle.theory_built.specs.BlockSizes.{Taken, Bounds, bounds}
@@ -75,7 +73,7 @@ module _ (S : Settings) (T : List ℕ) (h : Taken S T) where
       let is : getD (levelWordsOf S T) (suc (2 * l)) 0 ≡ offset S T l = word-offset S T (limits .levels-high) l e in
       rw place (level-word S T h (suc (2 * l)) (omega (arith, limits .levels-high)) (omega (arith, offset-le S T h l (omega arith))) ∙ is)
 
-  -- the pairs past the levels are unused
+  -- The pairs past the levels are unused.
   pub read-no-count : (l : ℕ) → S .levels ≤ l → l < maxLevels → at.levelCount (treeOf S T) l ≡ 0
   unfolding at.levelCount
   read-no-count l lo hi =

@@ -8,13 +8,12 @@ use lib.ListN.{length, getD, replicate, List·getD-append, getD-replicate}
 use lib.Seq.{getD-append-add}
 use lib.Dec.{leb, eqb}
 use borrow.Author.Tests.{le-leb, eq-eqb}
-use Rattle.text.specs.Lists.{allBelow, sumBelow}
+use Rattle.text.specs.Text.{allBelow, sumBelow}
 use Rattle.text.specs.ListLaws.{and-both, allBelow-make, sumBelow-ext}
-use Rattle.format.specs.Settings.{Settings, lengthOk, sizesOk, countedOk, pieces, maxLevels, maxCounted}
-use Rattle.format.specs.HeaderPlaces.{countedAt, headerLength}
+use Rattle.format.specs.Layout.{Settings, lengthOk, sizesOk, countedOk, pieces, maxLevels, maxCounted, countedAt, headerLength}
 use Rattle.format.specs.Blocks.{treeOf, leafBytes}
 use Rattle.format.specs.Layout as at
-use Rattle.format.specs.Verdict.{readable}
+use Rattle.format.specs.TreeReading.{readable}
 use Rattle.theory_built.specs.BlockSizes.{Taken, Bounds, bounds}
 use Rattle.theory_built.specs.Structure.{count, count-top}
 use Rattle.theory_built.specs.Pairs.{offset}
@@ -29,7 +28,7 @@ module _ (S : Settings) (T : List ℕ) (h : Taken S T) where
   limits : Bounds S T
   limits = bounds S T h
 
-  -- the places for counted bytes that are not used
+  -- The places for counted bytes that are not used.
   unused : (x : ℕ) → x < maxCounted - length (S .counted) → getD t (countedAt + length (S .counted) + x) 0 ≡ 0
   unfolding countedPlaces
   unused x l =

@@ -5,11 +5,9 @@ use Prim.Native.Nat.{ℕ, _+_, _-_, _*_, _<_}
 use native.Mathlib.Omega.{arith}
 use lib.ListN.{length, getD, replicate, take, drop, length-append, length-replicate, List·getD-append}
 use lib.Seq.{getD-append-add, take-at, drop-at}
-use Rattle.format.specs.Words.{wordAt, wordsBytes}
-use Rattle.format.specs.Settings.{Settings, maxLevels, maxCounted}
+use Rattle.format.specs.Layout.{wordAt, wordsBytes, Settings, maxLevels, maxCounted, countedAt, pairsAt, headerLength}
 use Rattle.format.specs.Blocks.{treeOf, header, leafBytes, levelPairs, builtLayout}
 use Rattle.format.specs.WordLaws.{word-at, length-words}
-use Rattle.format.specs.HeaderPlaces.{countedAt, pairsAt, headerLength}
 use Rattle.theory_built.specs.Pairs.{levelWordsOf, offset, length-levelWordsOf}
 use Rattle.theory_built.specs.BuiltRecords.{records, length-records}
 use Rattle.theory_built.specs.BlockSizes.{Taken, Bounds, bounds}
@@ -47,7 +45,7 @@ module _ (S : Settings) (T : List ℕ) where
     length-level-words : length (wordsBytes (levelWordsOf S T)) ≡ headerLength - pairsAt
     length-level-words = length-words (levelWordsOf S T) ∙ ap (λ (x : ℕ). 4 * x) (length-levelWordsOf S T (limits .levels-high))
 
-    -- the bytes before the words for the levels
+    -- The bytes before the words for the levels.
     unfoldable pub head : List ℕ
     head = wordsBytes sixWords ++ countedPlaces
 

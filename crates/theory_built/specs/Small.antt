@@ -7,10 +7,9 @@ use native.Mathlib.Omega.{arith}
 use native.Mathlib.Nat.{mul-le-mul-right}
 use lib.ListN.{length, drop, length-take, length-drop}
 use lib.Dec.{leb}
-use Rattle.text.specs.Lists.{sumBelow, countBelow}
-use Rattle.text.specs.Text.{stretch, countIn}
+use Rattle.text.specs.Text.{sumBelow, countBelow, stretch, countIn}
 use Rattle.text.specs.CountLaws as text
-use Rattle.format.specs.Settings.{Settings}
+use Rattle.format.specs.Layout.{Settings}
 use Rattle.format.specs.SizeLaws.{record-edged}
 use Rattle.format.specs.Blocks.{target, recordBytes, builtLayout}
 use Rattle.text.specs.TextLaws.{leftmost-le}
@@ -85,14 +84,14 @@ module _ (S : Settings) (T : List ℕ) where
     halves : (l : ℕ) → suc l < S .levels → 2 * size S T (suc l) ≤ size S T l
     halves l e = omega (arith, size-falls S T h l e, mul-le-mul-right (size S T (suc l)) (limits .arity-low))
 
-    -- the blocks of all levels, each counted with the bytes of a full block of the last
+    -- The blocks of all levels, each counted with the bytes of a full block of the last.
     leaves-room : sumBelow (S .levels) (count S T) * S .leaf ≤ 2 * length T + S .levels * S .leaf
     leaves-room =
         let last : suc (S .levels - 1) ≡ S .levels = omega (arith, limits .levels-low) in
         rw (last, size-last S T h) at (all-room (length T) (S .levels) (size S T) (count S T) halves
         (λ i il. blocks-room (length T) (size S T i) (count S T i) (start S T i) (level-at S T h i il)) (S .levels - 1) (omega arith))
 
-    -- the records of all levels
+    -- The records of all levels.
     table-le : sumBelow (S .levels) (count S T) * recordBytes S ≤ maxRecords (length T)
     unfolding recordBytes
     table-le = rw (record-edged builtLayout (S .leaf) (length (S .counted)) refl)

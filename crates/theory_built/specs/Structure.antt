@@ -8,9 +8,9 @@ use native.Mathlib.Omega.{arith}
 use native.Mathlib.Nat.{div-add-mod', mod-lt, suc-mul}
 use lib.ListN.{length, getD}
 use borrow.Author.Tests.{ne-eqb}
-use Rattle.text.specs.Lists.{tabulate, concat, sumBelow}
+use Rattle.text.specs.Text.{tabulate, concat, sumBelow}
 use Rattle.text.specs.ListLaws.{lt-or-ge, length-tabulate, getD-tabulate, sumBelow-ext}
-use Rattle.format.specs.Settings.{Settings, blockLength, pieces}
+use Rattle.format.specs.Layout.{Settings, blockLength, pieces}
 use Rattle.format.specs.Blocks.{startsAt, startOf, lengthOf, keptByPairs, isKept, width, cut}
 use Rattle.theory_built.specs.Gather.{length-concat, getD-concat}
 use Rattle.format.specs.PieceLaws.{lt-pieces}
@@ -21,7 +21,7 @@ use Rattle.theory_built.specs.Descent.{holds-below}
 use Rattle.theory_built.specs.KeptRule.{byteAt, marks}
 
 module _ (S : Settings) (T : List ℕ) where
-  -- the block length of level l, its number of blocks, where its block i starts
+  -- The block length of level l, its number of blocks, where its block i starts.
   abbrev pub size : ℕ → ℕ
   size l = blockLength S l
 
@@ -31,7 +31,7 @@ module _ (S : Settings) (T : List ℕ) where
   abbrev pub start : ℕ → ℕ → ℕ
   start l i = startOf T (blockLength S l) (startsAt S T l) i
 
-  -- how many bytes block i has, whether it is kept, and how many blocks or leaf bytes it has one level below
+  -- How many bytes block i has, whether it is kept, and how many blocks or leaf bytes it has one level below.
   abbrev pub bytesIn : ℕ → ℕ → ℕ
   bytesIn l i = lengthOf T (blockLength S l) (startsAt S T l) i
 
@@ -41,7 +41,7 @@ module _ (S : Settings) (T : List ℕ) where
   abbrev pub widthOf : ℕ → ℕ → ℕ
   widthOf l i = width S T l (startsAt S T l) i
 
-  -- block i holds the len bytes from p, with the next one where that is needed
+  -- Block i holds the len bytes from p, with the next one where that is needed.
   abbrev pub HoldsAt : ℕ → ℕ → ℕ → ℕ → Type 0
   HoldsAt l i p len = Holds (byteAt T) (length T) (size l) (count l) (start l) i p len
 
@@ -53,7 +53,7 @@ module _ (S : Settings) (T : List ℕ) where
   unfolding lengthOf
   bytesIn-is l i = refl
 
-  -- above the last level the pairs decide
+  -- Above the last level the pairs decide.
   pub kept-upper : (l i : ℕ) → suc l < S .levels → keptAt l i ≡ keptByPairs T (size l) (startsAt S T l) i
   unfolding isKept
   kept-upper l i h = rw (ne-eqb (suc l) (S .levels) (λ e. omega arith))
@@ -120,13 +120,13 @@ module _ (S : Settings) (T : List ℕ) where
     unfolding startsAt cut startOf
     start-top i l = getD-tabulate (pieces (length T) (size 0)) (λ j. 0 + j * size 0) i 0 (rw count-top at l) ∙ omega arith
 
-    -- every level is in order
+    -- Every level is in order.
     pub level-at : (l : ℕ) → l < S .levels → Level (length T) (size l) (count l) (start l)
     level-at zero k = level-top (length T) (size 0) (count 0) (start 0) (size-pos S T h 0) count-top start-top
     level-at (suc l) k = level-below (length T) (size l) (count l) (start l) (keptAt l) (widthOf l) (size (suc l)) (count (suc l)) (start (suc l))
         (level-at l (omega arith)) (cut-at l k)
 
-    -- a block that holds a first occurrence is kept, and so is the next where they are a pair
+    -- A block that holds a first occurrence is kept, and so is the next where they are a pair.
     module _ (l p len i : ℕ) (k : suc l < S .levels) (f : First (byteAt T) (length T) p len) (small : len ≤ size l) (hold : HoldsAt l i p len) where
       pub landed-kept : keptAt l i ≡ true
       landed-kept = kept-upper l i k ∙ holds-kept (byteAt T) (length T) (size l) (count l) (start l) p len small f
@@ -136,7 +136,7 @@ module _ (S : Settings) (T : List ℕ) where
       landed-next pr = kept-upper l (suc i) k ∙ holds-next (byteAt T) (length T) (size l) (count l) (start l) p len small f
           (λ i. keptByPairs T (size l) (startsAt S T l) i ≡ true) (marks T (size l) (startsAt S T l)) i hold pr
 
-    -- level 0 covers the text
+    -- Level 0 covers the text.
     pub holds-top : (p len : ℕ) → 0 < len → p + len ≤ length T → (i : ℕ) × HoldsAt 0 i p len
     holds-top p len some fits = (
       i,

@@ -4,15 +4,14 @@ use mathlib.Core.Logic.{_⊎_, inl, inr}
 use Prim.Native.Nat.{ℕ, zero, suc, _+_, _-_, _*_, _≤_, _<_}
 use native.Mathlib.Omega.{arith}
 use native.Mathlib.Nat.{suc-mul, add-mul, mul-add, mul-assoc, mul-comm, mul-one, mul-le-mul, mul-le-mul-right, mul-le-mul-left}
-use Rattle.text.specs.Lists.{sumBelow}
+use Rattle.text.specs.Text.{sumBelow}
 use Rattle.text.specs.ListLaws.{lt-or-ge}
-use Rattle.format.specs.RecordFields.{fieldBytes}
-use Rattle.format.specs.Settings.{maxLeaf, maxLevels, maxCounted}
+use Rattle.format.specs.Layout.{fieldBytes, maxLeaf, maxLevels, maxCounted}
 use Rattle.theory_built.specs.LevelBlocks.{Level}
 
 -- The blocks of one level follow each other, and each starts before the end of the text.
 module _ (n b N : ℕ) (start : ℕ → ℕ) (lv : Level n b N start) where
-  -- block i begins i whole blocks or more after the first
+  -- Block i begins i whole blocks or more after the first.
   pub start-multiples : (i : ℕ) → i < N → i * b ≤ start i
   start-multiples zero h = omega arith
   start-multiples (suc i) h = omega (arith, start-multiples i (omega arith), lv .rising i (suc i) (omega arith) h, suc-mul i b)
@@ -39,9 +38,9 @@ halved x B c y k half h = go (lt-or-ge k x)
     go (inl l) = past (x - k) (omega arith)
     go (inr l) = omega (arith, mul-le-mul-right c l)
 
--- levels whose block lengths fall by half or more
+-- Levels whose block lengths fall by half or more.
 module _ (n H : ℕ) (b N : ℕ → ℕ) (half : (l : ℕ) → suc l < H → 2 * b (suc l) ≤ b l) (room : (l : ℕ) → l < H → N l * b l ≤ n + b l) where
-  -- the blocks of the first levels, each counted with the bytes of a block of the last of them
+  -- The blocks of the first levels, each counted with the bytes of a block of the last of them.
   pub all-room : (l : ℕ) → l < H → sumBelow (suc l) N * b l ≤ 2 * n + suc l * b l
   unfolding sumBelow
   all-room zero e = omega (arith, room 0 e, suc-mul 0 (b 0))
@@ -62,7 +61,7 @@ all-few x m y k low h = go (lt-or-ge k x)
     go (inl l) = past (x - k) (omega arith)
     go (inr l) = omega arith
 
--- the most bytes of the records of a text of n bytes: of their words, with at most 2 n blocks and one for each level, and of their edges
+-- The most bytes of the records of a text of n bytes: of their words, with at most 2 n blocks and one for each level, and of their edges.
 abbrev pub maxRecords : ℕ → ℕ
 maxRecords n = (2 * n + maxLevels) * fieldBytes maxCounted + 2 * (2 * n + maxLevels * maxLeaf)
 

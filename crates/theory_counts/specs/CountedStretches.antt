@@ -11,7 +11,7 @@ use Rattle.text.specs.TextLaws.{stretch-ext}
 use Rattle.text.specs.CountLaws.{count-add, count-none, count-stretch-le}
 use Rattle.format.specs.LayoutLaws.{Readable}
 use Rattle.format.specs.Layout as at
-use Rattle.format.specs.Fits.{widthAt, textOf}
+use Rattle.format.specs.TreeReading.{widthAt, textOf}
 use Rattle.theory_paths.specs.Links.{H, N, s, len, width-last, Linked, pointing-kind}
 use Rattle.theory_paths.specs.BlockStarts.{len-end, start-below, last-kept}
 use Rattle.theory_paths.specs.FitsFacts.{Fitting, fits-facts}
@@ -40,7 +40,7 @@ module _ (t : List ℕ) where
     block-end : (l i x : ℕ) → l < H t → i < N t l → x ≤ len t l i → s t l i + x ≤ length (textOf t)
     block-end l i x hl hi hx = omega (arith, len-end t l i (omega (arith, start-below t k d l i hl hi)), text-length t)
 
-    -- the leaf bytes of a last-level block are the text's
+    -- The leaf bytes of a last-level block are the text's.
     leaf-end : (i : ℕ) → i < N t (H t - 1) → at.link t (H t - 1) i + len t (H t - 1) i ≤ at.leafCount t
     leaf-end i hi =
         let kept = last-kept t k d i hi in
@@ -75,7 +75,7 @@ module _ (t : List ℕ) where
             let g₁ : x ≤ len t (H t - 1) i = rw e at g in
             rw e (last-leaves i x c h₁ g₁)
 
-    -- the bytes of a pointing block are those of its occurrence
+    -- The bytes of a pointing block are those of its occurrence.
     pub points-tally : (l i x c : ℕ) → i < N t l → at.isKept t l i ≡ false → x ≤ len t l i
         → l < H t → tally t c (s t l i) x ≡ tally t c (s t l (at.link t l i) + at.gap t l i) x
     unfolding tally

@@ -8,12 +8,11 @@ use native.Mathlib.Omega.{arith}
 use native.Mathlib.Nat.{pos-of-ne-zero}
 use borrow.Author.Tests.{eqb-true, eqb-false, eq-eqb, ne-eqb}
 use lib.Dec.{eqb}
-use Rattle.text.specs.Lists.{allBelow}
+use Rattle.text.specs.Text.{allBelow}
 use Rattle.text.specs.ListLaws.{bool-cases, and-left, and-right, and-both, below-suc, allBelow-at, allBelow-make}
 use Rattle.format.specs.LayoutLaws.{Readable}
 use Rattle.format.specs.Layout as at
-use Rattle.format.specs.Path.{targetBlock, targetPlace}
-use Rattle.format.specs.Fits.{lastLevel, textOf, countsTrue}
+use Rattle.format.specs.TreeReading.{targetBlock, targetPlace, lastLevel, textOf, countsTrue}
 use Rattle.theory_paths.specs.Links.{H, N, b, s, len, Linked}
 use Rattle.theory_paths.specs.BlockStarts.{child, len-pos, target-full}
 use Rattle.theory_paths.specs.PlacesLand.{target}
@@ -25,7 +24,7 @@ use Rattle.theory_counts.specs.Families.{kept-step, last-child-tally, at
 use Rattle.theory_counts.specs.PointedCounts.{points-hand, handed}
 
 module _ (t : List ℕ) (k : Readable t) (d : Linked t) where
-  -- the counts of the levels below l are true
+  -- The counts of the levels below l are true.
   abbrev pub Below : ℕ → Type 0
   Below l = (m : ℕ) → l < m → m < H t → Level t m
 
@@ -158,7 +157,7 @@ module _ (t : List ℕ) (k : Readable t) (d : Linked t) where
     abbrev Locals : Type 0
     Locals = (i c : ℕ) → i < N t l → c < at.countedCount t → Local l i c
 
-    -- from the equations to the text's counts: inside of kept blocks, then of pointing ones, then before from left to right
+    -- From the equations to the text's counts: inside of kept blocks, then of pointing ones, then before from left to right.
 
     kept-true : Locals → (i c : ℕ) → i < N t l → c < at.countedCount t → at.isKept t l i ≡ true → at.inside t l i c ≡ tally t c (s t l i) (len t l i)
     kept-true a i c hi hc kept = a i c hi hc .kept-in kept ∙ kept-inside l i c hl hi hc h kept

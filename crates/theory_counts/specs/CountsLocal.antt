@@ -5,11 +5,9 @@ use mathlib.Core.Bool.{Bool, cond, _&&_}
 use Prim.Native.Nat.{ℕ, zero, suc, _+_, _-_, _/_, _%_}
 use lib.ListN.{getD}
 use lib.Dec.{eqb, ltb}
-use Rattle.text.specs.Lists.{allBelow}
-use Rattle.text.specs.Text.{stretch, countIn}
+use Rattle.text.specs.Text.{allBelow, stretch, countIn}
 use Rattle.format.specs.Layout as at
-use Rattle.format.specs.Path.{targetBlock, targetPlace}
-use Rattle.format.specs.Fits.{lastLevel}
+use Rattle.format.specs.TreeReading.{targetBlock, targetPlace, lastLevel}
 
 module _ (t : List ℕ) where
   -- counted byte number c
@@ -20,7 +18,7 @@ module _ (t : List ℕ) where
   unfoldable pub inLeaves : ℕ → ℕ → ℕ → ℕ → ℕ
   inLeaves l i x c = countIn (byteOf c) (stretch t (at.leafOffset t + at.link t l i) x)
 
-  -- the length of a full block of the level above; of the text above level 0
+  -- The length of a full block of the level above; of the text above level 0.
   unfoldable pub upLength : ℕ → ℕ
   upLength zero = at.textLength t
   upLength (suc l) = at.fullLength t l

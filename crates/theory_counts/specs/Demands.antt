@@ -10,13 +10,10 @@ use lib.Dec.{eqb}
 use Rattle.text.specs.Text.{countIn, placeOf}
 use Rattle.text.specs.CountLaws.{Nth, place-nth}
 use Rattle.format.specs.Layout as at
-use Rattle.format.specs.Path.{pathOf}
-use Rattle.format.specs.Fits.{linksOk, textOf, countsTrue}
-use Rattle.format.specs.Verdict.{readable, verdict}
+use Rattle.format.specs.TreeReading.{pathOf, linksOk, textOf, countsTrue, readable, verdict}
 use Rattle.format.specs.VerdictLaws.{accepted-readable, accepted-links, accepted-counts}
 use Rattle.format.specs.LayoutLaws.{readable-facts}
-use Rattle.format.specs.CountSays.{isCounted, numberOfByte, countSays}
-use Rattle.format.specs.FindSays.{total, pathLength}
+use Rattle.format.specs.Answers.{isCounted, numberOfByte, countSays, total, pathLength}
 use Rattle.format.specs.FindSaysLaws.{Selected}
 use Rattle.theory_paths.specs.Links.{Linked, linked-facts}
 use Rattle.theory_paths.specs.OneText.{text-length}
@@ -39,7 +36,7 @@ module _ (t : List ℕ) (v : verdict t ≡ 0) where
   abbrev d : Linked t
   d = linked-facts t (accepted-links t v)
 
-  -- every before, inside and skip is the text's count in the stretch that it names
+  -- Every before, inside and skip is the text's count in the stretch that it names.
   pub levels : (l : ℕ) → l < at.settings t .levels → Level t l
   levels = counts-facts t (accepted-counts t v)
 

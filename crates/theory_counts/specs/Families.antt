@@ -12,7 +12,7 @@ use Rattle.text.specs.ListLaws.{lt-or-ge}
 use Rattle.format.specs.PieceLaws.{lt-pieces}
 use Rattle.format.specs.LayoutLaws.{Readable, full-pos, full-step}
 use Rattle.format.specs.Layout as at
-use Rattle.format.specs.Fits.{widthAt}
+use Rattle.format.specs.TreeReading.{widthAt}
 use Rattle.theory_paths.specs.Links.{H, N, b, s, len, width-kept, Linked}
 use Rattle.theory_paths.specs.BlockStarts.{len-small, len-end, Parent, parent, parent-start, start-below, start-multiple, len-pos, Child, child}
 use Rattle.theory_counts.specs.CountsLocal.{upLength, lastChild}
@@ -31,7 +31,7 @@ module _ (t : List ℕ) where
   module _ (k : Readable t) (d : Linked t) where
     -- Parents and children.
 
-    -- where a block that starts within a kept block's length is its child
+    -- Where a block that starts within a kept block's length is its child.
     pub child-of : (l a j : ℕ) → l + 1 < H t → a < N t l → at.isKept t l a ≡ true → j * b t (l + 1) < len t l a → Parent t l (at.link t l a + j) a j
     child-of l a j hl ha kept h =
         let pos : 0 < b t (l + 1) = full-pos t k (l + 1) in
@@ -51,7 +51,7 @@ module _ (t : List ℕ) where
         let f : at.before t (l + 1) i c ≡ tally t c (s t l a) (j * b t (l + 1)) = rw e at (rw (parent-place l i a j hl p) at (h .before-is)) in
         omega (arith, tally-parts t c (s t l a) (s t (l + 1) i) (j * b t (l + 1)) x (j * b t (l + 1) + x) (p .start-is) refl)
 
-    -- to a place o of the parent
+    -- To a place o of the parent.
     pub kept-step : (l a o c : ℕ) → l + 1 < H t → a < N t l → at.isKept t l a ≡ true → o < len t l a → Block t (l + 1) (at.link t l a + o / b t (l + 1)) c
         → at.before t (l + 1) (at.link t l a + o / b t (l + 1)) c + tally t c (s t (l + 1) (at.link t l a + o / b t (l + 1))) (o % b t (l + 1) + 1)
         ≡ tally t c (s t l a) (o + 1)
@@ -62,7 +62,7 @@ module _ (t : List ℕ) where
         let e : j * b t (l + 1) + (o % b t (l + 1) + 1) ≡ o + 1 = omega arith in
         sym (rw e at (child-tally l a j c (o % b t (l + 1) + 1) hl p h))
 
-    -- the last child ends where the block ends
+    -- The last child ends where the block ends.
     full-last : (l : ℕ) → l + 1 < H t → (b t l - 1) % b t (l + 1) ≡ b t (l + 1) - 1
     full-last l hl =
         let c = b t (l + 1) in
@@ -102,7 +102,7 @@ module _ (t : List ℕ) where
               len-end t (l + 1) j (omega (arith, start-below t k d (l + 1) j hl (q .below))),
             )
 
-    -- a kept block's count is its last child's before and inside
+    -- A kept block's count is its last child's before and inside.
     pub last-child-tally : (l a c : ℕ) → l + 1 < H t → a < N t l → at.isKept t l a ≡ true → Block t (l + 1) (lastChild t l a) c
         → at.before t (l + 1) (lastChild t l a) c + at.inside t (l + 1) (lastChild t l a) c ≡ tally t c (s t l a) (len t l a)
     unfolding lastChild
@@ -116,20 +116,20 @@ module _ (t : List ℕ) where
 
     -- Siblings.
 
-    -- a block that starts where its parent starts
+    -- A block that starts where its parent starts.
     pub at-parent : (l i : ℕ) → l < H t → i < N t l → s t l i % upLength t l ≡ 0 → parentPlace t l (s t l i) ≡ s t l i
     unfolding upLength parentPlace
     at-parent zero i hl hi e = omega (arith, mod-eq-of-lt (start-below t k d 0 i hl hi))
     at-parent (suc l) i hl hi e = omega (arith, div-add-mod' (s t (suc l) i) (b t l))
 
-    -- any other has a left neighbour under the same parent, which ends where it starts
+    -- Any other has a left neighbour under the same parent, which ends where it starts.
     pub record Neighbour (l i : ℕ) : Type 0 where
       pub low : 1 ≤ i
       pub same-parent : parentPlace t l (s t l (i - 1)) ≡ parentPlace t l (s t l i)
       pub parent-low : parentPlace t l (s t l i) ≤ s t l (i - 1)
       pub meets : s t l (i - 1) + len t l (i - 1) ≡ s t l i
 
-    -- a block that is full where another starts within the text
+    -- A block that is full where another starts within the text.
     full-before : (l i x : ℕ) → s t l i + b t l ≡ x → x < at.textLength t → s t l i + len t l i ≡ x
     unfolding at.blockLengthAt
     full-before l i x e h = omega arith

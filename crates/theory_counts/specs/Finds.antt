@@ -13,13 +13,12 @@ use borrow.Author.Tests.{ne-eqb}
 use Rattle.text.specs.ListLaws.{lt-or-ge}
 use Rattle.text.specs.Text.{stretch, countIn, placeOf}
 use Rattle.text.specs.CountLaws.{count-whole, count-mono, Nth, nth-earlier, nth-later, nth-past, nth-before, nth-place}
-use Rattle.format.specs.Settings.{pieces}
+use Rattle.format.specs.Layout.{pieces}
 use Rattle.format.specs.PieceLaws.{pieces-cover, pieces-start}
 use Rattle.format.specs.LayoutLaws.{Readable, full-pos}
 use Rattle.format.specs.Layout as at
-use Rattle.format.specs.Path.{Path, Visit, visit, entered, targetBlock, targetPlace, pathFrom, pathOf}
-use Rattle.format.specs.Fits.{textOf}
-use Rattle.format.specs.FindSays.{total, pathLength}
+use Rattle.format.specs.TreeReading.{Path, Visit, visit, entered, targetBlock, targetPlace, pathFrom, pathOf, textOf}
+use Rattle.format.specs.Answers.{total, pathLength}
 use Rattle.theory_paths.specs.Links.{H, N, b, s, len, Pointing, Follows, Linked, pointing-kind}
 use Rattle.theory_paths.specs.BlockStarts.{len-small, len-inside, len-pos, start-below, Parent, in-parent, child, last-kept, leaf-below, target-full}
 use Rattle.theory_paths.specs.BlockStarts.{second-inside}
@@ -45,7 +44,7 @@ module _ (t : List ℕ) (k : Readable t) (d : Linked t) (a : (m : ℕ) → m < H
       let e : s t 0 i - 0 ≡ i * b t 0 = omega (arith, d .start0 i hi) in
       rw e at (a 0 (omega (arith, k .bounds .levels-low)) i c hi hc .before-is)
 
-  -- the last block ends the text
+  -- The last block ends the text.
   top-end : (i : ℕ) → i < N t 0 → N t 0 ≤ i + 1 → s t 0 i + len t 0 i ≡ at.textLength t
   unfolding at.blockLengthAt
   top-end i hi last =
@@ -53,7 +52,7 @@ module _ (t : List ℕ) (k : Readable t) (d : Linked t) (a : (m : ℕ) → m < H
       let cover = rw (← k .level0, e, add-mul i 1 (b t 0), one-mul) at (pieces-cover (at.textLength t) (b t 0) (full-pos t k 0)) in
       omega (arith, d .start0 i hi, start-below t k d 0 i (omega (arith, k .bounds .levels-low)) hi)
 
-  -- any other ends where the next one starts
+  -- Any other ends where the next one starts.
   top-meets : (i : ℕ) → i + 1 < N t 0 → s t 0 i + len t 0 i ≡ (i + 1) * b t 0
   unfolding at.blockLengthAt
   top-meets i h =
@@ -96,7 +95,7 @@ module _ (t : List ℕ) (k : Readable t) (d : Linked t) (a : (m : ℕ) → m < H
   pub top-rises : (i j : ℕ) → i ≤ j → j < N t 0 → at.before t 0 i c ≤ at.before t 0 j c
   top-rises i j h hj = omega (arith, top-before i (omega arith), top-before j hj, tally-mono 0 (i * b t 0) (j * b t 0) (mul-le-mul-right (b t 0) h))
 
-  -- the last block before any whose before is n or more holds the n-th byte
+  -- The last block before any whose before is n or more holds the n-th byte.
   pub top-holds : (i n : ℕ) → i < N t 0 → n ≤ total t c → (i + 1 < N t 0 → n ≤ at.before t 0 (i + 1) c) → n ≤ at.before t 0 i c + at.inside t 0 i c
   top-holds i n hi high next = go (lt-or-ge (i + 1) (N t 0))
     where
@@ -111,7 +110,7 @@ module _ (t : List ℕ) (k : Readable t) (d : Linked t) (a : (m : ℕ) → m < H
 
   -- Siblings below: the children of a kept block.
   module _ (l i : ℕ) (hl : l + 1 < H t) (hi : i < N t l) (kept : at.isKept t l i ≡ true) where
-    -- how many there are
+    -- How many there are.
     abbrev pub width : ℕ
     width = pieces (len t l i) (b t (l + 1))
 
@@ -131,7 +130,7 @@ module _ (t : List ℕ) (k : Readable t) (d : Linked t) (a : (m : ℕ) → m < H
         let e : j * b t (l + 1) + 0 ≡ j * b t (l + 1) = add-zero _ in
         omega (arith, rw e at (child-tally t k d l i j c 0 hl (child-number j h) (child-true j h)), tally-none t c (s t (l + 1) (at.link t l i + j)))
 
-    -- the first child's before is 0
+    -- The first child's before is 0.
     pub first-before : 0 < width → at.before t (l + 1) (at.link t l i + 0) c ≡ 0
     first-before h = child-before 0 h ∙ rw (zero-mul (b t (l + 1))) (tally-none t c (s t l i))
 
@@ -140,7 +139,7 @@ module _ (t : List ℕ) (k : Readable t) (d : Linked t) (a : (m : ℕ) → m < H
     child-both j h =
         omega (arith, child-tally t k d l i j c (len t (l + 1) (at.link t l i + j)) hl (child-number j h) (child-true j h), child-true j h .inside-is)
 
-    -- a child that is not the last is full, the last one ends the block
+    -- A child that is not the last is full, the last one ends the block.
     child-full : (j : ℕ) → j + 1 < width → j * b t (l + 1) + len t (l + 1) (at.link t l i + j) ≡ (j + 1) * b t (l + 1)
     unfolding at.blockLengthAt
     child-full j h =
@@ -156,7 +155,7 @@ module _ (t : List ℕ) (k : Readable t) (d : Linked t) (a : (m : ℕ) → m < H
         let most : width * b t (l + 1) ≤ (j + 1) * b t (l + 1) = mul-le-mul-right (b t (l + 1)) last in
         omega (arith, p .start-is, add-mul j 1 (b t (l + 1)), one-mul (b t (l + 1)))
 
-    -- the last child before any whose before is n or more holds the block's n-th byte
+    -- The last child before any whose before is n or more holds the block's n-th byte.
     pub child-holds : (j n : ℕ) → j < width → n ≤ at.inside t l i c → (j + 1 < width → n ≤ at.before t (l + 1) (at.link t l i + (j + 1)) c)
         → n ≤ at.before t (l + 1) (at.link t l i + j) c + at.inside t (l + 1) (at.link t l i + j) c
     child-holds j n h high next = go (lt-or-ge (j + 1) width)
@@ -182,7 +181,7 @@ module _ (t : List ℕ) (k : Readable t) (d : Linked t) (a : (m : ℕ) → m < H
   entered-one : (v : Visit) (r : Option Path) (q : Path) → r ≡ some q → pathLength t (entered (v ∷ []) r) ≡ pathLength t r + 1
   entered-one v r q e = rw e (omega arith)
 
-  -- in a last-level block by its leaf bytes
+  -- In a last-level block by its leaf bytes.
   last-lands : (i n o : ℕ) → i < N t (H t - 1) → o < len t (H t - 1) i → at.leafByte t (at.link t (H t - 1) i + o) ≡ byteOf t c
       → inLeaves t (H t - 1) i o c + 1 ≡ n → Lands (H t - 1) i n o 1
   unfolding tally
@@ -211,7 +210,7 @@ module _ (t : List ℕ) (k : Readable t) (d : Linked t) (a : (m : ℕ) → m < H
           let h₄ : inLeaves t (H t - 1) i o c + 1 ≡ n = rw e at rank in
           rw e (last-lands i n o h₁ h₂ h₃ h₄)
 
-  -- in a kept block by the child that holds it
+  -- In a kept block by the child that holds it.
   pub lands-child : (l i j n o e : ℕ) → l + 1 < H t → i < N t l → at.isKept t l i ≡ true → j < pieces (len t l i) (b t (l + 1))
       → at.before t (l + 1) (at.link t l i + j) c < n → Lands (l + 1) (at.link t l i + j) (n - at.before t (l + 1) (at.link t l i + j) c) o e
       → Lands l i n (j * b t (l + 1) + o) (e + 1)
@@ -251,7 +250,7 @@ module _ (t : List ℕ) (k : Readable t) (d : Linked t) (a : (m : ℕ) → m < H
     first-is : at.inside t l j c ≡ tally t c (s t l j) (b t l)
     first-is = a l hl j c (p .target-below) hc .inside-is ∙ ap (tally t c (s t l j)) (target-full t k d l i p hi)
 
-    -- the gap and the block's own length from there on
+    -- The gap and the block's own length from there on.
     both-are : at.skip t l i c + at.inside t l i c ≡ tally t c (s t l j) (g + len t l i)
     both-are =
         omega (
@@ -262,7 +261,7 @@ module _ (t : List ℕ) (k : Readable t) (d : Linked t) (a : (m : ℕ) → m < H
           tally-parts t c (s t l j) (s t l j + g) g (len t l i) (g + len t l i) refl refl,
         )
 
-    -- from the occurrence to the block itself
+    -- From the occurrence to the block itself.
     record Own (y : ℕ) : Type 0 where
       gap-low : g ≤ y
       inside : y - g < len t l i
@@ -303,7 +302,7 @@ module _ (t : List ℕ) (k : Readable t) (d : Linked t) (a : (m : ℕ) → m < H
         rw (left, from-pointing t below l i o (kept-not t l i hi un) (pointing-block t l i hi p) (kept-block t l (targetBlock t l i o) (w .below) (w .kept)))
         (entered-one (visit l i o) _ (path .0) (path .1))
 
-    -- in the first target
+    -- In the first target.
     pub lands-first : (x e : ℕ) → Lands l j (n + at.skip t l i c) x e → (g ≤ x) × Lands l i n (x - g) (e + 1)
     lands-first x e h =
         let w = own x (h .nth) in
@@ -321,7 +320,7 @@ module _ (t : List ℕ) (k : Readable t) (d : Linked t) (a : (m : ℕ) → m < H
           },
         )
 
-    -- past the first target's inside there is a second, which holds the rest
+    -- Past the first target's inside there is a second, which holds the rest.
     pub second-holds : at.inside t l j c < n + at.skip t l i c → Follows t l j × (n + at.skip t l i c - at.inside t l j c ≤ at.inside t l (j + 1) c)
     second-holds past = go (lt-or-ge (b t l) (g + len t l i))
       where
@@ -346,7 +345,7 @@ module _ (t : List ℕ) (k : Readable t) (d : Linked t) (a : (m : ℕ) → m < H
             )
         go (inr short) = absurd (let z : ⊥ = omega (arith, both-are, first-is, tally-mono (s t l j) (g + len t l i) (b t l) short) in z)
 
-    -- in the second
+    -- In the second.
     pub lands-second : at.inside t l j c < n + at.skip t l i c → (x e : ℕ) → Lands l (j + 1) (n + at.skip t l i c - at.inside t l j c) x e
         → (g ≤ b t l + x) × Lands l i n (b t l + x - g) (e + 1)
     unfolding tally

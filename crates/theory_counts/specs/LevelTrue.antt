@@ -5,12 +5,11 @@ use mathlib.Core.Path.{_≡_}
 use Prim.Native.Nat.{ℕ, zero, suc, _-_, _*_, _/_, _<_}
 use borrow.Author.Tests.{eqb-true, eq-eqb}
 use lib.Dec.{eqb}
-use Rattle.text.specs.Lists.{allBelow}
+use Rattle.text.specs.Text.{allBelow, stretch, countIn}
 use Rattle.text.specs.ListLaws.{and-both, allBelow-at, allBelow-make}
 use Rattle.text.specs.Conjunctions.{parts}
-use Rattle.text.specs.Text.{stretch, countIn}
 use Rattle.format.specs.Layout as at
-use Rattle.format.specs.Fits.{textOf, blockCountsTrue, countsTrue}
+use Rattle.format.specs.TreeReading.{textOf, blockCountsTrue, countsTrue}
 use Rattle.theory_paths.specs.Links.{H, N, s, len}
 use Rattle.theory_counts.specs.CountsLocal.{byteOf}
 
@@ -19,12 +18,12 @@ module _ (t : List ℕ) where
   unfoldable pub tally : ℕ → ℕ → ℕ → ℕ
   tally c p x = countIn (byteOf t c) (stretch (textOf t) p x)
 
-  -- the start of the parent of a block of level l that starts at p; the text's on level 0
+  -- The start of the parent of a block of level l that starts at p; the text's on level 0.
   unfoldable pub parentPlace : ℕ → ℕ → ℕ
   parentPlace zero p = 0
   parentPlace (suc l) p = p / at.fullLength t l * at.fullLength t l
 
-  -- the counts of byte number c in block i are those of the text
+  -- The counts of byte number c in block i are those of the text.
   pub record Block (l i c : ℕ) : Type 0 where
     pub before-is : at.before t l i c ≡ tally c (parentPlace l (s t l i)) (s t l i - parentPlace l (s t l i))
     pub inside-is : at.inside t l i c ≡ tally c (s t l i) (len t l i)
@@ -57,7 +56,7 @@ module _ (t : List ℕ) where
   block-make zero i c h = and-both (and-both (eq-eqb _ _ (h .before-is)) (eq-eqb _ _ (h .inside-is))) (eq-eqb _ _ (h .skip-is))
   block-make (suc l) i c h = and-both (and-both (eq-eqb _ _ (h .before-is)) (eq-eqb _ _ (h .inside-is))) (eq-eqb _ _ (h .skip-is))
 
-  -- the counts are true exactly where each level's are
+  -- The counts are true exactly where each level's are.
 
   pub counts-facts : countsTrue (textOf t) t ≡ true → (l : ℕ) → l < H t → Level l
   unfolding countsTrue

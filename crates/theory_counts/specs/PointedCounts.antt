@@ -10,7 +10,7 @@ use lib.Dec.{ltb}
 use Rattle.text.specs.ListLaws.{bool-cases, lt-or-ge}
 use Rattle.format.specs.LayoutLaws.{Readable}
 use Rattle.format.specs.Layout as at
-use Rattle.format.specs.Path.{targetBlock, targetPlace}
+use Rattle.format.specs.TreeReading.{targetBlock, targetPlace}
 use Rattle.theory_paths.specs.Links.{H, N, b, s, len, Pointing, Linked}
 use Rattle.theory_paths.specs.BlockStarts.{target-full}
 use Rattle.theory_paths.specs.PlacesLand.{target, target-first, target-second}
@@ -20,7 +20,7 @@ use Rattle.theory_counts.specs.CountedStretches.{tally-parts, points-tal
 
 module _ (t : List ℕ) where
   module _ (k : Readable t) (d : Linked t) where
-    -- the skip and the count up to place o of a pointing block, together, by the count up to the target place
+    -- The skip and the count up to place o of a pointing block, together, by the count up to the target place.
     pub points-hand : (l i o c : ℕ) → i < N t l → at.isKept t l i ≡ false → Pointing t l i → o < len t l i
         → at.inside t l (at.link t l i) c ≡ tally t c (s t l (at.link t l i)) (len t l (at.link t l i))
         → cond (ltb (at.gap t l i + o) (b t l)) 0 (at.inside t l (at.link t l i) c) + tally t c (s t l (targetBlock t l i o)) (targetPlace t l i o + 1)
@@ -85,7 +85,7 @@ module _ (t : List ℕ) where
           count = rw un (omega (arith, points-hand l i o c hi un p ho ins, sk));
         }
 
-    -- where the level's counts are true
+    -- Where the level's counts are true.
     pub skip-points : (l i c : ℕ) → at.isKept t l i ≡ false → Block t l i c → at.skip t l i c ≡ tally t c (s t l (at.link t l i)) (at.gap t l i)
     skip-points l i c un h = h .skip-is ∙ rw un
 

@@ -16,11 +16,9 @@ use Rattle.text.specs.Text.{countIn}
 use Rattle.text.specs.CountLaws.{count-start, count-nil}
 use Rattle.format.specs.LayoutLaws.{Readable, readable-facts, full-pos, level0-holds}
 use Rattle.format.specs.Layout as at
-use Rattle.format.specs.Path.{Path, Visit, visit, keptBlock, targetBlock, targetPlace, pathOf}
-use Rattle.format.specs.Fits.{textOf}
-use Rattle.format.specs.Verdict.{readable}
-use Rattle.format.specs.FindSays.{pathLength}
-use Rattle.format.specs.CountSays.{indexOf, addedAfter, added, takenAfter, taken, lastPlace, leavesReached, countOf, isCounted, numberOfByte, countSays}
+use Rattle.format.specs.TreeReading.{Path, Visit, visit, keptBlock, targetBlock, targetPlace, pathOf, textOf, readable}
+use Rattle.format.specs.Answers.{pathLength}
+use Rattle.format.specs.Answers.{indexOf, addedAfter, added, takenAfter, taken, lastPlace, leavesReached, countOf, isCounted, numberOfByte, countSays}
 use Rattle.theory_paths.specs.Links.{H, N, b, s, len, Linked}
 use Rattle.theory_paths.specs.BlockStarts.{child, len-reach}
 use Rattle.theory_paths.specs.PlacesLand.{kept-block, target, target-first, target-second}
@@ -33,7 +31,7 @@ use Rattle.theory_counts.specs.Families.{kept-step}
 use Rattle.theory_counts.specs.PointedCounts.{points-hand, skip-points}
 
 module _ (t : List ℕ) where
-  -- the last level's count that a path's end gives
+  -- The last level's count that a path's end gives.
   unfoldable pub leafCount : ℕ → List Visit → ℕ → ℕ
   leafCount c vs x = countIn (byteOf t c) (leavesReached t (record { visits = vs; leaf = x }))
 
@@ -45,13 +43,13 @@ module _ (t : List ℕ) where
   unfolding leafCount leavesReached lastPlace
   leaf-cons c v w vs x = refl
 
-  -- the first block on a path
+  -- The first block on a path.
   pub goes-head : {below l i o x : ℕ} {vs : List Visit} → Goes t below l i o vs x → (ws : List Visit) × (vs ≡ visit l i o ∷ ws)
   goes-head (Goes.ends kept h) = ([], refl)
   goes-head (Goes.down {vs = vs} kept g) = (vs, refl)
   goes-head {l = l} {i = i} {o = o} (Goes.points {vs = vs} un pt kept g) = (visit l (targetBlock t l i o) (targetPlace t l i o) ∷ vs, refl)
 
-  -- one level down, all of what the rest of the path adds and takes off
+  -- One level down, all of what the rest of the path adds and takes off.
   added-down : (c : ℕ) (u v : Visit) (vs : List Visit) → eqb (u .level) (v .level) ≡ false → addedAfter t c u (v ∷ vs) ≡ added t c (v ∷ vs)
   unfolding addedAfter added
   added-down c u v vs e = rw e
@@ -81,7 +79,7 @@ module _ (t : List ℕ) where
   unfolding taken
   taken-cons c v vs = refl
 
-  -- nothing after the last block
+  -- Nothing after the last block.
   pub added-end : (c : ℕ) (v : Visit) → addedAfter t c v [] ≡ 0
   unfolding addedAfter
   added-end c v = refl
@@ -90,7 +88,7 @@ module _ (t : List ℕ) where
   unfolding takenAfter
   taken-end c v = refl
 
-  -- from a pointing block to a target on its level
+  -- From a pointing block to a target on its level.
   pub taken-target : (c l i o j p : ℕ) (vs : List Visit) → takenAfter t c (visit l i o) (visit l j p ∷ vs) ≡ at.skip t l i c + takenAfter t c (visit l j p) vs
   unfolding takenAfter
   taken-target c l i o j p vs = rw (eq-eqb l l refl)
@@ -100,7 +98,7 @@ module _ (t : List ℕ) where
   unfolding addedAfter
   added-target c l i o j p vs = rw (eq-eqb l l refl)
 
-  -- to the target that holds a place
+  -- To the target that holds a place.
   added-at-target : (c l i o : ℕ) (vs : List Visit) → addedAfter t c (visit l i o) (visit l (targetBlock t l i o) (targetPlace t l i o) ∷ vs)
       ≡ cond (ltb (at.gap t l i + o) (b t l)) 0 (at.inside t l (at.link t l i) c) + addedAfter t c (visit l (targetBlock t l i o) (targetPlace t l i o)) vs
   added-at-target c l i o vs =

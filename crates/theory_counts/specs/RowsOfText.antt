@@ -9,18 +9,13 @@ use lib.ListN.{length}
 use lib.Dec.{leb}
 use borrow.Author.Tests.{leb-true, lt-ltb}
 use Rattle.text.specs.ListLaws.{bool-cases, bool-clash, and-left, and-right, lt-or-ge}
-use Rattle.text.specs.Text.{countIn}
-use Rattle.text.specs.Rows.{rowsOf}
+use Rattle.text.specs.Text.{countIn, rowsOf}
 use Rattle.text.specs.RowLaws.{endsOpen, rows-count}
 use Rattle.format.specs.Layout as at
-use Rattle.format.specs.Fits.{textOf}
-use Rattle.format.specs.Verdict.{ask, verdict, readable}
+use Rattle.format.specs.TreeReading.{textOf, ask, verdict, readable}
 use Rattle.format.specs.VerdictLaws.{accepted-readable, accepted-links}
-use Rattle.format.specs.ReadSays.{byteSays}
-use Rattle.format.specs.CountSays.{isCounted, numberOfByte}
-use Rattle.format.specs.FindSays.{total, selectNumber}
+use Rattle.format.specs.Answers.{byteSays, isCounted, numberOfByte, total, selectNumber, lastNumber, asksLast, rowNumber}
 use Rattle.format.specs.FindSaysLaws.{select-lets}
-use Rattle.format.specs.RowSays.{lastNumber, asksLast, rowNumber}
 use Rattle.format.specs.RowSaysLaws.{asks-last, asks-lets, row-number-last, row-number-plain}
 use Rattle.theory_paths.specs.OneText.{text-length}
 use Rattle.theory_paths.specs.Demands as paths
@@ -57,7 +52,7 @@ module _ (t : List ℕ) (v : verdict t ≡ 0) (counted : isCounted t 10 ≡ true
       let e = rows-count T in
       (omega (arith, all-is, e), omega (arith, all-is, e, added-few (endsOpen T)))
 
-  -- the last byte of a text that has one
+  -- The last byte of a text that has one.
   last-is : 0 < at.textLength t → lastNumber (byteSays t (at.textLength t - 1)) ≡ ask 12 (endsOpen T) 0
   unfolding endsOpen
   last-is some =
@@ -65,7 +60,7 @@ module _ (t : List ℕ) (v : verdict t ≡ 0) (counted : isCounted t 10 ≡ true
       rw (w .2, text-length t, lt-ltb 0 (at.textLength t) some)
 
   module _ (q : ℕ) where
-    -- where the last byte is read
+    -- Where the last byte is read.
     asked-last : asksLast t q ≡ true → (q ≡ countIn 10 T + 1) × (rowNumber t q ≡ ask 12 (endsOpen T) 0)
     asked-last h =
         let a = asks-last t q h in
@@ -80,12 +75,12 @@ module _ (t : List ℕ) (v : verdict t ≡ 0) (counted : isCounted t 10 ≡ true
             (asks-lets t q (record { pass = pass; counted = counted; some-byte = some; number = e ∙ ap (λ (n : ℕ). n + 1) (sym all-is) })) h
         go (inr none) = omega arith
 
-    -- a text of no bytes has no row to add
+    -- A text of no bytes has no row to add.
     closed : at.textLength t ≡ 0 → endsOpen T ≡ false
     unfolding endsOpen
     closed z = rw (text-length t, z)
 
-    -- row q is one of the text's
+    -- Row q is one of the text's.
     pub row-lets : 1 ≤ q → q ≤ length (rowsOf T) → rowNumber t q ≡ 0
     row-lets low high = go (bool-cases (asksLast t q)) (bool-cases (endsOpen T))
       where
@@ -116,7 +111,7 @@ module _ (t : List ℕ) (v : verdict t ≡ 0) (counted : isCounted t 10 ≡ true
         go (inl h) (inr o) = asked-last h .1 ∙ rw o
         go (inr h) o = row-number-plain t q h ∙ twelve t 10 q pass counted (λ low high. none low (omega (arith, rows-count T, all-is)))
 
--- byte 10 is not counted
+-- Byte 10 is not counted.
 pub row-eleven : (t : List ℕ) (q : ℕ) → readable t ≡ 0 → isCounted t 10 ≡ false → rowNumber t q ≡ 11
 unfolding selectNumber asksLast rowNumber
 row-eleven t q pass other = rw (pass, other)

@@ -9,9 +9,8 @@ use borrow.Author.Tests.{ltb-true, eqb-true}
 use lib.Arith.{digits-div, digits-mod}
 use lib.ListN.{length, getD}
 use lib.Dec.{ltb, eqb}
-use Rattle.text.specs.Lists.{sameList}
+use Rattle.text.specs.Text.{sameList, stretch}
 use Rattle.text.specs.ListLaws.{and-left, and-right, and-both, sameList-true, eq-sameList}
-use Rattle.text.specs.Text.{stretch}
 use Rattle.text.specs.TextLaws.{stretch-ext, stretch-at}
 use Rattle.format.specs.Layout as at
 use Rattle.format.specs.LayoutLaws.{Readable, full-pos, full-step, full-last, full-falls, edges-inside, leaf-start-inside}
@@ -106,7 +105,7 @@ module _ (t : List ℕ) (k : Readable t) (d : Linked t) (l i : ℕ) (hi : i < N 
     abbrev last-edge : ℕ
     last-edge = at.edgesAt t (l + 1) (first + (r - 1))
 
-    -- the edges of the two children are bytes of the block
+    -- The edges of the two children are bytes of the block.
     first-byte : (y : ℕ) → y < m → getD t (first-edge + y) 0 ≡ getD T (s t l i + y) 0
     first-byte y hy =
         let p = part 0 (omega (arith, k .bounds .arity-low)) in

@@ -10,18 +10,15 @@ use native.Mathlib.Omega.{arith}
 use borrow.Author.Tests.{le-leb}
 use lib.ListN.{length, drop, length-append}
 use Rattle.text.specs.ListLaws.{bool-cases, length-tabulate}
-use Rattle.text.specs.Text.{stretch}
+use Rattle.text.specs.Text.{stretch, tabulate}
 use Rattle.text.specs.TextLaws.{length-stretch}
 use Rattle.format.specs.Layout as at
-use Rattle.format.specs.Fits.{linksOk, textOf, edgesTrue}
-use Rattle.format.specs.Verdict.{readable, verdict}
+use Rattle.format.specs.TreeReading.{linksOk, textOf, edgesTrue, readable, verdict, Short, shortOf, shortBytes}
 use Rattle.format.specs.VerdictLaws.{accepted-readable, accepted-links, accepted-edges}
 use Rattle.format.specs.LayoutLaws.{Readable, readable-facts}
-use Rattle.format.specs.Short.{Short, shortOf, shortBytes}
-use Rattle.format.specs.ReadSays.{byteSays, pathsHold, asksSpan, leavesSpan, isShort, holds, blocksOf, spanReached, spanBytes, spanBlocks, spanNumber}
-use Rattle.format.specs.ReadSays.{spanLeaves}
+use Rattle.format.specs.Answers.{byteSays, pathsHold, asksSpan, leavesSpan, isShort, holds, blocksOf, spanReached, spanBytes, spanBlocks, spanNumber}
+use Rattle.format.specs.Answers.{spanLeaves}
 use Rattle.format.specs.ReadSaysLaws.{ShortSpan, short-span}
-use Rattle.text.specs.Lists.{tabulate}
 use Rattle.theory_paths.specs.Links.{Linked, linked-facts}
 use Rattle.theory_paths.specs.Demands as paths
 use Rattle.theory_edges.specs.EdgesLocal.{allEdges}
@@ -53,12 +50,12 @@ module _ (t : List ℕ) (r : readable t ≡ 0) (p len : ℕ) where
       go true = short-blocks t (shortOf t p len) (2 * at.settings t .levels) (λ q e. short-entered t p len q low e .1)
       go false = omega arith
 
-  -- no blocks for a span that is not short
+  -- No blocks for a span that is not short.
   pub span-other : isShort t len ≡ false → spanBlocks t p len ≡ 0
   unfolding spanBlocks
   span-other is = rw is
 
-  -- for a short one the blocks of its walk, at least one, if the walk does not break
+  -- For a short one the blocks of its walk, at least one, if the walk does not break.
   pub span-walked : isShort t len ≡ true → spanReached t p len ≡ true
       → (q : Short) × (shortOf t p len ≡ some q) × (spanBlocks t p len ≡ length (q .visits)) × (1 ≤ length (q .visits))
   unfolding spanReached spanBlocks
@@ -116,7 +113,7 @@ module _ (t : List ℕ) (v : verdict t ≡ 0) where
     pub short-text : shortBytes t len (shortOf t p len) ≡ stretch (textOf t) p len
     short-text = walks.reads-bytes (textOf t) t k d (sort .two) (exact.fitting t k d) len (sort .low) (sort .high) (shortOf t p len) p reads
 
-  -- every span of the text is reached
+  -- Every span of the text is reached.
   pub span-reached : (p len : ℕ) → p + len ≤ at.textLength t → spanReached t p len ≡ true
   unfolding spanReached
   span-reached p len fits = go (bool-cases (isShort t len))
@@ -125,7 +122,7 @@ module _ (t : List ℕ) (v : verdict t ≡ 0) where
       go (inl y) = rw (y, short-holds p len fits y .1)
       go (inr y) = rw y (paths.paths-all t r (accepted-links t v) p len fits)
 
-  -- the bytes of a span are those of the text
+  -- The bytes of a span are those of the text.
   bytes : (p len : ℕ) → p + len ≤ at.textLength t → spanBytes t p len ≡ stretch (textOf t) p len
   unfolding spanBytes
   bytes p len fits = go (bool-cases (isShort t len))

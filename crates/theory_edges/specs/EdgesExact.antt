@@ -9,15 +9,13 @@ use native.Mathlib.Omega.{arith}
 use native.Mathlib.Nat.{add-assoc}
 use lib.ListN.{length, getD, replicate, length-replicate, getD-replicate}
 use lib.Seq.{ext-getD}
-use Rattle.text.specs.Lists.{sameList}
+use Rattle.text.specs.Text.{sameList, stretch}
 use Rattle.text.specs.ListLaws.{lt-or-ge, bool-cases, and-left, and-right, and-both, or-right, allBelow-at, allBelow-make, sameList-true, eq-sameList}
 use Rattle.text.specs.Conjunctions.{parts}
-use Rattle.text.specs.Text.{stretch}
 use Rattle.text.specs.TextLaws.{length-stretch, getD-stretch, stretch-ext, stretch-at}
 use Rattle.format.specs.Layout as at
 use Rattle.format.specs.LayoutLaws.{Readable, edges-inside, leaf-start-inside}
-use Rattle.format.specs.Fits.{textOf, edgesTrue}
-use Rattle.format.specs.Short.{Short, shortFrom}
+use Rattle.format.specs.TreeReading.{textOf, edgesTrue, Short, shortFrom}
 use Rattle.theory_paths.specs.Links.{H, N, s, len, Linked}
 use Rattle.theory_paths.specs.BlockStarts.{len-end, len-pos, start-below}
 use Rattle.theory_paths.specs.FitsFacts.{Fitting, fits-facts}
@@ -27,7 +25,7 @@ use Rattle.theory_edges.specs.SpanWalk as walks
 use Rattle.theory_edges.specs.EdgesLocal.{edgeIs, ownBytes, childEdges, walkedEdges, hasFullChildren, edgesLocal, levelEdges, allEdges}
 use Rattle.theory_edges.specs.ChildEdges.{Full, full-facts, child-edged, edged-child}
 
--- a stretch of zeros, byte by byte
+-- A stretch of zeros, byte by byte.
 zeros-at : (t : List ℕ) (a n : ℕ) → stretch t a n ≡ replicate n 0 → (y : ℕ) → y < n → getD t (a + y) 0 ≡ 0
 zeros-at t a n e y h = sym (getD-stretch t a n y h) ∙ ap (λ (x : List ℕ). getD x y 0) e ∙ getD-replicate n y 0 0 h
 
@@ -184,7 +182,7 @@ module _ (T t : List ℕ) (k : Readable t) (d : Linked t) (two : at.layout t ≡
   Below l = (j : ℕ) → l < j → j < H t → Level j
 
   module _ (l : ℕ) (hl : l < H t) (deep : Below l) where
-    -- one block, by the equation that holds for it
+    -- One block, by the equation that holds for it.
     module _ (i : ℕ) (hi : i < N t l) (w : Walks l i hl hi) where
       under : Full t l i → Level (l + 1)
       under full = deep (l + 1) (omega arith) (full .above)

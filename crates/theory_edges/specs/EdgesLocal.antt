@@ -6,13 +6,12 @@ use mathlib.Core.Bool.{Bool, false, cond, not, _&&_, _||_}
 use Prim.Native.Nat.{ℕ, _+_, _-_, min}
 use lib.ListN.{replicate}
 use lib.Dec.{ltb, eqb}
-use Rattle.text.specs.Lists.{allBelow, sameList}
-use Rattle.text.specs.Text.{stretch}
+use Rattle.text.specs.Text.{allBelow, sameList, stretch}
 use Rattle.format.specs.Layout as at
-use Rattle.format.specs.Short.{Short, shortFrom}
+use Rattle.format.specs.TreeReading.{Short, shortFrom}
 
 module _ (t : List ℕ) where
-  -- the m bytes at a are the x bytes that were found, and then zeros
+  -- The m bytes at a are the x bytes that were found, and then zeros.
   abbrev pub edgeIs : ℕ → ℕ → Option Short → Bool
   edgeIs a x none = false
   edgeIs a x (some q) =
@@ -20,11 +19,11 @@ module _ (t : List ℕ) where
       && sameList (stretch t (a + q .size) (x - q .size)) (stretch t (q .next) (x - q .size))
       && sameList (stretch t (a + x) (at.settings t .leaf - x)) (replicate (at.settings t .leaf - x) 0)
 
-  -- the bytes of an edge of block i of level l that are its own
+  -- The bytes of an edge of block i of level l that are its own.
   unfoldable pub ownBytes : ℕ → ℕ → ℕ
   ownBytes l i = min (at.settings t .leaf) (at.blockLengthAt t l i)
 
-  -- both edges against the walk from the block
+  -- Both edges against the walk from the block.
   unfoldable pub walkedEdges : ℕ → ℕ → Bool
   walkedEdges l i =
       let x = ownBytes l i in
@@ -32,7 +31,7 @@ module _ (t : List ℕ) where
       edgeIs (at.edgesAt t l i) x (shortFrom t below l i 0 x)
       && edgeIs (at.edgesAt t l i + at.settings t .leaf) x (shortFrom t below l i (at.blockLengthAt t l i - x) x)
 
-  -- the first edge is that of the first child, the last edge that of the last of r children
+  -- The first edge is that of the first child, the last edge that of the last of r children.
   unfoldable pub childEdges : ℕ → ℕ → Bool
   childEdges l i =
       let m = at.settings t .leaf in
@@ -40,7 +39,7 @@ module _ (t : List ℕ) where
       sameList (stretch t (at.edgesAt t l i) m) (stretch t (at.edgesAt t (l + 1) first) m)
       && sameList (stretch t (at.edgesAt t l i + m) m) (stretch t (at.edgesAt t (l + 1) (first + (at.settings t .arity - 1)) + m) m)
 
-  -- a kept block above the last level that the text's end does not cut
+  -- A kept block above the last level that the text's end does not cut.
   unfoldable pub hasFullChildren : ℕ → ℕ → Bool
   hasFullChildren l i = ltb (l + 1) (at.settings t .levels) && at.isKept t l i && eqb (at.blockLengthAt t l i) (at.fullLength t l)
 

@@ -8,10 +8,10 @@ use native.Mathlib.Omega.{arith}
 use lib.ListN.{length, length-append}
 use lib.Dec.{leb, ltb}
 use Rattle.format.specs.Layout as at
-use Rattle.format.specs.Path.{Visit, visit, keptBlock, pointingBlock, lands, landBlock, landPlace, landVisits, provided}
-use Rattle.format.specs.Short.{Short, led, byEdges, inLeaf, shortFrom, shortOf}
+use Rattle.format.specs.TreeReading.{Visit, visit, keptBlock, pointingBlock, lands, landBlock, landPlace, landVisits, provided}
+use Rattle.format.specs.TreeReading.{Short, led, byEdges, inLeaf, shortFrom, shortOf}
 
--- what is found was found with at least one block entered, and at most n
+-- What is found was found with at least one block entered, and at most n.
 Few : ℕ → Option Short → Type 0
 Few n r = (q : Short) → r ≡ some q → (1 ≤ length (q .visits)) × (length (q .visits) ≤ n)
 
@@ -75,7 +75,7 @@ module _ (t : List ℕ) where
       few-cond (2 * suc below + 2) (leb (o + len) (at.fullLength t l)) _ _ (few-cond (2 * suc below + 2) (leb (p + len) (at.fullLength t l)) _ _ inside between)
       (few-more 2 (2 * suc below + 2) _ (omega arith) (edges-two l i o))
 
-  -- one or more, and at most twice the number of levels
+  -- One or more, and at most twice the number of levels.
   pub short-entered : (p len : ℕ) (q : Short) → 1 ≤ at.settings t .levels → shortOf t p len ≡ some q
       → (1 ≤ length (q .visits)) × (length (q .visits) ≤ 2 * at.settings t .levels)
   unfolding shortOf Few

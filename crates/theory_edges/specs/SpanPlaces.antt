@@ -13,8 +13,8 @@ use lib.Dec.{leb, ltb}
 use Rattle.text.specs.ListLaws.{lt-or-ge, bool-cases, and-right}
 use Rattle.format.specs.Layout as at
 use Rattle.format.specs.LayoutLaws.{Readable, full-pos, edges-inside, leaf-start-inside}
-use Rattle.format.specs.Path.{Visit, visit, keptBlock, pointingBlock, targetPlace, lands, landBlock, landPlace, landVisits, provided}
-use Rattle.format.specs.Short.{Short, led, byEdges, inLeaf, shortFrom, shortOf}
+use Rattle.format.specs.TreeReading.{Visit, visit, keptBlock, pointingBlock, targetPlace, lands, landBlock, landPlace, landVisits, provided}
+use Rattle.format.specs.TreeReading.{Short, led, byEdges, inLeaf, shortFrom, shortOf}
 use Rattle.format.specs.ReadSaysLaws.{ShortSpan}
 use Rattle.theory_paths.specs.Links.{H, N, b}
 use Rattle.theory_paths.specs.PlacesLand.{target-first, target-second}
@@ -26,7 +26,7 @@ pub record Inside (t : List ℕ) (len : ℕ) (q : Short) : Type 0 where
   pub next-in : q .next + (len - q .size) ≤ length t
 
 module _ (t : List ℕ) (k : Readable t) (two : at.layout t ≡ 2) (x : ℕ) (low : 0 < x) (short : x ≤ at.settings t .leaf) where
-  -- whatever is found is inside
+  -- Whatever is found is inside.
   abbrev pub Found : Option Short → Type 0
   Found r = (q : Short) → r ≡ some q → Inside t x q
 
@@ -75,7 +75,7 @@ module _ (t : List ℕ) (k : Readable t) (two : at.layout t ≡ 2) (x : ℕ) (lo
         next-in = omega arith;
       }))
 
-  -- a place in the target of a pointing block is below its length
+  -- A place in the target of a pointing block is below its length.
   land-low : (l i o : ℕ) → o < b t l → pointingBlock t l i ≡ true → landPlace t l i o < b t l
   unfolding landPlace pointingBlock
   land-low l i o ho pt = go (bool-cases (keptBlock t l i)) (lt-or-ge (at.gap t l i + o) (b t l))
@@ -107,7 +107,7 @@ module _ (t : List ℕ) (k : Readable t) (two : at.layout t ≡ 2) (x : ℕ) (lo
       cond-in (leb (o + x) (b t l)) _ _ (λ y. cond-in (leb (p + x) (b t l)) _ _ (λ z. inside) between)
       (λ y. edges-in l i o (omega arith) ho (leb-false (o + x) (b t l) y))
 
--- the bytes of a short span from place p of the text
+-- The bytes of a short span from place p of the text.
 pub short-inside : (t : List ℕ) → Readable t → (p len : ℕ) → ShortSpan t len → (q : Short) → shortOf t p len ≡ some q → Inside t len q
 unfolding shortOf
 short-inside t k p len s q e =

@@ -7,8 +7,8 @@ use Prim.Native.Nat.{ℕ, zero, suc, _+_, _-_, _/_, _%_, _≤_, _<_}
 use borrow.Author.Tests.{lt-ltb, le-leb, lt-leb}
 use lib.Dec.{leb}
 use Rattle.format.specs.Layout as at
-use Rattle.format.specs.Path.{visit, keptBlock, pointingBlock, targetBlock, targetPlace, lands, landBlock, landPlace, landVisits}
-use Rattle.format.specs.Short.{Short, led, byEdges, inLeaf, shortFrom}
+use Rattle.format.specs.TreeReading.{visit, keptBlock, pointingBlock, targetBlock, targetPlace, lands, landBlock, landPlace, landVisits}
+use Rattle.format.specs.TreeReading.{Short, led, byEdges, inLeaf, shortFrom}
 use Rattle.theory_paths.specs.Links.{N, b}
 
 cond-same : (y : Bool) → _≡_ {A = Option Short} (cond y none none) none
@@ -16,7 +16,7 @@ cond-same true = refl
 cond-same false = refl
 
 module _ (t : List ℕ) where
-  -- two blocks side by side
+  -- Two blocks side by side.
   pub edges-give : (l i o : ℕ) → i + 1 < N t l
       → byEdges t l i o ≡ some (record {
         visits = visit l i o ∷ visit l (i + 1) 0 ∷ [];
@@ -44,7 +44,7 @@ module _ (t : List ℕ) where
     unfolding shortFrom lands landBlock landPlace landVisits
     kept-step below kept = rw (le-leb (o + len) (b t l) inside, kept, le-leb (o + len) (b t l) inside)
 
-    -- a pointing block, whose target holds the span, or whose two targets do
+    -- A pointing block, whose target holds the span, or whose two targets do.
     pub points-step : (below : ℕ)
         → keptBlock t l i ≡ false → pointingBlock t l i ≡ true → keptBlock t l (targetBlock t l i o) ≡ true → targetPlace t l i o + len ≤ b t l
         → shortFrom t (suc below) l i o len ≡ led (visit l i o ∷ visit l (targetBlock t l i o) (targetPlace t l i o) ∷ [])
@@ -57,7 +57,7 @@ module _ (t : List ℕ) where
     unfolding shortFrom landBlock landPlace
     between-step below un pt h = rw (le-leb (o + len) (b t l) inside, un, pt, lt-leb (targetPlace t l i o + len) (b t l) h)
 
-    -- on the last level, and where the walk breaks
+    -- On the last level, and where the walk breaks.
     pub last-is : shortFrom t 0 l i o len ≡ inLeaf t l i o len
     unfolding shortFrom
     last-is = rw (le-leb (o + len) (b t l) inside)

@@ -15,8 +15,7 @@ use Rattle.text.specs.Text.{stretch}
 use Rattle.text.specs.TextLaws.{stretch-ext, stretch-add, stretch-part}
 use Rattle.format.specs.Layout as at
 use Rattle.format.specs.LayoutLaws.{Readable, full-pos, full-last, full-falls, edges-inside, leaf-start-inside, level0-holds}
-use Rattle.format.specs.Path.{Visit, visit, targetBlock, targetPlace}
-use Rattle.format.specs.Short.{Short, led, byEdges, shortFrom, shortOf, shortBytes}
+use Rattle.format.specs.TreeReading.{Visit, visit, targetBlock, targetPlace, Short, led, byEdges, shortFrom, shortOf, shortBytes}
 use Rattle.theory_paths.specs.Links.{H, N, b, s, len, Linked, Pointing, pointing-kind}
 use Rattle.theory_paths.specs.BlockStarts.{len-small, len-end, start-below, child, last-kept, leaf-below}
 use Rattle.theory_paths.specs.PlacesLand.{kept-block, kept-not, pointing-block, target, target-first, target-second}
@@ -28,7 +27,7 @@ module _ (T t : List ℕ) (k : Readable t) (d : Linked t) (two : at.layout t ≡
   abbrev m : ℕ
   m = at.settings t .leaf
 
-  -- the walk gives the x bytes of the text from p, in two parts, the second empty where one is enough
+  -- The walk gives the x bytes of the text from p, in two parts, the second empty where one is enough.
   pub record Reads (r : Option Short) (p : ℕ) : Type 0 where
     pub found : Short
     pub is : r ≡ some found
@@ -83,7 +82,7 @@ module _ (T t : List ℕ) (k : Readable t) (d : Linked t) (two : at.layout t ≡
   unfolding at.blockLengthAt
   len-has l i y h g = omega arith
 
-  -- place o of block i is over x bytes before the end of a block that follows it in the text
+  -- Place o of block i is over x bytes before the end of a block that follows it in the text.
   record Crosses (l i o : ℕ) : Type 0 where
     level-in : l < H t
     block-in : i + 1 < N t l
@@ -96,7 +95,7 @@ module _ (T t : List ℕ) (k : Readable t) (d : Linked t) (two : at.layout t ≡
     left : ℕ
     left = b t l - o
 
-    -- the left block is full
+    -- The left block is full.
     full : len t l i ≡ b t l
     full =
         let most : b t l ≤ len t l i = len-has l i (b t l) (omega arith) (omega (arith, start-below t k d l (i + 1) (c .level-in) (c .block-in), c .follows)) in
@@ -142,18 +141,18 @@ module _ (T t : List ℕ) (k : Readable t) (d : Linked t) (two : at.layout t ≡
       next-part = second-part;
     }
 
-  -- every block of a level has true edges; every kept one
+  -- Every block of a level has true edges; every kept one.
   abbrev pub Level : ℕ → Type 0
   Level l = (i : ℕ) → i < N t l → Edged T t l i
 
   abbrev pub Kept : ℕ → Type 0
   Kept l = (i : ℕ) → i < N t l → at.isKept t l i ≡ true → Edged T t l i
 
-  -- the walk holds from every block of a level that holds the span
+  -- The walk holds from every block of a level that holds the span.
   abbrev Rest : ℕ → ℕ → Type 0
   Rest below l = (i o : ℕ) → i < N t l → o + x ≤ len t l i → Reads (shortFrom t below l i o x) (s t l i + o)
 
-  -- from a kept block to its children
+  -- From a kept block to its children.
   down : (below l a o : ℕ) → l + 1 < H t → a < N t l → at.isKept t l a ≡ true → o + x ≤ len t l a → Level (l + 1) → Rest below (l + 1)
       → Reads (shortFrom t below (l + 1) (at.link t l a + o / b t (l + 1)) (o % b t (l + 1)) x) (s t l a + o)
   down below l a o hl ha kept ho edged rest = go (lt-or-ge (b t (l + 1)) (o % b t (l + 1) + x))
@@ -260,7 +259,7 @@ module _ (T t : List ℕ) (k : Readable t) (d : Linked t) (two : at.layout t ≡
   unfolding stretch
   nothing A B p q y = let z : y - y ≡ 0 = omega arith in rw z
 
-  -- a block of the last level has leaf bytes
+  -- A block of the last level has leaf bytes.
   last-walk : (i o : ℕ) → i < N t (H t - 1) → o + x ≤ len t (H t - 1) i → Reads (shortFrom t 0 (H t - 1) i o x) (s t (H t - 1) i + o)
   unfolding at.leafByte
   last-walk i o hi ho =
@@ -284,7 +283,7 @@ module _ (T t : List ℕ) (k : Readable t) (d : Linked t) (two : at.layout t ≡
         next-part = nothing t T 0 (s t l i + o + x) x;
       }
 
-  -- the edges of the levels below l are true
+  -- The edges of the levels below l are true.
   abbrev pub Below : ℕ → Type 0
   Below l = (j : ℕ) → l < j → j < H t → Level j
 
@@ -302,7 +301,7 @@ module _ (T t : List ℕ) (k : Readable t) (d : Linked t) (two : at.layout t ≡
       go (inl kept) rest = kept-walk below l i o (omega arith) hi kept ho (deep (l + 1) (omega arith) (omega arith)) rest
       go (inr un) rest = pointing-walk below l i o hi un (d .points l i (omega arith) hi un) ho (deep (l + 1) (omega arith) (omega arith)) here rest
 
-  -- from a kept block of any level
+  -- From a kept block of any level.
   pub walk-kept : (below l i o : ℕ)
       → l + below + 1 ≡ H t → i < N t l → at.isKept t l i ≡ true → o + x ≤ len t l i → Below l → Reads (shortFrom t below l i o x) (s t l i + o)
   walk-kept zero l i o lev hi kept ho deep = last l (omega arith) hi ho

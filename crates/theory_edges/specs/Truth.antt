@@ -7,21 +7,20 @@ use Prim.Native.Nat.{ℕ, _+_, _-_, _≤_, _<_}
 use native.Mathlib.Omega.{arith}
 use lib.ListN.{length, getD}
 use lib.Seq.{ext-getD}
-use Rattle.text.specs.Lists.{allBelow}
+use Rattle.text.specs.Text.{allBelow, stretch}
 use Rattle.text.specs.ListLaws.{lt-or-ge, or-right, allBelow-at, allBelow-make, sameList-true, eq-sameList}
-use Rattle.text.specs.Text.{stretch}
 use Rattle.text.specs.TextLaws.{length-stretch, getD-stretch}
-use Rattle.format.specs.Edges.{edgesOf}
+use Rattle.format.specs.Layout.{edgesOf}
 use Rattle.format.specs.EdgeLaws.{length-edges, first-own, first-none, last-own, last-none}
 use Rattle.format.specs.Layout as at
-use Rattle.format.specs.Fits.{blockEdgesTrue, edgesTrue}
+use Rattle.format.specs.TreeReading.{blockEdgesTrue, edgesTrue}
 use Rattle.theory_paths.specs.Links.{H, N, s, len}
 
 module _ (T t : List ℕ) where
   abbrev m : ℕ
   m = at.settings t .leaf
 
-  -- the edges of block i of level l: its own bytes in the text, then zeros
+  -- The edges of block i of level l: its own bytes in the text, then zeros.
   pub record Edged (l i : ℕ) : Type 0 where
     pub first : (y : ℕ) → y < m → y < len t l i → getD t (at.edgesAt t l i + y) 0 ≡ getD T (s t l i + y) 0
     pub first-zero : (y : ℕ) → y < m → len t l i ≤ y → getD t (at.edgesAt t l i + y) 0 ≡ 0
@@ -76,7 +75,7 @@ module _ (T t : List ℕ) where
     unfolding blockEdgesTrue
     edged-make = eq-sameList _ _ edges-same
 
-  -- the edges are true exactly where each block's are
+  -- The edges are true exactly where each block's are.
 
   pub edges-at : at.layout t ≡ 2 → edgesTrue T t ≡ true → (l i : ℕ) → l < H t → i < N t l → blockEdgesTrue T t l i ≡ true
   unfolding edgesTrue at.hasEdges

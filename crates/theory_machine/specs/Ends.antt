@@ -25,7 +25,7 @@ use denote.Triple.Statement.{Contract}
 use denote.Triple.Spec.{Spec, tripleOf, Meets}
 use denote.Triple.Adequate.{adequate}
 
--- what an assertion is here, and when a memory satisfies it
+-- What an assertion is here, and when a memory satisfies it.
 abbrev pub Assertion : Type 2
 Assertion = SProp Closed.𝓤
 
@@ -40,7 +40,7 @@ infixr 35 _∗_
 abbrev pub Cell : Share → Ty → (b o : ℕ) → Val → Assertion
 Cell q ty b o w = Closed.H .at q ty b o w
 
--- what a cell holds is what the machine loads from there
+-- What a cell holds is what the machine loads from there.
 loads : (σ : Memory) (P : Assertion) (q : Share) (ty : Ty) (b o : ℕ) (w : Val) → Holds σ (P ∗ Cell q ty b o w) → ∥ loadM σ ty b o ≡ some w ∥₁
 loads σ P q ty b o w s =
     let cell = Cell q ty b o w in
@@ -60,12 +60,12 @@ pub record Function : Type 2 where
   pub signature : Signature
   pub clauses : (𝓤 : URA Closed.Res) (H : Heap 𝓤) (A : Atoms 𝓤) → (Memory → SProp 𝓤) → (Routine → Fun 𝓤) → Spec 𝓤 signature
 
--- how the machine runs a routine
+-- How the machine runs a routine.
 abbrev pub running : Running Closed.𝓤 Closed.H Closed.model
 running = real Closed.𝓤 Closed.H Closed.model
 
 module _ (f : Function) where
-  -- the contract at the machine
+  -- The contract at the machine.
   abbrev pub call : Contract Closed.𝓤
   call = tripleOf Closed.𝓤 Closed.H (ghost₀ .A) (f .signature) (f .clauses Closed.𝓤 Closed.H (ghost₀ .A) (Closed.model .mem) (running .run))
 
@@ -76,7 +76,7 @@ module _ (f : Function) where
   Ends = (x : call .Ghost) (σ : Memory) (F : Assertion) → Holds σ (call .pre x ∗ F)
       → ∥ ((n : ℕ) × (v : Val) × (σ′ : Memory) × (f .routine .step n (call .args x) σ ≡ done (v, σ′)) × Holds σ′ (call .post x v ∗ F)) ∥₁
 
-  -- a function that meets its contract ends
+  -- A function that meets its contract ends.
   pub ends : ((𝓤 : URA Closed.Res) (H : Heap 𝓤) (𝓜 : Model 𝓤 H) (𝓖 : GhostRules 𝓤 H) (𝓡 : Running 𝓤 H 𝓜)
       → Meets 𝓤 H (𝓖 .A) (f .signature) (𝓡 .run (f .routine)) (f .clauses 𝓤 H (𝓖 .A) (𝓜 .mem) (𝓡 .run))) → Ends
   ends met =

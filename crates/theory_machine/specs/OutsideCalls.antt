@@ -38,7 +38,7 @@ abbrev pub call : (f : Function)
     → AsksNothing f → Call
 call f met nothing = record { function = f; ends = ends f met; asks-nothing = nothing }
 
--- the same of a function by its parts, as the modules of its crate have them
+-- The same of a function by its parts, as the modules of its crate have them.
 abbrev pub callOf : (r : Routine) (s : Signature)
     (clauses : (𝓤 : URA Closed.Res) (H : Heap 𝓤) (A : Atoms 𝓤) → (Memory → SProp 𝓤) → (Routine → Fun 𝓤) → Spec 𝓤 s)
     → ((𝓤 : URA Closed.Res) (H : Heap 𝓤) (𝓜 : Model 𝓤 H) (𝓖 : GhostRules 𝓤 H) (𝓡 : Running 𝓤 H 𝓜)
@@ -46,7 +46,7 @@ abbrev pub callOf : (r : Routine) (s : Signature)
     → AsksNothing (record { routine = r; signature = s; clauses = clauses }) → Call
 callOf r s clauses met nothing = call (record { routine = r; signature = s; clauses = clauses }) met nothing
 
--- it holds of each of some calls
+-- It holds of each of some calls.
 abbrev pub Each : (Function → Type 2) → List Call → Type 2
 Each P [] = Unit {2}
 Each P (c ∷ cs) = P (c .function) × Each P cs

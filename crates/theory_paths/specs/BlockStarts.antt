@@ -7,12 +7,12 @@ use Prim.Native.Nat.{ℕ, zero, suc, _+_, _-_, _*_, _/_, _%_, _≤_, _<_}
 use native.Mathlib.Omega.{arith}
 use native.Mathlib.Nat.{div-add-mod', mod-lt, mul-le-mul-right, mul-comm, mul-assoc, add-mul, lt-of-mul-lt-mul-left}
 use lib.Arith.{digits-div, digits-mod}
-use Rattle.text.specs.Lists.{sumBelow}
+use Rattle.text.specs.Text.{sumBelow}
 use Rattle.text.specs.ListLaws.{bool-cases, sumBelow-part, sumBelow-find}
 use Rattle.format.specs.PieceLaws.{pieces-hold, pieces-start}
 use Rattle.format.specs.LayoutLaws.{Readable, full-step, full-pos}
 use Rattle.format.specs.Layout as at
-use Rattle.format.specs.Fits.{widthAt}
+use Rattle.format.specs.TreeReading.{widthAt}
 use Rattle.theory_paths.specs.Links.{H, N, b, s, len, width-kept, width-last, width-pointing, Follows, Pointing, Linked}
 
 module _ (t : List ℕ) where
@@ -34,7 +34,7 @@ module _ (t : List ℕ) where
   unfolding at.blockLengthAt
   len-end l i h = omega arith
 
-  -- block a of level l is kept, and block i of the next level is its child number j
+  -- Block a of level l is kept, and block i of the next level is its child number j.
   pub record Parent (l i a j : ℕ) : Type 0 where
     pub below : a < N t l
     pub kept : at.isKept t l a ≡ true
@@ -43,7 +43,7 @@ module _ (t : List ℕ) where
     pub within : j * b t (l + 1) < len t l a
 
   module _ (k : Readable t) (d : Linked t) where
-    -- each block below level 0 is a child
+    -- Each block below level 0 is a child.
     pub parent : (l i : ℕ) → l + 1 < H t → i < N t (l + 1) → (a j : ℕ) × Parent l i a j
     parent l i hl hi =
         let f = sumBelow-find (N t l) (widthAt t l) i (rw (d .next-count l hl) hi) in
@@ -62,7 +62,7 @@ module _ (t : List ℕ) where
             }
         go a j ha hj e (inr un) = absurd (let z : ⊥ = omega (arith, width-pointing t l a un) in z)
 
-    -- place o of a child is a place of its parent, which leads to the child at o again
+    -- Place o of a child is a place of its parent, which leads to the child at o again.
     pub record InParent (l a j o : ℕ) : Type 0 where
       pub inside : j * b t (l + 1) + o < len t l a
       pub back : (j * b t (l + 1) + o) / b t (l + 1) ≡ j
@@ -82,7 +82,7 @@ module _ (t : List ℕ) where
           rest = digits-mod j small;
         }
 
-    -- every block starts before the text's end
+    -- Every block starts before the text's end.
     pub start-below : (l i : ℕ) → l < H t → i < N t l → s t l i < at.textLength t
     start-below zero i hl hi = rw (d .start0 i hi) (pieces-start (at.textLength t) (b t 0) i (rw (k .level0) at hi) (full-pos t k 0))
     start-below (suc l) i hl hi =
@@ -106,7 +106,7 @@ module _ (t : List ℕ) where
           p .2 .start-is ∙ rw (m .1, full-step t k l hl₁, add-mul, mul-assoc, mul-comm (b t (l + 1)) (at.settings t .arity)),
         )
 
-    -- the start of a block's parent, read off the block's own start
+    -- The start of a block's parent, read off the block's own start.
     pub parent-start : (l i a j : ℕ) → l + 1 < H t → Parent l i a j → s t (l + 1) i / b t l * b t l ≡ s t l a
     parent-start l i a j hl p =
         let m = start-multiple l a (omega arith) (p .below) in
@@ -116,7 +116,7 @@ module _ (t : List ℕ) where
 
     -- A kept block's places lead to children, on the last level to leaf bytes.
 
-    -- block c of the next level at place p is where place o of block a leads
+    -- Block c of the next level at place p is where place o of block a leads.
     pub record Child (l a o c p : ℕ) : Type 0 where
       pub below : c < N t (l + 1)
       pub inside : p < len t (l + 1) c
@@ -162,7 +162,7 @@ module _ (t : List ℕ) where
         len-reach l (at.link t l i + 1) (at.gap t l i + o - b t l) (omega (arith, p .gap-small, len-small l i))
         (omega (arith, p .ends, f .start-is, start-below l i (omega (arith, p .above)) hi))
 
-    -- a target is a full block
+    -- A target is a full block.
     pub target-full : (l i : ℕ) → Pointing t l i → i < N t l → len t l (at.link t l i) ≡ b t l
     unfolding at.blockLengthAt
     target-full l i p hi =

@@ -7,15 +7,12 @@ use mathlib.Core.Path.{_≡_}
 use Prim.Native.Nat.{ℕ, _+_, _-_, _*_, _/_, _%_, _≤_, _<_}
 use native.Mathlib.Omega.{arith}
 use lib.ListN.{length, getD, drop}
-use Rattle.text.specs.Text.{stretch}
+use Rattle.text.specs.Text.{stretch, tabulate}
 use Rattle.format.specs.Layout as at
-use Rattle.format.specs.Path.{Path, Visit, entered, pathFrom, pathOf}
-use Rattle.format.specs.Fits.{linksOk, textOf}
+use Rattle.format.specs.TreeReading.{Path, Visit, entered, pathFrom, pathOf, linksOk, textOf, readable}
 use Rattle.format.specs.FittingText.{fits}
-use Rattle.format.specs.Verdict.{readable}
 use Rattle.format.specs.LayoutLaws.{Readable, readable-facts}
-use Rattle.format.specs.ReadSays.{byteSays, runSays, pathsHold, copyNumber, copyLeaves}
-use Rattle.text.specs.Lists.{tabulate}
+use Rattle.format.specs.Answers.{byteSays, runSays, pathsHold, copyNumber, copyLeaves}
 use Rattle.theory_paths.specs.Links.{Linked, linked-facts}
 use Rattle.theory_paths.specs.Visits.{Goes, goes, goes-length, goes-short, pointers}
 use Rattle.theory_paths.specs.PathWalk.{path-holds}

@@ -9,19 +9,18 @@ use borrow.Author.Tests.{eqb-true, eq-eqb, ne-eqb}
 use lib.ListN.{length, getD}
 use lib.Seq.{ext-getD}
 use lib.Dec.{eqb}
-use Rattle.text.specs.Lists.{tabulate, allBelow, sameList}
+use Rattle.text.specs.Text.{tabulate, allBelow, sameList, stretch}
 use Rattle.text.specs.ListLaws.{and-left, and-right, and-both, bool-cases, allBelow-at, allBelow-make, sameList-true, eq-sameList, length-tabulate}
 use Rattle.text.specs.ListLaws.{getD-tabulate, below-suc, or-left, or-right, not-eq-true}
-use Rattle.text.specs.Text.{stretch}
 use Rattle.text.specs.TextLaws.{length-stretch, getD-stretch, stretch-ext, stretch-at}
 use Rattle.format.specs.LayoutLaws.{Readable}
 use Rattle.format.specs.Layout as at
-use Rattle.format.specs.Fits.{lastLevel}
+use Rattle.format.specs.TreeReading.{lastLevel}
 use Rattle.format.specs.FittingText.{blockFits, fits}
 use Rattle.theory_paths.specs.Links.{H, N, s, len, Linked, points-not-kept}
 use Rattle.theory_paths.specs.BlockStarts.{len-end, start-below}
 
--- a stretch is the list of its bytes
+-- A stretch is the list of its bytes.
 pub stretch-tabulate : (T : List ℕ) (p x : ℕ) (f : ℕ → ℕ) → p + x ≤ length T → ((o : ℕ) → o < x → getD T (p + o) 0 ≡ f o) → stretch T p x ≡ tabulate x f
 stretch-tabulate T p x f h same =
     ext-getD 0 (stretch T p x) (tabulate x f) (length-stretch T p x h ∙ sym (length-tabulate x f))
@@ -33,11 +32,11 @@ module _ (T t : List ℕ) where
     -- The leaf bytes of each block of the last level are the bytes of the text at its start.
     pub leaves : (i o : ℕ) → i < N t (H t - 1) → o < len t (H t - 1) i
         → getD T (s t (H t - 1) i + o) 0 ≡ at.leafByte t (at.link t (H t - 1) i + o)
-    -- each pointing block's bytes are those of its occurrence
+    -- Each pointing block's bytes are those of its occurrence.
     pub points : (l i o : ℕ) → l < H t → i < N t l → at.isPointing t l i ≡ true → o < len t l i
         → getD T (s t l i + o) 0 ≡ getD T (s t l (at.link t l i) + at.gap t l i + o) 0
 
-  -- one block's two tests
+  -- One block's two tests.
 
   abbrev bytes : ℕ → ℕ → List ℕ
   bytes l i = stretch T (s t l i) (len t l i)

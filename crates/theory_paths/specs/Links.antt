@@ -7,15 +7,15 @@ use Prim.Native.Nat.{ℕ, _+_, _-_, _*_, _≤_, _<_}
 use native.Mathlib.Omega.{arith}
 use borrow.Author.Tests.{eqb-true, eqb-false, eq-eqb, ne-eqb, leb-true, ltb-true, not-true}
 use lib.Dec.{eqb, ltb, leb}
-use Rattle.text.specs.Lists.{allBelow, sumBelow}
+use Rattle.text.specs.Text.{allBelow, sumBelow}
 use Rattle.text.specs.ListLaws.{and-left, and-right, or-cases, allBelow-at, below-suc}
 use Rattle.text.specs.Conjunctions.{parts}
-use Rattle.format.specs.Settings.{pieces}
+use Rattle.format.specs.Layout.{pieces}
 use Rattle.format.specs.Layout as at
-use Rattle.format.specs.Fits.{lastLevel, widthAt, keptRight, pointingRight, blockRight, countBelowRight, linksOk}
+use Rattle.format.specs.TreeReading.{lastLevel, widthAt, keptRight, pointingRight, blockRight, countBelowRight, linksOk}
 
 module _ (t : List ℕ) where
-  -- short names: the levels, the blocks of level l, the length of a full one, a block's start and its length
+  -- Short names: the levels, the blocks of level l, the length of a full one, a block's start and its length.
   abbrev pub H : ℕ
   H = at.settings t .levels
 
@@ -45,13 +45,13 @@ module _ (t : List ℕ) where
   unfolding widthAt
   width-pointing l i un = rw un
 
-  -- a kept block: its link counts what the kept blocks before it have one level below, and its children start as cut
+  -- A kept block: its link counts what the kept blocks before it have one level below, and its children start as cut.
   pub record Kept (l i : ℕ) : Type 0 where
     pub link-is : at.link t l i ≡ sumBelow i (widthAt t l)
     pub gap-is : at.gap t l i ≡ 0
     pub child-start : l + 1 < H → (j : ℕ) → j < widthAt t l i → s (l + 1) (at.link t l i + j) ≡ s l i + j * b (l + 1)
 
-  -- the block after the target: in the table, kept, and it follows the target in the text
+  -- The block after the target: in the table, kept, and it follows the target in the text.
   pub record Follows (l j : ℕ) : Type 0 where
     pub below : j + 1 < N l
     pub kept : at.isKept t l (j + 1) ≡ true

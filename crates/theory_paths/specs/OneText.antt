@@ -9,8 +9,7 @@ use lib.Seq.{ext-getD}
 use Rattle.text.specs.ListLaws.{length-tabulate, getD-tabulate}
 use Rattle.format.specs.LayoutLaws.{Readable}
 use Rattle.format.specs.Layout as at
-use Rattle.format.specs.Path.{visit, targetBlock, targetPlace, pathFrom, pathOf}
-use Rattle.format.specs.Fits.{leafOf, textOf}
+use Rattle.format.specs.TreeReading.{visit, targetBlock, targetPlace, pathFrom, pathOf, leafOf, textOf}
 use Rattle.format.specs.FittingText.{fits}
 use Rattle.theory_paths.specs.Links.{H, N, s, len, pointing-kind, points-not-kept, Linked}
 use Rattle.theory_paths.specs.BlockStarts.{len-inside, last-kept, leaf-below}
@@ -30,7 +29,7 @@ unfolding textOf
 text-at t p h = getD-tabulate (at.textLength t) (λ p. leafOf t (pathOf t p)) p 0 h
 
 module _ (t : List ℕ) (k : Readable t) (d : Linked t) where
-  -- at a block's place, what the block gives
+  -- At a block's place, what the block gives.
   pub text-block : (l i o : ℕ) → l < H t → i < N t l → o < len t l i → getD (textOf t) (s t l i + o) 0 ≡ leafOf t (pathFrom t (H t - 1 - l) l i o)
   text-block l i o hl hi ho = text-at t (s t l i + o) (len-inside t l i o ho) ∙ reach-leaf t k d l i o hl hi ho
 

@@ -10,13 +10,13 @@ use native.Mathlib.Nat.{div-add-mod', mod-lt}
 use Rattle.text.specs.ListLaws.{bool-cases}
 use Rattle.format.specs.LayoutLaws.{Readable, full-pos, level0-holds}
 use Rattle.format.specs.Layout as at
-use Rattle.format.specs.Path.{Path, Visit, visit, entered, targetBlock, targetPlace, pathFrom, pathOf}
+use Rattle.format.specs.TreeReading.{Path, Visit, visit, entered, targetBlock, targetPlace, pathFrom, pathOf}
 use Rattle.theory_paths.specs.Links.{H, N, b, s, len, Pointing, Linked}
 use Rattle.theory_paths.specs.BlockStarts.{len-reach, child, last-kept, leaf-below}
 use Rattle.theory_paths.specs.PlacesLand.{kept-block, kept-not, pointing-block, from-last, from-kept, from-pointing, target}
 
 module _ (t : List ℕ) (k : Readable t) (d : Linked t) where
-  -- a relation of leaf bytes to places of the text that holds at last-level blocks, and that a pointing block takes over from its occurrence
+  -- A relation of leaf bytes to places of the text that holds at last-level blocks, and that a pointing block takes over from its occurrence.
   pub record Carries (P : ℕ → ℕ → Type 0) : Type 0 where
     pub leaf : (i o : ℕ) → i < N t (H t - 1) → o < len t (H t - 1) i → P (at.link t (H t - 1) i + o) (s t (H t - 1) i + o)
     pub points : (l i o x : ℕ) → i < N t l → Pointing t l i → o < len t l i → P x (s t l (at.link t l i) + at.gap t l i + o) → P x (s t l i + o)
@@ -29,7 +29,7 @@ module _ (t : List ℕ) (k : Readable t) (d : Linked t) where
     ends-entered : (vs : List Visit) (r₁ r : Option Path) (x₁ x : ℕ) → r₁ ≡ entered vs r → ((y : ℕ) → P y x → P y x₁) → Ends r x → Ends r₁ x₁
     ends-entered vs r₁ r x₁ x e f h = (record { visits = vs ++ h .0 .visits; leaf = h .0 .leaf }, e ∙ rw (h .1), f (h .0 .leaf) (h .2))
 
-    -- the paths from the blocks of the next level
+    -- The paths from the blocks of the next level.
     abbrev Rest : ℕ → ℕ → Type 0
     Rest below l = (i o : ℕ) → i < N t l → o < len t l i → Ends (pathFrom t below l i o) (s t l i + o)
 

@@ -8,16 +8,12 @@ use native.Mathlib.Omega.{arith}
 use borrow.Author.Tests.{lt-ltb, eqb-true}
 use lib.ListN.{getD}
 use lib.Dec.{eqb}
-use Rattle.text.specs.Lists.{tabulate}
+use Rattle.text.specs.Text.{tabulate, stretch}
 use Rattle.text.specs.ListLaws.{and-left, and-right}
-use Rattle.text.specs.Text.{stretch}
 use Rattle.format.specs.Layout as at
-use Rattle.format.specs.Path.{Path, pathOf}
-use Rattle.format.specs.Fits.{linksOk, textOf}
-use Rattle.format.specs.Verdict.{readable}
+use Rattle.format.specs.TreeReading.{Path, pathOf, linksOk, textOf, readable}
 use Rattle.format.specs.LayoutLaws.{readable-facts}
-use Rattle.format.specs.Said.{Said, refused}
-use Rattle.format.specs.ReadSays.{byteOf, byteSays, pathsHold}
+use Rattle.format.specs.Answers.{Said, refused, byteOf, byteSays, pathsHold}
 use Rattle.theory_paths.specs.Visits.{path-long}
 use Rattle.theory_paths.specs.FitsFacts.{stretch-tabulate}
 use Rattle.theory_paths.specs.OneText.{text-length}
@@ -64,13 +60,13 @@ module _ (t : List ℕ) (r : readable t ≡ 0) (p : ℕ) (low : p < at.textLengt
       go none e y = absurd (let x : ⊥ = omega arith in x)
       go (some q) e y = (q, e)
 
-  -- a byte that is answered is the text's
+  -- A byte that is answered is the text's.
   pub byte-text : byteSays t p .number ≡ 0 → byteSays t p .value ≡ getD (textOf t) p 0
   byte-text z =
       let w = path-there z in
       ap (λ (s : Said). s .value) (byte-of-path t (readable-facts t r) r p low (w .0) (w .1)) ∙ sym (text-of-path t (readable-facts t r) r p low (w .0) (w .1))
 
-  -- if byte is refused here, the number is 14
+  -- If byte is refused here, the number is 14.
   pub byte-broken : (byteSays t p .number ≡ 0 → ⊥) → byteSays t p .number ≡ 14
   byte-broken n = go (pathOf t p) refl
     where
@@ -81,7 +77,7 @@ module _ (t : List ℕ) (r : readable t ≡ 0) (p : ℕ) (low : p < at.textLengt
       go none e = said none e
       go (some q) e = absurd (n (said (some q) e))
 
-  -- a result has entered a block, so what has entered none is a refusal
+  -- A result has entered a block, so what has entered none is a refusal.
   pub only-14 : (q : ℕ) → refused q ≡ byteSays t p → byteSays t p .number ≡ 14
   only-14 q e =
       byte-broken (λ z.
@@ -89,7 +85,7 @@ module _ (t : List ℕ) (r : readable t ≡ 0) (p : ℕ) (low : p < at.textLengt
       let y = ap (λ (s : Said). s .entered) (e ∙ byte-of-path t (readable-facts t r) r p low (w .0) (w .1)) in
       omega (arith, path-long t p (w .0) (w .1)))
 
-  -- in a tree that passes question 8 it is answered
+  -- In a tree that passes question 8 it is answered.
   pub never-14 : linksOk t ≡ true → byteSays t p .number ≡ 14 → ⊥
   never-14 links z = let y = ap (λ (s : Said). s .number) (byte-of-text t r links p low .2) in omega arith
 

@@ -10,13 +10,12 @@ use borrow.Author.Tests.{lt-ltb, le-ltb, eq-eqb}
 use Rattle.text.specs.ListLaws.{lt-or-ge}
 use Rattle.format.specs.LayoutLaws.{Readable}
 use Rattle.format.specs.Layout as at
-use Rattle.format.specs.Path.{Path, Visit, visit, entered, keptBlock, pointingBlock, targetBlock, targetPlace, landBlock, landPlace, landVisits, lands}
-use Rattle.format.specs.Path.{pathFrom}
-use Rattle.format.specs.Fits.{leafOf}
+use Rattle.format.specs.TreeReading.{Path, Visit, visit, entered, keptBlock, pointingBlock, targetBlock, targetPlace, landBlock, landPlace, landVisits, lands}
+use Rattle.format.specs.TreeReading.{pathFrom, leafOf}
 use Rattle.theory_paths.specs.Links.{N, b, s, len, Pointing, Linked}
 use Rattle.theory_paths.specs.BlockStarts.{first-inside, second-inside}
 
--- visits in front of a path
+-- Visits in front of a path.
 
 pub entered-none : (r : Option Path) → entered [] r ≡ r
 entered-none none = refl
@@ -43,19 +42,19 @@ module _ (t : List ℕ) where
   unfolding pointingBlock at.isPointing
   pointing-block l i h p = rw (lt-ltb _ _ h, eq-eqb _ 1 (p .kind-is), lt-ltb _ _ (p .gap-small))
 
-  -- on the last level a kept block's path ends at a leaf byte
+  -- On the last level a kept block's path ends at a leaf byte.
   pub from-last : (l i o : ℕ) → keptBlock t l i ≡ true → at.link t l i + o < at.leafCount t
       → pathFrom t 0 l i o ≡ some (record { visits = visit l i o ∷ []; leaf = at.link t l i + o })
   unfolding pathFrom
   from-last l i o kept h = rw (kept, lt-ltb _ _ h)
 
-  -- a kept block's path goes on with a child
+  -- A kept block's path goes on with a child.
   pub from-kept : (below l i o : ℕ) → keptBlock t l i ≡ true
       → pathFrom t (suc below) l i o ≡ entered (visit l i o ∷ []) (pathFrom t below (l + 1) (at.link t l i + o / b t (l + 1)) (o % b t (l + 1)))
   unfolding pathFrom lands landBlock landPlace landVisits
   from-kept below l i o kept = rw kept
 
-  -- a pointing block's path with a child of its target, and so as that of the target, with one visit more
+  -- A pointing block's path with a child of its target, and so as that of the target, with one visit more.
   pub from-points : (below l i o : ℕ) → keptBlock t l i ≡ false → pointingBlock t l i ≡ true → keptBlock t l (targetBlock t l i o) ≡ true
       → pathFrom t (suc below) l i o ≡ entered (visit l i o ∷ visit l (targetBlock t l i o) (targetPlace t l i o) ∷ [])
       (pathFrom t below (l + 1) (at.link t l (targetBlock t l i o) + targetPlace t l i o / b t (l + 1)) (targetPlace t l i o % b t (l + 1)))
@@ -71,7 +70,7 @@ module _ (t : List ℕ) where
       from-points below l i o un pt kept ∙ sym (entered-twice (visit l i o ∷ []) (visit l j p ∷ []) rest)
       ∙ ap (entered (visit l i o ∷ [])) (sym (from-kept below l j p kept))
 
-  -- which of the two blocks, and where in it
+  -- Which of the two blocks, and where in it.
   pub target-first : (l i o : ℕ) → at.gap t l i + o < b t l → (targetBlock t l i o ≡ at.link t l i) × (targetPlace t l i o ≡ at.gap t l i + o)
   unfolding targetBlock targetPlace
   target-first l i o h = (rw (lt-ltb _ _ h), rw (lt-ltb _ _ h))
@@ -80,7 +79,7 @@ module _ (t : List ℕ) where
   unfolding targetBlock targetPlace
   target-second l i o h = (rw (le-ltb _ _ h), rw (le-ltb _ _ h))
 
-  -- place o of the pointing block i is a place of a kept block, the one that its occurrence has there
+  -- Place o of the pointing block i is a place of a kept block, the one that its occurrence has there.
   pub record Target (l i o : ℕ) : Type 0 where
     pub below : targetBlock t l i o < N t l
     pub kept : at.isKept t l (targetBlock t l i o) ≡ true

@@ -6,14 +6,13 @@ use native.Mathlib.Omega.{arith}
 use lib.Arith.{digits-div, digits-mod}
 use Rattle.format.specs.LayoutLaws.{Readable}
 use Rattle.format.specs.Layout as at
-use Rattle.format.specs.Path.{Visit, visit, entered, pathFrom, pathOf}
-use Rattle.format.specs.Fits.{leafOf}
+use Rattle.format.specs.TreeReading.{Visit, visit, entered, pathFrom, pathOf, leafOf}
 use Rattle.theory_paths.specs.Links.{H, N, b, s, len, Linked}
 use Rattle.theory_paths.specs.BlockStarts.{len-small, Parent, parent, in-parent}
 use Rattle.theory_paths.specs.PlacesLand.{entered-none, entered-twice, leaf-entered, kept-block, from-kept}
 
 module _ (t : List ℕ) where
-  -- the visits that lead to place o of block i of level l: of its ancestors, all kept, at the place of the text that this is
+  -- The visits that lead to place o of block i of level l: of its ancestors, all kept, at the place of the text that this is.
   pub data Above : ℕ → ℕ → ℕ → List Visit → Type 0 where
     top : {i o : ℕ} → Above 0 i o []
     under : {l i o a j : ℕ} {vs : List Visit}
@@ -25,7 +24,7 @@ module _ (t : List ℕ) where
     pub path : pathOf t (s t l i + o) ≡ entered visits (pathFrom t (H t - 1 - l) l i o)
 
   module _ (k : Readable t) (d : Linked t) where
-    -- from a parent to its child
+    -- From a parent to its child.
     reach-next : (l i o a j : ℕ) → l + 1 < H t → o < len t (l + 1) i → Parent t l i a j → Reached l a (j * b t (l + 1) + o) → Reached (l + 1) i o
     reach-next l i o a j hl ho p r =
         let x = j * b t (l + 1) + o in

@@ -8,24 +8,20 @@ use native.Mathlib.Omega.{arith}
 use native.Mathlib.Nat.{mod-lt, add-assoc}
 use borrow.Author.Tests.{lt-ltb, le-leb, eq-eqb}
 use lib.ListN.{length, getD, take, drop}
-use Rattle.text.specs.Lists.{tabulate}
+use Rattle.text.specs.Text.{tabulate, stretch}
 use Rattle.text.specs.ListLaws.{and-both}
-use Rattle.text.specs.Text.{stretch}
 use Rattle.text.specs.TextLaws.{stretch-ext}
 use Rattle.format.specs.Layout as at
-use Rattle.format.specs.Path.{Path, pathOf}
-use Rattle.format.specs.Fits.{leafOf, textOf}
-use Rattle.format.specs.Verdict.{readable}
+use Rattle.format.specs.TreeReading.{Path, pathOf, leafOf, textOf, readable}
 use Rattle.format.specs.LayoutLaws.{Readable, full-pos}
-use Rattle.format.specs.Said.{Said}
-use Rattle.format.specs.ReadSays.{byteSays, leftOver, runSays, pathsHold, asksSpan, leavesSpan, copyNumber, copyLeaves}
+use Rattle.format.specs.Answers.{Said, byteSays, leftOver, runSays, pathsHold, asksSpan, leavesSpan, copyNumber, copyLeaves}
 use Rattle.theory_paths.specs.Links.{H, b}
 use Rattle.theory_paths.specs.Visits.{Goes, goes, goes-leaf}
 use Rattle.theory_paths.specs.Shift.{left-most, left-within, within-left, goes-within, path-further}
 use Rattle.theory_paths.specs.FitsFacts.{stretch-tabulate}
 use Rattle.theory_paths.specs.OneText.{text-length, text-at}
 
--- the x bytes from a of the tree are x bytes of the tree's text, from place p
+-- The x bytes from a of the tree are x bytes of the tree's text, from place p.
 pub record Part (t : List ℕ) (p a x : ℕ) : Type 0 where
   pub some-byte : 1 ≤ x
   pub in-text : p + x ≤ at.textLength t
@@ -58,7 +54,7 @@ module _ (t : List ℕ) (k : Readable t) (r : readable t ≡ 0) (p : ℕ) (hp : 
       within-left t (q .visits) (min (at.textLength t - p) (at.leafCount t - q .leaf)) 0
       (goes-within t (full-pos t k) goes-of-path (mod-lt p (full-pos t k 0))) (omega (arith, goes-leaf t goes-of-path))
 
-  -- a byte of the run is the text's
+  -- A byte of the run is the text's.
   run-byte : (d : ℕ) → d < size → at.leafByte t (q .leaf + d) ≡ getD (textOf t) (p + d) 0
   run-byte d h =
       let most = min (at.textLength t - p) (at.leafCount t - q .leaf) in

@@ -13,13 +13,13 @@ use lib.Dec.{ltb}
 use lib.ListN.{length}
 use Rattle.text.specs.ListLaws.{and-right, lt-or-ge}
 use Rattle.format.specs.Layout as at
-use Rattle.format.specs.Path.{Path, Visit, visit, pointingBlock, targetBlock, targetPlace, pathOf}
-use Rattle.format.specs.ReadSays.{leftOver}
+use Rattle.format.specs.TreeReading.{Path, Visit, visit, pointingBlock, targetBlock, targetPlace, pathOf}
+use Rattle.format.specs.Answers.{leftOver}
 use Rattle.theory_paths.specs.Links.{H, b, N}
 use Rattle.theory_paths.specs.PlacesLand.{target-first, target-second}
 use Rattle.theory_paths.specs.Visits.{Goes, ends, down, points, goes, goes-path}
 
--- a step that stays within a block of c bytes
+-- A step that stays within a block of c bytes.
 pub step-div : (o d c : ℕ) → o % c + d < c → (o + d) / c ≡ o / c
 step-div o d c h = let e : o + d ≡ o / c * c + (o % c + d) = omega (arith, div-add-mod' o c) in rw e (digits-div (o / c) h)
 
@@ -41,7 +41,7 @@ module _ (t : List ℕ) where
   Within d [] = Unit {0}
   Within d (v ∷ vs) = (v .place + d < b t (v .level)) × Within d vs
 
-  -- what is left of every block and of `most`
+  -- What is left of every block and of `most`.
 
   pub left-most : (vs : List Visit) (most : ℕ) → leftOver t vs most ≤ most
   unfolding leftOver
@@ -66,7 +66,7 @@ module _ (t : List ℕ) where
   goes-first d (down kept g) w = w .0
   goes-first d (points un pt kept g) w = w .0
 
-  -- a target moves with the place
+  -- A target moves with the place.
   pub target-step : (l i o d : ℕ) → targetPlace t l i o + d < b t l
       → (targetBlock t l i (o + d) ≡ targetBlock t l i o) × (targetPlace t l i (o + d) ≡ targetPlace t l i o + d)
   target-step l i o d h = go (lt-or-ge (at.gap t l i + o) (b t l))
@@ -99,7 +99,7 @@ module _ (t : List ℕ) where
       {vs = further d vs} un pt (rw (e .0) kept) (rw (e .0, e .1, step-div p d c small, step-mod p d c small) (shift d g (w .1 .1) fits)) in
       rw (e .0, e .1) at go
 
-  -- the path of the place d further on
+  -- The path of the place d further on.
   pub path-further : (p d : ℕ) (q : Path) → pathOf t p ≡ some q → Within d (q .visits) → q .leaf + d < at.leafCount t
       → pathOf t (p + d) ≡ some (record { visits = further d (q .visits); leaf = q .leaf + d })
   unfolding pathOf
@@ -108,7 +108,7 @@ module _ (t : List ℕ) where
       let small = goes-first d g w in
       rw (step-div p d (b t 0) small, step-mod p d (b t 0) small) (goes-path t (shift d g w fits))
 
-  -- as much less is left
+  -- As much less is left.
   pub left-further : (d : ℕ) (vs : List Visit) (most : ℕ) → leftOver t (further d vs) (most - d) ≡ leftOver t vs most - d
   unfolding leftOver
   left-further d [] most = refl

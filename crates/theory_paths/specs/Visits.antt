@@ -11,12 +11,12 @@ use lib.ListN.{length}
 use lib.Dec.{ltb}
 use Rattle.text.specs.ListLaws.{and-left, and-right, bool-cases}
 use Rattle.format.specs.Layout as at
-use Rattle.format.specs.Path.{Path, Visit, visit, entered, provided, keptBlock, pointingBlock, targetBlock, targetPlace, lands, pathFrom, pathOf}
+use Rattle.format.specs.TreeReading.{Path, Visit, visit, entered, provided, keptBlock, pointingBlock, targetBlock, targetPlace, lands, pathFrom, pathOf}
 use Rattle.theory_paths.specs.Links.{b}
 use Rattle.theory_paths.specs.PlacesLand.{from-last, from-kept, from-points}
 
 module _ (t : List ℕ) where
-  -- from place o of block i of level l, with `below` levels under it, these blocks are entered and leaf byte x is reached
+  -- From place o of block i of level l, with `below` levels under it, these blocks are entered and leaf byte x is reached.
   pub data Goes : ℕ → ℕ → ℕ → ℕ → List Visit → ℕ → Type 0 where
     ends : {l i o : ℕ} → keptBlock t l i ≡ true → at.link t l i + o < at.leafCount t → Goes 0 l i o (visit l i o ∷ []) (at.link t l i + o)
     down : {below l i o x : ℕ} {vs : List Visit} → keptBlock t l i ≡ true
@@ -25,7 +25,7 @@ module _ (t : List ℕ) where
         → Goes below (l + 1) (at.link t l (targetBlock t l i o) + targetPlace t l i o / b t (l + 1)) (targetPlace t l i o % b t (l + 1)) vs x
         → Goes (suc below) l i o (visit l i o ∷ visit l (targetBlock t l i o) (targetPlace t l i o) ∷ vs) x
 
-  -- what lets a path through
+  -- What lets a path through.
 
   provided-some : (c : Bool) (r : Option Path) (q : Path) → provided c r ≡ some q → (c ≡ true) × (r ≡ some q)
   provided-some true r q h = (refl, h)

@@ -7,20 +7,16 @@ use Prim.Native.Nat.{ℕ, _+_, _*_, _≤_, _<_}
 use native.Mathlib.Omega.{arith}
 use native.Mathlib.Nat.{mul-add}
 use lib.ListN.{length}
-use Rattle.text.specs.Lists.{sumBelow}
+use Rattle.text.specs.Text.{sumBelow}
 use Rattle.text.specs.ListLaws.{sumBelow-ext}
 use Rattle.format.specs.WordLaws.{wordAt-lt}
-use Rattle.format.specs.RecordFields.{fieldBytes}
-use Rattle.format.specs.HeaderPlaces.{leafOffsetAt, headerLength}
-use Rattle.format.specs.Settings.{Settings}
+use Rattle.format.specs.Layout.{fieldBytes, leafOffsetAt, headerLength, Settings}
 use Rattle.format.specs.Blocks.{treeOf, startsAt, leafBytes}
 use Rattle.format.specs.LayoutLaws.{Readable, readable-facts, size-edged}
 use Rattle.format.specs.Layout as at
-use Rattle.format.specs.Path.{pathOf}
-use Rattle.format.specs.Fits.{linksOk, textOf, countsTrue}
+use Rattle.format.specs.TreeReading.{pathOf, linksOk, textOf, countsTrue, ask, readable, verdict}
 use Rattle.format.specs.FittingText.{fits}
-use Rattle.format.specs.ReadSays.{byteSays}
-use Rattle.format.specs.Verdict.{ask, readable, verdict}
+use Rattle.format.specs.Answers.{byteSays}
 use Rattle.format.specs.VerdictLaws as verdicts
 use Rattle.theory_accepted.specs.AcceptedTrees.{StandsFor, accepted-stands, one-text}
 use Rattle.theory_built.specs.BlockSizes.{Taken}
@@ -36,7 +32,7 @@ use Rattle.theory_without_edges.specs.TreesAgree as agree
 use Rattle.theory_without_edges.specs.TreesExact as exact
 use Rattle.theory_without_edges.specs.PathsAgree as paths
 
--- a word read from bytes is below 2^32
+-- A word read from bytes is below 2^32.
 leaf-small : (t : List ℕ) → AllBytes t → at.leafOffset t < 4294967296
 unfolding at.leafOffset
 leaf-small t byte = wordAt-lt t leafOffsetAt byte

@@ -7,15 +7,12 @@ use native.Mathlib.Omega.{arith}
 use native.Mathlib.Nat.{add-mul}
 use lib.ListN.{length, getD, length-append, List·getD-append}
 use lib.Seq.{getD-append-add, ext-getD}
-use Rattle.text.specs.Lists.{tabulate, concat, sumBelow}
+use Rattle.text.specs.Text.{tabulate, concat, sumBelow, stretch}
 use Rattle.text.specs.ListLaws.{lt-or-ge, sumBelow-ext, sumBelow-part, tabulate-ext}
-use Rattle.text.specs.Text.{stretch}
 use Rattle.text.specs.TextLaws.{length-stretch, getD-stretch}
-use Rattle.format.specs.Words.{wordBytes, wordsBytes}
+use Rattle.format.specs.Layout.{wordBytes, wordsBytes, Settings, maxLevels, maxCounted, countedAt, pairsAt, offsetAt, headerLength}
 use Rattle.format.specs.WordLaws.{length-words}
 use Rattle.format.specs.SizeLaws.{record-plain}
-use Rattle.format.specs.Settings.{Settings, maxLevels, maxCounted}
-use Rattle.format.specs.HeaderPlaces.{countedAt, pairsAt, offsetAt, headerLength}
 use Rattle.format.specs.Blocks.{treeOf, leafBytes, recordBytes}
 use Rattle.format.specs.LayoutLaws.{Readable, readable-facts}
 use Rattle.format.specs.Layout as at
@@ -30,8 +27,7 @@ use Rattle.theory_built.specs.BuiltBytes.{Stands, six-stands, counted-stands, l
 use Rattle.theory_built.specs.ReadBack as back
 use Rattle.theory_built.specs.Readable.{built-readable}
 use Rattle.theory_without_edges.specs.WithoutEdges.{edgelessLayout, layout1RecordSize, layout1Offset, layout1Header, recordCount}
-use Rattle.theory_without_edges.specs.WithoutEdges.{layout1Record, layout1Records, layout1LeafBytes}
-use Rattle.theory_without_edges.specs.WithoutEdges.{withoutEdges}
+use Rattle.theory_without_edges.specs.WithoutEdges.{layout1Record, layout1Records, layout1LeafBytes, withoutEdges}
 use Rattle.theory_without_edges.specs.Layout1Sizes as sizes
 use Rattle.theory_without_edges.specs.Layout1Bytes as bytes
 use Rattle.theory_without_edges.specs.TreeInLayout.{sizeIn, bytesOf, levelIn, headerIn, treeIn}
@@ -182,7 +178,7 @@ module _ (S : Settings) (T : List ℕ) (h : Taken S T) where
   abbrev old : List ℕ
   old = pairs.levelWordsOf S T
 
-  -- a word that is the same in both layouts
+  -- A word that is the same in both layouts.
   kept-word : (j : ℕ) → j < 2 * maxLevels + 2 → ((r : ℕ) → r < 4 → bytes.Kept t k (pairsAt + 4 * j + r)) → getD old j 0 ≡ getD new j 0
       → Stands (withoutEdges t) (pairsAt + 4 * j) (getD new j 0)
   kept-word j jl stays same r m = bytes.kept-byte t k (pairsAt + 4 * j + r) (stays r m) ∙ level-stands S T h j jl r m ∙ rw same

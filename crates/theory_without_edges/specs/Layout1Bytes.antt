@@ -10,24 +10,21 @@ use lib.Arith.{digits-lt}
 use Rattle.text.specs.ListLaws.{below-suc}
 use Rattle.text.specs.Text.{stretch}
 use Rattle.text.specs.TextLaws.{getD-stretch}
-use Rattle.format.specs.Words.{wordAt, wordBytes, setWord}
+use Rattle.format.specs.Layout.{wordAt, wordBytes, setWord, maxLevels, layoutAt, offsetAt, leafOffsetAt, headerLength}
 use Rattle.format.specs.WordLaws.{length-setWord, getD-setWord-other, setWord-eq}
-use Rattle.format.specs.Settings.{maxLevels}
-use Rattle.format.specs.HeaderPlaces.{layoutAt, offsetAt, leafOffsetAt, headerLength}
 use Rattle.format.specs.LayoutLaws.{Readable}
 use Rattle.format.specs.Layout as at
 use Rattle.theory_built.specs.Gather.{getD-concat}
 use Rattle.theory_built.specs.BuiltBytes.{Stands}
 use Rattle.theory_without_edges.specs.WithoutEdges.{edgelessLayout, layout1RecordSize, layout1Offset, offsetsIn, layout1Header}
-use Rattle.theory_without_edges.specs.WithoutEdges.{recordCount, layout1Record}
-use Rattle.theory_without_edges.specs.WithoutEdges.{layout1Records, layout1LeafBytes, withoutEdges}
+use Rattle.theory_without_edges.specs.WithoutEdges.{recordCount, layout1Record, layout1Records, layout1LeafBytes, withoutEdges}
 use Rattle.theory_without_edges.specs.Layout1Sizes as sizes
 
 length-wordBytes : (v : ℕ) → length (wordBytes v) ≡ 4
 unfolding wordBytes
 length-wordBytes v = refl
 
--- a written word is read back
+-- A written word is read back.
 pub written-represents : (t : List ℕ) (i v : ℕ) → i + 4 ≤ length t → Stands (setWord t i v) i v
 written-represents t i v fits r l =
     let head : length (take i t) ≡ i = length-take-le i t (omega arith) in
@@ -37,7 +34,7 @@ written-represents t i v fits r l =
     (List·getD-append (take i t ++ wordBytes v) (drop (i + 4) t) 0 (length (take i t) + r) m
     ∙ getD-append-add (take i t) (wordBytes v) r 0)
 
--- words of equal bytes are equal
+-- Words of equal bytes are equal.
 pub word-same : (t u : List ℕ) (p q : ℕ) → ((r : ℕ) → r < 4 → getD u (p + r) 0 ≡ getD t (q + r) 0) → wordAt u p ≡ wordAt t q
 unfolding wordAt
 word-same t u p q same = rw (first, same 1 (omega arith), same 2 (omega arith), same 3 (omega arith))
@@ -90,7 +87,7 @@ module _ (t : List ℕ) where
     long-offsets : length (offsetsIn t H marked) ≡ headerLength
     long-offsets = sizes.length-offsets t H marked ∙ long-marked
 
-    -- a byte outside the overwritten words
+    -- A byte outside the overwritten words.
     pub record Kept (x : ℕ) : Type 0 where
       pub inside : x < headerLength
       pub not-layout : layoutAt + 4 ≤ x

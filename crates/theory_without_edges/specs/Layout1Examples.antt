@@ -3,17 +3,13 @@ use mathlib.Core.List.{List, [], _∷_, _++_}
 use mathlib.Core.Path.{_≡_, refl}
 use Prim.Native.Nat.{ℕ}
 use lib.ListN.{length, replicate, take}
-use Rattle.text.specs.Lists.{tabulate, concat, sumBelow, countBelow, sameList}
-use Rattle.text.specs.Text.{stretch, leftmost, firstFrom, countIn}
-use Rattle.format.specs.Words.{setWord, wordAt, wordsBytes, wordBytes}
-use Rattle.format.specs.Settings.{Settings, blockLength, pieces, recordLength}
-use Rattle.format.specs.Edges.{edgesOf, filledOut}
+use Rattle.text.specs.Text.{tabulate, concat, sumBelow, countBelow, sameList, stretch, leftmost, firstFrom, countIn}
+use Rattle.format.specs.Layout.{setWord, wordAt, wordsBytes, wordBytes, Settings, blockLength, pieces, recordLength, edgesOf, filledOut}
 use Rattle.format.specs.Blocks.{treeOf, header, leafBytes, levelPairs, recordBytes, levelBytes, recordIn, recordOf, target, occurrence, width, isKept}
 use Rattle.format.specs.Blocks.{startsAt, cut, keptByPairs, firstPairAt, pairAt, lengthOf, startOf}
 use Rattle.format.specs.Layout as at
 use Rattle.theory_without_edges.specs.WithoutEdges.{layout1RecordSize, layout1Offset, offsetsIn, layout1Header, recordCount}
-use Rattle.theory_without_edges.specs.WithoutEdges.{layout1Record, layout1Records, layout1LeafBytes}
-use Rattle.theory_without_edges.specs.WithoutEdges.{withoutEdges}
+use Rattle.theory_without_edges.specs.WithoutEdges.{layout1Record, layout1Records, layout1LeafBytes, withoutEdges}
 use Rattle.theory_without_edges.specs.TreeInLayout.{treeIn, headerIn, pairsIn, levelIn, bytesOf, sizeIn}
 
 book : List ℕ
@@ -28,11 +24,11 @@ two = record { leaf = 2; arity = 2; levels = 2; counted = 65 ∷ [] }
 uncounted : Settings
 uncounted = record { leaf = 2; arity = 2; levels = 2; counted = [] }
 
--- the words of the records of level l
+-- The words of the records of level l.
 words : Settings → List ℕ → ℕ → List ℕ
 words S T l = concat (tabulate (length (startsAt S T l)) (recordOf S T l (startsAt S T l)))
 
--- the trees in layout 1, by hand: the header's words, the records without edges, the leaf bytes
+-- The trees in layout 1, by hand: the header's words, the records without edges, the leaf bytes.
 older : List ℕ
 older =
     wordsBytes (1 ∷ 20 ∷ 2 ∷ 2 ∷ 2 ∷ 1 ∷ 65 ∷ 5 ∷ 100 ∷ 8 ∷ 240 ∷ []) ++ replicate
@@ -49,7 +45,7 @@ pub record Marked : Type 0 where
   twelve-layout1 : (withoutEdges (treeOf uncounted twelve) ≡ older-twelve) × (length (treeOf uncounted twelve) ≡ 248) × (length older-twelve ≡ 220)
   book-in-layout : treeIn 1 two book ≡ older
   stays : (withoutEdges older ≡ older) × (withoutEdges older-twelve ≡ older-twelve)
-  -- the tree of the empty text is its header
+  -- The tree of the empty text is its header.
   empty : length (withoutEdges (treeOf two [])) ≡ 100
 
 pub marked : Marked

@@ -9,18 +9,16 @@ use native.Mathlib.Nat.{add-mul}
 use lib.ListN.{length, getD, take, drop}
 use lib.Dec.{leb, eqb}
 use borrow.Author.Tests.{le-leb, eq-eqb}
-use Rattle.text.specs.Lists.{allBelow, sumBelow}
+use Rattle.text.specs.Text.{allBelow, sumBelow, stretch}
 use Rattle.text.specs.ListLaws.{and-both, allBelow-make, sumBelow-ext, sumBelow-part}
-use Rattle.text.specs.Text.{stretch}
 use Rattle.text.specs.TextLaws.{stretch-ext}
-use Rattle.format.specs.Words.{wordAt}
+use Rattle.format.specs.Layout.{wordAt, Settings, maxLevels, maxCounted, lengthOk, sizesOk, countedOk, pieces}
 use Rattle.format.specs.LayoutLaws.{fieldCount, Readable}
-use Rattle.format.specs.Settings.{Settings, maxLevels, maxCounted, lengthOk, sizesOk, countedOk, pieces}
 use Rattle.format.specs.SizeLaws.{record-plain}
-use Rattle.format.specs.HeaderPlaces.{layoutAt, textLengthAt, leafAt, arityAt, levelsAt, countedCountAt, countedAt, pairsAt, countAt, offsetAt, leafOffsetAt}
-use Rattle.format.specs.HeaderPlaces.{leafCountAt, headerLength}
+use Rattle.format.specs.Layout.{layoutAt, textLengthAt, leafAt, arityAt, levelsAt, countedCountAt, countedAt, pairsAt, countAt, offsetAt, leafOffsetAt}
+use Rattle.format.specs.Layout.{leafCountAt, headerLength}
 use Rattle.format.specs.Layout as at
-use Rattle.format.specs.Verdict.{readable}
+use Rattle.format.specs.TreeReading.{readable}
 use Rattle.theory_built.specs.BuiltBytes.{stands-word}
 use Rattle.theory_without_edges.specs.WithoutEdges.{edgelessLayout, layout1RecordSize, layout1Offset, withoutEdges}
 use Rattle.theory_without_edges.specs.Layout1Sizes as sizes

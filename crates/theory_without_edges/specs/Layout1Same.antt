@@ -8,9 +8,8 @@ use native.Mathlib.Nat.{div-add-mod', div-lt-iff-lt-mul, mod-lt}
 use lib.ListN.{length, getD}
 use lib.Seq.{ext-getD}
 use Rattle.text.specs.ListLaws.{lt-or-ge}
-use Rattle.format.specs.Words.{wordAt, wordBytes}
+use Rattle.format.specs.Layout.{wordAt, wordBytes, layoutAt, pairsAt, offsetAt, leafOffsetAt, headerLength}
 use Rattle.format.specs.SizeLaws.{record-plain}
-use Rattle.format.specs.HeaderPlaces.{layoutAt, pairsAt, offsetAt, leafOffsetAt, headerLength}
 use Rattle.format.specs.LayoutLaws.{Readable}
 use Rattle.format.specs.Layout as at
 use Rattle.theory_built.specs.BuiltBytes.{Stands}
@@ -18,7 +17,7 @@ use Rattle.theory_without_edges.specs.WithoutEdges.{AllBytes, layout1Rec
 use Rattle.theory_without_edges.specs.Layout1Sizes as sizes
 use Rattle.theory_without_edges.specs.Layout1Bytes as bytes
 
--- four bytes are the digits of their word in base 256
+-- Four bytes are the digits of their word in base 256.
 digits-of : (a b c d w : ℕ) → a < 256 → b < 256 → c < 256 → d < 256 → a + 256 * b + 65536 * c + 16777216 * d ≡ w
     → (a ≡ w % 256) × (b ≡ w / 256 % 256) × (c ≡ w / 65536 % 256) × (d ≡ w / 16777216 % 256)
 digits-of a b c d w ha hb hc hd is =
@@ -57,7 +56,7 @@ module _ (t : List ℕ) (byte : AllBytes t) (k : Readable t) (edgeless : at.layo
   leaf-same : layout1Offset t H ≡ at.leafOffset t
   leaf-same = rw (sizes.leaf-at t k, size-same) (sizes.offset-end t)
 
-  -- a word overwritten by itself
+  -- A word overwritten by itself.
   anew : (i v : ℕ) → Stands u i v → wordAt t i ≡ v → (x : ℕ) → i ≤ x → x < i + 4 → getD u x 0 ≡ getD t x 0
   anew i v s is x lo hi =
       let e : i + (x - i) ≡ x = omega arith in

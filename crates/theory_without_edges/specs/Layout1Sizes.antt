@@ -6,19 +6,16 @@ use native.Mathlib.Omega.{arith}
 use native.Mathlib.Nat.{add-mul, mul-le-mul-right, mul-le-mul-left}
 use lib.ListN.{length, take, length-append}
 use lib.Seq.{length-take-le}
-use Rattle.text.specs.Lists.{sumBelow}
+use Rattle.text.specs.Text.{sumBelow}
 use Rattle.text.specs.ListLaws.{sumBelow-ext}
 use Rattle.text.specs.TextLaws.{length-stretch}
-use Rattle.format.specs.Words.{setWord}
+use Rattle.format.specs.Layout.{setWord, fieldBytes, layoutAt, offsetAt, leafOffsetAt, headerLength}
 use Rattle.format.specs.WordLaws.{length-setWord}
-use Rattle.format.specs.RecordFields.{fieldBytes}
-use Rattle.format.specs.HeaderPlaces.{layoutAt, offsetAt, leafOffsetAt, headerLength}
 use Rattle.format.specs.LayoutLaws.{Readable, size-low}
 use Rattle.format.specs.Layout as at
 use Rattle.theory_built.specs.Gather.{length-concat, sumBelow-same, sumBelow-le}
 use Rattle.theory_without_edges.specs.WithoutEdges.{edgelessLayout, layout1RecordSize, layout1Offset, offsetsIn, layout1Header}
-use Rattle.theory_without_edges.specs.WithoutEdges.{recordCount, layout1Record}
-use Rattle.theory_without_edges.specs.WithoutEdges.{layout1Records, layout1LeafBytes, withoutEdges}
+use Rattle.theory_without_edges.specs.WithoutEdges.{recordCount, layout1Record, layout1Records, layout1LeafBytes, withoutEdges}
 
 module _ (t : List ℕ) where
   pub length-offsets : (n : ℕ) (h : List ℕ) → length (offsetsIn t n h) ≡ length h
@@ -46,26 +43,26 @@ module _ (t : List ℕ) where
   unfolding recordCount
   count-is = refl
 
-  -- the leaf bytes begin after all records
+  -- The leaf bytes begin after all records.
   pub offset-end : layout1Offset t (at.settings t .levels) ≡ headerLength + recordCount t * layout1RecordSize t
   offset-end = rw (offset-is (at.settings t .levels), count-is)
 
   module _ (k : Readable t) where
-    -- a record is no longer without its edges
+    -- A record is no longer without its edges.
     pub layout1-record-small : layout1RecordSize t ≤ at.recordSize t
     layout1-record-small = rw (← size-is) (size-low t k)
 
     pub leaf-at : at.leafOffset t ≡ headerLength + recordCount t * at.recordSize t
     leaf-at = rw count-is (k .leaf-at)
 
-    -- the words of record j lie before the leaf bytes
+    -- The words of record j lie before the leaf bytes.
     pub record-inside : (j : ℕ) → j < recordCount t → headerLength + j * at.recordSize t + layout1RecordSize t ≤ at.leafOffset t
     record-inside j h =
         let R = at.recordSize t in
         let whole : (j + 1) * R ≤ recordCount t * R = mul-le-mul-right R (omega arith) in
         omega (arith, leaf-at, add-mul j 1 R, layout1-record-small)
 
-    -- no offset becomes larger
+    -- No offset becomes larger.
     pub offset-falls : (l : ℕ) → l ≤ at.settings t .levels → layout1Offset t l ≤ at.leafOffset t
     offset-falls l h =
         let part : sumBelow l (at.levelCount t) * layout1RecordSize t ≤ recordCount t * layout1RecordSize t =
@@ -90,11 +87,11 @@ module _ (t : List ℕ) where
     pub length-before-leaves : length (layout1Header t ++ layout1Records t) ≡ layout1Offset t (at.settings t .levels)
     length-before-leaves = rw (length-append (layout1Header t), length-layout1-header (k .long), length-layout1-records, offset-end)
 
-    -- the size: header, words of all records, leaf bytes
+    -- The size: header, words of all records, leaf bytes.
     pub layout1-length : length (withoutEdges t) ≡ layout1Offset t (at.settings t .levels) + at.leafCount t
     unfolding withoutEdges
     layout1-length = rw (length-append (layout1Header t ++ layout1Records t), length-before-leaves, length-layout1-leaves)
 
-    -- the size is at most the tree's
+    -- The size is at most the tree's.
     pub layout1-shorter : length (withoutEdges t) ≤ length t
     layout1-shorter = omega (arith, layout1-length, offset-falls (at.settings t .levels) (omega arith), k .size)

@@ -7,14 +7,14 @@ use Prim.Native.Nat.{ℕ, _+_, _-_, _*_, _≤_, _<_}
 use native.Mathlib.Omega.{arith}
 use borrow.Author.Tests.{eq-eqb, ne-eqb, le-leb, lt-ltb}
 use lib.Dec.{eqb, ltb, leb}
-use Rattle.text.specs.Lists.{allBelow, sumBelow}
+use Rattle.text.specs.Text.{allBelow, sumBelow}
 use Rattle.text.specs.ListLaws.{and-both, or-left, or-right, not-eq-true, lt-or-ge, allBelow-make}
 use Rattle.format.specs.Layout as at
-use Rattle.format.specs.Fits.{lastLevel, widthAt, keptRight, pointingRight, blockRight, countBelowRight, linksOk}
+use Rattle.format.specs.TreeReading.{lastLevel, widthAt, keptRight, pointingRight, blockRight, countBelowRight, linksOk}
 use Rattle.theory_paths.specs.Links.{H, N, b, s, len, Kept, Pointing, Linked}
 
 module _ (t : List ℕ) where
-  -- a level is the last one, or another follows
+  -- A level is the last one, or another follows.
   upper-or-last : (l : ℕ) → l < H t → (l + 1 < H t) ⊎ (l ≡ H t - 1)
   upper-or-last l h = go (lt-or-ge (l + 1) (H t))
     where

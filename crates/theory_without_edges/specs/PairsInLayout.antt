@@ -6,9 +6,8 @@ use native.Mathlib.Omega.{arith}
 use native.Mathlib.Nat.{add-mul}
 use lib.ListN.{length, getD, replicate, length-append, length-replicate, getD-replicate, List·getD-append}
 use lib.Seq.{getD-append-add}
-use Rattle.text.specs.Lists.{sumBelow}
-use Rattle.format.specs.Settings.{Settings, maxLevels}
-use Rattle.format.specs.HeaderPlaces.{headerLength}
+use Rattle.text.specs.Text.{sumBelow}
+use Rattle.format.specs.Layout.{Settings, maxLevels, headerLength}
 use Rattle.format.specs.Blocks.{startsAt, leafBytes}
 use Rattle.theory_without_edges.specs.TreeInLayout.{sizeIn, pairsIn}
 
@@ -16,7 +15,7 @@ module _ (v : ℕ) (S : Settings) (T : List ℕ) where
   abbrev count : ℕ → ℕ
   count l = length (startsAt S T l)
 
-  -- where the records of level l begin
+  -- Where the records of level l begin.
   unfoldable pub offsetIn : ℕ → ℕ
   offsetIn l = headerLength + sumBelow l count * sizeIn v S T
 
@@ -51,7 +50,7 @@ module _ (v : ℕ) (S : Settings) (T : List ℕ) where
       let m : suc l + x ≡ l + suc x = omega arith in
       rw d (pairs-offset more (suc l) (at + count l * sizeIn v S T) x (rw e (offset-next l)) (omega arith) ∙ ap offsetIn m)
 
-  -- the header's words for the levels, and the last two
+  -- The header's words for the levels, and the last two.
   abbrev pairs : List ℕ
   pairs = pairsIn v S T (S .levels) 0 headerLength
 

@@ -12,16 +12,14 @@ use lib.Dec.{ltb}
 use Rattle.text.specs.ListLaws.{bool-cases, bool-clash, lt-or-ge, and-left, and-right, tabulate-ext}
 use Rattle.format.specs.LayoutLaws.{Readable}
 use Rattle.format.specs.Layout as at
-use Rattle.format.specs.Path.{Path, entered, keptBlock, pointingBlock, targetBlock, targetPlace, landBlock, landPlace, landVisits, lands}
-use Rattle.format.specs.Path.{pathFrom, pathOf}
-use Rattle.format.specs.Fits.{leafOf, textOf}
-use Rattle.format.specs.ReadSays.{byteOf, byteSays}
-use Rattle.format.specs.Verdict.{readable}
+use Rattle.format.specs.TreeReading.{Path, entered, keptBlock, pointingBlock, targetBlock, targetPlace, landBlock, landPlace, landVisits, lands}
+use Rattle.format.specs.TreeReading.{pathFrom, pathOf, leafOf, textOf, readable}
+use Rattle.format.specs.Answers.{byteOf, byteSays}
 use Rattle.theory_paths.specs.Links.{H, N, b}
 use Rattle.theory_without_edges.specs.TreesAgree as agree
 use Rattle.theory_without_edges.specs.TreesAgree.{Agree}
 
--- a block number past the table has no landing
+-- A block number past the table has no landing.
 module _ (t : List ℕ) (l i : ℕ) (past : N t l ≤ i) where
   kept-past : keptBlock t l i ≡ false
   unfolding keptBlock
@@ -35,7 +33,7 @@ module _ (t : List ℕ) (l i : ℕ) (past : N t l ≤ i) where
   unfolding lands
   lands-past o = rw (kept-past, pointing-past)
 
--- a place lands on a kept block of the table
+-- A place lands on a kept block of the table.
 kept-inside : (t : List ℕ) (l i : ℕ) → keptBlock t l i ≡ true → i < N t l
 unfolding keptBlock
 kept-inside t l i h = ltb-true i (N t l) (and-left (ltb i (N t l)) (at.isKept t l i) h)
@@ -54,7 +52,7 @@ module _ (t u : List ℕ) (k : Readable t) (g : Agree t u) where
   count-is : (l : ℕ) → l < H t → N u l ≡ N t l
   count-is = agree.count-is t u k g
 
-  -- for a block of the table
+  -- For a block of the table.
   module _ (l i : ℕ) (hl : l < H t) (hi : i < N t l) where
     kept-in : keptBlock u l i ≡ keptBlock t l i
     unfolding keptBlock

@@ -6,20 +6,16 @@ use mathlib.Core.Path.{_≡_, refl, ap}
 use Prim.Native.Nat.{ℕ, zero, suc, _+_, _-_, _*_}
 use lib.ListN.{length, replicate}
 use lib.Dec.{eqb}
-use Rattle.text.specs.Lists.{tabulate, concat, sumBelow}
-use Rattle.text.specs.Text.{stretch}
-use Rattle.format.specs.Words.{wordsBytes}
-use Rattle.format.specs.Settings.{Settings, maxCounted, maxLevels, blockLength, recordLength}
-use Rattle.format.specs.HeaderPlaces.{headerLength}
-use Rattle.format.specs.Edges.{edgesOf}
+use Rattle.text.specs.Text.{tabulate, concat, sumBelow, stretch}
+use Rattle.format.specs.Layout.{wordsBytes, Settings, maxCounted, maxLevels, blockLength, recordLength, headerLength, edgesOf}
 use Rattle.format.specs.Blocks.{startOf, lengthOf, startsAt, recordOf, recordIn, levelBytes, leafBytes, builtLayout, recordBytes, levelPairs, header, treeOf}
 
 module _ (v : ℕ) (S : Settings) (T : List ℕ) where
-  -- the size of a record
+  -- The size of a record.
   unfoldable pub sizeIn : ℕ
   sizeIn = recordLength v (S .leaf) (length (S .counted))
 
-  -- the bytes of block i's record on level l: its words, and in layout 2 its edges
+  -- The bytes of block i's record on level l: its words, and in layout 2 its edges.
   unfoldable pub bytesOf : ℕ → ℕ → List ℕ
   bytesOf l i =
       let starts = startsAt S T l in
@@ -29,7 +25,7 @@ module _ (v : ℕ) (S : Settings) (T : List ℕ) where
   unfoldable pub levelIn : ℕ → List ℕ
   levelIn l = concat (tabulate (length (startsAt S T l)) (bytesOf l))
 
-  -- the header's two words for each of a level and those below it: its block count and its offset
+  -- The header's two words for each of a level and those below it: its block count and its offset.
   unfoldable pub pairsIn : ℕ → ℕ → ℕ → List ℕ
   pairsIn zero l at = []
   pairsIn (suc more) l at =

@@ -6,14 +6,12 @@ use mathlib.Core.Logic.{_⊎_, inl, inr}
 use mathlib.Core.Path.{_≡_, refl, sym, ap, _∙_}
 use Prim.Native.Nat.{ℕ, zero, suc, _+_, _-_, _≤_, _<_}
 use native.Mathlib.Omega.{arith}
-use Rattle.text.specs.Lists.{sumBelow}
+use Rattle.text.specs.Text.{sumBelow}
 use Rattle.text.specs.ListLaws.{bool-cases, sumBelow-ext, sumBelow-part}
-use Rattle.format.specs.RecordFields.{startField, kindField, linkField, gapField, beforeField, insideField, skipField}
+use Rattle.format.specs.Layout.{startField, kindField, linkField, gapField, beforeField, insideField, skipField, Settings, maxLevels}
 use Rattle.format.specs.LayoutLaws.{fieldCount, Readable, readable-facts}
-use Rattle.format.specs.Settings.{Settings, maxLevels}
 use Rattle.format.specs.Layout as at
-use Rattle.format.specs.Fits.{lastLevel, widthAt, textOf, countsTrue}
-use Rattle.format.specs.Verdict.{readable, verdict}
+use Rattle.format.specs.TreeReading.{lastLevel, widthAt, textOf, countsTrue, readable, verdict}
 use Rattle.format.specs.VerdictLaws as verdicts
 use Rattle.theory_paths.specs.Links.{H, N, b, s, len, Kept, Follows, Pointing, Linked, linked-facts, points-not-kept}
 use Rattle.theory_paths.specs.FitsFacts.{Fitting, fits-facts, fits-make}
@@ -22,7 +20,7 @@ use Rattle.theory_counts.specs.CountsLocal.{byteOf}
 use Rattle.theory_counts.specs.LevelTrue.{tally, parentPlace, Block, counts-facts, counts-make}
 use Rattle.theory_without_edges.specs.LinksMade.{linked-make}
 
--- every field of u but its layout, offsets and edges equals that of t
+-- Every field of u but its layout, offsets and edges equals that of t.
 pub record Agree (t u : List ℕ) : Type 0 where
   pub settings-are : at.settings u ≡ at.settings t
   pub length-is : at.textLength u ≡ at.textLength t

@@ -7,8 +7,7 @@ use Prim.Native.Nat.{ℕ, _<_}
 use Rattle.text.specs.ListLaws.{bool-cases, bool-clash}
 use Rattle.format.specs.LayoutLaws.{Readable, readable-facts}
 use Rattle.format.specs.Layout as at
-use Rattle.format.specs.Fits.{linksOk, textOf, countsTrue, edgesTrue}
-use Rattle.format.specs.Verdict.{ask, readable, verdict}
+use Rattle.format.specs.TreeReading.{linksOk, textOf, countsTrue, edgesTrue, ask, readable, verdict}
 use Rattle.format.specs.VerdictLaws as verdicts
 use Rattle.theory_paths.specs.Links.{linked-facts}
 use Rattle.theory_without_edges.specs.LinksMade.{linked-make}

@@ -4,11 +4,8 @@
 use mathlib.Core.List.{List, _++_}
 use Prim.Native.Nat.{ℕ, zero, suc, _+_, _*_, _<_}
 use lib.ListN.{getD, take}
-use Rattle.text.specs.Lists.{tabulate, concat, sumBelow}
-use Rattle.text.specs.Text.{stretch}
-use Rattle.format.specs.Words.{setWord}
-use Rattle.format.specs.RecordFields.{fieldBytes}
-use Rattle.format.specs.HeaderPlaces.{layoutAt, offsetAt, leafOffsetAt, headerLength}
+use Rattle.text.specs.Text.{tabulate, concat, sumBelow, stretch}
+use Rattle.format.specs.Layout.{setWord, fieldBytes, layoutAt, offsetAt, leafOffsetAt, headerLength}
 use Rattle.format.specs.Layout as at
 
 -- The layout without edges.

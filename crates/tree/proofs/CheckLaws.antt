@@ -3,8 +3,7 @@ use mathlib.Core.List.{List}
 use mathlib.Core.Bool.{true, false}
 use mathlib.Core.Path.{_≡_, sym, _∙_}
 use Prim.Native.Nat.{ℕ}
-use Rattle.format.specs.Fits.{linksOk, textOf, countsTrue, edgesTrue}
-use Rattle.format.specs.Verdict.{verdict}
+use Rattle.format.specs.TreeReading.{linksOk, textOf, countsTrue, edgesTrue, verdict}
 use Rattle.format.specs.VerdictLaws.{verdict-readable, verdict-refused}
 use Rattle.layout.specs.declared.header.Header.{Header}
 use Rattle.layout.specs.declared.header.HeaderRead.{HeaderRead}
@@ -13,7 +12,7 @@ use Rattle.layout.specs.Header.{headerSays}
 use Rattle.layout.specs.HeaderSays.{HeaderOf, header-refused}
 
 module _ (t : List ℕ) where
-  -- a header's refusal is the verdict
+  -- A header's refusal is the verdict.
   pub header-number : (x : HeaderRead) (q : ℕ) → x ≡ headerSays t → x ≡ Refused q → q ≡ verdict t
   header-number x q is e =
       let z = header-refused t x is q e in

@@ -12,16 +12,12 @@ use lib.ListN.{length, getD, take, drop}
 use lib.Seq.{take-append-seam}
 use lib.Dec.{leb}
 use Rattle.text.specs.Text.{stretch}
-use Rattle.format.specs.Said.{replied}
-use Rattle.format.specs.Settings.{Settings, lengthOk, sizesOk, countedOk, given}
+use Rattle.format.specs.Answers.{replied, buildNumber, buildSize, buildLeaves, byteSays, spanNumber, spanLeaves}
+use Rattle.format.specs.Layout.{Settings, lengthOk, sizesOk, countedOk, given}
 use Rattle.format.specs.Blocks.{treeOf}
 use Rattle.format.specs.Layout as at
-use Rattle.format.specs.Path.{Path, pathOf}
-use Rattle.format.specs.Fits.{textOf}
+use Rattle.format.specs.TreeReading.{Path, pathOf, textOf, verdict}
 use Rattle.format.specs.FittingText.{fits}
-use Rattle.format.specs.Verdict.{verdict}
-use Rattle.format.specs.BuildSays.{buildNumber, buildSize, buildLeaves}
-use Rattle.format.specs.ReadSays.{byteSays, spanNumber, spanLeaves}
 use Rattle.format.specs.SaidLaws.{asks-pass}
 use Rattle.theory_built.specs.BlockSizes.{Taken}
 use Rattle.theory_accepted.specs.AcceptedTrees.{StandsFor, accepts, one-text, built-text, built-verdict, accepted-stands}
@@ -59,7 +55,7 @@ module _ (S : Settings) (T out : List ℕ) (passed : buildNumber S T out ≡ 0) 
       let p = asks-pass questions refl passed in
       record { length-ok = p .0; sizes-ok = p .1 .0; counted-ok = p .1 .1 .0 }
 
-  -- the buffer begins with the block tree of the text, and the size is the tree's
+  -- The buffer begins with the block tree of the text, and the size is the tree's.
   pub leaves-tree : take (buildSize S T out) (buildLeaves S T out) ≡ treeOf S T
   unfolding buildSize buildLeaves
   leaves-tree = rw passed (take-append-seam (treeOf S T) (drop (length (treeOf S T)) out))
@@ -80,7 +76,7 @@ module _ (κs : Lfts 3) (text : RefT (List ℕ)) (leaf arity levels : ℕ) (coun
   abbrev before : List ℕ
   before = now out
 
-  -- the part of the buffer that is the tree
+  -- The part of the buffer that is the tree.
   abbrev tree : List ℕ
   tree = take (replied (builtReply r) .value) (now after)
 

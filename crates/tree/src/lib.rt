@@ -10,7 +10,7 @@ use check_edges::truth;
 use layout::header::Header;
 use layout::header::HeaderRead;
 ghost use mathlib.Core.Path.{_≡_};
-ghost use Rattle.format.specs.Verdict.{verdict};
+ghost use Rattle.format.specs.TreeReading.{verdict};
 ghost use Rattle.layout.specs.HeaderSays.{HeaderOf};
 
 // The result of the check for a valid tree.

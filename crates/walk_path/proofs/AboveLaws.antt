@@ -10,12 +10,11 @@ use borrow.Author.Tests.{lt-ltb, le-ltb}
 use lib.Dec.{ltb}
 use Rattle.text.specs.ListLaws.{bool-cases}
 use Rattle.format.specs.Layout as at
-use Rattle.format.specs.Path.{Visit, visit, keptBlock, pointingBlock, targetBlock, targetPlace, landBlock, landPlace, landVisits}
-use Rattle.format.specs.Path.{lands}
+use Rattle.format.specs.TreeReading.{Visit, visit, keptBlock, pointingBlock, targetBlock, targetPlace, landBlock, landPlace, landVisits, lands}
 use Rattle.theory_paths.specs.Links.{b, N}
 use Rattle.walk_path.specs.Above.{Above, enteredAbove, providedAbove, aboveFrom}
 
--- visits in front
+-- Visits in front.
 
 pub above-twice : (vs ws : List Visit) (r : Option Above) → enteredAbove vs (enteredAbove ws r) ≡ enteredAbove (vs ++ ws) r
 above-twice vs ws none = refl
@@ -47,7 +46,7 @@ module _ (t : List ℕ) where
   unfolding aboveFrom lands landBlock landPlace landVisits
   above-points n l i o un pt kept = rw (un, pt, kept)
 
-  -- a pointing block's path is its target's, with one visit more
+  -- A pointing block's path is its target's, with one visit more.
   pub above-pointing : (n l i o : ℕ) → keptBlock t l i ≡ false → pointingBlock t l i ≡ true → keptBlock t l (targetBlock t l i o) ≡ true
       → aboveFrom t (suc n) l i o ≡ enteredAbove (visit l i o ∷ []) (aboveFrom t (suc n) l (targetBlock t l i o) (targetPlace t l i o))
   unfolding aboveFrom lands landBlock landPlace landVisits
@@ -69,7 +68,7 @@ module _ (t : List ℕ) where
   above-past zero l i o past = rw (le-ltb i (N t l) past)
   above-past (suc n) l i o past = rw (le-ltb i (N t l) past)
 
-  -- what lets a path through to the last level
+  -- What lets a path through to the last level.
   abbrev pub Lands : ℕ → ℕ → ℕ → Type 0
   Lands l i o =
       (keptBlock t l i ≡ true) ⊎ ((keptBlock t l i ≡ false) × (pointingBlock t l i ≡ true) × (keptBlock t l (targetBlock t l i o) ≡ true))

@@ -12,7 +12,7 @@ use borrow.Author.Tests.{ltb-true}
 use Rattle.text.specs.ListLaws.{lt-or-ge}
 use Rattle.format.specs.Layout as at
 use Rattle.format.specs.LayoutLaws.{Readable, full-pos}
-use Rattle.format.specs.Path.{Path, Visit, visit, entered, keptBlock, pointingBlock, targetBlock, targetPlace, pathFrom, pathOf}
+use Rattle.format.specs.TreeReading.{Path, Visit, visit, entered, keptBlock, pointingBlock, targetBlock, targetPlace, pathFrom, pathOf}
 use Rattle.theory_paths.specs.Links.{b, H, N}
 use Rattle.theory_paths.specs.PlacesLand.{entered-none, entered-twice, from-kept, from-points}
 use Rattle.theory_paths.specs.Shift.{step-div, step-mod, further, Within, target-step}
@@ -20,7 +20,7 @@ use Rattle.walk_path.specs.Above.{Above, enteredAbove, providedAbove, ab
 use Rattle.walk_path.proofs.AboveLaws.{above-last, above-kept, above-points, above-off, above-past, above-some, provided-above, Lands, lands-cases}
 use Rattle.walk_path.proofs.WalkLaws.{from-past, from-off-lands}
 
--- a step to the right, in blocks of c bytes
+-- A step to the right, in blocks of c bytes.
 carry-div : (o d c : ℕ) → 0 < c → (o + d) / c ≡ o / c + (o % c + d) / c
 carry-div o d c pos =
     let e : o + d ≡ o % c + d + c * (o / c) = omega (arith, div-add-mod' o c, mul-comm c (o / c)) in
@@ -32,7 +32,7 @@ carry-mod o d c =
     ap (λ (x : ℕ). x % c) e ∙ add-mul-mod-self-left (o % c + d) c (o / c)
 
 module _ (t : List ℕ) where
-  -- the last step, after all steps above it
+  -- The last step, after all steps above it.
   path-through : (n l i o : ℕ) → l + n + 1 ≡ H t → pathFrom t n l i o ≡ throughLast t (aboveFrom t n l i o)
   unfolding throughLast
   path-through zero l i o e = go (lt-or-ge i (N t l))
@@ -67,7 +67,7 @@ module _ (t : List ℕ) where
           ∙ ap (throughLast t) (sym (above-points t n l i o (s .0) (s .1) (s .2)))
       go rest (inr s) = from-off-lands t n l i o (s .0) (s .1) ∙ ap (throughLast t) (sym (above-off t n l i o (s .0) (s .1)))
 
-  -- where a path arrives d places further on
+  -- Where a path arrives d places further on.
   abbrev pub shifted : ℕ → ℕ → Above → Above
   shifted L d a = record { visits = further d (a .visits); block = a .block + (a .place + d) / b t L; place = (a .place + d) % b t L }
 
@@ -97,7 +97,7 @@ module _ (t : List ℕ) where
   same-table : (L d i o j p : ℕ) → i ≡ j → o ≡ p → i + (o + d) / b t L < N t L → j + (p + d) / b t L < N t L
   same-table L d i o j p e f h = rw (e, f) at h
 
-  -- a step to the right that stays within every block above the last level
+  -- A step to the right that stays within every block above the last level.
   above-shift : ((j : ℕ) → 0 < b t j) → (n l L base o d : ℕ) → l + n ≡ L
       → (a : Above) → aboveFrom t n l (base + o / b t l) (o % b t l) ≡ some a → Within t d (a .visits) → a .block + (a .place + d) / b t L < N t L
       → aboveFrom t n l (base + (o + d) / b t l) ((o + d) % b t l) ≡ some (shifted L d a)
@@ -191,7 +191,7 @@ module _ (t : List ℕ) where
         let first : aboveFrom t (H t - 1) 0 (0 + p / b t 0) (p % b t 0) ≡ some a = rw (z (p / b t 0)) e in
         rw (z ((p + d) / b t 0)) at (above-shift (full-pos t k) (H t - 1) 0 (H t - 1) 0 p d (omega arith) a first w in-table)
 
-    -- the place arrived at lies in its block
+    -- The place arrived at lies in its block.
     pub above-place : (p : ℕ) (a : Above) → aboveOf t p ≡ some a → a .place < b t (H t - 1)
     unfolding aboveOf
     above-place p a e = above-small (full-pos t k) (H t - 1) 0 (H t - 1) (p / b t 0) (p % b t 0) (omega arith) (mod-lt p (full-pos t k 0)) a e

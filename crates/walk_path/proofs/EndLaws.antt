@@ -5,14 +5,14 @@ use mathlib.Core.Path.{_≡_, refl, ap}
 use Prim.Native.Nat.{ℕ, _+_}
 use native.Mathlib.Omega.{arith}
 use lib.ListN.{length}
-use Rattle.format.specs.ReadSays.{leftOver}
+use Rattle.format.specs.Answers.{leftOver}
 use Rattle.walk_path.specs.declared.Trail.{Trail}
 use Rattle.walk_path.specs.declared.Reached.{Reached}
 use Rattle.walk_path.specs.declared.Walked.the-variants.{At, Broken}
 use Rattle.walk_path.specs.Above.{Above}
 use Rattle.walk_path.specs.Walk.{walked}
 
--- the path that was walked to the last level, and what was carried down it
+-- The path that was walked to the last level, and what was carried down it.
 pub record Ends (t : List ℕ) (trail : Trail) (o : Option Above) (r : Reached) : Type 0 where
   pub above : Above
   pub is : o ≡ some above

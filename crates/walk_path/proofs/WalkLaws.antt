@@ -10,11 +10,11 @@ use native.Mathlib.Nat.{mod-lt, mul-le-mul-left}
 use borrow.Author.Tests.{lt-ltb, le-ltb, ne-eqb}
 use lib.ListN.{length}
 use Rattle.text.specs.ListLaws.{lt-or-ge, bool-cases, and-left, and-right}
-use Rattle.format.specs.Settings.{maxText, maxLevels}
+use Rattle.format.specs.Layout.{maxText, maxLevels}
 use Rattle.format.specs.Layout as at
 use Rattle.format.specs.LayoutLaws.{byte-inside, size-low, full-last}
-use Rattle.format.specs.Path.{visit, keptBlock, pointingBlock, targetBlock, targetPlace, lands, pathFrom}
-use Rattle.format.specs.ReadSays.{leftOver}
+use Rattle.format.specs.TreeReading.{visit, keptBlock, pointingBlock, targetBlock, targetPlace, lands, pathFrom}
+use Rattle.format.specs.Answers.{leftOver}
 use Rattle.theory_paths.specs.Shift.{target-small}
 use Rattle.layout.specs.declared.place.BlockNumber.{BlockNumber}
 use Rattle.layout.specs.declared.place.BlockPlace.{BlockPlace}
@@ -35,13 +35,13 @@ use Rattle.walk_path.specs.Above.{Above, enteredAbove, aboveFrom, aboveO
 use Rattle.walk_path.specs.Walk.{onward, walked, walkedIn, landingAt, KeptAt, MayPoint}
 use Rattle.walk_path.proofs.AboveLaws.{above-last, above-kept, above-pointing, above-off, above-past}
 
--- what is carried
+-- What is carried.
 
 pub onward-is : (trail : Trail) (here left : ℕ) → left ≡ min (trail .left) here → record { entered = trail .entered + 1; left = left } ≡ onward trail here
 unfolding onward
 onward-is trail here left e = rw e
 
--- a block entered first is carried on
+-- A block entered first is carried on.
 pub walked-enter : (t : List ℕ) (trail : Trail) (l i o : ℕ) (r : Option Above)
     → walked t (onward trail (at.fullLength t l - o)) r ≡ walked t trail (enteredAbove (visit l i o ∷ []) r)
 unfolding walked onward leftOver
@@ -51,7 +51,7 @@ walked-enter t trail l i o (some a) =
     let e : trail .entered + 1 + length (a .visits) ≡ trail .entered + length (visit l i o ∷ a .visits) = omega arith in
     ap (λ (n : ℕ). At (record { block = record { 0 = a .block }; place = record { 0 = a .place }; trail = record { entered = n; left = left } })) e
 
--- paths that break
+-- Paths that break.
 
 module _ (t : List ℕ) where
   pub from-off : (n l i o : ℕ) → keptBlock t l i ≡ false → pointingBlock t l i ≡ false → pathFrom t n l i o ≡ none
@@ -84,7 +84,7 @@ module _ (t : List ℕ) where
   unfolding keptBlock pointingBlock
   from-past n l i o past = from-off n l i o (rw (le-ltb i (at.levelCount t l) past)) (rw (le-ltb i (at.levelCount t l) past))
 
--- a step's word
+-- A step's word.
 
 pub broken-word : Broken ≡ walkedIn 18446744073709551615
 unfolding walkedIn
@@ -115,19 +115,19 @@ pub unpacked-word : (w : ℕ) → (w ≡ 18446744073709551615 → ⊥)
 unfolding walkedIn
 unpacked-word w ne = rw (ne-eqb w 18446744073709551615 ne)
 
--- the steps
+-- The steps.
 
 module _ (t : List ℕ) (size level b i o entered : ℕ) (k : KeptAt t size level b i o entered) where
   pub entered-fits : entered ≤ 2 * maxLevels
   entered-fits = omega (arith, k .few, k .on .level-in, k .on .facts .bounds .levels-high)
 
-  -- the child's level
+  -- The child's level.
   pub asks-child : (level + 1 ≡ at.settings t .levels → ⊥)
       → (below : ℕ) → below ≡ b / at.settings t .arity → (OnLevel t size (level + 1) below) × (i < at.levelCount t level)
   asks-child down below b-is = (rw b-is (level-below t size level b (k .on) down), kept-in t level i (k .kept))
 
 module _ (t : List ℕ) (size level b i o : ℕ) (trail : Trail) (k : KeptAt t size level b i o (trail .entered)) where
-  -- what is left fits a word
+  -- What is left fits a word.
   pub left-fits : (on : Trail) → on ≡ onward trail (b - o) → on .left ≤ maxText
   unfolding onward
   left-fits on e =
@@ -139,7 +139,7 @@ module _ (t : List ℕ) (size level b i o : ℕ) (trail : Trail) (k : KeptAt t s
     lower : OnLevel t size (level + 1) below
     lower = asks-child t size level b i o (trail .entered) k down below b-is .0
 
-    -- the path goes on with the child
+    -- The path goes on with the child.
     kept-down : (r : Walked) → r ≡ walked t on (aboveFrom t (at.settings t .levels - 1 - (level + 1)) (level + 1) (at.link t level i + o / below) (o % below))
         → r ≡ walked t trail (aboveFrom t (at.settings t .levels - 1 - level) level i o)
     kept-down r e =
@@ -217,7 +217,7 @@ module _ (t : List ℕ) (size level b i o : ℕ) (trail : Trail) (k : MayPoint t
     apart = next-points t level i o x x-is j p e .0
 
     module _ (y : Arrived) (y-is : y ≡ landAt t level i o) where
-      -- on the last level no block points; nor does a target
+      -- On the last level no block points; nor does a target.
       pub land-breaks : y ≡ arrived.Off → pathFrom t (at.settings t .levels - 1 - level) level i o ≡ none
       land-breaks f = go (lt-or-ge (level + 1) (at.settings t .levels))
         where
@@ -255,7 +255,7 @@ module _ (t : List ℕ) (size level b i o : ℕ) (trail : Trail) (k : MayPoint t
             let z = land-at t level i o y y-is m q f in
             rw (apart, points, z .1) (same-landing m q on _ _ _ (z .2) (z .3) (on-is ∙ ap (λ (y : ℕ). onward trail (y - o)) (k .on .b-is)))
 
--- where the walk goes on: in the block itself, or in its target
+-- Where the walk goes on: in the block itself, or in its target.
 
 cases-at : (kept both : Bool) (i o m q : ℕ) (trail further : Trail) (j : BlockNumber) (p : BlockPlace) (on : Trail)
     → landed.At j p on ≡ cond kept (landed.At (record { 0 = i }) (record { 0 = o }) trail)
@@ -275,7 +275,7 @@ cases-off false true i o m q trail further e = absurd (let z : _≡_ {A = ℕ} 0
 cases-off false false i o m q trail further e = (refl, refl)
 
 module _ (t : List ℕ) (size level b i o : ℕ) (trail : Trail) (k : MayPoint t size level b i o (trail .entered)) where
-  -- on the last level
+  -- On the last level.
   pub last-fits : level + 1 ≡ at.settings t .levels → at.leafOffset t < 4294967296 → (i < 268435456) × (o < 256) × (trail .entered < 16)
   last-fits last word =
       let f = k .on .facts in
@@ -352,7 +352,7 @@ module _ (t : List ℕ) (size level b i o : ℕ) (trail : Trail) (k : MayPoint t
               rw (steps, above-pointing t n level i o (c .0) points kept)
               (w ∙ walked-enter t trail level i o (aboveFrom t (suc n) level (targetBlock t level i o) (targetPlace t level i o)))
 
--- the start, on level 0
+-- The start, on level 0.
 
 module _ (t : List ℕ) (size b p : ℕ) (on : OnLevel t size 0 b) (x : Spot)
     (x-is : x ≡ record { block = record { 0 = p / b }; place = record { 0 = p % b } }) where

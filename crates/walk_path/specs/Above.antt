@@ -6,7 +6,7 @@ use mathlib.Core.Bool.{Bool, true, false}
 use Prim.Native.Nat.{ℕ, zero, suc, _+_, _-_, _/_, _%_}
 use lib.Dec.{ltb}
 use Rattle.format.specs.Layout as at
-use Rattle.format.specs.Path.{Path, Visit, entered, landBlock, landPlace, landVisits, lands, pathFrom}
+use Rattle.format.specs.TreeReading.{Path, Visit, entered, landBlock, landPlace, landVisits, lands, pathFrom}
 
 -- The blocks entered, first to last; then a block of the last level, whose record has not been read, and the place in it.
 pub record Above : Type 0 where

@@ -7,8 +7,8 @@ use Prim.Native.Nat.{ℕ, _+_, _-_, _*_, _/_, _%_, _≤_, _<_, min}
 use lib.Dec.{eqb}
 use lib.ListN.{length}
 use Rattle.format.specs.Layout as at
-use Rattle.format.specs.Path.{keptBlock, pointingBlock, targetBlock, targetPlace}
-use Rattle.format.specs.ReadSays.{leftOver}
+use Rattle.format.specs.TreeReading.{keptBlock, pointingBlock, targetBlock, targetPlace}
+use Rattle.format.specs.Answers.{leftOver}
 use Rattle.walk_path.specs.declared.Trail.{Trail}
 use Rattle.walk_path.specs.declared.Walked.{Walked}
 use Rattle.walk_path.specs.declared.Walked.the-variants.{At, Broken}

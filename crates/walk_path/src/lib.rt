@@ -12,7 +12,7 @@ ghost use mathlib.Core.Path.{_≡_};
 ghost use Prim.Native.Nat.{_+_, _-_, _*_, _≤_, _<_};
 ghost use Rattle.format.specs.Layout as at;
 ghost use Rattle.layout.specs.HeaderSays.{HeaderOf};
-ghost use Rattle.format.specs.Settings.{maxText, maxLevels};
+ghost use Rattle.format.specs.Layout.{maxText, maxLevels};
 ghost use Rattle.walk_path.specs.Above.{aboveFrom, aboveOf};
 ghost use Rattle.walk_path.specs.Walk.{KeptAt, MayPoint, walked, walkedIn, onward, landingAt};
 

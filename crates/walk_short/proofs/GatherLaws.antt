@@ -11,13 +11,10 @@ use borrow.Author.Tests.{lt-ltb, le-ltb, le-leb, lt-leb, ltb-true, ltb-false}
 use lib.Dec.{ltb}
 use lib.ListN.{length, length-append}
 use Rattle.text.specs.ListLaws.{lt-or-ge, and-left, and-right}
-use Rattle.format.specs.Settings.{maxLeaf}
-use Rattle.format.specs.Words.{wordAt}
-use Rattle.format.specs.HeaderPlaces.{leafAt, countedCountAt}
+use Rattle.format.specs.Layout.{maxLeaf, wordAt, leafAt, countedCountAt}
 use Rattle.format.specs.Layout as at
-use Rattle.format.specs.Path.{Visit, keptBlock, targetBlock, targetPlace}
+use Rattle.format.specs.TreeReading.{Visit, keptBlock, targetBlock, targetPlace, Short, led, byEdges, inLeaf}
 use Rattle.format.specs.LayoutLaws.{Readable, size-high, full-pos}
-use Rattle.format.specs.Short.{Short, led, byEdges, inLeaf}
 use Rattle.theory_edges.specs.SpanSteps as margins
 use Rattle.theory_paths.specs.PlacesLand.{target-first, target-second}
 use Rattle.layout.specs.declared.place.BlockNumber.{BlockNumber}
@@ -36,7 +33,7 @@ use Rattle.walk_short.specs.declared.gather.Land.{Land}
 use Rattle.walk_short.specs.declared.gather.Land.the-variants as land
 use Rattle.walk_short.specs.Gathered.{gathered, downTo, pointedTo, landing, Crossing}
 
--- blocks entered before are counted with those entered after
+-- Blocks entered before are counted with those entered after.
 pub gathered-led : (vs : List Visit) (n k : ℕ) (r : Option Short) → length vs ≡ k → gathered (n + k) r ≡ gathered n (led vs r)
 unfolding gathered
 gathered-led vs n k none e = refl
@@ -57,7 +54,7 @@ module _ (t : List ℕ) (size level b o entered : ℕ) (k : Crossing t size leve
   unfolding at.settings
   leaf-word m e = e
 
-  -- what is left of the block is no more than an edge
+  -- What is left of the block is no more than an edge.
   pub leaf-few : (m : ℕ) → m ≡ wordAt t leafAt → (m ≤ maxLeaf) × (b - o ≤ m)
   leaf-few m e = (omega (arith, leaf-word m e, facts .bounds .leaf-high), omega (arith, leaf-word m e, k .near))
 
@@ -106,7 +103,7 @@ pub leaf-none : (t : List ℕ) (level i o len entered : ℕ) → keptBlock t lev
 unfolding gathered inLeaf
 leaf-none t level i o len entered un = rw un
 
--- the block of the last level that a span lies in
+-- The block of the last level that a span lies in.
 module _ (t : List ℕ) (level i o len entered : ℕ) (x : Next) (x-is : x ≡ nextAt t level i o) where
   pub last-kept : (j : BlockNumber) (p : BlockPlace) → x ≡ next.Kept j p → keptBlock t level (j .0) ≡ true
   last-kept j p e = let z = next-kept t level i o x x-is j p e in rw (z .1) (z .0)
@@ -128,14 +125,14 @@ pub down-is : (t : List ℕ) (level c i o n link : ℕ) → link ≡ at.link t l
 unfolding downTo
 down-is t level c i o n link e part part-is = rw (e, part-is)
 
--- the gap of a pointing block, and the length of a child
+-- The gap of a pointing block, and the length of a child.
 pub gap-low : (t : List ℕ) (size level b i o : ℕ) → Pointing t size level b i o → (g : ℕ) → g ≡ at.gap t level i → g < b
 gap-low t size level b i o k g e = omega (arith, pointing-gap t level i (k .points), k .on .b-is)
 
 pub child-pos : (t : List ℕ) (size level b : ℕ) → OnLevel t size level b → 0 < at.fullLength t (level + 1)
 child-pos t size level b on = full-pos t (on .facts) (level + 1)
 
--- a span that no border splits
+-- A span that no border splits.
 pub not-split : (b p len : ℕ) (r : Bool) → r ≡ (ltb p b && ltb b (p + len)) → r ≡ false → p < b → p + len ≤ b
 not-split b p len r e f low = ltb-false b (p + len) (rw (lt-ltb p b low) at (sym e ∙ f))
 

@@ -10,11 +10,10 @@ use native.Mathlib.Nat.{mod-lt, add-zero}
 use borrow.Author.Tests.{le-leb, lt-leb}
 use lib.ListN.{length}
 use Rattle.text.specs.ListLaws.{lt-or-ge, bool-cases}
-use Rattle.format.specs.Settings.{maxText, maxLeaf, maxLevels}
+use Rattle.format.specs.Layout.{maxText, maxLeaf, maxLevels}
 use Rattle.format.specs.Layout as at
-use Rattle.format.specs.Path.{Visit, visit, keptBlock, pointingBlock, targetBlock, targetPlace}
+use Rattle.format.specs.TreeReading.{Visit, visit, keptBlock, pointingBlock, targetBlock, targetPlace, Short, led, byEdges, inLeaf, shortFrom, shortOf}
 use Rattle.format.specs.LayoutLaws.{Readable, full-pos}
-use Rattle.format.specs.Short.{Short, led, byEdges, inLeaf, shortFrom, shortOf}
 use Rattle.theory_edges.specs.SpanSteps as margins
 use Rattle.theory_edges.specs.SpanPlaces as places
 use Rattle.theory_paths.specs.Shift.{target-small}
@@ -44,7 +43,7 @@ module _ (t : List ℕ) (size level b i o len entered : ℕ) (w : Walking t size
   facts : Readable t
   facts = w .on .facts
 
-  -- the walk from here
+  -- The walk from here.
   abbrev Whole : Gathered → Type 0
   Whole r = r ≡ gathered entered (shortFrom t (H - 1 - level) level i o len)
 
@@ -60,7 +59,7 @@ module _ (t : List ℕ) (size level b i o len entered : ℕ) (w : Walking t size
   pub over-by : b < o + len → (r : Gathered) → r ≡ gathered entered (byEdges t level i o) → Whole r
   over-by past r e = e ∙ ap (gathered entered) (sym (margins.over t (H - 1 - level) level i o len (omega (arith, w .on .b-is))))
 
-  -- the span lies in the block
+  -- The span lies in the block.
   module _ (fits : o + len ≤ b) where
     fits-full : o + len ≤ at.fullLength t level
     fits-full = omega (arith, w .on .b-is)
@@ -84,7 +83,7 @@ module _ (t : List ℕ) (size level b i o len entered : ℕ) (w : Walking t size
       pub c-is : (x r : ℕ) → x ≡ b / r → r ≡ at.settings t .arity → x ≡ at.fullLength t (level + 1)
       c-is x r e r-is = e ∙ rw r-is (level-below t size level b (w .on) more .b-is)
 
-      -- the cases of a level
+      -- The cases of a level.
       record Inside (j p n : ℕ) : Type 0 where
         land-is : landing t level i o len ≡ downTo t level c j p n
         few : n ≤ 2
@@ -160,12 +159,12 @@ module _ (t : List ℕ) (size level b i o len entered : ℕ) (w : Walking t size
           go (inr un) (inl pt) (inr inside) (inl kept) = inl (j, p, 2, target-case un pt inside kept)
           go (inr un) (inl pt) (inr inside) (inr off) = inr (inr (off-case un pt inside off))
 
-      -- what the walk does with where it lands
+      -- What the walk does with where it lands.
       module _ (x : Land) (x-is : x ≡ landing t level i o len) where
         clash : {A : Type 0} → _≡_ {A = ℕ} 0 1 → A
         clash e = absurd (let z : ⊥ = omega arith in z)
 
-        -- the block and place that the walk goes down from
+        -- The block and place that the walk goes down from.
         record DownFrom (f : BlockNumber) (s : ℕ) (q : BlockPlace) (n : ℕ) : Type 0 where
           block : ℕ
           place : ℕ
@@ -260,7 +259,7 @@ module _ (t : List ℕ) (size level b i o len entered : ℕ) (w : Walking t size
                 clash (let z : _≡_ {A = ℕ} 0 1 = cc in z)
             go (inr (inr v)) = gathered-none entered ∙ ap (gathered entered) (sym (v .walk-is)) ∙ rw left
 
-        -- with so few blocks entered
+        -- With so few blocks entered.
         pub down-few : (f : BlockNumber) (s : ℕ) (q : BlockPlace) (n : ℕ) → x ≡ land.Down f s q n → n ≤ 2
         down-few f s q n e = down-case f s q n e .inside .few
 
@@ -302,7 +301,7 @@ module _ (t : List ℕ) (h : Header) (k : HeaderOf t h) where
             0 (p / at.fullLength t 0) (p % at.fullLength t 0) (omega (arith, k .facts .bounds .levels-low)) (mod-lt p (full-pos t (k .facts) 0)) r 0 same,
       )
 
--- the two parts that a walk finds, within the tree
+-- The two parts that a walk finds, within the tree.
 pub parts-in : (t : List ℕ) (x : ℕ) (found : Gathered) (q : Parts) → found ≡ At q → Within t x found
     → (q .size ≤ x) × (q .from + q .size ≤ length t) × (q .next + (x - q .size) ≤ length t)
 parts-in t x found q is w = rw is at w

@@ -6,8 +6,8 @@ use Prim.Native.Nat.{ℕ, _+_, _-_, _*_, _/_, _%_, _≤_, _<_}
 use lib.ListN.{length}
 use lib.Dec.{leb}
 use Rattle.format.specs.Layout as at
-use Rattle.format.specs.Path.{keptBlock, pointingBlock, targetBlock, targetPlace}
-use Rattle.format.specs.Short as format
+use Rattle.format.specs.TreeReading.{keptBlock, pointingBlock, targetBlock, targetPlace}
+use Rattle.format.specs.TreeReading as format
 use Rattle.walk_steps.specs.Steps.{OnLevel}
 use Rattle.walk_short.specs.declared.gather.Gathered.{Gathered}
 use Rattle.walk_short.specs.declared.gather.Gathered.the-variants.{At, Broken}

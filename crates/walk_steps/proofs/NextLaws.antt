@@ -9,7 +9,7 @@ use borrow.Author.Tests.{eqb-true, ne-eqb, ltb-true, ltb-false}
 use lib.Dec.{ltb, eqb}
 use Rattle.text.specs.ListLaws.{and-left, and-right}
 use Rattle.format.specs.Layout as at
-use Rattle.format.specs.Path.{keptBlock, pointingBlock, targetBlock, targetPlace}
+use Rattle.format.specs.TreeReading.{keptBlock, pointingBlock, targetBlock, targetPlace}
 use Rattle.format.specs.LayoutLaws.{full-step}
 use Rattle.layout.specs.declared.header.Header.{Header}
 use Rattle.layout.specs.declared.place.BlockNumber.{BlockNumber}
@@ -70,7 +70,7 @@ module _ (t : List ℕ) where
         and-left within (eqb (at.kind t l i) 1) (and-left (within && eqb (at.kind t l i) 1) (ltb (at.gap t l i) (at.fullLength t l)) p),
       )
 
--- the next level's block length is this one's by the arity
+-- The next level's block length is this one's by the arity.
 pub level-below : (t : List ℕ) (size level b : ℕ) → OnLevel t size level b → (level + 1 ≡ at.settings t .levels → ⊥)
     → OnLevel t size (level + 1) (b / at.settings t .arity)
 level-below t size level b on more =
@@ -82,7 +82,7 @@ level-below t size level b on more =
       b-is = rw (on .b-is, full-step t k level down) (mul-div-cancel (at.fullLength t (level + 1)) (omega (arith, k .bounds .arity-low)));
     }
 
--- level 0, and any level, by the header
+-- Level 0, and any level, by the header.
 pub on-top : (t : List ℕ) (h : Header) → HeaderOf t h → OnLevel t (h .«record_size») 0 (h .«top_length»)
 on-top t h k = record {
   facts = k .facts;
@@ -91,7 +91,7 @@ on-top t h k = record {
   b-is = k .block-is;
 }
 
--- what was arrived at
+-- What was arrived at.
 
 case-at : (x : Bool) (i o : ℕ) (j : BlockNumber) (p : BlockPlace) → arriving x i o ≡ arrived.At j p → (x ≡ true) × (j .0 ≡ i) × (p .0 ≡ o)
 case-at true i o j p e =

@@ -9,12 +9,9 @@ use native.Mathlib.Nat.{add-zero, zero-mul, one-mul, div-add-mod'}
 use lib.Dec.{ltb}
 use borrow.Author.Tests.{ltb-true, lt-ltb, le-ltb, eq-eqb, ne-eqb}
 use Rattle.text.specs.ListLaws.{lt-or-ge, and-left, and-right, and-false}
-use Rattle.format.specs.Settings.{maxText}
-use Rattle.format.specs.Words.{wordAt}
-use Rattle.format.specs.RecordFields.{plainWords}
-use Rattle.format.specs.HeaderPlaces.{textLengthAt, arityAt, levelsAt, leafOffsetAt, leafCountAt}
+use Rattle.format.specs.Layout.{maxText, wordAt, plainWords, textLengthAt, arityAt, levelsAt, leafOffsetAt, leafCountAt}
 use Rattle.format.specs.Layout as at
-use Rattle.format.specs.Path.{keptBlock, pointingBlock, targetBlock, targetPlace}
+use Rattle.format.specs.TreeReading.{keptBlock, pointingBlock, targetBlock, targetPlace}
 use Rattle.format.specs.LayoutLaws.{full-pos, full-small, level0-holds}
 use Rattle.theory_paths.specs.PlacesLand.{target-first, target-second}
 use Rattle.layout.specs.Record.{FieldIn, field-in}
@@ -29,7 +26,7 @@ use Rattle.walk_steps.specs.declared.Arrived.the-variants as arrived
 use Rattle.walk_steps.proofs.NextLaws.{next-kept, next-points, next-off}
 use Rattle.walk_steps.specs.Steps.{OnLevel, InTable, Pointing, nextAt, childAt, landAt, shapeOf}
 
--- the first four fields of a block of a table can be read
+-- The first four fields of a block of a table can be read.
 pub field-there : (t : List ℕ) (size level b i f : ℕ) → OnLevel t size level b → i < at.levelCount t level → f < plainWords → FieldIn t size level i f
 field-there t size level b i f on hi hf = field-in t (on .facts) size level i f (on .size-is) (on .level-in) hi (omega arith)
 
@@ -40,12 +37,12 @@ module _ (t : List ℕ) (size level b : ℕ) (on : OnLevel t size level b) where
   pub b-small : b ≤ maxText
   b-small = rw (on .b-is) (full-small t (on .facts) level)
 
-  -- a block past the table
+  -- A block past the table.
   pub look-past : (i o : ℕ) → at.levelCount t level ≤ i → Off ≡ nextAt t level i o
   unfolding nextAt keptBlock pointingBlock
   look-past i o p = rw (le-ltb i (at.levelCount t level) p)
 
--- what the kind and the gap of a block of the table say
+-- What the kind and the gap of a block of the table say.
 module _ (t : List ℕ) (size level b i o k : ℕ) (there : InTable t size level b i) (k-is : k ≡ at.kind t level i) where
   pub look-kept : k ≡ 0 → Kept (record { 0 = i }) (record { 0 = o }) ≡ nextAt t level i o
   unfolding nextAt keptBlock at.isKept
@@ -64,7 +61,7 @@ module _ (t : List ℕ) (size level b i o k : ℕ) (there : InTable t size level
     unfolding nextAt keptBlock at.isKept pointingBlock at.isPointing
     look-wide s = rw (lt-ltb _ _ (there .block-in), ← k-is, ne-eqb k 0 z, eq-eqb k 1 one, ← g-is, ← there .on .b-is, le-ltb g b s)
 
--- the block of level 0 that holds a place is in its table
+-- The block of level 0 that holds a place is in its table.
 pub first-there : (t : List ℕ) (size b p : ℕ) → OnLevel t size 0 b → p < at.textLength t → p / b < at.levelCount t 0
 first-there t size b p on small = rw (on .b-is) (level0-holds t (on .facts) p small)
 
@@ -85,7 +82,7 @@ module _ (t : List ℕ) (level i : ℕ) where
   unfolding pointingBlock
   pointing-gap k = ltb-true _ _ (and-right (ltb i (at.levelCount t level) && at.isPointing t level i) (ltb (at.gap t level i) (at.fullLength t level)) k)
 
--- the link of a kept block whose children's level is known
+-- The link of a kept block whose children's level is known.
 pub link-there : (t : List ℕ) (size level b i : ℕ) → OnLevel t size (level + 1) b → i < at.levelCount t level → FieldIn t size level i 2
 link-there t size level b i on hi = field-in t (on .facts) size level i 2 (on .size-is) (omega (arith, on .level-in)) hi (omega arith)
 
@@ -93,7 +90,7 @@ module _ (t : List ℕ) (size level b i o : ℕ) (s : Pointing t size level b i 
   pub pointing-there : (f : ℕ) → f < plainWords → FieldIn t size level i f
   pointing-there f hf = field-there t size level b i f (s .on) (pointing-in t level i (s .points)) hf
 
-  -- gap + place is below twice the block length
+  -- Gap + place is below twice the block length.
   pub sum-small : (g : ℕ) → g ≡ at.gap t level i → g + o < (2 * maxText)
   sum-small g e = omega (arith, pointing-gap t level i (s .points), s .on .b-is, s .place-in, b-small t size level b (s .on))
 
@@ -122,14 +119,14 @@ module _ (t : List ℕ) (size level b i o : ℕ) (s : Pointing t size level b i 
             let p : g + o - over * b ≡ g + o - b = omega (arith, one-mul b, ap (λ (x : ℕ). x * b) z) in
             target-next large (e ∙ ap (nextAt t level (k + over)) p ∙ ap (λ (x : ℕ). nextAt t level (k + x) (g + o - b)) z)
 
--- a block's length
+-- A block's length.
 
 module _ (t : List ℕ) (size level b i start n : ℕ) (k : InTable t size level b i) (start-is : start ≡ at.start t level i) (n-is : n ≡ at.textLength t) where
   pub length-is : (r : ℕ) → (r ≡ min b (n - start)) × (r ≤ b) → (r ≡ at.blockLengthAt t level i) × (r ≤ b)
   unfolding at.blockLengthAt
   length-is r e = (e .0 ∙ rw (k .on .b-is, start-is, n-is), e .1)
 
--- the part of a place
+-- The part of a place.
 pub rest-is : (x b q : ℕ) → q ≡ x / b → (q * b ≤ x) × (x - q * b ≡ x % b)
 rest-is x b q e =
     let d : x / b * b + x % b ≡ x = div-add-mod' x b in
@@ -175,7 +172,7 @@ module _ (t : List ℕ) (l i o : ℕ) where
     unfolding landAt
     land-off e = rw (next-off t l (targetBlock t l i o) (targetPlace t l i o) x x-is e .0, and-false (ltb (l + 1) (at.settings t .levels)))
 
--- what is read of the header
+-- What is read of the header.
 pub shape-is : (t : List ℕ) (n r h off count : ℕ)
     → n ≡ wordAt t textLengthAt → r ≡ wordAt t arityAt → h ≡ wordAt t levelsAt → off ≡ wordAt t leafOffsetAt → count ≡ wordAt t leafCountAt
     → record { length = n; arity = r; levels = h; «leaf_offset» = off; «leaf_count» = count } ≡ shapeOf t
@@ -203,7 +200,7 @@ shapes t x e = record {
 pub shapes-on : (t u : List ℕ) (x : Shape) → u ≡ t → x ≡ shapeOf u → Shapes t x
 shapes-on t u x e f = shapes t x (f ∙ ap shapeOf e)
 
--- the part of a place
+-- The part of a place.
 pub part-is : (x b q : ℕ)
     → q ≡ x / b → _≡_ {A = Part} (record { blocks = q; place = record { 0 = x - q * b } }) (record { blocks = x / b; place = record { 0 = x % b } })
 part-is x b q e = rw (rest-is x b q e .1, e)

@@ -6,7 +6,7 @@ use Prim.Native.Nat.{ℕ, _+_, _<_}
 use lib.Dec.{ltb}
 use Rattle.format.specs.Layout as at
 use Rattle.format.specs.LayoutLaws.{Readable}
-use Rattle.format.specs.Path.{keptBlock, pointingBlock, targetBlock, targetPlace}
+use Rattle.format.specs.TreeReading.{keptBlock, pointingBlock, targetBlock, targetPlace}
 use Rattle.walk_steps.specs.declared.fields.Shape.{Shape}
 use Rattle.walk_steps.specs.declared.Next.{Next}
 use Rattle.walk_steps.specs.declared.Next.the-variants.{Kept, Points, Off}

@@ -4,7 +4,7 @@ use layout::word;
 ghost use mathlib.Core.Path.{_≡_};
 ghost use Prim.Native.Nat.{_≤_};
 ghost use lib.ListN.{length};
-ghost use Rattle.format.specs.HeaderPlaces.{headerLength};
+ghost use Rattle.format.specs.Layout.{headerLength};
 ghost use Rattle.walk_steps.specs.Steps.{shapeOf};
 
 pub struct Shape {

@@ -15,7 +15,7 @@ ghost use mathlib.Core.Bool.{cond};
 ghost use Prim.Native.Nat.{_+_, _*_, _/_, _%_, _≤_, _<_};
 ghost use lib.Dec.{ltb};
 ghost use Rattle.format.specs.Layout as at;
-ghost use Rattle.format.specs.Path.{targetBlock, targetPlace};
+ghost use Rattle.format.specs.TreeReading.{targetBlock, targetPlace};
 ghost use Rattle.walk_steps.specs.Steps.{OnLevel, InTable, Pointing, nextAt, childAt, landAt};
 
 // The kind of the block that a path reaches, and the place in it.

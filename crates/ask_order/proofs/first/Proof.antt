@@ -1,6 +1,6 @@
 use borrow.Author.Needs.{needs}
 use mathlib.Core.Path.{refl}
-use Rattle.ask_order.specs.Order.{before, same, after}
+use Rattle.ask_order.specs.OrderAnswers.{before, same, after}
 use Rattle.ask_order.proofs.HandLaws as laws
 use Rattle.ask_order.proofs.first.Statement.{statement}
 use Rattle.ask_order.proofs.first.Tie as tie

@@ -2,7 +2,7 @@ use Prim.Native.Nat.{_≤_, _-_}
 use borrow.Author.Needs.{needs}
 use mathlib.Core.Path.{_≡_, _∙_}
 use native.Mathlib.Omega.{arith}
-use Rattle.format.specs.CountSays.{numberOfByte}
+use Rattle.format.specs.Answers.{numberOfByte}
 use Rattle.ask_totals.proofs.NamedLaws as laws
 use Rattle.ask_totals.proofs.number_of.Statement.{statement}
 use Rattle.ask_totals.proofs.number_of.Tie as tie

@@ -70,13 +70,13 @@ stayed = (
   (stay-none-slice (1 ∷ []) tt (plain (λ _. u8)) yes, (stay-none (λ _. u32) yes, tt)),
 )
 
--- the contract that the proof cites
+-- The contract that the proof cites.
 abbrev Show : {M : Type 1} (𝓤 : URA M) (H : Heap 𝓤) (A : Atoms 𝓤) (mem : Memory → SProp 𝓤) (run : Routine → Fun 𝓤) → Contract 𝓤
 Show 𝓤 H A mem run = tripleOf 𝓤 H A show.signature (show.spec 𝓤 H A mem run)
 
 module _ {M : Type 1} (𝓤 : URA M) (H : Heap 𝓤) (A : Atoms 𝓤) (W : Given 𝓤 H A) (at-mem : Memory → SProp 𝓤) (run : Routine → Fun 𝓤) (κ κ′ : Lft) (q q′ : Share)
     (bounds : AllOutlive 2 (advance.signature .outlives) (κ, (κ′, tt))) (t g : RefT (List ℕ)) (n : ℕ) (fits : n < 2 ^ 32) where
-  -- the machine values of the slices, of a mark and of what is returned
+  -- The machine values of the slices, of a mark and of what is returned.
   abbrev s : Val
   s = sliceVal (t .ptr) (length (t .now))
 
@@ -121,7 +121,7 @@ module _ {M : Type 1} (𝓤 : URA M) (H : Heap 𝓤) (A : Atoms 𝓤) (W : Given
       let e = ap (λ (vs : List Val). getD vs 0 (vint w32 0)) (EL.tells S.the-type S′.the-laws f (u ∷ []) is) in
       rw e (LL.owes U.the-type U′.the-laws (record { answer = f; row = r }) (rw e at is, ((refl, low), tt)))
 
-  -- the mark lies in its local
+  -- The mark lies in its local.
   lies : (l : ℕ) → ent 𝓤 (sem 𝓤 H A (fat fullShare τ l 0 (mach n))) (sem 𝓤 H A (partAt T.the-row fullShare (on n) l 0))
   unfolding partOf
   lies l =
@@ -130,7 +130,7 @@ module _ {M : Type 1} (𝓤 : URA M) (H : Heap 𝓤) (A : Atoms 𝓤) (W : Given
       owned ! T.the-row (Is T.the-row) (LL.makes T.the-type T′.the-plain 𝓤 H A) (on n) (mach n ∷ []) (made n fits) $ move ! (1 ∷ 0 ∷ []) $ fjoin ! $
       fpack ! (List Val) (λ us. fsep (cellAt fullShare (T.the-row .mir) us l 0) (T.the-row .own (on n) us)) (mach n ∷ []) $ done !
 
-  -- the call of `show`, with the mark in block l lent for α under δ
+  -- The call of `show`, with the mark in block l lent for α under δ.
   abbrev args : ℕ → GName → RefT Mark × (RefT (List ℕ) × (RefT (List ℕ) × Unit {0}))
   args l δ = (record { ptr = (l, 0); name = δ; now = on n }, (t, (g, tt)))
 
@@ -185,7 +185,7 @@ module _ {M : Type 1} (𝓤 : URA M) (H : Heap 𝓤) (A : Atoms 𝓤) (W : Given
           (record { fits = fits }, tt),
         )) $
         assigns ! (addr ! (from ! (stop !))) (from ! (stop !)) (init ! 0 refl (tt, tt)) $
-        -- the mark is lent for a new lifetime
+        -- The mark is lent for a new lifetime.
         move ! (6 ∷ []) $ use1 W (‵ (partAt T.the-row fullShare (on n) l₄ 0)) (lies l₄) $ lft-new ! tt (λ α. move ! (1 ∷ []) $
         use1 W (later (some (λ (δ : GName). ‵ (Lent α l₄ δ) ⊛ ‵ (flent (α ∷ []) (Body (mem T.the-row) l₄ 0 δ)))))
         (lends-ref 𝓤 H A W T.the-row (named 0) (α ∷ []) (on n) l₄ 0) $ await ! tt $ pick ! (λ δ. split ! $
@@ -204,7 +204,7 @@ module _ {M : Type 1} (𝓤 : URA M) (H : Heap 𝓤) (A : Atoms 𝓤) (W : Given
         -- [the answer; α's token; the tokens; the last mark; no more of it; the slices'; the lender's part; _7 7; _6 9; _5 11; the end of _4 13; _3 14; ..]
         peeks ! S.the-row (Is S.the-row) (shows 𝓤 H A S.the-row) f (u ∷ []) (λ is.
         land ! (from ! (stop !)) (init ! 11 refl (EL.lawful S.the-type S′.the-laws 𝓤 H A W tt .typed f _ is .0)) $
-        -- the lifetime is ended, and the mark is back
+        -- The lifetime is ended, and the mark is back.
         move ! (1 ∷ []) $ lft-end ! tt $ move ! (0 ∷ 6 ∷ 3 ∷ []) $ use3 W (later (‵ (partAt T.the-row fullShare (ws .0) l₄ 0)))
         (ref-back 𝓤 H A W T.the-row (α ∷ []) δ (ws .0) l₄ 0) $ await ! tt $ fpick ! (λ vs. fsplit ! $
         spelt ! (T.the-row) (Is (T.the-row)) (shows 𝓤 H A (T.the-row)) (LL.vals T.the-type T′.the-laws) (LL.tells T.the-type T′.the-laws) fullShare

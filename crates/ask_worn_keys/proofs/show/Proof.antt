@@ -44,7 +44,7 @@ use denote.Triple.Walked.{says, Stays, stay-ref, stay-none-slice, walkOf, goes-r
 use denote.Exit.{yes}
 use denote.Signature.{plain}
 use Rattle.ask_worn_keys.specs.MatchAnswer.{MatchAnswer}
-use Rattle.query_row_filter.specs.AllowedAnswer.{outcomeOf}
+use Rattle.query_row_filter.specs.AllowedRows.{outcomeOf}
 use Rattle.ask_worn_keys.specs.declared.Mark.{Mark}
 use Rattle.ask_worn_keys.proofs.Mark as T
 use Rattle.ask_worn_keys.proofs.Mark.Laws as T′
@@ -70,7 +70,7 @@ stayed = (
   (stay-none-slice (1 ∷ []) tt (plain (λ _. u8)) yes, (stay-none-slice (2 ∷ []) tt (plain (λ _. u8)) yes, tt)),
 )
 
--- the contract that the proof cites
+-- The contract that the proof cites.
 abbrev NextMatch : {M : Type 1} (𝓤 : URA M) (H : Heap 𝓤) (A : Atoms 𝓤) (mem : Memory → SProp 𝓤) (run : Routine → Fun 𝓤) → Contract 𝓤
 NextMatch 𝓤 H A mem run = tripleOf 𝓤 H A next-match.signature (next-match.spec 𝓤 H A mem run)
 
@@ -79,7 +79,7 @@ After 𝓤 H A mem run = tripleOf 𝓤 H A after.signature (after.spec 𝓤 H A 
 
 module _ {M : Type 1} (𝓤 : URA M) (H : Heap 𝓤) (A : Atoms 𝓤) (W : Given 𝓤 H A) (at-mem : Memory → SProp 𝓤) (run : Routine → Fun 𝓤) (κ κ′ κ″ : Lft) (q q′
     q″ : Share) (bounds : AllOutlive 3 (show.signature .outlives) (κ, (κ′, (κ″, tt)))) (b o : ℕ) (γ : GName) (h : Mark) (t g : RefT (List ℕ)) where
-  -- the machine values of the slices, and of a mark on row m
+  -- The machine values of the slices, and of a mark on row m.
   abbrev s : Val
   s = sliceVal (t .ptr) (length (t .now))
 
@@ -113,7 +113,7 @@ module _ {M : Type 1} (𝓤 : URA M) (H : Heap 𝓤) (A : Atoms 𝓤) (W : Given
   abbrev Found : NextRowAnswer → Type 0
   Found f = MatchAnswer (t .now) (g .now) (h .row) f
 
-  -- the call of `next_match`
+  -- The call of `next_match`.
   abbrev to : NextMatch 𝓤 H A at-mem run .Ghost
   to = (((κ′, (κ″, tt)), (q′, (q″, tt)), tt, (t, (g, (h .row, tt))), (s ∷ [], (z ∷ [], (vint w32 (h .row) ∷ [], tt)))), tt)
 
@@ -139,7 +139,7 @@ module _ {M : Type 1} (𝓤 : URA M) (H : Heap 𝓤) (A : Atoms 𝓤) (W : Given
       (ensured 𝓤 H A next-match.ended (next-match.clauses 𝓤 H A at-mem run) (κ′, (κ″, tt)) (t, (g, (h .row, tt))) tt f) (fact 𝓤 (Found f))
   said f = exE 𝓤 _ (λ ws. snd∗ 𝓤 (sem 𝓤 H A (lasts next-match.ended (κ′, (κ″, tt)) (t, (g, (h .row, tt))) ws)) (fact 𝓤 (Found f)))
 
-  -- the call of `after`, at the answer f with the machine value u
+  -- The call of `after`, at the answer f with the machine value u.
   abbrev to-after : NextRowAnswer → Val → After 𝓤 H A at-mem run .Ghost
   to-after f u = ((tt, tt, tt, (f, (h .row, tt)), (u ∷ [], (vint w32 (h .row) ∷ [], tt))), tt)
 
@@ -211,7 +211,7 @@ module _ {M : Type 1} (𝓤 : URA M) (H : Heap 𝓤) (A : Atoms 𝓤) (W : Given
         (from ! (hop ! (look ! 18 refl) (fld ! refl (stop !)))) (store-in ! 3 (sub ! 0 refl (whole !)) (tt, record { fits = is′ .1 })) $
         assigns ! (of-opd ! (load ! (from ! (stop !)) (look ! 10 refl)))
         (from ! (stop !)) (init ! 20 refl (EL.lawful S.the-type S′.the-laws 𝓤 H A W tt .typed f _ is .0)) $
-        -- the borrow is closed at the new number
+        -- The borrow is closed at the new number.
         drop ! $ move ! (3 ∷ []) $ drop ! $ owned ! (T.the-row) (Is (T.the-row)) ((LL.makes T.the-type T′.the-plain) 𝓤 H A) (moved r) _ (made r (is′ .1)) $
         move ! (3 ∷ 0 ∷ 4 ∷ 5 ∷ 6 ∷ []) $ closes ! tt (T.the-row) (moved r) (mach r ∷ []) b o $
         -- [obs; the borrow; the token; t's token; what t owns; _6 5; _5 7; _4 9; _3 11; _2 13; _1 15; _0 17]

@@ -1,6 +1,6 @@
 use borrow.Author.Needs.{needs}
 use Rattle.build_by_search.proofs.BuildOutcomes as first
-use Rattle.format.specs.Settings.{given}
+use Rattle.format.specs.Layout.{given}
 use Rattle.build_by_scan.proofs.ScannedOutcomes as laws
 use Rattle.build_by_scan.proofs.build_scanned.Statement.{statement}
 use Rattle.build_by_scan.proofs.build_scanned.Tie as tie

@@ -2,7 +2,7 @@ use borrow.Author.Needs.{needs}
 use native.Mathlib.Omega.{arith}
 use Rattle.theory_built.specs.BlockSizes.{bounds}
 use Rattle.build_records.specs.State.{settingsOf}
-use Rattle.build_by_scan.specs.ScannedSays.{tableWords}
+use Rattle.build_by_scan.specs.ScanAnswers.{tableWords}
 use Rattle.build_by_scan.proofs.ScannedOutcomes as laws
 use Rattle.build_by_scan.proofs.scan_with.Statement.{statement}
 use Rattle.build_by_scan.proofs.scan_with.Tie as tie

@@ -3,8 +3,8 @@ use native.Mathlib.Omega.{arith}
 use native.Mathlib.Nat.{div-le-self}
 use mathlib.Core.Path.{refl}
 use Prim.Native.Nat.{_+_, _-_}
-use Rattle.format.specs.Settings.{pieces}
-use Rattle.build_by_scan.specs.ScannedSays.{tableWords}
+use Rattle.format.specs.Layout.{pieces}
+use Rattle.build_by_scan.specs.ScanAnswers.{tableWords}
 use Rattle.build_by_scan.proofs.TableRoom.{no-words}
 use Rattle.build_by_scan.proofs.scan_words.Statement.{statement}
 use Rattle.build_by_scan.proofs.scan_words.Tie as tie

@@ -2,7 +2,7 @@ use borrow.Author.Needs.{needs}
 use Rattle.build_by_search.proofs.BuildOutcomes as laws
 use Rattle.build_by_search.proofs.build.Statement.{statement}
 use Rattle.build_by_search.proofs.build.Tie as tie
-use Rattle.format.specs.Settings.{given}
+use Rattle.format.specs.Layout.{given}
 
 pub build-spec : {M : Type 1} → statement M
 build-spec =

@@ -6,8 +6,8 @@ use Rattle.build_enough.proofs.EnoughLaws as laws
 use Rattle.build_enough.proofs.blocks.Statement.{statement}
 use Rattle.build_enough.proofs.blocks.Tie as tie
 use Rattle.build_enough.specs.Enough.{blocksAtMost}
-use Rattle.format.specs.Settings.{pieces, maxText}
-use Rattle.text.specs.Lists.{sumBelow}
+use Rattle.format.specs.Layout.{pieces, maxText}
+use Rattle.text.specs.Text.{sumBelow}
 
 abbrev Inv-loop : tie.InvT-loop
 Inv-loop n s sum₀ l₀ sum l = (l ≤ s .levels) × ((sum ≤ l * (2 * maxText)) × (sum ≡ sumBelow l (λ l. pieces n (s .leaf * s .arity ^ (s .levels - 1 - l)))))

@@ -3,13 +3,13 @@ use borrow.Author.Needs.{needs}
 use mathlib.Core.Bool.{true}
 use mathlib.Core.Path.{_≡_}
 use native.Mathlib.Omega.{arith}
-use Rattle.format.specs.Fits.{widthAt, blockRight}
+use Rattle.format.specs.TreeReading.{widthAt, blockRight}
 use Rattle.layout.proofs.TestLoops.{scan-none, scan-more}
 use Rattle.layout.proofs.AnswerTests.{failed, held}
 use Rattle.check_links.proofs.TreeLaws as tree
 use Rattle.check_links.proofs.level_right.Statement.{statement}
 use Rattle.check_links.proofs.level_right.Tie as tie
-use Rattle.text.specs.Lists.{allBelow, sumBelow}
+use Rattle.text.specs.Text.{allBelow, sumBelow}
 
 abbrev Inv-loop : tie.InvT-loop
 Inv-loop t v passed₀ i₀ passed i =

@@ -9,7 +9,7 @@ use Rattle.check_links.proofs.TreeLaws as tree
 use Rattle.check_links.proofs.links_right.Statement.{statement}
 use Rattle.check_links.proofs.links_right.Tie as tie
 use Rattle.check_links.specs.LevelAsked.{levelRight}
-use Rattle.text.specs.Lists.{allBelow}
+use Rattle.text.specs.Text.{allBelow}
 
 abbrev Inv-loop : tie.InvT-loop
 Inv-loop t h l₀ l = (l ≤ h .settings .levels) × (allBelow l (levelRight t) ≡ true)

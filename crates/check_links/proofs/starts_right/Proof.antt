@@ -10,8 +10,8 @@ use Rattle.check_links.proofs.TreeLaws as tree
 use Rattle.check_links.proofs.starts_right.Statement.{statement}
 use Rattle.check_links.proofs.starts_right.Tie as tie
 use Rattle.check_links.specs.LevelAsked.{startAsCut}
-use Rattle.text.specs.Lists.{allBelow}
-use Rattle.format.specs.Settings.{maxText}
+use Rattle.text.specs.Text.{allBelow}
+use Rattle.format.specs.Layout.{maxText}
 
 abbrev Inv-loop : tie.InvT-loop
 Inv-loop t v i₀ i = (i ≤ v .count) × (allBelow i (startAsCut t) ≡ true)

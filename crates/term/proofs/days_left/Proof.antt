@@ -2,7 +2,7 @@ use mathlib.Core.Path.{ap, _∙_}
 use borrow.Author.Needs.{needs}
 use mir.Syntax.{w32}
 use mir.ValLaws.{toZ-ofZ}
-use Rattle.term.specs.Calendar.{dayNumber}
+use Rattle.term.specs.Term.{dayNumber}
 use Rattle.term.proofs.DaysLaws.{good-is, bad-is, good-date}
 use Rattle.term.proofs.TermLaws.{left-last, left-today, left-days}
 use Rattle.term.proofs.days_left.Statement.{statement}

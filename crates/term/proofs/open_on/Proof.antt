@@ -1,6 +1,6 @@
 use mathlib.Core.Path.{ap, _∙_}
 use borrow.Author.Needs.{needs}
-use Rattle.term.specs.Calendar.{dayNumber}
+use Rattle.term.specs.Term.{dayNumber}
 use Rattle.term.proofs.DaysLaws.{good-is, bad-is, good-date}
 use Rattle.term.proofs.TermLaws.{first-bad, last-bad, today-bad, in-term}
 use Rattle.term.proofs.open_on.Statement.{statement}

@@ -11,7 +11,7 @@ use Rattle.ask_access.proofs.read_by_header.copy_on.Statement.{statemen
 use Rattle.ask_access.proofs.read_by_header.copy_on.Tie as tie
 use Rattle.ask_access.specs.declared.Copied.the-variants.{Bytes}
 
--- whatever buffer the bytes up to i₀ were copied to
+-- Whatever buffer the bytes up to i₀ were copied to.
 abbrev Inv-loop : tie.InvT-loop
 Inv-loop t h at len buffer₀ known done i₀ buffer i =
     (i ≤ len) × (length buffer ≡ length buffer₀)
@@ -23,7 +23,7 @@ abbrev μ-loop : tie.MeasureT-loop
 abbrev start : tie.At-loop Inv-loop μ-loop → tie.Start Inv-loop μ-loop
 start l = l .before .before .before .before .before .before .before .before .before .before .before
 
--- what was copied up to the loop's place to the buffer that was handed in
+-- What was copied up to the loop's place to the buffer that was handed in.
 copied : (l : tie.At-loop Inv-loop μ-loop)
     → laws.Copying (start l .args .t .now) (start l .args .at .0) (start l .args .len) (start l .args .buffer .now) (l .loop .buffer) (l .loop .i)
 copied l =

@@ -2,7 +2,7 @@ use borrow.Author.Needs.{needs}
 use native.Mathlib.Omega.{arith}
 use mathlib.Core.Path.{ap, _∙_}
 use Prim.Native.Nat.{ℕ}
-use Rattle.format.specs.Settings.{pieces}
+use Rattle.format.specs.Layout.{pieces}
 use Rattle.ask_guide.specs.Guides.{entriesOf, listedEvery}
 use Rattle.ask_guide.proofs.GuideList as laws
 use Rattle.ask_guide.proofs.entry_words.entries_of.Statement.{statement}

@@ -15,7 +15,7 @@ Inv-loop one from other at n same₀ i₀ same i = (i ≤ n) × (same ≡ true �
 abbrev μ-loop : tie.MeasureT-loop
 μ-loop one from other at n same₀ i₀ same i = n - i
 
--- one byte more
+-- One byte more.
 loop-again : tie.Need-loop-again Inv-loop μ-loop
 loop-again c =
     let l = c .before .before .before .before in

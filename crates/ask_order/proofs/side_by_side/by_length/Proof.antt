@@ -1,5 +1,5 @@
 use borrow.Author.Tests.{lt-ltb, le-ltb}
-use Rattle.ask_order.specs.Order.{byLength}
+use Rattle.ask_order.specs.OrderAnswers.{byLength}
 use Rattle.ask_order.proofs.side_by_side.by_length.Statement.{statement}
 use Rattle.ask_order.proofs.side_by_side.by_length.Tie as tie
 

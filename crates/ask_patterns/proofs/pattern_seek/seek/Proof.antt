@@ -3,7 +3,7 @@ use borrow.Author.Needs.{needs}
 use mathlib.Core.Path.{_≡_, refl}
 use native.Mathlib.Omega.{arith}
 use Rattle.format.specs.Layout as at
-use Rattle.format.specs.ReadSays.{pathsHold}
+use Rattle.format.specs.Answers.{pathsHold}
 use Rattle.ask_access.proofs.LeafRunLaws.{range-reads, range-broken}
 use Rattle.ask_patterns.specs.TableFilled.{Seeking}
 use Rattle.ask_patterns.proofs.PatternSeekLaws as laws

@@ -17,7 +17,7 @@ abbrev μ-loop : tie.MeasureT-loop
 abbrev start : tie.After-known-told Inv-loop μ-loop → tie.Start Inv-loop μ-loop
 start c = c .before .before .before .before .before .before .before .before .before
 
--- the range that was found, in the text
+-- The range that was found, in the text.
 there : (c : tie.After-known-told Inv-loop μ-loop)
     → (ReadsOn (start c .args .t .now) (c .before .before .before .before .before .before .loop .at)
     (c .before .found .given .0 .0 .from) (c .before .found .given .0 .0 .length))
@@ -37,7 +37,7 @@ next-newline-spec =
     (λ c κs. (c .before .before .before .before .before .pre .0, c .if1 .taken, omega arith))
     (λ c. search needs)
     (λ c. search needs)
-    -- a path breaks
+    -- A path breaks.
     (λ c. let l = c .before .before .before .before .before in
     laws.run-breaks _ _ _ _ (l .loop .inv .0) _ (l .before .before .before .pre .0) (c .before .before .before .if1 .taken)
     (range-refused _ _ _ _ (c .before .before .leaf-range .ensures) (c .enum-told .given .1)))
@@ -47,13 +47,13 @@ next-newline-spec =
     (λ c. let n = c .before .before .before in
     let z = there (n .before) in
     omega (arith, z .0 .in-text, n .nth .ensures .high, laws.text-small _ _ (start (n .before) .pre .0)))
-    -- the newline is in this range
+    -- The newline is in this range.
     (λ c. let n = c .before .before .before in
     let l = n .before .before .before .before .before .before .before in
     let z = there (n .before) in
     laws.newline-in-run _ _ _ _ (l .loop .inv .0) _ _ (z .0) _ (n .nth .ensures) _ (c .before .before .byte-before .ensures) (c .if2 .taken)
     _ (laws.first-kept _ _ _ _ _ _ _ (l .loop .inv .1) (z .1) (c .before .first-of .ensures) .0))
-    -- it is not
+    -- It is not.
     (λ c. let n = c .before .before .before in
     let z = there (n .before) in
     omega (arith, z .0 .in-text, laws.text-small _ _ (start (n .before) .pre .0)))
@@ -64,6 +64,6 @@ next-newline-spec =
       laws.run-passed _ _ _ _ (l .loop .inv .0) _ _ (z .0) _ (n .nth .ensures) _ (c .before .before .byte-before .ensures) (c .if2 .left),
       laws.first-some _ _ _ _ (laws.first-kept _ _ _ _ _ _ _ (l .loop .inv .1) (z .1) (c .before .first-of .ensures)),
     ))
-    -- the text ends first
+    -- The text ends first.
     (λ c. let l = c .before .before in
     laws.text-ends _ _ _ _ (l .loop .inv .0) (omega (arith, l .before .before .before .pre .0 .length-is, c .if1 .left))))

@@ -4,7 +4,7 @@ use lib.Dec.{eqb}
 use native.Mathlib.Omega.{arith}
 use borrow.Author.Needs.{needs}
 use borrow.Author.Tests.{eq-eqb, ne-eqb}
-use Rattle.format.specs.RowSays.{asksLast}
+use Rattle.format.specs.Answers.{asksLast}
 use Rattle.ask_rows.proofs.RowEdgesLaws as laws
 use Rattle.ask_rows.proofs.row_edges.of_row.Statement.{statement}
 use Rattle.ask_rows.proofs.row_edges.of_row.Tie as tie
@@ -12,7 +12,7 @@ use Rattle.ask_rows.proofs.row_edges.of_row.Tie as tie
 abbrev start : tie.Else4 → tie.Start
 start v = v .before .before .before .before .before .before .before .before .before .before
 
--- whether q asks for the row after the last newline, where it is past the total
+-- Whether q asks for the row after the last newline, where it is past the total.
 asks : (v : tie.Else4) → eqb (start v .args .q - 1) (v .before .before .before .total .result) ≡ asksLast (start v .args .t .now) (start v .args .q)
 asks v =
     let all = v .before .before .before in
@@ -25,19 +25,19 @@ of-row-spec =
     tie.close
     (tie.spec
     (λ c κs. search needs)
-    -- question 11
+    -- Question 11.
     (λ c. let n = c .before .before in
     let S = n .before .before .before in
     laws.edges-refused _ _ (laws.settled-sound _ _ _) _ _ (laws.asks-uncounted _ _ (S .pre) _ _ (n .number-of .ensures .0) (c .if1 .taken))
     (laws.start-uncounted _ _ _ _ (S .pre) _ (n .number-of .ensures .0) (c .if1 .taken)))
-    -- question 12: row 0
+    -- Question 12: row 0.
     (λ c. let e = c .before in
     let n = e .before .before in
     let S = n .before .before .before in
     laws.edges-refused _ _ (laws.settled-sound _ _ _) _ _ (laws.asks-none _ _ (S .pre) _ _ (n .number-of .ensures .0) (e .if1 .left) (c .if2 .taken))
     (laws.start-zero _ _ _ _ (S .pre) _ (n .number-of .ensures .0) (e .if1 .left) (c .if2 .taken)))
     (λ c κs. search needs)
-    -- a newline ends it
+    -- A newline ends it.
     (λ c κs. let all = c .before in
     let e = all .before .before in
     let n = e .before .before in
@@ -48,7 +48,7 @@ of-row-spec =
     let n = e .before .before in
     laws.edges-ended _ _ (laws.settled-sound _ _ _) _ _ (laws.asks-ended _ _ (n .before .before .before .pre) _ _ (n .number-of .ensures .0)
     (e .if1 .left) (omega (arith, c .before .if3 .taken, all .total .ensures))) (c .terminated-row .ensures))
-    -- question 12: an empty text
+    -- Question 12: an empty text.
     (λ c. let all = c .before .before .before in
     let e = all .before .before in
     let n = e .before .before in
@@ -57,12 +57,12 @@ of-row-spec =
     (laws.start-past _ _ _ _ (S .pre) _ (n .number-of .ensures .0) (e .if1 .left) _ (all .total .ensures) (c .before .before .if3 .left)))
     (λ c. omega (arith, c .before .before .before .before .if2 .left))
     (λ c. search needs)
-    -- no newline ends it
+    -- No newline ends it.
     (λ c κs. let v = c .before in
     let e = v .before .before .before .before .before in
     (start v .pre, sym (asks v) ∙ eq-eqb _ _ (c .if5 .taken), e .before .before .number-of .ensures .0, e .if1 .left))
     (λ c. laws.edges-last _ _ (laws.settled-sound _ _ _) _ _ (sym (eq-eqb _ _ (c .before .if5 .taken)) ∙ asks (c .before .before)) (c .last .ensures))
-    -- question 12: more rows than there are
+    -- Question 12: more rows than there are.
     (λ c. let v = c .before in
     let all = v .before .before .before in
     let e = all .before .before in

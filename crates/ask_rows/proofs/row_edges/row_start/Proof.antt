@@ -9,7 +9,7 @@ pub row-start-spec : {M : Type 1} → statement M
 row-start-spec =
     tie.close
     (tie.spec
-    -- the first row
+    -- The first row.
     (λ c. let p = c .before .before .before .pre in
     laws.start-first _ _ _ _ (p .0) _ (p .1) (p .2) _ refl (λ z. omega (arith, p .3)) (p .4) (c .if1 .taken))
     (λ c. omega (arith, c .before .before .before .pre .3))
@@ -17,7 +17,7 @@ row-start-spec =
     (λ c. search needs)
     (λ c. search needs)
     (λ c κs. search needs)
-    -- the find is refused
+    -- The find is refused.
     (λ c. let f = c .before .before .before in
     let p = f .before .before .before .before .pre in
     laws.start-refused _ _ _ _ (p .0) _ (p .1) (p .2) _ refl (λ z. omega (arith, p .3)) (p .4) (f .before .if1 .left) (laws.settled-sound _ _ _)
@@ -29,7 +29,7 @@ row-start-spec =
       laws.before-below _ _ _ _ (p .0) _ (p .1) (p .2) _ refl (λ z. omega (arith, p .3)) (p .4) (f .before .if1 .left) (laws.settled-sound _ _ _)
           _ (f .ten .ensures .says) _ _ (c .before .before .found .given .1),
     ))
-    -- past the newline that was found
+    -- Past the newline that was found.
     (λ c. let f = c .before .before .before .before in
     let p = f .before .before .before .before .pre in
     laws.start-later _ _ _ _ (p .0) _ (p .1) (p .2) _ refl (λ z. omega (arith, p .3)) (p .4) (f .before .if1 .left) (laws.settled-sound _ _ _)

@@ -4,7 +4,7 @@ use Rattle.ask_rows.proofs.RowEdgesLaws as laws
 use Rattle.ask_rows.proofs.row_edges.terminated_row.Statement.{statement}
 use Rattle.ask_rows.proofs.row_edges.terminated_row.Tie as tie
 
--- the row has no start
+-- The row has no start.
 returns : tie.Need-returns
 returns c = laws.edges-no-start _ _ (laws.settled-sound _ _ _) _ _
     (c .before .before .before .row-start .ensures) _ _ (c .before .enum-told .given .1) (c .start-number .ensures)
@@ -15,7 +15,7 @@ next-newline-requires c κs =
     let pre = f .before .before .before .pre .0 in
     (pre, omega (arith, pre .length-is, laws.start-within _ _ (laws.settled-sound _ _ _) _ _ (f .row-start .ensures) _ (c .before .found .given .1)))
 
--- no newline ends it
+-- No newline ends it.
 returns-2 : tie.Need-returns-2
 returns-2 c =
     let f = c .before .before .before .before .before .before in

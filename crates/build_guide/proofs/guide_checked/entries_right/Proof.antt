@@ -2,7 +2,7 @@ use native.Mathlib.Omega.{arith}
 use mathlib.Core.Path.{_≡_, sym, _∙_}
 use Prim.Native.Nat.{ℕ, _+_, _-_, _*_, _≤_, _<_}
 use lib.ListN.{getD}
-use Rattle.format.specs.Words.{wordAt}
+use Rattle.format.specs.Layout.{wordAt}
 use Rattle.format.specs.Layout as at
 use Rattle.ask_guide.specs.Guides.{guideOf, listedEvery}
 use Rattle.build_guide.proofs.GuideWrittenLaws as laws

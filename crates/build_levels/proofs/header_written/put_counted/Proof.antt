@@ -2,8 +2,7 @@ use Prim.Native.Nat.{ℕ, _≤_, _-_}
 use lib.ListN.{length, length-set}
 use mathlib.Core.Path.{_≡_, refl, ap, _∙_}
 use native.Mathlib.Omega.{arith}
-use Rattle.format.specs.Settings.{maxCounted}
-use Rattle.format.specs.HeaderPlaces.{countedAt}
+use Rattle.format.specs.Layout.{maxCounted, countedAt}
 use Rattle.build_levels.proofs.HeaderWrittenLaws.{places-more}
 use Rattle.build_levels.proofs.header_written.put_counted.Statement.{statement}
 use Rattle.build_levels.proofs.header_written.put_counted.Tie as tie

@@ -2,7 +2,7 @@ use Prim.Native.Nat.{ℕ, _≤_, _-_}
 use lib.ListN.{length}
 use mathlib.Core.Path.{_≡_, refl, ap, _∙_}
 use native.Mathlib.Omega.{arith}
-use Rattle.format.specs.Settings.{maxLevels}
+use Rattle.format.specs.Layout.{maxLevels}
 use Rattle.build_levels.proofs.HeaderWrittenLaws.{unused-more}
 use Rattle.build_levels.proofs.header_written.put_unused.Statement.{statement}
 use Rattle.build_levels.proofs.header_written.put_unused.Tie as tie

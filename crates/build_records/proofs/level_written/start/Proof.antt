@@ -3,7 +3,7 @@ use borrow.Author.Needs.{needs}
 use mathlib.Core.Path.{_∙_, ap}
 use Rattle.build_records.proofs.level_written.start.Statement.{statement}
 use Rattle.build_records.proofs.level_written.start.Tie as tie
-use Rattle.format.specs.Words.{wordAt}
+use Rattle.format.specs.Layout.{wordAt}
 
 pub start-spec : {M : Type 1} → statement M
 start-spec =

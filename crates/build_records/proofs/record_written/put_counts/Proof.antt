@@ -9,7 +9,7 @@ use Rattle.build_records.proofs.record_written.put_counts.Statement.{st
 use Rattle.build_records.proofs.record_written.put_counts.Tie as tie
 use Rattle.build_records.specs.Grown.{Grown, Within}
 use Rattle.build_records.specs.State.{settingsOf, placeAt}
-use Rattle.format.specs.RecordFields.{plainBytes, countedBytes}
+use Rattle.format.specs.Layout.{plainBytes, countedBytes}
 use Rattle.format.specs.Blocks.{treeOf}
 
 abbrev Inv-loop : tie.InvT-loop

@@ -11,7 +11,7 @@ use Rattle.check_counts.proofs.level_counts.level_right.Statement.{stat
 use Rattle.check_counts.proofs.level_counts.level_right.Tie as tie
 use Rattle.format.specs.Layout as at
 use Rattle.theory_counts.specs.CountsLocal.{blockLocal}
-use Rattle.text.specs.Lists.{allBelow}
+use Rattle.text.specs.Text.{allBelow}
 
 abbrev Inv-loop : tie.InvT-loop
 Inv-loop t h level b up n i₀ i = (i ≤ n) × ((x : ℕ) → x < i → allBelow (at.countedCount t) (blockLocal t level x) ≡ true)

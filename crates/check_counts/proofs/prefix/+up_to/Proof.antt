@@ -21,7 +21,7 @@ use Rattle.walk_steps.proofs.StepLaws.{Shapes, shapes-on}
 use Rattle.check_counts.proofs.prefix.+up_to.{statement}
 use Rattle.check_counts.proofs.prefix.+up_to.Tie.{close}
 
--- the levels left
+-- The levels left.
 abbrev μ-up-to : Measures 1 up-to-kinds.ps ℕ
 μ-up-to κs a = at.settings (a .0 .now) .levels - a .1 .1 .0 .level
 

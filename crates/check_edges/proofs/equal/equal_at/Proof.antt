@@ -3,8 +3,7 @@ use Prim.Native.Nat.{_+_, _-_, _≤_}
 use mathlib.Core.Path.{_≡_, _∙_}
 use native.Mathlib.Omega.{arith}
 use borrow.Author.Needs.{needs}
-use Rattle.text.specs.Lists.{sameList}
-use Rattle.text.specs.Text.{stretch}
+use Rattle.text.specs.Text.{sameList, stretch}
 use Rattle.check_edges.proofs.EightLaws as laws
 use Rattle.check_edges.proofs.equal.equal_at.Statement.{statement}
 use Rattle.check_edges.proofs.equal.equal_at.Tie as tie

@@ -9,8 +9,8 @@ use Rattle.check_links.proofs.BlockLinksLaws as laws
 use Rattle.check_links.proofs.block_links.children_right.Statement.{statement}
 use Rattle.check_links.proofs.block_links.children_right.Tie as tie
 use Rattle.check_links.specs.LevelAsked.{childAsCut}
-use Rattle.text.specs.Lists.{allBelow}
-use Rattle.format.specs.Settings.{maxText}
+use Rattle.text.specs.Text.{allBelow}
+use Rattle.format.specs.Layout.{maxText}
 
 abbrev Inv-loop : tie.InvT-loop
 Inv-loop t v start first width j₀ j = (j ≤ width) × (allBelow j (childAsCut t (v .number) (first .0) (start .0)) ≡ true)

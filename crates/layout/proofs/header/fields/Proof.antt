@@ -2,9 +2,7 @@ use Prim.Native.Nat.{ℕ, _*_, _^_, _-_, _≤_}
 use mathlib.Core.List.{List}
 use mathlib.Core.Path.{_≡_, _∙_}
 use native.Mathlib.Omega.{arith}
-use Rattle.format.specs.Words.{wordAt}
-use Rattle.format.specs.Settings.{blockLength, recordLength, maxLeaf, maxCounted}
-use Rattle.format.specs.HeaderPlaces.{layoutAt}
+use Rattle.format.specs.Layout.{wordAt, blockLength, recordLength, maxLeaf, maxCounted, layoutAt}
 use Rattle.format.specs.SizeLaws.{sizes-alone}
 use Rattle.format.specs.Layout as at
 use Rattle.format.specs.LayoutLaws.{Readable}
@@ -15,7 +13,7 @@ use Rattle.layout.specs.declared.header.Header.{Header}
 use Rattle.layout.specs.SettingsLevel.{Sized}
 use Rattle.layout.specs.Header.{settingsOf}
 
--- a header is equal to another whose words are
+-- A header is equal to another whose words are.
 words : {v a g h k z v′ a′ g′ h′ k′ z′ : ℕ} {s s′ : Settings} → v ≡ v′ → a ≡ a′ → s ≡ s′ → g ≡ g′ → h ≡ h′ → k ≡ k′ → z ≡ z′
     → _≡_ {A = Header}
     (record { layout = v; «text_length» = a; settings = s; «leaf_offset» = g; «leaf_count» = h; «top_length» = k; «record_size» = z })
@@ -24,7 +22,7 @@ words pv pa ps pg ph pk pz =
     λ i. record { layout = pv i; «text_length» = pa i; settings = ps i; «leaf_offset» = pg i; «leaf_count» = ph i; «top_length» = pk i; «record_size» = pz i }
 
 module _ (t : List ℕ) (s : Settings) (f : Readable t) (is : s ≡ settingsOf t) where
-  -- the settings are within their bounds
+  -- The settings are within their bounds.
   sized : Sized s 0
   unfolding at.settings
   sized = rw is (record {
@@ -32,12 +30,12 @@ module _ (t : List ℕ) (s : Settings) (f : Readable t) (is : s ≡ settingsOf t
     level-in = f .bounds .levels-low;
   })
 
-  -- and make a level 0 block this long
+  -- And make a level 0 block this long.
   full : (b : ℕ) → b ≡ s .leaf * s .arity ^ (s .levels - 1 - 0) → b ≡ at.fullLength t 0
   unfolding at.fullLength at.settings blockLength
   full b e = e ∙ rw is
 
-  -- and a record
+  -- And a record.
   size : (v z : ℕ) → v ≡ wordAt t layoutAt → z ≡ recordLength v (s .leaf) (s .counted) → z ≡ at.recordSize t
   unfolding at.recordSize at.layout at.settings at.countedCount
   size v z ev e = rw (e, ev, is)

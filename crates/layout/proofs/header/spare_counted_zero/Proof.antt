@@ -8,8 +8,8 @@ use Rattle.layout.proofs.TestLoops.{scan-none, scan-more, scan-done, sc
 use Rattle.layout.proofs.header.spare_counted_zero.Statement.{statement}
 use Rattle.layout.proofs.header.spare_counted_zero.Tie as tie
 use Rattle.layout.specs.Header.{spareCounted, zeroByte}
-use Rattle.text.specs.Lists.{allBelow}
-use Rattle.format.specs.Settings.{maxCounted}
+use Rattle.text.specs.Text.{allBelow}
+use Rattle.format.specs.Layout.{maxCounted}
 
 abbrev Inv-loop : tie.InvT-loop
 Inv-loop t k x₀ x = (x ≤ maxCounted - k) × (allBelow x (zeroByte t k) ≡ true)

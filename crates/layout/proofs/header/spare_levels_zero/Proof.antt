@@ -8,8 +8,8 @@ use Rattle.layout.proofs.TestLoops.{scan-none, scan-more, scan-done, sc
 use Rattle.layout.proofs.header.spare_levels_zero.Statement.{statement}
 use Rattle.layout.proofs.header.spare_levels_zero.Tie as tie
 use Rattle.layout.specs.Header.{spareLevels, zeroLevel}
-use Rattle.text.specs.Lists.{allBelow}
-use Rattle.format.specs.Settings.{maxLevels}
+use Rattle.text.specs.Text.{allBelow}
+use Rattle.format.specs.Layout.{maxLevels}
 
 abbrev Inv-loop : tie.InvT-loop
 Inv-loop t levels x₀ x = (x ≤ maxLevels - levels) × (allBelow x (zeroLevel t levels) ≡ true)

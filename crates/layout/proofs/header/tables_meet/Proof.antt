@@ -4,14 +4,13 @@ use mathlib.Core.Bool.{true}
 use mathlib.Core.Path.{_≡_, _∙_, ap}
 use native.Mathlib.Omega.{arith}
 use Rattle.format.specs.SizeLaws.{maxRecord}
-use Rattle.format.specs.HeaderPlaces.{headerLength}
-use Rattle.format.specs.Layout.{levelCount, recordSize}
+use Rattle.format.specs.Layout.{headerLength, levelCount, recordSize}
 use Rattle.layout.proofs.HeaderLaws.{apart, meets, end-none, end-more, leaves-meet, level-apart}
 use Rattle.layout.proofs.TestLoops.{scan-none, scan-more, scan-fails}
 use Rattle.layout.proofs.header.tables_meet.Statement.{statement}
 use Rattle.layout.proofs.header.tables_meet.Tie as tie
 use Rattle.layout.specs.Header.{follows}
-use Rattle.text.specs.Lists.{allBelow, sumBelow}
+use Rattle.text.specs.Text.{allBelow, sumBelow}
 
 abbrev Inv-loop : tie.InvT-loop
 Inv-loop t levels size end₀ l₀ end l = (l ≤ levels) × ((end ≡ headerLength + sumBelow l (levelCount t) * recordSize t)

@@ -1,5 +1,5 @@
 use borrow.Author.Needs.{needs}
-use Rattle.format.specs.Settings.{pieces}
+use Rattle.format.specs.Layout.{pieces}
 use Rattle.layout.proofs.settings.pieces.Statement.{statement}
 use Rattle.layout.proofs.settings.pieces.Tie as tie
 

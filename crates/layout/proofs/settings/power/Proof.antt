@@ -5,7 +5,7 @@ use mathlib.Core.Path.{_≡_, sym, ap, _∙_}
 use native.Mathlib.Nat.{pow-zero, pow-suc, pow-le-pow-left, le-trans, pow-le-pow-right, mul-le-mul, mul-one, mul-assoc}
 use native.Mathlib.Numerals.{add-one}
 use native.Mathlib.Omega.{arith}
-use Rattle.format.specs.Settings.{maxLeaf, maxArity, maxLevels}
+use Rattle.format.specs.Layout.{maxLeaf, maxArity, maxLevels}
 use Rattle.layout.proofs.settings.power.Statement.{statement}
 use Rattle.layout.proofs.settings.power.Tie as tie
 

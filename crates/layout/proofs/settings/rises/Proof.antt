@@ -3,7 +3,7 @@ use borrow.Author.Needs.{needs}
 use lib.ListN.{length, drop}
 use mathlib.Core.Path.{_≡_, refl, _∙_}
 use native.Mathlib.Omega.{arith}
-use Rattle.format.specs.Settings.{rising}
+use Rattle.format.specs.Layout.{rising}
 use Rattle.layout.proofs.SettingsLaws.{more, fall, done}
 use Rattle.layout.proofs.settings.rises.Statement.{statement}
 use Rattle.layout.proofs.settings.rises.Tie as tie

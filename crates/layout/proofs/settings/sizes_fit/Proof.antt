@@ -3,7 +3,7 @@ use Prim.Native.Nat.{ℕ}
 use mathlib.Core.Path.{ap}
 use lib.Dec.{leb}
 use borrow.Author.Tests.{lt-leb, le-leb}
-use Rattle.format.specs.Settings.{sizesOk, maxText, minLeaf, maxLeaf, minArity, maxArity, minLevels, maxLevels}
+use Rattle.format.specs.Layout.{sizesOk, maxText, minLeaf, maxLeaf, minArity, maxArity, minLevels, maxLevels}
 use Rattle.layout.proofs.settings.sizes_fit.Statement.{statement}
 use Rattle.layout.proofs.settings.sizes_fit.Tie as tie
 

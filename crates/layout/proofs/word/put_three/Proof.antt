@@ -2,7 +2,7 @@ use mathlib.Core.List.{List}
 use mathlib.Core.Path.{_≡_}
 use Prim.Native.Nat.{ℕ, _+_}
 use borrow.Author.Needs.{needs}
-use Rattle.format.specs.Words.{setWord}
+use Rattle.format.specs.Layout.{setWord}
 use Rattle.format.specs.WordLaws.{putThree}
 use Rattle.layout.proofs.word.put_three.Statement.{statement}
 use Rattle.layout.proofs.word.put_three.Tie as tie

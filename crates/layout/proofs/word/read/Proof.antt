@@ -1,5 +1,5 @@
 use borrow.Author.Needs.{needs}
-use Rattle.format.specs.Words.{wordAt}
+use Rattle.format.specs.Layout.{wordAt}
 use Rattle.layout.proofs.word.read.Statement.{statement}
 use Rattle.layout.proofs.word.read.Tie as tie
 

@@ -1,7 +1,7 @@
 use borrow.Author.Needs.{needs}
 use lib.ListN.{length-set}
 use native.Mathlib.Omega.{arith}
-use Rattle.format.specs.Words.{setWord}
+use Rattle.format.specs.Layout.{setWord}
 use Rattle.layout.proofs.word.write.Statement.{statement}
 use Rattle.layout.proofs.word.write.Tie as tie
 

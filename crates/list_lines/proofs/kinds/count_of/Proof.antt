@@ -6,7 +6,7 @@ use Rattle.list_lines.proofs.LineLaws as laws
 use Rattle.list_lines.proofs.kinds.count_of.Statement.{statement}
 use Rattle.list_lines.proofs.kinds.count_of.Tie as tie
 use Rattle.list_lines.specs.LevelTable.{hasKind}
-use Rattle.text.specs.Lists.{countBelow}
+use Rattle.text.specs.Text.{countBelow}
 
 abbrev Inv-loop : tie.InvT-loop
 Inv-loop t size level kind count found₀ i₀ found i = (i ≤ count) × (found ≤ i) × (found ≡ countBelow i (hasKind t level kind))

@@ -1,6 +1,6 @@
 use native.Mathlib.Omega.{arith}
 use borrow.Author.Needs.{needs}
-use Rattle.prefix_match.specs.PrefixRows.{startsWith}
+use Rattle.row_filter.specs.SelectedRows.{startsWith}
 use Rattle.prefix_match.specs.PrefixStates.{prefixAutomaton}
 use Rattle.prefix_match.proofs.PrefixRecognized.{recognizes}
 use Rattle.ask_rows.proofs.RowEdgesLaws.{settled-sound}

@@ -1,7 +1,7 @@
 use mathlib.Core.Path.{ap, _∙_}
 use native.Mathlib.Omega.{arith}
 use borrow.Author.Needs.{needs}
-use Rattle.format.specs.FindSays.{total}
+use Rattle.format.specs.Answers.{total}
 use Rattle.ask_totals.proofs.TotalLaws.{is-counted, not-counted}
 use Rattle.ask_rows.proofs.RowEdgesLaws.{settled-sound}
 use Rattle.query_row_filter.proofs.AllowedAnswerLaws as laws

@@ -1,6 +1,6 @@
 use borrow.Author.Needs.{needs}
 use borrow.Author.Tests.{le-leb, lt-leb}
-use Rattle.term.specs.Calendar.{isDate}
+use Rattle.term.specs.Term.{isDate}
 use Rattle.term.proofs.ClosedForms.{last-test}
 use Rattle.term.proofs.calendar.is_date.Statement.{statement}
 use Rattle.term.proofs.calendar.is_date.Tie as tie

@@ -16,7 +16,7 @@ use Rattle.walk_steps.proofs.fields.shape_of.Reads as shape-of-reads
 use Rattle.walk_steps.proofs.quotient.Reads as quotient-reads
 use Rattle.walk_steps.proofs.CycleClaims.{at-measure, below-measure}
 use Rattle.walk_steps.proofs.StepLaws.{Shapes, shapes-on}
-use Rattle.format.specs.Settings.{maxLevels}
+use Rattle.format.specs.Layout.{maxLevels}
 use Rattle.format.specs.Layout as at
 use Rattle.walk_short.proofs.WholeLaws as laws
 use Rattle.walk_short.proofs.gather.+gather.{statement}
@@ -31,7 +31,7 @@ gather-at t = at-measure gather-kinds.ps μ-gather gather.Pre t
 abbrev levels : List ℕ → ℕ
 levels t = at.settings t .levels
 
--- what the callees ask and promise
+-- What the callees ask and promise.
 abbrev claims : ℕ → gather-lts.Claims
 claims t = (
   whole-reads.Asked,

@@ -5,7 +5,7 @@ use native.Mathlib.Nat.{mul-le-mul-left, pow-le-pow-right}
 use native.Mathlib.Omega.{arith}
 use Rattle.layout.proofs.settings.Settings.block_length.Statement.{statement}
 use Rattle.layout.proofs.settings.Settings.block_length.Tie as tie
-use Rattle.format.specs.Settings.{maxText, minArity}
+use Rattle.format.specs.Layout.{maxText, minArity}
 
 small : (m r H l b : ℕ) → minArity ≤ r → m * r ^ (H - 1) ≤ maxText → b ≡ m * r ^ (H - 1 - l) → b < 4294967296
 small m r H l b low high e =

@@ -1,6 +1,6 @@
 use borrow.Author.Needs.{needs}
 use borrow.Author.Tests.{lt-leb, le-leb}
-use Rattle.format.specs.Settings.{countedOk, maxCounted}
+use Rattle.format.specs.Layout.{countedOk, maxCounted}
 use Rattle.layout.proofs.AnswerTests.{failed, held}
 use Rattle.layout.proofs.settings.Settings.new.Statement.{statement}
 use Rattle.layout.proofs.settings.Settings.new.Tie as tie

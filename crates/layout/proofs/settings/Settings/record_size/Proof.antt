@@ -2,13 +2,12 @@ use Prim.Native.Nat.{ℕ, _+_, _≤_}
 use borrow.Author.Needs.{needs}
 use mathlib.Core.Path.{_≡_, sym}
 use native.Mathlib.Omega.{arith}
-use Rattle.format.specs.RecordFields.{fieldBytes}
-use Rattle.format.specs.Settings.{recordLength, maxLeaf, maxCounted}
+use Rattle.format.specs.Layout.{fieldBytes, recordLength, maxLeaf, maxCounted}
 use Rattle.format.specs.SizeLaws.{maxRecord, record-plain, record-edged}
 use Rattle.layout.proofs.settings.Settings.record_size.Statement.{statement}
 use Rattle.layout.proofs.settings.Settings.record_size.Tie as tie
 
--- the length, and that it is within its bound
+-- The length, and that it is within its bound.
 pub with-edges : (v m k : ℕ) → m ≤ maxLeaf → k ≤ maxCounted → v ≡ 2 → (fieldBytes k + (m + m) ≡ recordLength v m k) × (fieldBytes k + (m + m) ≤ maxRecord)
 with-edges v m k hm hk e = (sym (record-edged v m k e), omega arith)
 

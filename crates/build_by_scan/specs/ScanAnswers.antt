@@ -1,15 +1,21 @@
--- What build_scanned returns, and what the caller's buffer and table contain afterwards.
--- docs/FORMAT.md: "Two builders", "What is left in lent buffers".
+-- What the builder with one scan a level returns.
+-- docs/FORMAT.md: "Two builders".
 use mathlib.Core.List.{List, [], _∷_, _++_}
 use mathlib.Core.Bool.{Bool, false, cond, _&&_, _||_}
 use mathlib.Core.Path.{_≡_}
 use Prim.Native.Nat.{ℕ, zero, suc, _+_, _-_, _*_, min}
 use lib.ListN.{length, drop, replicate}
 use lib.Dec.{leb, eqb}
-use Rattle.text.specs.Lists.{sumBelow}
-use Rattle.format.specs.Settings.{Settings, blockLength, pieces, lengthOk, sizesOk, countedOk}
+use Rattle.text.specs.Text.{sumBelow}
+use Rattle.format.specs.Layout.{Settings, blockLength, pieces, lengthOk, sizesOk, countedOk}
 use Rattle.format.specs.Blocks.{treeOf, startsAt, startOf, lengthOf, pairAt}
-use Rattle.format.specs.Verdict.{asks}
+use Rattle.format.specs.TreeReading.{asks}
+use Rattle.format.specs.Answers.{Reply, figures, refusal}
+use Rattle.build_by_scan.specs.declared.Scanned.{Scanned}
+use Rattle.build_by_scan.specs.declared.Scanned.the-variants.{Size, Refused}
+
+-- What build_scanned returns, and what the caller's buffer and table contain afterwards.
+-- docs/FORMAT.md: "Two builders", "What is left in lent buffers".
 
 -- Whether p holds at one of 0, 1, .., n - 1.
 unfoldable pub anyBelow : ℕ → (ℕ → Bool) → Bool
@@ -62,3 +68,10 @@ module _ (S : Settings) (T out : List ℕ) (words : ℕ) where
 pub record TableLeft (number : ℕ) (old new : List ℕ) : Type 0 where
   pub same-length : length new ≡ length old
   pub untouched : (number ≡ 0 → ⊥) → (number ≡ 4 → ⊥) → new ≡ old
+
+-- The answer of build_scanned by its refusal and figures.
+
+-- The tree's size and the windows looked up.
+abbrev pub scannedReply : Scanned → Reply
+scannedReply (Size n w) = figures n w
+scannedReply (Refused q) = refusal q

@@ -1,19 +1,22 @@
--- The outcomes that a search for the next selected row may have, for any bytes given as a tree and as a guide: one outcome if a question refuses or both are
--- valid, else any of those that the format leaves free.
--- docs/FORMAT.md: "Keys", "What is left free".
+-- What a search for the next selected row may return.
+-- docs/FORMAT.md: "Keys".
 use mathlib.Core.List.{List, [], _∷_}
 use mathlib.Core.Bool.{Bool}
 use mathlib.Core.Path.{_≡_}
 use mathlib.Core.Logic.{_⊎_}
 use Prim.Native.Nat.{ℕ, _+_, _≤_, _<_}
 use lib.ListN.{drop}
-use Rattle.text.specs.Rows.{rowsOf}
+use Rattle.text.specs.Text.{rowsOf}
 use Rattle.format.specs.Layout as at
-use Rattle.format.specs.Fits.{textOf}
-use Rattle.format.specs.Verdict.{ask, asks, orNext, readable}
-use Rattle.format.specs.CountSays.{isCounted, numberOfByte}
-use Rattle.format.specs.FindSays.{total}
+use Rattle.format.specs.TreeReading.{textOf, ask, asks, orNext, readable}
+use Rattle.format.specs.Answers.{isCounted, numberOfByte, total}
 use Rattle.row_filter.specs.SelectedRows.{NextRowOutcome, firstSelected, nextOutcome}
+use Rattle.query_row_filter.specs.declared.NextRowAnswer.{NextRowAnswer}
+use Rattle.query_row_filter.specs.declared.NextRowAnswer.the-variants.{Row, Nothing, Refused}
+
+-- The outcomes that a search for the next selected row may have, for any bytes given as a tree and as a guide: one outcome if a question refuses or both are
+-- valid, else any of those that the format leaves free.
+-- docs/FORMAT.md: "Keys", "What is left free".
 
 -- A refusal; the mark is unchanged.
 abbrev pub refusedAt : ℕ → ℕ → NextRowOutcome
@@ -52,3 +55,27 @@ pub record AllowedOutcome (t : List ℕ) (ok refusal : ℕ) (selected : List ℕ
   pub asked : 0 < refusal → s ≡ refusedAt refusal mark
   pub accepted : refusal ≡ 0 → ok ≡ 0 → s ≡ nextOutcome selected (rowsOf (textOf t)) mark
   pub free : refusal ≡ 0 → (ok ≡ 0 → ⊥) → FreeOutcome t selected mark s
+
+-- The answers that a search for the next selected row may return, and the mark after each.
+
+-- The outcome of an answer to a search from a mark.
+abbrev pub outcomeOf : ℕ → NextRowAnswer → NextRowOutcome
+outcomeOf mark (Row q) = record { refusal = 0; row = q; mark = q }
+outcomeOf mark (Nothing m) = record { refusal = 0; row = 0; mark = m }
+outcomeOf mark (Refused refusal) = refusedAt refusal mark
+
+-- A returned row and a refusal are not 0.
+abbrev pub Numbered : NextRowAnswer → Type 0
+Numbered (Row q) = 1 ≤ q
+Numbered (Nothing m) = Unit {0}
+Numbered (Refused refusal) = 1 ≤ refusal
+
+-- An allowed answer to a search from a mark.
+pub record AllowedAnswer (t : List ℕ) (ok refusal : ℕ) (selected : List ℕ → Bool) (mark : ℕ) (r : NextRowAnswer) : Type 0 where
+  pub says : AllowedOutcome t ok refusal selected mark (outcomeOf mark r)
+  pub numbered : Numbered r
+
+-- An allowed answer to a search from the mark `before`, and the mark `after` it.
+pub record MarkMoved (t : List ℕ) (ok refusal : ℕ) (selected : List ℕ → Bool) (before : ℕ) (r : NextRowAnswer) (after : ℕ) : Type 0 where
+  pub answer : AllowedAnswer t ok refusal selected before r
+  pub mark-is : after ≡ outcomeOf before r .mark

@@ -1,14 +1,33 @@
+-- What the list program prints, and what list returns.
+-- docs/FORMAT.md: "The list program".
+use mathlib.Core.List.{List, _++_, [], _∷_}
+use mathlib.Core.Path.{_≡_}
+use Prim.Native.Nat.{ℕ, _+_, _≤_, zero, suc, _*_, _/_, _%_}
+use lib.ListN.{length, take, drop}
+use mathlib.Core.Bool.{cond}
+use lib.Dec.{leb, ltb, eqb}
+use Rattle.text.specs.Text.{countBelow}
+use Rattle.format.specs.Layout.{maxLevels}
+use Rattle.format.specs.Layout as at
+use Rattle.format.specs.TreeReading.{verdict, asks, orNext}
+use Rattle.format.specs.Answers.{Said, unless, Reply, figures, refusal, Is}
+use Rattle.list_lines.specs.declared.Listed.{Listed}
+use Rattle.list_lines.specs.declared.Listed.the-variants.{Bytes, Refused}
+
+-- A buffer after bytes were written to it.
+
+-- The buffer d with the bytes s written from place `at` on.
+unfoldable pub written : List ℕ → ℕ → List ℕ → List ℕ
+written d at s = take at d ++ s ++ drop (at + length s) d
+
+-- Writing s at `at` turns the buffer d into e. The next free place is `end`, at most `most` after `at`.
+pub record Put (d e : List ℕ) (at end : ℕ) (s : List ℕ) (most : ℕ) : Type 0 where
+  pub bytes : e ≡ written d at s
+  pub after : end ≡ at + length s
+  pub short : end ≤ at + most
+
 -- What the list program prints.
 -- docs/FORMAT.md: "The list program".
-use mathlib.Core.List.{List, [], _∷_, _++_}
-use mathlib.Core.Bool.{cond}
-use Prim.Native.Nat.{ℕ, zero, suc, _+_, _*_, _/_, _%_}
-use lib.ListN.{length}
-use lib.Dec.{leb, ltb}
-use Rattle.text.specs.Lists.{countBelow}
-use Rattle.format.specs.Settings.{maxLevels}
-use Rattle.format.specs.Layout as at
-use Rattle.format.specs.Verdict.{verdict}
 
 -- The decimal digits of n, the highest first; at most more + 1 of them.
 unfoldable pub digitsWithin : ℕ → ℕ → List ℕ
@@ -30,7 +49,7 @@ unfoldable pub line : ℕ → ℕ → ℕ → ℕ → List ℕ
 line level blocks kept pointing = figure level 32 ++ figure blocks 32 ++ figure kept 32 ++ figure pointing 10
 
 module _ (t : List ℕ) where
-  -- level, blocks, kept, pointing
+  -- Level, blocks, kept, pointing.
   unfoldable pub levelLine : ℕ → List ℕ
   levelLine l = line l (at.levelCount t l) (countBelow (at.levelCount t l) (at.isKept t l)) (countBelow (at.levelCount t l) (at.isPointing t l))
 
@@ -59,7 +78,7 @@ maxLine = 4 * maxFigure
 abbrev pub maxLines : ℕ
 maxLines = maxLevels * maxLine
 
--- question 15, then the check's
+-- Question 15, then the check's.
 unfoldable pub inputNumber : List ℕ → ℕ
 inputNumber input = cond (leb (length input) maxInput) (verdict input) 15
 
@@ -71,3 +90,26 @@ linesOf (suc q) t = refusedLine (suc q)
 -- What the list program prints for any input.
 unfoldable pub printed : List ℕ → List ℕ
 printed input = linesOf (inputNumber input) input
+
+-- What list returns, and what the caller's buffer contains afterwards.
+-- docs/FORMAT.md: "The list program".
+
+-- The refusal: questions 15 and 5 to 9, then 13 if the buffer is too short for the lines.
+unfoldable pub listRefusal : List ℕ → ℕ → ℕ
+listRefusal t room = orNext (inputNumber t) (asks ((13, leb (length (printed t)) room) ∷ []))
+
+-- The length of the lines, or the refusal.
+unfoldable pub listSays : List ℕ → ℕ → Said
+listSays t room = unless (listRefusal t room) (record { number = 0; value = length (printed t); entered = 0 })
+
+-- The answer by its number and length.
+abbrev pub listReply : Listed → Reply
+listReply (Bytes size) = figures size 0
+listReply (Refused number) = refusal number
+
+abbrev pub ListAnswer : (t : List ℕ) (room : ℕ) → Listed → Type 0
+ListAnswer t room = Is listReply (listSays t room)
+
+-- The buffer afterwards: the lines at its start; unchanged if refused.
+unfoldable pub listLeaves : List ℕ → List ℕ → List ℕ
+listLeaves t out = cond (eqb (listRefusal t (length out)) 0) (printed t ++ drop (length (printed t)) out) out
